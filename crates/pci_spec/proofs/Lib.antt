@@ -1,0 +1,12 @@
+pub mod Samples
+pub mod Examples
+pub mod Bits
+pub mod Absent
+pub mod Instances
+pub mod Accepted
+pub mod Spelling
+pub mod Fronts
+pub mod Forms
+pub mod Stopping
+pub mod Faults
+pub mod HexTexts

@@ -1,0 +1,185 @@
+-- What is wrong with a system, and what it means that a fault is there.
+use Rattle.std.specs.Prelude.{◌≡◌, ◌≢◌, ◌⊎◌, ℕ, ◌+◌, ◌<◌, ◌==◌, nat_lt, nat_le, Bool, false, ◌&&◌, ◌||◌, not, IsTrue, List, Some}
+use Rattle.std.specs.List.{list_any, Contains}
+use Rattle.pci_spec.specs.Number.{byte_at, has_bit}
+use Rattle.pci_spec.specs.Slot.{Slot}
+use Rattle.pci_spec.specs.Header.{vendor_id, command, class_code, layout, bridge_control, bar_register, bar_count, rom_register, address_registers}
+use Rattle.pci_spec.specs.Bar.{BarFault, bar_fault}
+use Rattle.pci_spec.specs.Bar as bars
+use Rattle.pci_spec.specs.Rom.{breaks_rom_rule}
+use Rattle.pci_spec.specs.Window.{WindowKind, window_register, breaks_window_rule}
+use Rattle.pci_spec.specs.Capability.{ComesTo, ComesTwiceTo, HasLowPlace, HasCutBody, capability_id, power_state}
+use Rattle.pci_spec.specs.Text.{Block, slots_of}
+use Rattle.pci_spec.specs.System.{System, Function, system_of, Space, Part, Claims, register_of, is_window, is_prefetchable_part, is_bridge, Leads, Gets, passes}
+use Rattle.pci_spec.specs.Bus.{has_lawful_buses, is_led_to}
+
+-- a fault, with the function and the register that it names
+pub data Fault : Type 0 where
+  NoVendor : (slot : Slot) → Fault
+  HeaderKind : (slot : Slot) → Fault
+  BarType : (slot : Slot) (register : ℕ) → Fault
+  BarMask : (slot : Slot) (register : ℕ) → Fault
+  BarPair : (slot : Slot) (register : ℕ) → Fault
+  RomMask : (slot : Slot) (register : ℕ) → Fault
+  WindowMask : (slot : Slot) (register : ℕ) → Fault
+  CapRange : (slot : Slot) (place : ℕ) → Fault
+  CapLoop : (slot : Slot) (place : ℕ) → Fault
+  CapCut : (slot : Slot) (place : ℕ) → Fault
+  SlotsDiffer : (slot : Slot) → Fault
+  StrayProbe : (slot : Slot) (offset : ℕ) → Fault
+  LoneFunction : (slot : Slot) → Fault
+  PaletteSnoop : (slot : Slot) → Fault
+  VgaEnable : (slot : Slot) → Fault
+  IsaEnable : (slot : Slot) → Fault
+  Subtractive : (slot : Slot) → Fault
+  InReset : (slot : Slot) → Fault
+  PowerState : (slot : Slot) → Fault
+  BusRange : (slot : Slot) → Fault
+  Orphan : (slot : Slot) → Fault
+  Unreached : (slot : Slot) (register : ℕ) (space : Space) (address : ℕ) (bridge : Slot) → Fault
+  Clash : (bus : ℕ) (space : Space) (address : ℕ) (first : Slot) (first_register : ℕ) (second : Slot) (second_register : ℕ) → Fault
+  Split : (space : Space) (address : ℕ) (first : Slot) (first_register : ℕ) (second : Slot) (second_register : ℕ) → Fault
+
+abbrev pub fault_number : Fault → ℕ
+fault_number (NoVendor slot) = 20
+fault_number (HeaderKind slot) = 21
+fault_number (BarType slot register) = 22
+fault_number (BarMask slot register) = 23
+fault_number (BarPair slot register) = 24
+fault_number (RomMask slot register) = 25
+fault_number (WindowMask slot register) = 26
+fault_number (CapRange slot place) = 27
+fault_number (CapLoop slot place) = 28
+fault_number (CapCut slot place) = 29
+fault_number (SlotsDiffer slot) = 30
+fault_number (StrayProbe slot offset) = 31
+fault_number (LoneFunction slot) = 50
+fault_number (PaletteSnoop slot) = 51
+fault_number (VgaEnable slot) = 52
+fault_number (IsaEnable slot) = 53
+fault_number (Subtractive slot) = 54
+fault_number (InReset slot) = 55
+fault_number (PowerState slot) = 56
+fault_number (BusRange slot) = 57
+fault_number (Orphan slot) = 58
+fault_number (Unreached slot register space address bridge) = 60
+fault_number (Clash bus space address first first_register second second_register) = 61
+fault_number (Split space address first first_register second second_register) = 62
+
+-- ---- of one function, by its image and its probe
+
+abbrev pub has_no_vendor : List ℕ → Bool
+has_no_vendor image = vendor_id image == 0xffff
+
+abbrev pub has_other_layout : List ℕ → Bool
+has_other_layout image = not (layout image == 0 || layout image == 1)
+
+-- a BAR register with this offset has this fault
+abbrev pub HasBarFault : List ℕ → List ℕ → ℕ → BarFault → Type 0
+HasBarFault image probe register fault =
+    (n : ℕ) × (n < bar_count (layout image)) × (register ≡ bar_register n) × (bar_fault image probe n ≡ Some fault)
+
+abbrev pub HasRomFault : List ℕ → List ℕ → ℕ → Type 0
+HasRomFault image probe register = (register ≡ rom_register (layout image)) × IsTrue (breaks_rom_rule image probe)
+
+-- the window of a bridge with this offset breaks its rule
+abbrev pub HasWindowFault : List ℕ → List ℕ → ℕ → Type 0
+HasWindowFault image probe register =
+    (kind : WindowKind) × IsTrue (layout image == 1) × (register ≡ window_register kind) × IsTrue (breaks_window_rule kind image probe)
+
+-- whether an offset lies in an address register
+abbrev pub is_in_address_register : ℕ → ℕ → Bool
+is_in_address_register kind offset = list_any (λ r. nat_le r.0 offset && nat_lt offset (r.0 + r.1)) (address_registers kind)
+
+-- whether the probe has a byte where there is no address register
+abbrev pub is_stray : List ℕ → List ℕ → ℕ → Bool
+is_stray image probe offset = nat_lt offset 256 && not (byte_at probe offset == 0) && not (is_in_address_register (layout image) offset)
+
+-- a power management capability shows another state than D0
+abbrev pub IsAsleep : List ℕ → Type 0
+IsAsleep image = (place : ℕ) × ComesTo image place × (capability_id image place ≡ 1) × (power_state image place ≢ 0)
+
+-- ---- of a system
+
+-- the function at the slot is such
+abbrev pub SomeAt : System → Slot → (Function → Type 0) → Type 0
+SomeAt s slot P = (f : Function) × Contains s f × (f.slot ≡ slot) × P f
+
+-- whether function 0 of the same device is listed
+abbrev pub has_function_zero : System → Slot → Bool
+has_function_zero s slot = list_any (λ f. f.slot.bus == slot.bus && f.slot.device == slot.device && f.slot.function == 0) s
+
+-- An enabled BAR or ROM claims the address, and a bridge on the way from a root to it doesn't pass it.
+pub record IsUnreached (roots : List ℕ) (s : System) (slot : Slot) (register : ℕ) (space : Space) (address : ℕ) (bridge : Slot) : Type 0 where
+  pub f : Function
+  pub part : Part
+  pub listed : Contains s f
+  pub named : (f.slot ≡ slot) × (register_of f part ≡ register)
+  pub no_window : is_window part ≡ false
+  pub claims : Claims f part space address
+  pub bridges : List Function
+  pub root : ℕ
+  pub starts : Contains roots root
+  pub leads : Leads s root bridges slot.bus
+  pub b : Function
+  pub on_the_way : Contains bridges b
+  pub named_bridge : b.slot ≡ bridge
+  pub stops : passes space (is_prefetchable_part f part) address b ≡ false
+
+-- a region of the bus, named by its slot and register, claims the address
+abbrev pub ClaimsOnBus : System → ℕ → Space → ℕ → Slot → ℕ → Type 0
+ClaimsOnBus s bus space address slot register =
+    (f : Function) × (part : Part) × Contains s f × (f.slot ≡ slot) × (slot.bus ≡ bus) × (register_of f part ≡ register) × Claims f part space address
+
+-- an access to the address gets to the bus, and two regions of the bus claim it
+pub record IsClash (roots : List ℕ) (s : System) (bus : ℕ) (space : Space) (address : ℕ) (first : Slot) (first_register : ℕ) (second : Slot) (second_register : ℕ) : Type 0 where
+  pub gets : Gets roots s space address bus
+  pub claims_first : ClaimsOnBus s bus space address first first_register
+  pub claims_second : ClaimsOnBus s bus space address second second_register
+  pub differ : (first ≡ second) × (first_register ≡ second_register) → ⊥
+
+-- two regions on two root buses claim the address
+pub record IsSplit (roots : List ℕ) (s : System) (space : Space) (address : ℕ) (first : Slot) (first_register : ℕ) (second : Slot) (second_register : ℕ) : Type 0 where
+  pub root_first : Contains roots first.bus
+  pub root_second : Contains roots second.bus
+  pub buses : first.bus ≢ second.bus
+  pub claims_first : ClaimsOnBus s first.bus space address first first_register
+  pub claims_second : ClaimsOnBus s second.bus space address second second_register
+
+-- the fault is there, in the system with these root buses
+abbrev pub IsIn : List ℕ → System → Fault → Type 0
+IsIn roots s (NoVendor slot) = SomeAt s slot (λ f. IsTrue (has_no_vendor f.image))
+IsIn roots s (HeaderKind slot) = SomeAt s slot (λ f. IsTrue (has_other_layout f.image))
+IsIn roots s (BarType slot register) = SomeAt s slot (λ f. HasBarFault f.image f.probe register bars.BarType)
+IsIn roots s (BarMask slot register) = SomeAt s slot (λ f. HasBarFault f.image f.probe register bars.BarMask)
+IsIn roots s (BarPair slot register) = SomeAt s slot (λ f. HasBarFault f.image f.probe register bars.BarPair)
+IsIn roots s (RomMask slot register) = SomeAt s slot (λ f. HasRomFault f.image f.probe register)
+IsIn roots s (WindowMask slot register) = SomeAt s slot (λ f. HasWindowFault f.image f.probe register)
+IsIn roots s (CapRange slot place) = SomeAt s slot (λ f. HasLowPlace f.image place)
+IsIn roots s (CapLoop slot place) = SomeAt s slot (λ f. ComesTwiceTo f.image place)
+IsIn roots s (CapCut slot place) = SomeAt s slot (λ f. HasCutBody f.image place)
+-- a system has each function's two images
+IsIn roots s (SlotsDiffer slot) = ⊥
+IsIn roots s (StrayProbe slot offset) = SomeAt s slot (λ f. IsTrue (is_stray f.image f.probe offset))
+IsIn roots s (LoneFunction slot) = SomeAt s slot (λ f. (0 < slot.function) × IsTrue (not (has_function_zero s slot)))
+IsIn roots s (PaletteSnoop slot) = SomeAt s slot (λ f. IsTrue (has_bit (command f.image) 5))
+IsIn roots s (VgaEnable slot) = SomeAt s slot (λ f. IsTrue (is_bridge f && has_bit (bridge_control f.image) 3))
+IsIn roots s (IsaEnable slot) = SomeAt s slot (λ f. IsTrue (is_bridge f && has_bit (bridge_control f.image) 2))
+IsIn roots s (Subtractive slot) = SomeAt s slot (λ f. IsTrue (is_bridge f && class_code f.image == 0x060401))
+IsIn roots s (InReset slot) = SomeAt s slot (λ f. IsTrue (is_bridge f && has_bit (bridge_control f.image) 6))
+IsIn roots s (PowerState slot) = SomeAt s slot (λ f. IsAsleep f.image)
+IsIn roots s (BusRange slot) = SomeAt s slot (λ f. IsTrue (is_bridge f && not (has_lawful_buses roots s f)))
+IsIn roots s (Orphan slot) = SomeAt s slot (λ f. IsTrue (not (is_led_to roots s slot.bus)))
+IsIn roots s (Unreached slot register space address bridge) = IsUnreached roots s slot register space address bridge
+IsIn roots s (Clash bus space address first first_register second second_register) = IsClash roots s bus space address first first_register second second_register
+IsIn roots s (Split space address first first_register second second_register) = IsSplit roots s space address first first_register second second_register
+
+-- exactly one of two dumps lists the slot
+abbrev pub IsInOne : List Block → List Block → Slot → Type 0
+IsInOne dump probe slot =
+    (Contains (slots_of dump) slot × (Contains (slots_of probe) slot → ⊥)) ⊎ ((Contains (slots_of dump) slot → ⊥) × Contains (slots_of probe) slot)
+
+-- the fault is there, in a dump and its probe; where their slots are the same, they make a system
+abbrev pub IsThere : List ℕ → List Block → List Block → Fault → Type 0
+IsThere roots dump probe (SlotsDiffer slot) = IsInOne dump probe slot
+IsThere roots dump probe fault = (slots_of dump ≡ slots_of probe) × IsIn roots (system_of dump probe) fault

@@ -1,0 +1,99 @@
+-- In which order faults are looked for. Of several that are there, the one with the least key is named.
+use Rattle.std.specs.Prelude.{ℕ, ◌==◌, nat_lt, Bool, false, ◌&&◌, ◌||◌, IsTrue, List, [], ◌∷◌, ◌++◌, slice_index}
+use Rattle.std.specs.List.{filter, range_with_len}
+use Rattle.pci_spec.specs.Slot.{Slot}
+use Rattle.pci_spec.specs.Capability.{pointer}
+use Rattle.pci_spec.specs.System.{System, Space, Io, Memory}
+use Rattle.pci_spec.specs.Fault.{Fault, NoVendor, HeaderKind, BarType, BarMask, BarPair, RomMask, WindowMask, CapRange, CapLoop, CapCut, SlotsDiffer, StrayProbe, LoneFunction, PaletteSnoop, VgaEnable, IsaEnable, Subtractive, InReset, PowerState, BusRange, Orphan, Unreached, Clash, Split, IsIn}
+
+-- one list of numbers is before another, by the first place at which they differ
+abbrev pub precedes : List ℕ → List ℕ → Bool
+precedes [] ys = false
+precedes (x ∷ xs) [] = false
+precedes (x ∷ xs) (y ∷ ys) = nat_lt x y || (x == y && precedes xs ys)
+
+abbrev pub slot_key : Slot → List ℕ
+slot_key slot = slot.bus ∷ slot.device ∷ slot.function ∷ []
+
+abbrev pub space_key : Space → ℕ
+space_key Io = 0
+space_key Memory = 1
+
+-- Each phase is done for all functions before the next one begins.
+pub data Phase : Type 0 where
+  -- dump and probe list the same slots
+  Slots : Phase
+  -- each function is one of a known header, and its probe shows address registers alone
+  Identity : Phase
+  -- its address registers and its capabilities list decode
+  Decoding : Phase
+  -- nothing is set that changes what it decodes
+  Profile : Phase
+  -- it has its place in the tree of buses
+  Place : Phase
+  -- every region is reached, and none clashes with another
+  Judging : Phase
+
+abbrev pub phase_key : Phase → ℕ
+phase_key Slots = 0
+phase_key Identity = 1
+phase_key Decoding = 2
+phase_key Profile = 3
+phase_key Place = 4
+phase_key Judging = 5
+
+-- at which steps of the walk along a capabilities list a place is met; a walk repeats a place within 64 steps or never
+abbrev pub steps_at : List ℕ → ℕ → List ℕ
+steps_at image place = filter (λ n. pointer image n == place) (range_with_len 0 65)
+
+-- what unreached addresses, clashes and splits are ordered by: unreached ones by region, bridge from the host outwards
+-- (the buses of bridges rise on the way) and address; clashes by bus, space, address and the two regions; splits likewise
+abbrev pub judging_key : Fault → List ℕ
+judging_key (Unreached slot register space address bridge) =
+    0 ∷ slot_key slot ++ (register ∷ slot_key bridge) ++ (address ∷ [])
+judging_key (Clash bus space address first first_register second second_register) =
+    1 ∷ bus ∷ space_key space ∷ address ∷ slot_key first ++ (first_register ∷ slot_key second) ++ (second_register ∷ [])
+judging_key (Split space address first first_register second second_register) =
+    2 ∷ space_key space ∷ address ∷ slot_key first ++ (first_register ∷ slot_key second) ++ (second_register ∷ [])
+judging_key fault = []
+
+-- within a phase: functions by slot, then what stands here for each of them
+abbrev pub in_phase : Phase → Slot → List ℕ → List ℕ
+in_phase phase slot rest = phase_key phase ∷ slot_key slot ++ rest
+
+-- The whole order; the image of a slot's function tells in which order its capabilities are met.
+abbrev pub looking_key : (Slot → List ℕ) → Fault → List ℕ
+looking_key image_of (SlotsDiffer slot) = in_phase Slots slot []
+looking_key image_of (NoVendor slot) = in_phase Identity slot (0 ∷ [])
+looking_key image_of (HeaderKind slot) = in_phase Identity slot (1 ∷ [])
+looking_key image_of (StrayProbe slot offset) = in_phase Identity slot (2 ∷ offset ∷ [])
+-- BARs by register, each with the first of its rules that it breaks
+looking_key image_of (BarType slot register) = in_phase Decoding slot (0 ∷ register ∷ [])
+looking_key image_of (BarMask slot register) = in_phase Decoding slot (0 ∷ register ∷ [])
+looking_key image_of (BarPair slot register) = in_phase Decoding slot (0 ∷ register ∷ [])
+looking_key image_of (RomMask slot register) = in_phase Decoding slot (1 ∷ [])
+looking_key image_of (WindowMask slot register) = in_phase Decoding slot (2 ∷ register ∷ [])
+-- places in the order of the walk, each with its range, then whether it was met before, then its body
+looking_key image_of (CapRange slot place) = in_phase Decoding slot (3 ∷ slice_index (steps_at (image_of slot) place) 0 ∷ 0 ∷ [])
+looking_key image_of (CapLoop slot place) = in_phase Decoding slot (3 ∷ slice_index (steps_at (image_of slot) place) 1 ∷ 1 ∷ [])
+looking_key image_of (CapCut slot place) = in_phase Decoding slot (3 ∷ slice_index (steps_at (image_of slot) place) 0 ∷ 2 ∷ [])
+looking_key image_of (PaletteSnoop slot) = in_phase Profile slot (0 ∷ [])
+looking_key image_of (VgaEnable slot) = in_phase Profile slot (1 ∷ [])
+looking_key image_of (IsaEnable slot) = in_phase Profile slot (2 ∷ [])
+looking_key image_of (Subtractive slot) = in_phase Profile slot (3 ∷ [])
+looking_key image_of (InReset slot) = in_phase Profile slot (4 ∷ [])
+looking_key image_of (PowerState slot) = in_phase Profile slot (5 ∷ [])
+looking_key image_of (LoneFunction slot) = in_phase Place slot (0 ∷ [])
+looking_key image_of (Orphan slot) = in_phase Place slot (1 ∷ [])
+looking_key image_of (BusRange slot) = in_phase Place slot (2 ∷ [])
+looking_key image_of (Unreached slot register space address bridge) =
+    phase_key Judging ∷ judging_key (Unreached slot register space address bridge)
+looking_key image_of (Clash bus space address first first_register second second_register) =
+    phase_key Judging ∷ judging_key (Clash bus space address first first_register second second_register)
+looking_key image_of (Split space address first first_register second second_register) =
+    phase_key Judging ∷ judging_key (Split space address first first_register second second_register)
+
+-- the fault of judging is there, and none of judging that is looked for before it
+pub record IsFirst (roots : List ℕ) (s : System) (fault : Fault) : Type 0 where
+  pub there : IsIn roots s fault
+  pub first : (other : Fault) → IsTrue (precedes (judging_key other) (judging_key fault)) → IsIn roots s other → ⊥
