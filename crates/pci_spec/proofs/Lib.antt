@@ -10,3 +10,6 @@ pub mod Forms
 pub mod Stopping
 pub mod Faults
 pub mod HexTexts
+pub mod BusRanges
+pub mod Nesting
+pub mod Ways

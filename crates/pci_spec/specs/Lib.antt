@@ -8,6 +8,7 @@ pub mod Capability
 pub mod Text
 pub mod System
 pub mod Bus
+pub mod NestingLaws
 pub mod Fault
 pub mod Order
 pub mod Decoded
