@@ -1,9 +1,6 @@
-pub mod Samples
 pub mod Examples
 pub mod Bits
 pub mod Absent
-pub mod Instances
-pub mod Accepted
 pub mod Spelling
 pub mod Fronts
 pub mod Forms

@@ -1,9 +1,9 @@
 -- What is wrong with a system, and what it means that a fault is there.
-use Rattle.std.specs.Prelude.{◌≡◌, ◌≢◌, ◌⊎◌, ℕ, ◌+◌, ◌<◌, ◌==◌, nat_lt, nat_le, Bool, false, ◌&&◌, ◌||◌, not, IsTrue, List, Some}
+use Rattle.std.specs.Prelude.{◌≡◌, ◌≢◌, ◌⊎◌, ℕ, ◌<◌, ◌==◌, nat_lt, Bool, false, ◌&&◌, ◌||◌, not, IsTrue, List, Some}
 use Rattle.std.specs.List.{list_any, Contains}
 use Rattle.pci_spec.specs.Number.{byte_at, has_bit}
 use Rattle.pci_spec.specs.Slot.{Slot}
-use Rattle.pci_spec.specs.Header.{vendor_id, command, class_code, layout, bridge_control, bar_register, bar_count, rom_register, address_registers}
+use Rattle.pci_spec.specs.Header.{vendor_id, command, class_code, layout, bridge_control, bar_register, bar_count, rom_register, address_registers, is_in_register}
 use Rattle.pci_spec.specs.Bar.{BarFault, bar_fault}
 use Rattle.pci_spec.specs.Bar as bars
 use Rattle.pci_spec.specs.Rom.{breaks_rom_rule}
@@ -89,7 +89,7 @@ HasWindowFault image probe register =
 
 -- whether an offset lies in an address register
 abbrev pub is_in_address_register : ℕ → ℕ → Bool
-is_in_address_register kind offset = list_any (λ r. nat_le r.0 offset && nat_lt offset (r.0 + r.1)) (address_registers kind)
+is_in_address_register kind offset = list_any (is_in_register offset) (address_registers kind)
 
 -- whether the probe has a byte where there is no address register
 abbrev pub is_stray : List ℕ → List ℕ → ℕ → Bool

@@ -1,5 +1,5 @@
 -- The registers of a configuration header that decoding reads (PCI 3.0, 6.1; Bridge 1.2, 3.2).
-use Rattle.std.specs.Prelude.{ℕ, ◌+◌, ◌*◌, ◌%◌, ◌==◌, if◌then◌else◌, List, [], ◌∷◌}
+use Rattle.std.specs.Prelude.{ℕ, ◌+◌, ◌*◌, ◌%◌, ◌==◌, nat_lt, nat_le, Bool, ◌&&◌, if◌then◌else◌, List, [], ◌∷◌}
 use Rattle.pci_spec.specs.Number.{byte_at, number_at}
 
 -- Vendor ID; FFFFh is read where no function answers (6.2.1)
@@ -58,3 +58,7 @@ address_registers kind =
     if kind == 1
     then (0x10, 4) ∷ (0x14, 4) ∷ (0x1c, 2) ∷ (0x20, 4) ∷ (0x24, 4) ∷ (0x28, 4) ∷ (0x2c, 4) ∷ (0x30, 4) ∷ (0x38, 4) ∷ []
     else (0x10, 4) ∷ (0x14, 4) ∷ (0x18, 4) ∷ (0x1c, 4) ∷ (0x20, 4) ∷ (0x24, 4) ∷ (0x30, 4) ∷ []
+
+-- whether a byte lies in a register of so many bytes
+abbrev pub is_in_register : ℕ → (ℕ × ℕ) → Bool
+is_in_register offset r = nat_le r.0 offset && nat_lt offset (r.0 + r.1)

@@ -1,5 +1,5 @@
 -- Placing BARs, ROMs and windows in pools of addresses (Bridge 1.2, chapter 4: 4 KB of I/O and 1 MB of memory a page).
-use Rattle.std.specs.Prelude.{◌≡◌, ℕ, zero, suc, ◌+◌, ◌*◌, ◌/◌, ◌-◌, ◌^◌, ◌<◌, ◌≤◌, min, max, ◌==◌, nat_lt, nat_le, Bool, true, false, ◌&&◌, ◌||◌, not, if◌then◌else◌, IsTrue, IsFalse, List, [], ◌∷◌, ◌++◌, map}
+use Rattle.std.specs.Prelude.{◌≡◌, ℕ, zero, suc, ◌+◌, ◌*◌, ◌/◌, ◌-◌, ◌^◌, ◌<◌, min, max, ◌==◌, nat_lt, nat_le, Bool, true, false, ◌&&◌, ◌||◌, not, if◌then◌else◌, IsTrue, IsFalse, List, [], ◌∷◌, ◌++◌, map}
 use Rattle.std.specs.List.{list_any, list_all, filter, fold, flat_map, sum, Contains, AllZip}
 use Rattle.std.specs.Int.{bit_at}
 use Rattle.pci_spec.specs.Number.{byte_at, has_bit, IsImage}
@@ -7,21 +7,17 @@ use Rattle.pci_spec.specs.Slot.{Slot}
 use Rattle.pci_spec.specs.Header.{command}
 use Rattle.pci_spec.specs.Bar.{bar_at, is_io, is_wide, is_prefetchable}
 use Rattle.pci_spec.specs.Window.{WindowKind, IoWindow, MemoryWindow, PrefetchWindow, has_window, is_wide_window, is_closed}
-use Rattle.pci_spec.specs.Decoded.{bar_size, rom_size}
+use Rattle.pci_spec.specs.Decoded.{Range, InRange, bar_size, rom_size}
 use Rattle.pci_spec.specs.System.{System, Function, Space, Io, Memory, Part, Bar, Rom, Window, has_part, bars_and_rom, is_window, Decodes, is_bridge}
 use Rattle.pci_spec.specs.Bus.{secondary, is_behind}
 use Rattle.pci_spec.specs.Fault.{Fault}
 use Rattle.pci_spec.specs.Machine.{in_fields, address_fields}
 
--- the addresses from first to last
-pub record Pool : Type 0 where
-  pub first : ℕ
-  pub last : ℕ
-
+-- the addresses that each class of regions is placed in
 pub record Pools : Type 0 where
-  pub io : Pool
-  pub memory : Pool
-  pub prefetch : Pool
+  pub io : Range
+  pub memory : Range
+  pub prefetch : Range
 
 -- which pool a region is placed in
 pub data Class : Type 0 where
@@ -29,12 +25,12 @@ pub data Class : Type 0 where
   MemoryClass : Class
   PrefetchClass : Class
 
-abbrev pub pool_of : Pools → Class → Pool
+abbrev pub pool_of : Pools → Class → Range
 pool_of pools IoClass = pools.io
 pool_of pools MemoryClass = pools.memory
 pool_of pools PrefetchClass = pools.prefetch
 
-abbrev pub is_backward : Pool → Bool
+abbrev pub is_backward : Range → Bool
 is_backward pool = nat_lt pool.last pool.first
 
 -- whether pools are refused: one is backward or too high, or a memory address is in two
@@ -48,7 +44,7 @@ are_bad pools =
 abbrev pub bridges_above : System → ℕ → List Function
 bridges_above s bus = filter (λ b. is_bridge b && is_behind b bus) s
 
--- whether the prefetchable windows above a BAR can hold the pool
+-- whether all prefetchable windows above a BAR are there, and wide enough for the addresses of the pool
 abbrev pub is_served : System → Pools → Function → ℕ → Bool
 is_served s pools f n =
     if nat_le pools.prefetch.last 0xffff_ffff
@@ -195,7 +191,7 @@ pub record IsPlanned (old new : System) (pools : Pools) : Type 0 where
   pub moved : AllZip IsMoved old new
   -- each BAR and ROM is whole in the pool of its class
   pub placed : (f : Function) (part : Part) (a : ℕ) → Contains new f → IsTrue (has_part f part) → IsFalse (is_window part) → Decodes f part a
-      → ((pool_of pools (class_of new pools f part)).first ≤ a) × (a ≤ (pool_of pools (class_of new pools f part)).last)
+      → InRange (pool_of pools (class_of new pools f part)) a
   -- a window is open exactly where something of its class is behind it
   pub windows : (b : Function) (kind : WindowKind) → Contains new b → IsTrue (is_bridge b) → IsTrue (has_window kind b.probe)
       → is_open b kind ≡ has_behind new pools (window_class kind) b
