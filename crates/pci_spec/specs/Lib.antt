@@ -6,9 +6,10 @@ pub mod Rom
 pub mod Window
 pub mod Capability
 pub mod Text
+pub mod Form
+pub mod Stops
 pub mod System
 pub mod Bus
-pub mod NestingLaws
 pub mod Fault
 pub mod Order
 pub mod Decoded
@@ -17,5 +18,9 @@ pub mod Machine
 pub mod Plan
 pub mod Line
 pub mod Listing
-pub mod Stops
-pub mod Form
+pub mod NestingLaws
+pub mod BarLaws
+pub mod WindowLaws
+pub mod TextLaws
+pub mod CapabilityLaws
+pub mod MachineLaws
