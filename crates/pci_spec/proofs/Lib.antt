@@ -25,3 +25,8 @@ pub mod WindowSpace
 pub mod BlockLaws
 pub mod PlainText
 pub mod WholeInputs
+pub mod Ranges
+pub mod Walks
+pub mod Members
+pub mod Rising
+pub mod Records

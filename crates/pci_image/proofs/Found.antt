@@ -1,0 +1,25 @@
+-- Faults that were found are there.
+use Rattle.std.proofs.Common.{◌≡◌, ℕ, ◌<◌, ◌≤◌, List, lit≤}
+use Rattle.pci_spec.specs.Header.{bar_count, bar_register, layout}
+use Rattle.pci_spec.specs.Bar.{bar_fault}
+use Rattle.pci_image.specs.declared.image.Image.{Image}
+use Rattle.pci_image.specs.declared.header.Header.{Header}
+use Rattle.pci_image.specs.declared.header.Header.TheVariants.{Type0, Type1}
+use Rattle.pci_image.specs.declared.fault.ImageFault.{ImageFault}
+use Rattle.pci_image.specs.declared.fault.ImageFault.TheVariants.{BarType, BarMask, BarPair}
+use Rattle.pci_image.specs.Header.{IsHeaderOf, header_layout}
+use Rattle.pci_image.specs.Bars.{IsBarFault}
+use Rattle.pci_image.specs.Faults.{IsImageFaultIn, image_fault_number}
+
+-- an image has its header's layout
+pub layout-of_header : (image : Image) (header : Header) → IsHeaderOf image header → layout image.0 ≡ header_layout header
+layout-of_header image (Type0 header) is = is.0
+layout-of_header image (Type1 header) is = is.0
+
+-- a BAR's fault that its register has is there
+pub bar_fault-found : (image probe : List ℕ) (n : ℕ) (fault : ImageFault) → n < bar_count (layout image)
+    → IsBarFault (bar_register n) (bar_fault image probe n) fault → IsImageFaultIn image probe fault × (image_fault_number fault ≤ 24)
+bar_fault-found image probe n (BarType register) below is = ((n, below, is.0, is.1), lit≤ tt)
+bar_fault-found image probe n (BarMask register) below is = ((n, below, is.0, is.1), lit≤ tt)
+bar_fault-found image probe n (BarPair register) below is = ((n, below, is.0, is.1), lit≤ tt)
+bar_fault-found image probe n _ below is = absurd is

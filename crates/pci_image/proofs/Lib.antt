@@ -1,0 +1,9 @@
+pub mod Comparators
+pub mod Registers
+pub mod Sizes
+pub mod Decoding
+pub mod Reading
+pub mod Found
+pub mod Roms
+pub mod Windows
+pub mod Walking

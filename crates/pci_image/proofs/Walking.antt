@@ -1,0 +1,125 @@
+-- A walk along the capabilities list, place by place.
+use Rattle.std.proofs.Common.{◌≡◌, ◌≢◌, ℕ, zero, suc, ◌+◌, ◌%◌, ◌<◌, ◌≤◌, List, [], ◌∷◌, ◌++◌, map, length, get_or, length-append, refl, true, false, inl, inr, arith, sym, ◌∙◌, ap, subst, add-one}
+use Rattle.std.specs.Bool.{nat_eq}
+use Rattle.std.specs.List.{list_any}
+use Rattle.std.proofs.Math.Dec.{eqb}
+use Rattle.std.proofs.lemmas.Bool.{cases_lt, or_cases, eqb-true, eqb-false, ne_eqb, both_ways, or_parts}
+use Rattle.std.proofs.lemmas.List.{get_or_append_left, length-map, map-append}
+use Rattle.std.proofs.Math.Seq.{get_or-append_seam}
+use Rattle.pci_image.specs.declared.capability.Cap.{Cap}
+use Rattle.pci_image.specs.Caps.{place_of}
+use Rattle.pci_spec.specs.Capability.{pointer, pointer_at, body_length, IsChain, ComesTwiceTo}
+use Rattle.pci_spec.proofs.Walks.{places-at_most_48, pointer-aligned}
+
+-- the walk came along these places, and stands at the next one
+pub record IsWalk (image places : List ℕ) (place : ℕ) : Type 0 where
+  pub each : (n : ℕ) → n < length places → get_or places n 0 ≡ pointer image n
+  pub here : place ≡ pointer image (length places)
+  pub in_range : (n : ℕ) → n < length places → (0x40 ≤ pointer image n) × (pointer image n ≤ 0xfc)
+  pub distinct : (m n : ℕ) → m < n → n < length places → pointer image m ≢ pointer image n
+  pub bodies : (n : ℕ) → n < length places → pointer image n + body_length image (pointer image n) ≤ 256
+
+-- what holds of the places so far and of the next one holds of all of them
+below_next : (P : ℕ → Type 0) (count : ℕ) → ((n : ℕ) → n < count → P n) → P count → (n : ℕ) → n < count + 1 → P n
+below_next P count before here n within = elim (cases_lt n count) [
+  | inl below ↦ before n below
+  | inr at ↦ let e : count ≡ n = omega arith in subst P e here
+]
+
+-- the walk goes on to a place that it has not come to
+pub walk_step : (image places : List ℕ) (place next : ℕ) → IsWalk image places place → 0x40 ≤ place → place ≤ 0xfc
+    → ((n : ℕ) → n < length places → get_or places n 0 ≢ place) → place + body_length image place ≤ 256
+    → next ≡ pointer_at image (place + 1) → IsWalk image (places ++ place ∷ []) next
+walk_step image places place next walk low high fresh fits is =
+    let longer : length (places ++ place ∷ []) ≡ length places + 1 = length-append places (place ∷ []) in
+    let on : nat_eq (pointer image (length places)) 0 ≡ false = ne_eqb _ 0 (λ none. let here = walk.here in omega (arith, here, none, low)) in
+    let following : pointer image (length places + 1) ≡ pointer_at image (pointer image (length places) + 1) = ap (pointer image) (add-one (length places)) ∙ rw on refl in
+    record {
+      each = λ n within.
+          below_next (λ j. get_or (places ++ place ∷ []) j 0 ≡ pointer image j) (length places)
+          (λ j below. get_or_append_left places (place ∷ []) 0 j below ∙ walk.each j below)
+          (get_or-append_seam places place [] 0 ∙ walk.here) n (omega (arith, longer, within));
+      here = is ∙ ap (λ p. pointer_at image (p + 1)) walk.here ∙ sym following ∙ ap (pointer image) (sym longer);
+      in_range = λ n within.
+          below_next (λ j. (0x40 ≤ pointer image j) × (pointer image j ≤ 0xfc)) (length places) walk.in_range
+          (let here = walk.here in (omega (arith, here, low), omega (arith, here, high))) n (omega (arith, longer, within));
+      distinct = λ m n before within. elim (cases_lt n (length places)) [
+        | inl below ↦ walk.distinct m n before below
+        | inr at ↦
+            let e : length places ≡ n = omega (arith, longer, within) in
+            let earlier : m < length places = omega arith in
+            (λ same. fresh m earlier (walk.each m earlier ∙ same ∙ ap (pointer image) (sym e) ∙ sym walk.here))
+      ];
+      bodies = λ n within.
+          below_next (λ j. pointer image j + body_length image (pointer image j) ≤ 256) (length places) walk.bodies
+          (subst (λ p. p + body_length image p ≤ 256) walk.here fits) n (omega (arith, longer, within));
+    }
+
+-- a walk that has ended is a chain
+pub walk_end : (image places : List ℕ) (place : ℕ) → IsWalk image places place → place ≡ 0 → IsChain image places
+walk_end image places place walk none = record {
+  each = walk.each;
+  end = sym walk.here ∙ none;
+  in_range = walk.in_range;
+  distinct = walk.distinct;
+  bodies = walk.bodies;
+}
+
+-- a walk has at most 48 places
+pub walk-at_most_48 : (image places : List ℕ) (place : ℕ) → IsWalk image places place → length places ≤ 48
+walk-at_most_48 image places place walk = places-at_most_48 image (length places) walk.in_range walk.distinct
+
+-- ---- places among the capabilities
+
+-- a place that is not found is not among them
+pub place-fresh : (caps : List Cap) (place : ℕ) → list_any (λ cap. nat_eq (place_of cap) place) caps ≡ false
+    → (n : ℕ) → n < length (map place_of caps) → get_or (map place_of caps) n 0 ≢ place
+place-fresh [] place h n within = absurd (let no : ⊥ = omega (arith, within) in no)
+place-fresh (cap ∷ caps) place h zero within = eqb-false _ _ (or_parts (nat_eq (place_of cap) place) _ h).0
+place-fresh (cap ∷ caps) place h (suc n) within = place-fresh caps place (or_parts (nat_eq (place_of cap) place) _ h).1 n (omega (arith, within))
+
+-- a place that is found is among them
+pub place-found : (caps : List Cap) (place : ℕ) → list_any (λ cap. nat_eq (place_of cap) place) caps ≡ true
+    → (n : ℕ) × (n < length (map place_of caps)) × (get_or (map place_of caps) n 0 ≡ place)
+place-found [] place h = absurd (let no : ⊥ = both_ways false refl h in no)
+place-found (cap ∷ caps) place h = elim (or_cases (nat_eq (place_of cap) place) _ h) [
+  | inl here ↦ (0, omega arith, eqb-true _ _ here)
+  | inr later ↦ let found = place-found caps place later in (suc found.0, omega (arith, found.1), found.2)
+]
+
+-- ---- faults
+
+-- a walk that stands at one of its places comes to it twice
+pub walk-twice : (image : List ℕ) (caps : List Cap) (place : ℕ) → IsWalk image (map place_of caps) place → place ≢ 0
+    → list_any (λ cap. nat_eq (place_of cap) place) caps ≡ true → ComesTwiceTo image place
+walk-twice image caps place walk nonzero h =
+    let found = place-found caps place h in
+    (found.0, length (map place_of caps), found.1, sym (walk.each found.0 found.1) ∙ found.2, sym walk.here, nonzero)
+
+-- a place is a multiple of four
+pub walk-aligned : (image places : List ℕ) (place : ℕ) → IsWalk image places place → place % 4 ≡ 0
+walk-aligned image places place walk = let q = pointer-aligned image (length places) in let here = walk.here in omega (arith, q, here)
+
+-- ---- the loop's step
+
+-- one more capability
+pub walk_on : (image : List ℕ) (caps : List Cap) (cap : Cap) (place next : ℕ) → IsWalk image (map place_of caps) place
+    → 0x40 ≤ place → place < 256 → list_any (λ c. nat_eq (place_of c) place) caps ≡ false
+    → place_of cap ≡ place → place + body_length image place ≤ 256 → next ≡ pointer_at image (place + 1)
+    → IsWalk image (map place_of (caps ++ cap ∷ [])) next
+walk_on image caps cap place next walk low small fresh is fits following =
+    let aligned = walk-aligned image (map place_of caps) place walk in
+    let step = walk_step image (map place_of caps) place next walk low (omega (arith, small, aligned)) (place-fresh caps place fresh) fits following in
+    let same : map place_of caps ++ place ∷ [] ≡ map place_of (caps ++ cap ∷ []) = ap (λ p. map place_of caps ++ p ∷ []) (sym is) ∙ sym (map-append place_of caps (cap ∷ [])) in
+    subst (λ places. IsWalk image places next) same step
+
+-- there is room for one more place
+pub walk-room : (image : List ℕ) (caps : List Cap) (cap : Cap) (place : ℕ) → IsWalk image (map place_of caps) place
+    → 0x40 ≤ place → place < 256 → list_any (λ c. nat_eq (place_of c) place) caps ≡ false
+    → place_of cap ≡ place → place + body_length image place ≤ 256 → length caps < 48
+walk-room image caps cap place walk low small fresh is fits =
+    let next = walk_on image caps cap place _ walk low small fresh is fits refl in
+    let most = walk-at_most_48 image (map place_of (caps ++ cap ∷ [])) _ next in
+    let size = length-map (caps ++ cap ∷ []) place_of in
+    let longer = length-append caps (cap ∷ []) in
+    omega (arith, most, size, longer)

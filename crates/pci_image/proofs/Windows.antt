@@ -1,0 +1,42 @@
+-- Windows as the definitions decode them hold what the comparators hold.
+use Rattle.std.proofs.Common.{◌≡◌, ◌↔◌, ℕ, List, refl, Bool, true, false, ◌&&◌, ◌||◌, inl, inr, arith, sym, ◌∙◌, subst, Option, Some, None, IsTrue}
+use Rattle.std.specs.Bool.{nat_eq}
+use Rattle.std.proofs.lemmas.Bool.{cases_Bool, and_left, not_from_false, ne_eqb, eqb-true, both_ways}
+use Rattle.pci_spec.specs.Window.{WindowKind, MemoryWindow, has_window, holds, bounds_at}
+use Rattle.pci_spec.specs.Decoded.{DecodedWindow, decoded_window, optional_window}
+use Rattle.pci_spec.proofs.Ranges.{window_range-holds, absent_window}
+use Rattle.pci_image.specs.Windows.{IsInWindow}
+use Rattle.pci_image.specs.Bounds.{is_implemented}
+
+-- a window that is there holds its range
+pub in_window-holds : (kind : WindowKind) (image probe : List ℕ) → has_window kind probe ≡ true
+    → (a : ℕ) → IsInWindow (Some (decoded_window kind image probe)) a ↔ IsTrue (holds kind image probe a)
+in_window-holds kind image probe there a = window_range-holds kind image probe there a
+
+-- a window that may be absent holds its range
+pub in_optional-holds : (kind : WindowKind) (image probe : List ℕ) (w : Option DecodedWindow) → w ≡ optional_window kind image probe
+    → (a : ℕ) → IsInWindow w a ↔ IsTrue (holds kind image probe a)
+in_optional-holds kind image probe w is a = elim (cases_Bool (has_window kind probe)) [
+  | inl there ↦
+      let e : optional_window kind image probe ≡ Some (decoded_window kind image probe) = rw there refl in
+      subst (λ v. IsInWindow v a ↔ IsTrue (holds kind image probe a)) (sym (is ∙ e)) (window_range-holds kind image probe there a)
+  | inr absent ↦
+      let e : optional_window kind image probe ≡ None = rw absent refl in
+      subst (λ v. IsInWindow v a ↔ IsTrue (holds kind image probe a)) (sym (is ∙ e)) (
+        (λ none. absurd none),
+        (λ h. both_ways (holds kind image probe a) (absent_window kind image probe a absent) h),
+      )
+]
+
+-- the first of the tests of a read back
+first_test : (a b c d e f g : Bool) → (a && b && c && d && e && f && g || false) ≡ true → a ≡ true
+first_test true b c d e f g h = refl
+first_test false b c d e f g h = cc
+
+-- a memory window that is lawful is there
+pub has_memory_window : (image probe : List ℕ) → IsTrue (is_implemented MemoryWindow (bounds_at MemoryWindow image) (bounds_at MemoryWindow probe))
+    → has_window MemoryWindow probe ≡ true
+has_memory_window image probe h =
+    let base = (bounds_at MemoryWindow probe).base in
+    let is : base ≡ 0xfff0 = eqb-true _ _ (first_test (nat_eq base 0xfff0) _ _ _ _ _ _ h) in
+    not_from_false _ (and_left _ _ (and_left _ _ (and_left _ _ (ne_eqb base 0 (λ none. omega (arith, is, none))))))

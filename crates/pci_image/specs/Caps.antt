@@ -1,0 +1,38 @@
+-- Capabilities of the code, and where they stand in an image.
+use Rattle.std.specs.Prelude.{◌≡◌, ◌≢◌, ℕ, ◌+◌, List, length, slice_range}
+use Rattle.pci_spec.specs.Capability.{capability_id, body_length, HasLowPlace, ComesTwiceTo, HasCutBody}
+use Rattle.pci_image.specs.declared.capability.Cap.{Cap}
+use Rattle.pci_image.specs.declared.capability.Cap.TheVariants.{Power, Msi, Raw}
+use Rattle.pci_image.specs.declared.fault.ImageFault.{ImageFault}
+use Rattle.pci_image.specs.declared.fault.ImageFault.TheVariants.{CapRange, CapLoop, CapCut}
+
+-- the offset of a capability's ID
+abbrev pub place_of : Cap → ℕ
+place_of (Power place body) = place
+place_of (Msi place body) = place
+place_of (Raw place body) = place
+
+-- a capability's bytes
+abbrev pub body_of : Cap → List ℕ
+body_of (Power place body) = body.now
+body_of (Msi place body) = body.now
+body_of (Raw place body) = body.now
+
+-- an ID is that of the capability's kind
+abbrev pub IsKindOf : ℕ → Cap → Type 0
+IsKindOf id (Power place body) = id ≡ 1
+IsKindOf id (Msi place body) = id ≡ 5
+IsKindOf id (Raw place body) = (id ≢ 1) × (id ≢ 5)
+
+-- the capability is of the kind that its ID says, and its body is the image's own bytes from its place
+pub record IsCapIn (image : List ℕ) (cap : Cap) : Type 0 where
+  pub kind : IsKindOf (capability_id image (place_of cap)) cap
+  pub body : body_of cap ≡ slice_range image (place_of cap) (place_of cap + body_length image (place_of cap))
+  pub size : length (body_of cap) ≡ body_length image (place_of cap)
+
+-- the fault of a list is there
+abbrev pub IsChainFaultIn : List ℕ → ImageFault → Type 0
+IsChainFaultIn image (CapRange place) = HasLowPlace image place
+IsChainFaultIn image (CapLoop place) = ComesTwiceTo image place
+IsChainFaultIn image (CapCut place) = HasCutBody image place
+IsChainFaultIn image _ = ⊥

@@ -1,0 +1,226 @@
+//! Base Address registers (PCI 3.0, 6.2.5.1).
+ghost use Rattle.std.specs.Prelude.{◌≡◌, ◌+◌, ◌*◌, ◌%◌, ◌^◌, ◌<◌, ◌≤◌, ◌↔◌, false, IsTrue, MatchResult, MatchOption, IsOk, IfOk, IfErr, None, map, All};
+ghost use Rattle.pci_spec.specs.Decoded.{decoded_bars};
+ghost use Rattle.pci_spec.specs.Number.{number_at};
+ghost use Rattle.pci_spec.specs.Bar.{bar_kind, is_prefetchable, has_lawful_size, is_lawful};
+ghost use Rattle.pci_spec.specs.Header.{bar_register};
+ghost use Rattle.pci_image.specs.Bars.{decoded_kind_of, decoded_bar_of, HasLawfulBars, IsBarFault, IsComparedBar, IsDecodedAt, IsPlaced, broken_encoding, broken_register, broken_size};
+ghost use Rattle.pci_image.specs.Faults.{IsImageFaultIn, image_fault_number};
+
+use super::comparator::{aligned, fits_within, run_start};
+use super::fault::ImageFault;
+use super::header::Header;
+use super::image::Image;
+use super::offset::BASE_ADDRESS;
+use super::range::Range;
+use arrayvec::ArrayVec;
+
+/// What a BAR maps into, and how wide its register is.
+#[derive(Clone, Copy, Debug, PartialEq, Eq)]
+pub enum BarKind {
+    /// I/O space.
+    Io,
+    /// Memory space, by a 32-bit register.
+    Mem32,
+    /// Memory space, by two registers; the second one is the upper half.
+    Mem64,
+}
+
+/// An implemented BAR: the addresses from `first` to `last`, both of them too, are those that it
+/// answers.
+#[derive(Clone, Copy, Debug, PartialEq, Eq)]
+pub struct Bar {
+    /// The byte offset of its register; of a 64-bit BAR, that of its lower half.
+    pub reg: u8,
+    pub kind: BarKind,
+    /// Whether it maps prefetchable memory.
+    pub prefetch: bool,
+    pub first: u64,
+    pub last: u64,
+}
+
+/// Fills the places of a list that no BAR takes yet.
+impl Default for Bar {
+    fn default() -> Bar {
+        Bar {
+            reg: BASE_ADDRESS,
+            kind: BarKind::Mem32,
+            prefetch: false,
+            first: 0,
+            last: 0,
+        }
+    }
+}
+
+/// Bit 0 of a register: the BAR maps into I/O space.
+const IO_SPACE: u32 = 0b1;
+
+/// Bit 1 of an I/O register, which is reserved.
+const IO_RESERVED: u32 = 0b10;
+
+/// Bits 2:1 of a memory register: its type. Two types are reserved.
+const MEMORY_TYPE: u32 = 0b110;
+
+/// The type of a 32-bit memory BAR.
+const MEMORY_32: u32 = 0b000;
+
+/// The type of a 64-bit memory BAR.
+const MEMORY_64: u32 = 0b100;
+
+/// Bit 3 of a memory register: the memory is prefetchable.
+const PREFETCHABLE: u32 = 0b1000;
+
+/// The bits of an I/O register that hold no address.
+const IO_ENCODING: u32 = 0b11;
+
+/// The bits of a memory register that hold no address.
+const MEMORY_ENCODING: u32 = 0b1111;
+
+/// The place of the largest size of an I/O BAR, 256 addresses (6.2.5.1).
+const IO_LARGEST: u32 = 8;
+
+/// The kind of an implemented BAR, by its value and its read back.
+fn kind_of(reg: u8, value: u32, mask: u32) -> Result<BarKind, ImageFault>
+    ensures { MatchResult result (λ kind. (broken_encoding value mask ≡ None) × (decoded_kind_of kind ≡ bar_kind mask)) (IsBarFault reg (broken_encoding value mask)) }
+{
+    if mask & IO_SPACE != 0 {
+        return if value & IO_ENCODING == mask & IO_ENCODING && mask & IO_RESERVED == 0 {
+            Ok(BarKind::Io)
+        } else {
+            Err(ImageFault::BarMask(reg))
+        };
+    }
+    if value & MEMORY_ENCODING != mask & MEMORY_ENCODING {
+        return Err(ImageFault::BarMask(reg));
+    }
+    match mask & MEMORY_TYPE {
+        MEMORY_32 => Ok(BarKind::Mem32),
+        MEMORY_64 => Ok(BarKind::Mem64),
+        _ => Err(ImageFault::BarType(reg)),
+    }
+}
+
+/// Whether a register is of a prefetchable memory BAR.
+fn is_prefetchable(mask: u32) -> bool
+    ensures { result ≡ is_prefetchable mask }
+{
+    mask & IO_SPACE == 0 && mask & PREFETCHABLE != 0
+}
+
+/// The place k of a BAR's size, by its read back: it has 2 ^ k addresses.
+///
+/// An I/O BAR may leave bits 31:16 out (6.2.5.1).
+fn size_place(kind: BarKind, mask: u64) -> Option<u32>
+    ensures { MatchOption result (has_lawful_size (decoded_kind_of kind) mask ≡ false) (λ k. IsTrue (is_lawful (decoded_kind_of kind) mask k)) }
+{
+    match kind {
+        BarKind::Io => {
+            let start = run_start(mask, 2, 31).or(run_start(mask, 2, 15))?;
+            if start <= IO_LARGEST {
+                Some(start)
+            } else {
+                None
+            }
+        }
+        BarKind::Mem32 => run_start(mask, 4, 31),
+        BarKind::Mem64 => run_start(mask, 4, 63),
+    }
+}
+
+/// The 64 bits of two registers, the first one being the lower half.
+fn pair_at(image: &Image, reg: u8) -> u64
+    requires aligned { reg % 4 ≡ 0 }
+    requires room { reg < 252 }
+    ensures { result ≡ number_at image.now.0 reg 4 + 2 ^ 32 * number_at image.now.0 (reg + 4) 4 }
+{
+    u64::from(image.u32(reg + 4)) << 32 | u64::from(image.u32(reg))
+}
+
+/// The BAR with this value and read back, both halves of a 64-bit one.
+fn placed(reg: u8, kind: BarKind, prefetch: bool, value: u64, mask: u64) -> Result<Bar, ImageFault>
+    ensures { MatchResult result
+        (λ bar. (broken_size (decoded_kind_of kind) value mask ≡ None) × IsPlaced reg (decoded_kind_of kind) prefetch value mask bar)
+        (IsBarFault reg (broken_size (decoded_kind_of kind) value mask)) }
+{
+    let Some(place) = size_place(kind, mask) else {
+        return Err(ImageFault::BarMask(reg));
+    };
+    if !fits_within(value, mask) {
+        return Err(ImageFault::BarMask(reg));
+    }
+    let Range { first, last } = aligned(value, place);
+    Ok(Bar {
+        reg,
+        kind,
+        prefetch,
+        first,
+        last,
+    })
+}
+
+/// What BAR register `n` decodes to, where it starts a BAR; `last` says that no register follows.
+fn decode_register(
+    image: &Image,
+    probe: &Image,
+    n: u8,
+    last: bool,
+) -> Result<Option<Bar>, ImageFault>
+    requires { n < 6 }
+    ensures { MatchResult result
+        (λ found. (broken_register last image.now.0 probe.now.0 n ≡ None) × IsDecodedAt image.now.0 probe.now.0 n found)
+        (IsBarFault (bar_register n) (broken_register last image.now.0 probe.now.0 n)) }
+{
+    let reg = BASE_ADDRESS + 4 * n;
+    let value = image.u32(reg);
+    let mask = probe.u32(reg);
+    if mask == 0 {
+        return if value == 0 {
+            Ok(None)
+        } else {
+            Err(ImageFault::BarMask(reg))
+        };
+    }
+    let kind = kind_of(reg, value, mask)?;
+    let prefetch = is_prefetchable(mask);
+    let bar = match kind {
+        BarKind::Io | BarKind::Mem32 => placed(reg, kind, prefetch, value.into(), mask.into())?,
+        BarKind::Mem64 if last => return Err(ImageFault::BarPair(reg)),
+        BarKind::Mem64 => placed(
+            reg,
+            kind,
+            prefetch,
+            pair_at(image, reg),
+            pair_at(probe, reg),
+        )?,
+    };
+    Ok(Some(bar))
+}
+
+/// The implemented BARs of a function, in the order of their registers.
+///
+/// A 64-bit BAR takes the register after its own as its upper half. `probe` holds what the registers
+/// read back after all ones were written to them.
+///
+/// # Errors
+///
+/// 20 `NoVendor` and 21 `HeaderKind` as [`Header::of`]; then the first rule that the lowest faulty
+/// register breaks: 22 `BarType`, 23 `BarMask` or 24 `BarPair`.
+pub fn bars(image: &Image, probe: &Image) -> Result<ArrayVec<Bar, 6>, ImageFault>
+    ensures lawful { IsOk result ↔ HasLawfulBars image.now.0 probe.now.0 }
+    ensures decoded { IfOk result (λ v. map decoded_bar_of v.items ≡ decoded_bars image.now.0 probe.now.0) }
+    ensures compared { IfOk result (λ v. All (IsComparedBar image.now.0 probe.now.0) v.items) }
+    ensures fault { IfErr result (λ f. IsImageFaultIn image.now.0 probe.now.0 f × (image_fault_number f ≤ 24)) }
+{
+    let count = Header::of(image)?.bar_count();
+    let mut found = ArrayVec::new();
+    let mut is_upper_half = false;
+    for n in 0..count {
+        if is_upper_half {
+            is_upper_half = false;
+        } else if let Some(bar) = decode_register(image, probe, n, n + 1 == count)? {
+            is_upper_half = bar.kind == BarKind::Mem64;
+            found.push(bar);
+        }
+    }
+    Ok(found)
+}

@@ -1,0 +1,179 @@
+//! The capabilities list (PCI 3.0, 6.7).
+ghost use Rattle.std.specs.Prelude.{◌≡◌, ◌<◌, ◌≤◌, ◌+◌, ◌%◌, ◌/◌, ◌*◌, ◌==◌, ◌↔◌, length, slice_range, MatchOption, IsOk, IfOk, IfErr, IsTrue, map, All};
+ghost use Rattle.std.specs.List.{list_any};
+ghost use Rattle.pci_spec.specs.Capability.{body_length, message_control, msi_length, pointer, pointer_at, HasChain, IsChain};
+ghost use Rattle.pci_image.specs.Caps.{place_of, body_of, IsCapIn, IsChainFaultIn};
+
+use super::fault::ImageFault;
+use super::image::Image;
+use super::offset::{CAPABILITIES_POINTER, STATUS};
+use arrayvec::ArrayVec;
+
+/// A capability: its place, which is the byte offset of its ID, and its body, which is the image's
+/// own bytes from there.
+#[derive(Clone, Copy, Debug, PartialEq, Eq)]
+pub enum Cap<'a> {
+    /// Power management, ID 01h, 8 bytes (Power Management 1.2, 3.2).
+    Power { place: u8, body: &'a [u8] },
+    /// Message signaled interrupts, ID 05h, 10 to 24 bytes (PCI 3.0, 6.8.1).
+    Msi { place: u8, body: &'a [u8] },
+    /// Any other ID, with its first four bytes.
+    Raw { place: u8, body: &'a [u8] },
+}
+
+/// Fills the places of a list that no capability takes yet.
+impl Default for Cap<'_> {
+    fn default() -> Self {
+        Cap::Raw {
+            place: 0,
+            body: &[],
+        }
+    }
+}
+
+/// Bit 4 of Status: there is a capabilities list (6.2.3).
+const CAPABILITIES_LIST: u16 = 1 << 4;
+
+/// The bits of a pointer; its two low bits are reserved (6.7).
+const POINTER_BITS: u8 = 0xfc;
+
+/// The first offset behind the header.
+const FIRST_PLACE: u8 = 0x40;
+
+/// The ID of power management.
+const POWER_MANAGEMENT: u8 = 0x01;
+
+/// The ID of message signaled interrupts.
+const MESSAGE_SIGNALED_INTERRUPTS: u8 = 0x05;
+
+/// Bit 7 of Message Control: the address has 64 bits (6.8.1.3).
+const WIDE_ADDRESS: u16 = 1 << 7;
+
+/// Bit 8 of Message Control: each vector can be masked (6.8.1.3).
+const VECTOR_MASKING: u16 = 1 << 8;
+
+/// The pointer at an offset, without its reserved bits.
+fn pointer_at(image: &Image, off: u8) -> u8
+    ensures { result ≡ pointer_at image.now.0 off }
+{
+    image.u8(off) & POINTER_BITS
+}
+
+/// The first pointer of the list, 0 where there is no list.
+fn first_pointer(image: &Image) -> u8
+    ensures { result ≡ pointer image.now.0 0 }
+{
+    if image.u16(STATUS) & CAPABILITIES_LIST == 0 {
+        0
+    } else {
+        pointer_at(image, CAPABILITIES_POINTER)
+    }
+}
+
+/// The bytes of an MSI capability, by its Message Control.
+fn msi_length(control: u16) -> u8
+    ensures value { result ≡ msi_length control }
+    ensures small { result ≤ 24 }
+{
+    match (control & WIDE_ADDRESS != 0, control & VECTOR_MASKING != 0) {
+        (false, false) => 10,
+        (true, false) => 14,
+        (false, true) => 20,
+        (true, true) => 24,
+    }
+}
+
+/// The bytes from a place on, where so many are left.
+fn body_at(image: &Image, place: u8, size: u8) -> Option<&[u8]>
+    ensures { MatchOption result (256 < place + size) (λ body. (body.now ≡ slice_range image.now.0 place (place + size)) × (length body.now ≡ size)) }
+{
+    let start = usize::from(place);
+    let end = start + usize::from(size);
+    if end <= image.0.len() {
+        Some(&image.0[start..end])
+    } else {
+        None
+    }
+}
+
+impl<'a> Cap<'a> {
+    /// The byte offset of its ID.
+    pub fn place(&self) -> u8
+        ensures { result ≡ place_of self.now }
+    {
+        match self {
+            Cap::Power { place, .. } | Cap::Msi { place, .. } | Cap::Raw { place, .. } => *place,
+        }
+    }
+
+    /// The capability's own bytes.
+    pub fn body(&self) -> &'a [u8]
+        ensures { result.now ≡ body_of self.now }
+    {
+        match self {
+            Cap::Power { body, .. } | Cap::Msi { body, .. } | Cap::Raw { body, .. } => body,
+        }
+    }
+
+    /// The capability at a place, where its body ends within the image.
+    fn at(image: &'a Image, place: u8) -> Option<Cap<'a>>
+        requires aligned { place % 4 ≡ 0 }
+        ensures { MatchOption result (256 < place + body_length image.entry.now.0 place)
+            (λ cap. (place_of cap ≡ place) × IsCapIn image.entry.now.0 cap × (place + body_length image.entry.now.0 place ≤ 256)) }
+    {
+        match image.u8(place) {
+            POWER_MANAGEMENT => {
+                let body = body_at(image, place, 8)?;
+                Some(Cap::Power { place, body })
+            }
+            MESSAGE_SIGNALED_INTERRUPTS => {
+                let body = body_at(image, place, msi_length(image.u16(place + 2)))?;
+                Some(Cap::Msi { place, body })
+            }
+            _ => {
+                let body = body_at(image, place, 4)?;
+                Some(Cap::Raw { place, body })
+            }
+        }
+    }
+}
+
+/// Whether one of the capabilities stands at a place.
+fn has_place(caps: &[Cap<'_>], place: u8) -> bool
+    ensures { result ≡ list_any (λ cap. place_of cap == place) caps.now }
+{
+    caps.iter().any(|cap| cap.place() == place)
+}
+
+/// The capabilities of a function, along its list. A function without a list has none.
+///
+/// A list has at most 48 places, since each is a multiple of four from 40h to FCh.
+///
+/// # Errors
+///
+/// For the first place of the list that is refused: 27 `CapRange` where it is below 40h; else 28
+/// `CapLoop` where the list came to it before; else 29 `CapCut` where the capability's body passes
+/// the end of the image.
+pub fn chain(image: &Image) -> Result<ArrayVec<Cap<'_>, 48>, ImageFault>
+    ensures lawful { IsOk result ↔ HasChain image.now.0 }
+    ensures places { IfOk result (λ v. IsChain image.now.0 (map place_of v.items)) }
+    ensures bodies { IfOk result (λ v. All (IsCapIn image.now.0) v.items) }
+    ensures fault { IfErr result (IsChainFaultIn image.now.0) }
+{
+    let mut found = ArrayVec::new();
+    let mut place = first_pointer(image);
+    while place != 0 {
+        if place < FIRST_PLACE {
+            return Err(ImageFault::CapRange(place));
+        }
+        if has_place(&found, place) {
+            return Err(ImageFault::CapLoop(place));
+        }
+        let Some(cap) = Cap::at(image, place) else {
+            return Err(ImageFault::CapCut(place));
+        };
+        found.push(cap);
+        place = pointer_at(image, place + 1);
+    }
+    Ok(found)
+}

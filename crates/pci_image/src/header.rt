@@ -1,0 +1,97 @@
+//! The two layouts of a configuration header (PCI 3.0, 6.1; Bridge 1.2, 3.2).
+ghost use Rattle.std.specs.Prelude.{◌≡◌};
+
+use super::fault::ImageFault;
+use super::image::Image;
+use super::offset::{BRIDGE_EXPANSION_ROM, EXPANSION_ROM, HEADER_TYPE, VENDOR_ID};
+
+/// An image with a type 0 header: a device.
+#[derive(Clone, Copy, Debug, PartialEq, Eq)]
+pub struct Header0<'a> {
+    image: &'a Image,
+}
+
+/// An image with a type 1 header: a PCI-to-PCI bridge.
+#[derive(Clone, Copy, Debug, PartialEq, Eq)]
+pub struct Header1<'a> {
+    image: &'a Image,
+}
+
+/// The header of an image, which it borrows.
+#[derive(Clone, Copy, Debug, PartialEq, Eq)]
+pub enum Header<'a> {
+    Type0(Header0<'a>),
+    Type1(Header1<'a>),
+}
+
+/// The Vendor ID of a function that doesn't answer (6.2.1).
+const NO_VENDOR: u16 = 0xffff;
+
+/// The bits of Header Type that give the layout; the other one says multi-function (6.2.1).
+const LAYOUT_BITS: u8 = 0x7f;
+
+impl<'a> Header<'a> {
+    ghost use Rattle.std.specs.Prelude.{◌≡◌, IsOk, IfOk, IfErr, ◌↔◌, ◌≤◌};
+    ghost use Rattle.pci_spec.specs.Header.{bar_count, rom_register};
+    ghost use Rattle.pci_image.specs.Header.{HasHeader, IsHeaderOf, header_layout};
+    ghost use Rattle.pci_image.specs.Faults.{IsImageFaultIn, image_fault_number};
+
+    /// The header of an image.
+    ///
+    /// # Errors
+    ///
+    /// 20 `NoVendor` where no function answers, else 21 `HeaderKind` where the layout is neither 0
+    /// nor 1.
+    pub fn of(image: &'a Image) -> Result<Header<'a>, ImageFault>
+        ensures lawful { IsOk result ↔ HasHeader image.entry.now.0 }
+        ensures header { IfOk result (IsHeaderOf image.entry.now) }
+        ensures fault { IfErr result (λ f. IsImageFaultIn image.entry.now.0 image.entry.now.0 f × (image_fault_number f ≤ 21)) }
+    {
+        if image.u16(VENDOR_ID) == NO_VENDOR {
+            return Err(ImageFault::NoVendor);
+        }
+        match image.u8(HEADER_TYPE) & LAYOUT_BITS {
+            0 => Ok(Header::Type0(Header0 { image })),
+            1 => Ok(Header::Type1(Header1 { image })),
+            _ => Err(ImageFault::HeaderKind),
+        }
+    }
+
+    /// How many Base Address registers the header has.
+    pub fn bar_count(&self) -> u8
+        ensures { result ≡ bar_count (header_layout self.now) }
+    {
+        match self {
+            Header::Type0(_) => 6,
+            Header::Type1(_) => 2,
+        }
+    }
+
+    /// The offset of the header's Expansion ROM Base Address register.
+    pub fn rom_register(&self) -> u8
+        ensures { result ≡ rom_register (header_layout self.now) }
+    {
+        match self {
+            Header::Type0(_) => EXPANSION_ROM,
+            Header::Type1(_) => BRIDGE_EXPANSION_ROM,
+        }
+    }
+}
+
+impl<'a> Header0<'a> {
+    /// The image with this header.
+    pub fn image(&self) -> &'a Image
+        ensures { result.now ≡ self.now.image.now }
+    {
+        self.image
+    }
+}
+
+impl<'a> Header1<'a> {
+    /// The image with this header.
+    pub fn image(&self) -> &'a Image
+        ensures { result.now ≡ self.now.image.now }
+    {
+        self.image
+    }
+}

@@ -1,0 +1,26 @@
+//! One function of PCI configuration space, decoded from its 256 bytes and its read backs.
+//!
+//! A function is told by two images: what its registers hold, and its probe, which has what the
+//! address registers read back after all ones were written to them. [`header::Header::of`] tells a
+//! device from a bridge. [`bar::bars`], [`rom::register::rom`] and [`window::Windows::of`] give the
+//! addresses that the function's comparators answer, as inclusive ranges, and
+//! [`capability::chain`] gives its capabilities, which borrow the image. Nothing here takes memory.
+//!
+//! In the comments "PCI 3.0" is the PCI Local Bus Specification 3.0, "Bridge 1.2" the PCI-to-PCI
+//! Bridge Architecture Specification 1.2 and "Power Management 1.2" the PCI Bus Power Management
+//! Interface Specification 1.2. Places and registers are byte offsets.
+#![tactic(auto)]
+
+pub mod bar;
+pub mod capability;
+mod comparator;
+pub mod fault;
+pub mod header;
+pub mod image;
+pub mod offset;
+pub mod range;
+pub mod rom;
+pub mod slot;
+#[cfg(test)]
+mod tests;
+pub mod window;

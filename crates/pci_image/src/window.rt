@@ -1,0 +1,127 @@
+//! The address windows of a bridge (Bridge 1.2, 3.2.5).
+ghost use Rattle.std.specs.Prelude.{◌≡◌, ◌↔◌, IsOk, IfOk};
+
+mod bounds;
+
+use super::fault::ImageFault;
+use super::header::Header;
+use super::image::Image;
+use super::range::Range;
+use bounds::WindowKind;
+use std::marker::Model;
+
+/// A window that is implemented: its range, and whether it has upper halves.
+#[derive(Clone, Copy, Debug, PartialEq, Eq)]
+pub struct Window {
+    range: Option<Range>,
+    wide: bool,
+}
+
+impl Model for Window {
+    ghost use Rattle.std.specs.Option.{option_map};
+    ghost use Rattle.pci_spec.specs.Decoded.{DecodedWindow};
+    ghost use Rattle.pci_image.specs.Ranges.{decoded_range_of, range_of_decoded};
+
+    ghost Value = { DecodedWindow };
+
+    ghost view = { λ w. record { wide = w.wide; range = option_map decoded_range_of w.range } };
+
+    ghost inverse = { λ v. record { range = option_map range_of_decoded v.range; wide = v.wide } };
+}
+
+/// The windows of a bridge; each of I/O and prefetchable memory may be unimplemented.
+#[derive(Clone, Copy, Debug, PartialEq, Eq)]
+pub struct Windows {
+    pub io: Option<Window>,
+    pub mem: Window,
+    pub pref: Option<Window>,
+}
+
+impl Window {
+    ghost use Rattle.std.specs.Prelude.{MatchResult, IsTrue, IsFalse};
+    ghost use Rattle.std.specs.Option.{option_map};
+    ghost use Rattle.pci_spec.specs.Window.{bounds_at, breaks_window_rule, is_optional, window_register};
+    ghost use Rattle.pci_spec.specs.Decoded.{decoded_window, optional_window};
+    ghost use Rattle.pci_image.specs.Bounds.{is_implemented, spec_kind_of};
+    ghost use Rattle.pci_image.specs.Ranges.{decoded_range_of};
+
+    /// The addresses that the window holds; none where it is closed, its base above its limit.
+    pub fn range(&self) -> Option<Range>
+        ensures { option_map decoded_range_of result ≡ self.now.range }
+    {
+        self.range
+    }
+
+    /// Whether the window has upper halves, for 32-bit I/O or 64-bit prefetchable addresses.
+    pub fn wide(&self) -> bool
+        ensures { result ≡ self.now.wide }
+    {
+        self.wide
+    }
+
+    /// A window that is implemented.
+    fn implemented(kind: WindowKind, image: &Image, probe: &Image) -> Result<Window, ImageFault>
+        ensures { MatchResult result
+            (λ w. IsTrue (is_implemented (spec_kind_of kind) (bounds_at (spec_kind_of kind) image.now.0) (bounds_at (spec_kind_of kind) probe.now.0))
+            × (w ≡ decoded_window (spec_kind_of kind) image.now.0 probe.now.0))
+            (λ f. IsFalse (is_implemented (spec_kind_of kind) (bounds_at (spec_kind_of kind) image.now.0) (bounds_at (spec_kind_of kind) probe.now.0))
+            × (f ≡ ImageFault.WindowMask (window_register (spec_kind_of kind)))) }
+    {
+        let value = kind.bounds(image);
+        let Some(wide) = kind.has_upper(value, kind.bounds(probe)) else {
+            return Err(ImageFault::WindowMask(kind.register()));
+        };
+        Ok(Window {
+            range: kind.range(value),
+            wide,
+        })
+    }
+
+    /// A window that a bridge may leave out.
+    fn optional(
+        kind: WindowKind,
+        image: &Image,
+        probe: &Image,
+    ) -> Result<Option<Window>, ImageFault>
+        requires { IsTrue (is_optional (spec_kind_of kind)) }
+        ensures { MatchResult result
+            (λ w. IsFalse (breaks_window_rule (spec_kind_of kind) image.now.0 probe.now.0) × (w ≡ optional_window (spec_kind_of kind) image.now.0 probe.now.0))
+            (λ f. IsTrue (breaks_window_rule (spec_kind_of kind) image.now.0 probe.now.0) × (f ≡ ImageFault.WindowMask (window_register (spec_kind_of kind)))) }
+    {
+        if kind.bounds(image).is_zero() && kind.bounds(probe).is_zero() {
+            return Ok(None);
+        }
+        Ok(Some(Window::implemented(kind, image, probe)?))
+    }
+}
+
+impl Windows {
+    ghost use Rattle.std.specs.Prelude.{IfErr};
+    ghost use Rattle.pci_spec.specs.Decoded.{decoded_windows};
+    ghost use Rattle.pci_image.specs.Windows.{decoded_windows_of, HasLawfulWindows, HoldsAsComparators, IsWindowsFaultIn};
+
+    /// The windows of a bridge.
+    ///
+    /// `probe` holds what the registers read back after all ones were written to them.
+    ///
+    /// # Errors
+    ///
+    /// 20 `NoVendor` where no function answers; 21 `HeaderKind` where the header isn't a bridge's;
+    /// then 26 `WindowMask` with the register 1Ch, 20h or 24h of the first window whose read backs or
+    /// values are none that are decoded.
+    pub fn of(image: &Image, probe: &Image) -> Result<Windows, ImageFault>
+        ensures lawful { IsOk result ↔ HasLawfulWindows image.now.0 probe.now.0 }
+        ensures decoded { IfOk result (λ w. decoded_windows_of w ≡ decoded_windows image.now.0 probe.now.0) }
+        ensures compared { IfOk result (HoldsAsComparators image.now.0 probe.now.0) }
+        ensures fault { IfErr result (IsWindowsFaultIn image.now.0 probe.now.0) }
+    {
+        let Header::Type1(_) = Header::of(image)? else {
+            return Err(ImageFault::HeaderKind);
+        };
+        Ok(Windows {
+            io: Window::optional(WindowKind::Io, image, probe)?,
+            mem: Window::implemented(WindowKind::Memory, image, probe)?,
+            pref: Window::optional(WindowKind::Prefetchable, image, probe)?,
+        })
+    }
+}

@@ -1,0 +1,205 @@
+//! The registers of a bridge's windows, and what they may hold (Bridge 1.2, 3.2.5).
+//!
+//! Which read backs are decoded is this project's own choice: a window is there whole or not at all,
+//! and a bridge always has a memory window.
+ghost use Rattle.std.specs.Prelude.{◌≡◌, ◌≢◌, ◌^◌, ◌%◌, ◌<◌, ◌==◌, IsTrue, IsFalse, MatchOption};
+ghost use Rattle.std.specs.Option.{option_map};
+ghost use Rattle.pci_spec.specs.Window.{bounds_at, is_lawful_window, is_optional, is_zero, lower_pages, page_bits, page_size, upper_bits, window_register};
+ghost use Rattle.pci_image.specs.Bounds.{spec_bounds_of, spec_kind_of, page_of, range_between, is_implemented, is_read_back, is_value};
+ghost use Rattle.pci_image.specs.Ranges.{decoded_range_of};
+
+use crate::image::Image;
+use crate::offset::{
+    IO_BASE, IO_BASE_UPPER, IO_LIMIT, IO_LIMIT_UPPER, MEMORY_BASE, MEMORY_LIMIT, PREFETCHABLE_BASE,
+    PREFETCHABLE_BASE_UPPER, PREFETCHABLE_LIMIT, PREFETCHABLE_LIMIT_UPPER,
+};
+use crate::range::Range;
+
+/// The three windows of a bridge.
+#[derive(Clone, Copy)]
+pub enum WindowKind {
+    Io,
+    Memory,
+    Prefetchable,
+}
+
+/// What the registers of a window hold: base and limit, and their upper halves, which are 0 where
+/// there are none.
+#[derive(Clone, Copy)]
+pub struct Bounds {
+    pub base: u16,
+    pub limit: u16,
+    pub base_upper: u32,
+    pub limit_upper: u32,
+}
+
+/// The low nibble of base and limit of a window without upper halves.
+const NARROW: u16 = 0;
+
+/// The low nibble of base and limit of a window with upper halves.
+const WIDE: u16 = 1;
+
+impl WindowKind {
+    /// The offset that names the window.
+    pub fn register(self) -> u8
+        ensures { result ≡ window_register (spec_kind_of self) }
+    {
+        match self {
+            WindowKind::Io => IO_BASE,
+            WindowKind::Memory => MEMORY_BASE,
+            WindowKind::Prefetchable => PREFETCHABLE_BASE,
+        }
+    }
+
+    /// What an image, or what was read back, has in the window's registers.
+    pub fn bounds(self, image: &Image) -> Bounds
+        ensures { spec_bounds_of result ≡ bounds_at (spec_kind_of self) image.now.0 }
+    {
+        match self {
+            WindowKind::Io => Bounds {
+                base: image.u8(IO_BASE).into(),
+                limit: image.u8(IO_LIMIT).into(),
+                base_upper: image.u16(IO_BASE_UPPER).into(),
+                limit_upper: image.u16(IO_LIMIT_UPPER).into(),
+            },
+            WindowKind::Memory => Bounds {
+                base: image.u16(MEMORY_BASE),
+                limit: image.u16(MEMORY_LIMIT),
+                base_upper: 0,
+                limit_upper: 0,
+            },
+            WindowKind::Prefetchable => Bounds {
+                base: image.u16(PREFETCHABLE_BASE),
+                limit: image.u16(PREFETCHABLE_LIMIT),
+                base_upper: image.u32(PREFETCHABLE_BASE_UPPER),
+                limit_upper: image.u32(PREFETCHABLE_LIMIT_UPPER),
+            },
+        }
+    }
+
+    /// The bits of base and limit above the low nibble.
+    fn page_bits(self) -> u16
+        ensures { result ≡ page_bits (spec_kind_of self) }
+    {
+        match self {
+            WindowKind::Io => 0xf0,
+            WindowKind::Memory | WindowKind::Prefetchable => 0xfff0,
+        }
+    }
+
+    /// The bits of an upper half.
+    fn upper_bits(self) -> u32
+        ensures { result ≡ upper_bits (spec_kind_of self) }
+    {
+        match self {
+            WindowKind::Io => 0xffff,
+            WindowKind::Memory => 0,
+            WindowKind::Prefetchable => 0xffff_ffff,
+        }
+    }
+
+    /// Whether a bridge may leave the window out, or give it upper halves.
+    pub fn is_optional(self) -> bool
+        ensures { result ≡ is_optional (spec_kind_of self) }
+    {
+        match self {
+            WindowKind::Io | WindowKind::Prefetchable => true,
+            WindowKind::Memory => false,
+        }
+    }
+
+    /// How many bits of a page number stand below the upper half.
+    fn lower_width(self) -> u32
+        ensures small { result < 13 }
+        ensures pages { 2 ^ result ≡ lower_pages (spec_kind_of self) }
+    {
+        match self {
+            WindowKind::Io => 4,
+            WindowKind::Memory | WindowKind::Prefetchable => 12,
+        }
+    }
+
+    /// How many bits of an address stand below the page number: pages are of 4 KB or 1 MB.
+    fn page_width(self) -> u32
+        ensures small { result < 21 }
+        ensures pages { 2 ^ result ≡ page_size (spec_kind_of self) }
+    {
+        match self {
+            WindowKind::Io => 12,
+            WindowKind::Memory | WindowKind::Prefetchable => 20,
+        }
+    }
+
+    /// The number of a page, by its upper half and the base or limit that it stands in.
+    fn page(self, upper: u32, lower: u16) -> u64
+        ensures number { result ≡ page_of (spec_kind_of self) upper lower }
+        ensures small { result < 2 ^ 44 }
+    {
+        (u64::from(upper) << self.lower_width()) + u64::from(lower >> 4)
+    }
+
+    /// The addresses from the base's page to the limit's; none where the base stands above the limit.
+    pub fn range(self, bounds: Bounds) -> Option<Range>
+        ensures { option_map decoded_range_of result ≡
+            range_between (spec_kind_of self) (page_of (spec_kind_of self) bounds.base_upper bounds.base) (page_of (spec_kind_of self) bounds.limit_upper bounds.limit) }
+    {
+        let first_page = self.page(bounds.base_upper, bounds.base);
+        let last_page = self.page(bounds.limit_upper, bounds.limit);
+        if last_page < first_page {
+            return None;
+        }
+        let width = self.page_width();
+        let low = (1u64 << width) - 1;
+        Some(Range {
+            first: first_page << width,
+            last: last_page << width | low,
+        })
+    }
+
+    /// Whether an implemented window with these values and read backs has upper halves; none where
+    /// they are those of no window.
+    pub fn has_upper(self, value: Bounds, mask: Bounds) -> Option<bool>
+        ensures { MatchOption result
+            (IsFalse (is_implemented (spec_kind_of self) (spec_bounds_of value) (spec_bounds_of mask)))
+            (λ wide. IsTrue (is_implemented (spec_kind_of self) (spec_bounds_of value) (spec_bounds_of mask)) × (wide ≡ (mask.base % 16 == 1)) × (mask.base ≢ 0)) }
+    {
+        if self.is_read_back(NARROW, mask) && value.is_value(NARROW) {
+            Some(false)
+        } else if self.is_optional() && self.is_read_back(WIDE, mask) && value.is_value(WIDE) {
+            Some(true)
+        } else {
+            None
+        }
+    }
+
+    /// Whether these read backs are those of a window with this low nibble.
+    fn is_read_back(self, nibble: u16, mask: Bounds) -> bool
+        requires { nibble < 2 }
+        ensures { result ≡ is_read_back (spec_kind_of self) nibble (spec_bounds_of mask) }
+    {
+        let page = self.page_bits() + nibble;
+        let upper = self.upper_bits() * u32::from(nibble);
+        mask.base == page
+            && mask.limit == page
+            && mask.base_upper == upper
+            && mask.limit_upper == upper
+    }
+}
+
+impl Bounds {
+    /// Whether all registers of the window are 0.
+    pub fn is_zero(self) -> bool
+        ensures { result ≡ is_zero (spec_bounds_of self) }
+    {
+        self.base == 0 && self.limit == 0 && self.base_upper == 0 && self.limit_upper == 0
+    }
+
+    /// Whether these values go with this low nibble.
+    fn is_value(self, nibble: u16) -> bool
+        requires { nibble < 2 }
+        ensures { result ≡ is_value nibble (spec_bounds_of self) }
+    {
+        let has_no_upper = self.base_upper == 0 && self.limit_upper == 0;
+        self.base % 16 == nibble && self.limit % 16 == nibble && (nibble == WIDE || has_no_upper)
+    }
+}
