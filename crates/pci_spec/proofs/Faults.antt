@@ -144,20 +144,20 @@ rows_more row (suc n) m =
     ap (rows_cells row) a ∙ ap (λ (cs : List Cell). row_cells row ++ cs) (rows_more (row + 1) n m ∙ ap (λ (r : ℕ). rows_cells (row + 1) n ++ rows_cells r m) b)
     ∙ sym (append_assoc (row_cells row) (rows_cells (row + 1) n) (rows_cells (row + suc n) m))
 
-pub one_row : (row : ℕ) → rows_cells row 1 ≡ row_cells row
+pub one_row : (k : ℕ) → rows_cells k 1 ≡ row_cells k
 unfolding rows_cells
-one_row row = append-nil (row_cells row)
+one_row k = append-nil (row_cells k)
 
--- whole rows, a row, and what is after it
-pub rest_at : (row : ℕ) → row < 16 → rest_cells ≡ rows_cells 0 row ++ (row_cells row ++ (rows_cells (row + 1) (15 - row) ++ Fixed 10 ∷ []))
-rest_at row h =
-    let a : 16 ≡ row + (1 + (15 - row)) = omega (arith, h) in
-    let z : 0 + row ≡ row = omega arith in
-    let e : rows_cells 0 16 ≡ rows_cells 0 row ++ (row_cells row ++ rows_cells (row + 1) (15 - row)) =
-    ap (rows_cells 0) a ∙ rows_more 0 row (1 + (15 - row)) ∙ ap (λ (r : ℕ). rows_cells 0 row ++ rows_cells r (1 + (15 - row))) z
-    ∙ ap (λ (cs : List Cell). rows_cells 0 row ++ cs) (rows_more row 1 (15 - row) ∙ ap (λ (cs : List Cell). cs ++ rows_cells (row + 1) (15 - row)) (one_row row)) in
-    ap (λ (cs : List Cell). cs ++ Fixed 10 ∷ []) e ∙ append_assoc (rows_cells 0 row) (row_cells row ++ rows_cells (row + 1) (15 - row)) (Fixed 10 ∷ [])
-    ∙ ap (λ (cs : List Cell). rows_cells 0 row ++ cs) (append_assoc (row_cells row) (rows_cells (row + 1) (15 - row)) (Fixed 10 ∷ []))
+-- whole rows, a k, and what is after it
+pub rest_at : (k : ℕ) → k < 16 → rest_cells ≡ rows_cells 0 k ++ (row_cells k ++ (rows_cells (k + 1) (15 - k) ++ Fixed 10 ∷ []))
+rest_at k h =
+    let a : 16 ≡ k + (1 + (15 - k)) = omega (arith, h) in
+    let z : 0 + k ≡ k = omega arith in
+    let e : rows_cells 0 16 ≡ rows_cells 0 k ++ (row_cells k ++ rows_cells (k + 1) (15 - k)) =
+    ap (rows_cells 0) a ∙ rows_more 0 k (1 + (15 - k)) ∙ ap (λ (r : ℕ). rows_cells 0 k ++ rows_cells r (1 + (15 - k))) z
+    ∙ ap (λ (cs : List Cell). rows_cells 0 k ++ cs) (rows_more k 1 (15 - k) ∙ ap (λ (cs : List Cell). cs ++ rows_cells (k + 1) (15 - k)) (one_row k)) in
+    ap (λ (cs : List Cell). cs ++ Fixed 10 ∷ []) e ∙ append_assoc (rows_cells 0 k) (row_cells k ++ rows_cells (k + 1) (15 - k)) (Fixed 10 ∷ [])
+    ∙ ap (λ (cs : List Cell). rows_cells 0 k ++ cs) (append_assoc (row_cells k) (rows_cells (k + 1) (15 - k)) (Fixed 10 ∷ []))
 
 last_has_end : (init a : List Cell) (x : Cell) (b : List Cell) → init ++ Fixed 10 ∷ [] ≡ a ++ x ∷ b → 1 ≤ ends_in (x ∷ b)
 last_has_end [] [] x b e = let n = ap ends_in e in omega (arith, n)
