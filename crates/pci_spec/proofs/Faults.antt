@@ -148,7 +148,7 @@ pub one_row : (k : ℕ) → rows_cells k 1 ≡ row_cells k
 unfolding rows_cells
 one_row k = append-nil (row_cells k)
 
--- whole rows, a k, and what is after it
+-- whole rows, one more, and what is after it
 pub rest_at : (k : ℕ) → k < 16 → rest_cells ≡ rows_cells 0 k ++ (row_cells k ++ (rows_cells (k + 1) (15 - k) ++ Fixed 10 ∷ []))
 rest_at k h =
     let a : 16 ≡ k + (1 + (15 - k)) = omega (arith, h) in
