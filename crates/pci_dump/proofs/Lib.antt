@@ -1,0 +1,13 @@
+pub mod Blocks
+pub mod Values
+pub mod Lines
+pub mod Whole
+pub mod Lengths
+pub mod After
+pub mod Filled
+pub mod Fronted
+pub mod Texts
+pub mod Told
+pub mod Put
+pub mod Pairs
+pub mod Digits

@@ -1,0 +1,10 @@
+pub mod ReadFault
+pub mod PairFault
+pub mod Value
+pub mod Stop
+pub mod FaultAt
+pub mod State
+pub mod Fill
+pub mod Front
+pub mod Begun
+pub mod Pair

@@ -1,0 +1,244 @@
+//! A text read ahead of its blocks, apart from its source.
+ghost use Rattle.std.specs.Prelude.{◌≡◌, ◌≢◌, ◌⊎◌, ◌<◌, ◌≤◌, ◌+◌, ◌-◌, ◌++◌, ℕ, List, [], true, false, length, drop, slice_range, Some, None, Ok, Err, IfOk, IfErr, OnOk, OnErr, MatchOption, MatchResult, IsTrue};
+ghost use Rattle.std.specs.Io.KnownBytes.{Keeps, IsAtEnd, prepend_known};
+ghost use Rattle.pci_spec.specs.Text.{Block as BlockValue, IsBlock, block_text};
+ghost use Rattle.pci_spec.specs.Stops.{IsAboveLast};
+ghost use Rattle.pci_dump.specs.FaultAt.{fault_at};
+
+use super::block::Block;
+use super::ends::{Failed, Source};
+use super::parse::{Found, Stop, block_in};
+use super::read_fault::ReadFault;
+use pci_image::slot::Slot;
+use std::marker::Model;
+
+/// How far a text was read.
+#[derive(Clone, Copy, Debug, PartialEq, Eq)]
+pub enum Progress {
+    /// Up to a block's end, and there was no fault.
+    Open,
+    /// To its end.
+    Done,
+    /// To a fault.
+    Failed(ReadFault),
+}
+
+/// The most bytes of a block: 841, a space and a title of 200.
+const BLOCK_MAX: usize = 1042;
+
+/// The most blocks of a text.
+const COUNT_MAX: u64 = 4096;
+
+/// The line after so many blocks of eighteen lines.
+const LINE_AFTER_ALL: u64 = 18 * COUNT_MAX + 1;
+
+/// The bytes that were read from a source and not yet taken as blocks, and how far the text was
+/// read. Whoever has one keeps it with one source.
+#[derive(Drop)]
+pub struct ReadAhead {
+    buf: [u8; 8192],
+    at: usize,
+    end: usize,
+    drained: bool,
+    count: u64,
+    last: Option<Slot>,
+    progress: Progress,
+}
+
+impl Model for ReadAhead {
+    ghost use Rattle.std.specs.Prelude.{◌≡◌, ◌≢◌, ◌≤◌, true, slice_range};
+    ghost use Rattle.pci_dump.specs.declared.ahead.Progress.TheVariants.{Done, Failed};
+    ghost use Rattle.pci_dump.specs.declared.read_fault.ReadFault.TheVariants.{Memory};
+    ghost use Rattle.pci_dump.specs.State.{Ahead};
+
+    ghost Value = { Ahead };
+
+    ghost view = { λ r. record {
+      held = slice_range r.buf r.at r.end;
+      drained = r.drained;
+      count = r.count;
+      last = r.last;
+      progress = r.progress;
+    } };
+
+    ghost invariant = { λ r. (r.at ≤ r.end) × (r.end ≤ 8192) × (r.count ≤ 4096)
+        × (r.progress ≡ Done → (r.at ≡ r.end) × (r.drained ≡ true)) × (r.progress ≢ Failed Memory) };
+}
+
+impl ReadAhead {
+    ghost use Rattle.pci_dump.specs.declared.read_fault.ReadFault.{ReadFault};
+    ghost use Rattle.pci_dump.specs.State.{Ahead, IsOver, state_of, TakesNone, TakesBlock, TakesFault};
+    ghost use Rattle.pci_dump.specs.Front.{HoldsBlock, HoldsNone, HoldsFault};
+    ghost use Rattle.pci_dump.specs.Fill.{HoldsMore, Moves, HoldsEnough, IsSameText};
+
+    /// Nothing is held, and no block was read.
+    pub fn new() -> ReadAhead
+        ensures { result ≡ record { held = []; drained = false; count = 0; last = None; progress = Progress.Open } }
+    {
+        ReadAhead {
+            buf: [0; 8192],
+            at: 0,
+            end: 0,
+            drained: false,
+            count: 0,
+            last: None,
+            progress: Progress::Open,
+        }
+    }
+
+    /// The bytes that are held.
+    fn held(&self) -> &[u8]
+        ensures { result.now ≡ self.now.held }
+    {
+        &self.buf[self.at..self.end]
+    }
+
+    /// The next block, or None at the text's end. `source` is the one of each call before.
+    ///
+    /// Errors: 3 to 9 where the text has that fault, 1 `Io` where a read failed. After a fault it
+    /// answers that fault, after None it answers None, and reads no more.
+    pub fn next_block<S: Source>(&mut self, source: &mut S) -> Result<Option<Block>, ReadFault>
+        requires { IsOver self.old (S.left source.old) }
+        ensures over { IsOver self.new (S.left source.new) }
+        ensures ok { IfOk result (λ found. MatchOption found
+            (TakesNone (state_of self.old (S.left source.old) (S.failures source.old)) (state_of self.new (S.left source.new) (S.failures source.new)))
+            (TakesBlock (state_of self.old (S.left source.old) (S.failures source.old)) (state_of self.new (S.left source.new) (S.failures source.new)))) }
+        ensures err { IfErr result
+            (TakesFault (state_of self.old (S.left source.old) (S.failures source.old)) (state_of self.new (S.left source.new) (S.failures source.new))) }
+        ensures done { self.old.progress ≡ Progress.Done → (result ≡ Ok None) × (self.new ≡ self.old) }
+        ensures again { (fault : ReadFault) → self.old.progress ≡ Progress.Failed fault → (result ≡ Err fault) × (self.new ≡ self.old) }
+        ensures untouched { self.old.progress ≢ Progress.Open → source.new ≡ source.old }
+    {
+        match self.progress {
+            Progress::Done => return Ok(None),
+            Progress::Failed(fault) => return Err(fault),
+            Progress::Open => {}
+        }
+        match self.fill(source) {
+            Err(Failed) => self.fail(ReadFault::Io),
+            Ok(()) => self.take_block(),
+        }
+    }
+
+    /// Reads once behind what is held.
+    fn read_more<S: Source>(&mut self, source: &mut S) -> Result<(), Failed>
+        requires room { length self.old.held < 1042 }
+        requires going { self.old.progress ≡ Progress.Open }
+        ensures read { OnOk result (HoldsMore self.old self.new (S.left source.old) (S.left source.new)) }
+        ensures failed { OnErr result (Moves self.old self.new (S.left source.old) (S.left source.new)) }
+        ensures counted { MatchResult result (λ _. S.failures source.new ≡ S.failures source.old)
+            (λ _. S.failures source.new ≡ S.failures source.old + 1) }
+    {
+        let at = self.at;
+        let end = self.end;
+        let held = end - at;
+        shift(&mut self.buf, at, end);
+        self.at = 0;
+        self.end = held;
+        self.drained = false;
+        let read = match source.read(&mut self.buf[held..]) {
+            Err(failed) => return Err(failed),
+            Ok(read) => read,
+        };
+        self.end = held + read;
+        self.drained = read == 0;
+        Ok(())
+    }
+
+    /// Reads until a block's text at least is held, or all that the source has left.
+    fn fill<S: Source>(&mut self, source: &mut S) -> Result<(), Failed>
+        requires over { IsOver self.old (S.left source.old) }
+        requires going { self.old.progress ≡ Progress.Open }
+        ensures moved { Moves self.old self.new (S.left source.old) (S.left source.new) }
+        ensures enough { OnOk result (HoldsEnough self.new) }
+        ensures counted { MatchResult result (λ _. S.failures source.new ≡ S.failures source.old)
+            (λ _. S.failures source.new ≡ S.failures source.old + 1) }
+    {
+        while !self.has_enough() {
+            self.read_more(source)?;
+        }
+        Ok(())
+    }
+
+    /// Takes so many bytes of what is held as a block with this slot.
+    fn take(&mut self, used: usize, slot: Slot)
+        requires held { used ≤ length self.old.held }
+        requires few { self.old.count < 4096 }
+        requires going { self.old.progress ≡ Progress.Open }
+        ensures { self.new ≡ record self.old { held = drop used self.old.held; count = self.old.count + 1; last = Some slot } }
+    {
+        self.at += used;
+        self.count += 1;
+        self.last = Some(slot);
+    }
+
+    /// Stays at this fault.
+    fn fail<T: Drop>(&mut self, fault: ReadFault) -> Result<T, ReadFault>
+        requires { fault ≢ ReadFault.Memory }
+        ensures result { result ≡ Err fault }
+        ensures state { self.new ≡ record self.old { progress = Progress.Failed fault } }
+    {
+        self.progress = Progress::Failed(fault);
+        Err(fault)
+    }
+
+    /// The block at the front of what is held, which is a block's text at least or all that is left.
+    fn take_block(&mut self) -> Result<Option<Block>, ReadFault>
+        requires enough { HoldsEnough self.old }
+        requires going { self.old.progress ≡ Progress.Open }
+        ensures ok { IfOk result (λ found. MatchOption found (HoldsNone self.old self.new) (HoldsBlock self.old self.new)) }
+        ensures err { IfErr result (λ fault. HoldsFault self.old self.new fault) }
+    {
+        if self.held().is_empty() {
+            self.progress = Progress::Done;
+            return Ok(None);
+        }
+        if self.count == COUNT_MAX {
+            return self.fail(ReadFault::TooMany(LINE_AFTER_ALL));
+        }
+        match block_in(self.held(), self.last) {
+            Err(stop) => self.fail(fault_of(stop, self.count)),
+            Ok(found) => {
+                let Found { block, used } = found;
+                self.take(used, block.slot);
+                Ok(Some(block))
+            }
+        }
+    }
+
+    /// Whether no read is needed.
+    fn has_enough(&self) -> bool
+        ensures yes { IsTrue result → HoldsEnough self.now }
+        ensures no { result ≡ false → (length self.now.held < 1042) × (self.now.drained ≡ false) }
+    {
+        self.drained || BLOCK_MAX <= self.held().len()
+    }
+}
+
+/// Moves the bytes from `at` up to `end` to the front.
+fn shift(buf: &mut [u8; 8192], at: usize, end: usize)
+    requires order { at ≤ end }
+    requires within { end ≤ 8192 }
+    ensures { slice_range buf.new 0 (end - at) ≡ slice_range buf.old at end }
+{
+    if 0 < at {
+        buf.copy_within(at..end, 0);
+    }
+}
+
+/// The fault of the text where a block stops after `count` blocks of eighteen lines each.
+fn fault_of(stop: Stop, count: u64) -> ReadFault
+    requires { count < 4096 }
+    ensures { result ≡ fault_at count stop }
+{
+    let first = 18 * count + 1;
+    match stop {
+        Stop::BadSlot => ReadFault::BadSlot(first),
+        Stop::BadTitle => ReadFault::BadTitle(first),
+        Stop::BadLine(row) => ReadFault::BadLine(first + 1 + u64::from(row)),
+        Stop::NoBlank => ReadFault::NoBlank(first + 17),
+        Stop::Order => ReadFault::Order(first),
+        Stop::Ended(row) => ReadFault::Ended(first + 1 + u64::from(row)),
+        Stop::EndedFirst => ReadFault::Ended(first),
+    }
+}

@@ -1,0 +1,38 @@
+//! Texts of PCI configuration dumps, and the readers and writers that they go through.
+//!
+//! A text lists functions by rising slots, at most 4,096 of them. Each is a block of eighteen lines:
+//! `bb:dd.f`, with a space and a title where it has one; sixteen lines of an offset and sixteen
+//! bytes, as `10: 08 00 00 fe ..`; and an empty line. It is what `lspci -xxx` prints, in lower case.
+//!
+//! ```text
+//! let mut source = Incoming::new(file);
+//! let dump = read_dump(rt.alloc(), &mut source)?;
+//! let first = dump.blocks().first();
+//! write_dump(&mut Outgoing::new(rt.stdout()), &dump)?;
+//! ```
+//!
+//! From bytes to blocks: a `Source` gives bytes, `ahead` holds them and hands out blocks, `parse`
+//! finds a block at the front of some bytes, `rows`, `row` and `digit` its lines. Back:
+//! `block_text` spells a block, `write` hands it to a `Sink`.
+#![tactic(auto)]
+
+pub mod ahead;
+pub mod block;
+mod block_text;
+mod digit;
+pub mod dump;
+pub mod ends;
+pub mod failures;
+pub mod memory;
+pub mod pair;
+pub mod pair_fault;
+mod parse;
+pub mod read_fault;
+pub mod reader;
+mod row;
+mod rows;
+mod slot_text;
+pub mod std_ends;
+#[cfg(test)]
+mod tests;
+pub mod write;

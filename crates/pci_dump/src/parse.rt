@@ -1,0 +1,161 @@
+//! A block at the front of some bytes.
+ghost use Rattle.std.specs.Prelude.{◌≡◌, ◌<◌, ◌≤◌, ◌+◌, ◌++◌, length, take, drop, ◌≢◌, [], slice_index, IfOk, IfErr, IsTrue, ◌↔◌};
+ghost use Rattle.std.specs.List.{All};
+ghost use Rattle.pci_spec.specs.Text.{is_title_byte, IsTitle, block_text};
+ghost use Rattle.pci_spec.specs.Form.{slot_cells};
+ghost use Rattle.pci_spec.specs.Stops.{IsAboveLast};
+ghost use Rattle.pci_dump.specs.Stop.{BlockStops, TitleStops, SlotStops, IsFoundIn, IsHead, head_long, title_at};
+
+use super::block::{Block, Title, is_title};
+use super::rows::image_in;
+use super::slot_text::slot_of;
+use pci_image::image::Image;
+use pci_image::slot::Slot;
+
+/// How many bytes `bb:dd.f` has.
+const SLOT_LEN: usize = 7;
+
+/// How many bytes follow the slot line: sixteen lines of 52 and the empty line.
+const LINES_LEN: usize = 833;
+
+/// Where a block stops.
+#[derive(Clone, Copy, Debug, PartialEq, Eq)]
+pub(crate) enum Stop {
+    BadSlot,
+    BadTitle,
+    /// In a row.
+    BadLine(u8),
+    NoBlank,
+    Order,
+    /// After so many lines that follow the slot line.
+    Ended(u8),
+    /// In the slot line.
+    EndedFirst,
+}
+
+/// How many bytes of a title stand in front, at most 200.
+fn title_len(bytes: &[u8]) -> usize
+    ensures bound { result ≤ length bytes.now }
+    ensures few { result ≤ 200 }
+    ensures each { All (λ c. IsTrue (is_title_byte c)) (take result bytes.now) }
+    ensures last { result < length bytes.now → IsTrue (is_title_byte (slice_index bytes.now result)) → result ≡ 200 }
+{
+    for i in 0..200 {
+        if i == bytes.len() || !is_title(bytes[i]) {
+            return i;
+        }
+    }
+    200
+}
+
+/// What a slot that the input ends in stops at.
+fn part_of_slot(part: &[u8]) -> Stop
+    requires { length part.now < 7 }
+    ensures { SlotStops part.now result }
+{
+    let mut text = *b"00:00.0";
+    text[..part.len()].copy_from_slice(part);
+    match slot_of(&text) {
+        None => Stop::BadSlot,
+        Some(_) => Stop::EndedFirst,
+    }
+}
+
+/// What follows a slot in its line: how long the title is, 0 where there is none.
+fn title_in(bytes: &[u8]) -> Result<usize, Stop>
+    ensures few { IfOk result (λ n. n ≤ 200) }
+    ensures ok { IfOk result (λ n. IsHead bytes.now n) }
+    ensures err { IfErr result (λ stop. TitleStops bytes.now stop) }
+{
+    match bytes.first() {
+        None => return Err(Stop::EndedFirst),
+        Some(b'\n') => return Ok(0),
+        Some(b' ') => {}
+        Some(_) => return Err(Stop::BadSlot),
+    }
+    let (_space, rest) = bytes.split_at(1);
+    let len = title_len(rest);
+    if len == rest.len() {
+        return Err(Stop::EndedFirst);
+    }
+    if len == 0 || rest[len] != b'\n' {
+        return Err(Stop::BadTitle);
+    }
+    Ok(len)
+}
+
+/// Whether a slot may stand after the last one.
+fn may_follow(slot: Slot, last: Option<Slot>) -> bool
+    ensures { IsTrue result ↔ IsAboveLast last slot }
+{
+    match last {
+        None => true,
+        Some(last) => last.number() < slot.number(),
+    }
+}
+
+/// A block that was found, and how many bytes its text has.
+#[derive(Drop)]
+pub(crate) struct Found {
+    pub(crate) block: Block,
+    pub(crate) used: usize,
+}
+
+/// The block at the front of some bytes. They are all that are left, or 1042 and more.
+pub(crate) fn block_in(bytes: &[u8], last: Option<Slot>) -> Result<Found, Stop>
+    requires { bytes.now ≢ [] }
+    ensures ok { IfOk result (λ found. IsFoundIn last bytes.now found) }
+    ensures err { IfErr result (λ stop. BlockStops last bytes.now stop) }
+{
+    if bytes.len() < SLOT_LEN {
+        return Err(part_of_slot(bytes));
+    }
+    let (text, after) = bytes.split_at(SLOT_LEN);
+    let slot = match slot_of(text) {
+        None => return Err(Stop::BadSlot),
+        Some(slot) => slot,
+    };
+    if !may_follow(slot, last) {
+        return Err(Stop::Order);
+    }
+    let title_len = match title_in(after) {
+        Err(stop) => return Err(stop),
+        Ok(title_len) => title_len,
+    };
+    let head = head_len(title_len);
+    let (_line, rest) = after.split_at(head);
+    let image = match image_in(rest) {
+        Err(stop) => return Err(stop),
+        Ok(image) => image,
+    };
+    let title = title_at(after, title_len);
+    Ok(Found {
+        block: Block {
+            slot,
+            title,
+            image: Image(image),
+        },
+        used: SLOT_LEN + head + LINES_LEN,
+    })
+}
+
+/// How many bytes a slot line has after the slot.
+fn head_len(title_len: usize) -> usize
+    requires { title_len ≤ 200 }
+    ensures { result ≡ head_long title_len }
+{
+    if title_len == 0 { 1 } else { title_len + 2 }
+}
+
+/// The title of so many bytes after a slot and a space, none for 0.
+fn title_at(after: &[u8], title_len: usize) -> Option<Title>
+    requires { IsHead after.now title_len }
+    ensures { result ≡ title_at after.now title_len }
+{
+    if title_len == 0 {
+        return None;
+    }
+    let (_space, rest) = after.split_at(1);
+    let (title, _end) = rest.split_at(title_len);
+    Some(Title::of_title(title))
+}

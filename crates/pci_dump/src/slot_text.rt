@@ -1,0 +1,26 @@
+//! The text of a slot.
+ghost use Rattle.std.specs.Prelude.{◌≡◌, ◌<◌, ◌≤◌, ◌↔◌, ◌/◌, ◌%◌, IsTrue, IfSome, IfNone, length};
+ghost use Rattle.pci_spec.specs.Slot.{Slot as SlotValue, IsSlot, slot_number};
+ghost use Rattle.pci_spec.specs.Text.{slot_text, hex_digit};
+ghost use Rattle.pci_spec.specs.Form.{Fits, slot_cells};
+ghost use Rattle.pci_spec.specs.Stops.{IsAboveLast};
+
+use super::digit::digit_value;
+use pci_image::slot::Slot;
+
+/// The slot that seven bytes spell.
+pub(crate) fn slot_of(text: &[u8]) -> Option<Slot>
+    requires { length text.now ≡ 7 }
+    ensures some { IfSome result (λ s. IsSlot s × (text.now ≡ slot_text s)) }
+    ensures none { IfNone result (Fits slot_cells text.now → ⊥) }
+{
+    let bus_high = digit_value(text[0])?;
+    let bus_low = digit_value(text[1])?;
+    let dev_high = digit_value(text[3])?;
+    let dev_low = digit_value(text[4])?;
+    let fun = digit_value(text[6])?;
+    if text[2] != b':' || text[5] != b'.' || dev_high >= 2 || fun >= 8 {
+        return None;
+    }
+    Slot::new(bus_high * 16 + bus_low, dev_high * 16 + dev_low, fun)
+}
