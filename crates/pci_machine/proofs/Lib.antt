@@ -1,0 +1,11 @@
+pub mod Writes
+pub mod Targets
+pub mod Bytes
+pub mod Memory
+pub mod Sizing
+pub mod RegisterOrder
+pub mod Quieting
+pub mod Ends
+pub mod MaskBits
+pub mod TargetOf
+pub mod MadeOf

@@ -1,0 +1,171 @@
+-- A machine of a dump and its probe: what holds of each function.
+use Rattle.std.proofs.Common.{◌≡◌, ℕ, zero, suc, ◌+◌, ◌<◌, ◌≤◌, refl, Bool, true, false, List, [], ◌∷◌, ◌++◌, map, take, length, get_or, Some, None, ◌==◌, lit<, arith, sym, ◌∙◌, ap, subst}
+use Rattle.std.specs.List.{All, Contains}
+use Rattle.std.proofs.lemmas.Bool.{false_from_ne_true}
+use Rattle.std.proofs.lemmas.List.{map_more, length-map, get_or-map, get_or_default}
+use Rattle.std.proofs.lemmas.List.Elements.{All-map, All-more}
+use Rattle.std.proofs.lemmas.Bool.{both_ways}
+use Rattle.std.proofs.lemmas.Option.{slice_get-get_or}
+use Rattle.pci_spec.specs.Number.{byte_at, has_bit}
+use Rattle.pci_spec.specs.Header.{layout}
+use Rattle.pci_spec.proofs.WritableBits.{has_bit-writable_bits}
+use Rattle.pci_spec.specs.Slot.{Slot, IsRising}
+use Rattle.pci_spec.specs.Text.{Block, IsDump, slots_of}
+use Rattle.pci_spec.specs.System.{Function, IsFunction, system_of}
+use Rattle.pci_spec.specs.Machine.{Target, target_of, sized, in_fields, writable_bits}
+use Rattle.pci_spec.specs.Fault.{IsThere}
+use Rattle.pci_spec.specs.Decoded.{IsDecodable}
+use Rattle.pci_spec.proofs.Sizing.{sizing_finds_probe}
+use Rattle.pci_image.specs.Faults.{IsImageFaultIn, image_fault_number}
+use Rattle.pci_image.specs.declared.fault.ImageFault.{ImageFault}
+use Rattle.pci_image.specs.declared.fault.ImageFault.TheVariants.{NoVendor, HeaderKind, BarType, BarMask, BarPair, RomMask, WindowMask, CapRange, CapLoop, CapCut}
+use Rattle.pci_dump.specs.PairFault.{pair_fault}
+use Rattle.pci_dump.specs.Pair.{IsPair}
+use Rattle.pci_machine.specs.Port.{IsTarget}
+use Rattle.pci_machine.specs.Memory.{IsMachine}
+use Rattle.pci_machine.specs.Sizing.{function_at, IsStuck}
+use Rattle.pci_machine.specs.RegisterTable.{writable_by}
+use Rattle.pci_machine.proofs.Targets.{found}
+use Rattle.pci_machine.proofs.Memory.{lawful_from_rising}
+use Rattle.pci_machine.proofs.Sizing.{function_at-is}
+use Rattle.pci_machine.specs.Made.{name_fault}
+use Rattle.pci_machine.proofs.TargetOf.{IsTarget-target_of, no_write_of_header}
+
+-- ---- the decode bits
+
+-- the decode bits of Command are writable in both layouts
+decode_bits_writable : (bridge : Bool) (probe : List ℕ) (i : ℕ) → i < 2 → in_fields (writable_by bridge probe) 0x04 i ≡ true
+decode_bits_writable true probe zero h = refl
+decode_bits_writable true probe (suc zero) h = refl
+decode_bits_writable true probe (suc (suc i)) h = absurd (let no : ⊥ = omega (arith, h) in no)
+decode_bits_writable false probe zero h = refl
+decode_bits_writable false probe (suc zero) h = refl
+decode_bits_writable false probe (suc (suc i)) h = absurd (let no : ⊥ = omega (arith, h) in no)
+
+-- so none of a function that was just made is stuck
+can_clear : (f : Function) → IsStuck (target_of f) → ⊥
+can_clear f (i, below, set, cannot) =
+    both_ways (has_bit (byte_at (writable_bits f.image f.probe) 0x04) i) cannot
+    (has_bit-writable_bits f.image f.probe 0x04 i (lit< tt) (omega (arith, below)) ∙ decode_bits_writable (layout f.image == 1) f.probe i below)
+
+-- ---- functions by their places
+
+-- the function of a block and its read backs
+abbrev pub function_of : Block → Block → Function
+function_of b p = record { slot = b.slot; image = b.image; probe = p.image }
+
+-- the function at a place is that of the blocks there
+pub function-at : (dump probe : List Block) (k : ℕ) (b p : Block) (d : Function) → k < length dump → k < length probe
+    → get_or (system_of dump probe) k d ≡ function_of (get_or dump k b) (get_or probe k p)
+function-at [] probe k b p d h i = absurd (let no : ⊥ = omega (arith, h) in no)
+function-at (x ∷ dump) [] k b p d h i = absurd (let no : ⊥ = omega (arith, i) in no)
+function-at (x ∷ dump) (y ∷ probe) zero b p d h i = refl
+function-at (x ∷ dump) (y ∷ probe) (suc k) b p d h i = function-at dump probe k b p d (omega (arith, h)) (omega (arith, i))
+
+-- as many functions as blocks
+pub length-system_of : (dump probe : List Block) → length dump ≡ length probe → length (system_of dump probe) ≡ length dump
+length-system_of [] probe h = refl
+length-system_of (x ∷ dump) [] h = absurd (let no : ⊥ = omega (arith, h) in no)
+length-system_of (x ∷ dump) (y ∷ probe) h = ap suc (length-system_of dump probe (let e : length dump ≡ length probe = omega (arith, h) in e))
+
+-- the slots are those of the dump
+slots-system_of : (dump probe : List Block) → length dump ≡ length probe → map (λ (t : Target). t.slot) (map target_of (system_of dump probe)) ≡ slots_of dump
+slots-system_of [] probe h = refl
+slots-system_of (x ∷ dump) [] h = absurd (let no : ⊥ = omega (arith, h) in no)
+slots-system_of (x ∷ dump) (y ∷ probe) h = ap (λ ss. x.slot ∷ ss) (slots-system_of dump probe (let e : length dump ≡ length probe = omega (arith, h) in e))
+
+-- two dumps of the same slots have as many blocks
+pub same_length : (dump probe : List Block) → slots_of dump ≡ slots_of probe → length dump ≡ length probe
+same_length dump probe same =
+    sym (length-map {B = Slot} dump (λ b. b.slot)) ∙ ap length same ∙ length-map {B = Slot} probe (λ b. b.slot)
+
+module _ (dump probe : List Block) (same : slots_of dump ≡ slots_of probe) where
+  -- the function of the blocks at a place
+  pub at_place : (k : ℕ) (b p : Block) → k < length dump → b ≡ get_or dump k b → p ≡ get_or probe k p → get_or (system_of dump probe) k (function_of b p) ≡ function_of b p
+  at_place k b p below eb ep =
+      let long = same_length dump probe same in
+      function-at dump probe k b p (function_of b p) below (omega (arith, below, long)) ∙ ap (λ x. function_of x (get_or probe k p)) (sym eb) ∙ ap (function_of b) (sym ep)
+
+  -- one function more of the machine
+  pub made_more : (k : ℕ) (b p : Block) (made next : List Target) (r : Target) → k < length dump → b ≡ get_or dump k b → p ≡ get_or probe k p
+      → made ≡ map target_of (take k (system_of dump probe)) → next ≡ made ++ r ∷ [] → r ≡ target_of (function_of b p)
+      → next ≡ map target_of (take (k + 1) (system_of dump probe))
+  made_more k b p made next r below eb ep so_far push is =
+      let long = length-system_of dump probe (same_length dump probe same) in
+      push ∙ ap (λ xs. xs ++ r ∷ []) so_far ∙ ap (λ x. map target_of (take k (system_of dump probe)) ++ x ∷ []) (is ∙ ap target_of (sym (at_place k b p below eb ep)))
+      ∙ sym (map_more target_of (system_of dump probe) k (function_of b p) (omega (arith, below, long)))
+
+  -- one function more that decodes
+  pub decodable_more : (k : ℕ) (b p : Block) → k < length dump → b ≡ get_or dump k b → p ≡ get_or probe k p → All IsDecodable (take k (system_of dump probe))
+      → IsDecodable (function_of b p) → All IsDecodable (take (k + 1) (system_of dump probe))
+  decodable_more k b p below eb ep so_far one =
+      let long = length-system_of dump probe (same_length dump probe same) in
+      All-more IsDecodable (system_of dump probe) k (function_of b p) (omega (arith, below, long)) so_far (subst IsDecodable (sym (at_place k b p below eb ep)) one)
+
+  -- the function of the blocks at a place is of the system
+  listed : (k : ℕ) (b p : Block) → k < length dump → b ≡ get_or dump k b → p ≡ get_or probe k p → Contains (system_of dump probe) (function_of b p)
+  listed k b p below eb ep =
+      let long = length-system_of dump probe (same_length dump probe same) in
+      (k, omega (arith, below, long), at_place k b p below eb ep)
+
+  -- a fault of one function is there
+  pub fault_there : (roots : List ℕ) (k : ℕ) (b p : Block) (fault : ImageFault) → k < length dump → b ≡ get_or dump k b → p ≡ get_or probe k p
+      → IsImageFaultIn b.image p.image fault → image_fault_number fault ≤ 26 → IsThere roots dump probe (pair_fault (name_fault b.slot fault))
+  fault_there roots k b p NoVendor below eb ep h small = (same, (function_of b p, listed k b p below eb ep, refl, h))
+  fault_there roots k b p HeaderKind below eb ep h small = (same, (function_of b p, listed k b p below eb ep, refl, h))
+  fault_there roots k b p (BarType register) below eb ep h small = (same, (function_of b p, listed k b p below eb ep, refl, h))
+  fault_there roots k b p (BarMask register) below eb ep h small = (same, (function_of b p, listed k b p below eb ep, refl, h))
+  fault_there roots k b p (BarPair register) below eb ep h small = (same, (function_of b p, listed k b p below eb ep, refl, h))
+  fault_there roots k b p (RomMask register) below eb ep h small = (same, (function_of b p, listed k b p below eb ep, refl, h))
+  fault_there roots k b p (WindowMask register) below eb ep h small = (same, (function_of b p, listed k b p below eb ep, refl, h))
+  fault_there roots k b p (CapRange register) below eb ep h small = absurd (let no : ⊥ = omega (arith, small) in no)
+  fault_there roots k b p (CapLoop register) below eb ep h small = absurd (let no : ⊥ = omega (arith, small) in no)
+  fault_there roots k b p (CapCut register) below eb ep h small = absurd (let no : ⊥ = omega (arith, small) in no)
+
+  -- ---- all functions
+
+  module _ (is_dump : IsDump dump) (is_probe : IsDump probe) where
+    -- each has its two images
+    each_function : All IsFunction (system_of dump probe)
+    each_function k d below =
+        let long = length-system_of dump probe (same_length dump probe same) in
+        let pair = same_length dump probe same in
+        let in_dump : k < length dump = omega (arith, below, long) in
+        let in_probe : k < length probe = omega (arith, in_dump, pair) in
+        let b : Block = record { slot = d.slot; title = None; image = d.image } in
+        let of_block = is_dump.each k b in_dump in
+        let of_probe = is_probe.each k b in_probe in
+        subst IsFunction (sym (function-at dump probe k b b d in_dump in_probe)) record { slot = of_block.slot; image = of_block.image; probe = of_probe.image }
+
+    -- the functions are those of a machine
+    pub machine-of : IsMachine (map target_of (system_of dump probe))
+    machine-of = record {
+      each = All-map IsTarget target_of (system_of dump probe) (λ k d below. IsTarget-target_of (get_or (system_of dump probe) k d) (each_function k d below).image);
+      rising = subst IsRising (sym (slots-system_of dump probe (same_length dump probe same))) is_dump.rising;
+      header = All-map (λ t. byte_at t.writable 0x0e ≡ 0) target_of (system_of dump probe)
+          (λ k d below. no_write_of_header (get_or (system_of dump probe) k d).image (get_or (system_of dump probe) k d).probe);
+    }
+
+    -- each function stands at its slot
+    pub function-of : (k : ℕ) (d : Function) → k < length (system_of dump probe)
+        → function_at (map target_of (system_of dump probe)) (get_or (system_of dump probe) k d).slot ≡ target_of (get_or (system_of dump probe) k d)
+    function-of k d below =
+        let f = get_or (system_of dump probe) k d in
+        let targets = map target_of (system_of dump probe) in
+        let here : get_or targets k (target_of f) ≡ target_of f =
+        get_or-map target_of (system_of dump probe) k d (target_of f) below in
+        let inside : k < length targets = omega (arith, below, length-map {B = Target} (system_of dump probe) target_of) in
+        function_at-is targets f.slot (target_of f)
+        (found targets f.slot k (target_of f) (lawful_from_rising targets machine-of) (slice_get-get_or targets k (target_of f) inside ∙ ap Some here) refl)
+
+    -- the decode bits of a function that was just made can be cleared
+    pub free-of : (k : ℕ) (d : Function) → k < length (system_of dump probe)
+        → IsStuck (function_at (map target_of (system_of dump probe)) (get_or (system_of dump probe) k d).slot) → ⊥
+    free-of k d below stuck = can_clear (get_or (system_of dump probe) k d) (subst IsStuck (function-of k d below) stuck)
+
+    -- sizing finds the probe of each function
+    pub read_backs-of : (roots : List ℕ) → IsPair roots dump probe → All IsDecodable (system_of dump probe) → All (λ f. sized (target_of f) ≡ f.probe) (system_of dump probe)
+    read_backs-of roots pair decodable k d below =
+        let f = get_or (system_of dump probe) k d in
+        let here : get_or (system_of dump probe) k f ≡ f = get_or_default (system_of dump probe) k f d below in
+        sizing_finds_probe f (each_function k d below) (decodable k d below) (λ offset. false_from_ne_true _ (λ stray. pair.probes f.slot offset (same, (f, (k, below, here), refl, stray))))

@@ -1,0 +1,92 @@
+use Rattle.std.proofs.Common.{◌≡◌, [], map, get_or, arith, sym, ◌∙◌, ap, subst}
+use Rattle.std.specs.List.{All}
+use Rattle.std.proofs.lemmas.List.{take_all}
+use Rattle.pci_spec.specs.Text.{Block, slots_of}
+use Rattle.pci_spec.specs.System.{system_of}
+use Rattle.pci_spec.specs.Machine.{target_of, sized}
+use Rattle.pci_spec.specs.Fault.{IsThere}
+use Rattle.pci_spec.specs.Decoded.{IsDecodable}
+use Rattle.pci_dump.specs.PairFault.{pair_fault}
+use Rattle.pci_machine.specs.Memory.{IsMachine}
+use Rattle.pci_machine.specs.Sizing.{function_at, IsStuck}
+use Rattle.pci_machine.specs.Made.{name_fault}
+use Rattle.pci_machine.proofs.MadeOf.{same_length, length-system_of, made_more, decodable_more, fault_there, machine-of, function-of, free-of, read_backs-of}
+use Rattle.pci_machine.proofs.machine.Machine.of.Goals as goal
+
+pub bounds-probes-i : goal.bounds-probes-i
+bounds-probes-i g c =
+    let same = ap slots_of c.blocks-blocks.ensures.value ∙ (c.in-Ok.ensures.ok []).same ∙ sym (ap slots_of c.blocks-probes.ensures.value) in
+    let long = same_length c.blocks-blocks.result.now c.blocks-probes.result.now same in
+    omega (arith, long)
+
+pub returns-in-Err-registers_of-clause-fault : goal.returns-in-Err-registers_of-clause-fault
+returns-in-Err-registers_of-clause-fault g c roots =
+    let dump = c.blocks-blocks.result.now in
+    let probe = c.blocks-probes.result.now in
+    let same = ap slots_of c.blocks-blocks.ensures.value ∙ (c.in-Ok.ensures.ok []).same ∙ sym (ap slots_of c.blocks-probes.ensures.value) in
+    let b : Block = record { slot = c.block.inside.slot; title = c.block.inside.title; image = c.block.inside.image.0 } in
+    let p : Block = record { slot = c.read_backs.inside.slot; title = c.read_backs.inside.title; image = c.read_backs.inside.image.0 } in
+    let b_is = subst (λ x. x ≡ get_or dump c.loop-i.i x) (sym c.block.view_is) c.index-blocks-i.is in
+    let p_is = subst (λ x. x ≡ get_or probe c.loop-i.i x) (sym c.read_backs.view_is) c.index-probes-i.is in
+    let there = fault_there dump probe same roots c.loop-i.i b p c.in-Err-registers_of.fault c.loop-i-test.true b_is p_is
+    c.in-Err-registers_of.ensures.fault c.in-Err-registers_of.ensures.number in
+    subst (λ f. IsThere roots c.args.dump.now c.args.probe.now (pair_fault f)) (sym c.named.ensures)
+    (subst (λ xs. IsThere roots xs c.args.probe.now (pair_fault (name_fault c.block.inside.slot c.in-Err-registers_of.fault))) c.blocks-blocks.ensures.value
+    (subst (λ xs. IsThere roots dump xs (pair_fault (name_fault c.block.inside.slot c.in-Err-registers_of.fault))) c.blocks-probes.ensures.value there))
+
+pub loop-i-preserved : goal.loop-i-preserved
+loop-i-preserved g c =
+    let dump = c.blocks-blocks.result.now in
+    let probe = c.blocks-probes.result.now in
+    let same = ap slots_of c.blocks-blocks.ensures.value ∙ (c.in-Ok.ensures.ok []).same ∙ sym (ap slots_of c.blocks-probes.ensures.value) in
+    let b : Block = record { slot = c.block.inside.slot; title = c.block.inside.title; image = c.block.inside.image.0 } in
+    let p : Block = record { slot = c.read_backs.inside.slot; title = c.read_backs.inside.title; image = c.read_backs.inside.image.0 } in
+    let b_is = subst (λ x. x ≡ get_or dump c.loop-i.i x) (sym c.block.view_is) c.index-blocks-i.is in
+    let p_is = subst (λ x. x ≡ get_or probe c.loop-i.i x) (sym c.read_backs.view_is) c.index-probes-i.is in
+    record {
+      made = made_more dump probe same c.loop-i.i b p c.loop-i.functions.items c.push.new.self.items c.in-Ok-registers_of.registers c.loop-i-test.true b_is p_is
+          c.loop-i.invariant.made c.in_ok-push-in-Ok-registers_of.ensures.items c.in-Ok-registers_of.ensures.made;
+      decodable = decodable_more dump probe same c.loop-i.i b p c.loop-i-test.true b_is p_is c.loop-i.invariant.decodable c.in-Ok-registers_of.ensures.decodable;
+    }
+
+pub returns-clause-machine : goal.returns-clause-machine
+returns-clause-machine g c =
+    let dump = c.blocks-blocks.result.now in
+    let probe = c.blocks-probes.result.now in
+    let same = ap slots_of c.blocks-blocks.ensures.value ∙ (c.in-Ok.ensures.ok []).same ∙ sym (ap slots_of c.blocks-probes.ensures.value) in
+    let long = length-system_of dump probe (same_length dump probe same) in
+    c.loop-i.invariant.made ∙ ap (map target_of) (take_all c.loop-i.i (system_of dump probe) (omega (arith, long, c.loop-i-test.false)))
+    ∙ ap (λ xs. map target_of (system_of xs probe)) c.blocks-blocks.ensures.value ∙ ap (λ xs. map target_of (system_of c.args.dump.now xs)) c.blocks-probes.ensures.value
+
+pub invariant_of-result : goal.invariant_of-result
+invariant_of-result g c =
+    subst IsMachine (sym (returns-clause-machine g c))
+    (machine-of c.args.dump.now c.args.probe.now (c.in-Ok.ensures.ok []).same c.blocks-blocks.ensures.dump c.blocks-probes.ensures.dump)
+
+pub returns-clause-decodable : goal.returns-clause-decodable
+returns-clause-decodable g c =
+    let dump = c.blocks-blocks.result.now in
+    let probe = c.blocks-probes.result.now in
+    let same = ap slots_of c.blocks-blocks.ensures.value ∙ (c.in-Ok.ensures.ok []).same ∙ sym (ap slots_of c.blocks-probes.ensures.value) in
+    let long = length-system_of dump probe (same_length dump probe same) in
+    subst (λ xs. All IsDecodable (system_of xs c.args.probe.now)) c.blocks-blocks.ensures.value
+    (subst (λ xs. All IsDecodable (system_of dump xs)) c.blocks-probes.ensures.value
+    (subst (All IsDecodable) (take_all c.loop-i.i (system_of dump probe) (omega (arith, long, c.loop-i-test.false))) c.loop-i.invariant.decodable))
+
+pub returns-clause-read_backs : goal.returns-clause-read_backs
+returns-clause-read_backs g c k d below =
+    let dump = c.args.dump.now in
+    let probe = c.args.probe.now in
+    let same = (c.in-Ok.ensures.ok []).same in
+    let f = get_or (system_of dump probe) k d in
+    ap (λ ts. sized (function_at ts f.slot)) (returns-clause-machine g c)
+    ∙ ap sized (function-of dump probe same c.blocks-blocks.ensures.dump c.blocks-probes.ensures.dump k d below)
+    ∙ read_backs-of dump probe same c.blocks-blocks.ensures.dump c.blocks-probes.ensures.dump [] (c.in-Ok.ensures.ok []) (returns-clause-decodable g c) k d below
+
+pub returns-clause-not_stuck : goal.returns-clause-not_stuck
+returns-clause-not_stuck g c k d below stuck =
+    let dump = c.args.dump.now in
+    let probe = c.args.probe.now in
+    let f = get_or (system_of dump probe) k d in
+    free-of dump probe (c.in-Ok.ensures.ok []).same c.blocks-blocks.ensures.dump c.blocks-probes.ensures.dump k d below
+    (subst (λ ts. IsStuck (function_at ts f.slot)) (returns-clause-machine g c) stuck)

@@ -1,0 +1,117 @@
+use Rattle.std.proofs.Common.{◌≡◌, ◌<◌, ◌+◌, ℕ, rules, Bool, true, List, length, map, take, get_or, arith, refl, sym, ◌∙◌, ap, subst}
+use Rattle.std.proofs.lemmas.Bool.{and_from}
+use Rattle.std.proofs.lemmas.List.{get_or-map, get_or-replicate, length-map}
+use Rattle.pci_spec.specs.Header.{layout, address_registers}
+use Rattle.pci_spec.specs.Machine.{read_back, written}
+use Rattle.pci_spec.specs.Number.{number_at}
+use Rattle.pci_machine.specs.Port.{is_access, fits, with_image}
+use Rattle.pci_machine.specs.Sizing.{function_at, DiffersWithin}
+use Rattle.pci_machine.specs.declared.address_register.AddressRegister.{AddressRegister}
+use Rattle.pci_machine.proofs.Sizing.{target-there}
+use Rattle.pci_machine.proofs.RegisterOrder.{layout_of, is_sound, found_in, IsSound, sound_at, sound_parts, register_plain, within_registers, found_more, found_all}
+use Rattle.pci_machine.proofs.read_backs.read_backs.Goals as goal
+
+pub loop-register-init : goal.loop-register-init
+loop-register-init g c = record {
+  same = refl;
+  counted = refl;
+  there = c.requires.there;
+  lawful = c.requires.lawful;
+  full = refl;
+  found = λ place below. get_or-replicate 256 place 0 0 below;
+}
+
+-- the register of a turn, in the table of its layout
+module _ (items : List AddressRegister) (bridge : Bool) (table : map (λ (r : AddressRegister). (r.offset, r.width)) items ≡ address_registers (layout_of bridge)) (k : ℕ) (within : k < length items) (d : AddressRegister) where
+  abbrev here : ℕ × ℕ
+  here = ((get_or items k d).offset, (get_or items k d).width)
+
+  in_table : k < length (address_registers (layout_of bridge))
+  in_table = omega (arith, within, ap length table, length-map {B = ℕ × ℕ} items (λ (r : AddressRegister). (r.offset, r.width)))
+
+  at_place : get_or (address_registers (layout_of bridge)) k here ≡ here
+  at_place = ap (λ rs. get_or rs k here) (sym table) ∙ get_or-map (λ (r : AddressRegister). (r.offset, r.width)) items k d here within
+
+  sound_test : is_sound (layout_of bridge) here ≡ true
+  sound_test = sound_at bridge k here in_table at_place
+
+  sound : IsSound (layout_of bridge) here
+  sound = sound_parts (layout_of bridge) here sound_test
+
+abbrev none : AddressRegister
+none = record { offset = 0; width = 0 }
+
+pub read_back-requires-clause-access : goal.read_back-requires-clause-access
+read_back-requires-clause-access g c =
+    let items = c.address_registers-register-items.result.now in
+    let k = c.loop-register.register-index in
+    let parts = sound items c.args.bridge c.address_registers-register-items.ensures k c.loop-register-test.true none in
+    and_from (is_access (get_or items k none).offset (get_or items k none).width) (fits (get_or items k none).width c.sizing_ones-ones.result)
+    parts.access (ap (fits (get_or items k none).width) c.sizing_ones-ones.ensures ∙ parts.fits_ones)
+
+pub read_back-requires-clause-plain : goal.read_back-requires-clause-plain
+read_back-requires-clause-plain g c =
+    let items = c.address_registers-register-items.result.now in
+    let k = c.loop-register.register-index in
+    let parts = sound items c.args.bridge c.address_registers-register-items.ensures k c.loop-register-test.true none in
+    let targets = g.P.ConfigPort.targets c.loop-register.port in
+    register_plain (function_at targets c.args.slot) (layout_of c.args.bridge) (here items c.args.bridge c.address_registers-register-items.ensures k c.loop-register-test.true none)
+    (target-there targets c.args.slot c.loop-register.invariant.lawful c.loop-register.invariant.there)
+    (ap (λ xs. layout (function_at xs c.args.slot).image) c.loop-register.invariant.same ∙ c.requires.header) parts
+
+pub put-requires : goal.put-requires
+put-requires g c =
+    (sound c.address_registers-register-items.result.now c.args.bridge c.address_registers-register-items.ensures c.loop-register.register-index c.loop-register-test.true none).access
+
+pub returns-in-Err-clause-left : goal.returns-in-Err-clause-left
+returns-in-Err-clause-left g c =
+    let items = c.address_registers-register-items.result.now in
+    let table = c.address_registers-register-items.ensures in
+    let k = c.loop-register.register-index in
+    let within = c.loop-register-test.true in
+    let slot = c.args.slot in
+    let same = c.loop-register.invariant.same in
+    let left = c.in-Err.ensures.left in (
+      left.0,
+      left.1 ∙ ap (λ xs. with_image xs slot left.0) same,
+      within_registers c.args.bridge k (here items c.args.bridge table k within none) (function_at (g.P.ConfigPort.targets c.args.port.now) slot).image left.0
+          (in_table items c.args.bridge table k within none) (at_place items c.args.bridge table k within none) c.requires.header
+          (subst (λ xs. DiffersWithin (get_or items k none).offset (get_or items k none).width (function_at xs slot).image left.0) same left.2),
+    )
+
+pub loop-register-preserved : goal.loop-register-preserved
+loop-register-preserved g c =
+    let items = c.address_registers-register-items.result.now in
+    let table = c.address_registers-register-items.ensures in
+    let k = c.loop-register.register-index in
+    let within = c.loop-register-test.true in
+    let slot = c.args.slot in
+    let same = c.loop-register.invariant.same in
+    let before = g.P.ConfigPort.targets c.args.port.now in
+    let register = get_or items k none in
+    record {
+      same = c.in-Ok.ensures.kept ∙ same;
+      counted = omega (arith, c.in-Ok.ensures.counted, c.loop-register.invariant.counted);
+      there = c.in-Ok.ensures.there;
+      lawful = c.in-Ok.ensures.lawful;
+      full = search rules;
+      found = λ place below.
+          let so_far = c.loop-register.invariant.found place below ∙ ap (λ rs. read_back (function_at before slot) place (found_in (take k rs) place)) table in
+          found_more (function_at before slot) c.args.bridge k (here items c.args.bridge table k within none) c.loop-register.bytes c.put.new.bytes c.sizing_ones-ones.result c.in-Ok.value
+          (target-there before slot c.requires.lawful c.requires.there) c.requires.header (in_table items c.args.bridge table k within none)
+          (at_place items c.args.bridge table k within none) (sound_test items c.args.bridge table k within none) c.sizing_ones-ones.ensures
+          (c.in-Ok.ensures.value ∙ ap (λ xs. number_at (written (function_at xs slot) register.offset register.width c.sizing_ones-ones.result) register.offset register.width) same)
+          c.put.ensures.inside c.put.ensures.outside place so_far
+          ∙ ap (λ rs. read_back (function_at before slot) place (found_in (take (k + 1) rs) place)) (sym table);
+    }
+
+pub returns-clause-read_backs : goal.returns-clause-read_backs
+returns-clause-read_backs g c =
+    let items = c.address_registers-register-items.result.now in
+    let table = c.address_registers-register-items.ensures in
+    let k = c.loop-register.register-index in
+    let before = g.P.ConfigPort.targets c.args.port.now in
+    let slot = c.args.slot in
+    found_all (function_at before slot) c.args.bridge k c.loop-register.bytes c.requires.header c.loop-register.invariant.full
+    (omega (arith, c.loop-register-test.false, ap length table, length-map {B = ℕ × ℕ} items (λ (r : AddressRegister). (r.offset, r.width))))
+    (λ place below. c.loop-register.invariant.found place below ∙ ap (λ rs. read_back (function_at before slot) place (found_in (take k rs) place)) table)

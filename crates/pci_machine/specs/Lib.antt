@@ -1,0 +1,8 @@
+pub mod Port
+pub mod Outcome
+pub mod Memory
+pub mod Sizing
+pub mod SizeOutcome
+pub mod RegisterTable
+pub mod Masks
+pub mod Made

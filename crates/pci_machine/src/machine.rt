@@ -1,0 +1,154 @@
+//! A machine in memory: functions whose registers are read and written as hardware would.
+ghost use Rattle.std.specs.Prelude.{◌≡◌, ◌<◌, ℕ, List, map, All, IsTrue, IsFalse, IfSome, IfOk, OnOk, IfErr, MatchOption, Some, slice_get, length};
+ghost use Rattle.pci_spec.specs.System.{system_of};
+ghost use Rattle.pci_spec.specs.Decoded.{IsDecodable};
+ghost use Rattle.pci_dump.specs.Pair.{IsPair};
+ghost use Rattle.pci_machine.specs.Made.{IsRefusedFor};
+ghost use Rattle.pci_machine.specs.Sizing.{function_at, IsStuck};
+ghost use Rattle.pci_spec.specs.Machine.{Target, target_of, sized};
+ghost use Rattle.std.specs.Option.{option_map};
+ghost use Rattle.pci_machine.specs.Memory.{pin_targets};
+ghost use Rattle.pci_machine.specs.Port.{has_function, target_at, IsLawful};
+
+use crate::access::{fits, is_access};
+use crate::function::{named, registers_of};
+use crate::port::{ConfigPort, PortError};
+use crate::registers::Registers;
+use pci_dump::dump::Dump;
+use pci_dump::memory::Refused;
+use pci_dump::pair::pair;
+use pci_dump::pair_fault::PairFault;
+use pci_image::image::Image;
+use pci_image::slot::Slot;
+use std::alloc::{Allocator, Global};
+use std::marker::Model;
+
+/// Functions in memory.
+#[derive(Drop)]
+pub struct Machine<A: Allocator = Global> {
+    functions: Vec<Registers, A>,
+}
+
+impl<A: Allocator> Model for Machine<A> {
+    ghost use Rattle.std.specs.Prelude.{List};
+    ghost use Rattle.pci_spec.specs.Machine.{Target};
+    ghost use Rattle.pci_machine.specs.Memory.{IsMachine};
+
+    ghost Value = { List Target };
+
+    ghost view = { λ m. m.functions.items };
+
+    ghost invariant = { λ m. IsMachine m.functions.items };
+}
+
+impl<A: Allocator> Machine<A> {
+    /// The machine of a dump, whose registers read back as the probe has it. It takes memory from
+    /// `alloc` for its functions.
+    ///
+    /// # Errors
+    ///
+    /// 30, then by function 20, 21 and 31, as [`pair`]; then by function 22 to 26; `Memory` where a
+    /// growth was refused.
+    pub fn of<B: Allocator, C: Allocator>(
+        alloc: A,
+        dump: &Dump<B>,
+        probe: &Dump<C>,
+    ) -> Result<Machine<A>, Refused<PairFault>>
+        ensures machine { IfOk result (λ machine. machine ≡ map target_of (system_of dump.now probe.now)) }
+        ensures pair { OnOk result ((roots : List ℕ) → IsPair roots dump.now probe.now) }
+        ensures decodable { OnOk result (All IsDecodable (system_of dump.now probe.now)) }
+        ensures read_backs { IfOk result (λ machine. All (λ f. sized (function_at machine f.slot) ≡ f.probe) (system_of dump.now probe.now)) }
+        ensures not_stuck { IfOk result (λ machine. All (λ f. IsStuck (function_at machine f.slot) → ⊥) (system_of dump.now probe.now)) }
+        ensures fault { IfErr result (IsRefusedFor dump.now probe.now) }
+    {
+        match pair(dump, probe) {
+            Ok(()) => {}
+            Err(fault) => return Err(Refused::Fault(fault)),
+        }
+        let blocks = dump.blocks();
+        let probes = probe.blocks();
+        let mut functions = Vec::new(alloc);
+        for i in 0..blocks.len() {
+            let block = &blocks[i];
+            let read_backs = &probes[i];
+            match registers_of(block.slot, &block.image, &read_backs.image) {
+                Ok(registers) => functions.push(registers)?,
+                Err(fault) => return Err(Refused::Fault(named(block.slot, fault))),
+            }
+        }
+        Ok(Machine { functions })
+    }
+
+    /// The configuration space of the function at a slot, as it is now.
+    pub fn image(&self, slot: Slot) -> Option<&Image>
+        ensures { option_map (λ image. image.now.0) result ≡ option_map (λ t. t.image) (target_at self.now slot) }
+    {
+        match self.place(slot) {
+            Some(place) => Some(&self.functions[place].image),
+            None => None,
+        }
+    }
+
+    /// Makes the bits of a mask, in the byte at an offset of the function at a slot, unwritable.
+    /// Whether there is such a function.
+    pub fn pin(&mut self, slot: Slot, off: u8, mask: u8) -> bool
+        ensures there { result ≡ has_function self.old slot }
+        ensures pinned { self.new ≡ pin_targets self.old slot off mask }
+    {
+        match self.place(slot) {
+            Some(place) => {
+                let registers = &mut self.functions[place];
+                registers.pin(off, mask);
+                true
+            }
+            None => false,
+        }
+    }
+
+    /// Where the slot's function stands in the list.
+    fn place(&self, slot: Slot) -> Option<usize>
+        ensures there { MatchOption result (IsFalse (has_function self.now slot)) (λ _. IsTrue (has_function self.now slot)) }
+        ensures within { IfSome result (λ i. i < length self.now) }
+        ensures lawful { IsLawful self.now }
+        ensures found { IfSome result (λ i. (t : Target) × (slice_get self.now i ≡ Some t) × (target_at self.now slot ≡ Some t)) }
+    {
+        let number = slot.number();
+        let place = self
+            .functions
+            .partition_point(|function| function.is_below(number));
+        if place < self.functions.len() && self.functions[place].is_at(slot) {
+            Some(place)
+        } else {
+            None
+        }
+    }
+}
+
+impl<A: Allocator> ConfigPort for Machine<A> {
+    ghost targets = { λ m. m };
+
+    ghost failures = { λ _. 0 };
+
+    fn read(&mut self, slot: Slot, off: u8, width: u8) -> Result<u32, PortError> {
+        let Some(place) = self.place(slot) else {
+            return Err(PortError::NoFunction);
+        };
+        if !is_access(off, width) {
+            return Err(PortError::BadAccess);
+        }
+        let registers = &self.functions[place];
+        Ok(registers.number(off, width))
+    }
+
+    fn write(&mut self, slot: Slot, off: u8, width: u8, value: u32) -> Result<(), PortError> {
+        let Some(place) = self.place(slot) else {
+            return Err(PortError::NoFunction);
+        };
+        if !is_access(off, width) || !fits(width, value) {
+            return Err(PortError::BadAccess);
+        }
+        let registers = &mut self.functions[place];
+        registers.write(off, width, value);
+        Ok(())
+    }
+}

@@ -1,0 +1,52 @@
+//! What all address registers of a function read back.
+ghost use Rattle.std.specs.Prelude.{◌≡◌, ◌+◌, ◌<◌, ◌≤◌, ◌/◌, ◌%◌, ◌^◌, ◌⊎◌, ℕ, List, IsTrue, IfOk, IfErr, OnOk, OnErr, slice_index, if◌then◌else◌};
+ghost use Rattle.pci_spec.specs.Header.{layout};
+ghost use Rattle.pci_spec.specs.Machine.{sized};
+ghost use Rattle.pci_machine.specs.Port as ports;
+ghost use Rattle.pci_machine.specs.Sizing.{function_at, DiffersInRegisters};
+ghost use Rattle.pci_machine.specs.Outcome.{failures_of_stop};
+
+use crate::access_at::Stop;
+use crate::address_register::{address_registers, sizing_ones};
+use crate::port::{ConfigPort, PortError};
+use crate::read_back::read_back;
+use pci_image::image::Image;
+use pci_image::slot::Slot;
+
+/// What the address registers of a function read back, in an image that has 0 elsewhere.
+pub fn read_backs<P: ConfigPort>(port: &mut P, slot: Slot, bridge: bool) -> Result<Image, Stop>
+    requires there { IsTrue (ports.has_function (P.targets port.old) slot) }
+    requires lawful { ports.IsLawful (P.targets port.old) }
+    requires header { layout (function_at (P.targets port.old) slot).image ≡ (if bridge then 1 else 0) }
+    ensures read_backs { IfOk result (λ image. image.0 ≡ sized (function_at (P.targets port.old) slot)) }
+    ensures kept { OnOk result (P.targets port.new ≡ P.targets port.old) }
+    ensures stop { IfErr result (λ stop. stop.fault ≡ PortError.Failed) }
+    ensures left { OnErr result ((image : List ℕ) × (P.targets port.new ≡ ports.with_image (P.targets port.old) slot image)
+        × DiffersInRegisters (function_at (P.targets port.old) slot).image image) }
+    ensures counted { P.failures port.new ≡ P.failures port.old + failures_of_stop result }
+    ensures there { IsTrue (ports.has_function (P.targets port.new) slot) }
+    ensures lawful { ports.IsLawful (P.targets port.new) }
+{
+    let mut bytes = [0; 256];
+    for register in address_registers(bridge) {
+        let ones = sizing_ones(bridge, *register);
+        match read_back(port, slot, register.offset, register.width, ones) {
+            Ok(value) => put(&mut bytes, register.offset, register.width, value),
+            Err(stop) => return Err(stop),
+        }
+    }
+    Ok(Image(bytes))
+}
+
+/// Puts the bytes of a number at an offset.
+fn put(bytes: &mut [u8; 256], off: u8, width: u8, value: u32)
+    requires { IsTrue (ports.is_access off width) }
+    ensures inside { (j : ℕ) → j < width → slice_index bytes.new (off + j) ≡ value / 256 ^ j % 256 }
+    ensures outside { (place : ℕ) → (place < off) ⊎ (off + width ≤ place) → slice_index bytes.new place ≡ slice_index bytes.old place }
+{
+    let mut rest = value;
+    for j in 0..width {
+        bytes[usize::from(off + j)] = (rest % 256) as u8;
+        rest /= 256;
+    }
+}

@@ -1,0 +1,102 @@
+//! One function in memory: its configuration space under reads and writes.
+ghost use Rattle.std.specs.Prelude.{◌≡◌, ◌↔◌, nat_lt, IsTrue};
+ghost use Rattle.pci_spec.specs.Number.{number_at};
+ghost use Rattle.pci_spec.specs.Slot as place;
+ghost use Rattle.pci_spec.specs.Machine.{written};
+ghost use Rattle.pci_machine.specs.Port as port;
+ghost use Rattle.pci_machine.specs.Memory.{pinned};
+
+use crate::access::{number_of, written_byte};
+use pci_image::image::Image;
+use pci_image::slot::Slot;
+use std::marker::Model;
+
+/// A function's configuration space, with the bits of each byte that a write sets and those that a
+/// written one clears.
+#[derive(Drop)]
+pub struct Registers {
+    pub slot: Slot,
+    pub image: Image,
+    pub writable: [u8; 256],
+    pub clearing: [u8; 256],
+}
+
+impl Model for Registers {
+    ghost use Rattle.pci_spec.specs.Machine.{Target};
+
+    ghost Value = { Target };
+
+    ghost view = { λ r. record {
+      slot = r.slot;
+      image = r.image.0;
+      writable = r.writable;
+      clearing = r.clearing;
+    } };
+}
+
+impl Registers {
+    /// Whether the function is at a slot.
+    pub fn is_at(&self, slot: Slot) -> bool
+        ensures { IsTrue result ↔ (self.now.slot ≡ slot) }
+    {
+        self.slot == slot
+    }
+
+    /// Whether the slot's number is below another.
+    pub fn is_below(&self, number: u16) -> bool
+        ensures { result ≡ nat_lt (place.slot_number self.now.slot) number }
+    {
+        self.slot.number() < number
+    }
+
+    /// The number of `width` bytes at an offset.
+    pub fn number(&self, off: u8, width: u8) -> u32
+        requires { IsTrue (port.is_access off width) }
+        ensures { result ≡ number_at self.now.image off width }
+    {
+        number_of(&self.image, off, width)
+    }
+
+    /// Makes bits of a byte unwritable.
+    pub fn pin(&mut self, off: u8, mask: u8)
+        ensures { self.new ≡ pinned self.old off mask }
+    {
+        self.writable[usize::from(off)] &= !mask;
+    }
+
+    /// Writes to `width` bytes at an offset.
+    pub fn write(&mut self, off: u8, width: u8, value: u32)
+        requires { IsTrue (port.is_access off width) }
+        ensures { self.new ≡ record self.old { image = written self.old off width value } }
+    {
+        self.image = self.written(off, width, value);
+    }
+
+    /// The configuration space after a write.
+    fn written(&self, off: u8, width: u8, value: u32) -> Image
+        requires { IsTrue (port.is_access off width) }
+        ensures { result.0 ≡ written self.now off width value }
+    {
+        let mut bytes = bytes_of(&self.image);
+        let mut rest = value;
+        for j in 0..width {
+            let place = usize::from(off + j);
+            let datum = (rest % 256) as u8;
+            bytes[place] = written_byte(
+                bytes[place],
+                self.writable[place],
+                self.clearing[place],
+                datum,
+            );
+            rest /= 256;
+        }
+        Image(bytes)
+    }
+}
+
+/// The bytes of an image.
+fn bytes_of(image: &Image) -> [u8; 256]
+    ensures { result ≡ image.now.0 }
+{
+    image.0
+}

@@ -1,0 +1,152 @@
+//! Sizing: what the address registers of a function read back after ones were written to them
+//! (PCI 3.0, 6.2.5.1).
+//!
+//! Ones in an address register would let the function decode addresses that belong to others. So
+//! its decode bits are cleared first, and put back at the end.
+ghost use Rattle.std.specs.Prelude.{◌≡◌, ◌≢◌, ◌↔◌, ◌+◌, ◌%◌, ℕ, List, true, None, IsTrue, IsFalse, IfOk, IfErr, OnOk, OnErr, IfSome, MatchOption, if◌then◌else◌};
+ghost use Rattle.pci_spec.specs.Header.{command, layout};
+ghost use Rattle.pci_spec.specs.Machine.{sized};
+ghost use Rattle.pci_spec.specs.Fault.{has_no_vendor, has_other_layout};
+ghost use Rattle.pci_machine.specs.Port as ports;
+ghost use Rattle.pci_machine.specs.Sizing.{function_at, DiffersInRegisters, IsStuck};
+ghost use Rattle.pci_machine.specs.Outcome.{failures_of_stop};
+ghost use Rattle.pci_machine.specs.SizeOutcome.{SizingLeaves, failures_of_size};
+
+use crate::access_at::{Stop, read_at};
+use crate::port::{ConfigPort, PortError};
+use crate::quiet::{COMMAND, COMMAND_WIDTH, DECODE_BITS, Quiet};
+use crate::read_backs::read_backs;
+use crate::size_fault::SizeFault;
+use pci_image::fault::ImageFault;
+use pci_image::image::Image;
+use pci_image::offset::{HEADER_TYPE, VENDOR_ID};
+use pci_image::slot::Slot;
+
+/// The Vendor ID of a function that doesn't answer (PCI 3.0, 6.2.1).
+const NO_VENDOR: u32 = 0xffff;
+
+/// The bits of Header Type that give the layout (PCI 3.0, 6.2.1).
+const LAYOUT_BITS: u32 = 0x7f;
+
+/// What the address registers of the function at a slot read back, in an image that has 0
+/// elsewhere. No memory is taken, and all functions are as they were.
+///
+/// # Errors
+///
+/// 20 and 21 (`Header`): the function doesn't answer, or its layout isn't decoded; nothing was
+/// written. 44 (`Stuck`): a decode bit can't be cleared; all is as it was. 43 (`Port`): an access
+/// failed, or there is no function; without a `command` nothing was written.
+pub fn size<P: ConfigPort>(port: &mut P, slot: Slot) -> Result<Image, SizeFault>
+    ensures read_backs { IfOk result (λ image. image.0 ≡ sized (function_at (P.targets port.old) slot)) }
+    ensures unchanged { OnOk result (P.targets port.new ≡ P.targets port.old) }
+    ensures there { OnOk result (IsTrue (ports.has_function (P.targets port.old) slot)) }
+    ensures vendor { OnOk result (IsFalse (has_no_vendor (function_at (P.targets port.old) slot).image)) }
+    ensures header { OnOk result (IsFalse (has_other_layout (function_at (P.targets port.old) slot).image)) }
+    ensures not_stuck { OnOk result (IsStuck (function_at (P.targets port.old) slot) → ⊥) }
+
+    ensures fault { IfErr result (SizingLeaves (P.targets port.old) slot (P.targets port.new)) }
+    ensures missing { IsFalse (ports.has_function (P.targets port.old) slot)
+        → result ≡ Err (SizeFault.Port 0x00 PortError.NoFunction None) }
+    ensures counted { P.failures port.new ≡ P.failures port.old + failures_of_size result }
+{
+    let bridge = match is_bridge(port, slot) {
+        Ok(bridge) => bridge,
+        Err(fault) => return Err(fault),
+    };
+    let quiet = match Quiet::begin(port, slot) {
+        Ok(quiet) => quiet,
+        Err(stop) => return Err(stopped(stop, None)),
+    };
+    let found = match read_when_quiet(port, slot, bridge) {
+        Ok(found) => found,
+        Err(stop) => return Err(stopped(stop, Some(quiet.give_up()))),
+    };
+    match quiet.end(port, slot) {
+        Ok(()) => match found {
+            Some(image) => Ok(image),
+            None => Err(SizeFault::Stuck),
+        },
+        Err((stop, command)) => Err(stopped(stop, Some(command))),
+    }
+}
+
+/// Whether a function is a bridge, by its header, and not a device.
+fn is_bridge<P: ConfigPort>(port: &mut P, slot: Slot) -> Result<bool, SizeFault>
+    ensures there { OnOk result (IsTrue (ports.has_function (P.targets port.old) slot)) }
+    ensures vendor { OnOk result (IsFalse (has_no_vendor (function_at (P.targets port.old) slot).image)) }
+    ensures header { OnOk result (IsFalse (has_other_layout (function_at (P.targets port.old) slot).image)) }
+    ensures bridge { IfOk result (λ bridge. layout (function_at (P.targets port.old) slot).image ≡ (if bridge then 1 else 0)) }
+    ensures fault { IfErr result (SizingLeaves (P.targets port.old) slot (P.targets port.new)) }
+    ensures missing { IsFalse (ports.has_function (P.targets port.old) slot)
+        → result ≡ Err (SizeFault.Port 0x00 PortError.NoFunction None) }
+    ensures same { P.targets port.new ≡ P.targets port.old }
+    ensures counted { P.failures port.new ≡ P.failures port.old + failures_of_size result }
+    ensures lawful { ports.IsLawful (P.targets port.new) }
+{
+    let vendor = match port.read(slot, VENDOR_ID, 2) {
+        Ok(vendor) => vendor,
+        Err(fault) => {
+            return Err(SizeFault::Port {
+                offset: VENDOR_ID,
+                fault,
+                command: None,
+            });
+        }
+    };
+    if vendor == NO_VENDOR {
+        return Err(SizeFault::Header(ImageFault::NoVendor));
+    }
+    let header = match read_at(port, slot, HEADER_TYPE, 1) {
+        Ok(header) => header,
+        Err(stop) => return Err(stopped(stop, None)),
+    };
+    match header & LAYOUT_BITS {
+        0 => Ok(false),
+        1 => Ok(true),
+        _ => Err(SizeFault::Header(ImageFault::HeaderKind)),
+    }
+}
+
+/// The fault of an access that failed.
+fn stopped(stop: Stop, command: Option<u16>) -> SizeFault
+    ensures { result ≡ SizeFault.Port stop.offset stop.fault command }
+{
+    SizeFault::Port {
+        offset: stop.offset,
+        fault: stop.fault,
+        command,
+    }
+}
+
+/// What the address registers read back, if Command shows no decode bit.
+fn read_when_quiet<P: ConfigPort>(
+    port: &mut P,
+    slot: Slot,
+    bridge: bool,
+) -> Result<Option<Image>, Stop>
+    requires there { IsTrue (ports.has_function (P.targets port.old) slot) }
+    requires lawful { ports.IsLawful (P.targets port.old) }
+    requires header { layout (function_at (P.targets port.old) slot).image ≡ (if bridge then 1 else 0) }
+    ensures read_backs { IfOk result (λ found. IfSome found (λ image. image.0 ≡ sized (function_at (P.targets port.old) slot))) }
+    ensures quiet { IfOk result (λ found. MatchOption found (command (function_at (P.targets port.old) slot).image % 4 ≢ 0)
+        (λ _. command (function_at (P.targets port.old) slot).image % 4 ≡ 0)) }
+    ensures kept { OnOk result (P.targets port.new ≡ P.targets port.old) }
+    ensures stop { IfErr result (λ stop. stop.fault ≡ PortError.Failed) }
+    ensures left { OnErr result ((image : List ℕ) × (P.targets port.new ≡ ports.with_image (P.targets port.old) slot image)
+        × DiffersInRegisters (function_at (P.targets port.old) slot).image image) }
+    ensures counted { P.failures port.new ≡ P.failures port.old + failures_of_stop result }
+    ensures there { IsTrue (ports.has_function (P.targets port.new) slot) }
+    ensures lawful { ports.IsLawful (P.targets port.new) }
+{
+    let command = match read_at(port, slot, COMMAND, COMMAND_WIDTH) {
+        Ok(command) => command,
+        Err(stop) => return Err(stop),
+    };
+    if command & u32::from(DECODE_BITS) != 0 {
+        return Ok(None);
+    }
+    match read_backs(port, slot, bridge) {
+        Ok(image) => Ok(Some(image)),
+        Err(stop) => Err(stop),
+    }
+}
