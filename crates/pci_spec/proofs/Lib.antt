@@ -30,3 +30,9 @@ pub mod Walks
 pub mod Members
 pub mod Rising
 pub mod Records
+pub mod Verdicts
+pub mod Sounding
+pub mod Regions
+pub mod Firsts
+pub mod Chains
+pub mod Pairing

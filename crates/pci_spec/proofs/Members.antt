@@ -1,8 +1,7 @@
 -- What is in a list that was made from others.
-use Rattle.std.proofs.Common.{◌≡◌, ℕ, zero, suc, ◌+◌, ◌<◌, ◌≤◌, List, [], ◌∷◌, ◌++◌, length, get_or, sym, ap, ◌∙◌, subst, inl, inr, ◌⊎◌, arith, refl, Bool, true, false, cond, map}
-use Rattle.std.specs.Prelude.{◌↔◌}
+use Rattle.std.proofs.Common.{◌≡◌, ℕ, zero, suc, ◌+◌, ◌<◌, ◌≤◌, List, [], ◌∷◌, ◌++◌, get_or, sym, ap, ◌∙◌, subst, inl, inr, ◌⊎◌, arith, refl, Bool, true, cond, map}
 use Rattle.std.specs.List.{Contains, AllPairs, filter, flat_map, range_with_len}
-use Rattle.std.proofs.lemmas.Bool.{cases_Bool, both_ways, cases_eq, cases_order}
+use Rattle.std.proofs.lemmas.Bool.{cases_Bool, both_ways, cases_eq}
 use Rattle.std.proofs.lemmas.List.Elements.{Contains-append_cases, Contains-append_left, Contains-append_right, Contains-get_or}
 
 pub in_nil : {X : Type 0} (x : X) → Contains [] x → ⊥

@@ -1,11 +1,9 @@
 -- What a record says of its function: the addresses that its windows pass, and that its parts claim.
-use Rattle.std.proofs.Common.{◌≡◌, ◌≢◌, ℕ, zero, ◌+◌, ◌<◌, ◌≤◌, List, refl, Bool, true, false, not, ◌&&◌, ◌||◌, inl, inr, arith, sym, ◌∙◌, ap, subst, lit<, Option, Some, None, if◌then◌else◌}
-use Rattle.std.specs.Prelude.{◌↔◌, IsTrue, IsFalse, MatchOption}
-use Rattle.std.specs.Bool.{nat_le, nat_eq}
-use Rattle.std.proofs.lemmas.Bool.{and_parts, and_from, and_left, or_cases, leb-true, le-leb, cases_Bool, both_ways, eqb-true, ne_eqb, not-false, not_from_false}
-use Rattle.pci_spec.specs.Window.{WindowKind, IoWindow, MemoryWindow, PrefetchWindow, Bounds, bounds_at, page_bits, has_window, is_lawful_window, breaks_window_rule, holds}
-use Rattle.pci_spec.specs.Decoded.{Range, InRange, window_range}
-use Rattle.pci_spec.proofs.Ranges.{window_range-holds, absent_window}
+use Rattle.std.proofs.Common.{◌≡◌, ℕ, ◌+◌, List, refl, Bool, true, false, inl, inr, arith, sym}
+use Rattle.std.specs.Prelude.{IsTrue, IsFalse}
+use Rattle.std.specs.Bool.{nat_eq}
+use Rattle.std.proofs.lemmas.Bool.{and_parts, and_left, or_cases, both_ways, eqb-true, ne_eqb, not-false, not_from_false}
+use Rattle.pci_spec.specs.Window.{MemoryWindow, Bounds, bounds_at, page_bits, has_window, is_lawful_window, breaks_window_rule}
 
 -- ---- windows
 

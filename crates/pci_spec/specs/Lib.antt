@@ -24,3 +24,5 @@ pub mod WindowLaws
 pub mod TextLaws
 pub mod CapabilityLaws
 pub mod MachineLaws
+pub mod JudgingLaws
+pub mod SoundLaws

@@ -1,0 +1,46 @@
+-- The system that a dump and its probe make.
+use Rattle.std.proofs.Common.{◌≡◌, ℕ, List, [], ◌∷◌, ◌++◌, map, refl, sym, ap, subst, inl, inr, ◌∙◌, zero, suc, drop, ◌<◌, length, arith}
+use Rattle.std.specs.List.{All, Contains}
+use Rattle.pci_spec.specs.Slot.{Slot, IsRising}
+use Rattle.pci_spec.specs.Text.{Block, IsBlock, IsDump, slots_of}
+use Rattle.pci_spec.specs.System.{System, Function, IsFunction, IsSystem, system_of}
+use Rattle.pci_spec.specs.Fault.{Fault, IsIn, IsThere, SlotsDiffer}
+
+-- its slots are those of the dump
+pub slots-system_of : (dump probe : List Block) → slots_of dump ≡ slots_of probe → map (λ f. f.slot) (system_of dump probe) ≡ slots_of dump
+slots-system_of [] probe e = refl
+slots-system_of (b ∷ dump) [] e = cc
+slots-system_of (b ∷ dump) (p ∷ probe) e = ap (λ (rest : List Slot). b.slot ∷ rest) (slots-system_of dump probe (ap (drop 1) e))
+
+-- each of its functions has its slot, and two images
+functions : (dump probe : List Block) → All IsBlock dump → All IsBlock probe → All IsFunction (system_of dump probe)
+functions [] probe hd hp k d below = absurd (let no : ⊥ = omega (arith, below) in no)
+functions (b ∷ dump) [] hd hp k d below = absurd (let no : ⊥ = omega (arith, below) in no)
+functions (b ∷ dump) (p ∷ probe) hd hp zero d below =
+    let first : IsBlock b = hd 0 b (omega arith) in
+    let second : IsBlock p = hp 0 p (omega arith) in
+    record { slot = first.slot; image = first.image; probe = second.image }
+functions (b ∷ dump) (p ∷ probe) hd hp (suc k) d below =
+    functions dump probe (λ j x l. hd (suc j) x (omega (arith, l))) (λ j x l. hp (suc j) x (omega (arith, l))) k d (omega (arith, below))
+
+-- a dump and a probe with the same slots make a system
+pub IsSystem-of_dumps : (dump probe : List Block) → IsDump dump → IsDump probe → slots_of dump ≡ slots_of probe → IsSystem (system_of dump probe)
+IsSystem-of_dumps dump probe d p e = record {
+  each = functions dump probe d.each p.each;
+  rising = subst IsRising (sym (slots-system_of dump probe e)) d.rising;
+}
+
+-- a fault in their system is there
+pub there-of_in : (roots : List ℕ) (dump probe : List Block) (fault : Fault) → slots_of dump ≡ slots_of probe
+    → IsIn roots (system_of dump probe) fault → IsThere roots dump probe fault
+there-of_in roots dump probe (SlotsDiffer slot) e h = absurd h
+there-of_in roots dump probe _ e h = (e, h)
+
+-- and where they have the same slots, one that is there is in it
+pub in-of_there : (roots : List ℕ) (dump probe : List Block) (fault : Fault) → slots_of dump ≡ slots_of probe
+    → IsThere roots dump probe fault → IsIn roots (system_of dump probe) fault
+in-of_there roots dump probe (SlotsDiffer slot) e h = elim h [
+  | inl w ↦ absurd (w.1 (subst (λ (slots : List Slot). Contains slots slot) e w.0))
+  | inr w ↦ absurd (w.0 (subst (λ (slots : List Slot). Contains slots slot) (sym e) w.1))
+]
+in-of_there roots dump probe _ e h = h.1

@@ -1,0 +1,138 @@
+-- Single and home are the want of the faults of judging.
+use Rattle.std.proofs.Common.{◌≡◌, ℕ, suc, inl, inr, List, [], ◌∷◌, refl, Bool, true, false, arith, sym, ◌∙◌, ap, subst}
+use Rattle.std.specs.List.{list_all, Contains}
+use Rattle.std.proofs.lemmas.Bool.{and_cases, cases_eq, cases_Bool, both_ways}
+use Rattle.pci_spec.specs.Slot.{Slot}
+use Rattle.pci_spec.specs.System.{System, Function, Space, Part, Claims, Gets, IsPassedTo, IsSystem, Leads, is_prefetchable_part, passes, register_of}
+use Rattle.pci_spec.specs.Bus.{IsNested}
+use Rattle.pci_spec.specs.Fault.{IsUnreached, ClaimsOnBus}
+use Rattle.pci_spec.specs.Sound.{IsSingle, IsHome, IsSameRegion}
+use Rattle.pci_spec.specs.JudgingLaws.{HasNoUnreached, HasNoClash, HasNoSplit, SingleWithoutClashes, HomeWithoutUnreached}
+use Rattle.pci_spec.proofs.BusRanges.{all_gives}
+use Rattle.pci_spec.proofs.Nesting.{one_function}
+use Rattle.pci_spec.proofs.Ways.{one_way, a_way_to_each}
+use Rattle.pci_spec.proofs.Regions.{region_decided}
+
+-- ---- single
+
+-- a region of a bus that claims an address, as the definition of single has it
+same_named : (f g : Function) (p q : Part) (s t : Slot) (r u : ℕ) → f.slot ≡ s → g.slot ≡ t → register_of f p ≡ r → register_of g q ≡ u
+    → IsSameRegion f p g q → (s ≡ t) × (r ≡ u)
+same_named f g p q s t r u fs gt fr gu same = (sym fs ∙ same.0 ∙ gt, sym fr ∙ same.1 ∙ gu)
+
+no_clash : (roots : List ℕ) (s : System) → IsSingle roots s → HasNoClash roots s
+no_clash roots s single bus space address first fr second sr clash =
+    let one = clash.claims_first in
+    let two = clash.claims_second in
+    clash.differ (same_named one.0 two.0 one.1 two.1 first second fr sr one.3 two.3 one.5 two.5
+    (single.on_a_bus space address bus clash.gets one.0 two.0 one.1 two.1 one.2 two.2
+    (ap (λ (x : Slot). x.bus) one.3 ∙ one.4) (ap (λ (x : Slot). x.bus) two.3 ∙ two.4) one.6 two.6))
+
+no_split : (roots : List ℕ) (s : System) → IsSingle roots s → HasNoSplit roots s
+no_split roots s single space address first fr second sr split =
+    let one = split.claims_first in
+    let two = split.claims_second in
+    let same = single.over_roots space address one.0 two.0 one.1 two.1 one.2 two.2
+    (subst (λ n. Contains roots n) (sym (ap (λ (x : Slot). x.bus) one.3)) split.root_first)
+    (subst (λ n. Contains roots n) (sym (ap (λ (x : Slot). x.bus) two.3)) split.root_second) one.6 two.6 in
+    split.buses (ap (λ (x : Slot). x.bus) (sym one.3 ∙ same.0 ∙ two.3))
+
+-- a region that claims an address
+on_bus : (s : System) (f : Function) (p : Part) (space : Space) (a bus : ℕ) → Contains s f → f.slot.bus ≡ bus → Claims f p space a
+    → ClaimsOnBus s bus space a f.slot (register_of f p)
+on_bus s f p space a bus listed at claims = (f, p, listed, refl, at, refl, claims)
+
+single_on_a_bus : (roots : List ℕ) (s : System) → HasNoClash roots s → (space : Space) (a bus : ℕ) → Gets roots s space a bus
+    → (f g : Function) (p q : Part) → Contains s f → Contains s g → f.slot.bus ≡ bus → g.slot.bus ≡ bus
+    → Claims f p space a → Claims g q space a → IsSameRegion f p g q
+single_on_a_bus roots s none space a bus gets f g p q in_f in_g at_f at_g claims_f claims_g =
+    elim (region_decided f.slot g.slot (register_of f p) (register_of g q)) [
+      | inl same ↦ same
+      | inr differ ↦ absurd (none bus space a f.slot (register_of f p) g.slot (register_of g q) record {
+        gets = gets;
+        claims_first = on_bus s f p space a bus in_f at_f claims_f;
+        claims_second = on_bus s g q space a bus in_g at_g claims_g;
+        differ = differ;
+      })
+    ]
+
+single : (roots : List ℕ) (s : System) → HasNoClash roots s → HasNoSplit roots s → IsSingle roots s
+single roots s no_clashes no_splits = record {
+  on_a_bus = single_on_a_bus roots s no_clashes;
+  over_roots = λ space a f g p q in_f in_g root_f root_g claims_f claims_g.
+      elim (cases_eq f.slot.bus g.slot.bus) [
+        | inl bus ↦
+            single_on_a_bus roots s no_clashes space a g.slot.bus (g.slot.bus, root_g, [], refl, refl) f g p q in_f in_g bus refl claims_f claims_g
+        | inr differ ↦ absurd (no_splits space a f.slot (register_of f p) g.slot (register_of g q) record {
+          root_first = root_f;
+          root_second = root_g;
+          buses = differ;
+          claims_first = on_bus s f p space a f.slot.bus in_f refl claims_f;
+          claims_second = on_bus s g q space a g.slot.bus in_g refl claims_g;
+        })
+      ];
+}
+
+pub single_without_clashes : SingleWithoutClashes
+single_without_clashes roots s = (
+  λ (h : IsSingle roots s). (no_clash roots s h, no_split roots s h),
+  λ (h : HasNoClash roots s × HasNoSplit roots s). single roots s h.0 h.1,
+)
+
+-- ---- home
+
+-- where not all pass a test, one fails it
+pub some_fails : {X : Type 0} (test : X → Bool) (xs : List X) → list_all test xs ≡ false → (x : X) × Contains xs x × (test x ≡ false)
+some_fails test [] h = absurd (let no : ⊥ = both_ways true h refl in no)
+some_fails test (x ∷ xs) h = elim (and_cases (test x) (list_all test xs) h) [
+  | inl here ↦ (x, (0, omega arith, refl), here)
+  | inr later ↦ let found = some_fails test xs later in (found.0, (suc found.1.0, omega (arith, found.1.1), found.1.2), found.2)
+]
+
+-- what is passed on all the way to a bus is passed by each bridge of a list that leads there
+pub passed_by_each : (roots : List ℕ) (s : System) → IsSystem s → IsNested roots s → (space : Space) (prefetchable : Bool) (a root bus : ℕ) (bridges : List Function)
+    → Contains roots root → Leads s root bridges bus → IsPassedTo roots s space prefetchable a bus → (b : Function) → Contains bridges b → passes space prefetchable a b ≡ true
+passed_by_each roots s system nested space prefetchable a root bus bridges starts leads way b on_the_way =
+    let same : bridges ≡ way.2 = (one_way roots s nested (one_function s system) root way.0 bridges way.2 bus starts way.1 leads way.3).1 in
+    let all : list_all (passes space prefetchable a) bridges ≡ true = subst (λ others. list_all (passes space prefetchable a) others ≡ true) (sym same) way.4 in
+    all_gives (passes space prefetchable a) bridges all b on_the_way
+
+-- a region that is passed on all the way isn't unreached
+pub passed_not_unreached : (roots : List ℕ) (s : System) → IsSystem s → IsNested roots s → (slot : Slot) (register : ℕ) (space : Space) (a : ℕ) (bridge : Slot)
+    → (u : IsUnreached roots s slot register space a bridge) → IsPassedTo roots s space (is_prefetchable_part u.f u.part) a u.f.slot.bus → ⊥
+passed_not_unreached roots s system nested slot register space a bridge u way =
+    let there : IsPassedTo roots s space (is_prefetchable_part u.f u.part) a slot.bus =
+    subst (λ (x : Slot). IsPassedTo roots s space (is_prefetchable_part u.f u.part) a x.bus) u.named.0 way in
+    both_ways _ u.stops (passed_by_each roots s system nested space (is_prefetchable_part u.f u.part) a u.root slot.bus u.bridges u.starts u.leads there u.b u.on_the_way)
+
+home : (roots : List ℕ) (s : System) → IsNested roots s → HasNoUnreached roots s → IsHome roots s
+home roots s nested none f p space a listed no_window claims =
+    let way = a_way_to_each roots s nested f listed in
+    elim (cases_Bool (list_all (passes space (is_prefetchable_part f p) a) way.2)) [
+      | inl all ↦ (way.0, way.1, way.2, way.3, all)
+      | inr not_all ↦
+          let found = some_fails (passes space (is_prefetchable_part f p) a) way.2 not_all in
+          absurd (none f.slot (register_of f p) space a found.0.slot record {
+            f = f;
+            part = p;
+            listed = listed;
+            named = (refl, refl);
+            no_window = no_window;
+            claims = claims;
+            bridges = way.2;
+            root = way.0;
+            starts = way.1;
+            leads = way.3;
+            b = found.0;
+            on_the_way = found.1;
+            named_bridge = refl;
+            stops = found.2;
+          })
+    ]
+
+pub home_without_unreached : HomeWithoutUnreached
+home_without_unreached roots s system nested = (
+  λ (h : IsHome roots s) slot register space a bridge (u : IsUnreached roots s slot register space a bridge).
+      passed_not_unreached roots s system nested slot register space a bridge u (h u.f u.part space a u.listed u.no_window u.claims),
+  λ (h : HasNoUnreached roots s). home roots s nested h,
+)

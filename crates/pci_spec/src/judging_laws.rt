@@ -1,0 +1,23 @@
+//! Laws of judging and of soundness. These functions do nothing: each contract is a law.
+
+ghost use Rattle.pci_spec.specs.JudgingLaws.{SingleWithoutClashes, HomeWithoutUnreached, LeastUnreachedIsFirst, LeastClashIsFirst, LeastSplitIsFirst};
+ghost use Rattle.pci_spec.specs.SoundLaws.{ChainWithoutFaults, SoundWithoutFaults};
+
+/// Single and home are the want of the faults of judging.
+pub fn judging_finds_what_fails()
+    ensures single { SingleWithoutClashes }
+    ensures home { HomeWithoutUnreached }
+{}
+
+/// Of each kind of fault of judging the least is the first.
+pub fn the_least_fault_is_first()
+    ensures unreached { LeastUnreachedIsFirst }
+    ensures clash { LeastClashIsFirst }
+    ensures split { LeastSplitIsFirst }
+{}
+
+/// A system is sound exactly where no fault is there.
+pub fn sound_systems_have_no_fault()
+    ensures chain { ChainWithoutFaults }
+    ensures sound { SoundWithoutFaults }
+{}

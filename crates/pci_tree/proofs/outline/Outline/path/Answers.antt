@@ -1,0 +1,22 @@
+use Rattle.std.proofs.Common.{map, ap, subst, sym, ◌∙◌}
+use Rattle.std.specs.Prelude.{MatchOption}
+use Rattle.std.specs.List.{Contains}
+use Rattle.std.proofs.lemmas.Bool.{both_ways}
+use Rattle.pci_spec.specs.System.{System}
+use Rattle.pci_spec.specs.Decoded.{HasRecords}
+use Rattle.pci_tree.specs.Ways.{slots_of}
+use Rattle.pci_tree.specs.Outline.{Tree, IsPathTo}
+use Rattle.pci_tree.proofs.Outlines.{slots_of_values, path_to}
+use Rattle.pci_tree.proofs.outline.Outline.path.Goals as goal
+
+pub returns-then-not-lists : goal.returns-then-not-lists
+returns-then-not-lists g c = λ has.
+    both_ways _ c.if-not-lists.true (c.lists.ensures.1 (subst (λ xs. Contains xs c.args.slot)
+    (ap (λ (t : Tree). map (λ r. r.slot) t.records) (sym c.self.view_is) ∙ slots_of_values c.self.inside.records.items ∙ ap slots_of (sym c.deref.ensures.value)) has))
+
+pub returns : goal.returns
+returns g c =
+    subst (λ (t : Tree). MatchOption c.way.result (Contains (map (λ r. r.slot) t.records) c.args.slot → ⊥) (λ v. (s : System) → HasRecords s t.records → IsPathTo t.roots s v.items c.args.slot.bus))
+    c.self.view_is
+    (path_to (λ v. v.items) _ c.self.inside.records.items c.deref-2.result.now c.args.slot c.bus.result c.way.result c.self.invariant.0 c.deref-2.ensures.value c.bus.ensures
+    (subst (λ rs. Contains (slots_of rs) c.args.slot) (c.deref.ensures.value ∙ sym c.deref-2.ensures.value) (c.lists.ensures.0 c.if-not-lists.false)) c.way.ensures)

@@ -1,0 +1,15 @@
+pub mod Space
+pub mod Fault
+pub mod Ranges
+pub mod Passing
+pub mod Values
+pub mod Passes
+pub mod Roots
+pub mod Ways
+pub mod Reaches
+pub mod Outline
+pub mod Regions
+pub mod Decoding
+pub mod BusNumbers
+pub mod PlaceFaults
+pub mod Profile

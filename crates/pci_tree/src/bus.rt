@@ -1,0 +1,43 @@
+//! The records of a bus, which stand in a row, as records rise by slot.
+ghost use Rattle.std.specs.Prelude.{◌≡◌, ◌↔◌, ◌<◌, ◌≤◌, IsTrue, length};
+ghost use Rattle.std.specs.List.{All, AllWithin, Contains};
+ghost use Rattle.pci_spec.specs.Slot.{IsSlot};
+ghost use Rattle.pci_tree.specs.Ways.{slots_of};
+ghost use Rattle.pci_tree.specs.Outline.{RiseBySlot, IsBusPart};
+
+use super::record::Record;
+use pci_image::slot::Slot;
+
+/// The place of the first record on this bus or a higher one.
+fn first_from(records: &[Record], bus: u16) -> usize
+    requires rising { RiseBySlot records.now }
+    requires slots { All (λ r. IsSlot r.slot) records.now }
+    ensures bound { result ≤ length records.now }
+    ensures before { AllWithin (λ r. r.slot.bus < bus) records.now 0 result }
+    ensures after { AllWithin (λ r. bus ≤ r.slot.bus) records.now result (length records.now) }
+{
+    records.partition_point(|function| u16::from(function.slot.bus()) < bus)
+}
+
+/// The records of a bus.
+pub fn on_bus(records: &[Record], bus: u8) -> &[Record]
+    requires rising { RiseBySlot records.now }
+    requires slots { All (λ r. IsSlot r.slot) records.now }
+    ensures { IsBusPart records.now bus result.now }
+{
+    let first = first_from(records, bus as u16);
+    let end = first_from(records, bus as u16 + 1);
+    &records[first..end]
+}
+
+/// Whether a function of some records has the slot.
+pub fn lists(records: &[Record], slot: Slot) -> bool
+    ensures { IsTrue result ↔ Contains (slots_of records.now) slot }
+{
+    for function in records {
+        if function.slot == slot {
+            return true;
+        }
+    }
+    false
+}

@@ -1,0 +1,227 @@
+//! Whether functions stand in their places: function 0 is beside each other function of a device, a bridge leads to
+//! each bus that is no root, and the bus numbers of bridges fit (Bridge 1.2, 3.2.5).
+ghost use Rattle.std.specs.Prelude.{◌≡◌, ◌↔◌, ◌<◌, ℕ, IsTrue, MatchOption, map};
+ghost use Rattle.std.specs.Option.{is_some};
+ghost use Rattle.std.specs.List.{All, Contains};
+ghost use Rattle.pci_spec.specs.Slot.{IsSlot};
+ghost use Rattle.pci_tree.specs.Roots.{buses_of};
+ghost use Rattle.pci_tree.specs.Ways.{slots_of};
+ghost use Rattle.pci_tree.specs.Outline.{RiseBySlot};
+ghost use Rattle.pci_tree.specs.BusNumbers.{HasBusOrder, AreApart, AreSideBySide, IsApartFrom, IsApartFromLower, IsApartFromEarlier, IsInsideParents, HasNoRootBehind, IsBehind, HasLawfulBuses, IsLedTo, IsNotLone, IsInPlace, AreLeastEnds, least_of, EndsWithin};
+ghost use Rattle.pci_tree.specs.PlaceFaults.{IsPlaceFault, IsSomePlaceFault};
+
+use super::bus::{lists, on_bus};
+use super::fault::Fault;
+use super::record::{Bridge, Record};
+use super::roots::Roots;
+use pci_image::slot::Slot;
+
+/// Whether a bridge knows its own bus, and leads to higher ones.
+fn has_order(bus: u8, bridge: &Bridge) -> bool
+    ensures { IsTrue result ↔ HasBusOrder bus bridge.now }
+{
+    bridge.primary == bus && bus < bridge.secondary && bridge.secondary <= bridge.subordinate
+}
+
+/// Whether the ranges of two bridges have no bus in common.
+fn are_apart(bridge: &Bridge, other: &Bridge) -> bool
+    ensures { IsTrue result ↔ AreApart bridge.now other.now }
+{
+    bridge.subordinate < other.secondary || other.subordinate < bridge.secondary
+}
+
+/// Whether the range of a bridge is apart from that of a function which is a bridge with a lower slot.
+fn is_apart_from(function: &Record, slot: Slot, bridge: &Bridge) -> bool
+    ensures { IsTrue result ↔ IsApartFrom function.now slot bridge.now }
+{
+    match &function.bridge {
+        None => true,
+        Some(other) => slot.number() <= function.slot.number() || are_apart(bridge, other),
+    }
+}
+
+/// Whether the range of a bridge is apart from those of the bridges with lower slots among some records.
+fn is_apart_from_lower(part: &[Record], slot: Slot, bridge: &Bridge) -> bool
+    ensures { IsTrue result ↔ IsApartFromLower part.now slot bridge.now }
+{
+    for function in part {
+        if !is_apart_from(function, slot, bridge) {
+            return false;
+        }
+    }
+    true
+}
+
+/// Whether two buses are the same, or both are roots.
+fn are_side_by_side(roots: &Roots, bus: u8, other: u8) -> bool
+    ensures { IsTrue result ↔ AreSideBySide (buses_of roots.now) bus other }
+{
+    bus == other || (roots.has(bus) && roots.has(other))
+}
+
+/// Whether the range of a bridge is apart from those of the bridges with lower slots on its bus, and on each root where
+/// its bus is one.
+fn is_apart_from_earlier(records: &[Record], roots: &Roots, slot: Slot, bridge: &Bridge) -> bool
+    requires rising { RiseBySlot records.now }
+    requires slots { All (λ r. IsSlot r.slot) records.now }
+    ensures { IsTrue result ↔ IsApartFromEarlier (buses_of roots.now) records.now slot bridge.now }
+{
+    for bus in 0..256usize {
+        if are_side_by_side(roots, bus as u8, slot.bus()) {
+            let part = on_bus(records, bus as u8);
+            if !is_apart_from_lower(part, slot, bridge) {
+                return false;
+            }
+        }
+    }
+    true
+}
+
+/// Whether a bus is a root behind a bridge.
+fn is_root_behind(roots: &Roots, bridge: &Bridge, bus: u8) -> bool
+    ensures { IsTrue result ↔ (Contains (buses_of roots.now) bus × IsBehind bridge.now bus) }
+{
+    bridge.secondary <= bus && bus <= bridge.subordinate && roots.has(bus)
+}
+
+/// Whether no root is behind a bridge.
+fn has_no_root_behind(roots: &Roots, bridge: &Bridge) -> bool
+    ensures { IsTrue result ↔ HasNoRootBehind (buses_of roots.now) bridge.now }
+{
+    for bus in 0..256usize {
+        if is_root_behind(roots, bridge, bus as u8) {
+            return false;
+        }
+    }
+    true
+}
+
+/// At each bus the least subordinate bus of the bridges that lead there.
+fn least_ends(records: &[Record]) -> [Option<u8>; 256]
+    ensures { AreLeastEnds records.now result }
+{
+    let mut table = [None; 256];
+    for function in records {
+        if let Some(bridge) = function.bridge {
+            let bus = bridge.secondary as usize;
+            table[bus] = Some(lesser(table[bus], bridge.subordinate));
+        }
+    }
+    table
+}
+
+/// The lesser of a number, where there is one, and another.
+fn lesser(least: Option<u8>, end: u8) -> u8
+    ensures { result ≡ least_of least end }
+{
+    match least {
+        None => end,
+        Some(least) => least.min(end),
+    }
+}
+
+/// Whether a range of buses ends at a number, where there is one, or before.
+fn ends_within(end: Option<u8>, bridge: &Bridge) -> bool
+    ensures { IsTrue result ↔ EndsWithin end bridge.now.subordinate }
+{
+    match end {
+        None => true,
+        Some(end) => bridge.subordinate <= end,
+    }
+}
+
+/// Whether a bridge leads to a bus with this least subordinate bus.
+fn has_leader(end: Option<u8>) -> bool
+    ensures { result ≡ is_some end }
+{
+    end.is_some()
+}
+
+/// Whether the bus numbers of the bridge at a slot fit those of the others, and the roots.
+fn has_lawful_buses(
+    records: &[Record],
+    roots: &Roots,
+    ends: &[Option<u8>; 256],
+    slot: Slot,
+    bridge: &Bridge,
+) -> bool
+    requires rising { RiseBySlot records.now }
+    requires slots { All (λ r. IsSlot r.slot) records.now }
+    requires ends { AreLeastEnds records.now ends.now }
+    ensures { IsTrue result ↔ HasLawfulBuses (buses_of roots.now) records.now slot bridge.now }
+{
+    let bus = slot.bus();
+    if !has_order(bus, bridge)
+        || !is_apart_from_earlier(records, roots, slot, bridge)
+        || !has_no_root_behind(roots, bridge)
+    {
+        return false;
+    }
+    if roots.has(bus) {
+        return true;
+    }
+    ends_within(ends[bus as usize], bridge)
+}
+
+/// Whether function 0 of its device is beside a function, where it is another.
+fn is_not_lone(records: &[Record], slot: Slot) -> bool
+    requires rising { RiseBySlot records.now }
+    requires slots { All (λ r. IsSlot r.slot) records.now }
+    ensures { IsTrue result ↔ IsNotLone records.now slot }
+{
+    if slot.fun() == 0 {
+        return true;
+    }
+    match Slot::new(slot.bus(), slot.dev(), 0) {
+        None => false,
+        Some(first) => lists(on_bus(records, slot.bus()), first),
+    }
+}
+
+/// The fault of a function's place: 50 `LoneFunction`, else 58 `Orphan`, else 57 `BusRange`.
+fn place_fault(
+    records: &[Record],
+    roots: &Roots,
+    ends: &[Option<u8>; 256],
+    function: &Record,
+) -> Option<Fault>
+    requires rising { RiseBySlot records.now }
+    requires slots { All (λ r. IsSlot r.slot) records.now }
+    requires ends { AreLeastEnds records.now ends.now }
+    ensures { MatchOption result (IsInPlace (buses_of roots.now) records.now function.now) (IsPlaceFault (buses_of roots.now) records.now function.now) }
+{
+    let slot = function.slot;
+    let bus = slot.bus();
+    if !is_not_lone(records, slot) {
+        return Some(Fault::LoneFunction(slot));
+    }
+    if !roots.has(bus) && !has_leader(ends[bus as usize]) {
+        return Some(Fault::Orphan(slot));
+    }
+    match &function.bridge {
+        None => None,
+        Some(bridge) => {
+            if has_lawful_buses(records, roots, ends, slot, bridge) {
+                None
+            } else {
+                Some(Fault::BusRange(slot))
+            }
+        }
+    }
+}
+
+/// The fault of the first function, in slot order, that isn't in its place.
+pub fn first_place_fault(records: &[Record], roots: &Roots) -> Option<Fault>
+    requires rising { RiseBySlot records.now }
+    requires slots { All (λ r. IsSlot r.slot) records.now }
+    ensures { MatchOption result (All (IsInPlace (buses_of roots.now) records.now) records.now) (IsSomePlaceFault (buses_of roots.now) records.now) }
+{
+    let ends = least_ends(records);
+    for function in records {
+        match place_fault(records, roots, &ends, function) {
+            Some(fault) => return Some(fault),
+            None => {}
+        }
+    }
+    None
+}

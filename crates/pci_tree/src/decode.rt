@@ -1,0 +1,72 @@
+//! What is decoded of one function: its record, from its image and its read backs.
+ghost use Rattle.std.specs.Prelude.{IfOk, IfErr, MatchResult};
+ghost use Rattle.pci_spec.specs.Number.{IsImage};
+ghost use Rattle.pci_image.specs.Faults.{IsImageFaultIn};
+ghost use Rattle.pci_tree.specs.Decoding.{IsBridgeAt, IsRecordOf};
+
+use super::record::{Bridge, Record};
+use pci_image::bar::bars;
+use pci_image::capability::chain;
+use pci_image::fault::ImageFault;
+use pci_image::header::Header;
+use pci_image::image::Image;
+use pci_image::rom::register::rom;
+use pci_image::slot::Slot;
+use pci_image::window::Windows;
+
+/// The byte offset of Command (PCI 3.0, 6.2.2).
+const COMMAND: u8 = 0x04;
+/// The byte offsets of a bridge's bus numbers (Bridge 1.2, 3.2.5).
+const PRIMARY_BUS: u8 = 0x18;
+
+const SECONDARY_BUS: u8 = 0x19;
+
+const SUBORDINATE_BUS: u8 = 0x1a;
+
+/// The bus numbers and windows of a function, where it is a bridge.
+fn bridge_at(image: &Image, probe: &Image) -> Result<Option<Bridge>, ImageFault>
+    ensures { MatchResult result (IsBridgeAt image.now.0 probe.now.0) (IsImageFaultIn image.now.0 probe.now.0) }
+{
+    match Header::of(image)? {
+        Header::Type0(_) => Ok(None),
+        Header::Type1(_) => {
+            let windows = Windows::of(image, probe)?;
+            Ok(Some(Bridge {
+                primary: image.u8(PRIMARY_BUS),
+                secondary: image.u8(SECONDARY_BUS),
+                subordinate: image.u8(SUBORDINATE_BUS),
+                windows,
+            }))
+        }
+    }
+}
+
+/// The bytes of an image.
+fn bytes_of(bytes: &[u8; 256]) -> &[u8]
+    ensures { IsImage bytes.entry.now }
+{
+    bytes.as_slice()
+}
+
+/// The record of a function.
+///
+/// # Errors
+///
+/// 20 `NoVendor` and 21 `HeaderKind` where it isn't a function that decodes; then the first fault of its registers, in
+/// the order of BARs (22 to 24), ROM (25) and windows (26); then the first one of its capabilities list (27 to 29).
+pub fn decode(slot: Slot, image: &Image, probe: &Image) -> Result<Record, ImageFault>
+    ensures { MatchResult result (IsRecordOf record { slot = slot; image = image.now.0; probe = probe.now.0 }) (IsImageFaultIn image.now.0 probe.now.0) }
+{
+    let bars = bars(image, probe)?;
+    let rom = rom(image, probe)?;
+    let bridge = bridge_at(image, probe)?;
+    let _chain = chain(image)?;
+    let _bytes = bytes_of(&image.0);
+    Ok(Record {
+        slot,
+        command: image.u16(COMMAND),
+        bars,
+        rom,
+        bridge,
+    })
+}

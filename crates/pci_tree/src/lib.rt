@@ -1,0 +1,21 @@
+//! Records of functions and the tree of buses that their bridges make: who claims which addresses, and how an access
+//! gets to a bus.
+#![tactic(auto)]
+
+pub mod bus;
+mod buses;
+pub mod decode;
+pub mod fault;
+pub mod outline;
+pub mod passed;
+pub mod profile;
+pub mod ranges;
+pub mod reach;
+pub mod record;
+pub mod region;
+pub mod roots;
+pub mod space;
+#[cfg(test)]
+mod tests;
+pub mod way;
+pub mod window;

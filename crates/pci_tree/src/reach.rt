@@ -1,0 +1,121 @@
+//! The addresses that get to each bus, made from the roots downwards: those of a bus are what the bridge above it
+//! passes of those of its own bus.
+ghost use Rattle.std.specs.Prelude.{◌≡◌, ◌<◌, ◌≤◌, ◌∷◌, [], ℕ, List, length, IfOk, IfSome, slice_index_or};
+ghost use Rattle.std.specs.List.{All};
+ghost use Rattle.pci_image.specs.declared.range.Range.{Range};
+ghost use Rattle.pci_tree.specs.Space.{space_of};
+ghost use Rattle.pci_tree.specs.Ranges.{IsCanonical};
+ghost use Rattle.pci_tree.specs.Roots.{buses_of};
+ghost use Rattle.pci_tree.specs.Ways.{IsForest, IsTable};
+ghost use Rattle.pci_tree.specs.Reaches.{IsReachOf, IsStep, IsWhole, HasSpans, StandsBelow};
+
+use super::passed::passed_on;
+use super::record::Record;
+use super::roots::Roots;
+use super::space::Space;
+use super::window::passed;
+use pci_dump::memory::OutOfMemory;
+use pci_image::range::Range;
+use std::alloc::{Allocator, Global};
+use std::marker::Model;
+
+/// The addresses that get to a bus: ranges that rise, with an address between each two.
+#[derive(Drop)]
+pub struct Reach<A: Allocator = Global> {
+    ranges: Vec<Range, A>,
+}
+
+impl<A: Allocator> Model for Reach<A> {
+    ghost use Rattle.std.specs.Prelude.{List};
+    ghost use Rattle.pci_image.specs.declared.range.Range.{Range};
+
+    ghost Value = { List Range };
+
+    ghost view = { λ r. r.ranges.items };
+}
+
+impl<A: Allocator> Reach<A> {
+    /// Lends the ranges.
+    pub fn ranges(&self) -> &[Range]
+        ensures { result.now ≡ self.now }
+    {
+        self.ranges.as_slice()
+    }
+
+    /// Gives up the ranges.
+    pub fn into_ranges(self) -> Vec<Range, A>
+        ensures { result.items ≡ self }
+    {
+        let Reach { ranges } = self;
+        ranges
+    }
+}
+
+/// All addresses of a space.
+fn all_of<A: Allocator>(alloc: A, space: Space) -> Result<Vec<Range, A>, OutOfMemory>
+    ensures { IfOk result (λ v. IsWhole (space_of space) v.items) }
+{
+    let mut ranges = Vec::new(alloc);
+    ranges.push(space.whole())?;
+    Ok(ranges)
+}
+
+/// The addresses that get to a bus, from those of the lower buses and the place of the bridge that leads there.
+fn next<A: Allocator>(
+    alloc: A,
+    above: &[Reach<A>],
+    records: &[Record],
+    place: Option<usize>,
+    space: Space,
+    prefetch: bool,
+    is_root: bool,
+) -> Result<Vec<Range, A>, OutOfMemory>
+    requires lower { IfSome place (StandsBelow records.now (length above.now)) }
+    requires canonical { All IsCanonical above.now }
+    requires spans { All HasSpans records.now }
+    ensures { IfOk result (λ v. IsStep above.now records.now place (space_of space) prefetch is_root v.items) }
+{
+    if is_root {
+        return all_of(alloc, space);
+    }
+    match place {
+        None => Ok(Vec::new(alloc)),
+        Some(place) => {
+            let bridge = &records[place];
+            let parent = &above[bridge.slot.bus() as usize];
+            passed_on(alloc, parent.ranges(), passed(bridge, space, prefetch))
+        }
+    }
+}
+
+/// For each bus the addresses of a space that get there from the roots, `prefetch` saying that they are a
+/// prefetchable BAR's.
+pub fn reaches<A: Allocator + Copy>(
+    alloc: A,
+    records: &[Record],
+    table: &[Option<usize>; 256],
+    roots: &Roots,
+    space: Space,
+    prefetch: bool,
+) -> Result<Vec<Reach<A>, A>, OutOfMemory>
+    requires forest { IsForest records.now }
+    requires table { IsTable records.now table.now }
+    requires spans { All HasSpans records.now }
+    ensures size { IfOk result (λ v. length v.items ≡ 256) }
+    ensures exact { IfOk result (λ v. (bus : ℕ) (d : List Range) → bus < 256 → IsReachOf records.now (buses_of roots.now) (space_of space) prefetch bus (slice_index_or v.items bus d)) }
+{
+    let mut out = Vec::new(alloc);
+    for bus in 0..256usize {
+        let ranges = next(
+            alloc,
+            &out,
+            records,
+            table[bus],
+            space,
+            prefetch,
+            roots.has(bus as u8),
+        )?;
+        out.push(Reach { ranges })?;
+    }
+    Ok(out)
+}

@@ -1,0 +1,31 @@
+//! What judging needs of a function: its slot, what Command enables, and the ranges that its registers decode to.
+use arrayvec::ArrayVec;
+use pci_image::bar::Bar;
+use pci_image::rom::Rom;
+use pci_image::slot::Slot;
+use pci_image::window::Windows;
+
+/// The bus numbers and the windows of a bridge (Bridge 1.2, 3.2.5).
+#[derive(Clone, Copy, Debug, PartialEq, Eq)]
+pub struct Bridge {
+    /// The bus that the bridge stands on, as it has been told.
+    pub primary: u8,
+    /// The bus that it leads to.
+    pub secondary: u8,
+    /// The highest bus behind it.
+    pub subordinate: u8,
+    pub windows: Windows,
+}
+
+/// What is decoded of a function. It holds no image.
+#[derive(Debug, Drop)]
+pub struct Record {
+    pub slot: Slot,
+    pub command: u16,
+    /// The implemented BARs, in the order of their registers.
+    pub bars: ArrayVec<Bar, 6>,
+    /// The expansion ROM, where there is one.
+    pub rom: Option<Rom>,
+    /// Its bus numbers and windows, where it is a bridge.
+    pub bridge: Option<Bridge>,
+}

@@ -1,0 +1,175 @@
+//! The regions of a function: its enabled BARs, windows and ROM, each with the addresses that it claims.
+ghost use Rattle.std.specs.Prelude.{◌≡◌, ◌++◌, OnOk};
+ghost use Rattle.std.specs.Option.{option_map};
+ghost use Rattle.pci_image.specs.Ranges.{decoded_range_of};
+ghost use Rattle.pci_tree.specs.Space.{space_of};
+ghost use Rattle.pci_tree.specs.Passes.{range_in};
+ghost use Rattle.pci_tree.specs.Regions.{space_in, same_space, bar_regions, window_regions, bridge_regions, rom_regions, regions_of};
+
+use super::record::{Bridge, Record};
+use super::space::Space;
+use pci_dump::memory::OutOfMemory;
+use pci_image::bar::{Bar, BarKind};
+use pci_image::range::Range;
+use pci_image::rom::Rom;
+use pci_image::slot::Slot;
+use pci_image::window::Window;
+use std::alloc::Allocator;
+
+/// What a region is of a function.
+#[derive(Clone, Copy, Debug, PartialEq, Eq)]
+pub enum Part {
+    Bar,
+    Rom,
+    Window,
+}
+
+/// An enabled BAR, ROM or window, with the addresses from `first` to `last` that it claims, both of them too.
+#[derive(Clone, Copy, Debug, PartialEq, Eq)]
+pub struct Region {
+    pub slot: Slot,
+    /// The byte offset of its register.
+    pub reg: u8,
+    pub part: Part,
+    /// Whether it is a prefetchable BAR.
+    pub prefetch: bool,
+    pub first: u64,
+    pub last: u64,
+}
+
+/// The byte offsets that windows are named by (Bridge 1.2, 3.2.5).
+const IO_WINDOW: u8 = 0x1c;
+
+const MEMORY_WINDOW: u8 = 0x20;
+
+const PREFETCH_WINDOW: u8 = 0x24;
+
+/// Whether a kind of BAR maps into a space.
+fn maps_into(kind: BarKind, space: Space) -> bool
+    ensures { result ≡ same_space (space_in kind) (space_of space) }
+{
+    match (kind, space) {
+        (BarKind::Io, Space::Io) => true,
+        (BarKind::Mem32 | BarKind::Mem64, Space::Mem) => true,
+        _ => false,
+    }
+}
+
+/// Adds the BARs of a space.
+fn add_bars<A: Allocator>(
+    out: &mut Vec<Region, A>,
+    slot: Slot,
+    bars: &[Bar],
+    space: Space,
+) -> Result<(), OutOfMemory>
+    ensures { OnOk result (out.new.items ≡ out.old.items ++ bar_regions slot (space_of space) bars.now) }
+{
+    for bar in bars {
+        if maps_into(bar.kind, space) {
+            out.push(Region {
+                slot,
+                reg: bar.reg,
+                part: Part::Bar,
+                prefetch: bar.prefetch,
+                first: bar.first,
+                last: bar.last,
+            })?;
+        }
+    }
+    Ok(())
+}
+
+/// Adds a window that is open.
+fn add_window<A: Allocator>(
+    out: &mut Vec<Region, A>,
+    slot: Slot,
+    reg: u8,
+    range: Option<Range>,
+) -> Result<(), OutOfMemory>
+    ensures { OnOk result (out.new.items ≡ out.old.items ++ window_regions slot reg (option_map decoded_range_of range)) }
+{
+    if let Some(range) = range {
+        out.push(Region {
+            slot,
+            reg,
+            part: Part::Window,
+            prefetch: false,
+            first: range.first,
+            last: range.last,
+        })?;
+    }
+    Ok(())
+}
+
+/// The range of a window that is there and open.
+fn range_of(window: Option<Window>) -> Option<Range>
+    ensures { option_map decoded_range_of result ≡ range_in window }
+{
+    match window {
+        None => None,
+        Some(window) => window.range(),
+    }
+}
+
+/// Adds the open windows of a space.
+fn add_windows<A: Allocator>(
+    out: &mut Vec<Region, A>,
+    slot: Slot,
+    bridge: Option<Bridge>,
+    space: Space,
+) -> Result<(), OutOfMemory>
+    ensures { OnOk result (out.new.items ≡ out.old.items ++ bridge_regions slot (space_of space) bridge) }
+{
+    if let Some(bridge) = bridge {
+        let windows = bridge.windows;
+        match space {
+            Space::Io => add_window(out, slot, IO_WINDOW, range_of(windows.io))?,
+            Space::Mem => {
+                add_window(out, slot, MEMORY_WINDOW, windows.mem.range())?;
+                add_window(out, slot, PREFETCH_WINDOW, range_of(windows.pref))?;
+            }
+        }
+    }
+    Ok(())
+}
+
+/// Adds a ROM that its own bit enables.
+fn add_rom<A: Allocator>(
+    out: &mut Vec<Region, A>,
+    slot: Slot,
+    rom: Option<Rom>,
+    space: Space,
+) -> Result<(), OutOfMemory>
+    ensures { OnOk result (out.new.items ≡ out.old.items ++ rom_regions slot (space_of space) rom) }
+{
+    match (rom, space) {
+        (Some(rom), Space::Mem) if rom.on => {
+            out.push(Region {
+                slot,
+                reg: rom.reg,
+                part: Part::Rom,
+                prefetch: false,
+                first: rom.first,
+                last: rom.last,
+            })?;
+        }
+        _ => {}
+    }
+    Ok(())
+}
+
+/// Adds the regions of a function and a space, in the order of their registers.
+pub fn add_regions<A: Allocator>(
+    out: &mut Vec<Region, A>,
+    function: &Record,
+    space: Space,
+) -> Result<(), OutOfMemory>
+    ensures { OnOk result (out.new.items ≡ out.old.items ++ regions_of function.now (space_of space)) }
+{
+    if space.is_on(function.command) {
+        add_bars(out, function.slot, &function.bars, space)?;
+        add_windows(out, function.slot, function.bridge, space)?;
+        add_rom(out, function.slot, function.rom, space)?;
+    }
+    Ok(())
+}

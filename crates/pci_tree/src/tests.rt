@@ -1,0 +1,7 @@
+//! Records of functions, their regions, roots, and the texts of faults.
+
+mod faults;
+mod records;
+mod regions;
+mod registers;
+mod roots;

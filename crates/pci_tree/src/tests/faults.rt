@@ -1,0 +1,29 @@
+use crate::fault::Fault;
+use crate::space::Space;
+use pci_image::slot::Slot;
+use std::test::Fail;
+
+#[test]
+fn a_fault_is_shown_by_number_name_and_fields(rt: HostRuntime) -> Result<(), Fail> {
+    let slot = Slot::new(0x0a, 0x1f, 7).ok_or("a slot")?;
+    let rows = [
+        (Fault::BarMask(slot, 0x24), "23 BarMask 0a:1f.7 24"),
+        (Fault::LoneFunction(slot), "50 LoneFunction 0a:1f.7"),
+        (Fault::BusRange(slot), "57 BusRange 0a:1f.7"),
+        (Fault::Orphan(slot), "58 Orphan 0a:1f.7"),
+        (
+            Fault::Unreached {
+                slot,
+                reg: 0x10,
+                space: Space::Io,
+                address: 0xe000,
+                bridge: slot,
+            },
+            "60 Unreached 0a:1f.7 10 io 0000e000 bridge 0a:1f.7",
+        ),
+    ];
+    for (fault, text) in rows {
+        assert_eq!(rt; format!(in rt.alloc(); "{fault}")?.as_str(), text);
+    }
+    Ok(())
+}

@@ -1,0 +1,59 @@
+//! What the windows of a bridge pass (Bridge 1.2, chapter 4).
+ghost use Rattle.std.specs.Prelude.{◌≡◌, ◌↔◌, ℕ, IfSome, IsTrue};
+ghost use Rattle.std.specs.Option.{option_map};
+ghost use Rattle.pci_image.specs.Ranges.{decoded_range_of};
+ghost use Rattle.pci_tree.specs.Space.{space_of};
+ghost use Rattle.pci_tree.specs.Values.{bridge_value, record_value};
+ghost use Rattle.pci_tree.specs.Passing.{Passes, IsPassed};
+ghost use Rattle.pci_tree.specs.Passes.{range_in, windows_pass, record_passes, HaveSpans};
+
+use super::passed::{Passed, union};
+use super::record::{Bridge, Record};
+use super::space::Space;
+use pci_image::range::Range;
+use pci_image::window::Window;
+
+/// The range of a window that is there and open.
+fn range_of(window: Option<Window>) -> Option<Range>
+    ensures { option_map decoded_range_of result ≡ range_in window }
+{
+    match window {
+        None => None,
+        Some(w) => w.range(),
+    }
+}
+
+/// What a bridge passes of a region, by its windows: the prefetchable one serves prefetchable BARs alone.
+fn windows_passed(bridge: Bridge, space: Space, prefetch: bool) -> Passed
+    requires { HaveSpans (bridge_value bridge).windows }
+    ensures lawful { IsPassed result }
+    ensures exact { (a : ℕ) → Passes result a ↔ IsTrue (windows_pass (space_of space) prefetch a (bridge_value bridge).windows) }
+{
+    let windows = bridge.windows;
+    match space {
+        Space::Io => union(range_of(windows.io), None),
+        Space::Mem => {
+            if prefetch {
+                union(windows.mem.range(), range_of(windows.pref))
+            } else {
+                union(windows.mem.range(), None)
+            }
+        }
+    }
+}
+
+/// The addresses that a bridge passes of a region, `prefetch` saying that the region is a prefetchable BAR.
+/// A function that is no bridge passes none.
+pub fn passed(function: &Record, space: Space, prefetch: bool) -> Passed
+    requires { IfSome function.now.bridge (λ b. HaveSpans (bridge_value b).windows) }
+    ensures lawful { IsPassed result }
+    ensures exact { (a : ℕ) → Passes result a ↔ IsTrue (record_passes (space_of space) prefetch a (record_value function.now)) }
+{
+    if !space.is_on(function.command) {
+        return Passed::Nothing;
+    }
+    match function.bridge {
+        None => Passed::Nothing,
+        Some(bridge) => windows_passed(bridge, space, prefetch),
+    }
+}

@@ -1,0 +1,87 @@
+-- Functions of a machine that are sized one after the other.
+use Rattle.std.proofs.Common.{◌≡◌, ℕ, zero, suc, ◌+◌, ◌<◌, List, [], ◌∷◌, refl, sym, ◌∙◌, ap, subst, arith, length, get_or, take, map, slice_index, Some}
+use Rattle.std.specs.Prelude.{IsFalse}
+use Rattle.std.specs.List.{All}
+use Rattle.std.proofs.lemmas.List.{get_or_default, get_or-map, length-map}
+use Rattle.std.proofs.Math.ListN as plain
+use Rattle.std.proofs.lemmas.Option.{slice_get-get_or}
+use Rattle.pci_spec.specs.Slot.{Slot, IsRising, slot_number}
+use Rattle.pci_spec.specs.Text.{Block, IsDump, slots_of}
+use Rattle.pci_spec.specs.Stops.{IsAboveLast, last_slot}
+use Rattle.pci_spec.specs.System.{Function, system_of}
+use Rattle.pci_spec.specs.Machine.{Target, target_of, sized}
+use Rattle.pci_spec.specs.Fault.{has_no_vendor, has_other_layout}
+use Rattle.pci_spec.specs.Decoded.{IsDecodable}
+use Rattle.pci_dump.proofs.Pairs.{slot_at}
+use Rattle.pci_machine.specs.Sizing.{function_at, IsStuck}
+use Rattle.pci_machine.proofs.Targets.{some_at}
+use Rattle.pci_machine.proofs.MadeOf.{function_of, length-system_of, same_length, at_place, function-of, free-of}
+use Rattle.pciplan_cli.specs.Sizes.{IsSizable}
+
+-- a block of a dump stands above the last of those before it
+pub above_last : (blocks : List Block) (k : ℕ) (b : Block) → IsRising (slots_of blocks) → k < length blocks → b ≡ get_or blocks k b
+    → IsAboveLast (last_slot (take k blocks)) b.slot
+above_last [] k b rising within is = absurd (omega (arith, within))
+above_last (x ∷ blocks) zero b rising within is = tt
+above_last (x ∷ []) (suc k) b rising within is = absurd (omega (arith, within))
+above_last (x ∷ y ∷ blocks) (suc zero) b rising within is =
+    let up : slot_number x.slot < slot_number y.slot = rising 0 (omega arith) in
+    let same : slot_number b.slot ≡ slot_number y.slot = ap (λ (c : Block). slot_number c.slot) is in
+    omega (arith, up, same)
+above_last (x ∷ y ∷ blocks) (suc (suc k)) b rising within is =
+    let numbers : List ℕ = map slot_number (slots_of (y ∷ blocks)) in
+    let tail : IsRising (slots_of (y ∷ blocks)) = λ j h.
+    let next : suc j + 1 ≡ suc (j + 1) = omega arith in
+    let P : ℕ → Type 0 = λ n. slice_index numbers j < slice_index (slot_number x.slot ∷ numbers) n in
+    subst P next (rising (suc j) (omega (arith, h))) in
+    above_last (y ∷ blocks) (suc k) b tail (omega (arith, within)) is
+
+-- the function of the block at a place of the probe
+pub record IsFunctionAt (dump probe : List Block) (p : Block) : Type 0 where
+  pub f : Function
+  pub slot : f.slot ≡ p.slot
+  pub probe_is : f.probe ≡ p.image
+  pub target : function_at (map target_of (system_of dump probe)) p.slot ≡ target_of f
+  pub decodable : IsDecodable f
+  pub sizable : IsSizable (map target_of (system_of dump probe)) p.slot
+  pub found : sized (function_at (map target_of (system_of dump probe)) p.slot) ≡ p.image
+
+pub function_at_block : (dump probe : List Block) (same : slots_of dump ≡ slots_of probe) → IsDump dump → IsDump probe → All IsDecodable (system_of dump probe)
+    → All (λ f. sized (function_at (map target_of (system_of dump probe)) f.slot) ≡ f.probe) (system_of dump probe)
+    → (k : ℕ) (p : Block) → k < length probe → p ≡ get_or probe k p → IsFunctionAt dump probe p
+function_at_block dump probe same is_dump is_probe decodable read_backs k p within is =
+    let s : List Function = system_of dump probe in
+    let targets : List Target = map target_of s in
+    let count : length dump ≡ length probe = same_length dump probe same in
+    let size : length s ≡ length dump = length-system_of dump probe count in
+    let b : Block = get_or dump k p in
+    let b_is : b ≡ get_or dump k b = get_or_default dump k p b (omega (arith, within, count)) in
+    let f : Function = function_of b p in
+    let here : get_or s k f ≡ f = at_place dump probe same k b p (omega (arith, within, count)) b_is is in
+    let inside : k < length s = omega (arith, within, count, size) in
+    let slot : f.slot ≡ p.slot =
+    sym (plain.get_or-map (λ (x : Block). x.slot) dump k p) ∙ ap (λ (ss : List Slot). get_or ss k p.slot) same ∙ slot_at probe k p is in
+    let at_f : function_at targets f.slot ≡ target_of f =
+    (let P : Function → Type 0 = λ g. function_at targets g.slot ≡ target_of g in subst P here (function-of dump probe same is_dump is_probe k f inside)) in
+    let target : function_at targets p.slot ≡ target_of f = ap (function_at targets) (sym slot) ∙ at_f in
+    let fine : IsDecodable f = subst IsDecodable here (decodable k f inside) in
+    let found : sized (function_at targets f.slot) ≡ f.probe =
+    (let P : Function → Type 0 = λ g. sized (function_at targets g.slot) ≡ g.probe in subst P here (read_backs k f inside)) in
+    let free : IsStuck (function_at targets f.slot) → ⊥ =
+    (let P : Function → Type 0 = λ g. IsStuck (function_at targets g.slot) → ⊥ in subst P here (free-of dump probe same is_dump is_probe k f inside)) in
+    let one : get_or targets k (target_of f) ≡ target_of f = get_or-map target_of s k f (target_of f) inside ∙ ap target_of here in
+    let listed = slice_get-get_or targets k (target_of f) (omega (arith, inside, length-map {B = Target} s target_of)) ∙ ap Some one in
+    record {
+      f = f;
+      slot = slot;
+      probe_is = refl;
+      target = target;
+      decodable = fine;
+      sizable = record {
+        there = some_at targets p.slot k (target_of f) listed slot;
+        vendor = (let P : Target → Type 0 = λ t. IsFalse (has_no_vendor t.image) in subst P (sym target) fine.vendor);
+        header = (let P : Target → Type 0 = λ t. IsFalse (has_other_layout t.image) in subst P (sym target) fine.header);
+        free = λ stuck. free (let P : Slot → Type 0 = λ x. IsStuck (function_at targets x) in subst P (sym slot) stuck);
+      };
+      found = ap (λ x. sized (function_at targets x)) (sym slot) ∙ found;
+    }

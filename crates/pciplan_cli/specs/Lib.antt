@@ -1,0 +1,10 @@
+pub mod Spans
+pub mod RegionLines
+pub mod BridgeLines
+pub mod CapabilityLines
+pub mod HeaderLines
+pub mod Stops
+pub mod Shows
+pub mod Statuses
+pub mod Answers
+pub mod Sizes

@@ -1,0 +1,40 @@
+-- Which faults a listing is refused for.
+use Rattle.std.specs.Prelude.{◌≡◌, ℕ, List}
+use Rattle.pci_spec.specs.Slot.{Slot}
+use Rattle.pci_spec.specs.Text.{Block}
+use Rattle.pci_spec.specs.System.{Function}
+use Rattle.pci_spec.specs.Fault as faults
+use Rattle.pci_dump.specs.declared.memory.Refused.{Refused}
+use Rattle.pci_dump.specs.declared.memory.Refused.TheVariants as refusals
+use Rattle.pci_image.specs.Faults.{IsImageFaultIn}
+use Rattle.pci_image.specs.declared.fault.ImageFault.{ImageFault}
+use Rattle.pci_image.specs.declared.fault.ImageFault.TheVariants.{NoVendor, HeaderKind, BarType, BarMask, BarPair, RomMask, WindowMask, CapRange, CapLoop, CapCut}
+use Rattle.pci_tree.specs.declared.fault.Fault.{Fault}
+use Rattle.pci_tree.specs.Fault.{fault_of}
+
+-- a function's fault, with its slot
+abbrev pub fault_at : Slot → ImageFault → faults.Fault
+fault_at slot NoVendor = faults.NoVendor slot
+fault_at slot HeaderKind = faults.HeaderKind slot
+fault_at slot (BarType register) = faults.BarType slot register
+fault_at slot (BarMask register) = faults.BarMask slot register
+fault_at slot (BarPair register) = faults.BarPair slot register
+fault_at slot (RomMask register) = faults.RomMask slot register
+fault_at slot (WindowMask register) = faults.WindowMask slot register
+fault_at slot (CapRange place) = faults.CapRange slot place
+fault_at slot (CapLoop place) = faults.CapLoop slot place
+fault_at slot (CapCut place) = faults.CapCut slot place
+
+-- the function of a block and of its probe
+abbrev pub function_of : Block → Block → Function
+function_of block probe = record { slot = block.slot; image = block.image; probe = probe.image }
+
+-- a fault that is named is one of this function
+abbrev pub IsRefusedFor : Function → Refused Fault → Type 0
+IsRefusedFor f (refusals.Fault fault) = (g : ImageFault) × (fault_of fault ≡ fault_at f.slot g) × IsImageFaultIn f.image f.probe g
+IsRefusedFor f refusals.Memory = Unit {0}
+
+-- a fault that is named is there
+abbrev pub IsRefusedIn : List ℕ → List Block → List Block → Refused Fault → Type 0
+IsRefusedIn roots dump probe (refusals.Fault fault) = faults.IsThere roots dump probe (fault_of fault)
+IsRefusedIn roots dump probe refusals.Memory = Unit {0}

@@ -1,0 +1,10 @@
+//! The command line of `pciplan`: its words, its tasks, its messages and its statuses.
+#![tactic(auto)]
+
+pub mod line;
+pub mod listing;
+pub mod run;
+pub mod show;
+pub mod sizing;
+pub mod trouble;
+pub mod words;

@@ -1,0 +1,18 @@
+//! A command line that has been read.
+
+/// What is to be done with a dump and its probe.
+#[derive(Clone, Copy, Debug, PartialEq, Eq)]
+pub enum Task {
+    /// Lists what the functions decode to.
+    Show,
+    /// Sizes every function of a machine of the two texts.
+    Size,
+}
+
+/// A task, and the paths of its two texts.
+#[derive(Drop)]
+pub struct Line {
+    pub task: Task,
+    pub dump: String,
+    pub probe: String,
+}

@@ -1,0 +1,189 @@
+//! Carries out a task on two texts.
+ghost use Rattle.std.specs.Prelude.{◌≡◌, ◌≢◌, ◌⊎◌, ◌<◌, ◌≤◌, ◌+◌, Some, IfOk, IfErr};
+ghost use Rattle.std.specs.String.{string_bytes};
+ghost use Rattle.std.specs.Io.KnownBytes.{Appends};
+ghost use Rattle.pci_spec.specs.Line.{verdict_line};
+ghost use Rattle.pci_dump.specs.Begun.{AppendsBeginning};
+ghost use Rattle.pci_tree.specs.Fault.{fault_of};
+ghost use Rattle.pciplan_cli.specs.Answers.{IsAnswer, IsDumpOf, IsShown, IsBegun, IsSized, IsSizeBegun, IsSizing, IsTextTrouble};
+
+use crate::line::{Line, Task};
+use crate::show::show;
+use crate::sizing::size_all;
+use crate::trouble::{Trouble, tell};
+use pci_dump::dump::Dump;
+use pci_dump::ends::{Sink, Source};
+use pci_dump::memory::Refused;
+use pci_dump::reader::read_dump;
+use pci_dump::write::{write_all, write_dump};
+use pci_tree::fault::Fault;
+use std::alloc::Allocator;
+
+/// The status of a task that was done, and of one that a fault refuses.
+const DONE: u8 = 0;
+
+const REFUSED: u8 = 1;
+
+/// A dump and its probe.
+#[derive(Drop)]
+struct Pair<A: Allocator> {
+    dump: Dump<A>,
+    probe: Dump<A>,
+}
+
+/// What is written to standard output, as a whole, and the status.
+#[derive(Drop)]
+struct Answer<A: Allocator> {
+    text: String<A>,
+    status: u8,
+}
+
+/// What sizing ends with.
+#[derive(Drop)]
+enum Sized<A: Allocator> {
+    Found(Dump<A>),
+    Refused(Answer<A>),
+}
+
+/// The two texts. A fault of the dump's text goes before one of the probe's.
+fn read_pair<A: Allocator + Copy, D: Source, P: Source>(
+    alloc: A,
+    dump: &mut D,
+    probe: &mut P,
+) -> Result<Pair<A>, Trouble>
+    ensures dump { IfOk result (λ pair. IsDumpOf (D.left dump.old) pair.dump) }
+    ensures probe { IfOk result (λ pair. IsDumpOf (P.left probe.old) pair.probe) }
+    ensures trouble { IfErr result (IsTextTrouble (D.left dump.old) (P.left probe.old)) }
+{
+    let dump = match read_dump(alloc, dump) {
+        Ok(dump) => dump,
+        Err(fault) => return Err(Trouble::Dump(fault)),
+    };
+    match read_dump(alloc, probe) {
+        Ok(probe) => Ok(Pair { dump, probe }),
+        Err(fault) => Err(Trouble::Probe(fault)),
+    }
+}
+
+/// The line of a fault: `no`, and the fault's text.
+fn refusal<A: Allocator>(alloc: A, fault: Fault) -> Result<Answer<A>, Trouble>
+    ensures line { IfOk result (λ answer. (answer.status ≡ 1) × (string_bytes answer.text ≡ verdict_line (Some (fault_of fault)))) }
+    ensures memory { IfErr result (λ trouble. trouble ≡ Trouble.Memory) }
+{
+    match format!(in alloc; "no {fault}\n") {
+        Ok(text) => Ok(Answer {
+            text,
+            status: REFUSED,
+        }),
+        Err(_) => Err(Trouble::Memory),
+    }
+}
+
+/// What `show` answers of a dump and its probe.
+fn show_pair<A: Allocator + Copy>(alloc: A, pair: &Pair<A>) -> Result<Answer<A>, Trouble>
+    ensures answer { IfOk result (λ answer. IsAnswer pair.now.dump pair.now.probe answer.status (string_bytes answer.text)) }
+    ensures memory { IfErr result (λ trouble. trouble ≡ Trouble.Memory) }
+{
+    match show(alloc, &pair.dump, &pair.probe) {
+        Ok(text) => Ok(Answer { text, status: DONE }),
+        Err(Refused::Fault(fault)) => refusal(alloc, fault),
+        Err(Refused::Memory) => Err(Trouble::Memory),
+    }
+}
+
+/// Writes an answer.
+fn send<A: Allocator, O: Sink>(out: &mut O, answer: &Answer<A>) -> Result<u8, Trouble>
+    ensures sent { IfOk result (λ status. (status ≡ answer.now.status) × Appends (O.taken out.old) (O.taken out.new) (string_bytes answer.now.text)) }
+    ensures begun { IfErr result (λ trouble. (trouble ≡ Trouble.Io) × AppendsBeginning (O.taken out.old) (O.taken out.new) (string_bytes answer.now.text)) }
+{
+    match write_all(out, answer.text.as_bytes()) {
+        Ok(()) => Ok(answer.status),
+        Err(_) => Err(Trouble::Io),
+    }
+}
+
+/// Lists what the functions of two texts decode to. The listing is made as a whole before any of it
+/// is written.
+fn run_show<A: Allocator + Copy, D: Source, P: Source, O: Sink>(
+    alloc: A,
+    dump: &mut D,
+    probe: &mut P,
+    out: &mut O,
+) -> Result<u8, Trouble>
+    ensures shown { IfOk result (λ status. IsShown (D.left dump.old) (P.left probe.old) status (O.taken out.old) (O.taken out.new)) }
+    ensures trouble { IfErr result (λ trouble. trouble ≢ Trouble.Io → IsTextTrouble (D.left dump.old) (P.left probe.old) trouble) }
+    ensures quiet { IfErr result (λ trouble. trouble ≢ Trouble.Io → out.new ≡ out.old) }
+    ensures begun { IfErr result (λ trouble. trouble ≡ Trouble.Io → IsBegun (D.left dump.old) (P.left probe.old) (O.taken out.old) (O.taken out.new)) }
+{
+    let pair = read_pair(alloc, dump, probe)?;
+    let answer = show_pair(alloc, &pair)?;
+    send(out, &answer)
+}
+
+/// What sizing answers of a dump and its probe: the sized dump, or the line of a fault.
+fn size_pair<A: Allocator + Copy>(alloc: A, pair: &Pair<A>) -> Result<Sized<A>, Trouble>
+    ensures answer { IfOk result (IsSizing pair.now.dump pair.now.probe) }
+    ensures memory { IfErr result (λ trouble. trouble ≡ Trouble.Memory) }
+{
+    match size_all(alloc, &pair.dump, &pair.probe) {
+        Ok(found) => Ok(Sized::Found(found)),
+        Err(Refused::Fault(fault)) => Ok(Sized::Refused(refusal(alloc, fault)?)),
+        Err(Refused::Memory) => Err(Trouble::Memory),
+    }
+}
+
+/// Sizes every function of a machine of two texts. All of it is done before any of the answer is
+/// written.
+fn run_size<A: Allocator + Copy, D: Source, P: Source, O: Sink>(
+    alloc: A,
+    dump: &mut D,
+    probe: &mut P,
+    out: &mut O,
+) -> Result<u8, Trouble>
+    ensures sized { IfOk result (λ status. IsSized (D.left dump.old) (P.left probe.old) status (O.taken out.old) (O.taken out.new)) }
+    ensures trouble { IfErr result (λ trouble. trouble ≢ Trouble.Io → IsTextTrouble (D.left dump.old) (P.left probe.old) trouble) }
+    ensures quiet { IfErr result (λ trouble. trouble ≢ Trouble.Io → out.new ≡ out.old) }
+    ensures begun { IfErr result (λ trouble. trouble ≡ Trouble.Io
+        → IsSizeBegun (D.left dump.old) (P.left probe.old) (O.taken out.old) (O.taken out.new)) }
+{
+    let pair = read_pair(alloc, dump, probe)?;
+    match size_pair(alloc, &pair)? {
+        Sized::Found(found) => match write_dump(out, &found) {
+            Ok(()) => Ok(DONE),
+            Err(_) => Err(Trouble::Io),
+        },
+        Sized::Refused(answer) => send(out, &answer),
+    }
+}
+
+/// Carries out a task: reads `dump` and `probe`, writes the answer to `out` or a message to `err`, and
+/// answers the status. At status 2 and 3 nothing was written to `out`, at 4 a beginning of the answer
+/// at most.
+pub fn run<A: Allocator + Copy, D: Source, P: Source, O: Sink, E: Sink>(
+    alloc: A,
+    line: &Line,
+    dump: &mut D,
+    probe: &mut P,
+    out: &mut O,
+    err: &mut E,
+) -> u8
+    ensures shown { line.now.task ≡ Task.Show → result < 2
+        → IsShown (D.left dump.old) (P.left probe.old) result (O.taken out.old) (O.taken out.new) }
+    ensures sized { line.now.task ≡ Task.Size → result < 2
+        → IsSized (D.left dump.old) (P.left probe.old) result (O.taken out.old) (O.taken out.new) }
+    ensures quiet { (result ≡ 2) ⊎ (result ≡ 3) → out.new ≡ out.old }
+    ensures begun { line.now.task ≡ Task.Show → result ≡ 4
+        → (out.new ≡ out.old) ⊎ IsBegun (D.left dump.old) (P.left probe.old) (O.taken out.old) (O.taken out.new) }
+    ensures size_begun { line.now.task ≡ Task.Size → result ≡ 4
+        → (out.new ≡ out.old) ⊎ IsSizeBegun (D.left dump.old) (P.left probe.old) (O.taken out.old) (O.taken out.new) }
+    ensures known { result ≤ 4 }
+{
+    let done = match line.task {
+        Task::Show => run_show(alloc, dump, probe, out),
+        Task::Size => run_size(alloc, dump, probe, out),
+    };
+    match done {
+        Ok(status) => status,
+        Err(trouble) => tell(err, trouble),
+    }
+}

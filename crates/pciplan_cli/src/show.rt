@@ -1,0 +1,96 @@
+//! The listing of a dump and its probe, or the first fault that decoding them meets.
+ghost use Rattle.std.specs.Prelude.{◌≡◌, ◌++◌, [], ◌∷◌, OnOk, IfOk, IfErr};
+ghost use Rattle.std.specs.String.{string_bytes};
+ghost use Rattle.pci_spec.specs.System.{system_of};
+ghost use Rattle.pci_spec.specs.Listing.{listing, function_listing};
+ghost use Rattle.pci_dump.specs.PairFault.{pair_fault};
+ghost use Rattle.pci_tree.specs.Fault.{fault_of};
+ghost use Rattle.pciplan_cli.specs.Shows.{fault_at, function_of, IsRefusedFor, IsRefusedIn};
+
+use crate::listing::function::push_function;
+use crate::listing::stop::Stop;
+use pci_dump::block::Block;
+use pci_dump::dump::Dump;
+use pci_dump::memory::Refused;
+use pci_dump::pair::pair;
+use pci_dump::pair_fault::PairFault;
+use pci_image::fault::ImageFault;
+use pci_image::slot::Slot;
+use pci_tree::fault::Fault;
+use std::alloc::Allocator;
+
+/// The fault of a function, with its slot.
+fn fault_of_image(slot: Slot, fault: ImageFault) -> Fault
+    ensures { fault_of result ≡ fault_at slot fault }
+{
+    match fault {
+        ImageFault::NoVendor => Fault::NoVendor(slot),
+        ImageFault::HeaderKind => Fault::HeaderKind(slot),
+        ImageFault::BarType(reg) => Fault::BarType(slot, reg),
+        ImageFault::BarMask(reg) => Fault::BarMask(slot, reg),
+        ImageFault::BarPair(reg) => Fault::BarPair(slot, reg),
+        ImageFault::RomMask(reg) => Fault::RomMask(slot, reg),
+        ImageFault::WindowMask(reg) => Fault::WindowMask(slot, reg),
+        ImageFault::CapRange(place) => Fault::CapRange(slot, place),
+        ImageFault::CapLoop(place) => Fault::CapLoop(slot, place),
+        ImageFault::CapCut(place) => Fault::CapCut(slot, place),
+    }
+}
+
+/// The fault of a dump and its probe, as one of a system.
+pub fn fault_of_pair(fault: PairFault) -> Fault
+    ensures { fault_of result ≡ pair_fault fault }
+{
+    match fault {
+        PairFault::NoVendor(slot) => Fault::NoVendor(slot),
+        PairFault::HeaderKind(slot) => Fault::HeaderKind(slot),
+        PairFault::BarType(slot, reg) => Fault::BarType(slot, reg),
+        PairFault::BarMask(slot, reg) => Fault::BarMask(slot, reg),
+        PairFault::BarPair(slot, reg) => Fault::BarPair(slot, reg),
+        PairFault::RomMask(slot, reg) => Fault::RomMask(slot, reg),
+        PairFault::WindowMask(slot, reg) => Fault::WindowMask(slot, reg),
+        PairFault::SlotsDiffer(slot) => Fault::SlotsDiffer(slot),
+        PairFault::StrayProbe(slot, offset) => Fault::StrayProbe(slot, offset),
+    }
+}
+
+/// Appends the lines of a function, with its block and that of its probe.
+fn push_block<A: Allocator>(
+    text: &mut String<A>,
+    block: &Block,
+    probe: &Block,
+) -> Result<(), Refused<Fault>>
+    ensures ok { OnOk result (string_bytes text.new ≡ string_bytes text.old ++ function_listing (function_of block.now probe.now)) }
+    ensures refused { IfErr result (IsRefusedFor (function_of block.now probe.now)) }
+{
+    match push_function(text, block.slot, &block.image, &probe.image) {
+        Ok(()) => Ok(()),
+        Err(Stop::Fault(fault)) => Err(Refused::Fault(fault_of_image(block.slot, fault))),
+        Err(Stop::Memory) => Err(Refused::Memory),
+    }
+}
+
+/// The listing of a dump and its probe, in a text of its own.
+///
+/// Errors: the first fault in the order 30; then by function 20, 21 and 31; then by function 22 to 24
+/// along the BARs, 25, 26 and 27 to 29 along the capabilities list. `Memory` where a growth was
+/// refused.
+pub fn show<A: Allocator, D: Allocator, P: Allocator>(
+    alloc: A,
+    dump: &Dump<D>,
+    probe: &Dump<P>,
+) -> Result<String<A>, Refused<Fault>>
+    ensures listing { IfOk result (λ text. string_bytes text ≡ listing (system_of dump.now probe.now)) }
+    ensures refused { IfErr result (IsRefusedIn (0 ∷ []) dump.now probe.now) }
+{
+    if let Err(fault) = pair(dump, probe) {
+        return Err(Refused::Fault(fault_of_pair(fault)));
+    }
+    let blocks = dump.blocks();
+    let probes = probe.blocks();
+    let mut text = String::new(alloc);
+    for i in 0..blocks.len() {
+        push_block(&mut text, &blocks[i], &probes[i])?;
+    }
+    Ok(text)
+}

@@ -1,0 +1,88 @@
+//! The dump that sizing every function of a machine makes.
+ghost use Rattle.std.specs.Prelude.{◌≡◌, ◌++◌, ◌<◌, [], ◌∷◌, length, OnOk, IfOk, IfErr};
+ghost use Rattle.pci_spec.specs.Machine.{sized};
+ghost use Rattle.pci_spec.specs.Stops.{IsAboveLast, last_slot};
+ghost use Rattle.pci_machine.specs.Sizing.{function_at};
+ghost use Rattle.pciplan_cli.specs.Shows.{IsRefusedIn};
+ghost use Rattle.pciplan_cli.specs.Sizes.{IsSizable};
+
+use crate::show::fault_of_pair;
+use pci_dump::block::Block;
+use pci_dump::dump::Dump;
+use pci_dump::memory::{OutOfMemory, Refused};
+use pci_image::image::Image;
+use pci_image::slot::Slot;
+use pci_machine::machine::Machine;
+use pci_machine::size::size;
+use pci_tree::fault::Fault;
+use std::alloc::Allocator;
+
+/// What sizing the function at a slot finds.
+fn sized_at<A: Allocator>(machine: &mut Machine<A>, slot: Slot) -> Image
+    requires { IsSizable machine.old slot }
+    ensures read_backs { result.0 ≡ sized (function_at machine.old slot) }
+    ensures unchanged { machine.new ≡ machine.old }
+{
+    match size(machine, slot) {
+        Ok(image) => image,
+        Err(_) => unreachable!(),
+    }
+}
+
+/// What sizing the function of a block finds, with the block's slot and title.
+fn sized_block<A: Allocator>(machine: &mut Machine<A>, probe: &Block) -> Block
+    requires sizable { IsSizable machine.old probe.now.slot }
+    requires found { sized (function_at machine.old probe.now.slot) ≡ probe.now.image }
+    ensures value { result ≡ probe.now }
+    ensures unchanged { machine.new ≡ machine.old }
+{
+    let image = sized_at(machine, probe.slot);
+    Block {
+        image,
+        ..probe.copy()
+    }
+}
+
+/// Puts a block after all that are there.
+fn push_next<A: Allocator>(dump: &mut Dump<A>, block: Block) -> Result<(), OutOfMemory>
+    requires above { IsAboveLast (last_slot dump.old) block.slot }
+    requires room { length dump.old < 4096 }
+    ensures { OnOk result (dump.new ≡ dump.old ++ block ∷ []) }
+{
+    match dump.push(block) {
+        Ok(()) => Ok(()),
+        Err(Refused::Fault(_)) => unreachable!(),
+        Err(Refused::Memory) => Err(OutOfMemory),
+    }
+}
+
+/// What sizing finds of each function of a dump and its probe, with the probe's titles. It is the
+/// probe again.
+///
+/// Errors: the first fault in the order 30; then by function 20, 21 and 31; then by function 22 to
+/// 26. `Memory` where a growth was refused.
+pub fn size_all<A: Allocator + Copy, D: Allocator, P: Allocator>(
+    alloc: A,
+    dump: &Dump<D>,
+    probe: &Dump<P>,
+) -> Result<Dump<A>, Refused<Fault>>
+    ensures sized { IfOk result (λ found. found ≡ probe.now) }
+    ensures refused { IfErr result (IsRefusedIn (0 ∷ []) dump.now probe.now) }
+{
+    let mut machine = match Machine::of(alloc, dump, probe) {
+        Ok(machine) => machine,
+        Err(Refused::Fault(fault)) => return Err(Refused::Fault(fault_of_pair(fault))),
+        Err(Refused::Memory) => return Err(Refused::Memory),
+    };
+    let blocks = dump.blocks();
+    let probes = probe.blocks();
+    let mut found = Dump::empty(alloc);
+    for i in 0..blocks.len() {
+        let block = sized_block(&mut machine, &probes[i]);
+        match push_next(&mut found, block) {
+            Ok(()) => {}
+            Err(OutOfMemory) => return Err(Refused::Memory),
+        }
+    }
+    Ok(found)
+}
