@@ -18,5 +18,9 @@ pub mod BusTests
 pub mod Faces
 pub mod Places
 pub mod Shadows
-pub mod SingleBits
 pub mod Profiles
+pub mod Examined
+pub mod Finishes
+pub mod Pairings
+pub mod Surveys
+pub mod EarlyFaults

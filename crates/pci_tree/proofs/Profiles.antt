@@ -1,47 +1,37 @@
--- A fault of a function's control is one of the system.
-use Rattle.std.proofs.Common.{◌≡◌, ℕ, List, true, sym, refl, eq-eqb}
-use Rattle.std.specs.Prelude.{◌==◌}
-use Rattle.std.specs.List.{Contains}
-use Rattle.std.proofs.lemmas.Bool.{and_from}
-use Rattle.pci_spec.specs.Number.{has_bit}
-use Rattle.pci_spec.specs.Header.{command, bridge_control, class_code}
-use Rattle.pci_spec.specs.System.{System, Function, is_bridge}
-use Rattle.pci_spec.specs.Fault.{IsIn}
-use Rattle.pci_spec.specs.Fault as faults
-use Rattle.pci_tree.specs.declared.fault.Fault.{Fault}
-use Rattle.pci_tree.specs.declared.fault.Fault.TheVariants.{NoVendor, HeaderKind, BarType, BarMask, BarPair, RomMask, WindowMask, CapRange, CapLoop, CapCut, SlotsDiffer, StrayProbe, LoneFunction, PaletteSnoop, VgaEnable, IsaEnable, Subtractive, InReset, PowerState, BusRange, Orphan, Unreached, Clash, Split}
-use Rattle.pci_tree.specs.Fault.{fault_of}
-use Rattle.pci_tree.specs.Profile.{IsBridgeFault}
+-- Which capabilities of a chain are asleep.
+use Rattle.std.proofs.Common.{◌≡◌, ◌≢◌, ℕ, ◌+◌, ◌<◌, ◌≤◌, List, length, get_or, inl, inr, arith, sym, ◌∙◌, ap, subst}
+use Rattle.std.proofs.lemmas.Bool.{cases_lt}
+use Rattle.std.proofs.lemmas.List.{get_or-map, length-map}
+use Rattle.pci_spec.specs.Capability.{pointer, body_length, IsChain}
+use Rattle.pci_spec.specs.Fault.{IsAsleep}
+use Rattle.pci_spec.proofs.Walks.{pointer-ended}
+use Rattle.pci_image.specs.declared.capability.Cap.{Cap}
+use Rattle.pci_image.specs.Caps.{place_of}
+use Rattle.pci_tree.specs.Profile.{IsAsleepAt, places_of}
 
--- a function that snoops is a fault of its system
-pub snoop_in : (roots : List ℕ) (s : System) (f : Function) → Contains s f → has_bit (command f.image) 5 ≡ true → IsIn roots s (faults.PaletteSnoop f.slot)
-snoop_in roots s f listed is = (f, listed, refl, is)
+-- the place of a capability in a list of them
+pub place_here : (caps : List Cap) (i : ℕ) (d : Cap) (n : ℕ) → i < length caps → n ≡ place_of (get_or caps i d) → n ≡ get_or (places_of caps) i 0
+place_here caps i d n within e = e ∙ sym (get_or-map place_of caps i d 0 within)
 
--- and so is a bridge that is no plain one
-pub bridge_fault_in : (roots : List ℕ) (s : System) (f : Function) (fault : Fault) → Contains s f → is_bridge f ≡ true → IsBridgeFault f.slot f.image fault
-    → IsIn roots s (fault_of fault)
-bridge_fault_in roots s f (VgaEnable slot) listed is fault = (f, listed, sym fault.0, and_from (is_bridge f) (has_bit (bridge_control f.image) 3) is fault.1)
-bridge_fault_in roots s f (IsaEnable slot) listed is fault = (f, listed, sym fault.0, and_from (is_bridge f) (has_bit (bridge_control f.image) 2) is fault.1)
-bridge_fault_in roots s f (Subtractive slot) listed is fault =
-    (f, listed, sym fault.0, and_from (is_bridge f) (class_code f.image == 0x060401) is (eq-eqb (class_code f.image) 0x060401 fault.1))
-bridge_fault_in roots s f (InReset slot) listed is fault = (f, listed, sym fault.0, and_from (is_bridge f) (has_bit (bridge_control f.image) 6) is fault.1)
-bridge_fault_in roots s f (NoVendor slot) listed is fault = absurd fault
-bridge_fault_in roots s f (HeaderKind slot) listed is fault = absurd fault
-bridge_fault_in roots s f (BarType slot reg) listed is fault = absurd fault
-bridge_fault_in roots s f (BarMask slot reg) listed is fault = absurd fault
-bridge_fault_in roots s f (BarPair slot reg) listed is fault = absurd fault
-bridge_fault_in roots s f (RomMask slot reg) listed is fault = absurd fault
-bridge_fault_in roots s f (WindowMask slot reg) listed is fault = absurd fault
-bridge_fault_in roots s f (CapRange slot place) listed is fault = absurd fault
-bridge_fault_in roots s f (CapLoop slot place) listed is fault = absurd fault
-bridge_fault_in roots s f (CapCut slot place) listed is fault = absurd fault
-bridge_fault_in roots s f (SlotsDiffer slot) listed is fault = absurd fault
-bridge_fault_in roots s f (StrayProbe slot offset) listed is fault = absurd fault
-bridge_fault_in roots s f (LoneFunction slot) listed is fault = absurd fault
-bridge_fault_in roots s f (PaletteSnoop slot) listed is fault = absurd fault
-bridge_fault_in roots s f (PowerState slot) listed is fault = absurd fault
-bridge_fault_in roots s f (BusRange slot) listed is fault = absurd fault
-bridge_fault_in roots s f (Orphan slot) listed is fault = absurd fault
-bridge_fault_in roots s f (Unreached slot reg space address bridge) listed is fault = absurd fault
-bridge_fault_in roots s f (Clash bus space address first first_reg second second_reg) listed is fault = absurd fault
-bridge_fault_in roots s f (Split space address first first_reg second second_reg) listed is fault = absurd fault
+-- as many places as capabilities
+pub places_long : (caps : List Cap) → length (places_of caps) ≡ length caps
+places_long caps = length-map caps place_of
+
+-- the body at a place of a chain ends within the image
+pub body_within : (image places : List ℕ) (i n : ℕ) → IsChain image places → i < length places → n ≡ get_or places i 0 → n + body_length image n ≤ 256
+body_within image places i n chain within e =
+    subst (λ k. k + body_length image k ≤ 256) (sym (e ∙ chain.each i within)) (chain.bodies i within)
+
+-- a place of a chain that is asleep makes the function so
+pub asleep_from : (image places : List ℕ) (i n : ℕ) → IsChain image places → i < length places → n ≡ get_or places i 0 → IsAsleepAt image n → IsAsleep image
+asleep_from image places i n chain within is h =
+    let e : n ≡ pointer image i = is ∙ chain.each i within in
+    let low = (chain.in_range i within).0 in
+    (n, (i, sym e, λ z. (let no : ⊥ = omega (arith, low, e, z) in no)), h.0, h.1)
+
+-- and where none is, it isn't
+pub awake_from : (image places : List ℕ) → IsChain image places → ((k : ℕ) → k < length places → IsAsleepAt image (get_or places k 0) → ⊥) → IsAsleep image → ⊥
+awake_from image places chain none (place, (n, at, nonzero), id, state) = elim (cases_lt n (length places)) [
+  | inl within ↦ none n within (subst (λ p. IsAsleepAt image p) (sym at ∙ sym (chain.each n within)) (id, state))
+  | inr past ↦ nonzero (sym at ∙ pointer-ended image (length places) n past chain.end)
+]

@@ -13,3 +13,6 @@ pub mod Decoding
 pub mod BusNumbers
 pub mod PlaceFaults
 pub mod Profile
+pub mod Admission
+pub mod Refusals
+pub mod Survey

@@ -2,19 +2,24 @@
 //! gets to a bus.
 #![tactic(auto)]
 
+pub mod admit;
+pub mod admitted;
 pub mod bus;
 mod buses;
 pub mod decode;
+mod examine;
 pub mod fault;
 pub mod outline;
 pub mod passed;
-pub mod profile;
+mod profile;
 pub mod ranges;
 pub mod reach;
 pub mod record;
 pub mod region;
 pub mod roots;
 pub mod space;
+mod stray;
+pub mod survey;
 #[cfg(test)]
 mod tests;
 pub mod way;

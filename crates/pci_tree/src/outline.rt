@@ -6,12 +6,13 @@ ghost use Rattle.pci_spec.specs.System.{System, is_bridge};
 ghost use Rattle.pci_spec.specs.Decoded.{HasRecords};
 ghost use Rattle.pci_spec.specs.Bus.{IsNested};
 ghost use Rattle.pci_spec.specs.Slot.{IsSlot};
-ghost use Rattle.pci_spec.specs.Fault.{IsIn};
+ghost use Rattle.pci_spec.specs.Fault.{IsIn, fault_number};
 ghost use Rattle.pci_tree.specs.Fault.{fault_of};
 ghost use Rattle.pci_image.specs.declared.range.Range.{Range as RangeValue};
 ghost use Rattle.pci_tree.specs.Space.{space_of};
 ghost use Rattle.pci_tree.specs.Roots.{buses_of};
 ghost use Rattle.pci_tree.specs.Ranges.{IsCanonical};
+ghost use Rattle.pci_tree.specs.BusNumbers.{IsInPlace};
 ghost use Rattle.pci_tree.specs.Values.{record_value};
 ghost use Rattle.pci_tree.specs.Regions.{AreRegionsOf, IsLawful, regions_of, region_number};
 ghost use Rattle.pci_tree.specs.Ways.{is_bridging, slots_of};
@@ -77,8 +78,8 @@ impl<A: Allocator> Outline<A> {
         requires slots { All (λ r. IsSlot r.slot) records.items }
         requires rising { RiseBySlot records.items }
         requires lawful { All IsLawful records.items }
-        ensures { MatchResult result (λ o. (o.roots ≡ buses_of roots) × (o.records ≡ map record_value records.items))
-            (λ e. (s : System) → HasRecords s (map record_value records.items) → IsIn (buses_of roots) s (fault_of e)) }
+        ensures { MatchResult result (λ o. (o.roots ≡ buses_of roots) × (o.records ≡ map record_value records.items) × All (IsInPlace (buses_of roots) records.items) records.items)
+            (λ e. ((s : System) → HasRecords s (map record_value records.items) → IsIn (buses_of roots) s (fault_of e)) × (fault_number (fault_of e) < 60)) }
     {
         match first_place_fault(&records, &roots) {
             Some(fault) => Err(fault),

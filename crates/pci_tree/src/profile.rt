@@ -1,79 +1,154 @@
-//! What a function must not have for a machine to be admitted, by its own registers.
-ghost use Rattle.std.specs.Prelude.{◌≡◌, ◌↔◌, ℕ, IsTrue, MatchOption};
+//! What one function may not do: the standard lets it, but no system that is judged here may have it.
+ghost use Rattle.std.specs.Prelude.{◌≡◌, ◌+◌, ◌≤◌, ◌↔◌, ◌==◌, IsTrue, MatchOption};
 ghost use Rattle.pci_spec.specs.Number.{has_bit};
-ghost use Rattle.pci_spec.specs.Header.{bridge_control, class_code};
-ghost use Rattle.pci_tree.specs.Profile.{IsPlainBridge, IsBridgeFault};
+ghost use Rattle.pci_spec.specs.Header.{class_code, layout};
+ghost use Rattle.pci_spec.specs.Capability.{body_length, IsChain};
+ghost use Rattle.pci_spec.specs.Fault.{IsAsleep};
+ghost use Rattle.pci_tree.specs.Fault.{fault_of};
+ghost use Rattle.pci_tree.specs.Profile.{IsAnswering, IsPlainBridge, IsPlain, IsAsleepAt, IsHereIn, places_of};
 
 use super::fault::Fault;
+use super::stray::stray_byte;
+use pci_image::capability::Cap;
 use pci_image::image::Image;
 use pci_image::slot::Slot;
 
-/// The byte offsets of the class code and Bridge Control (PCI 3.0, 6.2; Bridge 1.2, 3.2.5).
-const CLASS: u8 = 0x09;
+/// The byte offset of Vendor ID (PCI 3.0, 6.2.1).
+const VENDOR_ID: u8 = 0x00;
+/// What Vendor ID reads where no function answers (PCI 3.0, 6.2.1).
+const NO_VENDOR: u16 = 0xffff;
+/// The byte offset of Command (PCI 3.0, 6.2.2), and its bit number for VGA palette snooping.
+const COMMAND: u8 = 0x04;
 
+const PALETTE_SNOOP: u8 = 5;
+/// The byte offsets of Class Code: programming interface, sub-class and base class (PCI 3.0, 6.2.1).
+const INTERFACE: u8 = 0x09;
+
+const SUB_CLASS: u8 = 0x0a;
+
+const BASE_CLASS: u8 = 0x0b;
+/// A bridge that decodes subtractively.
+const SUBTRACTIVE: u32 = 0x06_0401;
+/// The byte offset of Header Type, whose bits 6:0 are the layout (PCI 3.0, 6.2.1).
+const HEADER_TYPE: u8 = 0x0e;
+/// The byte offset of Bridge Control (Bridge 1.2, 3.2.5), and its bit numbers.
 const BRIDGE_CONTROL: u8 = 0x3e;
 
-/// Command bit 5.
-const PALETTE_SNOOP: u16 = 1 << 5;
+const ISA_ENABLE: u8 = 2;
 
-/// Bits of Bridge Control.
-const ISA_ENABLE: u16 = 1 << 2;
+const VGA_ENABLE: u8 = 3;
 
-const VGA_ENABLE: u16 = 1 << 3;
+const SECONDARY_BUS_RESET: u8 = 6;
+/// The ID of power management, and where its Control/Status stands behind it (Power Management 1.2, 3.2).
+const POWER_MANAGEMENT: u8 = 0x01;
 
-const SECONDARY_BUS_RESET: u16 = 1 << 6;
+const POWER_CONTROL: u8 = 4;
 
-/// Whether a function with this Command snoops writes to the VGA palette.
-pub fn snoops(command: u16) -> bool
-    ensures { result ≡ has_bit command 5 }
+/// Whether a register has a bit.
+fn has_bit(register: u16, bit: u8) -> bool
+    requires { bit ≤ 15 }
+    ensures { result ≡ has_bit register bit }
 {
-    command & PALETTE_SNOOP != 0
+    register >> bit & 1 == 1
 }
 
-/// Whether a bridge decodes subtractively, by its class code 06h/04h/01h.
-fn is_subtractive(image: &Image) -> bool
-    ensures { IsTrue result ↔ (class_code image.now.0 ≡ 0x060401) }
+/// The layout of a header, without the multi-function bit.
+fn layout(image: &Image) -> u8
+    ensures { result ≡ layout image.now.0 }
 {
-    image.u8(CLASS) == 0x01 && image.u8(CLASS + 1) == 0x04 && image.u8(CLASS + 2) == 0x06
+    image.u8(HEADER_TYPE) % 128
 }
 
-/// Whether a bridge with this Bridge Control forwards VGA accesses.
-fn has_vga(control: u16) -> bool
-    ensures { result ≡ has_bit control 3 }
+/// Base class, sub-class and programming interface, as one number of 24 bits.
+fn class_code(image: &Image) -> u32
+    ensures { result ≡ class_code image.now.0 }
 {
-    control & VGA_ENABLE != 0
+    let interface = u32::from(image.u8(INTERFACE));
+    let sub_class = u32::from(image.u8(SUB_CLASS));
+    let base_class = u32::from(image.u8(BASE_CLASS));
+    interface + sub_class * 0x100 + base_class * 0x1_0000
 }
 
-/// Whether a bridge with this Bridge Control leaves out ISA aliases.
-fn has_isa(control: u16) -> bool
-    ensures { result ≡ has_bit control 2 }
+/// The fault of a function's identity or probe: 20 `NoVendor`, else 21 `HeaderKind`, else 31 `StrayProbe` with the
+/// first byte offset outside the address registers where the probe isn't 00.
+pub fn identity_fault(slot: Slot, image: &Image, probe: &Image) -> Option<Fault>
+    ensures { MatchOption result (IsAnswering record { slot = slot; image = image.now.0; probe = probe.now.0 })
+        (λ e. IsHereIn 1 record { slot = slot; image = image.now.0; probe = probe.now.0 } (fault_of e)) }
 {
-    control & ISA_ENABLE != 0
+    if image.u16(VENDOR_ID) == NO_VENDOR {
+        return Some(Fault::NoVendor(slot));
+    }
+    let layout = layout(image);
+    if 1 < layout {
+        return Some(Fault::HeaderKind(slot));
+    }
+    match stray_byte(layout, probe) {
+        None => None,
+        Some(offset) => Some(Fault::StrayProbe(slot, offset)),
+    }
 }
 
-/// Whether a bridge with this Bridge Control holds its secondary bus in reset.
-fn is_in_reset(control: u16) -> bool
-    ensures { result ≡ has_bit control 6 }
+/// The fault of a bridge's profile: 52 `VgaEnable`, else 53 `IsaEnable`, else 54 `Subtractive`, else 55 `InReset`.
+fn bridge_fault(slot: Slot, image: &Image, probe: &Image) -> Option<Fault>
+    ensures { MatchOption result (IsPlainBridge image.now.0)
+        (λ e. IsHereIn 3 record { slot = slot; image = image.now.0; probe = probe.now.0 } (fault_of e)) }
 {
-    control & SECONDARY_BUS_RESET != 0
-}
-
-/// The fault of a bridge's control and class: 52 `VgaEnable`, 53 `IsaEnable`, 54 `Subtractive`, 55 `InReset`.
-pub fn bridge_fault(slot: Slot, image: &Image) -> Option<Fault>
-    ensures { MatchOption result (IsPlainBridge image.now.0) (IsBridgeFault slot image.now.0) }
-{
+    if layout(image) != 1 {
+        return None;
+    }
     let control = image.u16(BRIDGE_CONTROL);
-    if has_vga(control) {
+    if has_bit(control, VGA_ENABLE) {
         return Some(Fault::VgaEnable(slot));
     }
-    if has_isa(control) {
+    if has_bit(control, ISA_ENABLE) {
         return Some(Fault::IsaEnable(slot));
     }
-    if is_subtractive(image) {
+    if class_code(image) == SUBTRACTIVE {
         return Some(Fault::Subtractive(slot));
     }
-    if is_in_reset(control) {
+    if has_bit(control, SECONDARY_BUS_RESET) {
         return Some(Fault::InReset(slot));
+    }
+    None
+}
+
+/// Whether a capability is power management and shows another power state than D0.
+fn is_asleep_at(image: &Image, place: u8) -> bool
+    requires { place + body_length image.now.0 place ≤ 256 }
+    ensures { IsTrue result ↔ IsAsleepAt image.now.0 place }
+{
+    image.u8(place) == POWER_MANAGEMENT && image.u8(place + POWER_CONTROL) % 4 != 0
+}
+
+/// Whether one of the capabilities of a function shows another power state than D0.
+fn is_asleep(image: &Image, caps: &[Cap<'_>]) -> bool
+    requires { IsChain image.now.0 (places_of caps.now) }
+    ensures { IsTrue result ↔ IsAsleep image.now.0 }
+{
+    for cap in caps {
+        if is_asleep_at(image, cap.place()) {
+            return true;
+        }
+    }
+    false
+}
+
+/// The fault of a function's profile, `caps` being its capabilities: 51 `PaletteSnoop`; on a bridge 52 `VgaEnable`, 53
+/// `IsaEnable`, 54 `Subtractive`, 55 `InReset`; 56 `PowerState`. The first of these is answered.
+pub fn profile_fault(slot: Slot, image: &Image, probe: &Image, caps: &[Cap<'_>]) -> Option<Fault>
+    requires { IsChain image.now.0 (places_of caps.now) }
+    ensures { MatchOption result (IsPlain image.now.0)
+        (λ e. IsHereIn 3 record { slot = slot; image = image.now.0; probe = probe.now.0 } (fault_of e)) }
+{
+    if has_bit(image.u16(COMMAND), PALETTE_SNOOP) {
+        return Some(Fault::PaletteSnoop(slot));
+    }
+    match bridge_fault(slot, image, probe) {
+        Some(fault) => return Some(fault),
+        None => {}
+    }
+    if is_asleep(image, caps) {
+        return Some(Fault::PowerState(slot));
     }
     None
 }

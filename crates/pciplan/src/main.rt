@@ -1,4 +1,4 @@
-//! The program: `pciplan show DUMP PROBE` and `pciplan size DUMP PROBE`.
+//! The program: `pciplan show|check|size DUMP PROBE`.
 #![tactic(auto)]
 
 mod opened;

@@ -4,6 +4,9 @@ use Rattle.std.specs.Io.KnownBytes.{Appends}
 use Rattle.pci_dump.specs.Begun.{AppendsBeginning}
 use Rattle.std.specs.String.{string_bytes}
 use Rattle.pci_spec.specs.Text.{Block, IsTextOf, text_of}
+use Rattle.pci_check.specs.Audits.{IsAudited, outcome_line}
+use Rattle.pci_check.specs.declared.outcome.Outcome.{Outcome}
+use Rattle.pci_check.specs.declared.outcome.Outcome.TheVariants.{Yes, No}
 use Rattle.pciplan_cli.specs.declared.run.Sized.{Sized}
 use Rattle.pciplan_cli.specs.declared.run.Sized.TheVariants.{Found, Refused}
 use Rattle.pci_spec.specs.System.{system_of}
@@ -14,7 +17,7 @@ use Rattle.pci_dump.specs.ReadFault.{IsTextFault}
 use Rattle.pci_dump.specs.declared.read_fault.ReadFault.{ReadFault}
 use Rattle.pci_dump.specs.declared.read_fault.ReadFault.TheVariants as faults
 use Rattle.pciplan_cli.specs.declared.trouble.Trouble.{Trouble}
-use Rattle.pciplan_cli.specs.declared.trouble.Trouble.TheVariants.{Usage, Dump, Probe, Memory, Io}
+use Rattle.pciplan_cli.specs.declared.trouble.Trouble.TheVariants.{Usage, Root, Dump, Probe, Memory, Io}
 
 -- the dump whose text was left, where the bytes are told
 abbrev pub IsDumpOf : Option (List ℕ) → List Block → Type 0
@@ -59,6 +62,7 @@ IsFaultOfLeft left fault = (bytes : List ℕ) → left ≡ Some bytes → fault 
 -- why two texts aren't read: the probe's fault is told only where the dump's text is one
 abbrev pub IsTextTrouble : Option (List ℕ) → Option (List ℕ) → Trouble → Type 0
 IsTextTrouble dump_left probe_left Usage = ⊥
+IsTextTrouble dump_left probe_left Root = ⊥
 IsTextTrouble dump_left probe_left (Dump fault) = IsFaultOfLeft dump_left fault
 IsTextTrouble dump_left probe_left (Probe fault) = ((dump : List Block) × IsDumpOf dump_left dump) × IsFaultOfLeft probe_left fault
 IsTextTrouble dump_left probe_left Memory = Unit {0}
@@ -94,3 +98,15 @@ pub record IsSizeBegun (dump_left probe_left : Option (List ℕ)) (before after 
   pub probe_text : IsDumpOf probe_left probe
   pub answer : IsSizeAnswer dump probe status text
   pub written : AppendsBeginning before after text
+
+-- the status of a verdict
+abbrev pub outcome_status : Outcome → ℕ
+outcome_status Yes = 0
+outcome_status (No fault) = 1
+
+-- the line of the verdict on the two texts that were left was written
+pub record IsChecked (roots : List ℕ) (dump_left probe_left : Option (List ℕ)) (status : ℕ) (before after : Option (List ℕ)) : Type 0 where
+  pub outcome : Outcome
+  pub audited : IsAudited roots dump_left probe_left outcome
+  pub named : status ≡ outcome_status outcome
+  pub written : Appends before after (outcome_line outcome)

@@ -3,6 +3,7 @@
 
 pub mod line;
 pub mod listing;
+pub mod root_list;
 pub mod run;
 pub mod show;
 pub mod sizing;

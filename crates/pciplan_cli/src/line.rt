@@ -1,10 +1,14 @@
 //! A command line that has been read.
 
+use pci_tree::roots::Roots;
+
 /// What is to be done with a dump and its probe.
 #[derive(Clone, Copy, Debug, PartialEq, Eq)]
 pub enum Task {
     /// Lists what the functions decode to.
     Show,
+    /// Judges them as a system with these root buses.
+    Check { roots: Roots },
     /// Sizes every function of a machine of the two texts.
     Size,
 }

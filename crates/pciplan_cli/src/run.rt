@@ -5,18 +5,23 @@ ghost use Rattle.std.specs.Io.KnownBytes.{Appends};
 ghost use Rattle.pci_spec.specs.Line.{verdict_line};
 ghost use Rattle.pci_dump.specs.Begun.{AppendsBeginning};
 ghost use Rattle.pci_tree.specs.Fault.{fault_of};
-ghost use Rattle.pciplan_cli.specs.Answers.{IsAnswer, IsDumpOf, IsShown, IsBegun, IsSized, IsSizeBegun, IsSizing, IsTextTrouble};
+ghost use Rattle.pci_tree.specs.Roots.{buses_of};
+ghost use Rattle.pci_tree.specs.declared.roots.Roots.{Roots};
+ghost use Rattle.pciplan_cli.specs.Answers.{IsChecked, IsAnswer, IsDumpOf, IsShown, IsBegun, IsSized, IsSizeBegun, IsSizing, IsTextTrouble};
 
 use crate::line::{Line, Task};
 use crate::show::show;
 use crate::sizing::size_all;
 use crate::trouble::{Trouble, tell};
+use pci_check::audit::audit_with;
+use pci_check::outcome::{AuditFault, Outcome};
 use pci_dump::dump::Dump;
 use pci_dump::ends::{Sink, Source};
 use pci_dump::memory::Refused;
 use pci_dump::reader::read_dump;
 use pci_dump::write::{write_all, write_dump};
 use pci_tree::fault::Fault;
+use pci_tree::roots::Roots;
 use std::alloc::Allocator;
 
 /// The status of a task that was done, and of one that a fault refuses.
@@ -156,6 +161,28 @@ fn run_size<A: Allocator + Copy, D: Source, P: Source, O: Sink>(
     }
 }
 
+/// Judges two texts as a system with these root buses.
+fn run_check<A: Allocator + Copy, D: Source, P: Source, O: Sink>(
+    alloc: A,
+    roots: Roots,
+    dump: &mut D,
+    probe: &mut P,
+    out: &mut O,
+) -> Result<u8, Trouble>
+    ensures checked { IfOk result (λ status. IsChecked (buses_of roots) (D.left dump.old) (P.left probe.old) status (O.taken out.old) (O.taken out.new)) }
+    ensures quiet { IfErr result (λ trouble. trouble ≢ Trouble.Io → out.new ≡ out.old) }
+    ensures status { IfOk result (λ status. status < 2) }
+{
+    match audit_with(alloc, dump, probe, out, roots) {
+        Ok(Outcome::Yes) => Ok(DONE),
+        Ok(Outcome::No(_)) => Ok(REFUSED),
+        Err(AuditFault::Dump(fault)) => Err(Trouble::Dump(fault)),
+        Err(AuditFault::Probe(fault)) => Err(Trouble::Probe(fault)),
+        Err(AuditFault::Memory) => Err(Trouble::Memory),
+        Err(AuditFault::Write) => Err(Trouble::Io),
+    }
+}
+
 /// Carries out a task: reads `dump` and `probe`, writes the answer to `out` or a message to `err`, and
 /// answers the status. At status 2 and 3 nothing was written to `out`, at 4 a beginning of the answer
 /// at most.
@@ -169,6 +196,8 @@ pub fn run<A: Allocator + Copy, D: Source, P: Source, O: Sink, E: Sink>(
 ) -> u8
     ensures shown { line.now.task ≡ Task.Show → result < 2
         → IsShown (D.left dump.old) (P.left probe.old) result (O.taken out.old) (O.taken out.new) }
+    ensures checked { (roots : Roots) → line.now.task ≡ Task.Check roots → result < 2
+        → IsChecked (buses_of roots) (D.left dump.old) (P.left probe.old) result (O.taken out.old) (O.taken out.new) }
     ensures sized { line.now.task ≡ Task.Size → result < 2
         → IsSized (D.left dump.old) (P.left probe.old) result (O.taken out.old) (O.taken out.new) }
     ensures quiet { (result ≡ 2) ⊎ (result ≡ 3) → out.new ≡ out.old }
@@ -180,6 +209,7 @@ pub fn run<A: Allocator + Copy, D: Source, P: Source, O: Sink, E: Sink>(
 {
     let done = match line.task {
         Task::Show => run_show(alloc, dump, probe, out),
+        Task::Check { roots } => run_check(alloc, roots, dump, probe, out),
         Task::Size => run_size(alloc, dump, probe, out),
     };
     match done {

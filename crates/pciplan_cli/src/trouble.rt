@@ -12,6 +12,8 @@ use std::fmt::{self, Write};
 pub enum Trouble {
     /// The words are no command line.
     Usage,
+    /// The list of root buses is none.
+    Root,
     /// The text of the dump has a fault, or can't be read.
     Dump(ReadFault),
     /// The text of the probe has a fault, or can't be read.
@@ -27,6 +29,7 @@ impl fmt::Display for Trouble {
     fn fmt<W: fmt::Write>(&self, f: &mut fmt::Formatter<W>) -> fmt::Result {
         match self {
             Trouble::Usage => write!(f, "usage"),
+            Trouble::Root => write!(f, "root"),
             Trouble::Dump(ReadFault::Memory)
             | Trouble::Probe(ReadFault::Memory)
             | Trouble::Memory => write!(f, "2 Memory"),
@@ -44,7 +47,7 @@ impl Trouble {
         ensures { result ≡ status_of self }
     {
         match self {
-            Trouble::Usage => 2,
+            Trouble::Usage | Trouble::Root => 2,
             Trouble::Dump(fault) | Trouble::Probe(fault) => match fault {
                 ReadFault::Io => 4,
                 ReadFault::Memory => 3,

@@ -1,0 +1,348 @@
+//! A plain judge beside the fast one: it looks at every page of every region, and walks every way.
+//!
+//! Boards are made by rule: two bridges in a row and a device on each of the three buses. All regions are whole
+//! megabytes from E0000000h on, so a page stands for all its addresses.
+use crate::board::{bridge, device};
+use crate::program::judges;
+use std::alloc::{AllocError, Global};
+use std::process::Abort;
+use std::test::Fail;
+
+/// Pages from first to last; none where first is above last.
+#[derive(Clone, Copy)]
+struct Pages {
+    first: u32,
+    last: u32,
+}
+
+impl Pages {
+    fn has(self, page: u32) -> bool {
+        self.first <= page && page <= self.last
+    }
+
+    /// As base and limit of a window.
+    fn register(self) -> u32 {
+        let base = 0xe000 + (self.first % 16) * 16;
+        let limit = 0xe000 + (self.last % 16) * 16;
+        limit * 0x1_0000 + base
+    }
+}
+
+/// A device's BAR.
+#[derive(Clone, Copy)]
+struct Bar {
+    pages: Pages,
+    prefetch: bool,
+    enabled: bool,
+}
+
+impl Bar {
+    /// Offset, value and read back.
+    fn register(self) -> (u8, u32, u32) {
+        let encoding = if self.prefetch { 8 } else { 0 };
+        let mask = if self.pages.first == self.pages.last {
+            0xfff0_0000
+        } else {
+            0xffe0_0000
+        };
+        let address = 0xe000_0000 + (self.pages.first % 16) * 0x10_0000;
+        (0x10, address + encoding, mask + encoding)
+    }
+
+    fn command(self) -> u16 {
+        if self.enabled { 2 } else { 0 }
+    }
+}
+
+/// A bridge with a memory window, and a prefetchable one or none.
+#[derive(Clone, Copy)]
+struct Windows {
+    slot: &'static str,
+    enabled: bool,
+    memory: Pages,
+    prefetch: Option<Pages>,
+}
+
+impl Windows {
+    fn passes(self, page: u32, prefetch: bool) -> bool {
+        let prefetched = match self.prefetch {
+            Some(pages) => prefetch && pages.has(page),
+            None => false,
+        };
+        self.enabled && (self.memory.has(page) || prefetched)
+    }
+
+    fn registers(self) -> [(u8, u32, u32); 2] {
+        let prefetch = match self.prefetch {
+            Some(pages) => (0x24, pages.register(), 0xfff0_fff0),
+            None => (0x24, 0, 0),
+        };
+        [(0x20, self.memory.register(), 0xfff0_fff0), prefetch]
+    }
+
+    fn command(self) -> u16 {
+        if self.enabled { 2 } else { 0 }
+    }
+}
+
+/// A board: the bridge to bus 01, the one from there to bus 02, and a device on each bus.
+#[derive(Clone, Copy)]
+struct Board {
+    outer: Windows,
+    inner: Windows,
+    near: Bar,
+    middle: Bar,
+    far: Bar,
+}
+
+/// A region that claims pages of its bus, by the names that a verdict gives it.
+#[derive(Clone, Copy)]
+struct Claim {
+    bus: u8,
+    slot: &'static str,
+    register: u8,
+    pages: Pages,
+}
+
+/// Takes numbers below a bound out of a seed, one after another.
+#[derive(Drop)]
+struct Rule {
+    seed: u64,
+}
+
+impl Rule {
+    fn below(&mut self, bound: u64) -> u32 {
+        self.seed = (self.seed % 0x1_0000_0000) * 1_664_525 + 1_013_904_223;
+        let drawn = self.seed / 0x1_0000 % 0x1_0000;
+        if bound == 0 {
+            0
+        } else {
+            (drawn % bound % 256) as u32
+        }
+    }
+
+    fn pages(&mut self) -> Pages {
+        let first = self.below(5);
+        let last = self.below(5);
+        Pages { first, last }
+    }
+
+    fn windows(&mut self, slot: &'static str) -> Windows {
+        let enabled = self.below(8) != 0;
+        let memory = self.pages();
+        let prefetch = if self.below(2) == 0 {
+            Some(self.pages())
+        } else {
+            None
+        };
+        Windows {
+            slot,
+            enabled,
+            memory,
+            prefetch,
+        }
+    }
+
+    fn bar(&mut self) -> Bar {
+        let place = self.below(4);
+        let pages = if self.below(3) == 0 {
+            let first = place / 2 * 2;
+            Pages {
+                first,
+                last: first + 1,
+            }
+        } else {
+            Pages {
+                first: place,
+                last: place,
+            }
+        };
+        Bar {
+            pages,
+            prefetch: self.below(2) == 0,
+            enabled: self.below(4) != 0,
+        }
+    }
+
+    fn board(&mut self) -> Board {
+        Board {
+            outer: self.windows("00:01.0"),
+            inner: self.windows("01:00.0"),
+            near: self.bar(),
+            middle: self.bar(),
+            far: self.bar(),
+        }
+    }
+}
+
+impl Board {
+    /// The claims of a bridge's windows.
+    fn push_windows(claims: &mut Vec<Claim>, bus: u8, windows: Windows) -> Result<(), AllocError> {
+        if !windows.enabled {
+            return Ok(());
+        }
+        let slot = windows.slot;
+        let memory = Claim {
+            bus,
+            slot,
+            register: 0x20,
+            pages: windows.memory,
+        };
+        claims.push(memory)?;
+        if let Some(pages) = windows.prefetch {
+            let prefetch = Claim {
+                bus,
+                slot,
+                register: 0x24,
+                pages,
+            };
+            claims.push(prefetch)?;
+        }
+        Ok(())
+    }
+
+    fn push_bar(
+        claims: &mut Vec<Claim>,
+        bus: u8,
+        slot: &'static str,
+        bar: Bar,
+    ) -> Result<(), AllocError> {
+        if bar.enabled {
+            let claim = Claim {
+                bus,
+                slot,
+                register: 0x10,
+                pages: bar.pages,
+            };
+            claims.push(claim)?;
+        }
+        Ok(())
+    }
+
+    /// All that claims pages, by slot and register.
+    fn claims(&self, alloc: Global) -> Result<Vec<Claim>, AllocError> {
+        let mut claims = Vec::new(alloc);
+        Board::push_windows(&mut claims, 0, self.outer)?;
+        Board::push_bar(&mut claims, 0, "00:03.0", self.near)?;
+        Board::push_windows(&mut claims, 1, self.inner)?;
+        Board::push_bar(&mut claims, 1, "01:01.0", self.middle)?;
+        Board::push_bar(&mut claims, 2, "02:00.0", self.far)?;
+        Ok(claims)
+    }
+
+    /// Where a bridge on the way doesn't pass a page of the BAR: the bridge that comes first, and its first such page.
+    fn missed(bar: Bar, way: &[Windows]) -> Option<(&'static str, u32)> {
+        if !bar.enabled {
+            return None;
+        }
+        for windows in way {
+            for page in bar.pages.first..16 {
+                if bar.pages.has(page) && !windows.passes(page, bar.prefetch) {
+                    return Some((windows.slot, page));
+                }
+            }
+        }
+        None
+    }
+
+    /// Whether a bus is got to at a page.
+    fn gets(&self, bus: u8, page: u32) -> bool {
+        let outer = bus < 1 || self.outer.passes(page, true);
+        let inner = bus < 2 || self.inner.passes(page, true);
+        outer && inner
+    }
+
+    /// The first unreached BAR.
+    fn unreached(&self, alloc: Global) -> Result<Option<String>, AllocError> {
+        let ways = [
+            ("01:01.0", self.middle, &[self.outer][..]),
+            ("02:00.0", self.far, &[self.outer, self.inner][..]),
+        ];
+        for (slot, bar, way) in ways {
+            if let Some((stop, page)) = Board::missed(bar, way) {
+                let digit = page % 16;
+                let text = format!(in alloc;
+                    "no 60 Unreached {slot} 10 mem 00000000e0{digit:x}00000 bridge {stop}"
+                )?;
+                return Ok(Some(text));
+            }
+        }
+        Ok(None)
+    }
+
+    /// The first page of the lowest bus that two regions claim.
+    fn clash(&self, alloc: Global) -> Result<Option<String>, AllocError> {
+        let claims = self.claims(alloc)?;
+        for bus in 0..3u8 {
+            for page in 0..16u32 {
+                let mut first: Option<&Claim> = None;
+                for claim in &claims {
+                    if claim.bus != bus || !claim.pages.has(page) || !self.gets(bus, page) {
+                        continue;
+                    }
+                    if let Some(other) = first {
+                        let (one, two) = (other.slot, claim.slot);
+                        let (register, other_register) = (other.register, claim.register);
+                        let text = format!(in alloc;
+                            "no 61 Clash bus {bus:02x} mem 00000000e0{page:x}00000 {one} {register:02x} {two} {other_register:02x}"
+                        )?;
+                        return Ok(Some(text));
+                    }
+                    first = Some(claim);
+                }
+            }
+        }
+        Ok(None)
+    }
+
+    fn verdict(&self, alloc: Global) -> Result<String, AllocError> {
+        if let Some(text) = self.unreached(alloc)? {
+            return Ok(text);
+        }
+        match self.clash(alloc)? {
+            Some(text) => Ok(text),
+            None => format!(in alloc; "yes"),
+        }
+    }
+}
+
+/// Asserts that both judges say the same of the boards of some seeds.
+fn agree(rt: &impl Abort, alloc: Global, seeds: std::ops::Range<u64>) -> Result<(), Fail> {
+    for seed in seeds {
+        let mut rule = Rule { seed };
+        let board = rule.board();
+        let verdict = board.verdict(alloc)?;
+        judges(
+            rt,
+            alloc,
+            &[
+                bridge(
+                    "00:01.0",
+                    board.outer.command(),
+                    (0, 1, 2),
+                    &board.outer.registers(),
+                ),
+                device("00:03.0", board.near.command(), &[board.near.register()]),
+                bridge(
+                    "01:00.0",
+                    board.inner.command(),
+                    (1, 2, 2),
+                    &board.inner.registers(),
+                ),
+                device(
+                    "01:01.0",
+                    board.middle.command(),
+                    &[board.middle.register()],
+                ),
+                device("02:00.0", board.far.command(), &[board.far.register()]),
+            ],
+            verdict.as_str(),
+        )?;
+    }
+    Ok(())
+}
+
+#[test]
+fn the_fast_judge_agrees_with_the_slow_one(rt: HostRuntime) -> Result<(), Fail> {
+    agree(&rt, rt.alloc(), 0..4000)
+}

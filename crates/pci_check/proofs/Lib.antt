@@ -1,0 +1,12 @@
+pub mod Sweeps
+pub mod Overlaps
+pub mod Stops
+pub mod Reaching
+pub mod Losing
+pub mod Homes
+pub mod Clashing
+pub mod Splitting
+pub mod Judges
+pub mod Listed
+pub mod Verdicts
+pub mod Outcomes

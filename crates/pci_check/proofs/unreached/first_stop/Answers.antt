@@ -1,0 +1,24 @@
+use Rattle.std.proofs.Common.{◌<◌, ℕ, arith, length, subst}
+use Rattle.pci_tree.specs.Space.{space_of}
+use Rattle.pci_check.specs.Stops.{IsWholeBehind, IsFirstStop}
+use Rattle.pci_check.proofs.Losing.{whole_more}
+use Rattle.pci_check.proofs.unreached.first_stop.Goals as goal
+
+pub returns-in-Some : goal.returns-in-Some
+returns-in-Some g c =
+    subst (λ end. IsFirstStop c.args.reached.now (space_of c.args.space) c.args.path.now end c.args.region.now c.loop-i.i c.in-Some.address) c.bus-end.ensures (record {
+      within = omega arith;
+      bus = c.bus_behind.result;
+      small = omega arith;
+      behind = c.bus_behind.ensures;
+      lost = c.in-Some.ensures;
+      before = c.loop-i.invariant;
+    })
+
+pub loop-i-preserved : goal.loop-i-preserved
+loop-i-preserved g c =
+    whole_more c.args.reached.now (space_of c.args.space) c.args.path.now c.bus-end.result c.args.region.now c.loop-i.i c.bus_behind.result c.bus_behind.ensures c.in-None.ensures c.loop-i.invariant
+
+pub returns : goal.returns
+returns g c = subst (λ end. (k : ℕ) → k < length c.args.path.now → IsWholeBehind c.args.reached.now (space_of c.args.space) c.args.path.now end c.args.region.now k) c.bus-end.ensures
+    (λ k less. c.loop-i.invariant k (omega arith))

@@ -1,0 +1,5 @@
+use Rattle.pci_check.proofs.Losing.{least_lost}
+use Rattle.pci_check.proofs.unreached.least_lost.Goals as goal
+
+pub returns : goal.returns
+returns g c = least_lost c.args.reached.now _ c.args.bus c.args.region.now _ c.least_outside.result c.ranges-2.ensures.same c.least_outside.ensures

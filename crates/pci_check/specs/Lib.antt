@@ -1,0 +1,9 @@
+pub mod Trees
+pub mod Listings
+pub mod Sweep
+pub mod Judging
+pub mod Clashes
+pub mod Stops
+pub mod Judgement
+pub mod Verdicts
+pub mod Audits

@@ -1,0 +1,141 @@
+//! The verdict on two texts, from the bytes that come in to the line that goes out.
+ghost use Rattle.std.specs.Prelude.{◌≡◌, ◌≢◌, ◌+◌, [], ◌∷◌, IfOk, IfErr, string_bytes};
+ghost use Rattle.std.specs.Io.KnownBytes.{Appends};
+ghost use Rattle.pci_tree.specs.Roots.{buses_of};
+ghost use Rattle.pci_check.specs.Audits.{IsOutcomeOf, IsAudited, IsDumpOf, IsReadFaultOf, IsTextRefusal, HasBegun, outcome_line};
+
+use super::check::check;
+use super::line::line_of;
+use super::outcome::{AuditFault, Outcome};
+use super::verdict::Verdict;
+use pci_dump::dump::Dump;
+use pci_dump::ends::{Sink, Source};
+use pci_dump::memory::{OutOfMemory, Refused};
+use pci_dump::read_fault::ReadFault;
+use pci_dump::reader::read_dump;
+use pci_dump::write::write_all;
+use pci_tree::admit::admit_with;
+use pci_tree::roots::Roots;
+use std::alloc::Allocator;
+
+/// The verdict on a dump and its probe.
+fn outcome_of<A: Allocator + Copy>(
+    alloc: A,
+    dump: Dump<A>,
+    probe: Dump<A>,
+    roots: Roots,
+) -> Result<Outcome, OutOfMemory>
+    ensures { IfOk result (IsOutcomeOf (buses_of roots) dump probe) }
+{
+    let (_listed, _read_back) = (dump.blocks(), probe.blocks());
+    let admitted = match admit_with(alloc, dump, probe, roots) {
+        Ok(admitted) => admitted,
+        Err(Refused::Fault(fault)) => return Ok(Outcome::No(fault)),
+        Err(Refused::Memory) => return Err(OutOfMemory),
+    };
+    let _outline = admitted.outline();
+    match check(alloc, &admitted)? {
+        Verdict::Yes(_) => Ok(Outcome::Yes),
+        Verdict::No(fault) => Ok(Outcome::No(fault)),
+    }
+}
+
+/// Reads a text to its end.
+fn read<A: Allocator, S: Source>(alloc: A, source: &mut S) -> Result<Dump<A>, ReadFault>
+    ensures dump { IfOk result (λ dump. IsDumpOf (S.left source.old) dump) }
+    ensures kept { IfOk result (λ dump. S.failures source.new ≡ S.failures source.old) }
+    ensures fault { IfErr result (λ fault. fault ≢ ReadFault.Memory → IsReadFaultOf (S.left source.old) (S.failures source.old) (S.failures source.new) fault) }
+{
+    read_dump(alloc, source)
+}
+
+/// The verdict on two texts, from which nothing has been written.
+fn judged<A: Allocator + Copy, D: Source, P: Source>(
+    alloc: A,
+    dump: &mut D,
+    probe: &mut P,
+    roots: Roots,
+) -> Result<Outcome, AuditFault>
+    ensures outcome { IfOk result (IsAudited (buses_of roots) (D.left dump.old) (P.left probe.old)) }
+    ensures fault { IfErr result (IsTextRefusal (D.left dump.old) (D.failures dump.old) (D.failures dump.new) (P.left probe.old) (P.failures probe.old) (P.failures probe.new)) }
+    ensures read { IfErr result (λ fault. fault ≢ AuditFault.Write) }
+{
+    let listed = match read(alloc, dump) {
+        Ok(listed) => listed,
+        Err(ReadFault::Memory) => return Err(AuditFault::Memory),
+        Err(fault) => return Err(AuditFault::Dump(fault)),
+    };
+    let read_back = match read(alloc, probe) {
+        Ok(read_back) => read_back,
+        Err(ReadFault::Memory) => return Err(AuditFault::Memory),
+        Err(fault) => return Err(AuditFault::Probe(fault)),
+    };
+    match outcome_of(alloc, listed, read_back, roots) {
+        Ok(outcome) => Ok(outcome),
+        Err(OutOfMemory) => Err(AuditFault::Memory),
+    }
+}
+
+/// The line of an outcome.
+fn outcome_text<A: Allocator>(alloc: A, outcome: &Outcome) -> Result<String<A>, OutOfMemory>
+    ensures { IfOk result (λ line. string_bytes line ≡ outcome_line outcome.now) }
+{
+    match outcome {
+        Outcome::Yes => line_of(alloc, None),
+        Outcome::No(fault) => line_of(alloc, Some(*fault)),
+    }
+}
+
+/// Reads a dump and a probe to their ends, and writes the line of their verdict: `yes` exactly where both list the
+/// same slots and their system is sound; else `no`, with a fault that is there.
+///
+/// # Errors
+///
+/// `Dump` and `Probe` where that text is refused, the dump's first; `Memory` (2) where a growth was refused. Nothing was
+/// written then. `Write` (10) where a write failed: a beginning of the line was written.
+pub fn audit_with<A: Allocator + Copy, D: Source, P: Source, O: Sink>(
+    alloc: A,
+    dump: &mut D,
+    probe: &mut P,
+    out: &mut O,
+    roots: Roots,
+) -> Result<Outcome, AuditFault>
+    ensures outcome { IfOk result (IsAudited (buses_of roots) (D.left dump.old) (P.left probe.old)) }
+    ensures line { IfOk result (λ outcome. Appends (O.taken out.old) (O.taken out.new) (outcome_line outcome)) }
+    ensures fault { IfErr result (IsTextRefusal (D.left dump.old) (D.failures dump.old) (D.failures dump.new) (P.left probe.old) (P.failures probe.old) (P.failures probe.new)) }
+    ensures quiet { IfErr result (λ fault. fault ≢ AuditFault.Write → out.new ≡ out.old) }
+    ensures begun { IfErr result (λ fault. fault ≡ AuditFault.Write
+        → HasBegun (buses_of roots) (D.left dump.old) (P.left probe.old) (O.taken out.old) (O.taken out.new)) }
+    ensures failed { IfErr result (λ fault. fault ≡ AuditFault.Write → O.failures out.new ≡ O.failures out.old + 1) }
+{
+    let outcome = match judged(alloc, dump, probe, roots) {
+        Ok(outcome) => outcome,
+        Err(fault) => return Err(fault),
+    };
+    let line = match outcome_text(alloc, &outcome) {
+        Ok(line) => line,
+        Err(OutOfMemory) => return Err(AuditFault::Memory),
+    };
+    match write_all(out, line.as_bytes()) {
+        Ok(()) => Ok(outcome),
+        Err(_) => Err(AuditFault::Write),
+    }
+}
+
+/// `audit_with` where the host's accesses start on bus 00 alone.
+pub fn audit<A: Allocator + Copy, D: Source, P: Source, O: Sink>(
+    alloc: A,
+    dump: &mut D,
+    probe: &mut P,
+    out: &mut O,
+) -> Result<Outcome, AuditFault>
+    ensures outcome { IfOk result (IsAudited (0 ∷ []) (D.left dump.old) (P.left probe.old)) }
+    ensures line { IfOk result (λ outcome. Appends (O.taken out.old) (O.taken out.new) (outcome_line outcome)) }
+    ensures fault { IfErr result (IsTextRefusal (D.left dump.old) (D.failures dump.old) (D.failures dump.new) (P.left probe.old) (P.failures probe.old) (P.failures probe.new)) }
+    ensures quiet { IfErr result (λ fault. fault ≢ AuditFault.Write → out.new ≡ out.old) }
+    ensures begun { IfErr result (λ fault. fault ≡ AuditFault.Write
+        → HasBegun (0 ∷ []) (D.left dump.old) (P.left probe.old) (O.taken out.old) (O.taken out.new)) }
+    ensures failed { IfErr result (λ fault. fault ≡ AuditFault.Write → O.failures out.new ≡ O.failures out.old + 1) }
+{
+    audit_with(alloc, dump, probe, out, Roots::host())
+}

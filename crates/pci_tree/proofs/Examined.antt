@@ -1,0 +1,66 @@
+-- The first fault of a function by itself.
+use Rattle.std.proofs.Common.{◌≡◌, ℕ, ◌<◌, List, refl, arith, sym, subst}
+use Rattle.pci_spec.specs.Capability.{HasChain}
+use Rattle.pci_spec.specs.System.{Function}
+use Rattle.pci_spec.specs.Decoded.{IsDecodable}
+use Rattle.pci_spec.specs.Fault.{Fault}
+use Rattle.pci_image.specs.declared.fault.ImageFault.{ImageFault}
+use Rattle.pci_image.specs.declared.fault.ImageFault.TheVariants.{NoVendor, HeaderKind, BarType, BarMask, BarPair, RomMask, WindowMask, CapRange, CapLoop, CapCut}
+use Rattle.pci_image.specs.Faults.{IsImageFaultIn}
+use Rattle.pci_image.specs.Caps.{IsChainFaultIn}
+use Rattle.pci_tree.specs.Profile.{IsAnswering, IsPlain, IsHereIn, IsClearBefore, IsFirstFault}
+use Rattle.pci_tree.specs.Survey.{image_fault_at}
+
+-- before its identity is looked at, nothing is wrong
+pub clear_1 : (f : Function) → IsClearBefore 1 f
+clear_1 f = record {
+  answers = λ lt. absurd (let no : ⊥ = omega (arith, lt) in no);
+  registers = λ lt. absurd (let no : ⊥ = omega (arith, lt) in no);
+  profile = λ lt. absurd (let no : ⊥ = omega (arith, lt) in no);
+}
+
+-- then its registers
+pub clear_2 : (f : Function) → IsAnswering f → IsClearBefore 2 f
+clear_2 f a = record {
+  answers = λ lt. a;
+  registers = λ lt. absurd (let no : ⊥ = omega (arith, lt) in no);
+  profile = λ lt. absurd (let no : ⊥ = omega (arith, lt) in no);
+}
+
+-- then its profile
+pub clear_3 : (f : Function) → IsAnswering f → IsDecodable f → HasChain f.image → IsClearBefore 3 f
+clear_3 f a d c = record {
+  answers = λ lt. a;
+  registers = λ lt. (d, c);
+  profile = λ lt. absurd (let no : ⊥ = omega (arith, lt) in no);
+}
+
+-- a fault of a phase up to which nothing is wrong is the first
+pub first_fault_of : (phase : ℕ) (f : Function) (e : Fault) → IsClearBefore phase f → IsHereIn phase f e → IsFirstFault f e
+first_fault_of phase f e clear is = record { here = is.here; clear = subst (λ n. IsClearBefore n f) (sym is.phase_is) clear }
+
+-- a fault of an image is a function's first, where its identity and probe are right
+pub first_of_image : (f : Function) (fault : ImageFault) → IsAnswering f → IsImageFaultIn f.image f.probe fault → IsFirstFault f (image_fault_at f.slot fault)
+first_of_image f NoVendor a is = record { here = (refl, is); clear = clear_1 f }
+first_of_image f HeaderKind a is = record { here = (refl, is); clear = clear_1 f }
+first_of_image f (BarType register) a is = record { here = (refl, is); clear = clear_2 f a }
+first_of_image f (BarMask register) a is = record { here = (refl, is); clear = clear_2 f a }
+first_of_image f (BarPair register) a is = record { here = (refl, is); clear = clear_2 f a }
+first_of_image f (RomMask register) a is = record { here = (refl, is); clear = clear_2 f a }
+first_of_image f (WindowMask register) a is = record { here = (refl, is); clear = clear_2 f a }
+first_of_image f (CapRange place) a is = record { here = (refl, is); clear = clear_2 f a }
+first_of_image f (CapLoop place) a is = record { here = (refl, is); clear = clear_2 f a }
+first_of_image f (CapCut place) a is = record { here = (refl, is); clear = clear_2 f a }
+
+-- a fault of a list is one of the image
+pub chain_fault_in : (image probe : List ℕ) (fault : ImageFault) → IsChainFaultIn image fault → IsImageFaultIn image probe fault
+chain_fault_in image probe (CapRange place) is = is
+chain_fault_in image probe (CapLoop place) is = is
+chain_fault_in image probe (CapCut place) is = is
+chain_fault_in image probe NoVendor is = absurd is
+chain_fault_in image probe HeaderKind is = absurd is
+chain_fault_in image probe (BarType register) is = absurd is
+chain_fault_in image probe (BarMask register) is = absurd is
+chain_fault_in image probe (BarPair register) is = absurd is
+chain_fault_in image probe (RomMask register) is = absurd is
+chain_fault_in image probe (WindowMask register) is = absurd is

@@ -1,0 +1,177 @@
+-- What stands of a survey that is finished.
+use Rattle.std.proofs.Common.{◌≡◌, ◌⊎◌, ℕ, ◌<◌, List, [], ◌∷◌, map, refl, Bool, true, false, not, ◌&&◌, inl, inr, arith, sym, ◌∙◌, ap, subst, Option, Some, None, eq-eqb, get_or}
+use Rattle.std.specs.Prelude.{IsTrue, IsFalse, ◌==◌}
+use Rattle.std.specs.List.{Contains, All}
+use Rattle.std.proofs.lemmas.Bool.{both_ways, and_from, not-true, eqb-true}
+use Rattle.std.proofs.lemmas.List.Elements.{All-contains, Contains-get_or}
+use Rattle.pci_spec.specs.Slot.{Slot}
+use Rattle.pci_spec.specs.System.{System, Function}
+use Rattle.pci_spec.specs.Bus.{IsNested}
+use Rattle.pci_spec.specs.Fault.{Fault, NoVendor, HeaderKind, BarType, BarMask, BarPair, RomMask, WindowMask, CapRange, CapLoop, CapCut, SlotsDiffer, StrayProbe, LoneFunction, PaletteSnoop, VgaEnable, IsaEnable, Subtractive, InReset, PowerState, BusRange, Orphan, Unreached, Clash, Split, IsIn, fault_number, has_no_vendor, has_other_layout, is_stray, has_function_zero}
+use Rattle.pci_spec.specs.Bar as bars
+use Rattle.pci_spec.specs.Bar.{BarFault}
+use Rattle.pci_spec.specs.Window.{breaks_window_rule}
+use Rattle.pci_spec.specs.Rom.{breaks_rom_rule}
+use Rattle.pci_spec.specs.Header.{layout, command}
+use Rattle.pci_spec.specs.Number.{has_bit}
+use Rattle.pci_spec.specs.Sound.{is_profile_number, IsInProfile, HasChains}
+use Rattle.pci_spec.specs.Decoded.{IsDecodable, HasRecords}
+use Rattle.pci_spec.proofs.BusRanges.{any_from}
+use Rattle.pci_spec.proofs.Members.{IsMade, in_map_to}
+use Rattle.pci_tree.proofs.EarlyFaults.{early-of_slots, early-of_here}
+use Rattle.pci_tree.specs.declared.record.Record.{Record}
+use Rattle.pci_tree.specs.Values.{record_value}
+use Rattle.pci_tree.specs.Ways.{slots_of}
+use Rattle.pci_tree.specs.Outline.{RiseBySlot, Tree}
+use Rattle.pci_tree.specs.BusNumbers.{IsInPlace, first_function}
+use Rattle.pci_tree.specs.Profile.{IsAnswering, IsPlain, phase_of, IsHere, IsClearBefore, controls_bridge, is_subtractive_bridge}
+use Rattle.pci_tree.specs.Survey.{Surveyed, AreKept, phase_noted, IsNoted, IsSurveyOf, IsOutlineOf, IsRefusedBy}
+use Rattle.pci_tree.proofs.Lifting.{Has}
+use Rattle.pci_tree.proofs.Faces.{SameFace, HaveFaces, faces_of}
+use Rattle.pci_tree.proofs.Places.{nested_in_places}
+
+-- ---- a fault of a function by itself is one of the system
+
+pub here_in : (roots : List ℕ) (s : System) (f : Function) (e : Fault) → Contains s f → IsHere f e → IsIn roots s e
+here_in roots s f (NoVendor slot) has is = (f, has, sym is.0, is.1)
+here_in roots s f (HeaderKind slot) has is = (f, has, sym is.0, is.1)
+here_in roots s f (BarType slot register) has is = (f, has, sym is.0, is.1)
+here_in roots s f (BarMask slot register) has is = (f, has, sym is.0, is.1)
+here_in roots s f (BarPair slot register) has is = (f, has, sym is.0, is.1)
+here_in roots s f (RomMask slot register) has is = (f, has, sym is.0, is.1)
+here_in roots s f (WindowMask slot register) has is = (f, has, sym is.0, is.1)
+here_in roots s f (CapRange slot place) has is = (f, has, sym is.0, is.1)
+here_in roots s f (CapLoop slot place) has is = (f, has, sym is.0, is.1)
+here_in roots s f (CapCut slot place) has is = (f, has, sym is.0, is.1)
+here_in roots s f (SlotsDiffer slot) has is = absurd is
+here_in roots s f (StrayProbe slot offset) has is = (f, has, sym is.0, is.1)
+here_in roots s f (LoneFunction slot) has is = absurd is
+here_in roots s f (PaletteSnoop slot) has is = (f, has, sym is.0, is.1)
+here_in roots s f (VgaEnable slot) has is = (f, has, sym is.0, is.1)
+here_in roots s f (IsaEnable slot) has is = (f, has, sym is.0, is.1)
+here_in roots s f (Subtractive slot) has is = (f, has, sym is.0, is.1)
+here_in roots s f (InReset slot) has is = (f, has, sym is.0, is.1)
+here_in roots s f (PowerState slot) has is = (f, has, sym is.0, is.1)
+here_in roots s f (BusRange slot) has is = absurd is
+here_in roots s f (Orphan slot) has is = absurd is
+here_in roots s f (Unreached slot register space address bridge) has is = absurd is
+here_in roots s f (Clash bus space address first first_register second second_register) has is = absurd is
+here_in roots s f (Split space address first first_register second second_register) has is = absurd is
+
+-- ---- no function is lone
+
+-- function 0 among the records is one of the system
+zero_function : (s : System) (rs : List Record) (slot : Slot) → HaveFaces s rs → Contains (slots_of rs) (first_function slot) → has_function_zero s slot ≡ true
+zero_function s rs slot faces has =
+    let made : IsMade (λ (r : Record). r.slot) rs (first_function slot) = in_map_to (λ (r : Record). r.slot) rs (first_function slot) has in
+    let x : (f : Function) × Contains s f × SameFace f made.from = faces.to_function made.from made.has in
+    let e : x.0.slot ≡ first_function slot = sym x.2.slot ∙ made.is in
+    any_from (λ (f : Function). f.slot.bus == slot.bus && f.slot.device == slot.device && f.slot.function == 0) s x.0 x.1
+    (and_from (x.0.slot.bus == slot.bus && x.0.slot.device == slot.device) (x.0.slot.function == 0)
+    (and_from (x.0.slot.bus == slot.bus) (x.0.slot.device == slot.device) (eq-eqb x.0.slot.bus slot.bus (ap (λ (y : Slot). y.bus) e)) (eq-eqb x.0.slot.device slot.device (ap (λ (y : Slot). y.device) e)))
+    (eq-eqb x.0.slot.function 0 (ap (λ (y : Slot). y.function) e)))
+
+no_lone : (roots : List ℕ) (s : System) (rs : List Record) (slot : Slot) → Has s rs → All (IsInPlace roots rs) rs → IsIn roots s (LoneFunction slot) → ⊥
+no_lone roots s rs slot has places (f, listed, same, (above, lone)) =
+    let faces : HaveFaces s rs = faces_of s rs has in
+    let x : (r : Record) × Contains rs r × SameFace f r = faces.to_record f listed in
+    let p : IsInPlace roots rs x.0 = All-contains (IsInPlace roots rs) rs x.0 places x.1 in
+    let e : x.0.slot ≡ slot = x.2.slot ∙ same in
+    both_ways (has_function_zero s slot) (not-true _ lone)
+    (zero_function s rs slot faces (subst (λ (y : Slot). 0 < y.function → Contains (slots_of rs) (first_function y)) e p.beside above))
+
+-- ---- the profile
+
+bar_is_fine : (o : Option BarFault) (e : BarFault) → o ≡ None → o ≡ Some e → ⊥
+bar_is_fine o e none some = cc
+
+module _ (roots : List ℕ) (s : System) (clear : (f : Function) → Contains s f → IsClearBefore 4 f) where
+  answering : (f : Function) → Contains s f → IsAnswering f
+  answering f has = (clear f has).answers (omega arith)
+
+  decodes : (f : Function) → Contains s f → IsDecodable f
+  decodes f has = ((clear f has).registers (omega arith)).0
+
+  plain : (f : Function) → Contains s f → IsPlain f.image
+  plain f has = (clear f has).profile (omega arith)
+
+  -- no fault of the profile is there, where no function is lone
+  pub profile_holds : ((slot : Slot) → IsIn roots s (LoneFunction slot) → ⊥) → IsInProfile roots s
+  profile_holds lone (NoVendor slot) n (f, has, e, is) = both_ways (has_no_vendor f.image) (answering f has).vendor is
+  profile_holds lone (HeaderKind slot) n (f, has, e, is) = both_ways (has_other_layout f.image) (answering f has).header is
+  profile_holds lone (BarType slot register) n (f, has, e, (i, within, at, is)) = bar_is_fine _ bars.BarType ((decodes f has).bars i within) is
+  profile_holds lone (BarMask slot register) n (f, has, e, (i, within, at, is)) = bar_is_fine _ bars.BarMask ((decodes f has).bars i within) is
+  profile_holds lone (BarPair slot register) n (f, has, e, (i, within, at, is)) = bar_is_fine _ bars.BarPair ((decodes f has).bars i within) is
+  profile_holds lone (RomMask slot register) n (f, has, e, (at, is)) = both_ways (breaks_rom_rule f.image f.probe) (decodes f has).rom is
+  profile_holds lone (WindowMask slot register) n (f, has, e, (kind, bridge, at, is)) = both_ways (breaks_window_rule kind f.image f.probe) ((decodes f has).windows kind (eqb-true (layout f.image) 1 bridge)) is
+  profile_holds lone (CapRange slot place) n is = both_ways false refl n
+  profile_holds lone (CapLoop slot place) n is = both_ways false refl n
+  profile_holds lone (CapCut slot place) n is = both_ways false refl n
+  profile_holds lone (SlotsDiffer slot) n is = absurd is
+  profile_holds lone (StrayProbe slot offset) n (f, has, e, is) = both_ways (is_stray f.image f.probe offset) ((answering f has).probe offset) is
+  profile_holds lone (LoneFunction slot) n is = lone slot is
+  profile_holds lone (PaletteSnoop slot) n (f, has, e, is) = both_ways (has_bit (command f.image) 5) (plain f has).palette is
+  profile_holds lone (VgaEnable slot) n (f, has, e, is) = both_ways (controls_bridge f.image 3) (plain f has).bridge.vga is
+  profile_holds lone (IsaEnable slot) n (f, has, e, is) = both_ways (controls_bridge f.image 2) (plain f has).bridge.isa is
+  profile_holds lone (Subtractive slot) n (f, has, e, is) = both_ways (is_subtractive_bridge f.image) (plain f has).bridge.subtractive is
+  profile_holds lone (InReset slot) n (f, has, e, is) = both_ways (controls_bridge f.image 6) (plain f has).bridge.reset is
+  profile_holds lone (PowerState slot) n (f, has, e, is) = (plain f has).awake is
+  profile_holds lone (BusRange slot) n is = both_ways false refl n
+  profile_holds lone (Orphan slot) n is = both_ways false refl n
+  profile_holds lone (Unreached slot register space address bridge) n is = both_ways false refl n
+  profile_holds lone (Clash bus space address first first_register second second_register) n is = both_ways false refl n
+  profile_holds lone (Split space address first first_register second second_register) n is = both_ways false refl n
+
+-- ---- finished
+
+clear_of : (v : Surveyed) (s : System) → IsSurveyOf v s → v.fault ≡ None → (f : Function) → Contains s f → IsClearBefore 4 f
+clear_of v s is none f has = subst (λ o. IsClearBefore (phase_noted o) f) none (is.clear f has)
+
+-- the functions that a survey took have its records, where nothing is noted
+pub records_of_survey : (v : Surveyed) (s : System) → IsSurveyOf v s → v.fault ≡ None → HasRecords s v.records
+records_of_survey v s is none = record {
+  decodable = λ k d within. ((clear_of v s is none (get_or s k d) (Contains-get_or s k d within)).registers (omega arith)).0;
+  same = is.same none;
+}
+
+-- its records make the outline, where each is in its place
+pub outline_of_survey : (v : Surveyed) (o : Tree) (rs : List Record) → v.fault ≡ None → v.records ≡ map record_value rs → RiseBySlot rs → All (IsInPlace v.roots rs) rs → o.roots ≡ v.roots → o.records ≡ v.records → IsOutlineOf v o
+outline_of_survey v o rs none made rise places roots records =
+    let have : (s : System) → IsSurveyOf v s → Has s rs = λ s is. subst (λ xs. HasRecords s xs) made (records_of_survey v s is none) in
+    record {
+      roots = roots;
+      records = records;
+      none = none;
+      decoded = λ s is. records_of_survey v s is none;
+      nested = λ s is. nested_in_places v.roots s rs (have s is) rise places;
+      profile = λ s is. profile_holds v.roots s (clear_of v s is none) (λ slot lone. no_lone v.roots s rs slot (have s is) places lone);
+      chains = λ s is f has. ((clear_of v s is none f has).registers (omega arith)).1;
+    }
+
+some_value : (x y : Fault) → Some x ≡ Some y → x ≡ y
+some_value x y e = cc
+
+none_is_not_some : (o : Option Fault) (e : Fault) → o ≡ None → o ≡ Some e → ⊥
+none_is_not_some o e none some = cc
+
+-- a survey is refused by the fault that is noted
+pub refused_by_noted : (v : Surveyed) (e : Fault) → v.fault ≡ Some e → IsRefusedBy v e
+refused_by_noted v e noted = record {
+  noted = λ n is. some_value e n (sym noted ∙ is);
+  there = λ s is. elim (is.there e noted) [
+    | inl slots ↦ inl (slots, noted)
+    | inr (f, has, here) ↦ inr (here_in v.roots s f e has here)
+  ];
+  early = λ s is. elim (is.there e noted) [
+    | inl slots ↦ early-of_slots e slots
+    | inr (f, has, here) ↦ early-of_here f e here
+  ];
+}
+
+-- else by one of places
+pub refused_by_place : (v : Surveyed) (e : Fault) → v.fault ≡ None → ((s : System) → HasRecords s v.records → IsIn v.roots s e) → fault_number e < 60 → IsRefusedBy v e
+refused_by_place v e none there early = record {
+  noted = λ n is. absurd (none_is_not_some v.fault n none is);
+  there = λ s is. inr (there s (records_of_survey v s is none));
+  early = λ s is. early;
+}

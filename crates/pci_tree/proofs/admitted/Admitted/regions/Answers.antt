@@ -1,0 +1,6 @@
+use Rattle.std.proofs.Common.{subst}
+use Rattle.std.proofs.lemmas.Result.{IfOk-weaker}
+use Rattle.pci_tree.proofs.admitted.Admitted.regions.Goals as goal
+
+pub returns : goal.returns
+returns g c = IfOk-weaker c.regions.result _ _ (λ v is. is _ c.outline.ensures.records) c.regions.ensures

@@ -1,0 +1,111 @@
+//! Admission of a dump and its probe: a survey of their blocks side by side.
+ghost use Rattle.std.specs.Prelude.{◌≡◌, ◌≢◌, ◌∷◌, [], None, IfNone, IfSome, OnOk, MatchResult};
+ghost use Rattle.pci_spec.specs.Slot.{IsRising};
+ghost use Rattle.pci_spec.specs.Text.{slots_of};
+ghost use Rattle.pci_spec.specs.System.{system_of};
+ghost use Rattle.pci_spec.specs.Fault.{IsInOne};
+ghost use Rattle.pci_tree.specs.Roots.{buses_of};
+ghost use Rattle.pci_tree.specs.Profile.{phase_of};
+ghost use Rattle.pci_tree.specs.Survey.{IsSurveyOf};
+ghost use Rattle.pci_tree.specs.Refusals.{IsPairRefusal};
+
+use super::admitted::Admitted;
+use super::fault::Fault;
+use super::roots::Roots;
+use super::survey::Survey;
+use pci_dump::block::Block;
+use pci_dump::dump::Dump;
+use pci_dump::memory::{OutOfMemory, Refused};
+use pci_image::slot::Slot;
+use std::alloc::Allocator;
+
+/// The smaller of the two slots at the first place where they differ, or the one that one side alone has there.
+fn first_difference(dump: &[Block], probe: &[Block]) -> Option<Slot>
+    requires dump { IsRising (slots_of dump.now) }
+    requires probe { IsRising (slots_of probe.now) }
+    ensures none { IfNone result (slots_of dump.now ≡ slots_of probe.now) }
+    ensures some { IfSome result (IsInOne dump.now probe.now) }
+{
+    let shared = dump.len().min(probe.len());
+    for i in 0..shared {
+        let ours = &dump[i];
+        let theirs = &probe[i];
+        if ours.slot.number() < theirs.slot.number() {
+            return Some(ours.slot);
+        }
+        if theirs.slot.number() < ours.slot.number() {
+            return Some(theirs.slot);
+        }
+    }
+    if shared < dump.len() {
+        let next = &dump[shared];
+        return Some(next.slot);
+    }
+    if shared < probe.len() {
+        let next = &probe[shared];
+        return Some(next.slot);
+    }
+    None
+}
+
+/// Adds all functions of a dump and a probe that list the same slots to a survey of none.
+fn add_all<A: Allocator>(
+    survey: &mut Survey<A>,
+    dump: &[Block],
+    probe: &[Block],
+) -> Result<(), OutOfMemory>
+    requires same { slots_of dump.now ≡ slots_of probe.now }
+    requires rising { IsRising (slots_of dump.now) }
+    requires none { IsSurveyOf survey.old [] }
+    requires first { survey.old.last ≡ None }
+    requires open { survey.old.fault ≡ None }
+    ensures taken { OnOk result (IsSurveyOf survey.new (system_of dump.now probe.now)) }
+    ensures roots { OnOk result (survey.new.roots ≡ survey.old.roots) }
+    ensures open { OnOk result (IfSome survey.new.fault (λ e. phase_of e ≢ 0)) }
+{
+    for i in 0..dump.len() {
+        survey.add(&dump[i], &probe[i])?;
+    }
+    Ok(())
+}
+
+/// Admits a dump and its probe with the one root bus 00.
+///
+/// # Errors
+///
+/// As of `admit_with`.
+pub fn admit<A: Allocator>(
+    alloc: A,
+    dump: Dump<A>,
+    probe: Dump<A>,
+) -> Result<Admitted<A>, Refused<Fault>>
+    ensures { MatchResult result (λ a. (a.roots ≡ 0 ∷ []) × (a.dump ≡ dump) × (a.probe ≡ probe)) (IsPairRefusal (0 ∷ []) dump probe) }
+{
+    admit_with(alloc, dump, probe, Roots::host())
+}
+
+/// Admits a dump and its probe with these root buses. Both are dropped where they are refused.
+///
+/// # Errors
+///
+/// 30 `SlotsDiffer`, else the first fault of the earliest phase: 20, 21 and 31 of identities and probes, 22 to 29 of
+/// registers and capabilities lists, 51 to 56 of profiles, 50, 57 and 58 of places; 2 where a growth was refused.
+pub fn admit_with<A: Allocator>(
+    alloc: A,
+    dump: Dump<A>,
+    probe: Dump<A>,
+    roots: Roots,
+) -> Result<Admitted<A>, Refused<Fault>>
+    ensures { MatchResult result (λ a. (a.roots ≡ buses_of roots) × (a.dump ≡ dump) × (a.probe ≡ probe)) (IsPairRefusal (buses_of roots) dump probe) }
+{
+    match first_difference(dump.blocks(), probe.blocks()) {
+        Some(slot) => return Err(Refused::Fault(Fault::SlotsDiffer(slot))),
+        None => {}
+    }
+    let mut survey = Survey::with(alloc, roots);
+    add_all(&mut survey, dump.blocks(), probe.blocks())?;
+    match survey.finish() {
+        Err(refused) => Err(refused),
+        Ok(outline) => Ok(Admitted::of(dump, probe, outline)),
+    }
+}

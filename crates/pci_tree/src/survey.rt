@@ -1,0 +1,172 @@
+//! A survey: functions are taken one by one, each with its image and its probe, and what is decoded of them is kept.
+ghost use Rattle.std.specs.Prelude.{◌≡◌, ◌≢◌, ◌<◌, ℕ, [], ◌∷◌, ◌++◌, None, Some, OnOk, OnErr, IfSome, MatchResult};
+ghost use Rattle.std.specs.Option.{option_map};
+ghost use Rattle.pci_spec.specs.Stops.{IsAboveLast};
+ghost use Rattle.pci_spec.specs.System.{System};
+ghost use Rattle.pci_spec.specs.Fault.{SlotsDiffer};
+ghost use Rattle.pci_tree.specs.Fault.{fault_of};
+ghost use Rattle.pci_tree.specs.Roots.{buses_of};
+ghost use Rattle.pci_tree.specs.Profile.{phase_of};
+ghost use Rattle.pci_tree.specs.Survey.{earlier, IsSurveyOf, IsAdded, IsOutlineOf};
+
+use super::examine::examine;
+use super::fault::Fault;
+use super::outline::Outline;
+use super::record::Record;
+use super::roots::Roots;
+use pci_dump::block::Block;
+use pci_dump::memory::{OutOfMemory, Refused};
+use pci_image::slot::Slot;
+use std::alloc::{Allocator, Global};
+use std::marker::Model;
+
+/// The phase in which a fault is looked for: 0 slots, 1 identities and probes, 2 registers and capabilities lists, 3
+/// profiles, 4 places in the tree of buses, 5 regions.
+fn phase(fault: &Fault) -> u8
+    ensures { result ≡ phase_of (fault_of fault.now) }
+{
+    match fault {
+        Fault::SlotsDiffer(_) => 0,
+        Fault::NoVendor(_) | Fault::HeaderKind(_) | Fault::StrayProbe(..) => 1,
+        Fault::BarType(..) | Fault::BarMask(..) | Fault::BarPair(..) => 2,
+        Fault::RomMask(..) | Fault::WindowMask(..) => 2,
+        Fault::CapRange(..) | Fault::CapLoop(..) | Fault::CapCut(..) => 2,
+        Fault::PaletteSnoop(_) | Fault::VgaEnable(_) | Fault::IsaEnable(_) => 3,
+        Fault::Subtractive(_) | Fault::InReset(_) | Fault::PowerState(_) => 3,
+        Fault::LoneFunction(_) | Fault::BusRange(_) | Fault::Orphan(_) => 4,
+        Fault::Unreached { .. } | Fault::Clash { .. } | Fault::Split { .. } => 5,
+    }
+}
+
+/// The fault of the earlier phase; of two of one phase, the one that is noted.
+fn earlier(noted: Option<Fault>, fault: Fault) -> Fault
+    ensures { fault_of result ≡ earlier (option_map fault_of noted) (fault_of fault) }
+{
+    match noted {
+        None => fault,
+        Some(noted) => {
+            if phase(&fault) < phase(&noted) {
+                fault
+            } else {
+                noted
+            }
+        }
+    }
+}
+
+/// What is decoded of the functions taken so far, or the fault that is noted of them. It holds no image.
+#[derive(Drop)]
+pub struct Survey<A: Allocator = Global> {
+    records: Vec<Record, A>,
+    roots: Roots,
+    noted: Option<Fault>,
+    last: Option<Slot>,
+}
+
+impl<A: Allocator> Model for Survey<A> {
+    ghost use Rattle.std.specs.Prelude.{map};
+    ghost use Rattle.std.specs.Option.{option_map};
+    ghost use Rattle.pci_tree.specs.Fault.{fault_of};
+    ghost use Rattle.pci_tree.specs.Roots.{buses_of};
+    ghost use Rattle.pci_tree.specs.Values.{record_value};
+    ghost use Rattle.pci_tree.specs.Survey.{Surveyed, AreKept};
+
+    ghost Value = { Surveyed };
+
+    ghost view = { λ s. record { roots = buses_of s.roots; records = map record_value s.records.items; fault = option_map fault_of s.noted; last = s.last } };
+
+    ghost invariant = { λ s. AreKept s.records.items s.last };
+}
+
+impl<A: Allocator> Survey<A> {
+    ghost use Rattle.pci_tree.specs.Refusals.{IsRefusalOf};
+
+    /// The survey of no functions, with the one root bus 00. It grows by `alloc`.
+    pub fn new(alloc: A) -> Survey<A>
+        ensures value { result ≡ record { roots = 0 ∷ []; records = []; fault = None; last = None } }
+        ensures none { IsSurveyOf result [] }
+    {
+        Survey::with(alloc, Roots::host())
+    }
+
+    /// The survey of no functions, with these root buses.
+    pub fn with(alloc: A, roots: Roots) -> Survey<A>
+        ensures value { result ≡ record { roots = buses_of roots; records = []; fault = None; last = None } }
+        ensures none { IsSurveyOf result [] }
+    {
+        Survey {
+            records: Vec::new(alloc),
+            roots,
+            noted: None,
+            last: None,
+        }
+    }
+
+    /// Takes one more function, by its block in the dump and in the probe. Its record is appended, or its first fault, 20
+    /// to 29, 31 or 51 to 56, is noted where none of an earlier or the same phase is. From the first noted fault on no
+    /// record is appended.
+    ///
+    /// # Errors
+    ///
+    /// 2 where a growth was refused. The survey is then as it was.
+    pub fn add(&mut self, block: &Block, probe: &Block) -> Result<(), OutOfMemory>
+        requires slots { probe.now.slot ≡ block.now.slot }
+        requires above { IsAboveLast self.old.last block.now.slot }
+        requires open { IfSome self.old.fault (λ e. phase_of e ≢ 0) }
+        ensures added { OnOk result (IsAdded self.old self.new record { slot = block.now.slot; image = block.now.image; probe = probe.now.image }) }
+        ensures taken { OnOk result ((s : System) → IsSurveyOf self.old s
+            → IsSurveyOf self.new (s ++ record { slot = block.now.slot; image = block.now.image; probe = probe.now.image } ∷ [])) }
+        ensures err { OnErr result (self.new ≡ self.old) }
+    {
+        let slot = block.slot;
+        // Read for what it says of the slot.
+        let _number = slot.number();
+        match examine(slot, &block.image, &probe.image) {
+            Err(fault) => {
+                self.noted = Some(earlier(self.noted, fault));
+                self.last = Some(slot);
+                Ok(())
+            }
+            Ok(decoded) => {
+                if self.noted.is_some() {
+                    self.last = Some(slot);
+                    return Ok(());
+                }
+                self.records.push(decoded)?;
+                self.last = Some(slot);
+                Ok(())
+            }
+        }
+    }
+
+    /// Notes 30 `SlotsDiffer` for a slot that one side alone has. No other fault comes before it.
+    pub fn only(&mut self, slot: Slot)
+        requires { IfSome self.old.fault (λ e. phase_of e ≢ 0) }
+        ensures { self.new ≡ record { roots = self.old.roots; records = self.old.records; fault = Some (SlotsDiffer slot); last = self.old.last } }
+    {
+        self.noted = Some(Fault::SlotsDiffer(slot));
+    }
+
+    /// The outline of the survey's records.
+    ///
+    /// # Errors
+    ///
+    /// The noted fault, else 50 `LoneFunction`, 58 `Orphan` or 57 `BusRange` of the first function that has one.
+    pub fn finish(self) -> Result<Outline<A>, Refused<Fault>>
+        ensures { MatchResult result (IsOutlineOf self) (IsRefusalOf self) }
+    {
+        let Survey {
+            records,
+            roots,
+            noted,
+            last: _,
+        } = self;
+        match noted {
+            Some(fault) => Err(Refused::Fault(fault)),
+            None => match Outline::placed(records, roots) {
+                Err(fault) => Err(Refused::Fault(fault)),
+                Ok(outline) => Ok(outline),
+            },
+        }
+    }
+}
