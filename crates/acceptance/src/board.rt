@@ -63,7 +63,7 @@ impl<'a> Function<'a> {
     }
 
     /// The 256 bytes that it holds.
-    fn image(&self) -> [u8; 256] {
+    pub fn image(&self) -> [u8; 256] {
         let mut image = [0; 256];
         put(&mut image, 0x00, 0x5678_1234);
         put(&mut image, 0x04, u32::from(self.command));
@@ -83,7 +83,7 @@ impl<'a> Function<'a> {
     }
 
     /// What its address registers read back.
-    fn probe(&self) -> [u8; 256] {
+    pub fn probe(&self) -> [u8; 256] {
         let mut probe = [0; 256];
         if self.buses.is_some() {
             put(&mut probe, 0x20, 0xfff0_fff0);

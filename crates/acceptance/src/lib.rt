@@ -15,9 +15,13 @@ mod faults;
 #[cfg(test)]
 mod hostile;
 #[cfg(test)]
+mod interrupted;
+#[cfg(test)]
 mod listings;
 #[cfg(test)]
 mod messages;
+#[cfg(test)]
+mod outlines;
 #[cfg(test)]
 mod program;
 #[cfg(test)]
