@@ -1,5 +1,6 @@
-//! Records of functions, their regions, roots, and the texts of faults.
+//! Admission, records of functions, their regions, roots, and the texts of faults.
 
+mod admissions;
 mod faults;
 mod records;
 mod regions;
