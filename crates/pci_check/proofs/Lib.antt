@@ -10,3 +10,4 @@ pub mod Judges
 pub mod Listed
 pub mod Verdicts
 pub mod Outcomes
+pub mod Beside

@@ -1,7 +1,5 @@
 -- What an audit of two texts answers.
 use Rattle.std.specs.Prelude.{◌≡◌, ◌≢◌, ◌⊎◌, ℕ, ◌+◌, ◌<◌, List, Option, None, Some}
-use Rattle.std.specs.Option.{option_map}
-use Rattle.std.specs.Io.KnownBytes.{Appends}
 use Rattle.pci_spec.specs.Text.{Block, IsTextOf, slots_of}
 use Rattle.pci_spec.specs.System.{system_of}
 use Rattle.pci_spec.specs.Fault.{IsThere, fault_number}

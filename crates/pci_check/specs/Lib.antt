@@ -6,4 +6,6 @@ pub mod Clashes
 pub mod Stops
 pub mod Judgement
 pub mod Verdicts
+pub mod AuditFault
 pub mod Audits
+pub mod SideBySide

@@ -1,52 +1,35 @@
 //! The verdict on two texts, from the bytes that come in to the line that goes out.
-ghost use Rattle.std.specs.Prelude.{◌≡◌, ◌≢◌, ◌+◌, [], ◌∷◌, IfOk, IfErr, string_bytes};
+ghost use Rattle.std.specs.Prelude.{◌≡◌, ◌≢◌, ◌+◌, ℕ, List, [], ◌∷◌, Option, IfOk, IfErr, string_bytes};
 ghost use Rattle.std.specs.Io.KnownBytes.{Appends};
 ghost use Rattle.pci_tree.specs.Roots.{buses_of};
-ghost use Rattle.pci_check.specs.Audits.{IsOutcomeOf, IsAudited, IsDumpOf, IsReadFaultOf, IsTextRefusal, HasBegun, outcome_line};
+ghost use Rattle.pci_check.specs.Audits.{IsAudited, IsTextRefusal, HasBegun, outcome_line};
+ghost use Rattle.pci_check.specs.SideBySide.{IsSurveyOfTexts};
 
-use super::check::check;
+use super::judge::judge;
 use super::line::line_of;
 use super::outcome::{AuditFault, Outcome};
-use super::verdict::Verdict;
-use pci_dump::dump::Dump;
+use super::side_by_side::survey_texts;
 use pci_dump::ends::{Sink, Source};
 use pci_dump::memory::{OutOfMemory, Refused};
-use pci_dump::read_fault::ReadFault;
-use pci_dump::reader::read_dump;
 use pci_dump::write::write_all;
-use pci_tree::admit::admit_with;
 use pci_tree::roots::Roots;
+use pci_tree::survey::Survey;
 use std::alloc::Allocator;
 
-/// The verdict on a dump and its probe.
-fn outcome_of<A: Allocator + Copy>(
-    alloc: A,
-    dump: Dump<A>,
-    probe: Dump<A>,
-    roots: Roots,
-) -> Result<Outcome, OutOfMemory>
-    ensures { IfOk result (IsOutcomeOf (buses_of roots) dump probe) }
+/// The verdict on two texts whose functions were surveyed.
+fn outcome_of<A: Allocator + Copy>(alloc: A, survey: Survey<A>) -> Result<Outcome, OutOfMemory>
+    ensures { IfOk result (λ outcome. (buses : List ℕ) (dump_left probe_left : Option (List ℕ))
+        → IsSurveyOfTexts buses dump_left probe_left survey → IsAudited buses dump_left probe_left outcome) }
 {
-    let (_listed, _read_back) = (dump.blocks(), probe.blocks());
-    let admitted = match admit_with(alloc, dump, probe, roots) {
-        Ok(admitted) => admitted,
+    let outline = match survey.finish() {
+        Ok(outline) => outline,
         Err(Refused::Fault(fault)) => return Ok(Outcome::No(fault)),
         Err(Refused::Memory) => return Err(OutOfMemory),
     };
-    let _outline = admitted.outline();
-    match check(alloc, &admitted)? {
-        Verdict::Yes(_) => Ok(Outcome::Yes),
-        Verdict::No(fault) => Ok(Outcome::No(fault)),
+    match judge(alloc, &outline)? {
+        Some(fault) => Ok(Outcome::No(fault)),
+        None => Ok(Outcome::Yes),
     }
-}
-
-/// Reads a text to its end.
-fn read<A: Allocator, S: Source>(alloc: A, source: &mut S) -> Result<Dump<A>, ReadFault>
-    ensures dump { IfOk result (λ dump. IsDumpOf (S.left source.old) dump) }
-    ensures kept { IfOk result (λ dump. S.failures source.new ≡ S.failures source.old) }
-    ensures fault { IfErr result (λ fault. fault ≢ ReadFault.Memory → IsReadFaultOf (S.left source.old) (S.failures source.old) (S.failures source.new) fault) }
-{
-    read_dump(alloc, source)
 }
 
 /// The verdict on two texts, from which nothing has been written.
@@ -60,17 +43,11 @@ fn judged<A: Allocator + Copy, D: Source, P: Source>(
     ensures fault { IfErr result (IsTextRefusal (D.left dump.old) (D.failures dump.old) (D.failures dump.new) (P.left probe.old) (P.failures probe.old) (P.failures probe.new)) }
     ensures read { IfErr result (λ fault. fault ≢ AuditFault.Write) }
 {
-    let listed = match read(alloc, dump) {
-        Ok(listed) => listed,
-        Err(ReadFault::Memory) => return Err(AuditFault::Memory),
-        Err(fault) => return Err(AuditFault::Dump(fault)),
+    let survey = match survey_texts(alloc, dump, probe, roots) {
+        Ok(survey) => survey,
+        Err(fault) => return Err(fault),
     };
-    let read_back = match read(alloc, probe) {
-        Ok(read_back) => read_back,
-        Err(ReadFault::Memory) => return Err(AuditFault::Memory),
-        Err(fault) => return Err(AuditFault::Probe(fault)),
-    };
-    match outcome_of(alloc, listed, read_back, roots) {
+    match outcome_of(alloc, survey) {
         Ok(outcome) => Ok(outcome),
         Err(OutOfMemory) => Err(AuditFault::Memory),
     }

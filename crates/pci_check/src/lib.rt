@@ -8,6 +8,7 @@ pub mod judge;
 pub mod line;
 pub mod outcome;
 pub mod reached;
+mod side_by_side;
 pub mod split;
 pub mod sweep;
 pub mod unreached;

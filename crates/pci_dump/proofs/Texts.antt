@@ -9,7 +9,7 @@ use Rattle.pci_dump.specs.declared.read_fault.ReadFault.{ReadFault}
 use Rattle.pci_dump.specs.declared.read_fault.ReadFault.TheVariants as faults
 use Rattle.pci_dump.specs.declared.ahead.Progress.TheVariants as stages
 use Rattle.pci_dump.specs.ReadFault.{IsTextFault}
-use Rattle.pci_dump.specs.State.{State, TakesBlock, TakesNone, TakesFault}
+use Rattle.pci_dump.specs.State.{State, IsRead, TakesBlock, TakesNone, TakesFault}
 use Rattle.pci_spec.proofs.Spelling.{text_same}
 use Rattle.pci_dump.proofs.Blocks.{dump_more}
 
@@ -22,15 +22,6 @@ pub last_more : (blocks : List Block) (b : Block) → last_slot (blocks ++ b ∷
 last_more [] b = refl
 last_more (a ∷ []) b = refl
 last_more (a ∷ c ∷ blocks) b = last_more (c ∷ blocks) b
-
--- the text of these blocks was read
-pub record IsRead (before : Option (List ℕ)) (failures : ℕ) (state : State) (blocks : List Block) : Type 0 where
-  pub dump : IsDump blocks
-  pub text : Consumes before state.left (text_of blocks)
-  pub count : state.count ≡ length blocks
-  pub last : state.last ≡ last_slot blocks
-  pub going : state.progress ≡ stages.Open
-  pub fine : state.failures ≡ failures
 
 consumes_more : (o m n : Option (List ℕ)) (xs ys : List ℕ) → Consumes o m xs → Consumes m n ys → Consumes o n (xs ++ ys)
 consumes_more None m n xs ys h k = tt

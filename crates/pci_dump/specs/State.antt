@@ -80,3 +80,12 @@ pub record TakesFault (old new : State) (fault : ReadFault) : Type 0 where
   pub io : fault ≡ faults.Io → old.progress ≡ stages.Open → new.failures ≡ old.failures + 1
   pub fine : fault ≢ faults.Io → new.failures ≡ old.failures
   pub no_memory : fault ≢ faults.Memory
+
+-- Of a text, which had these bytes and failures before, just the text of these blocks was read.
+pub record IsRead (before : Option (List ℕ)) (failures : ℕ) (state : State) (blocks : List Block) : Type 0 where
+  pub dump : IsDump blocks
+  pub text : Consumes before state.left (text_of blocks)
+  pub count : state.count ≡ length blocks
+  pub last : state.last ≡ last_slot blocks
+  pub going : state.progress ≡ stages.Open
+  pub fine : state.failures ≡ failures

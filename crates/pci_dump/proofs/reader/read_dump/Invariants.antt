@@ -1,6 +1,5 @@
 use Rattle.std.proofs.Common.{◌-◌}
-use Rattle.pci_dump.specs.State.{IsOver, state_of}
-use Rattle.pci_dump.proofs.Texts.{IsRead}
+use Rattle.pci_dump.specs.State.{IsOver, state_of, IsRead}
 use Rattle.pci_dump.proofs.reader.read_dump.Given as goal
 
 abbrev pub invariant-loop-dump : goal.invariant-loop-dump
