@@ -3,6 +3,7 @@ ghost use Rattle.std.specs.Prelude.{◌≡◌, ◌≢◌, ◌⊎◌, ◌<◌, �
 ghost use Rattle.std.specs.String.{string_bytes};
 ghost use Rattle.std.specs.Io.KnownBytes.{Appends};
 ghost use Rattle.pci_spec.specs.Line.{verdict_line};
+ghost use Rattle.pci_check.specs.Audits.{HasBegun};
 ghost use Rattle.pci_dump.specs.Begun.{AppendsBeginning};
 ghost use Rattle.pci_tree.specs.Fault.{fault_of};
 ghost use Rattle.pci_tree.specs.Roots.{buses_of};
@@ -171,6 +172,8 @@ fn run_check<A: Allocator + Copy, D: Source, P: Source, O: Sink>(
 ) -> Result<u8, Trouble>
     ensures checked { IfOk result (λ status. IsChecked (buses_of roots) (D.left dump.old) (P.left probe.old) status (O.taken out.old) (O.taken out.new)) }
     ensures quiet { IfErr result (λ trouble. trouble ≢ Trouble.Io → out.new ≡ out.old) }
+    ensures begun { IfErr result (λ trouble. trouble ≡ Trouble.Io
+        → HasBegun (buses_of roots) (D.left dump.old) (P.left probe.old) (O.taken out.old) (O.taken out.new)) }
     ensures status { IfOk result (λ status. status < 2) }
 {
     match audit_with(alloc, dump, probe, out, roots) {
@@ -203,6 +206,8 @@ pub fn run<A: Allocator + Copy, D: Source, P: Source, O: Sink, E: Sink>(
     ensures quiet { (result ≡ 2) ⊎ (result ≡ 3) → out.new ≡ out.old }
     ensures begun { line.now.task ≡ Task.Show → result ≡ 4
         → (out.new ≡ out.old) ⊎ IsBegun (D.left dump.old) (P.left probe.old) (O.taken out.old) (O.taken out.new) }
+    ensures check_begun { (roots : Roots) → line.now.task ≡ Task.Check roots → result ≡ 4
+        → (out.new ≡ out.old) ⊎ HasBegun (buses_of roots) (D.left dump.old) (P.left probe.old) (O.taken out.old) (O.taken out.new) }
     ensures size_begun { line.now.task ≡ Task.Size → result ≡ 4
         → (out.new ≡ out.old) ⊎ IsSizeBegun (D.left dump.old) (P.left probe.old) (O.taken out.old) (O.taken out.new) }
     ensures known { result ≤ 4 }
