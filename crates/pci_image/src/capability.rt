@@ -6,7 +6,7 @@ ghost use Rattle.pci_image.specs.Caps.{place_of, body_of, IsCapIn, IsChainFaultI
 
 use super::fault::ImageFault;
 use super::image::Image;
-use super::offset::{CAPABILITIES_POINTER, STATUS};
+use super::offset::{CAPABILITIES_POINTER, MESSAGE_CONTROL, STATUS};
 use arrayvec::ArrayVec;
 
 /// A capability: its place, which is the byte offset of its ID, and its body, which is the image's
@@ -40,17 +40,21 @@ const POINTER_BITS: u8 = 0xfc;
 /// The first offset behind the header.
 const FIRST_PLACE: u8 = 0x40;
 
-/// The ID of power management.
-const POWER_MANAGEMENT: u8 = 0x01;
+/// The ID of power management (Power Management 1.2, 3.2.1).
+pub const POWER_MANAGEMENT: u8 = 0x01;
 
 /// The ID of message signaled interrupts.
 const MESSAGE_SIGNALED_INTERRUPTS: u8 = 0x05;
 
-/// Bit 7 of Message Control: the address has 64 bits (6.8.1.3).
-const WIDE_ADDRESS: u16 = 1 << 7;
+/// The bit number of 64-bit Address Capable in Message Control (6.8.1.3).
+pub const WIDE_ADDRESS_BIT: u32 = 7;
 
-/// Bit 8 of Message Control: each vector can be masked (6.8.1.3).
-const VECTOR_MASKING: u16 = 1 << 8;
+/// The bit number of Per-vector Masking Capable in Message Control (6.8.1.3).
+pub const VECTOR_MASKING_BIT: u32 = 8;
+
+const WIDE_ADDRESS: u16 = 1 << WIDE_ADDRESS_BIT;
+
+const VECTOR_MASKING: u16 = 1 << VECTOR_MASKING_BIT;
 
 /// The pointer at an offset, without its reserved bits.
 fn pointer_at(image: &Image, off: u8) -> u8
@@ -127,7 +131,7 @@ impl<'a> Cap<'a> {
                 Some(Cap::Power { place, body })
             }
             MESSAGE_SIGNALED_INTERRUPTS => {
-                let body = body_at(image, place, msi_length(image.u16(place + 2)))?;
+                let body = body_at(image, place, msi_length(image.u16(place + MESSAGE_CONTROL)))?;
                 Some(Cap::Msi { place, body })
             }
             _ => {

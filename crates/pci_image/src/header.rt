@@ -25,7 +25,7 @@ pub enum Header<'a> {
 }
 
 /// The Vendor ID of a function that doesn't answer (6.2.1).
-const NO_VENDOR: u16 = 0xffff;
+pub const NO_VENDOR: u16 = 0xffff;
 
 /// The bits of Header Type that give the layout; the other one says multi-function (6.2.1).
 const LAYOUT_BITS: u8 = 0x7f;

@@ -4,8 +4,8 @@ ghost use Rattle.pci_spec.specs.Header as header;
 ghost use Rattle.pci_spec.specs.Machine as machine;
 
 use pci_image::offset::{
-    BRIDGE_EXPANSION_ROM, EXPANSION_ROM, IO_BASE, IO_BASE_UPPER, MEMORY_BASE, PREFETCHABLE_BASE,
-    PREFETCHABLE_BASE_UPPER, PREFETCHABLE_LIMIT_UPPER,
+    BASE_ADDRESS, BRIDGE_EXPANSION_ROM, EXPANSION_ROM, IO_BASE, IO_BASE_UPPER, MEMORY_BASE,
+    PREFETCHABLE_BASE, PREFETCHABLE_BASE_UPPER, PREFETCHABLE_LIMIT_UPPER,
 };
 
 /// An address register, with the width in bytes of the accesses that are made to it.
@@ -18,27 +18,27 @@ pub struct AddressRegister {
 /// The address registers of a type 0 header: six BARs and the expansion ROM (PCI 3.0, 6.2.5).
 const DEVICE: [AddressRegister; 7] = [
     AddressRegister {
-        offset: 0x10,
+        offset: BASE_ADDRESS,
         width: 4,
     },
     AddressRegister {
-        offset: 0x14,
+        offset: BASE_ADDRESS + 4,
         width: 4,
     },
     AddressRegister {
-        offset: 0x18,
+        offset: BASE_ADDRESS + 8,
         width: 4,
     },
     AddressRegister {
-        offset: 0x1c,
+        offset: BASE_ADDRESS + 12,
         width: 4,
     },
     AddressRegister {
-        offset: 0x20,
+        offset: BASE_ADDRESS + 16,
         width: 4,
     },
     AddressRegister {
-        offset: 0x24,
+        offset: BASE_ADDRESS + 20,
         width: 4,
     },
     AddressRegister {
@@ -52,11 +52,11 @@ const DEVICE: [AddressRegister; 7] = [
 /// stands behind them.
 const BRIDGE: [AddressRegister; 9] = [
     AddressRegister {
-        offset: 0x10,
+        offset: BASE_ADDRESS,
         width: 4,
     },
     AddressRegister {
-        offset: 0x14,
+        offset: BASE_ADDRESS + 4,
         width: 4,
     },
     AddressRegister {

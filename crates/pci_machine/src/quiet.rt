@@ -8,11 +8,9 @@ ghost use Rattle.pci_machine.specs.Outcome.{failures_of_stop};
 
 use crate::access_at::{Stop, read_at, write_at};
 use crate::port::{ConfigPort, PortError};
+use pci_image::offset::COMMAND;
 use pci_image::slot::Slot;
 use std::marker::Model;
-
-/// The offset of Command (PCI 3.0, 6.2.2).
-pub const COMMAND: u8 = 0x04;
 
 /// Command has two bytes. A write of four would clear bits of Status, which stands behind it.
 pub const COMMAND_WIDTH: u8 = 2;

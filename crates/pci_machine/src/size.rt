@@ -14,12 +14,12 @@ ghost use Rattle.pci_machine.specs.SizeOutcome.{SizingLeaves, failures_of_size};
 
 use crate::access_at::{Stop, read_at};
 use crate::port::{ConfigPort, PortError};
-use crate::quiet::{COMMAND, COMMAND_WIDTH, DECODE_BITS, Quiet};
+use crate::quiet::{COMMAND_WIDTH, DECODE_BITS, Quiet};
 use crate::read_backs::read_backs;
 use crate::size_fault::SizeFault;
 use pci_image::fault::ImageFault;
 use pci_image::image::Image;
-use pci_image::offset::{HEADER_TYPE, VENDOR_ID};
+use pci_image::offset::{COMMAND, HEADER_TYPE, VENDOR_ID};
 use pci_image::slot::Slot;
 
 /// The Vendor ID of a function that doesn't answer (PCI 3.0, 6.2.1).

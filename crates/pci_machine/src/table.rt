@@ -10,23 +10,13 @@ ghost use Rattle.pci_spec.specs.Machine.{bar_field};
 ghost use Rattle.pci_machine.specs.RegisterTable.{writable_of, clearing_of, set_bits, is_lawful_row, status_fields, writable_by, clearing_by, rest_of};
 
 use crate::access::number_of;
-use crate::quiet::COMMAND;
 use pci_image::image::Image;
 use pci_image::offset::{
-    BASE_ADDRESS, BRIDGE_EXPANSION_ROM, EXPANSION_ROM, IO_BASE, IO_BASE_UPPER, IO_LIMIT,
-    IO_LIMIT_UPPER, MEMORY_BASE, MEMORY_LIMIT, PREFETCHABLE_BASE, PREFETCHABLE_BASE_UPPER,
-    PREFETCHABLE_LIMIT, PREFETCHABLE_LIMIT_UPPER, STATUS,
+    BASE_ADDRESS, BRIDGE_EXPANSION_ROM, COMMAND, EXPANSION_ROM, INTERRUPT_LINE, IO_BASE,
+    IO_BASE_UPPER, IO_LIMIT, IO_LIMIT_UPPER, MEMORY_BASE, MEMORY_LIMIT, PREFETCHABLE_BASE,
+    PREFETCHABLE_BASE_UPPER, PREFETCHABLE_LIMIT, PREFETCHABLE_LIMIT_UPPER, PRIMARY_BUS,
+    SECONDARY_BUS, SECONDARY_STATUS, STATUS, SUBORDINATE_BUS,
 };
-
-const PRIMARY_BUS: u8 = 0x18;
-
-const SECONDARY_BUS: u8 = 0x19;
-
-const SUBORDINATE_BUS: u8 = 0x1a;
-
-const SECONDARY_STATUS: u8 = 0x1e;
-
-const INTERRUPT_LINE: u8 = 0x3c;
 
 /// Which bits of a register a write sets.
 #[derive(Clone, Copy, Debug, PartialEq, Eq)]

@@ -10,18 +10,10 @@ use pci_image::capability::chain;
 use pci_image::fault::ImageFault;
 use pci_image::header::Header;
 use pci_image::image::Image;
+use pci_image::offset::{COMMAND, PRIMARY_BUS, SECONDARY_BUS, SUBORDINATE_BUS};
 use pci_image::rom::register::rom;
 use pci_image::slot::Slot;
 use pci_image::window::Windows;
-
-/// The byte offset of Command (PCI 3.0, 6.2.2).
-const COMMAND: u8 = 0x04;
-/// The byte offsets of a bridge's bus numbers (Bridge 1.2, 3.2.5).
-const PRIMARY_BUS: u8 = 0x18;
-
-const SECONDARY_BUS: u8 = 0x19;
-
-const SUBORDINATE_BUS: u8 = 0x1a;
 
 /// The bus numbers and windows of a function, where it is a bridge.
 fn bridge_at(image: &Image, probe: &Image) -> Result<Option<Bridge>, ImageFault>

@@ -9,40 +9,25 @@ ghost use Rattle.pci_tree.specs.Profile.{IsAnswering, IsPlainBridge, IsPlain, Is
 
 use super::fault::Fault;
 use super::stray::stray_byte;
-use pci_image::capability::Cap;
+use pci_image::capability::{Cap, POWER_MANAGEMENT};
+use pci_image::header::NO_VENDOR;
 use pci_image::image::Image;
+use pci_image::offset::{
+    BASE_CLASS, BRIDGE_CONTROL, COMMAND, HEADER_TYPE, INTERFACE, POWER_CONTROL, SUB_CLASS,
+    VENDOR_ID,
+};
 use pci_image::slot::Slot;
 
-/// The byte offset of Vendor ID (PCI 3.0, 6.2.1).
-const VENDOR_ID: u8 = 0x00;
-/// What Vendor ID reads where no function answers (PCI 3.0, 6.2.1).
-const NO_VENDOR: u16 = 0xffff;
-/// The byte offset of Command (PCI 3.0, 6.2.2), and its bit number for VGA palette snooping.
-const COMMAND: u8 = 0x04;
-
+/// The bit number of VGA palette snooping in Command (PCI 3.0, 6.2.2).
 const PALETTE_SNOOP: u8 = 5;
-/// The byte offsets of Class Code: programming interface, sub-class and base class (PCI 3.0, 6.2.1).
-const INTERFACE: u8 = 0x09;
-
-const SUB_CLASS: u8 = 0x0a;
-
-const BASE_CLASS: u8 = 0x0b;
-/// A bridge that decodes subtractively.
+/// The Class Code of a bridge that decodes subtractively (PCI 3.0, 6.2.1).
 const SUBTRACTIVE: u32 = 0x06_0401;
-/// The byte offset of Header Type, whose bits 6:0 are the layout (PCI 3.0, 6.2.1).
-const HEADER_TYPE: u8 = 0x0e;
-/// The byte offset of Bridge Control (Bridge 1.2, 3.2.5), and its bit numbers.
-const BRIDGE_CONTROL: u8 = 0x3e;
-
+/// Bit numbers in Bridge Control (Bridge 1.2, 3.2.5).
 const ISA_ENABLE: u8 = 2;
 
 const VGA_ENABLE: u8 = 3;
 
 const SECONDARY_BUS_RESET: u8 = 6;
-/// The ID of power management, and where its Control/Status stands behind it (Power Management 1.2, 3.2).
-const POWER_MANAGEMENT: u8 = 0x01;
-
-const POWER_CONTROL: u8 = 4;
 
 /// Whether a register has a bit.
 fn has_bit(register: u16, bit: u8) -> bool
@@ -52,7 +37,7 @@ fn has_bit(register: u16, bit: u8) -> bool
     register >> bit & 1 == 1
 }
 
-/// The layout of a header, without the multi-function bit.
+/// The layout of a header: bits 6:0 of Header Type, without the multi-function bit (PCI 3.0, 6.2.1).
 fn layout(image: &Image) -> u8
     ensures { result ≡ layout image.now.0 }
 {

@@ -8,8 +8,10 @@ ghost use Rattle.pci_tree.specs.Regions.{space_in, same_space, bar_regions, wind
 
 use super::record::{Bridge, Record};
 use super::space::Space;
+use super::window::range_of;
 use pci_dump::memory::OutOfMemory;
 use pci_image::bar::{Bar, BarKind};
+use pci_image::offset::{IO_BASE, MEMORY_BASE, PREFETCHABLE_BASE};
 use pci_image::range::Range;
 use pci_image::rom::Rom;
 use pci_image::slot::Slot;
@@ -36,13 +38,6 @@ pub struct Region {
     pub first: u64,
     pub last: u64,
 }
-
-/// The byte offsets that windows are named by (Bridge 1.2, 3.2.5).
-const IO_WINDOW: u8 = 0x1c;
-
-const MEMORY_WINDOW: u8 = 0x20;
-
-const PREFETCH_WINDOW: u8 = 0x24;
 
 /// Whether a kind of BAR maps into a space.
 fn maps_into(kind: BarKind, space: Space) -> bool
@@ -101,16 +96,6 @@ fn add_window<A: Allocator>(
     Ok(())
 }
 
-/// The range of a window that is there and open.
-fn range_of(window: Option<Window>) -> Option<Range>
-    ensures { option_map decoded_range_of result ≡ range_in window }
-{
-    match window {
-        None => None,
-        Some(window) => window.range(),
-    }
-}
-
 /// Adds the open windows of a space.
 fn add_windows<A: Allocator>(
     out: &mut Vec<Region, A>,
@@ -123,10 +108,10 @@ fn add_windows<A: Allocator>(
     if let Some(bridge) = bridge {
         let windows = bridge.windows;
         match space {
-            Space::Io => add_window(out, slot, IO_WINDOW, range_of(windows.io))?,
+            Space::Io => add_window(out, slot, IO_BASE, range_of(windows.io))?,
             Space::Mem => {
-                add_window(out, slot, MEMORY_WINDOW, windows.mem.range())?;
-                add_window(out, slot, PREFETCH_WINDOW, range_of(windows.pref))?;
+                add_window(out, slot, MEMORY_BASE, windows.mem.range())?;
+                add_window(out, slot, PREFETCHABLE_BASE, range_of(windows.pref))?;
             }
         }
     }

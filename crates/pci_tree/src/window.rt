@@ -14,7 +14,7 @@ use pci_image::range::Range;
 use pci_image::window::Window;
 
 /// The range of a window that is there and open.
-fn range_of(window: Option<Window>) -> Option<Range>
+pub(crate) fn range_of(window: Option<Window>) -> Option<Range>
     ensures { option_map decoded_range_of result ≡ range_in window }
 {
     match window {

@@ -4,7 +4,6 @@ pub mod bridge;
 pub mod capability;
 pub mod function;
 pub mod header;
-mod offset;
 pub mod region;
 pub mod span;
 pub mod stop;

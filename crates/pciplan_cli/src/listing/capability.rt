@@ -4,8 +4,12 @@ ghost use Rattle.std.specs.Fmt.{decimal};
 ghost use Rattle.std.specs.Int.{bit_at};
 ghost use Rattle.pci_spec.specs.Listing.{flag_text, vectors_text, capability_line};
 
-use pci_image::capability::Cap;
+use pci_image::capability::{Cap, VECTOR_MASKING_BIT, WIDE_ADDRESS_BIT};
 use pci_image::image::Image;
+use pci_image::offset::{
+    MESSAGE_ADDRESS, MESSAGE_CONTROL, MESSAGE_DATA, MESSAGE_UPPER_ADDRESS, POWER_CAPABILITIES,
+    POWER_CONTROL, WIDE_MESSAGE_DATA,
+};
 use std::fmt;
 
 /// Power Management Capabilities: the version in bits 2:0, D1 and D2 support, and in bits 15:11 the
@@ -26,8 +30,7 @@ const PME_ENABLE: u32 = 8;
 
 const PME_STATUS: u32 = 15;
 
-/// Message Control: MSI enable, the codes of the vectors capable and enabled, 64-bit address, and
-/// per-vector masking (PCI 3.0, 6.8.1.3).
+/// Message Control: MSI enable, and the codes of the vectors capable and enabled (PCI 3.0, 6.8.1.3).
 const MSI_ENABLE: u32 = 0;
 
 const CAPABLE_CODE: u32 = 1;
@@ -35,10 +38,6 @@ const CAPABLE_CODE: u32 = 1;
 const ENABLED_CODE: u32 = 4;
 
 const VECTOR_CODES: u16 = 8;
-
-const WIDE_ADDRESS: u32 = 7;
-
-const VECTOR_MASKING: u32 = 8;
 
 /// The codes from this one on are reserved; a lower code c means 2^c vectors.
 const RESERVED_CODE: u16 = 6;
@@ -133,8 +132,8 @@ impl fmt::Display for MessageControl {
         let enabled = Vectors {
             code: (control >> ENABLED_CODE) % VECTOR_CODES,
         };
-        let wide = flag(control, WIDE_ADDRESS);
-        let mask = flag(control, VECTOR_MASKING);
+        let wide = flag(control, WIDE_ADDRESS_BIT);
+        let mask = flag(control, VECTOR_MASKING_BIT);
         write!(
             f,
             "on {on} capable {capable} enabled {enabled} wide {wide} mask {mask}"
@@ -166,23 +165,6 @@ pub enum CapabilityLine {
         id: u8,
     },
 }
-
-/// The registers of a power management capability, from its place.
-const POWER_CAPABILITIES: u8 = 2;
-
-const POWER_CONTROL: u8 = 4;
-
-/// The registers of an MSI capability, from its place: Message Data follows the address, which has
-/// an upper half where it is of 64 bits.
-const MESSAGE_CONTROL: u8 = 2;
-
-const MESSAGE_ADDRESS: u8 = 4;
-
-const MESSAGE_UPPER_ADDRESS: u8 = 8;
-
-const MESSAGE_DATA: u8 = 8;
-
-const WIDE_MESSAGE_DATA: u8 = 12;
 
 impl CapabilityLine {
     ghost use Rattle.pci_image.specs.Caps.{place_of};
@@ -223,7 +205,7 @@ impl CapabilityLine {
     {
         let control = image.u16(place + MESSAGE_CONTROL);
         let lower = u64::from(image.u32(place + MESSAGE_ADDRESS));
-        let (address, value) = if flag(control, WIDE_ADDRESS) == 1 {
+        let (address, value) = if flag(control, WIDE_ADDRESS_BIT) == 1 {
             let upper = u64::from(image.u32(place + MESSAGE_UPPER_ADDRESS));
             (
                 lower + upper * (1 << 32),

@@ -14,7 +14,6 @@ ghost use Rattle.pciplan_cli.specs.Stops.{IsStopIn, registers_listing, bridge_wi
 use super::bridge::{BusLine, WindowKind, WindowLine};
 use super::capability::CapabilityLine;
 use super::header::HeaderLine;
-use super::offset::{PRIMARY_BUS, SECONDARY_BUS, SUBORDINATE_BUS};
 use super::region::{BarLine, RomLine};
 use super::stop::Stop;
 use pci_image::bar::{Bar, bars};
@@ -22,6 +21,7 @@ use pci_image::capability::{Cap, chain};
 use pci_image::fault::ImageFault;
 use pci_image::header::Header;
 use pci_image::image::Image;
+use pci_image::offset::{PRIMARY_BUS, SECONDARY_BUS, SUBORDINATE_BUS};
 use pci_image::rom::Rom;
 use pci_image::rom::register::rom;
 use pci_image::slot::Slot;

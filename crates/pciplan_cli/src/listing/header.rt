@@ -3,9 +3,8 @@ ghost use Rattle.std.specs.Prelude.{◌≡◌, ◌<◌, Some};
 ghost use Rattle.pci_spec.specs.Header.{layout};
 ghost use Rattle.pci_spec.specs.Listing.{header_line};
 
-use super::offset::{BASE_CLASS, COMMAND, DEVICE_ID, INTERFACE, SUB_CLASS};
 use pci_image::image::Image;
-use pci_image::offset::{STATUS, VENDOR_ID};
+use pci_image::offset::{BASE_CLASS, COMMAND, DEVICE_ID, INTERFACE, STATUS, SUB_CLASS, VENDOR_ID};
 use pci_image::slot::Slot;
 use std::fmt;
 
