@@ -1,5 +1,5 @@
 -- The first fault of a function by itself.
-use Rattle.std.proofs.Common.{◌≡◌, ℕ, ◌<◌, List, refl, arith, sym, subst}
+use Rattle.std.proofs.Common.{ℕ, List, refl, arith, sym, subst}
 use Rattle.pci_spec.specs.Capability.{HasChain}
 use Rattle.pci_spec.specs.System.{Function}
 use Rattle.pci_spec.specs.Decoded.{IsDecodable}
@@ -8,8 +8,8 @@ use Rattle.pci_image.specs.declared.fault.ImageFault.{ImageFault}
 use Rattle.pci_image.specs.declared.fault.ImageFault.TheVariants.{NoVendor, HeaderKind, BarType, BarMask, BarPair, RomMask, WindowMask, CapRange, CapLoop, CapCut}
 use Rattle.pci_image.specs.Faults.{IsImageFaultIn}
 use Rattle.pci_image.specs.Caps.{IsChainFaultIn}
-use Rattle.pci_tree.specs.Profile.{IsAnswering, IsPlain, IsHereIn, IsClearBefore, IsFirstFault}
-use Rattle.pci_tree.specs.Survey.{image_fault_at}
+use Rattle.pci_tree.specs.Profile.{IsAnswering, IsHereIn, IsClearBefore, IsFirstFault}
+use Rattle.pci_tree.specs.Fault.{image_fault_at}
 
 -- before its identity is looked at, nothing is wrong
 pub clear_1 : (f : Function) → IsClearBefore 1 f

@@ -1,33 +1,17 @@
 -- What a survey has of the functions that it took.
-use Rattle.std.specs.Prelude.{◌≡◌, ◌⊎◌, ℕ, ◌<◌, ◌≤◌, nat_lt, if◌then◌else◌, List, [], ◌∷◌, ◌++◌, map, Option, None, Some, IfSome}
+use Rattle.std.specs.Prelude.{◌≡◌, ◌⊎◌, ℕ, ◌<◌, ◌≤◌, nat_lt, if◌then◌else◌, List, [], ◌∷◌, ◌++◌, map, Option, None, Some}
 use Rattle.std.specs.List.{All, Contains}
 use Rattle.pci_spec.specs.Slot.{Slot, IsSlot, slot_number}
 use Rattle.pci_spec.specs.System.{System, Function}
 use Rattle.pci_spec.specs.Bus.{IsNested}
 use Rattle.pci_spec.specs.Sound.{IsInProfile, HasChains}
-use Rattle.pci_spec.specs.Fault.{Fault, SlotsDiffer, IsIn, fault_number}
+use Rattle.pci_spec.specs.Fault.{Fault, IsIn, fault_number}
 use Rattle.pci_spec.specs.Decoded.{record_of, HasRecords}
 use Rattle.pci_spec.specs.Decoded as decoded
-use Rattle.pci_image.specs.declared.fault.ImageFault.{ImageFault}
-use Rattle.pci_image.specs.declared.fault.ImageFault.TheVariants as images
-use Rattle.pci_spec.specs.Fault as faults
 use Rattle.pci_tree.specs.declared.record.Record.{Record}
 use Rattle.pci_tree.specs.Regions.{IsLawful}
 use Rattle.pci_tree.specs.Outline.{RiseBySlot, Tree}
 use Rattle.pci_tree.specs.Profile.{phase_of, IsHere, IsClearBefore, IsFirstFault}
-
--- the fault of an image, of the function at a slot
-abbrev pub image_fault_at : Slot → ImageFault → Fault
-image_fault_at slot images.NoVendor = faults.NoVendor slot
-image_fault_at slot images.HeaderKind = faults.HeaderKind slot
-image_fault_at slot (images.BarType register) = faults.BarType slot register
-image_fault_at slot (images.BarMask register) = faults.BarMask slot register
-image_fault_at slot (images.BarPair register) = faults.BarPair slot register
-image_fault_at slot (images.RomMask register) = faults.RomMask slot register
-image_fault_at slot (images.WindowMask register) = faults.WindowMask slot register
-image_fault_at slot (images.CapRange place) = faults.CapRange slot place
-image_fault_at slot (images.CapLoop place) = faults.CapLoop slot place
-image_fault_at slot (images.CapCut place) = faults.CapCut slot place
 
 -- a survey: its root buses, the records, the fault that is noted, and the slot last added
 pub record Surveyed : Type 0 where

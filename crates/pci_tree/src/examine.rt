@@ -1,36 +1,16 @@
 //! What is wrong with one function by itself, in the order in which it is looked for: its identity and its probe, its
 //! registers and capabilities list, its profile.
-ghost use Rattle.std.specs.Prelude.{◌≡◌, MatchResult};
+ghost use Rattle.std.specs.Prelude.{MatchResult};
 ghost use Rattle.pci_tree.specs.Fault.{fault_of};
 ghost use Rattle.pci_tree.specs.Profile.{IsExamined, IsFirstFault};
-ghost use Rattle.pci_tree.specs.Survey.{image_fault_at};
 
 use super::decode::decode;
 use super::fault::Fault;
 use super::profile::{identity_fault, profile_fault};
 use super::record::Record;
 use pci_image::capability::chain;
-use pci_image::fault::ImageFault;
 use pci_image::image::Image;
 use pci_image::slot::Slot;
-
-/// The fault of a function's image, with its slot.
-fn with_slot(slot: Slot, fault: ImageFault) -> Fault
-    ensures { fault_of result ≡ image_fault_at slot fault }
-{
-    match fault {
-        ImageFault::NoVendor => Fault::NoVendor(slot),
-        ImageFault::HeaderKind => Fault::HeaderKind(slot),
-        ImageFault::BarType(reg) => Fault::BarType(slot, reg),
-        ImageFault::BarMask(reg) => Fault::BarMask(slot, reg),
-        ImageFault::BarPair(reg) => Fault::BarPair(slot, reg),
-        ImageFault::RomMask(reg) => Fault::RomMask(slot, reg),
-        ImageFault::WindowMask(reg) => Fault::WindowMask(slot, reg),
-        ImageFault::CapRange(place) => Fault::CapRange(slot, place),
-        ImageFault::CapLoop(place) => Fault::CapLoop(slot, place),
-        ImageFault::CapCut(place) => Fault::CapCut(slot, place),
-    }
-}
 
 /// The record of a function.
 ///
@@ -48,11 +28,11 @@ pub fn examine(slot: Slot, image: &Image, probe: &Image) -> Result<Record, Fault
     }
     let decoded = match decode(slot, image, probe) {
         Ok(decoded) => decoded,
-        Err(fault) => return Err(with_slot(slot, fault)),
+        Err(fault) => return Err(Fault::of_image(slot, fault)),
     };
     let caps = match chain(image) {
         Ok(caps) => caps,
-        Err(fault) => return Err(with_slot(slot, fault)),
+        Err(fault) => return Err(Fault::of_image(slot, fault)),
     };
     match profile_fault(slot, image, probe, &caps) {
         Some(fault) => Err(fault),

@@ -4,6 +4,7 @@ ghost use Rattle.pci_spec.specs.Fault.{fault_number};
 ghost use Rattle.pci_spec.specs.Line.{fault_text, regions_text};
 
 use crate::space::{Address, Space};
+use pci_image::fault::ImageFault;
 use pci_image::slot::Slot;
 use std::fmt;
 
@@ -59,7 +60,25 @@ pub enum Fault {
 }
 
 impl Fault {
-    ghost use Rattle.pci_tree.specs.Fault.{fault_of};
+    ghost use Rattle.pci_tree.specs.Fault.{fault_of, image_fault_at};
+
+    /// The fault of a function's image, with the function's slot.
+    pub fn of_image(slot: Slot, fault: ImageFault) -> Fault
+        ensures { fault_of result ≡ image_fault_at slot fault }
+    {
+        match fault {
+            ImageFault::NoVendor => Fault::NoVendor(slot),
+            ImageFault::HeaderKind => Fault::HeaderKind(slot),
+            ImageFault::BarType(reg) => Fault::BarType(slot, reg),
+            ImageFault::BarMask(reg) => Fault::BarMask(slot, reg),
+            ImageFault::BarPair(reg) => Fault::BarPair(slot, reg),
+            ImageFault::RomMask(reg) => Fault::RomMask(slot, reg),
+            ImageFault::WindowMask(reg) => Fault::WindowMask(slot, reg),
+            ImageFault::CapRange(place) => Fault::CapRange(slot, place),
+            ImageFault::CapLoop(place) => Fault::CapLoop(slot, place),
+            ImageFault::CapCut(place) => Fault::CapCut(slot, place),
+        }
+    }
 
     /// The fault's number.
     pub fn number(&self) -> u8

@@ -8,7 +8,6 @@ use Rattle.pci_spec.specs.Header.{layout, primary_bus, secondary_bus, subordinat
 use Rattle.pci_spec.specs.Decoded.{DecodedWindows, Bridge, decoded_bars, decoded_rom, decoded_windows, bridge_of}
 use Rattle.std.proofs.lemmas.Bool.{eq-eqb, ne_eqb}
 use Rattle.pci_spec.specs.Listing.{header_line, bar_line, rom_lines, bridge_lines, capability_line, places_of, function_listing}
-use Rattle.pci_image.specs.Caps.{IsChainFaultIn}
 use Rattle.pci_image.specs.Faults.{IsImageFaultIn}
 use Rattle.pci_image.specs.Windows.{IsWindowsFaultIn, decoded_windows_of}
 use Rattle.pci_image.specs.declared.window.Windows.{Windows}
@@ -78,16 +77,3 @@ unfolding registers_listing function_listing
 function_listing-parts slot image probe =
     regroup (header_line slot image) (flat_map bar_line (decoded_bars image probe)) (rom_lines (decoded_rom image probe))
     (if layout image == 1 then bridge_lines (bridge_of image probe) else []) (flat_map (capability_line image) (places_of image))
-
--- a fault of the capabilities list
-pub chain_fault : (image probe : List ℕ) (f : ImageFault) → IsChainFaultIn image f → IsImageFaultIn image probe f
-chain_fault image probe NoVendor there = absurd there
-chain_fault image probe HeaderKind there = absurd there
-chain_fault image probe (BarType r) there = absurd there
-chain_fault image probe (BarMask r) there = absurd there
-chain_fault image probe (BarPair r) there = absurd there
-chain_fault image probe (RomMask r) there = absurd there
-chain_fault image probe (WindowMask r) there = absurd there
-chain_fault image probe (CapRange r) there = there
-chain_fault image probe (CapLoop r) there = there
-chain_fault image probe (CapCut r) there = there

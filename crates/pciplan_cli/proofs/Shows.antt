@@ -13,7 +13,8 @@ use Rattle.pci_image.specs.Faults.{IsImageFaultIn}
 use Rattle.pci_image.specs.declared.fault.ImageFault.{ImageFault}
 use Rattle.pci_image.specs.declared.fault.ImageFault.TheVariants.{NoVendor, HeaderKind, BarType, BarMask, BarPair, RomMask, WindowMask, CapRange, CapLoop, CapCut}
 use Rattle.pci_tree.specs.declared.fault.Fault.{Fault}
-use Rattle.pciplan_cli.specs.Shows.{fault_at, function_of, IsRefusedFor, IsRefusedIn}
+use Rattle.pci_tree.specs.Fault.{image_fault_at}
+use Rattle.pciplan_cli.specs.Shows.{function_of, IsRefusedFor, IsRefusedIn}
 
 -- two dumps of the same slots have as many blocks
 pub same_count : (dump probe : List Block) → slots_of dump ≡ slots_of probe → length dump ≡ length probe
@@ -45,7 +46,7 @@ in_system (d ∷ dump) (q ∷ probe) (suc k) b p wd wp eb ep =
 
 -- a function's fault is there in the system
 in_function : (roots : List ℕ) (dump probe : List Block) (f : Function) (g : ImageFault) → slots_of dump ≡ slots_of probe → Contains (system_of dump probe) f
-    → IsImageFaultIn f.image f.probe g → faults.IsThere roots dump probe (fault_at f.slot g)
+    → IsImageFaultIn f.image f.probe g → faults.IsThere roots dump probe (image_fault_at f.slot g)
 in_function roots dump probe f NoVendor same at is = (same, (f, at, refl, is))
 in_function roots dump probe f HeaderKind same at is = (same, (f, at, refl, is))
 in_function roots dump probe f (BarType r) same at is = (same, (f, at, refl, is))

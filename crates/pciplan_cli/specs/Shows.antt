@@ -1,6 +1,5 @@
 -- Which faults a listing is refused for.
 use Rattle.std.specs.Prelude.{◌≡◌, ℕ, List}
-use Rattle.pci_spec.specs.Slot.{Slot}
 use Rattle.pci_spec.specs.Text.{Block}
 use Rattle.pci_spec.specs.System.{Function}
 use Rattle.pci_spec.specs.Fault as faults
@@ -8,22 +7,8 @@ use Rattle.pci_dump.specs.declared.memory.Refused.{Refused}
 use Rattle.pci_dump.specs.declared.memory.Refused.TheVariants as refusals
 use Rattle.pci_image.specs.Faults.{IsImageFaultIn}
 use Rattle.pci_image.specs.declared.fault.ImageFault.{ImageFault}
-use Rattle.pci_image.specs.declared.fault.ImageFault.TheVariants.{NoVendor, HeaderKind, BarType, BarMask, BarPair, RomMask, WindowMask, CapRange, CapLoop, CapCut}
 use Rattle.pci_tree.specs.declared.fault.Fault.{Fault}
-use Rattle.pci_tree.specs.Fault.{fault_of}
-
--- a function's fault, with its slot
-abbrev pub fault_at : Slot → ImageFault → faults.Fault
-fault_at slot NoVendor = faults.NoVendor slot
-fault_at slot HeaderKind = faults.HeaderKind slot
-fault_at slot (BarType register) = faults.BarType slot register
-fault_at slot (BarMask register) = faults.BarMask slot register
-fault_at slot (BarPair register) = faults.BarPair slot register
-fault_at slot (RomMask register) = faults.RomMask slot register
-fault_at slot (WindowMask register) = faults.WindowMask slot register
-fault_at slot (CapRange place) = faults.CapRange slot place
-fault_at slot (CapLoop place) = faults.CapLoop slot place
-fault_at slot (CapCut place) = faults.CapCut slot place
+use Rattle.pci_tree.specs.Fault.{fault_of, image_fault_at}
 
 -- the function of a block and of its probe
 abbrev pub function_of : Block → Block → Function
@@ -31,7 +16,7 @@ function_of block probe = record { slot = block.slot; image = block.image; probe
 
 -- a fault that is named is one of this function
 abbrev pub IsRefusedFor : Function → Refused Fault → Type 0
-IsRefusedFor f (refusals.Fault fault) = (g : ImageFault) × (fault_of fault ≡ fault_at f.slot g) × IsImageFaultIn f.image f.probe g
+IsRefusedFor f (refusals.Fault fault) = (g : ImageFault) × (fault_of fault ≡ image_fault_at f.slot g) × IsImageFaultIn f.image f.probe g
 IsRefusedFor f refusals.Memory = Unit {0}
 
 -- a fault that is named is there

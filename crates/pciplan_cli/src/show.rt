@@ -5,7 +5,7 @@ ghost use Rattle.pci_spec.specs.System.{system_of};
 ghost use Rattle.pci_spec.specs.Listing.{listing, function_listing};
 ghost use Rattle.pci_dump.specs.PairFault.{pair_fault};
 ghost use Rattle.pci_tree.specs.Fault.{fault_of};
-ghost use Rattle.pciplan_cli.specs.Shows.{fault_at, function_of, IsRefusedFor, IsRefusedIn};
+ghost use Rattle.pciplan_cli.specs.Shows.{function_of, IsRefusedFor, IsRefusedIn};
 
 use crate::listing::function::push_function;
 use crate::listing::stop::Stop;
@@ -14,28 +14,8 @@ use pci_dump::dump::Dump;
 use pci_dump::memory::Refused;
 use pci_dump::pair::pair;
 use pci_dump::pair_fault::PairFault;
-use pci_image::fault::ImageFault;
-use pci_image::slot::Slot;
 use pci_tree::fault::Fault;
 use std::alloc::Allocator;
-
-/// The fault of a function, with its slot.
-fn fault_of_image(slot: Slot, fault: ImageFault) -> Fault
-    ensures { fault_of result ≡ fault_at slot fault }
-{
-    match fault {
-        ImageFault::NoVendor => Fault::NoVendor(slot),
-        ImageFault::HeaderKind => Fault::HeaderKind(slot),
-        ImageFault::BarType(reg) => Fault::BarType(slot, reg),
-        ImageFault::BarMask(reg) => Fault::BarMask(slot, reg),
-        ImageFault::BarPair(reg) => Fault::BarPair(slot, reg),
-        ImageFault::RomMask(reg) => Fault::RomMask(slot, reg),
-        ImageFault::WindowMask(reg) => Fault::WindowMask(slot, reg),
-        ImageFault::CapRange(place) => Fault::CapRange(slot, place),
-        ImageFault::CapLoop(place) => Fault::CapLoop(slot, place),
-        ImageFault::CapCut(place) => Fault::CapCut(slot, place),
-    }
-}
 
 /// The fault of a dump and its probe, as one of a system.
 pub fn fault_of_pair(fault: PairFault) -> Fault
@@ -65,7 +45,7 @@ fn push_block<A: Allocator>(
 {
     match push_function(text, block.slot, &block.image, &probe.image) {
         Ok(()) => Ok(()),
-        Err(Stop::Fault(fault)) => Err(Refused::Fault(fault_of_image(block.slot, fault))),
+        Err(Stop::Fault(fault)) => Err(Refused::Fault(Fault::of_image(block.slot, fault))),
         Err(Stop::Memory) => Err(Refused::Memory),
     }
 }

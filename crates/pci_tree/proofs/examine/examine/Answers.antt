@@ -1,20 +1,19 @@
-use Rattle.std.proofs.Common.{◌≡◌, refl, sym, subst}
-use Rattle.pci_spec.specs.Capability.{IsChain}
+use Rattle.std.proofs.Common.{sym, subst}
 use Rattle.pci_spec.specs.System.{Function}
 use Rattle.pci_tree.specs.Fault.{fault_of}
-use Rattle.pci_tree.specs.Profile.{IsFirstFault, IsPlain, IsHereIn, places_of}
+use Rattle.pci_tree.specs.Profile.{IsFirstFault}
 use Rattle.pci_tree.proofs.Examined.{clear_3, first_fault_of, first_of_image, chain_fault_in}
 use Rattle.pci_tree.proofs.examine.examine.Goals as goal
 
 pub returns-in-Err : goal.returns-in-Err
 returns-in-Err c =
     let f : Function = record { slot = c.args.slot; image = c.args.image.now.0; probe = c.args.probe.now.0 } in
-    subst (IsFirstFault f) (sym c.with_slot.ensures) (first_of_image f c.in-Err.fault c.in-None.ensures c.in-Err.ensures)
+    subst (IsFirstFault f) (sym c.of_image.ensures) (first_of_image f c.in-Err.fault c.in-None.ensures c.in-Err.ensures)
 
 pub returns-in-Err-chain : goal.returns-in-Err-chain
 returns-in-Err-chain c =
     let f : Function = record { slot = c.args.slot; image = c.args.image.now.0; probe = c.args.probe.now.0 } in
-    subst (IsFirstFault f) (sym c.with_slot-in-Err-chain.ensures)
+    subst (IsFirstFault f) (sym c.of_image-in-Err-chain.ensures)
     (first_of_image f c.in-Err-chain.fault c.in-None.ensures (chain_fault_in f.image f.probe c.in-Err-chain.fault c.in-Err-chain.ensures.fault))
 
 pub returns-in-Some-profile_fault : goal.returns-in-Some-profile_fault
