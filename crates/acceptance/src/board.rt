@@ -1,119 +1,89 @@
 //! Boards for tests: functions by their registers, as texts of a dump and a probe.
+use pci_image::image::Image;
 use std::alloc::{AllocError, Global};
 
 /// A four-byte register: its offset, its value and what it reads back.
 pub type Register = (u8, u32, u32);
 
-/// A function as a test writes it down. What isn't said is 0.
+/// A function as a test writes it down: what it holds, and what its registers read back. What isn't said is 0.
 #[derive(Clone, Copy)]
-pub struct Function<'a> {
-    slot: &'a str,
-    /// Primary, secondary and subordinate bus of a bridge.
-    buses: Option<(u8, u8, u8)>,
-    command: u16,
-    registers: &'a [Register],
-    /// Further bytes of the dump: offset and value.
-    bytes: &'a [(u8, u8)],
-    /// Further bytes of the probe: offset and value.
-    probe_bytes: &'a [(u8, u8)],
+pub struct Function {
+    slot: &'static str,
+    pub image: Image,
+    pub probe: Image,
 }
 
-/// A function with a type 0 header.
-pub fn device<'a>(slot: &'a str, command: u16, registers: &'a [Register]) -> Function<'a> {
+/// A dump and its probe.
+#[derive(Drop)]
+pub struct Texts {
+    pub dump: String,
+    pub probe: String,
+}
+
+/// A function of vendor 1234h and device 5678h with a type 0 header.
+pub fn device(slot: &'static str, command: u16, registers: &[Register]) -> Function {
     Function {
         slot,
-        buses: None,
-        command,
-        registers,
-        bytes: &[],
-        probe_bytes: &[],
+        image: Image([0; 256]),
+        probe: Image([0; 256]),
     }
+    .bytes(0x00, &[0x34, 0x12, 0x78, 0x56])
+    .bytes(0x04, &command.to_le_bytes())
+    .registers(registers)
 }
 
-/// A bridge with its three bus numbers. Its memory window reads back FFF0FFF0h unless a register says otherwise.
-pub fn bridge<'a>(
-    slot: &'a str,
+/// A bridge with its primary, secondary and subordinate bus. Its memory window is that of the first megabyte unless a
+/// register says otherwise.
+pub fn bridge(
+    slot: &'static str,
     command: u16,
     buses: (u8, u8, u8),
-    registers: &'a [Register],
-) -> Function<'a> {
-    Function {
-        slot,
-        buses: Some(buses),
-        command,
-        registers,
-        bytes: &[],
-        probe_bytes: &[],
-    }
+    registers: &[Register],
+) -> Function {
+    let (primary, secondary, subordinate) = buses;
+    device(slot, command, &[(0x20, 0, 0xfff0_fff0)])
+        .bytes(0x0e, &[0x01])
+        .bytes(0x18, &[primary, secondary, subordinate])
+        .registers(registers)
 }
 
-impl<'a> Function<'a> {
-    /// The same with further bytes of its image.
-    pub fn with_bytes(self, bytes: &'a [(u8, u8)]) -> Function<'a> {
+/// A device with a capabilities list that starts at a pointer.
+pub fn list_at(slot: &'static str, pointer: u8) -> Function {
+    device(slot, 0, &[])
+        .bytes(0x06, &[0x10])
+        .bytes(0x34, &[pointer])
+}
+
+impl Function {
+    /// The same with these bytes in its image from an offset on.
+    pub fn bytes(self, offset: u8, bytes: &[u8]) -> Function {
         let mut function = self;
-        function.bytes = bytes;
+        put(&mut function.image, offset, bytes);
         function
     }
 
-    /// The same with further bytes of its probe.
-    pub fn with_probe_bytes(self, bytes: &'a [(u8, u8)]) -> Function<'a> {
+    /// The same with these registers.
+    pub fn registers(self, registers: &[Register]) -> Function {
         let mut function = self;
-        function.probe_bytes = bytes;
+        for (offset, value, read_back) in registers {
+            put(&mut function.image, *offset, &value.to_le_bytes());
+            put(&mut function.probe, *offset, &read_back.to_le_bytes());
+        }
         function
-    }
-
-    /// The 256 bytes that it holds.
-    pub fn image(&self) -> [u8; 256] {
-        let mut image = [0; 256];
-        put(&mut image, 0x00, 0x5678_1234);
-        put(&mut image, 0x04, u32::from(self.command));
-        if let Some((primary, secondary, subordinate)) = self.buses {
-            image[0x0e] = 1;
-            image[0x18] = primary;
-            image[0x19] = secondary;
-            image[0x1a] = subordinate;
-        }
-        for (offset, value, _) in self.registers {
-            put(&mut image, *offset, *value);
-        }
-        for (offset, value) in self.bytes {
-            image[usize::from(*offset)] = *value;
-        }
-        image
-    }
-
-    /// What its address registers read back.
-    pub fn probe(&self) -> [u8; 256] {
-        let mut probe = [0; 256];
-        if self.buses.is_some() {
-            put(&mut probe, 0x20, 0xfff0_fff0);
-        }
-        for (offset, _, read_back) in self.registers {
-            put(&mut probe, *offset, *read_back);
-        }
-        for (offset, value) in self.probe_bytes {
-            probe[usize::from(*offset)] = *value;
-        }
-        probe
     }
 }
 
-/// Writes four bytes, the lowest first; what would pass the end is left out.
-fn put(image: &mut [u8; 256], offset: u8, value: u32) {
-    let mut rest = value;
-    for i in 0..4usize {
-        let place = usize::from(offset) + i;
-        if place < 256 {
-            image[place] = (rest % 256) as u8;
-        }
-        rest /= 256;
+/// Puts bytes into an image from an offset on.
+fn put(image: &mut Image, offset: u8, bytes: &[u8]) {
+    for (place, byte) in image.0.iter_mut().skip(usize::from(offset)).zip(bytes) {
+        *place = *byte;
     }
 }
 
 /// Appends a block: slot line, sixteen byte lines and an empty line.
-fn push_block(text: &mut String, slot: &str, image: &[u8; 256]) -> Result<(), AllocError> {
+fn push_block(text: &mut String, slot: &str, image: &Image) -> Result<(), AllocError> {
     text.push_str(slot)?;
-    for (offset, byte) in image.iter().enumerate() {
+    for (offset, byte) in image.0.iter().enumerate() {
         if offset % 16 == 0 {
             write!(text, "\n{offset:02x}:")?;
         }
@@ -122,20 +92,13 @@ fn push_block(text: &mut String, slot: &str, image: &[u8; 256]) -> Result<(), Al
     text.push_str("\n\n")
 }
 
-/// The dump of a board.
-pub fn dump_of(alloc: Global, board: &[Function<'_>]) -> Result<String, AllocError> {
-    let mut text = String::new(alloc);
+/// The texts of a board.
+pub fn texts_of(alloc: Global, board: &[Function]) -> Result<Texts, AllocError> {
+    let mut dump = String::new(alloc);
+    let mut probe = String::new(alloc);
     for function in board {
-        push_block(&mut text, function.slot, &function.image())?;
+        push_block(&mut dump, function.slot, &function.image)?;
+        push_block(&mut probe, function.slot, &function.probe)?;
     }
-    Ok(text)
-}
-
-/// Its probe.
-pub fn probe_of(alloc: Global, board: &[Function<'_>]) -> Result<String, AllocError> {
-    let mut text = String::new(alloc);
-    for function in board {
-        push_block(&mut text, function.slot, &function.probe())?;
-    }
-    Ok(text)
+    Ok(Texts { dump, probe })
 }

@@ -1,7 +1,7 @@
-//! A dump of 849 bytes and its probe.
+//! A dump of 849 bytes, its probe and its listing.
 
 /// The dump of one function with a title, two capabilities and a BAR.
-pub const DUMP: &[u8] = b"00:02.0 Example\n\
+pub const DUMP: &str = "00:02.0 Example\n\
 00: 34 12 78 56 02 00 10 00 00 00 00 00 00 00 00 00\n\
 10: 08 00 00 fe 00 00 00 00 00 00 00 00 00 00 00 00\n\
 20: 00 00 00 00 00 00 00 00 00 00 00 00 00 00 00 00\n\
@@ -21,7 +21,7 @@ f0: 00 00 00 00 00 00 00 00 00 00 00 00 00 00 00 00\n\
 \n";
 
 /// Its probe.
-pub const PROBE: &[u8] = b"00:02.0\n\
+pub const PROBE: &str = "00:02.0\n\
 00: 00 00 00 00 00 00 00 00 00 00 00 00 00 00 00 00\n\
 10: 08 00 f0 ff 00 00 00 00 00 00 00 00 00 00 00 00\n\
 20: 00 00 00 00 00 00 00 00 00 00 00 00 00 00 00 00\n\
@@ -39,3 +39,11 @@ d0: 00 00 00 00 00 00 00 00 00 00 00 00 00 00 00 00\n\
 e0: 00 00 00 00 00 00 00 00 00 00 00 00 00 00 00 00\n\
 f0: 00 00 00 00 00 00 00 00 00 00 00 00 00 00 00 00\n\
 \n";
+
+/// The listing of the two.
+pub const LISTING: &str =
+    "00:02.0 type 0 vendor 1234 device 5678 class 000000 command 0002 status 0010
+  bar 10 mem32 pref 00000000fe000000-00000000fe0fffff
+  cap 40 power version 2 d1 0 d2 0 pme 00 state 0 enable 0 status 0
+  cap 50 msi on 0 capable 1 enabled 1 wide 1 mask 0 address 00000000fee00000 data 4041
+";

@@ -9,6 +9,8 @@ mod dump_memory;
 #[cfg(test)]
 mod example;
 #[cfg(test)]
+mod failing;
+#[cfg(test)]
 mod fakes;
 #[cfg(test)]
 mod faults;
@@ -25,11 +27,7 @@ mod outlines;
 #[cfg(test)]
 mod program;
 #[cfg(test)]
-mod registers;
-#[cfg(test)]
 mod roots;
-#[cfg(test)]
-mod running;
 #[cfg(test)]
 mod sizes;
 #[cfg(test)]

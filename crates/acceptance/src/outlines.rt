@@ -2,38 +2,35 @@
 use crate::board::{Function, bridge, device};
 use pci_dump::block::Block;
 use pci_dump::dump::Dump;
-use pci_image::image::Image;
 use pci_image::range::Range;
 use pci_image::slot::Slot;
 use pci_tree::admit::admit;
 use pci_tree::admitted::Admitted;
 use pci_tree::space::Space;
-use std::alloc::Global;
 use std::process::Abort;
 use std::test::Fail;
 
 /// A dump and a probe of functions, admitted.
 fn admitted(
-    rt: &impl Abort,
-    alloc: Global,
-    functions: &[(u8, u8, Function<'_>)],
+    rt: &(impl Abort + AllocGlobal),
+    functions: &[(u8, u8, Function)],
 ) -> Result<Admitted, Fail> {
-    let mut dump = Dump::empty(alloc);
-    let mut probe = Dump::empty(alloc);
+    let mut dump = Dump::empty(rt.alloc());
+    let mut probe = Dump::empty(rt.alloc());
     for (bus, dev, function) in functions {
         let slot = Slot::new(*bus, *dev, 0).expect(rt, "a slot");
         dump.push(Block {
             slot,
             title: None,
-            image: Image(function.image()),
+            image: function.image,
         })?;
         probe.push(Block {
             slot,
             title: None,
-            image: Image(function.probe()),
+            image: function.probe,
         })?;
     }
-    Ok(admit(alloc, dump, probe)?)
+    Ok(admit(rt.alloc(), dump, probe)?)
 }
 
 /// A window of the pages from one to another, 1 MB each, by base and limit.
@@ -50,7 +47,6 @@ fn reach_follows_the_windows_down(rt: HostRuntime) -> Result<(), Fail> {
     let inner = [(0x20, pages(0xe01, 0xe02), 0xfff0_fff0)];
     let board = admitted(
         &rt,
-        rt.alloc(),
         &[
             (0, 1, bridge("", 2, (0, 1, 2), &outer)),
             (1, 0, bridge("", 2, (1, 2, 2), &inner)),
@@ -84,7 +80,7 @@ fn a_way_may_have_255_bridges(rt: HostRuntime) -> Result<(), Fail> {
         functions.push((bus, 0u8, bridge("", 0, (bus, bus + 1, 255), &[])))?;
     }
     functions.push((255u8, 0u8, device("", 0, &[])))?;
-    let board = admitted(&rt, rt.alloc(), functions.as_slice())?;
+    let board = admitted(&rt, functions.as_slice())?;
     let last = Slot::new(255, 0, 0).expect(&rt, "a slot");
     let path = board.outline().path(last).expect(&rt, "a path");
     assert_eq!(rt; path.len(), 255);
@@ -106,7 +102,6 @@ fn regions_are_those_that_claim(rt: HostRuntime) -> Result<(), Fail> {
     let closed = [(0x20, 0x0000_fff0, 0xfff0_fff0)];
     let board = admitted(
         &rt,
-        rt.alloc(),
         &[
             (0, 1, device("", 2, &bars)),
             (0, 2, device("", 1, &bars)),

@@ -1,9 +1,9 @@
 //! The program, run on texts that are held in memory.
-use crate::board::{Function, dump_of, probe_of};
+use crate::board::{Function, texts_of};
 use pci_dump::std_ends::{Incoming, Outgoing};
+use pciplan_cli::line::{Line, Task};
 use pciplan_cli::run::run;
 use pciplan_cli::words::start;
-use std::alloc::Global;
 use std::process::Abort;
 use std::test::Fail;
 
@@ -15,69 +15,107 @@ pub struct Answer {
     pub err: Vec<u8>,
 }
 
-/// Runs a line of words, of which the last two name the texts that are handed in.
-pub fn answer_to(alloc: Global, words: &[&str], dump: &[u8], probe: &[u8]) -> Result<Answer, Fail> {
-    let mut out: Vec<u8> = Vec::new(alloc);
-    let mut err: Vec<u8> = Vec::new(alloc);
+/// The line of a task. The paths of its texts don't matter, as the texts are handed in.
+pub fn line_of(rt: &impl AllocGlobal, task: Task) -> Line {
+    Line {
+        task,
+        dump: String::new(rt.alloc()),
+        probe: String::new(rt.alloc()),
+    }
+}
+
+/// What a task answers to two texts.
+pub fn run_task(rt: &impl AllocGlobal, task: Task, dump: &str, probe: &str) -> Answer {
+    let mut out = Vec::new(rt.alloc());
+    let mut err = Vec::new(rt.alloc());
+    let status = run(
+        rt.alloc(),
+        &line_of(rt, task),
+        &mut Incoming::new(dump.as_bytes()),
+        &mut Incoming::new(probe.as_bytes()),
+        &mut Outgoing::new(&mut out),
+        &mut Outgoing::new(&mut err),
+    );
+    Answer { status, out, err }
+}
+
+/// What a line of words answers to two texts.
+fn run_words(rt: &impl AllocGlobal, words: &[&str], dump: &str, probe: &str) -> Answer {
+    let mut out = Vec::new(rt.alloc());
+    let mut err = Vec::new(rt.alloc());
     let status = {
         let mut errors = Outgoing::new(&mut err);
-        match start(alloc, words, &mut errors) {
+        match start(rt.alloc(), words, &mut errors) {
             Err(status) => status,
             Ok(line) => run(
-                alloc,
+                rt.alloc(),
                 &line,
-                &mut Incoming::new(dump),
-                &mut Incoming::new(probe),
+                &mut Incoming::new(dump.as_bytes()),
+                &mut Incoming::new(probe.as_bytes()),
                 &mut Outgoing::new(&mut out),
                 &mut errors,
             ),
         }
     };
-    Ok(Answer { status, out, err })
+    Answer { status, out, err }
 }
 
-/// Asserts what a line prints about two texts, its message and its status.
+/// Asserts what was written to standard output and to standard error, and the status.
+fn is_answer(rt: &impl Abort, got: &Answer, wanted: (&str, &str, u8)) {
+    let (out, err, status) = wanted;
+    assert!(rt; got.out.as_slice() == out.as_bytes(), "{out}");
+    assert!(rt; got.err.as_slice() == err.as_bytes(), "{err}");
+    assert_eq!(rt; got.status, status, "{out}{err}");
+}
+
+/// Asserts what a line of words prints about two texts, its message and its status.
 pub fn prints(
-    rt: &impl Abort,
-    alloc: Global,
+    rt: &(impl Abort + AllocGlobal),
     words: &[&str],
     texts: (&str, &str),
     wanted: (&str, &str, u8),
+) {
+    is_answer(rt, &run_words(rt, words, texts.0, texts.1), wanted);
+}
+
+/// Asserts what a task prints about a board, and its status.
+pub fn answers(
+    rt: &(impl Abort + AllocGlobal),
+    task: Task,
+    board: &[Function],
+    out: &str,
+    status: u8,
 ) -> Result<(), Fail> {
-    let got = answer_to(alloc, words, texts.0.as_bytes(), texts.1.as_bytes())?;
-    assert_eq!(rt; got.out.as_slice(), wanted.0.as_bytes());
-    assert_eq!(rt; got.err.as_slice(), wanted.1.as_bytes());
-    assert_eq!(rt; got.status, wanted.2);
+    let texts = texts_of(rt.alloc(), board)?;
+    let got = run_task(rt, task, texts.dump.as_str(), texts.probe.as_str());
+    is_answer(rt, &got, (out, "", status));
     Ok(())
 }
 
 /// Asserts the verdict on a board: `yes` with status 0, or a `no` line with status 1.
 pub fn judges(
-    rt: &impl Abort,
-    alloc: Global,
-    board: &[Function<'_>],
+    rt: &(impl Abort + AllocGlobal),
+    board: &[Function],
     verdict: &str,
 ) -> Result<(), Fail> {
-    judges_with(rt, alloc, &["check", "d", "p"], board, verdict)
+    judges_with(rt, &["check", "d", "p"], board, verdict)
 }
 
 /// The same with the words of the line.
 pub fn judges_with(
-    rt: &impl Abort,
-    alloc: Global,
+    rt: &(impl Abort + AllocGlobal),
     words: &[&str],
-    board: &[Function<'_>],
+    board: &[Function],
     verdict: &str,
 ) -> Result<(), Fail> {
-    let dump = dump_of(alloc, board)?;
-    let probe = probe_of(alloc, board)?;
-    let line = format!(in alloc; "{verdict}\n")?;
+    let texts = texts_of(rt.alloc(), board)?;
+    let line = format!(in rt.alloc(); "{verdict}\n")?;
     let status = if verdict == "yes" { 0 } else { 1 };
     prints(
         rt,
-        alloc,
         words,
-        (dump.as_str(), probe.as_str()),
+        (texts.dump.as_str(), texts.probe.as_str()),
         (line.as_str(), "", status),
-    )
+    );
+    Ok(())
 }

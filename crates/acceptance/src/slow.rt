@@ -2,10 +2,9 @@
 //!
 //! Boards are made by rule: two bridges in a row and a device on each of the three buses. All regions are whole
 //! megabytes from E0000000h on, so a page stands for all its addresses.
-use crate::board::{bridge, device};
+use crate::board::{Function, bridge, device};
 use crate::program::judges;
 use std::alloc::{AllocError, Global};
-use std::process::Abort;
 use std::test::Fail;
 
 /// Pages from first to last; none where first is above last.
@@ -28,17 +27,23 @@ impl Pages {
     }
 }
 
-/// A device's BAR.
+/// The Command of a function whose memory space is enabled or isn't.
+fn command(enabled: bool) -> u16 {
+    if enabled { 2 } else { 0 }
+}
+
+/// A device with one BAR.
 #[derive(Clone, Copy)]
 struct Bar {
+    bus: u8,
+    slot: &'static str,
     pages: Pages,
     prefetch: bool,
     enabled: bool,
 }
 
 impl Bar {
-    /// Offset, value and read back.
-    fn register(self) -> (u8, u32, u32) {
+    fn function(self) -> Function {
         let encoding = if self.prefetch { 8 } else { 0 };
         let mask = if self.pages.first == self.pages.last {
             0xfff0_0000
@@ -46,11 +51,8 @@ impl Bar {
             0xffe0_0000
         };
         let address = 0xe000_0000 + (self.pages.first % 16) * 0x10_0000;
-        (0x10, address + encoding, mask + encoding)
-    }
-
-    fn command(self) -> u16 {
-        if self.enabled { 2 } else { 0 }
+        let register = (0x10, address + encoding, mask + encoding);
+        device(self.slot, command(self.enabled), &[register])
     }
 }
 
@@ -58,6 +60,7 @@ impl Bar {
 #[derive(Clone, Copy)]
 struct Windows {
     slot: &'static str,
+    buses: (u8, u8, u8),
     enabled: bool,
     memory: Pages,
     prefetch: Option<Pages>,
@@ -72,16 +75,13 @@ impl Windows {
         self.enabled && (self.memory.has(page) || prefetched)
     }
 
-    fn registers(self) -> [(u8, u32, u32); 2] {
+    fn function(self) -> Function {
         let prefetch = match self.prefetch {
             Some(pages) => (0x24, pages.register(), 0xfff0_fff0),
             None => (0x24, 0, 0),
         };
-        [(0x20, self.memory.register(), 0xfff0_fff0), prefetch]
-    }
-
-    fn command(self) -> u16 {
-        if self.enabled { 2 } else { 0 }
+        let registers = [(0x20, self.memory.register(), 0xfff0_fff0), prefetch];
+        bridge(self.slot, command(self.enabled), self.buses, &registers)
     }
 }
 
@@ -127,7 +127,7 @@ impl Rule {
         Pages { first, last }
     }
 
-    fn windows(&mut self, slot: &'static str) -> Windows {
+    fn windows(&mut self, slot: &'static str, buses: (u8, u8, u8)) -> Windows {
         let enabled = self.below(8) != 0;
         let memory = self.pages();
         let prefetch = if self.below(2) == 0 {
@@ -137,13 +137,14 @@ impl Rule {
         };
         Windows {
             slot,
+            buses,
             enabled,
             memory,
             prefetch,
         }
     }
 
-    fn bar(&mut self) -> Bar {
+    fn bar(&mut self, bus: u8, slot: &'static str) -> Bar {
         let place = self.below(4);
         let pages = if self.below(3) == 0 {
             let first = place / 2 * 2;
@@ -158,6 +159,8 @@ impl Rule {
             }
         };
         Bar {
+            bus,
+            slot,
             pages,
             prefetch: self.below(2) == 0,
             enabled: self.below(4) != 0,
@@ -166,55 +169,56 @@ impl Rule {
 
     fn board(&mut self) -> Board {
         Board {
-            outer: self.windows("00:01.0"),
-            inner: self.windows("01:00.0"),
-            near: self.bar(),
-            middle: self.bar(),
-            far: self.bar(),
+            outer: self.windows("00:01.0", (0, 1, 2)),
+            inner: self.windows("01:00.0", (1, 2, 2)),
+            near: self.bar(0, "00:03.0"),
+            middle: self.bar(1, "01:01.0"),
+            far: self.bar(2, "02:00.0"),
         }
     }
 }
 
 impl Board {
+    /// Its functions in slot order.
+    fn functions(&self) -> [Function; 5] {
+        [
+            self.outer.function(),
+            self.near.function(),
+            self.inner.function(),
+            self.middle.function(),
+            self.far.function(),
+        ]
+    }
+
     /// The claims of a bridge's windows.
-    fn push_windows(claims: &mut Vec<Claim>, bus: u8, windows: Windows) -> Result<(), AllocError> {
+    fn push_windows(claims: &mut Vec<Claim>, windows: Windows) -> Result<(), AllocError> {
         if !windows.enabled {
             return Ok(());
         }
+        let (bus, _, _) = windows.buses;
         let slot = windows.slot;
-        let memory = Claim {
-            bus,
-            slot,
-            register: 0x20,
-            pages: windows.memory,
-        };
-        claims.push(memory)?;
-        if let Some(pages) = windows.prefetch {
-            let prefetch = Claim {
-                bus,
-                slot,
-                register: 0x24,
-                pages,
-            };
-            claims.push(prefetch)?;
+        for (register, pages) in [(0x20, Some(windows.memory)), (0x24, windows.prefetch)] {
+            if let Some(pages) = pages {
+                claims.push(Claim {
+                    bus,
+                    slot,
+                    register,
+                    pages,
+                })?;
+            }
         }
         Ok(())
     }
 
-    fn push_bar(
-        claims: &mut Vec<Claim>,
-        bus: u8,
-        slot: &'static str,
-        bar: Bar,
-    ) -> Result<(), AllocError> {
+    /// The claim of a device.
+    fn push_bar(claims: &mut Vec<Claim>, bar: Bar) -> Result<(), AllocError> {
         if bar.enabled {
-            let claim = Claim {
-                bus,
-                slot,
+            claims.push(Claim {
+                bus: bar.bus,
+                slot: bar.slot,
                 register: 0x10,
                 pages: bar.pages,
-            };
-            claims.push(claim)?;
+            })?;
         }
         Ok(())
     }
@@ -222,11 +226,11 @@ impl Board {
     /// All that claims pages, by slot and register.
     fn claims(&self, alloc: Global) -> Result<Vec<Claim>, AllocError> {
         let mut claims = Vec::new(alloc);
-        Board::push_windows(&mut claims, 0, self.outer)?;
-        Board::push_bar(&mut claims, 0, "00:03.0", self.near)?;
-        Board::push_windows(&mut claims, 1, self.inner)?;
-        Board::push_bar(&mut claims, 1, "01:01.0", self.middle)?;
-        Board::push_bar(&mut claims, 2, "02:00.0", self.far)?;
+        Board::push_windows(&mut claims, self.outer)?;
+        Board::push_bar(&mut claims, self.near)?;
+        Board::push_windows(&mut claims, self.inner)?;
+        Board::push_bar(&mut claims, self.middle)?;
+        Board::push_bar(&mut claims, self.far)?;
         Ok(claims)
     }
 
@@ -255,12 +259,12 @@ impl Board {
     /// The first unreached BAR.
     fn unreached(&self, alloc: Global) -> Result<Option<String>, AllocError> {
         let ways = [
-            ("01:01.0", self.middle, &[self.outer][..]),
-            ("02:00.0", self.far, &[self.outer, self.inner][..]),
+            (self.middle, &[self.outer][..]),
+            (self.far, &[self.outer, self.inner][..]),
         ];
-        for (slot, bar, way) in ways {
+        for (bar, way) in ways {
             if let Some((stop, page)) = Board::missed(bar, way) {
-                let digit = page % 16;
+                let (slot, digit) = (bar.slot, page % 16);
                 let text = format!(in alloc;
                     "no 60 Unreached {slot} 10 mem 00000000e0{digit:x}00000 bridge {stop}"
                 )?;
@@ -306,43 +310,12 @@ impl Board {
     }
 }
 
-/// Asserts that both judges say the same of the boards of some seeds.
-fn agree(rt: &impl Abort, alloc: Global, seeds: std::ops::Range<u64>) -> Result<(), Fail> {
-    for seed in seeds {
-        let mut rule = Rule { seed };
-        let board = rule.board();
-        let verdict = board.verdict(alloc)?;
-        judges(
-            rt,
-            alloc,
-            &[
-                bridge(
-                    "00:01.0",
-                    board.outer.command(),
-                    (0, 1, 2),
-                    &board.outer.registers(),
-                ),
-                device("00:03.0", board.near.command(), &[board.near.register()]),
-                bridge(
-                    "01:00.0",
-                    board.inner.command(),
-                    (1, 2, 2),
-                    &board.inner.registers(),
-                ),
-                device(
-                    "01:01.0",
-                    board.middle.command(),
-                    &[board.middle.register()],
-                ),
-                device("02:00.0", board.far.command(), &[board.far.register()]),
-            ],
-            verdict.as_str(),
-        )?;
-    }
-    Ok(())
-}
-
 #[test]
 fn the_fast_judge_agrees_with_the_slow_one(rt: HostRuntime) -> Result<(), Fail> {
-    agree(&rt, rt.alloc(), 0..4000)
+    for seed in 0..4000u64 {
+        let board = Rule { seed }.board();
+        let verdict = board.verdict(rt.alloc())?;
+        judges(&rt, &board.functions(), verdict.as_str())?;
+    }
+    Ok(())
 }
