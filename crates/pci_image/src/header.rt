@@ -1,5 +1,6 @@
 //! The two layouts of a configuration header (PCI 3.0, 6.1; Bridge 1.2, 3.2).
 ghost use Rattle.std.specs.Prelude.{◌≡◌};
+ghost use Rattle.pci_spec.specs.Header.{layout};
 
 use super::fault::ImageFault;
 use super::image::Image;
@@ -30,6 +31,13 @@ pub const NO_VENDOR: u16 = 0xffff;
 /// The bits of Header Type that give the layout; the other one says multi-function (6.2.1).
 const LAYOUT_BITS: u8 = 0x7f;
 
+/// The layout of an image's header: 0 for a device, 1 for a bridge, and others that aren't decoded (6.2.1).
+pub fn layout(image: &Image) -> u8
+    ensures { result ≡ layout image.now.0 }
+{
+    image.u8(HEADER_TYPE) & LAYOUT_BITS
+}
+
 impl<'a> Header<'a> {
     ghost use Rattle.std.specs.Prelude.{◌≡◌, IsOk, IfOk, IfErr, ◌↔◌, ◌≤◌};
     ghost use Rattle.pci_spec.specs.Header.{bar_count, rom_register};
@@ -50,7 +58,7 @@ impl<'a> Header<'a> {
         if image.u16(VENDOR_ID) == NO_VENDOR {
             return Err(ImageFault::NoVendor);
         }
-        match image.u8(HEADER_TYPE) & LAYOUT_BITS {
+        match layout(image) {
             0 => Ok(Header::Type0(Header0 { image })),
             1 => Ok(Header::Type1(Header1 { image })),
             _ => Err(ImageFault::HeaderKind),

@@ -12,8 +12,8 @@ use crate::registers::Registers;
 use pci_dump::pair_fault::PairFault;
 use pci_image::bar::bars;
 use pci_image::fault::ImageFault;
+use pci_image::header::layout;
 use pci_image::image::Image;
-use pci_image::offset::HEADER_TYPE;
 use pci_image::rom::register::rom;
 use pci_image::slot::Slot;
 use pci_image::window::Windows;
@@ -37,7 +37,7 @@ pub fn registers_of(slot: Slot, image: &Image, probe: &Image) -> Result<Register
         Ok(_) => {}
         Err(fault) => return Err(fault),
     }
-    let bridge = image.u8(HEADER_TYPE) % 128 == 1;
+    let bridge = layout(image) == 1;
     if bridge {
         match Windows::of(image, probe) {
             Ok(_) => {}

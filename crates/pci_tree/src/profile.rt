@@ -1,7 +1,7 @@
 //! What one function may not do: the standard lets it, but no system that is judged here may have it.
 ghost use Rattle.std.specs.Prelude.{◌≡◌, ◌+◌, ◌≤◌, ◌↔◌, ◌==◌, IsTrue, MatchOption};
 ghost use Rattle.pci_spec.specs.Number.{has_bit};
-ghost use Rattle.pci_spec.specs.Header.{class_code, layout};
+ghost use Rattle.pci_spec.specs.Header.{class_code};
 ghost use Rattle.pci_spec.specs.Capability.{body_length, IsChain};
 ghost use Rattle.pci_spec.specs.Fault.{IsAsleep};
 ghost use Rattle.pci_tree.specs.Fault.{fault_of};
@@ -10,11 +10,10 @@ ghost use Rattle.pci_tree.specs.Profile.{IsAnswering, IsPlainBridge, IsPlain, Is
 use super::fault::Fault;
 use super::stray::stray_byte;
 use pci_image::capability::{Cap, POWER_MANAGEMENT};
-use pci_image::header::NO_VENDOR;
+use pci_image::header::{NO_VENDOR, layout};
 use pci_image::image::Image;
 use pci_image::offset::{
-    BASE_CLASS, BRIDGE_CONTROL, COMMAND, HEADER_TYPE, INTERFACE, POWER_CONTROL, SUB_CLASS,
-    VENDOR_ID,
+    BASE_CLASS, BRIDGE_CONTROL, COMMAND, INTERFACE, POWER_CONTROL, SUB_CLASS, VENDOR_ID,
 };
 use pci_image::slot::Slot;
 
@@ -35,13 +34,6 @@ fn has_bit(register: u16, bit: u8) -> bool
     ensures { result ≡ has_bit register bit }
 {
     register >> bit & 1 == 1
-}
-
-/// The layout of a header: bits 6:0 of Header Type, without the multi-function bit (PCI 3.0, 6.2.1).
-fn layout(image: &Image) -> u8
-    ensures { result ≡ layout image.now.0 }
-{
-    image.u8(HEADER_TYPE) % 128
 }
 
 /// Base class, sub-class and programming interface, as one number of 24 bits.

@@ -38,17 +38,17 @@ by_kind P io memory prefetch PrefetchWindow = prefetch
 
 pub returns-in-Err-of-clause-fault : goal.returns-in-Err-of-clause-fault
 returns-in-Err-of-clause-fault c =
-    (window_fault c.args.image.now.0 c.args.probe.now.0 c.in-Err-of.fault (ap (λ n. n % 128) (sym c.u8.ensures) ∙ c.if-bridge.true) c.in-Err-of.ensures.fault).0
+    (window_fault c.args.image.now.0 c.args.probe.now.0 c.in-Err-of.fault (sym c.layout-bridge.ensures ∙ c.if-bridge.true) c.in-Err-of.ensures.fault).0
 
 pub returns-in-Err-of-clause-number : goal.returns-in-Err-of-clause-number
 returns-in-Err-of-clause-number c =
-    (window_fault c.args.image.now.0 c.args.probe.now.0 c.in-Err-of.fault (ap (λ n. n % 128) (sym c.u8.ensures) ∙ c.if-bridge.true) c.in-Err-of.ensures.fault).1
+    (window_fault c.args.image.now.0 c.args.probe.now.0 c.in-Err-of.fault (sym c.layout-bridge.ensures ∙ c.if-bridge.true) c.in-Err-of.ensures.fault).1
 
 pub returns-clause-made : goal.returns-clause-made
 returns-clause-made c =
     let image = c.args.image.now.0 in
     let probe = c.args.probe.now.0 in
-    let bridge : (c.u8.result % 128 == 1) ≡ (layout image == 1) = ap (λ n. n % 128 == 1) c.u8.ensures in
+    let bridge : (c.layout-bridge.result == 1) ≡ (layout image == 1) = ap (λ n. n == 1) c.layout-bridge.ensures in
     let writable : c.writable_bytes.result ≡ writable_bits image probe =
     are_writable_bits image probe c.writable_bytes.result c.writable_bytes.ensures.image.full c.writable_bytes.ensures.image.bytes
     (subst (λ b. HasBits c.writable_bytes.result (in_fields (writable_by b probe))) bridge c.writable_bytes.ensures.bits) in
@@ -71,7 +71,7 @@ returns-clause-decodable c =
         | then-bridge+in-Ok-of w ↦
             let of_windows : HasLawfulWindows c.args.image.now.0 c.args.probe.now.0 = w.in-Ok-of.ensures.lawful.0 refl in
             by_kind (λ k. IsFalse (breaks_window_rule k c.args.image.now.0 c.args.probe.now.0)) of_windows.io of_windows.memory of_windows.prefetch kind
-        | else-bridge w ↦ absurd (w.if-bridge.false (ap (λ n. n % 128) c.u8.ensures ∙ bridge))
+        | else-bridge w ↦ absurd (w.if-bridge.false (c.layout-bridge.ensures ∙ bridge))
       ];
     }
 
