@@ -8,6 +8,7 @@ use Rattle.pci_spec.specs.Slot.{Slot, IsSlot, IsRising, slot_number}
 use Rattle.pci_spec.specs.Text.{Block, slots_of}
 use Rattle.pci_spec.specs.Fault.{IsInOne, IsThere, has_no_vendor, has_other_layout, is_stray}
 use Rattle.pci_spec.specs.System.{Function, system_of}
+use Rattle.pci_spec.proofs.Pairing.{function_of}
 use Rattle.pci_dump.specs.declared.pair_fault.PairFault.{PairFault}
 use Rattle.pci_dump.specs.declared.pair_fault.PairFault.TheVariants as faults
 use Rattle.pci_dump.specs.PairFault.{pair_fault}
@@ -122,9 +123,6 @@ same_more dump probe a p i wd wp ea ep ha hp same e =
     (slot_at dump i a ea ∙ number_same a.slot p.slot ha hp e ∙ sym (slot_there probe i p a.slot wp ep))
 
 -- ---- functions
-
-abbrev pub function_of : Block → Block → Function
-function_of b p = record { slot = b.slot; image = b.image; probe = p.image }
 
 in_system : (dump probe : List Block) (k : ℕ) (b p : Block) → k < length dump → k < length probe → b ≡ get_or dump k b → p ≡ get_or probe k p → Contains (system_of dump probe) (function_of b p)
 in_system [] probe k b p wd wp eb ep = absurd (let no : ⊥ = omega (arith, wd) in no)

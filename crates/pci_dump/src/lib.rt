@@ -13,7 +13,8 @@
 //!
 //! From bytes to blocks: a `Source` gives bytes, `ahead` holds them and hands out blocks, `parse`
 //! finds a block at the front of some bytes, `rows`, `row` and `digit` its lines. Back:
-//! `block_text` spells a block, `write` hands it to a `Sink`.
+//! `block_text` spells a block, `write` hands it to a `Sink`. `pair` says whether a dump and a probe
+//! go together, `stray` where a probe may have bytes.
 #![tactic(auto)]
 
 pub mod ahead;
@@ -33,6 +34,7 @@ mod row;
 mod rows;
 mod slot_text;
 pub mod std_ends;
+pub mod stray;
 #[cfg(test)]
 mod tests;
 pub mod write;

@@ -1,16 +1,16 @@
 //! A dump and its probe: the same functions, each of a known kind, and read backs in address
 //! registers alone.
-ghost use Rattle.std.specs.Prelude.{◌≡◌, ◌<◌, ◌≤◌, ◌+◌, ◌&&◌, nat_le, nat_lt, ℕ, List, false, true, IfSome, IfNone, IfErr, OnOk, length};
-ghost use Rattle.pci_spec.specs.Slot.{IsRising, slot_number};
+ghost use Rattle.std.specs.Prelude.{◌≡◌, ℕ, List, IfSome, IfNone, IfErr, OnOk};
+ghost use Rattle.pci_spec.specs.Slot.{IsRising};
 ghost use Rattle.pci_spec.specs.Text.{slots_of};
-ghost use Rattle.pci_spec.specs.Fault.{IsInOne, IsThere, is_in_address_register};
+ghost use Rattle.pci_spec.specs.Fault.{IsInOne, IsThere};
 ghost use Rattle.pci_dump.specs.PairFault.{pair_fault};
-ghost use Rattle.pci_dump.specs.Pair.{stray_at, IsFine, IsFaultHere, IsFaultOfPair, IsPair};
+ghost use Rattle.pci_dump.specs.Pair.{IsFine, IsFaultHere, IsFaultOfPair, IsPair};
 
 use super::block::Block;
 use super::dump::Dump;
 use super::pair_fault::PairFault;
-use pci_image::image::Image;
+use super::stray::stray_byte;
 use pci_image::slot::Slot;
 use std::alloc::Allocator;
 
@@ -22,75 +22,6 @@ const NO_VENDOR: u16 = 0xffff;
 
 /// Offset of Header Type, whose bits 6:0 are the layout (PCI 3.0, 6.2.1).
 const HEADER_TYPE: u8 = 0x0e;
-
-/// The address registers of a type 0 header, each with how many bytes it has: the BARs and the
-/// expansion ROM.
-const TYPE_0_REGISTERS: [(u8, u8); 7] = [
-    (0x10, 4),
-    (0x14, 4),
-    (0x18, 4),
-    (0x1c, 4),
-    (0x20, 4),
-    (0x24, 4),
-    (0x30, 4),
-];
-
-/// Those of a type 1 header: the BARs, the I/O, memory and prefetchable windows with their upper
-/// halves, and the expansion ROM.
-const TYPE_1_REGISTERS: [(u8, u8); 9] = [
-    (0x10, 4),
-    (0x14, 4),
-    (0x1c, 2),
-    (0x20, 4),
-    (0x24, 4),
-    (0x28, 4),
-    (0x2c, 4),
-    (0x30, 4),
-    (0x38, 4),
-];
-
-/// Whether an offset lies in an address register of a header.
-fn is_address(layout: u8, offset: usize) -> bool
-    ensures { result ≡ is_in_address_register layout offset }
-{
-    if layout == 1 {
-        TYPE_1_REGISTERS
-            .iter()
-            .any(|&(at, bytes)| holds(at, bytes, offset))
-    } else {
-        TYPE_0_REGISTERS
-            .iter()
-            .any(|&(at, bytes)| holds(at, bytes, offset))
-    }
-}
-
-/// Whether an offset lies in a register of so many bytes.
-fn holds(at: u8, bytes: u8, offset: usize) -> bool
-    ensures { result ≡ (nat_le at offset && nat_lt offset (at + bytes)) }
-{
-    usize::from(at) <= offset && offset < usize::from(at) + usize::from(bytes)
-}
-
-/// Whether a probe's byte isn't 00 and lies in no address register.
-fn is_stray(layout: u8, probe: &Image, offset: usize) -> bool
-    requires { offset < 256 }
-    ensures { result ≡ stray_at layout probe.now.0 offset }
-{
-    probe.0[offset] != 0 && !is_address(layout, offset)
-}
-
-/// The first byte of a probe that isn't 00 and lies in no address register.
-fn stray_byte(layout: u8, probe: &Image) -> Option<u8>
-    ensures none { IfNone result ((offset : ℕ) → stray_at layout probe.now.0 offset ≡ false) }
-    ensures some { IfSome result (λ offset. stray_at layout probe.now.0 offset ≡ true) }
-{
-    for offset in 0..256 {
-        if is_stray(layout, probe, offset) {
-            return Some(offset as u8);
-        }
-    }
-    None
-}
 
 /// Looks at one function: its vendor, then its layout, then its probe.
 fn check_function(block: &Block, probe: &Block) -> Result<(), PairFault>
@@ -110,9 +41,10 @@ fn check_function(block: &Block, probe: &Block) -> Result<(), PairFault>
     }
 }
 
-/// The smaller of the two slots at the first place where they differ, or the one that one side
-/// alone has there.
-fn first_difference(dump: &[Block], probe: &[Block]) -> Option<Slot>
+/// The slot that one of two lists of blocks has and the other doesn't: the smaller of the two slots at
+/// the first place where they differ, or the one that one list alone has there. None where both have
+/// the same slots.
+pub fn first_difference(dump: &[Block], probe: &[Block]) -> Option<Slot>
     requires dump { IsRising (slots_of dump.now) }
     requires probe { IsRising (slots_of probe.now) }
     ensures none { IfNone result (slots_of dump.now ≡ slots_of probe.now) }

@@ -1,5 +1,5 @@
 -- A machine of a dump and its probe: what holds of each function.
-use Rattle.std.proofs.Common.{◌≡◌, ℕ, zero, suc, ◌+◌, ◌<◌, ◌≤◌, refl, Bool, true, false, List, [], ◌∷◌, ◌++◌, map, take, length, get_or, Some, None, ◌==◌, lit<, arith, sym, ◌∙◌, ap, subst}
+use Rattle.std.proofs.Common.{◌≡◌, ℕ, zero, suc, ◌+◌, ◌<◌, ◌≤◌, refl, Bool, true, false, List, [], ◌∷◌, ◌++◌, map, take, length, get_or, Some, ◌==◌, lit<, arith, sym, ◌∙◌, ap, subst}
 use Rattle.std.specs.List.{All, Contains}
 use Rattle.std.proofs.lemmas.Bool.{false_from_ne_true}
 use Rattle.std.proofs.lemmas.List.{map_more, length-map, get_or-map, get_or_default}
@@ -9,12 +9,13 @@ use Rattle.std.proofs.lemmas.Option.{slice_get-get_or}
 use Rattle.pci_spec.specs.Number.{byte_at, has_bit}
 use Rattle.pci_spec.specs.Header.{layout}
 use Rattle.pci_spec.proofs.WritableBits.{has_bit-writable_bits}
-use Rattle.pci_spec.specs.Slot.{Slot, IsRising}
+use Rattle.pci_spec.specs.Slot.{IsRising}
 use Rattle.pci_spec.specs.Text.{Block, IsDump, slots_of}
 use Rattle.pci_spec.specs.System.{Function, IsFunction, system_of}
 use Rattle.pci_spec.specs.Machine.{Target, target_of, sized, in_fields, writable_bits}
 use Rattle.pci_spec.specs.Fault.{IsThere}
 use Rattle.pci_spec.specs.Decoded.{IsDecodable}
+use Rattle.pci_spec.proofs.Pairing.{function_of, function-at, same_length, length-system_of, slots-system_of, IsSystem-of_dumps}
 use Rattle.pci_spec.proofs.Sizing.{sizing_finds_probe}
 use Rattle.pci_image.specs.Faults.{IsImageFaultIn, image_fault_number}
 use Rattle.pci_image.specs.declared.fault.ImageFault.{ImageFault}
@@ -25,7 +26,7 @@ use Rattle.pci_machine.specs.Port.{IsTarget}
 use Rattle.pci_machine.specs.Memory.{IsMachine}
 use Rattle.pci_machine.specs.Sizing.{function_at, IsStuck}
 use Rattle.pci_machine.specs.RegisterTable.{writable_by}
-use Rattle.pci_machine.proofs.Targets.{found}
+use Rattle.pci_machine.proofs.Targets.{found, map-map}
 use Rattle.pci_machine.proofs.Memory.{lawful_from_rising}
 use Rattle.pci_machine.proofs.Sizing.{function_at-is}
 use Rattle.pci_machine.specs.Made.{name_fault}
@@ -49,35 +50,6 @@ can_clear f (i, below, set, cannot) =
     (has_bit-writable_bits f.image f.probe 0x04 i (lit< tt) (omega (arith, below)) ∙ decode_bits_writable (layout f.image == 1) f.probe i below)
 
 -- ---- functions by their places
-
--- the function of a block and its read backs
-abbrev pub function_of : Block → Block → Function
-function_of b p = record { slot = b.slot; image = b.image; probe = p.image }
-
--- the function at a place is that of the blocks there
-pub function-at : (dump probe : List Block) (k : ℕ) (b p : Block) (d : Function) → k < length dump → k < length probe
-    → get_or (system_of dump probe) k d ≡ function_of (get_or dump k b) (get_or probe k p)
-function-at [] probe k b p d h i = absurd (let no : ⊥ = omega (arith, h) in no)
-function-at (x ∷ dump) [] k b p d h i = absurd (let no : ⊥ = omega (arith, i) in no)
-function-at (x ∷ dump) (y ∷ probe) zero b p d h i = refl
-function-at (x ∷ dump) (y ∷ probe) (suc k) b p d h i = function-at dump probe k b p d (omega (arith, h)) (omega (arith, i))
-
--- as many functions as blocks
-pub length-system_of : (dump probe : List Block) → length dump ≡ length probe → length (system_of dump probe) ≡ length dump
-length-system_of [] probe h = refl
-length-system_of (x ∷ dump) [] h = absurd (let no : ⊥ = omega (arith, h) in no)
-length-system_of (x ∷ dump) (y ∷ probe) h = ap suc (length-system_of dump probe (let e : length dump ≡ length probe = omega (arith, h) in e))
-
--- the slots are those of the dump
-slots-system_of : (dump probe : List Block) → length dump ≡ length probe → map (λ (t : Target). t.slot) (map target_of (system_of dump probe)) ≡ slots_of dump
-slots-system_of [] probe h = refl
-slots-system_of (x ∷ dump) [] h = absurd (let no : ⊥ = omega (arith, h) in no)
-slots-system_of (x ∷ dump) (y ∷ probe) h = ap (λ ss. x.slot ∷ ss) (slots-system_of dump probe (let e : length dump ≡ length probe = omega (arith, h) in e))
-
--- two dumps of the same slots have as many blocks
-pub same_length : (dump probe : List Block) → slots_of dump ≡ slots_of probe → length dump ≡ length probe
-same_length dump probe same =
-    sym (length-map {B = Slot} dump (λ b. b.slot)) ∙ ap length same ∙ length-map {B = Slot} probe (λ b. b.slot)
 
 module _ (dump probe : List Block) (same : slots_of dump ≡ slots_of probe) where
   -- the function of the blocks at a place
@@ -127,21 +99,13 @@ module _ (dump probe : List Block) (same : slots_of dump ≡ slots_of probe) whe
   module _ (is_dump : IsDump dump) (is_probe : IsDump probe) where
     -- each has its two images
     each_function : All IsFunction (system_of dump probe)
-    each_function k d below =
-        let long = length-system_of dump probe (same_length dump probe same) in
-        let pair = same_length dump probe same in
-        let in_dump : k < length dump = omega (arith, below, long) in
-        let in_probe : k < length probe = omega (arith, in_dump, pair) in
-        let b : Block = record { slot = d.slot; title = None; image = d.image } in
-        let of_block = is_dump.each k b in_dump in
-        let of_probe = is_probe.each k b in_probe in
-        subst IsFunction (sym (function-at dump probe k b b d in_dump in_probe)) record { slot = of_block.slot; image = of_block.image; probe = of_probe.image }
+    each_function = (IsSystem-of_dumps dump probe is_dump is_probe same).each
 
     -- the functions are those of a machine
     pub machine-of : IsMachine (map target_of (system_of dump probe))
     machine-of = record {
       each = All-map IsTarget target_of (system_of dump probe) (λ k d below. IsTarget-target_of (get_or (system_of dump probe) k d) (each_function k d below).image);
-      rising = subst IsRising (sym (slots-system_of dump probe (same_length dump probe same))) is_dump.rising;
+      rising = subst IsRising (sym (map-map (λ (t : Target). t.slot) target_of (λ (f : Function). f.slot) (λ f. refl) (system_of dump probe) ∙ slots-system_of dump probe same)) is_dump.rising;
       header = All-map (λ t. byte_at t.writable 0x0e ≡ 0) target_of (system_of dump probe)
           (λ k d below. no_write_of_header (get_or (system_of dump probe) k d).image (get_or (system_of dump probe) k d).probe);
     }

@@ -100,7 +100,7 @@ target_at-with_image targets slot t image h =
     ∙ ap Some (cond-true (same_slot t.slot slot) (record t { image = image }) t test)
 
 -- two changes in one
-map-map : {X Y Z : Type 0} (f : Y → Z) (g : X → Y) (h : X → Z) → ((x : X) → f (g x) ≡ h x) → (xs : List X) → map f (map g xs) ≡ map h xs
+pub map-map : {X Y Z : Type 0} (f : Y → Z) (g : X → Y) (h : X → Z) → ((x : X) → f (g x) ≡ h x) → (xs : List X) → map f (map g xs) ≡ map h xs
 map-map f g h same [] = refl
 map-map f g h same (x ∷ xs) = let one = same x in let rest = map-map f g h same xs in cc
 

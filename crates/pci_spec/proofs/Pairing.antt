@@ -1,10 +1,33 @@
 -- The system that a dump and its probe make.
-use Rattle.std.proofs.Common.{◌≡◌, ℕ, List, [], ◌∷◌, ◌++◌, map, refl, sym, ap, subst, inl, inr, ◌∙◌, zero, suc, drop, ◌<◌, length, arith}
+use Rattle.std.proofs.Common.{◌≡◌, ℕ, List, [], ◌∷◌, map, refl, sym, ap, subst, inl, inr, ◌∙◌, zero, suc, drop, ◌<◌, length, get_or, arith}
 use Rattle.std.specs.List.{All, Contains}
+use Rattle.std.proofs.lemmas.List.{length-map}
 use Rattle.pci_spec.specs.Slot.{Slot, IsRising}
 use Rattle.pci_spec.specs.Text.{Block, IsBlock, IsDump, slots_of}
-use Rattle.pci_spec.specs.System.{System, Function, IsFunction, IsSystem, system_of}
+use Rattle.pci_spec.specs.System.{Function, IsFunction, IsSystem, system_of}
 use Rattle.pci_spec.specs.Fault.{Fault, IsIn, IsThere, SlotsDiffer}
+
+-- the function of a block and its read backs
+abbrev pub function_of : Block → Block → Function
+function_of b p = record { slot = b.slot; image = b.image; probe = p.image }
+
+-- both have as many blocks
+pub same_length : (dump probe : List Block) → slots_of dump ≡ slots_of probe → length dump ≡ length probe
+same_length dump probe e = sym (length-map {B = Slot} dump (λ b. b.slot)) ∙ ap length e ∙ length-map {B = Slot} probe (λ b. b.slot)
+
+-- and the system as many functions
+pub length-system_of : (dump probe : List Block) → length dump ≡ length probe → length (system_of dump probe) ≡ length dump
+length-system_of [] probe h = refl
+length-system_of (b ∷ dump) [] h = absurd (let no : ⊥ = omega (arith, h) in no)
+length-system_of (b ∷ dump) (p ∷ probe) h = ap suc (length-system_of dump probe (let e : length dump ≡ length probe = omega (arith, h) in e))
+
+-- the function at a place is that of the blocks there
+pub function-at : (dump probe : List Block) (k : ℕ) (b p : Block) (d : Function) → k < length dump → k < length probe
+    → get_or (system_of dump probe) k d ≡ function_of (get_or dump k b) (get_or probe k p)
+function-at [] probe k b p d h i = absurd (let no : ⊥ = omega (arith, h) in no)
+function-at (x ∷ dump) [] k b p d h i = absurd (let no : ⊥ = omega (arith, i) in no)
+function-at (x ∷ dump) (y ∷ probe) zero b p d h i = refl
+function-at (x ∷ dump) (y ∷ probe) (suc k) b p d h i = function-at dump probe k b p d (omega (arith, h)) (omega (arith, i))
 
 -- its slots are those of the dump
 pub slots-system_of : (dump probe : List Block) → slots_of dump ≡ slots_of probe → map (λ f. f.slot) (system_of dump probe) ≡ slots_of dump

@@ -1,17 +1,16 @@
 -- The system of a dump and its probe, block by block.
-use Rattle.std.proofs.Common.{◌≡◌, ◌≢◌, ◌⊎◌, ℕ, zero, suc, ◌+◌, ◌<◌, ◌≤◌, List, [], ◌∷◌, ◌++◌, map, length, get_or, take, refl, inl, inr, arith, sym, ◌∙◌, ap, subst, Option, Some, None, true, false, if◌then◌else◌}
+use Rattle.std.proofs.Common.{◌≡◌, ◌≢◌, ℕ, zero, suc, ◌+◌, ◌<◌, ◌≤◌, List, [], ◌∷◌, ◌++◌, map, length, get_or, take, refl, inl, inr, arith, sym, ◌∙◌, ap, subst, Option, Some, None}
 use Rattle.std.specs.Prelude.{IfSome, MatchOption, nat_lt}
-use Rattle.std.specs.List.{Contains, All}
+use Rattle.std.specs.List.{Contains}
 use Rattle.std.proofs.lemmas.Bool.{cases_Bool}
-use Rattle.std.proofs.lemmas.List.{get_or-map, length-map}
-use Rattle.std.proofs.lemmas.List.Elements.{All-nil, All-cons, All-head, All-tail}
+use Rattle.std.proofs.lemmas.List.{get_or-map, length-map, take_all}
 use Rattle.std.proofs.lemmas.List.Kept.{AllPairs-from_increasing}
-use Rattle.pci_spec.specs.Slot.{Slot, IsSlot, IsRising, slot_number}
+use Rattle.pci_spec.specs.Slot.{Slot, IsRising, slot_number}
 use Rattle.pci_spec.specs.Stops.{IsAboveLast}
-use Rattle.pci_spec.specs.Text.{Block, IsBlock, IsDump, slots_of}
-use Rattle.pci_spec.specs.System.{System, Function, IsFunction, IsSystem, system_of}
-use Rattle.pci_spec.specs.Fault.{Fault, NoVendor, HeaderKind, BarType, BarMask, BarPair, RomMask, WindowMask, CapRange, CapLoop, CapCut, SlotsDiffer, StrayProbe, LoneFunction, PaletteSnoop, VgaEnable, IsaEnable, Subtractive, InReset, PowerState, BusRange, Orphan, Unreached, Clash, Split, IsIn, IsThere}
-use Rattle.pci_dump.proofs.Pairs.{function_of}
+use Rattle.pci_spec.specs.Text.{Block, IsDump, slots_of}
+use Rattle.pci_spec.specs.System.{System, Function, system_of}
+use Rattle.pci_spec.specs.Fault.{Fault, NoVendor, HeaderKind, BarType, BarMask, BarPair, RomMask, WindowMask, CapRange, CapLoop, CapCut, SlotsDiffer, StrayProbe, LoneFunction, PaletteSnoop, VgaEnable, IsaEnable, Subtractive, InReset, PowerState, BusRange, Orphan, Unreached, Clash, Split, IsThere}
+use Rattle.pci_spec.proofs.Pairing.{function_of, same_length, slots-system_of, IsSystem-of_dumps, there-of_in}
 use Rattle.pci_tree.specs.Profile.{phase_of, IsHere}
 use Rattle.pci_tree.specs.Survey.{Surveyed, earlier, IsSurveyOf, IsAdded, IsRefusedBy, IsOutlineOf}
 use Rattle.pci_dump.specs.declared.memory.Refused.{Refused}
@@ -35,41 +34,6 @@ system_more (d ∷ dump) (q ∷ probe) (suc i) b p wd wp eb ep =
     let e : suc i + 1 ≡ suc (i + 1) = omega arith in
     subst (λ n. system_of (take n (d ∷ dump)) (take n (q ∷ probe)) ≡ function_of d q ∷ (system_of (take i dump) (take i probe) ++ function_of b p ∷ [])) (sym e)
     (ap (λ s. function_of d q ∷ s) (system_more dump probe i b p (omega (arith, wd)) (omega (arith, wp)) eb ep))
-
--- all blocks
-pub take_all : {X : Type 0} (xs : List X) (n : ℕ) → n ≡ length xs → take n xs ≡ xs
-take_all [] zero e = refl
-take_all [] (suc n) e = refl
-take_all (x ∷ xs) zero e = absurd (let no : ⊥ = omega (arith, e) in no)
-take_all (x ∷ xs) (suc n) e = ap (λ ys. x ∷ ys) (take_all xs n (omega (arith, e)))
-
--- as many blocks on both sides
-pub same_length : (dump probe : List Block) → slots_of dump ≡ slots_of probe → length dump ≡ length probe
-same_length dump probe e =
-    let one = length-map dump (λ (b : Block). b.slot) in
-    let two = length-map probe (λ (b : Block). b.slot) in
-    sym one ∙ ap length e ∙ two
-
-system_slots : (dump probe : List Block) → length dump ≡ length probe → map (λ (f : Function). f.slot) (system_of dump probe) ≡ slots_of dump
-system_slots [] probe e = refl
-system_slots (d ∷ dump) [] e = absurd (let no : ⊥ = omega (arith, e) in no)
-system_slots (d ∷ dump) (q ∷ probe) e = ap (λ ss. d.slot ∷ ss) (system_slots dump probe (omega (arith, e)))
-
-system_functions : (dump probe : List Block) → All IsBlock dump → All IsBlock probe → All IsFunction (system_of dump probe)
-system_functions [] probe hd hp = All-nil IsFunction
-system_functions (d ∷ dump) [] hd hp = All-nil IsFunction
-system_functions (d ∷ dump) (q ∷ probe) hd hp =
-    let b : IsBlock d = All-head IsBlock d dump hd in
-    let p : IsBlock q = All-head IsBlock q probe hp in
-    All-cons IsFunction (function_of d q) (system_of dump probe) record { slot = b.slot; image = b.image; probe = p.image }
-    (system_functions dump probe (All-tail IsBlock d dump hd) (All-tail IsBlock q probe hp))
-
--- two dumps with the same slots make a system
-pub system_of_dumps : (dump probe : List Block) → IsDump dump → IsDump probe → slots_of dump ≡ slots_of probe → IsSystem (system_of dump probe)
-system_of_dumps dump probe hd hp e = record {
-  each = system_functions dump probe hd.each hp.each;
-  rising = subst IsRising (sym (system_slots dump probe (same_length dump probe e))) hd.rising;
-}
 
 -- a later slot of a list that rises is above an earlier one
 pub later_is_above : (ss : List Slot) (i k : ℕ) (d : Slot) → IsRising ss → i < k → k < length ss → slot_number (get_or ss i d) < slot_number (get_or ss k d)
@@ -169,37 +133,10 @@ adding_more v w roots dump probe i b p same rising within eb ep adding added =
 pub adding_all : (v : Surveyed) (roots : List ℕ) (dump probe : List Block) (i : ℕ) → slots_of dump ≡ slots_of probe → i ≡ length dump → IsAdding v roots dump probe i → IsSurveyOf v (system_of dump probe)
 adding_all v roots dump probe i same all adding =
     let long = same_length dump probe same in
-    subst (λ ds. IsSurveyOf v (system_of ds probe)) (take_all dump i all)
-    (subst (λ ps. IsSurveyOf v (system_of (take i dump) ps)) (take_all probe i (omega (arith, long, all))) adding.is)
+    subst (λ ds. IsSurveyOf v (system_of ds probe)) (take_all i dump (omega (arith, all)))
+    (subst (λ ps. IsSurveyOf v (system_of (take i dump) ps)) (take_all i probe (omega (arith, long, all))) adding.is)
 
 -- ---- admission
-
--- a fault of the system is one of the dump and its probe
-pub there_in_pair : (roots : List ℕ) (dump probe : List Block) (e : Fault) → slots_of dump ≡ slots_of probe → IsIn roots (system_of dump probe) e → IsThere roots dump probe e
-there_in_pair roots dump probe (SlotsDiffer slot) same is = absurd is
-there_in_pair roots dump probe (NoVendor slot) same is = (same, is)
-there_in_pair roots dump probe (HeaderKind slot) same is = (same, is)
-there_in_pair roots dump probe (BarType slot register) same is = (same, is)
-there_in_pair roots dump probe (BarMask slot register) same is = (same, is)
-there_in_pair roots dump probe (BarPair slot register) same is = (same, is)
-there_in_pair roots dump probe (RomMask slot register) same is = (same, is)
-there_in_pair roots dump probe (WindowMask slot register) same is = (same, is)
-there_in_pair roots dump probe (CapRange slot place) same is = (same, is)
-there_in_pair roots dump probe (CapLoop slot place) same is = (same, is)
-there_in_pair roots dump probe (CapCut slot place) same is = (same, is)
-there_in_pair roots dump probe (StrayProbe slot offset) same is = (same, is)
-there_in_pair roots dump probe (LoneFunction slot) same is = (same, is)
-there_in_pair roots dump probe (PaletteSnoop slot) same is = (same, is)
-there_in_pair roots dump probe (VgaEnable slot) same is = (same, is)
-there_in_pair roots dump probe (IsaEnable slot) same is = (same, is)
-there_in_pair roots dump probe (Subtractive slot) same is = (same, is)
-there_in_pair roots dump probe (InReset slot) same is = (same, is)
-there_in_pair roots dump probe (PowerState slot) same is = (same, is)
-there_in_pair roots dump probe (BusRange slot) same is = (same, is)
-there_in_pair roots dump probe (Orphan slot) same is = (same, is)
-there_in_pair roots dump probe (Unreached slot register space address bridge) same is = (same, is)
-there_in_pair roots dump probe (Clash bus space address first first_register second second_register) same is = (same, is)
-there_in_pair roots dump probe (Split space address first first_register second second_register) same is = (same, is)
 
 open_fault : (o : Option Fault) (e : Fault) → IfSome o (λ x. phase_of x ≢ 0) → o ≡ Some e → phase_of e ≢ 0
 open_fault o e h is = subst (λ (x : Option Fault). IfSome x (λ y. phase_of y ≢ 0)) is h
@@ -209,7 +146,7 @@ pub refused_pair : (v : Surveyed) (dump probe : List Block) (e : Fault) → slot
     → IsRefusedBy v e → IsThere v.roots dump probe e
 refused_pair v dump probe e same is no_30 refused = elim (refused.there (system_of dump probe) is) [
   | inl (phase, noted) ↦ absurd (open_fault v.fault e no_30 noted phase)
-  | inr there ↦ there_in_pair v.roots dump probe e same there
+  | inr there ↦ there-of_in v.roots dump probe e same there
 ]
 
 -- and where it makes an outline, both are admitted
@@ -218,7 +155,7 @@ pub admitted_pair : (v : Surveyed) (o : Tree) (dump probe : List Block) → IsDu
 admitted_pair v o dump probe hd hp same is out =
     subst (λ roots. IsAdmitted record { roots = roots; dump = dump; probe = probe }) (sym out.roots) record {
       slots = same;
-      system = system_of_dumps dump probe hd hp same;
+      system = IsSystem-of_dumps dump probe hd hp same;
       nested = out.nested (system_of dump probe) is;
       profile = out.profile (system_of dump probe) is;
       chains = out.chains (system_of dump probe) is;
@@ -238,7 +175,7 @@ slots_of_records (f ∷ s) = ap (λ ss. f.slot ∷ ss) (slots_of_records s)
 -- the slots of the records are those of the dump
 listed_of_pair : (dump probe : List Block) (rs : List decoded.Record) → slots_of dump ≡ slots_of probe → HasRecords (system_of dump probe) rs → map (λ (r : decoded.Record). r.slot) rs ≡ slots_of dump
 listed_of_pair dump probe rs same has =
-    ap (λ xs. map (λ (r : decoded.Record). r.slot) xs) (sym has.same) ∙ slots_of_records (system_of dump probe) ∙ system_slots dump probe (same_length dump probe same)
+    ap (λ xs. map (λ (r : decoded.Record). r.slot) xs) (sym has.same) ∙ slots_of_records (system_of dump probe) ∙ slots-system_of dump probe same
 
 -- a path in the outline of a dump and its probe
 pub path_of_pair : {V : Type 0} (items : V → List Slot) (roots other : List ℕ) (rs : List decoded.Record) (dump probe : List Block) (slot : Slot) (o : Option V) → slots_of dump ≡ slots_of probe → roots ≡ other

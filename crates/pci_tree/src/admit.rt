@@ -1,9 +1,8 @@
 //! Admission of a dump and its probe: a survey of their blocks side by side.
-ghost use Rattle.std.specs.Prelude.{◌≡◌, ◌≢◌, ◌∷◌, [], None, IfNone, IfSome, OnOk, MatchResult};
+ghost use Rattle.std.specs.Prelude.{◌≡◌, ◌≢◌, ◌∷◌, [], None, IfSome, OnOk, MatchResult};
 ghost use Rattle.pci_spec.specs.Slot.{IsRising};
 ghost use Rattle.pci_spec.specs.Text.{slots_of};
 ghost use Rattle.pci_spec.specs.System.{system_of};
-ghost use Rattle.pci_spec.specs.Fault.{IsInOne};
 ghost use Rattle.pci_tree.specs.Roots.{buses_of};
 ghost use Rattle.pci_tree.specs.Profile.{phase_of};
 ghost use Rattle.pci_tree.specs.Survey.{IsSurveyOf};
@@ -16,37 +15,8 @@ use super::survey::Survey;
 use pci_dump::block::Block;
 use pci_dump::dump::Dump;
 use pci_dump::memory::{OutOfMemory, Refused};
-use pci_image::slot::Slot;
+use pci_dump::pair::first_difference;
 use std::alloc::Allocator;
-
-/// The smaller of the two slots at the first place where they differ, or the one that one side alone has there.
-fn first_difference(dump: &[Block], probe: &[Block]) -> Option<Slot>
-    requires dump { IsRising (slots_of dump.now) }
-    requires probe { IsRising (slots_of probe.now) }
-    ensures none { IfNone result (slots_of dump.now ≡ slots_of probe.now) }
-    ensures some { IfSome result (IsInOne dump.now probe.now) }
-{
-    let shared = dump.len().min(probe.len());
-    for i in 0..shared {
-        let ours = &dump[i];
-        let theirs = &probe[i];
-        if ours.slot.number() < theirs.slot.number() {
-            return Some(ours.slot);
-        }
-        if theirs.slot.number() < ours.slot.number() {
-            return Some(theirs.slot);
-        }
-    }
-    if shared < dump.len() {
-        let next = &dump[shared];
-        return Some(next.slot);
-    }
-    if shared < probe.len() {
-        let next = &probe[shared];
-        return Some(next.slot);
-    }
-    None
-}
 
 /// Adds all functions of a dump and a probe that list the same slots to a survey of none.
 fn add_all<A: Allocator>(

@@ -18,7 +18,6 @@ pub mod record;
 pub mod region;
 pub mod roots;
 pub mod space;
-mod stray;
 pub mod survey;
 #[cfg(test)]
 mod tests;

@@ -8,7 +8,7 @@ ghost use Rattle.pci_tree.specs.Fault.{fault_of};
 ghost use Rattle.pci_tree.specs.Profile.{IsAnswering, IsPlainBridge, IsPlain, IsAsleepAt, IsHereIn, places_of};
 
 use super::fault::Fault;
-use super::stray::stray_byte;
+use pci_dump::stray::stray_byte;
 use pci_image::capability::{Cap, POWER_MANAGEMENT};
 use pci_image::header::{NO_VENDOR, layout};
 use pci_image::image::Image;

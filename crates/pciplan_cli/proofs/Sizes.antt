@@ -12,10 +12,11 @@ use Rattle.pci_spec.specs.System.{Function, system_of}
 use Rattle.pci_spec.specs.Machine.{Target, target_of, sized}
 use Rattle.pci_spec.specs.Fault.{has_no_vendor, has_other_layout}
 use Rattle.pci_spec.specs.Decoded.{IsDecodable}
+use Rattle.pci_spec.proofs.Pairing.{function_of, length-system_of, same_length}
 use Rattle.pci_dump.proofs.Pairs.{slot_at}
 use Rattle.pci_machine.specs.Sizing.{function_at, IsStuck}
 use Rattle.pci_machine.proofs.Targets.{some_at}
-use Rattle.pci_machine.proofs.MadeOf.{function_of, length-system_of, same_length, at_place, function-of, free-of}
+use Rattle.pci_machine.proofs.MadeOf.{at_place, function-of, free-of}
 use Rattle.pciplan_cli.specs.Sizes.{IsSizable}
 
 -- a block of a dump stands above the last of those before it

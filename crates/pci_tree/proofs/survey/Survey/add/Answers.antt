@@ -1,13 +1,10 @@
-use Rattle.std.proofs.Common.{◌≡◌, List, [], ◌∷◌, ◌++◌, map, refl, sym, ◌∙◌, ap, subst, Option, Some}
-use Rattle.std.specs.Option.{option_map}
-use Rattle.pci_spec.specs.Slot.{Slot}
+use Rattle.std.proofs.Common.{◌≡◌, List, [], ◌∷◌, ◌++◌, sym, ◌∙◌, ap, subst, Some}
 use Rattle.pci_spec.specs.Stops.{IsAboveLast}
 use Rattle.pci_spec.specs.Text.{Block}
-use Rattle.pci_spec.specs.System.{System, Function}
 use Rattle.pci_spec.specs.Decoded as decoded
-use Rattle.pci_dump.proofs.Pairs.{function_of}
+use Rattle.pci_spec.proofs.Pairing.{function_of}
 use Rattle.pci_tree.specs.declared.record.Record.{Record}
-use Rattle.pci_tree.specs.Survey.{Surveyed, AreKept, IsAdded, IsSurveyOf}
+use Rattle.pci_tree.specs.Survey.{Surveyed, AreKept, IsAdded}
 use Rattle.pci_tree.proofs.Surveys.{survey_of, survey_more, append_record, append_nothing, append_fault, kept_later, kept_more}
 use Rattle.pci_tree.proofs.survey.Survey.add.Goals as goal
 

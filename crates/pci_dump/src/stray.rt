@@ -1,12 +1,12 @@
 //! Bytes of a probe outside the address registers. Only these registers are written and read back.
-ghost use Rattle.std.specs.Prelude.{◌≡◌, ◌<◌, ◌+◌, ◌&&◌, nat_le, nat_lt, ℕ, false, true, MatchOption, IsFalse, IsTrue};
+ghost use Rattle.std.specs.Prelude.{◌≡◌, ◌<◌, ◌+◌, ◌&&◌, nat_le, nat_lt, ℕ, false, true, IfSome, IfNone};
 ghost use Rattle.pci_spec.specs.Fault.{is_in_address_register};
 ghost use Rattle.pci_dump.specs.Pair.{stray_at};
 
 use pci_image::image::Image;
 
-/// The address registers of a type 0 header, each with how many bytes it has: the BARs and the expansion ROM
-/// (PCI 3.0, 6.2.5).
+/// The address registers of a type 0 header, each with how many bytes it has: the BARs and the
+/// expansion ROM (PCI 3.0, 6.2.5).
 const TYPE_0_REGISTERS: [(u8, u8); 7] = [
     (0x10, 4),
     (0x14, 4),
@@ -17,8 +17,8 @@ const TYPE_0_REGISTERS: [(u8, u8); 7] = [
     (0x30, 4),
 ];
 
-/// Those of a type 1 header: the BARs, the I/O, memory and prefetchable windows with their upper halves, and the
-/// expansion ROM (Bridge 1.2, 3.2.5).
+/// Those of a type 1 header: the BARs, the I/O, memory and prefetchable windows with their upper
+/// halves, and the expansion ROM (Bridge 1.2, 3.2.5).
 const TYPE_1_REGISTERS: [(u8, u8); 9] = [
     (0x10, 4),
     (0x14, 4),
@@ -61,9 +61,12 @@ fn is_stray(layout: u8, probe: &Image, offset: usize) -> bool
     probe.0[offset] != 0 && !is_address(layout, offset)
 }
 
-/// The first byte of a probe that isn't 00 and lies in no address register.
+/// The offset of the first byte of a probe that isn't 00 and lies in no address register of a header
+/// with this layout, the Header Type without its bit 7: 1 is a bridge's, any other one is taken for 0.
 pub fn stray_byte(layout: u8, probe: &Image) -> Option<u8>
-    ensures { MatchOption result ((offset : ℕ) → IsFalse (stray_at layout probe.now.0 offset)) (λ offset. IsTrue (stray_at layout probe.now.0 offset)) }
+    ensures none { IfNone result ((offset : ℕ) → stray_at layout probe.now.0 offset ≡ false) }
+    ensures some { IfSome result (λ offset. stray_at layout probe.now.0 offset ≡ true) }
+    ensures first { IfSome result (λ offset. (k : ℕ) → k < offset → stray_at layout probe.now.0 k ≡ false) }
 {
     for offset in 0..256 {
         if is_stray(layout, probe, offset) {
