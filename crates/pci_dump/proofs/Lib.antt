@@ -11,3 +11,4 @@ pub mod Told
 pub mod Put
 pub mod Pairs
 pub mod Digits
+pub mod Registers
