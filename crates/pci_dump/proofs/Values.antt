@@ -1,18 +1,20 @@
 -- A line of values by its places, and by its cells.
 use Rattle.std.proofs.Common.{◌≡◌, replicate, inl, inr, Option, None, Some, ℕ, zero, suc, ◌+◌, ◌-◌, ◌*◌, ◌/◌, ◌%◌, ◌<◌, ◌≤◌, List, [], ◌∷◌, ◌++◌, refl, arith, sym, ◌∙◌, ap, subst, length, get_or, take, drop, append-nil}
 use Rattle.std.specs.Prelude.{IfSome, IfNone}
-use Rattle.std.proofs.Common.{true}
-use Rattle.std.specs.Cmp.Lexicographic.{pointwise}
-use Rattle.std.specs.Bool.{nat_eq}
-use Rattle.std.proofs.lemmas.Bool.{cases_lt, and_parts, eqb-true}
+use Rattle.std.proofs.Common.{Bool, true}
+use Rattle.std.specs.Prelude.{nat_lt}
+use Rattle.pci_spec.specs.Number.{each_from}
+use Rattle.pci_spec.proofs.Bits.{each_from-at}
+use Rattle.std.proofs.lemmas.Bool.{cases_lt, ltb-true}
 use Rattle.std.specs.List.{flat_map, slice_index, slice_range}
-use Rattle.std.proofs.lemmas.List.{length-take, length-drop, length-append, take-append-drop, drop_more, drop_all, take_at, drop_at, get_or_at, nil_from_length, get_or-take, get_or-drop, get_or_append_left, get_or-append_right, get_or_past}
+use Rattle.std.proofs.lemmas.List.{length-take, length-drop, take-append-drop, take-take, drop-take, drop_more, drop_all, take_at, get_or_at, nil_from_length, get_or_past}
 use Rattle.pci_spec.specs.Text.{hex_digit}
 use Rattle.pci_spec.specs.Form.{Fits, row_cells, row_text}
 use Rattle.pci_spec.proofs.Forms.{spaced, row_of, small_take, small_drop}
-use Rattle.std.specs.Int.{from_le_bytes, w32, w64}
-use Rattle.std.proofs.lemmas.Nat.{le_bytes_4, le_bytes_8}
-use Rattle.pci_dump.specs.Value.{IsValueAt, AreValues, AreValuesFrom, AreSmall}
+use Rattle.std.specs.Int.{from_le_bytes, w64}
+use Rattle.std.proofs.lemmas.Nat.{le_bytes_8}
+use Rattle.pci_dump.specs.declared.row.TheConstants.{ZEROS}
+use Rattle.pci_dump.specs.Value.{IsValueAt, AreValues, AreSmall}
 
 later : (k : ℕ) (x y z : ℕ) (cells : List ℕ) (v : ℕ) → IsValueAt (x ∷ y ∷ z ∷ cells) (3 * suc k) v → IsValueAt cells (3 * k) v
 later k x y z cells v h =
@@ -112,51 +114,6 @@ small_zeros zero k = omega arith
 small_zeros (suc n) zero = omega arith
 small_zeros (suc n) (suc k) = small_zeros n k
 
--- what stands at a place of some of the cells
-from_range : (cells : List ℕ) (at k v : ℕ) → k + 2 < 12 → IsValueAt (slice_range cells at (at + 12)) k v → IsValueAt cells (at + k) v
-from_range cells at k v h one =
-    let n : at + 12 - at ≡ 12 = omega arith in
-    let here : (j : ℕ) → j < 12 → slice_index (slice_range cells at (at + 12)) j ≡ slice_index cells (at + j) =
-    λ j b. get_or-take (at + 12 - at) (drop at cells) j 0 (omega (arith, b, n)) ∙ get_or-drop at cells j 0 in
-    let a1 : at + (k + 1) ≡ at + k + 1 = omega arith in
-    let a2 : at + (k + 2) ≡ at + k + 2 = omega arith in
-    record {
-      small = one.small;
-      space = sym (here k (omega (arith, h))) ∙ one.space;
-      high = ap (λ (j : ℕ). slice_index cells j) (sym a1) ∙ sym (here (k + 1) (omega (arith, h))) ∙ one.high;
-      low = ap (λ (j : ℕ). slice_index cells j) (sym a2) ∙ sym (here (k + 2) (omega (arith, h))) ∙ one.low;
-    }
-
--- four zeros
-pub zeros_from : (cells : List ℕ) (at : ℕ) → slice_range cells at (at + 12) ≡ flat_map spaced (replicate 4 0) → (length {A = ℕ} (replicate 4 0) ≡ 4) × AreValuesFrom cells at (replicate 4 0) 4
-zeros_from cells at e = (
-  refl,
-  λ k b. from_range cells at (3 * k) (slice_index (replicate 4 0) k) (omega (arith, b))
-      (subst (λ (t : List ℕ). IsValueAt t (3 * k) (slice_index (replicate 4 0) k)) (append-nil (flat_map spaced (replicate 4 0)) ∙ sym e) (placed (replicate 4 0) [] (small_zeros 4) k b)),
-)
-
--- four values behind others
-pub more_values : (cells old new four : List ℕ) (group : ℕ) → group < 4 → length old ≡ 16 → length new ≡ 16 → length four ≡ 4 → AreValues cells old (4 * group) → AreValuesFrom cells (12 * group) four 4
-    → take (4 * group + 4) new ≡ take (4 * group) old ++ four → AreValues cells new (4 * (group + 1))
-more_values cells old new four group h lo ln lf all more e k b =
-    let front = length-take (4 * group) old in
-    let is : get_or new k 0 ≡ get_or (take (4 * group) old ++ four) k 0 = sym (get_or-take (4 * group + 4) new k 0 (omega (arith, b))) ∙ ap (λ (t : List ℕ). get_or t k 0) e in
-    elim (cases_lt k (4 * group)) [
-      | inl below ↦
-          let same : get_or new k 0 ≡ get_or old k 0 = is ∙ get_or_append_left (take (4 * group) old) four 0 k (omega (arith, front, lo, h, below)) ∙ get_or-take (4 * group) old k 0 below in
-          subst (λ (x : ℕ). IsValueAt cells (3 * k) x) (sym same) (all k below)
-      | inr past ↦
-          let j = k - 4 * group in
-          let same : get_or new k 0 ≡ get_or four j 0 = is ∙ get_or-append_right (take (4 * group) old) four (4 * group) k 0 (omega (arith, front, lo, h)) past in
-          let place : 12 * group + 3 * j ≡ 3 * k = omega (arith, past) in
-          subst (λ (x : ℕ). IsValueAt cells (3 * k) x) (sym same) (subst (λ (n : ℕ). IsValueAt cells n (get_or four j 0)) place (more j (omega (arith, b, past))))
-    ]
-
-pub not_from : (cells v : List ℕ) (group : ℕ) → group < 4 → AreValues cells v 16 → AreValuesFrom cells (12 * group) (drop (4 * group) v) 4
-not_from cells v group h all k b =
-    let place : 3 * (4 * group + k) ≡ 12 * group + 3 * k = omega arith in
-    subst (λ (x : ℕ). IsValueAt cells (12 * group + 3 * k) x) (sym (get_or-drop (4 * group) v k 0)) (subst (λ (n : ℕ). IsValueAt cells n (slice_index v (4 * group + k))) place (all (4 * group + k) (omega (arith, h, b))))
-
 small_values : (v cells : List ℕ) → length v ≡ 16 → AreValues cells v 16 → AreSmall v
 small_values v cells l h k = elim (cases_lt k 16) [
   | inl below ↦ (h k below).small
@@ -177,58 +134,35 @@ no_row (Some v) row line h e = tt
 pub zeros_there : (cells : List ℕ) → cells ≡ flat_map spaced (replicate 16 0) → AreValues cells (replicate 16 0) 16
 zeros_there cells e = subst (λ (t : List ℕ). AreValues t (replicate 16 0) 16) (append-nil (flat_map spaced (replicate 16 0)) ∙ sym e) (placed (replicate 16 0) [] (small_zeros 16))
 
-pub same_bytes : (xs ys : List ℕ) → pointwise nat_eq xs ys ≡ true → xs ≡ ys
-same_bytes [] [] e = refl
-same_bytes [] (y ∷ ys) e = absurd cc
-same_bytes (x ∷ xs) [] e = absurd cc
-same_bytes (x ∷ xs) (y ∷ ys) e =
-    let both = and_parts (nat_eq x y) (pointwise nat_eq xs ys) e in
-    let one : x ≡ y = eqb-true x y both.0 in
-    let more = same_bytes xs ys both.1 in
-    λ i. one i ∷ more i
-
 same_eight : (xs ys : List ℕ) → length xs ≡ 8 → length ys ≡ 8 → AreSmall xs → AreSmall ys → from_le_bytes w64 xs ≡ from_le_bytes w64 ys → xs ≡ ys
 same_eight xs ys lx ly sx sy e = sym (le_bytes_8 xs (from_le_bytes w64 xs) lx sx refl) ∙ le_bytes_8 ys (from_le_bytes w64 xs) ly sy e
 
-same_four : (xs ys : List ℕ) → length xs ≡ 4 → length ys ≡ 4 → AreSmall xs → AreSmall ys → from_le_bytes w32 xs ≡ from_le_bytes w32 ys → xs ≡ ys
-same_four xs ys lx ly sx sy e = sym (le_bytes_4 xs (from_le_bytes w32 xs) lx sx refl) ∙ le_bytes_4 ys (from_le_bytes w32 xs) ly sy e
+-- a beginning with some elements more
+pub take_on : (xs : List ℕ) (n m : ℕ) → take (n + m) xs ≡ take n xs ++ take m (drop n xs)
+take_on xs n m = sym (take-append-drop n (take (n + m) xs)) ∙ (λ i. take-take n (n + m) xs (omega arith) i ++ drop-take n m xs i)
 
-abbrev pub front_zeros : List ℕ
-front_zeros = 32 ∷ 48 ∷ 48 ∷ 32 ∷ 48 ∷ 48 ∷ 32 ∷ 48 ∷ []
+eight_long : (xs : List ℕ) (n : ℕ) → n + 8 ≤ length xs → length (take 8 (drop n xs)) ≡ 8
+eight_long xs n within = let t = length-take 8 (drop n xs) in let d = length-drop n xs in omega (arith, t, d, within)
 
-abbrev pub back_zeros : List ℕ
-back_zeros = 48 ∷ 32 ∷ 48 ∷ 48 ∷ []
+-- eight bytes more are the same, as they are as a number
+pub same_eight_more : (xs ys : List ℕ) (n : ℕ) → n + 8 ≤ length xs → n + 8 ≤ length ys → AreSmall xs → AreSmall ys → take n xs ≡ take n ys
+    → from_le_bytes w64 (slice_range xs n (n + 8)) ≡ from_le_bytes w64 (slice_range ys n (n + 8)) → take (n + 8) xs ≡ take (n + 8) ys
+same_eight_more xs ys n wx wy sx sy same e =
+    let eight : n + 8 - n ≡ 8 = omega arith in
+    let next : take 8 (drop n xs) ≡ take 8 (drop n ys) =
+    same_eight (take 8 (drop n xs)) (take 8 (drop n ys)) (eight_long xs n wx) (eight_long ys n wy) (small_take 8 (drop n xs) (small_drop n xs sx)) (small_take 8 (drop n ys) (small_drop n ys sy))
+    (subst (λ (k : ℕ). from_le_bytes w64 (take k (drop n xs)) ≡ from_le_bytes w64 (take k (drop n ys))) eight e) in
+    take_on xs n 8 ∙ (λ i. same i ++ next i) ∙ sym (take_on ys n 8)
 
-back_small : (k : ℕ) → get_or back_zeros k 0 < 256
-back_small zero = omega arith
-back_small (suc zero) = omega arith
-back_small (suc (suc zero)) = omega arith
-back_small (suc (suc (suc zero))) = omega arith
-back_small (suc (suc (suc (suc k)))) = omega arith
+abbrev is_small_zero : ℕ → Bool
+is_small_zero k = nat_lt (get_or ZEROS k 0) 256
 
-front_small : (k : ℕ) → get_or front_zeros k 0 < 256
-front_small zero = omega arith
-front_small (suc zero) = omega arith
-front_small (suc (suc zero)) = omega arith
-front_small (suc (suc (suc zero))) = omega arith
-front_small (suc (suc (suc (suc zero)))) = omega arith
-front_small (suc (suc (suc (suc (suc zero))))) = omega arith
-front_small (suc (suc (suc (suc (suc (suc zero)))))) = omega arith
-front_small (suc (suc (suc (suc (suc (suc (suc zero))))))) = omega arith
-front_small (suc (suc (suc (suc (suc (suc (suc (suc k)))))))) = omega arith
+all_small : each_from 0 48 is_small_zero ≡ true
+unfolding each_from
+all_small = refl
 
--- bytes that are compared as numbers
-pub zeros_by_numbers : (cells front back : List ℕ) (at : ℕ) → AreSmall cells → slice_range cells at (at + 12) ≡ front ++ back → length front ≡ 8 → at + 12 ≤ length cells
-    → from_le_bytes w64 front ≡ from_le_bytes w64 front_zeros → from_le_bytes w32 back ≡ from_le_bytes w32 back_zeros → AreValuesFrom cells at (replicate 4 0) 4
-zeros_by_numbers cells front back at small split lf within f b =
-    let t = length-take (at + 12 - at) (drop at cells) in
-    let d = length-drop at cells in
-    let whole = ap length split ∙ length-append front back in
-    let lb : length back ≡ 4 = omega (arith, t, d, whole, lf, within) in
-    let some = small_take (at + 12 - at) (drop at cells) (small_drop at cells small) in
-    let all : AreSmall (front ++ back) = subst AreSmall split some in
-    let first : AreSmall front = subst AreSmall (take_at front back 8 lf) (small_take 8 (front ++ back) all) in
-    let second : AreSmall back = subst AreSmall (drop_at front back 8 lf) (small_drop 8 (front ++ back) all) in
-    let e = same_eight front front_zeros lf refl first front_small f in
-    let g = same_four back back_zeros lb refl second back_small b in
-    (zeros_from cells at (split ∙ (λ i. e i ++ g i))).1
+pub ZEROS_small : AreSmall ZEROS
+ZEROS_small k = elim (cases_lt k 48) [
+  | inl below ↦ ltb-true (get_or ZEROS k 0) 256 (each_from-at 0 48 is_small_zero all_small k (omega arith) (omega (arith, below)))
+  | inr past ↦ let z = get_or_past ZEROS k 0 past in omega (arith, z)
+]

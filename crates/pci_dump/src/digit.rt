@@ -1,12 +1,12 @@
 //! Hex digits in lower case.
-ghost use Rattle.std.specs.Prelude.{◌≡◌, ◌≤◌, ◌<◌, ℕ, IfSome, Some};
+ghost use Rattle.std.specs.Prelude.{◌≡◌, ◌⊎◌, ◌≤◌, ◌<◌, ◌/◌, ◌%◌, ℕ, IfSome, IfNone, Some};
 ghost use Rattle.pci_spec.specs.Text.{hex_digit};
 
-/// No digit.
-const X: u8 = 0xff;
+/// No digit, and too large to be a part of a byte.
+const X: u32 = 0x100;
 
 /// What each byte stands for as a lower-case hex digit.
-static DIGITS: [u8; 256] = [
+static DIGITS: [u32; 256] = [
     X, X, X, X, X, X, X, X, X, X, X, X, X, X, X, X, X, X, X, X, X, X, X, X, X, X, X, X, X, X, X, X,
     X, X, X, X, X, X, X, X, X, X, X, X, X, X, X, X, 0, 1, 2, 3, 4, 5, 6, 7, 8, 9, X, X, X, X, X, X,
     X, X, X, X, X, X, X, X, X, X, X, X, X, X, X, X, X, X, X, X, X, X, X, X, X, X, X, X, X, X, X, X,
@@ -18,23 +18,39 @@ static DIGITS: [u8; 256] = [
     X, X,
 ];
 
+/// What a byte stands for as a hex digit in lower case.
+fn number_of(byte: u8) -> u32
+    ensures known { (result ≡ 256) ⊎ ((result < 16) × (byte ≡ hex_digit result)) }
+    ensures found { (d : ℕ) → d < 16 → byte ≡ hex_digit d → result ≡ d }
+{
+    DIGITS[usize::from(byte)]
+}
+
 /// What a hex digit in lower case stands for.
 pub(crate) fn digit_value(byte: u8) -> Option<u8>
     ensures some { IfSome result (λ d. (d ≤ 15) × (byte ≡ hex_digit d)) }
     ensures found { (d : ℕ) → d < 16 → byte ≡ hex_digit d → result ≡ Some d }
 {
-    let value = DIGITS[usize::from(byte)];
-    if value < 16 { Some(value) } else { None }
+    let value = number_of(byte);
+    if value < 16 { Some(value as u8) } else { None }
 }
+
+/// What two hex digits in lower case stand for.
+pub(crate) fn two_digits_value(high: u8, low: u8) -> Option<u8>
+    ensures some { IfSome result (λ v. (high ≡ hex_digit (v / 16)) × (low ≡ hex_digit (v % 16))) }
+    ensures none { IfNone result ((v : ℕ) → v < 256 → high ≡ hex_digit (v / 16) → low ≡ hex_digit (v % 16) → ⊥) }
+{
+    let value = number_of(high) * 16 + number_of(low);
+    if value < 256 { Some(value as u8) } else { None }
+}
+
+/// The hex digits in lower case.
+static HEX: [u8; 16] = *b"0123456789abcdef";
 
 /// The hex digit of a number below 16.
 pub(crate) fn digit_of(number: u8) -> u8
     requires { number < 16 }
     ensures { result ≡ hex_digit number }
 {
-    if number < 10 {
-        b'0' + number
-    } else {
-        b'a' + (number - 10)
-    }
+    HEX[usize::from(number)]
 }

@@ -1,20 +1,29 @@
 //! The lines after a slot line.
-ghost use Rattle.std.specs.Prelude.{◌≡◌, ◌<◌, ◌≤◌, ◌+◌, ◌*◌, ◌++◌, ◌∷◌, [], ℕ, List, length, take, drop, IfOk, IfErr};
+ghost use Rattle.std.specs.Prelude.{◌≡◌, ◌<◌, ◌≤◌, ◌+◌, ◌*◌, ◌++◌, ◌∷◌, [], ℕ, List, length, take, drop, replicate, IfOk, IfErr};
 ghost use Rattle.pci_spec.specs.Form.{Breaks, Leaves, row_cells, rest_cells, rows_text};
 ghost use Rattle.pci_dump.specs.Value.{AreSmall};
+ghost use Rattle.pci_dump.specs.Row.{values_of};
 ghost use Rattle.pci_dump.specs.Stop.{RowStops, RestStops};
 
 use super::digit::digit_of;
 use super::parse::Stop;
-use super::row::row_of;
+use super::row::{Row, row_of};
 
-/// A row's sixteen bytes go into the image.
-fn write_row(image: &mut [u8; 256], row: u8, values: &[u8; 16])
-    requires { row < 16 }
-    ensures { take (16 * row + 16) image.new ≡ take (16 * row) image.old ++ values.now }
+/// A row's sixteen bytes go into an image that has zeros from there on.
+fn write_row(image: &mut [u8; 256], row: u8, values: Row)
+    requires within { row < 16 }
+    requires zeros { drop (16 * row) image.old ≡ drop (16 * row) (replicate 256 0) }
+    requires long { length (values_of values) ≡ 16 }
+    ensures written { take (16 * row + 16) image.new ≡ take (16 * row) image.old ++ values_of values }
+    ensures zeros { drop (16 * row + 16) image.new ≡ drop (16 * row + 16) (replicate 256 0) }
 {
-    let at = 16 * (row as usize);
-    image[at..at + 16].copy_from_slice(values);
+    match values {
+        Row::Zeros => {}
+        Row::Values(values) => {
+            let at = 16 * (row as usize);
+            image[at..at + 16].copy_from_slice(&values);
+        }
+    }
 }
 
 /// What a line that the input ends in stops at.
@@ -47,7 +56,7 @@ pub(crate) fn image_in(bytes: &[u8]) -> Result<[u8; 256], Stop>
         let (line, next) = rest.split_at(52);
         match row_of(line, row) {
             None => return Err(Stop::BadLine(row)),
-            Some(values) => write_row(&mut image, row, &values),
+            Some(values) => write_row(&mut image, row, values),
         }
         rest = next;
     }

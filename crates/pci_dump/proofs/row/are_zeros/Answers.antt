@@ -1,9 +1,21 @@
-use Rattle.std.proofs.Common.{arith, sym, ◌∙◌}
-use Rattle.std.proofs.lemmas.Bool.{eqb-true}
-use Rattle.pci_dump.proofs.Values.{zeros_by_numbers}
+use Rattle.std.proofs.Common.{◌≡◌, ◌+◌, ◌*◌, ℕ, length, take, refl, arith, sym, subst, ◌∙◌}
+use Rattle.std.proofs.lemmas.List.{take_all}
+use Rattle.pci_dump.specs.declared.row.TheConstants.{ZEROS}
+use Rattle.pci_dump.proofs.Values.{same_eight_more, ZEROS_small}
 use Rattle.pci_dump.proofs.row.are_zeros.Goals as goal
 
-pub returns-then-eight : goal.returns-then-eight
-returns-then-eight c = λ e.
-    zeros_by_numbers c.args.cells.now _ _ c.args.at (λ k. let fits = c.type_inv.cells k in omega (arith, fits)) c.split_at.ensures.by_index.0 c.split_at.ensures.front_len c.requires
-    (sym c.eight.ensures ∙ c.if-eight.true ∙ c.eight-2.ensures) (sym c.four.ensures ∙ eqb-true _ _ e ∙ c.four-then-eight.ensures)
+pub loop-part-preserved : goal.loop-part-preserved
+loop-part-preserved c =
+    let cells = c.args.cells.now in
+    let next : 8 * c.loop-part.part + 8 ≡ 8 * (c.loop-part.part + 1) = omega arith in
+    let long : length ZEROS ≡ 48 = refl in
+    subst (λ (n : ℕ). take n cells ≡ take n ZEROS) next
+    (same_eight_more cells ZEROS (8 * c.loop-part.part) (omega arith) (omega arith) (λ k. let fits = c.type_inv.cells k in omega (arith, fits)) ZEROS_small c.loop-part.invariant
+    (sym c.eight.ensures ∙ c.if-eight.false ∙ c.eight-in-loop-part.ensures))
+
+pub returns : goal.returns
+returns c = λ e.
+    let cells = c.args.cells.now in
+    let whole : 8 * c.loop-part.part ≡ 48 = omega arith in
+    let same : take 48 cells ≡ take 48 ZEROS = subst (λ (n : ℕ). take n cells ≡ take n ZEROS) whole c.loop-part.invariant in
+    sym (take_all 48 cells (omega arith)) ∙ same
