@@ -17,7 +17,8 @@ use Rattle.pci_dump.proofs.Texts.{read_all, read_all_one, read_fault, read_more_
 use Rattle.pci_dump.proofs.Pairs.{in_left, in_right, in_left_more, in_right_more}
 use Rattle.pci_tree.specs.Survey.{Surveyed, IsSurveyOf, IsAdded}
 use Rattle.pci_tree.proofs.Surveys.{map_last, survey_more}
-use Rattle.pci_tree.proofs.Pairings.{same_length, open_more}
+use Rattle.pci_spec.proofs.Pairing.{same_length}
+use Rattle.pci_tree.proofs.Pairings.{open_more}
 use Rattle.pci_check.specs.Audits.{IsDumpOf, IsReadFaultOf}
 use Rattle.pci_check.specs.SideBySide.{Texts, IsTaken, IsRest, IsOpen, IsSurveyOfBoth, IsSurveyOfTexts, IsBeside, IsDecided, IsBesideOrDecided, IsTakenBySurvey, function_of}
 
