@@ -1,5 +1,5 @@
 -- What the program answers of two texts.
-use Rattle.std.specs.Prelude.{◌≡◌, ◌≢◌, ◌⊎◌, ℕ, List, [], ◌∷◌, Option, Some}
+use Rattle.std.specs.Prelude.{◌≡◌, ◌≢◌, ◌⊎◌, ◌+◌, ℕ, List, [], ◌∷◌, Option, Some}
 use Rattle.std.specs.Io.KnownBytes.{Appends}
 use Rattle.pci_dump.specs.Begun.{AppendsBeginning}
 use Rattle.std.specs.String.{string_bytes}
@@ -16,6 +16,7 @@ use Rattle.pci_spec.specs.Listing.{listing}
 use Rattle.pci_dump.specs.ReadFault.{IsTextFault}
 use Rattle.pci_dump.specs.declared.read_fault.ReadFault.{ReadFault}
 use Rattle.pci_dump.specs.declared.read_fault.ReadFault.TheVariants as faults
+use Rattle.pciplan_cli.specs.Statuses.{status_of}
 use Rattle.pciplan_cli.specs.declared.trouble.Trouble.{Trouble}
 use Rattle.pciplan_cli.specs.declared.trouble.Trouble.TheVariants.{Usage, Root, Dump, Probe, Memory, Io}
 
@@ -67,6 +68,15 @@ IsTextTrouble dump_left probe_left (Dump fault) = IsFaultOfLeft dump_left fault
 IsTextTrouble dump_left probe_left (Probe fault) = ((dump : List Block) × IsDumpOf dump_left dump) × IsFaultOfLeft probe_left fault
 IsTextTrouble dump_left probe_left Memory = Unit {0}
 IsTextTrouble dump_left probe_left Io = ⊥
+
+-- one of the two isn't read, by a fault of its text
+abbrev pub IsTextRefused : Option (List ℕ) → Option (List ℕ) → Type 0
+IsTextRefused dump_left probe_left = (trouble : Trouble) × (status_of trouble ≡ 2) × IsTextTrouble dump_left probe_left trouble
+
+-- a read of the dump or of the probe failed, or a write
+abbrev pub HasFailed : ℕ → ℕ → ℕ → ℕ → ℕ → ℕ → Type 0
+HasFailed dump_before dump_after probe_before probe_after before after =
+    (dump_after ≡ dump_before + 1) ⊎ (probe_after ≡ probe_before + 1) ⊎ (after ≡ before + 1)
 
 -- the probe again, or the line of a fault that is there
 abbrev pub IsSizing : {A : Type 0} → List Block → List Block → Sized A → Type 0

@@ -8,7 +8,8 @@ ghost use Rattle.pci_dump.specs.Begun.{AppendsBeginning};
 ghost use Rattle.pci_tree.specs.Fault.{fault_of};
 ghost use Rattle.pci_tree.specs.Roots.{buses_of};
 ghost use Rattle.pci_tree.specs.declared.roots.Roots.{Roots};
-ghost use Rattle.pciplan_cli.specs.Answers.{IsChecked, IsAnswer, IsDumpOf, IsShown, IsBegun, IsSized, IsSizeBegun, IsSizing, IsTextTrouble};
+ghost use Rattle.pciplan_cli.specs.Answers.{HasFailed, IsChecked, IsAnswer, IsDumpOf, IsShown, IsBegun, IsSized, IsSizeBegun, IsSizing, IsTextRefused, IsTextTrouble};
+ghost use Rattle.pciplan_cli.specs.Statuses.{status_of};
 
 use crate::line::{Line, Task};
 use crate::show::show;
@@ -60,6 +61,8 @@ fn read_pair<A: Allocator + Copy, D: Source, P: Source>(
     ensures dump { IfOk result (λ pair. IsDumpOf (D.left dump.old) pair.dump) }
     ensures probe { IfOk result (λ pair. IsDumpOf (P.left probe.old) pair.probe) }
     ensures trouble { IfErr result (IsTextTrouble (D.left dump.old) (P.left probe.old)) }
+    ensures failed { IfErr result (λ trouble. status_of trouble ≡ 4
+        → (D.failures dump.new ≡ D.failures dump.old + 1) ⊎ (P.failures probe.new ≡ P.failures probe.old + 1)) }
 {
     let dump = match read_dump(alloc, dump) {
         Ok(dump) => dump,
@@ -101,6 +104,7 @@ fn show_pair<A: Allocator + Copy>(alloc: A, pair: &Pair<A>) -> Result<Answer<A>,
 fn send<A: Allocator, O: Sink>(out: &mut O, answer: &Answer<A>) -> Result<u8, Trouble>
     ensures sent { IfOk result (λ status. (status ≡ answer.now.status) × Appends (O.taken out.old) (O.taken out.new) (string_bytes answer.now.text)) }
     ensures begun { IfErr result (λ trouble. (trouble ≡ Trouble.Io) × AppendsBeginning (O.taken out.old) (O.taken out.new) (string_bytes answer.now.text)) }
+    ensures failed { IfErr result (λ _. O.failures out.new ≡ O.failures out.old + 1) }
 {
     match write_all(out, answer.text.as_bytes()) {
         Ok(()) => Ok(answer.status),
@@ -120,6 +124,8 @@ fn run_show<A: Allocator + Copy, D: Source, P: Source, O: Sink>(
     ensures trouble { IfErr result (λ trouble. trouble ≢ Trouble.Io → IsTextTrouble (D.left dump.old) (P.left probe.old) trouble) }
     ensures quiet { IfErr result (λ trouble. trouble ≢ Trouble.Io → out.new ≡ out.old) }
     ensures begun { IfErr result (λ trouble. trouble ≡ Trouble.Io → IsBegun (D.left dump.old) (P.left probe.old) (O.taken out.old) (O.taken out.new)) }
+    ensures failed { IfErr result (λ trouble. status_of trouble ≡ 4
+        → HasFailed (D.failures dump.old) (D.failures dump.new) (P.failures probe.old) (P.failures probe.new) (O.failures out.old) (O.failures out.new)) }
 {
     let pair = read_pair(alloc, dump, probe)?;
     let answer = show_pair(alloc, &pair)?;
@@ -151,6 +157,8 @@ fn run_size<A: Allocator + Copy, D: Source, P: Source, O: Sink>(
     ensures quiet { IfErr result (λ trouble. trouble ≢ Trouble.Io → out.new ≡ out.old) }
     ensures begun { IfErr result (λ trouble. trouble ≡ Trouble.Io
         → IsSizeBegun (D.left dump.old) (P.left probe.old) (O.taken out.old) (O.taken out.new)) }
+    ensures failed { IfErr result (λ trouble. status_of trouble ≡ 4
+        → HasFailed (D.failures dump.old) (D.failures dump.new) (P.failures probe.old) (P.failures probe.new) (O.failures out.old) (O.failures out.new)) }
 {
     let pair = read_pair(alloc, dump, probe)?;
     match size_pair(alloc, &pair)? {
@@ -174,6 +182,9 @@ fn run_check<A: Allocator + Copy, D: Source, P: Source, O: Sink>(
     ensures quiet { IfErr result (λ trouble. trouble ≢ Trouble.Io → out.new ≡ out.old) }
     ensures begun { IfErr result (λ trouble. trouble ≡ Trouble.Io
         → HasBegun (buses_of roots) (D.left dump.old) (P.left probe.old) (O.taken out.old) (O.taken out.new)) }
+    ensures trouble { IfErr result (λ trouble. trouble ≢ Trouble.Io → IsTextTrouble (D.left dump.old) (P.left probe.old) trouble) }
+    ensures failed { IfErr result (λ trouble. status_of trouble ≡ 4
+        → HasFailed (D.failures dump.old) (D.failures dump.new) (P.failures probe.old) (P.failures probe.new) (O.failures out.old) (O.failures out.new)) }
     ensures status { IfOk result (λ status. status < 2) }
 {
     match audit_with(alloc, dump, probe, out, roots) {
@@ -187,8 +198,9 @@ fn run_check<A: Allocator + Copy, D: Source, P: Source, O: Sink>(
 }
 
 /// Carries out a task: reads `dump` and `probe`, writes the answer to `out` or a message to `err`, and
-/// answers the status. At status 2 and 3 nothing was written to `out`, at 4 a beginning of the answer
-/// at most.
+/// answers the status: 0 or 1 where the answer was written; 2 where a text has a fault; 3 at want of
+/// memory; 4 where a read or a write failed. At 2 and 3 nothing was written to `out`, at 4 a beginning
+/// of the answer at most.
 pub fn run<A: Allocator + Copy, D: Source, P: Source, O: Sink, E: Sink>(
     alloc: A,
     line: &Line,
@@ -210,6 +222,9 @@ pub fn run<A: Allocator + Copy, D: Source, P: Source, O: Sink, E: Sink>(
         → (out.new ≡ out.old) ⊎ HasBegun (buses_of roots) (D.left dump.old) (P.left probe.old) (O.taken out.old) (O.taken out.new) }
     ensures size_begun { line.now.task ≡ Task.Size → result ≡ 4
         → (out.new ≡ out.old) ⊎ IsSizeBegun (D.left dump.old) (P.left probe.old) (O.taken out.old) (O.taken out.new) }
+    ensures refused { result ≡ 2 → IsTextRefused (D.left dump.old) (P.left probe.old) }
+    ensures failed { result ≡ 4 → HasFailed (D.failures dump.old) (D.failures dump.new)
+        (P.failures probe.old) (P.failures probe.new) (O.failures out.old) (O.failures out.new) }
     ensures known { result ≤ 4 }
 {
     let done = match line.task {
