@@ -1,13 +1,11 @@
 -- A walk along the capabilities list, place by place.
-use Rattle.std.proofs.Common.{◌≡◌, ◌≢◌, ℕ, zero, suc, ◌+◌, ◌%◌, ◌<◌, ◌≤◌, List, [], ◌∷◌, ◌++◌, map, length, get_or, length-append, refl, true, false, inl, inr, arith, sym, ◌∙◌, ap, subst, add-one}
+use Rattle.std.proofs.Common.{◌≡◌, ◌≢◌, ℕ, zero, suc, ◌+◌, ◌%◌, ◌<◌, ◌≤◌, List, [], ◌∷◌, ◌++◌, length, get_or, length-append, refl, true, false, inl, inr, arith, sym, ◌∙◌, ap, subst, add-one}
 use Rattle.std.specs.Bool.{nat_eq}
 use Rattle.std.specs.List.{list_any}
 use Rattle.std.proofs.Math.Dec.{eqb}
 use Rattle.std.proofs.lemmas.Bool.{cases_lt, or_cases, eqb-true, eqb-false, ne_eqb, both_ways, or_parts}
-use Rattle.std.proofs.lemmas.List.{get_or_append_left, length-map, map-append}
+use Rattle.std.proofs.lemmas.List.{get_or_append_left}
 use Rattle.std.proofs.Math.Seq.{get_or-append_seam}
-use Rattle.pci_image.specs.declared.capability.Cap.{Cap}
-use Rattle.pci_image.specs.Caps.{place_of}
 use Rattle.pci_spec.specs.Capability.{pointer, pointer_at, body_length, IsChain, ComesTwiceTo}
 use Rattle.pci_spec.proofs.Walks.{places-at_most_48, pointer-aligned}
 
@@ -69,32 +67,29 @@ walk_end image places place walk none = record {
 pub walk-at_most_48 : (image places : List ℕ) (place : ℕ) → IsWalk image places place → length places ≤ 48
 walk-at_most_48 image places place walk = places-at_most_48 image (length places) walk.in_range walk.distinct
 
--- ---- places among the capabilities
+-- ---- places among others
 
 -- a place that is not found is not among them
-pub place-fresh : (caps : List Cap) (place : ℕ) → list_any (λ cap. nat_eq (place_of cap) place) caps ≡ false
-    → (n : ℕ) → n < length (map place_of caps) → get_or (map place_of caps) n 0 ≢ place
+pub place-fresh : (places : List ℕ) (place : ℕ) → list_any (λ p. nat_eq p place) places ≡ false → (n : ℕ) → n < length places → get_or places n 0 ≢ place
 place-fresh [] place h n within = absurd (let no : ⊥ = omega (arith, within) in no)
-place-fresh (cap ∷ caps) place h zero within = eqb-false _ _ (or_parts (nat_eq (place_of cap) place) _ h).0
-place-fresh (cap ∷ caps) place h (suc n) within = place-fresh caps place (or_parts (nat_eq (place_of cap) place) _ h).1 n (omega (arith, within))
+place-fresh (p ∷ places) place h zero within = eqb-false _ _ (or_parts (nat_eq p place) _ h).0
+place-fresh (p ∷ places) place h (suc n) within = place-fresh places place (or_parts (nat_eq p place) _ h).1 n (omega (arith, within))
 
 -- a place that is found is among them
-pub place-found : (caps : List Cap) (place : ℕ) → list_any (λ cap. nat_eq (place_of cap) place) caps ≡ true
-    → (n : ℕ) × (n < length (map place_of caps)) × (get_or (map place_of caps) n 0 ≡ place)
+pub place-found : (places : List ℕ) (place : ℕ) → list_any (λ p. nat_eq p place) places ≡ true → (n : ℕ) × (n < length places) × (get_or places n 0 ≡ place)
 place-found [] place h = absurd (let no : ⊥ = both_ways false refl h in no)
-place-found (cap ∷ caps) place h = elim (or_cases (nat_eq (place_of cap) place) _ h) [
+place-found (p ∷ places) place h = elim (or_cases (nat_eq p place) _ h) [
   | inl here ↦ (0, omega arith, eqb-true _ _ here)
-  | inr later ↦ let found = place-found caps place later in (suc found.0, omega (arith, found.1), found.2)
+  | inr later ↦ let found = place-found places place later in (suc found.0, omega (arith, found.1), found.2)
 ]
 
 -- ---- faults
 
 -- a walk that stands at one of its places comes to it twice
-pub walk-twice : (image : List ℕ) (caps : List Cap) (place : ℕ) → IsWalk image (map place_of caps) place → place ≢ 0
-    → list_any (λ cap. nat_eq (place_of cap) place) caps ≡ true → ComesTwiceTo image place
-walk-twice image caps place walk nonzero h =
-    let found = place-found caps place h in
-    (found.0, length (map place_of caps), found.1, sym (walk.each found.0 found.1) ∙ found.2, sym walk.here, nonzero)
+pub walk-twice : (image places : List ℕ) (place : ℕ) → IsWalk image places place → place ≢ 0 → list_any (λ p. nat_eq p place) places ≡ true → ComesTwiceTo image place
+walk-twice image places place walk nonzero h =
+    let found = place-found places place h in
+    (found.0, length places, found.1, sym (walk.each found.0 found.1) ∙ found.2, sym walk.here, nonzero)
 
 -- a place is a multiple of four
 pub walk-aligned : (image places : List ℕ) (place : ℕ) → IsWalk image places place → place % 4 ≡ 0
@@ -102,24 +97,31 @@ walk-aligned image places place walk = let q = pointer-aligned image (length pla
 
 -- ---- the loop's step
 
--- one more capability
-pub walk_on : (image : List ℕ) (caps : List Cap) (cap : Cap) (place next : ℕ) → IsWalk image (map place_of caps) place
-    → 0x40 ≤ place → place < 256 → list_any (λ c. nat_eq (place_of c) place) caps ≡ false
-    → place_of cap ≡ place → place + body_length image place ≤ 256 → next ≡ pointer_at image (place + 1)
-    → IsWalk image (map place_of (caps ++ cap ∷ [])) next
-walk_on image caps cap place next walk low small fresh is fits following =
-    let aligned = walk-aligned image (map place_of caps) place walk in
-    let step = walk_step image (map place_of caps) place next walk low (omega (arith, small, aligned)) (place-fresh caps place fresh) fits following in
-    let same : map place_of caps ++ place ∷ [] ≡ map place_of (caps ++ cap ∷ []) = ap (λ p. map place_of caps ++ p ∷ []) (sym is) ∙ sym (map-append place_of caps (cap ∷ [])) in
-    subst (λ places. IsWalk image places next) same step
+-- one more place
+pub walk_on : (image places : List ℕ) (place next : ℕ) → IsWalk image places place → 0x40 ≤ place → place < 256 → list_any (λ p. nat_eq p place) places ≡ false
+    → place + body_length image place ≤ 256 → next ≡ pointer_at image (place + 1) → IsWalk image (places ++ place ∷ []) next
+walk_on image places place next walk low small fresh fits following =
+    let aligned = walk-aligned image places place walk in
+    walk_step image places place next walk low (omega (arith, small, aligned)) (place-fresh places place fresh) fits following
 
 -- there is room for one more place
-pub walk-room : (image : List ℕ) (caps : List Cap) (cap : Cap) (place : ℕ) → IsWalk image (map place_of caps) place
-    → 0x40 ≤ place → place < 256 → list_any (λ c. nat_eq (place_of c) place) caps ≡ false
-    → place_of cap ≡ place → place + body_length image place ≤ 256 → length caps < 48
-walk-room image caps cap place walk low small fresh is fits =
-    let next = walk_on image caps cap place _ walk low small fresh is fits refl in
-    let most = walk-at_most_48 image (map place_of (caps ++ cap ∷ [])) _ next in
-    let size = length-map (caps ++ cap ∷ []) place_of in
-    let longer = length-append caps (cap ∷ []) in
-    omega (arith, most, size, longer)
+pub walk-room : (image places : List ℕ) (place : ℕ) → IsWalk image places place → 0x40 ≤ place → place < 256 → list_any (λ p. nat_eq p place) places ≡ false
+    → place + body_length image place ≤ 256 → length places < 48
+walk-room image places place walk low small fresh fits =
+    let next = walk_on image places place _ walk low small fresh fits refl in
+    let most = walk-at_most_48 image (places ++ place ∷ []) _ next in
+    let longer = length-append places (place ∷ []) in
+    omega (arith, most, longer)
+
+-- ---- places of a chain
+
+-- each is a multiple of four
+pub chain-aligned : (image places : List ℕ) (n : ℕ) → IsChain image places → n < length places → get_or places n 0 % 4 ≡ 0
+chain-aligned image places n chain within = let q = pointer-aligned image n in let here = chain.each n within in omega (arith, q, here)
+
+-- and the body of the capability there ends within the image
+pub chain-fits : (image places : List ℕ) (n : ℕ) → IsChain image places → n < length places → get_or places n 0 + body_length image (get_or places n 0) ≤ 256
+chain-fits image places n chain within = subst (λ p. p + body_length image p ≤ 256) (sym (chain.each n within)) (chain.bodies n within)
+
+pub chain-at_most_48 : (image places : List ℕ) → IsChain image places → length places ≤ 48
+chain-at_most_48 image places chain = places-at_most_48 image (length places) chain.in_range chain.distinct

@@ -87,17 +87,24 @@ fn msi_length(control: u16) -> u8
     }
 }
 
-/// The bytes from a place on, where so many are left.
-fn body_at(image: &Image, place: u8, size: u8) -> Option<&[u8]>
-    ensures { MatchOption result (256 < place + size) (λ body. (body.now ≡ slice_range image.now.0 place (place + size)) × (length body.now ≡ size)) }
+/// The bytes of the capability at a place, by its ID.
+fn length_at(image: &Image, place: u8) -> u8
+    requires { place % 4 ≡ 0 }
+    ensures { result ≡ body_length image.now.0 place }
 {
-    let start = usize::from(place);
-    let end = start + usize::from(size);
-    if end <= image.0.len() {
-        Some(&image.0[start..end])
-    } else {
-        None
+    match image.u8(place) {
+        POWER_MANAGEMENT => 8,
+        MESSAGE_SIGNALED_INTERRUPTS => msi_length(image.u16(place + MESSAGE_CONTROL)),
+        _ => 4,
     }
+}
+
+/// Whether the body of the capability at a place ends within the image.
+fn ends_within(image: &Image, place: u8) -> bool
+    requires { place % 4 ≡ 0 }
+    ensures { IsTrue result ↔ (place + body_length image.now.0 place ≤ 256) }
+{
+    usize::from(place) + usize::from(length_at(image, place)) <= image.0.len()
 }
 
 impl<'a> Cap<'a> {
@@ -119,37 +126,32 @@ impl<'a> Cap<'a> {
         }
     }
 
-    /// The capability at a place, where its body ends within the image.
-    fn at(image: &'a Image, place: u8) -> Option<Cap<'a>>
+    /// The capability at a place.
+    fn at(image: &'a Image, place: u8) -> Cap<'a>
         requires aligned { place % 4 ≡ 0 }
-        ensures { MatchOption result (256 < place + body_length image.entry.now.0 place)
-            (λ cap. (place_of cap ≡ place) × IsCapIn image.entry.now.0 cap × (place + body_length image.entry.now.0 place ≤ 256)) }
+        requires fits { place + body_length image.now.0 place ≤ 256 }
+        ensures { (place_of result ≡ place) × IsCapIn image.entry.now.0 result }
     {
+        let start = usize::from(place);
+        let end = start + usize::from(length_at(image, place));
+        let body = &image.0[start..end];
         match image.u8(place) {
-            POWER_MANAGEMENT => {
-                let body = body_at(image, place, 8)?;
-                Some(Cap::Power { place, body })
-            }
-            MESSAGE_SIGNALED_INTERRUPTS => {
-                let body = body_at(image, place, msi_length(image.u16(place + MESSAGE_CONTROL)))?;
-                Some(Cap::Msi { place, body })
-            }
-            _ => {
-                let body = body_at(image, place, 4)?;
-                Some(Cap::Raw { place, body })
-            }
+            POWER_MANAGEMENT => Cap::Power { place, body },
+            MESSAGE_SIGNALED_INTERRUPTS => Cap::Msi { place, body },
+            _ => Cap::Raw { place, body },
         }
     }
 }
 
-/// Whether one of the capabilities stands at a place.
-fn has_place(caps: &[Cap<'_>], place: u8) -> bool
-    ensures { result ≡ list_any (λ cap. place_of cap == place) caps.now }
+/// Whether a place is one of some places.
+fn is_among(places: &[u8], place: u8) -> bool
+    ensures { result ≡ list_any (λ p. p == place) places.now }
 {
-    caps.iter().any(|cap| cap.place() == place)
+    places.iter().any(|&p| p == place)
 }
 
-/// The capabilities of a function, along its list. A function without a list has none.
+/// The places of a function's capabilities, along its list: each is the byte offset of an ID. A
+/// function without a list has none.
 ///
 /// A list has at most 48 places, since each is a multiple of four from 40h to FCh.
 ///
@@ -158,10 +160,9 @@ fn has_place(caps: &[Cap<'_>], place: u8) -> bool
 /// For the first place of the list that is refused: 27 `CapRange` where it is below 40h; else 28
 /// `CapLoop` where the list came to it before; else 29 `CapCut` where the capability's body passes
 /// the end of the image.
-pub fn chain(image: &Image) -> Result<ArrayVec<Cap<'_>, 48>, ImageFault>
+pub fn places(image: &Image) -> Result<ArrayVec<u8, 48>, ImageFault>
     ensures lawful { IsOk result ↔ HasChain image.now.0 }
-    ensures places { IfOk result (λ v. IsChain image.now.0 (map place_of v.items)) }
-    ensures bodies { IfOk result (λ v. All (IsCapIn image.now.0) v.items) }
+    ensures chain { IfOk result (λ v. IsChain image.now.0 v.items) }
     ensures fault { IfErr result (IsChainFaultIn image.now.0) }
 {
     let mut found = ArrayVec::new();
@@ -170,14 +171,33 @@ pub fn chain(image: &Image) -> Result<ArrayVec<Cap<'_>, 48>, ImageFault>
         if place < FIRST_PLACE {
             return Err(ImageFault::CapRange(place));
         }
-        if has_place(&found, place) {
+        if is_among(&found, place) {
             return Err(ImageFault::CapLoop(place));
         }
-        let Some(cap) = Cap::at(image, place) else {
+        if !ends_within(image, place) {
             return Err(ImageFault::CapCut(place));
-        };
-        found.push(cap);
+        }
+        found.push(place);
         place = pointer_at(image, place + 1);
+    }
+    Ok(found)
+}
+
+/// The capabilities of a function, at the places of its list.
+///
+/// # Errors
+///
+/// As of [`places`].
+pub fn chain(image: &Image) -> Result<ArrayVec<Cap<'_>, 48>, ImageFault>
+    ensures lawful { IsOk result ↔ HasChain image.now.0 }
+    ensures places { IfOk result (λ v. IsChain image.now.0 (map place_of v.items)) }
+    ensures bodies { IfOk result (λ v. All (IsCapIn image.now.0) v.items) }
+    ensures fault { IfErr result (IsChainFaultIn image.now.0) }
+{
+    let places = places(image)?;
+    let mut found = ArrayVec::new();
+    for &place in places.as_slice() {
+        found.push(Cap::at(image, place));
     }
     Ok(found)
 }

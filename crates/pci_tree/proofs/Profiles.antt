@@ -1,21 +1,10 @@
 -- Which capabilities of a chain are asleep.
 use Rattle.std.proofs.Common.{◌≡◌, ◌≢◌, ℕ, ◌+◌, ◌<◌, ◌≤◌, List, length, get_or, inl, inr, arith, sym, ◌∙◌, ap, subst}
 use Rattle.std.proofs.lemmas.Bool.{cases_lt}
-use Rattle.std.proofs.lemmas.List.{get_or-map, length-map}
 use Rattle.pci_spec.specs.Capability.{pointer, body_length, IsChain}
 use Rattle.pci_spec.specs.Fault.{IsAsleep}
 use Rattle.pci_spec.proofs.Walks.{pointer-ended}
-use Rattle.pci_image.specs.declared.capability.Cap.{Cap}
-use Rattle.pci_image.specs.Caps.{place_of}
-use Rattle.pci_tree.specs.Profile.{IsAsleepAt, places_of}
-
--- the place of a capability in a list of them
-pub place_here : (caps : List Cap) (i : ℕ) (d : Cap) (n : ℕ) → i < length caps → n ≡ place_of (get_or caps i d) → n ≡ get_or (places_of caps) i 0
-place_here caps i d n within e = e ∙ sym (get_or-map place_of caps i d 0 within)
-
--- as many places as capabilities
-pub places_long : (caps : List Cap) → length (places_of caps) ≡ length caps
-places_long caps = length-map caps place_of
+use Rattle.pci_tree.specs.Profile.{IsAsleepAt}
 
 -- the body at a place of a chain ends within the image
 pub body_within : (image places : List ℕ) (i n : ℕ) → IsChain image places → i < length places → n ≡ get_or places i 0 → n + body_length image n ≤ 256

@@ -1,5 +1,5 @@
 -- What is looked for in one function: its identity and its probe, its registers and capabilities list, and its profile.
-use Rattle.std.specs.Prelude.{◌≡◌, ◌≢◌, ◌⊎◌, ℕ, ◌<◌, ◌==◌, Bool, ◌&&◌, IsTrue, IsFalse, List, map}
+use Rattle.std.specs.Prelude.{◌≡◌, ◌≢◌, ◌⊎◌, ℕ, ◌<◌, ◌==◌, Bool, ◌&&◌, IsTrue, IsFalse, List}
 use Rattle.std.specs.List.{All}
 use Rattle.pci_spec.specs.Number.{has_bit}
 use Rattle.pci_spec.specs.Header.{command, class_code, layout, bridge_control}
@@ -9,8 +9,6 @@ use Rattle.pci_spec.specs.System.{Function}
 use Rattle.pci_spec.specs.Slot.{Slot}
 use Rattle.pci_spec.specs.Decoded.{IsDecodable}
 use Rattle.pci_spec.specs.Fault.{Fault, NoVendor, HeaderKind, BarType, BarMask, BarPair, RomMask, WindowMask, CapRange, CapLoop, CapCut, SlotsDiffer, StrayProbe, LoneFunction, PaletteSnoop, VgaEnable, IsaEnable, Subtractive, InReset, PowerState, BusRange, Orphan, Unreached, Clash, Split, has_no_vendor, has_other_layout, is_stray, HasBarFault, HasRomFault, HasWindowFault, IsAsleep}
-use Rattle.pci_image.specs.declared.capability.Cap.{Cap}
-use Rattle.pci_image.specs.Caps.{place_of}
 use Rattle.pci_tree.specs.declared.record.Record.{Record}
 use Rattle.pci_tree.specs.Decoding.{IsRecordOf}
 
@@ -44,10 +42,6 @@ pub record IsPlain (image : List ℕ) : Type 0 where
 -- a capability at a place shows another power state than D0
 abbrev pub IsAsleepAt : List ℕ → ℕ → Type 0
 IsAsleepAt image place = (capability_id image place ≡ 1) × (power_state image place ≢ 0)
-
--- the places of capabilities
-abbrev pub places_of : List Cap → List ℕ
-places_of caps = map place_of caps
 
 -- the phase in which a fault is looked for: of slots, of identities and probes, of registers, of profiles, of places
 abbrev pub phase_of : Fault → ℕ

@@ -6,7 +6,7 @@ ghost use Rattle.pci_tree.specs.Decoding.{IsBridgeAt, IsRecordOf};
 
 use super::record::{Bridge, Record};
 use pci_image::bar::bars;
-use pci_image::capability::chain;
+use pci_image::capability::places;
 use pci_image::fault::ImageFault;
 use pci_image::header::Header;
 use pci_image::image::Image;
@@ -52,7 +52,7 @@ pub fn decode(slot: Slot, image: &Image, probe: &Image) -> Result<Record, ImageF
     let bars = bars(image, probe)?;
     let rom = rom(image, probe)?;
     let bridge = bridge_at(image, probe)?;
-    let _chain = chain(image)?;
+    let _places = places(image)?;
     let _bytes = bytes_of(&image.0);
     Ok(Record {
         slot,

@@ -8,7 +8,7 @@ use super::decode::decode;
 use super::fault::Fault;
 use super::profile::{identity_fault, profile_fault};
 use super::record::Record;
-use pci_image::capability::chain;
+use pci_image::capability::places;
 use pci_image::image::Image;
 use pci_image::slot::Slot;
 
@@ -30,11 +30,11 @@ pub fn examine(slot: Slot, image: &Image, probe: &Image) -> Result<Record, Fault
         Ok(decoded) => decoded,
         Err(fault) => return Err(Fault::of_image(slot, fault)),
     };
-    let caps = match chain(image) {
-        Ok(caps) => caps,
+    let list = match places(image) {
+        Ok(list) => list,
         Err(fault) => return Err(Fault::of_image(slot, fault)),
     };
-    match profile_fault(slot, image, probe, &caps) {
+    match profile_fault(slot, image, probe, &list) {
         Some(fault) => Err(fault),
         None => Ok(decoded),
     }

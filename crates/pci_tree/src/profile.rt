@@ -5,11 +5,11 @@ ghost use Rattle.pci_spec.specs.Header.{class_code};
 ghost use Rattle.pci_spec.specs.Capability.{body_length, IsChain};
 ghost use Rattle.pci_spec.specs.Fault.{IsAsleep};
 ghost use Rattle.pci_tree.specs.Fault.{fault_of};
-ghost use Rattle.pci_tree.specs.Profile.{IsAnswering, IsPlainBridge, IsPlain, IsAsleepAt, IsHereIn, places_of};
+ghost use Rattle.pci_tree.specs.Profile.{IsAnswering, IsPlainBridge, IsPlain, IsAsleepAt, IsHereIn};
 
 use super::fault::Fault;
 use pci_dump::stray::stray_byte;
-use pci_image::capability::{Cap, POWER_MANAGEMENT};
+use pci_image::capability::POWER_MANAGEMENT;
 use pci_image::header::{NO_VENDOR, layout};
 use pci_image::image::Image;
 use pci_image::offset::{
@@ -98,22 +98,22 @@ fn is_asleep_at(image: &Image, place: u8) -> bool
 }
 
 /// Whether one of the capabilities of a function shows another power state than D0.
-fn is_asleep(image: &Image, caps: &[Cap<'_>]) -> bool
-    requires { IsChain image.now.0 (places_of caps.now) }
+fn is_asleep(image: &Image, places: &[u8]) -> bool
+    requires { IsChain image.now.0 places.now }
     ensures { IsTrue result ↔ IsAsleep image.now.0 }
 {
-    for cap in caps {
-        if is_asleep_at(image, cap.place()) {
+    for &place in places {
+        if is_asleep_at(image, place) {
             return true;
         }
     }
     false
 }
 
-/// The fault of a function's profile, `caps` being its capabilities: 51 `PaletteSnoop`; on a bridge 52 `VgaEnable`, 53
-/// `IsaEnable`, 54 `Subtractive`, 55 `InReset`; 56 `PowerState`. The first of these is answered.
-pub fn profile_fault(slot: Slot, image: &Image, probe: &Image, caps: &[Cap<'_>]) -> Option<Fault>
-    requires { IsChain image.now.0 (places_of caps.now) }
+/// The fault of a function's profile, `places` being those of its capabilities: 51 `PaletteSnoop`; on a bridge 52
+/// `VgaEnable`, 53 `IsaEnable`, 54 `Subtractive`, 55 `InReset`; 56 `PowerState`. The first of these is answered.
+pub fn profile_fault(slot: Slot, image: &Image, probe: &Image, places: &[u8]) -> Option<Fault>
+    requires { IsChain image.now.0 places.now }
     ensures { MatchOption result (IsPlain image.now.0)
         (λ e. IsHereIn 3 record { slot = slot; image = image.now.0; probe = probe.now.0 } (fault_of e)) }
 {
@@ -124,7 +124,7 @@ pub fn profile_fault(slot: Slot, image: &Image, probe: &Image, caps: &[Cap<'_>])
         Some(fault) => return Some(fault),
         None => {}
     }
-    if is_asleep(image, caps) {
+    if is_asleep(image, places) {
         return Some(Fault::PowerState(slot));
     }
     None

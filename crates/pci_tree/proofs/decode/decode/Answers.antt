@@ -18,4 +18,4 @@ returns c =
     let decodable : IsDecodable f = record { vendor = bars.vendor; header = bars.header; bars = bars.each; rom = rom.rom; windows = c.in_ok-bridge.ensures.windows } in
     let same : record_value r ≡ record_of f = record_is r f refl c.u16.ensures c.in_ok-bars.ensures.decoded c.in_ok-rom.ensures.decoded c.in_ok-bridge.ensures.same in
     let image : IsImage f.image = record { full = c.bytes_of-bytes.ensures.full; bytes = c.bytes_of-bytes.ensures.bytes } in
-    record { decodable = decodable; same = same; lawful = lawful_record r f image decodable same; chain = c.in_ok-_chain.ensures.lawful.0 refl }
+    record { decodable = decodable; same = same; lawful = lawful_record r f image decodable same; chain = c.in_ok-_places.ensures.lawful.0 refl }

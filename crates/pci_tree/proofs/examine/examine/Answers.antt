@@ -1,7 +1,7 @@
 use Rattle.std.proofs.Common.{sym, subst}
 use Rattle.pci_spec.specs.System.{Function}
 use Rattle.pci_tree.specs.Fault.{fault_of}
-use Rattle.pci_tree.specs.Profile.{IsFirstFault}
+use Rattle.pci_tree.specs.Profile.{IsFirstFault, IsPlain, IsHereIn}
 use Rattle.pci_tree.proofs.Examined.{clear_3, first_fault_of, first_of_image, chain_fault_in}
 use Rattle.pci_tree.proofs.examine.examine.Goals as goal
 
@@ -10,11 +10,11 @@ returns-in-Err c =
     let f : Function = record { slot = c.args.slot; image = c.args.image.now.0; probe = c.args.probe.now.0 } in
     subst (IsFirstFault f) (sym c.of_image.ensures) (first_of_image f c.in-Err.fault c.in-None.ensures c.in-Err.ensures)
 
-pub returns-in-Err-chain : goal.returns-in-Err-chain
-returns-in-Err-chain c =
+pub returns-in-Err-places : goal.returns-in-Err-places
+returns-in-Err-places c =
     let f : Function = record { slot = c.args.slot; image = c.args.image.now.0; probe = c.args.probe.now.0 } in
-    subst (IsFirstFault f) (sym c.of_image-in-Err-chain.ensures)
-    (first_of_image f c.in-Err-chain.fault c.in-None.ensures (chain_fault_in f.image f.probe c.in-Err-chain.fault c.in-Err-chain.ensures.fault))
+    subst (IsFirstFault f) (sym c.of_image-in-Err-places.ensures)
+    (first_of_image f c.in-Err-places.fault c.in-None.ensures (chain_fault_in f.image f.probe c.in-Err-places.fault c.in-Err-places.ensures.fault))
 
 pub returns-in-Some-profile_fault : goal.returns-in-Some-profile_fault
 returns-in-Some-profile_fault c =
