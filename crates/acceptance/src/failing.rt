@@ -1,13 +1,11 @@
-//! Runs in which a read, a write or a growth fails.
+//! Runs in which a read or a write fails.
 use crate::board::Texts;
 use crate::fakes::{Narrow, Pieces};
 use crate::program::{Answer, line_of, run_task};
-use linked_list_allocator::LocalHeap;
 use pci_dump::std_ends::{Incoming, Outgoing};
 use pciplan_cli::line::Task;
 use pciplan_cli::run::run;
 use std::process::Abort;
-use std::test::Fail;
 
 /// What a task answers where one read of each text fails, counted from 1; 0 is none. A read gives up to 500 bytes.
 pub fn with_failing_read(
@@ -79,53 +77,4 @@ pub fn leaves_beginnings(
             );
         }
     }
-}
-
-/// What a task answers on a heap of so many bytes.
-fn with_heap(
-    rt: &impl AllocGlobal,
-    task: Task,
-    texts: &Texts,
-    bytes: usize,
-) -> Result<Answer, Fail> {
-    let heap = LocalHeap::new(rt.alloc(), bytes)?;
-    let mut out = Vec::new(rt.alloc());
-    let mut err = Vec::new(rt.alloc());
-    let status = run(
-        &heap,
-        &line_of(rt, task),
-        &mut Incoming::new(texts.dump.as_bytes()),
-        &mut Incoming::new(texts.probe.as_bytes()),
-        &mut Outgoing::new(&mut out),
-        &mut Outgoing::new(&mut err),
-    );
-    Ok(Answer { status, out, err })
-}
-
-/// Asserts that on heaps of 0, 1, 2 .. times `step` bytes the whole answer is written, or nothing. Answers how many of
-/// the heaps were too small.
-pub fn refusals(
-    rt: &(impl Abort + AllocGlobal),
-    task: Task,
-    texts: &Texts,
-    step: usize,
-    heaps: usize,
-) -> Result<u32, Fail> {
-    let whole = run_task(rt, task, texts.dump.as_str(), texts.probe.as_str());
-    let mut refused = 0u32;
-    for size in 0..heaps {
-        let got = with_heap(rt, task, texts, size.saturating_mul(step))?;
-        if got.status == 3 {
-            refused = refused.wrapping_add(1);
-            assert!(rt; got.out.is_empty(), "{size}");
-            assert!(rt;
-                got.err.as_slice() == b"pciplan: 2 Memory\n".as_slice(),
-                "{size}"
-            );
-        } else {
-            assert_eq!(rt; got.status, whole.status, "{size}");
-            assert!(rt; got.out == whole.out, "{size}");
-        }
-    }
-    Ok(refused)
 }

@@ -1,8 +1,9 @@
 //! Listings and sizes where a text is none, or a read, a write or a growth fails.
 use crate::board::{Texts, bridge, device, list_at, texts_of};
-use crate::failing::{leaves_beginnings, refusals, with_failing_read};
+use crate::failing::{leaves_beginnings, with_failing_read};
 use crate::fakes::Narrow;
 use crate::program::{line_of, prints, run_task};
+use crate::refused_tasks::is_refused_in_turn;
 use pci_dump::std_ends::{Incoming, Outgoing};
 use pciplan_cli::line::Task;
 use pciplan_cli::run::run;
@@ -104,10 +105,7 @@ fn a_message_that_cannot_be_written_changes_no_status(rt: HostRuntime) -> Result
 fn a_refused_growth_writes_nothing(rt: HostRuntime) -> Result<(), Fail> {
     let example = example(rt.alloc())?;
     for task in [Task::Show, Task::Size] {
-        let whole = run_task(&rt, task, example.dump.as_str(), example.probe.as_str());
-        assert_eq!(rt; whole.status, 0);
-        let refused = refusals(&rt, task, &example, 64, 180)?;
-        assert!(rt; 0 < refused && refused < 180, "{refused}");
+        assert!(rt; is_refused_in_turn(&rt, task, &example));
     }
     Ok(())
 }

@@ -5,8 +5,6 @@
 #[cfg(test)]
 mod board;
 #[cfg(test)]
-mod dump_memory;
-#[cfg(test)]
 mod example;
 #[cfg(test)]
 mod failing;
@@ -23,11 +21,23 @@ mod listings;
 #[cfg(test)]
 mod messages;
 #[cfg(test)]
+mod no_growth;
+#[cfg(test)]
 mod outlines;
 #[cfg(test)]
 mod program;
 #[cfg(test)]
+mod refused_readings;
+#[cfg(test)]
+mod refused_tasks;
+#[cfg(test)]
+mod refused_verdicts;
+#[cfg(test)]
+mod refusing;
+#[cfg(test)]
 mod roots;
+#[cfg(test)]
+mod samples;
 #[cfg(test)]
 mod sizes;
 #[cfg(test)]
