@@ -11,17 +11,10 @@ use super::block::Block;
 use super::dump::Dump;
 use super::pair_fault::PairFault;
 use super::stray::stray_byte;
+use pci_image::header::{NO_VENDOR, layout};
+use pci_image::offset::VENDOR_ID;
 use pci_image::slot::Slot;
 use std::alloc::Allocator;
-
-/// Offset of Vendor ID (PCI 3.0, 6.2.1).
-const VENDOR_ID: u8 = 0x00;
-
-/// What Vendor ID reads where no function answers (PCI 3.0, 6.1).
-const NO_VENDOR: u16 = 0xffff;
-
-/// Offset of Header Type, whose bits 6:0 are the layout (PCI 3.0, 6.2.1).
-const HEADER_TYPE: u8 = 0x0e;
 
 /// Looks at one function: its vendor, then its layout, then its probe.
 fn check_function(block: &Block, probe: &Block) -> Result<(), PairFault>
@@ -31,7 +24,7 @@ fn check_function(block: &Block, probe: &Block) -> Result<(), PairFault>
     if block.image.u16(VENDOR_ID) == NO_VENDOR {
         return Err(PairFault::NoVendor(block.slot));
     }
-    let layout = block.image.u8(HEADER_TYPE) % 128;
+    let layout = layout(&block.image);
     if 1 < layout {
         return Err(PairFault::HeaderKind(block.slot));
     }
