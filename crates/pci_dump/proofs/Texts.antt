@@ -3,11 +3,10 @@ use Rattle.std.proofs.Common.{refl, ◌≡◌, ◌≢◌, ℕ, List, [], ◌∷�
 use Rattle.std.specs.Io.KnownBytes.{Consumes, Keeps, IsAtEnd}
 use Rattle.std.proofs.lemmas.List.{length-append}
 use Rattle.pci_spec.specs.Slot.{Slot}
-use Rattle.pci_spec.specs.Text.{Block, IsDump, IsTextOf, block_text, text_of}
+use Rattle.pci_spec.specs.Text.{Block, IsTextOf, block_text, text_of}
 use Rattle.pci_spec.specs.Stops.{IsAboveLast, last_slot}
 use Rattle.pci_dump.specs.declared.read_fault.ReadFault.{ReadFault}
 use Rattle.pci_dump.specs.declared.read_fault.ReadFault.TheVariants as faults
-use Rattle.pci_dump.specs.declared.ahead.Progress.TheVariants as stages
 use Rattle.pci_dump.specs.ReadFault.{IsTextFault}
 use Rattle.pci_dump.specs.State.{State, IsRead, TakesBlock, TakesNone, TakesFault}
 use Rattle.pci_spec.proofs.Spelling.{text_same}
