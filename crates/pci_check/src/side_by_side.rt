@@ -103,21 +103,25 @@ impl<A: Allocator> SideBySide<A> {
             (state_of self.new.read_back (P.left probe.new) (P.failures probe.new)) self.new.survey) }
         ensures fewer { IfOk result (λ taken. taken ≡ true → (self.old.listed.count < 4096) × (self.new.listed.count ≡ self.old.listed.count + 1)) }
     {
-        let listed = match self.listed.next_block(dump) {
-            Ok(listed) => listed,
-            Err(_) => return Ok(false),
-        };
-        let read_back = match self.read_back.next_block(probe) {
-            Ok(read_back) => read_back,
-            Err(_) => return Ok(false),
-        };
-        match (listed, read_back) {
-            (Some(block), Some(other)) => return self.add(&block, &other),
-            (Some(block), None) => self.survey.only(block.slot),
-            (None, Some(other)) => self.survey.only(other.slot),
-            (None, None) => {}
+        match self.listed.next_block(dump) {
+            Err(_) => Ok(false),
+            Ok(None) => match self.read_back.next_block(probe) {
+                Err(_) => Ok(false),
+                Ok(None) => Ok(false),
+                Ok(Some(other)) => {
+                    self.survey.only(other.slot);
+                    Ok(false)
+                }
+            },
+            Ok(Some(block)) => match self.read_back.next_block(probe) {
+                Err(_) => Ok(false),
+                Ok(None) => {
+                    self.survey.only(block.slot);
+                    Ok(false)
+                }
+                Ok(Some(other)) => self.add(&block, &other),
+            },
         }
-        Ok(false)
     }
 
     /// Takes one block of each text in turn, as long as both have one of the same slot.

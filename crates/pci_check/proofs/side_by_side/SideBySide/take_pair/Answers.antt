@@ -10,20 +10,30 @@ returns-in-Err-clause-pair g c texts buses s = decided_by_dump texts buses _ _ _
 
 pub returns-in-Err-next_block-clause-pair : goal.returns-in-Err-next_block-clause-pair
 returns-in-Err-next_block-clause-pair g c texts buses s =
-    decided_by_probe texts buses _ _ _ _ _ c.in-Err-next_block.field-0 c.in-Ok.listed s c.in-Ok.ensures.ok c.in-Err-next_block.ensures.err
+    decided_by_probe texts buses _ _ _ _ _ c.in-Err-next_block.field-0 c.in-Ok-None.field-0 s c.in-Ok-None.ensures.ok c.in-Err-next_block.ensures.err
 
-pub returns-in-Some-Some-clause-pair : goal.returns-in-Some-Some-clause-pair
-returns-in-Some-Some-clause-pair g c =
-    rw (c.add.ensures.listed, c.add.ensures.read_back) (two_blocks _ _ _ _ _ _ _ c.in-Some-Some.block c.in-Some-Some.other c.add.ensures.ok (rw c.in-Some-Some.is-0 at c.in-Ok.ensures.ok) (rw c.in-Some-Some.is-1 at c.in-Ok-next_block.ensures.ok))
+pub returns-in-Ok-None-next_block-clause-pair : goal.returns-in-Ok-None-next_block-clause-pair
+returns-in-Ok-None-next_block-clause-pair g c texts buses s =
+    decided_at_ends texts buses _ _ _ _ _ s (rw c.in-Ok-None.field-0-is at c.in-Ok-None.ensures.ok) (rw c.in-Ok-None-next_block.field-0-is at c.in-Ok-None-next_block.ensures.ok)
 
-pub returns-in-Some-None-clause-pair : goal.returns-in-Some-None-clause-pair
-returns-in-Some-None-clause-pair g c texts buses s =
-    decided_behind_probe texts buses _ _ _ _ _ _ c.in-Some-None.block s (rw c.in-Some-None.is-0 at c.in-Ok.ensures.ok) (rw c.in-Some-None.is-1 at c.in-Ok-next_block.ensures.ok) (ap (λ (x : Surveyed). x.roots) c.only.ensures) (ap (λ (x : Surveyed). x.fault) c.only.ensures ∙ ap (λ (x : Block). Some (SlotsDiffer x.slot)) c.block.view_is)
+pub returns-in-Ok-Some-next_block-clause-pair : goal.returns-in-Ok-Some-next_block-clause-pair
+returns-in-Ok-Some-next_block-clause-pair g c texts buses s =
+    decided_behind_dump texts buses _ _ _ _ _ _ c.in-Ok-Some-next_block.other s (rw c.in-Ok-None.field-0-is at c.in-Ok-None.ensures.ok)
+    (rw c.in-Ok-Some-next_block.field-0-is at c.in-Ok-Some-next_block.ensures.ok) (ap (λ (x : Surveyed). x.roots) c.only.ensures)
+    (ap (λ (x : Surveyed). x.fault) c.only.ensures ∙ ap (λ (x : Block). Some (SlotsDiffer x.slot)) c.other.view_is)
 
-pub returns-in-None-Some-clause-pair : goal.returns-in-None-Some-clause-pair
-returns-in-None-Some-clause-pair g c texts buses s =
-    decided_behind_dump texts buses _ _ _ _ _ _ c.in-None-Some.other s (rw c.in-None-Some.is-0 at c.in-Ok.ensures.ok) (rw c.in-None-Some.is-1 at c.in-Ok-next_block.ensures.ok) (ap (λ (x : Surveyed). x.roots) c.only-in-None-Some.ensures) (ap (λ (x : Surveyed). x.fault) c.only-in-None-Some.ensures ∙ ap (λ (x : Block). Some (SlotsDiffer x.slot)) c.other.view_is)
+pub returns-in-Err-next_block-2-clause-pair : goal.returns-in-Err-next_block-2-clause-pair
+returns-in-Err-next_block-2-clause-pair g c texts buses s =
+    decided_by_probe texts buses _ _ _ _ _ c.in-Err-next_block-2.field-0 c.in-Ok-Some.field-0 s c.in-Ok-Some.ensures.ok c.in-Err-next_block-2.ensures.err
 
-pub returns-in-None-None-clause-pair : goal.returns-in-None-None-clause-pair
-returns-in-None-None-clause-pair g c texts buses s =
-    decided_at_ends texts buses _ _ _ _ _ s (rw c.in-None-None.is-0 at c.in-Ok.ensures.ok) (rw c.in-None-None.is-1 at c.in-Ok-next_block.ensures.ok)
+pub returns-in-Ok-None-next_block-2-clause-pair : goal.returns-in-Ok-None-next_block-2-clause-pair
+returns-in-Ok-None-next_block-2-clause-pair g c texts buses s =
+    decided_behind_probe texts buses _ _ _ _ _ _ c.in-Ok-Some.block s (rw c.in-Ok-Some.field-0-is at c.in-Ok-Some.ensures.ok)
+    (rw c.in-Ok-None-next_block-2.field-0-is at c.in-Ok-None-next_block-2.ensures.ok) (ap (λ (x : Surveyed). x.roots) c.only-in-Ok-None-next_block-2.ensures)
+    (ap (λ (x : Surveyed). x.fault) c.only-in-Ok-None-next_block-2.ensures ∙ ap (λ (x : Block). Some (SlotsDiffer x.slot)) c.block.view_is)
+
+pub returns-in-Ok-Some-next_block-2-clause-pair : goal.returns-in-Ok-Some-next_block-2-clause-pair
+returns-in-Ok-Some-next_block-2-clause-pair g c =
+    rw (c.add.ensures.listed, c.add.ensures.read_back)
+    (two_blocks _ _ _ _ _ _ _ c.in-Ok-Some.block c.in-Ok-Some-next_block-2.other c.add.ensures.ok (rw c.in-Ok-Some.field-0-is at c.in-Ok-Some.ensures.ok)
+    (rw c.in-Ok-Some-next_block-2.field-0-is at c.in-Ok-Some-next_block-2.ensures.ok))
