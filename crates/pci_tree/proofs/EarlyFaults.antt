@@ -1,7 +1,7 @@
 -- Faults that are looked for before judging, by their numbers.
 use Rattle.std.proofs.Common.{◌≡◌, ℕ, ◌<◌, List, lit<, arith}
 use Rattle.pci_spec.specs.System.{Function}
-use Rattle.pci_spec.specs.Fault.{Fault, fault_number, NoVendor, HeaderKind, BarType, BarMask, BarPair, RomMask, WindowMask, CapRange, CapLoop, CapCut, SlotsDiffer, StrayProbe, LoneFunction, PaletteSnoop, VgaEnable, IsaEnable, Subtractive, InReset, PowerState, BusRange, Orphan, Unreached, Clash, Split}
+use Rattle.pci_spec.specs.Fault.{Fault, fault_number, SlotsDiffer, Unreached, Clash, Split}
 use Rattle.pci_tree.specs.Profile.{phase_of, IsHere}
 use Rattle.pci_tree.specs.PlaceFaults.{IsPlaceFault, IsSomePlaceFault}
 use Rattle.pci_tree.specs.Fault.{fault_of}

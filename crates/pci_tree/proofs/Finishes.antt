@@ -1,12 +1,11 @@
 -- What stands of a survey that is finished.
-use Rattle.std.proofs.Common.{◌≡◌, ◌⊎◌, ℕ, ◌<◌, List, [], ◌∷◌, map, refl, Bool, true, false, not, ◌&&◌, inl, inr, arith, sym, ◌∙◌, ap, subst, Option, Some, None, eq-eqb, get_or}
-use Rattle.std.specs.Prelude.{IsTrue, IsFalse, ◌==◌}
+use Rattle.std.proofs.Common.{◌≡◌, ℕ, ◌<◌, List, map, refl, true, false, ◌&&◌, inl, inr, arith, sym, ◌∙◌, ap, subst, Option, Some, None, eq-eqb, get_or}
+use Rattle.std.specs.Prelude.{◌==◌}
 use Rattle.std.specs.List.{Contains, All}
 use Rattle.std.proofs.lemmas.Bool.{both_ways, and_from, not-true, eqb-true}
 use Rattle.std.proofs.lemmas.List.Elements.{All-contains, Contains-get_or}
 use Rattle.pci_spec.specs.Slot.{Slot}
 use Rattle.pci_spec.specs.System.{System, Function}
-use Rattle.pci_spec.specs.Bus.{IsNested}
 use Rattle.pci_spec.specs.Fault.{Fault, NoVendor, HeaderKind, BarType, BarMask, BarPair, RomMask, WindowMask, CapRange, CapLoop, CapCut, SlotsDiffer, StrayProbe, LoneFunction, PaletteSnoop, VgaEnable, IsaEnable, Subtractive, InReset, PowerState, BusRange, Orphan, Unreached, Clash, Split, IsIn, fault_number, has_no_vendor, has_other_layout, is_stray, has_function_zero}
 use Rattle.pci_spec.specs.Bar as bars
 use Rattle.pci_spec.specs.Bar.{BarFault}
@@ -14,7 +13,7 @@ use Rattle.pci_spec.specs.Window.{breaks_window_rule}
 use Rattle.pci_spec.specs.Rom.{breaks_rom_rule}
 use Rattle.pci_spec.specs.Header.{layout, command}
 use Rattle.pci_spec.specs.Number.{has_bit}
-use Rattle.pci_spec.specs.Sound.{is_profile_number, IsInProfile, HasChains}
+use Rattle.pci_spec.specs.Sound.{IsInProfile}
 use Rattle.pci_spec.specs.Decoded.{IsDecodable, HasRecords}
 use Rattle.pci_spec.proofs.BusRanges.{any_from}
 use Rattle.pci_spec.proofs.Members.{IsMade, in_map_to}
@@ -24,8 +23,8 @@ use Rattle.pci_tree.specs.Values.{record_value}
 use Rattle.pci_tree.specs.Ways.{slots_of}
 use Rattle.pci_tree.specs.Outline.{RiseBySlot, Tree}
 use Rattle.pci_tree.specs.BusNumbers.{IsInPlace, first_function}
-use Rattle.pci_tree.specs.Profile.{IsAnswering, IsPlain, phase_of, IsHere, IsClearBefore, controls_bridge, is_subtractive_bridge}
-use Rattle.pci_tree.specs.Survey.{Surveyed, AreKept, phase_noted, IsNoted, IsSurveyOf, IsOutlineOf, IsRefusedBy}
+use Rattle.pci_tree.specs.Profile.{IsAnswering, IsPlain, IsHere, IsClearBefore, controls_bridge, is_subtractive_bridge}
+use Rattle.pci_tree.specs.Survey.{Surveyed, phase_noted, IsSurveyOf, IsOutlineOf, IsRefusedBy}
 use Rattle.pci_tree.proofs.Lifting.{Has}
 use Rattle.pci_tree.proofs.Faces.{SameFace, HaveFaces, faces_of}
 use Rattle.pci_tree.proofs.Places.{nested_in_places}

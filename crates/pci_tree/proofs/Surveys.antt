@@ -1,7 +1,7 @@
 -- What a survey has taken, function by function.
-use Rattle.std.proofs.Common.{◌≡◌, ◌⊎◌, ℕ, ◌+◌, ◌<◌, ◌≤◌, List, [], ◌∷◌, ◌++◌, map, refl, Bool, true, false, inl, inr, arith, sym, ◌∙◌, ap, subst, Option, Some, None, if◌then◌else◌}
+use Rattle.std.proofs.Common.{◌≡◌, ◌⊎◌, ℕ, ◌<◌, ◌≤◌, List, [], ◌∷◌, ◌++◌, map, refl, true, false, inl, inr, arith, sym, ◌∙◌, ap, subst, Option, Some, None}
 use Rattle.std.specs.Prelude.{nat_lt}
-use Rattle.std.specs.List.{Contains, All, AllPairs}
+use Rattle.std.specs.List.{Contains}
 use Rattle.std.proofs.lemmas.Bool.{cases_Bool, ltb-true, cases_lt, lt-ltb, both_ways}
 use Rattle.std.proofs.lemmas.List.Elements.{All-push}
 use Rattle.pci_spec.specs.Slot.{Slot, IsSlot, slot_number}
@@ -13,7 +13,6 @@ use Rattle.pci_spec.specs.Decoded as decoded
 use Rattle.pci_spec.proofs.Members.{in_nil, in_cons_cases, in_head, in_tail, pairs_append, pairs_cons, pairs_nil}
 use Rattle.pci_tree.specs.declared.record.Record.{Record}
 use Rattle.pci_tree.specs.Regions.{IsLawful}
-use Rattle.pci_tree.specs.Outline.{RiseBySlot}
 use Rattle.pci_tree.specs.Profile.{phase_of, IsHere, IsClearBefore, IsFirstFault, IsExamined}
 use Rattle.std.specs.Option.{is_some, option_map}
 use Rattle.pci_tree.specs.declared.roots.Roots.{Roots}
@@ -21,7 +20,7 @@ use Rattle.pci_tree.specs.declared.fault.Fault.{Fault as FaultOfCode}
 use Rattle.pci_tree.specs.Roots.{buses_of}
 use Rattle.pci_tree.specs.Fault.{fault_of}
 use Rattle.pci_tree.specs.Values.{record_value}
-use Rattle.pci_tree.specs.Survey.{Surveyed, AreKept, IsUpTo, phase_noted, earlier, IsNoted, IsSurveyOf, IsNotedWith, IsAdded}
+use Rattle.pci_tree.specs.Survey.{Surveyed, AreKept, IsUpTo, phase_noted, earlier, IsNoted, IsSurveyOf, IsAdded}
 
 -- ---- one more at the end of a list
 

@@ -16,12 +16,6 @@ pub enum Passed {
     Two(Range, Range),
 }
 
-impl Default for Passed {
-    fn default() -> Passed {
-        Passed::Nothing
-    }
-}
-
 /// What two ranges pass together.
 fn join(r: Range, s: Range) -> Passed
     requires first { r.first ≤ r.last }

@@ -1,4 +1,4 @@
-use Rattle.std.proofs.Common.{◌≡◌, arith}
+use Rattle.std.proofs.Common.{arith}
 use Rattle.pci_tree.proofs.Pairings.{adding_none, adding_more, adding_all, same_slot_here, above_here}
 use Rattle.pci_tree.proofs.admit.add_all.Goals as goal
 

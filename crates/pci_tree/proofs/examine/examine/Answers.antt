@@ -1,7 +1,7 @@
 use Rattle.std.proofs.Common.{sym, subst}
 use Rattle.pci_spec.specs.System.{Function}
 use Rattle.pci_tree.specs.Fault.{fault_of}
-use Rattle.pci_tree.specs.Profile.{IsFirstFault, IsPlain, IsHereIn}
+use Rattle.pci_tree.specs.Profile.{IsFirstFault}
 use Rattle.pci_tree.proofs.Examined.{clear_3, first_fault_of, first_of_image, chain_fault_in}
 use Rattle.pci_tree.proofs.examine.examine.Goals as goal
 

@@ -1,4 +1,4 @@
-use Rattle.std.proofs.Common.{◌≡◌, ℕ, ◌<◌, get_or}
+use Rattle.std.proofs.Common.{ℕ, ◌<◌, get_or}
 use Rattle.pci_tree.specs.Profile.{IsAsleepAt}
 use Rattle.pci_tree.proofs.profile.is_asleep.Given as goal
 

@@ -1,5 +1,3 @@
-use Rattle.std.proofs.Common.{subst}
-use Rattle.pci_spec.specs.System.{system_of}
 use Rattle.pci_tree.proofs.Pairings.{path_of_pair}
 use Rattle.pci_tree.proofs.admitted.Admitted.path.Goals as goal
 
