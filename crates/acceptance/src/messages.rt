@@ -70,6 +70,61 @@ fn slots_that_differ_are_named(rt: HostRuntime) -> Result<(), Fail> {
     Ok(())
 }
 
+/// The front of a text of three blocks without titles, up to the third line of the last one.
+fn cut_late(text: &str) -> &str {
+    text.get(..2 * 841 + 8 + 2 * 52).unwrap_or("")
+}
+
+#[test]
+fn both_texts_are_read_to_their_ends(rt: HostRuntime) -> Result<(), Fail> {
+    let one = device("00:01.0", 0, &[]);
+    let two = device("00:02.0", 0, &[]);
+    let three = device("00:03.0", 0, &[]);
+    let all = texts_of(rt.alloc(), &[one, two, three])?;
+    let first = texts_of(rt.alloc(), &[one])?;
+    let rest = texts_of(rt.alloc(), &[two, three])?;
+    let (dump, probe) = (all.dump.as_str(), all.probe.as_str());
+    let (short_dump, short_probe) = (cut_late(dump), cut_late(probe));
+    let about_dump = ("", "pciplan: dump: 9 Ended 40\n", 2);
+    let about_probe = ("", "pciplan: probe: 9 Ended 40\n", 2);
+    let lacks_one = ("no 30 SlotsDiffer 00:01.0\n", "", 1);
+    let lacks_two = ("no 30 SlotsDiffer 00:02.0\n", "", 1);
+    for (texts, wanted) in [
+        // the probe's fault is in its first byte, the dump's in its last block
+        ((short_dump, "\n"), about_dump),
+        (("\n", short_probe), ("", "pciplan: dump: 3 BadSlot 1\n", 2)),
+        ((short_dump, short_probe), about_dump),
+        // one text has ended before
+        ((short_dump, first.probe.as_str()), about_dump),
+        ((first.dump.as_str(), short_probe), about_probe),
+        ((dump, first.probe.as_str()), lacks_two),
+        ((first.dump.as_str(), probe), lacks_two),
+        // the slots have differed before
+        ((short_dump, rest.probe.as_str()), about_dump),
+        ((rest.dump.as_str(), short_probe), about_probe),
+        ((dump, rest.probe.as_str()), lacks_one),
+        ((rest.dump.as_str(), probe), lacks_one),
+    ] {
+        for command in COMMANDS {
+            prints(&rt, &[command, "d", "p"], texts, wanted);
+        }
+    }
+    Ok(())
+}
+
+#[test]
+fn slots_that_differ_come_before_an_earlier_function(rt: HostRuntime) -> Result<(), Fail> {
+    let absent = device("00:01.0", 0, &[]).bytes(0x00, &[0xff, 0xff]);
+    let listed = texts_of(rt.alloc(), &[absent, device("00:02.0", 0, &[])])?;
+    let read_back = texts_of(rt.alloc(), &[absent, device("00:03.0", 0, &[])])?;
+    let texts = (listed.dump.as_str(), read_back.probe.as_str());
+    for command in COMMANDS {
+        let wanted = ("no 30 SlotsDiffer 00:02.0\n", "", 1);
+        prints(&rt, &[command, "d", "p"], texts, wanted);
+    }
+    Ok(())
+}
+
 #[test]
 fn a_line_that_says_nothing_is_refused(rt: HostRuntime) {
     for words in [
