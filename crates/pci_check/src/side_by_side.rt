@@ -1,15 +1,14 @@
 //! A dump and a probe that are read side by side: one block of each in turn goes into a survey, and none is kept.
-ghost use Rattle.std.specs.Prelude.{◌≡◌, ◌≢◌, ◌+◌, ◌<◌, ℕ, List, [], ◌++◌, Option, None, true, false, IfOk, IfErr, OnOk};
+ghost use Rattle.std.specs.Prelude.{◌≡◌, ◌≢◌, ◌+◌, ◌<◌, ℕ, List, ◌++◌, Option, true, false, IfOk, IfErr, OnOk};
 ghost use Rattle.pci_spec.specs.Text.{Block as BlockValue};
 ghost use Rattle.pci_spec.specs.Stops.{IsAboveLast};
 ghost use Rattle.pci_dump.specs.State.{IsOver, state_of};
 ghost use Rattle.pci_tree.specs.Roots.{buses_of};
-ghost use Rattle.pci_tree.specs.Survey.{IsSurveyOf};
 ghost use Rattle.pci_check.specs.Audits.{IsDumpOf, IsReadFaultOf, IsTextRefusal};
 ghost use Rattle.pci_check.specs.SideBySide.{Texts, IsTaken, IsRest, IsOpen, IsBeside, AreBeside, IsBesideOrDecided, IsTakenBySurvey, IsDecided, IsSurveyOfTexts};
 
 use super::outcome::AuditFault;
-use pci_dump::ahead::{Progress, ReadAhead};
+use pci_dump::ahead::ReadAhead;
 use pci_dump::block::Block;
 use pci_dump::ends::Source;
 use pci_dump::memory::OutOfMemory;
