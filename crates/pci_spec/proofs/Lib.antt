@@ -36,3 +36,4 @@ pub mod Regions
 pub mod Firsts
 pub mod Chains
 pub mod Pairing
+pub mod Planning

@@ -16,6 +16,7 @@ pub mod Decoded
 pub mod Sound
 pub mod Machine
 pub mod Plan
+pub mod Place
 pub mod Line
 pub mod Listing
 pub mod NestingLaws
@@ -26,3 +27,5 @@ pub mod CapabilityLaws
 pub mod MachineLaws
 pub mod JudgingLaws
 pub mod SoundLaws
+pub mod Planning
+pub mod PlanPromise

@@ -51,18 +51,26 @@ is_served s pools f n =
     then list_all (λ b. has_window PrefetchWindow b.probe) (bridges_above s f.slot.bus)
     else is_wide (bar_at f.probe n) && list_all (λ b. is_wide_window PrefetchWindow b.probe) (bridges_above s f.slot.bus)
 
+-- the class of what goes through a window
+abbrev pub window_class : WindowKind → Class
+window_class IoWindow = IoClass
+window_class MemoryWindow = MemoryClass
+window_class PrefetchWindow = PrefetchClass
+
+-- the window that what is of a class goes through
+abbrev pub window_of : Class → WindowKind
+window_of IoClass = IoWindow
+window_of MemoryClass = MemoryWindow
+window_of PrefetchClass = PrefetchWindow
+
+-- the class that a part is placed in
 abbrev pub class_of : System → Pools → Function → Part → Class
 class_of s pools f (Bar n) =
     if is_io (bar_at f.probe n) then IoClass
     else if is_prefetchable (bar_at f.probe n) && is_served s pools f n then PrefetchClass
     else MemoryClass
 class_of s pools f Rom = MemoryClass
-class_of s pools f (Window kind) = MemoryClass
-
-abbrev pub window_class : WindowKind → Class
-window_class IoWindow = IoClass
-window_class MemoryWindow = MemoryClass
-window_class PrefetchWindow = PrefetchClass
+class_of s pools f (Window kind) = window_class kind
 
 abbrev pub same_class : Class → Class → Bool
 same_class IoClass IoClass = true

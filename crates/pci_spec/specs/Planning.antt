@@ -1,0 +1,14 @@
+pub mod BusNeeds
+pub mod Building
+pub mod Fitting
+pub mod Layout
+pub mod Laws
+pub mod Placing
+pub mod PlanWrites
+pub mod Ranges
+pub mod Room
+pub mod Safety
+pub mod Showing
+pub mod Stops
+pub mod Table
+pub mod Numbers
