@@ -1,0 +1,7 @@
+pub mod Pools
+pub mod Above
+pub mod Classes
+pub mod Needs
+pub mod Records
+pub mod Places
+pub mod Writes

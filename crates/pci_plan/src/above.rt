@@ -1,0 +1,59 @@
+//! Which windows all bridges between the host and a bus have.
+ghost use Rattle.std.specs.Prelude.{◌≡◌};
+ghost use Rattle.pci_plan.specs.Above.{AreAboves, system_in};
+
+use pci_image::window::{Window, Windows};
+use pci_tree::admitted::Admitted;
+use std::alloc::Allocator;
+
+/// What all bridges between the host and a bus have; on a root, where there is none, everything.
+#[derive(Clone, Copy, Debug, PartialEq, Eq)]
+pub struct Above {
+    /// An I/O window.
+    pub io: bool,
+    /// A prefetchable window.
+    pub pref: bool,
+    /// A prefetchable window with upper halves, for addresses of 64 bits.
+    pub wide: bool,
+}
+
+/// Whether a window is there and has upper halves.
+fn is_wide(window: Option<Window>) -> bool {
+    match window {
+        None => false,
+        Some(window) => window.wide(),
+    }
+}
+
+impl Above {
+    /// Below no bridge.
+    const NONE: Above = Above {
+        io: true,
+        pref: true,
+        wide: true,
+    };
+
+    /// The same below one more bridge, with these windows.
+    fn and(self, windows: &Windows) -> Above {
+        Above {
+            io: self.io && windows.io.is_some(),
+            pref: self.pref && windows.pref.is_some(),
+            wide: self.wide && is_wide(windows.pref),
+        }
+    }
+}
+
+/// What is above each bus that has a function on it. A bridge has a lower slot than each function behind it, so one
+/// pass in slot order finds what is above a bridge before what is above the bus behind it.
+pub fn aboves<A: Allocator>(admitted: &Admitted<A>) -> [Above; 256]
+    ensures { AreAboves (system_in admitted.now) result }
+{
+    let mut aboves = [Above::NONE; 256];
+    for record in admitted.outline().records() {
+        if let Some(bridge) = record.bridge {
+            let above = aboves[usize::from(record.slot.bus())];
+            aboves[usize::from(bridge.secondary)] = above.and(&bridge.windows);
+        }
+    }
+    aboves
+}

@@ -1,0 +1,40 @@
+//! I/O BARs behind bridges without an I/O window.
+ghost use Rattle.std.specs.Prelude.{MatchOption};
+ghost use Rattle.pci_spec.specs.Slot.{Slot as SlotValue};
+ghost use Rattle.pci_spec.specs.Plan.{LacksWindow};
+ghost use Rattle.pci_spec.specs.PlanPromise.{IsFirstLacking};
+ghost use Rattle.pci_plan.specs.Above.{AreAboves, system_in};
+
+use super::above::Above;
+use pci_image::bar::BarKind;
+use pci_image::slot::Slot;
+use pci_tree::admitted::Admitted;
+use pci_tree::record::Record;
+use std::alloc::Allocator;
+
+/// Whether a function has an I/O BAR.
+fn has_io_bar(record: &Record) -> bool {
+    for bar in &record.bars {
+        if bar.kind == BarKind::Io {
+            return true;
+        }
+    }
+    false
+}
+
+/// The first function, by slot, that has an I/O BAR behind a bridge without an I/O window.
+pub fn first_lacking<A: Allocator>(
+    admitted: &Admitted<A>,
+    aboves: &[Above; 256],
+) -> Option<Slot>
+    requires { AreAboves (system_in admitted.now) aboves.now }
+    ensures { MatchOption result ((slot : SlotValue) → LacksWindow (system_in admitted.now) slot → ⊥) (IsFirstLacking (system_in admitted.now)) }
+{
+    for record in admitted.outline().records() {
+        let above = aboves[usize::from(record.slot.bus())];
+        if !above.io && has_io_bar(record) {
+            return Some(record.slot);
+        }
+    }
+    None
+}

@@ -1,0 +1,142 @@
+//! What each bus needs of a class: the sizes of its BARs and ROMs, and for each bridge with something behind it a window
+//! around what the bus behind needs.
+ghost use Rattle.std.specs.Prelude.{◌≡◌, ◌≤◌, ◌^◌, ◌<◌, ℕ, slice_index};
+ghost use Rattle.pci_spec.specs.Plan.{window_size, need_of, greatest_of_roots};
+ghost use Rattle.pci_plan.specs.Pools.{class_value, pools_value};
+ghost use Rattle.pci_plan.specs.Above.{AreAboves, system_in};
+
+use super::above::Above;
+use super::class::class_of_bar;
+use super::pools::{Class, Pools};
+use pci_image::bar::Bar;
+use pci_image::rom::Rom;
+use pci_tree::admitted::Admitted;
+use pci_tree::record::Record;
+use std::alloc::Allocator;
+
+/// No pool holds so much.
+const MOST: u128 = 1 << 65;
+
+/// What the buses need of a class.
+#[derive(Clone, Copy, Debug)]
+pub struct Needs {
+    /// How many addresses each bus needs, 2^65 standing for all that is more.
+    pub of_bus: [u128; 256],
+    /// The greatest size of what stands on the root buses, 0 where nothing does.
+    pub greatest: u128,
+}
+
+/// The sum of some sizes, and the greatest of them.
+#[derive(Clone, Copy, Debug)]
+struct Tally {
+    sum: u128,
+    greatest: u128,
+}
+
+impl Tally {
+    const NONE: Tally = Tally {
+        sum: 0,
+        greatest: 0,
+    };
+
+    /// With one more size.
+    fn and(self, size: u128) -> Tally {
+        Tally {
+            sum: MOST.min(self.sum + size),
+            greatest: self.greatest.max(size),
+        }
+    }
+}
+
+/// How many addresses a BAR has.
+pub fn bar_size(bar: &Bar) -> u128 {
+    u128::from(bar.last) - u128::from(bar.first) + 1
+}
+
+/// How many addresses a ROM has.
+pub fn rom_size(rom: &Rom) -> u128 {
+    u128::from(rom.last) - u128::from(rom.first) + 1
+}
+
+/// The least size of a window of a class, by which it grows: 4 KB of I/O, 1 MB of memory (Bridge 1.2, chapter 4).
+fn step_of(class: Class) -> u128 {
+    match class {
+        Class::Io => 1 << 12,
+        Class::Memory | Class::Prefetchable => 1 << 20,
+    }
+}
+
+/// The least power of two that is no less than the need of the bus behind a bridge, nor than the step.
+pub fn window_size_of(class: Class, need: u128) -> u128
+    requires { need ≤ 2 ^ 65 }
+    ensures { result ≡ window_size (class_value class) need }
+{
+    let mut size = step_of(class);
+    for _ in 0..66 {
+        if need <= size {
+            return size;
+        }
+        size *= 2;
+    }
+    size
+}
+
+/// The sizes of a function's own BARs and ROM of a class.
+fn own_tally(record: &Record, class: Class, above: Above, pools: &Pools) -> Tally {
+    let mut tally = Tally::NONE;
+    for bar in &record.bars {
+        if class_of_bar(bar, above, pools) == class {
+            tally = tally.and(bar_size(bar));
+        }
+    }
+    match &record.rom {
+        Some(rom) if class == Class::Memory => tally.and(rom_size(rom)),
+        _ => tally,
+    }
+}
+
+/// Those, and the window of a bridge with something behind it.
+fn tally_of(
+    record: &Record,
+    class: Class,
+    above: Above,
+    pools: &Pools,
+    of_bus: &[u128; 256],
+) -> Tally {
+    let tally = own_tally(record, class, above, pools);
+    match record.bridge {
+        Some(bridge) if 0 < of_bus[usize::from(bridge.secondary)] => {
+            tally.and(window_size_of(class, of_bus[usize::from(bridge.secondary)]))
+        }
+        _ => tally,
+    }
+}
+
+/// What each bus needs of a class. Functions behind a bridge have higher slots than the bridge, so in one pass from the
+/// highest slot down the need of the bus behind a bridge is whole when the bridge is met.
+pub fn needs_of<A: Allocator>(
+    admitted: &Admitted<A>,
+    pools: &Pools,
+    class: Class,
+    aboves: &[Above; 256],
+) -> Needs
+    requires { AreAboves (system_in admitted.now) aboves.now }
+    ensures need { (bus : ℕ) → bus < 256 → slice_index result.of_bus bus ≡ need_of (system_in admitted.now) (pools_value pools.now) (class_value class) bus }
+    ensures greatest { result.greatest ≡ greatest_of_roots admitted.now.roots (system_in admitted.now) (pools_value pools.now) (class_value class) }
+{
+    let outline = admitted.outline();
+    let records = outline.records();
+    let roots = outline.roots();
+    let mut of_bus = [0; 256];
+    let mut greatest = 0;
+    for done in 0..records.len() {
+        let record = &records[records.len() - 1 - done];
+        let bus = record.slot.bus();
+        let tally = tally_of(record, class, aboves[usize::from(bus)], pools, &of_bus);
+        of_bus[usize::from(bus)] = MOST.min(of_bus[usize::from(bus)] + tally.sum);
+        if roots.has(bus) && greatest < tally.greatest {
+            greatest = tally.greatest;
+        }
+    }
+    Needs { of_bus, greatest }
+}

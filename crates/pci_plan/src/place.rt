@@ -1,0 +1,104 @@
+//! The place of each item: largest first from the pool's or the window's first address on.
+ghost use Rattle.std.specs.Prelude.{◌≡◌, OnOk, length};
+ghost use Rattle.pci_spec.specs.PlanPromise.{CanBePlanned};
+ghost use Rattle.pci_plan.specs.Pools.{class_value, pools_value};
+ghost use Rattle.pci_plan.specs.Above.{AreAboves, system_in};
+ghost use Rattle.pci_plan.specs.Needs.{AreNeeds};
+ghost use Rattle.pci_plan.specs.Places.{HasPlaces, KeepsOthers};
+
+use super::above::Above;
+use super::item::{Item, Part, items_of, sort_items};
+use super::need::Needs;
+use super::pools::{Class, Pools};
+use super::room::raised;
+use pci_dump::memory::OutOfMemory;
+use pci_tree::admitted::Admitted;
+use std::alloc::Allocator;
+
+/// The first addresses of a function's parts, where they are placed.
+#[derive(Clone, Copy, Debug)]
+pub struct Places {
+    /// By Base Address register.
+    pub bars: [u64; 6],
+    pub rom: u64,
+    pub io: u64,
+    pub mem: u64,
+    pub pref: u64,
+}
+
+impl Places {
+    pub const NONE: Places = Places {
+        bars: [0; 6],
+        rom: 0,
+        io: 0,
+        mem: 0,
+        pref: 0,
+    };
+
+    /// Sets the first address of a part.
+    fn set(&mut self, class: Class, part: Part, first: u64) {
+        match part {
+            Part::Bar(n) => self.bars[usize::from(n)] = first,
+            Part::Rom => self.rom = first,
+            Part::Window { .. } => match class {
+                Class::Io => self.io = first,
+                Class::Memory => self.mem = first,
+                Class::Prefetchable => self.pref = first,
+            },
+        }
+    }
+
+    /// The first address of the window of a class.
+    pub fn window(&self, class: Class) -> u64 {
+        match class {
+            Class::Io => self.io,
+            Class::Memory => self.mem,
+            Class::Prefetchable => self.pref,
+        }
+    }
+}
+
+/// Places sorted items one after another, a group from its start on. A bridge stands in a lower group than what is behind
+/// it, or on a root, so the first address of its window is known when that group begins.
+fn place_sorted(items: &[Item], class: Class, start: u128, places: &mut [Places]) {
+    let mut starts = [0u128; 256];
+    let mut group = 0;
+    let mut next = start;
+    for item in items {
+        if item.group != group {
+            group = item.group;
+            next = starts[usize::from(group)];
+        }
+        places[item.function].set(class, item.part, next as u64);
+        if let Part::Window { secondary } = item.part {
+            starts[usize::from(secondary)] = next;
+        }
+        next += item.size;
+    }
+}
+
+/// Places everything of a class.
+pub fn place_class<A: Allocator + Copy, B: Allocator>(
+    alloc: A,
+    admitted: &Admitted<B>,
+    pools: &Pools,
+    class: Class,
+    aboves: &[Above; 256],
+    needs: &Needs,
+    places: &mut [Places],
+) -> Result<(), OutOfMemory>
+    requires plannable { CanBePlanned admitted.now.roots (system_in admitted.now) (pools_value pools.now) }
+    requires aboves { AreAboves (system_in admitted.now) aboves.now }
+    requires needs { AreNeeds admitted.now.roots (system_in admitted.now) (pools_value pools.now) (class_value class) needs.now }
+    requires count { length places.old ≡ length (system_in admitted.now) }
+    ensures placed { OnOk result (HasPlaces admitted.now.roots (system_in admitted.now) (pools_value pools.now) (class_value class) places.new) }
+    ensures others { OnOk result (KeepsOthers (system_in admitted.now) (pools_value pools.now) (class_value class) places.old places.new) }
+{
+    let mut items = items_of(alloc, admitted, pools, class, aboves, needs)?;
+    sort_items(&mut items)?;
+    if !items.is_empty() {
+        let start = raised(needs.greatest, pools.of(class).first);
+        place_sorted(items.as_slice(), class, start, places);
+    }
+    Ok(())
+}

@@ -1,0 +1,46 @@
+//! Why nothing is planned.
+ghost use Rattle.std.specs.Prelude.{◌≡◌, Some};
+
+use super::pools::Class;
+use pci_image::slot::Slot;
+use pci_tree::fault::Fault;
+use std::fmt;
+
+/// Why nothing is planned.
+#[derive(Clone, Copy, Debug, PartialEq, Eq)]
+pub enum PlanFault {
+    /// 70: a pool is backward or too high, or a memory address is in two pools.
+    BadPools,
+    /// 71: an I/O BAR of the function at the slot is behind a bridge without an I/O window.
+    NoWindow(Slot),
+    /// 72: what is of the class doesn't fit its pool.
+    NoRoom(Class),
+    /// 73: the plan itself is judged, and refused. It never comes.
+    NotAccepted(Fault),
+}
+
+impl PlanFault {
+    /// The fault's number, 70 to 73.
+    pub fn number(&self) -> u8 {
+        match self {
+            PlanFault::BadPools => 70,
+            PlanFault::NoWindow(_) => 71,
+            PlanFault::NoRoom(_) => 72,
+            PlanFault::NotAccepted(_) => 73,
+        }
+    }
+}
+
+/// The fault's number, its name and what it names.
+impl fmt::Display for PlanFault {
+    fn fmt<W: fmt::Write>(&self, f: &mut fmt::Formatter<W>) -> fmt::Result {
+        match *self {
+            PlanFault::BadPools => write!(f, "70 BadPools"),
+            PlanFault::NoWindow(slot) => write!(f, "71 NoWindow {slot}"),
+            PlanFault::NoRoom(Class::Io) => write!(f, "72 NoRoom io"),
+            PlanFault::NoRoom(Class::Memory) => write!(f, "72 NoRoom mem"),
+            PlanFault::NoRoom(Class::Prefetchable) => write!(f, "72 NoRoom pref"),
+            PlanFault::NotAccepted(fault) => write!(f, "73 NotAccepted {fault}"),
+        }
+    }
+}

@@ -1,0 +1,100 @@
+//! The planned dump: the start with the new numbers put in.
+ghost use Rattle.std.specs.Prelude.{◌≡◌, IfOk, map, length};
+ghost use Rattle.std.specs.List.{AllZip};
+ghost use Rattle.pci_spec.specs.Text.{slots_of};
+ghost use Rattle.pci_spec.specs.System.{system_of};
+ghost use Rattle.pci_spec.specs.Plan.{Class as ClassValue};
+ghost use Rattle.pci_spec.specs.PlanPromise.{CanBePlanned};
+ghost use Rattle.pci_spec.specs.Planning.Numbers.{IsPlannedFunction};
+ghost use Rattle.pci_plan.specs.Pools.{class_value, pools_value};
+ghost use Rattle.pci_plan.specs.Above.{system_in};
+ghost use Rattle.pci_plan.specs.Needs.{AreAllNeeds};
+ghost use Rattle.pci_plan.specs.Places.{HasPlaces};
+
+use super::by_class::ByClass;
+use super::need::Needs;
+use super::numbers::Filling;
+use super::place::Places;
+use super::pools::Pools;
+use pci_dump::block::Block;
+use pci_dump::dump::Dump;
+use pci_dump::memory::{OutOfMemory, Refused};
+use pci_image::image::Image;
+use pci_image::offset::COMMAND;
+use pci_machine::address_register::address_registers;
+use pci_tree::admitted::Admitted;
+use std::alloc::Allocator;
+
+/// Puts the little-endian bytes of a value into `width` bytes from an offset on.
+fn put(image: &mut Image, offset: u8, width: u8, value: u32) {
+    let mut rest = value;
+    for j in 0..width {
+        image.0[usize::from(offset + j)] = (rest % 256) as u8;
+        rest /= 256;
+    }
+}
+
+/// The image of a function with its new numbers.
+fn filled(filling: &Filling<'_>) -> Image {
+    let mut image = *filling.image;
+    for register in address_registers(filling.record.bridge.is_some()) {
+        put(
+            &mut image,
+            register.offset,
+            register.width,
+            filling.number(register.offset),
+        );
+    }
+    put(&mut image, COMMAND, 2, u32::from(filling.command()));
+    image
+}
+
+/// Puts a block after all that are there.
+fn push_next<A: Allocator>(dump: &mut Dump<A>, block: Block) -> Result<(), OutOfMemory> {
+    match dump.push(block) {
+        Ok(()) => Ok(()),
+        Err(Refused::Fault(_)) => unreachable!(),
+        Err(Refused::Memory) => Err(OutOfMemory),
+    }
+}
+
+/// The dump of all functions with their new numbers, slots and titles as they are.
+pub fn planned_dump<A: Allocator, B: Allocator>(
+    alloc: A,
+    admitted: &Admitted<B>,
+    pools: &Pools,
+    needs: &ByClass<Needs>,
+    places: &[Places],
+) -> Result<Dump<A>, OutOfMemory>
+    requires plannable { CanBePlanned admitted.now.roots (system_in admitted.now) (pools_value pools.now) }
+    requires needs { AreAllNeeds admitted.now.roots (system_in admitted.now) (pools_value pools.now) needs.now }
+    requires count { length places.now ≡ length (system_in admitted.now) }
+    requires places { (c : ClassValue) → HasPlaces admitted.now.roots (system_in admitted.now) (pools_value pools.now) c places.now }
+    ensures slots { IfOk result (λ dump. slots_of dump ≡ slots_of admitted.now.dump) }
+    ensures titles { IfOk result (λ dump. map (λ b. b.title) dump ≡ map (λ b. b.title) admitted.now.dump) }
+    ensures planned { IfOk result (λ dump. AllZip (IsPlannedFunction admitted.now.roots (system_in admitted.now) (pools_value pools.now)) (system_in admitted.now) (system_of dump admitted.now.probe)) }
+{
+    // The pools are what the places were found in: the contract speaks of them alone.
+    let _pools = pools;
+    let records = admitted.outline().records();
+    let blocks = admitted.dump().blocks();
+    let mut dump = Dump::empty(alloc);
+    for i in 0..blocks.len() {
+        let block = &blocks[i];
+        let filling = Filling {
+            record: &records[i],
+            image: &block.image,
+            places: &places[i],
+            needs,
+        };
+        let image = filled(&filling);
+        push_next(
+            &mut dump,
+            Block {
+                image,
+                ..block.copy()
+            },
+        )?;
+    }
+    Ok(dump)
+}

@@ -1,0 +1,57 @@
+//! The pools of addresses that regions are placed in.
+ghost use Rattle.std.specs.Prelude.{◌≡◌};
+ghost use Rattle.pci_spec.specs.Plan.{are_bad, pool_of};
+ghost use Rattle.pci_image.specs.Ranges.{decoded_range_of};
+ghost use Rattle.pci_plan.specs.Pools.{pools_value, class_value};
+
+use pci_image::range::Range;
+
+/// Which pool a region is placed in.
+#[derive(Clone, Copy, Debug, PartialEq, Eq)]
+pub enum Class {
+    /// BARs in I/O space.
+    Io,
+    /// Memory that isn't placed in the prefetchable pool: BARs and ROMs.
+    Memory,
+    /// Prefetchable BARs to which prefetchable windows lead all the way.
+    Prefetchable,
+}
+
+/// The highest address of a pool of I/O, and of one of memory.
+const IO_LAST: u64 = 0xffff;
+
+const MEMORY_LAST: u64 = 0xffff_ffff;
+
+/// A pool of addresses for each class, both ends of each inclusive.
+#[derive(Clone, Copy, Debug, PartialEq, Eq)]
+pub struct Pools {
+    pub io: Range,
+    pub mem: Range,
+    pub pref: Range,
+}
+
+impl Pools {
+    /// The pool of a class.
+    pub fn of(&self, class: Class) -> Range
+        ensures { decoded_range_of result ≡ pool_of (pools_value self.now) (class_value class) }
+    {
+        match class {
+            Class::Io => self.io,
+            Class::Memory => self.mem,
+            Class::Prefetchable => self.pref,
+        }
+    }
+
+    /// Whether the pools are refused: one is backward, I/O ends above FFFFh or memory above FFFFFFFFh, or memory and
+    /// prefetchable memory share an address.
+    pub fn are_bad(&self) -> bool
+        ensures { result ≡ are_bad (pools_value self.now) }
+    {
+        self.io.last < self.io.first
+            || self.mem.last < self.mem.first
+            || self.pref.last < self.pref.first
+            || IO_LAST < self.io.last
+            || MEMORY_LAST < self.mem.last
+            || (self.mem.first <= self.pref.last && self.pref.first <= self.mem.last)
+    }
+}

@@ -1,0 +1,43 @@
+//! Whether what is of a class fits its pool.
+ghost use Rattle.std.specs.Prelude.{◌≡◌, ◌<◌, ◌≤◌, ◌^◌, ℕ, slice_index};
+ghost use Rattle.pci_spec.specs.Plan.{fits, raised_to, pool_of, greatest_of_roots};
+ghost use Rattle.pci_plan.specs.Pools.{class_value, pools_value};
+ghost use Rattle.pci_plan.specs.Above.{system_in};
+ghost use Rattle.pci_plan.specs.Needs.{AreNeeds};
+
+use super::need::Needs;
+use super::pools::{Class, Pools};
+use pci_tree::admitted::Admitted;
+use pci_tree::roots::Roots;
+use std::alloc::Allocator;
+
+/// What all root buses need together: they are placed as one bus.
+fn need_of_roots(roots: &Roots, needs: &Needs) -> u128 {
+    let mut sum = 0;
+    for bus in 0..256usize {
+        if roots.has(bus as u8) {
+            sum += needs.of_bus[bus];
+        }
+    }
+    sum
+}
+
+/// The least multiple of a size from an address on.
+pub fn raised(size: u128, first: u64) -> u128 {
+    (u128::from(first) + size - 1) / size * size
+}
+
+/// Whether what is of a class fits its pool.
+pub fn has_room<A: Allocator>(
+    admitted: &Admitted<A>,
+    pools: &Pools,
+    class: Class,
+    needs: &Needs,
+) -> bool
+    requires { AreNeeds admitted.now.roots (system_in admitted.now) (pools_value pools.now) (class_value class) needs.now }
+    ensures { result ≡ fits admitted.now.roots (system_in admitted.now) (pools_value pools.now) (class_value class) }
+{
+    let need = need_of_roots(&admitted.outline().roots(), needs);
+    let pool = pools.of(class);
+    need == 0 || raised(needs.greatest, pool.first) + need <= u128::from(pool.last) + 1
+}
