@@ -23,6 +23,8 @@ pub mod Planned
 pub mod Profile
 pub mod Reached
 pub mod Registers
+pub mod RomsOn
+pub mod RomsOnRegisters
 pub mod Room
 pub mod Rooms
 pub mod Rows
