@@ -24,6 +24,7 @@ pub mod Profile
 pub mod Reached
 pub mod Registers
 pub mod RomsOn
+pub mod RomsOnFaults
 pub mod RomsOnRegisters
 pub mod Room
 pub mod Rooms
