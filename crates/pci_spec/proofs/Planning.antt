@@ -25,6 +25,7 @@ pub mod Reached
 pub mod Registers
 pub mod RomsOn
 pub mod RomsOnFaults
+pub mod RomsOnLayout
 pub mod RomsOnRegisters
 pub mod Room
 pub mod Rooms
