@@ -1,13 +1,13 @@
 -- Setting the enable bits of ROMs brings no fault of the profile, and keeps the tree of buses and the capability lists.
-use Rattle.std.proofs.Common.{◌≡◌, ◌≢◌, ℕ, zero, suc, ◌+◌, ◌*◌, ◌/◌, ◌%◌, ◌^◌, ◌<◌, ◌≤◌, inl, inr, List, [], ◌∷◌, refl, Bool, true, false, ◌&&◌, ◌||◌, not, Option, None, Some, arith, sym, ◌∙◌, ap, subst, map}
-use Rattle.std.specs.Bool.{IsTrue, IsFalse, nat_lt, ◌==◌, if◌then◌else◌}
+use Rattle.std.proofs.Common.{◌≡◌, ℕ, ◌+◌, ◌<◌, inl, inr, List, [], ◌∷◌, refl, Bool, true, false, ◌&&◌, ◌||◌, not, Option, None, Some, arith, sym, ◌∙◌, ap, subst, map}
+use Rattle.std.specs.Bool.{IsTrue, nat_lt, ◌==◌, if◌then◌else◌}
 use Rattle.std.specs.List.{All, AllZip, Contains}
 use Rattle.std.specs.Int.{bit_at}
 use Rattle.std.proofs.lemmas.Bool.{cases_Bool, cases_eq, both_ways, eqb-true}
 use Rattle.std.proofs.lemmas.List.Elements.{All-contains, All-contains_itself, All-weaker}
-use Rattle.pci_spec.specs.Number.{byte_at, number_at, has_bit, IsImage}
+use Rattle.pci_spec.specs.Number.{byte_at, has_bit, IsImage}
 use Rattle.pci_spec.specs.Slot.{Slot}
-use Rattle.pci_spec.specs.Header.{vendor_id, command, class_code, layout, bridge_control, rom_register}
+use Rattle.pci_spec.specs.Header.{command, class_code, layout, bridge_control, rom_register}
 use Rattle.pci_spec.specs.Bar.{BarFault, bar_fault}
 use Rattle.pci_spec.specs.Bar as bars
 use Rattle.pci_spec.specs.Rom.{rom_at}
@@ -15,9 +15,9 @@ use Rattle.pci_spec.specs.Capability.{HasChain}
 use Rattle.pci_spec.specs.Decoded.{IsDecodable}
 use Rattle.pci_spec.specs.System.{System, Function, IsSystem, is_bridge}
 use Rattle.pci_spec.specs.Bus.{IsNested}
-use Rattle.pci_spec.specs.Fault.{Fault, NoVendor, HeaderKind, BarType, BarMask, BarPair, RomMask, WindowMask, CapRange, CapLoop, CapCut, SlotsDiffer, StrayProbe, LoneFunction, PaletteSnoop, VgaEnable, IsaEnable, Subtractive, InReset, PowerState, BusRange, Orphan, Unreached, Clash, Split, IsIn, SomeAt, IsAsleep, HasBarFault, has_function_zero, is_stray, is_in_address_register, fault_number}
+use Rattle.pci_spec.specs.Fault.{NoVendor, HeaderKind, BarType, BarMask, BarPair, RomMask, WindowMask, CapRange, CapLoop, CapCut, SlotsDiffer, StrayProbe, LoneFunction, PaletteSnoop, VgaEnable, IsaEnable, Subtractive, InReset, PowerState, BusRange, Orphan, Unreached, Clash, Split, SomeAt, IsAsleep, HasBarFault, has_function_zero, is_stray, is_in_address_register}
 use Rattle.pci_spec.specs.Machine.{in_fields, address_fields}
-use Rattle.pci_spec.specs.Sound.{is_profile_number, HasChains, IsInProfile}
+use Rattle.pci_spec.specs.Sound.{HasChains, IsInProfile}
 use Rattle.pci_spec.specs.Plan.{IsMoved}
 use Rattle.pci_spec.specs.PlanPromise.{with_rom_on}
 use Rattle.pci_spec.proofs.Bits.{bit_of_false, quotients-agree}

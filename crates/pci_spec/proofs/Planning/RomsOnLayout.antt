@@ -1,22 +1,22 @@
 -- Setting the enable bits of ROMs moves nothing: a planned system stays sound.
-use Rattle.std.proofs.Common.{◌≡◌, ◌⊎◌, ℕ, ◌+◌, ◌*◌, ◌-◌, ◌/◌, ◌^◌, ◌<◌, ◌≤◌, inl, inr, List, [], ◌∷◌, ◌++◌, refl, Bool, true, false, ◌&&◌, ◌||◌, not, arith, sym, ◌∙◌, ap, subst, map}
+use Rattle.std.proofs.Common.{◌≡◌, ◌⊎◌, ℕ, ◌+◌, ◌*◌, ◌-◌, ◌/◌, ◌^◌, ◌≤◌, inl, inr, List, [], ◌∷◌, ◌++◌, refl, Bool, true, ◌&&◌, ◌||◌, not, arith, sym, ◌∙◌, ap, subst, map}
 use Rattle.std.specs.Bool.{IsTrue, IsFalse, nat_le, nat_lt, if◌then◌else◌}
 use Rattle.std.specs.List.{All, Contains, list_all, list_any, filter, range_with_len}
 use Rattle.std.proofs.lemmas.Bool.{cases_Bool, and_parts, leb-true, ltb-true}
 use Rattle.std.proofs.lemmas.List.Elements.{All-contains}
 use Rattle.pci_spec.specs.Number.{has_bit, lowest_one, IsImage}
 use Rattle.pci_spec.specs.Slot.{Slot, same_slot}
-use Rattle.pci_spec.specs.Header.{command, layout, bar_count, rom_register}
-use Rattle.pci_spec.specs.Bar.{bar_at, is_io, is_wide, is_prefetchable, starts_bar, is_run}
+use Rattle.pci_spec.specs.Header.{layout, bar_count, rom_register}
+use Rattle.pci_spec.specs.Bar.{bar_at, is_io, is_wide, is_prefetchable, is_run}
 use Rattle.pci_spec.specs.Rom.{rom_at}
-use Rattle.pci_spec.specs.Window.{WindowKind, IoWindow, MemoryWindow, PrefetchWindow, has_window, is_wide_window, is_closed, base_page, limit_page, lower_pages, page_size}
+use Rattle.pci_spec.specs.Window.{WindowKind, IoWindow, MemoryWindow, PrefetchWindow, has_window, is_wide_window, is_closed, lower_pages, page_size}
 use Rattle.pci_spec.specs.Decoded.{IsDecodable, aligned_range, bar_size, has_bar}
 use Rattle.pci_spec.specs.System.{System, Function, IsSystem, Space, Io, Memory, Part, Bar, Rom, Window, register_of, is_implemented, bars_and_rom, is_bridge}
 use Rattle.pci_spec.specs.Bus.{is_behind, LeadsTo}
 use Rattle.pci_spec.specs.Sound.{IsSound}
 use Rattle.pci_spec.specs.Plan.{Pools, IoClass, MemoryClass, PrefetchClass, pool_of, bridges_above, is_served, class_of, window_of, is_io_part, is_open, wants, are_bad}
 use Rattle.pci_spec.specs.PlanPromise.{with_rom_on}
-use Rattle.pci_spec.specs.Planning.Layout.{range_of, is_item, IsInside, LieApart, AreBeside, AreTwo, IsLaidOut, IsSwitchedOn}
+use Rattle.pci_spec.specs.Planning.Layout.{range_of, is_item, IsInside, LieApart, AreTwo, IsLaidOut, IsSwitchedOn}
 use Rattle.pci_spec.specs.Planning.Safety.{IsSafe}
 use Rattle.pci_spec.proofs.Bits.{agree-quotients}
 use Rattle.pci_spec.proofs.Ranges.{lawful_rom}

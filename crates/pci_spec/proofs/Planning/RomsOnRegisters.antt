@@ -1,16 +1,15 @@
 -- What the registers of a function show when the enable bit of its ROM is set: what they showed before.
-use Rattle.std.proofs.Common.{◌≡◌, ℕ, zero, suc, ◌+◌, ◌*◌, ◌/◌, ◌%◌, ◌^◌, ◌<◌, ◌≤◌, inl, inr, List, refl, Bool, true, false, ◌&&◌, ◌||◌, not, None, arith, sym, ◌∙◌, ap, subst}
-use Rattle.std.specs.Bool.{IsTrue, IsFalse, nat_le, nat_lt, ◌==◌, if◌then◌else◌}
+use Rattle.std.proofs.Common.{◌≡◌, ℕ, zero, suc, ◌+◌, ◌*◌, ◌/◌, ◌%◌, ◌^◌, ◌<◌, ◌≤◌, inl, inr, List, refl, Bool, true, ◌&&◌, ◌||◌, not, None, arith, sym, ◌∙◌, ap, subst}
+use Rattle.std.specs.Bool.{nat_le, ◌==◌, if◌then◌else◌}
 use Rattle.std.specs.Int.{bit_at}
-use Rattle.std.proofs.lemmas.Bool.{cases_Bool, both_ways, and_parts, and_left, not-false, eqb-true, eq-eqb, and_from, not_from_true}
-use Rattle.pci_spec.specs.Number.{byte_at, number_at, has_bit, each_from, some_from, IsImage, AgreeFrom}
-use Rattle.pci_spec.specs.Header.{layout, bar_count, bar_register, rom_register, primary_bus}
+use Rattle.std.proofs.lemmas.Bool.{cases_Bool, both_ways, and_parts, not-false, eqb-true, eq-eqb, and_from, not_from_true}
+use Rattle.pci_spec.specs.Number.{byte_at, number_at, each_from, some_from, AgreeFrom}
+use Rattle.pci_spec.specs.Header.{layout, bar_count, bar_register, rom_register}
 use Rattle.pci_spec.specs.Bar.{bar_at, is_wide, starts_bar, whole_bar, is_within, first_broken, bar_fault}
 use Rattle.pci_spec.specs.Rom.{rom_at, has_rom, is_rom_size, breaks_rom_rule}
-use Rattle.pci_spec.specs.Window.{WindowKind, IoWindow, MemoryWindow, PrefetchWindow, Bounds, bounds_at, breaks_window_rule}
+use Rattle.pci_spec.specs.Window.{WindowKind, IoWindow, MemoryWindow, PrefetchWindow, bounds_at, breaks_window_rule}
 use Rattle.pci_spec.specs.Decoded.{IsDecodable}
 use Rattle.pci_spec.specs.System.{Function, is_bridge}
-use Rattle.pci_spec.specs.Bus.{secondary, subordinate}
 use Rattle.pci_spec.proofs.Bits.{quotients-agree}
 use Rattle.pci_spec.proofs.Planning.Kept.{IsSameBridge}
 use Rattle.pci_spec.proofs.Planning.OtherRules.{window_breaks}
