@@ -20,6 +20,7 @@ pub mod OnMachine
 pub mod OtherRules
 pub mod OwnMachine
 pub mod Placement
+pub mod PlanStands
 pub mod Planned
 pub mod Profile
 pub mod Reached

@@ -1,6 +1,5 @@
 -- The writes of a plan over a machine that is the system with its own writable bits.
-use Rattle.std.proofs.Common.{ℕ, List, inr, ap, subst, ◌≡◌, map, take}
-use Rattle.std.specs.List.{All}
+use Rattle.std.proofs.Common.{ℕ, List, inr, subst, ◌≡◌, map, take}
 use Rattle.std.proofs.lemmas.List.Elements.{All-take}
 use Rattle.pci_spec.specs.System.{System}
 use Rattle.pci_spec.specs.Machine.{target_of, after_writes, system_after}
