@@ -66,23 +66,22 @@ none_listed s none f listed = elim (cases_Bool (is_on f)) [
 
 -- ---- from where on a stop is safe
 
-module _ (roots : List ℕ) (s t : System) (pairs : AllZip IsMoved s t) where
-  pub safe_from_sound : (closings : ℕ) → IsSound roots s → IsSafeFrom roots s closings 0
-  safe_from_sound closings sound = record { at_once = ((λ e. sound), (λ h. refl)); closed = λ unsound. absurd (unsound sound) }
+pub safe_from_sound : (roots : List ℕ) (s : System) (closings : ℕ) → IsSound roots s → IsSafeFrom roots s closings 0
+safe_from_sound roots s closings sound = record { at_once = ((λ e. sound), (λ h. refl)); closed = λ unsound. absurd (unsound sound) }
 
-  module _ (nested : IsNested roots s) (profile : IsInProfile roots s) (chains : HasChains s) where
-    -- what has nothing to close is sound
-    off_sound : length (closing_writes (changes_between s t)) ≡ 0 → IsSound roots s
-    off_sound none =
-        let count = count_closing (changes_between s t) in
-        let same = ap (λ (u : System). length (filter is_on u)) (olds_of s t pairs) in
-        let safe = off_safe roots s (none_listed s (omega (arith, none, count, same))) in
-        record { single = safe.single; home = safe.home; nested = nested; profile = profile; chains = chains }
+module _ (roots : List ℕ) (s t : System) (pairs : AllZip IsMoved s t) (nested : IsNested roots s) (profile : IsInProfile roots s) (chains : HasChains s) where
+  -- what has nothing to close is sound
+  off_sound : length (closing_writes (changes_between s t)) ≡ 0 → IsSound roots s
+  off_sound none =
+      let count = count_closing (changes_between s t) in
+      let same = ap (λ (u : System). length (filter is_on u)) (olds_of s t pairs) in
+      let safe = off_safe roots s (none_listed s (omega (arith, none, count, same))) in
+      record { single = safe.single; home = safe.home; nested = nested; profile = profile; chains = chains }
 
-    pub safe_from_is : (n : ℕ) → (IsSound roots s × (n ≡ 0)) ⊎ ((IsSound roots s → ⊥) × (n ≡ length (closing_writes (changes_between s t))))
-        → IsSafeFrom roots s (length (closing_writes (changes_between s t))) n
-    safe_from_is n (inl (sound, at)) = subst (IsSafeFrom roots s (length (closing_writes (changes_between s t)))) (sym at) (safe_from_sound (length (closing_writes (changes_between s t))) sound)
-    safe_from_is n (inr (unsound, at)) = record { at_once = ((λ e. off_sound (sym at ∙ e)), (λ sound. absurd (unsound sound))); closed = λ h. at }
+  pub safe_from_is : (n : ℕ) → (IsSound roots s × (n ≡ 0)) ⊎ ((IsSound roots s → ⊥) × (n ≡ length (closing_writes (changes_between s t))))
+      → IsSafeFrom roots s (length (closing_writes (changes_between s t))) n
+  safe_from_is n (inl (sound, at)) = subst (IsSafeFrom roots s (length (closing_writes (changes_between s t)))) (sym at) (safe_from_sound roots s (length (closing_writes (changes_between s t))) sound)
+  safe_from_is n (inr (unsound, at)) = record { at_once = ((λ e. off_sound (sym at ∙ e)), (λ sound. absurd (unsound sound))); closed = λ h. at }
 
 -- ---- the plan
 
