@@ -5,3 +5,4 @@ pub mod Needs
 pub mod Records
 pub mod Places
 pub mod Writes
+pub mod Plans
