@@ -1,6 +1,6 @@
 //! Verdicts where a read or a write fails.
 use crate::failing::{leaves_beginnings, with_failing_read};
-use crate::samples::{clash, tree};
+use boards::samples::{clash, tree};
 use pci_tree::roots::Roots;
 use pciplan_cli::line::Task;
 use std::test::Fail;

@@ -1,8 +1,8 @@
 //! Listing and judging, with the first growth refused, then with the second, and so on until no refusal is met.
-use crate::board::Texts;
 use crate::refused_readings::{MANY, read};
 use crate::refusing::Refusing;
-use crate::samples::samples;
+use boards::board::Texts;
+use boards::samples::samples;
 use pci_check::audit::audit;
 use pci_check::check::check;
 use pci_check::judge::judge;

@@ -1,7 +1,7 @@
 //! Reading and admitting, with the first growth refused, then with the second, and so on until no refusal is met.
-use crate::board::Texts;
 use crate::refusing::Refusing;
-use crate::samples::samples;
+use boards::board::Texts;
+use boards::samples::samples;
 use pci_dump::block::Block;
 use pci_dump::dump::Dump;
 use pci_dump::memory::{OutOfMemory, Refused};

@@ -4,7 +4,6 @@ use pci_dump::std_ends::{Incoming, Outgoing};
 use pciplan_cli::line::{Line, Task};
 use pciplan_cli::run::run;
 use pciplan_cli::words::start;
-use std::process::Abort;
 use std::test::Fail;
 
 /// What a run left: its status, and what it wrote.
@@ -60,27 +59,44 @@ fn run_words(rt: &impl AllocGlobal, words: &[&str], dump: &str, probe: &str) -> 
     Answer { status, out, err }
 }
 
-/// Asserts what was written to standard output and to standard error, and the status.
-fn is_answer(rt: &impl Abort, got: &Answer, wanted: (&str, &str, u8)) {
+/// Whether a run left what is wanted on standard output and on standard error, and the status.
+fn is_answer(got: &Answer, wanted: (&str, &str, u8)) -> Result<(), Fail> {
     let (out, err, status) = wanted;
-    assert!(rt; got.out.as_slice() == out.as_bytes(), "{out}");
-    assert!(rt; got.err.as_slice() == err.as_bytes(), "{err}");
-    assert_eq!(rt; got.status, status, "{out}{err}");
+    if got.out.as_slice() != out.as_bytes() {
+        return Err(Fail::new(format_args!("not on standard output: {out}")));
+    }
+    if got.err.as_slice() != err.as_bytes() {
+        return Err(Fail::new(format_args!("not on standard error: {err}")));
+    }
+    if got.status != status {
+        let left = got.status;
+        return Err(Fail::new(format_args!("status {left}: {out}{err}")));
+    }
+    Ok(())
 }
 
-/// Asserts what a line of words prints about two texts, its message and its status.
+/// Whether a line of words prints this about a dump and its probe: what it writes to standard output and to standard
+/// error, and its status.
+///
+/// # Errors
+///
+/// What isn't as it is wanted.
 pub fn prints(
-    rt: &(impl Abort + AllocGlobal),
+    rt: &impl AllocGlobal,
     words: &[&str],
     texts: (&str, &str),
     wanted: (&str, &str, u8),
-) {
-    is_answer(rt, &run_words(rt, words, texts.0, texts.1), wanted);
+) -> Result<(), Fail> {
+    is_answer(&run_words(rt, words, texts.0, texts.1), wanted)
 }
 
-/// Asserts what a task prints about a board, and its status.
+/// Whether a task prints this about a board, without a message, and ends with the status.
+///
+/// # Errors
+///
+/// What isn't as it is wanted.
 pub fn answers(
-    rt: &(impl Abort + AllocGlobal),
+    rt: &impl AllocGlobal,
     task: Task,
     board: &[Function],
     out: &str,
@@ -88,22 +104,25 @@ pub fn answers(
 ) -> Result<(), Fail> {
     let texts = texts_of(rt.alloc(), board)?;
     let got = run_task(rt, task, texts.dump.as_str(), texts.probe.as_str());
-    is_answer(rt, &got, (out, "", status));
-    Ok(())
+    is_answer(&got, (out, "", status))
 }
 
-/// Asserts the verdict on a board: `yes` with status 0, or a `no` line with status 1.
-pub fn judges(
-    rt: &(impl Abort + AllocGlobal),
-    board: &[Function],
-    verdict: &str,
-) -> Result<(), Fail> {
+/// Whether `check` gives this verdict on a board: `yes` with status 0, or a `no` line with status 1.
+///
+/// # Errors
+///
+/// What isn't as it is wanted.
+pub fn judges(rt: &impl AllocGlobal, board: &[Function], verdict: &str) -> Result<(), Fail> {
     judges_with(rt, &["check", "d", "p"], board, verdict)
 }
 
 /// The same with the words of the line.
+///
+/// # Errors
+///
+/// What isn't as it is wanted.
 pub fn judges_with(
-    rt: &(impl Abort + AllocGlobal),
+    rt: &impl AllocGlobal,
     words: &[&str],
     board: &[Function],
     verdict: &str,
@@ -116,6 +135,5 @@ pub fn judges_with(
         words,
         (texts.dump.as_str(), texts.probe.as_str()),
         (line.as_str(), "", status),
-    );
-    Ok(())
+    )
 }

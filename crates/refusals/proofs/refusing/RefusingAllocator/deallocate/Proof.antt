@@ -38,11 +38,11 @@ use denote.RawPtr.{Ptr, block_ptr, null_ptr, ptr_val, rawptr_vals, rawptr_Tells}
 use denote.Builtin.{usize, RawPtr, RefOf}
 use denote.Triple.Call.{calls_at}
 use Rattle.std.proofs.alloc.Calls.{Al, α, seen, token, gives_key, Gives, at_gives, Gives-goes, Gives-Gives}
-use Rattle.acceptance.specs.contracts.refusing.Refusing as wrapper
-use Rattle.acceptance.specs.contracts.refusing.RefusingAllocator.deallocate as F
-use Rattle.acceptance.specs.contracts.refusing.RefusingAllocator.deallocate.Key as key
-use Rattle.acceptance.proofs.refusing.RefusingAllocator.deallocate.Statement as stated
-use Rattle.acceptance.proofs.refusing.RefusingAllocator.deallocate.Code as code
+use Rattle.refusals.specs.contracts.refusing.Refusing as wrapper
+use Rattle.refusals.specs.contracts.refusing.RefusingAllocator.deallocate as F
+use Rattle.refusals.specs.contracts.refusing.RefusingAllocator.deallocate.Key as key
+use Rattle.refusals.proofs.refusing.RefusingAllocator.deallocate.Statement as stated
+use Rattle.refusals.proofs.refusing.RefusingAllocator.deallocate.Code as code
 
 module _ (Z : Al) where
   abbrev args : Args

@@ -1,7 +1,7 @@
 //! Runs in which a read or a write fails.
-use crate::board::Texts;
 use crate::fakes::{Narrow, Pieces};
-use crate::program::{Answer, line_of, run_task};
+use boards::board::Texts;
+use boards::program::{Answer, line_of, run_task};
 use pci_dump::std_ends::{Incoming, Outgoing};
 use pciplan_cli::line::Task;
 use pciplan_cli::run::run;

@@ -2,7 +2,7 @@
 use crate::refused_readings::read;
 use crate::refused_verdicts::admitted;
 use crate::refusing::Refusing;
-use crate::samples::samples;
+use boards::samples::samples;
 use pci_dump::memory::Refused;
 use pci_dump::pair::pair;
 use pci_dump::reader::Reader;

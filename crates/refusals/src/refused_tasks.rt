@@ -1,9 +1,9 @@
 //! The program's tasks with the first growth refused, then with the second, and so on until no refusal is met.
-use crate::board::Texts;
-use crate::program::{line_of, run_task};
 use crate::refused_readings::MANY;
 use crate::refusing::Refusing;
-use crate::samples::samples;
+use boards::board::Texts;
+use boards::program::{line_of, run_task};
+use boards::samples::samples;
 use pci_dump::std_ends::{Incoming, Outgoing};
 use pci_tree::roots::Roots;
 use pciplan_cli::line::Task;

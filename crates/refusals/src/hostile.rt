@@ -1,9 +1,9 @@
 //! Listings and sizes where a text is none, or a read, a write or a growth fails.
-use crate::board::{Texts, bridge, device, list_at, texts_of};
 use crate::failing::{leaves_beginnings, with_failing_read};
 use crate::fakes::Narrow;
-use crate::program::{line_of, prints, run_task};
 use crate::refused_tasks::is_refused_in_turn;
+use boards::board::{Texts, bridge, device, list_at, texts_of};
+use boards::program::{line_of, prints, run_task};
 use pci_dump::std_ends::{Incoming, Outgoing};
 use pciplan_cli::line::Task;
 use pciplan_cli::run::run;
@@ -39,7 +39,7 @@ fn a_text_that_is_none_has_its_message(rt: HostRuntime) -> Result<(), Fail> {
         (dump, other, "pciplan: probe: 9 Ended 52\n"),
         (dump, "G", "pciplan: probe: 3 BadSlot 1\n"),
     ] {
-        prints(&rt, &["show", "d", "p"], (dump, probe), ("", message, 2));
+        prints(&rt, &["show", "d", "p"], (dump, probe), ("", message, 2))?;
     }
     Ok(())
 }
