@@ -6,7 +6,7 @@ use Rattle.pci_spec.proofs.Pairing.{function_of}
 use Rattle.pci_tree.specs.declared.record.Record.{Record}
 use Rattle.pci_tree.specs.Survey.{Surveyed, AreKept, IsAdded}
 use Rattle.pci_tree.proofs.Surveys.{survey_of, survey_more, append_record, append_nothing, append_fault, kept_later, kept_more}
-use Rattle.pci_tree.proofs.survey.Survey.add.Goals as goal
+use Rattle.pci_tree.proofs.survey.Survey.add_function.Goals as goal
 
 -- the same function, by the blocks' parts
 function_from : (b p c q : Block) → b ≡ c → p ≡ q → function_of b p ≡ function_of c q
