@@ -7,9 +7,11 @@ ghost use Rattle.pci_tree.specs.Roots.{buses_of};
 ghost use Rattle.pci_tree.specs.Profile.{phase_of};
 ghost use Rattle.pci_tree.specs.Survey.{IsSurveyOf};
 ghost use Rattle.pci_tree.specs.Refusals.{IsPairRefusal};
+ghost use Rattle.pci_tree.specs.Admission.{IsOutlineFor};
 
 use super::admitted::Admitted;
 use super::fault::Fault;
+use super::outline::Outline;
 use super::roots::Roots;
 use super::survey::Survey;
 use pci_dump::block::Block;
@@ -37,6 +39,28 @@ fn add_all<A: Allocator>(
         survey.add(&dump[i], &probe[i])?;
     }
     Ok(())
+}
+
+/// The outline of a dump and its probe with these root buses.
+///
+/// # Errors
+///
+/// As of `admit_with`.
+pub fn outline_of<A: Allocator, B: Allocator, C: Allocator>(
+    alloc: A,
+    dump: &Dump<B>,
+    probe: &Dump<C>,
+    roots: Roots,
+) -> Result<Outline<A>, Refused<Fault>>
+    ensures { MatchResult result (IsOutlineFor record { roots = buses_of roots; dump = dump.now; probe = probe.now }) (IsPairRefusal (buses_of roots) dump.now probe.now) }
+{
+    match first_difference(dump.blocks(), probe.blocks()) {
+        Some(slot) => return Err(Refused::Fault(Fault::SlotsDiffer(slot))),
+        None => {}
+    }
+    let mut survey = Survey::with(alloc, roots);
+    add_all(&mut survey, dump.blocks(), probe.blocks())?;
+    survey.finish()
 }
 
 /// Admits a dump and its probe with the one root bus 00.
@@ -68,13 +92,7 @@ pub fn admit_with<A: Allocator>(
 ) -> Result<Admitted<A>, Refused<Fault>>
     ensures { MatchResult result (λ a. (a.roots ≡ buses_of roots) × (a.dump ≡ dump) × (a.probe ≡ probe)) (IsPairRefusal (buses_of roots) dump probe) }
 {
-    match first_difference(dump.blocks(), probe.blocks()) {
-        Some(slot) => return Err(Refused::Fault(Fault::SlotsDiffer(slot))),
-        None => {}
-    }
-    let mut survey = Survey::with(alloc, roots);
-    add_all(&mut survey, dump.blocks(), probe.blocks())?;
-    match survey.finish() {
+    match outline_of(alloc, &dump, &probe, roots) {
         Err(refused) => Err(refused),
         Ok(outline) => Ok(Admitted::of(dump, probe, outline)),
     }
