@@ -20,6 +20,7 @@ pub mod Order
 pub mod OtherRules
 pub mod OwnMachine
 pub mod Placement
+pub mod Places
 pub mod Planned
 pub mod Profile
 pub mod Reached
@@ -32,6 +33,7 @@ pub mod Settled
 pub mod Shows
 pub mod Single
 pub mod Staging
+pub mod Starts
 pub mod Stays
 pub mod Stop
 pub mod Stops
