@@ -1,3 +1,4 @@
+pub mod AllItems
 pub mod Asleep
 pub mod BarFaults
 pub mod BarFits
@@ -35,6 +36,7 @@ pub mod Single
 pub mod Staging
 pub mod Starts
 pub mod Stays
+pub mod Sizes
 pub mod Stop
 pub mod Stops
 pub mod Sums

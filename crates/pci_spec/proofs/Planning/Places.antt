@@ -21,7 +21,7 @@ use Rattle.pci_spec.proofs.Planning.Order.{before_itself, before_once, sum_filte
 
 -- ---- items of a function
 
-in_cond : {X : Type 0} (b : Bool) (xs : List X) (y : X) → Contains (cond b xs []) y → (b ≡ true) × Contains xs y
+pub in_cond : {X : Type 0} (b : Bool) (xs : List X) (y : X) → Contains (cond b xs []) y → (b ≡ true) × Contains xs y
 in_cond true xs y has = (refl, has)
 in_cond false xs y has = absurd (in_nil y has)
 
