@@ -10,6 +10,7 @@ pub mod Classes
 pub mod EachChanges
 pub mod Faults
 pub mod Fit
+pub mod Greatest
 pub mod Home
 pub mod Kept
 pub mod LaidOut
