@@ -34,6 +34,7 @@ pub mod Safe
 pub mod Settled
 pub mod Shows
 pub mod Single
+pub mod Sorting
 pub mod Staging
 pub mod Starts
 pub mod Stays

@@ -1,18 +1,18 @@
 -- All items of a class come in the order of slots and registers.
-use Rattle.std.proofs.Common.{◌≡◌, ℕ, ◌+◌, ◌*◌, ◌<◌, ◌≤◌, ◌⊎◌, inl, inr, List, [], ◌∷◌, ◌++◌, refl, Bool, true, false, cond, ◌&&◌, arith, sym, ◌∙◌, ap, subst, map, length, get_or}
-use Rattle.std.specs.Bool.{◌==◌, if◌then◌else◌}
-use Rattle.std.specs.List.{Contains, AllPairs, filter, flat_map, range_with_len}
+use Rattle.std.proofs.Common.{◌≡◌, ℕ, ◌<◌, ◌≤◌, inl, inr, List, [], ◌∷◌, ◌++◌, refl, Bool, true, false, cond, ◌&&◌, arith, ◌∙◌, ap, subst, map, get_or}
+use Rattle.std.specs.Bool.{◌==◌}
+use Rattle.std.specs.List.{Contains, AllPairs, filter, range_with_len}
 use Rattle.std.proofs.lemmas.Bool.{cases_Bool, and_parts, eqb-true}
 use Rattle.std.proofs.lemmas.List.{get_or-map, length-map}
 use Rattle.std.proofs.lemmas.List.Elements.{Contains-append_cases}
 use Rattle.pci_spec.specs.Slot.{slot_number}
 use Rattle.pci_spec.specs.Header.{layout, bar_count, bar_register, rom_register}
 use Rattle.pci_spec.specs.Window.{window_register}
-use Rattle.pci_spec.specs.System.{System, Function, IsSystem, Part, Bar, Rom, Window, is_bridge, is_implemented, register_of}
+use Rattle.pci_spec.specs.System.{System, Function, IsSystem, Part, Bar, Rom, is_bridge, is_implemented, register_of}
 use Rattle.pci_spec.specs.Plan.{Pools, Class, IoClass, MemoryClass, PrefetchClass, class_of, same_class, has_behind, window_of}
 use Rattle.pci_spec.specs.Place.{Item, part_item, window_item, items_among, own_items}
 use Rattle.pci_spec.specs.Planning.Sorted.{all_items, StandsBefore}
-use Rattle.pci_spec.proofs.Members.{IsMade, in_nil, in_head, in_cons_cases, in_map_to, in_filter_to, in_range_to, pairs_nil, pairs_cons, pairs_append, pairs_map, pairs_filter, pairs_range, pairs_flat_map}
+use Rattle.pci_spec.proofs.Members.{IsMade, in_nil, in_cons_cases, in_map_to, in_filter_to, in_range_to, pairs_nil, pairs_cons, pairs_append, pairs_map, pairs_filter, pairs_range, pairs_flat_map}
 use Rattle.pci_spec.proofs.Rising.{pairs_of_rising}
 use Rattle.pci_spec.proofs.Planning.Places.{in_cond, bar_parts, window_items, own_function}
 
@@ -66,8 +66,11 @@ module _ (s : System) (pools : Pools) (c : Class) (f : Function) where
   among_order : (parts : List Part) → AllPairs (λ p q. register_of f p < register_of f q) parts → AllPairs StandsBefore (items_among s pools c f parts)
   among_order parts rise =
       pairs_map StandsBefore (part_item f) (filter (λ part. same_class c (class_of s pools f part)) (filter (is_implemented f) parts))
-      (λ i j d lt within. inr (refl, pairs_filter (λ p q. register_of f p < register_of f q) (λ part. same_class c (class_of s pools f part)) (filter (is_implemented f) parts)
-      (pairs_filter (λ p q. register_of f p < register_of f q) (is_implemented f) parts rise) i j d lt within))
+      (λ i j d lt within. inr (
+        refl,
+        pairs_filter (λ p q. register_of f p < register_of f q) (λ part. same_class c (class_of s pools f part)) (filter (is_implemented f) parts)
+            (pairs_filter (λ p q. register_of f p < register_of f q) (is_implemented f) parts rise) i j d lt within,
+      ))
 
   bars_rise : AllPairs (λ p q. register_of f p < register_of f q) (bar_parts f)
   bars_rise = pairs_map (λ p q. register_of f p < register_of f q) Bar (range_with_len 0 (bar_count (layout f.image)))
@@ -128,7 +131,7 @@ module _ (s : System) (pools : Pools) (c : Class) (f : Function) where
 
 -- ---- all of them
 
-pairs_unmap : {X Y : Type 0} (R : Y → Y → Type 0) (f : X → Y) (xs : List X) → AllPairs R (map f xs) → AllPairs (λ x y. R (f x) (f y)) xs
+pub pairs_unmap : {X Y : Type 0} (R : Y → Y → Type 0) (f : X → Y) (xs : List X) → AllPairs R (map f xs) → AllPairs (λ x y. R (f x) (f y)) xs
 pairs_unmap R f xs pairs i j d lt within =
     let l = length-map xs f in
     subst (λ y. R (f (get_or xs i d)) y) (get_or-map f xs j d (f d) within)

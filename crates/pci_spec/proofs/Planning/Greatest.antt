@@ -1,7 +1,7 @@
 -- Where the roots start: the greatest item on them is the greatest size of their needs.
-use Rattle.std.proofs.Common.{◌≡◌, ℕ, ◌+◌, ◌<◌, ◌≤◌, ◌⊎◌, inl, inr, List, [], ◌∷◌, ◌++◌, refl, Bool, true, false, cond, ◌&&◌, max, arith, sym, ◌∙◌, ap, subst, map}
-use Rattle.std.specs.Bool.{IsTrue, nat_lt, ◌==◌, if◌then◌else◌}
-use Rattle.std.specs.List.{Contains, flat_map, fold, sum}
+use Rattle.std.proofs.Common.{◌≡◌, ℕ, ◌≤◌, ◌⊎◌, inl, inr, List, [], ◌∷◌, ◌++◌, refl, Bool, true, cond, ◌&&◌, max, arith, sym, ◌∙◌, ap, subst}
+use Rattle.std.specs.Bool.{nat_lt, ◌==◌, if◌then◌else◌}
+use Rattle.std.specs.List.{Contains, flat_map, fold}
 use Rattle.std.proofs.lemmas.Bool.{and_parts, and_from, eqb-true, eq-eqb}
 use Rattle.std.proofs.lemmas.List.Elements.{Contains-append_cases, Contains-append_left, Contains-append_right}
 use Rattle.std.proofs.lemmas.List.Sorted.{IsPermutation-sym, Contains-permutation}
@@ -83,7 +83,7 @@ module _ (roots : List ℕ) (s : System) (pools : Pools) (c : Class) (system : I
               listed = piece.has;
               at = eqb-true b.slot.bus bus inner.1;
               size = Contains-append_right (sizes_in s pools c b) (window_sizes s pools c b) n
-              (in_cond_from (is_bridge b && nat_lt 0 need) (window_size c (limited need) ∷ []) n (and_from (is_bridge b) (nat_lt 0 need) inner.0 outer.1) has.1);
+                  (in_cond_from (is_bridge b && nat_lt 0 need) (window_size c (limited need) ∷ []) n (and_from (is_bridge b) (nat_lt 0 need) inner.0 outer.1) has.1);
             }
       ]
 

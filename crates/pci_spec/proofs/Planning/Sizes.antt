@@ -1,21 +1,21 @@
 -- The sizes of the items of a bus are those that its need is the sum of.
-use Rattle.std.proofs.Common.{◌≡◌, ℕ, ◌+◌, ◌<◌, ◌≤◌, ◌⊎◌, inl, inr, List, [], ◌∷◌, ◌++◌, refl, Bool, true, false, cond, ◌&&◌, ◌||◌, max, arith, sym, ◌∙◌, ap, subst, map, append_assoc}
-use Rattle.std.specs.Bool.{IsTrue, nat_lt, ◌==◌, if◌then◌else◌}
-use Rattle.std.specs.List.{Contains, AllPairs, filter, flat_map, fold, sum, sum_by, list_any, range_with_len}
+use Rattle.std.proofs.Common.{◌≡◌, ℕ, ◌+◌, ◌<◌, inl, inr, List, [], ◌∷◌, ◌++◌, refl, Bool, true, false, cond, ◌&&◌, ◌||◌, arith, sym, ◌∙◌, ap, subst, map, append_assoc}
+use Rattle.std.specs.Bool.{nat_lt, ◌==◌, if◌then◌else◌}
+use Rattle.std.specs.List.{Contains, AllPairs, filter, flat_map, sum, sum_by}
 use Rattle.std.specs.List.Sorted.{IsPermutation, IsStrictlyIncreasing}
-use Rattle.std.proofs.lemmas.Bool.{cases_Bool, both_ways, and_parts, eqb-true, eq-eqb, ne_eqb, false_from_ne_true}
+use Rattle.std.proofs.lemmas.Bool.{cases_Bool, both_ways, eqb-true, eq-eqb, ne_eqb, false_from_ne_true}
 use Rattle.std.proofs.lemmas.List.{map-append}
 use Rattle.std.proofs.lemmas.List.Elements.{filter-append}
 use Rattle.std.proofs.lemmas.List.Sums.{sum_by-cons, sum_by-append, sum-map}
-use Rattle.std.proofs.lemmas.List.Sorted.{sum_by-IsPermutation, IsPermutation-refl, IsPermutation-append_comm, IsPermutation-append_right, IsPermutation-sym, Contains-permutation}
-use Rattle.pci_spec.specs.System.{System, Function, IsSystem, Part, Rom, is_bridge, is_implemented, bars_and_rom}
-use Rattle.pci_spec.specs.Bus.{secondary, is_root, are_side_by_side, IsNested}
-use Rattle.pci_spec.specs.Plan.{Pools, Class, class_of, same_class, size_of, sizes_in, window_size, limited, items_on, has_behind, greatest, greatest_of_roots}
+use Rattle.std.proofs.lemmas.List.Sorted.{sum_by-IsPermutation, IsPermutation-append_comm, IsPermutation-append_right}
+use Rattle.pci_spec.specs.System.{System, Function, IsSystem, Part, Rom, is_bridge, is_implemented}
+use Rattle.pci_spec.specs.Bus.{is_root, are_side_by_side, IsNested}
+use Rattle.pci_spec.specs.Plan.{Pools, Class, class_of, same_class, size_of, sizes_in, window_size, limited, items_on, has_behind}
 use Rattle.pci_spec.specs.Place.{Item, part_item, window_item, items_among, own_items, items_beside}
 use Rattle.pci_spec.specs.Planning.Room.{root_items}
 use Rattle.pci_spec.specs.Planning.Table.{need_behind}
-use Rattle.pci_spec.specs.Planning.BusNeeds.{window_need, added, added_on}
-use Rattle.pci_spec.proofs.Members.{in_nil, in_head, in_tail, in_cons_cases, pairs_head, pairs_tail}
+use Rattle.pci_spec.specs.Planning.BusNeeds.{added}
+use Rattle.pci_spec.proofs.Members.{pairs_head, pairs_tail}
 use Rattle.pci_spec.proofs.Rising.{pairs_of_rising}
 use Rattle.pci_spec.proofs.BusRanges.{root_means}
 use Rattle.pci_spec.proofs.Planning.Sums.{need_added}

@@ -1,17 +1,15 @@
 -- Where the first item of a bus stands: on a root in the pool, and else at its bridge's window.
-use Rattle.std.proofs.Common.{◌≡◌, ℕ, zero, suc, ◌+◌, ◌<◌, ◌≤◌, ◌⊎◌, inl, inr, List, [], ◌∷◌, refl, Bool, true, false, cond, ◌&&◌, ◌||◌, not, arith, sym, ◌∙◌, ap, subst, Option, None, Some}
-use Rattle.std.specs.Bool.{IsTrue, IsFalse, nat_le, nat_lt, ◌==◌, if◌then◌else◌}
-use Rattle.std.specs.List.{Contains, find, filter}
-use Rattle.std.proofs.lemmas.Bool.{cases_Bool, cases_eq, both_ways, and_parts, and_from, eqb-true, eq-eqb, ne_eqb, or_cases, ltb-true, false_from_ne_true}
-use Rattle.std.proofs.lemmas.List.Elements.{filter_agree}
+use Rattle.std.proofs.Common.{◌≡◌, ℕ, zero, suc, ◌<◌, ◌≤◌, inl, inr, List, [], ◌∷◌, refl, Bool, true, false, cond, ◌&&◌, arith, sym, ◌∙◌, ap, None, Some}
+use Rattle.std.specs.Bool.{◌==◌, if◌then◌else◌}
+use Rattle.std.specs.List.{Contains, find}
+use Rattle.std.proofs.lemmas.Bool.{cases_Bool, cases_eq, both_ways, and_parts, and_from, eqb-true, eq-eqb, false_from_ne_true}
 use Rattle.pci_spec.specs.Slot.{slot_number}
 use Rattle.pci_spec.specs.System.{System, Function, IsSystem, is_bridge}
-use Rattle.pci_spec.specs.Bus.{secondary, subordinate, is_behind, is_root, are_side_by_side, are_apart, IsNested}
+use Rattle.pci_spec.specs.Bus.{secondary, is_behind, is_root, IsNested}
 use Rattle.pci_spec.specs.Plan.{Pools, Class}
-use Rattle.pci_spec.specs.Place.{Item, window_item, items_beside, place_from, start_of, start_of_roots, start_within, behind_window, place_of}
-use Rattle.pci_spec.specs.Planning.Sorted.{all_items}
+use Rattle.pci_spec.specs.Place.{window_item, items_beside, place_from, start_of, start_of_roots, start_within, behind_window, place_of}
 use Rattle.pci_spec.proofs.Members.{in_nil, in_head, in_tail, in_cons_cases}
-use Rattle.pci_spec.proofs.BusRanges.{IsWithin, ordered, within_of_behind, behind_of_within, not_behind, apart_shares_none, behind_is_no_root}
+use Rattle.pci_spec.proofs.BusRanges.{IsWithin, ordered, within_of_behind, apart_shares_none, behind_is_no_root}
 use Rattle.pci_spec.proofs.Nesting.{one_function}
 use Rattle.pci_spec.proofs.Planning.Safe.{slots_of, order_of}
 
