@@ -20,6 +20,7 @@ pub mod NeededWindows
 pub mod Needs
 pub mod Order
 pub mod OtherRules
+pub mod OwnItems
 pub mod OwnMachine
 pub mod Placement
 pub mod Places

@@ -14,7 +14,7 @@ use Rattle.pci_spec.specs.Place.{Item, part_item, window_item, items_among, own_
 use Rattle.pci_spec.specs.Planning.Sorted.{all_items, StandsBefore}
 use Rattle.pci_spec.proofs.Members.{IsMade, in_nil, in_cons_cases, in_map_to, in_filter_to, in_range_to, pairs_nil, pairs_cons, pairs_append, pairs_map, pairs_filter, pairs_range, pairs_flat_map}
 use Rattle.pci_spec.proofs.Rising.{pairs_of_rising}
-use Rattle.pci_spec.proofs.Planning.Places.{in_cond, bar_parts, window_items, own_function}
+use Rattle.pci_spec.proofs.Planning.OwnItems.{bar_parts, window_items, bar_among, window_among, rom_among, own_function}
 
 -- ---- registers
 
@@ -49,20 +49,7 @@ window_below_rom c kind bridge =
 
 -- ---- the items of a function
 
--- an item of one of some parts
-record IsAmong (f : Function) (parts : List Part) (i : Item) : Type 0 where
-  part : Part
-  listed : Contains parts part
-  is : part_item f part ≡ i
-
 module _ (s : System) (pools : Pools) (c : Class) (f : Function) where
-  among : (parts : List Part) (i : Item) → Contains (items_among s pools c f parts) i → IsAmong f parts i
-  among parts i listed =
-      let made : IsMade (part_item f) (filter (λ part. same_class c (class_of s pools f part)) (filter (is_implemented f) parts)) i =
-      in_map_to (part_item f) (filter (λ part. same_class c (class_of s pools f part)) (filter (is_implemented f) parts)) i listed in
-      let kept = in_filter_to (λ part. same_class c (class_of s pools f part)) (filter (is_implemented f) parts) made.from made.has in
-      record { part = made.from; listed = (in_filter_to (is_implemented f) parts made.from kept.0).0; is = made.is }
-
   among_order : (parts : List Part) → AllPairs (λ p q. register_of f p < register_of f q) parts → AllPairs StandsBefore (items_among s pools c f parts)
   among_order parts rise =
       pairs_map StandsBefore (part_item f) (filter (λ part. same_class c (class_of s pools f part)) (filter (is_implemented f) parts))
@@ -75,31 +62,6 @@ module _ (s : System) (pools : Pools) (c : Class) (f : Function) where
   bars_rise : AllPairs (λ p q. register_of f p < register_of f q) (bar_parts f)
   bars_rise = pairs_map (λ p q. register_of f p < register_of f q) Bar (range_with_len 0 (bar_count (layout f.image)))
       (λ i j d lt within. let up = pairs_range 0 (bar_count (layout f.image)) i j d lt within in omega (arith, up))
-
-  bar_among : (i : Item) → Contains (items_among s pools c f (bar_parts f)) i → (n : ℕ) × (n < bar_count (layout f.image)) × (part_item f (Bar n) ≡ i)
-  bar_among i listed =
-      let is = among (bar_parts f) i listed in
-      let made : IsMade Bar (range_with_len 0 (bar_count (layout f.image))) is.part = in_map_to Bar (range_with_len 0 (bar_count (layout f.image))) is.part is.listed in
-      let range = in_range_to 0 (bar_count (layout f.image)) made.from made.has in
-      let less = range.1 in
-      (made.from, omega (arith, less), ap (part_item f) made.is ∙ is.is)
-
-  rom_among : (i : Item) → Contains (items_among s pools c f (Rom ∷ [])) i → part_item f Rom ≡ i
-  rom_among i listed =
-      let is = among (Rom ∷ []) i listed in
-      elim (in_cons_cases Rom [] is.part is.listed) [
-        | inl rom ↦ ap (part_item f) rom ∙ is.is
-        | inr none ↦ absurd (in_nil is.part none)
-      ]
-
-  window_among : (i : Item) → Contains (window_items s pools c f) i → (layout f.image ≡ 1) × (window_item s pools c f ≡ i)
-  window_among i listed =
-      let has = in_cond (is_bridge f && has_behind s pools c f) (window_item s pools c f ∷ []) i listed in
-      let bridge = (and_parts (is_bridge f) (has_behind s pools c f) has.0).0 in
-      elim (in_cons_cases (window_item s pools c f) [] i has.1) [
-        | inl is ↦ (eqb-true (layout f.image) 1 bridge, is)
-        | inr none ↦ absurd (in_nil i none)
-      ]
 
   single_order : {X : Type 0} (R : X → X → Type 0) (x : X) → AllPairs R (x ∷ [])
   single_order R x = pairs_cons R x [] (λ y listed. absurd (in_nil y listed)) (pairs_nil R)
@@ -120,13 +82,16 @@ module _ (s : System) (pools : Pools) (c : Class) (f : Function) where
       (cond_order (is_bridge f && has_behind s pools c f) (window_item s pools c f))
       (among_order (Rom ∷ []) (single_order (λ p q. register_of f p < register_of f q) Rom))
       (λ i j at_i at_j.
-      let window = window_among i at_i in
-      by_register (window_item s pools c f) (part_item f Rom) i j window.1 (rom_among j at_j) (inr (refl, window_below_rom c (layout f.image) window.0))))
+      let window = window_among s pools c f i at_i in
+      let rom = rom_among s pools c f j at_j in
+      by_register (window_item s pools c f) (part_item f Rom) i j window.is rom.is (inr (refl, window_below_rom c (layout f.image) (eqb-true (layout f.image) 1 window.bridge)))))
       (λ i j at_i at_j.
-      let bar = bar_among i at_i in
+      let bar = bar_among s pools c f i at_i in
       elim (Contains-append_cases (window_items s pools c f) (items_among s pools c f (Rom ∷ [])) j at_j) [
-        | inl window ↦ (let is = window_among j window in by_register (part_item f (Bar bar.0)) (window_item s pools c f) i j bar.2 is.1 (inr (refl, bar_below_window c (layout f.image) bar.0 is.0 bar.1)))
-        | inr rom ↦ by_register (part_item f (Bar bar.0)) (part_item f Rom) i j bar.2 (rom_among j rom) (inr (refl, bar_below_rom (layout f.image) bar.0 bar.1))
+        | inl at_window ↦
+            let window = window_among s pools c f j at_window in
+            by_register (part_item f (Bar bar.n)) (window_item s pools c f) i j bar.is window.is (inr (refl, bar_below_window c (layout f.image) bar.n (eqb-true (layout f.image) 1 window.bridge) bar.within))
+        | inr at_rom ↦ (let rom = rom_among s pools c f j at_rom in by_register (part_item f (Bar bar.n)) (part_item f Rom) i j bar.is rom.is (inr (refl, bar_below_rom (layout f.image) bar.n bar.within)))
       ])
 
 -- ---- all of them

@@ -16,7 +16,8 @@ use Rattle.pci_spec.proofs.BusRanges.{root_means}
 use Rattle.pci_spec.proofs.Planning.Needs.{own_sizes, window_over, items_by_behind}
 use Rattle.pci_spec.proofs.Planning.Safe.{slots_of, order_of}
 use Rattle.pci_spec.proofs.Planning.Starts.{start_of_root}
-use Rattle.pci_spec.proofs.Planning.Places.{in_cond, beside_root}
+use Rattle.pci_spec.proofs.Planning.OwnItems.{in_cond}
+use Rattle.pci_spec.proofs.Planning.Places.{beside_root}
 use Rattle.pci_spec.proofs.Planning.Sizes.{item_sizes, window_sizes, own_permutes}
 
 -- ---- the greatest of some numbers

@@ -15,47 +15,10 @@ use Rattle.pci_spec.specs.Plan.{Pools, Class, pool_of, greatest, raised_to, clas
 use Rattle.pci_spec.specs.Place.{Item, part_item, window_item, items_among, own_items, items_beside, comes_before, place_from, start_of, place_of}
 use Rattle.pci_spec.specs.Planning.Sorted.{all_items, group_of, item_group, Precedes, IsInOrder, group_sum}
 use Rattle.pci_spec.proofs.Members.{IsMade, IsInPiece, in_nil, in_head, in_tail, in_cons_cases, in_map_to, in_flat_map_to}
+use Rattle.pci_spec.proofs.Planning.OwnItems.{own_function, item_function}
 use Rattle.pci_spec.proofs.Planning.Safe.{order_of}
 use Rattle.pci_spec.proofs.Planning.Starts.{start_of_root}
 use Rattle.pci_spec.proofs.Planning.Order.{before_itself, before_once, sum_filter, sum_front}
-
--- ---- items of a function
-
-pub in_cond : {X : Type 0} (b : Bool) (xs : List X) (y : X) → Contains (cond b xs []) y → (b ≡ true) × Contains xs y
-in_cond true xs y has = (refl, has)
-in_cond false xs y has = absurd (in_nil y has)
-
-among_own : (s : System) (pools : Pools) (c : Class) (f : Function) (parts : List Part) (i : Item) → Contains (items_among s pools c f parts) i → i.function ≡ f
-among_own s pools c f parts i listed =
-    let made : IsMade (part_item f) (filter (λ part. same_class c (class_of s pools f part)) (filter (is_implemented f) parts)) i =
-    in_map_to (part_item f) (filter (λ part. same_class c (class_of s pools f part)) (filter (is_implemented f) parts)) i listed in
-    sym (ap (λ (j : Item). j.function) made.is)
-
-abbrev pub window_items : System → Pools → Class → Function → List Item
-window_items s pools c f = if is_bridge f && has_behind s pools c f then window_item s pools c f ∷ [] else []
-
-abbrev pub bar_parts : Function → List Part
-bar_parts f = map Bar (range_with_len 0 (bar_count (layout f.image)))
-
-pub own_function : (s : System) (pools : Pools) (c : Class) (f : Function) (i : Item) → Contains (own_items s pools c f) i → i.function ≡ f
-own_function s pools c f i listed =
-    elim (Contains-append_cases (items_among s pools c f (bar_parts f)) (window_items s pools c f ++ items_among s pools c f (Rom ∷ [])) i listed) [
-      | inl bar ↦ among_own s pools c f (bar_parts f) i bar
-      | inr more ↦ elim (Contains-append_cases (window_items s pools c f) (items_among s pools c f (Rom ∷ [])) i more) [
-        | inl window ↦
-            let has = in_cond (is_bridge f && has_behind s pools c f) (window_item s pools c f ∷ []) i window in
-            elim (in_cons_cases (window_item s pools c f) [] i has.1) [
-              | inl is ↦ sym (ap (λ (j : Item). j.function) is)
-              | inr none ↦ absurd (in_nil i none)
-            ]
-        | inr rom ↦ among_own s pools c f (Rom ∷ []) i rom
-      ]
-    ]
-
-pub item_function : (s : System) (pools : Pools) (c : Class) (i : Item) → Contains (all_items s pools c) i → Contains s i.function
-item_function s pools c i listed =
-    let piece : IsInPiece (own_items s pools c) s i = in_flat_map_to (own_items s pools c) s i listed in
-    subst (Contains s) (sym (own_function s pools c piece.of i piece.piece)) piece.has
 
 -- ---- what is beside
 
@@ -256,7 +219,7 @@ module _ (roots : List ℕ) (s : System) (nested : IsNested roots s) where
 
     -- ---- the two laws of a walk along the list
 
-    groups_rise : (j k : ℕ) (d e : Item) → j ≤ k → k < length sorted → item_group roots (get_or sorted j e) ≤ item_group roots (get_or sorted k d)
+    pub groups_rise : (j k : ℕ) (d e : Item) → j ≤ k → k < length sorted → item_group roots (get_or sorted j e) ≤ item_group roots (get_or sorted k d)
     groups_rise j k d e before l = elim (cases_eq j k) [
       | inl here ↦ let is = ap (item_group roots) (get_or_default sorted k d e l ∙ ap (λ n. get_or sorted n e) (sym here)) in omega (arith, is)
       | inr other ↦

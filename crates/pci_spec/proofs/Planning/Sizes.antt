@@ -21,7 +21,8 @@ use Rattle.pci_spec.proofs.BusRanges.{root_means}
 use Rattle.pci_spec.proofs.Planning.Sums.{need_added}
 use Rattle.pci_spec.proofs.Planning.Behind.{behind_by_test}
 use Rattle.pci_spec.proofs.Planning.Order.{sum_same}
-use Rattle.pci_spec.proofs.Planning.Places.{bar_parts, window_items, beside_root}
+use Rattle.pci_spec.proofs.Planning.OwnItems.{bar_parts, window_items}
+use Rattle.pci_spec.proofs.Planning.Places.{beside_root}
 
 -- ---- lists
 
