@@ -12,6 +12,7 @@ pub mod Faults
 pub mod Fit
 pub mod Greatest
 pub mod Home
+pub mod Insertion
 pub mod Kept
 pub mod LaidOut
 pub mod Moved
