@@ -23,6 +23,7 @@ pub mod Order
 pub mod OtherRules
 pub mod OwnItems
 pub mod OwnMachine
+pub mod PlacedItems
 pub mod Placement
 pub mod Places
 pub mod Planned
