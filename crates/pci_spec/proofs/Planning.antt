@@ -26,6 +26,7 @@ pub mod OwnMachine
 pub mod PlacedItems
 pub mod Placement
 pub mod Places
+pub mod Placings
 pub mod Planned
 pub mod Profile
 pub mod Reached

@@ -45,7 +45,7 @@ same_class_is PrefetchClass IoClass h = absurd (both_ways false refl h)
 same_class_is PrefetchClass MemoryClass h = absurd (both_ways false refl h)
 same_class_is PrefetchClass PrefetchClass h = refl
 
-class_through : (c : Class) → window_class (window_of c) ≡ c
+pub class_through : (c : Class) → window_class (window_of c) ≡ c
 class_through IoClass = refl
 class_through MemoryClass = refl
 class_through PrefetchClass = refl
@@ -146,7 +146,7 @@ module _ (roots : List ℕ) (s : System) (pools : Pools) (c : Class) (system : I
   sorted_to bus i has =
       beside_to bus i (Contains-permutation (sorted_on bus) (items_beside roots s pools c bus) i (IsPermutation-sym (items_beside roots s pools c bus) (sorted_on bus) (ordered_permutes (items_beside roots s pools c bus))) has)
 
-  sorted_from : (bus : ℕ) (f : Function) (p : Part) → Contains s f → are_side_by_side roots bus f.slot.bus ≡ true → is_placed s pools c f p ≡ true → Contains (sorted_on bus) (item_of s pools f p)
+  pub sorted_from : (bus : ℕ) (f : Function) (p : Part) → Contains s f → are_side_by_side roots bus f.slot.bus ≡ true → is_placed s pools c f p ≡ true → Contains (sorted_on bus) (item_of s pools f p)
   sorted_from bus f p listed beside placed =
       Contains-permutation (items_beside roots s pools c bus) (sorted_on bus) (item_of s pools f p) (ordered_permutes (items_beside roots s pools c bus))
       (beside_from bus f (item_of s pools f p) listed beside (part_owned f p listed placed))
