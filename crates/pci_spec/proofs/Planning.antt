@@ -1,3 +1,4 @@
+pub mod Above
 pub mod AllItems
 pub mod Asleep
 pub mod BarFaults

@@ -1,10 +1,8 @@
 -- The items that have places are the parts that are to be placed, and on each bus they are placed largest first.
-use Rattle.std.proofs.Common.{◌≡◌, ℕ, zero, suc, ◌+◌, ◌%◌, ◌^◌, ◌<◌, ◌≤◌, ◌⊎◌, inl, inr, List, [], ◌∷◌, ◌++◌, refl, Bool, true, false, cond, ◌&&◌, ◌||◌, min, arith, sym, ◌∙◌, ap, subst, map, length, get_or}
-use Rattle.std.specs.Bool.{IsTrue, nat_lt, ◌==◌, if◌then◌else◌}
-use Rattle.std.specs.List.{Contains, AllPairs, filter, flat_map, sum}
-use Rattle.std.specs.List.Sorted.{IsPermutation}
-use Rattle.std.proofs.lemmas.Bool.{both_ways, and_parts, or_cases, ltb-true, lt-ltb, eqb-true, eq-eqb}
-use Rattle.std.proofs.lemmas.List.{get_or-map, length-map}
+use Rattle.std.proofs.Common.{◌≡◌, ℕ, ◌^◌, ◌<◌, ◌≤◌, inl, inr, List, [], refl, true, false, ◌&&◌, arith, sym, ◌∙◌, ap, subst, length, get_or}
+use Rattle.std.specs.Bool.{nat_lt, ◌==◌, if◌then◌else◌}
+use Rattle.std.specs.List.{Contains, AllPairs, sum}
+use Rattle.std.proofs.lemmas.Bool.{both_ways, and_parts, or_cases, ltb-true, eqb-true}
 use Rattle.std.proofs.lemmas.List.Elements.{Contains-get_or}
 use Rattle.std.proofs.lemmas.List.Sorted.{IsPermutation-sym, IsPermutation-map, Contains-permutation, sum_by-IsPermutation}
 use Rattle.pci_spec.specs.Number.{lowest_one}
@@ -14,23 +12,23 @@ use Rattle.pci_spec.specs.Rom.{rom_at}
 use Rattle.pci_spec.specs.Decoded.{has_bar}
 use Rattle.pci_spec.specs.Window.{WindowKind, IoWindow, MemoryWindow, PrefetchWindow}
 use Rattle.pci_spec.specs.System.{System, Function, IsSystem, Part, Bar, Rom, Window, is_bridge}
-use Rattle.pci_spec.specs.Bus.{secondary, is_root, are_side_by_side, IsNested}
-use Rattle.pci_spec.specs.Plan.{Pools, Class, IoClass, MemoryClass, PrefetchClass, class_of, window_class, window_of, same_class, window_size, limited, has_behind}
-use Rattle.pci_spec.specs.Place.{Item, part_item, window_item, own_items, items_beside, place_from, start_of, place_of}
+use Rattle.pci_spec.specs.Bus.{is_root, are_side_by_side, IsNested}
+use Rattle.pci_spec.specs.Plan.{Pools, Class, IoClass, MemoryClass, PrefetchClass, class_of, window_class, window_of, same_class, window_size, limited}
+use Rattle.pci_spec.specs.Place.{Item, window_item, own_items, items_beside, place_from, start_of, place_of}
 use Rattle.pci_spec.specs.Planning.Placing.{IsPower, IsFalling, starts}
 use Rattle.pci_spec.specs.Planning.Layout.{is_item}
-use Rattle.pci_spec.specs.Planning.Numbers.{item_of, place_at}
-use Rattle.pci_spec.specs.Planning.Table.{Item as PlacedPart, need_behind, is_placed, size_in, size_at, IsPlacedOn}
+use Rattle.pci_spec.specs.Planning.Numbers.{item_of}
+use Rattle.pci_spec.specs.Planning.Table.{Item as PlacedPart, need_behind, is_placed, size_in}
 use Rattle.pci_spec.specs.Planning.Sorted.{all_items, StandsBefore}
-use Rattle.pci_spec.proofs.Members.{IsMade, IsInPiece, in_nil, in_head, in_tail, in_map_to, in_flat_map_to, in_flat_map_from, pairs_map, pairs_filter}
+use Rattle.pci_spec.proofs.Members.{IsMade, IsInPiece, in_map_to, in_flat_map_to, in_flat_map_from, pairs_map, pairs_filter}
 use Rattle.pci_spec.proofs.Planning.Behind.{behind_by_test}
 use Rattle.pci_spec.proofs.Planning.Placement.{window_least}
 use Rattle.pci_spec.proofs.Planning.Order.{before_falls, place_by_starts}
-use Rattle.pci_spec.proofs.Planning.OwnItems.{OwnCases, of_bar, of_window, of_rom, in_cond, in_cond_from, own_cases, own_function, bar_owned, rom_owned, window_owned}
+use Rattle.pci_spec.proofs.Planning.OwnItems.{of_bar, of_window, of_rom, in_cond, in_cond_from, own_cases, own_function, bar_owned, rom_owned, window_owned}
 use Rattle.pci_spec.proofs.Planning.Places.{beside_filter, same_on_roots, same_start}
 use Rattle.pci_spec.proofs.Planning.AllItems.{all_order}
 use Rattle.pci_spec.proofs.Planning.Sizes.{item_sizes}
-use Rattle.pci_spec.proofs.Planning.Insertion.{ordered, ComesBefore, ordered_permutes, ordered_pairs}
+use Rattle.pci_spec.proofs.Planning.Insertion.{ordered, ordered_permutes, ordered_pairs}
 
 -- ---- classes
 

@@ -1,20 +1,20 @@
 -- The places of a class are a table: largest first from the start of each bus.
-use Rattle.std.proofs.Common.{◌≡◌, ℕ, zero, suc, ◌+◌, ◌-◌, ◌%◌, ◌^◌, ◌<◌, ◌≤◌, ◌⊎◌, inl, inr, List, [], ◌∷◌, ◌++◌, refl, Bool, true, false, cond, ◌&&◌, min, arith, sym, ◌∙◌, ap, subst, map, length, get_or}
-use Rattle.std.specs.Bool.{IsTrue, nat_lt, ◌==◌, if◌then◌else◌}
-use Rattle.std.specs.List.{Contains, flat_map, fold, sum}
-use Rattle.std.specs.List.Sorted.{IsPermutation, IsStrictlyIncreasing}
-use Rattle.std.proofs.lemmas.Bool.{cases_Bool, cases_lt, and_from, or_left, or_right, eq-eqb, lt-ltb}
-use Rattle.std.proofs.lemmas.List.{get_or-map, length-map, get_or_default}
+use Rattle.std.proofs.Common.{◌≡◌, ℕ, zero, suc, ◌%◌, ◌^◌, ◌<◌, ◌≤◌, inl, inr, List, [], ◌∷◌, refl, true, false, ◌&&◌, arith, sym, ◌∙◌, ap, subst, map, length, get_or}
+use Rattle.std.specs.Bool.{nat_lt, ◌==◌}
+use Rattle.std.specs.List.{Contains, sum}
+use Rattle.std.specs.List.Sorted.{IsStrictlyIncreasing}
+use Rattle.std.proofs.lemmas.Bool.{cases_Bool, cases_lt, and_from, or_left, eq-eqb, lt-ltb}
+use Rattle.std.proofs.lemmas.List.{get_or-map, length-map}
 use Rattle.std.proofs.lemmas.List.Elements.{Contains-get_or}
 use Rattle.std.proofs.lemmas.List.Sorted.{IsPermutation-sym, IsPermutation-map, Contains-permutation}
 use Rattle.pci_spec.specs.System.{System, Function, IsSystem, Part, Window, is_bridge}
 use Rattle.pci_spec.specs.Bus.{secondary, is_root, are_side_by_side, IsNested}
-use Rattle.pci_spec.specs.Plan.{Pools, Class, IoClass, MemoryClass, PrefetchClass, same_class, pool_of, window_of, window_class, class_of, window_size, limited, items_on, fits, greatest, raised_to}
-use Rattle.pci_spec.specs.Place.{Item, window_item, items_beside, start_of, start_of_roots, place_of}
-use Rattle.pci_spec.specs.Planning.Placing.{IsPower, IsFalling, starts, IsPlacedFrom}
+use Rattle.pci_spec.specs.Plan.{Pools, Class, IoClass, MemoryClass, PrefetchClass, same_class, pool_of, window_of, window_class, limited, fits, greatest, raised_to}
+use Rattle.pci_spec.specs.Place.{Item, window_item, items_beside, start_of, place_of}
+use Rattle.pci_spec.specs.Planning.Placing.{IsFalling, starts}
 use Rattle.pci_spec.specs.Planning.Room.{root_items}
 use Rattle.pci_spec.specs.Planning.Numbers.{item_of, place_at}
-use Rattle.pci_spec.specs.Planning.Table.{Item as PlacedPart, need_behind, is_placed, size_in, size_at, IsPlacedOn, IsPlacing, IsTable}
+use Rattle.pci_spec.specs.Planning.Table.{Item as PlacedPart, need_behind, is_placed, size_at, IsPlacedOn, IsPlacing, IsTable}
 use Rattle.pci_spec.proofs.Members.{in_nil, in_head, in_tail}
 use Rattle.pci_spec.proofs.BusRanges.{ordered, behind_is_no_root, root_means}
 use Rattle.pci_spec.proofs.Planning.Safe.{order_of}
@@ -27,7 +27,7 @@ use Rattle.pci_spec.proofs.Planning.Sizes.{item_sizes, sum_on_bus, sum_on_roots}
 use Rattle.pci_spec.proofs.Planning.Greatest.{greatest_same, start_by_greatest}
 use Rattle.pci_spec.proofs.Planning.Places.{beside_root}
 use Rattle.pci_spec.proofs.Planning.Insertion.{ordered_permutes}
-use Rattle.pci_spec.proofs.Planning.PlacedItems.{class_through, placed_part, IsOfPart, part_placed, IsBeside, sorted_on, sorted_to, sorted_from, place_in_order, sorted_falling, sorted_sum}
+use Rattle.pci_spec.proofs.Planning.PlacedItems.{class_through, placed_part, part_placed, sorted_on, sorted_to, sorted_from, place_in_order, sorted_falling, sorted_sum}
 
 map_same : {X Y Z : Type 0} (f : X → Y) (g : Y → Z) (h : X → Z) (xs : List X) → ((x : X) → Contains xs x → g (f x) ≡ h x) → map g (map f xs) ≡ map h xs
 map_same f g h [] same = refl
