@@ -1,3 +1,5 @@
+pub mod Above
+pub mod AllItems
 pub mod Asleep
 pub mod BarFaults
 pub mod BarFits
@@ -9,7 +11,9 @@ pub mod Classes
 pub mod EachChanges
 pub mod Faults
 pub mod Fit
+pub mod Greatest
 pub mod Home
+pub mod Insertion
 pub mod Kept
 pub mod LaidOut
 pub mod Moved
@@ -17,10 +21,15 @@ pub mod Needed
 pub mod NeededWindows
 pub mod Needs
 pub mod OnMachine
+pub mod Order
 pub mod OtherRules
+pub mod OwnItems
 pub mod OwnMachine
+pub mod PlacedItems
 pub mod Placement
 pub mod PlanStands
+pub mod Places
+pub mod Placings
 pub mod Planned
 pub mod Profile
 pub mod Reached
@@ -36,8 +45,11 @@ pub mod Safe
 pub mod Settled
 pub mod Shows
 pub mod Single
+pub mod Sorting
 pub mod Staging
+pub mod Starts
 pub mod Stays
+pub mod Sizes
 pub mod Stop
 pub mod Stops
 pub mod Sums
