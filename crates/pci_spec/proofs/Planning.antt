@@ -8,6 +8,7 @@ pub mod Builds
 pub mod Classes
 pub mod EachChanges
 pub mod Faults
+pub mod Filled
 pub mod Fit
 pub mod Home
 pub mod Kept
