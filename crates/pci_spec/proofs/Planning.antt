@@ -11,6 +11,7 @@ pub mod Faults
 pub mod Filled
 pub mod Fit
 pub mod Home
+pub mod InPool
 pub mod Kept
 pub mod LaidOut
 pub mod Moved
@@ -22,6 +23,7 @@ pub mod OwnMachine
 pub mod Placement
 pub mod Planned
 pub mod Profile
+pub mod Reach
 pub mod Reached
 pub mod Registers
 pub mod Room
