@@ -1,9 +1,12 @@
+pub mod AddressBits
 pub mod Asleep
 pub mod BarFaults
 pub mod BarFits
+pub mod BarNumbers
 pub mod BarValues
 pub mod Bars
 pub mod Behind
+pub mod BitsFit
 pub mod Builds
 pub mod Classes
 pub mod EachChanges
@@ -26,6 +29,7 @@ pub mod Profile
 pub mod Reach
 pub mod Reached
 pub mod Registers
+pub mod RomFits
 pub mod Room
 pub mod Rooms
 pub mod Rows
