@@ -46,4 +46,5 @@ pub mod Tables
 pub mod ValueFits
 pub mod Whole
 pub mod WorkedRows
+pub mod WindowFits
 pub mod Writes
