@@ -9,6 +9,7 @@ pub mod Behind
 pub mod BitsFit
 pub mod Builds
 pub mod Classes
+pub mod CommandFits
 pub mod EachChanges
 pub mod Faults
 pub mod Filled
