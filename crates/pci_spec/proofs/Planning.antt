@@ -22,6 +22,8 @@ pub mod Moved
 pub mod Needed
 pub mod NeededWindows
 pub mod Needs
+pub mod Numbers
+pub mod NumbersFit
 pub mod OtherRules
 pub mod OwnMachine
 pub mod Placement
