@@ -38,6 +38,8 @@ pub mod Rooms
 pub mod Rows
 pub mod Safe
 pub mod Settled
+pub mod Shown
+pub mod ShownNumbers
 pub mod Shows
 pub mod Single
 pub mod Staging

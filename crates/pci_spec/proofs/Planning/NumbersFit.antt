@@ -94,7 +94,7 @@ module _ (roots : List ℕ) (s : System) (pools : Pools) (p : IsPlannable roots 
       (rom_number_fits f is.image (place_at roots s pools f Rom) d.rom rom_room)
       (let below = rom_number_small f is.image (place_at roots s pools f Rom) d.rom rom_room in omega (arith, below))
 
-  parts_fit : is_bridge f ≡ true → (kind : WindowKind) → PartsFit f kind (bounds roots s pools f kind)
+  pub parts_fit : is_bridge f ≡ true → (kind : WindowKind) → PartsFit f kind (bounds roots s pools f kind)
   parts_fit bridge kind =
       window_fits f bridge is_function.image kind (has_behind s pools (window_class kind) f) (place_at roots s pools f (Window kind))
       (window_size (window_class kind) (need_of s pools (window_class kind) (secondary f))) (is_decodable.windows kind (eqb-true (layout f.image) 1 bridge)) (window_room kind bridge)

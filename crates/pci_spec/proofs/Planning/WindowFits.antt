@@ -278,7 +278,7 @@ module _ (f : Function) (bridge : is_bridge f ≡ true) where
 
   -- ---- the window that is there has the low nibbles of its read back
 
-  few_nibbles : (kind : WindowKind) → nibble_of kind f ≤ 1
+  pub few_nibbles : (kind : WindowKind) → nibble_of kind f ≤ 1
   few_nibbles kind = elim (cases_Bool (is_wide_window kind f.probe)) [
     | inl wide ↦ (let e : nibble_of kind f ≡ 1 = ap (λ t. cond t 1 0) wide in omega (arith, e))
     | inr narrow ↦ (let e : nibble_of kind f ≡ 0 = ap (λ t. cond t 1 0) narrow in omega (arith, e))
