@@ -40,6 +40,7 @@ pub mod Safe
 pub mod Settled
 pub mod Shown
 pub mod ShownNumbers
+pub mod ShownSystem
 pub mod Shows
 pub mod Single
 pub mod Staging

@@ -128,3 +128,43 @@ module _ (roots : List ℕ) (s : System) (pools : Pools) (p : IsPlannable roots 
     bounds_are IoWindow = io_shown
     bounds_are MemoryWindow = memory_shown
     bounds_are PrefetchWindow = prefetch_shown
+
+    -- the size of the window that what is behind the bridge needs
+    abbrev size : WindowKind → ℕ
+    size kind = window_size (window_class kind) (need_of s pools (window_class kind) (secondary f))
+
+    pub opened_window : (kind : WindowKind) → has_window kind f.probe ≡ true → has_behind s pools (window_class kind) f ≡ true
+        → (range_of g (Window kind) ≡ record { first = place_at roots s pools f (Window kind); last = place_at roots s pools f (Window kind) + (size kind - 1) }) × (is_closed kind g.image ≡ false)
+    opened_window kind there has =
+        let room = window_room roots s pools p tables f listed kind bridge has in
+        let place = place_at roots s pools f (Window kind) in
+        window_shows g kind (nibble_of kind f) place (size kind) (few_nibbles f bridge kind) room.some room.aligned room.whole
+        (bounds_are kind ∙ by_open f bridge kind (has_behind s pools (window_class kind) f) place (size kind) there has)
+
+    pub closed_window : (kind : WindowKind) → has_window kind f.probe ≡ true → has_behind s pools (window_class kind) f ≡ false → bounds_at kind g.image ≡ closed_bounds kind (nibble_of kind f)
+    closed_window kind there none =
+        bounds_are kind ∙ by_closed f bridge kind (has_behind s pools (window_class kind) f) (place_at roots s pools f (Window kind)) (size kind) there none
+
+    closed_is : (kind : WindowKind) → has_window kind f.probe ≡ true → not (is_closed kind g.image) ≡ has_behind s pools (window_class kind) f
+    closed_is kind there = elim (cases_Bool (has_behind s pools (window_class kind) f)) [
+      | inl has ↦ ap not (opened_window kind there has).1 ∙ sym has
+      | inr none ↦ ap not (closed_shows kind g.image (nibble_of kind f) (few_nibbles f bridge kind) (closed_window kind there none)) ∙ sym none
+    ]
+
+    open_on_bridge : (kind : WindowKind) → is_open g kind ≡ (has_window kind f.probe && has_behind s pools (window_class kind) f)
+    open_on_bridge kind =
+        ap (λ b. b && has_window kind g.probe && not (is_closed kind g.image)) (bridge_same f g planned_is_moved image_is ∙ bridge)
+        ∙ ap (λ probe. has_window kind probe && not (is_closed kind g.image)) filled.probe
+        ∙ elim (cases_Bool (has_window kind f.probe)) [
+          | inl there ↦ ap (λ b. has_window kind f.probe && b) (closed_is kind there)
+          | inr none ↦ ap (λ b. b && not (is_closed kind g.image)) none ∙ sym (ap (λ b. b && has_behind s pools (window_class kind) f) none)
+        ]
+
+  -- a window is open exactly where it is there and something is behind it
+  pub open_is : (kind : WindowKind) → is_open g kind ≡ (is_bridge f && has_window kind f.probe && has_behind s pools (window_class kind) f)
+  open_is kind = elim (cases_Bool (is_bridge f)) [
+    | inl bridge ↦ open_on_bridge bridge kind ∙ sym (ap (λ b. b && has_window kind f.probe && has_behind s pools (window_class kind) f) bridge)
+    | inr device ↦
+        ap (λ b. b && has_window kind g.probe && not (is_closed kind g.image)) (bridge_same f g planned_is_moved image_is ∙ device)
+        ∙ sym (ap (λ b. b && has_window kind f.probe && has_behind s pools (window_class kind) f) device)
+  ]
