@@ -37,6 +37,8 @@ pub mod Room
 pub mod Rooms
 pub mod Rows
 pub mod Safe
+pub mod SameNeeds
+pub mod SamePlaces
 pub mod Settled
 pub mod Shown
 pub mod ShownNumbers

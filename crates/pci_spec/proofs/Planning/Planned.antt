@@ -33,7 +33,7 @@ any_same p q (x ∷ xs) same = ap (λ b. b || list_any p xs) (same x) ∙ ap (λ
 filter_step : {X : Type 0} (b c : Bool) (x : X) (xs ys : List X) → b ≡ c → xs ≡ ys → cond b (x ∷ xs) xs ≡ cond c (x ∷ ys) ys
 filter_step b c x xs ys e f = ap (λ t. cond t (x ∷ xs) xs) e ∙ ap (λ zs. cond c (x ∷ zs) zs) f
 
-filter_same : {X : Type 0} (p q : X → Bool) (xs : List X) → ((x : X) → p x ≡ q x) → filter p xs ≡ filter q xs
+pub filter_same : {X : Type 0} (p q : X → Bool) (xs : List X) → ((x : X) → p x ≡ q x) → filter p xs ≡ filter q xs
 filter_same p q [] same = refl
 filter_same p q (x ∷ xs) same = filter_step (p x) (q x) x (filter p xs) (filter q xs) (same x) (filter_same p q xs same)
 
