@@ -13,6 +13,7 @@ pub mod CommandFits
 pub mod EachChanges
 pub mod Faults
 pub mod Filled
+pub mod Final
 pub mod Fit
 pub mod Home
 pub mod InPool

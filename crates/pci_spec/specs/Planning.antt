@@ -6,6 +6,7 @@ pub mod Laws
 pub mod Placing
 pub mod Plannable
 pub mod PlanWrites
+pub mod Promise
 pub mod Ranges
 pub mod Room
 pub mod Safety
