@@ -54,6 +54,7 @@ pub mod Sums
 pub mod Tables
 pub mod ValueFits
 pub mod Whole
+pub mod WorkedNumbers
 pub mod WorkedRows
 pub mod WindowFits
 pub mod Writes

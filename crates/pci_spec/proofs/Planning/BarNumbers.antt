@@ -1,5 +1,5 @@
 -- The numbers that place BARs fit their registers, and make the whole BAR again.
-use Rattle.std.proofs.Common.{◌≡◌, ℕ, zero, suc, ◌+◌, ◌-◌, ◌*◌, ◌/◌, ◌%◌, ◌^◌, ◌<◌, ◌≤◌, inl, inr, List, refl, Bool, true, false, cond, ◌&&◌, not, None, arith, sym, ◌∙◌, ap, subst}
+use Rattle.std.proofs.Common.{◌≡◌, ℕ, zero, suc, ◌+◌, ◌*◌, ◌/◌, ◌%◌, ◌^◌, ◌<◌, ◌≤◌, inl, inr, List, refl, Bool, true, false, cond, ◌&&◌, not, None, arith, sym, ◌∙◌, ap, subst}
 use Rattle.std.specs.Bool.{if◌then◌else◌, ◌==◌}
 use Rattle.std.specs.Int.{bit_at}
 use Rattle.std.proofs.lemmas.Bool.{and_parts, and_from, cases_Bool, cases_lt, both_ways, not-false, not_from_false, eq-eqb, ne_eqb}
@@ -11,6 +11,7 @@ use Rattle.pci_spec.specs.Bar.{BarKind, IoBar, Memory32, Memory64, Reserved, bar
 use Rattle.pci_spec.specs.Decoded.{bar_size, has_bar}
 use Rattle.pci_spec.specs.System.{Function}
 use Rattle.pci_spec.specs.Machine.{bar_field}
+use Rattle.pci_spec.proofs.BarLaws.{kind_by}
 use Rattle.pci_spec.proofs.Ranges.{first_bit-of_register, lawful_bar}
 use Rattle.pci_spec.proofs.Ranges as ranges
 use Rattle.pci_spec.specs.Planning.Showing.{first_bit, reach_of, bar_value}
@@ -35,9 +36,6 @@ encodings_by false = refl
 
 encoding_bits : (mask : ℕ) → encodings mask ≡ 2 ^ first_bit (bar_kind mask)
 encoding_bits mask = encodings_by (is_io mask) ∙ ap (λ k. 2 ^ k) (sym (same_first_bit (bar_kind mask) ∙ first_bit-of_register mask))
-
-abbrev kind_by : Bool → Bool → Bool → BarKind
-kind_by io wide narrow = if io then IoBar else if wide then Memory64 else if narrow then Memory32 else Reserved
 
 reach_by : (io wide narrow : Bool) → (not io && wide) ≡ false → reach_of (kind_by io wide narrow) ≤ 32
 reach_by true wide narrow h = omega arith
@@ -66,9 +64,6 @@ wide_has_bar probe n starts wide = and_from (starts_bar probe n) (not (bar_at pr
 
 module _ (f : Function) (is : IsImage f.image) (is_probe : IsImage f.probe) (place : ℕ → ℕ) (fine : (n : ℕ) → n < bar_count (layout f.image) → bar_fault f.image f.probe n ≡ None)
     (at : (n : ℕ) → n < bar_count (layout f.image) → has_bar f.probe n ≡ true → (place n % bar_size f.probe n ≡ 0) × (place n + bar_size f.probe n ≤ 2 ^ reach_of (bar_kind (bar_at f.probe n)))) where
-  value_of : ℕ → ℕ
-  value_of n = bar_value f.image f.probe n (place n)
-
   lower_there : (n : ℕ) → has_bar f.probe n ≡ true → lower_by f place n ≡ bar_value f.image f.probe n (place n) % 2 ^ 32
   lower_there n there = ap (λ t. cond t (bar_value f.image f.probe n (place n) % 2 ^ 32) (bar_at f.image n)) there
 

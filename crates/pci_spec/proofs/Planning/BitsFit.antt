@@ -1,6 +1,6 @@
 -- Numbers that have the old bits of a register where it has no address bit.
-use Rattle.std.proofs.Common.{◌≡◌, ℕ, ◌+◌, ◌-◌, ◌*◌, ◌%◌, ◌^◌, ◌<◌, ◌≤◌, ◌⊎◌, inl, inr, refl, true, false, arith, sym, ◌∙◌, ap, subst}
-use Rattle.std.specs.Bool.{IsFalse, ◌==◌}
+use Rattle.std.proofs.Common.{◌≡◌, ℕ, ◌+◌, ◌-◌, ◌*◌, ◌%◌, ◌^◌, ◌<◌, ◌⊎◌, inl, inr, false, arith, sym, ◌∙◌, ap}
+use Rattle.std.specs.Bool.{IsFalse}
 use Rattle.std.specs.List.{Contains}
 use Rattle.std.specs.Int.{bit_at}
 use Rattle.std.proofs.lemmas.Bool.{cases_lt, both_ways, eq-eqb}
@@ -9,11 +9,10 @@ use Rattle.pci_spec.specs.Number.{byte_at, number_at, has_bit, IsImage}
 use Rattle.pci_spec.specs.Header.{layout, address_registers}
 use Rattle.pci_spec.specs.Rom.{rom_at}
 use Rattle.pci_spec.specs.System.{Function, is_bridge}
-use Rattle.pci_spec.specs.Machine.{in_fields, address_fields, without_low}
-use Rattle.pci_spec.proofs.Bits.{bit_at-mod, bit_at-without_low}
+use Rattle.pci_spec.specs.Machine.{in_fields, address_fields}
+use Rattle.pci_spec.proofs.Bits.{bit_at-mod}
 use Rattle.pci_spec.specs.Planning.Fitting.{FitsByNumber}
 use Rattle.pci_spec.specs.Planning.Building.{write_of}
-use Rattle.pci_spec.proofs.Planning.Moved.{kind_fields}
 use Rattle.pci_spec.proofs.Planning.Registers.{register_bit}
 use Rattle.pci_spec.proofs.Planning.Staging.{is_register}
 use Rattle.pci_spec.proofs.Planning.AddressBits.{IsField}

@@ -1,32 +1,30 @@
 -- The system with the planned numbers is planned and sound, and everything stands at its place.
-use Rattle.std.proofs.Common.{◌≡◌, ℕ, zero, suc, ◌+◌, ◌-◌, ◌*◌, ◌<◌, ◌≤◌, inl, inr, List, [], ◌∷◌, ◌++◌, refl, Bool, true, false, cond, ◌&&◌, Option, None, Some, arith, sym, ◌∙◌, ap, subst, map}
-use Rattle.std.specs.Bool.{nat_lt, if◌then◌else◌, ◌==◌}
+use Rattle.std.proofs.Common.{◌≡◌, ℕ, ◌<◌, inl, inr, List, [], ◌∷◌, ◌++◌, refl, Bool, true, false, None, Some, arith, sym, ◌∙◌, ap, subst, map}
+use Rattle.std.specs.Bool.{if◌then◌else◌}
 use Rattle.std.specs.List.{Contains, AllZip, range_with_len}
-use Rattle.std.proofs.lemmas.Bool.{and_parts, and_from, both_ways, lt-ltb, ltb-true}
+use Rattle.std.proofs.lemmas.Bool.{both_ways}
 use Rattle.std.proofs.lemmas.List.Elements.{Contains-append_cases}
 use Rattle.pci_spec.specs.Header.{layout, bar_count}
-use Rattle.pci_spec.specs.Rom.{has_rom}
 use Rattle.pci_spec.specs.Window.{WindowKind, IoWindow, MemoryWindow, PrefetchWindow, has_window, is_wide_window, bounds_at, is_closed}
-use Rattle.pci_spec.specs.Decoded.{Range, has_bar, bar_size, rom_size, window_range}
+use Rattle.pci_spec.specs.Decoded.{Range, has_bar, window_range}
 use Rattle.pci_spec.specs.System.{System, Function, Part, Bar, Rom, Window, is_bridge, is_implemented, bars_and_rom}
-use Rattle.pci_spec.specs.Bus.{secondary}
 use Rattle.pci_spec.specs.Sound.{IsSound}
-use Rattle.pci_spec.specs.Plan.{Pools, Class, IoClass, MemoryClass, PrefetchClass, class_of, window_class, window_of, window_size, need_of, has_behind, IsMoved, IsPlanned}
-use Rattle.pci_spec.specs.Place.{Item, part_item, window_item, place_of, first_of, nibble_of, closed_bounds, range_from, IsPlaced}
+use Rattle.pci_spec.specs.Plan.{Pools, Class, IoClass, MemoryClass, PrefetchClass, class_of, window_class, window_of, has_behind, IsMoved, IsPlanned}
+use Rattle.pci_spec.specs.Place.{part_item, window_item, place_of, first_of, nibble_of, closed_bounds, range_from, IsPlaced}
 use Rattle.pci_spec.specs.Planning.Layout.{range_of, IsLaidOut}
 use Rattle.pci_spec.specs.Planning.Numbers.{place_at, IsPlannedFunction}
 use Rattle.pci_spec.specs.Planning.Plannable.{IsPlannable}
 use Rattle.pci_spec.specs.Planning.Promise.{IsFinal}
 use Rattle.pci_spec.specs.Planning.Table.{IsTable}
 use Rattle.pci_spec.proofs.Members.{in_nil, in_cons_cases, in_filter_to, in_map_to, IsMade, in_range_to}
-use Rattle.pci_spec.proofs.Planning.Moved.{layout_same, bridge_same}
+use Rattle.pci_spec.proofs.Planning.Moved.{bridge_same}
 use Rattle.pci_spec.proofs.Planning.Kept.{member_back}
 use Rattle.pci_spec.proofs.Planning.Classes.{class_stays}
 use Rattle.pci_spec.proofs.Planning.Behind.{listed_plain}
 use Rattle.pci_spec.proofs.Planning.Planned.{parts_same, has_behind_same, planned_by_table, sound_by_table}
 use Rattle.pci_spec.proofs.Planning.Tables.{laid_out_by_table}
 use Rattle.pci_spec.proofs.Planning.NumbersFit.{is_function}
-use Rattle.pci_spec.proofs.Planning.SamePlaces.{IsSameItem, part_same, window_same, place_same}
+use Rattle.pci_spec.proofs.Planning.SamePlaces.{part_same, window_same, place_same}
 use Rattle.pci_spec.proofs.Planning.Shown.{planned_is_moved, bar_range, rom_range, opened_window, closed_window}
 use Rattle.pci_spec.proofs.Planning.ShownSystem.{planned_pairs, all_shown, switched_on}
 

@@ -1,5 +1,5 @@
 -- What a table places lies in the pool of its class, at a multiple of its size.
-use Rattle.std.proofs.Common.{◌≡◌, ℕ, zero, suc, ◌+◌, ◌-◌, ◌%◌, ◌^◌, ◌<◌, ◌≤◌, inl, inr, List, true, ◌&&◌, arith, sym, ap, subst}
+use Rattle.std.proofs.Common.{◌≡◌, ℕ, zero, suc, ◌+◌, ◌%◌, ◌<◌, ◌≤◌, inl, inr, List, true, ◌&&◌, arith, sym, subst}
 use Rattle.std.specs.Bool.{nat_lt, if◌then◌else◌}
 use Rattle.std.specs.List.{Contains, sum}
 use Rattle.std.proofs.lemmas.Bool.{and_parts, and_from, cases_Bool, lt-ltb}

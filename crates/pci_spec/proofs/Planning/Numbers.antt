@@ -1,13 +1,12 @@
 -- The numbers of a function's registers when everything is placed, register by register.
-use Rattle.std.proofs.Common.{◌≡◌, ℕ, zero, suc, ◌+◌, ◌*◌, ◌^◌, ◌<◌, inl, inr, List, refl, Bool, true, false, cond, arith, sym, ◌∙◌, ap, subst}
-use Rattle.std.specs.Bool.{if◌then◌else◌, ◌==◌}
+use Rattle.std.proofs.Common.{◌≡◌, ℕ, zero, suc, ◌+◌, ◌*◌, ◌^◌, ◌<◌, inl, inr, List, refl, true, false, cond, arith, ◌∙◌, ap}
 use Rattle.std.proofs.lemmas.Bool.{cases_Bool}
 use Rattle.pci_spec.specs.Header.{layout, bar_count, bar_register, rom_register}
 use Rattle.pci_spec.specs.Window.{WindowKind, IoWindow, MemoryWindow, PrefetchWindow, Bounds}
 use Rattle.pci_spec.specs.System.{System, Function, Bar, Rom, Window, is_bridge}
 use Rattle.pci_spec.specs.Bus.{secondary}
 use Rattle.pci_spec.specs.Plan.{Pools, window_class, window_size, need_of, has_behind}
-use Rattle.pci_spec.specs.Planning.Numbers.{place_at, bar_number, rom_number, new_bounds, device_number, bridge_number, new_number}
+use Rattle.pci_spec.specs.Planning.Numbers.{place_at, bar_number, new_bounds, device_number, bridge_number, new_number}
 use Rattle.pci_spec.proofs.Planning.BarNumbers.{bar_by}
 use Rattle.pci_spec.proofs.Planning.RomFits.{rom_by}
 use Rattle.pci_spec.proofs.Planning.WindowFits.{bounds_by}
@@ -22,9 +21,6 @@ module _ (roots : List ℕ) (s : System) (pools : Pools) (f : Function) where
   same_bar : (n : ℕ) → bar_number roots s pools f n ≡ bar_by f bar_place n
   same_bar zero = refl
   same_bar (suc n) = refl
-
-  same_bounds : (kind : WindowKind) → new_bounds roots s pools f kind ≡ bounds kind
-  same_bounds kind = refl
 
   on_bridge : is_bridge f ≡ true → (r : ℕ × ℕ) → new_number roots s pools f r ≡ bridge_number roots s pools f r.0
   on_bridge bridge r = ap (λ t. cond t (bridge_number roots s pools f r.0) (device_number roots s pools f r.0)) bridge

@@ -1,20 +1,18 @@
 -- The numbers of all registers fit when everything is placed, and so does Command.
-use Rattle.std.proofs.Common.{◌≡◌, ℕ, zero, suc, ◌+◌, ◌*◌, ◌%◌, ◌^◌, ◌<◌, ◌≤◌, inl, inr, List, [], ◌∷◌, refl, Bool, true, false, cond, ◌&&◌, None, arith, sym, ◌∙◌, ap, subst}
-use Rattle.std.specs.Bool.{nat_lt, if◌then◌else◌, ◌==◌}
+use Rattle.std.proofs.Common.{◌≡◌, ℕ, ◌+◌, ◌*◌, ◌%◌, ◌^◌, ◌<◌, ◌≤◌, inl, inr, List, true, false, cond, arith, sym, ◌∙◌, ap, subst}
+use Rattle.std.specs.Bool.{nat_lt, ◌==◌}
 use Rattle.std.specs.List.{Contains, All}
 use Rattle.std.specs.Int.{bit_at}
 use Rattle.std.proofs.lemmas.Bool.{cases_Bool, and_left, eqb-true, ne_eqb}
 use Rattle.std.proofs.lemmas.List.Elements.{All-contains, All-from_recursion}
-use Rattle.pci_spec.specs.Number.{has_bit, IsImage}
-use Rattle.pci_spec.specs.Header.{command, layout, bar_count, bar_register, rom_register, address_registers}
-use Rattle.pci_spec.specs.Bar.{bar_at, bar_kind, bar_fault}
-use Rattle.pci_spec.specs.Rom.{has_rom, breaks_rom_rule}
-use Rattle.pci_spec.specs.Window.{WindowKind, IoWindow, MemoryWindow, PrefetchWindow, breaks_window_rule}
+use Rattle.pci_spec.specs.Header.{layout, bar_count, bar_register, rom_register, address_registers}
+use Rattle.pci_spec.specs.Bar.{bar_at, bar_kind}
+use Rattle.pci_spec.specs.Rom.{has_rom}
+use Rattle.pci_spec.specs.Window.{WindowKind, IoWindow, MemoryWindow, PrefetchWindow}
 use Rattle.pci_spec.specs.Decoded.{IsDecodable, bar_size, rom_size, has_bar}
 use Rattle.pci_spec.specs.System.{System, Function, IsFunction, Bar, Rom, Window, is_bridge}
 use Rattle.pci_spec.specs.Bus.{secondary}
-use Rattle.pci_spec.specs.Machine.{bar_field}
-use Rattle.pci_spec.specs.Plan.{Pools, Class, window_class, window_size, need_of, limited, has_behind}
+use Rattle.pci_spec.specs.Plan.{Pools, Class, window_class, window_size, need_of, has_behind}
 use Rattle.pci_spec.specs.Place.{nibble_of}
 use Rattle.pci_spec.specs.Planning.Building.{AreFitting}
 use Rattle.pci_spec.specs.Planning.Numbers.{place_at, new_number, needs_io, needs_memory, new_command}
@@ -23,7 +21,7 @@ use Rattle.pci_spec.specs.Planning.Showing.{reach_of}
 use Rattle.pci_spec.specs.Planning.Table.{need_behind, IsTable}
 use Rattle.pci_spec.proofs.Planning.Staging.{registers_by}
 use Rattle.pci_spec.proofs.Planning.BarFits.{bar_register_fits}
-use Rattle.pci_spec.proofs.Planning.BarNumbers.{bar_by, bar_number_bits, bar_number_small}
+use Rattle.pci_spec.proofs.Planning.BarNumbers.{bar_number_bits, bar_number_small}
 use Rattle.pci_spec.proofs.Planning.BitsFit.{BitsFit, fits_by_bits, fits_joined}
 use Rattle.pci_spec.proofs.Planning.CommandFits.{command_fits, command_small}
 use Rattle.pci_spec.proofs.Planning.Numbers.{bar_place, bounds, number_of_bar, number_of_rom, numbers_of_windows}
@@ -149,28 +147,56 @@ module _ (roots : List ℕ) (s : System) (pools : Pools) (p : IsPlannable roots 
   bridge_fits bridge =
       All-from_recursion IsFit (registers_by true) (
         bar_fit 0 (bars_inside 0 bridge (omega arith)),
-        (bar_fit 1 (bars_inside 1 bridge (omega arith)),
-        (io_fit bridge,
-        (memory_fit bridge,
-        (prefetch_fit bridge,
-        (prefetch_base_fit bridge,
-        (prefetch_limit_fit bridge,
-        (io_upper_fit bridge,
-        (subst (λ t. IsFit (cond t 0x38 0x30, 4)) bridge rom_fit,
-        tt)))))))),
+        (
+          bar_fit 1 (bars_inside 1 bridge (omega arith)),
+          (
+            io_fit bridge,
+            (
+              memory_fit bridge,
+              (
+                prefetch_fit bridge,
+                (
+                  prefetch_base_fit bridge,
+                  (
+                    prefetch_limit_fit bridge,
+                    (
+                      io_upper_fit bridge,
+                      (
+                        subst (λ t. IsFit (cond t 0x38 0x30, 4)) bridge rom_fit,
+                        tt,
+                      ),
+                    ),
+                  ),
+                ),
+              ),
+            ),
+          ),
+        ),
       )
 
   device_fits : is_bridge f ≡ false → All IsFit (registers_by false)
   device_fits device =
       All-from_recursion IsFit (registers_by false) (
         bar_fit 0 (device_inside 0 device (omega arith)),
-        (bar_fit 1 (device_inside 1 device (omega arith)),
-        (bar_fit 2 (device_inside 2 device (omega arith)),
-        (bar_fit 3 (device_inside 3 device (omega arith)),
-        (bar_fit 4 (device_inside 4 device (omega arith)),
-        (bar_fit 5 (device_inside 5 device (omega arith)),
-        (subst (λ t. IsFit (cond t 0x38 0x30, 4)) device rom_fit,
-        tt)))))),
+        (
+          bar_fit 1 (device_inside 1 device (omega arith)),
+          (
+            bar_fit 2 (device_inside 2 device (omega arith)),
+            (
+              bar_fit 3 (device_inside 3 device (omega arith)),
+              (
+                bar_fit 4 (device_inside 4 device (omega arith)),
+                (
+                  bar_fit 5 (device_inside 5 device (omega arith)),
+                  (
+                    subst (λ t. IsFit (cond t 0x38 0x30, 4)) device rom_fit,
+                    tt,
+                  ),
+                ),
+              ),
+            ),
+          ),
+        ),
       )
 
   each_fit : (r : ℕ × ℕ) → Contains (address_registers (layout f.image)) r → IsFit r

@@ -1,27 +1,28 @@
 -- How far the places of a table go: no further than registers can show.
-use Rattle.std.proofs.Common.{◌≡◌, ℕ, zero, suc, ◌+◌, ◌-◌, ◌%◌, ◌^◌, ◌<◌, ◌≤◌, inl, inr, List, refl, Bool, true, false, cond, ◌&&◌, ◌||◌, not, arith, sym, ◌∙◌, ap, subst}
+use Rattle.std.proofs.Common.{◌≡◌, ℕ, ◌+◌, ◌%◌, ◌^◌, ◌<◌, ◌≤◌, inl, inr, List, refl, Bool, true, false, cond, ◌&&◌, ◌||◌, not, arith, sym, ◌∙◌, ap}
 use Rattle.std.specs.Bool.{nat_lt, nat_le, ◌==◌, if◌then◌else◌}
 use Rattle.std.specs.List.{Contains, list_all, list_any}
-use Rattle.std.proofs.lemmas.Bool.{not-true, and_parts, and_from, or_parts, cases_Bool, both_ways, lt-ltb, ltb-true, ltb-false, leb-true, eq-eqb, eqb-true}
-use Rattle.std.proofs.lemmas.List.Elements.{All-contains}
+use Rattle.std.proofs.lemmas.Bool.{and_parts, and_from, or_parts, cases_Bool, both_ways, lt-ltb, ltb-true, ltb-false, leb-true}
 use Rattle.pci_spec.specs.Header.{layout, bar_count}
-use Rattle.pci_spec.specs.Bar.{BarKind, IoBar, Memory32, Memory64, Reserved, bar_at, bar_kind, is_io, is_wide, is_prefetchable, type_bits}
+use Rattle.pci_spec.specs.Bar.{bar_at, bar_kind, is_io, is_wide, is_prefetchable, type_bits}
 use Rattle.pci_spec.specs.Rom.{has_rom}
 use Rattle.pci_spec.specs.Window.{WindowKind, IoWindow, MemoryWindow, PrefetchWindow, has_window, is_wide_window, page_size}
 use Rattle.pci_spec.specs.Decoded.{bar_size, rom_size, has_bar}
 use Rattle.pci_spec.specs.System.{System, Function, Part, Bar, Rom, Window, is_bridge, bars_and_rom}
 use Rattle.pci_spec.specs.Bus.{is_behind}
-use Rattle.pci_spec.specs.Plan.{Pools, Class, IoClass, MemoryClass, PrefetchClass, pool_of, class_of, same_class, bridges_above, is_served, is_backward, are_bad, window_class, window_of, window_size, step_of, has_behind}
+use Rattle.pci_spec.specs.Plan.{Pools, Class, IoClass, MemoryClass, PrefetchClass, pool_of, class_of, same_class, bridges_above, is_served, is_backward, are_bad, window_class, window_size, step_of, has_behind}
 use Rattle.pci_spec.specs.Place.{nibble_of}
 use Rattle.pci_spec.specs.Planning.Showing.{reach_of}
 use Rattle.pci_spec.specs.Planning.Plannable.{IsPlannable}
-use Rattle.pci_spec.specs.Planning.Table.{need_behind, is_placed, size_in, IsTable}
+use Rattle.pci_spec.specs.Planning.Table.{need_behind, is_placed, IsPlacing, IsTable}
+use Rattle.pci_spec.proofs.BarLaws.{kind_by}
 use Rattle.pci_spec.proofs.Members.{in_filter_from}
 use Rattle.pci_spec.proofs.Planning.Placement.{window_least, step_power, power_multiple, multiple_of_mod, multiple_trans, mod_of_multiple}
 use Rattle.pci_spec.proofs.Planning.Behind.{Passes, any_gives, all_gives, behind_is_need, listed_plain}
 use Rattle.pci_spec.proofs.Planning.NeededWindows.{served_by_class}
 use Rattle.pci_spec.proofs.Planning.Planned.{class_same_itself}
-use Rattle.pci_spec.proofs.Planning.InPool.{IsInPool, window_placed, in_pool}
+use Rattle.pci_spec.proofs.Planning.Rooms.{table_by_fit}
+use Rattle.pci_spec.proofs.Planning.InPool.{in_pool}
 
 -- ---- pools that aren't refused
 
@@ -35,6 +36,11 @@ good_pools pools good =
     let four = or_parts (is_backward pools.io || is_backward pools.memory || is_backward pools.prefetch || nat_lt 0xffff pools.io.last) (nat_lt 0xffff_ffff pools.memory.last) five.0 in
     let three = or_parts (is_backward pools.io || is_backward pools.memory || is_backward pools.prefetch) (nat_lt 0xffff pools.io.last) four.0 in
     record { io = ltb-false 0xffff pools.io.last three.1; memory = ltb-false 0xffff_ffff pools.memory.last four.1 }
+
+pool_below : (pools : Pools) → AreGood pools → pools.prefetch.last < 2 ^ 64 → (c : Class) → (pool_of pools c).last < 2 ^ 64
+pool_below pools good top IoClass = let l = good.io in omega (arith, l)
+pool_below pools good top MemoryClass = let l = good.memory in omega (arith, l)
+pool_below pools good top PrefetchClass = top
 
 -- ---- BARs
 
@@ -53,9 +59,6 @@ served_windows s pools f n served high b above =
     let wide = is_wide (bar_at f.probe n) && list_all (λ (d : Function). is_wide_window PrefetchWindow d.probe) (bridges_above s f.slot.bus) in
     all_gives (λ (d : Function). is_wide_window PrefetchWindow d.probe) (bridges_above s f.slot.bus) b
     (and_parts (is_wide (bar_at f.probe n)) _ (sym (ap (λ t. cond t narrow wide) high) ∙ served)).1 above
-
-abbrev kind_by : Bool → Bool → Bool → BarKind
-kind_by io wide narrow = if io then IoBar else if wide then Memory64 else if narrow then Memory32 else Reserved
 
 abbrev class_by : Bool → Bool → Class
 class_by io pref = if io then IoClass else if pref then PrefetchClass else MemoryClass
@@ -140,6 +143,14 @@ reached_by s pools good top b PrefetchWindow listed bridge has end below = (
         absurd (let impossible : ⊥ = omega (arith, none, one) in impossible)
   ],
 )
+
+-- ---- tables
+
+-- where the places of each class are found largest first, they are tables
+pub tables_of_placing : (roots : List ℕ) (s : System) (pools : Pools) → IsPlannable roots s pools → (first : Function → Part → ℕ) → ((c : Class) → IsPlacing roots s pools c first)
+    → (c : Class) → IsTable roots s pools c first
+tables_of_placing roots s pools p first placing c =
+    table_by_fit roots s pools c p.system p.nested first (p.can.room c) (pool_below pools (good_pools pools p.can.good) p.addresses c) (placing c)
 
 -- ---- the places of a table
 

@@ -1,10 +1,10 @@
 -- The number that places a ROM fits its register.
-use Rattle.std.proofs.Common.{◌≡◌, ℕ, ◌+◌, ◌-◌, ◌*◌, ◌%◌, ◌^◌, ◌<◌, ◌≤◌, inl, inr, List, refl, true, false, cond, arith, sym, ◌∙◌, ap, subst}
-use Rattle.std.specs.Bool.{if◌then◌else◌, ◌==◌}
+use Rattle.std.proofs.Common.{◌≡◌, ℕ, ◌+◌, ◌%◌, ◌^◌, ◌<◌, ◌≤◌, inl, inr, true, false, cond, arith, ◌∙◌, ap}
+use Rattle.std.specs.Bool.{if◌then◌else◌}
 use Rattle.std.specs.Int.{bit_at}
 use Rattle.std.proofs.lemmas.Bool.{cases_Bool}
 use Rattle.std.proofs.lemmas.Nat.{mod_below, pow_below}
-use Rattle.pci_spec.specs.Number.{has_bit, lowest_one, IsImage}
+use Rattle.pci_spec.specs.Number.{lowest_one, IsImage}
 use Rattle.pci_spec.specs.Header.{layout, rom_register}
 use Rattle.pci_spec.specs.Rom.{rom_at, has_rom, breaks_rom_rule}
 use Rattle.pci_spec.specs.Decoded.{rom_size}

@@ -1,12 +1,12 @@
 -- A system whose functions were moved has the same needs: its parts keep their sizes and classes.
-use Rattle.std.proofs.Common.{◌≡◌, ℕ, zero, suc, ◌^◌, inl, inr, List, [], ◌∷◌, ◌++◌, refl, Bool, true, false, cond, ◌&&◌, min, sym, ◌∙◌, ap, map}
+use Rattle.std.proofs.Common.{◌≡◌, ℕ, zero, suc, ◌^◌, inl, inr, List, [], ◌∷◌, ◌++◌, refl, ◌&&◌, sym, ◌∙◌, ap, map}
 use Rattle.std.specs.Bool.{nat_lt, ◌==◌, if◌then◌else◌}
 use Rattle.std.specs.List.{Contains, AllZip, filter, flat_map, sum}
 use Rattle.std.proofs.lemmas.Bool.{cases_Bool}
 use Rattle.std.proofs.lemmas.List.Elements.{All-contains}
 use Rattle.pci_spec.specs.Number.{number_at, lowest_one}
 use Rattle.pci_spec.specs.Slot.{Slot}
-use Rattle.pci_spec.specs.Header.{layout, rom_register}
+use Rattle.pci_spec.specs.Header.{rom_register}
 use Rattle.pci_spec.specs.Decoded.{bar_size, rom_size}
 use Rattle.pci_spec.specs.System.{System, Function, IsSystem, IsFunction, Part, Bar, Rom, Window, is_bridge, bars_and_rom}
 use Rattle.pci_spec.specs.Bus.{secondary}

@@ -1,19 +1,18 @@
 -- A system whose functions were moved has the same places.
-use Rattle.std.proofs.Common.{◌≡◌, ℕ, zero, suc, ◌+◌, inl, inr, List, [], ◌∷◌, ◌++◌, refl, Bool, true, false, cond, ◌&&◌, ◌||◌, Option, None, Some, sym, ◌∙◌, ap, subst, map}
+use Rattle.std.proofs.Common.{◌≡◌, ℕ, zero, suc, ◌+◌, inl, inr, List, [], ◌∷◌, ◌++◌, refl, Bool, true, false, cond, ◌&&◌, ◌||◌, Option, Some, sym, ◌∙◌, ap, subst, map}
 use Rattle.std.specs.Bool.{nat_lt, ◌==◌, if◌then◌else◌}
 use Rattle.std.specs.List.{Contains, AllZip, filter, flat_map, find, sum}
 use Rattle.std.proofs.lemmas.Bool.{and_parts, cases_Bool, both_ways}
 use Rattle.std.proofs.lemmas.List.Elements.{All-contains}
 use Rattle.pci_spec.specs.Slot.{Slot, slot_number}
-use Rattle.pci_spec.specs.System.{System, Function, IsSystem, IsFunction, Part, Window, register_of, is_bridge, bars_and_rom}
+use Rattle.pci_spec.specs.System.{System, Function, IsSystem, IsFunction, Part, register_of, is_bridge, bars_and_rom}
 use Rattle.pci_spec.specs.Bus.{secondary, is_root, are_side_by_side}
-use Rattle.pci_spec.specs.Plan.{Pools, Class, IsMoved, pool_of, class_of, same_class, window_class, window_of, window_size, need_of, greatest, raised_to, has_behind}
+use Rattle.pci_spec.specs.Plan.{Pools, Class, IsMoved, pool_of, class_of, same_class, window_size, need_of, greatest, raised_to, has_behind}
 use Rattle.pci_spec.specs.Place.{Item, part_item, window_item, own_items, items_beside, comes_before, place_from, start_of_roots, behind_window, start_within, start_of, place_of}
 use Rattle.pci_spec.proofs.Members.{in_head, in_tail}
 use Rattle.pci_spec.proofs.Planning.Moved.{layout_same, bridge_same, secondary_same}
 use Rattle.pci_spec.proofs.Planning.Planned.{has_behind_same}
 use Rattle.pci_spec.proofs.Planning.Tables.{register_same}
-use Rattle.pci_spec.proofs.Planning.Placement.{sum_cons}
 use Rattle.pci_spec.proofs.Planning.SameNeeds.{size_stays, parts_stay, need_stays}
 
 -- two items that are placed alike

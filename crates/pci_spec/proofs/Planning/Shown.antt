@@ -1,31 +1,30 @@
 -- A function with the planned numbers shows the places of its parts.
-use Rattle.std.proofs.Common.{◌≡◌, ℕ, ◌+◌, ◌-◌, ◌*◌, ◌/◌, ◌%◌, ◌^◌, ◌<◌, ◌≤◌, inl, inr, List, refl, Bool, true, false, cond, ◌&&◌, not, arith, sym, ◌∙◌, ap, subst}
-use Rattle.std.specs.Bool.{nat_lt, nat_le, if◌then◌else◌, ◌==◌}
+use Rattle.std.proofs.Common.{◌≡◌, ℕ, ◌+◌, ◌-◌, ◌*◌, ◌/◌, ◌^◌, ◌<◌, ◌≤◌, inl, inr, List, true, false, ◌&&◌, not, arith, sym, ◌∙◌, ap}
 use Rattle.std.specs.List.{Contains}
 use Rattle.std.proofs.lemmas.Bool.{cases_Bool, lt-leb}
 use Rattle.pci_spec.specs.Number.{number_at, lowest_one, IsImage}
 use Rattle.pci_spec.specs.Header.{layout, bar_count, bar_register, rom_register}
-use Rattle.pci_spec.specs.Bar.{bar_at, whole_bar}
+use Rattle.pci_spec.specs.Bar.{whole_bar}
 use Rattle.pci_spec.specs.Rom.{rom_at, has_rom}
 use Rattle.pci_spec.specs.Window.{WindowKind, IoWindow, MemoryWindow, PrefetchWindow, Bounds, bounds_at, lower_pages, has_window, base_page, limit_page, is_closed}
-use Rattle.pci_spec.specs.Decoded.{Range, aligned_range, bar_size, rom_size, has_bar}
-use Rattle.pci_spec.specs.System.{System, Function, Part, Bar, Rom, Window, is_bridge}
+use Rattle.pci_spec.specs.Decoded.{aligned_range, bar_size, rom_size, has_bar}
+use Rattle.pci_spec.specs.System.{System, Function, Bar, Rom, Window, is_bridge}
 use Rattle.pci_spec.specs.Bus.{secondary}
 use Rattle.pci_spec.specs.Plan.{Pools, Class, window_class, window_size, need_of, has_behind, is_open, IsMoved}
 use Rattle.pci_spec.specs.Place.{nibble_of, closed_bounds}
 use Rattle.pci_spec.specs.Planning.Layout.{range_of}
 use Rattle.pci_spec.specs.Planning.Numbers.{place_at, new_number, new_command, IsPlannedFunction}
 use Rattle.pci_spec.specs.Planning.Plannable.{IsPlannable}
-use Rattle.pci_spec.specs.Planning.Showing.{bar_value, rom_value, bounds_for}
+use Rattle.pci_spec.specs.Planning.Showing.{bar_value, rom_value}
 use Rattle.pci_spec.specs.Planning.Table.{IsTable}
 use Rattle.pci_spec.proofs.Planning.Moved.{layout_same, bridge_same}
-use Rattle.pci_spec.proofs.Planning.BarNumbers.{bar_by, whole_again}
+use Rattle.pci_spec.proofs.Planning.BarNumbers.{whole_again}
 use Rattle.pci_spec.proofs.Planning.BarValues.{bar_shows, rom_shows}
 use Rattle.pci_spec.proofs.Planning.Filled.{filled_is_moved}
 use Rattle.pci_spec.proofs.Planning.Numbers.{bar_place, bounds, number_of_bar, number_of_rom, numbers_of_windows}
 use Rattle.pci_spec.proofs.Planning.NumbersFit.{is_function, is_decodable, bar_room, rom_room, window_room, parts_fit, numbers_fit}
-use Rattle.pci_spec.proofs.Planning.RomFits.{rom_by, rom_there}
-use Rattle.pci_spec.proofs.Planning.ShownNumbers.{bar_listed, rom_listed, io_listed, memory_listed, prefetch_listed, prefetch_base_listed, prefetch_limit_listed, io_upper_listed, AreTwo, two_bytes, four_bytes}
+use Rattle.pci_spec.proofs.Planning.RomFits.{rom_there}
+use Rattle.pci_spec.proofs.Planning.ShownNumbers.{bar_listed, rom_listed, io_listed, memory_listed, prefetch_listed, prefetch_base_listed, prefetch_limit_listed, io_upper_listed, two_bytes, four_bytes}
 use Rattle.pci_spec.proofs.Planning.Shows.{window_shows}
 use Rattle.pci_spec.proofs.Planning.WindowFits.{few_nibbles, by_open, by_closed}
 

@@ -1,16 +1,10 @@
 -- What a function with the planned numbers shows.
-use Rattle.std.proofs.Common.{◌≡◌, ℕ, zero, suc, ◌+◌, ◌-◌, ◌*◌, ◌/◌, ◌%◌, ◌^◌, ◌<◌, ◌≤◌, inl, inr, List, refl, Bool, true, false, cond, ◌&&◌, not, arith, sym, ◌∙◌, ap, subst}
-use Rattle.std.specs.Bool.{nat_le, if◌then◌else◌, ◌==◌}
+use Rattle.std.proofs.Common.{◌≡◌, ℕ, zero, suc, ◌+◌, ◌*◌, ◌^◌, ◌<◌, List, refl, Bool, true, false, arith, sym, ◌∙◌, ap, subst}
+use Rattle.std.specs.Bool.{if◌then◌else◌}
 use Rattle.std.specs.List.{Contains}
-use Rattle.std.proofs.lemmas.Bool.{cases_Bool, lt-leb}
 use Rattle.pci_spec.specs.Number.{byte_at, number_at, IsImage}
 use Rattle.pci_spec.specs.Header.{layout, bar_count, bar_register, rom_register, address_registers}
-use Rattle.pci_spec.specs.Bar.{bar_at, whole_bar}
-use Rattle.pci_spec.specs.Rom.{rom_at, has_rom}
-use Rattle.pci_spec.specs.Window.{WindowKind, IoWindow, MemoryWindow, PrefetchWindow, Bounds, bounds_at, page_size, lower_pages, has_window, base_page, limit_page, is_closed}
-use Rattle.pci_spec.specs.Decoded.{Range, aligned_range, bar_size, rom_size, has_bar}
-use Rattle.pci_spec.specs.System.{System, Function, Bar, Rom, Window, is_bridge}
-use Rattle.pci_spec.specs.Place.{nibble_of, closed_bounds}
+use Rattle.pci_spec.specs.System.{Function, is_bridge}
 use Rattle.pci_spec.proofs.Planning.Registers.{number_below}
 use Rattle.pci_spec.proofs.Planning.Staging.{registers_by}
 

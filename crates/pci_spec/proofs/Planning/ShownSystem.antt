@@ -1,22 +1,21 @@
 -- A system with the planned numbers shows the places of its table, and Command enables what there is to decode.
-use Rattle.std.proofs.Common.{◌≡◌, ℕ, zero, suc, ◌+◌, ◌-◌, ◌^◌, ◌<◌, ◌≤◌, inl, inr, List, [], ◌∷◌, refl, Bool, true, false, cond, ◌&&◌, ◌||◌, not, arith, sym, ◌∙◌, ap, subst}
-use Rattle.std.specs.Bool.{nat_lt, if◌then◌else◌, ◌==◌}
+use Rattle.std.proofs.Common.{◌≡◌, ℕ, ◌+◌, ◌-◌, List, [], ◌∷◌, refl, true, false, ◌&&◌, ◌||◌, not, sym, ◌∙◌, ap, subst}
+use Rattle.std.specs.Bool.{nat_lt}
 use Rattle.std.specs.List.{Contains, AllZip, list_any}
-use Rattle.std.proofs.lemmas.Bool.{and_parts, and_from, cases_Bool, both_ways, ltb-true, lt-ltb, eqb-true}
+use Rattle.std.proofs.lemmas.Bool.{and_parts, and_from, both_ways, ltb-true, eqb-true}
 use Rattle.pci_spec.specs.Number.{has_bit}
 use Rattle.pci_spec.specs.Header.{command, layout, bar_count}
 use Rattle.pci_spec.specs.Rom.{has_rom}
 use Rattle.pci_spec.specs.Window.{WindowKind, IoWindow, MemoryWindow, PrefetchWindow, has_window}
 use Rattle.pci_spec.specs.Decoded.{has_bar}
 use Rattle.pci_spec.specs.System.{System, Function, Io, Memory, Part, Bar, Rom, Window, is_bridge, bars_and_rom}
-use Rattle.pci_spec.specs.Bus.{secondary}
-use Rattle.pci_spec.specs.Plan.{Pools, Class, IoClass, MemoryClass, PrefetchClass, class_of, same_class, window_class, window_of, window_size, need_of, has_behind, is_open, is_io_part, wants, IsMoved}
+use Rattle.pci_spec.specs.Plan.{Pools, Class, IoClass, MemoryClass, PrefetchClass, class_of, same_class, window_class, window_of, window_size, has_behind, is_open, is_io_part, wants, IsMoved}
 use Rattle.pci_spec.specs.Planning.Layout.{range_of, is_item, IsSwitchedOn}
 use Rattle.pci_spec.specs.Planning.Numbers.{place_at, needs_io, needs_memory, IsPlannedFunction}
 use Rattle.pci_spec.specs.Planning.Plannable.{IsPlannable}
 use Rattle.pci_spec.specs.Planning.Table.{need_behind, is_placed, size_in, IsTable, IsShown}
 use Rattle.pci_spec.proofs.Members.{in_head, in_tail}
-use Rattle.pci_spec.proofs.Planning.Moved.{layout_same, bridge_same}
+use Rattle.pci_spec.proofs.Planning.Moved.{layout_same}
 use Rattle.pci_spec.proofs.Planning.Kept.{member_back}
 use Rattle.pci_spec.proofs.Planning.OtherRules.{has_rom_same}
 use Rattle.pci_spec.proofs.Planning.Classes.{class_stays}

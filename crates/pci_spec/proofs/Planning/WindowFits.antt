@@ -2,10 +2,10 @@
 use Rattle.std.proofs.Common.{◌≡◌, ℕ, zero, suc, ◌+◌, ◌-◌, ◌*◌, ◌/◌, ◌%◌, ◌^◌, ◌<◌, ◌≤◌, ◌⊎◌, inl, inr, List, refl, Bool, true, false, cond, ◌&&◌, ◌||◌, not, arith, sym, ◌∙◌, ap, subst}
 use Rattle.std.specs.Bool.{if◌then◌else◌, ◌==◌}
 use Rattle.std.specs.Int.{bit_at}
-use Rattle.std.proofs.lemmas.Bool.{and_parts, and_from, cases_Bool, both_ways, eqb-true, eq-eqb, ne_eqb, or_cases}
-use Rattle.pci_spec.specs.Number.{byte_at, number_at, has_bit, IsImage}
+use Rattle.std.proofs.lemmas.Bool.{and_parts, and_from, cases_Bool, both_ways, eqb-true, eq-eqb, ne_eqb}
+use Rattle.pci_spec.specs.Number.{number_at, IsImage}
 use Rattle.pci_spec.specs.Rom.{rom_at}
-use Rattle.pci_spec.specs.Window.{WindowKind, IoWindow, MemoryWindow, PrefetchWindow, Bounds, bounds_at, page_bits, upper_bits, has_window, is_wide_window, is_zero, breaks_window_rule}
+use Rattle.pci_spec.specs.Window.{WindowKind, IoWindow, MemoryWindow, PrefetchWindow, Bounds, bounds_at, page_bits, upper_bits, has_window, is_wide_window, breaks_window_rule}
 use Rattle.pci_spec.specs.System.{Function, is_bridge}
 use Rattle.pci_spec.specs.Machine.{without_low}
 use Rattle.pci_spec.specs.Place.{nibble_of, closed_bounds}
