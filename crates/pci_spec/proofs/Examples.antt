@@ -25,3 +25,5 @@ pub mod First
 pub mod Apart
 pub mod Listings
 pub mod Phases
+pub mod Refusals
+pub mod Denied

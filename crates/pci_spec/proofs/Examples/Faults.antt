@@ -106,7 +106,7 @@ only_one : (f g : Function) → Contains (f ∷ []) g → f ≡ g
 only_one f g (zero, less, is) = is
 only_one f g (suc k, less, is) = absurd (let no : ⊥ = omega (arith, less) in no)
 
-none_at : (f : Function) (place : Slot) (P : Function → Type 0) → (P f → ⊥) → SomeAt (f ∷ []) place P → ⊥
+pub none_at : (f : Function) (place : Slot) (P : Function → Type 0) → (P f → ⊥) → SomeAt (f ∷ []) place P → ⊥
 none_at f place P not_there (g, listed, at, h) = not_there (subst P (sym (only_one f g listed)) h)
 
 no : false ≡ true → ⊥
