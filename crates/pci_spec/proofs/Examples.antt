@@ -27,3 +27,5 @@ pub mod Listings
 pub mod Phases
 pub mod Refusals
 pub mod Denied
+pub mod Places
+pub mod PlanWrites

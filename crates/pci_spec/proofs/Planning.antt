@@ -38,5 +38,4 @@ pub mod Sums
 pub mod Tables
 pub mod ValueFits
 pub mod Whole
-pub mod WorkedRows
 pub mod Writes
