@@ -29,3 +29,6 @@ pub mod Refusals
 pub mod Denied
 pub mod Places
 pub mod PlanWrites
+pub mod Filled
+pub mod InPlace
+pub mod NewNumbers

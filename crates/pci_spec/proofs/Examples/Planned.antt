@@ -39,33 +39,33 @@ moved_by old new h offset i less small other bit =
     ]
 
 -- the three functions before and after
-abbrev old_bridge : Function
+abbrev pub old_bridge : Function
 old_bridge = bridge (slot 0 1 0) 0 0x10100 [] []
 
-abbrev new_bridge : Function
+abbrev pub new_bridge : Function
 new_bridge = bridge (slot 0 1 0) 2 0x10100 ((0x20, 0xe010e000) ∷ []) []
 
-abbrev old_device : Function
+abbrev pub old_device : Function
 old_device = device (slot 0 2 0) 0 [] ((0x10, 0xfff00000) ∷ [])
 
-abbrev new_device : Function
+abbrev pub new_device : Function
 new_device = device (slot 0 2 0) 2 ((0x10, 0xe0200000) ∷ []) ((0x10, 0xfff00000) ∷ [])
 
-abbrev old_behind : Function
+abbrev pub old_behind : Function
 old_behind = device (slot 1 0 0) 0 [] ((0x10, 0xfff00000) ∷ (0x14, 0xfffff000) ∷ [])
 
-abbrev new_behind : Function
+abbrev pub new_behind : Function
 new_behind = device (slot 1 0 0) 2 ((0x10, 0xe0000000) ∷ (0x14, 0xe0100000) ∷ []) ((0x10, 0xfff00000) ∷ (0x14, 0xfffff000) ∷ [])
 
-bridge_moved : IsMoved old_bridge new_bridge
+pub bridge_moved : IsMoved old_bridge new_bridge
 unfolding each_from
 bridge_moved = record { slot = refl; probe = refl; image = record { full = refl; bytes = bytes_by new_bridge.image refl }; same = moved_by old_bridge new_bridge refl }
 
-device_moved : IsMoved old_device new_device
+pub device_moved : IsMoved old_device new_device
 unfolding each_from
 device_moved = record { slot = refl; probe = refl; image = record { full = refl; bytes = bytes_by new_device.image refl }; same = moved_by old_device new_device refl }
 
-behind_moved : IsMoved old_behind new_behind
+pub behind_moved : IsMoved old_behind new_behind
 unfolding each_from
 behind_moved = record { slot = refl; probe = refl; image = record { full = refl; bytes = bytes_by new_behind.image refl }; same = moved_by old_behind new_behind refl }
 
@@ -131,13 +131,13 @@ behind_placed (Window kind) a h w d = absurd (both_ways true w refl)
 
 -- ---- the whole
 
-each_of_planned : (P : Function → Type 0) → P new_bridge → P new_device → P new_behind → (f : Function) → Contains planned f → P f
+pub each_of_planned : (P : Function → Type 0) → P new_bridge → P new_device → P new_behind → (f : Function) → Contains planned f → P f
 each_of_planned P a b c f (zero, less, is) = subst P is a
 each_of_planned P a b c f (suc zero, less, is) = subst P is b
 each_of_planned P a b c f (suc (suc zero), less, is) = subst P is c
 each_of_planned P a b c f (suc (suc (suc k)), less, is) = absurd (let no : ⊥ = omega (arith, less) in no)
 
-no : false ≡ true → ⊥
+pub no : false ≡ true → ⊥
 no h = both_ways false refl h
 
 -- the windows of a bridge are open where something is behind them
@@ -149,7 +149,7 @@ bridge_is_open IoWindow h w = absurd (no w)
 bridge_is_open MemoryWindow h w = refl
 bridge_is_open PrefetchWindow h w = absurd (no w)
 
-everything_is_placed : IsPlanned start planned pools
+pub everything_is_placed : IsPlanned start planned pools
 everything_is_placed = record {
   moved = (bridge_moved, (device_moved, (behind_moved, tt)));
   placed = λ f part a listed h w d. each_of_planned (λ f. IsTrue (has_part f part) → IsFalse (is_window part) → Decodes f part a → IsPlaced f part a)
