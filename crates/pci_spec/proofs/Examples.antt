@@ -32,3 +32,4 @@ pub mod PlanWrites
 pub mod Filled
 pub mod InPlace
 pub mod NewNumbers
+pub mod Admitted
