@@ -33,3 +33,5 @@ pub mod Filled
 pub mod InPlace
 pub mod NewNumbers
 pub mod Admitted
+pub mod Promises
+pub mod PlanFaults

@@ -76,7 +76,7 @@ each_of_start P a b c f (suc zero, less, is) = subst P is b
 each_of_start P a b c f (suc (suc zero), less, is) = subst P is c
 each_of_start P a b c f (suc (suc (suc k)), less, is) = absurd (let no : ⊥ = omega (arith, less) in no)
 
-no_window_is_lacking : (slot : Slot) → LacksWindow start slot → ⊥
+pub no_window_is_lacking : (slot : Slot) → LacksWindow start slot → ⊥
 no_window_is_lacking slot (f, listed, named, io, above) = each_of_start (λ f. IsTrue (list_any (is_io_part f) (bars_and_rom f)) → ⊥) no no no f listed io
 
 each_class_fits : (c : Class) → IsTrue (fits host start pools c)

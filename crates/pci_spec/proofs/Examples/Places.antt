@@ -2,7 +2,7 @@
 use Rattle.std.proofs.Common.{◌≡◌, ℕ, List, [], ◌∷◌, refl, map, Some}
 use Rattle.pci_spec.specs.Window.{IoWindow, MemoryWindow, PrefetchWindow, bounds_at}
 use Rattle.pci_spec.specs.Decoded.{window_range}
-use Rattle.pci_spec.specs.System.{Function, System, Bar, Rom}
+use Rattle.pci_spec.specs.System.{Function, System, Bar, Rom, Window}
 use Rattle.pci_spec.specs.Plan.{Pools, Class, IoClass, MemoryClass, PrefetchClass, doubled_to, items_within}
 use Rattle.pci_spec.specs.Place.{Item, part_item, window_item, start_within, place_of, first_of, nibble_of, closed_bounds, range_from}
 use Rattle.pci_spec.proofs.Examples.Samples.{slot, device, bridge, host}
@@ -137,3 +137,45 @@ deep_places : places deep roomy MemoryClass (part_item on_root (Bar 0) ∷ windo
     ≡ 0xe0000000 ∷ 0xe0800000 ∷ 0xe0800000 ∷ 0xe0a00000 ∷ 0xe0a00000 ∷ []
 unfolding start_within items_within doubled_to
 deep_places = refl
+
+-- ---- ties
+
+-- of one size the lower slot comes first, whatever its registers, and then the lower register
+abbrev first_slot : Function
+first_slot = device (slot 0 1 0) 0 [] ((0x14, 0xfff00000) ∷ (0x18, 0xfff00000) ∷ [])
+
+abbrev second_slot : Function
+second_slot = device (slot 0 2 0) 0 [] ((0x10, 0xfff00000) ∷ (0x30, 0xfff00000) ∷ [])
+
+ties : places (first_slot ∷ second_slot ∷ []) roomy MemoryClass (part_item first_slot (Bar 1) ∷ part_item first_slot (Bar 2) ∷ part_item second_slot (Bar 0) ∷ part_item second_slot Rom ∷ [])
+    ≡ 0xe0000000 ∷ 0xe0100000 ∷ 0xe0200000 ∷ 0xe0300000 ∷ []
+unfolding start_within items_within doubled_to
+ties = refl
+
+-- a bridge's BAR, its window and its ROM, by register
+abbrev bridge_with_all : Function
+bridge_with_all = bridge (slot 0 1 0) 0 0x10100 [] ((0x14, 0xfff00000) ∷ (0x38, 0xfff00000) ∷ [])
+
+abbrev small_behind : Function
+small_behind = device (slot 1 0 0) 0 [] ((0x10, 0xfffff000) ∷ [])
+
+ties_with_a_window : places (bridge_with_all ∷ small_behind ∷ []) roomy MemoryClass (part_item bridge_with_all (Bar 1) ∷ window_item (bridge_with_all ∷ small_behind ∷ []) roomy MemoryClass bridge_with_all ∷ part_item bridge_with_all Rom ∷ [])
+    ≡ 0xe0000000 ∷ 0xe0100000 ∷ 0xe0200000 ∷ []
+unfolding start_within items_within doubled_to
+ties_with_a_window = refl
+
+-- and the prefetchable window, which stands behind a BAR of its size
+abbrev wide_with_a_bar : Function
+wide_with_a_bar = bridge (slot 0 1 0) 0 0x10100 ((0x10, 0xc) ∷ (0x24, 0x10001) ∷ []) ((0x10, 0xf000000c) ∷ (0x14, 0xffffffff) ∷ (0x24, 0xfff1fff1) ∷ (0x28, 0xffffffff) ∷ (0x2c, 0xffffffff) ∷ [])
+
+bar_before_the_window : places (wide_with_a_bar ∷ wide_device ∷ []) roomy PrefetchClass (window_item (wide_with_a_bar ∷ wide_device ∷ []) roomy PrefetchClass wide_with_a_bar ∷ part_item wide_with_a_bar (Bar 0) ∷ part_item wide_device (Bar 0) ∷ [])
+    ≡ 0x110000000 ∷ 0x100000000 ∷ 0x110000000 ∷ []
+unfolding start_within items_within doubled_to
+bar_before_the_window = refl
+
+windows_of_items : map (λ c. (window_item start pools c b1).part) (IoClass ∷ MemoryClass ∷ PrefetchClass ∷ []) ≡ Window IoWindow ∷ Window MemoryWindow ∷ Window PrefetchWindow ∷ []
+windows_of_items = refl
+
+-- a window of unset numbers has the low nibble of its read back
+nibble_by_the_read_back : nibble_of PrefetchWindow (bridge (slot 0 1 0) 0 0x10100 [] ((0x24, 0xfff1fff1) ∷ (0x28, 0xffffffff) ∷ (0x2c, 0xffffffff) ∷ [])) ≡ 1
+nibble_by_the_read_back = refl

@@ -26,7 +26,7 @@ planned_again : writes_between planned planned
 planned_again = refl
 
 -- the start with Command set, where all regions stand at 0
-abbrev all_on : System
+abbrev pub all_on : System
 all_on =
     bridge (slot 0 1 0) 2 0x10100 [] [] ∷ device (slot 0 2 0) 2 [] ((0x10, 0xfff00000) ∷ [])
     ∷ device (slot 1 0 0) 2 [] ((0x10, 0xfff00000) ∷ (0x14, 0xfffff000) ∷ []) ∷ []
