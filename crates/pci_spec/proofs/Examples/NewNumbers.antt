@@ -101,7 +101,34 @@ wide_bar_above_4_gb : numbers host (unset ∷ wide_device ∷ []) pools wide_dev
 unfolding start_within items_within doubled_to
 wide_bar_above_4_gb = refl
 
--- below 4 GB the upper halves that were set become 0
+-- 8 GB: the upper halves of base and limit differ
+abbrev large_device : Function
+large_device = device (slot 1 0 0) 0 ((0x10, 0xc) ∷ []) ((0x10, 0xc) ∷ (0x14, 0xfffffffe) ∷ [])
+
+upper_halves_differ : map (numbers host (unset ∷ large_device ∷ []) (three (pool 0x1000 0xffff) (pool 0xe0000000 0xe02fffff) (pool 0x100000000 0x3ffffffff))) (unset ∷ large_device ∷ [])
+    ≡ (0 ∷ 0 ∷ 0 ∷ 0xfff0 ∷ 0xfff10001 ∷ 2 ∷ 3 ∷ 0 ∷ 0 ∷ []) ∷ (0xc ∷ 2 ∷ 0 ∷ 0 ∷ 0 ∷ 0 ∷ 0 ∷ []) ∷ []
+unfolding start_within items_within doubled_to
+upper_halves_differ = refl
+
+-- ---- a memory window of the least power of two
+
+abbrev plain_memory : Function
+plain_memory = bridge (slot 0 1 0) 0 0x10100 [] []
+
+abbrev three_mb : Function
+three_mb = device (slot 1 0 0) 0 [] ((0x10, 0xfff00000) ∷ (0x14, 0xffe00000) ∷ [])
+
+abbrev four_mb_pool : Pools
+four_mb_pool = three (pool 0x1000 0xffff) (pool 0xe0000000 0xe03fffff) (pool 0x100000000 0x1ffffffff)
+
+window_of_4_mb_for_3 : map (numbers host (plain_memory ∷ three_mb ∷ []) four_mb_pool) (plain_memory ∷ three_mb ∷ [])
+    ≡ (0 ∷ 0 ∷ 0 ∷ 0xe030e000 ∷ 0 ∷ 0 ∷ 0 ∷ 0 ∷ 0 ∷ []) ∷ (0xe0200000 ∷ 0xe0000000 ∷ 0 ∷ 0 ∷ 0 ∷ 0 ∷ 0 ∷ []) ∷ []
+unfolding start_within items_within doubled_to
+window_of_4_mb_for_3 = refl
+
+-- ---- upper halves that were set
+
+-- below 4 GB they become 0
 abbrev low_pools : Pools
 low_pools = three (pool 0x1000 0xffff) (pool 0xe0000000 0xe02fffff) (pool 0xd0000000 0xdfffffff)
 
@@ -144,6 +171,14 @@ others_stay : numbers host (second_alone ∷ []) pools second_alone ≡ 0 ∷ 0x
 unfolding start_within items_within doubled_to
 others_stay = refl
 
+-- a register that starts no BAR stays as it is
+abbrev unused_set : Function
+unused_set = device (slot 0 1 0) 0 ((0x18, 0x1230) ∷ []) ((0x14, 0xfff00000) ∷ [])
+
+unused_register_stays : numbers host (unused_set ∷ []) pools unused_set ≡ 0 ∷ 0xe0000000 ∷ 0x1230 ∷ 0 ∷ 0 ∷ 0 ∷ 0 ∷ []
+unfolding start_within items_within doubled_to
+unused_register_stays = refl
+
 -- planning again changes nothing
 planned_bridge_again : numbers host (own_regions ∷ []) pools own_regions
     ≡ held (bridge (slot 0 1 0) 2 0x10100 ((0x14, 0xe0100000) ∷ (0x20, 0xfff0) ∷ (0x38, 0xe0000000) ∷ []) ((0x14, 0xffff0000) ∷ (0x38, 0xfff00000) ∷ []))
@@ -162,6 +197,6 @@ commands_of_devices : map (λ f. new_command (f ∷ []) pools f)
 commands_of_devices = refl
 
 -- a bridge with nothing behind, and with a prefetchable BAR or I/O alone
-commands_of_bridges : new_command (plain_bridge ∷ []) pools plain_bridge ∷ new_command (unset ∷ wide_device ∷ []) pools unset ∷ new_command (io_bridge ∷ io_device ∷ []) pools io_bridge ∷ new_command (own_regions ∷ []) pools own_regions ∷ []
-    ≡ 0 ∷ 2 ∷ 1 ∷ 2 ∷ []
+commands_of_bridges : new_command (plain_bridge ∷ []) pools plain_bridge ∷ new_command (io_bridge ∷ []) pools io_bridge ∷ new_command (unset ∷ wide_device ∷ []) pools unset ∷ new_command (io_bridge ∷ io_device ∷ []) pools io_bridge ∷ new_command (own_regions ∷ []) pools own_regions ∷ []
+    ≡ 0 ∷ 0 ∷ 2 ∷ 1 ∷ 2 ∷ []
 commands_of_bridges = refl
