@@ -35,3 +35,4 @@ pub mod NewNumbers
 pub mod Admitted
 pub mod Promises
 pub mod PlanFaults
+pub mod Table
