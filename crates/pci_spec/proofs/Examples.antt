@@ -36,3 +36,4 @@ pub mod Admitted
 pub mod Promises
 pub mod PlanFaults
 pub mod Table
+pub mod WholePlan
