@@ -25,8 +25,6 @@ pub mod First
 pub mod Apart
 pub mod Listings
 pub mod Phases
-pub mod Refusals
-pub mod Denied
 pub mod Places
 pub mod PlanWrites
 pub mod Filled

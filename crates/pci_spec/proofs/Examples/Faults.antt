@@ -213,3 +213,11 @@ no_order_among_others = refl
 
 nor_after_them : before (Clash 0 Io 0 (slot 0 1 0) 0x10 (slot 0 2 0) 0x10) (NoVendor (slot 0 0 0)) ≡ false
 nor_after_them = refl
+
+-- ---- faults of bridges alone
+
+device_is_not_in_reset : IsIn host (device (slot 0 1 0) 0 ((0x3c, 0xffff0000) ∷ []) [] ∷ []) (InReset (slot 0 1 0)) → ⊥
+device_is_not_in_reset h = none_at _ _ _ (both_ways false refl) h
+
+device_has_no_isa_enable : IsIn host (device (slot 0 1 0) 0 ((0x3c, 0xffff0000) ∷ []) [] ∷ []) (IsaEnable (slot 0 1 0)) → ⊥
+device_has_no_isa_enable h = none_at _ _ _ (both_ways false refl) h

@@ -1,5 +1,6 @@
 -- Listings of functions, to the byte.
-use Rattle.std.proofs.Common.{◌≡◌, ℕ, List, [], ◌∷◌, ◌++◌, refl, codes}
+use Rattle.std.proofs.Common.{◌≡◌, ℕ, ◌+◌, ◌*◌, List, [], ◌∷◌, ◌++◌, refl, codes, map}
+use Rattle.std.specs.List.{range_with_len}
 use Rattle.pci_spec.specs.Number.{each_from, some_from}
 use Rattle.pci_spec.specs.System.{Function}
 use Rattle.pci_spec.specs.Listing.{function_listing, places_of, listing}
@@ -68,3 +69,23 @@ raw_capabilities_along_the_list = refl
 
 nothing_to_list : listing [] ≡ []
 nothing_to_list = refl
+
+-- ---- fields beside bits that are not shown, and a full list
+
+-- bits beside the fields are not shown
+all_ones_of_power_management : function_listing (with_list ((0x34, 0x40) ∷ (0x40, 1) ∷ (0x42, 0xff) ∷ (0x43, 0xff) ∷ (0x44, 0xff) ∷ (0x45, 0xff) ∷ []))
+    ≡ head_with_list ++ codes "  cap 40 power version 7 d1 1 d2 1 pme 1f state 3 enable 1 status 1" ++ 10 ∷ []
+unfolding function_listing places_of each_from some_from
+all_ones_of_power_management = refl
+
+bit_4_of_message_control_is_not_of_the_capable_count : function_listing (with_list ((0x34, 0x40) ∷ (0x40, 5) ∷ (0x42, 0x10) ∷ []))
+    ≡ head_with_list ++ codes "  cap 40 msi on 0 capable 1 enabled 2 wide 0 mask 0 address 0000000000000000 data 0000" ++ 10 ∷ []
+unfolding function_listing places_of each_from some_from
+bit_4_of_message_control_is_not_of_the_capable_count = refl
+
+abbrev longest : List ℕ
+longest = put_bytes (map (λ n. (65 + 4 * n, 68 + 4 * n)) (range_with_len 0 47)) (put_bytes ((0x06, 0x10) ∷ (0x34, 0x40) ∷ []) (blank 0 0))
+
+all_48_places_are_listed : places_of longest ≡ map (λ n. 64 + 4 * n) (range_with_len 0 48)
+unfolding places_of
+all_48_places_are_listed = refl

@@ -1,15 +1,15 @@
 -- A planned system: the old one with everything placed in its pool, open and enabled.
-use Rattle.std.proofs.Common.{◌≡◌, ℕ, zero, suc, ◌<◌, ◌≤◌, [], ◌∷◌, ◌&&◌, ◌||◌, refl, Bool, true, false, inl, inr, arith, lit<, subst}
+use Rattle.std.proofs.Common.{◌≡◌, ℕ, zero, suc, ◌<◌, ◌≤◌, [], ◌∷◌, ◌&&◌, ◌||◌, refl, Bool, true, false, inl, inr, arith, lit<, subst, ◌∙◌, List, map, ap}
 use Rattle.std.specs.Bool.{IsTrue, IsFalse, nat_le, nat_lt, ◌==◌}
 use Rattle.std.specs.Int.{bit_at}
-use Rattle.std.specs.List.{Contains}
+use Rattle.std.specs.List.{Contains, AllZip}
 use Rattle.std.proofs.lemmas.Bool.{and_parts, or_cases, leb-true, ltb-true, both_ways, cases_order, eqb-true}
 use Rattle.std.proofs.lemmas.Nat.{pow_below}
 use Rattle.pci_spec.specs.Number.{each_from, has_bit, AgreeFrom, byte_at}
 use Rattle.pci_spec.specs.Header.{command}
 use Rattle.pci_spec.specs.Bar.{Memory32, Answers, is_run}
 use Rattle.pci_spec.specs.Window.{WindowKind, IoWindow, MemoryWindow, PrefetchWindow, has_window}
-use Rattle.pci_spec.specs.System.{Function, Io, Memory, is_bridge, Part, Bar, Rom, Window, Decodes, has_part, is_window}
+use Rattle.pci_spec.specs.System.{Function, Io, Memory, is_bridge, Part, Bar, Rom, Window, Decodes, has_part, is_window, System}
 use Rattle.pci_spec.specs.Machine.{in_fields, address_fields}
 use Rattle.pci_spec.specs.Plan.{IsPlanned, IsMoved, class_of, pool_of, wants, is_open, has_behind, window_class}
 use Rattle.pci_spec.proofs.Bits.{each_from-at, agree-interval, run_number}
@@ -158,3 +158,20 @@ everything_is_placed = record {
   io = each_of_planned (λ f. has_bit (command f.image) 0 ≡ wants f Io) refl refl refl;
   memory = each_of_planned (λ f. has_bit (command f.image) 1 ≡ wants f Memory) refl refl refl;
 }
+
+-- ---- what isn't planned, and what stays
+
+start_is_not_planned : IsPlanned start start pools → ⊥
+start_is_not_planned p = both_ways false refl (p.memory (device (slot 0 2 0) 0 [] ((0x10, 0xfff00000) ∷ [])) (1, lit< tt, refl))
+
+slots_stay : (old new : System) → AllZip IsMoved old new → map (λ (f : Function). f.slot) new ≡ map (λ (f : Function). f.slot) old
+slots_stay [] [] h = refl
+slots_stay (o ∷ old) (n ∷ new) h = ap (λ s. s ∷ map (λ (f : Function). f.slot) new) h.0.slot ∙ ap (λ ss. o.slot ∷ ss) (slots_stay old new h.1)
+slots_stay [] (n ∷ new) h = absurd h
+slots_stay (o ∷ old) [] h = absurd h
+
+read_backs_stay : (old new : System) → AllZip IsMoved old new → map (λ (f : Function). f.probe) new ≡ map (λ (f : Function). f.probe) old
+read_backs_stay [] [] h = refl
+read_backs_stay (o ∷ old) (n ∷ new) h = ap (λ s. s ∷ map (λ (f : Function). f.probe) new) h.0.probe ∙ ap (λ ss. o.probe ∷ ss) (read_backs_stay old new h.1)
+read_backs_stay [] (n ∷ new) h = absurd h
+read_backs_stay (o ∷ old) [] h = absurd h
