@@ -78,6 +78,23 @@ all_ones_of_power_management : function_listing (with_list ((0x34, 0x40) ∷ (0x
 unfolding function_listing places_of each_from some_from
 all_ones_of_power_management = refl
 
+-- D1 alone, and the enable bit of PMCSR alone
+one_bit_of_each : function_listing (with_list ((0x34, 0x40) ∷ (0x40, 1) ∷ (0x43, 0x02) ∷ (0x45, 0x01) ∷ []))
+    ≡ head_with_list ++ line (codes "  cap 40 power version 0 d1 1 d2 0 pme 00 state 0 enable 1 status 0")
+unfolding function_listing places_of each_from some_from
+one_bit_of_each = refl
+
+-- 64-bit addresses without masking, and masking without 64-bit addresses
+wide_without_a_mask : function_listing (with_list ((0x34, 0x40) ∷ (0x40, 5) ∷ (0x42, 0x80) ∷ (0x47, 0xfe) ∷ (0x48, 0x01) ∷ (0x4c, 0x41) ∷ []))
+    ≡ head_with_list ++ line (codes "  cap 40 msi on 0 capable 1 enabled 1 wide 1 mask 0 address 00000001fe000000 data 0041")
+unfolding function_listing places_of each_from some_from
+wide_without_a_mask = refl
+
+mask_without_upper_addresses : function_listing (with_list ((0x34, 0x40) ∷ (0x40, 5) ∷ (0x42, 0x01) ∷ (0x43, 0x01) ∷ (0x47, 0xfe) ∷ (0x48, 0x43) ∷ (0x4c, 0x41) ∷ []))
+    ≡ head_with_list ++ line (codes "  cap 40 msi on 1 capable 1 enabled 1 wide 0 mask 1 address 00000000fe000000 data 0043")
+unfolding function_listing places_of each_from some_from
+mask_without_upper_addresses = refl
+
 bit_4_of_message_control_is_not_of_the_capable_count : function_listing (with_list ((0x34, 0x40) ∷ (0x40, 5) ∷ (0x42, 0x10) ∷ []))
     ≡ head_with_list ++ codes "  cap 40 msi on 0 capable 1 enabled 2 wide 0 mask 0 address 0000000000000000 data 0000" ++ 10 ∷ []
 unfolding function_listing places_of each_from some_from
