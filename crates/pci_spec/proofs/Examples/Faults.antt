@@ -13,7 +13,7 @@ use Rattle.pci_spec.proofs.Examples.Samples.{put, put_bytes, zeros, blank, slot,
 
 -- ---- by the registers
 
-no_vendor : has_no_vendor (put 2 0 0xffff zeros) ∷ has_no_vendor (put 2 0 0xfffe zeros) ∷ has_no_vendor (blank 0 0) ∷ [] ≡ true ∷ false ∷ false ∷ []
+no_vendor : has_no_vendor (put 2 0 0xffff zeros) ∷ has_no_vendor (put 2 0 0xfffe zeros) ∷ has_no_vendor (blank 0 0) ∷ has_no_vendor zeros ∷ [] ≡ true ∷ false ∷ false ∷ false ∷ []
 no_vendor = refl
 
 other_layout : map (λ kind. has_other_layout (blank kind 0)) (0 ∷ 1 ∷ 2 ∷ 0x7f ∷ 0x80 ∷ 0x81 ∷ 0x82 ∷ []) ≡ false ∷ false ∷ true ∷ true ∷ false ∷ false ∷ true ∷ []

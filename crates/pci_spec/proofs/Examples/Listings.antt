@@ -67,6 +67,12 @@ raw_capabilities_along_the_list : function_listing (with_list ((0x34, 0x43) ∷ 
 unfolding function_listing places_of each_from some_from
 raw_capabilities_along_the_list = refl
 
+functions_by_slot : listing (device (slot 0 1 0) 0 [] [] ∷ device (slot 1 0 0) 0 [] [] ∷ [])
+    ≡ line (codes "00:01.0 type 0 vendor 1234 device 5678 class 000000 command 0000 status 0000")
+    ++ line (codes "01:00.0 type 0 vendor 1234 device 5678 class 000000 command 0000 status 0000")
+unfolding function_listing places_of each_from some_from
+functions_by_slot = refl
+
 nothing_to_list : listing [] ≡ []
 nothing_to_list = refl
 
@@ -77,6 +83,14 @@ all_ones_of_power_management : function_listing (with_list ((0x34, 0x40) ∷ (0x
     ≡ head_with_list ++ codes "  cap 40 power version 7 d1 1 d2 1 pme 1f state 3 enable 1 status 1" ++ 10 ∷ []
 unfolding function_listing places_of each_from some_from
 all_ones_of_power_management = refl
+
+-- a bridge's windows come before its capabilities
+bridge_with_a_list : function_listing (bridge (slot 0 1 0) 0 0x010100 ((0x04, 0x00100000) ∷ (0x20, 0xfff0) ∷ (0x34, 0x40) ∷ (0x40, 9) ∷ []) [])
+    ≡ line (codes "00:01.0 type 1 vendor 1234 device 5678 class 000000 command 0000 status 0010")
+    ++ line (codes "  bus 00 01 01") ++ line (codes "  window 1c io none") ++ line (codes "  window 20 mem closed") ++ line (codes "  window 24 pref none")
+    ++ line (codes "  cap 40 raw 09")
+unfolding function_listing places_of each_from some_from
+bridge_with_a_list = refl
 
 -- D1 alone, and the enable bit of PMCSR alone
 one_bit_of_each : function_listing (with_list ((0x34, 0x40) ∷ (0x40, 1) ∷ (0x43, 0x02) ∷ (0x45, 0x01) ∷ []))
