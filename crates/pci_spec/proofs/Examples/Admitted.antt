@@ -1,5 +1,5 @@
 -- The worked tree before planning: a nested system that decodes and is in the profile.
-use Rattle.std.proofs.Common.{◌≡◌, ℕ, zero, suc, ◌<◌, List, [], ◌∷◌, refl, Bool, true, false, None, Some, arith, lit<, ap, sym, subst, is_some}
+use Rattle.std.proofs.Common.{◌≡◌, ℕ, zero, suc, ◌<◌, [], ◌∷◌, refl, None, Some, arith, lit<, ap, sym, subst}
 use Rattle.std.specs.Bool.{IsTrue, IsFalse}
 use Rattle.std.specs.List.{Contains, All}
 use Rattle.std.proofs.lemmas.Bool.{both_ways}
@@ -9,10 +9,10 @@ use Rattle.pci_spec.specs.Header.{layout, bar_count}
 use Rattle.pci_spec.specs.Bar.{BarFault, bar_fault}
 use Rattle.pci_spec.specs.Window.{WindowKind, IoWindow, MemoryWindow, PrefetchWindow, breaks_window_rule}
 use Rattle.pci_spec.specs.Capability.{HasChain}
-use Rattle.pci_spec.specs.System.{System, Function, IsFunction, IsSystem, is_bridge}
-use Rattle.pci_spec.specs.Bus.{IsNested, LeadsTo, has_bus_order, is_behind, is_strictly_inside, are_apart, is_root, has_no_root_behind, secondary}
+use Rattle.pci_spec.specs.System.{Function, IsFunction, IsSystem, is_bridge}
+use Rattle.pci_spec.specs.Bus.{IsNested, LeadsTo, has_bus_order, is_behind, is_strictly_inside, is_root, has_no_root_behind}
 use Rattle.pci_spec.specs.Decoded.{IsDecodable}
-use Rattle.pci_spec.specs.Fault.{SomeAt, HasBarFault, NoVendor, HeaderKind, BarType, BarMask, BarPair, RomMask, WindowMask, CapRange, CapLoop, CapCut, SlotsDiffer, StrayProbe, LoneFunction, PaletteSnoop, VgaEnable, IsaEnable, Subtractive, InReset, PowerState, BusRange, Orphan, Unreached, Clash, Split, is_stray}
+use Rattle.pci_spec.specs.Fault.{SomeAt, HasBarFault, NoVendor, HeaderKind, BarType, BarMask, BarPair, RomMask, WindowMask, CapRange, CapLoop, CapCut, SlotsDiffer, StrayProbe, LoneFunction, PaletteSnoop, VgaEnable, IsaEnable, Subtractive, InReset, PowerState, BusRange, Orphan, Unreached, Clash, Split}
 use Rattle.pci_spec.specs.Sound.{IsInProfile, HasChains}
 use Rattle.pci_spec.proofs.Examples.Samples.{slot, host}
 use Rattle.pci_spec.proofs.Examples.Texts.{bytes_by}

@@ -1,12 +1,12 @@
 -- The worked tree: the numbers that planning puts into each function, and that nothing stands against a plan.
-use Rattle.std.proofs.Common.{◌≡◌, ℕ, zero, suc, ◌<◌, List, [], ◌∷◌, ◌||◌, refl, Bool, true, false, map, arith, inl, inr, subst}
+use Rattle.std.proofs.Common.{◌≡◌, ℕ, zero, suc, ◌<◌, ◌||◌, refl, Bool, true, arith, inl, inr, subst}
 use Rattle.std.specs.Bool.{IsTrue, IsFalse, ◌==◌}
 use Rattle.std.specs.List.{Contains, list_all, list_any, AllZip}
 use Rattle.std.proofs.lemmas.Bool.{or_cases, both_ways, eqb-true}
 use Rattle.pci_spec.specs.Number.{each_from, byte_at, number_at, IsImage}
 use Rattle.pci_spec.specs.Slot.{Slot}
 use Rattle.pci_spec.specs.Header.{command, layout, address_registers}
-use Rattle.pci_spec.specs.System.{Function, System, bars_and_rom}
+use Rattle.pci_spec.specs.System.{Function, bars_and_rom}
 use Rattle.pci_spec.specs.Fault.{is_in_address_register}
 use Rattle.pci_spec.specs.Plan.{Class, IoClass, MemoryClass, PrefetchClass, LacksWindow, is_io_part, fits, items_within, doubled_to}
 use Rattle.pci_spec.specs.Place.{start_within}

@@ -1,5 +1,5 @@
 -- The worked tree after its writes: each BAR and the window stand at their places.
-use Rattle.std.proofs.Common.{◌≡◌, ℕ, List, [], ◌∷◌, refl, Bool, true, false, Some, sym}
+use Rattle.std.proofs.Common.{◌≡◌, refl, Bool, true, Some, sym}
 use Rattle.std.specs.Bool.{IsTrue, IsFalse, ◌==◌}
 use Rattle.std.specs.List.{Contains, list_all}
 use Rattle.std.proofs.lemmas.Bool.{eqb-true}

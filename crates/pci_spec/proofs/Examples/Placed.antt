@@ -1,5 +1,5 @@
 -- Systems after a plan's writes: what is placed, open and enabled.
-use Rattle.std.proofs.Common.{◌≡◌, List, [], ◌∷◌, refl, true, false, map, lit<, take, ℕ, zero, suc, subst, arith}
+use Rattle.std.proofs.Common.{◌≡◌, List, [], ◌∷◌, refl, true, false, map, lit<, take, zero, suc, subst, arith}
 use Rattle.std.proofs.lemmas.Bool.{both_ways}
 use Rattle.pci_spec.specs.Window.{IoWindow, MemoryWindow, PrefetchWindow}
 use Rattle.pci_spec.specs.System.{Function, System, Io, Memory, bars_and_rom}

@@ -1,12 +1,12 @@
 -- Why nothing is planned, and which of several reasons is named.
-use Rattle.std.proofs.Common.{◌≡◌, ℕ, zero, suc, ◌<◌, ◌≤◌, List, [], ◌∷◌, refl, Bool, true, false, arith, lit<, lit≤, sym, subst}
-use Rattle.std.specs.Bool.{IsTrue, IsFalse}
+use Rattle.std.proofs.Common.{◌≡◌, ℕ, zero, suc, ◌≤◌, List, [], ◌∷◌, refl, arith, lit<, lit≤, sym, subst}
+use Rattle.std.specs.Bool.{IsTrue}
 use Rattle.std.specs.List.{Contains, list_any}
 use Rattle.std.proofs.lemmas.Bool.{both_ways}
 use Rattle.pci_spec.specs.Slot.{Slot, slot_number}
 use Rattle.pci_spec.specs.System.{System, Function, bars_and_rom}
 use Rattle.pci_spec.specs.Fault.{Fault}
-use Rattle.pci_spec.specs.Plan.{Pools, Class, IoClass, MemoryClass, PrefetchClass, PlanFault, BadPools, NoWindow, NoRoom, NotAccepted, plan_fault_number, LacksWindow, is_io_part, items_within, doubled_to}
+use Rattle.pci_spec.specs.Plan.{Pools, IoClass, MemoryClass, PrefetchClass, PlanFault, BadPools, NoWindow, NoRoom, NotAccepted, plan_fault_number, LacksWindow, is_io_part, items_within, doubled_to}
 use Rattle.pci_spec.specs.PlanPromise.{IsFirstLacking, IsPlanFaultOf, CanBePlanned}
 use Rattle.pci_spec.proofs.Examples.Samples.{slot, device, bridge, host}
 use Rattle.pci_spec.proofs.Examples.Plans.{pools, three, pool}

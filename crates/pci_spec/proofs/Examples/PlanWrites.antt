@@ -1,7 +1,6 @@
 -- The writes that lead from one state of a system to another, evaluated.
-use Rattle.std.proofs.Common.{◌≡◌, ℕ, List, [], ◌∷◌, refl, map, length}
-use Rattle.std.specs.List.{sum}
-use Rattle.pci_spec.specs.System.{Function, System}
+use Rattle.std.proofs.Common.{◌≡◌, List, [], ◌∷◌, refl, map, length}
+use Rattle.pci_spec.specs.System.{System}
 use Rattle.pci_spec.specs.Machine.{Write}
 use Rattle.pci_spec.specs.PlanPromise.{changes_between}
 use Rattle.pci_spec.specs.Planning.PlanWrites.{closing_writes, plan_writes, most_writes}

@@ -1,5 +1,5 @@
 -- A planned system: the old one with everything placed in its pool, open and enabled.
-use Rattle.std.proofs.Common.{◌≡◌, ℕ, zero, suc, ◌<◌, ◌≤◌, [], ◌∷◌, ◌&&◌, ◌||◌, refl, Bool, true, false, inl, inr, arith, lit<, subst, ◌∙◌, List, map, ap}
+use Rattle.std.proofs.Common.{◌≡◌, ℕ, zero, suc, ◌<◌, ◌≤◌, [], ◌∷◌, ◌&&◌, ◌||◌, refl, Bool, true, false, inl, inr, arith, lit<, subst, ◌∙◌, map, ap}
 use Rattle.std.specs.Bool.{IsTrue, IsFalse, nat_le, nat_lt, ◌==◌}
 use Rattle.std.specs.Int.{bit_at}
 use Rattle.std.specs.List.{Contains, AllZip}

@@ -1,6 +1,6 @@
 -- What a plan promises: safe stops, changes and ROMs switched on.
-use Rattle.std.proofs.Common.{◌≡◌, ℕ, zero, suc, ◌+◌, ◌<◌, ◌≤◌, List, [], ◌∷◌, refl, Bool, true, false, map, take, length, arith, lit<, lit≤, ap, sym, ◌∙◌, inl, inr}
-use Rattle.std.specs.List.{Contains, sum}
+use Rattle.std.proofs.Common.{◌≡◌, ℕ, zero, suc, List, [], ◌∷◌, refl, map, take, length, arith, lit<, lit≤, ap, sym, ◌∙◌}
+use Rattle.std.specs.List.{sum}
 use Rattle.pci_spec.specs.Number.{each_from}
 use Rattle.pci_spec.specs.Slot.{Slot}
 use Rattle.pci_spec.specs.Window.{MemoryWindow}
@@ -8,7 +8,7 @@ use Rattle.pci_spec.specs.System.{System, Function, Claims, Bar, Window, Memory}
 use Rattle.pci_spec.specs.Sound.{IsSound}
 use Rattle.pci_spec.specs.Machine.{Write, system_after, number_of_bits, writable_bits, clearing_bits, written}
 use Rattle.pci_spec.specs.PlanPromise.{IsSafeFrom, StopsSafely, EachWriteChanges, with_rom_on, changes_between}
-use Rattle.pci_spec.specs.Planning.PlanWrites.{closing_writes, plan_writes, most_writes}
+use Rattle.pci_spec.specs.Planning.PlanWrites.{closing_writes, most_writes}
 use Rattle.pci_spec.proofs.Examples.Samples.{slot, device, bridge, host, write}
 use Rattle.pci_spec.proofs.Examples.Placed.{start, planned}
 use Rattle.pci_spec.proofs.Examples.PlanWrites.{all_on}

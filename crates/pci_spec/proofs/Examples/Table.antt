@@ -1,5 +1,5 @@
 -- The worked tree: what is placed largest first on the root, and behind the bridge.
-use Rattle.std.proofs.Common.{◌≡◌, ℕ, zero, suc, ◌+◌, ◌^◌, ◌<◌, ◌≤◌, ◌%◌, List, [], ◌∷◌, ◌&&◌, refl, Bool, true, false, map, length, arith, lit<, lit≤, subst, slice_index, slice_index_or}
+use Rattle.std.proofs.Common.{◌≡◌, ℕ, zero, suc, ◌^◌, ◌<◌, ◌≤◌, List, [], ◌∷◌, ◌&&◌, refl, Bool, true, length, arith, lit<, lit≤, slice_index, slice_index_or}
 use Rattle.std.specs.Bool.{IsTrue, nat_lt}
 use Rattle.std.specs.List.{Contains, sum}
 use Rattle.std.proofs.lemmas.Bool.{and_parts, ltb-true}
@@ -8,13 +8,12 @@ use Rattle.pci_spec.specs.Window.{IoWindow, MemoryWindow, PrefetchWindow}
 use Rattle.pci_spec.specs.System.{Function, Part, Bar, Rom, Window, is_bridge}
 use Rattle.pci_spec.specs.Bus.{secondary}
 use Rattle.pci_spec.specs.Decoded.{has_bar}
-use Rattle.pci_spec.specs.Plan.{Class, IoClass, MemoryClass, PrefetchClass, pool_of, raised_to, greatest, same_class, class_of, items_within, doubled_to}
+use Rattle.pci_spec.specs.Plan.{Class, MemoryClass, items_within, doubled_to}
 use Rattle.pci_spec.specs.Place.{start_within}
 use Rattle.pci_spec.specs.Planning.Numbers.{place_at}
 use Rattle.pci_spec.specs.Planning.Placing.{IsPower, IsFalling}
 use Rattle.pci_spec.specs.Planning.Room.{root_items}
-use Rattle.pci_spec.specs.Planning.Table.{Item, IsPlacedOn, IsPlacing, IsTable, is_placed, need_behind, size_at}
-use Rattle.pci_spec.specs.Planning.Layout.{is_item}
+use Rattle.pci_spec.specs.Planning.Table.{Item, IsPlacedOn, IsPlacing, IsTable, is_placed, need_behind}
 use Rattle.pci_spec.proofs.Planning.Rooms.{table_by_fit}
 use Rattle.pci_spec.proofs.Examples.Samples.{host}
 use Rattle.pci_spec.proofs.Examples.Plans.{pools}

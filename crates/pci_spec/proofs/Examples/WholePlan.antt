@@ -1,23 +1,22 @@
 -- The worked tree's plan: all that a plan promises is met at once.
-use Rattle.std.proofs.Common.{◌≡◌, ℕ, zero, suc, ◌+◌, ◌-◌, ◌<◌, ◌≤◌, List, [], ◌∷◌, ◌&&◌, ◌||◌, refl, Bool, true, false, map, length, arith, lit<, lit≤, subst, inr, take, not, ap, ◌∙◌}
-use Rattle.std.specs.Bool.{IsTrue, IsFalse, nat_lt, ◌==◌}
+use Rattle.std.proofs.Common.{◌≡◌, ℕ, zero, suc, ◌+◌, ◌-◌, ◌<◌, ◌≤◌, List, [], ◌∷◌, ◌&&◌, ◌||◌, refl, Bool, true, false, length, arith, lit<, lit≤, subst, inr, take, not, ap, ◌∙◌}
+use Rattle.std.specs.Bool.{IsTrue, nat_lt, ◌==◌}
 use Rattle.std.specs.List.{All, Contains, list_all, AllZip}
-use Rattle.std.proofs.lemmas.Bool.{and_parts, ltb-true, eqb-true, or_cases, both_ways}
+use Rattle.std.proofs.lemmas.Bool.{and_parts, ltb-true, eqb-true}
 use Rattle.pci_spec.specs.Number.{has_bit}
 use Rattle.pci_spec.specs.Header.{command, layout, bar_count}
 use Rattle.pci_spec.specs.Window.{IoWindow, MemoryWindow, PrefetchWindow}
 use Rattle.pci_spec.specs.Decoded.{Range, has_bar}
-use Rattle.pci_spec.specs.System.{Function, Part, Bar, Rom, Window, Io, Memory, is_bridge}
-use Rattle.pci_spec.specs.Bus.{secondary}
+use Rattle.pci_spec.specs.System.{Function, Part, Bar, Rom, Window, Io, Memory}
 use Rattle.pci_spec.specs.Sound.{IsSound}
 use Rattle.pci_spec.specs.Machine.{system_after}
-use Rattle.pci_spec.specs.Plan.{Class, IoClass, MemoryClass, PrefetchClass, pool_of, raised_to, greatest, window_of, class_of, wants, IsMoved, items_within, doubled_to}
+use Rattle.pci_spec.specs.Plan.{Class, IoClass, MemoryClass, PrefetchClass, raised_to, greatest, window_of, class_of, wants, IsMoved, items_within, doubled_to}
 use Rattle.pci_spec.specs.Place.{start_within}
-use Rattle.pci_spec.specs.PlanPromise.{IsPlanOf, IsSafeFrom, with_rom_on, changes_between}
+use Rattle.pci_spec.specs.PlanPromise.{IsPlanOf, changes_between}
 use Rattle.pci_spec.specs.Planning.Layout.{range_of, is_item, IsSwitchedOn}
 use Rattle.pci_spec.specs.Planning.Room.{root_items}
 use Rattle.pci_spec.specs.Planning.Safety.{IsSafe}
-use Rattle.pci_spec.specs.Planning.PlanWrites.{Change, plan_writes, closing_writes, most_writes}
+use Rattle.pci_spec.specs.Planning.PlanWrites.{Change, plan_writes}
 use Rattle.pci_spec.specs.Planning.Table.{IsPlacedOn, IsPlacing, IsTable, IsShown, is_placed, size_in, need_behind}
 use Rattle.pci_spec.proofs.Planning.Behind.{all_gives}
 use Rattle.pci_spec.proofs.Planning.Rooms.{table_by_fit}
