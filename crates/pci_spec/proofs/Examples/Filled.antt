@@ -1,5 +1,5 @@
 -- The worked tree: the numbers that planning puts into each function, and that nothing stands against a plan.
-use Rattle.std.proofs.Common.{◌≡◌, ℕ, zero, suc, ◌<◌, ◌||◌, refl, Bool, true, arith, inl, inr, subst}
+use Rattle.std.proofs.Common.{◌≡◌, ℕ, zero, suc, ◌<◌, ◌||◌, refl, Bool, true, arith, inl, inr, subst, lit<, [], ◌∷◌}
 use Rattle.std.specs.Bool.{IsTrue, IsFalse, ◌==◌}
 use Rattle.std.specs.List.{Contains, list_all, list_any, AllZip}
 use Rattle.std.proofs.lemmas.Bool.{or_cases, both_ways, eqb-true}
@@ -14,7 +14,7 @@ use Rattle.pci_spec.specs.PlanPromise.{CanBePlanned}
 use Rattle.pci_spec.specs.Planning.Numbers.{IsFilled, IsPlannedFunction, new_number, new_command}
 use Rattle.pci_spec.proofs.Bits.{each_from-at}
 use Rattle.pci_spec.proofs.Planning.Behind.{all_gives}
-use Rattle.pci_spec.proofs.Examples.Samples.{host}
+use Rattle.pci_spec.proofs.Examples.Samples.{host, slot, device}
 use Rattle.pci_spec.proofs.Examples.Texts.{bytes_by}
 use Rattle.pci_spec.proofs.Examples.Plans.{pools}
 use Rattle.pci_spec.proofs.Examples.Placed.{start, planned}
@@ -67,6 +67,18 @@ behind_is_filled = filled_by (new_number host start pools old_behind) (new_comma
 
 pub whole_tree_is_filled : AllZip (IsPlannedFunction host start pools) start planned
 whole_tree_is_filled = (bridge_is_filled, (device_is_filled, (behind_is_filled, tt)))
+
+-- what has another number, another Command or another byte besides is not
+
+without_its_number : IsPlannedFunction host start pools old_device (device (slot 0 2 0) 2 [] ((0x10, 0xfff00000) ∷ [])) → ⊥
+unfolding start_within items_within doubled_to
+without_its_number h = let e : 0 ≡ 0xe0200000 = h.registers (0x10, 4) (0, lit< tt, refl) in omega (arith, e)
+
+not_switched_on : IsPlannedFunction host start pools old_device (device (slot 0 2 0) 0 ((0x10, 0xe0200000) ∷ []) ((0x10, 0xfff00000) ∷ [])) → ⊥
+not_switched_on h = let e : 0 ≡ 2 = h.command_is in omega (arith, e)
+
+with_another_byte : IsPlannedFunction host start pools old_device (device (slot 0 2 0) 2 ((0x10, 0xe0200000) ∷ (0x3c, 1) ∷ []) ((0x10, 0xfff00000) ∷ [])) → ⊥
+with_another_byte h = let e : 1 ≡ 0 = h.others 0x3c (lit< tt) refl refl in omega (arith, e)
 
 -- ---- nothing stands against a plan
 

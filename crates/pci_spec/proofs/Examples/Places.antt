@@ -15,48 +15,48 @@ places s p c items = map (place_of host s p c) items
 
 -- ---- a bridge with two BARs behind it, beside a device
 
-abbrev b1 : Function
-b1 = bridge (slot 0 1 0) 0 0x10100 [] []
+abbrev first_bridge : Function
+first_bridge = bridge (slot 0 1 0) 0 0x10100 [] []
 
-abbrev d2 : Function
-d2 = device (slot 0 2 0) 0 [] ((0x10, 0xfff00000) ∷ [])
+abbrev beside_it : Function
+beside_it = device (slot 0 2 0) 0 [] ((0x10, 0xfff00000) ∷ [])
 
-abbrev e1 : Function
-e1 = device (slot 1 0 0) 0 [] ((0x10, 0xfff00000) ∷ (0x14, 0xfffff000) ∷ [])
+abbrev behind_it : Function
+behind_it = device (slot 1 0 0) 0 [] ((0x10, 0xfff00000) ∷ (0x14, 0xfffff000) ∷ [])
 
-window_then_bars : places start pools MemoryClass (window_item start pools MemoryClass b1 ∷ part_item d2 (Bar 0) ∷ part_item e1 (Bar 0) ∷ part_item e1 (Bar 1) ∷ [])
+window_then_bars : places start pools MemoryClass (window_item start pools MemoryClass first_bridge ∷ part_item beside_it (Bar 0) ∷ part_item behind_it (Bar 0) ∷ part_item behind_it (Bar 1) ∷ [])
     ≡ 0xe0000000 ∷ 0xe0200000 ∷ 0xe0000000 ∷ 0xe0100000 ∷ []
 unfolding start_within items_within doubled_to
 window_then_bars = refl
 
 -- ---- a BAR of 4 KB and a ROM of 64 KB, from an address that is no multiple
 
-abbrev r1 : Function
-r1 = device (slot 0 1 0) 0 [] ((0x10, 0xfffff000) ∷ (0x30, 0xffff0000) ∷ [])
+abbrev with_rom : Function
+with_rom = device (slot 0 1 0) 0 [] ((0x10, 0xfffff000) ∷ (0x30, 0xffff0000) ∷ [])
 
-rom_first : places (r1 ∷ []) (three (pool 0x1000 0xffff) (pool 0xe0000800 0xe0020fff) (pool 0x100000000 0x1ffffffff)) MemoryClass (part_item r1 (Bar 0) ∷ part_item r1 Rom ∷ [])
+rom_first : places (with_rom ∷ []) (three (pool 0x1000 0xffff) (pool 0xe0000800 0xe0020fff) (pool 0x100000000 0x1ffffffff)) MemoryClass (part_item with_rom (Bar 0) ∷ part_item with_rom Rom ∷ [])
     ≡ 0xe0020000 ∷ 0xe0010000 ∷ []
 unfolding start_within items_within doubled_to
 rom_first = refl
 
 -- ---- two roots side by side
 
-abbrev t0 : Function
-t0 = device (slot 0 1 0) 0 [] ((0x10, 0xfff00000) ∷ [])
+abbrev on_root_0 : Function
+on_root_0 = device (slot 0 1 0) 0 [] ((0x10, 0xfff00000) ∷ [])
 
-abbrev t4 : Function
-t4 = device (slot 0x40 1 0) 0 [] ((0x10, 0xfff00000) ∷ [])
+abbrev on_root_40 : Function
+on_root_40 = device (slot 0x40 1 0) 0 [] ((0x10, 0xfff00000) ∷ [])
 
-roots_are_one_bus : map (place_of (0 ∷ 0x40 ∷ []) (t0 ∷ t4 ∷ []) pools MemoryClass) (part_item t0 (Bar 0) ∷ part_item t4 (Bar 0) ∷ [])
+roots_are_one_bus : map (place_of (0 ∷ 0x40 ∷ []) (on_root_0 ∷ on_root_40 ∷ []) pools MemoryClass) (part_item on_root_0 (Bar 0) ∷ part_item on_root_40 (Bar 0) ∷ [])
     ≡ 0xe0000000 ∷ 0xe0100000 ∷ []
 unfolding start_within items_within doubled_to
 roots_are_one_bus = refl
 
 -- a larger item of a later root comes first
-abbrev t8 : Function
-t8 = device (slot 0x40 1 0) 0 [] ((0x10, 0xffe00000) ∷ [])
+abbrev larger_on_root_40 : Function
+larger_on_root_40 = device (slot 0x40 1 0) 0 [] ((0x10, 0xffe00000) ∷ [])
 
-largest_of_all_roots_comes_first : map (place_of (0 ∷ 0x40 ∷ []) (t0 ∷ t8 ∷ []) pools MemoryClass) (part_item t0 (Bar 0) ∷ part_item t8 (Bar 0) ∷ [])
+largest_of_all_roots_comes_first : map (place_of (0 ∷ 0x40 ∷ []) (on_root_0 ∷ larger_on_root_40 ∷ []) pools MemoryClass) (part_item on_root_0 (Bar 0) ∷ part_item larger_on_root_40 (Bar 0) ∷ [])
     ≡ 0xe0200000 ∷ 0xe0000000 ∷ []
 unfolding start_within items_within doubled_to
 largest_of_all_roots_comes_first = refl
@@ -173,7 +173,7 @@ bar_before_the_window : places (wide_with_a_bar ∷ wide_device ∷ []) roomy Pr
 unfolding start_within items_within doubled_to
 bar_before_the_window = refl
 
-windows_of_items : map (λ c. (window_item start pools c b1).part) (IoClass ∷ MemoryClass ∷ PrefetchClass ∷ []) ≡ Window IoWindow ∷ Window MemoryWindow ∷ Window PrefetchWindow ∷ []
+windows_of_items : map (λ c. (window_item start pools c first_bridge).part) (IoClass ∷ MemoryClass ∷ PrefetchClass ∷ []) ≡ Window IoWindow ∷ Window MemoryWindow ∷ Window PrefetchWindow ∷ []
 windows_of_items = refl
 
 -- a window of unset numbers has the low nibble of its read back
