@@ -5,7 +5,7 @@ use Rattle.std.specs.List.{All}
 use Rattle.std.proofs.lemmas.List.{length-append, length-map, length-replicate}
 use Rattle.std.specs.List.Sorted.{IsStrictlyIncreasing}
 use Rattle.std.proofs.lemmas.List.Elements.{All-replicate}
-use Rattle.pci_spec.specs.Text.{Block, IsBlock, IsTitle, is_title_byte, slot_text, title_text, block_text, text_of, line_ends, slots_of, BeginsBlock, IsGood, BadSlot, BadTitle, BadLine, NoBlank, Order, TooMany, Ended}
+use Rattle.pci_spec.specs.Text.{Block, IsBlock, IsTitle, is_title_byte, slot_text, title_text, block_text, text_of, line_ends, slots_of, BeginsBlock, IsGood, BadSlot, BadTitle, BadLine, NoBlank, Order, TooMany, Ended, StopsWhere}
 use Rattle.pci_spec.specs.Slot.{slot_number, IsRising}
 use Rattle.pci_spec.specs.Form.{value_cells, rows_cells, rest_cells}
 use Rattle.pci_spec.specs.TextLaws.{BlockWithoutTitleHasLength, BlockHasMostLength, LongestBlockIsThere, DumpListsSlotsInOrder, FaultIsInItsLine}
@@ -13,7 +13,7 @@ use Rattle.pci_spec.proofs.Forms.{parts_of, made_of, fits_length, filler, filled
 use Rattle.pci_spec.proofs.Fronts.{rising_more}
 use Rattle.pci_spec.proofs.Faults.{text_ends}
 use Rattle.pci_spec.proofs.Beginnings.{begun_at_most}
-use Rattle.pci_spec.proofs.TextLaws.{Says, Stop, stop_of, no_end_in_slot, begins_part, room_for_part}
+use Rattle.pci_spec.proofs.TextLaws.{Says, no_end_in_slot, begins_part, room_for_part}
 
 lines_length : length rest_cells ≡ 833
 unfolding rows_cells value_cells
@@ -83,7 +83,7 @@ dump_lists_slots_in_order blocks j k d order below =
 -- ---- lines
 
 -- the line of a stop: eighteen for each whole block, and those of its own block
-line_of_stop : (bytes : List ℕ) (line : ℕ) (P : Says) (s : Stop bytes line P) → line ≡ 18 * length s.blocks + line_ends s.part + 1
+line_of_stop : (bytes : List ℕ) (line : ℕ) (P : Says) (s : StopsWhere bytes line P) → line ≡ 18 * length s.blocks + line_ends s.part + 1
 line_of_stop bytes line P s =
     let front = ap line_ends s.is_front.split in
     let both = line_ends_append (text_of s.blocks) s.part in
@@ -117,35 +117,35 @@ nothing_begun (c ∷ part) none = absurd (none (omega arith))
 
 pub fault_is_in_its_line : FaultIsInItsLine
 fault_is_in_its_line bytes (BadSlot line) h =
-    let s = stop_of bytes line _ h in
+    let s = h in
     let at = line_of_stop bytes line _ s in
     let none = no_end_in_slot s.part (begins_part s.front s.blocks s.part s.is_front) s.holds.1 in
     omega (arith, at, none)
 fault_is_in_its_line bytes (BadTitle line) h =
-    let s = stop_of bytes line _ h in
+    let s = h in
     let at = line_of_stop bytes line _ s in
     let none = s.holds.1 in
     omega (arith, at, none)
 fault_is_in_its_line bytes (BadLine line) h =
-    let s = stop_of bytes line _ h in
+    let s = h in
     let at = line_of_stop bytes line _ s in
     let some = s.holds.0 in
     let most = s.holds.1 in
     (omega (arith, at, some, most), omega (arith, at, some, most))
 fault_is_in_its_line bytes (NoBlank line) h =
-    let s = stop_of bytes line _ h in
+    let s = h in
     let at = line_of_stop bytes line _ s in
     let all = s.holds in
     (omega (arith, at, all), omega (arith, at, all))
 fault_is_in_its_line bytes (Order line) h =
-    let s = stop_of bytes line _ h in
+    let s = h in
     let at = line_of_stop bytes line _ s in
     let six = s.holds.0 in
     let none = no_end_in_slot s.part (begins_part s.front s.blocks s.part s.is_front) (omega (arith, six)) in
     let some = behind_a_block s.blocks s.part s.front s.byte s.is_front.split s.holds.1 s.bad in
     (omega (arith, at, none), omega (arith, at, none, some))
 fault_is_in_its_line bytes (TooMany line) h =
-    let s = stop_of bytes line _ h in
+    let s = h in
     let at = line_of_stop bytes line _ s in
     let full = s.holds in
     let none = nothing_begun s.part (λ some. let few = room_for_part s.front s.blocks s.part s.is_front some in omega (arith, few, full)) in

@@ -25,3 +25,13 @@ pub mod First
 pub mod Apart
 pub mod Listings
 pub mod Phases
+pub mod Places
+pub mod PlanWrites
+pub mod Filled
+pub mod InPlace
+pub mod NewNumbers
+pub mod Admitted
+pub mod Promises
+pub mod PlanFaults
+pub mod Table
+pub mod WholePlan

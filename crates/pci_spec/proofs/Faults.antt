@@ -87,18 +87,19 @@ fault_ended blocks bytes d few s =
 
 pub fault_many : (blocks : List Block) (c : ℕ) (more : List ℕ) → IsDump blocks → length blocks ≡ 4096 → IsFaultOf (text_of blocks ++ c ∷ more) (TooMany (18 * length blocks + 0 + 1))
 fault_many blocks c more d full =
-    let b = nothing_begins in (
-      text_of blocks ++ [],
-      c,
-      more,
-      sym (append_assoc (text_of blocks) [] (c ∷ more)),
-      blocks,
-      [],
-      record { split = refl; each = d.each; rising = d.rising; next = (b.0, b.1, λ h. absurd (let no : ⊥ = omega (arith, h) in no)); room = d.room },
-      too_many blocks c more d.each d.rising full b,
-      line_of blocks [] 0 d.each refl,
-      full,
-    )
+    let b = nothing_begins in
+    record {
+      front = text_of blocks ++ [];
+      byte = c;
+      more = more;
+      split = sym (append_assoc (text_of blocks) [] (c ∷ more));
+      blocks = blocks;
+      part = [];
+      is_front = record { split = refl; each = d.each; rising = d.rising; next = (b.0, b.1, λ h. absurd (let no : ⊥ = omega (arith, h) in no)); room = d.room };
+      bad = too_many blocks c more d.each d.rising full b;
+      in_line = line_of blocks [] 0 d.each refl;
+      holds = full;
+    }
 
 -- ---- the input ends
 

@@ -139,18 +139,19 @@ pub stops_where : (P : List Block → List ℕ → ℕ → Type 0) (blocks : Lis
 stops_where P blocks bytes part more c line each rising few stop at holds =
     let split : text_of blocks ++ (bytes ++ more) ≡ (text_of blocks ++ part) ++ c ∷ (stop.more ++ more) =
     ap (λ (t : List ℕ). text_of blocks ++ (t ++ more)) stop.split ∙ ap (λ (t : List ℕ). text_of blocks ++ t) (append_assoc part (c ∷ stop.more) more)
-    ∙ sym (append_assoc (text_of blocks) part (c ∷ (stop.more ++ more))) in (
-      text_of blocks ++ part,
-      c,
-      stop.more ++ more,
-      split,
-      blocks,
-      part,
-      front_of blocks part stop.block each rising few stop.begun stop.above,
-      not_good blocks part c each (stop.block, stop.begun) stop.no,
-      at,
-      holds,
-    )
+    ∙ sym (append_assoc (text_of blocks) part (c ∷ (stop.more ++ more))) in
+    record {
+      front = text_of blocks ++ part;
+      byte = c;
+      more = stop.more ++ more;
+      split = split;
+      blocks = blocks;
+      part = part;
+      is_front = front_of blocks part stop.block each rising few stop.begun stop.above;
+      bad = not_good blocks part c each (stop.block, stop.begun) stop.no;
+      in_line = at;
+      holds = holds;
+    }
 
 -- A first byte after 4096 blocks.
 pub too_many : (blocks : List Block) (c : ℕ) (more : List ℕ) → All IsBlock blocks → IsRising (slots_of blocks) → length blocks ≡ 4096 → BeginsBlock []

@@ -30,6 +30,7 @@ pub mod Walks
 pub mod Members
 pub mod Rising
 pub mod Records
+pub mod Settling
 pub mod Verdicts
 pub mod Sounding
 pub mod Regions

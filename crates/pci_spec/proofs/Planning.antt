@@ -73,6 +73,5 @@ pub mod Tables
 pub mod ValueFits
 pub mod Whole
 pub mod WorkedNumbers
-pub mod WorkedRows
 pub mod WindowFits
 pub mod Writes

@@ -29,29 +29,13 @@ text_is_of_one_dump bytes blocks others h k = text_same blocks others h.0.each k
 abbrev pub Says : Type 1
 Says = List Block → List ℕ → ℕ → Type 0
 
--- a good front, and the byte after it with which the input stops being good
-pub record Stop (bytes : List ℕ) (line : ℕ) (P : Says) : Type 0 where
-  pub front : List ℕ
-  pub byte : ℕ
-  pub more : List ℕ
-  pub split : bytes ≡ front ++ byte ∷ more
-  pub blocks : List Block
-  pub part : List ℕ
-  pub is_front : IsFront front blocks part
-  pub bad : IsGood (front ++ byte ∷ []) → ⊥
-  pub in_line : line ≡ line_after front
-  pub holds : P blocks part byte
-
-pub stop_of : (bytes : List ℕ) (line : ℕ) (P : Says) → StopsWhere bytes line P → Stop bytes line P
-stop_of bytes line P s = record { front = s.0; byte = s.1; more = s.2; split = s.3; blocks = s.4; part = s.5; is_front = s.6; bad = s.7; in_line = s.8; holds = s.9 }
-
 -- where an input stops it isn't good
-pub not_good_at_stop : (bytes : List ℕ) (line : ℕ) (P : Says) → Stop bytes line P → IsGood bytes → ⊥
+pub not_good_at_stop : (bytes : List ℕ) (line : ℕ) (P : Says) → StopsWhere bytes line P → IsGood bytes → ⊥
 not_good_at_stop bytes line P s good =
     let split : bytes ≡ (s.front ++ s.byte ∷ []) ++ s.more = s.split ∙ sym (append_assoc s.front (s.byte ∷ []) s.more) in
     s.bad (beginnings_are_good (s.front ++ s.byte ∷ []) s.more (subst IsGood split good))
 
-not_later : (bytes : List ℕ) (l m : ℕ) (P Q : Says) (s : Stop bytes l P) (t : Stop bytes m Q) → length s.front < length t.front → ⊥
+not_later : (bytes : List ℕ) (l m : ℕ) (P Q : Says) (s : StopsWhere bytes l P) (t : StopsWhere bytes m Q) → length s.front < length t.front → ⊥
 not_later bytes l m P Q s t below =
     let one = length-append s.front (s.byte ∷ []) in
     let e : (s.front ++ s.byte ∷ []) ++ s.more ≡ t.front ++ t.byte ∷ t.more = append_assoc s.front (s.byte ∷ []) s.more ∙ sym s.split ∙ t.split in
@@ -70,13 +54,13 @@ same_split (c ∷ a) (d ∷ b) x y more rest long e =
     ((λ i. first i ∷ others.0 i), others.1)
 
 -- two stops of one input are at one place
-pub record IsSameStop (bytes : List ℕ) (l m : ℕ) (P Q : Says) (s : Stop bytes l P) (t : Stop bytes m Q) : Type 0 where
+pub record IsSameStop (bytes : List ℕ) (l m : ℕ) (P Q : Says) (s : StopsWhere bytes l P) (t : StopsWhere bytes m Q) : Type 0 where
   pub line : l ≡ m
   pub byte : s.byte ≡ t.byte
   pub blocks : s.blocks ≡ t.blocks
   pub part : s.part ≡ t.part
 
-pub same_stop : (bytes : List ℕ) (l m : ℕ) (P Q : Says) (s : Stop bytes l P) (t : Stop bytes m Q) → IsSameStop bytes l m P Q s t
+pub same_stop : (bytes : List ℕ) (l m : ℕ) (P Q : Says) (s : StopsWhere bytes l P) (t : StopsWhere bytes m Q) → IsSameStop bytes l m P Q s t
 same_stop bytes l m P Q s t =
     let long : length s.front ≡ length t.front = elim (cases_lt (length s.front) (length t.front)) [
       | inl below ↦ absurd (not_later bytes l m P Q s t below)
@@ -155,32 +139,32 @@ some_part (c ∷ part) h = omega arith
 abbrev pub IsInZone : ℕ → Says
 IsInZone z blocks part byte = zone (length blocks) (length part) (line_ends part) ≡ z
 
-with_zone : (bytes : List ℕ) (line z : ℕ) (P : Says) (s : Stop bytes line P) → IsInZone z s.blocks s.part s.byte → Stop bytes line (IsInZone z)
+with_zone : (bytes : List ℕ) (line z : ℕ) (P : Says) (s : StopsWhere bytes line P) → IsInZone z s.blocks s.part s.byte → StopsWhere bytes line (IsInZone z)
 with_zone bytes line z P s h = record { front = s.front; byte = s.byte; more = s.more; split = s.split; blocks = s.blocks; part = s.part; is_front = s.is_front; bad = s.bad; in_line = s.in_line; holds = h }
 
 pub begins_part : (front : List ℕ) (blocks : List Block) (part : List ℕ) → IsFront front blocks part → BeginsBlock part
 begins_part front blocks part f = let next = f.next in (next.0, next.1)
 
 -- a fault but Ended is at a stop in its zone
-pub fault_zone : (bytes : List ℕ) (f : TextFault) → zone_of f < 5 → IsFaultOf bytes f → Stop bytes (line_of f) (IsInZone (zone_of f))
+pub fault_zone : (bytes : List ℕ) (f : TextFault) → zone_of f < 5 → IsFaultOf bytes f → StopsWhere bytes (line_of f) (IsInZone (zone_of f))
 fault_zone bytes (BadSlot line) early h =
-    let s = stop_of bytes line _ h in
+    let s = h in
     with_zone bytes line 0 _ s (in_slot (length s.blocks) (length s.part) (line_ends s.part) s.holds.0 s.holds.1 (no_end_in_slot s.part (begins_part s.front s.blocks s.part s.is_front) s.holds.1))
 fault_zone bytes (BadTitle line) early h =
-    let s = stop_of bytes line _ h in
+    let s = h in
     with_zone bytes line 1 _ s (in_title (length s.blocks) (length s.part) (line_ends s.part) (room_for_part s.front s.blocks s.part s.is_front (let l = s.holds.0 in omega (arith, l))) s.holds.0 s.holds.1)
 fault_zone bytes (BadLine line) early h =
-    let s = stop_of bytes line _ h in
+    let s = h in
     with_zone bytes line 2 _ s (in_byte_line (length s.blocks) (length s.part) (line_ends s.part) (room_for_part s.front s.blocks s.part s.is_front (some_part s.part s.holds.0)) s.holds.0 s.holds.1)
 fault_zone bytes (NoBlank line) early h =
-    let s = stop_of bytes line _ h in
+    let s = h in
     with_zone bytes line 3 _ s (in_empty_line (length s.blocks) (length s.part) (line_ends s.part) (room_for_part s.front s.blocks s.part s.is_front (some_part s.part (let l = s.holds in omega (arith, l)))) s.holds)
 fault_zone bytes (Order line) early h =
-    let s = stop_of bytes line _ h in
+    let s = h in
     let six = s.holds.0 in
     with_zone bytes line 0 _ s (in_slot (length s.blocks) (length s.part) (line_ends s.part) (room_for_part s.front s.blocks s.part s.is_front (omega (arith, six))) (omega (arith, six)) (no_end_in_slot s.part (begins_part s.front s.blocks s.part s.is_front) (omega (arith, six))))
 fault_zone bytes (TooMany line) early h =
-    let s = stop_of bytes line _ h in
+    let s = h in
     with_zone bytes line 4 _ s (after_all (length s.blocks) (length s.part) (line_ends s.part) s.holds)
 fault_zone bytes (Ended line) early h = absurd (omega (arith, early))
 
@@ -203,8 +187,8 @@ ended_alone bytes line g soon h k = not_good_at_stop bytes _ _ (fault_zone bytes
 -- a byte completes a slot or it doesn't
 slot_or_order : (bytes : List ℕ) (l m : ℕ) → IsFaultOf bytes (BadSlot l) → IsFaultOf bytes (Order m) → ⊥
 slot_or_order bytes l m h k =
-    let s = stop_of bytes l _ h in
-    let t = stop_of bytes m _ k in
+    let s = h in
+    let t = k in
     let same = same_stop bytes _ _ _ _ s t in
     let back : t.part ++ t.byte ∷ [] ≡ s.part ++ s.byte ∷ [] = sym (λ i. same.part i ++ same.byte i ∷ []) in
     s.holds.2 (subst BeginsBlock back t.holds.1)

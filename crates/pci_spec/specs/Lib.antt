@@ -27,5 +27,6 @@ pub mod CapabilityLaws
 pub mod MachineLaws
 pub mod JudgingLaws
 pub mod SoundLaws
+pub mod RecordLaws
 pub mod Planning
 pub mod PlanPromise

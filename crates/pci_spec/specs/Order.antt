@@ -1,5 +1,5 @@
 -- In which order faults are looked for. Of several that are there, the one with the least key is named.
-use Rattle.std.specs.Prelude.{ℕ, ◌==◌, nat_lt, Bool, false, ◌&&◌, ◌||◌, IsTrue, List, [], ◌∷◌, ◌++◌, slice_index}
+use Rattle.std.specs.Prelude.{ℕ, ◌+◌, ◌==◌, nat_lt, Bool, false, ◌&&◌, ◌||◌, IsTrue, List, [], ◌∷◌, ◌++◌, slice_index}
 use Rattle.std.specs.List.{filter, range_with_len}
 use Rattle.pci_spec.specs.Slot.{Slot}
 use Rattle.pci_spec.specs.Capability.{pointer}
@@ -42,9 +42,13 @@ phase_key Profile = 3
 phase_key Place = 4
 phase_key Judging = 5
 
--- at which steps of the walk along a capabilities list a place is met; a walk repeats a place within 64 steps or never
+-- there are 64 pointers: a walk repeats a place within so many steps or never
+abbrev pub longest_walk : ℕ
+longest_walk = 64
+
+-- at which steps of the walk along a capabilities list a place is met
 abbrev pub steps_at : List ℕ → ℕ → List ℕ
-steps_at image place = filter (λ n. pointer image n == place) (range_with_len 0 65)
+steps_at image place = filter (λ n. pointer image n == place) (range_with_len 0 (longest_walk + 1))
 
 -- what unreached addresses, clashes and splits are ordered by: unreached ones by region, bridge from the host outwards
 -- (the buses of bridges rise on the way) and address; clashes by bus, space, address and the two regions; splits likewise

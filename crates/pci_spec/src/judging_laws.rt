@@ -1,6 +1,7 @@
 //! Laws of judging and of soundness. These functions do nothing: each contract is a law.
 
 ghost use Rattle.pci_spec.specs.JudgingLaws.{SingleWithoutClashes, HomeWithoutUnreached, LeastUnreachedIsFirst, LeastClashIsFirst, LeastSplitIsFirst};
+ghost use Rattle.pci_spec.specs.RecordLaws.{RecordsSettleClaims};
 ghost use Rattle.pci_spec.specs.SoundLaws.{ChainWithoutFaults, SoundWithoutFaults};
 
 /// Single and home are the want of the faults of judging.
@@ -20,4 +21,9 @@ pub fn the_least_fault_is_first()
 pub fn sound_systems_have_no_fault()
     ensures chain { ChainWithoutFaults }
     ensures sound { SoundWithoutFaults }
+{}
+
+/// Records of functions settle which of their regions claim an address.
+pub fn records_tell_claims()
+    ensures { RecordsSettleClaims }
 {}

@@ -2,7 +2,7 @@
 use Rattle.std.proofs.Common.{◌≡◌, ℕ, ◌+◌, ◌*◌, List, [], ◌∷◌, refl, Bool, true, false, map}
 use Rattle.std.specs.List.{range_with_len, list_all}
 use Rattle.pci_spec.specs.System.{Function, System}
-use Rattle.pci_spec.specs.Bus.{has_lawful_buses, has_bus_order, has_no_root_behind, is_inside_its_parents, is_led_to, is_behind, are_apart, is_inside, is_strictly_inside}
+use Rattle.pci_spec.specs.Bus.{has_lawful_buses, has_bus_order, has_no_root_behind, is_inside_its_parents, is_led_to, is_behind, are_apart, is_inside, is_strictly_inside, is_apart_from_earlier}
 use Rattle.pci_spec.proofs.Examples.Samples.{slot, device, bridge, host}
 
 -- the bridge on a bus, with a device number, from its secondary to its subordinate bus
@@ -135,3 +135,10 @@ strictly_inside_from_either_end = refl
 
 root_behind_from_first_to_last : map (λ root. has_no_root_behind (0 ∷ root ∷ []) (on_bus 0 1 2 4)) (1 ∷ 2 ∷ 4 ∷ 5 ∷ []) ≡ true ∷ false ∷ false ∷ true ∷ []
 root_behind_from_first_to_last = refl
+
+-- ---- ranges that are crossed
+
+-- an earlier bridge from bus 5 down to 3 holds no bus; the later one's range is 2 to 9
+crossed_range_counts_as_overlapping :
+    is_apart_from_earlier host (bridge (slot 0 1 0) 0 0x30500 [] [] ∷ bridge (slot 0 2 0) 0 0x90200 [] [] ∷ []) (bridge (slot 0 2 0) 0 0x90200 [] []) ≡ false
+crossed_range_counts_as_overlapping = refl

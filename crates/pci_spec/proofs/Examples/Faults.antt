@@ -13,7 +13,7 @@ use Rattle.pci_spec.proofs.Examples.Samples.{put, put_bytes, zeros, blank, slot,
 
 -- ---- by the registers
 
-no_vendor : has_no_vendor (put 2 0 0xffff zeros) ∷ has_no_vendor (put 2 0 0xfffe zeros) ∷ has_no_vendor (blank 0 0) ∷ [] ≡ true ∷ false ∷ false ∷ []
+no_vendor : has_no_vendor (put 2 0 0xffff zeros) ∷ has_no_vendor (put 2 0 0xfffe zeros) ∷ has_no_vendor (blank 0 0) ∷ has_no_vendor zeros ∷ [] ≡ true ∷ false ∷ false ∷ false ∷ []
 no_vendor = refl
 
 other_layout : map (λ kind. has_other_layout (blank kind 0)) (0 ∷ 1 ∷ 2 ∷ 0x7f ∷ 0x80 ∷ 0x81 ∷ 0x82 ∷ []) ≡ false ∷ false ∷ true ∷ true ∷ false ∷ false ∷ true ∷ []
@@ -106,7 +106,7 @@ only_one : (f g : Function) → Contains (f ∷ []) g → f ≡ g
 only_one f g (zero, less, is) = is
 only_one f g (suc k, less, is) = absurd (let no : ⊥ = omega (arith, less) in no)
 
-none_at : (f : Function) (place : Slot) (P : Function → Type 0) → (P f → ⊥) → SomeAt (f ∷ []) place P → ⊥
+pub none_at : (f : Function) (place : Slot) (P : Function → Type 0) → (P f → ⊥) → SomeAt (f ∷ []) place P → ⊥
 none_at f place P not_there (g, listed, at, h) = not_there (subst P (sym (only_one f g listed)) h)
 
 no : false ≡ true → ⊥
@@ -213,3 +213,11 @@ no_order_among_others = refl
 
 nor_after_them : before (Clash 0 Io 0 (slot 0 1 0) 0x10 (slot 0 2 0) 0x10) (NoVendor (slot 0 0 0)) ≡ false
 nor_after_them = refl
+
+-- ---- faults of bridges alone
+
+device_is_not_in_reset : IsIn host (device (slot 0 1 0) 0 ((0x3c, 0xffff0000) ∷ []) [] ∷ []) (InReset (slot 0 1 0)) → ⊥
+device_is_not_in_reset h = none_at _ _ _ (both_ways false refl) h
+
+device_has_no_isa_enable : IsIn host (device (slot 0 1 0) 0 ((0x3c, 0xffff0000) ∷ []) [] ∷ []) (IsaEnable (slot 0 1 0)) → ⊥
+device_has_no_isa_enable h = none_at _ _ _ (both_ways false refl) h

@@ -1,5 +1,6 @@
 -- Listings of functions, to the byte.
-use Rattle.std.proofs.Common.{◌≡◌, ℕ, List, [], ◌∷◌, ◌++◌, refl, codes}
+use Rattle.std.proofs.Common.{◌≡◌, ℕ, ◌+◌, ◌*◌, List, [], ◌∷◌, ◌++◌, refl, codes, map}
+use Rattle.std.specs.List.{range_with_len}
 use Rattle.pci_spec.specs.Number.{each_from, some_from}
 use Rattle.pci_spec.specs.System.{Function}
 use Rattle.pci_spec.specs.Listing.{function_listing, places_of, listing}
@@ -66,5 +67,56 @@ raw_capabilities_along_the_list : function_listing (with_list ((0x34, 0x43) ∷ 
 unfolding function_listing places_of each_from some_from
 raw_capabilities_along_the_list = refl
 
+functions_by_slot : listing (device (slot 0 1 0) 0 [] [] ∷ device (slot 1 0 0) 0 [] [] ∷ [])
+    ≡ line (codes "00:01.0 type 0 vendor 1234 device 5678 class 000000 command 0000 status 0000")
+    ++ line (codes "01:00.0 type 0 vendor 1234 device 5678 class 000000 command 0000 status 0000")
+unfolding function_listing places_of each_from some_from
+functions_by_slot = refl
+
 nothing_to_list : listing [] ≡ []
 nothing_to_list = refl
+
+-- ---- fields beside bits that are not shown, and a full list
+
+-- bits beside the fields are not shown
+all_ones_of_power_management : function_listing (with_list ((0x34, 0x40) ∷ (0x40, 1) ∷ (0x42, 0xff) ∷ (0x43, 0xff) ∷ (0x44, 0xff) ∷ (0x45, 0xff) ∷ []))
+    ≡ head_with_list ++ codes "  cap 40 power version 7 d1 1 d2 1 pme 1f state 3 enable 1 status 1" ++ 10 ∷ []
+unfolding function_listing places_of each_from some_from
+all_ones_of_power_management = refl
+
+-- a bridge's windows come before its capabilities
+bridge_with_a_list : function_listing (bridge (slot 0 1 0) 0 0x010100 ((0x04, 0x00100000) ∷ (0x20, 0xfff0) ∷ (0x34, 0x40) ∷ (0x40, 9) ∷ []) [])
+    ≡ line (codes "00:01.0 type 1 vendor 1234 device 5678 class 000000 command 0000 status 0010")
+    ++ line (codes "  bus 00 01 01") ++ line (codes "  window 1c io none") ++ line (codes "  window 20 mem closed") ++ line (codes "  window 24 pref none")
+    ++ line (codes "  cap 40 raw 09")
+unfolding function_listing places_of each_from some_from
+bridge_with_a_list = refl
+
+-- D1 alone, and the enable bit of PMCSR alone
+one_bit_of_each : function_listing (with_list ((0x34, 0x40) ∷ (0x40, 1) ∷ (0x43, 0x02) ∷ (0x45, 0x01) ∷ []))
+    ≡ head_with_list ++ line (codes "  cap 40 power version 0 d1 1 d2 0 pme 00 state 0 enable 1 status 0")
+unfolding function_listing places_of each_from some_from
+one_bit_of_each = refl
+
+-- 64-bit addresses without masking, and masking without 64-bit addresses
+wide_without_a_mask : function_listing (with_list ((0x34, 0x40) ∷ (0x40, 5) ∷ (0x42, 0x80) ∷ (0x47, 0xfe) ∷ (0x48, 0x01) ∷ (0x4c, 0x41) ∷ []))
+    ≡ head_with_list ++ line (codes "  cap 40 msi on 0 capable 1 enabled 1 wide 1 mask 0 address 00000001fe000000 data 0041")
+unfolding function_listing places_of each_from some_from
+wide_without_a_mask = refl
+
+mask_without_upper_addresses : function_listing (with_list ((0x34, 0x40) ∷ (0x40, 5) ∷ (0x42, 0x01) ∷ (0x43, 0x01) ∷ (0x47, 0xfe) ∷ (0x48, 0x43) ∷ (0x4c, 0x41) ∷ []))
+    ≡ head_with_list ++ line (codes "  cap 40 msi on 1 capable 1 enabled 1 wide 0 mask 1 address 00000000fe000000 data 0043")
+unfolding function_listing places_of each_from some_from
+mask_without_upper_addresses = refl
+
+bit_4_of_message_control_is_not_of_the_capable_count : function_listing (with_list ((0x34, 0x40) ∷ (0x40, 5) ∷ (0x42, 0x10) ∷ []))
+    ≡ head_with_list ++ codes "  cap 40 msi on 0 capable 1 enabled 2 wide 0 mask 0 address 0000000000000000 data 0000" ++ 10 ∷ []
+unfolding function_listing places_of each_from some_from
+bit_4_of_message_control_is_not_of_the_capable_count = refl
+
+abbrev longest : List ℕ
+longest = put_bytes (map (λ n. (65 + 4 * n, 68 + 4 * n)) (range_with_len 0 47)) (put_bytes ((0x06, 0x10) ∷ (0x34, 0x40) ∷ []) (blank 0 0))
+
+all_48_places_are_listed : places_of longest ≡ map (λ n. 64 + 4 * n) (range_with_len 0 48)
+unfolding places_of
+all_48_places_are_listed = refl

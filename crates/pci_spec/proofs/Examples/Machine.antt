@@ -164,3 +164,13 @@ half_sized = after_writes (target_of endpoint ∷ []) (write (slot 0 0 0) 0x04 2
 stopped_in_the_middle_of_sizing : map (λ (t : Target). t.image) half_sized ≡ put 2 6 0xf900 (puts ((0x10, 0xfff00000) ∷ []) (blank 0 0)) ∷ []
 unfolding number_of_bits writable_bits clearing_bits written sized
 stopped_in_the_middle_of_sizing = refl
+
+-- ---- writes behind a port, and bits that are writable and cleared by ones
+
+ports_writes_come_one_after_another : map (λ (t : Target). t.image) (after_writes (record { slot = slot 0 1 0; image = zeros; writable = set zeros 0 0xff; clearing = zeros } ∷ []) (write (slot 0 1 0) 0 1 1 ∷ write (slot 0 1 0) 0 1 2 ∷ [])) ≡ set zeros 0 2 ∷ []
+unfolding number_of_bits writable_bits clearing_bits written
+ports_writes_come_one_after_another = refl
+
+-- no register has such a bit
+writable_goes_first : written_bit 1 1 0 1 0 ≡ true
+writable_goes_first = refl

@@ -1,9 +1,9 @@
 -- Which of several faults is named: phases come before slots, and slots before what stands in a function.
-use Rattle.std.proofs.Common.{◌≡◌, ℕ, List, [], ◌∷◌, refl, Bool, true, false}
+use Rattle.std.proofs.Common.{◌≡◌, ℕ, List, [], ◌∷◌, refl, Bool, true, false, map}
 use Rattle.pci_spec.specs.Slot.{Slot}
 use Rattle.pci_spec.specs.System.{Io, Memory}
 use Rattle.pci_spec.specs.Fault.{Fault, NoVendor, HeaderKind, BarType, BarMask, BarPair, RomMask, WindowMask, CapRange, CapLoop, CapCut, SlotsDiffer, StrayProbe, LoneFunction, PaletteSnoop, VgaEnable, IsaEnable, Subtractive, InReset, PowerState, BusRange, Orphan, Unreached, Clash, Split}
-use Rattle.pci_spec.specs.Order.{looking_key, precedes}
+use Rattle.pci_spec.specs.Order.{looking_key, precedes, steps_at}
 use Rattle.pci_spec.proofs.Examples.Samples.{slot, blank, put_bytes}
 
 abbrev low : Slot
@@ -48,3 +48,12 @@ place_in_the_tree = refl
 
 a_later_phase_does_not_precede : in_order (PaletteSnoop low ∷ NoVendor high ∷ []) ≡ false
 a_later_phase_does_not_precede = refl
+
+-- ---- far along a list
+
+-- a list of ten places, the last of which leads back to the first
+abbrev ten : List ℕ
+ten = put_bytes ((0x06, 0x10) ∷ (0x34, 0x40) ∷ (0x41, 0x44) ∷ (0x45, 0x48) ∷ (0x49, 0x4c) ∷ (0x4d, 0x50) ∷ (0x51, 0x54) ∷ (0x55, 0x58) ∷ (0x59, 0x5c) ∷ (0x5d, 0x60) ∷ (0x61, 0x64) ∷ (0x65, 0x40) ∷ []) (blank 0 0)
+
+second_visit_after_ten_places : map (λ place. steps_at ten place) (0x64 ∷ []) ≡ (9 ∷ 19 ∷ 29 ∷ 39 ∷ 49 ∷ 59 ∷ []) ∷ []
+second_visit_after_ten_places = refl

@@ -1,12 +1,14 @@
 -- Systems after a plan's writes: what is placed, open and enabled.
-use Rattle.std.proofs.Common.{◌≡◌, List, [], ◌∷◌, refl, true, false, map, lit<, take}
+use Rattle.std.proofs.Common.{◌≡◌, List, [], ◌∷◌, refl, true, false, map, lit<, take, zero, suc, subst, arith}
 use Rattle.std.proofs.lemmas.Bool.{both_ways}
 use Rattle.pci_spec.specs.Window.{IoWindow, MemoryWindow, PrefetchWindow}
-use Rattle.pci_spec.specs.System.{Function, System, Io, Memory}
+use Rattle.pci_spec.specs.System.{Function, System, Io, Memory, bars_and_rom}
 use Rattle.pci_spec.specs.Machine.{Write, number_of_bits, writable_bits, clearing_bits, written, system_after}
-use Rattle.pci_spec.specs.Plan.{MemoryClass, PrefetchClass, is_open, has_behind, wants, LacksWindow}
+use Rattle.pci_spec.specs.Plan.{MemoryClass, PrefetchClass, is_open, has_behind, wants, LacksWindow, is_io_part}
 use Rattle.pci_spec.proofs.Examples.Samples.{slot, device, bridge, write}
-use Rattle.pci_spec.proofs.Examples.Plans.{pools}
+use Rattle.pci_spec.proofs.Examples.Plans.{pools, deep, small_behind}
+use Rattle.std.specs.Bool.{IsTrue}
+use Rattle.std.specs.List.{Contains, list_any}
 
 -- ---- a bridge with two BARs behind it, beside a device
 
@@ -156,3 +158,42 @@ io_device_on_the_root = device (slot 0 2 0) 0 ((0x10, 1) ∷ []) ((0x10, 0xfffff
 
 io_bar_beside_such_a_bridge : LacksWindow (bridge (slot 0 1 0) 0 0x10100 [] [] ∷ io_device_on_the_root ∷ []) (slot 0 2 0) → ⊥
 io_bar_beside_such_a_bridge lacks = both_ways false refl lacks.4
+
+-- ---- behind, open and lacking
+
+a_bar_two_bridges_down_is_behind_both : map (has_behind deep pools MemoryClass) deep ≡ true ∷ true ∷ true ∷ true ∷ false ∷ []
+a_bar_two_bridges_down_is_behind_both = refl
+
+bar_at_20_of_a_device_is_no_window : is_open (device (slot 0 1 0) 0 [] ((0x20, 0xfffff000) ∷ [])) MemoryWindow ≡ false
+bar_at_20_of_a_device_is_no_window = refl
+
+io_window_at_0_is_open : is_open (bridge (slot 0 1 0) 0 0x10100 [] ((0x1c, 0xf0f0) ∷ [])) IoWindow ≡ true
+io_window_at_0_is_open = refl
+
+io_window_is_there : LacksWindow (bridge (slot 0 1 0) 0 0x10100 [] ((0x1c, 0xf0f0) ∷ []) ∷ device (slot 1 0 0) 0 ((0x10, 1) ∷ []) ((0x10, 0xffffff01) ∷ []) ∷ []) (slot 1 0 0) → ⊥
+io_window_is_there lacks = both_ways false refl lacks.4
+
+each_of_small : (P : Function → Type 0) → P (bridge (slot 0 1 0) 0 0x10100 [] []) → P (device (slot 1 0 0) 0 [] ((0x10, 0xfffff000) ∷ [])) → (f : Function) → Contains small_behind f → P f
+each_of_small P a b f (zero, less, is) = subst P is a
+each_of_small P a b f (suc zero, less, is) = subst P is b
+each_of_small P a b f (suc (suc k), less, is) = absurd (let no : ⊥ = omega (arith, less) in no)
+
+memory_bar_needs_no_io_window : LacksWindow small_behind (slot 1 0 0) → ⊥
+memory_bar_needs_no_io_window (f, listed, named, io, above) =
+    each_of_small (λ f. IsTrue (list_any (is_io_part f) (bars_and_rom f)) → ⊥) (both_ways false refl) (both_ways false refl) f listed io
+
+-- the outer of two bridges has no I/O window
+abbrev outer_lacks : System
+outer_lacks = bridge (slot 0 1 0) 0 0x20100 [] [] ∷ bridge (slot 1 0 0) 0 0x20201 [] ((0x1c, 0xf0f0) ∷ []) ∷ device (slot 2 0 0) 0 ((0x10, 1) ∷ []) ((0x10, 0xffffff01) ∷ []) ∷ []
+
+every_io_window_above_counts : LacksWindow outer_lacks (slot 2 0 0)
+every_io_window_above_counts = (device (slot 2 0 0) 0 ((0x10, 1) ∷ []) ((0x10, 0xffffff01) ∷ []), (2, lit< tt, refl), refl, refl, refl)
+
+-- ---- one function of two
+
+abbrev two_functions : System
+two_functions = device (slot 0 1 0) 0 [] ((0x10, 0xfff00000) ∷ []) ∷ device (slot 0 1 1) 0 [] ((0x10, 0xfff00000) ∷ []) ∷ []
+
+write_to_one_function_of_a_device : system_after two_functions (write (slot 0 1 1) 0x10 4 0xe0000000 ∷ []) ≡ device (slot 0 1 0) 0 [] ((0x10, 0xfff00000) ∷ []) ∷ device (slot 0 1 1) 0 ((0x10, 0xe0000000) ∷ []) ((0x10, 0xfff00000) ∷ []) ∷ []
+unfolding number_of_bits writable_bits clearing_bits written
+write_to_one_function_of_a_device = refl

@@ -1,15 +1,15 @@
 -- A planned system: the old one with everything placed in its pool, open and enabled.
-use Rattle.std.proofs.Common.{◌≡◌, ℕ, zero, suc, ◌<◌, ◌≤◌, [], ◌∷◌, ◌&&◌, ◌||◌, refl, Bool, true, false, inl, inr, arith, lit<, subst}
+use Rattle.std.proofs.Common.{◌≡◌, ℕ, zero, suc, ◌<◌, ◌≤◌, [], ◌∷◌, ◌&&◌, ◌||◌, refl, Bool, true, false, inl, inr, arith, lit<, subst, ◌∙◌, map, ap}
 use Rattle.std.specs.Bool.{IsTrue, IsFalse, nat_le, nat_lt, ◌==◌}
 use Rattle.std.specs.Int.{bit_at}
-use Rattle.std.specs.List.{Contains}
+use Rattle.std.specs.List.{Contains, AllZip}
 use Rattle.std.proofs.lemmas.Bool.{and_parts, or_cases, leb-true, ltb-true, both_ways, cases_order, eqb-true}
 use Rattle.std.proofs.lemmas.Nat.{pow_below}
 use Rattle.pci_spec.specs.Number.{each_from, has_bit, AgreeFrom, byte_at}
 use Rattle.pci_spec.specs.Header.{command}
 use Rattle.pci_spec.specs.Bar.{Memory32, Answers, is_run}
 use Rattle.pci_spec.specs.Window.{WindowKind, IoWindow, MemoryWindow, PrefetchWindow, has_window}
-use Rattle.pci_spec.specs.System.{Function, Io, Memory, is_bridge, Part, Bar, Rom, Window, Decodes, has_part, is_window}
+use Rattle.pci_spec.specs.System.{Function, Io, Memory, is_bridge, Part, Bar, Rom, Window, Decodes, has_part, is_window, System}
 use Rattle.pci_spec.specs.Machine.{in_fields, address_fields}
 use Rattle.pci_spec.specs.Plan.{IsPlanned, IsMoved, class_of, pool_of, wants, is_open, has_behind, window_class}
 use Rattle.pci_spec.proofs.Bits.{each_from-at, agree-interval, run_number}
@@ -39,33 +39,33 @@ moved_by old new h offset i less small other bit =
     ]
 
 -- the three functions before and after
-abbrev old_bridge : Function
+abbrev pub old_bridge : Function
 old_bridge = bridge (slot 0 1 0) 0 0x10100 [] []
 
-abbrev new_bridge : Function
+abbrev pub new_bridge : Function
 new_bridge = bridge (slot 0 1 0) 2 0x10100 ((0x20, 0xe010e000) ∷ []) []
 
-abbrev old_device : Function
+abbrev pub old_device : Function
 old_device = device (slot 0 2 0) 0 [] ((0x10, 0xfff00000) ∷ [])
 
-abbrev new_device : Function
+abbrev pub new_device : Function
 new_device = device (slot 0 2 0) 2 ((0x10, 0xe0200000) ∷ []) ((0x10, 0xfff00000) ∷ [])
 
-abbrev old_behind : Function
+abbrev pub old_behind : Function
 old_behind = device (slot 1 0 0) 0 [] ((0x10, 0xfff00000) ∷ (0x14, 0xfffff000) ∷ [])
 
-abbrev new_behind : Function
+abbrev pub new_behind : Function
 new_behind = device (slot 1 0 0) 2 ((0x10, 0xe0000000) ∷ (0x14, 0xe0100000) ∷ []) ((0x10, 0xfff00000) ∷ (0x14, 0xfffff000) ∷ [])
 
-bridge_moved : IsMoved old_bridge new_bridge
+pub bridge_moved : IsMoved old_bridge new_bridge
 unfolding each_from
 bridge_moved = record { slot = refl; probe = refl; image = record { full = refl; bytes = bytes_by new_bridge.image refl }; same = moved_by old_bridge new_bridge refl }
 
-device_moved : IsMoved old_device new_device
+pub device_moved : IsMoved old_device new_device
 unfolding each_from
 device_moved = record { slot = refl; probe = refl; image = record { full = refl; bytes = bytes_by new_device.image refl }; same = moved_by old_device new_device refl }
 
-behind_moved : IsMoved old_behind new_behind
+pub behind_moved : IsMoved old_behind new_behind
 unfolding each_from
 behind_moved = record { slot = refl; probe = refl; image = record { full = refl; bytes = bytes_by new_behind.image refl }; same = moved_by old_behind new_behind refl }
 
@@ -131,13 +131,13 @@ behind_placed (Window kind) a h w d = absurd (both_ways true w refl)
 
 -- ---- the whole
 
-each_of_planned : (P : Function → Type 0) → P new_bridge → P new_device → P new_behind → (f : Function) → Contains planned f → P f
+pub each_of_planned : (P : Function → Type 0) → P new_bridge → P new_device → P new_behind → (f : Function) → Contains planned f → P f
 each_of_planned P a b c f (zero, less, is) = subst P is a
 each_of_planned P a b c f (suc zero, less, is) = subst P is b
 each_of_planned P a b c f (suc (suc zero), less, is) = subst P is c
 each_of_planned P a b c f (suc (suc (suc k)), less, is) = absurd (let no : ⊥ = omega (arith, less) in no)
 
-no : false ≡ true → ⊥
+pub no : false ≡ true → ⊥
 no h = both_ways false refl h
 
 -- the windows of a bridge are open where something is behind them
@@ -149,7 +149,7 @@ bridge_is_open IoWindow h w = absurd (no w)
 bridge_is_open MemoryWindow h w = refl
 bridge_is_open PrefetchWindow h w = absurd (no w)
 
-everything_is_placed : IsPlanned start planned pools
+pub everything_is_placed : IsPlanned start planned pools
 everything_is_placed = record {
   moved = (bridge_moved, (device_moved, (behind_moved, tt)));
   placed = λ f part a listed h w d. each_of_planned (λ f. IsTrue (has_part f part) → IsFalse (is_window part) → Decodes f part a → IsPlaced f part a)
@@ -158,3 +158,20 @@ everything_is_placed = record {
   io = each_of_planned (λ f. has_bit (command f.image) 0 ≡ wants f Io) refl refl refl;
   memory = each_of_planned (λ f. has_bit (command f.image) 1 ≡ wants f Memory) refl refl refl;
 }
+
+-- ---- what isn't planned, and what stays
+
+start_is_not_planned : IsPlanned start start pools → ⊥
+start_is_not_planned p = both_ways false refl (p.memory (device (slot 0 2 0) 0 [] ((0x10, 0xfff00000) ∷ [])) (1, lit< tt, refl))
+
+slots_stay : (old new : System) → AllZip IsMoved old new → map (λ (f : Function). f.slot) new ≡ map (λ (f : Function). f.slot) old
+slots_stay [] [] h = refl
+slots_stay (o ∷ old) (n ∷ new) h = ap (λ s. s ∷ map (λ (f : Function). f.slot) new) h.0.slot ∙ ap (λ ss. o.slot ∷ ss) (slots_stay old new h.1)
+slots_stay [] (n ∷ new) h = absurd h
+slots_stay (o ∷ old) [] h = absurd h
+
+read_backs_stay : (old new : System) → AllZip IsMoved old new → map (λ (f : Function). f.probe) new ≡ map (λ (f : Function). f.probe) old
+read_backs_stay [] [] h = refl
+read_backs_stay (o ∷ old) (n ∷ new) h = ap (λ s. s ∷ map (λ (f : Function). f.probe) new) h.0.probe ∙ ap (λ ss. o.probe ∷ ss) (read_backs_stay old new h.1)
+read_backs_stay [] (n ∷ new) h = absurd h
+read_backs_stay (o ∷ old) [] h = absurd h

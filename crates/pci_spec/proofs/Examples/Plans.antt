@@ -1,10 +1,11 @@
 -- Planning: pools, classes, what a bus needs, and whether it fits.
 use Rattle.std.proofs.Common.{◌≡◌, ℕ, List, [], ◌∷◌, refl, true, false, map}
-use Rattle.pci_spec.specs.Window.{MemoryWindow}
-use Rattle.pci_spec.specs.System.{Function, System, Bar, Rom, Window}
+use Rattle.pci_spec.specs.Window.{MemoryWindow, IoWindow, PrefetchWindow}
+use Rattle.pci_spec.specs.System.{Function, System, Bar, Rom, Window, Memory, Io}
 use Rattle.pci_spec.specs.Decoded.{Range}
-use Rattle.pci_spec.specs.Plan.{Pools, are_bad, Class, IoClass, MemoryClass, PrefetchClass, class_of, size_of, window_size, doubled_to, limited, items_within, items_on, need_of, fits, raised_to, greatest, need_of_roots, greatest_of_roots, bridges_above}
+use Rattle.pci_spec.specs.Plan.{Pools, are_bad, Class, IoClass, MemoryClass, PrefetchClass, class_of, size_of, window_size, doubled_to, limited, items_within, items_on, need_of, fits, raised_to, greatest, need_of_roots, greatest_of_roots, bridges_above, pool_of, same_class, window_class, wants}
 use Rattle.pci_spec.proofs.Examples.Samples.{slot, device, bridge, host}
+use Rattle.std.specs.List.{flat_map}
 
 -- ---- pools
 
@@ -232,3 +233,84 @@ greatest_item_of_all_roots_raises_the_start = refl
 and_no_less : fits (0 ∷ 0x40 ∷ []) (device (slot 0 1 0) 0 [] ((0x10, 0xfffff000) ∷ []) ∷ device (slot 0x40 1 0) 0 [] ((0x10, 0xfff00000) ∷ []) ∷ []) (three (pool 0x1000 0xffff) (pool 0xe0001000 0xe0200ffe) (pool 0x100000000 0x1ffffffff)) MemoryClass ≡ false
 unfolding items_within doubled_to
 and_no_less = refl
+
+-- ---- more classes
+
+same_classes : flat_map (λ c. map (same_class c) (IoClass ∷ MemoryClass ∷ PrefetchClass ∷ [])) (IoClass ∷ MemoryClass ∷ PrefetchClass ∷ [])
+    ≡ true ∷ false ∷ false ∷ false ∷ true ∷ false ∷ false ∷ false ∷ true ∷ []
+same_classes = refl
+
+windows_are_of_their_classes : map window_class (IoWindow ∷ MemoryWindow ∷ PrefetchWindow ∷ []) ≡ IoClass ∷ MemoryClass ∷ PrefetchClass ∷ []
+windows_are_of_their_classes = refl
+
+-- a wide window below a plain one, and a wide prefetchable BAR behind both
+abbrev wide_below_plain : System
+wide_below_plain =
+    bridge (slot 0 1 0) 0 0x20100 [] ((0x24, 0xfff0fff0) ∷ [])
+    ∷ bridge (slot 1 0 0) 0 0x20201 ((0x24, 0x00010001) ∷ []) ((0x24, 0xfff1fff1) ∷ (0x28, 0xffffffff) ∷ (0x2c, 0xffffffff) ∷ [])
+    ∷ device (slot 2 0 0) 0 ((0x10, 0xc) ∷ []) ((0x10, 0xf000000c) ∷ (0x14, 0xffffffff) ∷ []) ∷ []
+
+every_window_above_has_to_be_wide : class_of wide_below_plain pools (device (slot 2 0 0) 0 ((0x10, 0xc) ∷ []) ((0x10, 0xf000000c) ∷ (0x14, 0xffffffff) ∷ [])) (Bar 0) ≡ MemoryClass
+every_window_above_has_to_be_wide = refl
+
+-- ---- more items
+
+-- five buses, one below the other
+abbrev pub deep : System
+deep =
+    bridge (slot 0 0 0) 0 0x40100 [] [] ∷ bridge (slot 1 0 0) 0 0x40201 [] [] ∷ bridge (slot 2 0 0) 0 0x40302 [] [] ∷ bridge (slot 3 0 0) 0 0x40403 [] []
+    ∷ device (slot 4 0 0) 0 [] ((0x10, 0xfff00000) ∷ []) ∷ []
+
+four_bridges_deep : items_on deep pools MemoryClass 0 ≡ 0x100000 ∷ []
+unfolding items_within doubled_to
+four_bridges_deep = refl
+
+-- a bridge's own BAR is an item of its own bus
+abbrev bridge_with_a_bar : Function
+bridge_with_a_bar = bridge (slot 0 1 0) 0 0x10100 [] ((0x10, 0xffff0000) ∷ [])
+
+bridges_own_bar_is_on_its_bus : items_on (bridge_with_a_bar ∷ []) pools MemoryClass 0 ≡ 0x10000 ∷ []
+unfolding items_within doubled_to
+bridges_own_bar_is_on_its_bus = refl
+
+bridges_own_bar_wants_memory : wants (bridge (slot 0 1 0) 0 0x10100 ((0x20, 0xfff0) ∷ []) ((0x10, 0xffff0000) ∷ [])) Memory ≡ true
+bridges_own_bar_wants_memory = refl
+
+bridges_own_io_bar_wants_io : wants (bridge (slot 0 1 0) 0 0x10100 ((0x10, 1) ∷ []) ((0x10, 0xffffff01) ∷ [])) Io ≡ true
+bridges_own_io_bar_wants_io = refl
+
+-- the window of 1 MB is greater than each BAR, and raises the start
+abbrev pub small_behind : System
+small_behind = bridge (slot 0 1 0) 0 0x10100 [] [] ∷ device (slot 1 0 0) 0 [] ((0x10, 0xfffff000) ∷ []) ∷ []
+
+window_is_the_greatest : greatest_of_roots host small_behind pools MemoryClass ≡ 0x100000
+unfolding items_within doubled_to
+window_is_the_greatest = refl
+
+window_raises_the_start : fits host small_behind (three (pool 0x1000 0xffff) (pool 0xe0001000 0xe01ffffe) (pool 0x100000000 0x1ffffffff)) MemoryClass ≡ false
+unfolding items_within doubled_to
+window_raises_the_start = refl
+
+-- ---- three classes, three pools
+
+abbrev three_pools : Pools
+three_pools = three (pool 0x1000 0x10ff) (pool 0xe0000000 0xe00fffff) (pool 0xf0000000 0xf01fffff)
+
+each_class_has_its_pool : map (pool_of three_pools) (IoClass ∷ MemoryClass ∷ PrefetchClass ∷ []) ≡ pool 0x1000 0x10ff ∷ pool 0xe0000000 0xe00fffff ∷ pool 0xf0000000 0xf01fffff ∷ []
+each_class_has_its_pool = refl
+
+-- an I/O BAR of 256 addresses and a prefetchable one of 2 MB fill their pools
+abbrev io_and_prefetchable : System
+io_and_prefetchable = device (slot 0 1 0) 0 ((0x10, 1) ∷ (0x14, 8) ∷ []) ((0x10, 0xffffff01) ∷ (0x14, 0xffe00008) ∷ []) ∷ []
+
+all_classes_fit : map (fits host io_and_prefetchable three_pools) (IoClass ∷ MemoryClass ∷ PrefetchClass ∷ []) ≡ true ∷ true ∷ true ∷ []
+unfolding items_within doubled_to
+all_classes_fit = refl
+
+-- the second of two bridges side by side, with a gap in the bus numbers
+bridge_of_a_higher_bus : items_on (bridge (slot 0 1 0) 0 0x10100 [] [] ∷ bridge (slot 0 2 0) 0 0x70500 [] [] ∷ device (slot 5 0 0) 0 [] ((0x10, 0xffe00000) ∷ []) ∷ []) pools MemoryClass 0 ≡ 0x200000 ∷ []
+unfolding items_within doubled_to
+bridge_of_a_higher_bus = refl
+
+bridges_own_io_bar_is_of_io : class_of (bridge (slot 0 1 0) 0 0x10100 ((0x10, 1) ∷ []) ((0x10, 0xffffff01) ∷ []) ∷ []) pools (bridge (slot 0 1 0) 0 0x10100 ((0x10, 1) ∷ []) ((0x10, 0xffffff01) ∷ [])) (Bar 0) ≡ IoClass
+bridges_own_io_bar_is_of_io = refl

@@ -1,5 +1,5 @@
 -- Records: all of a function that judging reads.
-use Rattle.std.proofs.Common.{◌≡◌, ℕ, zero, suc, ◌<◌, [], ◌∷◌, refl, true, false, None, Some, map, arith, lit<}
+use Rattle.std.proofs.Common.{◌≡◌, ℕ, zero, suc, ◌<◌, [], ◌∷◌, refl, true, false, None, Some, map, arith, lit<, List, replicate}
 use Rattle.std.specs.Bool.{IsFalse}
 use Rattle.std.specs.List.{All}
 use Rattle.pci_spec.specs.Number.{each_from, some_from}
@@ -9,9 +9,10 @@ use Rattle.pci_spec.specs.Bar.{IoBar, Memory32, Memory64, bar_fault}
 use Rattle.pci_spec.specs.Window.{WindowKind, IoWindow, MemoryWindow, PrefetchWindow, breaks_window_rule}
 use Rattle.pci_spec.specs.Capability.{pointer, body_length}
 use Rattle.pci_spec.specs.System.{Function, System, IsFunction, IsSystem}
-use Rattle.pci_spec.specs.Decoded.{record_of, IsDecodable, HasRecords}
-use Rattle.pci_spec.proofs.Examples.Samples.{read_backs, slot, device, bridge, range}
+use Rattle.pci_spec.specs.Decoded.{record_of, IsDecodable, HasRecords, Record}
+use Rattle.pci_spec.proofs.Examples.Samples.{read_backs, slot, device, bridge, range, blank, zeros}
 use Rattle.pci_spec.proofs.Examples.Texts.{vector, bytes_by}
+use Rattle.std.proofs.lemmas.Bool.{both_ways}
 
 device_with_bars_and_a_rom :
     record_of (device (slot 0 1 0) 0x107 ((0x10, 0xfe000000) ∷ (0x14, 0xc) ∷ (0x18, 1) ∷ (0x24, 0xe001) ∷ (0x30, 0xfd000001) ∷ [])
@@ -156,3 +157,18 @@ rises (suc k) less = absurd (let no : ⊥ = omega (arith, less) in no)
 
 pair_is_a_system : IsSystem pair
 pair_is_a_system = record { each = each_function; rising = rises }
+
+-- ---- what has no record
+
+what_has_records_decodes : (s : System) (records : List Record) → HasRecords s records → All IsDecodable s
+what_has_records_decodes s records h = h.decodable
+
+records_tell_all_that_is_decoded : (s : System) (records : List Record) → HasRecords s records → map record_of s ≡ records
+records_tell_all_that_is_decoded s records h = h.same
+
+-- a function that doesn't answer, and one of another header
+nothing_answers : IsDecodable (record { slot = slot 0 1 0; image = replicate 256 0xff; probe = zeros }) → ⊥
+nothing_answers d = both_ways true d.vendor refl
+
+other_header : IsDecodable (record { slot = slot 0 1 0; image = blank 2 0; probe = zeros }) → ⊥
+other_header d = both_ways true d.header refl

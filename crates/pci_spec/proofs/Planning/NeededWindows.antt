@@ -11,7 +11,6 @@ use Rattle.pci_spec.specs.Bus.{is_behind, IsNested}
 use Rattle.pci_spec.specs.Plan.{Pools, Class, IoClass, MemoryClass, PrefetchClass, class_of, same_class, bridges_above, is_served, is_io_part, has_behind, LacksWindow, window_of}
 use Rattle.pci_spec.proofs.Members.{in_filter_from}
 use Rattle.pci_spec.proofs.Records.{memory_window_there}
-
 use Rattle.pci_spec.specs.Planning.Table.{need_behind}
 use Rattle.pci_spec.proofs.Planning.Behind.{Passes, any_gives, any_from, all_gives, behind_is_need, listed_plain}
 

@@ -27,7 +27,6 @@ use Rattle.pci_spec.specs.Planning.Layout.{range_of}
 use Rattle.pci_spec.specs.Planning.BusNeeds.{added_on}
 use Rattle.pci_spec.specs.Planning.Building.{AreFitting, IsBuilt, built}
 use Rattle.pci_spec.specs.Planning.Showing.{bounds_for, first_bit, reach_of, bar_value, rom_value}
-use Rattle.pci_spec.specs.Machine.{Target}
 use Rattle.pci_spec.specs.Planning.Room.{IsRaised, root_items}
 use Rattle.pci_spec.specs.Planning.Stops.{IsAside, Closes, IsStaged, Rises, IsOffFrom}
 

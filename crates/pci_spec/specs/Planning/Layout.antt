@@ -6,11 +6,11 @@ use Rattle.pci_spec.specs.Slot.{same_slot}
 use Rattle.pci_spec.specs.Header.{command, layout, bar_count}
 use Rattle.pci_spec.specs.Bar.{whole_bar}
 use Rattle.pci_spec.specs.Rom.{rom_at, has_rom}
-use Rattle.pci_spec.specs.Window.{WindowKind, IoWindow, MemoryWindow, PrefetchWindow, base_page, limit_page, page_size}
+use Rattle.pci_spec.specs.Window.{base_page, limit_page, page_size}
 use Rattle.pci_spec.specs.Decoded.{Range, aligned_range, bar_size, rom_size, has_bar}
 use Rattle.pci_spec.specs.System.{System, Function, Space, Io, Memory, Part, Bar, Rom, Window, register_of}
 use Rattle.pci_spec.specs.Bus.{LeadsTo}
-use Rattle.pci_spec.specs.Plan.{Pools, Class, IoClass, MemoryClass, PrefetchClass, pool_of, class_of, window_class, window_of, is_open, wants}
+use Rattle.pci_spec.specs.Plan.{Pools, Class, IoClass, MemoryClass, PrefetchClass, pool_of, class_of, window_of, is_open, wants}
 
 -- the addresses of a BAR, a ROM or an open window
 abbrev pub range_of : Function → Part → Range
