@@ -1,17 +1,19 @@
 -- A system whose functions were moved has the same places.
 use Rattle.std.proofs.Common.{◌≡◌, ℕ, zero, suc, ◌+◌, inl, inr, List, [], ◌∷◌, ◌++◌, refl, Bool, true, false, cond, ◌&&◌, ◌||◌, Option, Some, sym, ◌∙◌, ap, subst, map}
 use Rattle.std.specs.Bool.{nat_lt, ◌==◌, if◌then◌else◌}
-use Rattle.std.specs.List.{Contains, AllZip, filter, flat_map, find, sum}
+use Rattle.std.specs.List.{Contains, AllZip, filter, flat_map, find, range_with_len, sum}
+use Rattle.pci_spec.specs.Header.{layout, bar_count}
 use Rattle.std.proofs.lemmas.Bool.{and_parts, cases_Bool, both_ways}
 use Rattle.std.proofs.lemmas.List.Elements.{All-contains}
 use Rattle.pci_spec.specs.Slot.{Slot, slot_number}
-use Rattle.pci_spec.specs.System.{System, Function, IsSystem, IsFunction, Part, register_of, is_bridge, bars_and_rom}
+use Rattle.pci_spec.specs.System.{System, Function, IsSystem, IsFunction, Part, Bar, Rom, register_of, is_bridge, is_implemented}
 use Rattle.pci_spec.specs.Bus.{secondary, is_root, are_side_by_side}
 use Rattle.pci_spec.specs.Plan.{Pools, Class, IsMoved, pool_of, class_of, same_class, window_size, need_of, greatest, raised_to, has_behind}
-use Rattle.pci_spec.specs.Place.{Item, part_item, window_item, own_items, items_beside, comes_before, place_from, start_of_roots, behind_window, start_within, start_of, place_of}
+use Rattle.pci_spec.specs.Place.{Item, part_item, window_item, items_among, own_items, items_beside, comes_before, place_from, start_of_roots, behind_window, start_within, start_of, place_of}
 use Rattle.pci_spec.proofs.Members.{in_head, in_tail}
 use Rattle.pci_spec.proofs.Planning.Moved.{layout_same, bridge_same, secondary_same}
-use Rattle.pci_spec.proofs.Planning.Planned.{has_behind_same}
+use Rattle.pci_spec.proofs.Planning.Classes.{class_stays}
+use Rattle.pci_spec.proofs.Planning.Planned.{filter_same, implemented_same, has_behind_same}
 use Rattle.pci_spec.proofs.Planning.Tables.{register_same}
 use Rattle.pci_spec.proofs.Planning.SameNeeds.{size_stays, parts_stay, need_stays}
 
@@ -129,15 +131,29 @@ module _ (s t : System) (system : IsSystem s) (pairs : AllZip IsMoved s t) (pool
         | inr device ↦ ap (λ b. b && has_behind t pools c g) device ∙ sym (ap (λ b. b && has_behind s pools c f) device)
       ]
 
+  -- the items among some parts
+  among_same : (f g : Function) → Contains s f → IsMoved f g → (parts : List Part) → AllZip IsSameItem (items_among s pools c f parts) (items_among t pools c g parts)
+  among_same f g listed m parts =
+      let of_f : Part → Bool = λ part. same_class c (class_of s pools f part) in
+      let of_g : Part → Bool = λ part. same_class c (class_of t pools g part) in
+      let there = filter_same (is_implemented g) (is_implemented f) parts (implemented_same f g m (function_is f listed)) in
+      let kept : filter of_g (filter (is_implemented g) parts) ≡ filter of_f (filter (is_implemented f) parts) =
+      ap (filter of_g) there ∙ filter_same of_g of_f (filter (is_implemented f) parts) (λ part. ap (same_class c) (class_stays s t system pairs pools f g m part)) in
+      subst (λ ps. AllZip IsSameItem (items_among s pools c f parts) (map (part_item g) ps)) (sym kept)
+      (zip_parts (part_item f) (part_item g) (filter of_f (filter (is_implemented f) parts)) (part_same f g listed m))
+
   own_items_same : (f g : Function) → Contains s f → IsMoved f g → AllZip IsSameItem (own_items s pools c f) (own_items t pools c g)
   own_items_same f g listed m =
-      let kept = filter (λ part. same_class c (class_of s pools f part)) (bars_and_rom f) in
-      zip_append (map (part_item f) kept) (map (part_item g) (filter (λ part. same_class c (class_of t pools g part)) (bars_and_rom g)))
-      (if is_bridge f && has_behind s pools c f then window_item s pools c f ∷ [] else []) (if is_bridge g && has_behind t pools c g then window_item t pools c g ∷ [] else [])
-      (subst (λ parts. AllZip IsSameItem (map (part_item f) kept) (map (part_item g) parts)) (sym (parts_stay s t system pairs pools c f g listed m))
-      (zip_parts (part_item f) (part_item g) kept (part_same f g listed m)))
+      let bars = map Bar (range_with_len 0 (bar_count (layout f.image))) in
+      let window_f = if is_bridge f && has_behind s pools c f then window_item s pools c f ∷ [] else [] in
+      let window_g = if is_bridge g && has_behind t pools c g then window_item t pools c g ∷ [] else [] in
+      subst (λ k. AllZip IsSameItem (own_items s pools c f) (items_among t pools c g (map Bar (range_with_len 0 (bar_count k))) ++ (window_g ++ items_among t pools c g (Rom ∷ []))))
+      (sym (layout_same f g m (function_is f listed).image))
+      (zip_append (items_among s pools c f bars) (items_among t pools c g bars) (window_f ++ items_among s pools c f (Rom ∷ [])) (window_g ++ items_among t pools c g (Rom ∷ [])) (among_same f g listed m bars)
+      (zip_append window_f window_g (items_among s pools c f (Rom ∷ [])) (items_among t pools c g (Rom ∷ []))
       (zip_choice (is_bridge f && has_behind s pools c f) (is_bridge g && has_behind t pools c g) (window_item s pools c f ∷ []) (window_item t pools c g ∷ []) (bridge_test f g listed m)
       (λ both. (window_same f g listed m (and_parts (is_bridge f) (has_behind s pools c f) both).0, tt)))
+      (among_same f g listed m (Rom ∷ []))))
 
   module _ (roots : List ℕ) where
     items_same : (bus : ℕ) → AllZip IsSameItem (items_beside roots s pools c bus) (items_beside roots t pools c bus)
