@@ -41,6 +41,11 @@ impl<'a, A: Allocator> Plan<'a, A> {
         &self.dump
     }
 
+    /// Gives up the plan for the dump after all writes.
+    pub fn into_dump(self) -> Dump<A> {
+        self.dump
+    }
+
     /// The register writes in order: everything that is on is closed from the highest slot down, then registers are set,
     /// then functions are opened from the lowest slot up.
     pub fn writes(&self) -> &[Write] {
