@@ -1,5 +1,5 @@
 -- What a plan of the code stands for.
-use Rattle.std.specs.Prelude.{◌≡◌, ℕ, List, length, map, ◌≤◌}
+use Rattle.std.specs.Prelude.{◌≡◌, ℕ, ◌≤◌, List, length, map, Option, None, Some}
 use Rattle.std.specs.List.{AllZip, sum}
 use Rattle.pci_spec.specs.Text.{Block, slots_of}
 use Rattle.pci_spec.specs.System.{System, system_of}
@@ -11,8 +11,7 @@ use Rattle.pci_spec.specs.PlanPromise.{changes_between, IsPlanOf, IsSafeFrom, St
 use Rattle.pci_spec.specs.Planning.PlanWrites.{closing_writes, plan_writes, most_writes}
 use Rattle.pci_tree.specs.Admission.{Admission, IsAdmitted}
 use Rattle.pci_tree.specs.Fault.{fault_of}
-use Rattle.pci_dump.specs.declared.memory.Refused.{Refused}
-use Rattle.pci_dump.specs.declared.memory.Refused.TheVariants as refusals
+use Rattle.pci_tree.specs.declared.fault.Fault.{Fault}
 use Rattle.pci_plan.specs.Above.{system_in}
 use Rattle.pci_plan.specs.Pools.{class_value, pools_value}
 use Rattle.pci_plan.specs.declared.pools.Pools.{Pools}
@@ -62,3 +61,8 @@ plan_fault_of (NotAccepted fault) = plan.NotAccepted (fault_of fault)
 -- the fault stands, and none that is looked for before it
 abbrev pub IsFaultOf : Admission → Pools → PlanFault → Type 0
 IsFaultOf a pools fault = IsPlanFaultOf a.roots (system_in a) (pools_value pools) (plan_fault_of fault)
+
+-- a fault that is named means that the system isn't sound
+abbrev pub IsUnsoundIf : Option Fault → List ℕ → System → Type 0
+IsUnsoundIf None roots s = Unit {0}
+IsUnsoundIf (Some fault) roots s = IsSound roots s → ⊥

@@ -1,5 +1,16 @@
 //! Planning: places for everything, and the writes that lead there.
-ghost use Rattle.std.specs.Prelude.{◌≡◌};
+ghost use Rattle.std.specs.Prelude.{◌≡◌, ◌↔◌, ◌⊎◌, IfOk, IfErr, IsTrue, MatchOption, length, count_by, Err};
+ghost use Rattle.pci_spec.specs.Text.{slots_of};
+ghost use Rattle.pci_spec.specs.System.{system_of};
+ghost use Rattle.pci_spec.specs.Sound.{IsSound};
+ghost use Rattle.pci_spec.specs.Plan.{Class as ClassValue, fits};
+ghost use Rattle.pci_spec.specs.PlanPromise.{CanBePlanned, IsFirstTooLarge};
+ghost use Rattle.pci_plan.specs.Pools.{class_value, pools_value};
+ghost use Rattle.pci_plan.specs.Above.{AreAboves, system_in};
+ghost use Rattle.pci_plan.specs.Needs.{AreAllNeeds};
+ghost use Rattle.pci_plan.specs.Places.{HasPlaces};
+ghost use Rattle.pci_plan.specs.Writes.{is_image_on};
+ghost use Rattle.pci_plan.specs.Plans.{IsPlanIn, IsFaultOf, IsUnsoundIf};
 
 use super::above::{Above, aboves};
 use super::by_class::ByClass;
@@ -12,12 +23,14 @@ use super::planned::planned_dump;
 use super::pools::{Class, Pools};
 use super::room::has_room;
 use super::writes::{closings, writes_between};
+use pci_check::check::check;
 use pci_check::judge::judge;
+use pci_check::verdict::Verdict;
 use pci_dump::dump::Dump;
 use pci_dump::memory::{OutOfMemory, Refused};
+use pci_tree::admit::outline_of;
 use pci_tree::admitted::Admitted;
 use pci_tree::fault::Fault;
-use pci_tree::survey::Survey;
 use std::alloc::Allocator;
 
 /// What the buses need of each class.
@@ -25,7 +38,10 @@ fn all_needs<A: Allocator>(
     admitted: &Admitted<A>,
     pools: &Pools,
     aboves: &[Above; 256],
-) -> ByClass<Needs> {
+) -> ByClass<Needs>
+    requires { AreAboves (system_in admitted.now) aboves.now }
+    ensures { AreAllNeeds admitted.now.roots (system_in admitted.now) (pools_value pools.now) result }
+{
     ByClass {
         io: needs_of(admitted, pools, Class::Io, aboves),
         mem: needs_of(admitted, pools, Class::Memory, aboves),
@@ -38,7 +54,11 @@ fn first_too_large<A: Allocator>(
     admitted: &Admitted<A>,
     pools: &Pools,
     needs: &ByClass<Needs>,
-) -> Option<Class> {
+) -> Option<Class>
+    requires { AreAllNeeds admitted.now.roots (system_in admitted.now) (pools_value pools.now) needs.now }
+    ensures { MatchOption result ((c : ClassValue) → IsTrue (fits admitted.now.roots (system_in admitted.now) (pools_value pools.now) c))
+        (λ class. IsFirstTooLarge admitted.now.roots (system_in admitted.now) (pools_value pools.now) (class_value class)) }
+{
     if !has_room(admitted, pools, Class::Io, &needs.io) {
         return Some(Class::Io);
     }
@@ -58,7 +78,13 @@ fn all_places<A: Allocator + Copy, B: Allocator>(
     pools: &Pools,
     aboves: &[Above; 256],
     needs: &ByClass<Needs>,
-) -> Result<Vec<Places, A>, OutOfMemory> {
+) -> Result<Vec<Places, A>, OutOfMemory>
+    requires plannable { CanBePlanned admitted.now.roots (system_in admitted.now) (pools_value pools.now) }
+    requires aboves { AreAboves (system_in admitted.now) aboves.now }
+    requires needs { AreAllNeeds admitted.now.roots (system_in admitted.now) (pools_value pools.now) needs.now }
+    ensures count { IfOk result (λ v. length v.items ≡ length (system_in admitted.now)) }
+    ensures places { IfOk result (λ v. (c : ClassValue) → HasPlaces admitted.now.roots (system_in admitted.now) (pools_value pools.now) c v.items) }
+{
     let mut places = Vec::new(alloc);
     for _ in admitted.outline().records() {
         places.push(Places::NONE)?;
@@ -70,19 +96,21 @@ fn all_places<A: Allocator + Copy, B: Allocator>(
     Ok(places)
 }
 
-/// The first fault of a planned dump, which has none.
+/// The first fault of a dump with the probe, where it isn't accepted.
 fn judged<A: Allocator + Copy>(
     alloc: A,
     admitted: &Admitted<A>,
     dump: &Dump<A>,
-) -> Result<Option<Fault>, OutOfMemory> {
-    let mut survey = Survey::with(alloc, admitted.outline().roots());
-    let blocks = dump.blocks();
-    let probes = admitted.probe().blocks();
-    for i in 0..blocks.len() {
-        survey.add(&blocks[i], &probes[i])?;
-    }
-    match survey.finish() {
+) -> Result<Option<Fault>, OutOfMemory>
+    requires { slots_of dump.now ≡ slots_of admitted.now.dump }
+    ensures { IfOk result (λ o. IsUnsoundIf o admitted.now.roots (system_of dump.now admitted.now.probe)) }
+{
+    match outline_of(
+        alloc,
+        dump,
+        admitted.probe(),
+        admitted.outline().roots(),
+    ) {
         Ok(outline) => judge(alloc, &outline),
         Err(Refused::Fault(fault)) => Ok(Some(fault)),
         Err(Refused::Memory) => Err(OutOfMemory),
@@ -90,13 +118,13 @@ fn judged<A: Allocator + Copy>(
 }
 
 /// From how many writes on a stop leaves a sound system.
-fn safe_from<A: Allocator + Copy>(
-    alloc: A,
-    admitted: &Admitted<A>,
-) -> Result<usize, OutOfMemory> {
-    match judge(alloc, admitted.outline())? {
-        None => Ok(0),
-        Some(_) => Ok(closings(admitted.dump().blocks())),
+fn safe_from<A: Allocator + Copy>(alloc: A, admitted: &Admitted<A>) -> Result<usize, OutOfMemory>
+    ensures { IfOk result (λ n. (IsSound admitted.now.roots (system_in admitted.now) × (n ≡ 0))
+        ⊎ ((IsSound admitted.now.roots (system_in admitted.now) → ⊥) × (n ≡ count_by (λ b. is_image_on b.image) admitted.now.dump))) }
+{
+    match check(alloc, admitted)? {
+        Verdict::Yes(_) => Ok(0),
+        Verdict::No(_) => Ok(closings(admitted.dump().blocks())),
     }
 }
 
@@ -112,7 +140,10 @@ pub fn plan<'a, A: Allocator + Copy>(
     alloc: A,
     admitted: &'a Admitted<A>,
     pools: &Pools,
-) -> Result<Plan<'a, A>, Refused<PlanFault>> {
+) -> Result<Plan<'a, A>, Refused<PlanFault>>
+    ensures planned { IfOk result (IsPlanIn admitted.entry.now (pools_value pools.now)) }
+    ensures fault { (f : PlanFault) → (result ≡ Err (Refused.Fault f)) ↔ IsFaultOf admitted.entry.now pools.now f }
+{
     if pools.are_bad() {
         return Err(Refused::Fault(PlanFault::BadPools));
     }

@@ -3,6 +3,8 @@
 
 pub mod line;
 pub mod listing;
+pub mod planning;
+pub mod pool_word;
 pub mod root_list;
 pub mod run;
 pub mod show;

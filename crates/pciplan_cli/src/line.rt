@@ -1,5 +1,6 @@
 //! A command line that has been read.
 
+use pci_plan::pools::Pools;
 use pci_tree::roots::Roots;
 
 /// What is to be done with a dump and its probe.
@@ -11,6 +12,12 @@ pub enum Task {
     Check { roots: Roots },
     /// Sizes every function of a machine of the two texts.
     Size,
+    /// Plans them in these pools, with these root buses: the planned dump, or the writes that lead there.
+    Plan {
+        pools: Pools,
+        writes: bool,
+        roots: Roots,
+    },
 }
 
 /// A task, and the paths of its two texts.

@@ -12,6 +12,7 @@ ghost use Rattle.pciplan_cli.specs.Answers.{HasFailed, IsChecked, IsAnswer, IsDu
 ghost use Rattle.pciplan_cli.specs.Statuses.{status_of};
 
 use crate::line::{Line, Task};
+use crate::planning::{Planned, plan_pair};
 use crate::show::show;
 use crate::sizing::size_all;
 use crate::trouble::{Trouble, tell};
@@ -19,9 +20,11 @@ use pci_check::audit::audit_with;
 use pci_check::outcome::{AuditFault, Outcome};
 use pci_dump::dump::Dump;
 use pci_dump::ends::{Sink, Source};
-use pci_dump::memory::Refused;
+use pci_dump::memory::{OutOfMemory, Refused};
 use pci_dump::reader::read_dump;
 use pci_dump::write::{write_all, write_dump};
+use pci_plan::plan_fault::PlanFault;
+use pci_plan::pools::Pools;
 use pci_tree::fault::Fault;
 use pci_tree::roots::Roots;
 use std::alloc::Allocator;
@@ -79,6 +82,17 @@ fn refusal<A: Allocator>(alloc: A, fault: Fault) -> Result<Answer<A>, Trouble>
     ensures line { IfOk result (λ answer. (answer.status ≡ 1) × (string_bytes answer.text ≡ verdict_line (Some (fault_of fault)))) }
     ensures memory { IfErr result (λ trouble. trouble ≡ Trouble.Memory) }
 {
+    match format!(in alloc; "no {fault}\n") {
+        Ok(text) => Ok(Answer {
+            text,
+            status: REFUSED,
+        }),
+        Err(_) => Err(Trouble::Memory),
+    }
+}
+
+/// The line of a fault of planning: `no`, and the fault's text.
+fn no_plan<A: Allocator>(alloc: A, fault: PlanFault) -> Result<Answer<A>, Trouble> {
     match format!(in alloc; "no {fault}\n") {
         Ok(text) => Ok(Answer {
             text,
@@ -197,6 +211,30 @@ fn run_check<A: Allocator + Copy, D: Source, P: Source, O: Sink>(
     }
 }
 
+/// Plans two texts. All of the answer is made before any of it is written.
+fn run_plan<A: Allocator + Copy, D: Source, P: Source, O: Sink>(
+    alloc: A,
+    pools: &Pools,
+    writes: bool,
+    roots: Roots,
+    dump: &mut D,
+    probe: &mut P,
+    out: &mut O,
+) -> Result<u8, Trouble> {
+    let pair = read_pair(alloc, dump, probe)?;
+    let Pair { dump, probe } = pair;
+    match plan_pair(alloc, dump, probe, pools, writes, roots) {
+        Ok(Planned::Dump(planned)) => match write_dump(out, &planned) {
+            Ok(()) => Ok(DONE),
+            Err(_) => Err(Trouble::Io),
+        },
+        Ok(Planned::Writes(text)) => send(out, &Answer { text, status: DONE }),
+        Ok(Planned::Refused(fault)) => send(out, &refusal(alloc, fault)?),
+        Ok(Planned::NoPlan(fault)) => send(out, &no_plan(alloc, fault)?),
+        Err(OutOfMemory) => Err(Trouble::Memory),
+    }
+}
+
 /// Carries out a task: reads `dump` and `probe`, writes the answer to `out` or a message to `err`, and
 /// answers the status: 0 or 1 where the answer was written; 2 where a text has a fault; 3 at want of
 /// memory; 4 where a read or a write failed. At 2 and 3 nothing was written to `out`, at 4 a beginning
@@ -231,6 +269,11 @@ pub fn run<A: Allocator + Copy, D: Source, P: Source, O: Sink, E: Sink>(
         Task::Show => run_show(alloc, dump, probe, out),
         Task::Check { roots } => run_check(alloc, roots, dump, probe, out),
         Task::Size => run_size(alloc, dump, probe, out),
+        Task::Plan {
+            pools,
+            writes,
+            roots,
+        } => run_plan(alloc, &pools, writes, roots, dump, probe, out),
     };
     match done {
         Ok(status) => status,

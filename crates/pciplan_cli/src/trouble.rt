@@ -7,6 +7,25 @@ use pci_dump::read_fault::ReadFault;
 use pci_dump::write::write_all;
 use std::fmt::{self, Write};
 
+/// The option that names the pool of a class.
+#[derive(Clone, Copy, Debug, PartialEq, Eq)]
+pub enum PoolOption {
+    Io,
+    Mem,
+    Pref,
+}
+
+impl PoolOption {
+    /// The option's name, without the two dashes.
+    pub fn name(self) -> &'static str {
+        match self {
+            PoolOption::Io => "io",
+            PoolOption::Mem => "mem",
+            PoolOption::Pref => "pref",
+        }
+    }
+}
+
 /// Why a command line isn't carried out.
 #[derive(Clone, Copy, Debug, PartialEq, Eq)]
 pub enum Trouble {
@@ -14,6 +33,8 @@ pub enum Trouble {
     Usage,
     /// The list of root buses is none.
     Root,
+    /// The word of an option's pool is none.
+    Pool(PoolOption),
     /// The text of the dump has a fault, or can't be read.
     Dump(ReadFault),
     /// The text of the probe has a fault, or can't be read.
@@ -30,6 +51,9 @@ impl fmt::Display for Trouble {
         match self {
             Trouble::Usage => write!(f, "usage"),
             Trouble::Root => write!(f, "root"),
+            Trouble::Pool(PoolOption::Io) => write!(f, "pool --io"),
+            Trouble::Pool(PoolOption::Mem) => write!(f, "pool --mem"),
+            Trouble::Pool(PoolOption::Pref) => write!(f, "pool --pref"),
             Trouble::Dump(ReadFault::Memory)
             | Trouble::Probe(ReadFault::Memory)
             | Trouble::Memory => write!(f, "2 Memory"),
@@ -47,7 +71,7 @@ impl Trouble {
         ensures { result ≡ status_of self }
     {
         match self {
-            Trouble::Usage | Trouble::Root => 2,
+            Trouble::Usage | Trouble::Root | Trouble::Pool(_) => 2,
             Trouble::Dump(fault) | Trouble::Probe(fault) => match fault {
                 ReadFault::Io => 4,
                 ReadFault::Memory => 3,

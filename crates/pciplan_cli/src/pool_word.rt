@@ -1,0 +1,36 @@
+//! The pools among the words.
+use pci_image::range::Range;
+
+/// The most digits of an address.
+const DIGITS_MAX: usize = 16;
+
+/// The value of a lower-case hex digit.
+fn digit(byte: u8) -> Option<u8> {
+    match byte {
+        b'0'..=b'9' => Some(byte - b'0'),
+        b'a'..=b'f' => Some(byte - b'a' + 10),
+        _ => None,
+    }
+}
+
+/// An address of 1 to 16 lower-case hex digits.
+fn address_of(word: &str) -> Option<u64> {
+    let bytes = word.as_bytes();
+    if bytes.is_empty() || DIGITS_MAX < bytes.len() {
+        return None;
+    }
+    let mut address: u128 = 0;
+    for byte in bytes {
+        address = address * 16 + u128::from(digit(*byte)?);
+    }
+    Some(address as u64)
+}
+
+/// The addresses of a word `A-B`, from A to B.
+pub fn pool_of_word(word: &str) -> Option<Range> {
+    let (first, last) = word.split_once('-')?;
+    Some(Range {
+        first: address_of(first)?,
+        last: address_of(last)?,
+    })
+}
