@@ -1,9 +1,11 @@
 //! I/O BARs behind bridges without an I/O window.
-ghost use Rattle.std.specs.Prelude.{MatchOption};
+ghost use Rattle.std.specs.Prelude.{◌≡◌, MatchOption};
+ghost use Rattle.std.specs.List.{list_any};
 ghost use Rattle.pci_spec.specs.Slot.{Slot as SlotValue};
 ghost use Rattle.pci_spec.specs.Plan.{LacksWindow};
 ghost use Rattle.pci_spec.specs.PlanPromise.{IsFirstLacking};
 ghost use Rattle.pci_plan.specs.Above.{AreAboves, system_in};
+ghost use Rattle.pci_plan.specs.Classes.{is_io_kind};
 
 use super::above::Above;
 use pci_image::bar::BarKind;
@@ -13,7 +15,9 @@ use pci_tree::record::Record;
 use std::alloc::Allocator;
 
 /// Whether a function has an I/O BAR.
-fn has_io_bar(record: &Record) -> bool {
+fn has_io_bar(record: &Record) -> bool
+    ensures { result ≡ list_any (λ bar. is_io_kind bar.kind) record.now.bars.items }
+{
     for bar in &record.bars {
         if bar.kind == BarKind::Io {
             return true;

@@ -1,3 +1,4 @@
+pub mod AboveBuses
 pub mod Asleep
 pub mod BarFaults
 pub mod BarFits
@@ -18,6 +19,7 @@ pub mod NeededWindows
 pub mod Needs
 pub mod OtherRules
 pub mod OwnMachine
+pub mod Passed
 pub mod Placement
 pub mod Planned
 pub mod Profile
@@ -36,6 +38,7 @@ pub mod Stop
 pub mod Stops
 pub mod Sums
 pub mod Tables
+pub mod Tallies
 pub mod ValueFits
 pub mod Whole
 pub mod WorkedRows
