@@ -1,1 +1,7 @@
+pub mod Aboves
+pub mod ClassOf
+pub mod Mapped
+pub mod NeedTables
+pub mod Owned
+pub mod Parts
 pub mod Records

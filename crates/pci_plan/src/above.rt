@@ -58,8 +58,8 @@ pub fn aboves<A: Allocator>(admitted: &Admitted<A>) -> [Above; 256]
     let mut aboves = [Above::NONE; 256];
     for record in admitted.outline().records() {
         if let Some(bridge) = record.bridge {
-            let above = aboves[usize::from(record.slot.bus())];
-            aboves[usize::from(bridge.secondary)] = above.and(&bridge.windows);
+            let above = aboves[record.slot.bus() as usize];
+            aboves[bridge.secondary as usize] = above.and(&bridge.windows);
         }
     }
     aboves

@@ -16,9 +16,9 @@ use std::alloc::Allocator;
 
 /// Whether a function has an I/O BAR.
 fn has_io_bar(record: &Record) -> bool
-    ensures { result ≡ list_any (λ bar. is_io_kind bar.kind) record.now.bars.items }
+    ensures { result ≡ list_any (λ bar. is_io_kind bar.kind) «record».now.bars.items }
 {
-    for bar in &record.bars {
+    for bar in record.bars.as_slice() {
         if bar.kind == BarKind::Io {
             return true;
         }
@@ -35,7 +35,7 @@ pub fn first_lacking<A: Allocator>(
     ensures { MatchOption result ((slot : SlotValue) → LacksWindow (system_in admitted.now) slot → ⊥) (IsFirstLacking (system_in admitted.now)) }
 {
     for record in admitted.outline().records() {
-        let above = aboves[usize::from(record.slot.bus())];
+        let above = aboves[record.slot.bus() as usize];
         if !above.io && has_io_bar(record) {
             return Some(record.slot);
         }

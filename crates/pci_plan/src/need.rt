@@ -90,7 +90,7 @@ pub fn window_size_of(class: Class, need: u128) -> u128
     ensures { result ≡ window_size (class_value class) need }
 {
     let mut size = step_of(class);
-    for _ in 0..66 {
+    for _ in 0..66u32 {
         if need <= size {
             return size;
         }
@@ -101,11 +101,11 @@ pub fn window_size_of(class: Class, need: u128) -> u128
 
 /// The sizes of a function's own BARs and ROM of a class.
 fn own_tally(record: &Record, class: Class, above: Above, pools: &Pools) -> Tally
-    requires { IsLawful record.now }
-    ensures { IsTallyOf (own_sizes (class_value class) above pools.now record.now) result }
+    requires { IsLawful «record».now }
+    ensures { IsTallyOf (own_sizes (class_value class) above pools.now «record».now) result }
 {
     let mut tally = Tally::NONE;
-    for bar in &record.bars {
+    for bar in record.bars.as_slice() {
         if class_of_bar(bar, above, pools) == class {
             tally = tally.and(bar_size(bar));
         }
@@ -124,17 +124,18 @@ fn tally_of(
     pools: &Pools,
     of_bus: &[u128; 256],
 ) -> Tally
-    requires lawful { IsLawful record.now }
+    requires lawful { IsLawful «record».now }
     requires limited { All (λ need. need ≤ 2 ^ 65) of_bus.now }
-    ensures { IsTallyOf (own_sizes (class_value class) above pools.now record.now ++ window_sizes (class_value class) of_bus.now record.now.bridge) result }
+    ensures { IsTallyOf (own_sizes (class_value class) above pools.now «record».now ++ window_sizes (class_value class) of_bus.now «record».now.bridge) result }
 {
     let tally = own_tally(record, class, above, pools);
-    match record.bridge {
-        Some(bridge) if 0 < of_bus[usize::from(bridge.secondary)] => {
-            tally.and(window_size_of(class, of_bus[usize::from(bridge.secondary)]))
+    if let Some(bridge) = record.bridge {
+        let need = of_bus[bridge.secondary as usize];
+        if 0 < need {
+            return tally.and(window_size_of(class, need));
         }
-        _ => tally,
     }
+    tally
 }
 
 /// What each bus needs of a class. Functions behind a bridge have higher slots than the bridge, so in one pass from the
@@ -156,10 +157,10 @@ pub fn needs_of<A: Allocator>(
     let mut greatest = 0;
     for done in 0..records.len() {
         let record = &records[records.len() - 1 - done];
-        let bus = record.slot.bus();
-        let tally = tally_of(record, class, aboves[usize::from(bus)], pools, &of_bus);
-        of_bus[usize::from(bus)] = MOST.min(of_bus[usize::from(bus)] + tally.sum);
-        if roots.has(bus) && greatest < tally.greatest {
+        let bus = record.slot.bus() as usize;
+        let tally = tally_of(record, class, aboves[bus], pools, &of_bus);
+        of_bus[bus] = MOST.min(of_bus[bus] + tally.sum);
+        if roots.has(record.slot.bus()) && greatest < tally.greatest {
             greatest = tally.greatest;
         }
     }
