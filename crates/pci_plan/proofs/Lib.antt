@@ -6,3 +6,4 @@ pub mod NoWindows
 pub mod Owned
 pub mod Parts
 pub mod Records
+pub mod RootNeeds
