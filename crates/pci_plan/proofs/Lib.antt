@@ -1,2 +1,10 @@
+pub mod Aboves
+pub mod ClassOf
+pub mod Mapped
+pub mod NeedTables
+pub mod NoWindows
+pub mod Owned
+pub mod Parts
 pub mod Records
 pub mod WriteLists
+pub mod RootNeeds

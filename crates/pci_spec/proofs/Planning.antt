@@ -1,6 +1,7 @@
 pub mod Above
 pub mod AllItems
 pub mod AddressBits
+pub mod AboveBuses
 pub mod Asleep
 pub mod BarFaults
 pub mod BarFits
@@ -35,6 +36,7 @@ pub mod OtherRules
 pub mod OwnItems
 pub mod OwnMachine
 pub mod PlacedItems
+pub mod Passed
 pub mod Placement
 pub mod PlanStands
 pub mod Places
@@ -70,6 +72,7 @@ pub mod Stop
 pub mod Stops
 pub mod Sums
 pub mod Tables
+pub mod Tallies
 pub mod ValueFits
 pub mod Whole
 pub mod WorkedNumbers
