@@ -1,5 +1,5 @@
 -- What is above each bus, in one pass over the records in slot order.
-use Rattle.std.proofs.Common.{◌≡◌, ℕ, ◌+◌, ◌<◌, ◌≤◌, ◌⊎◌, inl, inr, List, length, take, set, replicate, get_or, refl, Bool, true, false, not, ◌%◌, ◌&&◌, Option, Some, None, arith, sym, ◌∙◌, ap, subst}
+use Rattle.std.proofs.Common.{◌≡◌, ℕ, ◌+◌, ◌<◌, ◌⊎◌, inl, inr, List, length, take, set, replicate, get_or, refl, Bool, true, false, not, ◌%◌, ◌&&◌, Some, None, arith, sym, ◌∙◌, ap, subst}
 use Rattle.std.specs.Bool.{◌==◌, if◌then◌else◌}
 use Rattle.std.specs.Option.{is_some}
 use Rattle.std.specs.List.{Contains, slice_get, list_all}
@@ -7,19 +7,17 @@ use Rattle.std.proofs.lemmas.Bool.{cases_Bool, cases_eq, both_ways, not-true, no
 use Rattle.std.proofs.lemmas.List.{length-set, get_or-replicate, get_or-set_same, get_or-set_other}
 use Rattle.std.proofs.lemmas.List.Elements.{All-contains}
 use Rattle.std.proofs.lemmas.Option.{get_or_from_slice_get}
-use Rattle.pci_spec.specs.Slot.{IsSlot}
-use Rattle.pci_spec.specs.Header.{layout}
 use Rattle.pci_spec.specs.Window.{WindowKind, IoWindow, PrefetchWindow, bounds_at, has_window, is_wide_window}
 use Rattle.pci_spec.specs.System.{System, Function, IsFunction, IsSystem, is_bridge}
 use Rattle.pci_spec.specs.Bus.{secondary, is_behind, IsNested}
-use Rattle.pci_spec.specs.Decoded.{decoded_window, optional_window, bridge_of}
+use Rattle.pci_spec.specs.Decoded.{decoded_window, optional_window}
 use Rattle.pci_spec.specs.Decoded as decoded
 use Rattle.pci_spec.specs.Plan.{bridges_above}
 use Rattle.pci_spec.proofs.Members.{in_nil}
 use Rattle.pci_spec.proofs.BusRanges.{all_gives, ordered, behind_of_within}
 use Rattle.pci_spec.proofs.Planning.Safe.{slots_of}
-use Rattle.pci_spec.proofs.Planning.Passed.{IsBefore, in_front_to, in_front_from, at_place, lower_is_passed}
-use Rattle.pci_spec.proofs.Planning.AboveBuses.{all_above, all_above_root, IsLeader, root_or_led}
+use Rattle.pci_spec.proofs.Planning.Passed.{IsBefore, in_front_to, in_front_from, lower_is_passed}
+use Rattle.pci_spec.proofs.Planning.AboveBuses.{all_above, all_above_root, root_or_led}
 use Rattle.pci_tree.specs.declared.record.Bridge.{Bridge}
 use Rattle.pci_tree.specs.declared.record.Record.{Record}
 use Rattle.pci_tree.proofs.Lifting.{same_bridge}

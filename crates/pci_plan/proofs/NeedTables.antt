@@ -1,8 +1,8 @@
 -- What each bus needs, in one pass over the records from the highest slot down.
 use Rattle.std.proofs.Common.{◌≡◌, ℕ, ◌+◌, ◌-◌, ◌^◌, ◌<◌, ◌≤◌, inl, inr, List, [], ◌∷◌, ◌++◌, length, map, drop, set, replicate, get_or, refl, Bool, true, false, cond, ◌&&◌, max, min, Option, Some, None, arith, sym, ◌∙◌, ap, subst}
-use Rattle.std.specs.Bool.{nat_lt, ◌==◌, if◌then◌else◌}
+use Rattle.std.specs.Bool.{nat_lt, if◌then◌else◌}
 use Rattle.std.specs.Option.{is_some}
-use Rattle.std.specs.List.{Contains, All, slice_get, flat_map, sum, fold}
+use Rattle.std.specs.List.{All, slice_get, flat_map, sum}
 use Rattle.std.proofs.lemmas.Bool.{cases_eq, cases_lt, lt-ltb, le-ltb, eq-eqb, ne_eqb}
 use Rattle.std.proofs.lemmas.List.{length-set, drop_all, drop_more, get_or-replicate, get_or-set_same, get_or-set_other, get_or_default}
 use Rattle.std.proofs.lemmas.List.Sums.{fold_push, sum_by_push}
@@ -13,11 +13,10 @@ use Rattle.pci_spec.specs.System.{System, Function, IsFunction, IsSystem, is_bri
 use Rattle.pci_spec.specs.Bus.{secondary, is_root, IsNested}
 use Rattle.pci_spec.specs.Decoded.{HasRecords}
 use Rattle.pci_spec.specs.Decoded as decoded
-use Rattle.pci_spec.specs.Plan.{Class, limited, window_size, items_on, need_of}
+use Rattle.pci_spec.specs.Plan.{Class, limited, window_size, need_of}
 use Rattle.pci_spec.specs.Plan as plan
 use Rattle.pci_spec.specs.Planning.Table.{need_behind}
 use Rattle.pci_spec.specs.Planning.BusNeeds.{added, added_on}
-use Rattle.pci_spec.proofs.Planning.Safe.{slots_of}
 use Rattle.pci_spec.proofs.Planning.Sums.{need_added}
 use Rattle.pci_spec.proofs.Planning.Tallies.{limited_add, greatest_append, behind_sizes, function_sizes, root_sizes, sum_of_function, part_of, added_more, whole_behind, greatest_by_slots}
 use Rattle.pci_tree.specs.declared.record.Bridge.{Bridge}
@@ -27,7 +26,6 @@ use Rattle.pci_tree.proofs.Lifting.{same_bridge, same_slot_of}
 use Rattle.pci_tree.proofs.RegionParts.{same_bridge_of}
 use Rattle.pci_plan.specs.declared.above.Above.{Above}
 use Rattle.pci_plan.specs.declared.pools.Pools.{Pools}
-use Rattle.pci_plan.specs.declared.need.Needs.{Needs}
 use Rattle.pci_plan.specs.declared.need.Tally.{Tally}
 use Rattle.pci_plan.specs.Pools.{pools_value}
 use Rattle.pci_plan.specs.Above.{IsAbove, AreAboves}

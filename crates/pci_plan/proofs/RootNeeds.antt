@@ -1,5 +1,5 @@
 -- What all roots need together, and whether it fits.
-use Rattle.std.proofs.Common.{◌≡◌, ℕ, ◌+◌, ◌*◌, ◌^◌, ◌<◌, ◌≤◌, ◌↔◌, inl, inr, List, [], ◌∷◌, ◌++◌, map, length, get_or, refl, Bool, true, false, cond, ◌||◌, arith, sym, ◌∙◌, ap, subst}
+use Rattle.std.proofs.Common.{◌≡◌, ℕ, ◌+◌, ◌*◌, ◌^◌, ◌<◌, ◌≤◌, ◌↔◌, inl, inr, List, [], ◌∷◌, ◌++◌, map, length, get_or, refl, Bool, true, false, cond, ◌||◌, arith, sym, ◌∙◌, ap}
 use Rattle.std.specs.Bool.{nat_eq, nat_le}
 use Rattle.std.specs.List.{Contains, All, filter, range_with_len, sum, sum_by}
 use Rattle.std.proofs.lemmas.Bool.{cases_lt, eq-eqb, ne_eqb, or_left}
@@ -38,7 +38,8 @@ one_more : (b : Bool) (needs : List ℕ) (bus : ℕ) → sum_by (get_or_zero nee
 one_more true needs bus = let e : 0 + get_or needs bus 0 ≡ get_or needs bus 0 = omega arith in e
 one_more false needs bus = refl
 
-limited_at : (needs : List ℕ) → All (λ need. need ≤ 2 ^ 65) needs → (bus : ℕ) → get_or needs bus 0 ≤ 2 ^ 65
+-- no need is more than what is told apart, also past the end
+pub limited_at : (needs : List ℕ) → All (λ need. need ≤ 2 ^ 65) needs → (bus : ℕ) → get_or needs bus 0 ≤ 2 ^ 65
 limited_at needs small bus = elim (cases_lt bus (length needs)) [
   | inl within ↦ small bus 0 within
   | inr past ↦ let e = get_or_past needs bus 0 past in omega (arith, e)

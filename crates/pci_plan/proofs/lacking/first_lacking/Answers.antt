@@ -1,4 +1,4 @@
-use Rattle.std.proofs.Common.{◌≡◌, ◌+◌, inl, inr, length, map, refl, false, Some, arith, sym, ◌∙◌, ap, get_or, subst}
+use Rattle.std.proofs.Common.{◌≡◌, inl, inr, length, map, refl, false, Some, arith, sym, ◌∙◌, ap, get_or, subst}
 use Rattle.std.specs.List.{slice_get}
 use Rattle.std.proofs.lemmas.Bool.{not-true, not-false}
 use Rattle.std.proofs.lemmas.Option.{slice_get_read}

@@ -1,16 +1,8 @@
-use Rattle.std.proofs.Common.{◌≡◌, ℕ, ◌≤◌, ◌^◌, List, inl, inr, length, get_or, arith}
-use Rattle.std.specs.List.{All}
-use Rattle.std.proofs.lemmas.Bool.{cases_lt}
-use Rattle.std.proofs.lemmas.List.{get_or_past}
+use Rattle.std.proofs.Common.{get_or, arith}
 use Rattle.pci_spec.proofs.Planning.Tallies.{window_small}
 use Rattle.pci_plan.specs.Pools.{class_value}
+use Rattle.pci_plan.proofs.RootNeeds.{limited_at}
 use Rattle.pci_plan.proofs.need.tally_of.Goals as goal
-
-limited_at : (needs : List ℕ) → All (λ need. need ≤ 2 ^ 65) needs → (bus : ℕ) → get_or needs bus 0 ≤ 2 ^ 65
-limited_at needs small bus = elim (cases_lt bus (length needs)) [
-  | inl within ↦ small bus 0 within
-  | inr past ↦ let e = get_or_past needs bus 0 past in omega (arith, e)
-]
 
 pub and-requires-clause-size : goal.and-requires-clause-size
 and-requires-clause-size c =

@@ -1,4 +1,4 @@
-use Rattle.std.proofs.Common.{◌≡◌, ℕ, ◌<◌, ◌≤◌, arith, ◌∙◌, sym, ap}
+use Rattle.std.proofs.Common.{◌≡◌, arith, ◌∙◌, ap}
 use Rattle.pci_spec.specs.Decoded.{Range}
 use Rattle.pci_spec.specs.Plan.{need_of_roots}
 use Rattle.pci_spec.proofs.Planning.Tallies.{greatest_small}

@@ -1,4 +1,4 @@
-use Rattle.std.proofs.Common.{◌≡◌, ◌+◌, ◌*◌, ◌^◌, ◌≤◌, cond, get_or, arith, ◌∙◌, sym, ap}
+use Rattle.std.proofs.Common.{◌≡◌, ◌+◌, cond, get_or, arith, ◌∙◌, sym, ap}
 use Rattle.pci_plan.proofs.RootNeeds.{sum_none, sum_more, sum_all}
 use Rattle.pci_plan.proofs.room.need_of_roots.Goals as goal
 use Rattle.pci_plan.proofs.room.need_of_roots.Goals.{then-has, else-has}
