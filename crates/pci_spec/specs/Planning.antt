@@ -4,7 +4,9 @@ pub mod Fitting
 pub mod Layout
 pub mod Laws
 pub mod Placing
+pub mod Plannable
 pub mod PlanWrites
+pub mod Promise
 pub mod Ranges
 pub mod Room
 pub mod Safety

@@ -111,7 +111,7 @@ prefetch_by_class t pools f (Bar n) plain h = bar_prefetch (is_io (bar_at f.prob
 prefetch_by_class t pools f Rom plain h = absurd (both_ways false refl h)
 prefetch_by_class t pools f (Window kind) plain h = absurd (both_ways true plain refl)
 
-class_of_window : (c : Class) → window_class (window_of c) ≡ c
+pub class_of_window : (c : Class) → window_class (window_of c) ≡ c
 class_of_window IoClass = refl
 class_of_window MemoryClass = refl
 class_of_window PrefetchClass = refl

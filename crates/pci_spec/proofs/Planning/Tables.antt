@@ -32,7 +32,7 @@ class_itself IoClass = refl
 class_itself MemoryClass = refl
 class_itself PrefetchClass = refl
 
-register_same : (f g : Function) (p : Part) → layout g.image ≡ layout f.image → register_of g p ≡ register_of f p
+pub register_same : (f g : Function) (p : Part) → layout g.image ≡ layout f.image → register_of g p ≡ register_of f p
 register_same f g (Bar n) e = refl
 register_same f g Rom e = ap rom_register e
 register_same f g (Window kind) e = refl
