@@ -1,7 +1,7 @@
 pub mod Above
-pub mod AllItems
 pub mod AddressBits
 pub mod AboveBuses
+pub mod AllItems
 pub mod Asleep
 pub mod BarFaults
 pub mod BarFits
@@ -20,8 +20,8 @@ pub mod Final
 pub mod Fit
 pub mod Greatest
 pub mod Home
-pub mod Insertion
 pub mod InPool
+pub mod Insertion
 pub mod Kept
 pub mod LaidOut
 pub mod Moved
@@ -32,6 +32,7 @@ pub mod OnMachine
 pub mod Order
 pub mod Numbers
 pub mod NumbersFit
+pub mod Order
 pub mod OtherRules
 pub mod OwnItems
 pub mod OwnMachine
@@ -42,6 +43,7 @@ pub mod PlanStands
 pub mod Places
 pub mod Placings
 pub mod Planned
+pub mod Plannings
 pub mod Profile
 pub mod Reach
 pub mod Reached
@@ -63,11 +65,11 @@ pub mod ShownNumbers
 pub mod ShownSystem
 pub mod Shows
 pub mod Single
+pub mod Sizes
 pub mod Sorting
 pub mod Staging
 pub mod Starts
 pub mod Stays
-pub mod Sizes
 pub mod Stop
 pub mod Stops
 pub mod Sums
@@ -75,6 +77,8 @@ pub mod Tables
 pub mod Tallies
 pub mod ValueFits
 pub mod Whole
+pub mod WindowFits
 pub mod WorkedNumbers
 pub mod WindowFits
+pub mod WorkedRows
 pub mod Writes

@@ -6,7 +6,7 @@ use Rattle.pci_spec.specs.Window.{WindowKind, IoWindow, MemoryWindow, PrefetchWi
 use Rattle.pci_spec.specs.System.{System, Function, Bar, Rom, Window, is_bridge}
 use Rattle.pci_spec.specs.Bus.{secondary}
 use Rattle.pci_spec.specs.Plan.{Pools, window_class, window_size, need_of, has_behind}
-use Rattle.pci_spec.specs.Planning.Numbers.{place_at, bar_number, new_bounds, device_number, bridge_number, new_number}
+use Rattle.pci_spec.specs.Planning.Numbers.{place_at, bar_number, device_number, bridge_number, new_number}
 use Rattle.pci_spec.proofs.Planning.BarNumbers.{bar_by}
 use Rattle.pci_spec.proofs.Planning.RomFits.{rom_by}
 use Rattle.pci_spec.proofs.Planning.WindowFits.{bounds_by}

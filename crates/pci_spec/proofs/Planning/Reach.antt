@@ -37,7 +37,7 @@ good_pools pools good =
     let three = or_parts (is_backward pools.io || is_backward pools.memory || is_backward pools.prefetch) (nat_lt 0xffff pools.io.last) four.0 in
     record { io = ltb-false 0xffff pools.io.last three.1; memory = ltb-false 0xffff_ffff pools.memory.last four.1 }
 
-pool_below : (pools : Pools) → AreGood pools → pools.prefetch.last < 2 ^ 64 → (c : Class) → (pool_of pools c).last < 2 ^ 64
+pub pool_below : (pools : Pools) → AreGood pools → pools.prefetch.last < 2 ^ 64 → (c : Class) → (pool_of pools c).last < 2 ^ 64
 pool_below pools good top IoClass = let l = good.io in omega (arith, l)
 pool_below pools good top MemoryClass = let l = good.memory in omega (arith, l)
 pool_below pools good top PrefetchClass = top
