@@ -32,7 +32,6 @@ pub mod OnMachine
 pub mod Order
 pub mod Numbers
 pub mod NumbersFit
-pub mod Order
 pub mod OtherRules
 pub mod OwnItems
 pub mod OwnMachine
@@ -79,6 +78,5 @@ pub mod ValueFits
 pub mod Whole
 pub mod WindowFits
 pub mod WorkedNumbers
-pub mod WindowFits
 pub mod WorkedRows
 pub mod Writes
