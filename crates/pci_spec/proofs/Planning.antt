@@ -78,5 +78,4 @@ pub mod ValueFits
 pub mod Whole
 pub mod WindowFits
 pub mod WorkedNumbers
-pub mod WorkedRows
 pub mod Writes
