@@ -8,3 +8,7 @@ pub mod Parts
 pub mod Records
 pub mod WriteLists
 pub mod RootNeeds
+pub mod Judged
+pub mod AllPlaces
+pub mod Refusing
+pub mod PlanFaults

@@ -2,7 +2,7 @@
 use Rattle.std.specs.Prelude.{◌≡◌, ℕ, ◌≤◌, List, length, map, Option, None, Some}
 use Rattle.std.specs.List.{AllZip, sum}
 use Rattle.pci_spec.specs.Text.{Block, slots_of}
-use Rattle.pci_spec.specs.System.{System, system_of}
+use Rattle.pci_spec.specs.System.{System, IsSystem, system_of}
 use Rattle.pci_spec.specs.Sound.{IsSound}
 use Rattle.pci_spec.specs.Machine.{Write, system_after}
 use Rattle.pci_spec.specs.Plan as plan
@@ -34,6 +34,7 @@ pub record IsPlanValue (p : PlanValue) : Type 0 where
   pub admitted : IsAdmitted p.start
   pub slots : slots_of p.dump ≡ slots_of p.start.dump
   pub moved : AllZip IsMoved (system_in p.start) (final_of p)
+  pub system : IsSystem (final_of p)
   pub sound : IsSound p.start.roots (final_of p)
   pub roms : IsSound p.start.roots (map with_rom_on (final_of p))
   pub writes : p.writes ≡ plan_writes (changes_between (system_in p.start) (final_of p))

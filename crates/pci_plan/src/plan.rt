@@ -33,6 +33,7 @@ impl<'a, A: Allocator> Plan<'a, A> {
     ghost use Rattle.std.specs.Prelude.{◌≤◌, length, map};
     ghost use Rattle.std.specs.List.{sum};
     ghost use Rattle.pci_spec.specs.Sound.{IsSound};
+    ghost use Rattle.pci_spec.specs.System.{IsSystem};
     ghost use Rattle.pci_spec.specs.Machine.{system_after};
     ghost use Rattle.pci_spec.specs.PlanPromise.{changes_between, IsSafeFrom, StopsSafely, EachWriteChanges, with_rom_on};
     ghost use Rattle.pci_spec.specs.Planning.PlanWrites.{closing_writes, plan_writes, most_writes};
@@ -69,6 +70,7 @@ impl<'a, A: Allocator> Plan<'a, A> {
     pub fn dump(&self) -> &Dump<A>
         ensures value { result.now ≡ self.now.dump }
         ensures slots { slots_of self.now.dump ≡ slots_of self.now.start.dump }
+        ensures system { IsSystem (final_of self.now) }
         ensures sound { IsSound self.now.start.roots (final_of self.now) }
         ensures roms { IsSound self.now.start.roots (map with_rom_on (final_of self.now)) }
     {

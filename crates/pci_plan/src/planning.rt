@@ -1,7 +1,12 @@
 //! Planning: places for everything, and the writes that lead there.
 ghost use Rattle.std.specs.Prelude.{◌≡◌, ◌↔◌, ◌⊎◌, IfOk, IfErr, IsTrue, MatchOption, length, count_by, Err};
 ghost use Rattle.pci_spec.specs.Text.{slots_of};
-ghost use Rattle.pci_spec.specs.System.{system_of};
+ghost use Rattle.pci_spec.specs.System.{IsSystem, system_of};
+ghost use Rattle.std.specs.List.{All};
+ghost use Rattle.std.specs.List.Sorted.{IsStrictlyIncreasing};
+ghost use Rattle.pci_spec.specs.Decoded.{IsDecodable};
+ghost use Rattle.pci_tree.specs.Admission.{IsAdmitted};
+ghost use Rattle.pci_tree.specs.Roots.{buses_of};
 ghost use Rattle.pci_spec.specs.Sound.{IsSound};
 ghost use Rattle.pci_spec.specs.Plan.{Class as ClassValue, fits};
 ghost use Rattle.pci_spec.specs.PlanPromise.{CanBePlanned, IsFirstTooLarge};
@@ -31,6 +36,7 @@ use pci_dump::memory::{OutOfMemory, Refused};
 use pci_tree::admit::outline_of;
 use pci_tree::admitted::Admitted;
 use pci_tree::fault::Fault;
+use pci_tree::roots::Roots;
 use std::alloc::Allocator;
 
 /// What the buses need of each class.
@@ -71,6 +77,21 @@ fn first_too_large<A: Allocator>(
     None
 }
 
+/// A place for each function's parts, none of which is placed yet.
+fn no_places<A: Allocator, B: Allocator>(
+    alloc: A,
+    admitted: &Admitted<B>,
+) -> Result<Vec<Places, A>, OutOfMemory>
+    ensures { IfOk result (λ v. length v.items ≡ length (system_in admitted.now)) }
+{
+    let records = admitted.outline().records();
+    let mut places = Vec::new(alloc);
+    for _ in 0..records.len() {
+        places.push(Places::NONE)?;
+    }
+    Ok(places)
+}
+
 /// The place of everything.
 fn all_places<A: Allocator + Copy, B: Allocator>(
     alloc: A,
@@ -85,15 +106,46 @@ fn all_places<A: Allocator + Copy, B: Allocator>(
     ensures count { IfOk result (λ v. length v.items ≡ length (system_in admitted.now)) }
     ensures places { IfOk result (λ v. (c : ClassValue) → HasPlaces admitted.now.roots (system_in admitted.now) (pools_value pools.now) c v.items) }
 {
-    let mut places = Vec::new(alloc);
-    for _ in admitted.outline().records() {
-        places.push(Places::NONE)?;
-    }
+    let mut places = no_places(alloc, admitted)?;
     let all = places.as_mut_slice();
-    place_class(alloc, admitted, pools, Class::Io, aboves, &needs.io, all)?;
-    place_class(alloc, admitted, pools, Class::Memory, aboves, &needs.mem, all)?;
-    place_class(alloc, admitted, pools, Class::Prefetchable, aboves, &needs.pref, all)?;
+    place_class(
+        alloc,
+        admitted,
+        pools,
+        Class::Io,
+        aboves,
+        &needs.io,
+        all,
+    )?;
+    place_class(
+        alloc,
+        admitted,
+        pools,
+        Class::Memory,
+        aboves,
+        &needs.mem,
+        all,
+    )?;
+    place_class(
+        alloc,
+        admitted,
+        pools,
+        Class::Prefetchable,
+        aboves,
+        &needs.pref,
+        all,
+    )?;
     Ok(places)
+}
+
+/// The root buses, which rise; and the system decodes.
+fn roots_of<A: Allocator>(admitted: &Admitted<A>) -> Roots
+    ensures value { buses_of result ≡ admitted.now.roots }
+    ensures rising { IsStrictlyIncreasing admitted.now.roots }
+    ensures admitted { IsAdmitted admitted.now }
+    ensures decodable { All IsDecodable (system_in admitted.now) }
+{
+    admitted.outline().roots()
 }
 
 /// The first fault of a dump with the probe, where it isn't accepted.
@@ -101,16 +153,14 @@ fn judged<A: Allocator + Copy>(
     alloc: A,
     admitted: &Admitted<A>,
     dump: &Dump<A>,
+    roots: Roots,
 ) -> Result<Option<Fault>, OutOfMemory>
-    requires { slots_of dump.now ≡ slots_of admitted.now.dump }
+    requires system { IsSystem (system_of dump.now admitted.now.probe) }
+    requires slots { slots_of dump.now ≡ slots_of admitted.now.probe }
+    requires roots { buses_of roots ≡ admitted.now.roots }
     ensures { IfOk result (λ o. IsUnsoundIf o admitted.now.roots (system_of dump.now admitted.now.probe)) }
 {
-    match outline_of(
-        alloc,
-        dump,
-        admitted.probe(),
-        admitted.outline().roots(),
-    ) {
+    match outline_of(alloc, dump, admitted.probe(), roots) {
         Ok(outline) => judge(alloc, &outline),
         Err(Refused::Fault(fault)) => Ok(Some(fault)),
         Err(Refused::Memory) => Err(OutOfMemory),
@@ -126,6 +176,29 @@ fn safe_from<A: Allocator + Copy>(alloc: A, admitted: &Admitted<A>) -> Result<us
         Verdict::Yes(_) => Ok(0),
         Verdict::No(_) => Ok(closings(admitted.dump().blocks())),
     }
+}
+
+/// The plan of what can be planned.
+fn made<'a, A: Allocator + Copy>(
+    alloc: A,
+    admitted: &'a Admitted<A>,
+    pools: &Pools,
+    aboves: &[Above; 256],
+    needs: &ByClass<Needs>,
+) -> Result<Plan<'a, A>, OutOfMemory>
+    requires plannable { CanBePlanned admitted.now.roots (system_in admitted.now) (pools_value pools.now) }
+    requires aboves { AreAboves (system_in admitted.now) aboves.now }
+    requires needs { AreAllNeeds admitted.now.roots (system_in admitted.now) (pools_value pools.now) needs.now }
+    ensures { IfOk result (IsPlanIn admitted.entry.now (pools_value pools.now)) }
+{
+    // Read for what it says of the system and the roots.
+    let _roots = roots_of(admitted);
+    let _last = pools.pref.last;
+    let places = all_places(alloc, admitted, pools, aboves, needs)?;
+    let dump = planned_dump(alloc, admitted, pools, needs, places.as_slice())?;
+    let writes = writes_between(alloc, admitted.dump().blocks(), dump.blocks())?;
+    let safe_from = safe_from(alloc, admitted)?;
+    Ok(Plan::of(admitted, dump, writes, safe_from))
 }
 
 /// Gives every implemented BAR and ROM a place in the pool of its class, every window just what stands behind it, and
@@ -147,21 +220,24 @@ pub fn plan<'a, A: Allocator + Copy>(
     if pools.are_bad() {
         return Err(Refused::Fault(PlanFault::BadPools));
     }
+    let roots = roots_of(admitted);
     let aboves = aboves(admitted);
-    if let Some(slot) = first_lacking(admitted, &aboves) {
-        return Err(Refused::Fault(PlanFault::NoWindow(slot)));
+    match first_lacking(admitted, &aboves) {
+        None => {}
+        Some(slot) => return Err(Refused::Fault(PlanFault::NoWindow(slot))),
     }
     let needs = all_needs(admitted, pools, &aboves);
-    if let Some(class) = first_too_large(admitted, pools, &needs) {
-        return Err(Refused::Fault(PlanFault::NoRoom(class)));
-    }
-    let places = all_places(alloc, admitted, pools, &aboves, &needs)?;
-    let dump = planned_dump(alloc, admitted, pools, &needs, places.as_slice())?;
-    match judged(alloc, admitted, &dump)? {
+    match first_too_large(admitted, pools, &needs) {
         None => {}
-        Some(fault) => return Err(Refused::Fault(PlanFault::NotAccepted(fault))),
+        Some(class) => return Err(Refused::Fault(PlanFault::NoRoom(class))),
     }
-    let writes = writes_between(alloc, admitted.dump().blocks(), dump.blocks())?;
-    let safe_from = safe_from(alloc, admitted)?;
-    Ok(Plan::of(admitted, dump, writes, safe_from))
+    let plan = match made(alloc, admitted, pools, &aboves, &needs) {
+        Ok(plan) => plan,
+        Err(OutOfMemory) => return Err(Refused::Memory),
+    };
+    match judged(alloc, admitted, plan.dump(), roots) {
+        Ok(None) => Ok(plan),
+        Ok(Some(fault)) => Err(Refused::Fault(PlanFault::NotAccepted(fault))),
+        Err(OutOfMemory) => Err(Refused::Memory),
+    }
 }
