@@ -16,6 +16,7 @@ pub mod Moved
 pub mod Needed
 pub mod NeededWindows
 pub mod Needs
+pub mod Order
 pub mod OtherRules
 pub mod OwnMachine
 pub mod Placement
