@@ -4,4 +4,7 @@ pub mod Classes
 pub mod Needs
 pub mod Records
 pub mod Places
+pub mod Sorting
+pub mod Items
+pub mod Walks
 pub mod Writes

@@ -1,5 +1,8 @@
 //! What is placed: BARs, ROMs, and windows of bridges with something behind them.
-ghost use Rattle.std.specs.Prelude.{◌≡◌};
+ghost use Rattle.std.specs.Prelude.{◌≡◌, ℕ, ◌<◌, OnOk};
+ghost use Rattle.std.specs.List.{AllPairs};
+ghost use Rattle.std.specs.List.Sorted.{IsPermutation};
+ghost use Rattle.pci_plan.specs.Sorting.{IsLarger, IsPlacedBefore};
 
 use super::above::Above;
 use super::class::class_of_bar;
@@ -10,6 +13,7 @@ use pci_image::offset::BASE_ADDRESS;
 use pci_tree::admitted::Admitted;
 use pci_tree::record::Record;
 use std::alloc::Allocator;
+use std::cmp::Reverse;
 
 /// What an item is of its function.
 #[derive(Clone, Copy, Debug, PartialEq, Eq)]
@@ -107,15 +111,21 @@ pub fn items_of<A: Allocator, B: Allocator>(
 }
 
 /// Sorts items by falling size; those of one size stay in their order.
-fn sort_by_size<A: Allocator + Copy>(items: &mut Vec<Item, A>) -> Result<(), OutOfMemory> {
-    match items.sort_by_key(|item| u128::MAX - item.size) {
+fn sort_by_size<A: Allocator + Copy>(items: &mut Vec<Item, A>) -> Result<(), OutOfMemory>
+    ensures permutation { IsPermutation items.old.items items.new.items }
+    ensures sorted { OnOk result ((number : Item → ℕ) → AllPairs (λ i j. number i < number j) items.old.items → AllPairs (IsLarger number) items.new.items) }
+{
+    match items.sort_by_key(|item| Reverse(item.size)) {
         Ok(()) => Ok(()),
         Err(_) => Err(OutOfMemory),
     }
 }
 
 /// Sorts items by their group; those of one group stay in their order.
-fn sort_by_group<A: Allocator + Copy>(items: &mut Vec<Item, A>) -> Result<(), OutOfMemory> {
+fn sort_by_group<A: Allocator + Copy>(items: &mut Vec<Item, A>) -> Result<(), OutOfMemory>
+    ensures permutation { IsPermutation items.old.items items.new.items }
+    ensures sorted { OnOk result ((number : Item → ℕ) → AllPairs (IsLarger number) items.old.items → AllPairs (IsPlacedBefore number) items.new.items) }
+{
     match items.sort_by_key(|item| item.group) {
         Ok(()) => Ok(()),
         Err(_) => Err(OutOfMemory),
@@ -123,7 +133,10 @@ fn sort_by_group<A: Allocator + Copy>(items: &mut Vec<Item, A>) -> Result<(), Ou
 }
 
 /// Sorts items that stand in slot and register order into groups, and each group by falling size.
-pub fn sort_items<A: Allocator + Copy>(items: &mut Vec<Item, A>) -> Result<(), OutOfMemory> {
+pub fn sort_items<A: Allocator + Copy>(items: &mut Vec<Item, A>) -> Result<(), OutOfMemory>
+    ensures permutation { IsPermutation items.old.items items.new.items }
+    ensures sorted { OnOk result ((number : Item → ℕ) → AllPairs (λ i j. number i < number j) items.old.items → AllPairs (IsPlacedBefore number) items.new.items) }
+{
     sort_by_size(items)?;
     sort_by_group(items)
 }
