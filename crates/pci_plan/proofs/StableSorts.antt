@@ -63,7 +63,7 @@ larger_by_sort number xs ys rise sorted stable i j d up inside =
       | inl same ↦ inr (
         same,
         stable_pairs (λ i j. number i < number j) (λ i j. is_lt (nat_cmp j.size i.size)) xs ys i j d rise stable up inside
-        (not_below p.size p.size (omega arith)) (not_below q.size p.size (omega (arith, same))) (not_below p.size q.size (omega (arith, same))),
+            (not_below p.size p.size (omega arith)) (not_below q.size p.size (omega (arith, same))) (not_below p.size q.size (omega (arith, same))),
       )
       | inr other ↦ inl (omega (arith, falls, other))
     ]
@@ -79,7 +79,7 @@ placed_by_sort number xs ys larger sorted stable i j d up inside =
       | inl same ↦ inr (
         same,
         stable_pairs (IsLarger number) (λ i j. is_lt (nat_cmp i.group j.group)) xs ys i j d larger stable up inside
-        (not_below p.group p.group (omega arith)) (not_below p.group q.group (omega (arith, same))) (not_below q.group p.group (omega (arith, same))),
+            (not_below p.group p.group (omega arith)) (not_below p.group q.group (omega (arith, same))) (not_below q.group p.group (omega (arith, same))),
       )
       | inr other ↦ inl (omega (arith, rise, other))
     ]
