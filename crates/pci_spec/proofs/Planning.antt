@@ -1,4 +1,5 @@
 pub mod AddressBits
+pub mod AllItems
 pub mod Asleep
 pub mod BarFaults
 pub mod BarFits
@@ -13,8 +14,10 @@ pub mod EachChanges
 pub mod Faults
 pub mod Filled
 pub mod Fit
+pub mod Greatest
 pub mod Home
 pub mod InPool
+pub mod Insertion
 pub mod Kept
 pub mod LaidOut
 pub mod Moved
@@ -23,8 +26,12 @@ pub mod NeededWindows
 pub mod Needs
 pub mod Order
 pub mod OtherRules
+pub mod OwnItems
 pub mod OwnMachine
+pub mod PlacedItems
 pub mod Placement
+pub mod Places
+pub mod Placings
 pub mod Planned
 pub mod Profile
 pub mod Reach
@@ -38,7 +45,10 @@ pub mod Safe
 pub mod Settled
 pub mod Shows
 pub mod Single
+pub mod Sizes
+pub mod Sorting
 pub mod Staging
+pub mod Starts
 pub mod Stays
 pub mod Stop
 pub mod Stops

@@ -1,5 +1,5 @@
 -- Where everything is placed: largest first on each bus, from the pool or the bridge's window on (this project's profile).
-use Rattle.std.specs.Prelude.{◌≡◌, ℕ, zero, suc, ◌+◌, ◌*◌, ◌-◌, ◌^◌, ◌==◌, nat_lt, Bool, ◌&&◌, ◌||◌, if◌then◌else◌, IsTrue, IsFalse, List, [], ◌∷◌, ◌++◌, map, Option, None, Some}
+use Rattle.std.specs.Prelude.{◌≡◌, ℕ, zero, suc, ◌+◌, ◌-◌, ◌==◌, nat_lt, Bool, ◌&&◌, ◌||◌, if◌then◌else◌, IsTrue, IsFalse, List, [], ◌∷◌, ◌++◌, map, Option, None, Some}
 use Rattle.std.specs.List.{filter, flat_map, sum, find, range_with_len, Contains}
 use Rattle.pci_spec.specs.Slot.{slot_number}
 use Rattle.pci_spec.specs.Header.{layout, bar_count}
@@ -68,7 +68,7 @@ start_within roots s pools c zero bus = start_of_roots roots s pools c bus
 start_within roots s pools c (suc depth) bus =
     if is_root roots bus then start_of_roots roots s pools c bus
     else behind_window (λ b. place_from (start_within roots s pools c depth b.slot.bus) (items_beside roots s pools c b.slot.bus) (window_item s pools c b))
-      (start_of_roots roots s pools c bus) (find (λ b. is_bridge b && secondary b == bus) s)
+    (start_of_roots roots s pools c bus) (find (λ b. is_bridge b && secondary b == bus) s)
 
 -- buses rise on the way down, so 256 of them are all
 abbrev pub start_of : List ℕ → System → Pools → Class → ℕ → ℕ

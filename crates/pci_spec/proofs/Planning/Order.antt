@@ -30,6 +30,9 @@ earlier_once a b s t q r h = grind (arith, nat_tests)
 earlier_falls : (a b s t q r : ℕ) → earlier a b s t q r ≡ true → b ≤ a
 earlier_falls a b s t q r h = grind (arith, nat_tests)
 
+earlier_larger : (a b s t q r : ℕ) → b < a → earlier a b s t q r ≡ true
+earlier_larger a b s t q r less = grind (arith, nat_tests)
+
 earlier_by : (a b s t q r : ℕ) → (s < t) ⊎ ((s ≡ t) × (q < r)) → b ≤ a → earlier a b s t q r ≡ true
 earlier_by a b s t q r h le = grind (arith, nat_tests)
 
@@ -53,6 +56,9 @@ before_once i j h = earlier_once i.size j.size (slot_at i) (slot_at j) (register
 
 pub before_falls : (i j : Item) → comes_before i j ≡ true → j.size ≤ i.size
 before_falls i j h = earlier_falls i.size j.size (slot_at i) (slot_at j) (register_at i) (register_at j) h
+
+pub before_larger : (i j : Item) → j.size < i.size → comes_before i j ≡ true
+before_larger i j less = earlier_larger i.size j.size (slot_at i) (slot_at j) (register_at i) (register_at j) less
 
 -- what stands before another item comes before it unless it is smaller
 pub before_by : (i j : Item) → StandsBefore i j → j.size ≤ i.size → comes_before i j ≡ true
