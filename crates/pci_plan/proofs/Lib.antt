@@ -1,3 +1,9 @@
+pub mod Aboves
+pub mod ClassOf
+pub mod Mapped
+pub mod NeedTables
+pub mod Owned
+pub mod Parts
 pub mod Records
 pub mod StableSorts
 pub mod Walking

@@ -1,3 +1,4 @@
+pub mod AboveBuses
 pub mod AddressBits
 pub mod AllItems
 pub mod Asleep
@@ -28,6 +29,7 @@ pub mod Order
 pub mod OtherRules
 pub mod OwnItems
 pub mod OwnMachine
+pub mod Passed
 pub mod PlacedItems
 pub mod Placement
 pub mod Places
@@ -54,6 +56,7 @@ pub mod Stop
 pub mod Stops
 pub mod Sums
 pub mod Tables
+pub mod Tallies
 pub mod ValueFits
 pub mod Whole
 pub mod WorkedRows
