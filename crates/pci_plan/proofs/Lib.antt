@@ -1,5 +1,6 @@
 pub mod Aboves
 pub mod ClassOf
+pub mod ItemValues
 pub mod Mapped
 pub mod NeedTables
 pub mod Owned

@@ -167,7 +167,7 @@ pub fn items_of<A: Allocator, B: Allocator>(
     requires aboves { AreAboves (system_in admitted.now) aboves.now }
     requires needs { AreNeeds admitted.now.roots (system_in admitted.now) (pools_value pools.now) (class_value class) needs.now }
     ensures items { IfOk result (λ items. AreItems admitted.now.roots (system_in admitted.now) (pools_value pools.now) (class_value class) items.items) }
-    ensures roots { IsStrictlyIncreasing admitted.now.roots }
+    ensures roots { OnOk result (IsStrictlyIncreasing admitted.now.roots) }
 {
     let outline = admitted.outline();
     let roots = outline.roots();
