@@ -1,3 +1,4 @@
+pub mod Above
 pub mod AboveBuses
 pub mod AddressBits
 pub mod AllItems

@@ -1,8 +1,8 @@
 -- All items of a class come in the order of slots and registers.
-use Rattle.std.proofs.Common.{◌≡◌, ℕ, ◌<◌, ◌≤◌, inl, inr, List, [], ◌∷◌, ◌++◌, refl, Bool, true, false, cond, ◌&&◌, arith, ◌∙◌, ap, subst, map, get_or}
+use Rattle.std.proofs.Common.{◌≡◌, ℕ, ◌<◌, ◌≤◌, inl, inr, List, [], ◌∷◌, ◌++◌, refl, Bool, true, false, cond, ◌&&◌, arith, ap, subst, map, get_or}
 use Rattle.std.specs.Bool.{◌==◌}
-use Rattle.std.specs.List.{Contains, AllPairs, filter, range_with_len}
-use Rattle.std.proofs.lemmas.Bool.{cases_Bool, and_parts, eqb-true}
+use Rattle.std.specs.List.{AllPairs, filter, range_with_len}
+use Rattle.std.proofs.lemmas.Bool.{cases_Bool, eqb-true}
 use Rattle.std.proofs.lemmas.List.{get_or-map, length-map}
 use Rattle.std.proofs.lemmas.List.Elements.{Contains-append_cases}
 use Rattle.pci_spec.specs.Slot.{slot_number}
@@ -12,7 +12,7 @@ use Rattle.pci_spec.specs.System.{System, Function, IsSystem, Part, Bar, Rom, is
 use Rattle.pci_spec.specs.Plan.{Pools, Class, IoClass, MemoryClass, PrefetchClass, class_of, same_class, has_behind, window_of}
 use Rattle.pci_spec.specs.Place.{Item, part_item, window_item, items_among, own_items}
 use Rattle.pci_spec.specs.Planning.Sorted.{all_items, StandsBefore}
-use Rattle.pci_spec.proofs.Members.{IsMade, in_nil, in_cons_cases, in_map_to, in_filter_to, in_range_to, pairs_nil, pairs_cons, pairs_append, pairs_map, pairs_filter, pairs_range, pairs_flat_map}
+use Rattle.pci_spec.proofs.Members.{in_nil, pairs_nil, pairs_cons, pairs_append, pairs_map, pairs_filter, pairs_range, pairs_flat_map}
 use Rattle.pci_spec.proofs.Rising.{pairs_of_rising}
 use Rattle.pci_spec.proofs.Planning.OwnItems.{bar_parts, window_items, bar_among, window_among, rom_among, own_function}
 

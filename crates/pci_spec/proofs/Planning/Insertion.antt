@@ -1,5 +1,5 @@
 -- An insertion sort: the items of a bus can be put in order.
-use Rattle.std.proofs.Common.{◌≡◌, inl, inr, List, [], ◌∷◌, refl, true, false, cond, arith, sym, subst}
+use Rattle.std.proofs.Common.{◌≡◌, inl, inr, List, [], ◌∷◌, refl, true, cond, arith, sym, subst}
 use Rattle.std.specs.Bool.{IsTrue, if◌then◌else◌}
 use Rattle.std.specs.List.{Contains, AllPairs}
 use Rattle.std.specs.List.Sorted.{IsPermutation}

@@ -1,5 +1,5 @@
 -- The items of a class that a function has on its own bus: BARs, the window, the ROM.
-use Rattle.std.proofs.Common.{◌≡◌, ℕ, ◌<◌, ◌≤◌, ◌⊎◌, inl, inr, List, [], ◌∷◌, ◌++◌, refl, Bool, true, false, cond, ◌&&◌, arith, sym, ◌∙◌, ap, subst, map}
+use Rattle.std.proofs.Common.{◌≡◌, ℕ, ◌<◌, inl, inr, List, [], ◌∷◌, ◌++◌, refl, Bool, true, false, cond, ◌&&◌, arith, sym, ◌∙◌, ap, subst, map}
 use Rattle.std.specs.Bool.{if◌then◌else◌}
 use Rattle.std.specs.List.{Contains, filter, range_with_len}
 use Rattle.std.proofs.lemmas.Bool.{and_parts, and_from}
@@ -28,16 +28,19 @@ bar_parts f = map Bar (range_with_len 0 (bar_count (layout f.image)))
 pub record IsAmong (s : System) (pools : Pools) (c : Class) (f : Function) (parts : List Part) (i : Item) : Type 0 where
   pub part : Part
   pub listed : Contains parts part
+  pub there : is_implemented f part ≡ true
   pub same : same_class c (class_of s pools f part) ≡ true
   pub is : part_item f part ≡ i
 
 pub record IsBarItem (s : System) (pools : Pools) (c : Class) (f : Function) (i : Item) : Type 0 where
   pub n : ℕ
   pub within : n < bar_count (layout f.image)
+  pub there : is_implemented f (Bar n) ≡ true
   pub same : same_class c (class_of s pools f (Bar n)) ≡ true
   pub is : part_item f (Bar n) ≡ i
 
 pub record IsRomItem (s : System) (pools : Pools) (c : Class) (f : Function) (i : Item) : Type 0 where
+  pub there : is_implemented f Rom ≡ true
   pub same : same_class c (class_of s pools f Rom) ≡ true
   pub is : part_item f Rom ≡ i
 
@@ -59,7 +62,8 @@ module _ (s : System) (pools : Pools) (c : Class) (f : Function) where
   among parts i listed =
       let made : IsMade (part_item f) (filter in_class (filter (is_implemented f) parts)) i = in_map_to (part_item f) (filter in_class (filter (is_implemented f) parts)) i listed in
       let kept = in_filter_to in_class (filter (is_implemented f) parts) made.from made.has in
-      record { part = made.from; listed = (in_filter_to (is_implemented f) parts made.from kept.0).0; same = kept.1; is = made.is }
+      let inner = in_filter_to (is_implemented f) parts made.from kept.0 in
+      record { part = made.from; listed = inner.0; there = inner.1; same = kept.1; is = made.is }
 
   among_from : (parts : List Part) (p : Part) → Contains parts p → is_implemented f p ≡ true → same_class c (class_of s pools f p) ≡ true → Contains (items_among s pools c f parts) (part_item f p)
   among_from parts p listed there same =
@@ -72,13 +76,13 @@ module _ (s : System) (pools : Pools) (c : Class) (f : Function) where
       let made : IsMade Bar (range_with_len 0 (bar_count (layout f.image))) is.part = in_map_to Bar (range_with_len 0 (bar_count (layout f.image))) is.part is.listed in
       let range = in_range_to 0 (bar_count (layout f.image)) made.from made.has in
       let less = range.1 in
-      record { n = made.from; within = omega (arith, less); same = ap in_class made.is ∙ is.same; is = ap (part_item f) made.is ∙ is.is }
+      record { n = made.from; within = omega (arith, less); there = ap (is_implemented f) made.is ∙ is.there; same = ap in_class made.is ∙ is.same; is = ap (part_item f) made.is ∙ is.is }
 
   pub rom_among : (i : Item) → Contains (items_among s pools c f (Rom ∷ [])) i → IsRomItem s pools c f i
   rom_among i listed =
       let is = among (Rom ∷ []) i listed in
       elim (in_cons_cases Rom [] is.part is.listed) [
-        | inl rom ↦ record { same = ap in_class rom ∙ is.same; is = ap (part_item f) rom ∙ is.is }
+        | inl rom ↦ record { there = ap (is_implemented f) rom ∙ is.there; same = ap in_class rom ∙ is.same; is = ap (part_item f) rom ∙ is.is }
         | inr none ↦ absurd (in_nil is.part none)
       ]
 

@@ -1,10 +1,8 @@
 -- The items that have places are the parts that are to be placed, and on each bus they are placed largest first.
-use Rattle.std.proofs.Common.{◌≡◌, ℕ, zero, suc, ◌+◌, ◌%◌, ◌^◌, ◌<◌, ◌≤◌, ◌⊎◌, inl, inr, List, [], ◌∷◌, ◌++◌, refl, Bool, true, false, cond, ◌&&◌, ◌||◌, min, arith, sym, ◌∙◌, ap, subst, map, length, get_or}
-use Rattle.std.specs.Bool.{IsTrue, nat_lt, ◌==◌, if◌then◌else◌}
-use Rattle.std.specs.List.{Contains, AllPairs, filter, flat_map, sum}
-use Rattle.std.specs.List.Sorted.{IsPermutation}
-use Rattle.std.proofs.lemmas.Bool.{both_ways, and_parts, or_cases, ltb-true, lt-ltb, eqb-true, eq-eqb}
-use Rattle.std.proofs.lemmas.List.{get_or-map, length-map}
+use Rattle.std.proofs.Common.{◌≡◌, ℕ, ◌^◌, ◌<◌, ◌≤◌, inl, inr, List, [], refl, true, false, ◌&&◌, arith, sym, ◌∙◌, ap, subst, length, get_or}
+use Rattle.std.specs.Bool.{nat_lt, ◌==◌, if◌then◌else◌}
+use Rattle.std.specs.List.{Contains, AllPairs, sum}
+use Rattle.std.proofs.lemmas.Bool.{both_ways, and_parts, and_from, or_cases, ltb-true, lt-ltb, eqb-true}
 use Rattle.std.proofs.lemmas.List.Elements.{Contains-get_or}
 use Rattle.std.proofs.lemmas.List.Sorted.{IsPermutation-sym, IsPermutation-map, Contains-permutation, sum_by-IsPermutation}
 use Rattle.pci_spec.specs.Number.{lowest_one}
@@ -14,27 +12,28 @@ use Rattle.pci_spec.specs.Rom.{rom_at}
 use Rattle.pci_spec.specs.Decoded.{has_bar}
 use Rattle.pci_spec.specs.Window.{WindowKind, IoWindow, MemoryWindow, PrefetchWindow}
 use Rattle.pci_spec.specs.System.{System, Function, IsSystem, Part, Bar, Rom, Window, is_bridge}
-use Rattle.pci_spec.specs.Bus.{secondary, is_root, are_side_by_side, IsNested}
-use Rattle.pci_spec.specs.Plan.{Pools, Class, IoClass, MemoryClass, PrefetchClass, class_of, window_class, window_of, same_class, window_size, limited, has_behind}
-use Rattle.pci_spec.specs.Place.{Item, part_item, window_item, own_items, items_beside, place_from, start_of, place_of}
+use Rattle.pci_spec.specs.Bus.{is_root, are_side_by_side, IsNested}
+use Rattle.pci_spec.specs.Plan.{Pools, Class, IoClass, MemoryClass, PrefetchClass, class_of, window_class, window_of, same_class, window_size, limited}
+use Rattle.pci_spec.specs.Place.{Item, window_item, own_items, items_beside, place_from, start_of, place_of}
 use Rattle.pci_spec.specs.Planning.Placing.{IsPower, IsFalling, starts}
 use Rattle.pci_spec.specs.Planning.Layout.{is_item}
-use Rattle.pci_spec.specs.Planning.Numbers.{item_of, place_at}
-use Rattle.pci_spec.specs.Planning.Table.{Item as PlacedPart, need_behind, is_placed, size_in, size_at, IsPlacedOn}
+use Rattle.pci_spec.specs.Planning.Numbers.{item_of}
+use Rattle.pci_spec.specs.Planning.Table.{Item as PlacedPart, need_behind, is_placed, size_in}
 use Rattle.pci_spec.specs.Planning.Sorted.{all_items, StandsBefore}
-use Rattle.pci_spec.proofs.Members.{IsMade, IsInPiece, in_nil, in_head, in_tail, in_map_to, in_flat_map_to, in_flat_map_from, pairs_map, pairs_filter}
+use Rattle.pci_spec.proofs.Members.{IsMade, IsInPiece, in_map_to, in_flat_map_to, in_flat_map_from, pairs_map, pairs_filter}
 use Rattle.pci_spec.proofs.Planning.Behind.{behind_by_test}
 use Rattle.pci_spec.proofs.Planning.Placement.{window_least}
+use Rattle.pci_spec.proofs.Planning.Tables.{class_itself}
 use Rattle.pci_spec.proofs.Planning.Order.{before_falls, place_by_starts}
-use Rattle.pci_spec.proofs.Planning.OwnItems.{OwnCases, of_bar, of_window, of_rom, in_cond, in_cond_from, own_cases, own_function, bar_owned, rom_owned, window_owned}
+use Rattle.pci_spec.proofs.Planning.OwnItems.{of_bar, of_window, of_rom, in_cond, in_cond_from, own_cases, own_function, bar_owned, rom_owned, window_owned}
 use Rattle.pci_spec.proofs.Planning.Places.{beside_filter, same_on_roots, same_start}
 use Rattle.pci_spec.proofs.Planning.AllItems.{all_order}
 use Rattle.pci_spec.proofs.Planning.Sizes.{item_sizes}
-use Rattle.pci_spec.proofs.Planning.Insertion.{ordered, ComesBefore, ordered_permutes, ordered_pairs}
+use Rattle.pci_spec.proofs.Planning.Insertion.{ordered, ordered_permutes, ordered_pairs}
 
 -- ---- classes
 
-same_class_is : (c d : Class) → same_class c d ≡ true → d ≡ c
+pub same_class_is : (c d : Class) → same_class c d ≡ true → d ≡ c
 same_class_is IoClass IoClass h = refl
 same_class_is IoClass MemoryClass h = absurd (both_ways false refl h)
 same_class_is IoClass PrefetchClass h = absurd (both_ways false refl h)
@@ -65,6 +64,7 @@ pub record IsOfPart (s : System) (pools : Pools) (c : Class) (i : Item) : Type 0
   pub class : class_of s pools i.function i.part ≡ c
   pub whole : item_of s pools i.function i.part ≡ i
   pub size : size_in s pools c i.function i.part ≡ i.size
+  pub placed : is_placed s pools c i.function i.part ≡ true
   pub power : IsPower i.size
 
 pub part_placed : (s : System) (pools : Pools) (f : Function) (p : Part) → placed_part (item_of s pools f p) ≡ record { function = f; part = p }
@@ -74,15 +74,18 @@ part_placed s pools f (Window kind) = ap (λ k. placed_part (record { function =
 
 module _ (roots : List ℕ) (s : System) (pools : Pools) (c : Class) (system : IsSystem s) (nested : IsNested roots s)
     (small : (b : Function) → Contains s b → is_bridge b ≡ true → need_behind s pools c b ≤ 2 ^ 65) where
-  own_part : (f : Function) (i : Item) → Contains s f → Contains (own_items s pools c f) i → IsOfPart s pools c i
+  -- an item of a function is that of one of its parts that are to be placed
+  pub own_part : (f : Function) (i : Item) → Contains s f → Contains (own_items s pools c f) i → IsOfPart s pools c i
   own_part f i listed own = elim (own_cases s pools c f i own) [
     | of_bar bar ↦ subst (IsOfPart s pools c) bar.is record {
       class = same_class_is c (class_of s pools f (Bar bar.n)) bar.same;
       whole = refl;
       size = refl;
+      placed = and_from (is_item f (Bar bar.n)) (same_class c (class_of s pools f (Bar bar.n)))
+          (and_from (nat_lt bar.n (bar_count (layout f.image))) (has_bar f.probe bar.n) (lt-ltb bar.n (bar_count (layout f.image)) bar.within) bar.there) bar.same;
       power = (lowest_one (if is_io (bar_at f.probe bar.n) then 2 else 4) (whole_bar f.probe f.probe bar.n), refl);
     }
-    | of_rom rom ↦ subst (IsOfPart s pools c) rom.is record { class = same_class_is c (class_of s pools f Rom) rom.same; whole = refl; size = refl; power = (lowest_one 0 (rom_at f.image f.probe), refl) }
+    | of_rom rom ↦ subst (IsOfPart s pools c) rom.is record { class = same_class_is c (class_of s pools f Rom) rom.same; whole = refl; size = refl; placed = and_from (is_item f Rom) (same_class c (class_of s pools f Rom)) rom.there rom.same; power = (lowest_one 0 (rom_at f.image f.probe), refl) }
     | of_window window ↦
         let n = need_behind s pools c f in
         let low = small f listed window.bridge in
@@ -91,11 +94,14 @@ module _ (roots : List ℕ) (s : System) (pools : Pools) (c : Class) (system : I
           class = class_through c;
           whole = ap (λ d. window_item s pools d f) (class_through c);
           size = ap (window_size c) whole;
+          placed = and_from (is_bridge f && same_class c (window_class (window_of c))) (nat_lt 0 n) (and_from (is_bridge f) (same_class c (window_class (window_of c))) window.bridge (class_itself c))
+              (sym (behind_by_test roots s pools c system nested f listed window.bridge) ∙ window.behind);
           power = (window_least c (limited n) (omega arith)).power;
         }
   ]
 
-  part_owned : (f : Function) (p : Part) → Contains s f → is_placed s pools c f p ≡ true → Contains (own_items s pools c f) (item_of s pools f p)
+  -- and each part that is to be placed has its item
+  pub part_owned : (f : Function) (p : Part) → Contains s f → is_placed s pools c f p ≡ true → Contains (own_items s pools c f) (item_of s pools f p)
   part_owned f (Bar n) listed placed =
       let parts = and_parts (is_item f (Bar n)) (same_class c (class_of s pools f (Bar n))) placed in
       let there = and_parts (nat_lt n (bar_count (layout f.image))) (has_bar f.probe n) parts.0 in

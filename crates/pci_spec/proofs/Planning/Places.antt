@@ -1,20 +1,19 @@
 -- Where each item of all items in order stands: at the start of its bus, or behind the item before it.
 use Rattle.std.proofs.Common.{◌≡◌, ℕ, zero, suc, ◌+◌, ◌<◌, ◌≤◌, ◌⊎◌, inl, inr, List, [], ◌∷◌, ◌++◌, refl, Bool, true, false, cond, ◌&&◌, ◌||◌, arith, sym, ◌∙◌, ap, subst, map, length, get_or, take}
 use Rattle.std.specs.Bool.{◌==◌, if◌then◌else◌}
-use Rattle.std.specs.List.{Contains, filter, flat_map, sum, sum_by, range_with_len}
+use Rattle.std.specs.List.{Contains, filter, flat_map, sum, sum_by}
 use Rattle.std.specs.List.Sorted.{IsPermutation}
-use Rattle.std.proofs.lemmas.Bool.{cases_Bool, cases_eq, both_ways, eqb-true, eq-eqb, ne_eqb, or_cases, and_parts}
+use Rattle.std.proofs.lemmas.Bool.{cases_Bool, cases_eq, cases_lt, both_ways, eqb-true, eq-eqb, ne_eqb, or_cases, and_parts}
 use Rattle.std.proofs.lemmas.List.{get_or_default}
-use Rattle.std.proofs.lemmas.List.Elements.{filter_agree, filter-append, Contains-append_cases, Contains-get_or}
+use Rattle.std.proofs.lemmas.List.Elements.{filter_agree, filter-append, Contains-get_or}
 use Rattle.std.proofs.lemmas.List.Sums.{sum_by-cons, sum_by_more, sum-map}
 use Rattle.std.proofs.lemmas.List.Sorted.{sum_by-IsPermutation, IsPermutation-sym, Contains-permutation}
-use Rattle.pci_spec.specs.Header.{layout, bar_count}
-use Rattle.pci_spec.specs.System.{System, Function, Part, Bar, Rom, is_bridge, is_implemented}
+use Rattle.pci_spec.specs.System.{System, Function}
 use Rattle.pci_spec.specs.Bus.{is_root, are_side_by_side, IsNested}
-use Rattle.pci_spec.specs.Plan.{Pools, Class, pool_of, greatest, raised_to, class_of, same_class, has_behind}
-use Rattle.pci_spec.specs.Place.{Item, part_item, window_item, items_among, own_items, items_beside, comes_before, place_from, start_of, place_of}
+use Rattle.pci_spec.specs.Plan.{Pools, Class, pool_of, greatest, raised_to}
+use Rattle.pci_spec.specs.Place.{Item, own_items, items_beside, comes_before, place_from, start_of, place_of}
 use Rattle.pci_spec.specs.Planning.Sorted.{all_items, group_of, item_group, Precedes, IsInOrder, group_sum}
-use Rattle.pci_spec.proofs.Members.{IsMade, IsInPiece, in_nil, in_head, in_tail, in_cons_cases, in_map_to, in_flat_map_to}
+use Rattle.pci_spec.proofs.Members.{in_head, in_tail}
 use Rattle.pci_spec.proofs.Planning.OwnItems.{own_function, item_function}
 use Rattle.pci_spec.proofs.Planning.Safe.{order_of}
 use Rattle.pci_spec.proofs.Planning.Starts.{start_of_root}
@@ -228,6 +227,13 @@ module _ (roots : List ℕ) (s : System) (nested : IsNested roots s) where
             | inl lower ↦ omega (arith, lower, is)
             | inr same_group ↦ (let g = same_group.0 in omega (arith, g, is))
           ]
+    ]
+
+    -- what is of a lower group is before it
+    pub earlier_by_group : (j k : ℕ) (d e : Item) → j < length sorted → item_group roots (get_or sorted j d) < item_group roots (get_or sorted k e) → j < k
+    earlier_by_group j k d e l lower = elim (cases_lt j k) [
+      | inl before ↦ before
+      | inr after ↦ (let rise = groups_rise k j d e after l in absurd {A = j < k} (let impossible : ⊥ = omega (arith, rise, lower) in impossible))
     ]
 
     new_group : (k : ℕ) (d : Item) → k < length sorted → ((j : ℕ) (e : Item) → j < k → (item_group roots (get_or sorted j e) ≡ item_group roots (get_or sorted k d) → ⊥))

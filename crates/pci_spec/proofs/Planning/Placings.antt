@@ -1,20 +1,20 @@
 -- The places of a class are a table: largest first from the start of each bus.
-use Rattle.std.proofs.Common.{◌≡◌, ℕ, zero, suc, ◌+◌, ◌-◌, ◌%◌, ◌^◌, ◌<◌, ◌≤◌, ◌⊎◌, inl, inr, List, [], ◌∷◌, ◌++◌, refl, Bool, true, false, cond, ◌&&◌, min, arith, sym, ◌∙◌, ap, subst, map, length, get_or}
-use Rattle.std.specs.Bool.{IsTrue, nat_lt, ◌==◌, if◌then◌else◌}
-use Rattle.std.specs.List.{Contains, flat_map, fold, sum}
-use Rattle.std.specs.List.Sorted.{IsPermutation, IsStrictlyIncreasing}
-use Rattle.std.proofs.lemmas.Bool.{cases_Bool, cases_lt, and_from, or_left, or_right, eq-eqb, lt-ltb}
-use Rattle.std.proofs.lemmas.List.{get_or-map, length-map, get_or_default}
+use Rattle.std.proofs.Common.{◌≡◌, ℕ, zero, suc, ◌%◌, ◌^◌, ◌<◌, ◌≤◌, inl, inr, List, [], ◌∷◌, refl, true, false, ◌&&◌, arith, sym, ◌∙◌, ap, subst, map, length, get_or}
+use Rattle.std.specs.Bool.{nat_lt, ◌==◌}
+use Rattle.std.specs.List.{Contains, sum}
+use Rattle.std.specs.List.Sorted.{IsStrictlyIncreasing}
+use Rattle.std.proofs.lemmas.Bool.{cases_Bool, cases_lt, and_from, or_left, eq-eqb, lt-ltb}
+use Rattle.std.proofs.lemmas.List.{get_or-map, length-map}
 use Rattle.std.proofs.lemmas.List.Elements.{Contains-get_or}
 use Rattle.std.proofs.lemmas.List.Sorted.{IsPermutation-sym, IsPermutation-map, Contains-permutation}
 use Rattle.pci_spec.specs.System.{System, Function, IsSystem, Part, Window, is_bridge}
 use Rattle.pci_spec.specs.Bus.{secondary, is_root, are_side_by_side, IsNested}
-use Rattle.pci_spec.specs.Plan.{Pools, Class, IoClass, MemoryClass, PrefetchClass, same_class, pool_of, window_of, window_class, class_of, window_size, limited, items_on, fits, greatest, raised_to}
-use Rattle.pci_spec.specs.Place.{Item, window_item, items_beside, start_of, start_of_roots, place_of}
-use Rattle.pci_spec.specs.Planning.Placing.{IsPower, IsFalling, starts, IsPlacedFrom}
+use Rattle.pci_spec.specs.Plan.{Pools, Class, same_class, pool_of, window_of, window_class, limited, fits, greatest, raised_to}
+use Rattle.pci_spec.specs.Place.{Item, window_item, items_beside, start_of, place_of}
+use Rattle.pci_spec.specs.Planning.Placing.{IsFalling, starts}
 use Rattle.pci_spec.specs.Planning.Room.{root_items}
 use Rattle.pci_spec.specs.Planning.Numbers.{item_of, place_at}
-use Rattle.pci_spec.specs.Planning.Table.{Item as PlacedPart, need_behind, is_placed, size_in, size_at, IsPlacedOn, IsPlacing, IsTable}
+use Rattle.pci_spec.specs.Planning.Table.{Item as PlacedPart, need_behind, is_placed, size_at, IsPlacedOn, IsPlacing, IsTable}
 use Rattle.pci_spec.proofs.Members.{in_nil, in_head, in_tail}
 use Rattle.pci_spec.proofs.BusRanges.{ordered, behind_is_no_root, root_means}
 use Rattle.pci_spec.proofs.Planning.Safe.{order_of}
@@ -22,12 +22,13 @@ use Rattle.pci_spec.proofs.Planning.Needed.{contained_le_sum}
 use Rattle.pci_spec.proofs.Planning.Placement.{IsMultiple, mod_of_multiple, multiple_of_mod, multiple_trans, power_multiple, power_pos, window_least, placed}
 use Rattle.pci_spec.proofs.Planning.Room.{raised, room_of_fit, greatest_is_first}
 use Rattle.pci_spec.proofs.Planning.Rooms.{need_le, table_by_fit}
+use Rattle.pci_spec.proofs.Planning.Tables.{class_itself}
 use Rattle.pci_spec.proofs.Planning.Starts.{start_of_window, start_of_root}
 use Rattle.pci_spec.proofs.Planning.Sizes.{item_sizes, sum_on_bus, sum_on_roots}
 use Rattle.pci_spec.proofs.Planning.Greatest.{greatest_same, start_by_greatest}
 use Rattle.pci_spec.proofs.Planning.Places.{beside_root}
 use Rattle.pci_spec.proofs.Planning.Insertion.{ordered_permutes}
-use Rattle.pci_spec.proofs.Planning.PlacedItems.{class_through, placed_part, IsOfPart, part_placed, IsBeside, sorted_on, sorted_to, sorted_from, place_in_order, sorted_falling, sorted_sum}
+use Rattle.pci_spec.proofs.Planning.PlacedItems.{class_through, placed_part, part_placed, sorted_on, sorted_to, sorted_from, place_in_order, sorted_falling, sorted_sum}
 
 map_same : {X Y Z : Type 0} (f : X → Y) (g : Y → Z) (h : X → Z) (xs : List X) → ((x : X) → Contains xs x → g (f x) ≡ h x) → map g (map f xs) ≡ map h xs
 map_same f g h [] same = refl
@@ -35,13 +36,8 @@ map_same f g h (x ∷ xs) same =
     ap (λ z. z ∷ map g (map f xs)) (same x (in_head x xs))
     ∙ ap (λ zs. h x ∷ zs) (map_same f g h xs (λ y listed. same y (in_tail x xs y listed)))
 
-own_class : (c : Class) → same_class c (window_class (window_of c)) ≡ true
-own_class IoClass = refl
-own_class MemoryClass = refl
-own_class PrefetchClass = refl
-
 -- no need is cut where the class fits
-small_needs : (roots : List ℕ) (s : System) (pools : Pools) (c : Class) → IsSystem s → IsNested roots s → fits roots s pools c ≡ true → (pool_of pools c).last < 2 ^ 64
+pub small_needs : (roots : List ℕ) (s : System) (pools : Pools) (c : Class) → IsSystem s → IsNested roots s → fits roots s pools c ≡ true → (pool_of pools c).last < 2 ^ 64
     → (b : Function) → Contains s b → is_bridge b ≡ true → need_behind s pools c b ≤ 2 ^ 65
 small_needs roots s pools c system nested fit low b listed bridge =
     let chain = need_le roots s pools c system nested (suc b.slot.bus) b (omega arith) listed bridge in
@@ -149,7 +145,7 @@ module _ (roots : List ℕ) (s : System) (pools : Pools) (c : Class) (system : I
       let least = window_least c (limited n) (omega arith) in
       let enough = least.enough in
       let there : is_placed s pools c b (Window (window_of c)) ≡ true =
-      and_from (is_bridge b && same_class c (window_class (window_of c))) (nat_lt 0 n) (and_from (is_bridge b) (same_class c (window_class (window_of c))) bridge (own_class c)) (lt-ltb 0 n need) in
+      and_from (is_bridge b && same_class c (window_class (window_of c))) (nat_lt 0 n) (and_from (is_bridge b) (same_class c (window_class (window_of c))) bridge (class_itself c)) (lt-ltb 0 n need) in
       let beside : are_side_by_side roots b.slot.bus b.slot.bus ≡ true = or_left (b.slot.bus == b.slot.bus) (is_root roots b.slot.bus && is_root roots b.slot.bus) (eq-eqb b.slot.bus b.slot.bus refl) in
       let found : Contains (sorted b.slot.bus) i =
       subst (λ d. Contains (sorted b.slot.bus) (window_item s pools d b)) (class_through c) (sorted_from roots s pools c system nested small b.slot.bus b (Window (window_of c)) listed beside there) in
