@@ -1,10 +1,13 @@
 pub mod Aboves
 pub mod ClassOf
+pub mod ClassPlaces
 pub mod ItemValues
 pub mod Mapped
 pub mod NeedTables
 pub mod Owned
 pub mod Parts
 pub mod Records
+pub mod SortedItems
+pub mod ItemWalks
 pub mod StableSorts
 pub mod Walking

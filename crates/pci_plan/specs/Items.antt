@@ -1,8 +1,9 @@
 -- What is placed in the code, as the definitions have it.
 use Rattle.std.specs.Prelude.{◌≡◌, ℕ, ◌/◌, ◌-◌, ◌<◌, ◌≤◌, nat_lt, if◌then◌else◌, IsTrue, List, [], ◌∷◌, ◌++◌, map, Option, None, Some, length, slice_index, slice_index_or}
 use Rattle.std.specs.List.{All, filter}
-use Rattle.pci_spec.specs.System.{System, Function, Part, Bar, Rom, Window, is_bridge}
-use Rattle.pci_spec.specs.Bus.{secondary}
+use Rattle.std.specs.List.Sorted.{IsStrictlyIncreasing}
+use Rattle.pci_spec.specs.System.{System, Function, IsSystem, Part, Bar, Rom, Window, is_bridge}
+use Rattle.pci_spec.specs.Bus.{secondary, IsNested}
 use Rattle.pci_spec.specs.Plan.{Pools, Class, MemoryClass, same_class, window_of, window_size}
 use Rattle.pci_spec.specs.Place.{Item}
 use Rattle.pci_spec.specs.Planning.Sorted.{all_items, group_of}
@@ -85,6 +86,12 @@ pub record IsItemIn (roots : List ℕ) (s : System) (i : CodeItem) : Type 0 wher
   pub within : i.function < length s
   pub group : i.group ≡ group_of roots (function_in s i.function).slot.bus
   pub part : IsPartOf (function_in s i.function) i.part
+
+-- a lawful system below roots that are named once
+pub record IsRooted (roots : List ℕ) (s : System) : Type 0 where
+  pub system : IsSystem s
+  pub nested : IsNested roots s
+  pub rising : IsStrictlyIncreasing roots
 
 -- the items of a class, in the order of slots and registers
 pub record AreItems (roots : List ℕ) (s : System) (pools : Pools) (c : Class) (items : List CodeItem) : Type 0 where

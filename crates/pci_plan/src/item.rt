@@ -1,13 +1,13 @@
 //! What is placed: BARs, ROMs, and windows of bridges with something behind them.
 ghost use Rattle.std.specs.Prelude.{◌≡◌, ℕ, ◌<◌, ◌≤◌, ◌^◌, ◌++◌, OnOk, IfOk, IfSome, slice_index};
 ghost use Rattle.std.specs.List.{All, AllPairs};
-ghost use Rattle.std.specs.List.Sorted.{IsPermutation, IsStrictlyIncreasing};
+ghost use Rattle.std.specs.List.Sorted.{IsPermutation};
 ghost use Rattle.pci_spec.specs.Planning.Sorted.{group_of};
 ghost use Rattle.pci_tree.specs.Roots.{buses_of};
 ghost use Rattle.pci_plan.specs.Pools.{class_value, pools_value};
 ghost use Rattle.pci_plan.specs.Above.{AreAboves, system_in};
 ghost use Rattle.pci_plan.specs.Needs.{AreNeeds};
-ghost use Rattle.pci_plan.specs.Items.{IsBar, owned, bar_items, window_items, rom_items, record_items, AreItems};
+ghost use Rattle.pci_plan.specs.Items.{IsBar, owned, bar_items, window_items, rom_items, record_items, AreItems, IsRooted};
 ghost use Rattle.pci_plan.specs.Sorting.{IsLarger, IsPlacedBefore};
 
 use super::above::Above;
@@ -167,7 +167,7 @@ pub fn items_of<A: Allocator, B: Allocator>(
     requires aboves { AreAboves (system_in admitted.now) aboves.now }
     requires needs { AreNeeds admitted.now.roots (system_in admitted.now) (pools_value pools.now) (class_value class) needs.now }
     ensures items { IfOk result (λ items. AreItems admitted.now.roots (system_in admitted.now) (pools_value pools.now) (class_value class) items.items) }
-    ensures roots { OnOk result (IsStrictlyIncreasing admitted.now.roots) }
+    ensures rooted { OnOk result (IsRooted admitted.now.roots (system_in admitted.now)) }
 {
     let outline = admitted.outline();
     let roots = outline.roots();

@@ -108,11 +108,13 @@ pub fn place_class<A: Allocator + Copy, B: Allocator>(
     ensures placed { OnOk result (HasPlaces admitted.now.roots (system_in admitted.now) (pools_value pools.now) (class_value class) places.new) }
     ensures others { OnOk result (KeepsOthers (system_in admitted.now) (pools_value pools.now) (class_value class) places.old places.new) }
 {
+    let pool = pools.of(class);
     let mut items = items_of(alloc, admitted, pools, class, aboves, needs)?;
     sort_items(&mut items)?;
-    if !items.is_empty() {
-        let start = raised(needs.greatest, pools.of(class).first);
-        place_sorted(items.as_slice(), class, start, places);
+    let sorted = items.as_slice();
+    if !sorted.is_empty() {
+        let start = raised(needs.greatest, pool.first);
+        place_sorted(sorted, class, start, places);
     }
     Ok(())
 }

@@ -44,6 +44,9 @@ returns-clause-items g c =
     let has : HasRecords s (map record_value records) = subst (λ rs. HasRecords s rs) (sym c.records-record-items.ensures.value) c.outline-outline.ensures.records in
     items_all c.args.admitted.now.roots s records has c.args.pools.now (class_value c.args.class) c.loop-function.function c.loop-function.items.items c.loop-function-test.false c.loop-function.invariant
 
-pub returns-clause-roots : goal.returns-clause-roots
-returns-clause-roots g c =
-    subst IsStrictlyIncreasing (c.roots-roots.ensures ∙ c.outline-outline.ensures.roots) (λ k l. set_rises c.roots-roots.result.flags k (k + 1) 0 (omega arith) l)
+pub returns-clause-rooted : goal.returns-clause-rooted
+returns-clause-rooted g c = record {
+  system = c.outline-outline.ensures.admitted.system;
+  nested = c.outline-outline.ensures.admitted.nested;
+  rising = subst IsStrictlyIncreasing (c.roots-roots.ensures ∙ c.outline-outline.ensures.roots) (λ k l. set_rises c.roots-roots.result.flags k (k + 1) 0 (omega arith) l);
+}
