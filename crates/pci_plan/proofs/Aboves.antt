@@ -1,24 +1,23 @@
 -- What is above each bus, in one pass over the records in slot order.
-use Rattle.std.proofs.Common.{◌≡◌, ℕ, ◌+◌, ◌<◌, ◌≤◌, ◌⊎◌, inl, inr, List, length, take, set, replicate, get_or, refl, Bool, true, false, not, ◌%◌, ◌&&◌, Option, Some, None, arith, sym, ◌∙◌, ap, subst}
+use Rattle.std.proofs.Common.{◌≡◌, ℕ, ◌+◌, ◌<◌, ◌⊎◌, inl, inr, List, length, take, set, replicate, get_or, refl, Bool, true, false, not, ◌%◌, ◌&&◌, Some, None, arith, sym, ◌∙◌, ap, subst}
 use Rattle.std.specs.Bool.{◌==◌, if◌then◌else◌}
 use Rattle.std.specs.Option.{is_some}
 use Rattle.std.specs.List.{Contains, slice_get, list_all}
 use Rattle.std.proofs.lemmas.Bool.{cases_Bool, cases_eq, both_ways, not-true, not-false, and_parts, eqb-true}
 use Rattle.std.proofs.lemmas.List.{length-set, get_or-replicate, get_or-set_same, get_or-set_other}
+use Rattle.std.proofs.lemmas.List.Elements.{All-contains}
 use Rattle.std.proofs.lemmas.Option.{get_or_from_slice_get}
-use Rattle.pci_spec.specs.Slot.{IsSlot}
-use Rattle.pci_spec.specs.Header.{layout}
 use Rattle.pci_spec.specs.Window.{WindowKind, IoWindow, PrefetchWindow, bounds_at, has_window, is_wide_window}
-use Rattle.pci_spec.specs.System.{System, Function, IsSystem, is_bridge}
+use Rattle.pci_spec.specs.System.{System, Function, IsFunction, IsSystem, is_bridge}
 use Rattle.pci_spec.specs.Bus.{secondary, is_behind, IsNested}
-use Rattle.pci_spec.specs.Decoded.{decoded_window, optional_window, bridge_of}
+use Rattle.pci_spec.specs.Decoded.{decoded_window, optional_window}
 use Rattle.pci_spec.specs.Decoded as decoded
 use Rattle.pci_spec.specs.Plan.{bridges_above}
 use Rattle.pci_spec.proofs.Members.{in_nil}
 use Rattle.pci_spec.proofs.BusRanges.{all_gives, ordered, behind_of_within}
 use Rattle.pci_spec.proofs.Planning.Safe.{slots_of}
-use Rattle.pci_spec.proofs.Planning.Passed.{IsBefore, in_front_to, in_front_from, at_place, lower_is_passed}
-use Rattle.pci_spec.proofs.Planning.AboveBuses.{all_above, all_above_root, IsLeader, root_or_led}
+use Rattle.pci_spec.proofs.Planning.Passed.{IsBefore, in_front_to, in_front_from, lower_is_passed}
+use Rattle.pci_spec.proofs.Planning.AboveBuses.{all_above, all_above_root, root_or_led}
 use Rattle.pci_tree.specs.declared.record.Bridge.{Bridge}
 use Rattle.pci_tree.specs.declared.record.Record.{Record}
 use Rattle.pci_tree.proofs.Lifting.{same_bridge}
@@ -141,10 +140,12 @@ module _ (roots : List ℕ) (s : System) (system : IsSystem s) (nested : IsNeste
           }
 
       pub aboves_more : IsAbove s f.slot.bus above → new.io ≡ (above.io && is_some bridge.windows.io) → new.pref ≡ (above.pref && is_some bridge.windows.pref) → new.wide ≡ (above.wide && is_wide_in bridge.windows.pref)
-          → bridge.secondary < 256 → AreAbovesTo roots s (k + 1) (set aboves bridge.secondary new)
-      aboves_more at_bus io pref wide small =
+          → AreAbovesTo roots s (k + 1) (set aboves bridge.secondary new)
+      aboves_more at_bus io pref wide =
           let next = above_next at_bus io pref wide in
           let size = was.size in
+          let small = (All-contains IsFunction s f system.each is.listed).image.bytes 0x19 in
+          let to = leads_to in
           record {
             size = length-set aboves bridge.secondary new ∙ was.size;
             on_roots = λ bus d root inside.
@@ -154,7 +155,7 @@ module _ (roots : List ℕ) (s : System) (system : IsSystem s) (nested : IsNeste
             behind = λ b d passed is_b. elim (cases_eq (secondary b) bridge.secondary) [
               | inl same ↦
                   let here : get_or (set aboves bridge.secondary new) (secondary b) d ≡ new =
-                  ap (λ n. get_or (set aboves bridge.secondary new) n d) same ∙ get_or-set_same aboves bridge.secondary new d (omega (arith, size, small)) in
+                  ap (λ n. get_or (set aboves bridge.secondary new) n d) same ∙ get_or-set_same aboves bridge.secondary new d (omega (arith, size, small, to)) in
                   subst (λ a. IsAbove s (secondary b) a) (sym here) (subst (λ bus. IsAbove s bus new) (sym (same ∙ leads_to)) next)
               | inr differ ↦
                   subst (λ a. IsAbove s (secondary b) a) (sym (get_or-set_other aboves bridge.secondary (secondary b) new d differ)) (elim (passed_more s k f b at passed) [
@@ -163,6 +164,13 @@ module _ (roots : List ℕ) (s : System) (system : IsSystem s) (nested : IsNeste
                   ])
             ];
           }
+
+  -- the bus behind a bridge has a place in the table
+  pub secondary_small : (f : Function) (r : Record) (bridge : Bridge) → IsRecordOf s f r → r.bridge ≡ Some bridge → bridge.secondary < 256
+  secondary_small f r bridge is there =
+      let to : bridge.secondary ≡ secondary f = ap (λ (x : decoded.Bridge). x.secondary) (same_bridge_of r f bridge is.value there) in
+      let small = (All-contains IsFunction s f system.each is.listed).image.bytes 0x19 in
+      omega (arith, to, small)
 
   -- once all functions are passed, the table is whole
   pub whole_aboves : (k : ℕ) (aboves : List Above) → k ≡ length s → AreAbovesTo roots s k aboves → AreAboves s aboves

@@ -1,5 +1,5 @@
 -- The class of a BAR of a record is that of the function's BAR.
-use Rattle.std.proofs.Common.{◌≡◌, ℕ, refl, Bool, true, false, inl, inr, ◌&&◌, ◌∙◌, sym, ap}
+use Rattle.std.proofs.Common.{◌≡◌, ℕ, refl, Bool, true, false, inl, inr, ◌&&◌, ◌∙◌, ap}
 use Rattle.std.specs.Bool.{nat_eq, nat_le, if◌then◌else◌}
 use Rattle.std.proofs.lemmas.Bool.{cases_Bool}
 use Rattle.pci_spec.specs.Bar.{BarKind, IoBar, Memory32, Memory64, Reserved, bar_at, bar_kind, is_io, is_wide, is_prefetchable, type_bits}
@@ -15,9 +15,7 @@ use Rattle.pci_image.specs.declared.bar.BarKind.TheVariants.{Io, Mem32, Mem64}
 use Rattle.pci_image.specs.Bars.{decoded_kind_of, decoded_bar_of}
 use Rattle.pci_plan.specs.declared.above.Above.{Above}
 use Rattle.pci_plan.specs.declared.pools.Pools.{Pools}
-use Rattle.pci_plan.specs.Pools.{pools_value, class_value}
-use Rattle.pci_plan.specs.declared.pools.Class.{Class}
-use Rattle.pci_plan.specs.declared.pools.Class.TheVariants as classes
+use Rattle.pci_plan.specs.Pools.{pools_value}
 use Rattle.pci_plan.specs.Above.{IsAbove}
 use Rattle.pci_plan.specs.Classes.{is_io_kind, is_wide_kind, is_served_by, bar_class}
 

@@ -1,36 +1,38 @@
 -- What each bus needs, in one pass over the records from the highest slot down.
-use Rattle.std.proofs.Common.{◌≡◌, ℕ, ◌+◌, ◌^◌, ◌<◌, ◌≤◌, inl, inr, List, [], ◌∷◌, ◌++◌, length, drop, set, replicate, get_or, refl, Bool, true, false, cond, ◌&&◌, max, min, Option, Some, None, arith, sym, ◌∙◌, ap, subst}
-use Rattle.std.specs.Bool.{nat_lt, ◌==◌, if◌then◌else◌}
+use Rattle.std.proofs.Common.{◌≡◌, ℕ, ◌+◌, ◌-◌, ◌^◌, ◌<◌, ◌≤◌, inl, inr, List, [], ◌∷◌, ◌++◌, length, map, drop, set, replicate, get_or, refl, Bool, true, false, cond, ◌&&◌, max, min, Option, Some, None, arith, sym, ◌∙◌, ap, subst}
+use Rattle.std.specs.Bool.{nat_lt, if◌then◌else◌}
 use Rattle.std.specs.Option.{is_some}
-use Rattle.std.specs.List.{Contains, All, slice_get, flat_map, sum, fold}
+use Rattle.std.specs.List.{All, slice_get, flat_map, sum}
 use Rattle.std.proofs.lemmas.Bool.{cases_eq, cases_lt, lt-ltb, le-ltb, eq-eqb, ne_eqb}
 use Rattle.std.proofs.lemmas.List.{length-set, drop_all, drop_more, get_or-replicate, get_or-set_same, get_or-set_other, get_or_default}
 use Rattle.std.proofs.lemmas.List.Sums.{fold_push, sum_by_push}
 use Rattle.std.proofs.lemmas.List.Elements.{All-contains}
-use Rattle.std.proofs.lemmas.Option.{slice_get_within, get_or_from_slice_get}
+use Rattle.std.proofs.lemmas.Option.{slice_get_within, slice_get_read, get_or_from_slice_get}
+use Rattle.pci_spec.specs.Slot.{Slot}
 use Rattle.pci_spec.specs.System.{System, Function, IsFunction, IsSystem, is_bridge}
 use Rattle.pci_spec.specs.Bus.{secondary, is_root, IsNested}
+use Rattle.pci_spec.specs.Decoded.{HasRecords}
 use Rattle.pci_spec.specs.Decoded as decoded
-use Rattle.pci_spec.specs.Plan.{Class, limited, window_size, items_on, need_of}
+use Rattle.pci_spec.specs.Plan.{Class, limited, window_size, need_of}
 use Rattle.pci_spec.specs.Plan as plan
 use Rattle.pci_spec.specs.Planning.Table.{need_behind}
 use Rattle.pci_spec.specs.Planning.BusNeeds.{added, added_on}
-use Rattle.pci_spec.proofs.Planning.Safe.{slots_of}
 use Rattle.pci_spec.proofs.Planning.Sums.{need_added}
 use Rattle.pci_spec.proofs.Planning.Tallies.{limited_add, greatest_append, behind_sizes, function_sizes, root_sizes, sum_of_function, part_of, added_more, whole_behind, greatest_by_slots}
 use Rattle.pci_tree.specs.declared.record.Bridge.{Bridge}
 use Rattle.pci_tree.specs.declared.record.Record.{Record}
-use Rattle.pci_tree.proofs.Lifting.{same_bridge}
+use Rattle.pci_tree.specs.Values.{record_value}
+use Rattle.pci_tree.proofs.Lifting.{same_bridge, same_slot_of}
 use Rattle.pci_tree.proofs.RegionParts.{same_bridge_of}
 use Rattle.pci_plan.specs.declared.above.Above.{Above}
 use Rattle.pci_plan.specs.declared.pools.Pools.{Pools}
-use Rattle.pci_plan.specs.declared.need.Needs.{Needs}
 use Rattle.pci_plan.specs.declared.need.Tally.{Tally}
 use Rattle.pci_plan.specs.Pools.{pools_value}
-use Rattle.pci_plan.specs.Above.{IsAbove}
+use Rattle.pci_plan.specs.Above.{IsAbove, AreAboves}
 use Rattle.pci_plan.specs.Records.{IsRecordOf}
 use Rattle.pci_plan.specs.Sizes.{own_sizes, window_sizes, IsTallyOf}
 use Rattle.pci_plan.proofs.Owned.{sizes_are}
+use Rattle.pci_plan.proofs.Records.{FunctionAt, function_at, same_count}
 
 -- ---- tallies
 
@@ -174,3 +176,36 @@ module _ (roots : List ℕ) (s : System) (system : IsSystem s) (nested : IsNeste
 
   pub whole_greatest : (of_bus : List ℕ) (most : ℕ) → AreNeedsFrom roots s value c 0 of_bus most → most ≡ plan.greatest_of_roots roots s value c
   whole_greatest of_bus most was = was.greatest ∙ greatest_by_slots roots s value c system nested
+
+  -- ---- the records, from the last to the first
+
+  most_by : (b : Bool) (next t most : ℕ) → (b ≡ true → next ≡ max t most) → (b ≡ false → next ≡ most) → next ≡ (if b then max t most else most)
+  most_by true next t most root other = root refl
+  most_by false next t most root other = other refl
+
+  -- one more record, whose function may stand on a root
+  pub needs_step : (records : List Record) → HasRecords s (map record_value records) → (aboves : List Above) → AreAboves s aboves
+      → (done : ℕ) (r : Record) → done < length records → r ≡ get_or records (length records - 1 - done) r
+      → (of_bus : List ℕ) (most : ℕ) → AreNeedsFrom roots s value c (length s - done) of_bus most
+      → (bus : ℕ) (d : Above) → bus ≡ r.slot.bus → (t : Tally) → IsTallyOf (own_sizes c (get_or aboves bus d) pools r ++ window_sizes c of_bus r.bridge) t
+      → (next_need next_most : ℕ) → next_need ≡ min (2 ^ 65) (get_or of_bus bus 0 + t.sum)
+      → (is_root roots bus ≡ true → next_most ≡ max t.greatest most) → (is_root roots bus ≡ false → next_most ≡ most)
+      → AreNeedsFrom roots s value c (length s - (done + 1)) (set of_bus bus next_need) next_most
+  needs_step records has aboves are done r less read of_bus most was bus d on t tally next_need next_most e_need root other =
+      let count = same_count s records has in
+      let k = length records - 1 - done in
+      let at : slice_get records k ≡ Some r = slice_get_read records (length records) k r refl (omega (arith, less)) read in
+      let here : FunctionAt s r k = function_at s records has k r at in
+      let f = here.f in
+      let there : bus ≡ f.slot.bus = on ∙ ap (λ (x : Slot). x.bus) (same_slot_of r f here.is.value) in
+      let from : length s - done ≡ k + 1 = omega (arith, count, less) in
+      let to : k ≡ length s - (done + 1) = omega (arith, count, less) in
+      let before : AreNeedsFrom roots s value c (k + 1) of_bus most = subst (λ n. AreNeedsFrom roots s value c n of_bus most) from was in
+      let at_bus : IsAbove s f.slot.bus (get_or aboves bus d) = subst (λ n. IsAbove s f.slot.bus (get_or aboves n d)) (sym there) (are f d here.is.listed) in
+      let most_is : next_most ≡ (if is_root roots f.slot.bus then max t.greatest most else most) =
+      subst (λ n. next_most ≡ (if is_root roots n then max t.greatest most else most)) there (most_by (is_root roots bus) next_most t.greatest most root other) in
+      let step : AreNeedsFrom roots s value c k (set of_bus f.slot.bus (min (2 ^ 65) (get_or of_bus f.slot.bus 0 + t.sum))) next_most =
+      needs_more k f r here.at here.is (get_or aboves bus d) at_bus of_bus most before t tally next_most most_is in
+      let same : set of_bus f.slot.bus (min (2 ^ 65) (get_or of_bus f.slot.bus 0 + t.sum)) ≡ set of_bus bus next_need =
+      ap (λ n. set of_bus n (min (2 ^ 65) (get_or of_bus n 0 + t.sum))) (sym there) ∙ ap (λ n. set of_bus bus n) (sym e_need) in
+      subst (λ n. AreNeedsFrom roots s value c n (set of_bus bus next_need) next_most) to (subst (λ xs. AreNeedsFrom roots s value c k xs next_most) same step)

@@ -2,22 +2,20 @@
 use Rattle.std.proofs.Common.{◌≡◌, ℕ, List, [], ◌∷◌, ◌++◌, map, Option, Some, None, refl, Bool, true, false, cond, not, ◌||◌, sym, ◌∙◌, ap}
 use Rattle.std.specs.Bool.{if◌then◌else◌}
 use Rattle.std.specs.Option.{option_map}
-use Rattle.std.specs.List.{Contains, filter, list_any, list_all}
+use Rattle.std.specs.List.{filter, list_any}
 use Rattle.std.proofs.lemmas.List.{map-append}
 use Rattle.std.proofs.lemmas.List.Elements.{filter-append}
 use Rattle.std.proofs.lemmas.List.Folds.{list_any-append}
-use Rattle.pci_spec.specs.Slot.{Slot}
 use Rattle.pci_spec.specs.Bar.{bar_at, is_io}
 use Rattle.pci_spec.specs.Rom.{has_rom}
 use Rattle.pci_spec.specs.Window.{IoWindow, has_window}
 use Rattle.pci_spec.specs.Decoded.{DecodedRom, decoded_bar, decoded_rom}
 use Rattle.pci_spec.specs.System.{System, Function, Part, Bar, Rom, bars_and_rom}
-use Rattle.pci_spec.specs.Plan.{Class, MemoryClass, class_of, same_class, size_of, sizes_in, bridges_above, is_io_part, LacksWindow}
+use Rattle.pci_spec.specs.Plan.{Class, MemoryClass, class_of, same_class, size_of, sizes_in, bridges_above, is_io_part}
 use Rattle.pci_image.specs.declared.rom.Rom.{Rom as CodeRom}
 use Rattle.pci_image.specs.Bars.{decoded_bar_of}
 use Rattle.pci_image.specs.Roms.{decoded_rom_of}
 use Rattle.pci_tree.specs.declared.record.Record.{Record}
-use Rattle.pci_tree.proofs.Lifting.{same_slot_of}
 use Rattle.pci_plan.specs.declared.above.Above.{Above}
 use Rattle.pci_plan.specs.declared.pools.Pools.{Pools}
 use Rattle.pci_plan.specs.Pools.{pools_value}

@@ -1,11 +1,10 @@
 -- The parts of a record are those of its function: BARs and the ROM, with their sizes.
-use Rattle.std.proofs.Common.{◌≡◌, ℕ, ◌+◌, ◌-◌, ◌*◌, ◌/◌, ◌^◌, ◌<◌, ◌≤◌, List, [], ◌∷◌, ◌++◌, map, Option, Some, None, refl, Bool, true, false, cond, ◌||◌, arith, sym, ◌∙◌, ap}
+use Rattle.std.proofs.Common.{◌≡◌, ℕ, ◌+◌, ◌-◌, ◌*◌, ◌/◌, ◌<◌, ◌≤◌, List, [], ◌∷◌, ◌++◌, map, Some, None, refl, Bool, true, false, arith, ◌∙◌, ap}
 use Rattle.std.specs.Bool.{if◌then◌else◌}
 use Rattle.std.specs.Option.{option_map}
-use Rattle.std.specs.List.{filter, list_any, range_with_len}
+use Rattle.std.specs.List.{filter, range_with_len}
 use Rattle.std.proofs.lemmas.Nat.{pow_pos}
 use Rattle.std.proofs.lemmas.List.Elements.{filter-append}
-use Rattle.std.proofs.lemmas.List.Folds.{list_any-append}
 use Rattle.pci_spec.specs.Number.{lowest_one}
 use Rattle.pci_spec.specs.Header.{layout, bar_count}
 use Rattle.pci_spec.specs.Bar.{bar_at, is_io, whole_bar}
@@ -45,7 +44,6 @@ pub rom_of : (s : System) (f : Function) (r : Record) → IsRecordOf s f r → o
 rom_of s f r is = ap (λ (x : decoded.Record). x.rom) is.value
 
 -- ---- sizes
-
 
 spanned : (first last base size : ℕ) → 0 < size → first ≡ base → last ≡ base + (size - 1) → (first ≤ last) × (span first last ≡ size)
 spanned first last base size pos start end = (omega (arith, pos, start, end), omega (arith, pos, start, end))

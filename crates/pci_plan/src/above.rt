@@ -58,8 +58,9 @@ pub fn aboves<A: Allocator>(admitted: &Admitted<A>) -> [Above; 256]
     let mut aboves = [Above::NONE; 256];
     for record in admitted.outline().records() {
         if let Some(bridge) = record.bridge {
+            let secondary = bridge.secondary as usize;
             let above = aboves[record.slot.bus() as usize];
-            aboves[bridge.secondary as usize] = above.and(&bridge.windows);
+            aboves[secondary] = above.and(&bridge.windows);
         }
     }
     aboves

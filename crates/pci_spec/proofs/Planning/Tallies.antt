@@ -1,5 +1,5 @@
 -- What a bus needs, function by function: sums and greatest sizes, in any order.
-use Rattle.std.proofs.Common.{◌≡◌, ℕ, zero, suc, ◌+◌, ◌*◌, ◌^◌, ◌-◌, ◌<◌, ◌≤◌, inl, inr, List, [], ◌∷◌, ◌++◌, map, length, take, drop, get_or, refl, Bool, true, false, cond, ◌&&◌, max, min, arith, sym, ◌∙◌, ap, subst, Some, lit≤}
+use Rattle.std.proofs.Common.{◌≡◌, ℕ, zero, suc, ◌+◌, ◌^◌, ◌-◌, ◌≤◌, inl, inr, List, [], ◌∷◌, ◌++◌, map, take, drop, get_or, refl, Bool, true, false, cond, ◌&&◌, max, min, arith, sym, ◌∙◌, ap, subst, Some, lit≤}
 use Rattle.std.specs.Bool.{nat_lt, ◌==◌, if◌then◌else◌}
 use Rattle.std.specs.List.{Contains, All, filter, flat_map, fold, sum, sum_by, slice_get, find, range_with_len}
 use Rattle.std.specs.Option.{unwrap_or}
