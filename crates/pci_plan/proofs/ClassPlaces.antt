@@ -1,6 +1,6 @@
 -- A table that has the places of the items of a class has those of its parts.
 use Rattle.std.proofs.Common.{◌≡◌, ℕ, ◌^◌, ◌<◌, ◌≤◌, inl, inr, List, map, length, get_or, true, false, arith, sym, ◌∙◌, ap, subst, Some}
-use Rattle.std.specs.Bool.{IsTrue, IsFalse, ◌==◌}
+use Rattle.std.specs.Bool.{◌==◌}
 use Rattle.std.specs.List.{Contains, AllPairs, slice_get}
 use Rattle.std.specs.List.Sorted.{IsPermutation}
 use Rattle.std.proofs.lemmas.Bool.{cases_order, cases_eq, both_ways, eq-eqb, eqb-true}

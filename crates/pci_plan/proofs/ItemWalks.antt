@@ -1,23 +1,20 @@
 -- Sorted items are a walk: each stands behind the one before it, or where its group starts.
-use Rattle.std.proofs.Common.{◌≡◌, ℕ, zero, suc, ◌+◌, ◌^◌, ◌<◌, ◌≤◌, inl, inr, List, [], map, length, get_or, refl, Bool, true, false, cond, ◌&&◌, ◌||◌, arith, sym, ◌∙◌, ap, subst}
+use Rattle.std.proofs.Common.{◌≡◌, ℕ, ◌+◌, ◌^◌, ◌<◌, ◌≤◌, inl, inr, List, [], map, length, get_or, refl, cond, ◌&&◌, arith, sym, ◌∙◌, ap, subst}
 use Rattle.std.specs.Bool.{◌==◌, if◌then◌else◌}
 use Rattle.std.specs.List.{Contains}
-use Rattle.std.specs.List.Sorted.{IsPermutation, IsStrictlyIncreasing}
-use Rattle.std.proofs.lemmas.Bool.{cases_Bool, both_ways, ne_eqb, eq-eqb, or_left}
-use Rattle.std.proofs.lemmas.List.{get_or-map, length-map, get_or_default}
+use Rattle.std.proofs.lemmas.Bool.{cases_Bool, ne_eqb, eq-eqb, or_left}
+use Rattle.std.proofs.lemmas.List.{get_or-map, length-map}
 use Rattle.std.proofs.lemmas.List.Elements.{All-contains, Contains-get_or}
 use Rattle.std.proofs.lemmas.List.Sorted.{IsPermutation-sym, Contains-permutation}
-use Rattle.pci_spec.specs.Slot.{Slot}
-use Rattle.pci_spec.specs.System.{System, Function, IsSystem, Part, Bar, Rom, Window, is_bridge}
+use Rattle.pci_spec.specs.System.{System, Function, IsSystem, Window}
 use Rattle.pci_spec.specs.Bus.{secondary, is_root, are_side_by_side, IsNested}
-use Rattle.pci_spec.specs.Plan.{Pools, Class, pool_of, fits, raised_to, greatest_of_roots, window_of}
+use Rattle.pci_spec.specs.Plan.{Pools, Class, pool_of, raised_to, greatest_of_roots, window_of}
 use Rattle.pci_spec.specs.Place.{Item, window_item, own_items, items_beside, start_of, place_of}
 use Rattle.pci_spec.specs.Planning.Numbers.{item_of, place_at}
 use Rattle.pci_spec.specs.Planning.Sorted.{all_items, group_of, item_group}
-use Rattle.pci_spec.specs.Planning.Table.{is_placed, size_in, IsTable}
-use Rattle.pci_spec.proofs.Members.{IsMade, IsInPiece, in_map_to, in_map_from, in_flat_map_to, in_flat_map_from}
+use Rattle.pci_spec.specs.Planning.Table.{IsTable}
+use Rattle.pci_spec.proofs.Members.{IsInPiece, in_map_from, in_flat_map_to, in_flat_map_from}
 use Rattle.pci_spec.proofs.Planning.Safe.{order_of}
-use Rattle.pci_spec.proofs.Planning.Placement.{power_pos}
 use Rattle.pci_spec.proofs.Planning.Starts.{start_of_window}
 use Rattle.pci_spec.proofs.Planning.Greatest.{le_greatest, greatest_on_roots, start_by_greatest}
 use Rattle.pci_spec.proofs.Planning.Sizes.{item_sizes}
@@ -155,14 +152,17 @@ module _ (roots : List ℕ) (s : System) (pools : Pools) (c : Class) (system : I
             let window : HasWindowBefore roots s pools c values k f.slot.bus =
             subst (λ (w : Item). HasWindowBefore roots s pools c values k w.function.slot.bus) v
             (window_before roots s pools c system nested values are.same are.ordered k (item_value s c d) (inside_values k l) (ap (λ (w : Item). is_root roots w.function.slot.bus) v ∙ off)) in
-            let before = window.before in
-            (window.j, before, λ a.
-            let inside : window.j < length items = omega (arith, before, l) in
-            let j = get_or items window.j a in
-            let is : item_value s c j ≡ window_item s pools c window.bridge = sym (value_at window.j a inside) ∙ window.window (item_value s c a) in
-            window_part c (function_in s j.function) j.part (is_in j (Contains-get_or items window.j a inside)).part (ap (λ (w : Item). w.part) is)
-            ∙ ap (λ (w : Item). parts.Window (secondary w.function)) is
-            ∙ ap parts.Window (window.leads ∙ sym e ∙ sym grouped))
+            let before = window.before in (
+              window.j,
+              before,
+              λ a.
+                  let inside : window.j < length items = omega (arith, before, l) in
+                  let j = get_or items window.j a in
+                  let is : item_value s c j ≡ window_item s pools c window.bridge = sym (value_at window.j a inside) ∙ window.window (item_value s c a) in
+                  window_part c (function_in s j.function) j.part (is_in j (Contains-get_or items window.j a inside)).part (ap (λ (w : Item). w.part) is)
+                  ∙ ap (λ (w : Item). parts.Window (secondary w.function)) is
+                  ∙ ap parts.Window (window.leads ∙ sym e ∙ sym grouped),
+            )
       ]
 
   window_start : (i : CodeItem) (bus : ℕ) → Contains items i → i.part ≡ parts.Window bus → place i ≡ group_start bus

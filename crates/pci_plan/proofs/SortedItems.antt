@@ -1,18 +1,16 @@
 -- Items that are sorted stand in the order in which they are placed.
-use Rattle.std.proofs.Common.{◌≡◌, ℕ, ◌+◌, ◌*◌, ◌<◌, ◌≤◌, ◌⊎◌, inl, inr, List, map, length, get_or, refl, true, arith, sym, ◌∙◌, ap, subst}
-use Rattle.std.specs.Bool.{IsTrue, ◌==◌, if◌then◌else◌}
-use Rattle.std.specs.List.{Contains, All, AllPairs}
+use Rattle.std.proofs.Common.{◌≡◌, ℕ, ◌+◌, ◌*◌, ◌<◌, ◌⊎◌, inl, inr, List, map, get_or, arith, sym, ◌∙◌, ap, subst}
+use Rattle.std.specs.Bool.{◌==◌, if◌then◌else◌}
+use Rattle.std.specs.List.{All, AllPairs}
 use Rattle.std.specs.List.Sorted.{IsPermutation}
 use Rattle.std.proofs.lemmas.Bool.{cases_Bool, cases_lt}
-use Rattle.std.proofs.lemmas.List.Elements.{All-contains, Contains-get_or}
 use Rattle.std.proofs.lemmas.List.Sorted.{IsPermutation-map, All-permutation}
 use Rattle.pci_spec.specs.Slot.{slot_number}
 use Rattle.pci_spec.specs.Header.{layout, rom_register}
 use Rattle.pci_spec.specs.Window.{window_register}
-use Rattle.pci_spec.specs.System.{System, Function, IsSystem, Part, Bar, Rom, Window, register_of}
+use Rattle.pci_spec.specs.System.{System, Function, IsSystem, register_of}
 use Rattle.pci_spec.specs.Plan.{Pools, Class, IoClass, MemoryClass, PrefetchClass, window_of}
-use Rattle.pci_spec.specs.Place.{Item, comes_before}
-use Rattle.pci_spec.specs.Planning.Sorted.{all_items, StandsBefore, item_group, Precedes, IsInOrder}
+use Rattle.pci_spec.specs.Planning.Sorted.{all_items, StandsBefore, Precedes, IsInOrder}
 use Rattle.pci_spec.proofs.Members.{pairs_map}
 use Rattle.pci_spec.proofs.Planning.AllItems.{all_order, pairs_unmap}
 use Rattle.pci_spec.proofs.Planning.Order.{before_larger, before_by}
@@ -20,7 +18,7 @@ use Rattle.pci_plan.specs.declared.item.Item.{Item as CodeItem}
 use Rattle.pci_plan.specs.declared.item.Part.{Part as CodePart}
 use Rattle.pci_plan.specs.declared.item.Part.TheVariants as parts
 use Rattle.pci_plan.specs.Items.{part_value, function_in, item_value, IsPartOf, IsItemIn, AreItems}
-use Rattle.pci_plan.specs.Sorting.{IsLarger, IsPlacedBefore}
+use Rattle.pci_plan.specs.Sorting.{IsPlacedBefore}
 
 -- all items of a class, in the order in which they are placed
 pub record AreSorted (roots : List ℕ) (s : System) (pools : Pools) (c : Class) (items : List CodeItem) : Type 0 where

@@ -1,5 +1,5 @@
 -- What a stable sort by a key makes of an order.
-use Rattle.std.proofs.Common.{◌≡◌, ℕ, zero, suc, ◌<◌, ◌≤◌, inl, inr, List, [], ◌∷◌, refl, Bool, false, true, cond, not, ◌&&◌, arith, sym, ◌∙◌, ap, subst, length, get_or, filter}
+use Rattle.std.proofs.Common.{◌≡◌, ℕ, zero, suc, ◌<◌, ◌≤◌, inl, inr, List, [], ◌∷◌, Bool, false, true, cond, not, ◌&&◌, arith, sym, ◌∙◌, ap, subst, length, get_or, filter}
 use Rattle.std.specs.declared.cmp.Ordering.TheVariants.{Less, Equal, Greater}
 use Rattle.std.specs.Cmp.{nat_cmp_is, nat_cmp_total}
 use Rattle.std.specs.Ordering.{is_lt, nat_cmp}

@@ -1,5 +1,5 @@
 -- One step of a walk along items in order.
-use Rattle.std.proofs.Common.{◌≡◌, ℕ, zero, suc, ◌+◌, ◌^◌, ◌<◌, ◌≤◌, ◌⊎◌, inl, inr, List, refl, arith, sym, ◌∙◌, ap, subst, length, get_or, set}
+use Rattle.std.proofs.Common.{◌≡◌, ℕ, ◌+◌, ◌^◌, ◌<◌, ◌≤◌, ◌⊎◌, inl, inr, List, refl, arith, sym, ◌∙◌, ap, subst, length, get_or, set}
 use Rattle.std.specs.List.{Contains}
 use Rattle.std.proofs.lemmas.Bool.{cases_eq}
 use Rattle.std.proofs.lemmas.List.{get_or_default, get_or-set_same, get_or-set_other, length-set}
@@ -13,7 +13,7 @@ use Rattle.pci_plan.specs.declared.item.Part.TheVariants as parts
 use Rattle.pci_plan.specs.declared.place.Places.{Places}
 use Rattle.pci_plan.specs.Items.{part_value}
 use Rattle.pci_plan.specs.Places.{first_in}
-use Rattle.pci_plan.specs.Walks.{Walk, IsOpened}
+use Rattle.pci_plan.specs.Walks.{Walk}
 
 -- the first k items are placed, and it is known where the next one stands
 pub record IsWalked (c : Class) (functions start : ℕ) (items : List Item) (w : Walk c functions start items) (old places : List Places) (starts : List ℕ) (group next k : ℕ) : Type 0 where

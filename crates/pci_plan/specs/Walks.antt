@@ -1,5 +1,5 @@
 -- A walk along items in the order in which they are placed.
-use Rattle.std.specs.Prelude.{◌≡◌, ℕ, ◌+◌, ◌^◌, ◌<◌, ◌≤◌, ◌⊎◌, List, length, slice_index_or}
+use Rattle.std.specs.Prelude.{◌≡◌, ℕ, ◌+◌, ◌^◌, ◌<◌, ◌≤◌, List, length, slice_index_or}
 use Rattle.std.specs.List.{Contains}
 use Rattle.pci_spec.specs.Plan.{Class}
 use Rattle.pci_plan.specs.declared.item.Item.{Item}

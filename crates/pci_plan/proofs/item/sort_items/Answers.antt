@@ -1,4 +1,3 @@
-use Rattle.std.proofs.Common.{rules, OnOk}
 use Rattle.std.proofs.lemmas.List.Sorted.{IsPermutation-trans}
 use Rattle.std.proofs.lemmas.Result.{on_ok_weaker}
 use Rattle.pci_plan.proofs.item.sort_items.Goals as goal

@@ -1,12 +1,11 @@
-use Rattle.std.proofs.Common.{◌≡◌, List, Bool, length, sym, ◌∙◌, ap, subst, refl, get_or}
+use Rattle.std.proofs.Common.{◌≡◌, List, Bool, length, sym, ◌∙◌, ap, subst, get_or}
 use Rattle.std.specs.Bool.{◌==◌}
 use Rattle.std.specs.List.{Contains}
 use Rattle.pci_plan.specs.declared.item.Item.{Item}
 use Rattle.pci_plan.specs.Pools.{class_value, pools_value}
 use Rattle.pci_plan.specs.Above.{system_in}
-use Rattle.pci_plan.specs.Items.{part_value}
-use Rattle.pci_plan.specs.Places.{first_in, HasPlaces, KeepsOthers}
-use Rattle.pci_plan.proofs.ClassPlaces.{IsReady, ready, some_size, small_size, walk_of, walk_of_place, placed_class, placed_none, kept_class}
+use Rattle.pci_plan.specs.Places.{first_in, HasPlaces}
+use Rattle.pci_plan.proofs.ClassPlaces.{ready, some_size, small_size, walk_of, walk_of_place, placed_class, placed_none, kept_class}
 use Rattle.pci_plan.proofs.place.place_class.Goals as goal
 use Rattle.pci_plan.proofs.place.place_class.Goals.{then-not-is_empty, else-not-is_empty}
 

@@ -1,4 +1,4 @@
-use Rattle.std.proofs.Common.{rules, ◌≡◌, ℕ, ◌+◌, ◌<◌, ◌≤◌, ◌^◌, inl, inr, arith, sym, ◌∙◌, ap, length, get_or, refl}
+use Rattle.std.proofs.Common.{rules, ◌≡◌, ◌+◌, ◌<◌, ◌≤◌, ◌^◌, inl, inr, arith, sym, ◌∙◌, ap, length, get_or, refl}
 use Rattle.std.proofs.lemmas.List.Elements.{Contains-get_or}
 use Rattle.pci_plan.specs.declared.item.Item.{Item}
 use Rattle.pci_plan.specs.declared.item.Part.TheVariants.{Bar}
