@@ -1,9 +1,9 @@
 -- The items of a record are those of its function.
 use Rattle.std.proofs.Common.{◌≡◌, ℕ, ◌+◌, ◌/◌, ◌-◌, ◌<◌, ◌≤◌, List, [], ◌∷◌, ◌++◌, map, length, take, get_or, refl, Bool, true, false, cond, ◌&&◌, inl, inr, arith, sym, ◌∙◌, ap, subst, Option, Some, None}
-use Rattle.std.specs.Bool.{nat_lt, if◌then◌else◌, ◌==◌}
+use Rattle.std.specs.Bool.{nat_lt}
 use Rattle.std.specs.Option.{option_map, is_some}
 use Rattle.std.specs.List.{Contains, All, filter, flat_map, range_with_len, slice_get}
-use Rattle.std.proofs.lemmas.Bool.{cases_lt, lt-ltb, le-ltb, cases_Bool}
+use Rattle.std.proofs.lemmas.Bool.{cases_lt, lt-ltb, le-ltb}
 use Rattle.std.proofs.lemmas.List.{map-append, append-nil, take_more, take_all}
 use Rattle.std.proofs.lemmas.List.Concat.{flat_map-append}
 use Rattle.std.proofs.lemmas.List.Elements.{All-contains, All-nil, Contains-get_or, Contains-append_cases}
@@ -21,6 +21,7 @@ use Rattle.pci_spec.specs.Place.{Item, part_item, window_item, items_among, own_
 use Rattle.pci_spec.specs.Planning.Sorted.{group_of}
 use Rattle.pci_spec.specs.Planning.Table.{need_behind}
 use Rattle.pci_spec.proofs.Members.{IsMade, in_nil, in_cons_cases, in_map_to, in_filter_to}
+use Rattle.pci_spec.proofs.Regions.{bar_count-le}
 use Rattle.pci_spec.proofs.Planning.Behind.{behind_by_test}
 use Rattle.pci_spec.proofs.Planning.OwnItems.{bar_parts}
 use Rattle.pci_image.specs.declared.bar.Bar.{Bar as CodeBar}
@@ -51,15 +52,8 @@ use Rattle.pci_plan.specs.Items.{IsBar, owned, bar_item, bar_items, window_items
 use Rattle.pci_plan.proofs.Mapped.{filter-map, kept_same}
 use Rattle.pci_plan.proofs.Parts.{bars_in, bars_of, rom_of, bar_span, rom_there, rom_span}
 use Rattle.pci_plan.proofs.ClassOf.{class_is}
+use Rattle.pci_plan.proofs.Owned.{map_twice, no_rom}
 use Rattle.pci_plan.proofs.Records.{FunctionAt, same_count, function_at}
-
-map_twice : {X Y Z : Type 0} (g : Y → Z) (f : X → Y) (xs : List X) → map g (map f xs) ≡ map (λ x. g (f x)) xs
-map_twice g f [] = refl
-map_twice g f (x ∷ xs) = ap (λ ys. g (f x) ∷ ys) (map_twice g f xs)
-
-no_rom : (there : Bool) (y : DecodedRom) → None ≡ (if there then Some y else None) → there ≡ false
-no_rom true y e = cc
-no_rom false y e = refl
 
 item_same : (f g : Function) (p q : Part) (m n : ℕ) → f ≡ g → p ≡ q → m ≡ n → ◌≡◌ {A = Item} record { function = f; part = p; size = m } record { function = g; part = q; size = n }
 item_same f g p q m n a b d = cc
@@ -72,12 +66,6 @@ some_need : (n : ℕ) → nat_lt 0 (limited n) ≡ nat_lt 0 n
 some_need n = elim (cases_lt 0 n) [
   | inl some ↦ lt-ltb 0 (limited n) (omega (arith, some)) ∙ sym (lt-ltb 0 n some)
   | inr none ↦ le-ltb 0 (limited n) (omega (arith, none)) ∙ sym (le-ltb 0 n none)
-]
-
-few_bars : (kind : ℕ) → bar_count kind ≤ 6
-few_bars kind = elim (cases_Bool (kind == 1)) [
-  | inl is ↦ let e : bar_count kind ≡ 2 = ap (λ b. cond b 2 6) is in omega (arith, e)
-  | inr off ↦ let e : bar_count kind ≡ 6 = ap (λ b. cond b 2 6) off in omega (arith, e)
 ]
 
 in_one : {X : Type 0} (b : Bool) (x y : X) → Contains (cond b (x ∷ []) []) y → x ≡ y
@@ -189,7 +177,7 @@ module _ (s : System) (f : Function) (r : Record) (is : IsRecordOf s f r) (o : O
         let at : (n : ℕ) × IsBarAt f bar n = bar_at_register r f bar is.value (in_filter_to test r.bars.items bar made.has).0 in
         let place = register_place bar.reg at.0 (ap (λ (x : DecodedBar). x.register) at.1.is) in
         let within = at.1.within in
-        let few = few_bars (layout f.image) in
+        let few = bar_count-le (layout f.image) in
         subst (IsItemIn roots s) made.is (owned_in (parts.Bar ((bar.reg - 0x10) / 4)) (span bar.first bar.last) (omega (arith, place, within, few)))
 
     window_in : (needs : List ℕ) (bridge : Option Bridge) → r.bridge ≡ bridge → (i : CodeItem) → Contains (window_items o c needs bridge) i → IsItemIn roots s i
