@@ -49,7 +49,6 @@ pub mod Settled
 pub mod Shows
 pub mod Single
 pub mod Sizes
-pub mod Sorting
 pub mod Staging
 pub mod Starts
 pub mod Stays
