@@ -1,5 +1,8 @@
 pub mod Aboves
 pub mod ClassOf
+pub mod ClassPlaces
+pub mod ItemValues
+pub mod ItemWalks
 pub mod Mapped
 pub mod NeedTables
 pub mod NoWindows
@@ -12,3 +15,6 @@ pub mod Judged
 pub mod AllPlaces
 pub mod Refusing
 pub mod PlanFaults
+pub mod SortedItems
+pub mod StableSorts
+pub mod Walking

@@ -27,11 +27,11 @@ use Rattle.pci_plan.proofs.Mapped.{filter-map, list_any-map, any_fails, any_same
 use Rattle.pci_plan.proofs.Parts.{bars_in, rom_in, parts_of, bars_of, rom_of, bar_span, rom_there, rom_span}
 use Rattle.pci_plan.proofs.ClassOf.{kind_io, class_is}
 
-map_twice : {X Y Z : Type 0} (g : Y → Z) (f : X → Y) (xs : List X) → map g (map f xs) ≡ map (λ x. g (f x)) xs
+pub map_twice : {X Y Z : Type 0} (g : Y → Z) (f : X → Y) (xs : List X) → map g (map f xs) ≡ map (λ x. g (f x)) xs
 map_twice g f [] = refl
 map_twice g f (x ∷ xs) = ap (λ ys. g (f x) ∷ ys) (map_twice g f xs)
 
-no_rom : (there : Bool) (y : DecodedRom) → None ≡ (if there then Some y else None) → there ≡ false
+pub no_rom : (there : Bool) (y : DecodedRom) → None ≡ (if there then Some y else None) → there ≡ false
 no_rom true y e = cc
 no_rom false y e = refl
 

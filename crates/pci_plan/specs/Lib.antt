@@ -5,5 +5,8 @@ pub mod Needs
 pub mod Records
 pub mod Sizes
 pub mod Places
+pub mod Sorting
+pub mod Items
+pub mod Walks
 pub mod Writes
 pub mod Plans

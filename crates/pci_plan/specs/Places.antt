@@ -1,5 +1,5 @@
 -- The places of a function's parts, as a table of the code has them.
-use Rattle.std.specs.Prelude.{◌≡◌, ℕ, ◌<◌, List, length, Some, slice_get, slice_index, slice_index_or, IsTrue, IsFalse}
+use Rattle.std.specs.Prelude.{◌≡◌, ℕ, List, length, Some, slice_get, slice_index, slice_index_or, IsTrue, IsFalse}
 use Rattle.pci_spec.specs.Window.{IoWindow, MemoryWindow, PrefetchWindow}
 use Rattle.pci_spec.specs.System.{System, Function, Part, Bar, Rom, Window}
 use Rattle.pci_spec.specs.Plan.{Pools, Class}

@@ -1,15 +1,28 @@
 //! What is placed: BARs, ROMs, and windows of bridges with something behind them.
-ghost use Rattle.std.specs.Prelude.{◌≡◌};
+ghost use Rattle.std.specs.Prelude.{◌≡◌, ℕ, ◌<◌, ◌≤◌, ◌^◌, ◌++◌, OnOk, IfOk, IfSome, slice_index};
+ghost use Rattle.std.specs.List.{All, AllPairs};
+ghost use Rattle.std.specs.List.Sorted.{IsPermutation};
+ghost use Rattle.pci_spec.specs.Planning.Sorted.{group_of};
+ghost use Rattle.pci_tree.specs.Roots.{buses_of};
+ghost use Rattle.pci_plan.specs.Pools.{class_value, pools_value};
+ghost use Rattle.pci_plan.specs.Above.{AreAboves, system_in};
+ghost use Rattle.pci_plan.specs.Needs.{AreNeeds};
+ghost use Rattle.pci_plan.specs.Items.{IsBar, owned, bar_items, window_items, rom_items, record_items, AreItems, IsRooted};
+ghost use Rattle.pci_plan.specs.Sorting.{IsLarger, IsPlacedBefore};
 
 use super::above::Above;
 use super::class::class_of_bar;
 use super::need::{Needs, bar_size, rom_size, window_size_of};
 use super::pools::{Class, Pools};
 use pci_dump::memory::OutOfMemory;
+use pci_image::bar::Bar;
 use pci_image::offset::BASE_ADDRESS;
+use pci_image::rom::Rom;
 use pci_tree::admitted::Admitted;
-use pci_tree::record::Record;
+use pci_tree::record::{Bridge, Record};
+use pci_tree::roots::Roots;
 use std::alloc::Allocator;
+use std::cmp::Reverse;
 
 /// What an item is of its function.
 #[derive(Clone, Copy, Debug, PartialEq, Eq)]
@@ -32,55 +45,114 @@ pub struct Item {
     pub size: u128,
 }
 
-/// The group of a bus: the roots are one.
-fn group_of(is_root: bool, bus: u8) -> u8 {
-    if is_root { 0 } else { bus }
+/// The function that items are of.
+#[derive(Clone, Copy, Debug)]
+struct Owner {
+    /// Which of the functions, in slot order.
+    function: usize,
+    /// The group of its bus.
+    group: u8,
+}
+
+impl Owner {
+    /// An item of this function.
+    fn item(self, part: Part, size: u128) -> Item
+        ensures { result ≡ owned self part size }
+    {
+        Item {
+            function: self.function,
+            group: self.group,
+            part,
+            size,
+        }
+    }
+}
+
+/// Adds the BARs of a class.
+fn add_bars<A: Allocator>(
+    items: &mut Vec<Item, A>,
+    owner: Owner,
+    bars: &[Bar],
+    class: Class,
+    above: Above,
+    pools: &Pools,
+) -> Result<(), OutOfMemory>
+    requires { All IsBar bars.now }
+    ensures { OnOk result (items.new.items ≡ items.old.items ++ bar_items owner (class_value class) above pools.now bars.now) }
+{
+    for bar in bars {
+        if class_of_bar(bar, above, pools) == class {
+            let part = Part::Bar((bar.reg - BASE_ADDRESS) / 4);
+            items.push(owner.item(part, bar_size(bar)))?;
+        }
+    }
+    Ok(())
+}
+
+/// Adds the window of a bridge with something behind it.
+fn add_window<A: Allocator>(
+    items: &mut Vec<Item, A>,
+    owner: Owner,
+    bridge: Option<Bridge>,
+    class: Class,
+    needs: &Needs,
+) -> Result<(), OutOfMemory>
+    requires { (bus : ℕ) → bus < 256 → slice_index needs.now.of_bus bus ≤ 2 ^ 65 }
+    ensures { OnOk result (items.new.items ≡ items.old.items ++ window_items owner (class_value class) needs.now.of_bus bridge) }
+{
+    if let Some(bridge) = bridge {
+        let secondary = bridge.secondary;
+        let need = needs.of_bus[secondary as usize];
+        if 0 < need {
+            items.push(owner.item(Part::Window { secondary }, window_size_of(class, need)))?;
+        }
+    }
+    Ok(())
+}
+
+/// Adds a ROM, if the class is that of memory.
+fn add_rom<A: Allocator>(
+    items: &mut Vec<Item, A>,
+    owner: Owner,
+    rom: Option<Rom>,
+    class: Class,
+) -> Result<(), OutOfMemory>
+    requires { IfSome rom (λ rom. rom.first ≤ rom.last) }
+    ensures { OnOk result (items.new.items ≡ items.old.items ++ rom_items owner (class_value class) rom) }
+{
+    if let Some(rom) = rom {
+        if class == Class::Memory {
+            items.push(owner.item(Part::Rom, rom_size(&rom)))?;
+        }
+    }
+    Ok(())
 }
 
 /// Adds the items of a class that a function has, in the order of their registers.
 fn add_items<A: Allocator>(
     items: &mut Vec<Item, A>,
-    function: usize,
-    group: u8,
+    owner: Owner,
     record: &Record,
     class: Class,
     above: Above,
     pools: &Pools,
     needs: &Needs,
-) -> Result<(), OutOfMemory> {
-    for bar in &record.bars {
-        if class_of_bar(bar, above, pools) == class {
-            items.push(Item {
-                function,
-                group,
-                part: Part::Bar((bar.reg - BASE_ADDRESS) / 4),
-                size: bar_size(bar),
-            })?;
-        }
-    }
-    if let Some(bridge) = record.bridge {
-        let need = needs.of_bus[usize::from(bridge.secondary)];
-        if 0 < need {
-            items.push(Item {
-                function,
-                group,
-                part: Part::Window {
-                    secondary: bridge.secondary,
-                },
-                size: window_size_of(class, need),
-            })?;
-        }
-    }
-    match &record.rom {
-        Some(rom) if class == Class::Memory => items.push(Item {
-            function,
-            group,
-            part: Part::Rom,
-            size: rom_size(rom),
-        })?,
-        _ => {}
-    }
-    Ok(())
+) -> Result<(), OutOfMemory>
+    requires bars { All IsBar «record».now.bars.items }
+    requires rom { IfSome «record».now.rom (λ rom. rom.first ≤ rom.last) }
+    requires needs { (bus : ℕ) → bus < 256 → slice_index needs.now.of_bus bus ≤ 2 ^ 65 }
+    ensures { OnOk result (items.new.items ≡ items.old.items ++ record_items owner (class_value class) above pools.now needs.now.of_bus «record».now) }
+{
+    add_bars(items, owner, record.bars.as_slice(), class, above, pools)?;
+    add_window(items, owner, record.bridge, class, needs)?;
+    add_rom(items, owner, record.rom, class)
+}
+
+/// The group of a bus: the roots are one.
+fn group_of(roots: &Roots, bus: u8) -> u8
+    ensures { result ≡ group_of (buses_of roots.now) bus }
+{
+    if roots.has(bus) { 0 } else { bus }
 }
 
 /// The items of a class in slot and register order.
@@ -91,31 +163,43 @@ pub fn items_of<A: Allocator, B: Allocator>(
     class: Class,
     aboves: &[Above; 256],
     needs: &Needs,
-) -> Result<Vec<Item, A>, OutOfMemory> {
+) -> Result<Vec<Item, A>, OutOfMemory>
+    requires aboves { AreAboves (system_in admitted.now) aboves.now }
+    requires needs { AreNeeds admitted.now.roots (system_in admitted.now) (pools_value pools.now) (class_value class) needs.now }
+    ensures items { IfOk result (λ items. AreItems admitted.now.roots (system_in admitted.now) (pools_value pools.now) (class_value class) items.items) }
+    ensures rooted { OnOk result (IsRooted admitted.now.roots (system_in admitted.now)) }
+{
     let outline = admitted.outline();
     let roots = outline.roots();
     let mut items = Vec::new(alloc);
     for (function, record) in outline.records().iter().enumerate() {
         let bus = record.slot.bus();
-        let group = group_of(roots.has(bus), bus);
-        let above = aboves[usize::from(bus)];
-        add_items(
-            &mut items, function, group, record, class, above, pools, needs,
-        )?;
+        let owner = Owner {
+            function,
+            group: group_of(&roots, bus),
+        };
+        let above = aboves[bus as usize];
+        add_items(&mut items, owner, record, class, above, pools, needs)?;
     }
     Ok(items)
 }
 
 /// Sorts items by falling size; those of one size stay in their order.
-fn sort_by_size<A: Allocator + Copy>(items: &mut Vec<Item, A>) -> Result<(), OutOfMemory> {
-    match items.sort_by_key(|item| u128::MAX - item.size) {
+fn sort_by_size<A: Allocator + Copy>(items: &mut Vec<Item, A>) -> Result<(), OutOfMemory>
+    ensures permutation { IsPermutation items.old.items items.new.items }
+    ensures sorted { OnOk result ((number : Item → ℕ) → AllPairs (λ i j. number i < number j) items.old.items → AllPairs (IsLarger number) items.new.items) }
+{
+    match items.sort_by_key(|item| Reverse(item.size)) {
         Ok(()) => Ok(()),
         Err(_) => Err(OutOfMemory),
     }
 }
 
 /// Sorts items by their group; those of one group stay in their order.
-fn sort_by_group<A: Allocator + Copy>(items: &mut Vec<Item, A>) -> Result<(), OutOfMemory> {
+fn sort_by_group<A: Allocator + Copy>(items: &mut Vec<Item, A>) -> Result<(), OutOfMemory>
+    ensures permutation { IsPermutation items.old.items items.new.items }
+    ensures sorted { OnOk result ((number : Item → ℕ) → AllPairs (IsLarger number) items.old.items → AllPairs (IsPlacedBefore number) items.new.items) }
+{
     match items.sort_by_key(|item| item.group) {
         Ok(()) => Ok(()),
         Err(_) => Err(OutOfMemory),
@@ -123,7 +207,10 @@ fn sort_by_group<A: Allocator + Copy>(items: &mut Vec<Item, A>) -> Result<(), Ou
 }
 
 /// Sorts items that stand in slot and register order into groups, and each group by falling size.
-pub fn sort_items<A: Allocator + Copy>(items: &mut Vec<Item, A>) -> Result<(), OutOfMemory> {
+pub fn sort_items<A: Allocator + Copy>(items: &mut Vec<Item, A>) -> Result<(), OutOfMemory>
+    ensures permutation { IsPermutation items.old.items items.new.items }
+    ensures sorted { OnOk result ((number : Item → ℕ) → AllPairs (λ i j. number i < number j) items.old.items → AllPairs (IsPlacedBefore number) items.new.items) }
+{
     sort_by_size(items)?;
     sort_by_group(items)
 }

@@ -1,10 +1,14 @@
 //! The place of each item: largest first from the pool's or the window's first address on.
-ghost use Rattle.std.specs.Prelude.{◌≡◌, OnOk, length};
+ghost use Rattle.std.specs.Prelude.{◌≡◌, ℕ, OnOk, length, slice_index_or};
+ghost use Rattle.std.specs.List.{Contains};
+ghost use Rattle.pci_spec.specs.System.{Part as PartValue};
 ghost use Rattle.pci_spec.specs.PlanPromise.{CanBePlanned};
 ghost use Rattle.pci_plan.specs.Pools.{class_value, pools_value};
 ghost use Rattle.pci_plan.specs.Above.{AreAboves, system_in};
 ghost use Rattle.pci_plan.specs.Needs.{AreNeeds};
-ghost use Rattle.pci_plan.specs.Places.{HasPlaces, KeepsOthers};
+ghost use Rattle.pci_plan.specs.Items.{part_value, IsPart};
+ghost use Rattle.pci_plan.specs.Places.{first_in, HasPlaces, KeepsOthers};
+ghost use Rattle.pci_plan.specs.Walks.{Walk};
 
 use super::above::Above;
 use super::item::{Item, Part, items_of, sort_items};
@@ -36,7 +40,11 @@ impl Places {
     };
 
     /// Sets the first address of a part.
-    fn set(&mut self, class: Class, part: Part, first: u64) {
+    fn set(&mut self, class: Class, part: Part, first: u64)
+        requires { IsPart part }
+        ensures set { first_in self.new (part_value (class_value class) part) ≡ first }
+        ensures others { (other : PartValue) → (other ≡ part_value (class_value class) part → ⊥) → first_in self.new other ≡ first_in self.old other }
+    {
         match part {
             Part::Bar(n) => self.bars[usize::from(n)] = first,
             Part::Rom => self.rom = first,
@@ -60,7 +68,13 @@ impl Places {
 
 /// Places sorted items one after another, a group from its start on. A bridge stands in a lower group than what is behind
 /// it, or on a root, so the first address of its window is known when that group begins.
-fn place_sorted(items: &[Item], class: Class, start: u128, places: &mut [Places]) {
+fn place_sorted(items: &[Item], class: Class, start: u128, places: &mut [Places])
+    requires { Walk (class_value class) (length places.old) start items.now }
+    ensures placed { (w : Walk (class_value class) (length places.old) start items.now) (i : Item) (d : Places) → Contains items.now i
+        → first_in (slice_index_or places.new i.function d) (part_value (class_value class) i.part) ≡ w.place i }
+    ensures others { (k : ℕ) (d : Places) (part : PartValue) → ((i : Item) → Contains items.now i → i.function ≡ k → part_value (class_value class) i.part ≡ part → ⊥)
+        → first_in (slice_index_or places.new k d) part ≡ first_in (slice_index_or places.old k d) part }
+{
     let mut starts = [0u128; 256];
     let mut group = 0;
     let mut next = start;
@@ -94,11 +108,13 @@ pub fn place_class<A: Allocator + Copy, B: Allocator>(
     ensures placed { OnOk result (HasPlaces admitted.now.roots (system_in admitted.now) (pools_value pools.now) (class_value class) places.new) }
     ensures others { OnOk result (KeepsOthers (system_in admitted.now) (pools_value pools.now) (class_value class) places.old places.new) }
 {
+    let pool = pools.of(class);
     let mut items = items_of(alloc, admitted, pools, class, aboves, needs)?;
     sort_items(&mut items)?;
-    if !items.is_empty() {
-        let start = raised(needs.greatest, pools.of(class).first);
-        place_sorted(items.as_slice(), class, start, places);
+    let sorted = items.as_slice();
+    if !sorted.is_empty() {
+        let start = raised(needs.greatest, pool.first);
+        place_sorted(sorted, class, start, places);
     }
     Ok(())
 }

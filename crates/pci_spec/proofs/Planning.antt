@@ -1,6 +1,8 @@
 pub mod Above
 pub mod AddressBits
 pub mod AboveBuses
+pub mod AboveBuses
+pub mod AddressBits
 pub mod AllItems
 pub mod Asleep
 pub mod BarFaults
@@ -35,8 +37,8 @@ pub mod NumbersFit
 pub mod OtherRules
 pub mod OwnItems
 pub mod OwnMachine
-pub mod PlacedItems
 pub mod Passed
+pub mod PlacedItems
 pub mod Placement
 pub mod PlanStands
 pub mod Places

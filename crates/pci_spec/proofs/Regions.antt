@@ -11,7 +11,7 @@ use Rattle.pci_spec.specs.JudgingLaws.{region_number}
 
 -- ---- registers of parts
 
-bar_count-le : (kind : ℕ) → bar_count kind ≤ 6
+pub bar_count-le : (kind : ℕ) → bar_count kind ≤ 6
 bar_count-le kind = cond_both (kind == 1) 2 6 (λ n. n ≤ 6) (λ e. omega arith) (λ e. omega arith)
 
 rom_register-lt : (kind : ℕ) → rom_register kind < 64
