@@ -24,7 +24,7 @@ above_same x y m is bus =
       | inr other ↦ ap (λ b. b && is_behind y bus) other ∙ sym (ap (λ b. b && is_behind x bus) other)
     ]
 
-pick : (test : List ℕ → Bool) (x y : Function) (xs ys : List Function) (a b : Bool) → b ≡ a → test y.probe ≡ test x.probe
+pub pick : (test : List ℕ → Bool) (x y : Function) (xs ys : List Function) (a b : Bool) → b ≡ a → test y.probe ≡ test x.probe
     → list_all (λ (f : Function). test f.probe) ys ≡ list_all (λ (f : Function). test f.probe) xs
     → list_all (λ (f : Function). test f.probe) (cond b (y ∷ ys) ys) ≡ list_all (λ (f : Function). test f.probe) (cond a (x ∷ xs) xs)
 pick test x y xs ys true true e same rest = ap (λ t. t && list_all (λ (f : Function). test f.probe) ys) same ∙ ap (λ t. test x.probe && t) rest

@@ -84,7 +84,7 @@ pub record IsSameFrame (old new mask : Bounds) : Type 0 where
   pub base_upper : mask.base_upper ≡ 0 → new.base_upper ≡ old.base_upper
   pub limit_upper : mask.limit_upper ≡ 0 → new.limit_upper ≡ old.limit_upper
 
-abbrev window_breaks : WindowKind → Bounds → Bounds → Bool
+abbrev pub window_breaks : WindowKind → Bounds → Bounds → Bool
 window_breaks kind v m = not (is_lawful_window kind 0 v m || (is_optional kind && is_lawful_window kind 1 v m) || (is_optional kind && is_zero v && is_zero m))
 
 abbrev lawful_by : Bool → Bool → Bool → Bool → Bool → Bool → Bool → Bool

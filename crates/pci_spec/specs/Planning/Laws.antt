@@ -6,7 +6,7 @@ use Rattle.pci_spec.specs.Bus.{IsNested, LeadsTo, secondary}
 use Rattle.pci_spec.specs.Sound.{IsSingle, IsHome}
 use Rattle.pci_spec.specs.Number.{IsImage}
 use Rattle.pci_spec.specs.Fault.{Fault, fault_number, IsIn}
-use Rattle.pci_spec.specs.Machine.{Write, write_system, system_after}
+use Rattle.pci_spec.specs.Machine.{Write, target_of, after_writes, write_system, system_after}
 use Rattle.pci_spec.specs.Plan.{IsMoved, Pools, Class, pool_of, step_of, window_size, limited, sizes_in, items_on, fits, raised_to, greatest, are_bad, has_behind, IsPlanned}
 use Rattle.pci_spec.specs.Planning.Placing.{IsFalling, IsHeld, starts}
 use Rattle.pci_spec.specs.Planning.Safety.{is_on, IsCutAt, IsSafe}
@@ -179,6 +179,18 @@ abbrev pub PlanCanStop : Type 0
 PlanCanStop =
     (roots : List ℕ) (changes : List Change) → AreChanges changes → IsNested roots (olds changes) → IsInProfile roots (olds changes) → HasChains (olds changes) → IsSound roots (news changes)
     → (k : ℕ) → (length (closing_writes changes) ≤ k) ⊎ IsSound roots (olds changes) → IsSound roots (system_after (olds changes) (take k (plan_writes changes)))
+
+-- Over a machine that is the system with its own writable bits, each beginning of the writes does what it does to the system,
+abbrev pub PlanOnItsMachine : Type 0
+PlanOnItsMachine =
+    (s : System) (changes : List Change) → AreChanges changes → olds changes ≡ s → (k : ℕ)
+    → after_writes (map target_of s) (take k (plan_writes changes)) ≡ map target_of (system_after s (take k (plan_writes changes)))
+
+-- so between two sound states the machine is a sound system's wherever the writes stop
+abbrev pub StopsOnItsMachine : Type 0
+StopsOnItsMachine =
+    (roots : List ℕ) (changes : List Change) → AreChanges changes → IsSound roots (olds changes) → IsSound roots (news changes) → (k : ℕ)
+    → (now : System) × IsSound roots now × (after_writes (map target_of (olds changes)) (take k (plan_writes changes)) ≡ map target_of now)
 
 -- ---- of registers
 
