@@ -1,1 +1,3 @@
 pub mod Records
+pub mod Compares
+pub mod Makes

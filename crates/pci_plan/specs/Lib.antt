@@ -5,3 +5,6 @@ pub mod Needs
 pub mod Records
 pub mod Places
 pub mod Writes
+pub mod Comparing
+pub mod Making
+pub mod ApplyText
