@@ -1,6 +1,6 @@
 //! Listings that are refused by the fault of a function.
-use crate::board::{bridge, device, list_at, texts_of};
-use crate::program::{answers, run_task};
+use boards::board::{bridge, device, list_at, texts_of};
+use boards::program::{answers, run_task};
 use pciplan_cli::line::Task;
 use std::test::Fail;
 

@@ -1,7 +1,7 @@
 //! Listings of functions.
-use crate::board::{bridge, device, list_at};
-use crate::example::{DUMP, LISTING, PROBE};
-use crate::program::{answers, run_task};
+use boards::board::{bridge, device, list_at};
+use boards::example::{DUMP, LISTING, PROBE};
+use boards::program::{answers, run_task};
 use pciplan_cli::line::Task;
 use std::test::Fail;
 

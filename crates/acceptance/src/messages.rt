@@ -1,18 +1,19 @@
 //! Texts as they come and go, and the messages about them.
-use crate::board::{device, texts_of};
-use crate::example::{DUMP, LISTING, PROBE};
-use crate::program::prints;
+use boards::board::{device, texts_of};
+use boards::example::{DUMP, LISTING, PROBE};
+use boards::program::prints;
 use std::test::Fail;
 
 /// The commands, each of which reads both texts.
 const COMMANDS: [&str; 3] = ["show", "check", "size"];
 
 #[test]
-fn the_example_is_judged_sized_and_shown(rt: HostRuntime) {
+fn the_example_is_judged_sized_and_shown(rt: HostRuntime) -> Result<(), Fail> {
     assert_eq!(rt; DUMP.len(), 849);
     for (command, out) in [("check", "yes\n"), ("size", PROBE), ("show", LISTING)] {
-        prints(&rt, &[command, "d", "p"], (DUMP, PROBE), (out, "", 0));
+        prints(&rt, &[command, "d", "p"], (DUMP, PROBE), (out, "", 0))?;
     }
+    Ok(())
 }
 
 #[test]
@@ -38,7 +39,7 @@ fn each_command_names_the_fault_of_a_text(rt: HostRuntime) -> Result<(), Fail> {
             ((bad, bad), about_dump.as_str()),
         ] {
             for command in COMMANDS {
-                prints(&rt, &[command, "d", "p"], texts, ("", message, 2));
+                prints(&rt, &[command, "d", "p"], texts, ("", message, 2))?;
             }
         }
     }
@@ -64,7 +65,7 @@ fn slots_that_differ_are_named(rt: HostRuntime) -> Result<(), Fail> {
         ((dump, other), ("", "pciplan: probe: 9 Ended 22\n", 2)),
     ] {
         for command in COMMANDS {
-            prints(&rt, &[command, "d", "p"], texts, wanted);
+            prints(&rt, &[command, "d", "p"], texts, wanted)?;
         }
     }
     Ok(())
@@ -106,7 +107,7 @@ fn both_texts_are_read_to_their_ends(rt: HostRuntime) -> Result<(), Fail> {
         ((rest.dump.as_str(), probe), lacks_one),
     ] {
         for command in COMMANDS {
-            prints(&rt, &[command, "d", "p"], texts, wanted);
+            prints(&rt, &[command, "d", "p"], texts, wanted)?;
         }
     }
     Ok(())
@@ -120,13 +121,13 @@ fn slots_that_differ_come_before_an_earlier_function(rt: HostRuntime) -> Result<
     let texts = (listed.dump.as_str(), read_back.probe.as_str());
     for command in COMMANDS {
         let wanted = ("no 30 SlotsDiffer 00:02.0\n", "", 1);
-        prints(&rt, &[command, "d", "p"], texts, wanted);
+        prints(&rt, &[command, "d", "p"], texts, wanted)?;
     }
     Ok(())
 }
 
 #[test]
-fn a_line_that_says_nothing_is_refused(rt: HostRuntime) {
+fn a_line_that_says_nothing_is_refused(rt: HostRuntime) -> Result<(), Fail> {
     for words in [
         &[][..],
         &["check"][..],
@@ -146,13 +147,15 @@ fn a_line_that_says_nothing_is_refused(rt: HostRuntime) {
         // usage is looked at before the roots
         &["check", "d", "--root", "40,00"][..],
     ] {
-        prints(&rt, words, ("", ""), ("", "pciplan: usage\n", 2));
+        prints(&rt, words, ("", ""), ("", "pciplan: usage\n", 2))?;
     }
+    Ok(())
 }
 
 #[test]
-fn no_function_is_nothing_to_show(rt: HostRuntime) {
+fn no_function_is_nothing_to_show(rt: HostRuntime) -> Result<(), Fail> {
     for (command, out) in [("show", ""), ("size", ""), ("check", "yes\n")] {
-        prints(&rt, &[command, "d", "p"], ("", ""), (out, "", 0));
+        prints(&rt, &[command, "d", "p"], ("", ""), (out, "", 0))?;
     }
+    Ok(())
 }

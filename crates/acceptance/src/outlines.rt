@@ -1,5 +1,5 @@
 //! Who gets where in a tree of buses.
-use crate::board::{Function, bridge, device};
+use boards::board::{Function, bridge, device};
 use pci_dump::block::Block;
 use pci_dump::dump::Dump;
 use pci_image::range::Range;

@@ -1,6 +1,6 @@
 //! Verdicts where the host's accesses start on several buses.
-use crate::board::{bridge, device};
-use crate::program::{judges, judges_with, prints};
+use boards::board::{bridge, device};
+use boards::program::{judges, judges_with, prints};
 use std::test::Fail;
 
 #[test]
@@ -36,7 +36,7 @@ fn no_root_is_behind_a_bridge(rt: HostRuntime) -> Result<(), Fail> {
 }
 
 #[test]
-fn a_list_of_roots_rises(rt: HostRuntime) {
+fn a_list_of_roots_rises(rt: HostRuntime) -> Result<(), Fail> {
     for list in [
         "40,00", "00,00", "0", "00,", ",00", "000", "0G", "0A", "00;40", "00, 40",
     ] {
@@ -45,6 +45,7 @@ fn a_list_of_roots_rises(rt: HostRuntime) {
             &["check", "d", "p", "--root", list],
             ("", ""),
             ("", "pciplan: root\n", 2),
-        );
+        )?;
     }
+    Ok(())
 }

@@ -1,7 +1,7 @@
 //! What sizing answers.
-use crate::board::{bridge, device, list_at, texts_of};
-use crate::example::{DUMP, PROBE};
-use crate::program::{answers, run_task};
+use boards::board::{bridge, device, list_at, texts_of};
+use boards::example::{DUMP, PROBE};
+use boards::program::{answers, run_task};
 use pciplan_cli::line::Task;
 use std::test::Fail;
 

@@ -2,8 +2,8 @@
 //!
 //! Boards are made by rule: two bridges in a row and a device on each of the three buses. All regions are whole
 //! megabytes from E0000000h on, so a page stands for all its addresses.
-use crate::board::{Function, bridge, device};
-use crate::program::judges;
+use boards::board::{Function, bridge, device};
+use boards::program::judges;
 use std::alloc::{AllocError, Global};
 use std::test::Fail;
 

@@ -1,6 +1,6 @@
 //! Verdicts on trees of buses.
-use crate::board::{Function, bridge, device};
-use crate::program::judges;
+use boards::board::{Function, bridge, device};
+use boards::program::judges;
 use std::test::Fail;
 
 /// A memory window by base and limit, and a prefetchable one of 32 bits.

@@ -1,6 +1,6 @@
 //! Verdicts on boards of one bus.
-use crate::board::{bridge, device, list_at};
-use crate::program::judges;
+use boards::board::{bridge, device, list_at};
+use boards::program::judges;
 use std::test::Fail;
 
 /// The slot of a function that is alone.

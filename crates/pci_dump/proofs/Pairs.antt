@@ -3,7 +3,7 @@ use Rattle.std.proofs.Common.{refl, ◌≡◌, inl, inr, ℕ, zero, suc, ◌+◌
 use Rattle.std.specs.List.{Contains}
 use Rattle.std.specs.List.Sorted.{IsStrictlyIncreasing}
 use Rattle.std.proofs.lemmas.Bool.{cases_lt, false≢true}
-use Rattle.std.proofs.lemmas.List.{get_or_default, get_or-take, take_more_same, length-map}
+use Rattle.std.proofs.lemmas.List.{get_or_default, get_or-take, length-take, take_more_same, length-map}
 use Rattle.pci_spec.specs.Slot.{Slot, IsSlot, IsRising, slot_number}
 use Rattle.pci_spec.specs.Text.{Block, slots_of}
 use Rattle.pci_spec.specs.Fault.{IsInOne, IsThere, has_no_vendor, has_other_layout, is_stray}
@@ -12,7 +12,7 @@ use Rattle.pci_spec.proofs.Pairing.{function_of}
 use Rattle.pci_dump.specs.declared.pair_fault.PairFault.{PairFault}
 use Rattle.pci_dump.specs.declared.pair_fault.PairFault.TheVariants as faults
 use Rattle.pci_dump.specs.PairFault.{pair_fault}
-use Rattle.pci_dump.specs.Pair.{IsFine, IsFaultHere, IsPair}
+use Rattle.pci_dump.specs.Pair.{IsFine, IsNoneBelow, IsFaultHere, IsPair}
 
 -- ---- slots
 
@@ -112,6 +112,58 @@ in_right_more dump probe p i hd hp wp past ep same =
     let other = length-map dump (λ (x : Block). x.slot) in
     let r = in_first (slots_of probe) (slots_of dump) p.slot i hp hd (omega (arith, wp, long)) (slot_at probe i p ep) (sym same) (λ h. absurd (let no : ⊥ = omega (arith, h, other, past) in no)) in
     inr (r.1, r.0)
+
+-- what stands below the places where two lists begin to differ is in both
+in_both : (ds ps : List Slot) (a : Slot) (i : ℕ) → IsRising ds → take i ds ≡ take i ps → (i < length ds → slot_number a ≤ slot_number (get_or ds i a))
+    → (t : Slot) → slot_number t < slot_number a → Contains ds t → Contains ps t
+in_both ds ps a i hd same from t low (k, within, is) = elim (cases_lt k i) [
+  | inl before ↦
+      let one = length-take i ds in
+      let two = length-take i ps in
+      let long = ap length same in
+      let inside : k < length ps = omega (arith, before, within, one, two, long) in
+      (k, inside, sym (get_or-take i ps k t before) ∙ ap (λ (xs : List Slot). get_or xs k t) (sym same) ∙ get_or-take i ds k t before ∙ is)
+  | inr past ↦
+      let first = from (omega (arith, past, within)) in
+      let here = ap slot_number (get_or_default ds k a t within ∙ is) in
+      absurd (elim (cases_lt i k) [
+        | inl later ↦ let up = rising_slots ds a i k hd later within in omega (arith, up, first, here, low)
+        | inr at ↦ let z : i ≡ k = omega (arith, past, at) in let f = ap (λ (n : ℕ). slot_number (get_or ds n a)) z in omega (arith, f, first, here, low)
+      ])
+]
+
+-- no slot below is in one list alone
+none_below : (dump probe : List Block) (a : Slot) (i : ℕ) → IsRising (slots_of dump) → IsRising (slots_of probe) → take i (slots_of dump) ≡ take i (slots_of probe)
+    → (i < length (slots_of dump) → slot_number a ≤ slot_number (get_or (slots_of dump) i a)) → (i < length (slots_of probe) → slot_number a ≤ slot_number (get_or (slots_of probe) i a))
+    → IsNoneBelow dump probe a
+none_below dump probe a i hd hp same ours theirs t low one = elim one [
+  | inl (there, gone) ↦ gone (in_both (slots_of dump) (slots_of probe) a i hd same ours t low there)
+  | inr (gone, there) ↦ gone (in_both (slots_of probe) (slots_of dump) a i hp (sym same) theirs t low there)
+]
+
+-- of two slots at one place the lesser
+pub none_below_both : (dump probe : List Block) (a p : Block) (s : Slot) (i : ℕ) → IsRising (slots_of dump) → IsRising (slots_of probe) → i < length dump → i < length probe
+    → a ≡ get_or dump i a → p ≡ get_or probe i p → take i (slots_of dump) ≡ take i (slots_of probe) → slot_number s ≤ slot_number a.slot → slot_number s ≤ slot_number p.slot
+    → IsNoneBelow dump probe s
+none_below_both dump probe a p s i hd hp wd wp ea ep same one two =
+    let ours = ap slot_number (slot_there dump i a s wd ea) in
+    let theirs = ap slot_number (slot_there probe i p s wp ep) in
+    none_below dump probe s i hd hp same (λ h. omega (arith, ours, one)) (λ h. omega (arith, theirs, two))
+
+-- the slot after all those of the other list
+pub none_below_left : (dump probe : List Block) (a : Block) (i : ℕ) → IsRising (slots_of dump) → IsRising (slots_of probe) → length probe ≤ i → a ≡ get_or dump i a
+    → take i (slots_of dump) ≡ take i (slots_of probe) → IsNoneBelow dump probe a.slot
+none_below_left dump probe a i hd hp past ea same =
+    let ours = ap slot_number (slot_at dump i a ea) in
+    let other = length-map probe (λ (x : Block). x.slot) in
+    none_below dump probe a.slot i hd hp same (λ h. omega (arith, ours)) (λ h. absurd (let no : ⊥ = omega (arith, h, other, past) in no))
+
+pub none_below_right : (dump probe : List Block) (p : Block) (i : ℕ) → IsRising (slots_of dump) → IsRising (slots_of probe) → length dump ≤ i → p ≡ get_or probe i p
+    → take i (slots_of dump) ≡ take i (slots_of probe) → IsNoneBelow dump probe p.slot
+none_below_right dump probe p i hd hp past ep same =
+    let theirs = ap slot_number (slot_at probe i p ep) in
+    let other = length-map dump (λ (x : Block). x.slot) in
+    none_below dump probe p.slot i hd hp same (λ h. absurd (let no : ⊥ = omega (arith, h, other, past) in no)) (λ h. omega (arith, theirs))
 
 -- one slot more is the same on both sides
 pub same_more : (dump probe : List Block) (a p : Block) (i : ℕ) → i < length dump → i < length probe → a ≡ get_or dump i a → p ≡ get_or probe i p → IsSlot a.slot → IsSlot p.slot

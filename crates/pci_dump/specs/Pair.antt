@@ -1,15 +1,19 @@
 -- What a dump and its probe must be, before their registers are decoded.
-use Rattle.std.specs.Prelude.{◌≡◌, ℕ, ◌==◌, nat_lt, Bool, false, ◌&&◌, not, IsTrue, List}
+use Rattle.std.specs.Prelude.{◌≡◌, ℕ, ◌<◌, ◌==◌, nat_lt, Bool, false, ◌&&◌, not, IsTrue, List}
 use Rattle.pci_spec.specs.Number.{byte_at}
-use Rattle.pci_spec.specs.Slot.{Slot}
+use Rattle.pci_spec.specs.Slot.{Slot, slot_number}
 use Rattle.pci_spec.specs.Text.{Block, slots_of}
-use Rattle.pci_spec.specs.Fault.{NoVendor, HeaderKind, SlotsDiffer, StrayProbe, IsThere, has_no_vendor, has_other_layout, is_in_address_register, is_stray}
+use Rattle.pci_spec.specs.Fault.{NoVendor, HeaderKind, SlotsDiffer, StrayProbe, IsInOne, IsThere, has_no_vendor, has_other_layout, is_in_address_register, is_stray}
 use Rattle.pci_dump.specs.declared.pair_fault.PairFault.{PairFault}
 use Rattle.pci_dump.specs.declared.pair_fault.PairFault.TheVariants as faults
 
 -- whether a probe of a header with this layout has a byte where there is no address register
 abbrev pub stray_at : ℕ → List ℕ → ℕ → Bool
 stray_at kind probe offset = nat_lt offset 256 && not (byte_at probe offset == 0) && not (is_in_address_register kind offset)
+
+-- no slot below is listed by one of two dumps alone
+abbrev pub IsNoneBelow : List Block → List Block → Slot → Type 0
+IsNoneBelow dump probe slot = (other : Slot) → slot_number other < slot_number slot → IsInOne dump probe other → ⊥
 
 -- a function answers, its header is of type 0 or 1, and its probe is in address registers alone
 pub record IsFine (block probe : Block) : Type 0 where

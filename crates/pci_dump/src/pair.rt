@@ -5,7 +5,7 @@ ghost use Rattle.pci_spec.specs.Slot.{IsRising};
 ghost use Rattle.pci_spec.specs.Text.{slots_of};
 ghost use Rattle.pci_spec.specs.Fault.{IsInOne, IsThere};
 ghost use Rattle.pci_dump.specs.PairFault.{pair_fault};
-ghost use Rattle.pci_dump.specs.Pair.{IsFine, IsFaultHere, IsFaultOfPair, IsPair};
+ghost use Rattle.pci_dump.specs.Pair.{IsFine, IsNoneBelow, IsFaultHere, IsFaultOfPair, IsPair};
 
 use super::block::Block;
 use super::dump::Dump;
@@ -34,14 +34,15 @@ fn check_function(block: &Block, probe: &Block) -> Result<(), PairFault>
     }
 }
 
-/// The slot that one of two lists of blocks has and the other doesn't: the smaller of the two slots at
-/// the first place where they differ, or the one that one list alone has there. None where both have
-/// the same slots.
+/// The least slot that one of two lists of blocks has and the other doesn't: the smaller of the two
+/// slots at the first place where they differ, or the one that one list alone has there. None where
+/// both have the same slots.
 pub fn first_difference(dump: &[Block], probe: &[Block]) -> Option<Slot>
     requires dump { IsRising (slots_of dump.now) }
     requires probe { IsRising (slots_of probe.now) }
     ensures none { IfNone result (slots_of dump.now ≡ slots_of probe.now) }
     ensures some { IfSome result (IsInOne dump.now probe.now) }
+    ensures least { IfSome result (IsNoneBelow dump.now probe.now) }
 {
     let shared = dump.len().min(probe.len());
     for i in 0..shared {

@@ -1,7 +1,8 @@
 //! Where a function stands (PCI 3.0, 3.2.2.3).
-ghost use Rattle.std.specs.Prelude.{◌≡◌, ◌<◌, ◌↔◌, IsSome, IfSome, Some};
+ghost use Rattle.std.specs.Prelude.{◌≡◌, ◌<◌, ◌↔◌, IsTrue, IsSome, IfSome, Some};
 ghost use Rattle.pci_spec.specs.Slot.{Slot as SlotValue, IsSlot, slot_number};
 ghost use Rattle.pci_spec.specs.Text.{slot_text};
+ghost use Rattle.std.specs.Ordering.{nat_cmp, on, then_cmp};
 
 use std::fmt;
 use std::marker::Model;
@@ -86,3 +87,11 @@ impl fmt::Display for Slot {
         write!(f, "{bus:02x}:{device:02x}.{function:x}")
     }
 }
+
+/// A law of slots: `cmp` compares the buses, of one bus the devices, and of one device the functions; `==` holds where
+/// all three are the same.
+pub fn slot_laws()
+    ensures order { (s t : SlotValue) → ⟦<Slot as Ord>⟧.cmp s t
+        ≡ then_cmp (on (λ x. x.bus) nat_cmp) (then_cmp (on (λ x. x.device) nat_cmp) (on (λ x. x.function) nat_cmp)) s t }
+    ensures equal { (s t : SlotValue) → IsTrue (⟦<Slot as PartialEq>⟧.eq s t) ↔ (s ≡ t) }
+{}

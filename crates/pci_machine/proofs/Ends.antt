@@ -4,7 +4,7 @@ use Rattle.pci_spec.specs.Slot.{Slot}
 use Rattle.pci_spec.specs.Header.{command, layout}
 use Rattle.pci_spec.specs.Machine.{Target, written, sized}
 use Rattle.pci_machine.specs.Port.{IsLawful, IsTarget, has_function, with_image}
-use Rattle.pci_machine.specs.Sizing.{function_at, quieted, IsStuck, DiffersInRegisters}
+use Rattle.pci_machine.specs.Sizing.{function_at, quieted, IsStuck, DiffersInRegisters, is_written_to}
 use Rattle.pci_machine.specs.SizeOutcome.{StopLeaves}
 use Rattle.pci_machine.proofs.Targets.{with_image-with_image}
 use Rattle.pci_machine.proofs.Sizing.{target-there, restored, with_image-own}
@@ -51,11 +51,13 @@ module _ (before quiet : List Target) (slot : Slot) (lawful : IsLawful before) (
       (e ∙ is_quiet) is second
 
   -- an access failed
-  pub stopped-open : (after : List Target) (old : ℕ) → old ≡ command (function_at before slot).image
+  pub stopped-open : (after : List Target) (offset old : ℕ) → old ≡ command (function_at before slot).image
+      → is_written_to (layout (function_at quiet slot).image) offset ≡ true
       → (image : List ℕ) × (after ≡ with_image quiet slot image) × DiffersInRegisters (function_at quiet slot).image image
-      → StopLeaves before slot after (Some old)
-  stopped-open after old is (image, left, differs) = (
+      → StopLeaves before slot after offset (Some old)
+  stopped-open after offset old is register (image, left, differs) = (
     is,
+    ap (λ kind. is_written_to kind offset) (sym quiet-layout) ∙ register,
     (
       image,
       left ∙ ap (λ xs. with_image xs slot image) is_quiet ∙ with_image-with_image before slot (quieted (function_at before slot)) image,
@@ -64,9 +66,10 @@ module _ (before quiet : List Target) (slot : Slot) (lawful : IsLawful before) (
   )
 
   -- Command could not be put back
-  pub stopped-quiet : (after : List Target) (old : ℕ) → old ≡ command (function_at before slot).image → after ≡ quiet → StopLeaves before slot after (Some old)
+  pub stopped-quiet : (after : List Target) (old : ℕ) → old ≡ command (function_at before slot).image → after ≡ quiet → StopLeaves before slot after 0x04 (Some old)
   stopped-quiet after old is same = (
     is,
+    refl,
     (
       quieted (function_at before slot),
       same ∙ is_quiet,

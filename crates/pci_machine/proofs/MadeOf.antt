@@ -13,7 +13,7 @@ use Rattle.pci_spec.specs.Slot.{IsRising}
 use Rattle.pci_spec.specs.Text.{Block, IsDump, slots_of}
 use Rattle.pci_spec.specs.System.{Function, IsFunction, system_of}
 use Rattle.pci_spec.specs.Machine.{Target, target_of, sized, in_fields, writable_bits}
-use Rattle.pci_spec.specs.Fault.{IsThere}
+use Rattle.pci_spec.specs.Fault.{IsThere, has_no_vendor, has_other_layout}
 use Rattle.pci_spec.specs.Decoded.{IsDecodable}
 use Rattle.pci_spec.proofs.Pairing.{function_of, function-at, same_length, length-system_of, slots-system_of, IsSystem-of_dumps}
 use Rattle.pci_spec.proofs.Sizing.{sizing_finds_probe}
@@ -24,9 +24,9 @@ use Rattle.pci_dump.specs.PairFault.{pair_fault}
 use Rattle.pci_dump.specs.Pair.{IsPair}
 use Rattle.pci_machine.specs.Port.{IsTarget}
 use Rattle.pci_machine.specs.Memory.{IsMachine}
-use Rattle.pci_machine.specs.Sizing.{function_at, IsStuck}
+use Rattle.pci_machine.specs.Sizing.{function_at, IsSizable, IsStuck}
 use Rattle.pci_machine.specs.RegisterTable.{writable_by}
-use Rattle.pci_machine.proofs.Targets.{found, map-map}
+use Rattle.pci_machine.proofs.Targets.{found, map-map, some_at}
 use Rattle.pci_machine.proofs.Memory.{lawful_from_rising}
 use Rattle.pci_machine.proofs.Sizing.{function_at-is}
 use Rattle.pci_machine.specs.Made.{name_fault}
@@ -123,9 +123,24 @@ module _ (dump probe : List Block) (same : slots_of dump ≡ slots_of probe) whe
         (found targets f.slot k (target_of f) (lawful_from_rising targets machine-of) (slice_get-get_or targets k (target_of f) inside ∙ ap Some here) refl)
 
     -- the decode bits of a function that was just made can be cleared
-    pub free-of : (k : ℕ) (d : Function) → k < length (system_of dump probe)
+    free-of : (k : ℕ) (d : Function) → k < length (system_of dump probe)
         → IsStuck (function_at (map target_of (system_of dump probe)) (get_or (system_of dump probe) k d).slot) → ⊥
     free-of k d below stuck = can_clear (get_or (system_of dump probe) k d) (subst IsStuck (function-of k d below) stuck)
+
+    -- each function can be sized
+    pub sizable-of : All IsDecodable (system_of dump probe) → (k : ℕ) (d : Function) → k < length (system_of dump probe)
+        → IsSizable (map target_of (system_of dump probe)) (get_or (system_of dump probe) k d).slot
+    sizable-of decodable k d below =
+        let f = get_or (system_of dump probe) k d in
+        let targets = map target_of (system_of dump probe) in
+        let here : get_or targets k (target_of f) ≡ target_of f = get_or-map target_of (system_of dump probe) k d (target_of f) below in
+        let inside : k < length targets = omega (arith, below, length-map {B = Target} (system_of dump probe) target_of) in
+        record {
+          there = some_at targets f.slot k (target_of f) (slice_get-get_or targets k (target_of f) inside ∙ ap Some here) refl;
+          vendor = subst (λ (t : Target). has_no_vendor t.image ≡ false) (sym (function-of k d below)) (decodable k d below).vendor;
+          header = subst (λ (t : Target). has_other_layout t.image ≡ false) (sym (function-of k d below)) (decodable k d below).header;
+          free = free-of k d below;
+        }
 
     -- sizing finds the probe of each function
     pub read_backs-of : (roots : List ℕ) → IsPair roots dump probe → All IsDecodable (system_of dump probe) → All (λ f. sized (target_of f) ≡ f.probe) (system_of dump probe)

@@ -13,7 +13,7 @@ use Rattle.pci_spec.specs.Header.{layout, address_registers}
 use Rattle.pci_spec.specs.Fault.{is_in_address_register}
 use Rattle.pci_spec.specs.Machine.{Target, sizing_ones, register_at, read_back, written, sized}
 use Rattle.pci_machine.specs.Port.{IsTarget, is_access, fits}
-use Rattle.pci_machine.specs.Sizing.{IsPlain, DiffersWithin, DiffersInRegisters}
+use Rattle.pci_machine.specs.Sizing.{IsPlain, DiffersWithin, DiffersInRegisters, is_address_register}
 use Rattle.pci_machine.proofs.Targets.{find-none}
 use Rattle.pci_machine.proofs.Bytes.{IsImage-written}
 use Rattle.pci_machine.proofs.Sizing.{digit_of_number}
@@ -113,6 +113,12 @@ sound_at bridge k r below is =
     true_from_ne_false _ (λ miss.
     both_ways (list_all (is_sound (layout_of bridge)) (address_registers (layout_of bridge)))
     (list_all_at (is_sound (layout_of bridge)) (address_registers (layout_of bridge)) k r below (ap (is_sound (layout_of bridge)) is ∙ miss)) (all_sound bridge))
+
+-- each register of the table begins one
+pub register_begins : (bridge : Bool) (k : ℕ) (r : ℕ × ℕ) → k < length (address_registers (layout_of bridge)) → get_or (address_registers (layout_of bridge)) k r ≡ r
+    → is_address_register (layout_of bridge) r.0 ≡ true
+register_begins bridge k r below is =
+    list_any_at (λ (q : ℕ × ℕ). q.0 == r.0) (address_registers (layout_of bridge)) k r below (ap (λ (q : ℕ × ℕ). q.0 == r.0) is ∙ eq-eqb r.0 r.0 refl)
 
 pub record IsSound (kind : ℕ) (r : ℕ × ℕ) : Type 0 where
   pub access : is_access r.0 r.1 ≡ true

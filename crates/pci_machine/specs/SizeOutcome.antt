@@ -1,11 +1,11 @@
 -- What stands after sizing a function ended with a fault.
 use Rattle.std.specs.Prelude.{◌≡◌, ℕ, ◌≤◌, Bool, IsTrue, IsFalse, List, Option, Some, None, Result, Ok, Err}
 use Rattle.pci_spec.specs.Slot.{Slot}
-use Rattle.pci_spec.specs.Header.{command}
+use Rattle.pci_spec.specs.Header.{command, layout}
 use Rattle.pci_spec.specs.Machine.{Target}
 use Rattle.pci_image.specs.Faults.{IsImageFaultIn, image_fault_number}
 use Rattle.pci_machine.specs.Port.{has_function, with_image}
-use Rattle.pci_machine.specs.Sizing.{function_at, IsPartlySized, IsStuck}
+use Rattle.pci_machine.specs.Sizing.{function_at, IsPartlySized, IsStuck, is_looked_at, is_written_to}
 use Rattle.pci_machine.specs.Outcome.{failures_of_error}
 use Rattle.pci_machine.specs.declared.port.PortError.{PortError}
 use Rattle.pci_machine.specs.declared.port.PortError.TheVariants.{NoFunction, BadAccess, Failed}
@@ -35,11 +35,12 @@ IsCause NoFunction there = IsFalse there
 IsCause BadAccess there = ⊥
 IsCause Failed there = IsTrue there
 
--- an access failed: before Command was written, or with the old Command and the function as it was left
-abbrev pub StopLeaves : List Target → Slot → List Target → Option ℕ → Type 0
-StopLeaves before slot after None = after ≡ before
-StopLeaves before slot after (Some old) =
+-- an access at an offset failed: before Command was written, or with the old Command and the function as it was left
+abbrev pub StopLeaves : List Target → Slot → List Target → ℕ → Option ℕ → Type 0
+StopLeaves before slot after offset None = (after ≡ before) × IsTrue (is_looked_at offset)
+StopLeaves before slot after offset (Some old) =
     (old ≡ command (function_at before slot).image)
+    × IsTrue (is_written_to (layout (function_at before slot).image) offset)
     × ((image : List ℕ) × (after ≡ with_image before slot image) × IsPartlySized (function_at before slot) image)
 
 -- the functions before and after, by the fault
@@ -48,4 +49,4 @@ SizingLeaves before slot after (Header fault) =
     (after ≡ before) × IsTrue (has_function before slot)
     × IsImageFaultIn (function_at before slot).image (function_at before slot).image fault × (image_fault_number fault ≤ 21)
 SizingLeaves before slot after Stuck = (after ≡ before) × IsTrue (has_function before slot) × IsStuck (function_at before slot)
-SizingLeaves before slot after (Port offset fault old) = IsCause fault (has_function before slot) × StopLeaves before slot after old
+SizingLeaves before slot after (Port offset fault old) = IsCause fault (has_function before slot) × StopLeaves before slot after offset old

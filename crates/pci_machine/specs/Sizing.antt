@@ -1,12 +1,13 @@
 -- What sizing finds, and what it leaves where it stops.
 use Rattle.std.specs.Prelude.{◌≡◌, ℕ, ◌+◌, ◌*◌, ◌/◌, ◌<◌, ◌≤◌, ◌⊎◌, ◌==◌, Bool, ◌||◌, IsTrue, IsFalse, List, [], length}
 use Rattle.std.specs.Option.{unwrap_or}
+use Rattle.std.specs.List.{list_any}
 use Rattle.pci_spec.specs.Number.{byte_at, has_bit, AgreeFrom}
 use Rattle.pci_spec.specs.Slot.{Slot}
-use Rattle.pci_spec.specs.Header.{command, layout}
-use Rattle.pci_spec.specs.Fault.{is_in_address_register}
+use Rattle.pci_spec.specs.Header.{command, layout, address_registers}
+use Rattle.pci_spec.specs.Fault.{is_in_address_register, has_no_vendor, has_other_layout}
 use Rattle.pci_spec.specs.Machine.{Target, written}
-use Rattle.pci_machine.specs.Port.{target_at}
+use Rattle.pci_machine.specs.Port.{target_at, has_function}
 
 -- what stands for a function where there is none
 abbrev pub no_target : Target
@@ -49,3 +50,24 @@ pub record IsPartlySized (t : Target) (image : List ℕ) : Type 0 where
 -- a decode bit of Command is set and can't be written
 abbrev pub IsStuck : Target → Type 0
 IsStuck t = (i : ℕ) × (i < 2) × IsTrue (has_bit (command t.image) i) × IsFalse (has_bit (byte_at t.writable 0x04) i)
+
+-- there is a function at the slot, of a known layout, whose decode bits can be cleared
+pub record IsSizable (targets : List Target) (slot : Slot) : Type 0 where
+  pub there : IsTrue (has_function targets slot)
+  pub vendor : IsFalse (has_no_vendor (function_at targets slot).image)
+  pub header : IsFalse (has_other_layout (function_at targets slot).image)
+  pub free : IsStuck (function_at targets slot) → ⊥
+
+-- ---- where sizing makes its accesses
+
+-- whether an address register of a layout begins at an offset
+abbrev pub is_address_register : ℕ → ℕ → Bool
+is_address_register kind offset = list_any (λ r. r.0 == offset) (address_registers kind)
+
+-- before anything is written: Vendor ID, Header Type and Command
+abbrev pub is_looked_at : ℕ → Bool
+is_looked_at offset = offset == 0x00 || offset == 0x0e || offset == 0x04
+
+-- from then on: Command and the address registers
+abbrev pub is_written_to : ℕ → ℕ → Bool
+is_written_to kind offset = offset == 0x04 || is_address_register kind offset

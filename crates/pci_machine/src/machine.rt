@@ -1,11 +1,11 @@
 //! A machine in memory: functions whose registers are read and written as hardware would.
-ghost use Rattle.std.specs.Prelude.{◌≡◌, ◌<◌, ℕ, List, map, All, IsTrue, IsFalse, IfSome, IfOk, OnOk, IfErr, MatchOption, Some, slice_get, length};
+ghost use Rattle.std.specs.Prelude.{◌≡◌, ◌<◌, ℕ, List, map, All, IsTrue, IsFalse, IfSome, IfOk, OnOk, IfErr, MatchOption, MatchResult, Some, slice_get, length};
 ghost use Rattle.pci_spec.specs.System.{system_of};
 ghost use Rattle.pci_spec.specs.Decoded.{IsDecodable};
 ghost use Rattle.pci_dump.specs.Pair.{IsPair};
 ghost use Rattle.pci_machine.specs.Made.{IsRefusedFor};
-ghost use Rattle.pci_machine.specs.Sizing.{function_at, IsStuck};
-ghost use Rattle.pci_spec.specs.Machine.{Target, target_of, sized};
+ghost use Rattle.pci_machine.specs.Sizing.{function_at, IsSizable};
+ghost use Rattle.pci_spec.specs.Machine.{Target, target_of, sized, write_targets};
 ghost use Rattle.std.specs.Option.{option_map};
 ghost use Rattle.pci_machine.specs.Memory.{pin_targets};
 ghost use Rattle.pci_machine.specs.Port.{has_function, target_at, IsLawful};
@@ -58,7 +58,7 @@ impl<A: Allocator> Machine<A> {
         ensures pair { OnOk result ((roots : List ℕ) → IsPair roots dump.now probe.now) }
         ensures decodable { OnOk result (All IsDecodable (system_of dump.now probe.now)) }
         ensures read_backs { IfOk result (λ machine. All (λ f. sized (function_at machine f.slot) ≡ f.probe) (system_of dump.now probe.now)) }
-        ensures not_stuck { IfOk result (λ machine. All (λ f. IsStuck (function_at machine f.slot) → ⊥) (system_of dump.now probe.now)) }
+        ensures sizable { IfOk result (λ machine. All (λ f. IsSizable machine f.slot) (system_of dump.now probe.now)) }
         ensures fault { IfErr result (IsRefusedFor dump.now probe.now) }
     {
         match pair(dump, probe) {
@@ -128,6 +128,10 @@ impl<A: Allocator> ConfigPort for Machine<A> {
     ghost targets = { λ m. m };
 
     ghost failures = { λ _. 0 };
+
+    ghost reads = { λ before _ _ _ _ after. after ≡ before };
+
+    ghost writes = { λ before write answer after. MatchResult answer (λ _. after ≡ write_targets before write) (λ _. after ≡ before) };
 
     fn read(&mut self, slot: Slot, off: u8, width: u8) -> Result<u32, PortError> {
         let Some(place) = self.place(slot) else {

@@ -35,15 +35,24 @@ impl PortError {
 ///
 /// An access is refused by 40 exactly where no function is at the slot, else by 41 exactly where it
 /// is no lawful access, else by 42 exactly where it counts as one more failure. What is refused
-/// changes nothing else.
+/// changes no function, and by 40 and 41 nothing at all.
 pub trait ConfigPort {
-    ghost use Rattle.pci_machine.specs.Outcome.{failures_of};
+    ghost use Rattle.std.specs.Prelude.{Result};
+    ghost use Rattle.pci_spec.specs.Slot.{Slot as Place};
+    ghost use Rattle.pci_spec.specs.Machine.{Write};
+    ghost use Rattle.pci_machine.specs.declared.port.PortError.{PortError as Refusal};
+    ghost use Rattle.pci_machine.specs.Outcome.{failures_of, is_counted};
 
     // The functions, each with its configuration space and the bits that a write sets or a one clears.
     ghost targets: { Self → List Target };
 
     // How many accesses have failed. No number is the last.
     ghost failures: { Self → ℕ };
+
+    // What one read of a number at an offset does, with its answer, to the port; and what one write does.
+    ghost reads: { Self → Place → ℕ → ℕ → Result ℕ Refusal → Self → Type 0 };
+
+    ghost writes: { Self → Write → Result (Unit {0}) Refusal → Self → Type 0 };
 
     /// The little-endian number of `width` bytes at an offset of the function at a slot.
     fn read(&mut self, slot: Slot, off: u8, width: u8) -> Result<u32, PortError>
@@ -52,7 +61,9 @@ pub trait ConfigPort {
         ensures bad_access { result ≡ Err PortError.BadAccess ↔ IsTrue (has_function (targets self.old) slot) × IsFalse (is_access off width) }
         ensures counted { failures self.new ≡ failures self.old + failures_of result }
         ensures same { targets self.new ≡ targets self.old }
-        ensures lawful { IsLawful (targets self.new) };
+        ensures lawful { IsLawful (targets self.new) }
+        ensures refused { IsFalse (is_counted result) → self.new ≡ self.old }
+        ensures once { reads self.old slot off width result self.new };
 
     /// Writes the little-endian bytes of `value` to `width` bytes at an offset: a writable bit takes
     /// its bit, a bit that is cleared by a one becomes 0 where its bit is 1, all others stay.
@@ -64,5 +75,7 @@ pub trait ConfigPort {
         ensures bad_access { result ≡ Err PortError.BadAccess
             ↔ IsTrue (has_function (targets self.old) slot) × IsFalse (is_access off width && fits width value) }
         ensures counted { failures self.new ≡ failures self.old + failures_of result }
-        ensures lawful { IsLawful (targets self.new) };
+        ensures lawful { IsLawful (targets self.new) }
+        ensures refused { IsFalse (is_counted result) → self.new ≡ self.old }
+        ensures once { writes self.old record { slot = slot; offset = off; width = width; value = value } result self.new };
 }

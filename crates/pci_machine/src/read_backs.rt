@@ -3,7 +3,7 @@ ghost use Rattle.std.specs.Prelude.{◌≡◌, ◌+◌, ◌<◌, ◌≤◌, ◌/
 ghost use Rattle.pci_spec.specs.Header.{layout};
 ghost use Rattle.pci_spec.specs.Machine.{sized};
 ghost use Rattle.pci_machine.specs.Port as ports;
-ghost use Rattle.pci_machine.specs.Sizing.{function_at, DiffersInRegisters};
+ghost use Rattle.pci_machine.specs.Sizing.{function_at, DiffersInRegisters, is_address_register};
 ghost use Rattle.pci_machine.specs.Outcome.{failures_of_stop};
 
 use crate::access_at::Stop;
@@ -20,7 +20,8 @@ pub fn read_backs<P: ConfigPort>(port: &mut P, slot: Slot, bridge: bool) -> Resu
     requires header { layout (function_at (P.targets port.old) slot).image ≡ (if bridge then 1 else 0) }
     ensures read_backs { IfOk result (λ image. image.0 ≡ sized (function_at (P.targets port.old) slot)) }
     ensures kept { OnOk result (P.targets port.new ≡ P.targets port.old) }
-    ensures stop { IfErr result (λ stop. stop.fault ≡ PortError.Failed) }
+    ensures stop { IfErr result (λ stop. (stop.fault ≡ PortError.Failed)
+        × IsTrue (is_address_register (layout (function_at (P.targets port.old) slot).image) stop.offset)) }
     ensures left { OnErr result ((image : List ℕ) × (P.targets port.new ≡ ports.with_image (P.targets port.old) slot image)
         × DiffersInRegisters (function_at (P.targets port.old) slot).image image) }
     ensures counted { P.failures port.new ≡ P.failures port.old + failures_of_stop result }

@@ -3,12 +3,12 @@
 //!
 //! Ones in an address register would let the function decode addresses that belong to others. So
 //! its decode bits are cleared first, and put back at the end.
-ghost use Rattle.std.specs.Prelude.{◌≡◌, ◌≢◌, ◌↔◌, ◌+◌, ◌%◌, ℕ, List, true, None, IsTrue, IsFalse, IfOk, IfErr, OnOk, OnErr, IfSome, MatchOption, if◌then◌else◌};
+ghost use Rattle.std.specs.Prelude.{◌≡◌, ◌≢◌, ◌↔◌, ◌+◌, ◌%◌, ℕ, List, true, None, IsTrue, IsFalse, IsOk, IfOk, IfErr, OnOk, OnErr, IfSome, MatchOption, if◌then◌else◌};
 ghost use Rattle.pci_spec.specs.Header.{command, layout};
 ghost use Rattle.pci_spec.specs.Machine.{sized};
 ghost use Rattle.pci_spec.specs.Fault.{has_no_vendor, has_other_layout};
 ghost use Rattle.pci_machine.specs.Port as ports;
-ghost use Rattle.pci_machine.specs.Sizing.{function_at, DiffersInRegisters, IsStuck};
+ghost use Rattle.pci_machine.specs.Sizing.{function_at, DiffersInRegisters, IsSizable, IsStuck, is_written_to};
 ghost use Rattle.pci_machine.specs.Outcome.{failures_of_stop};
 ghost use Rattle.pci_machine.specs.SizeOutcome.{SizingLeaves, failures_of_size};
 
@@ -35,7 +35,8 @@ const LAYOUT_BITS: u32 = 0x7f;
 ///
 /// 20 and 21 (`Header`): the function doesn't answer, or its layout isn't decoded; nothing was
 /// written. 44 (`Stuck`): a decode bit can't be cleared; all is as it was. 43 (`Port`): an access
-/// failed, or there is no function; without a `command` nothing was written.
+/// failed, or there is no function; without a `command` it was to Vendor ID, Header Type or Command
+/// and nothing was written, with one to Command or an address register.
 pub fn size<P: ConfigPort>(port: &mut P, slot: Slot) -> Result<Image, SizeFault>
     ensures read_backs { IfOk result (λ image. image.0 ≡ sized (function_at (P.targets port.old) slot)) }
     ensures unchanged { OnOk result (P.targets port.new ≡ P.targets port.old) }
@@ -43,7 +44,7 @@ pub fn size<P: ConfigPort>(port: &mut P, slot: Slot) -> Result<Image, SizeFault>
     ensures vendor { OnOk result (IsFalse (has_no_vendor (function_at (P.targets port.old) slot).image)) }
     ensures header { OnOk result (IsFalse (has_other_layout (function_at (P.targets port.old) slot).image)) }
     ensures not_stuck { OnOk result (IsStuck (function_at (P.targets port.old) slot) → ⊥) }
-
+    ensures succeeds { IsSizable (P.targets port.old) slot → P.failures port.new ≡ P.failures port.old → IsOk result }
     ensures fault { IfErr result (SizingLeaves (P.targets port.old) slot (P.targets port.new)) }
     ensures missing { IsFalse (ports.has_function (P.targets port.old) slot)
         → result ≡ Err (SizeFault.Port 0x00 PortError.NoFunction None) }
@@ -131,7 +132,8 @@ fn read_when_quiet<P: ConfigPort>(
     ensures quiet { IfOk result (λ found. MatchOption found (command (function_at (P.targets port.old) slot).image % 4 ≢ 0)
         (λ _. command (function_at (P.targets port.old) slot).image % 4 ≡ 0)) }
     ensures kept { OnOk result (P.targets port.new ≡ P.targets port.old) }
-    ensures stop { IfErr result (λ stop. stop.fault ≡ PortError.Failed) }
+    ensures stop { IfErr result (λ stop. (stop.fault ≡ PortError.Failed)
+        × IsTrue (is_written_to (layout (function_at (P.targets port.old) slot).image) stop.offset)) }
     ensures left { OnErr result ((image : List ℕ) × (P.targets port.new ≡ ports.with_image (P.targets port.old) slot image)
         × DiffersInRegisters (function_at (P.targets port.old) slot).image image) }
     ensures counted { P.failures port.new ≡ P.failures port.old + failures_of_stop result }

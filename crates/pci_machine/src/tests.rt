@@ -385,3 +385,23 @@ fn each_function_of_a_machine_is_found(rt: HostRuntime) -> Result<(), Fail> {
     assert_eq!(rt; size(&mut machine, slot(7)?), Ok(capable_device().1));
     Ok(())
 }
+
+#[test]
+fn an_access_that_fails_is_not_passed_on(rt: HostRuntime) -> Result<(), Fail> {
+    let machine = machine_of(rt.alloc(), device())?;
+    let here = slot(0)?;
+    let vendor = machine.image(here).ok_or("no function")?.u16(0x00);
+    // the port inside fails its second access
+    let mut port = FailAt::new(FailAt::new(machine, 2), 1);
+    for answer in [
+        Err(PortError::Failed),
+        Ok(u32::from(vendor)),
+        Err(PortError::Failed),
+        Ok(u32::from(vendor)),
+    ] {
+        assert_eq!(rt; port.read(slot(1)?, 0x00, 2), Err(PortError::NoFunction));
+        assert_eq!(rt; port.read(here, 0x01, 2), Err(PortError::BadAccess));
+        assert_eq!(rt; port.read(here, 0x00, 2), answer);
+    }
+    Ok(())
+}

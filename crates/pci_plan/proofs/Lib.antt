@@ -1,3 +1,4 @@
 pub mod Records
 pub mod Compares
 pub mod Makes
+pub mod WriteLists

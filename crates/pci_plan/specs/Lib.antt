@@ -8,3 +8,4 @@ pub mod Writes
 pub mod Comparing
 pub mod Making
 pub mod ApplyText
+pub mod Plans

@@ -1,10 +1,12 @@
 //! A plan: the planned dump, and the writes that lead there.
-ghost use Rattle.std.specs.Prelude.{◌≡◌};
+ghost use Rattle.std.specs.Prelude.{◌≡◌, map};
+ghost use Rattle.pci_plan.specs.Writes.{write_value};
 
 use super::write::Write;
 use pci_dump::dump::Dump;
 use pci_tree::admitted::Admitted;
 use std::alloc::{Allocator, Global};
+use std::marker::Model;
 
 /// A plan of an admitted dump.
 #[derive(Drop)]
@@ -15,14 +17,39 @@ pub struct Plan<'a, A: Allocator = Global> {
     safe_from: usize,
 }
 
+impl<'a, A: Allocator> Model for Plan<'a, A> {
+    ghost use Rattle.std.specs.Prelude.{map};
+    ghost use Rattle.pci_plan.specs.Plans.{PlanValue, IsPlanValue};
+    ghost use Rattle.pci_plan.specs.Writes.{write_value};
+
+    ghost Value = { PlanValue };
+
+    ghost view = { λ p. record { start = p.start.now; dump = p.dump; writes = map write_value p.writes.items; safe_from = p.safe_from } };
+
+    ghost invariant = { λ p. IsPlanValue record { start = p.start.now; dump = p.dump; writes = map write_value p.writes.items; safe_from = p.safe_from } };
+}
+
 impl<'a, A: Allocator> Plan<'a, A> {
-    /// A plan of these parts.
+    ghost use Rattle.std.specs.Prelude.{◌≤◌, length, map};
+    ghost use Rattle.std.specs.List.{sum};
+    ghost use Rattle.pci_spec.specs.Sound.{IsSound};
+    ghost use Rattle.pci_spec.specs.Machine.{system_after};
+    ghost use Rattle.pci_spec.specs.PlanPromise.{changes_between, IsSafeFrom, StopsSafely, EachWriteChanges, with_rom_on};
+    ghost use Rattle.pci_spec.specs.Planning.PlanWrites.{closing_writes, plan_writes, most_writes};
+    ghost use Rattle.pci_spec.specs.Text.{slots_of};
+    ghost use Rattle.pci_plan.specs.Above.{system_in};
+    ghost use Rattle.pci_plan.specs.Plans.{PlanValue, IsPlanValue, final_of};
+
+    /// The plan of these parts.
     pub(crate) fn of(
         start: &'a Admitted<A>,
         dump: Dump<A>,
         writes: Vec<Write, A>,
         safe_from: usize,
-    ) -> Plan<'a, A> {
+    ) -> Plan<'a, A>
+        requires { IsPlanValue record { start = start.now; dump = dump; writes = map write_value writes.items; safe_from = safe_from } }
+        ensures { result ≡ record { start = start.entry.now; dump = dump; writes = map write_value writes.items; safe_from = safe_from } }
+    {
         Plan {
             start,
             dump,
@@ -32,24 +59,48 @@ impl<'a, A: Allocator> Plan<'a, A> {
     }
 
     /// The dump and the probe that were planned for.
-    pub fn start(&self) -> &'a Admitted<A> {
+    pub fn start(&self) -> &'a Admitted<A>
+        ensures { result.now ≡ self.now.start }
+    {
         self.start
     }
 
-    /// The dump after all writes.
-    pub fn dump(&self) -> &Dump<A> {
+    /// The dump after all writes: with the probe it makes a sound system, also where ROMs are switched on.
+    pub fn dump(&self) -> &Dump<A>
+        ensures value { result.now ≡ self.now.dump }
+        ensures slots { slots_of self.now.dump ≡ slots_of self.now.start.dump }
+        ensures sound { IsSound self.now.start.roots (final_of self.now) }
+        ensures roms { IsSound self.now.start.roots (map with_rom_on (final_of self.now)) }
+    {
         &self.dump
     }
 
+    /// Gives up the plan for the dump after all writes.
+    pub fn into_dump(self) -> Dump<A>
+        ensures { result ≡ self.entry.dump }
+    {
+        self.dump
+    }
+
     /// The register writes in order: everything that is on is closed from the highest slot down, then registers are set,
-    /// then functions are opened from the lowest slot up.
-    pub fn writes(&self) -> &[Write] {
+    /// then functions are opened from the lowest slot up. They may stop anywhere from `safe_from` on.
+    pub fn writes(&self) -> &[Write]
+        ensures value { map write_value result.now ≡ self.now.writes }
+        ensures exact { self.now.writes ≡ plan_writes (changes_between (system_in self.now.start) (final_of self.now)) }
+        ensures stops { StopsSafely self.now.start.roots (system_in self.now.start) self.now.writes self.now.safe_from }
+        ensures reached { system_after (system_in self.now.start) self.now.writes ≡ final_of self.now }
+        ensures changes { EachWriteChanges (system_in self.now.start) self.now.writes }
+        ensures few { length self.now.writes ≤ sum (map most_writes (changes_between (system_in self.now.start) (final_of self.now))) }
+    {
         self.writes.as_slice()
     }
 
-    /// From how many writes on a stop leaves a sound system: 0 where the start is sound, else the number of closing writes.
-    pub fn safe_from(&self) -> usize {
+    /// From how many writes on a stop leaves a sound system: 0 exactly where the start is sound, else the number of
+    /// closing writes.
+    pub fn safe_from(&self) -> usize
+        ensures value { result ≡ self.now.safe_from }
+        ensures safe { IsSafeFrom self.now.start.roots (system_in self.now.start) (length (closing_writes (changes_between (system_in self.now.start) (final_of self.now)))) self.now.safe_from }
+    {
         self.safe_from
     }
 }
-

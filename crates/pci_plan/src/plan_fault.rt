@@ -1,5 +1,7 @@
 //! Why nothing is planned.
 ghost use Rattle.std.specs.Prelude.{◌≡◌, Some};
+ghost use Rattle.pci_spec.specs.Plan.{plan_fault_number};
+ghost use Rattle.pci_spec.specs.Line.{plan_fault_text};
 
 use super::pools::Class;
 use pci_image::slot::Slot;
@@ -20,8 +22,12 @@ pub enum PlanFault {
 }
 
 impl PlanFault {
+    ghost use Rattle.pci_plan.specs.Plans.{plan_fault_of};
+
     /// The fault's number, 70 to 73.
-    pub fn number(&self) -> u8 {
+    pub fn number(&self) -> u8
+        ensures { result ≡ plan_fault_number (plan_fault_of self.now) }
+    {
         match self {
             PlanFault::BadPools => 70,
             PlanFault::NoWindow(_) => 71,
@@ -33,6 +39,10 @@ impl PlanFault {
 
 /// The fault's number, its name and what it names.
 impl fmt::Display for PlanFault {
+    ghost use Rattle.pci_plan.specs.Plans.{plan_fault_of};
+
+    ghost output = { λ f. Some (plan_fault_text (plan_fault_of f)) };
+
     fn fmt<W: fmt::Write>(&self, f: &mut fmt::Formatter<W>) -> fmt::Result {
         match *self {
             PlanFault::BadPools => write!(f, "70 BadPools"),

@@ -1,5 +1,4 @@
 //! A write to a register of a function.
-ghost use Rattle.std.specs.Prelude.{Some};
 
 use pci_image::slot::Slot;
 use std::fmt;
@@ -15,12 +14,19 @@ pub struct Write {
 
 /// `bb:dd.f oo.w v`: slot, offset, width, and the value in two hex digits a byte.
 impl fmt::Display for Write {
+    ghost use Rattle.pci_plan.specs.Writes.{printed};
+
+    ghost output = { printed };
+
     fn fmt<W: fmt::Write>(&self, f: &mut fmt::Formatter<W>) -> fmt::Result {
         let (slot, off, width, value) = (self.slot, self.off, self.width, self.value);
-        if width == 2 {
-            write!(f, "{slot} {off:02x}.2 {value:04x}")
-        } else {
-            write!(f, "{slot} {off:02x}.4 {value:08x}")
+        match width {
+            2 => {
+                let low = value % (1 << 16);
+                write!(f, "{slot} {off:02x}.2 {low:04x}")
+            }
+            4 => write!(f, "{slot} {off:02x}.4 {value:08x}"),
+            _ => write!(f, "{slot} {off:02x}.{width} {value:x}"),
         }
     }
 }

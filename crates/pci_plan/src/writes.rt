@@ -1,5 +1,10 @@
 //! The writes that lead from one dump to another, in an order in which they may stop anywhere.
-ghost use Rattle.std.specs.Prelude.{◌≡◌};
+ghost use Rattle.std.specs.Prelude.{◌≡◌, ◌++◌, ◌*◌, map, length, count_by, OnOk, IfOk};
+ghost use Rattle.std.specs.List.{flat_map};
+ghost use Rattle.pci_spec.specs.Header.{command};
+ghost use Rattle.pci_spec.specs.Machine.{without_low};
+ghost use Rattle.pci_spec.specs.Planning.PlanWrites.{plan_writes, closing_writes, registers_of, opening_of};
+ghost use Rattle.pci_plan.specs.Writes.{write_value, is_image_on, block_change, block_changes};
 
 use super::write::Write;
 use pci_dump::block::Block;
@@ -13,12 +18,23 @@ use pci_machine::address_register::address_registers;
 use std::alloc::Allocator;
 
 /// Command with bits 0 and 1, which enable I/O and memory space, clear (PCI 3.0, 6.2.2).
-fn closed_command(image: &Image) -> u16 {
+fn closed_command(image: &Image) -> u16
+    ensures { result ≡ without_low 4 (command image.now.0) }
+{
     image.u16(COMMAND) / 4 * 4
 }
 
+/// Whether Command enables a space.
+fn is_on(image: &Image) -> bool
+    ensures { result ≡ is_image_on image.now.0 }
+{
+    image.u16(COMMAND) % 4 != 0
+}
+
 /// A write to Command.
-fn command_write(slot: Slot, command: u16) -> Write {
+fn command_write(slot: Slot, command: u16) -> Write
+    ensures { write_value result ≡ record { slot = slot; offset = 0x04; width = 2; value = command } }
+{
     Write {
         slot,
         off: COMMAND,
@@ -31,12 +47,13 @@ fn command_write(slot: Slot, command: u16) -> Write {
 fn add_closing<A: Allocator>(
     writes: &mut Vec<Write, A>,
     start: &[Block],
-) -> Result<(), OutOfMemory> {
+) -> Result<(), OutOfMemory>
+    ensures { OnOk result (map write_value writes.new.items ≡ map write_value writes.old.items ++ closing_writes (block_changes start.now start.now)) }
+{
     for done in 0..start.len() {
         let block = &start[start.len() - 1 - done];
-        let closed = closed_command(&block.image);
-        if block.image.u16(COMMAND) != closed {
-            writes.push(command_write(block.slot, closed))?;
+        if is_on(&block.image) {
+            writes.push(command_write(block.slot, closed_command(&block.image)))?;
         }
     }
     Ok(())
@@ -47,7 +64,9 @@ fn add_registers<A: Allocator>(
     writes: &mut Vec<Write, A>,
     old: &Block,
     new: &Block,
-) -> Result<(), OutOfMemory> {
+) -> Result<(), OutOfMemory>
+    ensures { OnOk result (map write_value writes.new.items ≡ map write_value writes.old.items ++ registers_of (block_change old.now new.now)) }
+{
     for register in address_registers(layout(&old.image) == 1) {
         let value = number_of(&new.image, register.offset, register.width);
         if value != number_of(&old.image, register.offset, register.width) {
@@ -67,7 +86,9 @@ fn add_opening<A: Allocator>(
     writes: &mut Vec<Write, A>,
     old: &Block,
     new: &Block,
-) -> Result<(), OutOfMemory> {
+) -> Result<(), OutOfMemory>
+    ensures { OnOk result (map write_value writes.new.items ≡ map write_value writes.old.items ++ opening_of (block_change old.now new.now)) }
+{
     let command = new.image.u16(COMMAND);
     if command != closed_command(&old.image) {
         writes.push(command_write(old.slot, command))?;
@@ -82,7 +103,10 @@ pub fn writes_between<A: Allocator>(
     alloc: A,
     start: &[Block],
     planned: &[Block],
-) -> Result<Vec<Write, A>, OutOfMemory> {
+) -> Result<Vec<Write, A>, OutOfMemory>
+    requires { length planned.now ≡ length start.now }
+    ensures { IfOk result (λ v. map write_value v.items ≡ plan_writes (block_changes start.now planned.now)) }
+{
     let mut writes = Vec::new(alloc);
     add_closing(&mut writes, start)?;
     for i in 0..start.len() {
@@ -94,13 +118,9 @@ pub fn writes_between<A: Allocator>(
     Ok(writes)
 }
 
-/// How many writes close what is on.
-pub fn closings(start: &[Block]) -> usize {
-    let mut count = 0;
-    for block in start {
-        if block.image.u16(COMMAND) != closed_command(&block.image) {
-            count += 1;
-        }
-    }
-    count
+/// How many writes close what is on: as many as there are functions that are on.
+pub fn closings(start: &[Block]) -> usize
+    ensures { result ≡ count_by (λ b. is_image_on b.image) start.now }
+{
+    start.iter().filter(|block| is_on(&block.image)).count()
 }

@@ -118,3 +118,10 @@ hex_eight_of_low n = hex_hole 8 (n % 2 ^ 32) (omega arith) (omega arith) (omega 
 
 pub hex_sixteen : (n : ℕ) → n < 2 ^ 64 → padded_integral (format_spec 32 0 4 16 (2 ^ 64 - 1)) false [] (digits 16 false n) ≡ hex_number 16 n
 hex_sixteen n small = hex_hole 16 n (omega arith) (omega arith) small
+
+-- eight digits of 32 bits, and four of the low 16 bits of a number
+pub hex_eight : (n : ℕ) → n < 2 ^ 32 → padded_integral (format_spec 32 0 4 8 (2 ^ 64 - 1)) false [] (digits 16 false n) ≡ hex_number 8 n
+hex_eight n small = hex_hole 8 n (omega arith) (omega arith) small
+
+pub hex_four_of_low : (n : ℕ) → padded_integral (format_spec 32 0 4 4 (2 ^ 64 - 1)) false [] (digits 16 false (n % 2 ^ 16)) ≡ hex_number 4 n
+hex_four_of_low n = hex_hole 4 (n % 2 ^ 16) (omega arith) (omega arith) (omega arith) ∙ hex_number-mod 4 n

@@ -57,6 +57,10 @@ pub record IsSurveyOf (v : Surveyed) (s : System) : Type 0 where
 abbrev pub IsNotedWith : Function → Option Fault → Option Fault → Type 0
 IsNotedWith f old new = (IsClearBefore 4 f × (new ≡ old)) ⊎ ((e : Fault) × IsFirstFault f e × (new ≡ Some (earlier old e)))
 
+-- the lesser of two slots
+abbrev pub lesser_slot : Slot → Slot → Slot
+lesser_slot s t = if nat_lt (slot_number t) (slot_number s) then t else s
+
 -- a survey took one more function
 pub record IsAdded (v w : Surveyed) (f : Function) : Type 0 where
   pub noted : IsNotedWith f v.fault w.fault

@@ -97,6 +97,7 @@ impl<A: Allocator> Outline<A> {
     /// The records, in slot order.
     pub fn records(&self) -> &[Record]
         ensures value { map record_value result.now ≡ self.now.records }
+        ensures rising { RiseBySlot result.now }
         ensures lawful { All IsLawful result.now }
         ensures nested { (s : System) → HasRecords s self.now.records → IsNested self.now.roots s }
     {

@@ -7,7 +7,7 @@ ghost use Rattle.pci_spec.specs.Fault.{SlotsDiffer};
 ghost use Rattle.pci_tree.specs.Fault.{fault_of};
 ghost use Rattle.pci_tree.specs.Roots.{buses_of};
 ghost use Rattle.pci_tree.specs.Profile.{phase_of};
-ghost use Rattle.pci_tree.specs.Survey.{earlier, IsSurveyOf, IsAdded, IsOutlineOf};
+ghost use Rattle.pci_tree.specs.Survey.{earlier, lesser_slot, IsSurveyOf, IsAdded, IsOutlineOf};
 
 use super::examine::examine;
 use super::fault::Fault;
@@ -104,12 +104,42 @@ impl<A: Allocator> Survey<A> {
 
     /// Takes one more function, by its block in the dump and in the probe. Its record is appended, or its first fault, 20
     /// to 29, 31 or 51 to 56, is noted where none of an earlier or the same phase is. From the first noted fault on no
-    /// record is appended.
+    /// record is appended. Where the two blocks have different slots, 30 `SlotsDiffer` of the lesser is noted.
     ///
     /// # Errors
     ///
     /// 2 where a growth was refused. The survey is then as it was.
     pub fn add(&mut self, block: &Block, probe: &Block) -> Result<(), OutOfMemory>
+        requires above { IsAboveLast self.old.last block.now.slot }
+        requires probe_above { IsAboveLast self.old.last probe.now.slot }
+        requires open { IfSome self.old.fault (λ e. phase_of e ≢ 0) }
+        ensures added { OnOk result (probe.now.slot ≡ block.now.slot
+            → IsAdded self.old self.new record { slot = block.now.slot; image = block.now.image; probe = probe.now.image }) }
+        ensures taken { OnOk result (probe.now.slot ≡ block.now.slot → (s : System) → IsSurveyOf self.old s
+            → IsSurveyOf self.new (s ++ record { slot = block.now.slot; image = block.now.image; probe = probe.now.image } ∷ [])) }
+        ensures differ { OnOk result (probe.now.slot ≢ block.now.slot → self.new ≡ record {
+          roots = self.old.roots;
+          records = self.old.records;
+          fault = Some (SlotsDiffer (lesser_slot block.now.slot probe.now.slot));
+          last = self.old.last;
+        }) }
+        ensures err { OnErr result (self.new ≡ self.old) }
+    {
+        let ours = block.slot.number();
+        let theirs = probe.slot.number();
+        if ours < theirs {
+            self.only(block.slot);
+            return Ok(());
+        }
+        if theirs < ours {
+            self.only(probe.slot);
+            return Ok(());
+        }
+        self.add_function(block, probe)
+    }
+
+    /// Takes one more function, whose two blocks have the same slot.
+    fn add_function(&mut self, block: &Block, probe: &Block) -> Result<(), OutOfMemory>
         requires slots { probe.now.slot ≡ block.now.slot }
         requires above { IsAboveLast self.old.last block.now.slot }
         requires open { IfSome self.old.fault (λ e. phase_of e ≢ 0) }

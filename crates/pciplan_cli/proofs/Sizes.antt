@@ -1,23 +1,18 @@
 -- Functions of a machine that are sized one after the other.
-use Rattle.std.proofs.Common.{◌≡◌, ℕ, zero, suc, ◌+◌, ◌<◌, List, [], ◌∷◌, refl, sym, ◌∙◌, ap, subst, arith, length, get_or, take, map, slice_index, Some}
-use Rattle.std.specs.Prelude.{IsFalse}
+use Rattle.std.proofs.Common.{◌≡◌, ℕ, zero, suc, ◌+◌, ◌<◌, List, [], ◌∷◌, refl, sym, ◌∙◌, ap, subst, arith, length, get_or, take, map, slice_index}
 use Rattle.std.specs.List.{All}
-use Rattle.std.proofs.lemmas.List.{get_or_default, get_or-map, length-map}
+use Rattle.std.proofs.lemmas.List.{get_or_default}
 use Rattle.std.proofs.Math.ListN as plain
-use Rattle.std.proofs.lemmas.Option.{slice_get-get_or}
 use Rattle.pci_spec.specs.Slot.{Slot, IsRising, slot_number}
 use Rattle.pci_spec.specs.Text.{Block, IsDump, slots_of}
 use Rattle.pci_spec.specs.Stops.{IsAboveLast, last_slot}
 use Rattle.pci_spec.specs.System.{Function, system_of}
 use Rattle.pci_spec.specs.Machine.{Target, target_of, sized}
-use Rattle.pci_spec.specs.Fault.{has_no_vendor, has_other_layout}
 use Rattle.pci_spec.specs.Decoded.{IsDecodable}
 use Rattle.pci_spec.proofs.Pairing.{function_of, length-system_of, same_length}
 use Rattle.pci_dump.proofs.Pairs.{slot_at}
-use Rattle.pci_machine.specs.Sizing.{function_at, IsStuck}
-use Rattle.pci_machine.proofs.Targets.{some_at}
-use Rattle.pci_machine.proofs.MadeOf.{at_place, function-of, free-of}
-use Rattle.pciplan_cli.specs.Sizes.{IsSizable}
+use Rattle.pci_machine.specs.Sizing.{function_at, IsSizable}
+use Rattle.pci_machine.proofs.MadeOf.{at_place, function-of, sizable-of}
 
 -- a block of a dump stands above the last of those before it
 pub above_last : (blocks : List Block) (k : ℕ) (b : Block) → IsRising (slots_of blocks) → k < length blocks → b ≡ get_or blocks k b
@@ -68,21 +63,14 @@ function_at_block dump probe same is_dump is_probe decodable read_backs k p with
     let fine : IsDecodable f = subst IsDecodable here (decodable k f inside) in
     let found : sized (function_at targets f.slot) ≡ f.probe =
     (let P : Function → Type 0 = λ g. sized (function_at targets g.slot) ≡ g.probe in subst P here (read_backs k f inside)) in
-    let free : IsStuck (function_at targets f.slot) → ⊥ =
-    (let P : Function → Type 0 = λ g. IsStuck (function_at targets g.slot) → ⊥ in subst P here (free-of dump probe same is_dump is_probe k f inside)) in
-    let one : get_or targets k (target_of f) ≡ target_of f = get_or-map target_of s k f (target_of f) inside ∙ ap target_of here in
-    let listed = slice_get-get_or targets k (target_of f) (omega (arith, inside, length-map {B = Target} s target_of)) ∙ ap Some one in
+    let sizable : IsSizable targets f.slot =
+    (let P : Function → Type 0 = λ g. IsSizable targets g.slot in subst P here (sizable-of dump probe same is_dump is_probe decodable k f inside)) in
     record {
       f = f;
       slot = slot;
       probe_is = refl;
       target = target;
       decodable = fine;
-      sizable = record {
-        there = some_at targets p.slot k (target_of f) listed slot;
-        vendor = (let P : Target → Type 0 = λ t. IsFalse (has_no_vendor t.image) in subst P (sym target) fine.vendor);
-        header = (let P : Target → Type 0 = λ t. IsFalse (has_other_layout t.image) in subst P (sym target) fine.header);
-        free = λ stuck. free (let P : Slot → Type 0 = λ x. IsStuck (function_at targets x) in subst P (sym slot) stuck);
-      };
+      sizable = subst (IsSizable targets) slot sizable;
       found = ap (λ x. sized (function_at targets x)) (sym slot) ∙ found;
     }

@@ -7,4 +7,3 @@ pub mod Stops
 pub mod Shows
 pub mod Statuses
 pub mod Answers
-pub mod Sizes

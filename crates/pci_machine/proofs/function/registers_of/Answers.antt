@@ -1,5 +1,5 @@
 use Rattle.std.specs.Prelude.{IsFalse}
-use Rattle.std.proofs.Common.{◌≡◌, ◌≤◌, ◌==◌, ◌%◌, ℕ, List, refl, sym, ◌∙◌, ap, subst, lit≤}
+use Rattle.std.proofs.Common.{◌≡◌, ◌≤◌, ◌==◌, ℕ, List, refl, sym, ◌∙◌, ap, subst, lit≤}
 use Rattle.pci_spec.specs.Number.{byte_at}
 use Rattle.pci_spec.specs.Header.{layout}
 use Rattle.pci_spec.specs.Window.{WindowKind, IoWindow, MemoryWindow, PrefetchWindow, breaks_window_rule}

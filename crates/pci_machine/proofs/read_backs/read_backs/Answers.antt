@@ -5,10 +5,11 @@ use Rattle.pci_spec.specs.Header.{layout, address_registers}
 use Rattle.pci_spec.specs.Machine.{read_back, written}
 use Rattle.pci_spec.specs.Number.{number_at}
 use Rattle.pci_machine.specs.Port.{is_access, fits, with_image}
-use Rattle.pci_machine.specs.Sizing.{function_at, DiffersWithin}
+use Rattle.pci_machine.specs.Sizing.{function_at, DiffersWithin, is_address_register}
+use Rattle.pci_machine.specs.declared.access_at.Stop.{Stop}
 use Rattle.pci_machine.specs.declared.address_register.AddressRegister.{AddressRegister}
 use Rattle.pci_machine.proofs.Sizing.{target-there}
-use Rattle.pci_machine.proofs.RegisterOrder.{layout_of, is_sound, found_in, IsSound, sound_at, sound_parts, register_plain, within_registers, found_more, found_all}
+use Rattle.pci_machine.proofs.RegisterOrder.{layout_of, is_sound, found_in, IsSound, sound_at, sound_parts, register_plain, within_registers, found_more, found_all, register_begins}
 use Rattle.pci_machine.proofs.read_backs.read_backs.Goals as goal
 
 pub loop-register-init : goal.loop-register-init
@@ -62,6 +63,19 @@ read_back-requires-clause-plain g c =
 pub put-requires : goal.put-requires
 put-requires g c =
     (sound c.address_registers-register-items.result.now c.args.bridge c.address_registers-register-items.ensures c.loop-register.register-index c.loop-register-test.true none).access
+
+pub returns-in-Err-clause-stop : goal.returns-in-Err-clause-stop
+returns-in-Err-clause-stop g c =
+    let items = c.address_registers-register-items.result.now in
+    let table = c.address_registers-register-items.ensures in
+    let k = c.loop-register.register-index in
+    let within = c.loop-register-test.true in
+    let register = get_or items k none in
+    let kind = layout (function_at (g.P.ConfigPort.targets c.args.port.now) c.args.slot).image in (
+      ap (λ (s : Stop). s.fault) c.in-Err.ensures.stop,
+      ap (λ (s : Stop). is_address_register kind s.offset) c.in-Err.ensures.stop ∙ ap (λ n. is_address_register n register.offset) c.requires.header
+          ∙ register_begins c.args.bridge k (here items c.args.bridge table k within none) (in_table items c.args.bridge table k within none) (at_place items c.args.bridge table k within none),
+    )
 
 pub returns-in-Err-clause-left : goal.returns-in-Err-clause-left
 returns-in-Err-clause-left g c =

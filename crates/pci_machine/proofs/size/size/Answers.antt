@@ -27,10 +27,11 @@ returns-in-Err-read_when_quiet-clause-fault g c =
     let there = ap (λ xs. has_function xs slot) same ∙ c.in-Ok.ensures.there in
     let left =
     stopped-open (g.P.ConfigPort.targets c.is_bridge.new.port) (g.P.ConfigPort.targets c.begin.new.port) slot c.in-Ok.ensures.lawful there
-    c.in-Ok-begin.ensures.quieted c.in-Ok-begin.ensures.function after c.give_up.result (c.give_up.ensures ∙ c.in-Ok-begin.ensures.command) c.in-Err-read_when_quiet.ensures.left in
+    c.in-Ok-begin.ensures.quieted c.in-Ok-begin.ensures.function after c.in-Err-read_when_quiet.stop.offset c.give_up.result (c.give_up.ensures ∙ c.in-Ok-begin.ensures.command)
+    c.in-Err-read_when_quiet.ensures.stop.1 c.in-Err-read_when_quiet.ensures.left in
     subst (SizingLeaves (g.P.ConfigPort.targets c.args.port.now) slot after) (sym c.stopped-in-Err-read_when_quiet.ensures) (
-      subst (λ e. IsCause e (has_function (g.P.ConfigPort.targets c.args.port.now) slot)) (sym c.in-Err-read_when_quiet.ensures.stop) c.in-Ok.ensures.there,
-      subst (λ xs. StopLeaves xs slot after (Some c.give_up.result)) same left,
+      subst (λ e. IsCause e (has_function (g.P.ConfigPort.targets c.args.port.now) slot)) (sym c.in-Err-read_when_quiet.ensures.stop.0) c.in-Ok.ensures.there,
+      subst (λ xs. StopLeaves xs slot after c.in-Err-read_when_quiet.stop.offset (Some c.give_up.result)) same left,
     )
 
 pub returns-in-Some-clause-read_backs : goal.returns-in-Some-clause-read_backs
@@ -94,5 +95,8 @@ returns-in-Err-end-clause-fault g c =
     (c.in-Err-end.ensures.kept ∙ c.in-Ok-read_when_quiet.ensures.kept) in
     subst (SizingLeaves (g.P.ConfigPort.targets c.args.port.now) slot after) (sym c.stopped-in-Err-end.ensures) (
       subst (λ (e : Stop). IsCause e.fault (has_function (g.P.ConfigPort.targets c.args.port.now) slot)) (sym stop.0) c.in-Ok.ensures.there,
-      subst (λ xs. StopLeaves xs slot after (Some c.in-Err-end.command)) same left,
+      subst (λ n. StopLeaves (g.P.ConfigPort.targets c.args.port.now) slot after n (Some c.in-Err-end.command)) (ap (λ (e : Stop). e.offset) (sym stop.0)) (subst (λ xs. StopLeaves xs slot after 0x04 (Some c.in-Err-end.command)) same left),
     )
+
+pub returns-in-None-clause-succeeds : goal.returns-in-None-clause-succeeds
+returns-in-None-clause-succeeds g c sizable same = absurd (sizable.free (returns-in-None-clause-fault g c).2)

@@ -9,9 +9,9 @@ use Rattle.pci_spec.specs.Decoded.{IsDecodable}
 use Rattle.pci_spec.proofs.Pairing.{same_length, length-system_of}
 use Rattle.pci_dump.specs.PairFault.{pair_fault}
 use Rattle.pci_machine.specs.Memory.{IsMachine}
-use Rattle.pci_machine.specs.Sizing.{function_at, IsStuck}
+use Rattle.pci_machine.specs.Sizing.{function_at, IsSizable}
 use Rattle.pci_machine.specs.Made.{name_fault}
-use Rattle.pci_machine.proofs.MadeOf.{made_more, decodable_more, fault_there, machine-of, function-of, free-of, read_backs-of}
+use Rattle.pci_machine.proofs.MadeOf.{made_more, decodable_more, fault_there, machine-of, function-of, sizable-of, read_backs-of}
 use Rattle.pci_machine.proofs.machine.Machine.of.Goals as goal
 
 pub bounds-probes-i : goal.bounds-probes-i
@@ -84,10 +84,10 @@ returns-clause-read_backs g c k d below =
     ∙ ap sized (function-of dump probe same c.blocks-blocks.ensures.dump c.blocks-probes.ensures.dump k d below)
     ∙ read_backs-of dump probe same c.blocks-blocks.ensures.dump c.blocks-probes.ensures.dump [] (c.in-Ok.ensures.ok []) (returns-clause-decodable g c) k d below
 
-pub returns-clause-not_stuck : goal.returns-clause-not_stuck
-returns-clause-not_stuck g c k d below stuck =
+pub returns-clause-sizable : goal.returns-clause-sizable
+returns-clause-sizable g c k d below =
     let dump = c.args.dump.now in
     let probe = c.args.probe.now in
     let f = get_or (system_of dump probe) k d in
-    free-of dump probe (c.in-Ok.ensures.ok []).same c.blocks-blocks.ensures.dump c.blocks-probes.ensures.dump k d below
-    (subst (λ ts. IsStuck (function_at ts f.slot)) (returns-clause-machine g c) stuck)
+    subst (λ ts. IsSizable ts f.slot) (sym (returns-clause-machine g c))
+    (sizable-of dump probe (c.in-Ok.ensures.ok []).same c.blocks-blocks.ensures.dump c.blocks-probes.ensures.dump (returns-clause-decodable g c) k d below)

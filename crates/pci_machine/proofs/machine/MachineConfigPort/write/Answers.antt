@@ -25,3 +25,6 @@ returns-clause-lawful g c =
     lawful-written c.self.inside.functions.items c.args.slot c.in-Some.place found.0 c.index_mut-registers.result.now c.write.new.self
     c.args.off c.args.width c.args.value c.self.invariant (ap (λ xs. slice_get xs c.in-Some.place) c.self.view_is ∙ found.1)
     (ap (λ xs. target_at xs c.args.slot) c.self.view_is ∙ found.2) c.index_mut-registers.ensures.value c.write.ensures
+
+pub returns-clause-once : goal.returns-clause-once
+returns-clause-once g c = returns-clause-written g c

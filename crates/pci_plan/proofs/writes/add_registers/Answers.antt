@@ -1,0 +1,21 @@
+use Rattle.std.proofs.Common.{◌≡◌, ◌∙◌, ap}
+use Rattle.std.specs.Bool.{◌==◌, if◌then◌else◌}
+use Rattle.pci_spec.specs.Header.{layout, address_registers}
+use Rattle.pci_machine.specs.declared.address_register.AddressRegister.{AddressRegister}
+use Rattle.pci_plan.proofs.WriteLists.{registers_of_layout, register_access}
+use Rattle.pci_plan.proofs.writes.add_registers.Goals as goal
+
+abbrev none : AddressRegister
+none = record { offset = 0; width = 0 }
+
+pub number_of-value-requires : goal.number_of-value-requires
+number_of-value-requires g c =
+    let image = c.old.inside.image.0 in
+    let table = c.address_registers-register-items.ensures ∙ ap (λ n. address_registers (if n == 1 then 1 else 0)) c.layout.ensures ∙ registers_of_layout (layout image) in
+    register_access c.address_registers-register-items.result.now (layout image) table c.loop-register.register-index none c.loop-register-test.true
+
+pub number_of-requires : goal.number_of-requires
+number_of-requires g c =
+    let image = c.old.inside.image.0 in
+    let table = c.address_registers-register-items.ensures ∙ ap (λ n. address_registers (if n == 1 then 1 else 0)) c.layout.ensures ∙ registers_of_layout (layout image) in
+    register_access c.address_registers-register-items.result.now (layout image) table c.loop-register.register-index none c.loop-register-test.true

@@ -1,0 +1,21 @@
+//! Tests of what the public calls and the program do where a read, a write or a growth fails.
+#![tactic(auto)]
+
+#[cfg(test)]
+mod failing;
+#[cfg(test)]
+mod fakes;
+#[cfg(test)]
+mod hostile;
+#[cfg(test)]
+mod interrupted;
+#[cfg(test)]
+mod no_growth;
+#[cfg(test)]
+mod refused_readings;
+#[cfg(test)]
+mod refused_tasks;
+#[cfg(test)]
+mod refused_verdicts;
+#[cfg(test)]
+mod refusing;

@@ -1,0 +1,90 @@
+//! Calls that take no memory, with the first growth refused: they meet no refusal, and answer the same.
+use crate::refused_readings::read;
+use crate::refused_verdicts::admitted;
+use crate::refusing::Refusing;
+use boards::samples::samples;
+use pci_dump::memory::Refused;
+use pci_dump::pair::pair;
+use pci_dump::reader::Reader;
+use pci_dump::std_ends::{Incoming, Outgoing};
+use pci_dump::write::write_dump;
+use pci_machine::machine::Machine;
+use pci_machine::size::size;
+use pci_tree::fault::Fault;
+use pci_tree::survey::Survey;
+use std::alloc::Global;
+use std::test::Fail;
+
+#[test]
+fn texts_are_read_paired_and_written(rt: HostRuntime) -> Result<(), Fail> {
+    let heap = Refusing::new(rt.alloc());
+    for (texts, _) in samples(rt.alloc())? {
+        heap.refuse(0);
+        let dump = read(&heap, texts.dump.as_str())?;
+        let probe = read(&heap, texts.probe.as_str())?;
+        heap.refuse(1);
+        let mut text = Vec::new(rt.alloc());
+        assert!(rt; write_dump(&mut Outgoing::new(&mut text), &dump).is_ok());
+        assert!(rt; text.as_slice() == texts.dump.as_bytes());
+        assert_eq!(rt; pair(&dump, &probe), Ok(()));
+        let mut reader = Reader::new(Incoming::new(texts.dump.as_bytes()));
+        for block in dump.blocks() {
+            let next = reader.next_block()?.ok_or("no block")?;
+            assert!(rt; next == *block);
+        }
+        assert!(rt; reader.next_block()?.is_none());
+        assert!(rt; heap.is_due());
+    }
+    Ok(())
+}
+
+#[test]
+fn functions_are_sized(rt: HostRuntime) -> Result<(), Fail> {
+    let heap = Refusing::new(rt.alloc());
+    for (texts, _) in samples(rt.alloc())? {
+        heap.refuse(0);
+        let dump = read(&heap, texts.dump.as_str())?;
+        let probe = read(&heap, texts.probe.as_str())?;
+        let mut machine = Machine::of(&heap, &dump, &probe)?;
+        heap.refuse(1);
+        for block in probe.blocks() {
+            assert_eq!(rt; size(&mut machine, block.slot), Ok(block.image));
+        }
+        assert!(rt; heap.is_due());
+    }
+    Ok(())
+}
+
+/// The fault that a survey ends with.
+fn noted_in<'a>(survey: Survey<&'a Refusing<Global>>) -> Option<Fault> {
+    let refused = match survey.finish() {
+        Ok(_) => return None,
+        Err(refused) => refused,
+    };
+    match refused {
+        Refused::Fault(fault) => Some(fault),
+        Refused::Memory => None,
+    }
+}
+
+#[test]
+fn ways_are_found_and_surveys_begun(rt: HostRuntime) -> Result<(), Fail> {
+    let heap = Refusing::new(rt.alloc());
+    for (texts, _) in samples(rt.alloc())? {
+        heap.refuse(0);
+        let board = admitted(&heap, &texts)?;
+        heap.refuse(1);
+        for block in board.dump().blocks() {
+            let slot = block.slot;
+            let path = board.outline().path(slot).ok_or("no path")?;
+            // the boards' bridges stand in a row, one on each bus
+            assert_eq!(rt; path.len(), usize::from(slot.bus()));
+            assert!(rt; board.path(slot).ok_or("no path")?.as_slice() == path.as_slice());
+            let mut survey = Survey::new(&heap);
+            survey.only(slot);
+            assert_eq!(rt; noted_in(survey), Some(Fault::SlotsDiffer(slot)));
+        }
+        assert!(rt; heap.is_due());
+    }
+    Ok(())
+}
