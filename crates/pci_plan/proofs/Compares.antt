@@ -14,18 +14,8 @@ use Rattle.pci_machine.specs.Port.{is_access, ShowsNumber}
 use Rattle.pci_machine.specs.declared.address_register.AddressRegister.{AddressRegister}
 use Rattle.pci_plan.specs.declared.apply_fault.ApplyFault.{ApplyFault}
 use Rattle.pci_plan.specs.declared.apply_fault.ApplyFault.TheVariants.{Changed, Port, Stuck}
+use Rattle.pci_plan.proofs.WriteLists.{pair_of}
 use Rattle.pci_plan.specs.Comparing.{compared, ShowsAll, IsChangedAt, IsRegisterFault, IsFunctionFault}
-
-abbrev pub pair_of : AddressRegister → ℕ × ℕ
-pair_of r = (r.offset, r.width)
-
-by_bridge : (b : Bool) → address_registers (if b then 1 else 0) ≡ (if b then address_registers 1 else address_registers 0)
-by_bridge true = refl
-by_bridge false = refl
-
--- the list of a bridge or of a device is that of the layout
-pub table_is : (k : ℕ) → address_registers (if k == 1 then 1 else 0) ≡ address_registers k
-table_is k = by_bridge (k == 1)
 
 module _ (items : List AddressRegister) (image : List ℕ) (table : map pair_of items ≡ address_registers (layout image)) where
   -- each listed register is compared

@@ -9,3 +9,4 @@ pub mod Comparing
 pub mod Making
 pub mod ApplyText
 pub mod Plans
+pub mod Applying

@@ -13,6 +13,7 @@
 #![tactic(auto)]
 
 pub mod above;
+pub mod apply;
 pub mod apply_fault;
 pub mod by_class;
 pub mod class;

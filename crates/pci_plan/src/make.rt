@@ -1,5 +1,5 @@
 //! Making writes, each of which is read back.
-ghost use Rattle.std.specs.Prelude.{map, length, OnOk, IfErr};
+ghost use Rattle.std.specs.Prelude.{◌≡◌, map, length, OnOk, IfErr};
 ghost use Rattle.std.specs.List.{All};
 ghost use Rattle.pci_plan.specs.Writes.{write_value};
 ghost use Rattle.pci_plan.specs.Making.{IsAccessible, AreMade, IsStop};
@@ -12,6 +12,7 @@ use pci_machine::port::ConfigPort;
 pub fn make<P: ConfigPort>(port: &mut P, writes: &[Write]) -> Result<(), ApplyFault>
     requires { All IsAccessible writes.now }
     ensures made { OnOk result (AreMade (P.targets port.old) (map write_value writes.now) (length writes.now) (P.targets port.new)) }
+    ensures counted { OnOk result (P.failures port.new ≡ P.failures port.old) }
     ensures stop { IfErr result (IsStop (P.targets port.old) (P.failures port.old) (map write_value writes.now) (P.targets port.new) (P.failures port.new)) }
 {
     for (done, write) in writes.iter().enumerate() {
