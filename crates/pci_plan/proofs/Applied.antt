@@ -1,7 +1,6 @@
 -- What applying a plan leaves, by what comparing and making leave.
-use Rattle.std.proofs.Common.{◌≡◌, ℕ, zero, suc, ◌+◌, ◌^◌, ◌<◌, ◌≤◌, ◌⊎◌, inl, inr, List, [], ◌∷◌, ◌++◌, refl, Bool, true, false, cond, ◌&&◌, ◌||◌, Option, Some, None, arith, sym, ◌∙◌, ap, subst, map, length, take, get_or}
-use Rattle.std.specs.Bool.{IsFalse, ◌==◌}
-use Rattle.std.specs.List.{All, AllZip, Contains, slice_get, find}
+use Rattle.std.proofs.Common.{◌≡◌, ℕ, ◌+◌, ◌^◌, ◌<◌, ◌≤◌, ◌⊎◌, inl, inr, List, [], ◌∷◌, ◌++◌, refl, Bool, true, false, ◌&&◌, ◌||◌, Some, arith, sym, ◌∙◌, ap, subst, map, length, take, get_or}
+use Rattle.std.specs.List.{All, AllZip, Contains, slice_get}
 use Rattle.std.specs.Result.{OnOk, IfErr, IsOk}
 use Rattle.std.specs.declared.result.Result.{Result}
 use Rattle.std.specs.declared.result.Result.TheVariants.{Ok, Err}
@@ -27,24 +26,22 @@ use Rattle.pci_spec.proofs.Planning.Registers.{number_below}
 use Rattle.pci_spec.proofs.Planning.Kept.{member_back, images_of}
 use Rattle.pci_spec.proofs.Planning.Fit.{after_moved, moved_start, fitting_later}
 use Rattle.pci_spec.proofs.Planning.Settled.{write_shows}
-use Rattle.pci_spec.proofs.Planning.Staging.{IsClosingOf, closing_to, IsRegisterOf, register_to, IsOpeningOf, opening_to, closing_write, number_write, opening_write, fits}
-use Rattle.pci_spec.proofs.Planning.Staging as staging
+use Rattle.pci_spec.proofs.Planning.Staging.{IsClosingOf, closing_to, IsRegisterOf, register_to, IsOpeningOf, opening_to, fits}
 use Rattle.pci_spec.proofs.Planning.Reached.{moves, image_of, old_listed, slot_itself, closed_le}
 use Rattle.pci_spec.proofs.Planning.OnMachine.{plan_on_its_machine}
 use Rattle.pci_spec.proofs.Planning.PlanStands.{are_changes, olds_of}
 use Rattle.pci_machine.specs.Port as port
 use Rattle.pci_machine.specs.Port.{target_at, has_function, is_access, ShowsNumber}
 use Rattle.pci_machine.proofs.Targets.{slot_of_test}
-use Rattle.pci_tree.specs.Admission.{IsAdmitted}
 use Rattle.pci_plan.specs.declared.write.Write.{Write as CodeWrite}
 use Rattle.pci_plan.specs.declared.apply_fault.ApplyFault.{ApplyFault}
 use Rattle.pci_plan.specs.declared.apply_fault.ApplyFault.TheVariants.{Changed, Port, Stuck}
 use Rattle.pci_plan.specs.Writes.{write_value}
 use Rattle.pci_plan.specs.Above.{system_in}
 use Rattle.pci_plan.specs.Plans.{PlanValue, IsPlanValue, final_of}
-use Rattle.pci_plan.specs.Comparing.{ShowsAll, IsChangedAt, IsFunctionFault, StartsAs, IsStartFault}
-use Rattle.pci_plan.specs.Making.{IsAccessible, AreMade, IsPortStop, IsStuckStop, IsStop}
-use Rattle.pci_plan.specs.Applying.{ShowsSystem, AreSound, writes_before, writes_made, IsChangedFrom, LacksFunction, IsCutShort, IsReadOtherwise, IsApplyFault}
+use Rattle.pci_plan.specs.Comparing.{ShowsAll, IsChangedAt, StartsAs, IsStartFault}
+use Rattle.pci_plan.specs.Making.{IsAccessible, AreMade, IsStop}
+use Rattle.pci_plan.specs.Applying.{ShowsSystem, AreSound, writes_before, writes_made, IsApplyFault}
 use Rattle.pci_plan.proofs.Compares.{register_access}
 use Rattle.pci_plan.proofs.Ended.{plan_ends}
 

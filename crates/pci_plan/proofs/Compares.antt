@@ -1,6 +1,6 @@
 -- The registers that are compared, as the code lists them.
-use Rattle.std.proofs.Common.{◌≡◌, ℕ, ◌<◌, ◌⊎◌, inl, inr, List, refl, Bool, true, false, arith, sym, ◌∙◌, ap, subst, map, length, get_or}
-use Rattle.std.specs.Bool.{◌==◌, if◌then◌else◌}
+use Rattle.std.proofs.Common.{◌≡◌, ℕ, ◌<◌, inl, inr, List, refl, Bool, true, false, arith, sym, ◌∙◌, ap, subst, map, length, get_or}
+use Rattle.std.specs.Bool.{◌==◌}
 use Rattle.std.specs.List.{Contains, list_all}
 use Rattle.std.proofs.lemmas.List.{get_or-map, length-map}
 use Rattle.pci_spec.specs.Number.{number_at}

@@ -15,7 +15,7 @@ use Rattle.pci_spec.specs.Plan.{IsMoved}
 use Rattle.pci_spec.specs.PlanPromise.{changes_between}
 use Rattle.pci_spec.specs.Planning.Safety.{is_on}
 use Rattle.pci_spec.specs.Planning.PlanWrites.{Change, olds, news, closed_command, closing_writes, register_writes, opening_writes, plan_writes}
-use Rattle.pci_spec.proofs.Members.{in_nil, in_cons_cases, in_head, in_tail, in_map_from, in_map_to, IsMade}
+use Rattle.pci_spec.proofs.Members.{in_nil, in_cons_cases, in_head, in_tail, in_map_to, IsMade}
 use Rattle.pci_spec.proofs.Planning.Moved.{layout_same}
 use Rattle.pci_spec.proofs.Planning.Writes.{same_fields}
 use Rattle.pci_spec.proofs.Planning.Settled.{IsQuiet, IsSetting, number_outside}

@@ -1,12 +1,11 @@
 use Rattle.std.proofs.Common.{◌≡◌, ap, sym, ◌∙◌, subst, take, IfErr}
 use Rattle.std.proofs.lemmas.Result.{err_from_is_err_and, IfErr-weaker, on_ok_weaker}
-use Rattle.pci_spec.specs.Text.{Block}
 use Rattle.pci_spec.specs.Machine.{after_writes}
 use Rattle.pci_tree.specs.Admission.{Admission}
 use Rattle.pci_plan.specs.Above.{system_in}
 use Rattle.pci_plan.specs.Comparing.{StartsAs, IsStartFault}
-use Rattle.pci_plan.specs.Making.{AreMade, IsStop}
-use Rattle.pci_plan.specs.Applying.{ShowsSystem, writes_made, IsApplyFault}
+use Rattle.pci_plan.specs.Making.{IsStop}
+use Rattle.pci_plan.specs.Applying.{writes_made, IsApplyFault}
 use Rattle.pci_plan.proofs.Applied.{accesses, shows_start, start_fault, start_made, stop_fault, all_made, shows_final, made_by, ok_on_machine, left_sound}
 use Rattle.pci_plan.proofs.apply.apply.Goals as goal
 

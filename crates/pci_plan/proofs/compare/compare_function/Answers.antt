@@ -1,4 +1,4 @@
-use Rattle.std.proofs.Common.{◌≡◌, ℕ, ◌<◌, inl, inr, arith, ap, subst, sym, ◌∙◌, get_or, Err, IfErr, map}
+use Rattle.std.proofs.Common.{◌≡◌, inl, inr, arith, ap, subst, ◌∙◌, get_or}
 use Rattle.std.specs.Bool.{if◌then◌else◌, ◌==◌}
 use Rattle.std.proofs.lemmas.Bool.{cases_lt}
 use Rattle.std.proofs.lemmas.Result.{err_from_is_err_and}
