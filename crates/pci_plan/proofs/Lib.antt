@@ -9,6 +9,8 @@ pub mod NoWindows
 pub mod Owned
 pub mod Parts
 pub mod Records
+pub mod Compares
+pub mod Makes
 pub mod WriteLists
 pub mod RootNeeds
 pub mod Judged
@@ -18,3 +20,5 @@ pub mod PlanFaults
 pub mod SortedItems
 pub mod StableSorts
 pub mod Walking
+pub mod Ended
+pub mod Applied

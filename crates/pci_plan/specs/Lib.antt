@@ -9,4 +9,8 @@ pub mod Sorting
 pub mod Items
 pub mod Walks
 pub mod Writes
+pub mod Comparing
+pub mod Making
+pub mod ApplyText
 pub mod Plans
+pub mod Applying

@@ -13,10 +13,14 @@
 #![tactic(auto)]
 
 pub mod above;
+pub mod apply;
+pub mod apply_fault;
 pub mod by_class;
 pub mod class;
+mod compare;
 pub mod item;
 pub mod lacking;
+mod make;
 pub mod need;
 pub mod numbers;
 pub mod place;

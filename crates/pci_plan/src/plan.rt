@@ -61,7 +61,8 @@ impl<'a, A: Allocator> Plan<'a, A> {
 
     /// The dump and the probe that were planned for.
     pub fn start(&self) -> &'a Admitted<A>
-        ensures { result.now ≡ self.now.start }
+        ensures value { result.now ≡ self.now.start }
+        ensures plan { IsPlanValue self.now }
     {
         self.start
     }

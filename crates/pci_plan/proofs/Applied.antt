@@ -1,0 +1,349 @@
+-- What applying a plan leaves, by what comparing and making leave.
+use Rattle.std.proofs.Common.{◌≡◌, ℕ, ◌+◌, ◌^◌, ◌<◌, ◌≤◌, ◌⊎◌, inl, inr, List, [], ◌∷◌, ◌++◌, refl, Bool, true, false, ◌&&◌, ◌||◌, Some, arith, sym, ◌∙◌, ap, subst, map, length, take, get_or}
+use Rattle.std.specs.List.{All, AllZip, Contains, slice_get}
+use Rattle.std.specs.Result.{OnOk, IfErr, IsOk}
+use Rattle.std.specs.declared.result.Result.{Result}
+use Rattle.std.specs.declared.result.Result.TheVariants.{Ok, Err}
+use Rattle.std.proofs.lemmas.Bool.{cases_Bool, both_ways, and_from, and_parts, lt-ltb, ltb-true, cond-true, cond-false}
+use Rattle.std.proofs.lemmas.List.{take_more, length-map}
+use Rattle.std.proofs.lemmas.List.Elements.{All-contains, Contains-append_cases, Contains-get_or}
+use Rattle.std.proofs.lemmas.Option.{same_Some, slice_get_within, get_or_from_slice_get}
+use Rattle.pci_spec.specs.Number.{number_at, IsImage}
+use Rattle.pci_spec.specs.Slot.{Slot, same_slot, slot_number}
+use Rattle.pci_spec.specs.Header.{command, layout, address_registers}
+use Rattle.pci_spec.specs.Text.{Block, slots_of}
+use Rattle.pci_spec.specs.System.{System, Function, IsSystem, system_of}
+use Rattle.pci_spec.specs.Sound.{IsSound}
+use Rattle.pci_spec.specs.Machine.{Target, Write, target_of, after_writes, write_function, write_system, system_after}
+use Rattle.pci_spec.specs.Plan.{IsMoved}
+use Rattle.pci_spec.specs.PlanPromise.{changes_between}
+use Rattle.pci_spec.specs.Planning.Fitting.{FitsAt, IsFitting}
+use Rattle.pci_spec.specs.Planning.PlanWrites.{Change, olds, closed_command, closing_writes, register_writes, opening_writes, plan_writes}
+use Rattle.pci_spec.specs.Planning.Laws.{AreChanges}
+use Rattle.pci_spec.proofs.Members.{in_nil, in_cons_cases, in_head, in_tail, in_map_to, in_map_from, IsMade}
+use Rattle.pci_spec.proofs.Nesting.{one_function}
+use Rattle.pci_spec.proofs.Planning.Registers.{number_below}
+use Rattle.pci_spec.proofs.Planning.Kept.{member_back, images_of}
+use Rattle.pci_spec.proofs.Planning.Fit.{after_moved, moved_start, fitting_later}
+use Rattle.pci_spec.proofs.Planning.Settled.{write_shows}
+use Rattle.pci_spec.proofs.Planning.Staging.{IsClosingOf, closing_to, IsRegisterOf, register_to, IsOpeningOf, opening_to, fits}
+use Rattle.pci_spec.proofs.Planning.Reached.{moves, image_of, old_listed, slot_itself, closed_le}
+use Rattle.pci_spec.proofs.Planning.OnMachine.{plan_on_its_machine}
+use Rattle.pci_spec.proofs.Planning.PlanStands.{are_changes, olds_of}
+use Rattle.pci_machine.specs.Port as port
+use Rattle.pci_machine.specs.Port.{target_at, has_function, is_access, ShowsNumber}
+use Rattle.pci_machine.proofs.Targets.{slot_of_test}
+use Rattle.pci_plan.specs.declared.write.Write.{Write as CodeWrite}
+use Rattle.pci_plan.specs.declared.apply_fault.ApplyFault.{ApplyFault}
+use Rattle.pci_plan.specs.declared.apply_fault.ApplyFault.TheVariants.{Changed, Port, Stuck}
+use Rattle.pci_plan.specs.Writes.{write_value}
+use Rattle.pci_plan.specs.Above.{system_in}
+use Rattle.pci_plan.specs.Plans.{PlanValue, IsPlanValue, final_of}
+use Rattle.pci_plan.specs.Comparing.{ShowsAll, IsChangedAt, StartsAs, IsStartFault}
+use Rattle.pci_plan.specs.Making.{IsAccessible, AreMade, IsStop}
+use Rattle.pci_plan.specs.Applying.{ShowsSystem, AreSound, writes_before, writes_made, IsApplyFault}
+use Rattle.pci_plan.proofs.Compares.{register_access}
+use Rattle.pci_plan.proofs.Ended.{plan_ends}
+
+-- ---- blocks and functions
+
+-- the block of a function
+block_of : (dump probe : List Block) (f : Function) → Contains (system_of dump probe) f → (b : Block) × Contains dump b × (b.slot ≡ f.slot) × (b.image ≡ f.image)
+block_of [] probe f listed = absurd (in_nil f listed)
+block_of (b ∷ dump) [] f listed = absurd (in_nil f listed)
+block_of (b ∷ dump) (q ∷ probe) f listed = elim (in_cons_cases _ (system_of dump probe) f listed) [
+  | inl is ↦ (b, in_head b dump, ap (λ (g : Function). g.slot) is, ap (λ (g : Function). g.image) is)
+  | inr later ↦ let found = block_of dump probe f later in (found.0, in_tail b dump found.0 found.1, found.2, found.3)
+]
+
+-- the function of a block
+function_of : (dump probe : List Block) → slots_of dump ≡ slots_of probe → (b : Block) → Contains dump b → (f : Function) × Contains (system_of dump probe) f × (f.slot ≡ b.slot) × (f.image ≡ b.image)
+function_of [] probe slots b listed = absurd (in_nil b listed)
+function_of (c ∷ dump) [] slots b listed = absurd (let impossible : ⊥ = cc in impossible)
+function_of (c ∷ dump) (q ∷ probe) slots b listed =
+    let rest : slots_of dump ≡ slots_of probe = cc in
+    let g : Function = record { slot = c.slot; image = c.image; probe = q.image } in
+    elim (in_cons_cases c dump b listed) [
+      | inl is ↦ (g, in_head g (system_of dump probe), ap (λ (d : Block). d.slot) is, ap (λ (d : Block). d.image) is)
+      | inr later ↦ let found = function_of dump probe rest b later in (found.0, in_tail g (system_of dump probe) found.0 found.1, found.2, found.3)
+    ]
+
+-- ---- the writes of a plan
+
+-- a write is of a function of the start, and a port takes it
+record IsOfPlan (changes : List Change) (x : Write) : Type 0 where
+  c : Change
+  listed : Contains changes c
+  slot : c.old.slot ≡ x.slot
+  access : (is_access x.offset x.width && port.fits x.width x.value) ≡ true
+
+command_access : (n : ℕ) → n < 2 ^ 16 → (is_access 4 2 && port.fits 2 n) ≡ true
+command_access n small = lt-ltb n (2 ^ 16) small
+
+module _ (changes : List Change) (system : IsSystem (olds changes)) (moved : All (λ (c : Change). IsMoved c.old c.new) changes) where
+  of_closing : (x : Write) → Contains (closing_writes changes) x → IsOfPlan changes x
+  of_closing x has =
+      let k : IsClosingOf changes x = closing_to changes x has in
+      let image = image_of changes system moved k.c k.listed in
+      let below = number_below k.c.old.image 4 image 2 in
+      let less = closed_le (command k.c.old.image) in
+      record {
+        c = k.c;
+        listed = k.listed;
+        slot = ap (λ (w : Write). w.slot) k.is;
+        access = subst (λ (w : Write). (is_access w.offset w.width && port.fits w.width w.value) ≡ true) k.is (command_access (closed_command k.c.old) (omega (arith, below, less)));
+      }
+
+  of_register : (x : Write) → Contains (register_writes changes) x → IsOfPlan changes x
+  of_register x has =
+      let k : IsRegisterOf changes x = register_to changes x has in
+      let m = moves changes system moved k.c k.listed in
+      let n = number_at k.c.new.image k.r.0 k.r.1 in
+      let lawful = register_access k.c.old.image k.r (in_tail (0x04, 2) (address_registers (layout k.c.old.image)) k.r k.register) in
+      record {
+        c = k.c;
+        listed = k.listed;
+        slot = ap (λ (w : Write). w.slot) k.is;
+        access = subst (λ (w : Write). (is_access w.offset w.width && port.fits w.width w.value) ≡ true) k.is
+            (and_from (is_access k.r.0 k.r.1) (port.fits k.r.1 n) lawful (lt-ltb n (256 ^ k.r.1) (number_below k.c.new.image k.r.0 m.image k.r.1)));
+      }
+
+  of_opening : (x : Write) → Contains (opening_writes changes) x → IsOfPlan changes x
+  of_opening x has =
+      let k : IsOpeningOf changes x = opening_to changes x has in
+      let m = moves changes system moved k.c k.listed in
+      let below = number_below k.c.new.image 4 m.image 2 in
+      record {
+        c = k.c;
+        listed = k.listed;
+        slot = ap (λ (w : Write). w.slot) k.is;
+        access = subst (λ (w : Write). (is_access w.offset w.width && port.fits w.width w.value) ≡ true) k.is (command_access (command k.c.new.image) (omega (arith, below)));
+      }
+
+  of_plan : (x : Write) → Contains (plan_writes changes) x → IsOfPlan changes x
+  of_plan x has = elim (Contains-append_cases (closing_writes changes) (register_writes changes ++ opening_writes changes) x has) [
+    | inl closing ↦ of_closing x closing
+    | inr later ↦ elim (Contains-append_cases (register_writes changes) (opening_writes changes) x later) [
+      | inl one ↦ of_register x one
+      | inr opening ↦ of_opening x opening
+    ]
+  ]
+
+-- ---- the machine of a system
+
+found_in : (u : System) (slot : Slot) (t : Target) → target_at (map target_of u) slot ≡ Some t → (f : Function) × Contains u f × (f.slot ≡ slot) × (t ≡ target_of f)
+found_in [] slot t h = absurd (let impossible : ⊥ = cc in impossible)
+found_in (f ∷ u) slot t h = elim (cases_Bool (same_slot f.slot slot)) [
+  | inl hit ↦
+      (f, in_head f u, slot_of_test f.slot slot hit, sym (same_Some (target_of f) t (sym (cond-true (same_slot f.slot slot) (Some (target_of f)) (target_at (map target_of u) slot) hit) ∙ h)))
+  | inr miss ↦
+      let rest = found_in u slot t (sym (cond-false (same_slot f.slot slot) (Some (target_of f)) (target_at (map target_of u) slot) miss) ∙ h) in
+      (rest.0, in_tail f u rest.0 rest.1, rest.2, rest.3)
+]
+
+-- what is shown is what a function of the system shows
+shown_in : (u : System) (slot : Slot) (o w n : ℕ) → ShowsNumber (map target_of u) slot o w n → (f : Function) × Contains u f × (f.slot ≡ slot) × (n ≡ number_at f.image o w)
+shown_in u slot o w n (t, at, e) =
+    let found = found_in u slot t at in
+    (found.0, found.1, found.2, e ∙ ap (λ (v : Target). number_at v.image o w) found.3)
+
+or_true : (a b : Bool) → (a ≡ true) ⊎ (b ≡ true) → (a || b) ≡ true
+or_true true b h = refl
+or_true false b (inl impossible) = absurd (both_ways false refl impossible)
+or_true false b (inr h) = h
+
+-- each of its functions is there
+there : (u : System) (f : Function) → Contains u f → has_function (map target_of u) f.slot ≡ true
+there [] f listed = absurd (in_nil f listed)
+there (g ∷ u) f listed = or_true (same_slot g.slot f.slot) (has_function (map target_of u) f.slot) (elim (in_cons_cases g u f listed) [
+  | inl is ↦ inl (ap (λ (h : Function). same_slot h.slot f.slot) is ∙ slot_itself f.slot)
+  | inr later ↦ inr (there u f later)
+])
+
+system_more : (s : System) (ws : List Write) (w : Write) → system_after s (ws ++ w ∷ []) ≡ write_system (system_after s ws) w
+system_more s [] w = refl
+system_more s (x ∷ ws) w = system_more (write_system s x) ws w
+
+-- ---- a plan
+
+module _ (p : PlanValue) (is : IsPlanValue p) where
+  abbrev s : System
+  s = system_in p.start
+
+  abbrev changes : List Change
+  changes = changes_between s (final_of p)
+
+  changes_are : AreChanges changes
+  changes_are = are_changes s (final_of p) is.admitted.system is.moved
+
+  same_olds : olds changes ≡ s
+  same_olds = olds_of s (final_of p) is.moved
+
+  write_of : (x : Write) → Contains p.writes x → IsOfPlan changes x
+  write_of x has = of_plan changes changes_are.system changes_are.moved x (subst (λ ws. Contains ws x) is.writes has)
+
+  -- a port takes each write
+  pub accesses : (items : List CodeWrite) → map write_value items ≡ p.writes → All IsAccessible items
+  accesses items same k d less =
+      let x = get_or items k d in
+      (write_of (write_value x) (subst (λ ws. Contains ws (write_value x)) same (in_map_from write_value items x (Contains-get_or items k d less)))).access
+
+  -- ---- comparing
+
+  pub shows_start : (targets : List Target) → StartsAs targets p.start.dump → ShowsSystem targets s
+  shows_start targets starts f listed =
+      let found = block_of p.start.dump p.start.probe f listed in
+      let b = found.0 in
+      subst (λ slot. ShowsAll targets slot f.image) found.2 (subst (λ image. ShowsAll targets b.slot image) found.3 (starts b found.1))
+
+  pub start_fault : (before : List Target) (failures : ℕ) (after : List Target) (failures_after : ℕ) (fault : ApplyFault)
+      → IsStartFault before failures p.start.dump failures_after fault → IsApplyFault before failures s p.writes after failures_after fault
+  start_fault before failures after failures_after (Changed at offset) (b, listed, (here, changed)) =
+      let found = function_of p.start.dump p.start.probe is.admitted.slots b listed in
+      let f = found.0 in
+      record {
+        f = f;
+        listed = found.1;
+        at = found.2 ∙ sym here;
+        changed = subst (λ slot. IsChangedAt before slot f.image offset) (sym found.2) (subst (λ image. IsChangedAt before b.slot image offset) (sym found.3) changed);
+      }
+  start_fault before failures after failures_after (Port done) (b, listed, (none_made, refused)) =
+      let found = function_of p.start.dump p.start.probe is.admitted.slots b listed in
+      let f = found.0 in
+      record {
+        within = omega (arith, none_made);
+        started = λ some. absurd (let impossible : ⊥ = omega (arith, none_made, some) in impossible);
+        cause = elim refused [ inl rose ↦ inl rose | inr none ↦ inr (f, found.1, ap (has_function before) found.2 ∙ none) ];
+      }
+  start_fault before failures after failures_after (Stuck done) (b, listed, fault) = absurd fault
+
+  pub start_made : (before after : List Target) (failures failures_after : ℕ) (fault : ApplyFault)
+      → IsStartFault before failures p.start.dump failures_after fault → after ≡ before → after ≡ after_writes before (take (writes_before fault) p.writes)
+  start_made before after failures failures_after (Changed at offset) reason same = same
+  start_made before after failures failures_after (Port done) (b, listed, (none_made, refused)) same =
+      same ∙ ap (λ n. after_writes before (take n p.writes)) (sym none_made)
+  start_made before after failures failures_after (Stuck done) (b, listed, reason) same = absurd reason
+
+  -- ---- making
+
+  pub stop_fault : (before : List Target) (failures : ℕ) (after : List Target) (failures_after : ℕ) (fault : ApplyFault) → ShowsSystem before s
+      → IsStop before failures p.writes after failures_after fault → IsApplyFault before failures s p.writes after failures_after fault
+  stop_fault before failures after failures_after (Changed at offset) shows stop = absurd stop
+  stop_fault before failures after failures_after (Port done) shows stop = record {
+    within = stop.within;
+    started = λ some. shows;
+    cause = elim stop.cause [
+      | inl rose ↦ inl rose
+      | inr (w, has, none) ↦
+          let of = write_of w has in
+          inr (of.c.old, subst (λ (u : System). Contains u of.c.old) same_olds (old_listed changes changes_are.system changes_are.moved of.c of.listed), ap (has_function before) of.slot ∙ none)
+    ];
+  }
+  stop_fault before failures after failures_after (Stuck done) shows stop = record {
+    started = shows;
+    last = stop.last;
+    is_last = stop.is_last;
+    write = stop.write;
+    listed = stop.listed;
+    shows = stop.shows;
+    shown = stop.shown;
+    differs = stop.differs;
+  }
+
+  pub stop_made : (before : List Target) (failures : ℕ) (after : List Target) (failures_after : ℕ) (fault : ApplyFault)
+      → IsStop before failures p.writes after failures_after fault → after ≡ after_writes before (take (writes_before fault) p.writes)
+  stop_made before failures after failures_after (Changed at offset) stop = absurd stop
+  stop_made before failures after failures_after (Port done) stop = stop.made
+  stop_made before failures after failures_after (Stuck done) stop = stop.made
+
+  pub all_made : (items : List CodeWrite) (before after : List Target) → map write_value items ≡ p.writes → AreMade before (map write_value items) (length items) after → AreMade before p.writes (length p.writes) after
+  all_made items before after same made =
+      subst (λ ws. AreMade before ws (length ws) after) same
+      (subst (λ n. AreMade before (map write_value items) n after) (sym (length-map items write_value)) made)
+
+  pub shows_final : (before after : List Target) → ShowsSystem before s → AreMade before p.writes (length p.writes) after → ShowsSystem after (final_of p)
+  shows_final before after shows made =
+      plan_ends s (final_of p) is.admitted.system is.moved before after shows (subst (λ ws. AreMade before ws (length ws) after) is.writes made)
+
+  -- ---- on the machine that the plan starts from
+
+  on_machine : (k : ℕ) → after_writes (map target_of s) (take k p.writes) ≡ map target_of (system_after s (take k p.writes))
+  on_machine k =
+      subst (λ ws. after_writes (map target_of s) (take k ws) ≡ map target_of (system_after s (take k ws))) (sym is.writes) (plan_on_its_machine s changes changes_are same_olds k)
+
+  images : (f : Function) → Contains s f → IsImage f.image
+  images = images_of s is.admitted.system
+
+  all_fit : All (FitsAt s) p.writes
+  all_fit = subst (λ ws. All (FitsAt s) ws) (sym is.writes) (subst (λ (u : System). All (FitsAt u) (plan_writes changes)) same_olds (fits changes changes_are.system changes_are.moved))
+
+  moved_after : (k : ℕ) → AllZip IsMoved s (system_after s (take k p.writes))
+  moved_after k = after_moved s s p.writes images all_fit (moved_start s images) k
+
+  -- each write reads back as it was made
+  reads_back : (last : ℕ) (w : Write) (after : List Target) (shows : ℕ) → slice_get p.writes last ≡ Some w → after ≡ after_writes (map target_of s) (take (last + 1) p.writes)
+      → ShowsNumber after w.slot w.offset w.width shows → shows ≡ w.value
+  reads_back last w after shows at made shown =
+      let u = system_after s (take last p.writes) in
+      let within = slice_get_within p.writes last w at in
+      let has : Contains p.writes w = (last, within, get_or_from_slice_get p.writes last w w at) in
+      let taken : take (last + 1) p.writes ≡ take last p.writes ++ w ∷ [] =
+      take_more p.writes last w within ∙ ap (λ x. take last p.writes ++ x ∷ []) (get_or_from_slice_get p.writes last w w at) in
+      let next : system_after s (take (last + 1) p.writes) ≡ write_system u w = ap (system_after s) taken ∙ system_more s (take last p.writes) w in
+      let here : ShowsNumber (map target_of (write_system u w)) w.slot w.offset w.width shows =
+      subst (λ ts. ShowsNumber ts w.slot w.offset w.width shows) (made ∙ on_machine (last + 1) ∙ ap (map target_of) next) shown in
+      let found = shown_in (write_system u w) w.slot w.offset w.width shows here in
+      let of : IsMade (write_function w) u found.0 = in_map_to (write_function w) u found.0 found.1 in
+      let g = of.from in
+      let slot : g.slot ≡ w.slot = ap (λ (x : Function). x.slot) of.is ∙ found.2 in
+      let test : same_slot g.slot w.slot ≡ true = ap (λ x. same_slot x w.slot) slot ∙ slot_itself w.slot in
+      let back = member_back IsMoved s u (moved_after last) g of.has in
+      let f = back.0 in
+      let m = back.2 in
+      let fit : IsFitting w g =
+      fitting_later w f g (images f back.1) m (All-contains (FitsAt s) p.writes w all_fit has f back.1 (ap (λ x. same_slot x w.slot) (sym m.slot) ∙ test)) in
+      let small = ltb-true w.value (256 ^ w.width) (and_parts (is_access w.offset w.width) (port.fits w.width w.value) (write_of w has).access).1 in
+      found.3 ∙ ap (λ (x : Function). number_at x.image w.offset w.width) (sym of.is) ∙ write_shows g w m.image fit small test
+
+  -- so it is never refused there
+  pub none_on_machine : (before : List Target) (failures : ℕ) (after : List Target) (failures_after : ℕ) (fault : ApplyFault)
+      → before ≡ map target_of s → failures_after ≡ failures → after ≡ after_writes before (take (writes_before fault) p.writes)
+      → IsApplyFault before failures s p.writes after failures_after fault → ⊥
+  none_on_machine before failures after failures_after (Changed at offset) start quiet made reason =
+      let f = reason.f in
+      let other = reason.changed.other in
+      let width = reason.changed.width in
+      let found = shown_in s f.slot offset width other.shows (subst (λ ts. ShowsNumber ts f.slot offset width other.shows) start other.shown) in
+      let same : found.0 ≡ f = one_function s is.admitted.system found.0 f found.1 reason.listed (ap slot_number found.2) in
+      other.differs (found.3 ∙ ap (λ (g : Function). number_at g.image offset width) same)
+  none_on_machine before failures after failures_after (Port done) start quiet made reason = elim reason.cause [
+    | inl rose ↦ omega (arith, rose, quiet)
+    | inr (f, listed, none) ↦ both_ways (has_function before f.slot) none (ap (λ ts. has_function ts f.slot) start ∙ there s f listed)
+  ]
+  none_on_machine before failures after failures_after (Stuck done) start quiet made reason =
+      let w = reason.write in
+      let from : after ≡ after_writes (map target_of s) (take (reason.last + 1) p.writes) =
+      made ∙ ap (λ ts. after_writes ts (take done p.writes)) start ∙ ap (λ n. after_writes (map target_of s) (take n p.writes)) reason.is_last in
+      reason.differs (reads_back reason.last w after reason.shows reason.listed from reason.shown)
+
+  -- and a stop leaves a sound system
+  pub left_sound : (k : ℕ) (before after : List Target) → before ≡ map target_of s → after ≡ after_writes before (take k p.writes)
+      → IsSound p.start.roots s ⊎ (p.safe_from ≤ k) → AreSound p.start.roots after
+  left_sound k before after start made from =
+      let past : p.safe_from ≤ k = elim from [ inl sound ↦ (let none = is.safe.at_once.1 sound in omega (arith, none)) | inr past ↦ past ] in
+      (system_after s (take k p.writes), is.stops k past, made ∙ ap (λ ts. after_writes ts (take k p.writes)) start ∙ on_machine k)
+
+  -- ---- by the answer
+
+  pub made_by : {T : Type 0} (r : Result T ApplyFault) (items : List CodeWrite) (before : List Target) (failures : ℕ) (after : List Target) (failures_after : ℕ) → map write_value items ≡ p.writes
+      → OnOk r (AreMade before (map write_value items) (length items) after) → IfErr r (IsStop before failures (map write_value items) after failures_after)
+      → after ≡ after_writes before (take (writes_made p.writes r) p.writes)
+  made_by (Ok x) items before failures after failures_after same made stop = (all_made items before after same made).made
+  made_by (Err fault) items before failures after failures_after same made stop =
+      stop_made before failures after failures_after fault (subst (λ ws. IsStop before failures ws after failures_after fault) same stop)
+
+  pub ok_on_machine : {T : Type 0} (r : Result T ApplyFault) (before : List Target) (failures : ℕ) (after : List Target) (failures_after : ℕ)
+      → after ≡ after_writes before (take (writes_made p.writes r) p.writes) → IfErr r (IsApplyFault before failures s p.writes after failures_after)
+      → before ≡ map target_of s → failures_after ≡ failures → IsOk r
+  ok_on_machine (Ok x) before failures after failures_after made reason start quiet = refl
+  ok_on_machine (Err fault) before failures after failures_after made reason start quiet = absurd (none_on_machine before failures after failures_after fault start quiet made reason)

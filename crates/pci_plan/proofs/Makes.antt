@@ -1,0 +1,118 @@
+-- Writes over a port, one more at a time.
+use Rattle.std.proofs.Common.{◌≡◌, ℕ, suc, ◌+◌, ◌<◌, ◌⊎◌, inl, inr, List, [], ◌∷◌, ◌++◌, refl, Bool, true, false, cond, ◌&&◌, ◌||◌, arith, sym, ◌∙◌, ap, subst, map, length, take, get_or, Some}
+use Rattle.std.specs.List.{All, Contains, slice_get}
+use Rattle.std.proofs.lemmas.Bool.{cases_Bool, cases_lt, both_ways}
+use Rattle.std.proofs.lemmas.List.{take_more, get_or-map, length-map}
+use Rattle.std.proofs.lemmas.List.Elements.{All-contains}
+use Rattle.std.proofs.lemmas.Option.{slice_get-get_or, same_Some}
+use Rattle.pci_spec.specs.Slot.{Slot, same_slot}
+use Rattle.pci_spec.specs.Machine.{Target, Write, write_target, write_targets, after_writes, written}
+use Rattle.pci_machine.specs.Port.{has_function, is_access, fits, ShowsNumber}
+use Rattle.pci_machine.specs.Outcome.{failures_of_error}
+use Rattle.pci_machine.specs.declared.port.PortError.{PortError}
+use Rattle.pci_machine.specs.declared.port.PortError.TheVariants.{NoFunction, BadAccess, Failed}
+use Rattle.pci_plan.specs.declared.write.Write.{Write as CodeWrite}
+use Rattle.pci_plan.specs.Writes.{write_value}
+use Rattle.pci_plan.specs.Making.{IsAccessible, AreMade, IsPortStop, IsPortCause, IsStuckStop}
+
+fold_more : (targets : List Target) (ws : List Write) (w : Write) → after_writes targets (ws ++ w ∷ []) ≡ write_targets (after_writes targets ws) w
+fold_more targets [] w = refl
+fold_more targets (x ∷ ws) w = fold_more (write_targets targets x) ws w
+
+-- ---- which functions are there
+
+pub same_place : (w : Write) (t : Target) → (write_target w t).slot ≡ t.slot
+same_place w t = elim (cases_Bool (same_slot t.slot w.slot)) [
+  | inl here ↦ ap (λ b. (cond b (record t { image = written t w.offset w.width w.value }) t).slot) here
+  | inr other ↦ ap (λ b. (cond b (record t { image = written t w.offset w.width w.value }) t).slot) other
+]
+
+has_after_one : (w : Write) (targets : List Target) (slot : Slot) → has_function (write_targets targets w) slot ≡ has_function targets slot
+has_after_one w [] slot = refl
+has_after_one w (t ∷ targets) slot =
+    ap (λ s. same_slot s slot || has_function (write_targets targets w) slot) (same_place w t) ∙ ap (λ b. same_slot t.slot slot || b) (has_after_one w targets slot)
+
+-- writes leave every function where it is
+pub has_after : (targets : List Target) (ws : List Write) (slot : Slot) → has_function (after_writes targets ws) slot ≡ has_function targets slot
+has_after targets [] slot = refl
+has_after targets (w ∷ ws) slot = has_after (write_targets targets w) ws slot ∙ has_after_one w targets slot
+
+-- ---- why an access is refused
+
+pub error_cause : (e : PortError) (has ok : Bool) (before after : ℕ) → (e ≡ NoFunction → has ≡ false) → (e ≡ BadAccess → ok ≡ false) → after ≡ before + failures_of_error e → ok ≡ true → (before < after) ⊎ (has ≡ false)
+error_cause NoFunction has ok before after none bad counted fine = inr (none refl)
+error_cause BadAccess has ok before after none bad counted fine = absurd (both_ways ok (bad refl) fine)
+error_cause Failed has ok before after none bad counted fine = inl (omega (arith, counted))
+
+-- ---- the next write
+
+module _ (before : List Target) (items : List CodeWrite) (i : ℕ) (within : i < length items) (w : CodeWrite) (here : w ≡ get_or items i w) (now : List Target) (made : AreMade before (map write_value items) i now) where
+  abbrev ws : List Write
+  ws = map write_value items
+
+  within_ws : i < length ws
+  within_ws = let l = length-map items write_value in omega (arith, l, within)
+
+  is : (d : Write) → get_or ws i d ≡ write_value w
+  is d = get_or-map write_value items i w d within ∙ ap write_value (sym here)
+
+  at : slice_get ws i ≡ Some (write_value w)
+  at = slice_get-get_or ws i (write_value w) within_ws ∙ ap Some (is (write_value w))
+
+  listed : Contains ws (write_value w)
+  listed = (i, within_ws, is (write_value w))
+
+  pub access : All IsAccessible items → (is_access w.off w.width && fits w.width w.value) ≡ true
+  access all = All-contains IsAccessible items w all (i, within, sym here)
+
+  made_more : (after : List Target) → after ≡ write_targets now (write_value w) → after ≡ after_writes before (take (i + 1) ws)
+  made_more after e =
+      e ∙ ap (λ ts. write_targets ts (write_value w)) made.made ∙ sym (fold_more before (take i ws) (write_value w))
+      ∙ ap (λ xs. after_writes before xs) (ap (λ x. take i ws ++ x ∷ []) (sym (is (write_value w))) ∙ sym (take_more ws i (write_value w) within_ws))
+
+  cause_of : (failures failures_after : ℕ) (targets : List Target) (count : ℕ) → targets ≡ after_writes before (take count ws) → (failures < failures_after) ⊎ (has_function targets w.slot ≡ false) → IsPortCause before failures ws failures_after
+  cause_of failures failures_after targets count e (inl rose) = inl rose
+  cause_of failures failures_after targets count e (inr none) =
+      inr (write_value w, listed, sym (has_after before (take count ws) w.slot) ∙ ap (λ ts. has_function ts w.slot) (sym e) ∙ none)
+
+  pub stop_at_write : (after : List Target) (failures failures_after : ℕ) → after ≡ now → (failures < failures_after) ⊎ (has_function now w.slot ≡ false) → IsPortStop before failures ws after failures_after i
+  stop_at_write after failures failures_after e cause = record {
+    within = made.within;
+    made = e ∙ made.made;
+    cause = cause_of failures failures_after now i made.made cause;
+  }
+
+  pub stop_at_read : (after : List Target) (failures failures_after : ℕ) → after ≡ write_targets now (write_value w) → (failures < failures_after) ⊎ (has_function after w.slot ≡ false)
+      → IsPortStop before failures ws after failures_after (i + 1)
+  stop_at_read after failures failures_after e cause = record {
+    within = omega (arith, within_ws);
+    made = made_more after e;
+    cause = cause_of failures failures_after after (i + 1) (made_more after e) cause;
+  }
+
+  pub stuck : (after : List Target) (shows : ℕ) → after ≡ write_targets now (write_value w) → ShowsNumber after w.slot w.off w.width shows → (shows ≡ w.value → ⊥) → IsStuckStop before ws after (i + 1)
+  stuck after shows e shown differs = record {
+    last = i;
+    is_last = refl;
+    write = write_value w;
+    listed = at;
+    made = made_more after e;
+    shows = shows;
+    shown = shown;
+    differs = differs;
+  }
+
+  pub one_more : (after : List Target) → after ≡ write_targets now (write_value w) → ShowsNumber after w.slot w.off w.width w.value → AreMade before ws (i + 1) after
+  one_more after e shown = record {
+    within = omega (arith, within_ws);
+    made = made_more after e;
+    shown = λ k x less listed. elim (cases_lt k i) [
+      | inl earlier ↦ made.shown k x earlier listed
+      | inr last ↦
+          let same : k ≡ i = omega (arith, less, last) in
+          let next : i + 1 ≡ suc k = omega (arith, same) in
+          let one : write_value w ≡ x = same_Some (write_value w) x (sym at ∙ ap (slice_get ws) (sym same) ∙ listed) in
+          subst (λ (y : Write). ShowsNumber (after_writes before (take (suc k) ws)) y.slot y.offset y.width y.value) one
+          (subst (λ ts. ShowsNumber ts w.slot w.off w.width w.value) (made_more after e ∙ ap (λ n. after_writes before (take n ws)) next) shown)
+    ];
+  }

@@ -1,0 +1,109 @@
+use Rattle.std.proofs.Common.{◌≡◌, ap, sym, ◌∙◌, subst, take, IfErr}
+use Rattle.std.proofs.lemmas.Result.{err_from_is_err_and, IfErr-weaker, on_ok_weaker}
+use Rattle.pci_spec.specs.Machine.{after_writes}
+use Rattle.pci_tree.specs.Admission.{Admission}
+use Rattle.pci_plan.specs.Above.{system_in}
+use Rattle.pci_plan.specs.Comparing.{StartsAs, IsStartFault}
+use Rattle.pci_plan.specs.Making.{IsStop}
+use Rattle.pci_plan.specs.Applying.{writes_made, IsApplyFault}
+use Rattle.pci_plan.proofs.Applied.{accesses, shows_start, start_fault, start_made, stop_fault, all_made, shows_final, made_by, ok_on_machine, left_sound}
+use Rattle.pci_plan.proofs.apply.apply.Goals as goal
+
+-- ---- comparing ended it
+
+pub returns-in_err-compare-clause-made : goal.returns-in_err-compare-clause-made
+returns-in_err-compare-clause-made g c =
+    let plan = c.args.plan.now in
+    let before = g.P.ConfigPort.targets c.args.port.now in
+    let blocks : c.blocks-2.result.now ≡ plan.start.dump = c.blocks-2.ensures.value ∙ c.dump.ensures ∙ ap (λ (a : Admission). a.dump) c.start.ensures.value in
+    let e = c.in_err-compare.field-0.0 in
+    let reason = subst (λ bs. IsStartFault before (g.P.ConfigPort.failures c.args.port.now) bs (g.P.ConfigPort.failures c.compare.new.port) e) blocks c.in_err-compare.ensures.fault in
+    let p = err_from_is_err_and c.from_residual.result c.from_residual.ensures.1 in
+    rw (p.1, p.2)
+    (start_made plan c.start.ensures.plan before (g.P.ConfigPort.targets c.compare.new.port) (g.P.ConfigPort.failures c.args.port.now) (g.P.ConfigPort.failures c.compare.new.port) e reason c.in_err-compare.ensures.same)
+
+pub returns-in_err-compare-clause-fault : goal.returns-in_err-compare-clause-fault
+returns-in_err-compare-clause-fault g c =
+    let plan = c.args.plan.now in
+    let before = g.P.ConfigPort.targets c.args.port.now in
+    let blocks : c.blocks-2.result.now ≡ plan.start.dump = c.blocks-2.ensures.value ∙ c.dump.ensures ∙ ap (λ (a : Admission). a.dump) c.start.ensures.value in
+    let e = c.in_err-compare.field-0.0 in
+    let reason = subst (λ bs. IsStartFault before (g.P.ConfigPort.failures c.args.port.now) bs (g.P.ConfigPort.failures c.compare.new.port) e) blocks c.in_err-compare.ensures.fault in
+    let p = err_from_is_err_and c.from_residual.result c.from_residual.ensures.1 in
+    rw (p.1, p.2)
+    (start_fault plan c.start.ensures.plan before (g.P.ConfigPort.failures c.args.port.now) (g.P.ConfigPort.targets c.compare.new.port) (g.P.ConfigPort.failures c.compare.new.port) e reason)
+
+pub returns-in_err-compare-clause-own_machine : goal.returns-in_err-compare-clause-own_machine
+returns-in_err-compare-clause-own_machine g c =
+    ok_on_machine c.args.plan.now c.start.ensures.plan c.from_residual.result (g.P.ConfigPort.targets c.args.port.now) (g.P.ConfigPort.failures c.args.port.now) (g.P.ConfigPort.targets c.compare.new.port)
+    (g.P.ConfigPort.failures c.compare.new.port) (returns-in_err-compare-clause-made g c) (returns-in_err-compare-clause-fault g c)
+
+pub returns-in_err-compare-clause-sound : goal.returns-in_err-compare-clause-sound
+returns-in_err-compare-clause-sound g c = λ start from.
+    left_sound c.args.plan.now c.start.ensures.plan (writes_made c.args.plan.now.writes c.from_residual.result) (g.P.ConfigPort.targets c.args.port.now) (g.P.ConfigPort.targets c.compare.new.port)
+    start (returns-in_err-compare-clause-made g c) from
+
+-- ---- writes were made
+
+pub make-requires : goal.make-requires
+make-requires g c = accesses c.args.plan.now c.start.ensures.plan c.writes.result.now c.writes.ensures.value
+
+pub returns-clause-made : goal.returns-clause-made
+returns-clause-made g c =
+    let before : g.P.ConfigPort.targets c.compare.new.port ≡ g.P.ConfigPort.targets c.args.port.now = c.in_ok-compare.ensures.same in
+    let made = made_by c.args.plan.now c.start.ensures.plan c.make.result c.writes.result.now (g.P.ConfigPort.targets c.compare.new.port) (g.P.ConfigPort.failures c.compare.new.port)
+    (g.P.ConfigPort.targets c.make.new.port) (g.P.ConfigPort.failures c.make.new.port) c.writes.ensures.value c.make.ensures.made c.make.ensures.stop in
+    made ∙ ap (λ ts. after_writes ts (take (writes_made c.args.plan.now.writes c.make.result) c.args.plan.now.writes)) before
+
+pub returns-clause-started : goal.returns-clause-started
+returns-clause-started g c =
+    let blocks : c.blocks-2.result.now ≡ c.args.plan.now.start.dump = c.blocks-2.ensures.value ∙ c.dump.ensures ∙ ap (λ (a : Admission). a.dump) c.start.ensures.value in
+    on_ok_weaker c.make.result
+    (λ made. shows_start c.args.plan.now c.start.ensures.plan (g.P.ConfigPort.targets c.args.port.now) (subst (λ bs. StartsAs (g.P.ConfigPort.targets c.args.port.now) bs) blocks c.in_ok-compare.ensures.started))
+    c.make.ensures.made
+
+pub returns-clause-ended : goal.returns-clause-ended
+returns-clause-ended g c =
+    let plan = c.args.plan.now in
+    let now = g.P.ConfigPort.targets c.compare.new.port in
+    let after = g.P.ConfigPort.targets c.make.new.port in
+    let before : now ≡ g.P.ConfigPort.targets c.args.port.now = c.in_ok-compare.ensures.same in
+    let blocks : c.blocks-2.result.now ≡ plan.start.dump = c.blocks-2.ensures.value ∙ c.dump.ensures ∙ ap (λ (a : Admission). a.dump) c.start.ensures.value in
+    let starts = subst (λ bs. StartsAs (g.P.ConfigPort.targets c.args.port.now) bs) blocks c.in_ok-compare.ensures.started in
+    on_ok_weaker c.make.result
+    (λ made. shows_final plan c.start.ensures.plan now after (shows_start plan c.start.ensures.plan now (subst (λ ts. StartsAs ts plan.start.dump) (sym before) starts))
+    (all_made plan c.start.ensures.plan c.writes.result.now now after c.writes.ensures.value made))
+    c.make.ensures.made
+
+pub returns-clause-counted : goal.returns-clause-counted
+returns-clause-counted g c = on_ok_weaker c.make.result (λ e. e ∙ c.in_ok-compare.ensures.counted) c.make.ensures.counted
+
+pub returns-clause-fault : goal.returns-clause-fault
+returns-clause-fault g c =
+    let plan = c.args.plan.now in
+    let old = g.P.ConfigPort.targets c.args.port.now in
+    let now = g.P.ConfigPort.targets c.compare.new.port in
+    let after = g.P.ConfigPort.targets c.make.new.port in
+    let failures = g.P.ConfigPort.failures c.args.port.now in
+    let failures_after = g.P.ConfigPort.failures c.make.new.port in
+    let before : now ≡ old = c.in_ok-compare.ensures.same in
+    let quiet : g.P.ConfigPort.failures c.compare.new.port ≡ failures = c.in_ok-compare.ensures.counted in
+    let blocks : c.blocks-2.result.now ≡ plan.start.dump = c.blocks-2.ensures.value ∙ c.dump.ensures ∙ ap (λ (a : Admission). a.dump) c.start.ensures.value in
+    let shows = shows_start plan c.start.ensures.plan old (subst (λ bs. StartsAs old bs) blocks c.in_ok-compare.ensures.started) in
+    let stops = subst (λ ws. IfErr c.make.result (IsStop now (g.P.ConfigPort.failures c.compare.new.port) ws after failures_after)) c.writes.ensures.value c.make.ensures.stop in
+    IfErr-weaker c.make.result (IsStop now (g.P.ConfigPort.failures c.compare.new.port) plan.writes after failures_after) (IsApplyFault old failures (system_in plan.start) plan.writes after failures_after)
+    (λ e stop.
+    stop_fault plan c.start.ensures.plan old failures after failures_after e shows
+    (subst (λ ts. IsStop ts failures plan.writes after failures_after e) before
+    (subst (λ n. IsStop now n plan.writes after failures_after e) quiet stop)))
+    stops
+
+pub returns-clause-own_machine : goal.returns-clause-own_machine
+returns-clause-own_machine g c =
+    ok_on_machine c.args.plan.now c.start.ensures.plan c.make.result (g.P.ConfigPort.targets c.args.port.now) (g.P.ConfigPort.failures c.args.port.now) (g.P.ConfigPort.targets c.make.new.port)
+    (g.P.ConfigPort.failures c.make.new.port) (returns-clause-made g c) (returns-clause-fault g c)
+
+pub returns-clause-sound : goal.returns-clause-sound
+returns-clause-sound g c = λ start from.
+    left_sound c.args.plan.now c.start.ensures.plan (writes_made c.args.plan.now.writes c.make.result) (g.P.ConfigPort.targets c.args.port.now) (g.P.ConfigPort.targets c.make.new.port)
+    start (returns-clause-made g c) from

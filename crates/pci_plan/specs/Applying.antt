@@ -1,0 +1,64 @@
+-- What stands behind a port after a plan was put onto it, or part of it.
+use Rattle.std.specs.Prelude.{◌≡◌, ◌≢◌, ℕ, ◌+◌, ◌<◌, ◌≤◌, ◌⊎◌, IsFalse, List, length, map, Some, Result, Ok, Err, slice_get}
+use Rattle.std.specs.List.{Contains}
+use Rattle.pci_spec.specs.Slot.{Slot}
+use Rattle.pci_spec.specs.System.{System, Function}
+use Rattle.pci_spec.specs.Sound.{IsSound}
+use Rattle.pci_spec.specs.Machine.{Target, Write, target_of}
+use Rattle.pci_machine.specs.Port.{has_function, ShowsNumber}
+use Rattle.pci_plan.specs.Comparing.{ShowsAll, IsChangedAt}
+use Rattle.pci_plan.specs.declared.apply_fault.ApplyFault.{ApplyFault}
+use Rattle.pci_plan.specs.declared.apply_fault.ApplyFault.TheVariants.{Changed, Port, Stuck}
+
+-- each function of a system shows its Command and its address registers
+abbrev pub ShowsSystem : List Target → System → Type 0
+ShowsSystem targets s = (f : Function) → Contains s f → ShowsAll targets f.slot f.image
+
+-- the functions are a sound system's, with the bits that header and probe give them
+abbrev pub AreSound : List ℕ → List Target → Type 0
+AreSound roots targets = (now : System) × IsSound roots now × (targets ≡ map target_of now)
+
+-- how many writes were made
+abbrev pub writes_before : ApplyFault → ℕ
+writes_before (Changed slot offset) = 0
+writes_before (Port done) = done
+writes_before (Stuck done) = done
+
+abbrev pub writes_made : {T : Type 0} → List Write → Result T ApplyFault → ℕ
+writes_made writes (Ok x) = length writes
+writes_made writes (Err fault) = writes_before fault
+
+-- ---- why not all were
+
+-- the register of a function of the start shows another number
+pub record IsChangedFrom (before : List Target) (start : System) (slot : Slot) (offset : ℕ) : Type 0 where
+  pub f : Function
+  pub listed : Contains start f
+  pub at : f.slot ≡ slot
+  pub changed : IsChangedAt before f.slot f.image offset
+
+-- a function of the start isn't there
+abbrev pub LacksFunction : List Target → System → Type 0
+LacksFunction before start = (f : Function) × Contains start f × IsFalse (has_function before f.slot)
+
+-- an access failed or a function isn't there, while functions were compared or after some writes
+pub record IsCutShort (before : List Target) (failures : ℕ) (start : System) (writes : List Write) (failures_after done : ℕ) : Type 0 where
+  pub within : done ≤ length writes
+  pub started : 0 < done → ShowsSystem before start
+  pub cause : (failures < failures_after) ⊎ LacksFunction before start
+
+-- the last write that was made reads back otherwise
+pub record IsReadOtherwise (before : List Target) (start : System) (writes : List Write) (after : List Target) (done : ℕ) : Type 0 where
+  pub started : ShowsSystem before start
+  pub last : ℕ
+  pub is_last : done ≡ last + 1
+  pub write : Write
+  pub listed : slice_get writes last ≡ Some write
+  pub shows : ℕ
+  pub shown : ShowsNumber after write.slot write.offset write.width shows
+  pub differs : shows ≢ write.value
+
+abbrev pub IsApplyFault : List Target → ℕ → System → List Write → List Target → ℕ → ApplyFault → Type 0
+IsApplyFault before failures start writes after failures_after (Changed slot offset) = IsChangedFrom before start slot offset
+IsApplyFault before failures start writes after failures_after (Port done) = IsCutShort before failures start writes failures_after done
+IsApplyFault before failures start writes after failures_after (Stuck done) = IsReadOtherwise before start writes after done

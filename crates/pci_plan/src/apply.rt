@@ -1,0 +1,46 @@
+//! Putting a plan onto a machine that may fail.
+ghost use Rattle.std.specs.Prelude.{◌≡◌, ◌≤◌, ◌⊎◌, map, take, OnOk, IfErr, IsOk};
+ghost use Rattle.pci_spec.specs.Sound.{IsSound};
+ghost use Rattle.pci_spec.specs.Machine.{target_of, after_writes};
+ghost use Rattle.pci_plan.specs.Above.{system_in};
+ghost use Rattle.pci_plan.specs.Plans.{final_of};
+ghost use Rattle.pci_plan.specs.Applying.{ShowsSystem, AreSound, writes_made, IsApplyFault};
+
+use super::apply_fault::ApplyFault;
+use super::compare::compare;
+use super::make::make;
+use super::plan::Plan;
+use pci_machine::port::ConfigPort;
+use std::alloc::Allocator;
+
+/// Puts a plan onto the machine behind a port.
+///
+/// It reads Command and every address register of every function, the lowest slot first, Command before the address
+/// registers by rising offset, and compares them with what the plan starts from. Then it makes the plan's writes in order
+/// and reads each one back. It takes no memory.
+///
+/// # Errors
+///
+/// 80 `Changed`: a register isn't as the plan starts from; nothing was written. 81 `Port`: an access failed, or a function
+/// isn't there; exactly the first `done` writes were made. 82 `Stuck`: the last of the first `done` writes reads back
+/// otherwise; no more were made.
+///
+/// From a sound start, over functions that have just the writable bits that header and probe give them, a sound system is
+/// left whatever is answered.
+pub fn apply<P: ConfigPort, A: Allocator>(
+    port: &mut P,
+    plan: &Plan<'_, A>,
+) -> Result<(), ApplyFault>
+    ensures made { P.targets port.new ≡ after_writes (P.targets port.old) (take (writes_made plan.now.writes result) plan.now.writes) }
+    ensures started { OnOk result (ShowsSystem (P.targets port.old) (system_in plan.now.start)) }
+    ensures ended { OnOk result (ShowsSystem (P.targets port.new) (final_of plan.now)) }
+    ensures counted { OnOk result (P.failures port.new ≡ P.failures port.old) }
+    ensures fault { IfErr result (IsApplyFault (P.targets port.old) (P.failures port.old) (system_in plan.now.start) plan.now.writes (P.targets port.new) (P.failures port.new)) }
+    ensures own_machine { P.targets port.old ≡ map target_of (system_in plan.now.start) → P.failures port.new ≡ P.failures port.old → IsOk result }
+    ensures sound { P.targets port.old ≡ map target_of (system_in plan.now.start)
+        → IsSound plan.now.start.roots (system_in plan.now.start) ⊎ (plan.now.safe_from ≤ writes_made plan.now.writes result)
+        → AreSound plan.now.start.roots (P.targets port.new) }
+{
+    compare(port, plan.start().dump().blocks())?;
+    make(port, plan.writes())
+}
