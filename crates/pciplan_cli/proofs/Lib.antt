@@ -6,3 +6,4 @@ mod Chains
 mod Shows
 mod Sizes
 mod Sent
+mod PlainWrites

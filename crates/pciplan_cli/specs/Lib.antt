@@ -7,3 +7,5 @@ pub mod Stops
 pub mod Shows
 pub mod Statuses
 pub mod Answers
+pub mod PlanAnswers
+pub mod PoolWords

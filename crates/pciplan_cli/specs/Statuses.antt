@@ -3,7 +3,7 @@ use Rattle.std.specs.Prelude.{ℕ}
 use Rattle.pci_dump.specs.declared.read_fault.ReadFault.{ReadFault}
 use Rattle.pci_dump.specs.declared.read_fault.ReadFault.TheVariants as faults
 use Rattle.pciplan_cli.specs.declared.trouble.Trouble.{Trouble}
-use Rattle.pciplan_cli.specs.declared.trouble.Trouble.TheVariants.{Usage, Root, Dump, Probe, Memory, Io}
+use Rattle.pciplan_cli.specs.declared.trouble.Trouble.TheVariants.{Usage, Root, Pool, Dump, Probe, Memory, Io}
 
 -- of a text that isn't read
 abbrev pub text_status : ReadFault → ℕ
@@ -15,6 +15,7 @@ text_status _ = 2
 abbrev pub status_of : Trouble → ℕ
 status_of Usage = 2
 status_of Root = 2
+status_of (Pool option) = 2
 status_of (Dump fault) = text_status fault
 status_of (Probe fault) = text_status fault
 status_of Memory = 3

@@ -1,4 +1,13 @@
 //! What `plan` answers of a dump and its probe.
+ghost use Rattle.std.specs.Prelude.{◌≡◌, map, IsTrue, IfOk};
+ghost use Rattle.std.specs.List.{All, flat_map};
+ghost use Rattle.std.specs.String.{string_bytes};
+ghost use Rattle.pci_spec.specs.Line.{write_line};
+ghost use Rattle.pci_tree.specs.Roots.{buses_of};
+ghost use Rattle.pci_plan.specs.Pools.{pools_value};
+ghost use Rattle.pci_plan.specs.Writes.{is_plain, write_value};
+ghost use Rattle.pciplan_cli.specs.PlanAnswers.{IsPlanningOf};
+
 use pci_dump::dump::Dump;
 use pci_dump::memory::{OutOfMemory, Refused};
 use pci_plan::plan_fault::PlanFault;
@@ -25,7 +34,10 @@ pub enum Planned<A: Allocator> {
 }
 
 /// A line for each write.
-fn lines_of<A: Allocator>(alloc: A, writes: &[RegisterWrite]) -> Result<String<A>, OutOfMemory> {
+fn lines_of<A: Allocator>(alloc: A, writes: &[RegisterWrite]) -> Result<String<A>, OutOfMemory>
+    requires { All (λ w. IsTrue (is_plain w)) writes.now }
+    ensures { IfOk result (λ text. string_bytes text ≡ flat_map write_line (map write_value writes.now)) }
+{
     let mut text = String::new(alloc);
     for write in writes {
         match writeln!(text, "{write}") {
@@ -44,7 +56,9 @@ pub fn plan_pair<A: Allocator + Copy>(
     pools: &Pools,
     writes: bool,
     roots: Roots,
-) -> Result<Planned<A>, OutOfMemory> {
+) -> Result<Planned<A>, OutOfMemory>
+    ensures { IfOk result (IsPlanningOf record { pools = pools_value pools.now; writes = writes; roots = buses_of roots } dump probe) }
+{
     let admitted = match admit_with(alloc, dump, probe, roots) {
         Ok(admitted) => admitted,
         Err(Refused::Fault(fault)) => return Ok(Planned::Refused(fault)),
@@ -56,7 +70,8 @@ pub fn plan_pair<A: Allocator + Copy>(
         Err(Refused::Memory) => return Err(OutOfMemory),
     };
     if writes {
-        return Ok(Planned::Writes(lines_of(alloc, plan.writes())?));
+        let text = lines_of(alloc, plan.writes())?;
+        return Ok(Planned::Writes(text));
     }
     Ok(Planned::Dump(plan.into_dump()))
 }

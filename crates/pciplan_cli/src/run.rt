@@ -1,5 +1,5 @@
 //! Carries out a task on two texts.
-ghost use Rattle.std.specs.Prelude.{◌≡◌, ◌≢◌, ◌⊎◌, ◌<◌, ◌≤◌, ◌+◌, Some, IfOk, IfErr};
+ghost use Rattle.std.specs.Prelude.{◌≡◌, ◌≢◌, ◌⊎◌, ◌<◌, ◌≤◌, ◌+◌, Bool, Some, IfOk, IfErr};
 ghost use Rattle.std.specs.String.{string_bytes};
 ghost use Rattle.std.specs.Io.KnownBytes.{Appends};
 ghost use Rattle.pci_spec.specs.Line.{verdict_line};
@@ -9,7 +9,11 @@ ghost use Rattle.pci_tree.specs.Fault.{fault_of};
 ghost use Rattle.pci_tree.specs.Roots.{buses_of};
 ghost use Rattle.pci_tree.specs.declared.roots.Roots.{Roots};
 ghost use Rattle.pciplan_cli.specs.Answers.{HasFailed, IsChecked, IsAnswer, IsDumpOf, IsShown, IsBegun, IsSized, IsSizeBegun, IsSizing, IsTextRefused, IsTextTrouble};
+ghost use Rattle.pciplan_cli.specs.PlanAnswers.{IsPlannedAnswer, IsPlanned, IsPlanBegun, plan_fault_line, made_status, made_text};
 ghost use Rattle.pciplan_cli.specs.Statuses.{status_of};
+ghost use Rattle.pci_plan.specs.Plans.{plan_fault_of};
+ghost use Rattle.pci_plan.specs.Pools.{pools_value};
+ghost use Rattle.pci_plan.specs.declared.pools.Pools.{Pools};
 
 use crate::line::{Line, Task};
 use crate::planning::{Planned, plan_pair};
@@ -55,6 +59,13 @@ enum Sized<A: Allocator> {
     Refused(Answer<A>),
 }
 
+/// What planning ends with: the planned dump, or a text.
+#[derive(Drop)]
+enum Made<A: Allocator> {
+    Dump(Dump<A>),
+    Text(Answer<A>),
+}
+
 /// The two texts. A fault of the dump's text goes before one of the probe's.
 fn read_pair<A: Allocator + Copy, D: Source, P: Source>(
     alloc: A,
@@ -92,7 +103,10 @@ fn refusal<A: Allocator>(alloc: A, fault: Fault) -> Result<Answer<A>, Trouble>
 }
 
 /// The line of a fault of planning: `no`, and the fault's text.
-fn no_plan<A: Allocator>(alloc: A, fault: PlanFault) -> Result<Answer<A>, Trouble> {
+fn no_plan<A: Allocator>(alloc: A, fault: PlanFault) -> Result<Answer<A>, Trouble>
+    ensures line { IfOk result (λ answer. (answer.status ≡ 1) × (string_bytes answer.text ≡ plan_fault_line (plan_fault_of fault))) }
+    ensures memory { IfErr result (λ trouble. trouble ≡ Trouble.Memory) }
+{
     match format!(in alloc; "no {fault}\n") {
         Ok(text) => Ok(Answer {
             text,
@@ -211,6 +225,43 @@ fn run_check<A: Allocator + Copy, D: Source, P: Source, O: Sink>(
     }
 }
 
+/// What planning answers of a dump and its probe.
+fn plan_answer<A: Allocator + Copy>(
+    alloc: A,
+    pools: &Pools,
+    writes: bool,
+    roots: Roots,
+    pair: Pair<A>,
+) -> Result<Made<A>, Trouble>
+    ensures answer { IfOk result (λ made. IsPlannedAnswer record { pools = pools_value pools.now; writes = writes; roots = buses_of roots }
+        pair.dump pair.probe (made_status made) (made_text made)) }
+    ensures memory { IfErr result (λ trouble. trouble ≡ Trouble.Memory) }
+{
+    let Pair { dump, probe } = pair;
+    match plan_pair(alloc, dump, probe, pools, writes, roots) {
+        Ok(Planned::Dump(planned)) => Ok(Made::Dump(planned)),
+        Ok(Planned::Writes(text)) => Ok(Made::Text(Answer { text, status: DONE })),
+        Ok(Planned::Refused(fault)) => Ok(Made::Text(refusal(alloc, fault)?)),
+        Ok(Planned::NoPlan(fault)) => Ok(Made::Text(no_plan(alloc, fault)?)),
+        Err(OutOfMemory) => Err(Trouble::Memory),
+    }
+}
+
+/// Writes what planning ended with.
+fn send_made<A: Allocator, O: Sink>(out: &mut O, made: &Made<A>) -> Result<u8, Trouble>
+    ensures sent { IfOk result (λ status. (status ≡ made_status made.now) × Appends (O.taken out.old) (O.taken out.new) (made_text made.now)) }
+    ensures begun { IfErr result (λ trouble. (trouble ≡ Trouble.Io) × AppendsBeginning (O.taken out.old) (O.taken out.new) (made_text made.now)) }
+    ensures failed { IfErr result (λ _. O.failures out.new ≡ O.failures out.old + 1) }
+{
+    match made {
+        Made::Text(answer) => send(out, answer),
+        Made::Dump(planned) => match write_dump(out, planned) {
+            Ok(()) => Ok(DONE),
+            Err(_) => Err(Trouble::Io),
+        },
+    }
+}
+
 /// Plans two texts. All of the answer is made before any of it is written.
 fn run_plan<A: Allocator + Copy, D: Source, P: Source, O: Sink>(
     alloc: A,
@@ -220,19 +271,19 @@ fn run_plan<A: Allocator + Copy, D: Source, P: Source, O: Sink>(
     dump: &mut D,
     probe: &mut P,
     out: &mut O,
-) -> Result<u8, Trouble> {
+) -> Result<u8, Trouble>
+    ensures planned { IfOk result (λ status. IsPlanned record { pools = pools_value pools.now; writes = writes; roots = buses_of roots }
+        (D.left dump.old) (P.left probe.old) status (O.taken out.old) (O.taken out.new)) }
+    ensures trouble { IfErr result (λ trouble. trouble ≢ Trouble.Io → IsTextTrouble (D.left dump.old) (P.left probe.old) trouble) }
+    ensures quiet { IfErr result (λ trouble. trouble ≢ Trouble.Io → out.new ≡ out.old) }
+    ensures begun { IfErr result (λ trouble. trouble ≡ Trouble.Io → IsPlanBegun record { pools = pools_value pools.now; writes = writes; roots = buses_of roots }
+        (D.left dump.old) (P.left probe.old) (O.taken out.old) (O.taken out.new)) }
+    ensures failed { IfErr result (λ trouble. status_of trouble ≡ 4
+        → HasFailed (D.failures dump.old) (D.failures dump.new) (P.failures probe.old) (P.failures probe.new) (O.failures out.old) (O.failures out.new)) }
+{
     let pair = read_pair(alloc, dump, probe)?;
-    let Pair { dump, probe } = pair;
-    match plan_pair(alloc, dump, probe, pools, writes, roots) {
-        Ok(Planned::Dump(planned)) => match write_dump(out, &planned) {
-            Ok(()) => Ok(DONE),
-            Err(_) => Err(Trouble::Io),
-        },
-        Ok(Planned::Writes(text)) => send(out, &Answer { text, status: DONE }),
-        Ok(Planned::Refused(fault)) => send(out, &refusal(alloc, fault)?),
-        Ok(Planned::NoPlan(fault)) => send(out, &no_plan(alloc, fault)?),
-        Err(OutOfMemory) => Err(Trouble::Memory),
-    }
+    let made = plan_answer(alloc, pools, writes, roots, pair)?;
+    send_made(out, &made)
 }
 
 /// Carries out a task: reads `dump` and `probe`, writes the answer to `out` or a message to `err`, and
@@ -253,6 +304,8 @@ pub fn run<A: Allocator + Copy, D: Source, P: Source, O: Sink, E: Sink>(
         → IsChecked (buses_of roots) (D.left dump.old) (P.left probe.old) result (O.taken out.old) (O.taken out.new) }
     ensures sized { line.now.task ≡ Task.Size → result < 2
         → IsSized (D.left dump.old) (P.left probe.old) result (O.taken out.old) (O.taken out.new) }
+    ensures planned { (pools : Pools) (writes : Bool) (roots : Roots) → line.now.task ≡ Task.Plan pools writes roots → result < 2
+        → IsPlanned record { pools = pools_value pools; writes = writes; roots = buses_of roots } (D.left dump.old) (P.left probe.old) result (O.taken out.old) (O.taken out.new) }
     ensures quiet { (result ≡ 2) ⊎ (result ≡ 3) → out.new ≡ out.old }
     ensures begun { line.now.task ≡ Task.Show → result ≡ 4
         → (out.new ≡ out.old) ⊎ IsBegun (D.left dump.old) (P.left probe.old) (O.taken out.old) (O.taken out.new) }
@@ -260,6 +313,8 @@ pub fn run<A: Allocator + Copy, D: Source, P: Source, O: Sink, E: Sink>(
         → (out.new ≡ out.old) ⊎ HasBegun (buses_of roots) (D.left dump.old) (P.left probe.old) (O.taken out.old) (O.taken out.new) }
     ensures size_begun { line.now.task ≡ Task.Size → result ≡ 4
         → (out.new ≡ out.old) ⊎ IsSizeBegun (D.left dump.old) (P.left probe.old) (O.taken out.old) (O.taken out.new) }
+    ensures plan_begun { (pools : Pools) (writes : Bool) (roots : Roots) → line.now.task ≡ Task.Plan pools writes roots → result ≡ 4
+        → (out.new ≡ out.old) ⊎ IsPlanBegun record { pools = pools_value pools; writes = writes; roots = buses_of roots } (D.left dump.old) (P.left probe.old) (O.taken out.old) (O.taken out.new) }
     ensures refused { result ≡ 2 → IsTextRefused (D.left dump.old) (P.left probe.old) }
     ensures failed { result ≡ 4 → HasFailed (D.failures dump.old) (D.failures dump.new)
         (P.failures probe.old) (P.failures probe.new) (O.failures out.old) (O.failures out.new) }

@@ -15,17 +15,6 @@ pub enum PoolOption {
     Pref,
 }
 
-impl PoolOption {
-    /// The option's name, without the two dashes.
-    pub fn name(self) -> &'static str {
-        match self {
-            PoolOption::Io => "io",
-            PoolOption::Mem => "mem",
-            PoolOption::Pref => "pref",
-        }
-    }
-}
-
 /// Why a command line isn't carried out.
 #[derive(Clone, Copy, Debug, PartialEq, Eq)]
 pub enum Trouble {

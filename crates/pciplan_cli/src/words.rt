@@ -23,6 +23,22 @@ const ROOT: &str = "root";
 /// The name of the option that asks for the writes of a plan.
 const WRITES: &str = "writes";
 
+/// The names of the options that name the pools.
+const IO: &str = "io";
+
+const MEM: &str = "mem";
+
+const PREF: &str = "pref";
+
+/// The name of the option of a pool.
+fn name_of(option: PoolOption) -> &'static str {
+    match option {
+        PoolOption::Io => IO,
+        PoolOption::Mem => MEM,
+        PoolOption::Pref => PREF,
+    }
+}
+
 impl From<AllocError> for Trouble {
     fn from(_error: AllocError) -> Trouble {
         Trouble::Memory
@@ -47,11 +63,9 @@ fn of_texts<'a>(alloc: Global, name: &'a str) -> Result<Command<'a>, AllocError>
     Command::new(alloc, name).arg(dump)?.arg(probe)
 }
 
-/// A required option that names the pool of a class.
-fn pool_arg<'a>(alloc: Global, option: PoolOption) -> Arg<'a> {
-    Arg::new(alloc, option.name())
-        .long(option.name())
-        .required(true)
+/// The required option of this name, of a pool.
+fn pool_arg<'a>(alloc: Global, name: &'a str) -> Arg<'a> {
+    Arg::new(alloc, name).long(name).required(true)
 }
 
 /// `pciplan plan DUMP PROBE --io A-B --mem A-B --pref A-B [--writes] [--root LIST]`.
@@ -60,9 +74,9 @@ fn plan_command<'a>(alloc: Global) -> Result<Command<'a>, AllocError> {
         .long(WRITES)
         .action(ArgAction::SetTrue);
     of_texts(alloc, "plan")?
-        .arg(pool_arg(alloc, PoolOption::Io))?
-        .arg(pool_arg(alloc, PoolOption::Mem))?
-        .arg(pool_arg(alloc, PoolOption::Pref))?
+        .arg(pool_arg(alloc, IO))?
+        .arg(pool_arg(alloc, MEM))?
+        .arg(pool_arg(alloc, PREF))?
         .arg(writes)?
         .arg(Arg::new(alloc, ROOT).long(ROOT))
 }
@@ -88,7 +102,7 @@ fn roots_of(found: &ArgMatches<'_>) -> Result<Roots, Trouble> {
 
 /// The pool of an option's word.
 fn pool_of(found: &ArgMatches<'_>, option: PoolOption) -> Result<Range, Trouble> {
-    let word = found.get_str(option.name()).ok_or(Trouble::Usage)?;
+    let word = found.get_str(name_of(option)).ok_or(Trouble::Usage)?;
     pool_of_word(word).ok_or(Trouble::Pool(option))
 }
 
