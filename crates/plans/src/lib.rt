@@ -2,10 +2,16 @@
 #![tactic(auto)]
 
 #[cfg(test)]
+mod by_rule;
+#[cfg(test)]
+mod made;
+#[cfg(test)]
 mod orders;
 #[cfg(test)]
 mod outputs;
 #[cfg(test)]
 mod samples;
+#[cfg(test)]
+mod slow;
 #[cfg(test)]
 mod stops;

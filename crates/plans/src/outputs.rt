@@ -209,10 +209,5 @@ fn a_start_that_clashes_is_planned_all_the_same(rt: HostRuntime) -> Result<(), F
     let clash = "no 61 Clash bus 00 mem 0000000000000000 00:01.0 20 00:02.0 10\n";
     prints(&rt, &["check", "d", "p"], texts, (clash, "", 1))?;
     let planned = texts_of(rt.alloc(), &three_placed())?;
-    prints(
-        &rt,
-        &USUAL.words(),
-        texts,
-        (planned.dump.as_str(), "", 0),
-    )
+    prints(&rt, &USUAL.words(), texts, (planned.dump.as_str(), "", 0))
 }

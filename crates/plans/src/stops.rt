@@ -28,7 +28,7 @@ pub fn admitted(alloc: Global, texts: &Texts, roots: Roots) -> Result<Admitted, 
 }
 
 /// An equal dump.
-fn copy_of(alloc: Global, dump: &Dump) -> Result<Dump, Fail> {
+pub fn copy_of(alloc: Global, dump: &Dump) -> Result<Dump, Fail> {
     let mut copy = Dump::empty(alloc);
     for block in dump.blocks() {
         copy.push(block.copy())?;
@@ -54,7 +54,7 @@ fn images_of(alloc: Global, machine: &Machine, slots: &Dump) -> Result<Dump, Fai
 }
 
 /// The fault of a dump with the probe of another, where `check` refuses it.
-fn fault_of(alloc: Global, dump: &Dump, start: &Admitted) -> Result<Option<Fault>, Fail> {
+pub fn fault_of(alloc: Global, dump: &Dump, start: &Admitted) -> Result<Option<Fault>, Fail> {
     let dump = copy_of(alloc, dump)?;
     let probe = copy_of(alloc, start.probe())?;
     let admitted = admit_with(alloc, dump, probe, start.outline().roots())?;
