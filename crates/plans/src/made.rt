@@ -96,6 +96,8 @@ pub struct Rule {
 }
 
 impl Rule {
+    ghost use Rattle.std.specs.Prelude.{◌<◌};
+
     pub fn new(seed: u64) -> Rule {
         Rule {
             seed: seed.wrapping_mul(0x9e37_79b9_7f4a_7c15),
@@ -103,7 +105,9 @@ impl Rule {
     }
 
     /// 16 bits.
-    fn half(&mut self) -> u32 {
+    fn half(&mut self) -> u32
+        ensures { result < 65536 }
+    {
         self.seed = (self.seed % 0x1_0000_0000) * 1_664_525 + 1_013_904_223;
         (self.seed / 0x1_0000 % 0x1_0000) as u32
     }
@@ -117,7 +121,9 @@ impl Rule {
         number
     }
 
-    fn below(&mut self, bound: u32) -> u32 {
+    fn below(&mut self, bound: u32) -> u32
+        ensures { result < 65536 }
+    {
         let drawn = self.half();
         if bound == 0 { 0 } else { drawn % bound }
     }
