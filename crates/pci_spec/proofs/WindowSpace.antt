@@ -28,12 +28,12 @@ window_stays_in_space PrefetchWindow image probe a is h =
     omega (arith, last, limit, upper)
 
 -- a lawful read back with upper halves says so
-wide_nibble : (kind : WindowKind) (mask : ℕ) → mask ≡ page_bits kind + 1 → mask % 16 ≡ 1
+pub wide_nibble : (kind : WindowKind) (mask : ℕ) → mask ≡ page_bits kind + 1 → mask % 16 ≡ 1
 wide_nibble IoWindow mask e = omega (arith, e)
 wide_nibble MemoryWindow mask e = omega (arith, e)
 wide_nibble PrefetchWindow mask e = omega (arith, e)
 
-narrow_nibble : (kind : WindowKind) (mask : ℕ) → mask ≡ page_bits kind + 0 → mask % 16 ≡ 0
+pub narrow_nibble : (kind : WindowKind) (mask : ℕ) → mask ≡ page_bits kind + 0 → mask % 16 ≡ 0
 narrow_nibble IoWindow mask e = omega (arith, e)
 narrow_nibble MemoryWindow mask e = omega (arith, e)
 narrow_nibble PrefetchWindow mask e = omega (arith, e)

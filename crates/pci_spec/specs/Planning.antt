@@ -4,6 +4,7 @@ pub mod Fitting
 pub mod Layout
 pub mod Laws
 pub mod Placing
+pub mod Plannable
 pub mod PlanWrites
 pub mod Ranges
 pub mod Room

@@ -17,7 +17,7 @@ use Rattle.pci_spec.proofs.Planning.Shows.{aligned_shows}
 use Rattle.pci_spec.proofs.Planning.ValueFits.{value_fits}
 
 -- it is that of the lowest bit that decoding reads
-same_first_bit : (kind : BarKind) → first_bit kind ≡ ranges.first_bit kind
+pub same_first_bit : (kind : BarKind) → first_bit kind ≡ ranges.first_bit kind
 same_first_bit IoBar = refl
 same_first_bit Memory32 = refl
 same_first_bit Memory64 = refl
@@ -69,10 +69,10 @@ module _ (image probe : List ℕ) (n first : ℕ) (there : has_bar probe n ≡ t
   abbrev k : ℕ
   k = lowest_one (ranges.first_bit kind) mask
 
-  size_is : bar_size probe n ≡ 2 ^ k
+  pub size_is : bar_size probe n ≡ 2 ^ k
   size_is = ap (λ from. 2 ^ lowest_one from mask) (sym (first_bit-of_register (bar_at probe n)))
 
-  run_here : HasRun kind mask k
+  pub run_here : HasRun kind mask k
   run_here = run_of kind mask k (lawful-lowest_one kind mask (lawful_bar image probe n there fine).sized).0
 
   aligned_here : first % 2 ^ k ≡ 0
@@ -116,7 +116,7 @@ module _ (image probe : List ℕ) (first : ℕ) (there : has_rom image probe ≡
   abbrev rom_k : ℕ
   rom_k = lowest_one 0 rom_mask
 
-  rom_run : (11 ≤ rom_k) × (is_run 0 rom_mask rom_k 31 ≡ true)
+  pub rom_run : (11 ≤ rom_k) × (is_run 0 rom_mask rom_k 31 ≡ true)
   rom_run =
       let size = (lawful_rom image probe there fine).0 in
       let outer = and_parts (nat_le 11 rom_k && nat_le rom_k 24) (is_run 0 rom_mask rom_k 31) size in

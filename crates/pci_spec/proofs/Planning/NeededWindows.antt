@@ -21,7 +21,7 @@ io_by_class false true true h = absurd (both_ways false refl h)
 io_by_class false true false h = absurd (both_ways false refl h)
 io_by_class false false served h = absurd (both_ways false refl h)
 
-served_by_class : (io pref served : Bool) → same_class PrefetchClass (if io then IoClass else if pref && served then PrefetchClass else MemoryClass) ≡ true → served ≡ true
+pub served_by_class : (io pref served : Bool) → same_class PrefetchClass (if io then IoClass else if pref && served then PrefetchClass else MemoryClass) ≡ true → served ≡ true
 served_by_class true pref served h = absurd (both_ways false refl h)
 served_by_class false true true h = refl
 served_by_class false true false h = absurd (both_ways false refl h)

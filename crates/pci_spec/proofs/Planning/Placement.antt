@@ -232,7 +232,7 @@ held step need window base sizes power size falling fits aligned =
     }
 
 -- of the planner's definition
-step_power : (c : Class) → IsPower (step_of c)
+pub step_power : (c : Class) → IsPower (step_of c)
 step_power IoClass = (12, refl)
 step_power MemoryClass = (20, refl)
 step_power PrefetchClass = (20, refl)

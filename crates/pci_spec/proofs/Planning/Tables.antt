@@ -27,7 +27,7 @@ same_slot_itself : (s : Slot) → same_slot s s ≡ true
 same_slot_itself s = and_from (s.bus == s.bus && s.device == s.device) (s.function == s.function)
     (and_from (s.bus == s.bus) (s.device == s.device) (eq-eqb s.bus s.bus refl) (eq-eqb s.device s.device refl)) (eq-eqb s.function s.function refl)
 
-class_itself : (c : Class) → same_class c (window_class (window_of c)) ≡ true
+pub class_itself : (c : Class) → same_class c (window_class (window_of c)) ≡ true
 class_itself IoClass = refl
 class_itself MemoryClass = refl
 class_itself PrefetchClass = refl
