@@ -1,1 +1,2 @@
+mod FilledBars
 pub mod Records

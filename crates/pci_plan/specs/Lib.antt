@@ -4,4 +4,5 @@ pub mod Classes
 pub mod Needs
 pub mod Records
 pub mod Places
+pub mod Fillings
 pub mod Writes

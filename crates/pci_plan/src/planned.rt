@@ -42,7 +42,7 @@ fn filled(filling: &Filling<'_>) -> Image {
             &mut image,
             register.offset,
             register.width,
-            filling.number(register.offset),
+            filling.number(*register),
         );
     }
     put(&mut image, COMMAND, 2, u32::from(filling.command()));

@@ -84,7 +84,7 @@ bar_reach s pools good top f n =
     reach_by pools good top (is_io register) (is_prefetchable register && is_served s pools f n) (type_bits register == 2) (type_bits register == 0)
     (λ pref high. bar_wide register (served_wide s pools f n (and_parts (is_prefetchable register) (is_served s pools f n) pref).1 high))
 
-same_itself : (c : Class) → same_class c c ≡ true
+pub same_itself : (c : Class) → same_class c c ≡ true
 same_itself IoClass = refl
 same_itself MemoryClass = refl
 same_itself PrefetchClass = refl
