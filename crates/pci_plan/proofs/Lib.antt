@@ -1,2 +1,4 @@
 mod FilledBars
+mod FilledRoms
+mod FilledWindows
 pub mod Records

@@ -1,0 +1,1 @@
+-- The windows of a filling, by its record.
