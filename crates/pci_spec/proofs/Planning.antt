@@ -9,6 +9,7 @@ pub mod Behind
 pub mod BitsFit
 pub mod Builds
 pub mod Classes
+pub mod CommandFits
 pub mod EachChanges
 pub mod Faults
 pub mod Filled
@@ -21,6 +22,8 @@ pub mod Moved
 pub mod Needed
 pub mod NeededWindows
 pub mod Needs
+pub mod Numbers
+pub mod NumbersFit
 pub mod OtherRules
 pub mod OwnMachine
 pub mod Placement
@@ -35,6 +38,9 @@ pub mod Rooms
 pub mod Rows
 pub mod Safe
 pub mod Settled
+pub mod Shown
+pub mod ShownNumbers
+pub mod ShownSystem
 pub mod Shows
 pub mod Single
 pub mod Staging
@@ -46,4 +52,5 @@ pub mod Tables
 pub mod ValueFits
 pub mod Whole
 pub mod WorkedRows
+pub mod WindowFits
 pub mod Writes

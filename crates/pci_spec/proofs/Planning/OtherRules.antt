@@ -133,7 +133,7 @@ window_same kind v w m h =
     ∙ ap (λ b. not (is_lawful_window kind 0 v m || (is_optional kind && b) || (is_optional kind && is_zero w && is_zero m))) (lawful_same 1 kind v w m (omega arith) h)
     ∙ ap (λ b. not (is_lawful_window kind 0 v m || (is_optional kind && is_lawful_window kind 1 v m) || b)) third
 
-byte_number : (image : List ℕ) (o : ℕ) → number_at image o 1 ≡ byte_at image o
+pub byte_number : (image : List ℕ) (o : ℕ) → number_at image o 1 ≡ byte_at image o
 byte_number image o =
     let z : o + 0 ≡ o = omega arith in
     let e : 0 + byte_at image o * 256 ^ 0 ≡ byte_at image o = omega arith in

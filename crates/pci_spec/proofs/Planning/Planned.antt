@@ -26,7 +26,7 @@ use Rattle.pci_spec.proofs.Planning.LaidOut.{placed_in_pools, laid_safe}
 use Rattle.pci_spec.proofs.Planning.Tables.{laid_out_by_table}
 use Rattle.pci_spec.proofs.Planning.Behind.{behind_is_need}
 
-any_same : {X : Type 0} (p q : X → Bool) (xs : List X) → ((x : X) → p x ≡ q x) → list_any p xs ≡ list_any q xs
+pub any_same : {X : Type 0} (p q : X → Bool) (xs : List X) → ((x : X) → p x ≡ q x) → list_any p xs ≡ list_any q xs
 any_same p q [] same = refl
 any_same p q (x ∷ xs) same = ap (λ b. b || list_any p xs) (same x) ∙ ap (λ b. q x || b) (any_same p q xs same)
 
@@ -40,12 +40,12 @@ filter_same p q (x ∷ xs) same = filter_step (p x) (q x) x (filter p xs) (filte
 -- ---- one function
 
 module _ (f g : Function) (m : IsMoved f g) (is : IsFunction f) where
-  implemented_same : (p : Part) → is_implemented g p ≡ is_implemented f p
+  pub implemented_same : (p : Part) → is_implemented g p ≡ is_implemented f p
   implemented_same (Bar n) = ap (λ probe. is_implemented record f { probe = probe } (Bar n)) m.probe
   implemented_same Rom = has_rom_same f g m is.image
   implemented_same (Window kind) = ap (λ b. b && has_window kind g.probe) (bridge_same f g m is.image) ∙ ap (λ probe. is_bridge f && has_window kind probe) m.probe
 
-  parts_same : bars_and_rom g ≡ bars_and_rom f
+  pub parts_same : bars_and_rom g ≡ bars_and_rom f
   parts_same =
       ap (λ k. filter (is_implemented g) (map Bar (range_with_len 0 (bar_count k)) ++ Rom ∷ [])) (layout_same f g m is.image)
       ∙ filter_same (is_implemented g) (is_implemented f) (map Bar (range_with_len 0 (bar_count (layout f.image))) ++ Rom ∷ []) implemented_same
@@ -107,12 +107,12 @@ has_behind_same s t system pairs pools c b d listed m bridge =
 
 -- ---- planned
 
-kind_of_class : (kind : WindowKind) → window_of (window_class kind) ≡ kind
+pub kind_of_class : (kind : WindowKind) → window_of (window_class kind) ≡ kind
 kind_of_class IoWindow = refl
 kind_of_class MemoryWindow = refl
 kind_of_class PrefetchWindow = refl
 
-class_same_itself : (c : Class) → same_class c c ≡ true
+pub class_same_itself : (c : Class) → same_class c c ≡ true
 class_same_itself IoClass = refl
 class_same_itself MemoryClass = refl
 class_same_itself PrefetchClass = refl
@@ -122,7 +122,7 @@ class_of_part t pools f (Bar n) plain = refl
 class_of_part t pools f Rom plain = refl
 class_of_part t pools f (Window kind) plain = absurd (both_ways true plain refl)
 
-same_answer : (b c : Bool) → (b ≡ true → c ≡ true) → (c ≡ true → b ≡ true) → b ≡ c
+pub same_answer : (b c : Bool) → (b ≡ true → c ≡ true) → (c ≡ true → b ≡ true) → b ≡ c
 same_answer true c to from = sym (to refl)
 same_answer false true to from = from refl
 same_answer false false to from = refl

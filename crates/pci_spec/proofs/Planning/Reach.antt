@@ -20,6 +20,7 @@ use Rattle.pci_spec.proofs.Members.{in_filter_from}
 use Rattle.pci_spec.proofs.Planning.Placement.{window_least, step_power, power_multiple, multiple_of_mod, multiple_trans, mod_of_multiple}
 use Rattle.pci_spec.proofs.Planning.Behind.{Passes, any_gives, all_gives, behind_is_need, listed_plain}
 use Rattle.pci_spec.proofs.Planning.NeededWindows.{served_by_class}
+use Rattle.pci_spec.proofs.Planning.Planned.{class_same_itself}
 use Rattle.pci_spec.proofs.Planning.InPool.{IsInPool, window_placed, in_pool}
 
 -- ---- pools that aren't refused
@@ -83,11 +84,6 @@ bar_reach s pools good top f n =
     let register = bar_at f.probe n in
     reach_by pools good top (is_io register) (is_prefetchable register && is_served s pools f n) (type_bits register == 2) (type_bits register == 0)
     (λ pref high. bar_wide register (served_wide s pools f n (and_parts (is_prefetchable register) (is_served s pools f n) pref).1 high))
-
-pub same_itself : (c : Class) → same_class c c ≡ true
-same_itself IoClass = refl
-same_itself MemoryClass = refl
-same_itself PrefetchClass = refl
 
 -- ---- windows
 
@@ -157,7 +153,7 @@ module _ (roots : List ℕ) (s : System) (pools : Pools) (p : IsPlannable roots 
   bar_place f n listed inside there =
       let c = class_of s pools f (Bar n) in
       let placed : is_placed s pools c f (Bar n) ≡ true =
-      and_from (nat_lt n (bar_count (layout f.image)) && has_bar f.probe n) (same_class c c) (and_from (nat_lt n (bar_count (layout f.image))) (has_bar f.probe n) (lt-ltb n (bar_count (layout f.image)) inside) there) (same_itself c) in
+      and_from (nat_lt n (bar_count (layout f.image)) && has_bar f.probe n) (same_class c c) (and_from (nat_lt n (bar_count (layout f.image))) (has_bar f.probe n) (lt-ltb n (bar_count (layout f.image)) inside) there) (class_same_itself c) in
       let at = in_pool roots s pools p.system p.nested first c (tables c) f (Bar n) listed placed in
       let end = bar_reach s pools good p.addresses f n in
       let high = at.high in
@@ -182,7 +178,7 @@ module _ (roots : List ℕ) (s : System) (pools : Pools) (p : IsPlannable roots 
       let c = window_class kind in
       let need = ltb-true 0 (need_behind s pools c b) (sym (need_is_behind b c listed bridge) ∙ has) in
       let placed : is_placed s pools c b (Window kind) ≡ true =
-      and_from (is_bridge b && same_class c c) (nat_lt 0 (need_behind s pools c b)) (and_from (is_bridge b) (same_class c c) bridge (same_itself c)) (lt-ltb 0 (need_behind s pools c b) need) in
+      and_from (is_bridge b && same_class c c) (nat_lt 0 (need_behind s pools c b)) (and_from (is_bridge b) (same_class c c) bridge (class_same_itself c)) (lt-ltb 0 (need_behind s pools c b) need) in
       let at = in_pool roots s pools p.system p.nested first c (tables c) b (Window kind) listed placed in
       let size = window_size c (need_behind s pools c b) in
       let least = window_least c (need_behind s pools c b) ((tables c).small b listed bridge) in

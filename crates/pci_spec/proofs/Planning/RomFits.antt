@@ -21,7 +21,7 @@ rom_by f place = if has_rom f.image f.probe then rom_value f.image place else ro
 
 module _ (f : Function) (is : IsImage f.image) (place : ℕ) (fine : breaks_rom_rule f.image f.probe ≡ false)
     (at : has_rom f.image f.probe ≡ true → (place % rom_size f.image f.probe ≡ 0) × (place + rom_size f.image f.probe ≤ 2 ^ 32)) where
-  rom_there : has_rom f.image f.probe ≡ true → rom_by f place ≡ rom_value f.image place
+  pub rom_there : has_rom f.image f.probe ≡ true → rom_by f place ≡ rom_value f.image place
   rom_there there = ap (λ t. cond t (rom_value f.image place) (rom_at f.image f.image)) there
 
   rom_absent : has_rom f.image f.probe ≡ false → rom_by f place ≡ rom_at f.image f.image
