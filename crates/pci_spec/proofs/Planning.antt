@@ -1,4 +1,6 @@
+pub mod Above
 pub mod AddressBits
+pub mod AllItems
 pub mod Asleep
 pub mod BarFaults
 pub mod BarFits
@@ -14,8 +16,10 @@ pub mod EachChanges
 pub mod Faults
 pub mod Filled
 pub mod Fit
+pub mod Greatest
 pub mod Home
 pub mod InPool
+pub mod Insertion
 pub mod Kept
 pub mod LaidOut
 pub mod Moved
@@ -24,9 +28,14 @@ pub mod NeededWindows
 pub mod Needs
 pub mod Numbers
 pub mod NumbersFit
+pub mod Order
 pub mod OtherRules
+pub mod OwnItems
 pub mod OwnMachine
+pub mod PlacedItems
 pub mod Placement
+pub mod Places
+pub mod Placings
 pub mod Planned
 pub mod Profile
 pub mod Reach
@@ -43,7 +52,10 @@ pub mod ShownNumbers
 pub mod ShownSystem
 pub mod Shows
 pub mod Single
+pub mod Sizes
+pub mod Sorting
 pub mod Staging
+pub mod Starts
 pub mod Stays
 pub mod Stop
 pub mod Stops
@@ -51,6 +63,6 @@ pub mod Sums
 pub mod Tables
 pub mod ValueFits
 pub mod Whole
-pub mod WorkedRows
 pub mod WindowFits
+pub mod WorkedRows
 pub mod Writes

@@ -1,11 +1,12 @@
 -- Where everything is placed: largest first on each bus, from the pool or the bridge's window on (this project's profile).
-use Rattle.std.specs.Prelude.{◌≡◌, ℕ, zero, suc, ◌+◌, ◌*◌, ◌-◌, ◌^◌, ◌==◌, nat_lt, Bool, ◌&&◌, ◌||◌, if◌then◌else◌, IsTrue, IsFalse, List, [], ◌∷◌, ◌++◌, map, Option, None, Some}
-use Rattle.std.specs.List.{filter, flat_map, sum, find, Contains}
+use Rattle.std.specs.Prelude.{◌≡◌, ℕ, zero, suc, ◌+◌, ◌-◌, ◌==◌, nat_lt, Bool, ◌&&◌, ◌||◌, if◌then◌else◌, IsTrue, IsFalse, List, [], ◌∷◌, ◌++◌, map, Option, None, Some}
+use Rattle.std.specs.List.{filter, flat_map, sum, find, range_with_len, Contains}
 use Rattle.pci_spec.specs.Slot.{slot_number}
+use Rattle.pci_spec.specs.Header.{layout, bar_count}
 use Rattle.pci_spec.specs.Window.{WindowKind, Bounds, bounds_at, has_window, is_wide_window, page_bits}
 use Rattle.pci_spec.specs.Rom.{rom_at}
 use Rattle.pci_spec.specs.Decoded.{Range, decoded_bar, rom_size, aligned_range, window_range}
-use Rattle.pci_spec.specs.System.{System, Function, Part, Bar, Rom, Window, bars_and_rom, register_of, is_bridge}
+use Rattle.pci_spec.specs.System.{System, Function, Part, Bar, Rom, Window, is_implemented, bars_and_rom, register_of, is_bridge}
 use Rattle.pci_spec.specs.Bus.{secondary, is_root, are_side_by_side}
 use Rattle.pci_spec.specs.Plan.{Pools, Class, pool_of, class_of, size_of, same_class, window_of, need_of, window_size, greatest, raised_to, has_behind}
 
@@ -24,11 +25,15 @@ part_item f part = record { function = f; part = part; size = size_of f part }
 abbrev pub window_item : System → Pools → Class → Function → Item
 window_item s pools c b = record { function = b; part = Window (window_of c); size = window_size c (need_of s pools c (secondary b)) }
 
--- the items of a class that a function has on its own bus
+-- the items of a class among some parts of a function
+abbrev pub items_among : System → Pools → Class → Function → List Part → List Item
+items_among s pools c f parts = map (part_item f) (filter (λ part. same_class c (class_of s pools f part)) (filter (is_implemented f) parts))
+
+-- the items of a class that a function has on its own bus, in the order of their registers
 abbrev pub own_items : System → Pools → Class → Function → List Item
 own_items s pools c f =
-    map (part_item f) (filter (λ part. same_class c (class_of s pools f part)) (bars_and_rom f))
-    ++ (if is_bridge f && has_behind s pools c f then window_item s pools c f ∷ [] else [])
+    items_among s pools c f (map Bar (range_with_len 0 (bar_count (layout f.image))))
+    ++ ((if is_bridge f && has_behind s pools c f then window_item s pools c f ∷ [] else []) ++ items_among s pools c f (Rom ∷ []))
 
 -- what is placed side by side: the items of a bus, those of all roots being one bus's
 abbrev pub items_beside : List ℕ → System → Pools → Class → ℕ → List Item
@@ -63,7 +68,7 @@ start_within roots s pools c zero bus = start_of_roots roots s pools c bus
 start_within roots s pools c (suc depth) bus =
     if is_root roots bus then start_of_roots roots s pools c bus
     else behind_window (λ b. place_from (start_within roots s pools c depth b.slot.bus) (items_beside roots s pools c b.slot.bus) (window_item s pools c b))
-      (start_of_roots roots s pools c bus) (find (λ b. is_bridge b && secondary b == bus) s)
+    (start_of_roots roots s pools c bus) (find (λ b. is_bridge b && secondary b == bus) s)
 
 -- buses rise on the way down, so 256 of them are all
 abbrev pub start_of : List ℕ → System → Pools → Class → ℕ → ℕ

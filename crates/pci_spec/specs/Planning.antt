@@ -10,6 +10,7 @@ pub mod Ranges
 pub mod Room
 pub mod Safety
 pub mod Showing
+pub mod Sorted
 pub mod Stops
 pub mod Table
 pub mod Numbers

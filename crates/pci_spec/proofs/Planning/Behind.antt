@@ -159,72 +159,75 @@ module _ (roots : List ℕ) (s : System) (pools : Pools) (c : Class) (system : I
 
   -- ---- something behind makes need
 
-  module _ (small : (b : Function) → Contains s b → is_bridge b ≡ true → need_behind s pools c b ≤ 2 ^ 65) where
-    -- a bus behind a bridge that isn't its secondary bus has a bridge to it that is behind too
-    bridge_between : (b d : Function) → Contains s b → Contains s d → is_bridge b ≡ true → is_bridge d ≡ true → is_behind b (secondary d) ≡ true → secondary b < secondary d → is_behind b d.slot.bus ≡ true
-    bridge_between b d in_b in_d bridge_b bridge_d behind above = elim (cases_Bool (is_behind b d.slot.bus)) [
-      | inl fine ↦ fine
-      | inr out ↦ elim (cases_Bool (is_behind d b.slot.bus)) [
-        | inl other ↦
-            let ends = inside_ends b d in_b in_d bridge_b bridge_d other in
-            let from = ends.0 in
-            absurd (let impossible : ⊥ = omega (arith, from, above) in impossible)
-        | inr apart_too ↦
-            let differ : (b.slot ≡ d.slot → ⊥) = λ e.
-            let same = one_function s system b d in_b in_d (ap slot_number e) in
-            let z : secondary b ≡ secondary d = ap secondary same in
-            (let impossible : ⊥ = omega (arith, z, above) in impossible) in
-            let gap = nested.apart b d in_b in_d bridge_b bridge_d differ apart_too out in
-            let range = behind_range b (secondary d) behind in
-            let end = own_end d in_d bridge_d in
-            let low = range.0 in
-            let high = range.1 in
-            absurd (elim (or_cases (nat_lt (subordinate b) (secondary d)) (nat_lt (subordinate d) (secondary b)) gap) [
-              | inl left ↦ let l = ltb-true (subordinate b) (secondary d) left in (let impossible : ⊥ = omega (arith, l, high) in impossible)
-              | inr right ↦ let l = ltb-true (subordinate d) (secondary b) right in (let impossible : ⊥ = omega (arith, l, end, low) in impossible)
-            ])
-      ]
+  -- a bus behind a bridge that isn't its secondary bus has a bridge to it that is behind too
+  bridge_between : (b d : Function) → Contains s b → Contains s d → is_bridge b ≡ true → is_bridge d ≡ true → is_behind b (secondary d) ≡ true → secondary b < secondary d → is_behind b d.slot.bus ≡ true
+  bridge_between b d in_b in_d bridge_b bridge_d behind above = elim (cases_Bool (is_behind b d.slot.bus)) [
+    | inl fine ↦ fine
+    | inr out ↦ elim (cases_Bool (is_behind d b.slot.bus)) [
+      | inl other ↦
+          let ends = inside_ends b d in_b in_d bridge_b bridge_d other in
+          let from = ends.0 in
+          absurd (let impossible : ⊥ = omega (arith, from, above) in impossible)
+      | inr apart_too ↦
+          let differ : (b.slot ≡ d.slot → ⊥) = λ e.
+          let same = one_function s system b d in_b in_d (ap slot_number e) in
+          let z : secondary b ≡ secondary d = ap secondary same in
+          (let impossible : ⊥ = omega (arith, z, above) in impossible) in
+          let gap = nested.apart b d in_b in_d bridge_b bridge_d differ apart_too out in
+          let range = behind_range b (secondary d) behind in
+          let end = own_end d in_d bridge_d in
+          let low = range.0 in
+          let high = range.1 in
+          absurd (elim (or_cases (nat_lt (subordinate b) (secondary d)) (nat_lt (subordinate d) (secondary b)) gap) [
+            | inl left ↦ let l = ltb-true (subordinate b) (secondary d) left in (let impossible : ⊥ = omega (arith, l, high) in impossible)
+            | inr right ↦ let l = ltb-true (subordinate d) (secondary b) right in (let impossible : ⊥ = omega (arith, l, end, low) in impossible)
+          ])
     ]
+  ]
 
-    -- need on a bus behind a bridge is need behind it
-    need_up : (n : ℕ) (b f : Function) → f.slot.bus < n → Contains s b → Contains s f → is_bridge b ≡ true → is_behind b f.slot.bus ≡ true → 0 < sum (items_on s pools c f.slot.bus) → 0 < need_behind s pools c b
-    need_up zero b f less in_b in_f bridge behind some = absurd (let impossible : ⊥ = omega (arith, less) in impossible)
-    need_up (suc n) b f less in_b in_f bridge behind some =
-        let range = behind_range b f.slot.bus behind in
-        let low = range.0 in
-        elim (cases_eq f.slot.bus (secondary b)) [
-          | inl at ↦ subst (λ bus. 0 < sum (items_on s pools c bus)) at some
-          | inr above ↦
-              let off : is_root roots f.slot.bus ≡ false = elim (cases_Bool (is_root roots f.slot.bus)) [
-                | inr fine ↦ fine
-                | inl root ↦
-                    let clear = all_gives (λ r. not (is_behind b r)) roots f.slot.bus (nested.clear b in_b bridge) ((root_means roots f.slot.bus).0 root) in
-                    absurd (both_ways (is_behind b f.slot.bus) (not-true (is_behind b f.slot.bus) clear) behind)
-              ] in
-              let one = nested.one f in_f off in
-              let d = one.0 in
-              let leads = one.1 in
-              let to = leads.2 in
-              let up = order_of roots s nested d leads.0 leads.1 in
-              let behind_d : is_behind b (secondary d) ≡ true = subst (λ bus. is_behind b bus ≡ true) (sym to) behind in
-              let some_d : 0 < need_behind s pools c d = subst (λ bus. 0 < sum (items_on s pools c bus)) (sym to) some in
-              let between = bridge_between b d in_b leads.0 bridge leads.1 behind_d (omega (arith, low, above, to)) in
-              need_up n b d (omega (arith, less, up, to)) in_b leads.0 bridge between (window_needed s pools c roots system nested d leads.0 leads.1 some_d (small d leads.0 leads.1))
-        ]
-
-    need_by_behind : (b : Function) → Contains s b → is_bridge b ≡ true → has_behind s pools c b ≡ true → 0 < need_behind s pools c b
-    need_by_behind b listed bridge has =
-        let found = any_gives (λ g. is_behind b g.slot.bus && has_class s pools c g) s has in
-        let f = found.x in
-        let is = and_parts (is_behind b f.slot.bus) (has_class s pools c f) found.is in
-        let part = any_gives (λ part. same_class c (class_of s pools f part)) (bars_and_rom f) is.1 in
-        need_up (suc f.slot.bus) b f (omega arith) listed found.listed bridge is.0 (own_needed s pools c roots system nested f part.x found.listed part.listed part.is (size_pos f part.x (listed_plain f part.x part.listed)))
-
-    pub behind_is_need : (b : Function) → Contains s b → is_bridge b ≡ true → has_behind s pools c b ≡ nat_lt 0 (need_behind s pools c b)
-    behind_is_need b listed bridge = elim (cases_Bool (has_behind s pools c b)) [
-      | inl has ↦ has ∙ sym (lt-ltb 0 (need_behind s pools c b) (need_by_behind b listed bridge has))
-      | inr none ↦ elim (cases_lt 0 (need_behind s pools c b)) [
-        | inl some ↦ absurd (both_ways (has_behind s pools c b) none (behind_by_need 256 b (omega arith) listed bridge some))
-        | inr zero_need ↦ none ∙ sym (le-ltb 0 (need_behind s pools c b) zero_need)
+  -- need on a bus behind a bridge is need behind it
+  need_up : (n : ℕ) (b f : Function) → f.slot.bus < n → Contains s b → Contains s f → is_bridge b ≡ true → is_behind b f.slot.bus ≡ true → 0 < sum (items_on s pools c f.slot.bus) → 0 < need_behind s pools c b
+  need_up zero b f less in_b in_f bridge behind some = absurd (let impossible : ⊥ = omega (arith, less) in impossible)
+  need_up (suc n) b f less in_b in_f bridge behind some =
+      let range = behind_range b f.slot.bus behind in
+      let low = range.0 in
+      elim (cases_eq f.slot.bus (secondary b)) [
+        | inl at ↦ subst (λ bus. 0 < sum (items_on s pools c bus)) at some
+        | inr above ↦
+            let off : is_root roots f.slot.bus ≡ false = elim (cases_Bool (is_root roots f.slot.bus)) [
+              | inr fine ↦ fine
+              | inl root ↦
+                  let clear = all_gives (λ r. not (is_behind b r)) roots f.slot.bus (nested.clear b in_b bridge) ((root_means roots f.slot.bus).0 root) in
+                  absurd (both_ways (is_behind b f.slot.bus) (not-true (is_behind b f.slot.bus) clear) behind)
+            ] in
+            let one = nested.one f in_f off in
+            let d = one.0 in
+            let leads = one.1 in
+            let to = leads.2 in
+            let up = order_of roots s nested d leads.0 leads.1 in
+            let behind_d : is_behind b (secondary d) ≡ true = subst (λ bus. is_behind b bus ≡ true) (sym to) behind in
+            let some_d : 0 < need_behind s pools c d = subst (λ bus. 0 < sum (items_on s pools c bus)) (sym to) some in
+            let between = bridge_between b d in_b leads.0 bridge leads.1 behind_d (omega (arith, low, above, to)) in
+            need_up n b d (omega (arith, less, up, to)) in_b leads.0 bridge between (window_needed s pools c roots system nested d leads.0 leads.1 some_d)
       ]
+
+  need_by_behind : (b : Function) → Contains s b → is_bridge b ≡ true → has_behind s pools c b ≡ true → 0 < need_behind s pools c b
+  need_by_behind b listed bridge has =
+      let found = any_gives (λ g. is_behind b g.slot.bus && has_class s pools c g) s has in
+      let f = found.x in
+      let is = and_parts (is_behind b f.slot.bus) (has_class s pools c f) found.is in
+      let part = any_gives (λ part. same_class c (class_of s pools f part)) (bars_and_rom f) is.1 in
+      need_up (suc f.slot.bus) b f (omega arith) listed found.listed bridge is.0 (own_needed s pools c roots system nested f part.x found.listed part.listed part.is (size_pos f part.x (listed_plain f part.x part.listed)))
+
+  -- something is behind a bridge exactly where its secondary bus has need
+  pub behind_by_test : (b : Function) → Contains s b → is_bridge b ≡ true → has_behind s pools c b ≡ nat_lt 0 (need_behind s pools c b)
+  behind_by_test b listed bridge = elim (cases_Bool (has_behind s pools c b)) [
+    | inl has ↦ has ∙ sym (lt-ltb 0 (need_behind s pools c b) (need_by_behind b listed bridge has))
+    | inr none ↦ elim (cases_lt 0 (need_behind s pools c b)) [
+      | inl some ↦ absurd (both_ways (has_behind s pools c b) none (behind_by_need 256 b (omega arith) listed bridge some))
+      | inr zero_need ↦ none ∙ sym (le-ltb 0 (need_behind s pools c b) zero_need)
     ]
+  ]
+
+  pub behind_is_need : ((b : Function) → Contains s b → is_bridge b ≡ true → need_behind s pools c b ≤ 2 ^ 65) → (b : Function) → Contains s b → is_bridge b ≡ true → has_behind s pools c b ≡ nat_lt 0 (need_behind s pools c b)
+  behind_is_need small b listed bridge = behind_by_test b listed bridge

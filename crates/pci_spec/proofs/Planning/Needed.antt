@@ -57,8 +57,8 @@ module _ (s : System) (pools : Pools) (c : Class) where
         let below = contained_le_sum (items_on s pools c f.slot.bus) (size_of f p) all in
         omega (arith, below, some)
 
-    pub window_needed : (b : Function) → Contains s b → is_bridge b ≡ true → 0 < need_behind s pools c b → need_behind s pools c b ≤ 2 ^ 65 → 0 < sum (items_on s pools c b.slot.bus)
-    window_needed b listed bridge some small =
+    pub window_needed : (b : Function) → Contains s b → is_bridge b ≡ true → 0 < need_behind s pools c b → 0 < sum (items_on s pools c b.slot.bus)
+    window_needed b listed bridge some =
         let n = need_behind s pools c b in
         let size = window_size c (limited n) in
         let own = flat_map (own_sizes s pools c b.slot.bus) s in
@@ -71,8 +71,7 @@ module _ (s : System) (pools : Pools) (c : Class) where
         subst (λ xs. Contains xs size) (sym (items_by_behind s pools c (slots_of s system) (order_of roots s nested) b.slot.bus))
         (Contains-append_right own (flat_map (λ g. window_over c b.slot.bus g (items_on s pools c (secondary g))) s) size in_windows) in
         let below = contained_le_sum (items_on s pools c b.slot.bus) size all in
-        let same : limited n ≡ n = omega (arith, small) in
-        let least = window_least c (limited n) (omega (arith, small, same)) in
+        let least = window_least c (limited n) (omega arith) in
         let pos = power_pos size least.power in
         omega (arith, below, pos)
 
@@ -87,7 +86,7 @@ module _ (s : System) (pools : Pools) (c : Class) where
     needed f (Window kind) listed placed small =
         let outer = and_parts (is_bridge f && same_class c (window_class kind)) (nat_lt 0 (need_behind s pools c f)) placed in
         let inner = and_parts (is_bridge f) (same_class c (window_class kind)) outer.0 in
-        window_needed f listed inner.0 (ltb-true 0 (need_behind s pools c f) outer.1) (small f listed inner.0)
+        window_needed f listed inner.0 (ltb-true 0 (need_behind s pools c f) outer.1)
 
   -- sizes are powers of two
   pub size_power : (f : Function) (p : Part) → need_behind s pools c f ≤ 2 ^ 65 → IsPower (size_in s pools c f p)

@@ -63,7 +63,7 @@ module _ (roots : List ℕ) (s : System) (pools : Pools) (c : Class) (system : I
         omega (arith, below, enough)
   ]
 
-  need_le : (n : ℕ) (b : Function) → b.slot.bus < n → Contains s b → is_bridge b ≡ true → limited (need_behind s pools c b) ≤ sum (root_items roots s pools c)
+  pub need_le : (n : ℕ) (b : Function) → b.slot.bus < n → Contains s b → is_bridge b ≡ true → limited (need_behind s pools c b) ≤ sum (root_items roots s pools c)
   need_le zero b less listed bridge = absurd (let impossible : ⊥ = omega (arith, less) in impossible)
   need_le (suc n) b less listed bridge =
       let up = window_le b listed bridge in
