@@ -1,4 +1,12 @@
-mod FilledBars
-mod FilledRoms
-mod FilledWindows
+pub mod Aboves
+pub mod ClassOf
+pub mod FilledBars
+pub mod FilledRoms
+pub mod FilledWindows
+pub mod Mapped
+pub mod NeedTables
+pub mod NoWindows
+pub mod Owned
+pub mod Parts
 pub mod Records
+pub mod RootNeeds

@@ -3,6 +3,7 @@ pub mod Above
 pub mod Classes
 pub mod Needs
 pub mod Records
+pub mod Sizes
 pub mod Places
 pub mod Fillings
 pub mod Writes

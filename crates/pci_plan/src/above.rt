@@ -1,6 +1,7 @@
 //! Which windows all bridges between the host and a bus have.
-ghost use Rattle.std.specs.Prelude.{◌≡◌};
-ghost use Rattle.pci_plan.specs.Above.{AreAboves, system_in};
+ghost use Rattle.std.specs.Prelude.{◌≡◌, ◌&&◌};
+ghost use Rattle.std.specs.Option.{is_some};
+ghost use Rattle.pci_plan.specs.Above.{AreAboves, is_wide_in, system_in};
 
 use pci_image::window::{Window, Windows};
 use pci_tree::admitted::Admitted;
@@ -18,7 +19,9 @@ pub struct Above {
 }
 
 /// Whether a window is there and has upper halves.
-fn is_wide(window: Option<Window>) -> bool {
+fn is_wide(window: Option<Window>) -> bool
+    ensures { result ≡ is_wide_in window }
+{
     match window {
         None => false,
         Some(window) => window.wide(),
@@ -34,7 +37,11 @@ impl Above {
     };
 
     /// The same below one more bridge, with these windows.
-    fn and(self, windows: &Windows) -> Above {
+    fn and(self, windows: &Windows) -> Above
+        ensures io { result.io ≡ (self.io && is_some windows.now.io) }
+        ensures pref { result.pref ≡ (self.pref && is_some windows.now.pref) }
+        ensures wide { result.wide ≡ (self.wide && is_wide_in windows.now.pref) }
+    {
         Above {
             io: self.io && windows.io.is_some(),
             pref: self.pref && windows.pref.is_some(),
@@ -51,8 +58,9 @@ pub fn aboves<A: Allocator>(admitted: &Admitted<A>) -> [Above; 256]
     let mut aboves = [Above::NONE; 256];
     for record in admitted.outline().records() {
         if let Some(bridge) = record.bridge {
-            let above = aboves[usize::from(record.slot.bus())];
-            aboves[usize::from(bridge.secondary)] = above.and(&bridge.windows);
+            let secondary = bridge.secondary as usize;
+            let above = aboves[record.slot.bus() as usize];
+            aboves[secondary] = above.and(&bridge.windows);
         }
     }
     aboves

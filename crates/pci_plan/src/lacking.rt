@@ -1,9 +1,11 @@
 //! I/O BARs behind bridges without an I/O window.
-ghost use Rattle.std.specs.Prelude.{MatchOption};
+ghost use Rattle.std.specs.Prelude.{◌≡◌, MatchOption};
+ghost use Rattle.std.specs.List.{list_any};
 ghost use Rattle.pci_spec.specs.Slot.{Slot as SlotValue};
 ghost use Rattle.pci_spec.specs.Plan.{LacksWindow};
 ghost use Rattle.pci_spec.specs.PlanPromise.{IsFirstLacking};
 ghost use Rattle.pci_plan.specs.Above.{AreAboves, system_in};
+ghost use Rattle.pci_plan.specs.Classes.{is_io_kind};
 
 use super::above::Above;
 use pci_image::bar::BarKind;
@@ -13,8 +15,10 @@ use pci_tree::record::Record;
 use std::alloc::Allocator;
 
 /// Whether a function has an I/O BAR.
-fn has_io_bar(record: &Record) -> bool {
-    for bar in &record.bars {
+fn has_io_bar(record: &Record) -> bool
+    ensures { result ≡ list_any (λ bar. is_io_kind bar.kind) «record».now.bars.items }
+{
+    for bar in record.bars.as_slice() {
         if bar.kind == BarKind::Io {
             return true;
         }
@@ -31,7 +35,7 @@ pub fn first_lacking<A: Allocator>(
     ensures { MatchOption result ((slot : SlotValue) → LacksWindow (system_in admitted.now) slot → ⊥) (IsFirstLacking (system_in admitted.now)) }
 {
     for record in admitted.outline().records() {
-        let above = aboves[usize::from(record.slot.bus())];
+        let above = aboves[record.slot.bus() as usize];
         if !above.io && has_io_bar(record) {
             return Some(record.slot);
         }

@@ -1,9 +1,12 @@
 //! What each bus needs of a class: the sizes of its BARs and ROMs, and for each bridge with something behind it a window
 //! around what the bus behind needs.
-ghost use Rattle.std.specs.Prelude.{◌≡◌, ◌≤◌, ◌^◌, ◌<◌, ℕ, slice_index};
-ghost use Rattle.pci_spec.specs.Plan.{window_size, need_of, greatest_of_roots};
+ghost use Rattle.std.specs.Prelude.{◌≡◌, ◌≤◌, ◌^◌, ◌<◌, ◌+◌, ℕ, min, max, slice_index, ◌++◌};
+ghost use Rattle.std.specs.List.{All};
+ghost use Rattle.pci_spec.specs.Plan.{step_of, window_size, need_of, greatest_of_roots};
+ghost use Rattle.pci_tree.specs.Regions.{IsLawful};
 ghost use Rattle.pci_plan.specs.Pools.{class_value, pools_value};
 ghost use Rattle.pci_plan.specs.Above.{AreAboves, system_in};
+ghost use Rattle.pci_plan.specs.Sizes.{span, own_sizes, window_sizes, IsTallyOf};
 
 use super::above::Above;
 use super::class::class_of_bar;
@@ -40,7 +43,12 @@ impl Tally {
     };
 
     /// With one more size.
-    fn and(self, size: u128) -> Tally {
+    fn and(self, size: u128) -> Tally
+        requires sum { self.sum ≤ 2 ^ 65 }
+        requires size { size ≤ 2 ^ 65 }
+        ensures sum { result.sum ≡ min (2 ^ 65) (self.sum + size) }
+        ensures greatest { result.greatest ≡ max self.greatest size }
+    {
         Tally {
             sum: MOST.min(self.sum + size),
             greatest: self.greatest.max(size),
@@ -49,17 +57,27 @@ impl Tally {
 }
 
 /// How many addresses a BAR has.
-pub fn bar_size(bar: &Bar) -> u128 {
+pub fn bar_size(bar: &Bar) -> u128
+    requires { bar.now.first ≤ bar.now.last }
+    ensures size { result ≡ span bar.now.first bar.now.last }
+    ensures bound { result ≤ 2 ^ 64 }
+{
     u128::from(bar.last) - u128::from(bar.first) + 1
 }
 
 /// How many addresses a ROM has.
-pub fn rom_size(rom: &Rom) -> u128 {
+pub fn rom_size(rom: &Rom) -> u128
+    requires { rom.now.first ≤ rom.now.last }
+    ensures size { result ≡ span rom.now.first rom.now.last }
+    ensures bound { result ≤ 2 ^ 64 }
+{
     u128::from(rom.last) - u128::from(rom.first) + 1
 }
 
 /// The least size of a window of a class, by which it grows: 4 KB of I/O, 1 MB of memory (Bridge 1.2, chapter 4).
-fn step_of(class: Class) -> u128 {
+fn step_of(class: Class) -> u128
+    ensures { result ≡ step_of (class_value class) }
+{
     match class {
         Class::Io => 1 << 12,
         Class::Memory | Class::Prefetchable => 1 << 20,
@@ -72,7 +90,7 @@ pub fn window_size_of(class: Class, need: u128) -> u128
     ensures { result ≡ window_size (class_value class) need }
 {
     let mut size = step_of(class);
-    for _ in 0..66 {
+    for _ in 0..66u32 {
         if need <= size {
             return size;
         }
@@ -82,9 +100,12 @@ pub fn window_size_of(class: Class, need: u128) -> u128
 }
 
 /// The sizes of a function's own BARs and ROM of a class.
-fn own_tally(record: &Record, class: Class, above: Above, pools: &Pools) -> Tally {
+fn own_tally(record: &Record, class: Class, above: Above, pools: &Pools) -> Tally
+    requires { IsLawful «record».now }
+    ensures { IsTallyOf (own_sizes (class_value class) above pools.now «record».now) result }
+{
     let mut tally = Tally::NONE;
-    for bar in &record.bars {
+    for bar in record.bars.as_slice() {
         if class_of_bar(bar, above, pools) == class {
             tally = tally.and(bar_size(bar));
         }
@@ -102,14 +123,19 @@ fn tally_of(
     above: Above,
     pools: &Pools,
     of_bus: &[u128; 256],
-) -> Tally {
+) -> Tally
+    requires lawful { IsLawful «record».now }
+    requires limited { All (λ need. need ≤ 2 ^ 65) of_bus.now }
+    ensures { IsTallyOf (own_sizes (class_value class) above pools.now «record».now ++ window_sizes (class_value class) of_bus.now «record».now.bridge) result }
+{
     let tally = own_tally(record, class, above, pools);
-    match record.bridge {
-        Some(bridge) if 0 < of_bus[usize::from(bridge.secondary)] => {
-            tally.and(window_size_of(class, of_bus[usize::from(bridge.secondary)]))
+    if let Some(bridge) = record.bridge {
+        let need = of_bus[bridge.secondary as usize];
+        if 0 < need {
+            return tally.and(window_size_of(class, need));
         }
-        _ => tally,
     }
+    tally
 }
 
 /// What each bus needs of a class. Functions behind a bridge have higher slots than the bridge, so in one pass from the
@@ -131,10 +157,10 @@ pub fn needs_of<A: Allocator>(
     let mut greatest = 0;
     for done in 0..records.len() {
         let record = &records[records.len() - 1 - done];
-        let bus = record.slot.bus();
-        let tally = tally_of(record, class, aboves[usize::from(bus)], pools, &of_bus);
-        of_bus[usize::from(bus)] = MOST.min(of_bus[usize::from(bus)] + tally.sum);
-        if roots.has(bus) && greatest < tally.greatest {
+        let bus = record.slot.bus() as usize;
+        let tally = tally_of(record, class, aboves[bus], pools, &of_bus);
+        of_bus[bus] = MOST.min(of_bus[bus] + tally.sum);
+        if roots.has(record.slot.bus()) && greatest < tally.greatest {
             greatest = tally.greatest;
         }
     }

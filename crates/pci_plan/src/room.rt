@@ -1,6 +1,8 @@
 //! Whether what is of a class fits its pool.
-ghost use Rattle.std.specs.Prelude.{◌≡◌, ◌<◌, ◌≤◌, ◌^◌, ℕ, slice_index};
+ghost use Rattle.std.specs.Prelude.{◌≡◌, ◌<◌, ◌≤◌, ◌^◌, ℕ, map, slice_index};
+ghost use Rattle.std.specs.List.{All, sum};
 ghost use Rattle.pci_spec.specs.Plan.{fits, raised_to, pool_of, greatest_of_roots};
+ghost use Rattle.pci_tree.specs.Roots.{buses_of};
 ghost use Rattle.pci_plan.specs.Pools.{class_value, pools_value};
 ghost use Rattle.pci_plan.specs.Above.{system_in};
 ghost use Rattle.pci_plan.specs.Needs.{AreNeeds};
@@ -12,7 +14,11 @@ use pci_tree::roots::Roots;
 use std::alloc::Allocator;
 
 /// What all root buses need together: they are placed as one bus.
-fn need_of_roots(roots: &Roots, needs: &Needs) -> u128 {
+fn need_of_roots(roots: &Roots, needs: &Needs) -> u128
+    requires { All (λ need. need ≤ 2 ^ 65) needs.now.of_bus }
+    ensures sum { result ≡ sum (map (slice_index needs.now.of_bus) (buses_of roots.now)) }
+    ensures bound { result ≤ 2 ^ 73 }
+{
     let mut sum = 0;
     for bus in 0..256usize {
         if roots.has(bus as u8) {
@@ -23,7 +29,12 @@ fn need_of_roots(roots: &Roots, needs: &Needs) -> u128 {
 }
 
 /// The least multiple of a size from an address on.
-pub fn raised(size: u128, first: u64) -> u128 {
+pub fn raised(size: u128, first: u64) -> u128
+    requires some { 0 < size }
+    requires limited { size ≤ 2 ^ 65 }
+    ensures raised { result ≡ raised_to size first }
+    ensures bound { result ≤ 2 ^ 66 }
+{
     (u128::from(first) + size - 1) / size * size
 }
 

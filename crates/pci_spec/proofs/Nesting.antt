@@ -236,7 +236,7 @@ number_at_place s f (k, less, is) =
     ∙ ap slot_number (get_or-map (λ (g : Function). g.slot) s k f f.slot less ∙ ap (λ (g : Function). g.slot) is)
 
 -- of two functions, the earlier one has the lower slot
-earlier_is_lower : (s : System) → IsSystem s → (b c : Function) (in_b : Contains s b) (in_c : Contains s c) → in_b.0 < in_c.0 → slot_number b.slot < slot_number c.slot
+pub earlier_is_lower : (s : System) → IsSystem s → (b c : Function) (in_b : Contains s b) (in_c : Contains s c) → in_b.0 < in_c.0 → slot_number b.slot < slot_number c.slot
 earlier_is_lower s system b c in_b in_c before =
     let long : length (numbers_of s) ≡ length s = length-map (map (λ (g : Function). g.slot) s) slot_number ∙ length-map s (λ (g : Function). g.slot) in
     let within = in_c.1 in

@@ -1,4 +1,5 @@
 pub mod Above
+pub mod AboveBuses
 pub mod AddressBits
 pub mod AllItems
 pub mod Asleep
@@ -32,6 +33,7 @@ pub mod Order
 pub mod OtherRules
 pub mod OwnItems
 pub mod OwnMachine
+pub mod Passed
 pub mod PlacedItems
 pub mod Placement
 pub mod Places
@@ -61,6 +63,7 @@ pub mod Stop
 pub mod Stops
 pub mod Sums
 pub mod Tables
+pub mod Tallies
 pub mod ValueFits
 pub mod Whole
 pub mod WindowFits
