@@ -29,6 +29,7 @@ use Rattle.pci_plan.specs.declared.numbers.Filling.{Filling}
 use Rattle.pci_plan.specs.Classes.{is_io_kind, is_wide_kind}
 use Rattle.pci_plan.specs.Fillings.{FillingOf}
 use Rattle.pci_plan.specs.Places.{first_in}
+use Rattle.pci_plan.proofs.ClassOf.{kind_wide}
 
 -- the BAR of the record that register n starts
 pub record IsBarAt (f : Function) (n : ℕ) (bar : CodeBar) : Type 0 where
@@ -69,54 +70,14 @@ low_bits f n =
 
 -- ---- kinds
 
-is_wide_by : (io wide narrow : Bool) (k : CodeKind) → decoded_kind_of k ≡ kind_by io wide narrow → is_wide_kind k ≡ (not io && wide)
-is_wide_by true wide narrow Io e = refl
-is_wide_by true wide narrow Mem32 e = cc
-is_wide_by true wide narrow Mem64 e = cc
-is_wide_by false true narrow Io e = cc
-is_wide_by false true narrow Mem32 e = cc
-is_wide_by false true narrow Mem64 e = refl
-is_wide_by false false true Io e = cc
-is_wide_by false false true Mem32 e = refl
-is_wide_by false false true Mem64 e = cc
-is_wide_by false false false Io e = cc
-is_wide_by false false false Mem32 e = cc
-is_wide_by false false false Mem64 e = cc
-
 pub wide_is : (f : Function) (n : ℕ) (bar : CodeBar) → IsBarAt f n bar → is_wide_kind bar.kind ≡ is_wide (bar_at f.probe n)
-wide_is f n bar at =
-    let mask = bar_at f.probe n in
-    is_wide_by (is_io mask) (type_bits mask == 2) (type_bits mask == 0) bar.kind (kind_is f n bar at)
+wide_is f n bar at = kind_wide f bar n at.is
 
-is_io_by : (io wide narrow : Bool) (k : CodeKind) → decoded_kind_of k ≡ kind_by io wide narrow → is_io_kind k ≡ io
-is_io_by true wide narrow Io e = refl
-is_io_by true wide narrow Mem32 e = cc
-is_io_by true wide narrow Mem64 e = cc
-is_io_by false true narrow Io e = cc
-is_io_by false true narrow Mem32 e = refl
-is_io_by false true narrow Mem64 e = refl
-is_io_by false false true Io e = cc
-is_io_by false false true Mem32 e = refl
-is_io_by false false true Mem64 e = refl
-is_io_by false false false Io e = cc
-is_io_by false false false Mem32 e = refl
-is_io_by false false false Mem64 e = refl
-
-pub io_is : (f : Function) (n : ℕ) (bar : CodeBar) → IsBarAt f n bar → is_io_kind bar.kind ≡ is_io (bar_at f.probe n)
-io_is f n bar at =
-    let mask = bar_at f.probe n in
-    is_io_by (is_io mask) (type_bits mask == 2) (type_bits mask == 0) bar.kind (kind_is f n bar at)
-
--- comparisons of kinds
+-- a comparison of kinds
 pub same_wide : (k : CodeKind) → sameb bar_kind_type k Mem64 ≡ is_wide_kind k
 same_wide Io = refl
 same_wide Mem32 = refl
 same_wide Mem64 = refl
-
-pub same_io : (k : CodeKind) → sameb bar_kind_type k Io ≡ is_io_kind k
-same_io Io = refl
-same_io Mem32 = refl
-same_io Mem64 = refl
 
 -- a register that a BAR isn't shown in
 pub record IsElsewhere (offset : ℕ) (bar : CodeBar) : Type 0 where

@@ -146,8 +146,15 @@ module _ (filling : Filling) (of : FillingOf filling) where
     pub nibble_few : (class : Class) → nibble_of (window_kind class) of.function ≤ 1
     nibble_few class = few_nibbles of.function is_a_bridge (window_kind class)
 
-    abbrev size : Class → ℕ
-    size class = window_size (window_class (window_kind class)) (need_of of.system of.pools (window_class (window_kind class)) (secondary of.function))
+    -- the size of a window around what the bus behind needs
+    abbrev pub size : Class → ℕ
+    size class = window_size (class_value class) (need_of of.system of.pools (class_value class) (secondary of.function))
+
+    abbrev kind_size : Class → ℕ
+    kind_size class = window_size (window_class (window_kind class)) (need_of of.system of.pools (window_class (window_kind class)) (secondary of.function))
+
+    same_size : (class : Class) → kind_size class ≡ size class
+    same_size class = ap (λ c. window_size c (need_of of.system of.pools c (secondary of.function))) (kind_class class)
 
     pub absent_bounds : (class : Class) → has_window (window_kind class) of.function.probe ≡ false
         → new_bounds of.roots of.system of.pools of.function (window_kind class) ≡ record { base = 0; limit = 0; base_upper = 0; limit_upper = 0 }
@@ -155,7 +162,7 @@ module _ (filling : Filling) (of : FillingOf filling) where
         let f = of.function in
         let kind = window_kind class in
         let mask = are_zero (bounds_at kind f.probe) (not-false (is_zero (bounds_at kind f.probe)) none) in
-        let as_they_are = by_absent f is_a_bridge kind (has_behind of.system of.pools (window_class kind) f) (place_at of.roots of.system of.pools f (Window kind)) (size class) none in
+        let as_they_are = by_absent f is_a_bridge kind (has_behind of.system of.pools (window_class kind) f) (place_at of.roots of.system of.pools f (Window kind)) (kind_size class) none in
         elim (window_rules kind f.image f.probe (of.recorded.decodable.windows kind (eqb-true (layout f.image) 1 is_a_bridge))) [
           | inl narrow ↦ absurd (no_page kind 0 (sym narrow.base ∙ mask.base))
           | inr other ↦ elim other [
@@ -171,7 +178,7 @@ module _ (filling : Filling) (of : FillingOf filling) where
         let f = of.function in
         let kind = window_kind class in
         let nothing : has_behind of.system of.pools (window_class kind) f ≡ false = ap (λ c. has_behind of.system of.pools c f) (kind_class class) ∙ sym (open_is class) ∙ ap (nat_lt 0) none in
-        by_closed f is_a_bridge kind (has_behind of.system of.pools (window_class kind) f) (place_at of.roots of.system of.pools f (Window kind)) (size class) there nothing
+        by_closed f is_a_bridge kind (has_behind of.system of.pools (window_class kind) f) (place_at of.roots of.system of.pools f (Window kind)) (kind_size class) there nothing
 
     something : (class : Class) → 0 < slice_index (by_class filling.needs.now class).of_bus bridge.secondary → has_behind of.system of.pools (window_class (window_kind class)) of.function ≡ true
     something class need =
@@ -196,12 +203,15 @@ module _ (filling : Filling) (of : FillingOf filling) where
         let placed : first_in filling.places.now (Window kind) ≡ place_at of.roots of.system of.pools f (Window kind) =
         of.places (Window kind) (and_from (is_bridge f && same_class (window_class kind) (window_class kind)) (nat_lt 0 (need_behind of.system of.pools (window_class kind) f))
         (and_from (is_bridge f) (same_class (window_class kind) (window_class kind)) is_a_bridge (class_same_itself (window_class kind))) behind) in
-        let reached = reached_bits class n (place_at of.roots of.system of.pools f (Window kind) + size class) at.reached in
+        let reached = reached_bits class n (place_at of.roots of.system of.pools f (Window kind) + kind_size class) at.reached in
+        let first_size = at.some in
+        let e = same_size class in
         record {
-          some = at.some;
-          high = omega (arith, reached, placed);
-          bounds = by_open f is_a_bridge kind (has_behind of.system of.pools (window_class kind) f) (place_at of.roots of.system of.pools f (Window kind)) (size class) there some
-              ∙ ap (λ first. bounds_for kind n first (first + (size class - 1))) (sym placed);
+          some = omega (arith, first_size, e);
+          high = omega (arith, reached, placed, e);
+          bounds = by_open f is_a_bridge kind (has_behind of.system of.pools (window_class kind) f) (place_at of.roots of.system of.pools f (Window kind)) (kind_size class) there some
+              ∙ ap (λ first. bounds_for kind n first (first + (kind_size class - 1))) (sym placed)
+              ∙ ap (λ count. bounds_for kind n (first_in filling.places.now (Window kind)) (first_in filling.places.now (Window kind) + (count - 1))) e;
         }
 
     -- the upper halves of I/O have 16 bits

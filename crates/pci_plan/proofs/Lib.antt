@@ -1,6 +1,8 @@
 pub mod Aboves
 pub mod ClassOf
 pub mod FilledBars
+pub mod FilledCommand
+pub mod FilledRegisters
 pub mod FilledRoms
 pub mod FilledWindows
 pub mod Mapped

@@ -15,7 +15,7 @@ use pci_tree::record::Record;
 use std::alloc::Allocator;
 
 /// Whether a function has an I/O BAR.
-fn has_io_bar(record: &Record) -> bool
+pub fn has_io_bar(record: &Record) -> bool
     ensures { result ≡ list_any (λ bar. is_io_kind bar.kind) «record».now.bars.items }
 {
     for bar in record.bars.as_slice() {
@@ -27,10 +27,7 @@ fn has_io_bar(record: &Record) -> bool
 }
 
 /// The first function, by slot, that has an I/O BAR behind a bridge without an I/O window.
-pub fn first_lacking<A: Allocator>(
-    admitted: &Admitted<A>,
-    aboves: &[Above; 256],
-) -> Option<Slot>
+pub fn first_lacking<A: Allocator>(admitted: &Admitted<A>, aboves: &[Above; 256]) -> Option<Slot>
     requires { AreAboves (system_in admitted.now) aboves.now }
     ensures { MatchOption result ((slot : SlotValue) → LacksWindow (system_in admitted.now) slot → ⊥) (IsFirstLacking (system_in admitted.now)) }
 {

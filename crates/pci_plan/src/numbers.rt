@@ -1,19 +1,22 @@
 //! What the registers of a function hold when everything is placed.
-ghost use Rattle.std.specs.Prelude.{◌≡◌, ◌+◌, ◌*◌, ◌/◌, ◌%◌, ◌^◌, ◌<◌, ◌≤◌, ℕ, ◌&&◌, not, IsTrue, slice_index};
+ghost use Rattle.std.specs.Prelude.{◌≡◌, ◌+◌, ◌*◌, ◌/◌, ◌%◌, ◌^◌, ◌<◌, ◌≤◌, ℕ, ◌&&◌, ◌||◌, not, IsTrue, slice_index};
 ghost use Rattle.std.specs.List.{Contains, list_any};
+ghost use Rattle.std.specs.Option.{is_some};
 ghost use Rattle.pci_spec.specs.Header.{address_registers, bar_count, bar_register, layout, rom_register};
-ghost use Rattle.pci_spec.specs.System.{Bar as BarPart, Window as WindowPart, bars_and_rom, is_bridge};
+ghost use Rattle.pci_spec.specs.System.{Bar as BarPart, Window as WindowPart, is_bridge};
 ghost use Rattle.pci_spec.specs.Window.{has_window};
 ghost use Rattle.pci_spec.specs.Place.{closed_bounds, nibble_of};
-ghost use Rattle.pci_spec.specs.Plan.{has_behind, is_io_part};
+ghost use Rattle.pci_spec.specs.Plan.{has_behind};
 ghost use Rattle.pci_spec.specs.Planning.Showing.{bounds_for, first_bit};
 ghost use Rattle.pci_image.specs.Bars.{decoded_kind_of};
 ghost use Rattle.pci_spec.specs.Planning.Numbers as numbers;
+ghost use Rattle.pci_plan.specs.Classes.{is_io_kind};
 ghost use Rattle.pci_plan.specs.Pools.{by_class, class_value};
 ghost use Rattle.pci_plan.specs.Places.{first_in};
 ghost use Rattle.pci_plan.specs.Fillings.{address_bits, bounds_value, window_kind, window_in, FillingOf, IsListed};
 
 use super::by_class::ByClass;
+use super::lacking::has_io_bar;
 use super::need::{Needs, window_size_of};
 use super::place::Places;
 use super::pools::Class;
@@ -108,22 +111,30 @@ impl Bounds {
         Bounds::open(class, nibble, last_page, 0)
     }
 
-    /// Base and limit in one number, the limit from a bit on.
+    /// Base and limit in one register, the limit from a bit on.
     fn lower(self, bit: u32) -> u32
         requires { bit ≤ 16 }
         ensures { result ≡ self.base.lower + 2 ^ bit * self.limit.lower }
     {
-        u32::from(self.base.lower) + (u32::from(self.limit.lower) << bit)
+        joined(self.base.lower, self.limit.lower, bit)
     }
 
-    /// The upper halves of base and limit in one number, of 16 bits each.
+    /// The upper halves of base and limit in one register, of 16 bits each.
     fn upper(self) -> u32
         requires base { self.base.upper < 2 ^ 16 }
         requires limit { self.limit.upper < 2 ^ 16 }
         ensures { result ≡ self.base.upper + 2 ^ 16 * self.limit.upper }
     {
-        self.base.upper + (self.limit.upper << 16)
+        joined(self.base.upper as u16, self.limit.upper as u16, 16)
     }
+}
+
+/// Two numbers in one, the second from a bit on.
+fn joined(first: u16, second: u16, bit: u32) -> u32
+    requires { bit ≤ 16 }
+    ensures { result ≡ first + 2 ^ bit * second }
+{
+    u32::from(first) + (u32::from(second) << bit)
 }
 
 /// The window of a class, where the bridge has one.
@@ -135,6 +146,18 @@ fn window_of(bridge: &Bridge, class: Class) -> Option<Window>
         Class::Memory => Some(bridge.windows.mem),
         Class::Prefetchable => bridge.windows.pref,
     }
+}
+
+/// Whether a function has a memory BAR or a ROM.
+fn has_memory_part(record: &Record) -> bool
+    ensures { result ≡ (list_any (λ bar. not (is_io_kind bar.kind)) «record».now.bars.items || is_some «record».now.rom) }
+{
+    for bar in record.bars.as_slice() {
+        if bar.kind != BarKind::Io {
+            return true;
+        }
+    }
+    record.rom.is_some()
 }
 
 /// How many encodings the low bits of a BAR's register have: bits 1:0 for I/O, bits 3:0 for memory (PCI 3.0, 6.2.5.1).
@@ -300,28 +323,12 @@ impl Filling<'_> {
         }
     }
 
-    /// Whether the function has a BAR in I/O space.
-    fn has_io_part(&self) -> bool
-        requires { FillingOf self.now }
-        ensures { (of : FillingOf self.now) → result ≡ list_any (is_io_part of.function) (bars_and_rom of.function) }
-    {
-        self.record.bars.iter().any(|bar| bar.kind == BarKind::Io)
-    }
-
-    /// Whether the function has a BAR in memory space, or a ROM.
-    fn has_memory_part(&self) -> bool
-        requires { FillingOf self.now }
-        ensures { (of : FillingOf self.now) → result ≡ list_any (λ part. not (is_io_part of.function part)) (bars_and_rom of.function) }
-    {
-        self.record.bars.iter().any(|bar| bar.kind != BarKind::Io) || self.record.rom.is_some()
-    }
-
     /// Whether there is something to decode in I/O space.
     fn needs_io(&self) -> bool
         requires { FillingOf self.now }
         ensures { (of : FillingOf self.now) → result ≡ numbers.needs_io of.system of.pools of.function }
     {
-        self.has_io_part() || self.is_open(Class::Io)
+        has_io_bar(self.record) || self.is_open(Class::Io)
     }
 
     /// Whether there is something to decode in memory space.
@@ -329,7 +336,9 @@ impl Filling<'_> {
         requires { FillingOf self.now }
         ensures { (of : FillingOf self.now) → result ≡ numbers.needs_memory of.system of.pools of.function }
     {
-        self.has_memory_part() || self.is_open(Class::Memory) || self.is_open(Class::Prefetchable)
+        has_memory_part(self.record)
+            || self.is_open(Class::Memory)
+            || self.is_open(Class::Prefetchable)
     }
 
     /// What Command holds: bits 0 and 1 as there is something to decode, all others as they stand (PCI 3.0, 6.2.2).
