@@ -2,6 +2,7 @@ pub mod Aboves
 pub mod ClassOf
 pub mod FilledBars
 pub mod FilledCommand
+pub mod FilledImages
 pub mod FilledRegisters
 pub mod FilledRoms
 pub mod FilledWindows
