@@ -3,6 +3,12 @@ pub mod ClassOf
 pub mod ClassPlaces
 pub mod ItemValues
 pub mod ItemWalks
+pub mod FilledBars
+pub mod FilledCommand
+pub mod FilledImages
+pub mod FilledRegisters
+pub mod FilledRoms
+pub mod FilledWindows
 pub mod Mapped
 pub mod NeedTables
 pub mod NoWindows

@@ -8,6 +8,7 @@ pub mod Places
 pub mod Sorting
 pub mod Items
 pub mod Walks
+pub mod Fillings
 pub mod Writes
 pub mod Comparing
 pub mod Making

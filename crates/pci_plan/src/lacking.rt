@@ -15,7 +15,7 @@ use pci_tree::record::Record;
 use std::alloc::Allocator;
 
 /// Whether a function has an I/O BAR.
-fn has_io_bar(record: &Record) -> bool
+pub fn has_io_bar(record: &Record) -> bool
     ensures { result ≡ list_any (λ bar. is_io_kind bar.kind) «record».now.bars.items }
 {
     for bar in record.bars.as_slice() {

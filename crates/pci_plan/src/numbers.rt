@@ -1,17 +1,33 @@
 //! What the registers of a function hold when everything is placed.
-ghost use Rattle.std.specs.Prelude.{◌≡◌};
+ghost use Rattle.std.specs.Prelude.{◌≡◌, ◌+◌, ◌*◌, ◌/◌, ◌%◌, ◌^◌, ◌<◌, ◌≤◌, ℕ, ◌&&◌, ◌||◌, not, IsTrue, slice_index};
+ghost use Rattle.std.specs.List.{Contains, list_any};
+ghost use Rattle.std.specs.Option.{is_some};
+ghost use Rattle.pci_spec.specs.Header.{address_registers, bar_count, bar_register, layout, rom_register};
+ghost use Rattle.pci_spec.specs.System.{Bar as BarPart, Window as WindowPart, is_bridge};
+ghost use Rattle.pci_spec.specs.Window.{has_window};
+ghost use Rattle.pci_spec.specs.Place.{closed_bounds, nibble_of};
+ghost use Rattle.pci_spec.specs.Plan.{has_behind};
+ghost use Rattle.pci_spec.specs.Planning.Showing.{bounds_for, first_bit};
+ghost use Rattle.pci_image.specs.Bars.{decoded_kind_of};
+ghost use Rattle.pci_spec.specs.Planning.Numbers as numbers;
+ghost use Rattle.pci_plan.specs.Classes.{is_io_kind};
+ghost use Rattle.pci_plan.specs.Pools.{by_class, class_value};
+ghost use Rattle.pci_plan.specs.Places.{first_in};
+ghost use Rattle.pci_plan.specs.Fillings.{address_bits, bounds_value, window_kind, window_in, FillingOf, IsListed};
 
 use super::by_class::ByClass;
+use super::lacking::has_io_bar;
 use super::need::{Needs, window_size_of};
 use super::place::Places;
 use super::pools::Class;
 use pci_image::bar::{Bar, BarKind};
 use pci_image::image::Image;
 use pci_image::offset::{
-    BRIDGE_EXPANSION_ROM, COMMAND, EXPANSION_ROM, IO_BASE, IO_BASE_UPPER, MEMORY_BASE,
-    PREFETCHABLE_BASE, PREFETCHABLE_BASE_UPPER, PREFETCHABLE_LIMIT_UPPER,
+    BASE_ADDRESS, BRIDGE_EXPANSION_ROM, COMMAND, EXPANSION_ROM, IO_BASE, IO_BASE_UPPER,
+    MEMORY_BASE, PREFETCHABLE_BASE, PREFETCHABLE_BASE_UPPER, PREFETCHABLE_LIMIT_UPPER,
 };
 use pci_image::window::Window;
+use pci_machine::address_register::AddressRegister;
 use pci_tree::record::{Bridge, Record};
 
 /// A function with the places of its parts.
@@ -23,151 +39,272 @@ pub struct Filling<'a> {
     pub needs: &'a ByClass<Needs>,
 }
 
-/// The registers of a window: base, limit, and their upper halves, 0 where there are none.
+/// One end of a window: base or limit, and its upper half, 0 where there is none.
+#[derive(Clone, Copy, Debug, PartialEq, Eq)]
+struct Bound {
+    lower: u16,
+    upper: u32,
+}
+
+/// The registers of a window.
 #[derive(Clone, Copy, Debug, PartialEq, Eq)]
 struct Bounds {
-    base: u32,
-    limit: u32,
-    base_upper: u32,
-    limit_upper: u32,
+    base: Bound,
+    limit: Bound,
+}
+
+impl Bound {
+    /// Where there is no window.
+    const ABSENT: Bound = Bound { lower: 0, upper: 0 };
+
+    /// At the page of an address, over the low nibble that shows whether the window has upper halves. Base and limit hold
+    /// bits 15:12 of an I/O address in their bits 7:4, and bits 31:20 of a memory address in their bits 15:4; the upper half
+    /// holds all higher bits (Bridge 1.2, 3.2.5).
+    fn at(class: Class, nibble: u16, address: u64) -> Bound
+        requires nibble { nibble < 16 }
+        requires address { address < 2 ^ address_bits class }
+        ensures lower { result.lower ≡ (bounds_for (window_kind class) nibble address address).base }
+        ensures upper { result.upper ≡ (bounds_for (window_kind class) nibble address address).base_upper }
+    {
+        match class {
+            Class::Io => Bound {
+                lower: (address >> 12 & 0xf) as u16 * 16 + nibble,
+                upper: (address >> 16) as u32,
+            },
+            Class::Memory | Class::Prefetchable => Bound {
+                lower: (address >> 20 & 0xfff) as u16 * 16 + nibble,
+                upper: (address >> 32) as u32,
+            },
+        }
+    }
 }
 
 impl Bounds {
     /// Where there is no window.
     const ABSENT: Bounds = Bounds {
-        base: 0,
-        limit: 0,
-        base_upper: 0,
-        limit_upper: 0,
+        base: Bound::ABSENT,
+        limit: Bound::ABSENT,
     };
 
-    /// Of a window that is closed: the highest page as base over page 0 as limit.
-    fn closed(class: Class, nibble: u32) -> Bounds {
-        let pages = match class {
-            Class::Io => 0xf0,
-            Class::Memory | Class::Prefetchable => 0xfff0,
-        };
-        let limit = if class == Class::Memory { 0 } else { nibble };
+    /// Of a window from first to last.
+    fn open(class: Class, nibble: u16, first: u64, last: u64) -> Bounds
+        requires nibble { nibble < 16 }
+        requires first { first < 2 ^ address_bits class }
+        requires last { last < 2 ^ address_bits class }
+        ensures { bounds_value result ≡ bounds_for (window_kind class) nibble first last }
+    {
         Bounds {
-            base: pages + nibble,
-            limit,
-            base_upper: 0,
-            limit_upper: 0,
+            base: Bound::at(class, nibble, first),
+            limit: Bound::at(class, nibble, last),
         }
     }
 
-    /// Of a window from first to last, whose low nibbles show whether it has upper halves (Bridge 1.2, 3.2.5).
-    fn open(class: Class, nibble: u32, first: u64, last: u64) -> Bounds {
-        match class {
-            Class::Io => Bounds {
-                base: (first / 4096 % 16 * 16) as u32 + nibble,
-                limit: (last / 4096 % 16 * 16) as u32 + nibble,
-                base_upper: (first / 65536) as u32,
-                limit_upper: (last / 65536) as u32,
-            },
-            Class::Memory => Bounds {
-                base: (first / 1048576 * 16) as u32 + nibble,
-                limit: (last / 1048576 * 16) as u32 + nibble,
-                base_upper: 0,
-                limit_upper: 0,
-            },
-            Class::Prefetchable => Bounds {
-                base: (first / 1048576 % 4096 * 16) as u32 + nibble,
-                limit: (last / 1048576 % 4096 * 16) as u32 + nibble,
-                base_upper: (first / 4294967296) as u32,
-                limit_upper: (last / 4294967296) as u32,
-            },
-        }
+    /// Of a window that is closed: its base at the last page below 64 KB of I/O or 4 GB of memory, its limit at page 0.
+    fn closed(class: Class, nibble: u16) -> Bounds
+        requires { nibble < 16 }
+        ensures { bounds_value result ≡ closed_bounds (window_kind class) nibble }
+    {
+        let last_page = match class {
+            Class::Io => 0xf000,
+            Class::Memory | Class::Prefetchable => 0xfff0_0000,
+        };
+        Bounds::open(class, nibble, last_page, 0)
+    }
+
+    /// Base and limit in one register, the limit from a bit on.
+    fn lower(self, bit: u32) -> u32
+        requires { bit ≤ 16 }
+        ensures { result ≡ self.base.lower + 2 ^ bit * self.limit.lower }
+    {
+        joined(self.base.lower, self.limit.lower, bit)
+    }
+
+    /// The upper halves of base and limit in one register, of 16 bits each.
+    fn upper(self) -> u32
+        requires base { self.base.upper < 2 ^ 16 }
+        requires limit { self.limit.upper < 2 ^ 16 }
+        ensures { result ≡ self.base.upper + 2 ^ 16 * self.limit.upper }
+    {
+        joined(self.base.upper as u16, self.limit.upper as u16, 16)
     }
 }
 
+/// Two numbers in one, the second from a bit on.
+fn joined(first: u16, second: u16, bit: u32) -> u32
+    requires { bit ≤ 16 }
+    ensures { result ≡ first + 2 ^ bit * second }
+{
+    u32::from(first) + (u32::from(second) << bit)
+}
+
+/// The window of a class, where the bridge has one.
+fn window_of(bridge: &Bridge, class: Class) -> Option<Window>
+    ensures { result ≡ window_in bridge.now.windows class }
+{
+    match class {
+        Class::Io => bridge.windows.io,
+        Class::Memory => Some(bridge.windows.mem),
+        Class::Prefetchable => bridge.windows.pref,
+    }
+}
+
+/// Whether a function has a memory BAR or a ROM.
+fn has_memory_part(record: &Record) -> bool
+    ensures { result ≡ (list_any (λ bar. not (is_io_kind bar.kind)) «record».now.bars.items || is_some «record».now.rom) }
+{
+    for bar in record.bars.as_slice() {
+        if bar.kind != BarKind::Io {
+            return true;
+        }
+    }
+    record.rom.is_some()
+}
+
+/// How many encodings the low bits of a BAR's register have: bits 1:0 for I/O, bits 3:0 for memory (PCI 3.0, 6.2.5.1).
+fn encodings(kind: BarKind) -> u32
+    ensures { result ≡ 2 ^ first_bit (decoded_kind_of kind) }
+{
+    match kind {
+        BarKind::Io => 4,
+        BarKind::Mem32 | BarKind::Mem64 => 16,
+    }
+}
+
+/// The lower half of a number.
+fn lower_half(number: u64) -> u32
+    ensures { result ≡ number % 2 ^ 32 }
+{
+    (number & 0xffff_ffff) as u32
+}
+
+/// The upper half of a number.
+fn upper_half(number: u64) -> u32
+    ensures { result ≡ number / 2 ^ 32 }
+{
+    (number >> 32) as u32
+}
+
 impl Filling<'_> {
-    /// Of a BAR, both registers together where it has two: the first address, with the encoding bits that stand there.
-    fn bar_value(&self, bar: &Bar) -> u64 {
-        let n = usize::from((bar.reg - 0x10) / 4);
-        let encodings = match bar.kind {
-            BarKind::Io => 4,
-            BarKind::Mem32 | BarKind::Mem64 => 16,
-        };
-        self.places.bars[n] + u64::from(self.image.u32(bar.reg) % encodings)
+    /// The first address of a BAR's place.
+    fn place_of(&self, bar: &Bar) -> u64
+        requires { (n : ℕ) × (n < 6) × (bar.now.reg ≡ bar_register n) }
+        ensures { (n : ℕ) → bar.now.reg ≡ bar_register n → result ≡ first_in self.now.places.now (BarPart n) }
+    {
+        self.places.bars[usize::from((bar.reg - BASE_ADDRESS) / 4)]
+    }
+
+    /// Of a BAR, both registers together where it has two: the first address, over the encoding that stands there.
+    fn bar_value(&self, bar: &Bar) -> u64
+        requires of { FillingOf self.now }
+        requires listed { Contains self.now.record.now.bars.items bar.now }
+        ensures { (of : FillingOf self.now) (n : ℕ) → bar.now.reg ≡ bar_register n → result ≡ numbers.new_bar of.roots of.system of.pools of.function n }
+    {
+        self.place_of(bar) + u64::from(self.image.u32(bar.reg) % encodings(bar.kind))
     }
 
     /// Of a Base Address register: a BAR's, its upper half, or what stands there.
-    fn bar_number(&self, offset: u8) -> u32 {
-        for bar in &self.record.bars {
+    fn bar_number(&self, offset: u8) -> u32
+        requires of { FillingOf self.now }
+        requires aligned { offset % 4 ≡ 0 }
+        ensures { (of : FillingOf self.now) (n : ℕ) → n < bar_count (layout of.function.image) → offset ≡ bar_register n
+            → result ≡ numbers.bar_number of.roots of.system of.pools of.function n }
+    {
+        for bar in self.record.bars.as_slice() {
             if bar.reg == offset {
-                return (self.bar_value(bar) % 4294967296) as u32;
+                return lower_half(self.bar_value(bar));
             }
             if bar.kind == BarKind::Mem64 && bar.reg + 4 == offset {
-                return (self.bar_value(bar) / 4294967296) as u32;
+                return upper_half(self.bar_value(bar));
             }
         }
         self.image.u32(offset)
     }
 
     /// Of the Expansion ROM register: the first address, with the enable bit that stands there.
-    fn rom_number(&self, offset: u8) -> u32 {
+    fn rom_number(&self, offset: u8) -> u32
+        requires of { FillingOf self.now }
+        requires register { (of : FillingOf self.now) → offset ≡ rom_register (layout of.function.image) }
+        ensures { (of : FillingOf self.now) → result ≡ numbers.rom_number of.roots of.system of.pools of.function }
+    {
         match &self.record.rom {
             None => self.image.u32(offset),
             Some(_) => self.places.rom as u32 + self.image.u32(offset) % 2,
         }
     }
 
-    /// Of a window that is implemented.
-    fn window_bounds(&self, class: Class, nibble: u32, secondary: u8) -> Bounds {
-        let need = self.needs.of(class).of_bus[usize::from(secondary)];
+    /// What the bus behind a bridge needs.
+    fn need(&self, bridge: &Bridge, class: Class) -> u128
+        ensures { result ≡ slice_index (by_class self.now.needs.now class).of_bus bridge.now.secondary }
+    {
+        self.needs.of(class).of_bus[usize::from(bridge.secondary)]
+    }
+
+    /// The first address of a window's place.
+    fn window_place(&self, class: Class) -> u64
+        ensures { result ≡ first_in self.now.places.now (WindowPart (window_kind class)) }
+    {
+        match class {
+            Class::Io => self.places.io,
+            Class::Memory => self.places.mem,
+            Class::Prefetchable => self.places.pref,
+        }
+    }
+
+    /// Of a window that is there, with its low nibble.
+    fn window_bounds(&self, bridge: &Bridge, class: Class, nibble: u16) -> Bounds
+        requires of { FillingOf self.now }
+        requires bridge { self.now.record.now.bridge ≡ Some bridge.now }
+        requires nibble { (of : FillingOf self.now) → nibble ≡ nibble_of (window_kind class) of.function }
+        requires there { (of : FillingOf self.now) → IsTrue (has_window (window_kind class) of.function.probe) }
+        ensures { (of : FillingOf self.now) → bounds_value result ≡ numbers.new_bounds of.roots of.system of.pools of.function (window_kind class) }
+    {
+        let need = self.need(bridge, class);
         if need == 0 {
             return Bounds::closed(class, nibble);
         }
-        let first = self.places.window(class);
+        let first = self.window_place(class);
         let last = u128::from(first) + (window_size_of(class, need) - 1);
         Bounds::open(class, nibble, first, last as u64)
     }
 
-    /// Of a window that may be absent.
-    fn optional_bounds(&self, class: Class, window: Option<Window>, secondary: u8) -> Bounds {
-        match window {
+    /// Of a window that may not be there.
+    fn bounds(&self, bridge: &Bridge, class: Class) -> Bounds
+        requires of { FillingOf self.now }
+        requires bridge { self.now.record.now.bridge ≡ Some bridge.now }
+        ensures { (of : FillingOf self.now) → bounds_value result ≡ numbers.new_bounds of.roots of.system of.pools of.function (window_kind class) }
+    {
+        match window_of(bridge, class) {
             None => Bounds::ABSENT,
-            Some(window) => self.window_bounds(class, u32::from(window.wide()), secondary),
+            Some(window) => self.window_bounds(bridge, class, u16::from(window.wide())),
         }
     }
 
     /// Of an address register of a bridge.
-    fn bridge_number(&self, bridge: &Bridge, offset: u8) -> u32 {
-        let bus = bridge.secondary;
-        let windows = &bridge.windows;
+    fn bridge_number(&self, bridge: &Bridge, offset: u8) -> u32
+        requires of { FillingOf self.now }
+        requires bridge { self.now.record.now.bridge ≡ Some bridge.now }
+        requires listed { (width : ℕ) × Contains (address_registers 1) (offset, width) }
+        ensures { (of : FillingOf self.now) → result ≡ numbers.bridge_number of.roots of.system of.pools of.function offset }
+    {
         match offset {
-            IO_BASE => {
-                let io = self.optional_bounds(Class::Io, windows.io, bus);
-                io.base + 256 * io.limit
-            }
-            MEMORY_BASE => {
-                let mem = self.window_bounds(Class::Memory, 0, bus);
-                mem.base + 65536 * mem.limit
-            }
-            PREFETCHABLE_BASE => {
-                let pref = self.optional_bounds(Class::Prefetchable, windows.pref, bus);
-                pref.base + 65536 * pref.limit
-            }
-            PREFETCHABLE_BASE_UPPER => {
-                self.optional_bounds(Class::Prefetchable, windows.pref, bus)
-                    .base_upper
-            }
-            PREFETCHABLE_LIMIT_UPPER => {
-                self.optional_bounds(Class::Prefetchable, windows.pref, bus)
-                    .limit_upper
-            }
-            IO_BASE_UPPER => {
-                let io = self.optional_bounds(Class::Io, windows.io, bus);
-                io.base_upper + 65536 * io.limit_upper
-            }
+            IO_BASE => self.bounds(bridge, Class::Io).lower(8),
+            MEMORY_BASE => self.bounds(bridge, Class::Memory).lower(16),
+            PREFETCHABLE_BASE => self.bounds(bridge, Class::Prefetchable).lower(16),
+            PREFETCHABLE_BASE_UPPER => self.bounds(bridge, Class::Prefetchable).base.upper,
+            PREFETCHABLE_LIMIT_UPPER => self.bounds(bridge, Class::Prefetchable).limit.upper,
+            IO_BASE_UPPER => self.bounds(bridge, Class::Io).upper(),
             BRIDGE_EXPANSION_ROM => self.rom_number(offset),
             _ => self.bar_number(offset),
         }
     }
 
     /// What an address register holds.
-    pub fn number(&self, offset: u8) -> u32 {
+    pub fn number(&self, register: AddressRegister) -> u32
+        requires of { FillingOf self.now }
+        requires listed { IsListed self.now.record.now register }
+        ensures { (of : FillingOf self.now) → result ≡ numbers.new_number of.roots of.system of.pools of.function (register.offset, register.width) }
+    {
+        let offset = register.offset;
         match &self.record.bridge {
             Some(bridge) => self.bridge_number(bridge, offset),
             None if offset == EXPANSION_ROM => self.rom_number(offset),
@@ -175,45 +312,40 @@ impl Filling<'_> {
         }
     }
 
-    /// Whether something is behind the bridge in a class, in a window that is there.
-    fn is_open(&self, class: Class, bridge: &Bridge, there: bool) -> bool {
-        there && 0 < self.needs.of(class).of_bus[usize::from(bridge.secondary)]
+    /// Whether the function is a bridge with a window of a class, and something of the class is behind it.
+    fn is_open(&self, class: Class) -> bool
+        requires { FillingOf self.now }
+        ensures { (of : FillingOf self.now) → result ≡ (is_bridge of.function && has_window (window_kind class) of.function.probe && has_behind of.system of.pools (class_value class) of.function) }
+    {
+        match &self.record.bridge {
+            None => false,
+            Some(bridge) => window_of(bridge, class).is_some() && 0 < self.need(bridge, class),
+        }
     }
 
     /// Whether there is something to decode in I/O space.
-    fn needs_io(&self) -> bool {
-        for bar in &self.record.bars {
-            if bar.kind == BarKind::Io {
-                return true;
-            }
-        }
-        match &self.record.bridge {
-            None => false,
-            Some(bridge) => self.is_open(Class::Io, bridge, bridge.windows.io.is_some()),
-        }
+    fn needs_io(&self) -> bool
+        requires { FillingOf self.now }
+        ensures { (of : FillingOf self.now) → result ≡ numbers.needs_io of.system of.pools of.function }
+    {
+        has_io_bar(self.record) || self.is_open(Class::Io)
     }
 
     /// Whether there is something to decode in memory space.
-    fn needs_memory(&self) -> bool {
-        for bar in &self.record.bars {
-            if bar.kind != BarKind::Io {
-                return true;
-            }
-        }
-        if self.record.rom.is_some() {
-            return true;
-        }
-        match &self.record.bridge {
-            None => false,
-            Some(bridge) => {
-                self.is_open(Class::Memory, bridge, true)
-                    || self.is_open(Class::Prefetchable, bridge, bridge.windows.pref.is_some())
-            }
-        }
+    fn needs_memory(&self) -> bool
+        requires { FillingOf self.now }
+        ensures { (of : FillingOf self.now) → result ≡ numbers.needs_memory of.system of.pools of.function }
+    {
+        has_memory_part(self.record)
+            || self.is_open(Class::Memory)
+            || self.is_open(Class::Prefetchable)
     }
 
     /// What Command holds: bits 0 and 1 as there is something to decode, all others as they stand (PCI 3.0, 6.2.2).
-    pub fn command(&self) -> u16 {
+    pub fn command(&self) -> u16
+        requires { FillingOf self.now }
+        ensures { (of : FillingOf self.now) → result ≡ numbers.new_command of.system of.pools of.function }
+    {
         let rest = self.image.u16(COMMAND) / 4 * 4;
         rest + u16::from(self.needs_io()) + 2 * u16::from(self.needs_memory())
     }

@@ -55,15 +55,6 @@ impl Places {
             },
         }
     }
-
-    /// The first address of the window of a class.
-    pub fn window(&self, class: Class) -> u64 {
-        match class {
-            Class::Io => self.io,
-            Class::Memory => self.mem,
-            Class::Prefetchable => self.pref,
-        }
-    }
 }
 
 /// Places sorted items one after another, a group from its start on. A bridge stands in a lower group than what is behind

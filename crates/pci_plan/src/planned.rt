@@ -1,7 +1,9 @@
 //! The planned dump: the start with the new numbers put in.
-ghost use Rattle.std.specs.Prelude.{◌≡◌, IfOk, map, length};
+ghost use Rattle.std.specs.Prelude.{◌≡◌, ◌+◌, ◌++◌, ◌^◌, ◌<◌, ◌≤◌, ◌⊎◌, ℕ, IfOk, OnOk, [], ◌∷◌, map, length};
 ghost use Rattle.std.specs.List.{AllZip};
+ghost use Rattle.pci_spec.specs.Number.{byte_at, number_at, IsImage};
 ghost use Rattle.pci_spec.specs.Text.{slots_of};
+ghost use Rattle.pci_spec.specs.Stops.{IsAboveLast, last_slot};
 ghost use Rattle.pci_spec.specs.System.{system_of};
 ghost use Rattle.pci_spec.specs.Plan.{Class as ClassValue};
 ghost use Rattle.pci_spec.specs.PlanPromise.{CanBePlanned};
@@ -10,6 +12,7 @@ ghost use Rattle.pci_plan.specs.Pools.{class_value, pools_value};
 ghost use Rattle.pci_plan.specs.Above.{system_in};
 ghost use Rattle.pci_plan.specs.Needs.{AreAllNeeds};
 ghost use Rattle.pci_plan.specs.Places.{HasPlaces};
+ghost use Rattle.pci_plan.specs.Fillings.{FillingOf};
 
 use super::by_class::ByClass;
 use super::need::Needs;
@@ -26,7 +29,14 @@ use pci_tree::admitted::Admitted;
 use std::alloc::Allocator;
 
 /// Puts the little-endian bytes of a value into `width` bytes from an offset on.
-fn put(image: &mut Image, offset: u8, width: u8, value: u32) {
+fn put(image: &mut Image, offset: u8, width: u8, value: u32)
+    requires image { IsImage image.old.0 }
+    requires room { offset + width ≤ 256 }
+    requires fits { value < 256 ^ width }
+    ensures number { number_at image.new.0 offset width ≡ value }
+    ensures others { (place : ℕ) → (place < offset) ⊎ (offset + width ≤ place) → byte_at image.new.0 place ≡ byte_at image.old.0 place }
+    ensures image { IsImage image.new.0 }
+{
     let mut rest = value;
     for j in 0..width {
         image.0[usize::from(offset + j)] = (rest % 256) as u8;
@@ -35,14 +45,17 @@ fn put(image: &mut Image, offset: u8, width: u8, value: u32) {
 }
 
 /// The image of a function with its new numbers.
-fn filled(filling: &Filling<'_>) -> Image {
+fn filled(filling: &Filling<'_>) -> Image
+    requires { FillingOf filling.now }
+    ensures { (of : FillingOf filling.now) → IsPlannedFunction of.roots of.system of.pools of.function record of.function { image = result.0 } }
+{
     let mut image = *filling.image;
     for register in address_registers(filling.record.bridge.is_some()) {
         put(
             &mut image,
             register.offset,
             register.width,
-            filling.number(register.offset),
+            filling.number(*register),
         );
     }
     put(&mut image, COMMAND, 2, u32::from(filling.command()));
@@ -50,7 +63,11 @@ fn filled(filling: &Filling<'_>) -> Image {
 }
 
 /// Puts a block after all that are there.
-fn push_next<A: Allocator>(dump: &mut Dump<A>, block: Block) -> Result<(), OutOfMemory> {
+fn push_next<A: Allocator>(dump: &mut Dump<A>, block: Block) -> Result<(), OutOfMemory>
+    requires above { IsAboveLast (last_slot dump.old) block.slot }
+    requires room { length dump.old < 4096 }
+    ensures { OnOk result (dump.new ≡ dump.old ++ block ∷ []) }
+{
     match dump.push(block) {
         Ok(()) => Ok(()),
         Err(Refused::Fault(_)) => unreachable!(),

@@ -1,6 +1,8 @@
 pub mod Above
 pub mod AddressBits
 pub mod AboveBuses
+pub mod AboveBuses
+pub mod AddressBits
 pub mod AllItems
 pub mod Asleep
 pub mod BarFaults
@@ -65,6 +67,7 @@ pub mod ShownSystem
 pub mod Shows
 pub mod Single
 pub mod Sizes
+pub mod Sorting
 pub mod Staging
 pub mod Starts
 pub mod Stays
@@ -77,4 +80,5 @@ pub mod ValueFits
 pub mod Whole
 pub mod WindowFits
 pub mod WorkedNumbers
+pub mod WorkedRows
 pub mod Writes

@@ -280,7 +280,7 @@ pub record AreZero (b : Bounds) : Type 0 where
   pub base_upper : b.base_upper ≡ 0
   pub limit_upper : b.limit_upper ≡ 0
 
-are_zero : (b : Bounds) → is_zero b ≡ true → AreZero b
+pub are_zero : (b : Bounds) → is_zero b ≡ true → AreZero b
 are_zero b h =
     let three = and_parts (b.base == 0 && b.limit == 0 && b.base_upper == 0) (b.limit_upper == 0) h in
     let two = and_parts (b.base == 0 && b.limit == 0) (b.base_upper == 0) three.0 in

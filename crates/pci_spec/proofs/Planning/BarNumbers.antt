@@ -108,7 +108,7 @@ module _ (f : Function) (is : IsImage f.image) (is_probe : IsImage f.probe) (pla
   -- ---- the width
 
   -- the encoding is below the size
-  value_small : (n : ℕ) → n < bar_count (layout f.image) → has_bar f.probe n ≡ true → bar_value f.image f.probe n (place n) < 2 ^ reach_of (bar_kind (bar_at f.probe n))
+  pub value_small : (n : ℕ) → n < bar_count (layout f.image) → has_bar f.probe n ≡ true → bar_value f.image f.probe n (place n) < 2 ^ reach_of (bar_kind (bar_at f.probe n))
   value_small n inside there =
       let found = at n inside there in
       let e = first_bit (bar_kind (bar_at f.probe n)) in

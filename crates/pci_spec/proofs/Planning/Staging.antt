@@ -232,7 +232,7 @@ opening_rises changes rise =
 abbrev pub IsApart : Write → Write → Type 0
 IsApart x y = (same_slot x.slot y.slot ≡ false) ⊎ ((x.offset + x.width ≤ y.offset) ⊎ (y.offset + y.width ≤ x.offset))
 
-abbrev Follows : ℕ × ℕ → ℕ × ℕ → Type 0
+abbrev pub Follows : ℕ × ℕ → ℕ × ℕ → Type 0
 Follows r q = r.0 + r.1 ≤ q.0
 
 abbrev pub in_order : List (ℕ × ℕ) → Bool

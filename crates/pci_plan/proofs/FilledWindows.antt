@@ -1,0 +1,219 @@
+-- The windows of a filling, by its record.
+use Rattle.std.proofs.Common.{◌≡◌, ℕ, zero, suc, ◌+◌, ◌-◌, ◌*◌, ◌^◌, ◌<◌, ◌≤◌, ◌⊎◌, inl, inr, List, refl, Bool, true, false, cond, ◌&&◌, ◌||◌, not, arith, sym, ◌∙◌, ap, subst, Option, Some, None, if◌then◌else◌, min}
+use Rattle.std.specs.Bool.{nat_lt, ◌==◌}
+use Rattle.std.specs.List.{slice_index, sum}
+use Rattle.std.specs.Option.{is_some, option_map}
+use Rattle.std.proofs.lemmas.Bool.{and_from, and_parts, both_ways, cases_Bool, eqb-true, not-false, lt-ltb, ltb-true, le-leb, ltb-false}
+use Rattle.std.proofs.lemmas.List.Elements.{All-contains}
+use Rattle.pci_spec.specs.Number.{byte_at}
+use Rattle.pci_spec.specs.Header.{layout, secondary_bus}
+use Rattle.pci_spec.specs.Window.{WindowKind, IoWindow, MemoryWindow, PrefetchWindow, Bounds, bounds_at, page_bits, has_window, is_wide_window, is_zero}
+use Rattle.pci_spec.specs.Decoded.{DecodedWindow, optional_window, decoded_window, bridge_of}
+use Rattle.pci_spec.specs.Decoded as decoded
+use Rattle.pci_spec.specs.System.{Function, IsFunction, Window, is_bridge}
+use Rattle.pci_spec.specs.Bus.{secondary}
+use Rattle.pci_spec.specs.Plan.{window_class, same_class, class_of, items_on, limited, need_of, has_behind, window_size}
+use Rattle.pci_spec.specs.Plan as plan
+use Rattle.pci_spec.specs.Place.{nibble_of, closed_bounds}
+use Rattle.pci_spec.specs.Planning.Showing.{bounds_for}
+use Rattle.pci_spec.specs.Planning.Table.{need_behind}
+use Rattle.pci_spec.specs.Planning.Numbers.{place_at, new_bounds}
+use Rattle.pci_spec.proofs.Records.{memory_window_there}
+use Rattle.pci_spec.proofs.ReadBacks.{AreZero, are_zero, window_rules}
+use Rattle.pci_spec.proofs.Planning.Planned.{class_same_itself}
+use Rattle.pci_spec.proofs.Planning.Reach.{IsReached, IsWindowPlace, need_is_behind}
+use Rattle.pci_spec.proofs.Planning.NumbersFit.{window_room, parts_fit}
+use Rattle.pci_spec.proofs.Planning.WindowFits.{PartsFit, few_nibbles, by_absent, by_open, by_closed}
+use Rattle.pci_tree.specs.declared.record.Bridge.{Bridge}
+use Rattle.pci_tree.specs.Values.{bridge_value}
+use Rattle.pci_tree.proofs.Lifting.{same_bridge}
+use Rattle.pci_tree.proofs.RegionParts.{same_bridge_of}
+use Rattle.pci_plan.specs.declared.pools.Class.{Class}
+use Rattle.pci_plan.specs.declared.pools.Class.TheVariants.{Io, Memory, Prefetchable}
+use Rattle.pci_plan.specs.declared.need.Needs.{Needs}
+use Rattle.pci_plan.specs.declared.numbers.Filling.{Filling}
+use Rattle.pci_plan.specs.Pools.{class_value, by_class}
+use Rattle.pci_plan.specs.Needs.{AreNeeds, AreAllNeeds}
+use Rattle.pci_plan.specs.Places.{first_in}
+use Rattle.pci_plan.specs.Fillings.{FillingOf, address_bits, window_in, window_kind}
+
+-- ---- classes and kinds
+
+pub kind_class : (class : Class) → window_class (window_kind class) ≡ class_value class
+kind_class Io = refl
+kind_class Memory = refl
+kind_class Prefetchable = refl
+
+-- how far a window can go
+pub reached_bits : (class : Class) (n end : ℕ) → IsReached (window_kind class) n end → end ≤ 2 ^ address_bits class
+reached_bits Io n end h = h
+reached_bits Memory n end h = h
+reached_bits Prefetchable n end h = h.0
+
+pub address_bits_few : (class : Class) → 2 ^ address_bits class ≤ 2 ^ 64
+address_bits_few Io = omega arith
+address_bits_few Memory = omega arith
+address_bits_few Prefetchable = omega arith
+
+-- ---- needs
+
+needs_of : (roots : List ℕ) (s : Rattle.pci_spec.specs.System.System) (pools : plan.Pools) (needs : Rattle.pci_plan.specs.declared.by_class.ByClass.ByClass Needs) (class : Class)
+    → AreAllNeeds roots s pools needs → AreNeeds roots s pools (class_value class) (by_class needs class)
+needs_of roots s pools needs Io all = all.io
+needs_of roots s pools needs Memory all = all.memory
+needs_of roots s pools needs Prefetchable all = all.prefetch
+
+-- a limit hides no need
+some_limited : (n : ℕ) → nat_lt 0 (limited n) ≡ nat_lt 0 n
+some_limited zero = refl
+some_limited (suc n) = lt-ltb 0 (limited (suc n)) (omega arith) ∙ sym (lt-ltb 0 (suc n) (omega arith))
+
+-- ---- windows that aren't there
+
+no_page : (kind : WindowKind) (n : ℕ) → page_bits kind + n ≡ 0 → ⊥
+no_page IoWindow n e = omega (arith, e)
+no_page MemoryWindow n e = omega (arith, e)
+no_page PrefetchWindow n e = omega (arith, e)
+
+zero_bounds : (b : Bounds) → AreZero b → b ≡ record { base = 0; limit = 0; base_upper = 0; limit_upper = 0 }
+zero_bounds b z =
+    let one : b ≡ record { base = 0; limit = b.limit; base_upper = b.base_upper; limit_upper = b.limit_upper } = ap (λ n. record b { base = n }) z.base in
+    let two : b ≡ record { base = 0; limit = 0; base_upper = b.base_upper; limit_upper = b.limit_upper } = one ∙ ap (λ n. record b { base = 0; limit = n }) z.limit in
+    let three : b ≡ record { base = 0; limit = 0; base_upper = 0; limit_upper = b.limit_upper } = two ∙ ap (λ n. record b { base = 0; limit = 0; base_upper = n }) z.base_upper in
+    three ∙ ap (λ n. record b { base = 0; limit = 0; base_upper = 0; limit_upper = n }) z.limit_upper
+
+some_if : (b : Bool) (w : DecodedWindow) → is_some (if b then Some w else None) ≡ b
+some_if true w = refl
+some_if false w = refl
+
+wide_if : (b : Bool) (v w : DecodedWindow) → Some w ≡ (if b then Some v else None) → w ≡ v
+wide_if true v w e = cc
+wide_if false v w e = cc
+
+module _ (filling : Filling) (of : FillingOf filling) where
+  pub function_is : IsFunction of.function
+  function_is = All-contains IsFunction of.system of.function of.plannable.system.each of.recorded.listed
+
+  -- the record is of a bridge where the function is one
+  pub bridge_is : is_some filling.record.now.bridge ≡ is_bridge of.function
+  bridge_is = same_bridge filling.record.now of.function of.recorded.value
+
+  module _ (bridge : Bridge) (there_is : filling.record.now.bridge ≡ Some bridge) where
+    pub is_a_bridge : is_bridge of.function ≡ true
+    is_a_bridge = sym bridge_is ∙ ap is_some there_is
+
+    same : bridge_value bridge ≡ bridge_of of.function.image of.function.probe
+    same = same_bridge_of filling.record.now of.function bridge of.recorded.value there_is
+
+    secondary_is : bridge.secondary ≡ secondary of.function
+    secondary_is = ap (λ (b : decoded.Bridge). b.secondary) same
+
+    -- the window of a class is there where the function has one
+    window_is : (class : Class) → window_in bridge.windows class ≡ optional_window (window_kind class) of.function.image of.function.probe
+    window_is Io = ap (λ (b : decoded.Bridge). b.windows.io) same
+    window_is Memory =
+        let f = of.function in
+        let there : has_window MemoryWindow f.probe ≡ true = memory_window_there f.image f.probe (of.recorded.decodable.windows MemoryWindow (eqb-true (layout f.image) 1 is_a_bridge)) in
+        ap (λ (b : decoded.Bridge). Some b.windows.memory) same ∙ sym (ap (λ t. if t then Some (decoded_window MemoryWindow f.image f.probe) else None) there)
+    window_is Prefetchable = ap (λ (b : decoded.Bridge). b.windows.prefetch) same
+
+    pub window_there : (class : Class) → is_some (window_in bridge.windows class) ≡ has_window (window_kind class) of.function.probe
+    window_there class =
+        let f = of.function in
+        ap is_some (window_is class) ∙ some_if (has_window (window_kind class) f.probe) (decoded_window (window_kind class) f.image f.probe)
+
+    pub window_wide : (class : Class) (w : DecodedWindow) → window_in bridge.windows class ≡ Some w → w.wide ≡ is_wide_window (window_kind class) of.function.probe
+    window_wide class w is =
+        let f = of.function in
+        ap (λ (v : DecodedWindow). v.wide) (wide_if (has_window (window_kind class) f.probe) (decoded_window (window_kind class) f.image f.probe) w (sym is ∙ window_is class))
+
+    -- what the bus behind needs
+    pub need_is : (class : Class) → slice_index (by_class filling.needs.now class).of_bus bridge.secondary ≡ need_of of.system of.pools (class_value class) (secondary of.function)
+    need_is class =
+        let f = of.function in
+        let small : secondary f < 256 = function_is.image.bytes 0x19 in
+        ap (slice_index (by_class filling.needs.now class).of_bus) secondary_is
+        ∙ (needs_of of.roots of.system of.pools filling.needs.now class of.needs).need (secondary f) small
+
+    pub open_is : (class : Class) → nat_lt 0 (slice_index (by_class filling.needs.now class).of_bus bridge.secondary) ≡ has_behind of.system of.pools (class_value class) of.function
+    open_is class =
+        let f = of.function in
+        ap (nat_lt 0) (need_is class) ∙ some_limited (need_behind of.system of.pools (class_value class) f)
+        ∙ sym (need_is_behind of.roots of.system of.pools of.plannable (place_at of.roots of.system of.pools) of.tables f (class_value class) of.recorded.listed is_a_bridge)
+
+    -- ---- its registers
+
+    pub nibble_few : (class : Class) → nibble_of (window_kind class) of.function ≤ 1
+    nibble_few class = few_nibbles of.function is_a_bridge (window_kind class)
+
+    -- the size of a window around what the bus behind needs
+    abbrev pub size : Class → ℕ
+    size class = window_size (class_value class) (need_of of.system of.pools (class_value class) (secondary of.function))
+
+    abbrev kind_size : Class → ℕ
+    kind_size class = window_size (window_class (window_kind class)) (need_of of.system of.pools (window_class (window_kind class)) (secondary of.function))
+
+    same_size : (class : Class) → kind_size class ≡ size class
+    same_size class = ap (λ c. window_size c (need_of of.system of.pools c (secondary of.function))) (kind_class class)
+
+    pub absent_bounds : (class : Class) → has_window (window_kind class) of.function.probe ≡ false
+        → new_bounds of.roots of.system of.pools of.function (window_kind class) ≡ record { base = 0; limit = 0; base_upper = 0; limit_upper = 0 }
+    absent_bounds class none =
+        let f = of.function in
+        let kind = window_kind class in
+        let mask = are_zero (bounds_at kind f.probe) (not-false (is_zero (bounds_at kind f.probe)) none) in
+        let as_they_are = by_absent f is_a_bridge kind (has_behind of.system of.pools (window_class kind) f) (place_at of.roots of.system of.pools f (Window kind)) (kind_size class) none in
+        elim (window_rules kind f.image f.probe (of.recorded.decodable.windows kind (eqb-true (layout f.image) 1 is_a_bridge))) [
+          | inl narrow ↦ absurd (no_page kind 0 (sym narrow.base ∙ mask.base))
+          | inr other ↦ elim other [
+            | inl wide ↦ absurd (no_page kind 1 (sym wide.1.base ∙ mask.base))
+            | inr absent ↦ as_they_are ∙ zero_bounds (bounds_at kind f.image) absent.1.value_zero
+          ]
+        ]
+
+    pub closed_is : (class : Class) → has_window (window_kind class) of.function.probe ≡ true
+        → slice_index (by_class filling.needs.now class).of_bus bridge.secondary ≡ 0
+        → new_bounds of.roots of.system of.pools of.function (window_kind class) ≡ closed_bounds (window_kind class) (nibble_of (window_kind class) of.function)
+    closed_is class there none =
+        let f = of.function in
+        let kind = window_kind class in
+        let nothing : has_behind of.system of.pools (window_class kind) f ≡ false = ap (λ c. has_behind of.system of.pools c f) (kind_class class) ∙ sym (open_is class) ∙ ap (nat_lt 0) none in
+        by_closed f is_a_bridge kind (has_behind of.system of.pools (window_class kind) f) (place_at of.roots of.system of.pools f (Window kind)) (kind_size class) there nothing
+
+    something : (class : Class) → 0 < slice_index (by_class filling.needs.now class).of_bus bridge.secondary → has_behind of.system of.pools (window_class (window_kind class)) of.function ≡ true
+    something class need =
+        ap (λ c. has_behind of.system of.pools c of.function) (kind_class class) ∙ sym (open_is class) ∙ lt-ltb 0 (slice_index (by_class filling.needs.now class).of_bus bridge.secondary) need
+
+    -- the place of a window that is open
+    pub record IsOpenAt (class : Class) : Type 0 where
+      pub some : 0 < size class
+      pub high : first_in filling.places.now (Window (window_kind class)) + size class ≤ 2 ^ address_bits class
+      pub bounds : new_bounds of.roots of.system of.pools of.function (window_kind class)
+          ≡ bounds_for (window_kind class) (nibble_of (window_kind class) of.function) (first_in filling.places.now (Window (window_kind class))) (first_in filling.places.now (Window (window_kind class)) + (size class - 1))
+
+    pub open_at : (class : Class) → has_window (window_kind class) of.function.probe ≡ true → 0 < slice_index (by_class filling.needs.now class).of_bus bridge.secondary → IsOpenAt class
+    open_at class there need =
+        let f = of.function in
+        let kind = window_kind class in
+        let n = nibble_of kind f in
+        let some = something class need in
+        let behind : nat_lt 0 (need_behind of.system of.pools (window_class kind) f) ≡ true =
+        sym (need_is_behind of.roots of.system of.pools of.plannable (place_at of.roots of.system of.pools) of.tables f (window_class kind) of.recorded.listed is_a_bridge) ∙ some in
+        let at = window_room of.roots of.system of.pools of.plannable of.tables f of.recorded.listed kind is_a_bridge some in
+        let placed : first_in filling.places.now (Window kind) ≡ place_at of.roots of.system of.pools f (Window kind) =
+        of.places (Window kind) (and_from (is_bridge f && same_class (window_class kind) (window_class kind)) (nat_lt 0 (need_behind of.system of.pools (window_class kind) f))
+        (and_from (is_bridge f) (same_class (window_class kind) (window_class kind)) is_a_bridge (class_same_itself (window_class kind))) behind) in
+        let reached = reached_bits class n (place_at of.roots of.system of.pools f (Window kind) + kind_size class) at.reached in
+        let first_size = at.some in
+        let e = same_size class in
+        record {
+          some = omega (arith, first_size, e);
+          high = omega (arith, reached, placed, e);
+          bounds = by_open f is_a_bridge kind (has_behind of.system of.pools (window_class kind) f) (place_at of.roots of.system of.pools f (Window kind)) (kind_size class) there some
+              ∙ ap (λ first. bounds_for kind n first (first + (kind_size class - 1))) (sym placed)
+              ∙ ap (λ count. bounds_for kind n (first_in filling.places.now (Window kind)) (first_in filling.places.now (Window kind) + (count - 1))) e;
+        }
+
+    -- the upper halves of I/O have 16 bits
+    pub io_uppers : ((new_bounds of.roots of.system of.pools of.function IoWindow).base_upper < 2 ^ 16) × ((new_bounds of.roots of.system of.pools of.function IoWindow).limit_upper < 2 ^ 16)
+    io_uppers = let parts = parts_fit of.roots of.system of.pools of.plannable of.tables of.function of.recorded.listed is_a_bridge IoWindow in (parts.base_upper_small, parts.limit_upper_small)

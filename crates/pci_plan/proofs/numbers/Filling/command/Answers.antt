@@ -1,0 +1,17 @@
+use Rattle.std.proofs.Common.{arith, ◌≡◌, ◌+◌, ◌*◌, ◌/◌, ◌∙◌, ap, cond, Bool, ℕ}
+use mir.Val.{bool_byte}
+use Rattle.pci_spec.specs.Header.{command}
+use Rattle.pci_spec.specs.Machine.{without_low}
+use Rattle.pci_spec.specs.Planning.Numbers.{needs_io, needs_memory}
+use Rattle.pci_plan.proofs.FilledCommand.{one_if, two_if}
+use Rattle.pci_plan.proofs.numbers.Filling.command.Goals as goal
+
+pub returns : goal.returns
+returns c of =
+    let f = of.function in
+    let rest = c.u16.ensures ∙ ap command of.image in
+    let io = c.from.ensures ∙ ap bool_byte (c.needs_io.ensures of) in
+    let memory = c.from-2.ensures ∙ ap bool_byte (c.needs_memory.ensures of) in
+    ap (λ n. n / 4 * 4 + c.from.result + 2 * c.from-2.result) rest
+    ∙ ap (λ n. without_low 4 (command f.image) + n + 2 * c.from-2.result) (io ∙ one_if (needs_io of.system of.pools f))
+    ∙ ap (λ n. without_low 4 (command f.image) + cond (needs_io of.system of.pools f) 1 0 + n) (ap (λ n. 2 * n) memory ∙ two_if (needs_memory of.system of.pools f))

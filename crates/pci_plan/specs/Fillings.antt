@@ -1,0 +1,68 @@
+-- What a function is filled with.
+use Rattle.std.specs.Prelude.{◌≡◌, ℕ, ◌<◌, List, IsTrue, Option, Some, if◌then◌else◌}
+use Rattle.std.specs.List.{Contains}
+use Rattle.std.specs.Option.{is_some}
+use Rattle.pci_spec.specs.Window.{WindowKind, IoWindow, MemoryWindow, PrefetchWindow, Bounds as SpecBounds}
+use Rattle.pci_spec.specs.Decoded.{DecodedWindow}
+use Rattle.pci_spec.specs.Header.{address_registers}
+use Rattle.pci_spec.specs.System.{System, Function, Part}
+use Rattle.pci_spec.specs.Plan.{Pools, class_of}
+use Rattle.pci_spec.specs.Plan as plan
+use Rattle.pci_spec.specs.Planning.Plannable.{IsPlannable}
+use Rattle.pci_spec.specs.Planning.Table.{is_placed, IsTable}
+use Rattle.pci_spec.specs.Planning.Numbers.{place_at}
+use Rattle.pci_image.specs.declared.window.Windows.{Windows}
+use Rattle.pci_tree.specs.declared.record.Record.{Record}
+use Rattle.pci_machine.specs.declared.address_register.AddressRegister.{AddressRegister}
+use Rattle.pci_plan.specs.declared.pools.Class.{Class}
+use Rattle.pci_plan.specs.declared.pools.Class.TheVariants.{Io, Memory, Prefetchable}
+use Rattle.pci_plan.specs.declared.numbers.Bounds.{Bounds}
+use Rattle.pci_plan.specs.declared.numbers.Filling.{Filling}
+use Rattle.pci_plan.specs.Needs.{AreAllNeeds}
+use Rattle.pci_plan.specs.Places.{first_in}
+use Rattle.pci_plan.specs.Records.{IsRecordOf}
+
+-- ---- windows
+
+-- the window that what is of a class goes through
+abbrev pub window_kind : Class → WindowKind
+window_kind Io = IoWindow
+window_kind Memory = MemoryWindow
+window_kind Prefetchable = PrefetchWindow
+
+-- the window of a class, where it is there
+abbrev pub window_in : Windows → Class → Option DecodedWindow
+window_in w Io = w.io
+window_in w Memory = Some w.mem
+window_in w Prefetchable = w.pref
+
+-- how many bits the addresses of a pool have at most
+abbrev pub address_bits : Class → ℕ
+address_bits Io = 16
+address_bits Memory = 32
+address_bits Prefetchable = 64
+
+-- the registers of a window as the definitions have them
+abbrev pub bounds_value : Bounds → SpecBounds
+bounds_value b = record { base = b.base.lower; limit = b.limit.lower; base_upper = b.base.upper; limit_upper = b.limit.upper }
+
+-- ---- functions
+
+-- A filling is that of a function of a system that can be planned: it has the function's record, its image, and the place of
+-- each part that has one.
+pub record FillingOf (filling : Filling) : Type 0 where
+  pub roots : List ℕ
+  pub system : System
+  pub pools : Pools
+  pub function : Function
+  pub plannable : IsPlannable roots system pools
+  pub tables : (c : plan.Class) → IsTable roots system pools c (place_at roots system pools)
+  pub recorded : IsRecordOf system function filling.record.now
+  pub image : filling.image.now.0 ≡ function.image
+  pub places : (part : Part) → IsTrue (is_placed system pools (class_of system pools function part) function part)
+      → first_in filling.places.now part ≡ place_at roots system pools function part
+  pub needs : AreAllNeeds roots system pools filling.needs.now
+
+-- a register is one of those that address decoding is set by
+abbrev pub IsListed : Record → AddressRegister → Type 0
+IsListed r register = Contains (address_registers (if is_some r.bridge then 1 else 0)) (register.offset, register.width)
