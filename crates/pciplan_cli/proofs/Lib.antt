@@ -7,3 +7,5 @@ mod Shows
 mod Sizes
 mod Sent
 mod PlainWrites
+mod Planned
+mod PoolWords
