@@ -245,9 +245,7 @@ module _ (p : PlanValue) (is : IsPlanValue p) where
     is_last = stop.is_last;
     write = stop.write;
     listed = stop.listed;
-    shows = stop.shows;
-    shown = stop.shown;
-    differs = stop.differs;
+    otherwise = stop.otherwise;
   }
 
   pub stop_made : (before : List Target) (failures : ℕ) (after : List Target) (failures_after : ℕ) (fault : ApplyFault)
@@ -324,7 +322,7 @@ module _ (p : PlanValue) (is : IsPlanValue p) where
       let w = reason.write in
       let from : after ≡ after_writes (map target_of s) (take (reason.last + 1) p.writes) =
       made ∙ ap (λ ts. after_writes ts (take done p.writes)) start ∙ ap (λ n. after_writes (map target_of s) (take n p.writes)) reason.is_last in
-      reason.differs (reads_back reason.last w after reason.shows reason.listed from reason.shown)
+      reason.otherwise.differs (reads_back reason.last w after reason.otherwise.shows reason.listed from reason.otherwise.shown)
 
   -- and a stop leaves a sound system
   pub left_sound : (k : ℕ) (before after : List Target) → before ≡ map target_of s → after ≡ after_writes before (take k p.writes)

@@ -1,19 +1,17 @@
 -- Writes over a port, one more at a time.
-use Rattle.std.proofs.Common.{◌≡◌, ℕ, suc, ◌+◌, ◌<◌, ◌⊎◌, inl, inr, List, [], ◌∷◌, ◌++◌, refl, Bool, true, false, cond, ◌&&◌, ◌||◌, arith, sym, ◌∙◌, ap, subst, map, length, take, get_or, Some}
-use Rattle.std.specs.List.{All, Contains, slice_get}
-use Rattle.std.proofs.lemmas.Bool.{cases_Bool, cases_lt, both_ways}
+use Rattle.std.proofs.Common.{◌≡◌, ℕ, suc, ◌+◌, ◌<◌, ◌≤◌, inl, inr, List, [], ◌∷◌, ◌++◌, refl, cond, ◌||◌, arith, sym, ◌∙◌, ap, subst, map, length, take, get_or, Some}
+use Rattle.std.specs.List.{Contains, slice_get}
+use Rattle.std.proofs.lemmas.Bool.{cases_Bool, cases_lt}
 use Rattle.std.proofs.lemmas.List.{take_more, get_or-map, length-map}
-use Rattle.std.proofs.lemmas.List.Elements.{All-contains}
 use Rattle.std.proofs.lemmas.Option.{slice_get-get_or, same_Some}
 use Rattle.pci_spec.specs.Slot.{Slot, same_slot}
 use Rattle.pci_spec.specs.Machine.{Target, Write, write_target, write_targets, after_writes, written}
-use Rattle.pci_machine.specs.Port.{has_function, is_access, fits, ShowsNumber}
-use Rattle.pci_machine.specs.Outcome.{failures_of_error}
-use Rattle.pci_machine.specs.declared.port.PortError.{PortError}
-use Rattle.pci_machine.specs.declared.port.PortError.TheVariants.{NoFunction, BadAccess, Failed}
+use Rattle.pci_machine.specs.Port.{has_function, ShowsNumber}
 use Rattle.pci_plan.specs.declared.write.Write.{Write as CodeWrite}
 use Rattle.pci_plan.specs.Writes.{write_value}
-use Rattle.pci_plan.specs.Making.{IsAccessible, AreMade, IsPortStop, IsPortCause, IsStuckStop}
+use Rattle.pci_plan.specs.declared.apply_fault.ApplyFault.{ApplyFault}
+use Rattle.pci_plan.specs.declared.apply_fault.ApplyFault.TheVariants.{Changed, Port, Stuck}
+use Rattle.pci_plan.specs.Making.{IsLeftBy, IsLastWrite, AreMade, IsStop}
 
 fold_more : (targets : List Target) (ws : List Write) (w : Write) → after_writes targets (ws ++ w ∷ []) ≡ write_targets (after_writes targets ws) w
 fold_more targets [] w = refl
@@ -37,13 +35,6 @@ pub has_after : (targets : List Target) (ws : List Write) (slot : Slot) → has_
 has_after targets [] slot = refl
 has_after targets (w ∷ ws) slot = has_after (write_targets targets w) ws slot ∙ has_after_one w targets slot
 
--- ---- why an access is refused
-
-pub error_cause : (e : PortError) (has ok : Bool) (before after : ℕ) → (e ≡ NoFunction → has ≡ false) → (e ≡ BadAccess → ok ≡ false) → after ≡ before + failures_of_error e → ok ≡ true → (before < after) ⊎ (has ≡ false)
-error_cause NoFunction has ok before after none bad counted fine = inr (none refl)
-error_cause BadAccess has ok before after none bad counted fine = absurd (both_ways ok (bad refl) fine)
-error_cause Failed has ok before after none bad counted fine = inl (omega (arith, counted))
-
 -- ---- the next write
 
 module _ (before : List Target) (items : List CodeWrite) (i : ℕ) (within : i < length items) (w : CodeWrite) (here : w ≡ get_or items i w) (now : List Target) (made : AreMade before (map write_value items) i now) where
@@ -62,44 +53,36 @@ module _ (before : List Target) (items : List CodeWrite) (i : ℕ) (within : i <
   listed : Contains ws (write_value w)
   listed = (i, within_ws, is (write_value w))
 
-  pub access : All IsAccessible items → (is_access w.off w.width && fits w.width w.value) ≡ true
-  access all = All-contains IsAccessible items w all (i, within, sym here)
-
   made_more : (after : List Target) → after ≡ write_targets now (write_value w) → after ≡ after_writes before (take (i + 1) ws)
   made_more after e =
       e ∙ ap (λ ts. write_targets ts (write_value w)) made.made ∙ sym (fold_more before (take i ws) (write_value w))
       ∙ ap (λ xs. after_writes before xs) (ap (λ x. take i ws ++ x ∷ []) (sym (is (write_value w))) ∙ sym (take_more ws i (write_value w) within_ws))
 
-  cause_of : (failures failures_after : ℕ) (targets : List Target) (count : ℕ) → targets ≡ after_writes before (take count ws) → (failures < failures_after) ⊎ (has_function targets w.slot ≡ false) → IsPortCause before failures ws failures_after
-  cause_of failures failures_after targets count e (inl rose) = inl rose
-  cause_of failures failures_after targets count e (inr none) =
-      inr (write_value w, listed, sym (has_after before (take count ws) w.slot) ∙ ap (λ ts. has_function ts w.slot) (sym e) ∙ none)
+  -- a stop after so many writes, the next one among them or not
+  left_at : (after : List Target) (n : ℕ) → IsLeftBy now (write_value w) i after n → (n ≤ length ws) × (after ≡ after_writes before (take n ws))
+  left_at after n (inl (is, same)) = (omega (arith, is, within_ws), same ∙ made.made ∙ ap (λ k. after_writes before (take k ws)) (sym is))
+  left_at after n (inr (is, e)) = (omega (arith, is, within_ws), made_more after e ∙ ap (λ k. after_writes before (take k ws)) (sym is))
 
-  pub stop_at_write : (after : List Target) (failures failures_after : ℕ) → after ≡ now → (failures < failures_after) ⊎ (has_function now w.slot ≡ false) → IsPortStop before failures ws after failures_after i
-  stop_at_write after failures failures_after e cause = record {
-    within = made.within;
-    made = e ∙ made.made;
-    cause = cause_of failures failures_after now i made.made cause;
-  }
-
-  pub stop_at_read : (after : List Target) (failures failures_after : ℕ) → after ≡ write_targets now (write_value w) → (failures < failures_after) ⊎ (has_function after w.slot ≡ false)
-      → IsPortStop before failures ws after failures_after (i + 1)
-  stop_at_read after failures failures_after e cause = record {
-    within = omega (arith, within_ws);
-    made = made_more after e;
-    cause = cause_of failures failures_after after (i + 1) (made_more after e) cause;
-  }
-
-  pub stuck : (after : List Target) (shows : ℕ) → after ≡ write_targets now (write_value w) → ShowsNumber after w.slot w.off w.width shows → (shows ≡ w.value → ⊥) → IsStuckStop before ws after (i + 1)
-  stuck after shows e shown differs = record {
+  -- why this write is the last is why all stop
+  pub stop_at : (after : List Target) (failures failures_after : ℕ) (fault : ApplyFault) → IsLastWrite now failures (write_value w) i after failures_after fault → IsStop before failures ws after failures_after fault
+  stop_at after failures failures_after (Changed slot offset) stop = absurd stop
+  stop_at after failures failures_after (Port n) (left, refused) =
+      let at_n = left_at after n left in
+      record {
+        within = at_n.0;
+        made = at_n.1;
+        cause = elim refused [
+          | inl rose ↦ inl rose
+          | inr none ↦ inr (write_value w, listed, sym (has_after before (take n ws) w.slot) ∙ ap (λ ts. has_function ts w.slot) (sym at_n.1) ∙ none)
+        ];
+      }
+  stop_at after failures failures_after (Stuck n) (is, e, otherwise) = record {
     last = i;
-    is_last = refl;
+    is_last = is;
     write = write_value w;
     listed = at;
-    made = made_more after e;
-    shows = shows;
-    shown = shown;
-    differs = differs;
+    made = made_more after e ∙ ap (λ k. after_writes before (take k ws)) (sym is);
+    otherwise = otherwise;
   }
 
   pub one_more : (after : List Target) → after ≡ write_targets now (write_value w) → ShowsNumber after w.slot w.off w.width w.value → AreMade before ws (i + 1) after

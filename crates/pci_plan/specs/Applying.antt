@@ -1,12 +1,13 @@
 -- What stands behind a port after a plan was put onto it, or part of it.
-use Rattle.std.specs.Prelude.{◌≡◌, ◌≢◌, ℕ, ◌+◌, ◌<◌, ◌≤◌, ◌⊎◌, IsFalse, List, length, map, Some, Result, Ok, Err, slice_get}
+use Rattle.std.specs.Prelude.{◌≡◌, ℕ, ◌+◌, ◌<◌, ◌≤◌, ◌⊎◌, IsFalse, List, length, map, Some, Result, Ok, Err, slice_get}
 use Rattle.std.specs.List.{Contains}
 use Rattle.pci_spec.specs.Slot.{Slot}
 use Rattle.pci_spec.specs.System.{System, Function}
 use Rattle.pci_spec.specs.Sound.{IsSound}
 use Rattle.pci_spec.specs.Machine.{Target, Write, target_of}
-use Rattle.pci_machine.specs.Port.{has_function, ShowsNumber}
+use Rattle.pci_machine.specs.Port.{has_function}
 use Rattle.pci_plan.specs.Comparing.{ShowsAll, IsChangedAt}
+use Rattle.pci_plan.specs.Making.{IsShownOtherwise}
 use Rattle.pci_plan.specs.declared.apply_fault.ApplyFault.{ApplyFault}
 use Rattle.pci_plan.specs.declared.apply_fault.ApplyFault.TheVariants.{Changed, Port, Stuck}
 
@@ -54,9 +55,7 @@ pub record IsReadOtherwise (before : List Target) (start : System) (writes : Lis
   pub is_last : done ≡ last + 1
   pub write : Write
   pub listed : slice_get writes last ≡ Some write
-  pub shows : ℕ
-  pub shown : ShowsNumber after write.slot write.offset write.width shows
-  pub differs : shows ≢ write.value
+  pub otherwise : IsShownOtherwise after write
 
 abbrev pub IsApplyFault : List Target → ℕ → System → List Write → List Target → ℕ → ApplyFault → Type 0
 IsApplyFault before failures start writes after failures_after (Changed slot offset) = IsChangedFrom before start slot offset
