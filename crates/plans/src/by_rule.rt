@@ -57,6 +57,14 @@ fn planned<'a>(
     }
 }
 
+/// Why there is no plan.
+fn fault_in<'a>(answer: Result<Plan<'a>, PlanFault>) -> Option<PlanFault> {
+    match answer {
+        Ok(_) => None,
+        Err(fault) => Some(fault),
+    }
+}
+
 #[test]
 fn the_fast_planner_agrees_with_the_slow_one(rt: HostRuntime) -> Result<(), Fail> {
     let mut plans = 0u32;
@@ -65,10 +73,7 @@ fn the_fast_planner_agrees_with_the_slow_one(rt: HostRuntime) -> Result<(), Fail
     for seed in 0..600u64 {
         let board = Rule::new(seed).board(rt.alloc())?;
         let start = admitted(rt.alloc(), &board)?;
-        let fault = match planned(rt.alloc(), &start, &board)? {
-            Ok(_) => None,
-            Err(fault) => Some(fault),
-        };
+        let fault = fault_in(planned(rt.alloc(), &start, &board)?);
         assert_eq!(rt; fault, slow::fault_of(&board), "{seed}");
         match fault {
             None => plans = plans.wrapping_add(1),

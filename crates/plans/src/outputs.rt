@@ -27,14 +27,19 @@ fn the_planned_dump_is_printed_and_sound(rt: HostRuntime) -> Result<(), Fail> {
     Ok(())
 }
 
+/// What follows the slot of a text's first line.
+fn after_slot(text: &str) -> &str {
+    text.get(7..).unwrap_or("")
+}
+
 #[test]
 fn titles_are_kept(rt: HostRuntime) -> Result<(), Fail> {
     let bar = (0x10, 0, 0xfff0_0000);
     let placed = (0x10, 0xe000_0000, 0xfff0_0000);
     let start = texts_of(rt.alloc(), &[device("00:02.0", 0, &[bar])])?;
     let planned = texts_of(rt.alloc(), &[device("00:02.0", 2, &[placed])])?;
-    let rest = start.dump.as_str().get(7..).unwrap_or("");
-    let planned_rest = planned.dump.as_str().get(7..).unwrap_or("");
+    let rest = after_slot(start.dump.as_str());
+    let planned_rest = after_slot(planned.dump.as_str());
     let dump = format!(in rt.alloc(); "00:02.0 a title {rest}")?;
     let wanted = format!(in rt.alloc(); "00:02.0 a title {planned_rest}")?;
     let texts = (dump.as_str(), start.probe.as_str());
