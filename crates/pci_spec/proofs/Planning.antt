@@ -1,8 +1,6 @@
 pub mod Above
 pub mod AddressBits
 pub mod AboveBuses
-pub mod AboveBuses
-pub mod AddressBits
 pub mod AllItems
 pub mod Asleep
 pub mod BarFaults
@@ -67,7 +65,6 @@ pub mod ShownSystem
 pub mod Shows
 pub mod Single
 pub mod Sizes
-pub mod Sorting
 pub mod Staging
 pub mod Starts
 pub mod Stays
@@ -80,5 +77,4 @@ pub mod ValueFits
 pub mod Whole
 pub mod WindowFits
 pub mod WorkedNumbers
-pub mod WorkedRows
 pub mod Writes
