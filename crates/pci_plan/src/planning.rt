@@ -108,15 +108,7 @@ fn all_places<A: Allocator + Copy, B: Allocator>(
 {
     let mut places = no_places(alloc, admitted)?;
     let all = places.as_mut_slice();
-    place_class(
-        alloc,
-        admitted,
-        pools,
-        Class::Io,
-        aboves,
-        &needs.io,
-        all,
-    )?;
+    place_class(alloc, admitted, pools, Class::Io, aboves, &needs.io, all)?;
     place_class(
         alloc,
         admitted,

@@ -44,10 +44,7 @@ fn command_write(slot: Slot, command: u16) -> Write
 }
 
 /// Closes what is on, the highest slot first.
-fn add_closing<A: Allocator>(
-    writes: &mut Vec<Write, A>,
-    start: &[Block],
-) -> Result<(), OutOfMemory>
+fn add_closing<A: Allocator>(writes: &mut Vec<Write, A>, start: &[Block]) -> Result<(), OutOfMemory>
     ensures { OnOk result (map write_value writes.new.items ≡ map write_value writes.old.items ++ closing_writes (block_changes start.now start.now)) }
 {
     for done in 0..start.len() {

@@ -24,8 +24,8 @@ loop-j-preserved c =
         | inl before ↦ omega (arith, e, at, before)
         | inr after ↦ omega (arith, e, at, after)
       ]) in
-      let wider : (place < c.args.offset) ⊎ (c.args.offset + j ≤ place) = elim outside [ inl before ↦ inl before | inr after ↦ inr (omega (arith, after)) ] in
-      get_or-set_other image c.from.result place (rest % 256) 0 apart ∙ c.loop-j.invariant.others place wider);
+          let wider : (place < c.args.offset) ⊎ (c.args.offset + j ≤ place) = elim outside [ inl before ↦ inl before | inr after ↦ inr (omega (arith, after)) ] in
+          get_or-set_other image c.from.result place (rest % 256) 0 apart ∙ c.loop-j.invariant.others place wider);
       full = still_image image c.from.result (rest % 256) c.loop-j.invariant.full (mod_below rest 256 (omega arith)) (omega (arith, at, room, more));
     }
 
