@@ -48,7 +48,7 @@ unfolding is_plain_register
 plain_register c [] plain = refl
 plain_register c (r ∷ rs) plain =
     let parts = and_parts (is_plain_register r) (list_all is_plain_register rs) plain in
-    plain_both (register_write c r) (flat_map (register_write c) rs) 
+    plain_both (register_write c r) (flat_map (register_write c) rs)
     (plain_other (number_at c.new.image r.0 r.1 == number_at c.old.image r.0 r.1)
     record { slot = c.old.slot; offset = r.0; width = r.1; value = number_at c.new.image r.0 r.1 } parts.0)
     (plain_register c rs parts.1)
@@ -60,7 +60,7 @@ plain_registers (c ∷ changes) =
 
 plain_opening : (changes : List Change) → list_all is_plain_value (opening_writes changes) ≡ true
 plain_opening [] = refl
-plain_opening (c ∷ changes) = plain_both (opening_of c) (opening_writes changes) 
+plain_opening (c ∷ changes) = plain_both (opening_of c) (opening_writes changes)
     (plain_other (command c.new.image == closed_command c.old) record { slot = c.old.slot; offset = 0x04; width = 2; value = command c.new.image } refl)
     (plain_opening changes)
 

@@ -9,7 +9,9 @@ pub enum Task {
     /// Lists what the functions decode to.
     Show,
     /// Judges them as a system with these root buses.
-    Check { roots: Roots },
+    Check {
+        roots: Roots,
+    },
     /// Sizes every function of a machine of the two texts.
     Size,
     /// Plans them in these pools, with these root buses: the planned dump, or the writes that lead there.
