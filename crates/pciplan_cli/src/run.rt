@@ -107,11 +107,9 @@ fn no_plan<A: Allocator>(alloc: A, fault: PlanFault) -> Result<Answer<A>, Troubl
     ensures line { IfOk result (λ answer. (answer.status ≡ 1) × (string_bytes answer.text ≡ plan_fault_line (plan_fault_of fault))) }
     ensures memory { IfErr result (λ trouble. trouble ≡ Trouble.Memory) }
 {
+    let status = REFUSED;
     match format!(in alloc; "no {fault}\n") {
-        Ok(text) => Ok(Answer {
-            text,
-            status: REFUSED,
-        }),
+        Ok(text) => Ok(Answer { text, status }),
         Err(_) => Err(Trouble::Memory),
     }
 }
