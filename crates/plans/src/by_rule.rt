@@ -58,10 +58,10 @@ fn planned<'a>(
 }
 
 /// Why there is no plan.
-fn fault_in<'a>(answer: Result<Plan<'a>, PlanFault>) -> Option<PlanFault> {
+fn fault_in<'a>(answer: &Result<Plan<'a>, PlanFault>) -> Option<PlanFault> {
     match answer {
         Ok(_) => None,
-        Err(fault) => Some(fault),
+        Err(fault) => Some(*fault),
     }
 }
 
@@ -73,7 +73,7 @@ fn the_fast_planner_agrees_with_the_slow_one(rt: HostRuntime) -> Result<(), Fail
     for seed in 0..600u64 {
         let board = Rule::new(seed).board(rt.alloc())?;
         let start = admitted(rt.alloc(), &board)?;
-        let fault = fault_in(planned(rt.alloc(), &start, &board)?);
+        let fault = fault_in(&planned(rt.alloc(), &start, &board)?);
         assert_eq!(rt; fault, slow::fault_of(&board), "{seed}");
         match fault {
             None => plans = plans.wrapping_add(1),

@@ -67,7 +67,7 @@ fn boards(alloc: Global) -> Result<[(Texts, &'static str); 2], AllocError> {
 /// What planning answers: the lines of the writes, or why there are none.
 fn answer_of<'p, 'a>(
     alloc: Global,
-    answer: Result<Plan<'p, &'a Refusing<Global>>, Refused<PlanFault>>,
+    answer: &Result<Plan<'p, &'a Refusing<Global>>, Refused<PlanFault>>,
 ) -> Result<String, AllocError> {
     let mut text = String::new(alloc);
     match answer {
@@ -91,7 +91,7 @@ fn each_growth_of_a_plan_is_refused(rt: HostRuntime) -> Result<(), Fail> {
         let mut refused = 0u64;
         for n in 1..MANY {
             heap.refuse(n);
-            let answer = answer_of(rt.alloc(), plan(&heap, &board, &POOLS))?;
+            let answer = answer_of(rt.alloc(), &plan(&heap, &board, &POOLS))?;
             let is_due = heap.is_due();
             assert!(rt; is_as_it_was(rt.alloc(), &board, &texts)?);
             if is_due {
@@ -100,7 +100,7 @@ fn each_growth_of_a_plan_is_refused(rt: HostRuntime) -> Result<(), Fail> {
             }
             assert_eq!(rt; answer.as_str(), "2 Memory\n");
             heap.refuse(0);
-            let again = answer_of(rt.alloc(), plan(&heap, &board, &POOLS))?;
+            let again = answer_of(rt.alloc(), &plan(&heap, &board, &POOLS))?;
             assert_eq!(rt; again.as_str(), lines);
             refused = n;
         }
@@ -121,7 +121,7 @@ fn pools_that_are_no_pools_are_told_without_memory(rt: HostRuntime) -> Result<()
         heap.refuse(0);
         let board = admitted(&heap, &texts)?;
         heap.refuse(1);
-        let answer = answer_of(rt.alloc(), plan(&heap, &board, &pools))?;
+        let answer = answer_of(rt.alloc(), &plan(&heap, &board, &pools))?;
         assert_eq!(rt; answer.as_str(), "70 BadPools\n");
         assert!(rt; heap.is_due());
     }
