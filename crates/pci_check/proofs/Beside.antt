@@ -150,7 +150,7 @@ no_more : (ds ms : List Block) → ms ≡ [] → ds ≡ ds ++ ms
 no_more ds ms e = sym (ap (λ xs. ds ++ xs) e ∙ append-nil ds)
 
 -- one function more
-system_last : (dump probe : List Block) (b p : Block) → length dump ≡ length probe → system_of (dump ++ b ∷ []) (probe ++ p ∷ []) ≡ system_of dump probe ++ function_of b p ∷ []
+pub system_last : (dump probe : List Block) (b p : Block) → length dump ≡ length probe → system_of (dump ++ b ∷ []) (probe ++ p ∷ []) ≡ system_of dump probe ++ function_of b p ∷ []
 system_last [] [] b p e = refl
 system_last [] (q ∷ probe) b p e = absurd (let no : ⊥ = omega (arith, e) in no)
 system_last (d ∷ dump) [] b p e = absurd (let no : ⊥ = omega (arith, e) in no)

@@ -11,5 +11,6 @@ pub mod NeedTables
 pub mod NoWindows
 pub mod Owned
 pub mod Parts
+pub mod PlannedDumps
 pub mod Records
 pub mod RootNeeds
