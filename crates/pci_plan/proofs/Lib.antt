@@ -14,6 +14,7 @@ pub mod NeedTables
 pub mod NoWindows
 pub mod Owned
 pub mod Parts
+pub mod PlannedDumps
 pub mod Records
 pub mod Compares
 pub mod Makes

@@ -91,8 +91,9 @@ pub fn planned_dump<A: Allocator, B: Allocator>(
     ensures titles { IfOk result (λ dump. map (λ b. b.title) dump ≡ map (λ b. b.title) admitted.now.dump) }
     ensures planned { IfOk result (λ dump. AllZip (IsPlannedFunction admitted.now.roots (system_in admitted.now) (pools_value pools.now)) (system_in admitted.now) (system_of dump admitted.now.probe)) }
 {
-    // The pools are what the places were found in: the contract speaks of them alone.
-    let _pools = pools;
+    // What the places were found by: the contract speaks of these alone.
+    let _roots = admitted.outline().roots();
+    let _last = pools.pref.last;
     let records = admitted.outline().records();
     let blocks = admitted.dump().blocks();
     let mut dump = Dump::empty(alloc);
