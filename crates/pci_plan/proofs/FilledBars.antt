@@ -1,20 +1,19 @@
 -- The BARs of a filling, by its record.
-use Rattle.std.proofs.Common.{◌≡◌, ℕ, zero, suc, ◌+◌, ◌*◌, ◌/◌, ◌%◌, ◌^◌, ◌<◌, ◌≤◌, List, Bool, true, false, cond, ◌&&◌, not, inl, inr, arith, sym, ◌∙◌, ap, subst, map, refl}
+use Rattle.std.proofs.Common.{◌≡◌, ℕ, zero, suc, ◌+◌, ◌*◌, ◌/◌, ◌%◌, ◌^◌, ◌<◌, ◌≤◌, Bool, true, false, cond, ◌&&◌, not, inl, inr, arith, sym, ◌∙◌, ap, subst, map, refl}
 use Rattle.std.specs.Bool.{nat_lt, ◌==◌, if◌then◌else◌}
-use denote.Enum.Bare.{sameb}
 use Rattle.std.specs.List.{Contains, filter, range_with_len}
 use Rattle.std.proofs.lemmas.Bool.{and_from, and_parts, both_ways, cases_Bool, lt-ltb}
-use Rattle.std.proofs.lemmas.Nat.{pow_pos}
 use Rattle.std.proofs.lemmas.List.Elements.{All-contains}
 use Rattle.std.proofs.Math.Nat.{pow-le-pow_right}
-use Rattle.pci_spec.specs.Number.{number_at, lowest_one}
+use denote.Enum.Bare.{sameb}
+use Rattle.pci_spec.specs.Number.{number_at}
 use Rattle.pci_spec.specs.Header.{layout, bar_count, bar_register}
 use Rattle.pci_spec.specs.Bar.{BarKind, IoBar, Memory32, Memory64, Reserved, bar_at, bar_kind, is_io, is_wide, type_bits, starts_bar, whole_bar}
 use Rattle.pci_spec.specs.Decoded.{decoded_bar, decoded_bars, has_bar, bar_size}
 use Rattle.pci_spec.specs.Decoded as decoded
-use Rattle.pci_spec.specs.System.{Function, IsFunction, Part, Bar, Rom, Window}
+use Rattle.pci_spec.specs.System.{Function, IsFunction, Bar}
 use Rattle.pci_spec.specs.Plan.{class_of, same_class}
-use Rattle.pci_spec.specs.Planning.Showing.{first_bit, reach_of, bar_value}
+use Rattle.pci_spec.specs.Planning.Showing.{first_bit, reach_of}
 use Rattle.pci_spec.specs.Planning.Numbers.{place_at, new_bar, lower_number, bar_number}
 use Rattle.pci_spec.proofs.Members.{IsMade, in_filter_to, in_filter_from, in_map_to, in_map_from, in_range_to, in_range_from}
 use Rattle.pci_spec.proofs.Planning.Reach.{bar_place}
@@ -26,7 +25,7 @@ use Rattle.pci_image.specs.declared.bar.BarKind.{BarKind as CodeKind}
 use Rattle.pci_image.specs.declared.bar.BarKind.TheVariants.{Io, Mem32, Mem64}
 use Rattle.pci_image.specs.contracts.bar.BarKind.{the_type as bar_kind_type}
 use Rattle.pci_plan.specs.declared.numbers.Filling.{Filling}
-use Rattle.pci_plan.specs.Classes.{is_io_kind, is_wide_kind}
+use Rattle.pci_plan.specs.Classes.{is_wide_kind}
 use Rattle.pci_plan.specs.Fillings.{FillingOf}
 use Rattle.pci_plan.specs.Places.{first_in}
 use Rattle.pci_plan.proofs.ClassOf.{kind_wide}

@@ -1,10 +1,10 @@
 -- What a filling's function has to decode, by its record.
-use Rattle.std.proofs.Common.{◌≡◌, ◌*◌, List, [], ◌∷◌, ◌++◌, map, refl, Bool, true, false, cond, not, ◌||◌, sym, ◌∙◌, ap}
-use mir.Val.{bool_byte}
+use Rattle.std.proofs.Common.{◌≡◌, ◌*◌, [], ◌∷◌, map, refl, Bool, true, false, cond, not, ◌||◌, sym, ◌∙◌, ap}
 use Rattle.std.specs.List.{list_any}
 use Rattle.std.specs.Option.{is_some}
 use Rattle.std.proofs.lemmas.Bool.{both_ways}
 use Rattle.std.proofs.lemmas.List.Folds.{list_any-append}
+use mir.Val.{bool_byte}
 use Rattle.pci_spec.specs.Bar.{bar_at, is_io}
 use Rattle.pci_spec.specs.Rom.{has_rom}
 use Rattle.pci_spec.specs.Decoded.{decoded_bar}

@@ -1,5 +1,5 @@
 -- The address registers of a filling, by their offsets.
-use Rattle.std.proofs.Common.{◌≡◌, ℕ, zero, suc, ◌+◌, ◌-◌, ◌*◌, ◌/◌, ◌%◌, ◌<◌, ◌⊎◌, inl, inr, List, refl, true, false, cond, arith, sym, ap}
+use Rattle.std.proofs.Common.{◌≡◌, ℕ, zero, suc, ◌-◌, ◌/◌, ◌%◌, ◌<◌, ◌⊎◌, inl, inr, List, refl, true, false, cond, arith, sym, ap}
 use Rattle.std.specs.List.{Contains}
 use Rattle.pci_spec.specs.Header.{address_registers, bar_register}
 use Rattle.pci_spec.specs.System.{System, Function, is_bridge}

@@ -1,5 +1,5 @@
 -- The ROM of a filling, by its record.
-use Rattle.std.proofs.Common.{◌≡◌, ℕ, ◌+◌, ◌%◌, ◌^◌, ◌<◌, List, Bool, true, false, cond, ◌&&◌, arith, sym, ◌∙◌, ap, refl, Option, Some, None, if◌then◌else◌}
+use Rattle.std.proofs.Common.{◌≡◌, ◌+◌, ◌%◌, ◌^◌, ◌<◌, Bool, true, false, cond, sym, ◌∙◌, ap, refl, Option, Some, None, if◌then◌else◌}
 use Rattle.std.specs.Option.{is_some, option_map}
 use Rattle.std.proofs.lemmas.Bool.{and_from}
 use Rattle.std.proofs.lemmas.List.Elements.{All-contains}

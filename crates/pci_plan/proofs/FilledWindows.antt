@@ -1,12 +1,11 @@
 -- The windows of a filling, by its record.
-use Rattle.std.proofs.Common.{◌≡◌, ℕ, zero, suc, ◌+◌, ◌-◌, ◌*◌, ◌^◌, ◌<◌, ◌≤◌, ◌⊎◌, inl, inr, List, refl, Bool, true, false, cond, ◌&&◌, ◌||◌, not, arith, sym, ◌∙◌, ap, subst, Option, Some, None, if◌then◌else◌, min}
-use Rattle.std.specs.Bool.{nat_lt, ◌==◌}
-use Rattle.std.specs.List.{slice_index, sum}
-use Rattle.std.specs.Option.{is_some, option_map}
-use Rattle.std.proofs.lemmas.Bool.{and_from, and_parts, both_ways, cases_Bool, eqb-true, not-false, lt-ltb, ltb-true, le-leb, ltb-false}
+use Rattle.std.proofs.Common.{◌≡◌, ℕ, zero, suc, ◌+◌, ◌-◌, ◌^◌, ◌<◌, ◌≤◌, inl, inr, List, refl, Bool, true, false, ◌&&◌, arith, sym, ◌∙◌, ap, Some, None, if◌then◌else◌}
+use Rattle.std.specs.Bool.{nat_lt}
+use Rattle.std.specs.List.{slice_index}
+use Rattle.std.specs.Option.{is_some}
+use Rattle.std.proofs.lemmas.Bool.{and_from, eqb-true, not-false, lt-ltb}
 use Rattle.std.proofs.lemmas.List.Elements.{All-contains}
-use Rattle.pci_spec.specs.Number.{byte_at}
-use Rattle.pci_spec.specs.Header.{layout, secondary_bus}
+use Rattle.pci_spec.specs.Header.{layout}
 use Rattle.pci_spec.specs.Window.{WindowKind, IoWindow, MemoryWindow, PrefetchWindow, Bounds, bounds_at, page_bits, has_window, is_wide_window, is_zero}
 use Rattle.pci_spec.specs.Decoded.{DecodedWindow, optional_window, decoded_window, bridge_of}
 use Rattle.pci_spec.specs.Decoded as decoded
@@ -21,9 +20,9 @@ use Rattle.pci_spec.specs.Planning.Numbers.{place_at, new_bounds}
 use Rattle.pci_spec.proofs.Records.{memory_window_there}
 use Rattle.pci_spec.proofs.ReadBacks.{AreZero, are_zero, window_rules}
 use Rattle.pci_spec.proofs.Planning.Planned.{class_same_itself}
-use Rattle.pci_spec.proofs.Planning.Reach.{IsReached, IsWindowPlace, need_is_behind}
+use Rattle.pci_spec.proofs.Planning.Reach.{IsReached, need_is_behind}
 use Rattle.pci_spec.proofs.Planning.NumbersFit.{window_room, parts_fit}
-use Rattle.pci_spec.proofs.Planning.WindowFits.{PartsFit, few_nibbles, by_absent, by_open, by_closed}
+use Rattle.pci_spec.proofs.Planning.WindowFits.{few_nibbles, by_absent, by_open, by_closed}
 use Rattle.pci_tree.specs.declared.record.Bridge.{Bridge}
 use Rattle.pci_tree.specs.Values.{bridge_value}
 use Rattle.pci_tree.proofs.Lifting.{same_bridge}

@@ -1,31 +1,31 @@
 -- A dump that is planned block by block.
-use Rattle.std.proofs.Common.{◌≡◌, ℕ, zero, suc, ◌+◌, ◌^◌, ◌<◌, ◌≤◌, List, [], ◌∷◌, ◌++◌, Option, Some, length, map, take, get_or, arith, refl, sym, ◌∙◌, ap, subst}
+use Rattle.std.proofs.Common.{◌≡◌, ℕ, ◌+◌, ◌^◌, ◌<◌, ◌≤◌, List, [], ◌∷◌, ◌++◌, Option, Some, length, map, take, get_or, arith, refl, sym, ◌∙◌, ap, subst}
 use Rattle.std.specs.List.{AllZip, Contains, slice_get, slice_index_or}
 use Rattle.std.specs.List.Sorted.{IsStrictlyIncreasing}
 use Rattle.std.proofs.lemmas.Option.{slice_get-get_or}
 use Rattle.std.proofs.lemmas.List.{get_or-map, get_or-take, length-map, length-take-le, map-append, take_all, take_more}
 use Rattle.std.proofs.lemmas.List.Elements.{AllZip-push}
-use Rattle.pci_spec.specs.Slot.{Slot, IsRising, slot_number}
+use Rattle.pci_spec.specs.Slot.{Slot, slot_number}
 use Rattle.pci_spec.specs.Text.{Block, IsDump, slots_of}
 use Rattle.pci_spec.specs.Stops.{IsAboveLast, last_slot}
 use Rattle.pci_spec.specs.System.{System, Function, system_of}
-use Rattle.pci_spec.proofs.Members.{in_head, in_tail}
-use Rattle.pci_spec.proofs.Pairing.{function_of, function-at, length-system_of, same_length}
-use Rattle.pci_tree.proofs.Pairings.{later_is_above}
-use Rattle.pci_check.proofs.Beside.{system_last}
 use Rattle.pci_spec.specs.Decoded.{HasRecords}
 use Rattle.pci_spec.specs.Decoded as decoded
 use Rattle.pci_spec.specs.PlanPromise.{CanBePlanned}
-use Rattle.pci_spec.proofs.Planning.Placings.{table_of_places}
-use Rattle.pci_spec.proofs.Planning.Reach.{AreGood, good_pools}
-use Rattle.pci_tree.specs.Admission.{Admission, IsAdmitted}
-use Rattle.pci_plan.specs.Above.{system_in}
 use Rattle.pci_spec.specs.Plan.{Pools, Class, IoClass, MemoryClass, PrefetchClass, class_of, pool_of}
 use Rattle.pci_spec.specs.Planning.Plannable.{IsPlannable}
 use Rattle.pci_spec.specs.Planning.Table.{IsTable}
 use Rattle.pci_spec.specs.Planning.Numbers.{place_at}
+use Rattle.pci_spec.proofs.Members.{in_head, in_tail}
+use Rattle.pci_spec.proofs.Pairing.{function_of, function-at, length-system_of, same_length}
+use Rattle.pci_spec.proofs.Planning.Placings.{table_of_places}
+use Rattle.pci_spec.proofs.Planning.Reach.{AreGood, good_pools}
+use Rattle.pci_tree.specs.Admission.{Admission, IsAdmitted}
 use Rattle.pci_tree.specs.declared.record.Record.{Record}
 use Rattle.pci_tree.specs.Values.{record_value}
+use Rattle.pci_tree.proofs.Pairings.{later_is_above}
+use Rattle.pci_check.proofs.Beside.{system_last}
+use Rattle.pci_plan.specs.Above.{system_in}
 use Rattle.pci_plan.specs.declared.by_class.ByClass.{ByClass}
 use Rattle.pci_plan.specs.declared.need.Needs.{Needs}
 use Rattle.pci_plan.specs.declared.place.Places.{Places}
@@ -64,18 +64,18 @@ module _ (P : Function → Function → Type 0) (dump probe : List Block) (same 
     -- the next block may stand after them
     pub next_above : IsDump dump → i < length dump → (b : Block) → b ≡ get_or dump i b → IsAboveLast (last_slot found) b.slot
     next_above is inside b at = above_all found b.slot (λ t has.
-      let slots = length-map dump (λ (c : Block). c.slot) in
-      let taken = length-take-le i (slots_of dump) (omega (arith, slots, inside)) in
-      let earlier : Contains (take i (slots_of dump)) t = subst (λ (ss : List Slot). Contains ss t) so_far.slots has in
-      let short = earlier.1 in
-      let j = earlier.0 in
-      let before : j < i = omega (arith, taken, short) in
-      let t_at : get_or (slots_of dump) j t ≡ t = sym (get_or-take i (slots_of dump) j t before) ∙ earlier.2 in
-      let b_at : get_or (slots_of dump) i t ≡ b.slot = get_or-map (λ (c : Block). c.slot) dump i b t inside ∙ ap (λ (c : Block). c.slot) (sym at) in
-      let less = later_is_above (slots_of dump) j i t is.rising before (omega (arith, slots, inside)) in
-      let low = ap slot_number t_at in
-      let high = ap slot_number b_at in
-      omega (arith, less, low, high))
+        let slots = length-map dump (λ (c : Block). c.slot) in
+        let taken = length-take-le i (slots_of dump) (omega (arith, slots, inside)) in
+        let earlier : Contains (take i (slots_of dump)) t = subst (λ (ss : List Slot). Contains ss t) so_far.slots has in
+        let short = earlier.1 in
+        let j = earlier.0 in
+        let before : j < i = omega (arith, taken, short) in
+        let t_at : get_or (slots_of dump) j t ≡ t = sym (get_or-take i (slots_of dump) j t before) ∙ earlier.2 in
+        let b_at : get_or (slots_of dump) i t ≡ b.slot = get_or-map (λ (c : Block). c.slot) dump i b t inside ∙ ap (λ (c : Block). c.slot) (sym at) in
+        let less = later_is_above (slots_of dump) j i t is.rising before (omega (arith, slots, inside)) in
+        let low = ap slot_number t_at in
+        let high = ap slot_number b_at in
+        omega (arith, less, low, high))
 
     -- one more
     pub next_planned : (b c p : Block) → i < length dump → c ≡ get_or dump i c → p ≡ get_or probe i p → b.slot ≡ c.slot → b.title ≡ c.title
@@ -120,7 +120,7 @@ module _ (P : Function → Function → Type 0) (dump probe : List Block) (same 
         so_far.slots ∙ take_all i (slots_of dump) (omega (arith, slots, done)),
         so_far.titles ∙ take_all i (map (λ b. b.title) dump) (omega (arith, titles, done)),
         subst (λ fs. AllZip P fs (system_of found probe)) (take_all i (system_of dump probe) (omega (arith, size, done)))
-        (subst (λ ps. AllZip P (take i (system_of dump probe)) (system_of found ps)) (take_all i probe (omega (arith, count, done))) so_far.planned),
+            (subst (λ ps. AllZip P (take i (system_of dump probe)) (system_of found ps)) (take_all i probe (omega (arith, count, done))) so_far.planned),
       )
 
 -- ---- what is filled

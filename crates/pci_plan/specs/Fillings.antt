@@ -1,5 +1,5 @@
 -- What a function is filled with.
-use Rattle.std.specs.Prelude.{◌≡◌, ℕ, ◌<◌, List, IsTrue, Option, Some, if◌then◌else◌}
+use Rattle.std.specs.Prelude.{◌≡◌, ℕ, List, IsTrue, Option, Some, if◌then◌else◌}
 use Rattle.std.specs.List.{Contains}
 use Rattle.std.specs.Option.{is_some}
 use Rattle.pci_spec.specs.Window.{WindowKind, IoWindow, MemoryWindow, PrefetchWindow, Bounds as SpecBounds}
@@ -12,8 +12,8 @@ use Rattle.pci_spec.specs.Planning.Plannable.{IsPlannable}
 use Rattle.pci_spec.specs.Planning.Table.{is_placed, IsTable}
 use Rattle.pci_spec.specs.Planning.Numbers.{place_at}
 use Rattle.pci_image.specs.declared.window.Windows.{Windows}
-use Rattle.pci_tree.specs.declared.record.Record.{Record}
 use Rattle.pci_machine.specs.declared.address_register.AddressRegister.{AddressRegister}
+use Rattle.pci_tree.specs.declared.record.Record.{Record}
 use Rattle.pci_plan.specs.declared.pools.Class.{Class}
 use Rattle.pci_plan.specs.declared.pools.Class.TheVariants.{Io, Memory, Prefetchable}
 use Rattle.pci_plan.specs.declared.numbers.Bounds.{Bounds}

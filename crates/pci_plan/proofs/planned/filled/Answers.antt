@@ -1,10 +1,9 @@
-use Rattle.std.proofs.Common.{◌≡◌, ℕ, ◌+◌, ◌<◌, ◌≤◌, ◌^◌, List, Bool, ◌++◌, [], ◌∷◌, length, map, take, get_or, arith, sym, ◌∙◌, ap, subst, if◌then◌else◌}
+use Rattle.std.proofs.Common.{◌≡◌, ℕ, ◌+◌, ◌<◌, List, Bool, ◌++◌, [], ◌∷◌, length, map, take, get_or, arith, sym, ◌∙◌, ap, subst, if◌then◌else◌}
 use Rattle.std.specs.Option.{is_some}
 use Rattle.std.specs.List.{AllPairs, Contains}
 use Rattle.std.proofs.lemmas.List.{length-map, take_all, take_more}
 use Rattle.std.proofs.lemmas.List.Elements.{Contains-get_or}
 use Rattle.std.proofs.Math.ListN.{get_or-map}
-use Rattle.pci_spec.specs.Number.{IsImage}
 use Rattle.pci_spec.specs.Header.{address_registers, layout}
 use Rattle.pci_spec.specs.System.{is_bridge}
 use Rattle.pci_spec.specs.Planning.Numbers.{new_number, new_command}

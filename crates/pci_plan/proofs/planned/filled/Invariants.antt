@@ -1,4 +1,4 @@
-use Rattle.std.proofs.Common.{ℕ, map, take}
+use Rattle.std.proofs.Common.{map, take}
 use Rattle.pci_spec.specs.Planning.Numbers.{new_number}
 use Rattle.pci_machine.specs.declared.address_register.AddressRegister.{AddressRegister}
 use Rattle.pci_plan.specs.Fillings.{FillingOf}

@@ -1,11 +1,11 @@
-use Rattle.std.proofs.Common.{◌≡◌, ℕ, ◌+◌, ◌<◌, ◌≤◌, ◌^◌, List, [], Some, length, map, get_or, arith, refl, sym, ◌∙◌, ap, subst}
+use Rattle.std.proofs.Common.{◌≡◌, ℕ, ◌+◌, ◌<◌, List, [], Some, length, map, get_or, arith, refl, sym, ◌∙◌, ap, subst}
 use Rattle.std.specs.List.{AllZip, slice_get}
 use Rattle.std.specs.List.Sorted.{IsStrictlyIncreasing}
 use Rattle.std.proofs.lemmas.List.{get_or_default}
 use Rattle.pci_spec.specs.Text.{Block, IsDump, slots_of}
 use Rattle.pci_spec.specs.Slot.{Slot}
 use Rattle.pci_spec.specs.Stops.{IsAboveLast, last_slot}
-use Rattle.pci_spec.specs.System.{Function, system_of}
+use Rattle.pci_spec.specs.System.{system_of}
 use Rattle.pci_spec.specs.Decoded as decoded
 use Rattle.pci_spec.specs.Decoded.{HasRecords}
 use Rattle.pci_spec.specs.Plan as plan
@@ -13,10 +13,10 @@ use Rattle.pci_spec.specs.Planning.Plannable.{IsPlannable}
 use Rattle.pci_spec.specs.Planning.Table.{IsTable}
 use Rattle.pci_spec.specs.Planning.Numbers.{IsPlannedFunction, place_at}
 use Rattle.pci_spec.proofs.Pairing.{function_of, same_length, length-system_of}
-use Rattle.pci_tree.proofs.RootLists.{set_rises}
 use Rattle.pci_tree.specs.Admission.{IsAdmitted}
 use Rattle.pci_tree.specs.Values.{record_value}
 use Rattle.pci_tree.specs.declared.record.Record.{Record}
+use Rattle.pci_tree.proofs.RootLists.{set_rises}
 use Rattle.pci_plan.specs.Above.{system_in}
 use Rattle.pci_plan.specs.Pools.{pools_value}
 use Rattle.pci_plan.specs.Records.{IsRecordOf}

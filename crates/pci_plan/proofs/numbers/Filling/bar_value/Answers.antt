@@ -1,4 +1,4 @@
-use Rattle.std.proofs.Common.{arith, ◌≡◌, ◌<◌, ◌+◌, ◌^◌, ◌%◌, ◌∙◌, ap, sym, subst, ℕ}
+use Rattle.std.proofs.Common.{arith, ◌≡◌, ◌+◌, ◌^◌, ◌%◌, ◌∙◌, ap, ℕ}
 use Rattle.std.proofs.lemmas.Nat.{pow_pos}
 use Rattle.pci_spec.specs.Number.{number_at}
 use Rattle.pci_spec.specs.Header.{bar_register}

@@ -1,4 +1,4 @@
-use Rattle.std.proofs.Common.{◌≡◌, ◌∙◌, ap, sym, cond, Bool}
+use Rattle.std.proofs.Common.{◌∙◌, ap, sym, cond, Bool}
 use Rattle.std.specs.Option.{is_some}
 use Rattle.pci_plan.proofs.FilledCommand.{one_if}
 use Rattle.pci_plan.proofs.FilledWindows.{window_there, window_wide, absent_bounds}

@@ -1,4 +1,4 @@
-use Rattle.std.proofs.Common.{arith, ◌≡◌, ◌<◌, ◌≤◌, ◌+◌, ◌*◌, ◌%◌, ◌^◌, ◌∙◌, ap, sym, cond}
+use Rattle.std.proofs.Common.{arith, ◌≡◌, ◌+◌, ◌*◌, ◌^◌, ◌∙◌, ap, sym, cond}
 use Rattle.std.proofs.lemmas.Bool.{eqb-true}
 use Rattle.pci_spec.specs.Window.{Bounds}
 use Rattle.pci_spec.specs.Header.{layout, rom_register, bar_count}

@@ -1,11 +1,11 @@
-use Rattle.std.proofs.Common.{◌≡◌, ◌∙◌, ap, sym, ◌&&◌, true, false, cond, Bool, refl}
+use Rattle.std.proofs.Common.{◌≡◌, ◌∙◌, ap, sym, ◌&&◌, true, false, Bool, refl}
 use Rattle.std.specs.Bool.{nat_lt}
 use Rattle.std.specs.Option.{is_some}
 use Rattle.pci_spec.specs.System.{is_bridge}
 use Rattle.pci_spec.specs.Window.{has_window}
 use Rattle.pci_spec.specs.Plan.{has_behind}
-use Rattle.pci_plan.specs.Pools.{class_value, by_class}
-use Rattle.pci_plan.specs.Fillings.{FillingOf, window_in, window_kind}
+use Rattle.pci_plan.specs.Pools.{class_value}
+use Rattle.pci_plan.specs.Fillings.{window_kind}
 use Rattle.pci_plan.proofs.FilledWindows.{bridge_is, is_a_bridge, window_there, open_is}
 use Rattle.pci_plan.proofs.numbers.Filling.is_open.Goals as goal
 

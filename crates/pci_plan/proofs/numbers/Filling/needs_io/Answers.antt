@@ -1,4 +1,4 @@
-use Rattle.std.proofs.Common.{◌≡◌, ◌∙◌, ap, sym, Bool, ◌||◌, ◌&&◌}
+use Rattle.std.proofs.Common.{◌∙◌, sym, ◌&&◌}
 use Rattle.std.specs.List.{list_any}
 use Rattle.pci_spec.specs.Window.{IoWindow, has_window}
 use Rattle.pci_spec.specs.System.{bars_and_rom, is_bridge}

@@ -1,9 +1,9 @@
-use Rattle.std.proofs.Common.{arith, ◌≡◌, ◌∙◌, ap, subst, sym, ℕ, true, false, cond, Bool, if◌then◌else◌}
+use Rattle.std.proofs.Common.{arith, ◌≡◌, ◌∙◌, ap, subst, sym, false, cond, Bool, if◌then◌else◌}
 use Rattle.std.specs.List.{Contains}
 use Rattle.std.specs.Option.{is_some}
 use Rattle.pci_spec.specs.Header.{layout, address_registers, bar_count}
 use Rattle.pci_spec.specs.System.{is_bridge}
-use Rattle.pci_spec.specs.Planning.Numbers.{bar_number, device_number}
+use Rattle.pci_spec.specs.Planning.Numbers.{device_number}
 use Rattle.pci_plan.specs.Fillings.{FillingOf}
 use Rattle.pci_plan.proofs.FilledWindows.{bridge_is, is_a_bridge}
 use Rattle.pci_plan.proofs.FilledRegisters.{IsOfDevice, device_registers, device_aligned, device_bar_at, device_bar, on_bridge, on_device}

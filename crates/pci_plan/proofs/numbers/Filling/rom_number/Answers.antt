@@ -1,8 +1,8 @@
-use Rattle.std.proofs.Common.{arith, ◌≡◌, ◌<◌, ◌+◌, ◌^◌, ◌%◌, ◌∙◌, ap, sym, ℕ, Bool, true, false, refl, if◌then◌else◌}
+use Rattle.std.proofs.Common.{arith, ◌≡◌, ◌+◌, ◌%◌, ◌∙◌, ap, Bool, true, false, refl, if◌then◌else◌}
 use Rattle.std.specs.Bool.{◌==◌}
 use Rattle.std.specs.Option.{is_some}
 use Rattle.pci_spec.specs.Number.{number_at}
-use Rattle.pci_spec.specs.Header.{layout, rom_register}
+use Rattle.pci_spec.specs.Header.{layout}
 use Rattle.pci_spec.specs.Planning.Numbers.{rom_number}
 use Rattle.pci_plan.specs.Fillings.{FillingOf}
 use Rattle.pci_plan.proofs.FilledRoms.{rom_number_is, rom_absent_is, rom_small}

@@ -1,4 +1,4 @@
-use Rattle.std.proofs.Common.{arith, ◌≡◌, ◌<◌, ◌≤◌, ◌+◌, ◌-◌, ◌^◌, ◌∙◌, ap, sym, subst, ℕ}
+use Rattle.std.proofs.Common.{arith, ◌≡◌, ◌<◌, ◌+◌, ◌-◌, ◌^◌, ◌∙◌, ap, sym}
 use Rattle.pci_spec.specs.Plan.{window_size, need_of}
 use Rattle.pci_spec.specs.System.{Window}
 use Rattle.pci_spec.specs.Bus.{secondary}
