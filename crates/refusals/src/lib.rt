@@ -12,8 +12,6 @@ mod interrupted;
 #[cfg(test)]
 mod no_growth;
 #[cfg(test)]
-mod refused_plans;
-#[cfg(test)]
 mod refused_readings;
 #[cfg(test)]
 mod refused_tasks;
