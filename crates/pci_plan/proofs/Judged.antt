@@ -8,7 +8,7 @@ use Rattle.std.proofs.lemmas.List.Sums.{length-filter}
 use Rattle.pci_spec.specs.Text.{Block, slots_of}
 use Rattle.pci_spec.specs.System.{System, Function, IsSystem, system_of}
 use Rattle.pci_spec.specs.Sound.{IsSound}
-use Rattle.pci_spec.specs.Fault.{IsThere, fault_number}
+use Rattle.pci_spec.specs.Fault.{IsThere}
 use Rattle.pci_spec.specs.Decoded.{IsDecodable}
 use Rattle.pci_spec.specs.Machine.{Write}
 use Rattle.pci_spec.specs.Plan.{Pools}
@@ -33,7 +33,7 @@ use Rattle.pci_tree.specs.declared.fault.Fault.{Fault}
 use Rattle.pci_check.specs.Judgement.{IsJudgement}
 use Rattle.pci_check.proofs.Verdicts.{fault_is_first}
 use Rattle.pci_plan.specs.Above.{system_in}
-use Rattle.pci_plan.specs.Plans.{PlanValue, IsPlanValue, IsPlanIn, IsUnsoundIf}
+use Rattle.pci_plan.specs.Plans.{IsPlanValue, IsPlanIn, IsUnsoundIf}
 use Rattle.pci_plan.specs.Writes.{is_image_on, block_changes}
 use Rattle.pci_plan.proofs.WriteLists.{writes_by_blocks}
 

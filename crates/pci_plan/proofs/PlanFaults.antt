@@ -1,5 +1,5 @@
 -- When planning answers a fault.
-use Rattle.std.proofs.Common.{◌≡◌, ℕ, refl, sym, ◌∙◌, ap, subst, Result, Ok, Err}
+use Rattle.std.proofs.Common.{◌≡◌, refl, sym, ◌∙◌, ap, subst, Result, Ok, Err}
 use Rattle.std.specs.Prelude.{◌↔◌}
 use Rattle.pci_spec.specs.System.{IsSystem}
 use Rattle.pci_spec.specs.Plan as plan

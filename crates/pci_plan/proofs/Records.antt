@@ -1,13 +1,12 @@
 -- The functions of a system and their records, side by side.
-use Rattle.std.proofs.Common.{◌≡◌, ℕ, ◌<◌, List, Option, Some, None, refl, arith, sym, ◌∙◌, ap, map, length, get_or}
+use Rattle.std.proofs.Common.{◌≡◌, ℕ, List, Option, Some, None, refl, sym, ◌∙◌, ap, map, length}
 use Rattle.std.specs.List.{Contains, slice_get}
 use Rattle.std.specs.Option.{option_map}
-use Rattle.std.proofs.lemmas.Option.{slice_get-map, slice_get-get_or, slice_get_within, get_or_from_slice_get}
+use Rattle.std.proofs.lemmas.Option.{slice_get-map, slice_get_within, get_or_from_slice_get}
 use Rattle.std.proofs.lemmas.List.{length-map}
-use Rattle.std.proofs.lemmas.List.Elements.{All-contains, Contains-get_or}
+use Rattle.std.proofs.lemmas.List.Elements.{All-contains}
 use Rattle.pci_spec.specs.System.{System, Function}
 use Rattle.pci_spec.specs.Decoded.{IsDecodable, HasRecords, record_of}
-use Rattle.pci_spec.specs.Decoded as decoded
 use Rattle.pci_tree.specs.Values.{record_value}
 use Rattle.pci_tree.specs.declared.record.Record.{Record}
 use Rattle.pci_plan.specs.Records.{IsRecordOf}

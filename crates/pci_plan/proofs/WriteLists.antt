@@ -1,12 +1,12 @@
 -- The lists of writes, a block at a time.
-use Rattle.std.proofs.Common.{◌≡◌, ℕ, zero, suc, ◌+◌, ◌-◌, ◌*◌, ◌/◌, ◌%◌, ◌<◌, List, [], ◌∷◌, ◌++◌, Bool, true, false, cond, refl, arith, sym, ◌∙◌, ap, map, length, get_or, take, drop, subst}
+use Rattle.std.proofs.Common.{◌≡◌, ℕ, zero, suc, ◌+◌, ◌<◌, List, [], ◌∷◌, ◌++◌, Bool, true, false, cond, refl, arith, ◌∙◌, ap, map, length, get_or, take, drop, subst}
 use Rattle.std.specs.Bool.{◌==◌, if◌then◌else◌}
 use Rattle.std.specs.List.{Contains, flat_map, list_all}
 use Rattle.std.proofs.lemmas.List.{append-nil, get_or-map, length-map, take_more}
 use Rattle.std.proofs.lemmas.Grind.{flat_map-append}
 use Rattle.std.proofs.Math.Seq.{drop-cons}
-use Rattle.pci_spec.specs.Header.{command, layout, address_registers}
-use Rattle.pci_spec.specs.Text.{Block, slots_of}
+use Rattle.pci_spec.specs.Header.{command, address_registers}
+use Rattle.pci_spec.specs.Text.{Block}
 use Rattle.pci_spec.specs.Machine.{Write, without_low}
 use Rattle.pci_spec.specs.Planning.PlanWrites.{Change, closing_of, closing_writes, register_writes, opening_writes, plan_writes, registers_of, opening_of}
 use Rattle.pci_spec.specs.System.{system_of}

@@ -1,5 +1,5 @@
 -- The records of the code, function by function.
-use Rattle.std.specs.Prelude.{◌≡◌, ℕ, List, Some, slice_get, slice_index, length}
+use Rattle.std.specs.Prelude.{◌≡◌}
 use Rattle.std.specs.List.{Contains}
 use Rattle.pci_spec.specs.System.{System, Function}
 use Rattle.pci_spec.specs.Decoded.{IsDecodable, record_of}

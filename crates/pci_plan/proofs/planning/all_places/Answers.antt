@@ -1,5 +1,4 @@
-use Rattle.std.proofs.Common.{List, sym, ◌∙◌, ap, subst, length, take, drop, ◌++◌, arith}
-use Rattle.pci_spec.specs.Plan.{Class}
+use Rattle.std.proofs.Common.{List, sym, subst, arith}
 use Rattle.pci_plan.specs.Above.{system_in}
 use Rattle.pci_plan.specs.Places.{HasPlaces}
 use Rattle.pci_plan.specs.Pools.{pools_value}

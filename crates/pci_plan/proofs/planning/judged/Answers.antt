@@ -1,9 +1,8 @@
-use Rattle.std.proofs.Common.{◌≡◌, ℕ, List, sym, ◌∙◌, subst}
-use Rattle.pci_spec.specs.Text.{Block, slots_of}
+use Rattle.std.proofs.Common.{List, subst}
+use Rattle.pci_spec.specs.Text.{Block}
 use Rattle.pci_spec.specs.Fault.{IsThere}
 use Rattle.pci_tree.specs.Fault.{fault_of}
 use Rattle.pci_tree.specs.Roots.{buses_of}
-use Rattle.pci_tree.specs.Admission.{IsAdmitted}
 use Rattle.pci_plan.proofs.Judged.{judged_result, refused_unsound}
 use Rattle.pci_plan.proofs.planning.judged.Goals as goal
 

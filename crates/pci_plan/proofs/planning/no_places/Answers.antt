@@ -1,4 +1,4 @@
-use Rattle.std.proofs.Common.{◌≡◌, List, sym, ◌∙◌, arith, map, length, subst}
+use Rattle.std.proofs.Common.{List, sym, arith, map, subst}
 use Rattle.pci_spec.specs.Decoded.{HasRecords}
 use Rattle.pci_spec.specs.Decoded as decoded
 use Rattle.pci_tree.specs.Values.{record_value}

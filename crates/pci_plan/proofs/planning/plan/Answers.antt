@@ -1,9 +1,9 @@
-use Rattle.std.proofs.Common.{◌≡◌, Ok, Err, refl, sym, ◌∙◌, ap, subst}
+use Rattle.std.proofs.Common.{Ok, Err, refl, sym, ◌∙◌}
 use Rattle.pci_spec.specs.PlanPromise.{CanBePlanned}
 use Rattle.pci_dump.specs.declared.memory.Refused.TheVariants as refusals
 use Rattle.pci_plan.specs.Above.{system_in}
 use Rattle.pci_plan.specs.Pools.{pools_value}
-use Rattle.pci_plan.specs.declared.plan_fault.PlanFault.TheVariants.{BadPools, NoWindow, NoRoom, NotAccepted}
+use Rattle.pci_plan.specs.declared.plan_fault.PlanFault.TheVariants.{NoWindow, NoRoom}
 use Rattle.pci_plan.proofs.PlanFaults.{refused_by, not_refused, memory_is_none, plan_is_none}
 use Rattle.pci_plan.proofs.planning.plan.Goals as goal
 

@@ -4,7 +4,6 @@ use Rattle.pci_spec.specs.Text.{Block}
 use Rattle.pci_spec.specs.Machine.{Write}
 use Rattle.pci_spec.specs.Planning.PlanWrites.{closing_of, closing_writes}
 use Rattle.pci_plan.specs.Writes.{write_value, is_image_on, block_change, block_changes}
-use Rattle.pci_plan.specs.declared.write.Write.{Write as CodeWrite}
 use Rattle.pci_plan.proofs.WriteLists.{closing_more, closing_on, closing_off, closing_write}
 use Rattle.pci_plan.proofs.writes.add_closing.Goals as goal
 use Rattle.pci_plan.proofs.writes.add_closing.Goals.{then-is_on+in_ok-push, else-is_on}

@@ -1,4 +1,4 @@
-use Rattle.std.proofs.Common.{◌≡◌, ◌∙◌, ap}
+use Rattle.std.proofs.Common.{◌∙◌, ap}
 use Rattle.std.specs.Bool.{◌==◌, if◌then◌else◌}
 use Rattle.pci_spec.specs.Header.{layout, address_registers}
 use Rattle.pci_machine.specs.declared.address_register.AddressRegister.{AddressRegister}
