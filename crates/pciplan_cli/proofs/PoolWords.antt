@@ -1,5 +1,5 @@
 -- Addresses of up to 16 hex digits.
-use Rattle.std.proofs.Common.{◌≡◌, ℕ, ◌<◌, ◌≤◌, ◌^◌, arith}
+use Rattle.std.proofs.Common.{ℕ, ◌<◌, ◌≤◌, ◌^◌, arith}
 use Rattle.std.proofs.Math.Nat.{pow-le-pow_right}
 
 pub below_most : (digits address : ℕ) → digits ≤ 16 → address < 16 ^ digits → address < 2 ^ 64

@@ -1,4 +1,4 @@
-use Rattle.std.proofs.Common.{◌≡◌, ℕ, ◌<◌, ◌≤◌, ◌*◌, ◌+◌, ◌^◌, arith}
+use Rattle.std.proofs.Common.{arith}
 use Rattle.pciplan_cli.proofs.PoolWords.{below_most}
 use Rattle.pciplan_cli.proofs.pool_word.address_of.Goals as goal
 
