@@ -8,8 +8,12 @@ use pci_dump::pair::pair;
 use pci_dump::reader::Reader;
 use pci_dump::std_ends::{Incoming, Outgoing};
 use pci_dump::write::write_dump;
+use pci_image::range::Range;
 use pci_machine::machine::Machine;
 use pci_machine::size::size;
+use pci_plan::apply::apply;
+use pci_plan::planning::plan;
+use pci_plan::pools::Pools;
 use pci_tree::fault::Fault;
 use pci_tree::survey::Survey;
 use std::alloc::Global;
@@ -83,6 +87,45 @@ fn ways_are_found_and_surveys_begun(rt: HostRuntime) -> Result<(), Fail> {
             let mut survey = Survey::new(&heap);
             survey.only(slot);
             assert_eq!(rt; noted_in(survey), Some(Fault::SlotsDiffer(slot)));
+        }
+        assert!(rt; heap.is_due());
+    }
+    Ok(())
+}
+
+/// Pools with room for each of the boards.
+fn wide_pools() -> Pools {
+    Pools {
+        io: Range {
+            first: 0x1000,
+            last: 0xffff,
+        },
+        mem: Range {
+            first: 0x8000_0000,
+            last: 0xfebf_ffff,
+        },
+        pref: Range {
+            first: 0x1_0000_0000,
+            last: 0xffff_ffff_ffff,
+        },
+    }
+}
+
+#[test]
+fn plans_are_lent_and_applied(rt: HostRuntime) -> Result<(), Fail> {
+    let heap = Refusing::new(rt.alloc());
+    for (texts, _) in samples(rt.alloc())? {
+        heap.refuse(0);
+        let board = admitted(&heap, &texts)?;
+        let mut machine = Machine::of(&heap, board.dump(), board.probe())?;
+        let Ok(plan) = plan(&heap, &board, &wide_pools()) else {
+            return Err("no plan".into());
+        };
+        heap.refuse(1);
+        assert!(rt; plan.safe_from() <= plan.writes().len());
+        assert_eq!(rt; apply(&mut machine, &plan), Ok(()));
+        for block in plan.dump().blocks() {
+            assert!(rt; machine.image(block.slot) == Some(&block.image));
         }
         assert!(rt; heap.is_due());
     }
