@@ -10,7 +10,7 @@ use Rattle.pci_spec.specs.Number.{has_bit, byte_at, IsImage}
 use Rattle.pci_spec.specs.Header.{layout}
 use Rattle.pci_spec.specs.Machine.{Target, byte_of_bits, written_bit, written, written_byte}
 use Rattle.pci_spec.proofs.Bits.{digit, digit_of_bit, bit_of_true, bit_of_false, bit_at-number_of_bits, number_of_bits-lt}
-use Rattle.pci_machine.specs.Port.{IsTarget}
+use Rattle.pci_spec.specs.Port.{IsTarget}
 use Rattle.pci_machine.specs.Memory.{without_bits, pinned}
 use Rattle.pci_machine.proofs.Writes.{written_byte-inside, written_byte-below, written_byte-above, byte_at-written, length-written}
 pub use Rattle.pci_spec.proofs.WrittenBits.{has_bit-byte_of_bits}

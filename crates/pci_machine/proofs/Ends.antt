@@ -3,8 +3,8 @@ use Rattle.std.proofs.Common.{◌≡◌, ℕ, ◌*◌, ◌/◌, ◌%◌, List, t
 use Rattle.pci_spec.specs.Slot.{Slot}
 use Rattle.pci_spec.specs.Header.{command, layout}
 use Rattle.pci_spec.specs.Machine.{Target, written, sized}
-use Rattle.pci_machine.specs.Port.{IsLawful, IsTarget, has_function, with_image}
-use Rattle.pci_machine.specs.Sizing.{function_at, quieted, IsStuck, DiffersInRegisters, is_written_to}
+use Rattle.pci_spec.specs.Port.{IsLawful, IsTarget, has_function, with_image}
+use Rattle.pci_spec.specs.Sizing.{function_at, quieted, IsStuck, DiffersInRegisters, is_written_to}
 use Rattle.pci_machine.specs.SizeOutcome.{StopLeaves}
 use Rattle.pci_machine.proofs.Targets.{with_image-with_image}
 use Rattle.pci_machine.proofs.Sizing.{target-there, restored, with_image-own}

@@ -22,9 +22,9 @@ use Rattle.pci_image.specs.declared.fault.ImageFault.{ImageFault}
 use Rattle.pci_image.specs.declared.fault.ImageFault.TheVariants.{NoVendor, HeaderKind, BarType, BarMask, BarPair, RomMask, WindowMask, CapRange, CapLoop, CapCut}
 use Rattle.pci_dump.specs.PairFault.{pair_fault}
 use Rattle.pci_dump.specs.Pair.{IsPair}
-use Rattle.pci_machine.specs.Port.{IsTarget}
+use Rattle.pci_spec.specs.Port.{IsTarget}
 use Rattle.pci_machine.specs.Memory.{IsMachine}
-use Rattle.pci_machine.specs.Sizing.{function_at, IsSizable, IsStuck}
+use Rattle.pci_spec.specs.Sizing.{function_at, IsSizable, IsStuck}
 use Rattle.pci_machine.specs.RegisterTable.{writable_by}
 use Rattle.pci_machine.proofs.Targets.{found, map-map, some_at}
 use Rattle.pci_machine.proofs.Memory.{lawful_from_rising}

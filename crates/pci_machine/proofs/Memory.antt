@@ -9,7 +9,7 @@ use Rattle.std.proofs.lemmas.Option.{get_or_from_slice_get, slice_get_within, sl
 use Rattle.pci_spec.specs.Slot.{Slot, same_slot, slot_number, IsRising}
 use Rattle.pci_spec.specs.Number.{byte_at}
 use Rattle.pci_spec.specs.Machine.{Target, write_targets, written}
-use Rattle.pci_machine.specs.Port.{IsLawful, IsTarget, target_at, has_function}
+use Rattle.pci_spec.specs.Port.{IsLawful, IsTarget, target_at, has_function}
 use Rattle.pci_machine.specs.Memory.{IsMachine, pinned, pin_target, pin_targets}
 use Rattle.pci_machine.proofs.Targets.{none_at, target_at-slot, write-with_image, set-with_image, set-map, same_slot-same}
 use Rattle.pci_machine.proofs.Bytes.{IsImage-written, IsTarget-with_layout, written_byte-kept, header_unclear, IsTarget-pinned, header-pinned}

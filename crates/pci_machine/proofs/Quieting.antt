@@ -10,8 +10,8 @@ use Rattle.pci_spec.specs.Header.{command, layout, address_registers}
 use Rattle.pci_spec.specs.Fault.{is_in_address_register}
 use Rattle.pci_spec.specs.Machine.{Target, written, byte_of_bits, written_bit, sized, read_back, register_at, sizing_ones}
 use Rattle.pci_spec.proofs.Bits.{bit_of_true, bit_of_false, bit_at-without_low, bit_at-without_low_below, agree-quotients, quotients-agree}
-use Rattle.pci_machine.specs.Port.{IsTarget}
-use Rattle.pci_machine.specs.Sizing.{quieted, IsPlain, IsStuck, IsPartlySized, DiffersInRegisters}
+use Rattle.pci_spec.specs.Port.{IsTarget}
+use Rattle.pci_spec.specs.Sizing.{quieted, IsPlain, IsStuck, IsPartlySized, DiffersInRegisters}
 use Rattle.pci_machine.proofs.Writes.{written_byte-inside, byte_at-written, length-written}
 use Rattle.pci_machine.proofs.Bytes.{has_bit-byte_of_bits, byte_by_bits, written_bit-plain, IsImage-written}
 use Rattle.pci_machine.proofs.Sizing.{differs-written}

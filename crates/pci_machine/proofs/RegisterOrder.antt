@@ -12,8 +12,8 @@ use Rattle.pci_spec.specs.Number.{byte_at, number_at}
 use Rattle.pci_spec.specs.Header.{layout, address_registers}
 use Rattle.pci_spec.specs.Fault.{is_in_address_register}
 use Rattle.pci_spec.specs.Machine.{Target, sizing_ones, register_at, read_back, written, sized}
-use Rattle.pci_machine.specs.Port.{IsTarget, is_access, fits}
-use Rattle.pci_machine.specs.Sizing.{IsPlain, DiffersWithin, DiffersInRegisters, is_address_register}
+use Rattle.pci_spec.specs.Port.{IsTarget, is_access, fits}
+use Rattle.pci_spec.specs.Sizing.{IsPlain, DiffersWithin, DiffersInRegisters, is_address_register}
 use Rattle.pci_machine.proofs.Targets.{find-none}
 use Rattle.pci_machine.proofs.Bytes.{IsImage-written}
 use Rattle.pci_machine.proofs.Sizing.{digit_of_number}

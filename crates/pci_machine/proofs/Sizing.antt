@@ -10,8 +10,8 @@ use Rattle.std.specs.List.{position_or_len}
 use Rattle.std.proofs.lemmas.Option.{get_or_from_slice_get, slice_get_within}
 use Rattle.pci_spec.specs.Slot.{Slot, same_slot}
 use Rattle.pci_spec.specs.Machine.{Target, write_targets, written, written_byte, byte_of_bits, written_bit}
-use Rattle.pci_machine.specs.Port.{IsLawful, IsTarget, target_at, has_function, with_image, is_access, fits}
-use Rattle.pci_machine.specs.Sizing.{function_at, no_target, DiffersWithin, IsPlain}
+use Rattle.pci_spec.specs.Port.{IsLawful, IsTarget, target_at, has_function, with_image, is_access, fits}
+use Rattle.pci_spec.specs.Sizing.{function_at, no_target, DiffersWithin, IsPlain}
 use Rattle.pci_machine.proofs.Targets.{find-place, found_at, has_found, target_at-with_image, write-with_image, with_image-same, with_image-with_image}
 use Rattle.pci_machine.proofs.Writes.{written_byte-inside, written_byte-below, written_byte-above, byte_at-written, length-written}
 use Rattle.pci_machine.proofs.Bytes.{byte-put_back}

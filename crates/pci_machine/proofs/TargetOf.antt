@@ -11,7 +11,7 @@ use Rattle.pci_spec.specs.System.{Function}
 use Rattle.pci_spec.specs.Machine.{field_has, in_fields, plain_field, writable_fields, clearing_fields, writable_bits, clearing_bits, byte_of_bits, bytes_of_bits, target_of}
 use Rattle.pci_spec.proofs.WrittenBits.{byte_at-bytes_of_bits}
 use Rattle.pci_spec.proofs.WritableBits.{no_bit_is_both}
-use Rattle.pci_machine.specs.Port.{IsTarget, is_status_byte}
+use Rattle.pci_spec.specs.Port.{IsTarget, is_status_byte}
 use Rattle.pci_machine.specs.RegisterTable.{writable_by, clearing_by}
 use Rattle.pci_machine.proofs.Bytes.{byte_by_bits, byte_of_bits-lt, has_bit-zero}
 

@@ -9,7 +9,7 @@ use Rattle.std.proofs.lemmas.List.Elements.{Contains-get_or}
 use Rattle.std.proofs.lemmas.Option.{same_Some, slice_get-get_or, slice_get_within, get_or_from_slice_get}
 use Rattle.pci_spec.specs.Slot.{Slot, same_slot}
 use Rattle.pci_spec.specs.Machine.{Target, Write, write_target, write_targets, written}
-use Rattle.pci_machine.specs.Port.{target_at, has_function, IsLawful, put_image, with_image}
+use Rattle.pci_spec.specs.Port.{target_at, has_function, IsLawful, put_image, with_image}
 
 -- slots that test as one are one
 pub slot_of_test : (s t : Slot) → same_slot s t ≡ true → s ≡ t

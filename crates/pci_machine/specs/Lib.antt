@@ -1,7 +1,5 @@
-pub mod Port
 pub mod Outcome
 pub mod Memory
-pub mod Sizing
 pub mod SizeOutcome
 pub mod RegisterTable
 pub mod Masks

@@ -4,7 +4,7 @@ use Rattle.std.specs.List.{All}
 use Rattle.pci_spec.specs.Number.{byte_at, has_bit}
 use Rattle.pci_spec.specs.Slot.{Slot, same_slot, IsRising}
 use Rattle.pci_spec.specs.Machine.{Target, byte_of_bits}
-use Rattle.pci_machine.specs.Port.{IsTarget}
+use Rattle.pci_spec.specs.Port.{IsTarget}
 
 -- the functions are lawful, their slots rise, and the header type of none can be written
 pub record IsMachine (targets : List Target) : Type 0 where

@@ -3,7 +3,7 @@ use Rattle.std.specs.Prelude.{ℕ, ◌%◌, ◌==◌, nat_lt, Bool, true, ◌&&�
 use Rattle.std.specs.List.{range_with_len}
 use Rattle.pci_spec.specs.Number.{number_at}
 use Rattle.pci_spec.specs.Machine.{Field, plain_field, bar_field, window_fields, without_low}
-use Rattle.pci_machine.specs.Port.{is_access}
+use Rattle.pci_spec.specs.Port.{is_access}
 use Rattle.pci_machine.specs.declared.table.Row.{Row}
 use Rattle.pci_machine.specs.declared.table.Writable.{Writable}
 use Rattle.pci_machine.specs.declared.table.Writable.TheVariants.{Bits, Bar, Rom, RomEnable, Page, Upper}

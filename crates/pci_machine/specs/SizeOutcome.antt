@@ -4,8 +4,8 @@ use Rattle.pci_spec.specs.Slot.{Slot}
 use Rattle.pci_spec.specs.Header.{command, layout}
 use Rattle.pci_spec.specs.Machine.{Target}
 use Rattle.pci_image.specs.Faults.{IsImageFaultIn, image_fault_number}
-use Rattle.pci_machine.specs.Port.{has_function, with_image}
-use Rattle.pci_machine.specs.Sizing.{function_at, IsPartlySized, IsStuck, is_looked_at, is_written_to}
+use Rattle.pci_spec.specs.Port.{has_function, with_image}
+use Rattle.pci_spec.specs.Sizing.{function_at, IsPartlySized, IsStuck, is_looked_at, is_written_to}
 use Rattle.pci_machine.specs.Outcome.{failures_of_error}
 use Rattle.pci_machine.specs.declared.port.PortError.{PortError}
 use Rattle.pci_machine.specs.declared.port.PortError.TheVariants.{NoFunction, BadAccess, Failed}

@@ -2,7 +2,7 @@
 ghost use Rattle.std.specs.Prelude.{◌≡◌, IsTrue};
 ghost use Rattle.pci_spec.specs.Machine.{byte_of_bits, written_bit};
 ghost use Rattle.pci_spec.specs.Number.{number_at};
-ghost use Rattle.pci_machine.specs.Port as port;
+ghost use Rattle.pci_spec.specs.Port as port;
 
 use pci_image::image::Image;
 

@@ -2,8 +2,8 @@
 ghost use Rattle.std.specs.Prelude.{◌≡◌, ◌+◌, ◌&&◌, IsTrue, IfOk, IfErr, OnOk, OnErr};
 ghost use Rattle.pci_spec.specs.Number.{number_at};
 ghost use Rattle.pci_spec.specs.Machine.{written};
-ghost use Rattle.pci_machine.specs.Port as ports;
-ghost use Rattle.pci_machine.specs.Sizing.{function_at};
+ghost use Rattle.pci_spec.specs.Port as ports;
+ghost use Rattle.pci_spec.specs.Sizing.{function_at};
 ghost use Rattle.pci_machine.specs.Outcome.{failures_of_stop};
 
 use crate::port::{ConfigPort, PortError};

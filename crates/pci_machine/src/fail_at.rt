@@ -1,7 +1,7 @@
 //! A port that fails one access, to show what a failure leaves.
 ghost use Rattle.std.specs.Prelude.{◌≡◌, ◌≢◌, ◌↔◌, ◌+◌, ◌&&◌, IsTrue, IsFalse, IfOk, OnOk, OnErr, IsErr};
 ghost use Rattle.pci_spec.specs.Machine.{write_targets};
-ghost use Rattle.pci_machine.specs.Port as port;
+ghost use Rattle.pci_spec.specs.Port as port;
 ghost use Rattle.pci_machine.specs.Outcome as outcome;
 
 use crate::access::{fits, is_access};

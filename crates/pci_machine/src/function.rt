@@ -4,7 +4,7 @@ ghost use Rattle.pci_spec.specs.Number.{byte_at, IsImage};
 ghost use Rattle.pci_spec.specs.Machine.{target_of};
 ghost use Rattle.pci_spec.specs.Decoded.{IsDecodable};
 ghost use Rattle.pci_image.specs.Faults.{IsImageFaultIn, image_fault_number};
-ghost use Rattle.pci_machine.specs.Port.{IsTarget};
+ghost use Rattle.pci_spec.specs.Port.{IsTarget};
 ghost use Rattle.pci_machine.specs.Made.{name_fault};
 
 use crate::mask::{clearing_bytes, writable_bytes};

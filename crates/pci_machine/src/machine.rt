@@ -4,11 +4,11 @@ ghost use Rattle.pci_spec.specs.System.{system_of};
 ghost use Rattle.pci_spec.specs.Decoded.{IsDecodable};
 ghost use Rattle.pci_dump.specs.Pair.{IsPair};
 ghost use Rattle.pci_machine.specs.Made.{IsRefusedFor};
-ghost use Rattle.pci_machine.specs.Sizing.{function_at, IsSizable};
+ghost use Rattle.pci_spec.specs.Sizing.{function_at, IsSizable};
 ghost use Rattle.pci_spec.specs.Machine.{Target, target_of, sized, write_targets};
 ghost use Rattle.std.specs.Option.{option_map};
 ghost use Rattle.pci_machine.specs.Memory.{pin_targets};
-ghost use Rattle.pci_machine.specs.Port.{has_function, target_at, IsLawful};
+ghost use Rattle.pci_spec.specs.Port.{has_function, target_at, IsLawful};
 
 use crate::access::{fits, is_access};
 use crate::function::{named, registers_of};

@@ -2,7 +2,7 @@
 ghost use Rattle.std.specs.Prelude.{IsTrue};
 ghost use Rattle.pci_spec.specs.Number.{IsImage};
 ghost use Rattle.pci_spec.specs.Machine.{in_fields};
-ghost use Rattle.pci_machine.specs.Port as port;
+ghost use Rattle.pci_spec.specs.Port as port;
 ghost use Rattle.pci_machine.specs.RegisterTable.{writable_by, clearing_by};
 ghost use Rattle.pci_machine.specs.Masks.{HasBits, AddsField};
 

@@ -1,7 +1,7 @@
 //! A way to configuration space, and what its accesses do (PCI 3.0, 6.1).
 ghost use Rattle.std.specs.Prelude.{◌≡◌, ◌↔◌, ◌+◌, ◌&&◌, ℕ, List, IsTrue, IsFalse, IfOk, OnOk, OnErr};
 ghost use Rattle.pci_spec.specs.Machine.{Target, write_targets};
-ghost use Rattle.pci_machine.specs.Port.{IsLawful, ShowsNumber, has_function, is_access, fits};
+ghost use Rattle.pci_spec.specs.Port.{IsLawful, ShowsNumber, has_function, is_access, fits};
 
 use pci_image::slot::Slot;
 

@@ -2,8 +2,8 @@
 ghost use Rattle.std.specs.Prelude.{◌≡◌, ◌+◌, ℕ, IsTrue, IfOk, IfErr, OnOk, OnErr};
 ghost use Rattle.pci_spec.specs.Header.{command};
 ghost use Rattle.pci_spec.specs.Machine.{written};
-ghost use Rattle.pci_machine.specs.Port as ports;
-ghost use Rattle.pci_machine.specs.Sizing.{function_at, quieted};
+ghost use Rattle.pci_spec.specs.Port as ports;
+ghost use Rattle.pci_spec.specs.Sizing.{function_at, quieted};
 ghost use Rattle.pci_machine.specs.Outcome.{failures_of_stop};
 
 use crate::access_at::{Stop, read_at, write_at};

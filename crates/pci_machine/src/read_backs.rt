@@ -2,8 +2,8 @@
 ghost use Rattle.std.specs.Prelude.{◌≡◌, ◌+◌, ◌<◌, ◌≤◌, ◌/◌, ◌%◌, ◌^◌, ◌⊎◌, ℕ, List, IsTrue, IfOk, IfErr, OnOk, OnErr, slice_index, if◌then◌else◌};
 ghost use Rattle.pci_spec.specs.Header.{layout};
 ghost use Rattle.pci_spec.specs.Machine.{sized};
-ghost use Rattle.pci_machine.specs.Port as ports;
-ghost use Rattle.pci_machine.specs.Sizing.{function_at, DiffersInRegisters, is_address_register};
+ghost use Rattle.pci_spec.specs.Port as ports;
+ghost use Rattle.pci_spec.specs.Sizing.{function_at, DiffersInRegisters, is_address_register};
 ghost use Rattle.pci_machine.specs.Outcome.{failures_of_stop};
 
 use crate::access_at::Stop;

@@ -3,7 +3,7 @@ ghost use Rattle.std.specs.Prelude.{◌≡◌, ◌↔◌, nat_lt, IsTrue};
 ghost use Rattle.pci_spec.specs.Number.{number_at};
 ghost use Rattle.pci_spec.specs.Slot as place;
 ghost use Rattle.pci_spec.specs.Machine.{written};
-ghost use Rattle.pci_machine.specs.Port as port;
+ghost use Rattle.pci_spec.specs.Port as port;
 ghost use Rattle.pci_machine.specs.Memory.{pinned};
 
 use crate::access::{number_of, written_byte};

@@ -7,8 +7,8 @@ ghost use Rattle.std.specs.Prelude.{◌≡◌, ◌≢◌, ◌↔◌, ◌+◌, �
 ghost use Rattle.pci_spec.specs.Header.{command, layout};
 ghost use Rattle.pci_spec.specs.Machine.{sized};
 ghost use Rattle.pci_spec.specs.Fault.{has_no_vendor, has_other_layout};
-ghost use Rattle.pci_machine.specs.Port as ports;
-ghost use Rattle.pci_machine.specs.Sizing.{function_at, DiffersInRegisters, IsSizable, IsStuck, is_written_to};
+ghost use Rattle.pci_spec.specs.Port as ports;
+ghost use Rattle.pci_spec.specs.Sizing.{function_at, DiffersInRegisters, IsSizable, IsStuck, is_written_to};
 ghost use Rattle.pci_machine.specs.Outcome.{failures_of_stop};
 ghost use Rattle.pci_machine.specs.SizeOutcome.{SizingLeaves, failures_of_size};
 

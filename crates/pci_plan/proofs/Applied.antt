@@ -30,8 +30,8 @@ use Rattle.pci_spec.proofs.Planning.Staging.{IsClosingOf, closing_to, IsRegister
 use Rattle.pci_spec.proofs.Planning.Reached.{moves, image_of, old_listed, slot_itself, closed_le}
 use Rattle.pci_spec.proofs.Planning.OnMachine.{plan_on_its_machine}
 use Rattle.pci_spec.proofs.Planning.PlanStands.{are_changes, olds_of}
-use Rattle.pci_machine.specs.Port as port
-use Rattle.pci_machine.specs.Port.{target_at, has_function, is_access, ShowsNumber}
+use Rattle.pci_spec.specs.Port as port
+use Rattle.pci_spec.specs.Port.{target_at, has_function, is_access, ShowsNumber}
 use Rattle.pci_machine.proofs.Targets.{slot_of_test}
 use Rattle.pci_plan.specs.declared.write.Write.{Write as CodeWrite}
 use Rattle.pci_plan.specs.declared.apply_fault.ApplyFault.{ApplyFault}

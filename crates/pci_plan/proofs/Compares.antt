@@ -10,7 +10,7 @@ use Rattle.pci_spec.specs.Machine.{Target}
 use Rattle.pci_spec.proofs.Members.{in_head, in_tail, in_cons_cases}
 use Rattle.pci_spec.proofs.Planning.Behind.{all_gives}
 use Rattle.pci_spec.proofs.Planning.Staging.{registers_by}
-use Rattle.pci_machine.specs.Port.{is_access, ShowsNumber}
+use Rattle.pci_spec.specs.Port.{is_access, ShowsNumber}
 use Rattle.pci_machine.specs.declared.address_register.AddressRegister.{AddressRegister}
 use Rattle.pci_plan.specs.declared.apply_fault.ApplyFault.{ApplyFault}
 use Rattle.pci_plan.specs.declared.apply_fault.ApplyFault.TheVariants.{Changed, Port, Stuck}

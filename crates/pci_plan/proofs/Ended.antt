@@ -22,7 +22,7 @@ use Rattle.pci_spec.proofs.Planning.Settled.{IsQuiet, IsSetting, number_outside}
 use Rattle.pci_spec.proofs.Planning.Staging.{is_register, closing_write, number_write, opening_write, closing_from, register_from, opening_from}
 use Rattle.pci_spec.proofs.Planning.Reached.{closing_quiet, opening_quiet, register_quiet, closing_sets, register_sets, opening_sets, slot_itself, off_is_closed, moves, image_of, old_listed}
 use Rattle.pci_spec.proofs.Planning.PlanStands.{are_changes, olds_of, news_of}
-use Rattle.pci_machine.specs.Port.{target_at, ShowsNumber}
+use Rattle.pci_spec.specs.Port.{target_at, ShowsNumber}
 use Rattle.pci_machine.proofs.Targets.{find-map, target_at-slot}
 use Rattle.pci_plan.specs.Comparing.{compared, ShowsAll}
 use Rattle.pci_plan.specs.Making.{AreMade}

@@ -6,7 +6,7 @@ use Rattle.std.proofs.lemmas.List.{take_more, get_or-map, length-map}
 use Rattle.std.proofs.lemmas.Option.{slice_get-get_or, same_Some}
 use Rattle.pci_spec.specs.Slot.{Slot, same_slot}
 use Rattle.pci_spec.specs.Machine.{Target, Write, write_target, write_targets, after_writes, written}
-use Rattle.pci_machine.specs.Port.{has_function, ShowsNumber}
+use Rattle.pci_spec.specs.Port.{has_function, ShowsNumber}
 use Rattle.pci_plan.specs.declared.write.Write.{Write as CodeWrite}
 use Rattle.pci_plan.specs.Writes.{write_value}
 use Rattle.pci_plan.specs.declared.apply_fault.ApplyFault.{ApplyFault}

@@ -13,7 +13,7 @@ use Rattle.pci_spec.specs.System.{system_of}
 use Rattle.pci_spec.specs.PlanPromise.{changes_between}
 use Rattle.pci_spec.proofs.Planning.Behind.{all_gives}
 use Rattle.pci_spec.proofs.Planning.Staging.{registers_by}
-use Rattle.pci_machine.specs.Port.{is_access}
+use Rattle.pci_spec.specs.Port.{is_access}
 use Rattle.pci_machine.specs.declared.address_register.AddressRegister.{AddressRegister}
 use Rattle.pci_plan.specs.Writes.{is_image_on, block_change, block_changes}
 

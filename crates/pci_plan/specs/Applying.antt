@@ -5,7 +5,7 @@ use Rattle.pci_spec.specs.Slot.{Slot}
 use Rattle.pci_spec.specs.System.{System, Function}
 use Rattle.pci_spec.specs.Sound.{IsSound}
 use Rattle.pci_spec.specs.Machine.{Target, Write, target_of}
-use Rattle.pci_machine.specs.Port.{has_function}
+use Rattle.pci_spec.specs.Port.{has_function}
 use Rattle.pci_plan.specs.Comparing.{ShowsAll, IsChangedAt}
 use Rattle.pci_plan.specs.Making.{IsShownOtherwise}
 use Rattle.pci_plan.specs.declared.apply_fault.ApplyFault.{ApplyFault}

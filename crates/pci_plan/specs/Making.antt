@@ -2,7 +2,7 @@
 use Rattle.std.specs.Prelude.{◌≡◌, ◌≢◌, ℕ, suc, ◌+◌, ◌<◌, ◌≤◌, ◌⊎◌, ◌&&◌, IsTrue, IsFalse, Some, List, length, take, slice_get}
 use Rattle.std.specs.List.{Contains}
 use Rattle.pci_spec.specs.Machine.{Target, Write, write_targets, after_writes}
-use Rattle.pci_machine.specs.Port.{is_access, fits, has_function, ShowsNumber}
+use Rattle.pci_spec.specs.Port.{is_access, fits, has_function, ShowsNumber}
 use Rattle.pci_plan.specs.Comparing.{IsRefusedAt}
 use Rattle.pci_plan.specs.declared.write.Write.{Write as CodeWrite}
 use Rattle.pci_plan.specs.declared.apply_fault.ApplyFault.{ApplyFault}

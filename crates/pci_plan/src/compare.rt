@@ -1,7 +1,7 @@
 //! Comparing functions with what a plan starts from.
 ghost use Rattle.std.specs.Prelude.{◌≡◌, IsTrue, OnOk, IfErr};
 ghost use Rattle.pci_spec.specs.Number.{number_at};
-ghost use Rattle.pci_machine.specs.Port.{is_access, ShowsNumber};
+ghost use Rattle.pci_spec.specs.Port.{is_access, ShowsNumber};
 ghost use Rattle.pci_plan.specs.Comparing.{ShowsAll, StartsAs, IsRegisterFault, IsFunctionFault, IsStartFault};
 
 use super::apply_fault::ApplyFault;

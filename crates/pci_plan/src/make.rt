@@ -2,7 +2,7 @@
 ghost use Rattle.std.specs.Prelude.{◌≡◌, ◌<◌, ◌^◌, map, length, OnOk, IfErr};
 ghost use Rattle.std.specs.List.{All};
 ghost use Rattle.pci_spec.specs.Machine.{write_targets};
-ghost use Rattle.pci_machine.specs.Port.{ShowsNumber};
+ghost use Rattle.pci_spec.specs.Port.{ShowsNumber};
 ghost use Rattle.pci_plan.specs.Writes.{write_value};
 ghost use Rattle.pci_plan.specs.Making.{IsAccessible, IsLastWrite, AreMade, IsStop};
 

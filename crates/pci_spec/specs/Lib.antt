@@ -15,6 +15,8 @@ pub mod Order
 pub mod Decoded
 pub mod Sound
 pub mod Machine
+pub mod Port
+pub mod Sizing
 pub mod Plan
 pub mod Place
 pub mod Line

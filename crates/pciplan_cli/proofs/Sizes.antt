@@ -11,7 +11,7 @@ use Rattle.pci_spec.specs.Machine.{Target, target_of, sized}
 use Rattle.pci_spec.specs.Decoded.{IsDecodable}
 use Rattle.pci_spec.proofs.Pairing.{function_of, length-system_of, same_length}
 use Rattle.pci_dump.proofs.Pairs.{slot_at}
-use Rattle.pci_machine.specs.Sizing.{function_at, IsSizable}
+use Rattle.pci_spec.specs.Sizing.{function_at, IsSizable}
 use Rattle.pci_machine.proofs.MadeOf.{at_place, function-of, sizable-of}
 
 -- a block of a dump stands above the last of those before it

@@ -2,7 +2,7 @@
 ghost use Rattle.std.specs.Prelude.{◌≡◌, ◌++◌, ◌<◌, [], ◌∷◌, length, OnOk, IfOk, IfErr};
 ghost use Rattle.pci_spec.specs.Machine.{sized};
 ghost use Rattle.pci_spec.specs.Stops.{IsAboveLast, last_slot};
-ghost use Rattle.pci_machine.specs.Sizing.{function_at, IsSizable};
+ghost use Rattle.pci_spec.specs.Sizing.{function_at, IsSizable};
 ghost use Rattle.pciplan_cli.specs.Shows.{IsRefusedIn};
 
 use crate::show::fault_of_pair;

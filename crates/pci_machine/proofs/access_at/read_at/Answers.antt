@@ -1,8 +1,8 @@
 use Rattle.std.proofs.Common.{◌≡◌, ◌∙◌, ap, sym, subst}
 use Rattle.pci_spec.specs.Number.{number_at}
 use Rattle.pci_spec.specs.Machine.{Target}
-use Rattle.pci_machine.specs.Port.{IsLawful, fits}
-use Rattle.pci_machine.specs.Sizing.{function_at}
+use Rattle.pci_spec.specs.Port.{IsLawful, fits}
+use Rattle.pci_spec.specs.Sizing.{function_at}
 use Rattle.pci_machine.proofs.Sizing.{function_at-is, target-there, number-fits}
 use Rattle.pci_machine.proofs.access_at.read_at.Goals as goal
 

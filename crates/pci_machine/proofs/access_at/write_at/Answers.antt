@@ -1,6 +1,6 @@
 use Rattle.std.proofs.Common.{◌∙◌, ap}
-use Rattle.pci_machine.specs.Port.{has_function}
-use Rattle.pci_machine.specs.Sizing.{function_at}
+use Rattle.pci_spec.specs.Port.{has_function}
+use Rattle.pci_spec.specs.Sizing.{function_at}
 use Rattle.pci_spec.specs.Machine.{written}
 use Rattle.pci_machine.proofs.Sizing.{write-function, function_at-with_image, has_function-with_image}
 use Rattle.pci_machine.proofs.access_at.write_at.Goals as goal

@@ -10,7 +10,7 @@ use Rattle.pci_image.specs.Roms.{HasLawfulRom}
 use Rattle.pci_image.specs.Windows.{HasLawfulWindows, IsWindowsFaultIn}
 use Rattle.pci_image.specs.declared.fault.ImageFault.{ImageFault}
 use Rattle.pci_image.specs.declared.fault.ImageFault.TheVariants.{NoVendor, HeaderKind, BarType, BarMask, BarPair, RomMask, WindowMask, CapRange, CapLoop, CapCut}
-use Rattle.pci_machine.specs.Port.{IsTarget}
+use Rattle.pci_spec.specs.Port.{IsTarget}
 use Rattle.pci_machine.specs.Masks.{HasBits}
 use Rattle.pci_machine.specs.RegisterTable.{writable_by, clearing_by}
 use Rattle.pci_machine.proofs.MaskBits.{are_writable_bits, are_clearing_bits}

@@ -1,6 +1,6 @@
 use Rattle.std.proofs.Common.{◌∙◌}
 use Rattle.std.proofs.lemmas.Bool.{and_parts}
-use Rattle.pci_machine.specs.Port.{is_access, fits}
+use Rattle.pci_spec.specs.Port.{is_access, fits}
 use Rattle.pci_machine.proofs.Sizing.{left-same, left-written, written_from, restored}
 use Rattle.pci_machine.proofs.read_back.read_back.Goals as goal
 

@@ -4,8 +4,8 @@ use Rattle.std.proofs.lemmas.List.{get_or-map, get_or-replicate, length-map}
 use Rattle.pci_spec.specs.Header.{layout, address_registers}
 use Rattle.pci_spec.specs.Machine.{read_back, written}
 use Rattle.pci_spec.specs.Number.{number_at}
-use Rattle.pci_machine.specs.Port.{is_access, fits, with_image}
-use Rattle.pci_machine.specs.Sizing.{function_at, DiffersWithin, is_address_register}
+use Rattle.pci_spec.specs.Port.{is_access, fits, with_image}
+use Rattle.pci_spec.specs.Sizing.{function_at, DiffersWithin, is_address_register}
 use Rattle.pci_machine.specs.declared.access_at.Stop.{Stop}
 use Rattle.pci_machine.specs.declared.address_register.AddressRegister.{AddressRegister}
 use Rattle.pci_machine.proofs.Sizing.{target-there}

@@ -1,7 +1,7 @@
 use Rattle.std.proofs.Common.{◌≡◌, ◌<◌, ℕ, true, length, map, take, slice_index}
 use Rattle.pci_spec.specs.Machine.{read_back}
-use Rattle.pci_machine.specs.Port.{has_function, IsLawful}
-use Rattle.pci_machine.specs.Sizing.{function_at}
+use Rattle.pci_spec.specs.Port.{has_function, IsLawful}
+use Rattle.pci_spec.specs.Sizing.{function_at}
 use Rattle.pci_machine.proofs.RegisterOrder.{found_in}
 use Rattle.pci_machine.proofs.read_backs.read_backs.Given as goal
 

@@ -5,8 +5,8 @@ use Rattle.pci_spec.specs.Header.{command, layout}
 use Rattle.pci_spec.specs.Machine.{sized}
 use Rattle.pci_image.specs.declared.image.Image.{Image}
 use Rattle.pci_machine.specs.declared.access_at.Stop.{Stop}
-use Rattle.pci_machine.specs.Port.{has_function}
-use Rattle.pci_machine.specs.Sizing.{function_at, IsStuck}
+use Rattle.pci_spec.specs.Port.{has_function}
+use Rattle.pci_spec.specs.Sizing.{function_at, IsStuck}
 use Rattle.pci_machine.specs.SizeOutcome.{SizingLeaves, StopLeaves, IsCause}
 use Rattle.pci_machine.proofs.Ends.{quiet-layout, quiet-sized, quiet-stuck, quiet-free, put-back, stopped-open, stopped-quiet}
 use Rattle.pci_machine.proofs.size.size.Goals as goal

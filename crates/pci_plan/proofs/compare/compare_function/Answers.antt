@@ -5,7 +5,7 @@ use Rattle.std.proofs.lemmas.Result.{err_from_is_err_and}
 use Rattle.std.proofs.lemmas.List.{get_or_default}
 use Rattle.pci_spec.specs.Number.{number_at}
 use Rattle.pci_spec.specs.Header.{layout, address_registers}
-use Rattle.pci_machine.specs.Port.{ShowsNumber}
+use Rattle.pci_spec.specs.Port.{ShowsNumber}
 use Rattle.pci_machine.specs.declared.address_register.AddressRegister.{AddressRegister}
 use Rattle.pci_plan.specs.Comparing.{IsFunctionFault}
 use Rattle.pci_plan.proofs.Compares.{in_table, all_shown, register_access, register_fault}

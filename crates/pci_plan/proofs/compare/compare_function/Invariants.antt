@@ -1,6 +1,6 @@
 use Rattle.std.proofs.Common.{◌≡◌, ◌<◌, ℕ, get_or}
 use Rattle.pci_spec.specs.Number.{number_at}
-use Rattle.pci_machine.specs.Port.{ShowsNumber}
+use Rattle.pci_spec.specs.Port.{ShowsNumber}
 use Rattle.pci_machine.specs.declared.address_register.AddressRegister.{AddressRegister}
 use Rattle.pci_plan.proofs.compare.compare_function.Given as goal
 

@@ -10,7 +10,7 @@ use Rattle.pci_dump.specs.declared.memory.Refused.{Refused}
 use Rattle.pci_dump.specs.declared.pair_fault.PairFault.{PairFault}
 use Rattle.pci_dump.specs.PairFault.{pair_fault}
 use Rattle.pci_machine.specs.Made.{IsRefusedFor}
-use Rattle.pci_machine.specs.Sizing.{function_at, IsSizable}
+use Rattle.pci_spec.specs.Sizing.{function_at, IsSizable}
 use Rattle.pciplan_cli.proofs.Shows.{same_count}
 use Rattle.pciplan_cli.proofs.Sizes.{above_last, function_at_block}
 use Rattle.pciplan_cli.proofs.sizing.size_all.Goals as goal

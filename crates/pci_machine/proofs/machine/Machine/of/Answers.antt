@@ -9,7 +9,7 @@ use Rattle.pci_spec.specs.Decoded.{IsDecodable}
 use Rattle.pci_spec.proofs.Pairing.{same_length, length-system_of}
 use Rattle.pci_dump.specs.PairFault.{pair_fault}
 use Rattle.pci_machine.specs.Memory.{IsMachine}
-use Rattle.pci_machine.specs.Sizing.{function_at, IsSizable}
+use Rattle.pci_spec.specs.Sizing.{function_at, IsSizable}
 use Rattle.pci_machine.specs.Made.{name_fault}
 use Rattle.pci_machine.proofs.MadeOf.{made_more, decodable_more, fault_there, machine-of, function-of, sizable-of, read_backs-of}
 use Rattle.pci_machine.proofs.machine.Machine.of.Goals as goal

@@ -1,7 +1,7 @@
 use Rattle.std.proofs.Common.{◌∙◌, sym, ap, slice_get}
 use Rattle.std.proofs.lemmas.Bool.{cond-false}
 use Rattle.pci_spec.specs.Slot.{same_slot}
-use Rattle.pci_machine.specs.Port.{target_at}
+use Rattle.pci_spec.specs.Port.{target_at}
 use Rattle.pci_machine.specs.Memory.{pinned, pin_target, pin_targets}
 use Rattle.pci_machine.proofs.Targets.{map-nowhere}
 use Rattle.pci_machine.proofs.Memory.{IsMachine-pinned, machine-pinned}

@@ -5,7 +5,7 @@ use Rattle.std.proofs.lemmas.Fn.{always_returns_same}
 use Rattle.std.proofs.lemmas.Option.{slice_get-get_or, slice_get_within}
 use Rattle.pci_spec.specs.Slot.{slot_number}
 use Rattle.pci_spec.specs.Machine.{Target}
-use Rattle.pci_machine.specs.Port.{target_at, has_function}
+use Rattle.pci_spec.specs.Port.{target_at, has_function}
 use Rattle.pci_machine.specs.Memory.{IsMachine}
 use Rattle.pci_machine.proofs.Targets.{found}
 use Rattle.pci_machine.proofs.Memory.{lawful_from_rising, below_in_front, at_place, not_at_point}

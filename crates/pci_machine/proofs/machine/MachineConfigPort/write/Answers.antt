@@ -1,6 +1,6 @@
 use Rattle.std.proofs.Common.{◌∙◌, ap, slice_get}
 use Rattle.pci_spec.specs.Machine.{write_targets}
-use Rattle.pci_machine.specs.Port.{target_at}
+use Rattle.pci_spec.specs.Port.{target_at}
 use Rattle.pci_machine.proofs.Memory.{IsMachine-written, machine-written, lawful-written}
 use Rattle.pci_machine.proofs.machine.MachineConfigPort.write.Goals as goal
 

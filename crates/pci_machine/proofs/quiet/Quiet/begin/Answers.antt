@@ -2,8 +2,8 @@ use Rattle.std.proofs.Common.{◌≡◌, ◌∙◌, ◌*◌, ◌/◌, ap, arith}
 use Rattle.std.proofs.lemmas.Bool.{ltb-true}
 use Rattle.pci_spec.specs.Header.{command}
 use Rattle.pci_spec.specs.Machine.{written}
-use Rattle.pci_machine.specs.Port.{with_image}
-use Rattle.pci_machine.specs.Sizing.{function_at, quieted}
+use Rattle.pci_spec.specs.Port.{with_image}
+use Rattle.pci_spec.specs.Sizing.{function_at, quieted}
 use Rattle.pci_machine.proofs.Sizing.{quiet_number, function_at-with_image}
 use Rattle.pci_machine.proofs.quiet.Quiet.begin.Goals as goal
 

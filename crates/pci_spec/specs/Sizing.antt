@@ -7,7 +7,7 @@ use Rattle.pci_spec.specs.Slot.{Slot}
 use Rattle.pci_spec.specs.Header.{command, layout, address_registers}
 use Rattle.pci_spec.specs.Fault.{is_in_address_register, has_no_vendor, has_other_layout}
 use Rattle.pci_spec.specs.Machine.{Target, written}
-use Rattle.pci_machine.specs.Port.{target_at, has_function}
+use Rattle.pci_spec.specs.Port.{target_at, has_function}
 
 -- what stands for a function where there is none
 abbrev pub no_target : Target
