@@ -35,3 +35,4 @@ pub mod Promises
 pub mod PlanFaults
 pub mod Table
 pub mod WholePlan
+pub mod Stopped

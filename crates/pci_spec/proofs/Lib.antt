@@ -38,3 +38,4 @@ pub mod Firsts
 pub mod Chains
 pub mod Pairing
 pub mod Planning
+pub mod PlanningLaws

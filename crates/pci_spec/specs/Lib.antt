@@ -30,5 +30,6 @@ pub mod MachineLaws
 pub mod JudgingLaws
 pub mod SoundLaws
 pub mod RecordLaws
+pub mod PlanningLaws
 pub mod Planning
 pub mod PlanPromise

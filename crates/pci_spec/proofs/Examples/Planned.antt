@@ -25,7 +25,7 @@ abbrev stays : Function → Function → ℕ → ℕ → Bool
 stays old new offset i =
     in_fields (address_fields old.image old.probe) offset i || (offset == 4 && nat_lt i 2) || bit_at (byte_at new.image offset) i == bit_at (byte_at old.image offset) i
 
-moved_by : (old new : Function) → each_from 0 256 (λ offset. each_from 0 8 (stays old new offset)) ≡ true → (offset i : ℕ) → offset < 256 → i < 8
+pub moved_by : (old new : Function) → each_from 0 256 (λ offset. each_from 0 8 (stays old new offset)) ≡ true → (offset i : ℕ) → offset < 256 → i < 8
     → IsFalse (in_fields (address_fields old.image old.probe) offset i) → IsFalse (offset == 4 && nat_lt i 2) → bit_at (byte_at new.image offset) i ≡ bit_at (byte_at old.image offset) i
 moved_by old new h offset i less small other bit =
     let row = each_from-at 0 256 (λ offset. each_from 0 8 (stays old new offset)) h offset (omega arith) less in

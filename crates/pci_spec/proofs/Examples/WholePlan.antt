@@ -200,7 +200,7 @@ tree_is_shown = (bridge_is_shown, (device_is_shown, (behind_is_shown, tt)))
 
 -- ---- what is planned is sound, and so was the start
 
-tree_is_switched_on : IsSwitchedOn planned
+pub tree_is_switched_on : IsSwitchedOn planned
 tree_is_switched_on = record {
   io = each_of_planned (λ f. has_bit (command f.image) 0 ≡ wants f Io) refl refl refl;
   memory = each_of_planned (λ f. has_bit (command f.image) 1 ≡ wants f Memory) refl refl refl;

@@ -15,7 +15,7 @@ use Rattle.pci_spec.proofs.Planning.Moved.{layout_same, bridge_same, secondary_s
 use Rattle.pci_spec.proofs.Planning.Classes.{class_stays}
 use Rattle.pci_spec.proofs.Planning.Planned.{filter_same, implemented_same, has_behind_same}
 use Rattle.pci_spec.proofs.Planning.Tables.{register_same}
-use Rattle.pci_spec.proofs.Planning.SameNeeds.{size_stays, parts_stay, need_stays}
+use Rattle.pci_spec.proofs.Planning.SameNeeds.{size_stays, need_stays}
 
 -- two items that are placed alike
 pub record IsSameItem (i j : Item) : Type 0 where

@@ -1,0 +1,153 @@
+-- The laws of planning, from the lemmas that planning stands on.
+use Rattle.std.proofs.Common.{◌≡◌, ℕ, zero, suc, ◌+◌, ◌<◌, ◌≤◌, inl, inr, List, [], ◌∷◌, refl, Bool, true, false, Option, None, Some, arith, sym, ap, subst}
+use Rattle.std.specs.Bool.{IsTrue, ◌==◌}
+use Rattle.std.specs.List.{Contains, sum}
+use Rattle.std.proofs.lemmas.Bool.{cases_Bool, cases_lt}
+use Rattle.std.proofs.lemmas.List.Elements.{All-contains_itself, All-weaker}
+use Rattle.pci_spec.specs.Header.{layout, bar_count, bar_register, rom_register}
+use Rattle.pci_spec.specs.Bar.{BarFault, bar_fault}
+use Rattle.pci_spec.specs.Bar as bars
+use Rattle.pci_spec.specs.Rom.{breaks_rom_rule}
+use Rattle.pci_spec.specs.Window.{window_register, breaks_window_rule}
+use Rattle.pci_spec.specs.System.{System, Function}
+use Rattle.pci_spec.specs.Decoded.{IsDecodable}
+use Rattle.pci_spec.specs.Fault.{has_no_vendor, has_other_layout, NoVendor, HeaderKind, BarType, BarMask, BarPair, RomMask, WindowMask}
+use Rattle.pci_spec.specs.Sound.{IsInProfile}
+use Rattle.pci_spec.specs.Planning.Safety.{IsSafe}
+use Rattle.pci_spec.specs.PlanningLaws.{CutIsSound, OffIsSound, MovedIsSystem, MovedIsNested, MovedIsInProfile, MovedHasChains, ProfileDecodes, LargestFirstIsAligned, Takes, PlacedFillsItsRange, PlacedTakesOnce, WindowIsLeastPower, LaidOutIsSound, RomsCanBeOn, PlacesAreATable, PlannedNumbersAreFinal}
+use Rattle.pci_spec.proofs.Planning.Faults.{moved_profile}
+use Rattle.pci_spec.proofs.Planning.Kept.{moved_nested, moved_chains}
+use Rattle.pci_spec.proofs.Planning.LaidOut.{laid_safe}
+use Rattle.pci_spec.proofs.Planning.Placement.{placed, sum_cons, window_least}
+use Rattle.pci_spec.proofs.Planning.Plannings.{tables_of_plannable, final_by_numbers}
+use Rattle.pci_spec.proofs.Planning.RomsOnLayout.{roms_on_is_sound}
+use Rattle.pci_spec.proofs.Planning.Safe.{safe_below}
+use Rattle.pci_spec.proofs.Planning.Stop.{all_off_safe}
+use Rattle.pci_spec.proofs.Planning.Whole.{moved_system}
+
+-- ---- cuts
+
+pub cut_is_sound : CutIsSound
+cut_is_sound roots n part whole system sound moved cut =
+    let safe : IsSafe roots part = safe_below roots n part whole system sound.nested cut record { single = sound.single; home = sound.home } in
+    record {
+      single = safe.single;
+      home = safe.home;
+      nested = moved_nested roots whole part system moved sound.nested;
+      profile = moved_profile roots whole part system sound.chains moved sound.profile;
+      chains = moved_chains whole part system moved sound.chains;
+    }
+
+pub off_is_sound : OffIsSound
+off_is_sound roots s off nested profile chains =
+    let safe : IsSafe roots s = all_off_safe roots s off in
+    record { single = safe.single; home = safe.home; nested = nested; profile = profile; chains = chains }
+
+-- ---- what moving keeps
+
+pub moved_is_system : MovedIsSystem
+moved_is_system s t moved system = moved_system s t moved system
+
+pub moved_is_nested : MovedIsNested
+moved_is_nested roots s t moved system nested = moved_nested roots s t system moved nested
+
+pub moved_is_in_profile : MovedIsInProfile
+moved_is_in_profile roots s t moved system chains profile = moved_profile roots s t system chains moved profile
+
+pub moved_has_chains : MovedHasChains
+moved_has_chains s t moved system chains = moved_chains s t system moved chains
+
+-- ---- the profile
+
+false_by : (b : Bool) → (b ≡ true → ⊥) → b ≡ false
+false_by b never = elim (cases_Bool b) [ inl lit ↦ absurd (never lit) | inr dark ↦ dark ]
+
+none_by : (o : Option BarFault) → ((fault : BarFault) → o ≡ Some fault → ⊥) → o ≡ None
+none_by None never = refl
+none_by (Some fault) never = absurd (never fault refl)
+
+module _ (roots : List ℕ) (s : System) (profile : IsInProfile roots s) (f : Function) (listed : Contains s f) where
+  no_bar_fault : (n : ℕ) → n < bar_count (layout f.image) → (fault : BarFault) → bar_fault f.image f.probe n ≡ Some fault → ⊥
+  no_bar_fault n less bars.BarType is = profile (BarType f.slot (bar_register n)) refl (f, listed, refl, (n, less, refl, is))
+  no_bar_fault n less bars.BarMask is = profile (BarMask f.slot (bar_register n)) refl (f, listed, refl, (n, less, refl, is))
+  no_bar_fault n less bars.BarPair is = profile (BarPair f.slot (bar_register n)) refl (f, listed, refl, (n, less, refl, is))
+
+  decodes : IsDecodable f
+  decodes = record {
+    vendor = false_by (has_no_vendor f.image) (λ is. profile (NoVendor f.slot) refl (f, listed, refl, is));
+    header = false_by (has_other_layout f.image) (λ is. profile (HeaderKind f.slot) refl (f, listed, refl, is));
+    bars = λ n less. none_by (bar_fault f.image f.probe n) (no_bar_fault n less);
+    rom = false_by (breaks_rom_rule f.image f.probe) (λ is. profile (RomMask f.slot (rom_register (layout f.image))) refl (f, listed, refl, (refl, is)));
+    windows = λ kind bridge. false_by (breaks_window_rule kind f.image f.probe)
+        (λ is. profile (WindowMask f.slot (window_register kind)) refl (f, listed, refl, (kind, subst (λ n. IsTrue (n == 1)) (sym bridge) refl, refl, is)));
+  }
+
+pub profile_decodes : ProfileDecodes
+profile_decodes roots s profile = All-weaker (Contains s) IsDecodable (λ f listed. decodes roots s profile f listed) s (All-contains_itself s)
+
+-- ---- largest first
+
+pub largest_first_is_aligned : LargestFirstIsAligned
+largest_first_is_aligned start sizes falling aligned = placed start sizes falling aligned
+
+module _ (a : ℕ) where
+  taken_in_range : (start : ℕ) (sizes : List ℕ) (k : ℕ) → Takes start sizes a k → (start ≤ a) × (a < start + sum sizes)
+  taken_in_range start [] k (less, low, high) = absurd (let no : ⊥ = omega (arith, less) in no)
+  taken_in_range start (x ∷ xs) zero (less, low, high) = let e = sum_cons x xs in (omega (arith, low), omega (arith, high, e))
+  taken_in_range start (x ∷ xs) (suc k) (less, low, high) =
+      let e = sum_cons x xs in
+      let rest = taken_in_range (start + x) xs k (omega (arith, less), low, high) in
+      let from = rest.0 in
+      let to = rest.1 in
+      (omega (arith, from), omega (arith, to, e))
+
+  taker_of : (start : ℕ) (sizes : List ℕ) → start ≤ a → a < start + sum sizes → (k : ℕ) × Takes start sizes a k
+  taker_of start [] low high = absurd (let no : ⊥ = omega (arith, low, high) in no)
+  taker_of start (x ∷ xs) low high =
+      let e = sum_cons x xs in
+      elim (cases_lt a (start + x)) [
+        | inl here ↦ (0, (omega arith, low, here))
+        | inr later ↦
+            let rest = taker_of (start + x) xs later (omega (arith, high, e)) in
+            let less = rest.1.0 in
+            (suc rest.0, (omega (arith, less), rest.1.1, rest.1.2))
+      ]
+
+  taken_once : (start : ℕ) (sizes : List ℕ) (j k : ℕ) → Takes start sizes a j → Takes start sizes a k → j ≡ k
+  taken_once start [] j k (less, low, high) other = absurd (let no : ⊥ = omega (arith, less) in no)
+  taken_once start (x ∷ xs) zero zero one other = refl
+  taken_once start (x ∷ xs) zero (suc k) (less, low, high) (less_too, low_too, high_too) =
+      let from = (taken_in_range (start + x) xs k (omega (arith, less_too), low_too, high_too)).0 in
+      absurd (let no : ⊥ = omega (arith, from, high) in no)
+  taken_once start (x ∷ xs) (suc j) zero (less, low, high) (less_too, low_too, high_too) =
+      let from = (taken_in_range (start + x) xs j (omega (arith, less), low, high)).0 in
+      absurd (let no : ⊥ = omega (arith, from, high_too) in no)
+  taken_once start (x ∷ xs) (suc j) (suc k) (less, low, high) (less_too, low_too, high_too) =
+      ap suc (taken_once (start + x) xs j k (omega (arith, less), low, high) (omega (arith, less_too), low_too, high_too))
+
+pub placed_fills_its_range : PlacedFillsItsRange
+placed_fills_its_range start sizes a = (λ taken. taken_in_range a start sizes taken.0 taken.1, λ inside. taker_of a start sizes inside.0 inside.1)
+
+pub placed_takes_once : PlacedTakesOnce
+placed_takes_once start sizes a j k one other = taken_once a start sizes j k one other
+
+-- ---- windows
+
+pub window_is_least_power : WindowIsLeastPower
+window_is_least_power c need small = window_least c need small
+
+-- ---- everything at its place
+
+pub laid_out_is_sound : LaidOutIsSound
+laid_out_is_sound roots t pools nested profile chains laid on good =
+    let safe : IsSafe roots t = laid_safe roots t pools nested (profile_decodes roots t profile) laid on good in
+    record { single = safe.single; home = safe.home; nested = nested; profile = profile; chains = chains }
+
+pub roms_can_be_on : RomsCanBeOn
+roms_can_be_on roots t pools system sound laid on good = roms_on_is_sound roots t pools system sound (profile_decodes roots t sound.profile) laid on good
+
+pub places_are_a_table : PlacesAreATable
+places_are_a_table roots s pools c plannable rising = tables_of_plannable roots s pools plannable rising c
+
+pub planned_numbers_are_final : PlannedNumbersAreFinal
+planned_numbers_are_final roots s t pools plannable rising planned = final_by_numbers roots s pools plannable rising t planned
