@@ -1,11 +1,10 @@
 -- The worked tree between two states: the laws of planning, with all that they ask for.
-use Rattle.std.proofs.Common.{◌≡◌, ℕ, zero, suc, ◌<◌, ◌≤◌, List, [], ◌∷◌, inl, refl, false, length, arith, lit<, ap, subst, map, take}
+use Rattle.std.proofs.Common.{◌≡◌, ℕ, zero, suc, ◌<◌, ◌≤◌, List, [], ◌∷◌, inl, refl, false, arith, lit<, subst, map, take}
 use Rattle.std.specs.List.{All, AllZip, Contains}
 use Rattle.std.specs.List.Sorted.{IsStrictlyIncreasing}
 use Rattle.pci_spec.specs.Number.{each_from}
-use Rattle.pci_spec.specs.Slot.{Slot, slot_number}
-use Rattle.pci_spec.specs.Window.{MemoryWindow}
-use Rattle.pci_spec.specs.System.{System, Function, IsSystem, Bar, Window, Memory, Claims}
+use Rattle.pci_spec.specs.Slot.{slot_number}
+use Rattle.pci_spec.specs.System.{System, Function, IsSystem}
 use Rattle.pci_spec.specs.Sound.{IsSound}
 use Rattle.pci_spec.specs.Machine.{system_after}
 use Rattle.pci_spec.specs.Plan.{Class, IsMoved}
@@ -13,7 +12,7 @@ use Rattle.pci_spec.specs.PlanPromise.{changes_between, with_rom_on}
 use Rattle.pci_spec.specs.Planning.Laws.{AreChanges}
 use Rattle.pci_spec.specs.Planning.Numbers.{place_at}
 use Rattle.pci_spec.specs.Planning.Plannable.{IsPlannable}
-use Rattle.pci_spec.specs.Planning.PlanWrites.{Change, closing_writes, plan_writes}
+use Rattle.pci_spec.specs.Planning.PlanWrites.{Change, plan_writes}
 use Rattle.pci_spec.specs.Planning.Promise.{IsFinal}
 use Rattle.pci_spec.specs.Planning.Safety.{is_on, IsCutAt}
 use Rattle.pci_spec.specs.Planning.Table.{IsTable}
@@ -25,7 +24,8 @@ use Rattle.pci_spec.proofs.Examples.Samples.{slot, device, bridge, host}
 use Rattle.pci_spec.proofs.Examples.Texts.{bytes_by}
 use Rattle.pci_spec.proofs.Examples.Plans.{pools}
 use Rattle.pci_spec.proofs.Examples.Placed.{start, planned}
-use Rattle.pci_spec.proofs.Examples.Planned.{old_behind, new_bridge, new_device, new_behind, bridge_moved, device_moved, behind_moved, each_of_planned, moved_by}
+use Rattle.pci_spec.proofs.Examples.PlanWrites.{all_on}
+use Rattle.pci_spec.proofs.Examples.Planned.{old_bridge, old_device, old_behind, new_bridge, new_device, new_behind, bridge_moved, device_moved, behind_moved, each_of_planned, moved_by}
 use Rattle.pci_spec.proofs.Examples.Filled.{bridge_is_filled, device_is_filled, behind_is_filled, tree_can_be_planned}
 use Rattle.pci_spec.proofs.Examples.Admitted.{tree_is_a_system, tree_is_nested, tree_decodes, tree_has_chains, tree_is_in_profile}
 use Rattle.pci_spec.proofs.Examples.WholePlan.{planned_tree_is_sound, tree_is_switched_on}
@@ -99,7 +99,7 @@ bridge_alone_is_sound : IsSound host bridge_alone
 bridge_alone_is_sound = cut_is_sound host 16 bridge_alone planned planned_is_a_system planned_tree_is_sound
     (moved_itself new_bridge bridge_moved.image, (device_off_moved, (behind_off_moved, tt))) cut_above_the_bridge
 
--- ---- a start in which the window and the device beside it answer one address
+-- ---- a start in which the window at 0 and the BARs at 0 answer one address
 
 abbrev open_bridge : Function
 open_bridge = bridge (slot 0 1 0) 2 0x10100 [] []
@@ -107,63 +107,54 @@ open_bridge = bridge (slot 0 1 0) 2 0x10100 [] []
 abbrev low_device : Function
 low_device = device (slot 0 2 0) 2 [] ((0x10, 0xfff00000) ∷ [])
 
-abbrev clashing : System
-clashing = open_bridge ∷ low_device ∷ old_behind ∷ []
+abbrev low_behind : Function
+low_behind = device (slot 1 0 0) 2 [] ((0x10, 0xfff00000) ∷ (0x14, 0xfffff000) ∷ [])
 
-window_claims_0 : Claims open_bridge (Window MemoryWindow) Memory 0
-window_claims_0 = record { there = refl; enabled = refl; maps = refl; address = lit< tt; decodes = refl }
-
-bar_claims_0 : Claims low_device (Bar 0) Memory 0
+start_to_open : IsMoved old_bridge open_bridge
 unfolding each_from
-bar_claims_0 = record { there = refl; enabled = refl; maps = refl; address = lit< tt; decodes = (refl, (20, refl, λ i above. refl)) }
+start_to_open = record { slot = refl; probe = refl; image = record { full = refl; bytes = bytes_by open_bridge.image refl }; same = moved_by old_bridge open_bridge refl }
 
-clashing_is_not_sound : IsSound host clashing → ⊥
-clashing_is_not_sound sound =
-    let same = sound.single.over_roots Memory 0 open_bridge low_device (Window MemoryWindow) (Bar 0) (0, lit< tt, refl) (1, lit< tt, refl) (0, lit< tt, refl) (0, lit< tt, refl) window_claims_0 bar_claims_0 in
-    let e : 1 ≡ 2 = ap (λ (s : Slot). s.device) same.0 in
-    omega (arith, e)
-
-abbrev changes : List Change
-changes = changes_between clashing planned
-
--- the closing writes are two
-two_closings : length (closing_writes changes) ≡ 2
-two_closings = refl
-
-start_to_open : IsMoved (bridge (slot 0 1 0) 0 0x10100 [] []) open_bridge
+start_to_low : IsMoved old_device low_device
 unfolding each_from
-start_to_open = record { slot = refl; probe = refl; image = record { full = refl; bytes = bytes_by open_bridge.image refl }; same = moved_by (bridge (slot 0 1 0) 0 0x10100 [] []) open_bridge refl }
+start_to_low = record { slot = refl; probe = refl; image = record { full = refl; bytes = bytes_by low_device.image refl }; same = moved_by old_device low_device refl }
 
-start_to_low : IsMoved (device (slot 0 2 0) 0 [] ((0x10, 0xfff00000) ∷ [])) low_device
+start_to_low_behind : IsMoved old_behind low_behind
 unfolding each_from
-start_to_low = record { slot = refl; probe = refl; image = record { full = refl; bytes = bytes_by low_device.image refl }; same = moved_by (device (slot 0 2 0) 0 [] ((0x10, 0xfff00000) ∷ [])) low_device refl }
+start_to_low_behind = record { slot = refl; probe = refl; image = record { full = refl; bytes = bytes_by low_behind.image refl }; same = moved_by old_behind low_behind refl }
 
-start_to_clashing : AllZip IsMoved start clashing
-start_to_clashing = (start_to_open, (start_to_low, (moved_itself old_behind (record { full = refl; bytes = bytes_by old_behind.image refl }), tt)))
+start_to_all_on : AllZip IsMoved start all_on
+start_to_all_on = (start_to_open, (start_to_low, (start_to_low_behind, tt)))
 
 open_to_planned : IsMoved open_bridge new_bridge
 unfolding each_from
-open_to_planned = record { slot = refl; probe = refl; image = record { full = refl; bytes = bytes_by new_bridge.image refl }; same = moved_by open_bridge new_bridge refl }
+open_to_planned = record { slot = refl; probe = refl; image = bridge_moved.image; same = moved_by open_bridge new_bridge refl }
 
 low_to_planned : IsMoved low_device new_device
 unfolding each_from
-low_to_planned = record { slot = refl; probe = refl; image = record { full = refl; bytes = bytes_by new_device.image refl }; same = moved_by low_device new_device refl }
+low_to_planned = record { slot = refl; probe = refl; image = device_moved.image; same = moved_by low_device new_device refl }
+
+low_behind_to_planned : IsMoved low_behind new_behind
+unfolding each_from
+low_behind_to_planned = record { slot = refl; probe = refl; image = behind_moved.image; same = moved_by low_behind new_behind refl }
+
+abbrev changes : List Change
+changes = changes_between all_on planned
 
 each_moved : All (λ (c : Change). IsMoved c.old c.new) changes
 each_moved zero d less = open_to_planned
 each_moved (suc zero) d less = low_to_planned
-each_moved (suc (suc zero)) d less = behind_moved
+each_moved (suc (suc zero)) d less = low_behind_to_planned
 each_moved (suc (suc (suc k))) d less = absurd (let impossible : ⊥ = omega (arith, less) in impossible)
 
 they_are_changes : AreChanges changes
-they_are_changes = record { system = moved_is_system start clashing start_to_clashing tree_is_a_system; moved = each_moved }
+they_are_changes = record { system = moved_is_system start all_on start_to_all_on tree_is_a_system; moved = each_moved }
 
--- from the second write on every stop is sound
-stopped_after_closing : (k : ℕ) → 2 ≤ k → IsSound host (system_after clashing (take k (plan_writes changes)))
+-- The start is not sound; from the third write on, behind the closing ones, every stop is.
+stopped_after_closing : (k : ℕ) → 3 ≤ k → IsSound host (system_after all_on (take k (plan_writes changes)))
 stopped_after_closing k past = plan_can_stop host changes they_are_changes
-    (moved_is_nested host start clashing start_to_clashing tree_is_a_system tree_is_nested)
-    (moved_is_in_profile host start clashing start_to_clashing tree_is_a_system tree_has_chains tree_is_in_profile)
-    (moved_has_chains start clashing start_to_clashing tree_is_a_system tree_has_chains) planned_tree_is_sound k (inl past)
+    (moved_is_nested host start all_on start_to_all_on tree_is_a_system tree_is_nested)
+    (moved_is_in_profile host start all_on start_to_all_on tree_is_a_system tree_has_chains tree_is_in_profile)
+    (moved_has_chains start all_on start_to_all_on tree_is_a_system tree_has_chains) planned_tree_is_sound k (inl past)
 
-they_lead_to_the_planned_tree : system_after clashing (plan_writes changes) ≡ planned
+they_lead_to_the_planned_tree : system_after all_on (plan_writes changes) ≡ planned
 they_lead_to_the_planned_tree = writes_reach changes they_are_changes.system each_moved
