@@ -36,3 +36,4 @@ pub mod PlanFaults
 pub mod Table
 pub mod WholePlan
 pub mod Stopped
+pub mod Unplanned

@@ -3,7 +3,7 @@ use Rattle.std.proofs.Common.{◌≡◌, ℕ, ◌+◌, ◌*◌, List, [], ◌∷
 use Rattle.std.specs.List.{range_with_len}
 use Rattle.pci_spec.specs.Number.{each_from, some_from}
 use Rattle.pci_spec.specs.System.{Function}
-use Rattle.pci_spec.specs.Listing.{function_listing, places_of, listing}
+use Rattle.pci_spec.specs.Listing.{decimal_text, function_listing, places_of, listing}
 use Rattle.pci_spec.proofs.Examples.Samples.{slot, device, bridge, put_bytes, blank, zeros}
 
 -- a device with these bytes besides, and with a capabilities list
@@ -120,3 +120,8 @@ longest = put_bytes (map (λ n. (65 + 4 * n, 68 + 4 * n)) (range_with_len 0 47))
 all_48_places_are_listed : places_of longest ≡ map (λ n. 64 + 4 * n) (range_with_len 0 48)
 unfolding places_of
 all_48_places_are_listed = refl
+
+-- ---- decimal numbers
+
+one_or_two_digits : map decimal_text (0 ∷ 9 ∷ 10 ∷ 32 ∷ 99 ∷ []) ≡ codes "0" ∷ codes "9" ∷ codes "10" ∷ codes "32" ∷ codes "99" ∷ []
+one_or_two_digits = refl

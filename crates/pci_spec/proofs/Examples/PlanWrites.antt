@@ -90,3 +90,11 @@ unchanged_half_is_left_out : writes_between
     ≡ write (slot 0 1 0) 0x20 4 0xfff0 ∷ write (slot 0 1 0) 0x24 4 0xff10001 ∷ write (slot 0 1 0) 0x28 4 1 ∷ write (slot 0 1 0) 0x2c 4 1
     ∷ write (slot 1 0 0) 0x14 4 1 ∷ write (slot 0 1 0) 0x04 2 2 ∷ write (slot 1 0 0) 0x04 2 2 ∷ []
 unchanged_half_is_left_out = refl
+
+-- ---- of what isn't there twice, nothing is written
+
+changes_are_of_functions_in_both : changes_between start [] ≡ []
+changes_are_of_functions_in_both = refl
+
+and_of_no_others : changes_between [] planned ≡ []
+and_of_no_others = refl
