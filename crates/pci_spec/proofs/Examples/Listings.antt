@@ -2,8 +2,9 @@
 use Rattle.std.proofs.Common.{◌≡◌, ℕ, ◌+◌, ◌*◌, List, [], ◌∷◌, ◌++◌, refl, codes, map}
 use Rattle.std.specs.List.{range_with_len}
 use Rattle.pci_spec.specs.Number.{each_from, some_from}
-use Rattle.pci_spec.specs.System.{Function}
-use Rattle.pci_spec.specs.Listing.{decimal_text, function_listing, places_of, listing}
+use Rattle.pci_spec.specs.Bar.{IoBar, Memory32, Memory64, Reserved}
+use Rattle.pci_spec.specs.System.{Function, Io, Memory}
+use Rattle.pci_spec.specs.Listing.{kind_name, kind_space, decimal_text, function_listing, places_of, listing}
 use Rattle.pci_spec.proofs.Examples.Samples.{slot, device, bridge, put_bytes, blank, zeros}
 
 -- a device with these bytes besides, and with a capabilities list
@@ -125,3 +126,10 @@ all_48_places_are_listed = refl
 
 one_or_two_digits : map decimal_text (0 ∷ 9 ∷ 10 ∷ 32 ∷ 99 ∷ []) ≡ codes "0" ∷ codes "9" ∷ codes "10" ∷ codes "32" ∷ codes "99" ∷ []
 one_or_two_digits = refl
+
+-- a reserved type has no name, and would be of memory
+reserved_kind : map kind_name (IoBar ∷ Memory32 ∷ Memory64 ∷ Reserved ∷ []) ≡ codes "io" ∷ codes "mem32" ∷ codes "mem64" ∷ [] ∷ []
+reserved_kind = refl
+
+spaces_of_kinds : map kind_space (IoBar ∷ Memory32 ∷ Memory64 ∷ Reserved ∷ []) ≡ Io ∷ Memory ∷ Memory ∷ Memory ∷ []
+spaces_of_kinds = refl

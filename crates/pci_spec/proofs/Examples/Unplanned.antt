@@ -1,19 +1,42 @@
--- What is not planned, nor at its place, and what a plan promises piece by piece.
+-- What is not moved, not planned, or not at its place, and what a plan promises piece by piece.
 use Rattle.std.proofs.Common.{◌≡◌, ℕ, List, [], ◌∷◌, refl, arith, lit<, map, length, take, Some, None, Option, ap, ◌+◌, ◌<◌, ◌≤◌, sym}
 use Rattle.std.specs.List.{sum}
 use Rattle.pci_spec.specs.Number.{each_from}
+use Rattle.pci_spec.specs.Slot.{Slot}
 use Rattle.pci_spec.specs.Window.{Bounds, MemoryWindow}
 use Rattle.pci_spec.specs.Decoded.{Range}
 use Rattle.pci_spec.specs.System.{System, Function, Bar}
 use Rattle.pci_spec.specs.Sound.{IsSound}
 use Rattle.pci_spec.specs.Machine.{Write, system_after}
-use Rattle.pci_spec.specs.Plan.{Pools, MemoryClass, IsPlanned, items_within, doubled_to}
+use Rattle.pci_spec.specs.Plan.{IsMoved, Pools, MemoryClass, IsPlanned, items_within, doubled_to}
 use Rattle.pci_spec.specs.Place.{IsPlaced, start_within}
 use Rattle.pci_spec.specs.PlanPromise.{IsPlanOf, changes_between, with_rom_on}
 use Rattle.pci_spec.specs.Planning.PlanWrites.{plan_writes, closing_writes, most_writes}
-use Rattle.pci_spec.proofs.Examples.Samples.{slot, device, bridge, host}
+use Rattle.pci_spec.proofs.Examples.Samples.{slot, device, bridge, host, put_bytes, puts, blank, zeros}
 use Rattle.pci_spec.proofs.Examples.Plans.{pools}
 use Rattle.pci_spec.proofs.Examples.Planned.{no}
+
+-- ---- not moved
+
+-- a device with a Command, a BAR and a vendor's low byte
+abbrev changed : ℕ → ℕ → ℕ → Function
+changed vendor command value = record { slot = slot 0 1 0; image = put_bytes ((0x00, vendor) ∷ []) (puts ((0x10, value) ∷ []) (blank 0 command)); probe = puts ((0x10, 0xfff00008) ∷ []) zeros }
+
+bus_master_stays : IsMoved (changed 0x34 0 8) (changed 0x34 4 8) → ⊥
+bus_master_stays m = let e : 1 ≡ 0 = m.same 4 2 (lit< tt) (lit< tt) refl refl in omega (arith, e)
+
+encoding_stays : IsMoved (changed 0x34 0 8) (changed 0x34 0 0) → ⊥
+encoding_stays m = let e : 0 ≡ 1 = m.same 0x10 3 (lit< tt) (lit< tt) refl refl in omega (arith, e)
+
+-- its lowest address bit is bit 20
+bits_below_a_size_stay : IsMoved (changed 0x34 0 8) (changed 0x34 0 0x80008) → ⊥
+bits_below_a_size_stay m = let e : 1 ≡ 0 = m.same 0x12 3 (lit< tt) (lit< tt) refl refl in omega (arith, e)
+
+vendor_stays : IsMoved (changed 0x34 0 8) (changed 0x35 0 8) → ⊥
+vendor_stays m = let e : 1 ≡ 0 = m.same 0 0 (lit< tt) (lit< tt) refl refl in omega (arith, e)
+
+other_slot : IsMoved (changed 0x34 0 8) (record (changed 0x34 0 8) { slot = slot 0 2 0 }) → ⊥
+other_slot m = let e : 2 ≡ 1 = ap (λ (s : Slot). s.device) m.slot in omega (arith, e)
 
 -- ---- not planned
 
