@@ -35,6 +35,7 @@ pub mod Verdicts
 pub mod Sounding
 pub mod Regions
 pub mod Firsts
+pub mod Looking
 pub mod Chains
 pub mod Pairing
 pub mod Planning

@@ -1,10 +1,11 @@
 -- In which order faults are looked for. Of several that are there, the one with the least key is named.
-use Rattle.std.specs.Prelude.{ℕ, ◌+◌, ◌==◌, nat_lt, Bool, false, ◌&&◌, ◌||◌, IsTrue, List, [], ◌∷◌, ◌++◌, slice_index}
+use Rattle.std.specs.Prelude.{ℕ, ◌+◌, ◌==◌, nat_lt, Bool, false, ◌&&◌, ◌||◌, if◌then◌else◌, IsTrue, List, [], ◌∷◌, ◌++◌, slice_index_or}
 use Rattle.std.specs.List.{filter, range_with_len}
-use Rattle.pci_spec.specs.Slot.{Slot}
+use Rattle.pci_spec.specs.Slot.{Slot, same_slot}
 use Rattle.pci_spec.specs.Capability.{pointer}
-use Rattle.pci_spec.specs.System.{System, Space, Io, Memory}
-use Rattle.pci_spec.specs.Fault.{Fault, NoVendor, HeaderKind, BarType, BarMask, BarPair, RomMask, WindowMask, CapRange, CapLoop, CapCut, SlotsDiffer, StrayProbe, LoneFunction, PaletteSnoop, VgaEnable, IsaEnable, Subtractive, InReset, PowerState, BusRange, Orphan, Unreached, Clash, Split, IsIn}
+use Rattle.pci_spec.specs.Text.{Block}
+use Rattle.pci_spec.specs.System.{System, Space, Io, Memory, system_of}
+use Rattle.pci_spec.specs.Fault.{Fault, NoVendor, HeaderKind, BarType, BarMask, BarPair, RomMask, WindowMask, CapRange, CapLoop, CapCut, SlotsDiffer, StrayProbe, LoneFunction, PaletteSnoop, VgaEnable, IsaEnable, Subtractive, InReset, PowerState, BusRange, Orphan, Unreached, Clash, Split, IsIn, IsThere}
 
 -- one list of numbers is before another, by the first place at which they differ
 abbrev pub precedes : List ℕ → List ℕ → Bool
@@ -42,13 +43,17 @@ phase_key Profile = 3
 phase_key Place = 4
 phase_key Judging = 5
 
--- there are 64 pointers: a walk repeats a place within so many steps or never
+-- there are 64 pointers: a walk comes to a place within so many steps or never, and again within as many more or never
 abbrev pub longest_walk : ℕ
-longest_walk = 64
+longest_walk = 128
 
 -- at which steps of the walk along a capabilities list a place is met
-abbrev pub steps_at : List ℕ → ℕ → List ℕ
+unfoldable pub steps_at : List ℕ → ℕ → List ℕ
 steps_at image place = filter (λ n. pointer image n == place) (range_with_len 0 (longest_walk + 1))
+
+-- at which step a place is met after so many times; behind all steps where it isn't
+abbrev pub step_after : ℕ → List ℕ → ℕ → ℕ
+step_after times image place = slice_index_or (steps_at image place) times (longest_walk + 1)
 
 -- what unreached addresses, clashes and splits are ordered by: unreached ones by region, bridge from the host outwards
 -- (the buses of bridges rise on the way) and address; clashes by bus, space, address and the two regions; splits likewise
@@ -78,9 +83,9 @@ looking_key image_of (BarPair slot register) = in_phase Decoding slot (0 ∷ reg
 looking_key image_of (RomMask slot register) = in_phase Decoding slot (1 ∷ [])
 looking_key image_of (WindowMask slot register) = in_phase Decoding slot (2 ∷ register ∷ [])
 -- places in the order of the walk, each with its range, then whether it was met before, then its body
-looking_key image_of (CapRange slot place) = in_phase Decoding slot (3 ∷ slice_index (steps_at (image_of slot) place) 0 ∷ 0 ∷ [])
-looking_key image_of (CapLoop slot place) = in_phase Decoding slot (3 ∷ slice_index (steps_at (image_of slot) place) 1 ∷ 1 ∷ [])
-looking_key image_of (CapCut slot place) = in_phase Decoding slot (3 ∷ slice_index (steps_at (image_of slot) place) 0 ∷ 2 ∷ [])
+looking_key image_of (CapRange slot place) = in_phase Decoding slot (3 ∷ step_after 0 (image_of slot) place ∷ 0 ∷ [])
+looking_key image_of (CapLoop slot place) = in_phase Decoding slot (3 ∷ step_after 1 (image_of slot) place ∷ 1 ∷ [])
+looking_key image_of (CapCut slot place) = in_phase Decoding slot (3 ∷ step_after 0 (image_of slot) place ∷ 2 ∷ [])
 looking_key image_of (PaletteSnoop slot) = in_phase Profile slot (0 ∷ [])
 looking_key image_of (VgaEnable slot) = in_phase Profile slot (1 ∷ [])
 looking_key image_of (IsaEnable slot) = in_phase Profile slot (2 ∷ [])
@@ -96,6 +101,29 @@ looking_key image_of (Clash bus space address first first_register second second
     phase_key Judging ∷ judging_key (Clash bus space address first first_register second second_register)
 looking_key image_of (Split space address first first_register second second_register) =
     phase_key Judging ∷ judging_key (Split space address first first_register second second_register)
+
+-- whether a fault is looked for before another
+abbrev pub is_before : (Slot → List ℕ) → Fault → Fault → Bool
+is_before image_of fault other = precedes (looking_key image_of fault) (looking_key image_of other)
+
+-- the phase in which a fault is looked for: the first number of its key
+abbrev pub phase_of : Fault → ℕ
+phase_of fault = slice_index_or (looking_key (λ slot. []) fault) 0 0
+
+-- the image of the function at a slot
+abbrev pub image_at : System → Slot → List ℕ
+image_at [] slot = []
+image_at (f ∷ s) slot = if same_slot f.slot slot then f.image else image_at s slot
+
+-- the fault is there, in a system with these root buses, and none that is looked for before it
+pub record IsFirstIn (roots : List ℕ) (s : System) (fault : Fault) : Type 0 where
+  pub there : IsIn roots s fault
+  pub none_before : (other : Fault) → IsTrue (is_before (image_at s) other fault) → IsIn roots s other → ⊥
+
+-- the same, in a dump and its probe
+pub record IsFirstThere (roots : List ℕ) (dump probe : List Block) (fault : Fault) : Type 0 where
+  pub there : IsThere roots dump probe fault
+  pub none_before : (other : Fault) → IsTrue (is_before (image_at (system_of dump probe)) other fault) → IsThere roots dump probe other → ⊥
 
 -- the fault of judging is there, and none of judging that is looked for before it
 pub record IsFirst (roots : List ℕ) (s : System) (fault : Fault) : Type 0 where

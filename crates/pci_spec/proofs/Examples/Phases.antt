@@ -38,6 +38,7 @@ decoding_by_register_then_rom_windows_and_list : in_order (CapCut low 0xfc ∷ B
 decoding_by_register_then_rom_windows_and_list = refl
 
 places_in_the_order_of_the_walk : in_order (CapCut high 0x80 ∷ CapRange high 0x40 ∷ CapCut high 0x40 ∷ CapLoop high 0x80 ∷ CapLoop high 0x40 ∷ []) ≡ true
+unfolding steps_at
 places_in_the_order_of_the_walk = refl
 
 profile_by_number : in_order (PowerState low ∷ PaletteSnoop high ∷ VgaEnable high ∷ IsaEnable high ∷ Subtractive high ∷ InReset high ∷ PowerState high ∷ []) ≡ true
@@ -55,5 +56,6 @@ a_later_phase_does_not_precede = refl
 abbrev ten : List ℕ
 ten = put_bytes ((0x06, 0x10) ∷ (0x34, 0x40) ∷ (0x41, 0x44) ∷ (0x45, 0x48) ∷ (0x49, 0x4c) ∷ (0x4d, 0x50) ∷ (0x51, 0x54) ∷ (0x55, 0x58) ∷ (0x59, 0x5c) ∷ (0x5d, 0x60) ∷ (0x61, 0x64) ∷ (0x65, 0x40) ∷ []) (blank 0 0)
 
-second_visit_after_ten_places : map (λ place. steps_at ten place) (0x64 ∷ []) ≡ (9 ∷ 19 ∷ 29 ∷ 39 ∷ 49 ∷ 59 ∷ []) ∷ []
+second_visit_after_ten_places : map (λ place. steps_at ten place) (0x64 ∷ []) ≡ (9 ∷ 19 ∷ 29 ∷ 39 ∷ 49 ∷ 59 ∷ 69 ∷ 79 ∷ 89 ∷ 99 ∷ 109 ∷ 119 ∷ []) ∷ []
+unfolding steps_at
 second_visit_after_ten_places = refl
