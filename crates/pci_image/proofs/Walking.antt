@@ -7,6 +7,7 @@ use Rattle.std.proofs.lemmas.Bool.{cases_lt, or_cases, eqb-true, eqb-false, ne_e
 use Rattle.std.proofs.lemmas.List.{get_or_append_left}
 use Rattle.std.proofs.Math.Seq.{get_or-append_seam}
 use Rattle.pci_spec.specs.Capability.{pointer, pointer_at, body_length, IsChain, ComesTwiceTo}
+use Rattle.pci_image.specs.Caps.{IsChainUpTo}
 use Rattle.pci_spec.proofs.Walks.{places-at_most_48, pointer-aligned}
 
 -- the walk came along these places, and stands at the next one
@@ -94,6 +95,20 @@ walk-twice image places place walk nonzero h =
 -- a place is a multiple of four
 pub walk-aligned : (image places : List ℕ) (place : ℕ) → IsWalk image places place → place % 4 ≡ 0
 walk-aligned image places place walk = let q = pointer-aligned image (length places) in let here = walk.here in omega (arith, q, here)
+
+-- it came to no place that a chain can't have
+pub walk-up_to : (image places : List ℕ) (place : ℕ) → IsWalk image places place → IsChainUpTo image (length places)
+walk-up_to image places place walk = record { in_range = walk.in_range; distinct = walk.distinct; bodies = walk.bodies }
+
+-- to one that is found among its places it came at a step before
+pub walk-before : (image places : List ℕ) (place : ℕ) → IsWalk image places place → list_any (λ p. nat_eq p place) places ≡ true
+    → (m : ℕ) × (m < length places) × (pointer image m ≡ place)
+walk-before image places place walk h = let found = place-found places place h in (found.0, found.1, sym (walk.each found.0 found.1) ∙ found.2)
+
+-- to one that is not found among them it didn't
+pub walk-not_before : (image places : List ℕ) (place : ℕ) → IsWalk image places place → list_any (λ p. nat_eq p place) places ≡ false
+    → (k : ℕ) → k < length places → pointer image k ≢ place
+walk-not_before image places place walk h k within same = place-fresh places place h k within (walk.each k within ∙ same)
 
 -- ---- the loop's step
 

@@ -10,7 +10,7 @@ use Rattle.pci_image.specs.declared.bar.Bar.{Bar}
 use Rattle.pci_image.specs.declared.bar.BarKind.{BarKind}
 use Rattle.pci_image.specs.declared.bar.BarKind.TheVariants.{Io, Mem32, Mem64}
 use Rattle.pci_image.specs.declared.fault.ImageFault.{ImageFault}
-use Rattle.pci_image.specs.declared.fault.ImageFault.TheVariants.{BarType, BarMask, BarPair}
+use Rattle.pci_image.specs.declared.fault.ImageFault.TheVariants.{NoVendor, HeaderKind, BarType, BarMask, BarPair}
 
 -- the kind as the definitions have it
 abbrev pub decoded_kind_of : BarKind → SpecKind
@@ -63,6 +63,19 @@ broken_register last image probe n = first_broken last (bar_at image n) (bar_at 
 abbrev pub IsDecodedAt : List ℕ → List ℕ → ℕ → Option Bar → Type 0
 IsDecodedAt image probe n None = bar_at probe n ≡ 0
 IsDecodedAt image probe n (Some bar) = (bar_at probe n ≢ 0) × (decoded_bar_of bar ≡ decoded_bar image probe n)
+
+-- no register below this one has a fault
+abbrev pub HasNoBarFaultBelow : List ℕ → List ℕ → ℕ → Type 0
+HasNoBarFaultBelow image probe register = (n : ℕ) → bar_register n < register → bar_fault image probe n ≡ None
+
+-- the fault is of the header, or no register below the one that it names has one
+abbrev pub IsLowestBarFault : List ℕ → List ℕ → ImageFault → Type 0
+IsLowestBarFault image probe NoVendor = Unit {0}
+IsLowestBarFault image probe HeaderKind = Unit {0}
+IsLowestBarFault image probe (BarType register) = HasNoBarFaultBelow image probe register
+IsLowestBarFault image probe (BarMask register) = HasNoBarFaultBelow image probe register
+IsLowestBarFault image probe (BarPair register) = HasNoBarFaultBelow image probe register
+IsLowestBarFault image probe _ = ⊥
 
 -- a function answers, its header is of one of the two layouts, and none of its BARs breaks a rule
 pub record HasLawfulBars (image probe : List ℕ) : Type 0 where

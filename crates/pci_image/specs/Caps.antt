@@ -1,6 +1,6 @@
 -- Capabilities of the code, and where they stand in an image.
-use Rattle.std.specs.Prelude.{◌≡◌, ◌≢◌, ℕ, ◌+◌, List, length, slice_range}
-use Rattle.pci_spec.specs.Capability.{capability_id, body_length, HasLowPlace, ComesTwiceTo, HasCutBody}
+use Rattle.std.specs.Prelude.{◌≡◌, ◌≢◌, ℕ, ◌+◌, ◌<◌, ◌≤◌, List, length, slice_range}
+use Rattle.pci_spec.specs.Capability.{capability_id, body_length, pointer, HasLowPlace, ComesTwiceTo, HasCutBody}
 use Rattle.pci_image.specs.declared.capability.Cap.{Cap}
 use Rattle.pci_image.specs.declared.capability.Cap.TheVariants.{Power, Msi, Raw}
 use Rattle.pci_image.specs.declared.fault.ImageFault.{ImageFault}
@@ -36,3 +36,16 @@ IsChainFaultIn image (CapRange place) = HasLowPlace image place
 IsChainFaultIn image (CapLoop place) = ComesTwiceTo image place
 IsChainFaultIn image (CapCut place) = HasCutBody image place
 IsChainFaultIn image _ = ⊥
+
+-- before this step the walk comes to no place that a chain can't have
+pub record IsChainUpTo (image : List ℕ) (n : ℕ) : Type 0 where
+  pub in_range : (k : ℕ) → k < n → (0x40 ≤ pointer image k) × (pointer image k ≤ 0xfc)
+  pub distinct : (j k : ℕ) → j < k → k < n → pointer image j ≢ pointer image k
+  pub bodies : (k : ℕ) → k < n → pointer image k + body_length image (pointer image k) ≤ 256
+
+-- the walk comes to the place at such a step, where nothing is wrong with it that is looked for before
+abbrev pub IsFirstAlong : List ℕ → ImageFault → Type 0
+IsFirstAlong image (CapRange place) = (n : ℕ) × IsChainUpTo image n × (pointer image n ≡ place)
+IsFirstAlong image (CapLoop place) = (m n : ℕ) × (m < n) × IsChainUpTo image n × (pointer image m ≡ place) × (pointer image n ≡ place) × (0x40 ≤ place)
+IsFirstAlong image (CapCut place) = (n : ℕ) × IsChainUpTo image n × (pointer image n ≡ place) × (0x40 ≤ place) × ((k : ℕ) → k < n → pointer image k ≢ place)
+IsFirstAlong image _ = ⊥

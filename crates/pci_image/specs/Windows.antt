@@ -1,7 +1,7 @@
 -- The windows of the code as those of the definitions, and what their rules say.
-use Rattle.std.specs.Prelude.{◌≡◌, ◌≢◌, ℕ, ◌↔◌, IsTrue, IsFalse, List, Option, None, Some, MatchOption}
+use Rattle.std.specs.Prelude.{◌≡◌, ◌≢◌, ℕ, ◌<◌, ◌↔◌, IsTrue, IsFalse, List, Option, None, Some, MatchOption}
 use Rattle.pci_spec.specs.Header.{layout}
-use Rattle.pci_spec.specs.Window.{IoWindow, MemoryWindow, PrefetchWindow, breaks_window_rule, holds}
+use Rattle.pci_spec.specs.Window.{WindowKind, IoWindow, MemoryWindow, PrefetchWindow, window_register, breaks_window_rule, holds}
 use Rattle.pci_spec.specs.Decoded.{DecodedWindow, DecodedWindows, InRange}
 use Rattle.pci_spec.specs.Fault.{has_no_vendor, HasWindowFault}
 use Rattle.pci_image.specs.declared.window.Windows.{Windows}
@@ -37,3 +37,10 @@ IsWindowsFaultIn image probe NoVendor = IsTrue (has_no_vendor image)
 IsWindowsFaultIn image probe HeaderKind = layout image ≢ 1
 IsWindowsFaultIn image probe (WindowMask register) = HasWindowFault image probe register
 IsWindowsFaultIn image probe _ = ⊥
+
+-- the fault is of the header, or no window below the one that it names breaks its rule
+abbrev pub IsLowestWindowFault : List ℕ → List ℕ → ImageFault → Type 0
+IsLowestWindowFault image probe NoVendor = Unit {0}
+IsLowestWindowFault image probe HeaderKind = Unit {0}
+IsLowestWindowFault image probe (WindowMask register) = (kind : WindowKind) → window_register kind < register → IsFalse (breaks_window_rule kind image probe)
+IsLowestWindowFault image probe _ = ⊥

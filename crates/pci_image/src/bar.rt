@@ -4,7 +4,7 @@ ghost use Rattle.pci_spec.specs.Decoded.{decoded_bars};
 ghost use Rattle.pci_spec.specs.Number.{number_at};
 ghost use Rattle.pci_spec.specs.Bar.{bar_kind, is_prefetchable, has_lawful_size, is_lawful};
 ghost use Rattle.pci_spec.specs.Header.{bar_register};
-ghost use Rattle.pci_image.specs.Bars.{decoded_kind_of, decoded_bar_of, HasLawfulBars, IsBarFault, IsComparedBar, IsDecodedAt, IsPlaced, broken_encoding, broken_register, broken_size};
+ghost use Rattle.pci_image.specs.Bars.{decoded_kind_of, decoded_bar_of, HasLawfulBars, IsBarFault, IsLowestBarFault, IsComparedBar, IsDecodedAt, IsPlaced, broken_encoding, broken_register, broken_size};
 ghost use Rattle.pci_image.specs.Faults.{IsImageFaultIn, image_fault_number};
 
 use super::comparator::{aligned, fits_within, run_start};
@@ -210,6 +210,7 @@ pub fn bars(image: &Image, probe: &Image) -> Result<ArrayVec<Bar, 6>, ImageFault
     ensures decoded { IfOk result (λ v. map decoded_bar_of v.items ≡ decoded_bars image.now.0 probe.now.0) }
     ensures compared { IfOk result (λ v. All (IsComparedBar image.now.0 probe.now.0) v.items) }
     ensures fault { IfErr result (λ f. IsImageFaultIn image.now.0 probe.now.0 f × (image_fault_number f ≤ 24)) }
+    ensures lowest { IfErr result (IsLowestBarFault image.now.0 probe.now.0) }
 {
     let count = Header::of(image)?.bar_count();
     let mut found = ArrayVec::new();

@@ -2,7 +2,7 @@
 ghost use Rattle.std.specs.Prelude.{◌≡◌, ◌<◌, ◌≤◌, ◌+◌, ◌%◌, ◌/◌, ◌*◌, ◌==◌, ◌↔◌, length, slice_range, MatchOption, IsOk, IfOk, IfErr, IsTrue, map, All};
 ghost use Rattle.std.specs.List.{list_any};
 ghost use Rattle.pci_spec.specs.Capability.{body_length, message_control, msi_length, pointer, pointer_at, HasChain, IsChain};
-ghost use Rattle.pci_image.specs.Caps.{place_of, body_of, IsCapIn, IsChainFaultIn};
+ghost use Rattle.pci_image.specs.Caps.{place_of, body_of, IsCapIn, IsChainFaultIn, IsFirstAlong};
 
 use super::fault::ImageFault;
 use super::image::Image;
@@ -164,6 +164,7 @@ pub fn places(image: &Image) -> Result<ArrayVec<u8, 48>, ImageFault>
     ensures lawful { IsOk result ↔ HasChain image.now.0 }
     ensures chain { IfOk result (λ v. IsChain image.now.0 v.items) }
     ensures fault { IfErr result (IsChainFaultIn image.now.0) }
+    ensures first { IfErr result (IsFirstAlong image.now.0) }
 {
     let mut found = ArrayVec::new();
     let mut place = first_pointer(image);

@@ -98,7 +98,7 @@ impl Window {
 impl Windows {
     ghost use Rattle.std.specs.Prelude.{IfErr};
     ghost use Rattle.pci_spec.specs.Decoded.{decoded_windows};
-    ghost use Rattle.pci_image.specs.Windows.{decoded_windows_of, HasLawfulWindows, HoldsAsComparators, IsWindowsFaultIn};
+    ghost use Rattle.pci_image.specs.Windows.{decoded_windows_of, HasLawfulWindows, HoldsAsComparators, IsWindowsFaultIn, IsLowestWindowFault};
 
     /// The windows of a bridge.
     ///
@@ -114,6 +114,7 @@ impl Windows {
         ensures decoded { IfOk result (λ w. decoded_windows_of w ≡ decoded_windows image.now.0 probe.now.0) }
         ensures compared { IfOk result (HoldsAsComparators image.now.0 probe.now.0) }
         ensures fault { IfErr result (IsWindowsFaultIn image.now.0 probe.now.0) }
+        ensures lowest { IfErr result (IsLowestWindowFault image.now.0 probe.now.0) }
     {
         let Header::Type1(_) = Header::of(image)? else {
             return Err(ImageFault::HeaderKind);

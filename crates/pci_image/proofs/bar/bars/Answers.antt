@@ -3,7 +3,7 @@ use Rattle.std.proofs.lemmas.Result.{err_from_is_err_and}
 use Rattle.pci_spec.specs.Header.{bar_count, layout}
 use Rattle.pci_spec.specs.Bar.{bar_fault}
 use Rattle.pci_image.specs.Bars.{IsDecodedAt}
-use Rattle.pci_image.proofs.Found.{layout-of_header, bar_fault-found}
+use Rattle.pci_image.proofs.Found.{layout-of_header, bar_fault-found, bar_fault-lowest, header_fault-lowest}
 use Rattle.pci_image.proofs.Reading.{read_upper, read_empty, read_bar, fault_is, read-compared}
 use Rattle.pci_image.proofs.bar.bars.Goals as goal
 use Rattle.pci_image.proofs.bar.bars.Goals.{then-is_upper_half, else-is_upper_half+in_ok-bar+in-Some, else-is_upper_half+in_ok-bar+in_default}
@@ -15,6 +15,19 @@ returns-in_err-bar-clause-fault c =
     let is = fault_is c.args.image.now.0 c.args.probe.now.0 c.loop-n.n c.loop-n.is_upper_half c.loop-n.found.items c.loop-n.invariant c.if-is_upper_half.false in
     let p = err_from_is_err_and c.from_residual-in_err-bar.result c.from_residual-in_err-bar.ensures.1 in
     rw (p.1, p.2) (bar_fault-found c.args.image.now.0 c.args.probe.now.0 c.loop-n.n c.in_err-bar.field-0.0 (rw (← count) c.loop-n-test.true) (rw (← is, ← count) c.in_err-bar.ensures))
+
+pub returns-in_err-bar-clause-lowest : goal.returns-in_err-bar-clause-lowest
+returns-in_err-bar-clause-lowest c =
+    let count : c.bar_count-count.result ≡ bar_count (layout c.args.image.now.0) =
+    c.bar_count-count.ensures ∙ ap bar_count (sym (layout-of_header c.args.image.now c.in_ok-of.field-0 c.in_ok-of.ensures.header)) in
+    let is = fault_is c.args.image.now.0 c.args.probe.now.0 c.loop-n.n c.loop-n.is_upper_half c.loop-n.found.items c.loop-n.invariant c.if-is_upper_half.false in
+    let p = err_from_is_err_and c.from_residual-in_err-bar.result c.from_residual-in_err-bar.ensures.1 in
+    rw (p.1, p.2) (bar_fault-lowest c.args.image.now.0 c.args.probe.now.0 c.loop-n.n c.in_err-bar.field-0.0 c.loop-n.invariant.lawful (rw (← is, ← count) c.in_err-bar.ensures))
+
+pub returns-in_err-of-clause-lowest : goal.returns-in_err-of-clause-lowest
+returns-in_err-of-clause-lowest c =
+    let p = err_from_is_err_and c.from_residual.result c.from_residual.ensures.1 in
+    rw (p.1, p.2) (header_fault-lowest c.args.image.now.0 c.args.probe.now.0 c.in_err-of.field-0.0 c.in_err-of.ensures.fault.1)
 
 pub loop-n-preserved : goal.loop-n-preserved
 loop-n-preserved c =
