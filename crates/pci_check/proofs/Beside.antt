@@ -14,7 +14,7 @@ use Rattle.pci_dump.specs.declared.ahead.Progress.TheVariants as stages
 use Rattle.std.specs.Io.KnownBytes.{Consumes, prepend_known}
 use Rattle.pci_dump.specs.State.{Ahead, State, state_of, IsRead, TakesBlock, TakesNone, TakesFault}
 use Rattle.pci_dump.proofs.Texts.{read_all, read_all_one, read_fault, read_more_text}
-use Rattle.pci_dump.proofs.Pairs.{in_left, in_right, in_left_more, in_right_more}
+use Rattle.pci_dump.proofs.Pairs.{in_left, in_right, in_left_more, in_right_more, none_below_both, none_below_left, none_below_right}
 use Rattle.pci_tree.specs.Survey.{Surveyed, IsSurveyOf, IsAdded}
 use Rattle.pci_tree.proofs.Surveys.{map_last, survey_more}
 use Rattle.pci_spec.proofs.Pairing.{same_length}
@@ -233,6 +233,9 @@ module _ (texts : Texts) (buses : List ℕ) (d e p q : State) (v : Surveyed) whe
           in_left_more ((s.dump ++ b ∷ []) ++ more_dump) (s.probe ++ more_probe) b (length s.dump) rd.dump.rising rp.dump.rising (longer s.dump more_dump b) (omega (arith, long, short))
               (place_last s.dump more_dump b)
               (slots_before s.dump more_dump b ∙ s.same ∙ sym (ap (λ (n : ℕ). take n (slots_of (s.probe ++ more_probe))) long ∙ slots_front s.probe more_probe)),
+          none_below_left ((s.dump ++ b ∷ []) ++ more_dump) (s.probe ++ more_probe) b (length s.dump) rd.dump.rising rp.dump.rising (omega (arith, long, short))
+              (place_last s.dump more_dump b)
+              (slots_before s.dump more_dump b ∙ s.same ∙ sym (ap (λ (n : ℕ). take n (slots_of (s.probe ++ more_probe))) long ∙ slots_front s.probe more_probe)),
         )
         );
   }
@@ -252,6 +255,9 @@ module _ (texts : Texts) (buses : List ℕ) (d e p q : State) (v : Surveyed) whe
           c.slot,
           noted,
           in_right_more (s.dump ++ more_dump) ((s.probe ++ c ∷ []) ++ more_probe) c (length s.probe) rd.dump.rising rp.dump.rising (longer s.probe more_probe c) (omega (arith, long, short))
+              (place_last s.probe more_probe c)
+              (sym (ap (λ (n : ℕ). take n (slots_of (s.dump ++ more_dump))) long) ∙ slots_front s.dump more_dump ∙ s.same ∙ sym (slots_before s.probe more_probe c)),
+          none_below_right (s.dump ++ more_dump) ((s.probe ++ c ∷ []) ++ more_probe) c (length s.probe) rd.dump.rising rp.dump.rising (omega (arith, long, short))
               (place_last s.probe more_probe c)
               (sym (ap (λ (n : ℕ). take n (slots_of (s.dump ++ more_dump))) long) ∙ slots_front s.dump more_dump ∙ s.same ∙ sym (slots_before s.probe more_probe c)),
         )
@@ -275,8 +281,20 @@ module _ (texts : Texts) (buses : List ℕ) (d e p q : State) (v : Surveyed) whe
         let more = longer s.probe more_probe c in
         let place : c ≡ get_or ps (length s.dump) c = place_last s.probe more_probe c ∙ ap (λ (n : ℕ). get_or ps n c) (sym long) in
         elim noted.1 [
-          | inl (less, is) ↦ inr (b.slot, is, in_left ds ps b c (length s.dump) rd.dump.rising rp.dump.rising (longer s.dump more_dump b) (omega (arith, long, more)) (place_last s.dump more_dump b) place before less)
-          | inr (less, is) ↦ inr (c.slot, is, in_right ds ps b c (length s.dump) rd.dump.rising rp.dump.rising (longer s.dump more_dump b) (omega (arith, long, more)) (place_last s.dump more_dump b) place before less)
+          | inl (less, is) ↦ inr (
+            b.slot,
+            is,
+            in_left ds ps b c (length s.dump) rd.dump.rising rp.dump.rising (longer s.dump more_dump b) (omega (arith, long, more)) (place_last s.dump more_dump b) place before less,
+            none_below_both ds ps b c b.slot (length s.dump) rd.dump.rising rp.dump.rising (longer s.dump more_dump b) (omega (arith, long, more)) (place_last s.dump more_dump b) place before
+                (omega arith) (omega (arith, less)),
+          )
+          | inr (less, is) ↦ inr (
+            c.slot,
+            is,
+            in_right ds ps b c (length s.dump) rd.dump.rising rp.dump.rising (longer s.dump more_dump b) (omega (arith, long, more)) (place_last s.dump more_dump b) place before less,
+            none_below_both ds ps b c c.slot (length s.dump) rd.dump.rising rp.dump.rising (longer s.dump more_dump b) (omega (arith, long, more)) (place_last s.dump more_dump b) place before
+                (omega (arith, less)) (omega arith),
+          )
         ]
         );
   }

@@ -1,3 +1,4 @@
+pub mod FirstOfAll
 pub mod Sweeps
 pub mod Overlaps
 pub mod Stops

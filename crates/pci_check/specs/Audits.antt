@@ -3,7 +3,7 @@ use Rattle.std.specs.Prelude.{◌≡◌, ◌≢◌, ◌⊎◌, ℕ, ◌+◌, ◌
 use Rattle.pci_spec.specs.Text.{Block, IsTextOf, slots_of}
 use Rattle.pci_spec.specs.System.{system_of}
 use Rattle.pci_spec.specs.Fault.{IsThere, fault_number}
-use Rattle.pci_spec.specs.Order.{IsFirst}
+use Rattle.pci_spec.specs.Order.{IsFirst, IsFirstThere}
 use Rattle.pci_spec.specs.Sound.{IsSound}
 use Rattle.pci_spec.specs.Line.{verdict_line}
 use Rattle.pci_dump.specs.ReadFault.{IsTextFault}
@@ -21,11 +21,12 @@ use Rattle.pci_check.specs.declared.outcome.Outcome.TheVariants.{Yes, No}
 abbrev pub AreSound : List ℕ → List Block → List Block → Type 0
 AreSound roots dump probe = (slots_of dump ≡ slots_of probe) × IsSound roots (system_of dump probe)
 
--- the fault is there, the two aren't sound, and it is the first of its kind where it is one of judging
+-- the fault is there, and none that is looked for before it, the two aren't sound, and it is the first of its kind where it is one of judging
 pub record IsRefused (roots : List ℕ) (dump probe : List Block) (fault : Fault) : Type 0 where
   pub there : IsThere roots dump probe (fault_of fault)
   pub first : (fault_number (fault_of fault) < 60) ⊎ IsFirst roots (system_of dump probe) (fault_of fault)
   pub unsound : AreSound roots dump probe → ⊥
+  pub order : IsFirstThere roots dump probe (fault_of fault)
 
 -- yes exactly where they are sound, and no with a fault
 abbrev pub IsOutcomeOf : List ℕ → List Block → List Block → Outcome → Type 0

@@ -7,7 +7,8 @@ use Rattle.pci_spec.specs.Fault.{SlotsDiffer, IsInOne}
 use Rattle.pci_dump.specs.declared.read_fault.ReadFault.{ReadFault}
 use Rattle.pci_dump.specs.declared.ahead.Progress.TheVariants as stages
 use Rattle.pci_dump.specs.State.{State, IsRead}
-use Rattle.pci_tree.specs.Profile.{phase_of}
+use Rattle.pci_dump.specs.Pair.{IsNoneBelow}
+use Rattle.pci_spec.specs.Order.{phase_of}
 use Rattle.pci_tree.specs.Survey.{Surveyed, IsSurveyOf, IsAdded}
 use Rattle.pci_check.specs.Audits.{IsDumpOf, IsReadFaultOf}
 
@@ -39,11 +40,11 @@ pub record IsRest (state : State) (blocks more : List Block) : Type 0 where
 abbrev pub IsOpen : Surveyed → Type 0
 IsOpen v = IfSome v.fault (λ e. phase_of e ≢ 0)
 
--- both list the same slots, and the survey took their functions; or it notes a slot that one of them has alone
+-- both list the same slots, and the survey took their functions; or it notes the least slot that one of them has alone
 abbrev pub IsSurveyOfBoth : Surveyed → List Block → List Block → Type 0
 IsSurveyOfBoth v dump probe =
     ((slots_of dump ≡ slots_of probe) × IsSurveyOf v (system_of dump probe) × IsOpen v)
-    ⊎ ((slot : Slot) × (v.fault ≡ Some (SlotsDiffer slot)) × IsInOne dump probe slot)
+    ⊎ ((slot : Slot) × (v.fault ≡ Some (SlotsDiffer slot)) × IsInOne dump probe slot × IsNoneBelow dump probe slot)
 
 -- so far both texts list the same slots, and the survey took their functions
 pub record IsBeside (texts : Texts) (buses : List ℕ) (d p : State) (v : Surveyed) : Type 0 where

@@ -2,7 +2,7 @@
 use Rattle.std.specs.Prelude.{◌≡◌}
 use Rattle.pci_spec.specs.System.{system_of}
 use Rattle.pci_spec.specs.Sound.{IsSound}
-use Rattle.pci_spec.specs.Order.{IsFirst}
+use Rattle.pci_spec.specs.Order.{IsFirst, IsFirstThere}
 use Rattle.pci_tree.specs.Fault.{fault_of}
 use Rattle.pci_tree.specs.Admission.{Admission}
 use Rattle.pci_check.specs.declared.verdict.Verdict.{Verdict}
@@ -11,4 +11,5 @@ use Rattle.pci_check.specs.declared.verdict.Verdict.TheVariants.{Yes, No}
 -- yes, with the evidence of this dump and probe, or no, with the first fault, where the system isn't sound
 abbrev pub IsVerdictOf : {A : Type 0} → Admission → Verdict A → Type 0
 IsVerdictOf a (Yes sound) = (sound ≡ a) × IsSound a.roots (system_of a.dump a.probe)
-IsVerdictOf a (No fault) = IsFirst a.roots (system_of a.dump a.probe) (fault_of fault) × (IsSound a.roots (system_of a.dump a.probe) → ⊥)
+IsVerdictOf a (No fault) =
+    IsFirst a.roots (system_of a.dump a.probe) (fault_of fault) × (IsSound a.roots (system_of a.dump a.probe) → ⊥) × IsFirstThere a.roots a.dump a.probe (fault_of fault)

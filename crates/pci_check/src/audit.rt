@@ -64,7 +64,7 @@ fn outcome_text<A: Allocator>(alloc: A, outcome: &Outcome) -> Result<String<A>, 
 }
 
 /// Reads a dump and a probe to their ends, and writes the line of their verdict: `yes` exactly where both list the
-/// same slots and their system is sound; else `no`, with a fault that is there.
+/// same slots and their system is sound; else `no`, with the first fault that is there.
 ///
 /// # Errors
 ///

@@ -2,7 +2,8 @@
 use Rattle.std.proofs.Common.{◌≡◌, ℕ, ◌<◌, List, lit<, arith}
 use Rattle.pci_spec.specs.System.{Function}
 use Rattle.pci_spec.specs.Fault.{Fault, fault_number, SlotsDiffer, Unreached, Clash, Split}
-use Rattle.pci_tree.specs.Profile.{phase_of, IsHere}
+use Rattle.pci_spec.specs.Order.{phase_of}
+use Rattle.pci_tree.specs.Profile.{IsHere}
 use Rattle.pci_tree.specs.PlaceFaults.{IsPlaceFault, IsSomePlaceFault}
 use Rattle.pci_tree.specs.Fault.{fault_of}
 use Rattle.pci_tree.specs.declared.record.Record.{Record}

@@ -2,7 +2,7 @@
 use Rattle.std.proofs.Common.{◌≡◌, ℕ, ◌<◌, List, map, refl, true, false, ◌&&◌, inl, inr, arith, sym, ◌∙◌, ap, subst, Option, Some, None, eq-eqb, get_or}
 use Rattle.std.specs.Prelude.{◌==◌}
 use Rattle.std.specs.List.{Contains, All}
-use Rattle.std.proofs.lemmas.Bool.{both_ways, and_from, not-true, eqb-true}
+use Rattle.std.proofs.lemmas.Bool.{both_ways, cases_lt, and_from, not-true, eqb-true}
 use Rattle.std.proofs.lemmas.List.Elements.{All-contains, Contains-get_or}
 use Rattle.pci_spec.specs.Slot.{Slot}
 use Rattle.pci_spec.specs.System.{System, Function}
@@ -17,7 +17,10 @@ use Rattle.pci_spec.specs.Sound.{IsInProfile}
 use Rattle.pci_spec.specs.Decoded.{IsDecodable, HasRecords}
 use Rattle.pci_spec.proofs.BusRanges.{any_from}
 use Rattle.pci_spec.proofs.Members.{IsMade, in_map_to}
+use Rattle.pci_spec.specs.Order.{phase_of, image_at}
 use Rattle.pci_tree.proofs.EarlyFaults.{early-of_slots, early-of_here}
+use Rattle.pci_tree.proofs.FirstAmong.{among_listed, first_among, in_here, here_not_clear, phase_le}
+use Rattle.pci_tree.specs.PlaceFaults.{IsPlaceRefusal}
 use Rattle.pci_tree.specs.declared.record.Record.{Record}
 use Rattle.pci_tree.specs.Values.{record_value}
 use Rattle.pci_tree.specs.Ways.{slots_of}
@@ -60,7 +63,7 @@ here_in roots s f (Split space address first first_register second second_regist
 -- ---- no function is lone
 
 -- function 0 among the records is one of the system
-zero_function : (s : System) (rs : List Record) (slot : Slot) → HaveFaces s rs → Contains (slots_of rs) (first_function slot) → has_function_zero s slot ≡ true
+pub zero_function : (s : System) (rs : List Record) (slot : Slot) → HaveFaces s rs → Contains (slots_of rs) (first_function slot) → has_function_zero s slot ≡ true
 zero_function s rs slot faces has =
     let made : IsMade (λ (r : Record). r.slot) rs (first_function slot) = in_map_to (λ (r : Record). r.slot) rs (first_function slot) has in
     let x : (f : Function) × Contains s f × SameFace f made.from = faces.to_function made.from made.has in
@@ -159,18 +162,29 @@ refused_by_noted v e noted = record {
   noted = λ n is. some_value e n (sym noted ∙ is);
   there = λ s is. elim (is.there e noted) [
     | inl slots ↦ inl (slots, noted)
-    | inr (f, has, here) ↦ inr (here_in v.roots s f e has here)
+    | inr x ↦ inr (here_in v.roots s x.f e (among_listed s e x) x.here)
   ];
   early = λ s is. elim (is.there e noted) [
     | inl slots ↦ early-of_slots e slots
-    | inr (f, has, here) ↦ early-of_here f e here
+    | inr x ↦ early-of_here x.f e x.here
+  ];
+  first = λ s system is function. elim (is.there e noted) [
+    | inl slots ↦ absurd (function slots)
+    | inr x ↦ first_among v.roots s system e x (λ h has. subst (λ o. IsClearBefore (phase_noted o) h) noted (is.clear h has))
   ];
 }
 
 -- else by one of places
-pub refused_by_place : (v : Surveyed) (e : Fault) → v.fault ≡ None → ((s : System) → HasRecords s v.records → IsIn v.roots s e) → fault_number e < 60 → IsRefusedBy v e
-refused_by_place v e none there early = record {
+pub refused_by_place : (v : Surveyed) (e : Fault) → v.fault ≡ None → IsPlaceRefusal v.roots v.records e → IsRefusedBy v e
+refused_by_place v e none refusal = record {
   noted = λ n is. absurd (none_is_not_some v.fault n none is);
-  there = λ s is. inr (there s (records_of_survey v s is none));
-  early = λ s is. early;
+  there = λ s is. inr (refusal.there s (records_of_survey v s is none));
+  early = λ s is. refusal.early;
+  first = λ s system is function other before there. elim (cases_lt (phase_of other) 4) [
+    | inl early ↦ let x = in_here v.roots s other early there in here_not_clear x.g other 4 early (clear_of v s is none x.g x.has) x.here
+    | inr late ↦
+        let le = phase_le (image_at s) other e before in
+        let phase = refusal.phase in
+        refusal.first s system (records_of_survey v s is none) other (omega (arith, le, phase, late)) before there
+  ];
 }

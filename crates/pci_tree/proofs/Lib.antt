@@ -19,6 +19,11 @@ pub mod Faces
 pub mod Places
 pub mod Shadows
 pub mod Profiles
+pub mod FirstHere
+pub mod FirstDecoded
+pub mod FirstPlaces
+pub mod FirstAmong
+pub mod FirstPlaced
 pub mod Examined
 pub mod Finishes
 pub mod Pairings

@@ -1,17 +1,23 @@
 -- The system of a dump and its probe, block by block.
-use Rattle.std.proofs.Common.{◌≡◌, ◌≢◌, ℕ, zero, suc, ◌+◌, ◌<◌, ◌≤◌, List, [], ◌∷◌, ◌++◌, map, length, get_or, take, refl, inl, inr, arith, sym, ◌∙◌, ap, subst, Option, Some, None}
+use Rattle.std.proofs.Common.{◌≡◌, ◌≢◌, ℕ, zero, suc, ◌+◌, ◌<◌, ◌≤◌, List, [], ◌∷◌, ◌++◌, map, length, get_or, take, refl, true, false, inl, inr, arith, sym, ◌∙◌, ap, subst, Option, Some, None}
 use Rattle.std.specs.Prelude.{IfSome, MatchOption, nat_lt}
 use Rattle.std.specs.List.{Contains}
-use Rattle.std.proofs.lemmas.Bool.{cases_Bool}
+use Rattle.std.proofs.lemmas.Bool.{cases_Bool, both_ways}
 use Rattle.std.proofs.lemmas.List.{get_or-map, length-map, take_all}
+use Rattle.std.proofs.lemmas.List.Elements.{All-contains}
 use Rattle.std.proofs.lemmas.List.Kept.{AllPairs-from_increasing}
-use Rattle.pci_spec.specs.Slot.{Slot, IsRising, slot_number}
+use Rattle.pci_spec.specs.Slot.{Slot, IsSlot, IsRising, slot_number}
 use Rattle.pci_spec.specs.Stops.{IsAboveLast}
-use Rattle.pci_spec.specs.Text.{Block, IsDump, slots_of}
+use Rattle.pci_spec.specs.Text.{Block, IsBlock, IsDump, slots_of}
 use Rattle.pci_spec.specs.System.{System, Function, system_of}
-use Rattle.pci_spec.specs.Fault.{Fault, NoVendor, HeaderKind, BarType, BarMask, BarPair, RomMask, WindowMask, CapRange, CapLoop, CapCut, SlotsDiffer, StrayProbe, LoneFunction, PaletteSnoop, VgaEnable, IsaEnable, Subtractive, InReset, PowerState, BusRange, Orphan, Unreached, Clash, Split, IsThere}
-use Rattle.pci_spec.proofs.Pairing.{function_of, same_length, slots-system_of, IsSystem-of_dumps, there-of_in}
-use Rattle.pci_tree.specs.Profile.{phase_of, IsHere}
+use Rattle.pci_spec.specs.Fault.{Fault, NoVendor, HeaderKind, BarType, BarMask, BarPair, RomMask, WindowMask, CapRange, CapLoop, CapCut, SlotsDiffer, StrayProbe, LoneFunction, PaletteSnoop, VgaEnable, IsaEnable, Subtractive, InReset, PowerState, BusRange, Orphan, Unreached, Clash, Split, IsIn, IsThere, IsInOne}
+use Rattle.pci_spec.proofs.Pairing.{function_of, same_length, slots-system_of, IsSystem-of_dumps, there-of_in, in-of_there}
+use Rattle.pci_spec.specs.Order.{phase_of, is_before, image_at, IsFirstThere}
+use Rattle.pci_spec.proofs.Looking.{key_cases}
+use Rattle.pci_spec.proofs.Members.{IsMade, in_map_to}
+use Rattle.pci_dump.specs.Pair.{IsNoneBelow}
+use Rattle.pci_tree.proofs.FirstAmong.{phase_le}
+use Rattle.pci_tree.specs.Profile.{IsHere}
 use Rattle.pci_tree.specs.Survey.{Surveyed, earlier, IsSurveyOf, IsAdded, IsRefusedBy, IsOutlineOf}
 use Rattle.pci_dump.specs.declared.memory.Refused.{Refused}
 use Rattle.pci_dump.specs.declared.memory.Refused.TheVariants as refusals
@@ -149,6 +155,51 @@ refused_pair v dump probe e same is no_30 refused = elim (refused.there (system_
   | inr there ↦ there-of_in v.roots dump probe e same there
 ]
 
+-- a fault of a system is none of two lists of slots
+not_of_slots : (roots : List ℕ) (s : System) (e : Fault) → IsIn roots s e → phase_of e ≢ 0
+not_of_slots roots s (SlotsDiffer slot) is z = is
+not_of_slots roots s _ is z = omega (arith, z)
+
+-- and none that is looked for before it is
+pub refused_first : (v : Surveyed) (dump probe : List Block) (e : Fault) → IsDump dump → IsDump probe → slots_of dump ≡ slots_of probe → IsSurveyOf v (system_of dump probe)
+    → IfSome v.fault (λ x. phase_of x ≢ 0) → IsRefusedBy v e → IsFirstThere v.roots dump probe e
+refused_first v dump probe e hd hp same is no_30 refused =
+    let there = refused_pair v dump probe e same is no_30 refused in
+    record {
+      there = there;
+      none_before = λ other before at.
+          refused.first (system_of dump probe) (IsSystem-of_dumps dump probe hd hp same) is (not_of_slots v.roots (system_of dump probe) e (in-of_there v.roots dump probe e same there))
+          other before (in-of_there v.roots dump probe other same at);
+    }
+
+slot_in : (blocks : List Block) (slot : Slot) → IsDump blocks → Contains (slots_of blocks) slot → IsSlot slot
+slot_in blocks slot dump has =
+    let made : IsMade (λ (b : Block). b.slot) blocks slot = in_map_to (λ (b : Block). b.slot) blocks slot has in
+    subst IsSlot made.is (All-contains IsBlock blocks made.from dump.each made.has).slot
+
+slot_in_one : (dump probe : List Block) (slot : Slot) → IsDump dump → IsDump probe → IsInOne dump probe slot → IsSlot slot
+slot_in_one dump probe slot hd hp is = elim is [ inl one ↦ slot_in dump slot hd one.0 | inr one ↦ slot_in probe slot hp one.1 ]
+
+first_slot : (roots : List ℕ) (dump probe : List Block) (slot : Slot) (other : Fault) → IsDump dump → IsDump probe → IsNoneBelow dump probe slot
+    → phase_of other ≤ 0 → is_before (image_at (system_of dump probe)) other (SlotsDiffer slot) ≡ true → IsThere roots dump probe other → ⊥
+first_slot roots dump probe slot (SlotsDiffer t) hd hp least low before there = elim (key_cases 0 0 t slot [] [] (slot_in_one dump probe t hd hp there) before) [
+  | inl less ↦ let no : ⊥ = omega (arith, less) in no
+  | inr (phase, inl lower) ↦ least t lower there
+  | inr (phase, inr (same, rest)) ↦ both_ways false refl rest
+]
+first_slot roots dump probe slot _ hd hp least low before there = let no : ⊥ = omega (arith, low) in no
+
+-- of two lists of slots, the least that one of them has alone
+pub slots_refusal : (roots : List ℕ) (dump probe a b : List Block) (slot : Slot) → IsDump dump → IsDump probe → a ≡ dump → b ≡ probe → IsInOne a b slot → IsNoneBelow a b slot
+    → IsFirstThere roots dump probe (SlotsDiffer slot)
+slots_refusal roots dump probe a b slot hd hp same_dump same_probe one least =
+    let there : IsInOne dump probe slot = subst (λ x. IsInOne x probe slot) same_dump (subst (λ y. IsInOne a y slot) same_probe one) in
+    let low : IsNoneBelow dump probe slot = subst (λ x. IsNoneBelow x probe slot) same_dump (subst (λ y. IsNoneBelow a y slot) same_probe least) in
+    record {
+      there = there;
+      none_before = λ other before at. first_slot roots dump probe slot other hd hp low (phase_le (image_at (system_of dump probe)) other (SlotsDiffer slot) before) before at;
+    }
+
 -- and where it makes an outline, both are admitted
 pub admitted_pair : (v : Surveyed) (o : Tree) (dump probe : List Block) → IsDump dump → IsDump probe → slots_of dump ≡ slots_of probe → IsSurveyOf v (system_of dump probe) → IsOutlineOf v o
     → IsAdmitted record { roots = o.roots; dump = dump; probe = probe }
@@ -162,11 +213,11 @@ admitted_pair v o dump probe hd hp same is out =
     }
 
 -- so is what the code is refused by
-pub pair_refusal : (v : Surveyed) (roots : List ℕ) (dump probe : List Block) (r : Refused FaultOfCode) → v.roots ≡ roots → slots_of dump ≡ slots_of probe → IsSurveyOf v (system_of dump probe)
+pub pair_refusal : (v : Surveyed) (roots : List ℕ) (dump probe : List Block) (r : Refused FaultOfCode) → IsDump dump → IsDump probe → v.roots ≡ roots → slots_of dump ≡ slots_of probe → IsSurveyOf v (system_of dump probe)
     → IfSome v.fault (λ x. phase_of x ≢ 0) → IsRefusalOf v r → IsPairRefusal roots dump probe r
-pair_refusal v roots dump probe (refusals.Fault e) are same is no_30 refused =
-    (subst (λ rs. IsThere rs dump probe (fault_of e)) are (refused_pair v dump probe (fault_of e) same is no_30 refused), refused.early (system_of dump probe) is)
-pair_refusal v roots dump probe refusals.Memory are same is no_30 refused = absurd refused
+pair_refusal v roots dump probe (refusals.Fault e) hd hp are same is no_30 refused =
+    (subst (λ rs. IsFirstThere rs dump probe (fault_of e)) are (refused_first v dump probe (fault_of e) hd hp same is no_30 refused), refused.early (system_of dump probe) is)
+pair_refusal v roots dump probe refusals.Memory hd hp are same is no_30 refused = absurd refused
 
 slots_of_records : (s : System) → map (λ (r : decoded.Record). r.slot) (map record_of s) ≡ map (λ (f : Function). f.slot) s
 slots_of_records [] = refl

@@ -1,8 +1,9 @@
 -- What a survey has taken, function by function.
-use Rattle.std.proofs.Common.{◌≡◌, ◌⊎◌, ℕ, ◌<◌, ◌≤◌, List, [], ◌∷◌, ◌++◌, map, refl, true, false, inl, inr, arith, sym, ◌∙◌, ap, subst, Option, Some, None}
+use Rattle.std.proofs.Common.{◌≡◌, ◌⊎◌, ℕ, ◌+◌, ◌<◌, ◌≤◌, List, [], ◌∷◌, ◌++◌, map, refl, true, false, inl, inr, arith, sym, ◌∙◌, ap, subst, Option, Some, None}
 use Rattle.std.specs.Prelude.{nat_lt}
 use Rattle.std.specs.List.{Contains}
 use Rattle.std.proofs.lemmas.Bool.{cases_Bool, ltb-true, cases_lt, lt-ltb, both_ways}
+use Rattle.std.proofs.lemmas.List.{append_assoc}
 use Rattle.std.proofs.lemmas.List.Elements.{All-push}
 use Rattle.pci_spec.specs.Slot.{Slot, IsSlot, slot_number}
 use Rattle.pci_spec.specs.Stops.{IsAboveLast}
@@ -13,7 +14,8 @@ use Rattle.pci_spec.specs.Decoded as decoded
 use Rattle.pci_spec.proofs.Members.{in_nil, in_cons_cases, in_head, in_tail, pairs_append, pairs_cons, pairs_nil}
 use Rattle.pci_tree.specs.declared.record.Record.{Record}
 use Rattle.pci_tree.specs.Regions.{IsLawful}
-use Rattle.pci_tree.specs.Profile.{phase_of, IsHere, IsClearBefore, IsFirstFault, IsExamined}
+use Rattle.pci_spec.specs.Order.{phase_of}
+use Rattle.pci_tree.specs.Profile.{IsHere, IsClearBefore, IsFirstFault, IsExamined}
 use Rattle.std.specs.Option.{is_some, option_map}
 use Rattle.pci_tree.specs.declared.roots.Roots.{Roots}
 use Rattle.pci_tree.specs.declared.fault.Fault.{Fault as FaultOfCode}
@@ -91,13 +93,28 @@ clear_of_found (Some n) e f is = elim (cases_Bool (nat_lt (phase_of e) (phase_of
 noted_more : (s : System) (f : Function) (e : Fault) → IsNoted s e → IsNoted (s ++ f ∷ []) e
 noted_more s f e is = elim is [
   | inl slots ↦ inl slots
-  | inr (g, has, here) ↦ inr (g, in_first s f g has, here)
+  | inr x ↦ inr (record {
+    f = x.f;
+    before = x.before;
+    after = x.after ++ f ∷ [];
+    split = ap (λ xs. xs ++ f ∷ []) x.split ∙ append_assoc x.before (x.f ∷ x.after) (f ∷ []);
+    here = x.here;
+    first = x.first;
+    earlier = x.earlier;
+  })
 ]
 
-noted_earlier : (o : Option Fault) (e : Fault) (s : System) (f : Function) → ((x : Fault) → o ≡ Some x → IsNoted s x) → IsHere f e → IsNoted (s ++ f ∷ []) (earlier o e)
-noted_earlier None e s f there here = inr (f, in_last s f, here)
-noted_earlier (Some n) e s f there here = elim (cases_Bool (nat_lt (phase_of e) (phase_of n))) [
-  | inl less ↦ rw less (inr (f, in_last s f, here))
+-- the last function's first fault, where none of its phase was noted before
+first_at_last : (s : System) (f : Function) (e : Fault) → IsFirstFault f e → ((g : Function) → Contains s g → IsClearBefore (phase_of e + 1) g) → IsNoted (s ++ f ∷ []) e
+first_at_last s f e first clear = inr (record { f = f; before = s; after = []; split = refl; here = first.here; first = first.first; earlier = clear })
+
+noted_earlier : (o : Option Fault) (e : Fault) (s : System) (f : Function) → ((x : Fault) → o ≡ Some x → IsNoted s x)
+    → ((g : Function) → Contains s g → IsClearBefore (phase_noted o) g) → IsFirstFault f e → IsNoted (s ++ f ∷ []) (earlier o e)
+noted_earlier None e s f there clear first = first_at_last s f e first (λ g has. clear_everywhere (phase_of e + 1) g (clear g has))
+noted_earlier (Some n) e s f there clear first = elim (cases_Bool (nat_lt (phase_of e) (phase_of n))) [
+  | inl less ↦
+      let lt = ltb-true (phase_of e) (phase_of n) less in
+      rw less (first_at_last s f e first (λ g has. clear_earlier (phase_of n) (phase_of e + 1) g (omega (arith, lt)) (clear g has)))
   | inr not_less ↦ rw not_less (noted_more s f n (there n refl))
 ]
 
@@ -125,7 +142,7 @@ module _ (v w : Surveyed) (s : System) (f : Function) (is : IsSurveyOf v s) wher
       | inl left ↦ clear_of_noted v.fault e g (is.clear g left)
       | inr last ↦ subst (λ h. IsClearBefore (phase_of (earlier v.fault e)) h) last (clear_of_found v.fault e f first.clear)
     ]);
-    there = λ x noted. subst (λ y. IsNoted (s ++ f ∷ []) y) (some_value _ x (sym same ∙ noted)) (noted_earlier v.fault e s f is.there first.here);
+    there = λ x noted. subst (λ y. IsNoted (s ++ f ∷ []) y) (some_value _ x (sym same ∙ noted)) (noted_earlier v.fault e s f is.there is.clear first);
     same = λ none. absurd (let no : None ≡ Some (earlier v.fault e) = sym none ∙ same in cc);
   }
 

@@ -6,6 +6,7 @@ use Rattle.pci_spec.specs.Bar as bars
 use Rattle.pci_spec.specs.Capability.{ComesTwiceTo, HasLowPlace, HasCutBody, HasChain, capability_id, power_state}
 use Rattle.pci_spec.specs.System.{Function}
 use Rattle.pci_spec.specs.Decoded.{IsDecodable}
+use Rattle.pci_spec.specs.Order.{is_before, phase_of}
 use Rattle.pci_spec.specs.Fault.{Fault, NoVendor, HeaderKind, BarType, BarMask, BarPair, RomMask, WindowMask, CapRange, CapLoop, CapCut, SlotsDiffer, StrayProbe, LoneFunction, PaletteSnoop, VgaEnable, IsaEnable, Subtractive, InReset, PowerState, BusRange, Orphan, Unreached, Clash, Split, has_no_vendor, has_other_layout, is_stray, HasBarFault, HasRomFault, HasWindowFault, IsAsleep}
 use Rattle.pci_tree.specs.declared.record.Record.{Record}
 use Rattle.pci_tree.specs.Decoding.{IsRecordOf}
@@ -41,33 +42,6 @@ pub record IsPlain (image : List ℕ) : Type 0 where
 abbrev pub IsAsleepAt : List ℕ → ℕ → Type 0
 IsAsleepAt image place = (capability_id image place ≡ 1) × (power_state image place ≢ 0)
 
--- the phase in which a fault is looked for: of slots, of identities and probes, of registers, of profiles, of places
-abbrev pub phase_of : Fault → ℕ
-phase_of (NoVendor slot) = 1
-phase_of (HeaderKind slot) = 1
-phase_of (BarType slot register) = 2
-phase_of (BarMask slot register) = 2
-phase_of (BarPair slot register) = 2
-phase_of (RomMask slot register) = 2
-phase_of (WindowMask slot register) = 2
-phase_of (CapRange slot place) = 2
-phase_of (CapLoop slot place) = 2
-phase_of (CapCut slot place) = 2
-phase_of (SlotsDiffer slot) = 0
-phase_of (StrayProbe slot offset) = 1
-phase_of (LoneFunction slot) = 4
-phase_of (PaletteSnoop slot) = 3
-phase_of (VgaEnable slot) = 3
-phase_of (IsaEnable slot) = 3
-phase_of (Subtractive slot) = 3
-phase_of (InReset slot) = 3
-phase_of (PowerState slot) = 3
-phase_of (BusRange slot) = 4
-phase_of (Orphan slot) = 4
-phase_of (Unreached slot register space address bridge) = 5
-phase_of (Clash bus space address first first_register second second_register) = 5
-phase_of (Split space address first first_register second second_register) = 5
-
 -- the fault is one of the function by itself
 abbrev pub IsHere : Function → Fault → Type 0
 IsHere f (NoVendor slot) = (slot ≡ f.slot) × IsTrue (has_no_vendor f.image)
@@ -100,6 +74,10 @@ pub record IsHereIn (phase : ℕ) (f : Function) (fault : Fault) : Type 0 where
   pub here : IsHere f fault
   pub phase_is : phase_of fault ≡ phase
 
+-- none of this phase that is looked for before it is one of the function
+abbrev pub IsFirstOf : ℕ → Function → Fault → Type 0
+IsFirstOf phase f fault = (other : Fault) → phase_of other ≡ phase → IsTrue (is_before (λ slot. f.image) other fault) → IsHere f other → ⊥
+
 -- nothing of an earlier phase is wrong with the function by itself
 pub record IsClearBefore (phase : ℕ) (f : Function) : Type 0 where
   pub answers : 1 < phase → IsAnswering f
@@ -111,7 +89,8 @@ pub record IsExamined (f : Function) (r : Record) : Type 0 where
   pub decoded : IsRecordOf f r
   pub clear : IsClearBefore 4 f
 
--- the fault is there, and none of an earlier phase is
+-- the fault is there, and none that is looked for before it: none of an earlier phase, and of its own none with a lesser key
 pub record IsFirstFault (f : Function) (fault : Fault) : Type 0 where
   pub here : IsHere f fault
   pub clear : IsClearBefore (phase_of fault) f
+  pub first : IsFirstOf (phase_of fault) f fault

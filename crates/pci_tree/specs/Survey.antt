@@ -1,8 +1,8 @@
 -- What a survey has of the functions that it took.
-use Rattle.std.specs.Prelude.{◌≡◌, ◌⊎◌, ℕ, ◌<◌, ◌≤◌, nat_lt, if◌then◌else◌, List, [], ◌∷◌, ◌++◌, map, Option, None, Some}
+use Rattle.std.specs.Prelude.{◌≡◌, ◌≢◌, ◌⊎◌, ℕ, ◌+◌, ◌<◌, IsTrue, ◌≤◌, nat_lt, if◌then◌else◌, List, [], ◌∷◌, ◌++◌, map, Option, None, Some}
 use Rattle.std.specs.List.{All, Contains}
 use Rattle.pci_spec.specs.Slot.{Slot, IsSlot, slot_number}
-use Rattle.pci_spec.specs.System.{System, Function}
+use Rattle.pci_spec.specs.System.{System, Function, IsSystem}
 use Rattle.pci_spec.specs.Bus.{IsNested}
 use Rattle.pci_spec.specs.Sound.{IsInProfile, HasChains}
 use Rattle.pci_spec.specs.Fault.{Fault, IsIn, fault_number}
@@ -11,7 +11,8 @@ use Rattle.pci_spec.specs.Decoded as decoded
 use Rattle.pci_tree.specs.declared.record.Record.{Record}
 use Rattle.pci_tree.specs.Regions.{IsLawful}
 use Rattle.pci_tree.specs.Outline.{RiseBySlot, Tree}
-use Rattle.pci_tree.specs.Profile.{phase_of, IsHere, IsClearBefore, IsFirstFault}
+use Rattle.pci_spec.specs.Order.{phase_of, is_before, image_at}
+use Rattle.pci_tree.specs.Profile.{IsHere, IsClearBefore, IsFirstOf, IsFirstFault}
 
 -- a survey: its root buses, the records, the fault that is noted, and the slot last added
 pub record Surveyed : Type 0 where
@@ -42,9 +43,19 @@ abbrev pub earlier : Option Fault → Fault → Fault
 earlier None e = e
 earlier (Some n) e = if nat_lt (phase_of e) (phase_of n) then e else n
 
--- the fault is that of a function by itself, or of two lists of slots
+-- the fault is one of a function by itself, of its phase the first there, and the functions before that one have none of that phase
+pub record IsFirstAmong (s : System) (e : Fault) : Type 0 where
+  pub f : Function
+  pub before : System
+  pub after : System
+  pub split : s ≡ before ++ f ∷ after
+  pub here : IsHere f e
+  pub first : IsFirstOf (phase_of e) f e
+  pub earlier : (g : Function) → Contains before g → IsClearBefore (phase_of e + 1) g
+
+-- the fault is such a one, or that of two lists of slots
 abbrev pub IsNoted : System → Fault → Type 0
-IsNoted s e = (phase_of e ≡ 0) ⊎ ((f : Function) × Contains s f × IsHere f e)
+IsNoted s e = (phase_of e ≡ 0) ⊎ IsFirstAmong s e
 
 -- A survey has taken these functions: a fault that is noted is there, and in none of them is one of an earlier phase. Where none is
 -- noted the records are theirs.
@@ -79,8 +90,10 @@ pub record IsOutlineOf (v : Surveyed) (o : Tree) : Type 0 where
   pub profile : (s : System) → IsSurveyOf v s → IsInProfile v.roots s
   pub chains : (s : System) → IsSurveyOf v s → HasChains s
 
--- the fault that a survey is refused by: the noted one, else one of places; it is there, where it isn't that of two lists of slots
+-- the fault that a survey is refused by: the noted one, else one of places; it is there, and none that is looked for before it, where it
+-- isn't that of two lists of slots
 pub record IsRefusedBy (v : Surveyed) (e : Fault) : Type 0 where
   pub noted : (n : Fault) → v.fault ≡ Some n → e ≡ n
   pub there : (s : System) → IsSurveyOf v s → ((phase_of e ≡ 0) × (v.fault ≡ Some e)) ⊎ IsIn v.roots s e
   pub early : (s : System) → IsSurveyOf v s → fault_number e < 60
+  pub first : (s : System) → IsSystem s → IsSurveyOf v s → phase_of e ≢ 0 → (other : Fault) → IsTrue (is_before (image_at s) other e) → IsIn v.roots s other → ⊥

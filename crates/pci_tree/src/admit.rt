@@ -4,7 +4,7 @@ ghost use Rattle.pci_spec.specs.Slot.{IsRising};
 ghost use Rattle.pci_spec.specs.Text.{slots_of};
 ghost use Rattle.pci_spec.specs.System.{system_of};
 ghost use Rattle.pci_tree.specs.Roots.{buses_of};
-ghost use Rattle.pci_tree.specs.Profile.{phase_of};
+ghost use Rattle.pci_spec.specs.Order.{phase_of};
 ghost use Rattle.pci_tree.specs.Survey.{IsSurveyOf};
 ghost use Rattle.pci_tree.specs.Refusals.{IsPairRefusal};
 ghost use Rattle.pci_tree.specs.Admission.{IsOutlineFor};

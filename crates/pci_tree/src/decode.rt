@@ -1,7 +1,10 @@
 //! What is decoded of one function: its record, from its image and its read backs.
-ghost use Rattle.std.specs.Prelude.{IfOk, IfErr, MatchResult};
+ghost use Rattle.std.specs.Prelude.{IfErr, MatchResult};
 ghost use Rattle.pci_spec.specs.Number.{IsImage};
 ghost use Rattle.pci_image.specs.Faults.{IsImageFaultIn};
+ghost use Rattle.pci_image.specs.Windows.{IsLowestWindowFault};
+ghost use Rattle.pci_tree.specs.Fault.{image_fault_at};
+ghost use Rattle.pci_tree.specs.Profile.{IsFirstOf};
 ghost use Rattle.pci_tree.specs.Decoding.{IsBridgeAt, IsRecordOf};
 
 use super::record::{Bridge, Record};
@@ -17,7 +20,8 @@ use pci_image::window::Windows;
 
 /// The bus numbers and windows of a function, where it is a bridge.
 fn bridge_at(image: &Image, probe: &Image) -> Result<Option<Bridge>, ImageFault>
-    ensures { MatchResult result (IsBridgeAt image.now.0 probe.now.0) (IsImageFaultIn image.now.0 probe.now.0) }
+    ensures bridge { MatchResult result (IsBridgeAt image.now.0 probe.now.0) (IsImageFaultIn image.now.0 probe.now.0) }
+    ensures lowest { IfErr result (IsLowestWindowFault image.now.0 probe.now.0) }
 {
     match Header::of(image)? {
         Header::Type0(_) => Ok(None),
@@ -47,7 +51,8 @@ fn bytes_of(bytes: &[u8; 256]) -> &[u8]
 /// 20 `NoVendor` and 21 `HeaderKind` where it isn't a function that decodes; then the first fault of its registers, in
 /// the order of BARs (22 to 24), ROM (25) and windows (26); then the first one of its capabilities list (27 to 29).
 pub fn decode(slot: Slot, image: &Image, probe: &Image) -> Result<Record, ImageFault>
-    ensures { MatchResult result (IsRecordOf record { slot = slot; image = image.now.0; probe = probe.now.0 }) (IsImageFaultIn image.now.0 probe.now.0) }
+    ensures decoded { MatchResult result (IsRecordOf record { slot = slot; image = image.now.0; probe = probe.now.0 }) (IsImageFaultIn image.now.0 probe.now.0) }
+    ensures first { IfErr result (λ e. IsFirstOf 2 record { slot = slot; image = image.now.0; probe = probe.now.0 } (image_fault_at slot e)) }
 {
     let bars = bars(image, probe)?;
     let rom = rom(image, probe)?;

@@ -6,7 +6,7 @@ ghost use Rattle.pci_spec.specs.System.{System, is_bridge};
 ghost use Rattle.pci_spec.specs.Decoded.{HasRecords};
 ghost use Rattle.pci_spec.specs.Bus.{IsNested};
 ghost use Rattle.pci_spec.specs.Slot.{IsSlot};
-ghost use Rattle.pci_spec.specs.Fault.{IsIn, fault_number};
+ghost use Rattle.pci_tree.specs.PlaceFaults.{IsPlaceRefusal};
 ghost use Rattle.pci_tree.specs.Fault.{fault_of};
 ghost use Rattle.pci_image.specs.declared.range.Range.{Range as RangeValue};
 ghost use Rattle.pci_tree.specs.Space.{space_of};
@@ -79,7 +79,7 @@ impl<A: Allocator> Outline<A> {
         requires rising { RiseBySlot records.items }
         requires lawful { All IsLawful records.items }
         ensures { MatchResult result (λ o. (o.roots ≡ buses_of roots) × (o.records ≡ map record_value records.items) × All (IsInPlace (buses_of roots) records.items) records.items)
-            (λ e. ((s : System) → HasRecords s (map record_value records.items) → IsIn (buses_of roots) s (fault_of e)) × (fault_number (fault_of e) < 60)) }
+            (λ e. IsPlaceRefusal (buses_of roots) (map record_value records.items) (fault_of e)) }
     {
         match first_place_fault(&records, &roots) {
             Some(fault) => Err(fault),

@@ -1,11 +1,11 @@
 //! What one function may not do: the standard lets it, but no system that is judged here may have it.
-ghost use Rattle.std.specs.Prelude.{◌≡◌, ◌+◌, ◌≤◌, ◌↔◌, ◌==◌, IsTrue, MatchOption};
+ghost use Rattle.std.specs.Prelude.{◌≡◌, ◌+◌, ◌≤◌, ◌↔◌, ◌==◌, IsTrue, IsFalse, IfSome, MatchOption};
 ghost use Rattle.pci_spec.specs.Number.{has_bit};
-ghost use Rattle.pci_spec.specs.Header.{class_code};
+ghost use Rattle.pci_spec.specs.Header.{class_code, command};
 ghost use Rattle.pci_spec.specs.Capability.{body_length, IsChain};
 ghost use Rattle.pci_spec.specs.Fault.{IsAsleep};
 ghost use Rattle.pci_tree.specs.Fault.{fault_of};
-ghost use Rattle.pci_tree.specs.Profile.{IsAnswering, IsPlainBridge, IsPlain, IsAsleepAt, IsHereIn};
+ghost use Rattle.pci_tree.specs.Profile.{IsAnswering, IsPlainBridge, IsPlain, IsAsleepAt, IsHereIn, IsFirstOf};
 
 use super::fault::Fault;
 use pci_dump::stray::stray_byte;
@@ -49,8 +49,9 @@ fn class_code(image: &Image) -> u32
 /// The fault of a function's identity or probe: 20 `NoVendor`, else 21 `HeaderKind`, else 31 `StrayProbe` with the
 /// first byte offset outside the address registers where the probe isn't 00.
 pub fn identity_fault(slot: Slot, image: &Image, probe: &Image) -> Option<Fault>
-    ensures { MatchOption result (IsAnswering record { slot = slot; image = image.now.0; probe = probe.now.0 })
+    ensures fault { MatchOption result (IsAnswering record { slot = slot; image = image.now.0; probe = probe.now.0 })
         (λ e. IsHereIn 1 record { slot = slot; image = image.now.0; probe = probe.now.0 } (fault_of e)) }
+    ensures first { IfSome result (λ e. IsFirstOf 1 record { slot = slot; image = image.now.0; probe = probe.now.0 } (fault_of e)) }
 {
     if image.u16(VENDOR_ID) == NO_VENDOR {
         return Some(Fault::NoVendor(slot));
@@ -67,8 +68,9 @@ pub fn identity_fault(slot: Slot, image: &Image, probe: &Image) -> Option<Fault>
 
 /// The fault of a bridge's profile: 52 `VgaEnable`, else 53 `IsaEnable`, else 54 `Subtractive`, else 55 `InReset`.
 fn bridge_fault(slot: Slot, image: &Image, probe: &Image) -> Option<Fault>
-    ensures { MatchOption result (IsPlainBridge image.now.0)
+    ensures fault { MatchOption result (IsPlainBridge image.now.0)
         (λ e. IsHereIn 3 record { slot = slot; image = image.now.0; probe = probe.now.0 } (fault_of e)) }
+    ensures first { IfSome result (λ e. IsFalse (has_bit (command image.now.0) 5) → IsFirstOf 3 record { slot = slot; image = image.now.0; probe = probe.now.0 } (fault_of e)) }
 {
     if layout(image) != 1 {
         return None;
@@ -114,8 +116,9 @@ fn is_asleep(image: &Image, places: &[u8]) -> bool
 /// `VgaEnable`, 53 `IsaEnable`, 54 `Subtractive`, 55 `InReset`; 56 `PowerState`. The first of these is answered.
 pub fn profile_fault(slot: Slot, image: &Image, probe: &Image, places: &[u8]) -> Option<Fault>
     requires { IsChain image.now.0 places.now }
-    ensures { MatchOption result (IsPlain image.now.0)
+    ensures fault { MatchOption result (IsPlain image.now.0)
         (λ e. IsHereIn 3 record { slot = slot; image = image.now.0; probe = probe.now.0 } (fault_of e)) }
+    ensures first { IfSome result (λ e. IsFirstOf 3 record { slot = slot; image = image.now.0; probe = probe.now.0 } (fault_of e)) }
 {
     if has_bit(image.u16(COMMAND), PALETTE_SNOOP) {
         return Some(Fault::PaletteSnoop(slot));

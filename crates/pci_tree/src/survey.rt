@@ -6,7 +6,7 @@ ghost use Rattle.pci_spec.specs.System.{System};
 ghost use Rattle.pci_spec.specs.Fault.{SlotsDiffer};
 ghost use Rattle.pci_tree.specs.Fault.{fault_of};
 ghost use Rattle.pci_tree.specs.Roots.{buses_of};
-ghost use Rattle.pci_tree.specs.Profile.{phase_of};
+ghost use Rattle.pci_spec.specs.Order.{phase_of};
 ghost use Rattle.pci_tree.specs.Survey.{earlier, lesser_slot, IsSurveyOf, IsAdded, IsOutlineOf};
 
 use super::examine::examine;

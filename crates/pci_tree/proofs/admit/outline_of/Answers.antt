@@ -1,4 +1,4 @@
-use Rattle.std.proofs.Common.{◌≡◌, ℕ, List, Result, Ok, Err, sym, ◌∙◌, ap, subst}
+use Rattle.std.proofs.Common.{◌≡◌, ℕ, lit<, List, Result, Ok, Err, sym, ◌∙◌, ap, subst}
 use Rattle.std.specs.Prelude.{◌≢◌, MatchResult, IfSome}
 use Rattle.pci_spec.specs.Text.{Block, IsDump, slots_of}
 use Rattle.pci_spec.specs.System.{system_of}
@@ -7,11 +7,11 @@ use Rattle.pci_dump.specs.declared.memory.Refused.{Refused}
 use Rattle.pci_tree.specs.declared.fault.Fault.{Fault}
 use Rattle.pci_tree.specs.Admission.{IsAdmitted, IsOutlineFor}
 use Rattle.pci_tree.specs.Outline.{Tree}
-use Rattle.pci_tree.specs.Profile.{phase_of}
+use Rattle.pci_spec.specs.Order.{phase_of}
 use Rattle.pci_tree.specs.Refusals.{IsRefusalOf, IsPairRefusal}
 use Rattle.pci_tree.specs.Roots.{buses_of}
 use Rattle.pci_tree.specs.Survey.{Surveyed, IsSurveyOf, IsOutlineOf}
-use Rattle.pci_tree.proofs.Pairings.{pair_refusal, admitted_pair}
+use Rattle.pci_tree.proofs.Pairings.{pair_refusal, slots_refusal, admitted_pair}
 use Rattle.pci_tree.proofs.admit.outline_of.Goals as goal
 
 same_from : (a b c d : List Block) → a ≡ c → b ≡ d → slots_of a ≡ slots_of b → slots_of c ≡ slots_of d
@@ -31,7 +31,14 @@ ended v roots dump probe hd hp are same taken clear (Ok t) out =
       roots = equal;
       records = subst (HasRecords (system_of dump probe)) (sym out.records) (out.decoded (system_of dump probe) taken);
     }
-ended v roots dump probe hd hp are same taken clear (Err r) refused = pair_refusal v roots dump probe r are same taken clear refused
+ended v roots dump probe hd hp are same taken clear (Err r) refused = pair_refusal v roots dump probe r hd hp are same taken clear refused
+
+pub returns-in-Some : goal.returns-in-Some
+returns-in-Some g c = (
+  slots_refusal (buses_of c.args.roots) c.args.dump.now c.args.probe.now _ _ c.in-Some.slot c.blocks-2.ensures.dump c.blocks-3.ensures.dump c.blocks-2.ensures.value c.blocks-3.ensures.value
+      c.in-Some.ensures.some c.in-Some.ensures.least,
+  lit< tt,
+)
 
 pub returns : goal.returns
 returns g c =

@@ -12,4 +12,5 @@ returns-then-not-has_leader c = (
   not_led (buses_of c.args.roots.now) c.args.records.now c.args.function.now.slot.bus (get_or c.args.ends.now c.bus-bus.result None)
       (subst (λ n. IsLeastEnd c.args.records.now n (get_or c.args.ends.now c.bus-bus.result None)) c.bus-bus.ensures (c.requires.ends c.bus-bus.result (omega arith)))
       (sym c.has_leader.ensures ∙ c.if-not-has_leader.true) (λ root. both_ways _ c.if-not-has.true (c.has.ensures.1 (subst (Contains (buses_of c.args.roots.now)) (sym c.bus-bus.ensures) root))),
+  c.is_not_lone.ensures.0 c.if-not-is_not_lone.false,
 )

@@ -4,8 +4,7 @@ use Rattle.pci_tree.proofs.outline.Outline.placed.Goals as goal
 use Rattle.pci_tree.specs.BusNumbers.{IsInPlace}
 use Rattle.pci_tree.specs.PlaceFaults.{IsSomePlaceFault}
 use Rattle.pci_tree.specs.Roots.{buses_of}
-use Rattle.pci_tree.proofs.EarlyFaults.{early-of_some_place}
-use Rattle.pci_tree.proofs.Places.{place_fault_in}
+use Rattle.pci_tree.proofs.FirstPlaced.{place_refusal}
 use Rattle.pci_tree.proofs.Shadows.{outline_in_places}
 
 -- src/outline.rt:84:24
@@ -17,7 +16,4 @@ of-requires g c =
 -- src/outline.rt:75:5
 pub returns-in-Some : goal.returns-in-Some
 returns-in-Some g c =
-    let some = subst (λ xs. IsSomePlaceFault (buses_of c.args.roots) xs c.in-Some.fault) c.deref.ensures.value c.in-Some.ensures in (
-      λ s has. place_fault_in (buses_of c.args.roots) s c.args.records.items c.in-Some.fault has some,
-      early-of_some_place (buses_of c.args.roots) c.args.records.items c.in-Some.fault some,
-    )
+    place_refusal (buses_of c.args.roots) c.args.records.items c.in-Some.fault (subst (λ xs. IsSomePlaceFault (buses_of c.args.roots) xs c.in-Some.fault) c.deref.ensures.value c.in-Some.ensures)

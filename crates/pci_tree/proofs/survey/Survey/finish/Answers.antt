@@ -14,7 +14,7 @@ pub returns-in-Err : goal.returns-in-Err
 returns-in-Err g c =
     let v : Surveyed = survey_of c.self.inside.records.items c.self.inside.roots c.self.inside.noted c.self.inside.last in
     subst (λ x. IsRefusedBy x (fault_of c.in-Err.fault)) c.self.view_is
-    (refused_by_place v (fault_of c.in-Err.fault) (ap (option_map fault_of) c.in-None.is) c.in-Err.ensures.0 c.in-Err.ensures.1)
+    (refused_by_place v (fault_of c.in-Err.fault) (ap (option_map fault_of) c.in-None.is) c.in-Err.ensures)
 
 pub returns-in-Ok : goal.returns-in-Ok
 returns-in-Ok g c =
