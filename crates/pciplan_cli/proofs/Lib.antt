@@ -8,4 +8,6 @@ mod Sizes
 mod Sent
 mod PlainWrites
 mod Planned
+mod HexWords
 mod PoolWords
+mod RootWords

@@ -9,3 +9,4 @@ pub mod Statuses
 pub mod Answers
 pub mod PlanAnswers
 pub mod PoolWords
+pub mod RootWords

@@ -18,3 +18,7 @@ pub record IsPoolWord (word : List ℕ) (pool : Range) : Type 0 where
   pub parts : word ≡ first ++ 45 ∷ last
   pub from : IsAddressWord first pool.first
   pub to : IsAddressWord last pool.last
+
+-- no addresses have this word
+abbrev pub HasNoPool : List ℕ → Type 0
+HasNoPool word = (pool : Range) → IsPoolWord word pool → ⊥

@@ -1,6 +1,7 @@
 //! The command line of `pciplan`: its words, its tasks, its messages and its statuses.
 #![tactic(auto)]
 
+mod digit;
 pub mod line;
 pub mod listing;
 pub mod planning;
