@@ -10,3 +10,4 @@ pub mod Answers
 pub mod PlanAnswers
 pub mod PoolWords
 pub mod RootWords
+pub mod Asked

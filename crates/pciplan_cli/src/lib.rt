@@ -1,6 +1,7 @@
 //! The command line of `pciplan`: its words, its tasks, its messages and its statuses.
 #![tactic(auto)]
 
+pub mod asked;
 mod digit;
 pub mod line;
 pub mod listing;

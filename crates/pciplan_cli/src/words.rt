@@ -1,15 +1,14 @@
 //! The words of the command line.
-ghost use Rattle.std.specs.Prelude.{◌≡◌, ◌⊎◌, IfErr};
+ghost use Rattle.std.specs.Prelude.{◌≡◌, ◌⊎◌, IfErr, IfOk, MatchResult};
+ghost use Rattle.pciplan_cli.specs.Asked.{IsTaskOf, IsRefusedFor};
+ghost use Rattle.pciplan_cli.specs.declared.asked.Asked.{Asked};
+ghost use Rattle.pciplan_cli.specs.declared.trouble.Trouble.{Trouble};
 
-use crate::line::{Line, Task};
-use crate::pool_word::pool_of_word;
-use crate::root_list::roots_of_list;
-use crate::trouble::{PoolOption, Trouble, tell};
+use crate::asked::{Asked, PlanWords, task_of};
+use crate::line::Line;
+use crate::trouble::{Trouble, tell};
 use clap::{Arg, ArgAction, ArgMatches, Command};
 use pci_dump::ends::Sink;
-use pci_image::range::Range;
-use pci_plan::pools::Pools;
-use pci_tree::roots::Roots;
 use std::alloc::{AllocError, Global};
 
 /// The names of the two texts among the words.
@@ -30,16 +29,9 @@ const MEM: &str = "mem";
 
 const PREF: &str = "pref";
 
-/// The name of the option of a pool.
-fn name_of(option: PoolOption) -> &'static str {
-    match option {
-        PoolOption::Io => IO,
-        PoolOption::Mem => MEM,
-        PoolOption::Pref => PREF,
-    }
-}
-
 impl From<AllocError> for Trouble {
+    ghost from_gives = { λ _ trouble. trouble ≡ Trouble.Memory };
+
     fn from(_error: AllocError) -> Trouble {
         Trouble::Memory
     }
@@ -47,6 +39,8 @@ impl From<AllocError> for Trouble {
 
 /// A line that is refused, or that asks for help, is a fault of usage.
 impl From<clap::Error> for Trouble {
+    ghost from_gives = { λ _ trouble. (trouble ≡ Trouble.Memory) ⊎ (trouble ≡ Trouble.Usage) };
+
     fn from(error: clap::Error) -> Trouble {
         if error.kind() == clap::error::ErrorKind::OutOfMemory {
             Trouble::Memory
@@ -92,50 +86,64 @@ fn command<'a>(alloc: Global) -> Result<Command<'a>, AllocError> {
         .subcommand(plan_command(alloc)?)
 }
 
-/// The root buses of the words, bus 00 alone where they list none.
-fn roots_of(found: &ArgMatches<'_>) -> Result<Roots, Trouble> {
-    match found.get_str(ROOT) {
-        None => Ok(Roots::host()),
-        Some(list) => roots_of_list(list).ok_or(Trouble::Root),
-    }
+/// What the words of a command line say: the task with the words of its options, and the paths of the two texts.
+#[derive(Clone, Copy)]
+struct Given<'a> {
+    asked: Asked<'a>,
+    dump: &'a str,
+    probe: &'a str,
 }
 
-/// The pool of an option's word.
-fn pool_of(found: &ArgMatches<'_>, option: PoolOption) -> Result<Range, Trouble> {
-    let word = found.get_str(name_of(option)).ok_or(Trouble::Usage)?;
-    pool_of_word(word).ok_or(Trouble::Pool(option))
-}
-
-/// The planning that the words ask for. The root list is read before the pools.
-fn planning_of(found: &ArgMatches<'_>) -> Result<Task, Trouble> {
-    let roots = roots_of(found)?;
-    let io = pool_of(found, PoolOption::Io)?;
-    let mem = pool_of(found, PoolOption::Mem)?;
-    let pref = pool_of(found, PoolOption::Pref)?;
-    Ok(Task::Plan {
-        pools: Pools { io, mem, pref },
+/// The words of the options of `plan`.
+fn plan_words<'a>(found: &ArgMatches<'a>) -> Option<PlanWords<'a>> {
+    Some(PlanWords {
+        root: found.get_str(ROOT),
+        io: found.get_str(IO)?,
+        mem: found.get_str(MEM)?,
+        pref: found.get_str(PREF)?,
         writes: found.get_flag(WRITES),
-        roots,
     })
 }
 
-/// The line that the words make.
-fn parse(alloc: Global, words: &[&str]) -> Result<Line, Trouble> {
+/// The task of this name, with the words of its options.
+fn asked_of<'a>(name: &str, found: &ArgMatches<'a>) -> Option<Asked<'a>> {
+    match name {
+        "show" => Some(Asked::Show),
+        "check" => Some(Asked::Check {
+            root: found.get_str(ROOT),
+        }),
+        "size" => Some(Asked::Size),
+        "plan" => Some(Asked::Plan(plan_words(found)?)),
+        _ => None,
+    }
+}
+
+/// What the words of a subcommand say.
+fn given_of<'a>(name: &str, found: &ArgMatches<'a>) -> Option<Given<'a>> {
+    Some(Given {
+        asked: asked_of(name, found)?,
+        dump: found.get_str(DUMP)?,
+        probe: found.get_str(PROBE)?,
+    })
+}
+
+/// What the words say.
+fn words_given<'a>(alloc: Global, words: &'a [&'a str]) -> Result<Given<'a>, Trouble>
+    ensures { IfErr result (λ trouble. (trouble ≡ Trouble.Memory) ⊎ (trouble ≡ Trouble.Usage)) }
+{
     let matches = command(alloc)?.try_get_matches_from(words)?;
     let (name, found) = matches.subcommand().ok_or(Trouble::Usage)?;
-    let task = match name {
-        "show" => Task::Show,
-        "check" => Task::Check {
-            roots: roots_of(found)?,
-        },
-        "size" => Task::Size,
-        "plan" => planning_of(found)?,
-        _ => return Err(Trouble::Usage),
-    };
-    let dump = found.get_str(DUMP).ok_or(Trouble::Usage)?;
-    let probe = found.get_str(PROBE).ok_or(Trouble::Usage)?;
+    given_of(name, found).ok_or(Trouble::Usage)
+}
+
+/// The line that the words make.
+fn line_of(alloc: Global, words: &[&str]) -> Result<Line, Trouble>
+    ensures { MatchResult result (λ line. (asked : Asked) × IsTaskOf asked line.task)
+        (λ trouble. (trouble ≡ Trouble.Memory) ⊎ (trouble ≡ Trouble.Usage) ⊎ ((asked : Asked) × IsRefusedFor asked trouble)) }
+{
+    let Given { asked, dump, probe } = words_given(alloc, words)?;
     Ok(Line {
-        task,
+        task: task_of(&asked)?,
         dump: String::from_str(alloc, dump)?,
         probe: String::from_str(alloc, probe)?,
     })
@@ -144,13 +152,11 @@ fn parse(alloc: Global, words: &[&str]) -> Result<Line, Trouble> {
 /// Reads the words after the program's name. Where they make no line it writes the message to `err`
 /// and answers the status: 2 for a fault of usage, then of the root list, and then of a pool's word, 3 at want of memory.
 pub fn start<E: Sink>(alloc: Global, words: &[&str], err: &mut E) -> Result<Line, u8>
-    ensures { IfErr result (λ status. (status ≡ 2) ⊎ (status ≡ 3)) }
+    ensures line { IfOk result (λ line. (asked : Asked) × IsTaskOf asked line.task) }
+    ensures status { IfErr result (λ status. (status ≡ 2) ⊎ (status ≡ 3)) }
 {
-    match parse(alloc, words) {
+    match line_of(alloc, words) {
         Ok(line) => Ok(line),
-        Err(Trouble::Memory) => Err(tell(err, Trouble::Memory)),
-        Err(Trouble::Root) => Err(tell(err, Trouble::Root)),
-        Err(Trouble::Pool(option)) => Err(tell(err, Trouble::Pool(option))),
-        Err(_) => Err(tell(err, Trouble::Usage)),
+        Err(trouble) => Err(tell(err, trouble)),
     }
 }

@@ -1,0 +1,61 @@
+-- The task that a command line asks for, and the word that it is refused for.
+use Rattle.std.specs.Prelude.{◌≡◌, ℕ, ◌∷◌, [], List, Option, None, Some}
+use Rattle.std.specs.Borrow.{Bor}
+use Rattle.pci_image.specs.declared.range.Range.{Range}
+use Rattle.pci_plan.specs.declared.pools.Pools.{Pools}
+use Rattle.pci_tree.specs.Roots.{buses_of}
+use Rattle.pci_tree.specs.declared.roots.Roots.{Roots}
+use Rattle.pciplan_cli.specs.PoolWords.{IsPoolWord, HasNoPool}
+use Rattle.pciplan_cli.specs.RootWords.{IsRootWord}
+use Rattle.pciplan_cli.specs.declared.asked.Asked.{Asked}
+use Rattle.pciplan_cli.specs.declared.asked.Asked.TheVariants as asked
+use Rattle.pciplan_cli.specs.declared.asked.PlanWords.{PlanWords}
+use Rattle.pciplan_cli.specs.declared.line.Task.{Task}
+use Rattle.pciplan_cli.specs.declared.line.Task.TheVariants as task
+use Rattle.pciplan_cli.specs.declared.trouble.PoolOption.TheVariants.{Io, Mem, Pref}
+use Rattle.pciplan_cli.specs.declared.trouble.Trouble.{Trouble}
+use Rattle.pciplan_cli.specs.declared.trouble.Trouble.TheVariants.{Root, Pool}
+
+-- the roots of the word of `--root`: bus 00 alone where there is none
+abbrev pub AreRootsOf : Option (Bor (List ℕ)) → Roots → Type 0
+AreRootsOf None roots = buses_of roots ≡ 0 ∷ []
+AreRootsOf (Some word) roots = IsRootWord word.now (buses_of roots)
+
+abbrev pub HasNoRoots : Option (Bor (List ℕ)) → Type 0
+HasNoRoots None = ⊥
+HasNoRoots (Some word) = (buses : List ℕ) → IsRootWord word.now buses → ⊥
+
+-- the planning that the words ask for: each pool is that of its own option
+pub record IsPlanningOf (words : PlanWords) (planning : Task) : Type 0 where
+  pub roots : Roots
+  pub pools : Pools
+  pub are_roots : AreRootsOf words.root roots
+  pub io : IsPoolWord words.io.now pools.io
+  pub mem : IsPoolWord words.mem.now pools.mem
+  pub pref : IsPoolWord words.pref.now pools.pref
+  pub is : planning ≡ task.Plan pools words.writes roots
+
+abbrev pub IsTaskOf : Asked → Task → Type 0
+IsTaskOf asked.Show t = t ≡ task.Show
+IsTaskOf (asked.Check root) t = (roots : Roots) × AreRootsOf root roots × (t ≡ task.Check roots)
+IsTaskOf asked.Size t = t ≡ task.Size
+IsTaskOf (asked.Plan words) t = IsPlanningOf words t
+
+-- the words before the one that is refused have their roots and pools
+abbrev pub HasRoots : PlanWords → Type 0
+HasRoots words = (roots : Roots) × AreRootsOf words.root roots
+
+abbrev pub HasIo : PlanWords → Type 0
+HasIo words = HasRoots words × ((pool : Range) × IsPoolWord words.io.now pool)
+
+abbrev pub HasMem : PlanWords → Type 0
+HasMem words = HasIo words × ((pool : Range) × IsPoolWord words.mem.now pool)
+
+-- the first word that is none, of the root list and then the pools of I/O, memory and prefetchable memory
+abbrev pub IsRefusedFor : Asked → Trouble → Type 0
+IsRefusedFor (asked.Check root) Root = HasNoRoots root
+IsRefusedFor (asked.Plan words) Root = HasNoRoots words.root
+IsRefusedFor (asked.Plan words) (Pool Io) = HasRoots words × HasNoPool words.io.now
+IsRefusedFor (asked.Plan words) (Pool Mem) = HasIo words × HasNoPool words.mem.now
+IsRefusedFor (asked.Plan words) (Pool Pref) = HasMem words × HasNoPool words.pref.now
+IsRefusedFor _ _ = ⊥
