@@ -16,6 +16,7 @@ pub mod CommandFits
 pub mod EachChanges
 pub mod Faults
 pub mod Filled
+pub mod FewEach
 pub mod Final
 pub mod Fit
 pub mod Greatest

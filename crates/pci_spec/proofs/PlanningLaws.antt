@@ -14,14 +14,16 @@ use Rattle.pci_spec.specs.Decoded.{IsDecodable}
 use Rattle.pci_spec.specs.Fault.{has_no_vendor, has_other_layout, NoVendor, HeaderKind, BarType, BarMask, BarPair, RomMask, WindowMask}
 use Rattle.pci_spec.specs.Sound.{IsInProfile}
 use Rattle.pci_spec.specs.Planning.Safety.{IsSafe}
-use Rattle.pci_spec.specs.PlanningLaws.{CutIsSound, OffIsSound, MovedIsSystem, MovedIsNested, MovedIsInProfile, MovedHasChains, ProfileDecodes, LargestFirstIsAligned, Takes, PlacedFillsItsRange, PlacedTakesOnce, WindowIsLeastPower, LaidOutIsSound, RomsCanBeOn, PlacesAreATable, PlannedNumbersAreFinal}
+use Rattle.pci_spec.specs.PlanningLaws.{CutIsSound, OffIsSound, MovedIsSystem, MovedIsNested, MovedIsInProfile, MovedHasChains, ProfileDecodes, LargestFirstIsAligned, Takes, PlacedFillsItsRange, PlacedTakesOnce, FewWritesEach, WindowIsLeastPower, LaidOutIsSound, RomsCanBeOn, PlacesAreATable, PlannedNumbersAreFinal}
 use Rattle.pci_spec.proofs.Planning.Faults.{moved_profile}
+use Rattle.pci_spec.proofs.Planning.FewEach.{few_at_each}
 use Rattle.pci_spec.proofs.Planning.Kept.{moved_nested, moved_chains}
 use Rattle.pci_spec.proofs.Planning.LaidOut.{laid_safe}
 use Rattle.pci_spec.proofs.Planning.Placement.{placed, sum_cons, window_least}
 use Rattle.pci_spec.proofs.Planning.Plannings.{tables_of_plannable, final_by_numbers}
 use Rattle.pci_spec.proofs.Planning.RomsOnLayout.{roms_on_is_sound}
 use Rattle.pci_spec.proofs.Planning.Safe.{safe_below}
+use Rattle.pci_spec.proofs.Planning.Staging.{changes_rise}
 use Rattle.pci_spec.proofs.Planning.Stop.{all_off_safe}
 use Rattle.pci_spec.proofs.Planning.Whole.{moved_system}
 
@@ -130,6 +132,11 @@ placed_fills_its_range start sizes a = (λ taken. taken_in_range a start sizes t
 
 pub placed_takes_once : PlacedTakesOnce
 placed_takes_once start sizes a j k one other = taken_once a start sizes j k one other
+
+-- ---- writes
+
+pub few_writes_each : FewWritesEach
+few_writes_each changes h c listed = few_at_each changes (changes_rise changes h.system) c listed
 
 -- ---- windows
 

@@ -1,17 +1,20 @@
 -- Laws of planning: cuts of sound systems, sizes placed largest first, what moving keeps, and systems in which everything has its place.
 use Rattle.std.specs.Prelude.{◌≡◌, ℕ, ◌+◌, ◌%◌, ◌^◌, ◌<◌, ◌≤◌, ◌↔◌, IsFalse, List, length, map, slice_index}
-use Rattle.std.specs.List.{All, AllZip, sum}
+use Rattle.std.specs.List.{All, AllZip, Contains, count_by, sum}
 use Rattle.std.specs.List.Sorted.{IsStrictlyIncreasing}
+use Rattle.pci_spec.specs.Slot.{same_slot}
 use Rattle.pci_spec.specs.System.{System, IsSystem}
 use Rattle.pci_spec.specs.Bus.{IsNested}
 use Rattle.pci_spec.specs.Sound.{HasChains, IsInProfile, IsSound}
 use Rattle.pci_spec.specs.Decoded.{IsDecodable}
 use Rattle.pci_spec.specs.Plan.{Pools, Class, IsMoved, step_of, window_size, are_bad}
 use Rattle.pci_spec.specs.PlanPromise.{with_rom_on}
+use Rattle.pci_spec.specs.Planning.Laws.{AreChanges}
 use Rattle.pci_spec.specs.Planning.Layout.{IsLaidOut, IsSwitchedOn}
 use Rattle.pci_spec.specs.Planning.Numbers.{place_at, IsPlannedFunction}
 use Rattle.pci_spec.specs.Planning.Placing.{IsFalling, IsLeastPower, IsPlacedFrom, starts}
 use Rattle.pci_spec.specs.Planning.Plannable.{IsPlannable}
+use Rattle.pci_spec.specs.Planning.PlanWrites.{Change, plan_writes, most_writes}
 use Rattle.pci_spec.specs.Planning.Promise.{IsFinal}
 use Rattle.pci_spec.specs.Planning.Safety.{IsCutAt}
 use Rattle.pci_spec.specs.Planning.Stops.{IsOffFrom}
@@ -66,6 +69,12 @@ PlacedFillsItsRange = (start : ℕ) (sizes : List ℕ) (a : ℕ) → ((k : ℕ) 
 -- each of them once.
 abbrev pub PlacedTakesOnce : Type 0
 PlacedTakesOnce = (start : ℕ) (sizes : List ℕ) (a j k : ℕ) → Takes start sizes a j → Takes start sizes a k → j ≡ k
+
+-- ---- writes
+
+-- To a device at most 9 writes of a plan are made, and to a bridge 11.
+abbrev pub FewWritesEach : Type 0
+FewWritesEach = (changes : List Change) → AreChanges changes → (c : Change) → Contains changes c → count_by (λ w. same_slot w.slot c.old.slot) (plan_writes changes) ≤ most_writes c
 
 -- ---- windows
 

@@ -1,6 +1,6 @@
 //! Laws of planning. These functions do nothing: each contract is a law.
 
-ghost use Rattle.pci_spec.specs.PlanningLaws.{CutIsSound, OffIsSound, MovedIsSystem, MovedIsNested, MovedIsInProfile, MovedHasChains, ProfileDecodes, LargestFirstIsAligned, PlacedFillsItsRange, PlacedTakesOnce, WindowIsLeastPower, LaidOutIsSound, RomsCanBeOn, PlacesAreATable, PlannedNumbersAreFinal};
+ghost use Rattle.pci_spec.specs.PlanningLaws.{CutIsSound, OffIsSound, MovedIsSystem, MovedIsNested, MovedIsInProfile, MovedHasChains, ProfileDecodes, LargestFirstIsAligned, PlacedFillsItsRange, PlacedTakesOnce, FewWritesEach, WindowIsLeastPower, LaidOutIsSound, RomsCanBeOn, PlacesAreATable, PlannedNumbersAreFinal};
 ghost use Rattle.pci_spec.specs.Planning.Laws.{LowerPartIsSafe, OffIsSafe, OffClaimsNothing, BringsNoFault, RaisedIsLeast, FitHasRoom, WindowHolds, ItemsByBehind, NeedBySlots, BehindIsNeed, PlanCanStop, WritesReach, EachWriteChanges, FewWrites, PlanOnItsMachine, StopsOnItsMachine, CanStopAnywhere, CanStopOnceOff, StaysLawful, LawfulOnceClosed, FitsIfNumberDoes, LaidOutIsSafe, HomeBySteps, SingleByRanges, FitMakesTable, TablePlans, TableIsSound, BuildShows, BarShows, RomShows, WindowShows};
 
 /// A sound system stays sound where the functions from a slot on are switched off.
@@ -49,6 +49,7 @@ pub fn writes_can_stop_anywhere()
     ensures reach { WritesReach }
     ensures each { EachWriteChanges }
     ensures few { FewWrites }
+    ensures few_each { FewWritesEach }
     ensures machine { PlanOnItsMachine }
     ensures machine_stop { StopsOnItsMachine }
 {}

@@ -2,7 +2,7 @@
 use Rattle.std.proofs.Common.{◌≡◌, ℕ, List, [], ◌∷◌, refl, Bool, true, false, Option, None, Some}
 use Rattle.pci_spec.specs.Window.{WindowKind, IoWindow, MemoryWindow, PrefetchWindow, holds, breaks_window_rule, window_register}
 use Rattle.pci_spec.specs.Decoded.{DecodedWindow, DecodedWindows, decoded_window, decoded_windows}
-use Rattle.pci_spec.proofs.Examples.Samples.{on_bridge, read_backs, range, zeros}
+use Rattle.pci_spec.proofs.Examples.Samples.{on_bridge, read_backs, range}
 
 -- ---- the rules
 
@@ -184,6 +184,9 @@ io_up_to_4_gb = refl
 named_by_their_bases : window_register IoWindow ∷ window_register MemoryWindow ∷ window_register PrefetchWindow ∷ [] ≡ 0x1c ∷ 0x20 ∷ 0x24 ∷ []
 named_by_their_bases = refl
 
--- how wide a window is, its read backs alone say
-wide_by_its_read_backs : (decoded_window PrefetchWindow zeros (read_backs ((0x24, 0xfff1fff1) ∷ []))).wide ∷ (decoded_window PrefetchWindow (read_backs ((0x24, 0xfff1fff1) ∷ [])) zeros).wide ∷ [] ≡ true ∷ false ∷ []
-wide_by_its_read_backs = refl
+-- how wide a window is, its base's read back alone says
+abbrev is_wide_by : List (ℕ × ℕ) → List (ℕ × ℕ) → Bool
+is_wide_by values masks = (decoded_window PrefetchWindow (read_backs values) (read_backs masks)).wide
+
+wide_by_its_bases_read_back : is_wide_by [] ((0x24, 0xfff0fff1) ∷ []) ∷ is_wide_by [] ((0x24, 0xfff1fff0) ∷ []) ∷ is_wide_by ((0x24, 0xfff1fff1) ∷ []) [] ∷ [] ≡ true ∷ false ∷ false ∷ []
+wide_by_its_bases_read_back = refl

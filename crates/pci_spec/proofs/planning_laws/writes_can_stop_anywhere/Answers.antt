@@ -2,6 +2,7 @@ use Rattle.pci_spec.proofs.Planning.EachChanges.{each_changes, few_writes}
 use Rattle.pci_spec.proofs.Planning.OnMachine.{plan_on_its_machine, stops_on_its_machine}
 use Rattle.pci_spec.proofs.Planning.Reached.{writes_reach}
 use Rattle.pci_spec.proofs.Planning.Stops.{plan_can_stop}
+use Rattle.pci_spec.proofs.PlanningLaws.{few_writes_each}
 use Rattle.pci_spec.proofs.planning_laws.writes_can_stop_anywhere.Goals as goal
 
 pub returns-clause-stop : goal.returns-clause-stop
@@ -15,6 +16,9 @@ returns-clause-each c = λ changes h. each_changes changes h.system h.moved
 
 pub returns-clause-few : goal.returns-clause-few
 returns-clause-few c = few_writes
+
+pub returns-clause-few_each : goal.returns-clause-few_each
+returns-clause-few_each c = few_writes_each
 
 pub returns-clause-machine : goal.returns-clause-machine
 returns-clause-machine c = plan_on_its_machine
