@@ -5,12 +5,12 @@ use Rattle.pci_spec.specs.Slot.{Slot}
 use Rattle.pci_spec.specs.System.{system_of}
 use Rattle.pci_spec.specs.Fault.{Fault, IsIn, NoVendor, HeaderKind, BarType, BarMask, BarPair, RomMask, WindowMask, CapRange, CapLoop, CapCut, SlotsDiffer, StrayProbe, LoneFunction, PaletteSnoop, VgaEnable, IsaEnable, Subtractive, InReset, PowerState, BusRange, Orphan, Unreached, Clash, Split}
 use Rattle.pci_spec.specs.Order.{IsFirst, IsFirstThere, precedes, looking_key, judging_key, phase_of, is_before, image_at}
+use Rattle.pci_spec.proofs.Looking.{phase_le}
 use Rattle.pci_spec.proofs.Nesting.{no_bus_fault_where_nested}
 use Rattle.pci_spec.proofs.Pairing.{there-of_in, in-of_there}
 use Rattle.pci_spec.proofs.Regions.{precedes-cases}
 use Rattle.pci_spec.proofs.Walks.{chain-no_low_place, chain-no_loop, chain-no_cut_body}
 use Rattle.pci_tree.specs.Admission.{Admission, IsAdmitted}
-use Rattle.pci_tree.proofs.FirstAmong.{phase_le}
 
 -- no fault that is looked for before judging is there
 none_early : (a : Admission) → IsAdmitted a → (other : Fault) → phase_of other < 5 → IsIn a.roots (system_of a.dump a.probe) other → ⊥

@@ -10,5 +10,6 @@ pub mod Texts
 pub mod Told
 pub mod Put
 pub mod Pairs
+pub mod PairOrder
 pub mod Digits
 pub mod Registers

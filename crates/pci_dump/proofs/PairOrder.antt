@@ -130,6 +130,7 @@ module _ (dump probe : List Block) (hd : IsDump dump) (hp : IsDump probe) (same 
 
   -- none of a function with a lower slot
   none_lower : (g : Function) (has : Contains (system_of dump probe) g) (j : ℕ) (xs : List ℕ) → slot_number g.slot < slot_number b.slot → IdentityIs g j xs → ⊥
+  unfolding placed
   none_lower g has j xs lower is = elim (cases_order has.0 k) [
     | inl at ↦
         let one : g ≡ function_of b p = sym has.2 ∙ ap (λ n. get_or (system_of dump probe) n g) at ∙ get_or_default (system_of dump probe) k g (function_of b p) placed.1 ∙ placed.2 in

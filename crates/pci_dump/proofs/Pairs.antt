@@ -185,7 +185,7 @@ in_system (d ∷ dump) (q ∷ probe) (suc k) b p wd wp eb ep =
     (suc r.0, (let w = r.1 in omega (arith, w)), r.2)
 
 -- the two blocks of a function
-record From (dump probe : List Block) (k : ℕ) (f : Function) : Type 0 where
+pub record From (dump probe : List Block) (k : ℕ) (f : Function) : Type 0 where
   pub b : Block
   pub p : Block
   pub within : k < length dump
@@ -193,7 +193,7 @@ record From (dump probe : List Block) (k : ℕ) (f : Function) : Type 0 where
   pub read_back : p ≡ get_or probe k p
   pub is : function_of b p ≡ f
 
-from_system : (dump probe : List Block) (k : ℕ) (f : Function) → k < length (system_of dump probe) → get_or (system_of dump probe) k f ≡ f → From dump probe k f
+pub from_system : (dump probe : List Block) (k : ℕ) (f : Function) → k < length (system_of dump probe) → get_or (system_of dump probe) k f ≡ f → From dump probe k f
 from_system [] probe k f h e = absurd (let no : ⊥ = omega (arith, h) in no)
 from_system (d ∷ dump) [] k f h e = absurd (let no : ⊥ = omega (arith, h) in no)
 from_system (d ∷ dump) (q ∷ probe) zero f h e = record { b = d; p = q; within = omega arith; block = refl; read_back = refl; is = e }

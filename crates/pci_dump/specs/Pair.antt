@@ -1,5 +1,5 @@
 -- What a dump and its probe must be, before their registers are decoded.
-use Rattle.std.specs.Prelude.{◌≡◌, ℕ, ◌<◌, ◌==◌, nat_lt, Bool, false, ◌&&◌, not, IsTrue, List}
+use Rattle.std.specs.Prelude.{◌≡◌, ℕ, ◌<◌, IsFalse, ◌==◌, nat_lt, Bool, false, ◌&&◌, not, IsTrue, List}
 use Rattle.pci_spec.specs.Number.{byte_at}
 use Rattle.pci_spec.specs.Slot.{Slot, slot_number}
 use Rattle.pci_spec.specs.Text.{Block, slots_of}
@@ -32,6 +32,13 @@ IsFaultHere block probe (faults.BarPair slot register) = ⊥
 IsFaultHere block probe (faults.RomMask slot register) = ⊥
 IsFaultHere block probe (faults.WindowMask slot register) = ⊥
 IsFaultHere block probe (faults.SlotsDiffer slot) = ⊥
+
+-- what is looked for before it in the function isn't there: the vendor comes first, then the layout, then the probe by offset
+abbrev pub IsFirstHere : Block → Block → PairFault → Type 0
+IsFirstHere block probe (faults.HeaderKind slot) = IsFalse (has_no_vendor block.image)
+IsFirstHere block probe (faults.StrayProbe slot offset) =
+    IsFalse (has_no_vendor block.image) × IsFalse (has_other_layout block.image) × ((k : ℕ) → k < offset → IsFalse (is_stray block.image probe.image k))
+IsFirstHere block probe _ = Unit {0}
 
 -- it is one of the faults that a pair is refused by
 abbrev pub IsFaultOfPair : PairFault → Type 0

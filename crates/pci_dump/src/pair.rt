@@ -4,8 +4,9 @@ ghost use Rattle.std.specs.Prelude.{◌≡◌, ℕ, List, IfSome, IfNone, IfErr,
 ghost use Rattle.pci_spec.specs.Slot.{IsRising};
 ghost use Rattle.pci_spec.specs.Text.{slots_of};
 ghost use Rattle.pci_spec.specs.Fault.{IsInOne, IsThere};
+ghost use Rattle.pci_spec.specs.Order.{IsFirstThere};
 ghost use Rattle.pci_dump.specs.PairFault.{pair_fault};
-ghost use Rattle.pci_dump.specs.Pair.{IsFine, IsNoneBelow, IsFaultHere, IsFaultOfPair, IsPair};
+ghost use Rattle.pci_dump.specs.Pair.{IsFine, IsNoneBelow, IsFaultHere, IsFirstHere, IsFaultOfPair, IsPair};
 
 use super::block::Block;
 use super::dump::Dump;
@@ -20,6 +21,7 @@ use std::alloc::Allocator;
 fn check_function(block: &Block, probe: &Block) -> Result<(), PairFault>
     ensures ok { OnOk result (IsFine block.now probe.now) }
     ensures err { IfErr result (IsFaultHere block.now probe.now) }
+    ensures first { IfErr result (IsFirstHere block.now probe.now) }
 {
     if block.image.u16(VENDOR_ID) == NO_VENDOR {
         return Err(PairFault::NoVendor(block.slot));
@@ -74,6 +76,7 @@ pub fn pair<A: Allocator, B: Allocator>(dump: &Dump<A>, probe: &Dump<B>) -> Resu
     ensures ok { OnOk result ((roots : List ℕ) → IsPair roots dump.now probe.now) }
     ensures kind { IfErr result IsFaultOfPair }
     ensures there { IfErr result (λ fault. (roots : List ℕ) → IsThere roots dump.now probe.now (pair_fault fault)) }
+    ensures first { IfErr result (λ fault. (roots : List ℕ) → IsFirstThere roots dump.now probe.now (pair_fault fault)) }
 {
     let blocks = dump.blocks();
     let probes = probe.blocks();

@@ -39,8 +39,9 @@ pub fn layout(image: &Image) -> u8
 }
 
 impl<'a> Header<'a> {
-    ghost use Rattle.std.specs.Prelude.{◌≡◌, IsOk, IfOk, IfErr, ◌↔◌, ◌≤◌};
+    ghost use Rattle.std.specs.Prelude.{◌≡◌, IsOk, IfOk, IfErr, IsFalse, ◌↔◌, ◌≤◌};
     ghost use Rattle.pci_spec.specs.Header.{bar_count, rom_register};
+    ghost use Rattle.pci_spec.specs.Fault.{has_no_vendor};
     ghost use Rattle.pci_image.specs.Header.{HasHeader, IsHeaderOf, header_layout};
     ghost use Rattle.pci_image.specs.Faults.{IsImageFaultIn, image_fault_number};
 
@@ -54,6 +55,7 @@ impl<'a> Header<'a> {
         ensures lawful { IsOk result ↔ HasHeader image.entry.now.0 }
         ensures header { IfOk result (IsHeaderOf image.entry.now) }
         ensures fault { IfErr result (λ f. IsImageFaultIn image.entry.now.0 image.entry.now.0 f × (image_fault_number f ≤ 21)) }
+        ensures first { IfErr result (λ f. f ≡ ImageFault.HeaderKind → IsFalse (has_no_vendor image.entry.now.0)) }
     {
         if image.u16(VENDOR_ID) == NO_VENDOR {
             return Err(ImageFault::NoVendor);

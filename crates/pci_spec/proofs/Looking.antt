@@ -1,5 +1,5 @@
 -- The order in which faults are looked for: what a key that precedes another says.
-use Rattle.std.proofs.Common.{◌≡◌, ◌⊎◌, ℕ, ◌+◌, ◌<◌, ◌≤◌, List, [], ◌∷◌, ◌++◌, length, get_or, refl, true, inl, inr, arith, sym, ◌∙◌, ap, subst}
+use Rattle.std.proofs.Common.{◌≡◌, ◌⊎◌, ℕ, zero, suc, ◌+◌, ◌<◌, ◌≤◌, List, [], ◌∷◌, ◌++◌, length, get_or, drop, refl, true, false, inl, inr, arith, sym, ◌∙◌, ap, subst, IsTrue}
 use Rattle.std.specs.Prelude.{◌==◌, ◌&&◌}
 use Rattle.std.specs.List.{Contains, AllPairs, range_with_len}
 use Rattle.std.proofs.lemmas.Bool.{both_ways, cases_lt, cases_Bool, eqb-true, eq-eqb, and_parts, and_from}
@@ -8,7 +8,8 @@ use Rattle.std.proofs.lemmas.List.Elements.{Contains-get_or}
 use Rattle.pci_spec.specs.Slot.{Slot, IsSlot, slot_number, same_slot}
 use Rattle.pci_spec.specs.Capability.{pointer}
 use Rattle.pci_spec.specs.System.{System, Function}
-use Rattle.pci_spec.specs.Order.{precedes, slot_key, longest_walk, steps_at, step_after, image_at}
+use Rattle.pci_spec.specs.Fault.{Fault, NoVendor, HeaderKind, BarType, BarMask, BarPair, RomMask, WindowMask, CapRange, CapLoop, CapCut, SlotsDiffer, StrayProbe, LoneFunction, PaletteSnoop, VgaEnable, IsaEnable, Subtractive, InReset, PowerState, BusRange, Orphan, Unreached, Clash, Split, has_no_vendor, has_other_layout, is_stray}
+use Rattle.pci_spec.specs.Order.{precedes, slot_key, looking_key, phase_of, is_before, longest_walk, steps_at, step_after, image_at}
 use Rattle.pci_spec.proofs.Members.{in_nil, in_head, in_tail, in_cons_cases, in_filter_to, in_filter_from, in_range_from, pairs_filter, pairs_range}
 use Rattle.pci_spec.proofs.Regions.{precedes-cases}
 
@@ -50,6 +51,68 @@ key_here p q s xs ys h = elim (precedes-cases p q (slot_key s ++ xs) (slot_key s
     ]
   ]
 ]
+
+nothing_precedes : (xs : List ℕ) → precedes xs [] ≡ true → ⊥
+nothing_precedes [] h = both_ways false refl h
+nothing_precedes (x ∷ xs) h = both_ways false refl h
+
+-- a key that precedes one number has a lower one in front
+pub one_number : (j k : ℕ) (ys : List ℕ) → precedes (j ∷ ys) (k ∷ []) ≡ true → j < k
+one_number j k ys h = elim (precedes-cases j k ys [] h) [
+  | inl less ↦ less
+  | inr (same, rest) ↦ absurd (nothing_precedes ys rest)
+]
+
+-- ---- phases
+
+key_head : (image_of : Slot → List ℕ) (e : Fault) → looking_key image_of e ≡ phase_of e ∷ drop 1 (looking_key image_of e)
+key_head image_of (NoVendor slot) = refl
+key_head image_of (HeaderKind slot) = refl
+key_head image_of (BarType slot register) = refl
+key_head image_of (BarMask slot register) = refl
+key_head image_of (BarPair slot register) = refl
+key_head image_of (RomMask slot register) = refl
+key_head image_of (WindowMask slot register) = refl
+key_head image_of (CapRange slot place) = refl
+key_head image_of (CapLoop slot place) = refl
+key_head image_of (CapCut slot place) = refl
+key_head image_of (SlotsDiffer slot) = refl
+key_head image_of (StrayProbe slot offset) = refl
+key_head image_of (LoneFunction slot) = refl
+key_head image_of (PaletteSnoop slot) = refl
+key_head image_of (VgaEnable slot) = refl
+key_head image_of (IsaEnable slot) = refl
+key_head image_of (Subtractive slot) = refl
+key_head image_of (InReset slot) = refl
+key_head image_of (PowerState slot) = refl
+key_head image_of (BusRange slot) = refl
+key_head image_of (Orphan slot) = refl
+key_head image_of (Unreached slot register space address bridge) = refl
+key_head image_of (Clash bus space address first first_register second second_register) = refl
+key_head image_of (Split space address first first_register second second_register) = refl
+
+-- what is looked for before is of an earlier phase or of the same
+pub phase_le : (image_of : Slot → List ℕ) (other e : Fault) → is_before image_of other e ≡ true → phase_of other ≤ phase_of e
+phase_le image_of other e before =
+    elim (precedes-cases (phase_of other) (phase_of e) (drop 1 (looking_key image_of other)) (drop 1 (looking_key image_of e))
+    (subst (λ k. precedes k (phase_of e ∷ drop 1 (looking_key image_of e)) ≡ true) (key_head image_of other)
+    (subst (λ k. precedes (looking_key image_of other) k ≡ true) (key_head image_of e) before))) [
+      | inl less ↦ omega (arith, less)
+      | inr (same, rest) ↦ omega (arith, same)
+    ]
+
+-- ---- identities and probes
+
+-- what the fault with this rest of a key says
+abbrev pub IdentityIs : Function → ℕ → List ℕ → Type 0
+IdentityIs f zero ys = IsTrue (has_no_vendor f.image)
+IdentityIs f (suc zero) ys = IsTrue (has_other_layout f.image)
+IdentityIs f (suc (suc n)) ys = (offset : ℕ) × (ys ≡ offset ∷ []) × IsTrue (is_stray f.image f.probe offset)
+
+-- without the vendor's fault there is none before the next
+pub only_vendor : (f : Function) (j : ℕ) (xs : List ℕ) → has_no_vendor f.image ≡ false → j < 1 → IdentityIs f j xs → ⊥
+only_vendor f zero xs vendor less is = both_ways _ vendor is
+only_vendor f (suc j) xs vendor less is = let no : ⊥ = omega (arith, less) in no
 
 -- ---- steps of a walk
 

@@ -19,7 +19,8 @@ use Rattle.pci_spec.proofs.BusRanges.{any_from}
 use Rattle.pci_spec.proofs.Members.{IsMade, in_map_to}
 use Rattle.pci_spec.specs.Order.{phase_of, image_at}
 use Rattle.pci_tree.proofs.EarlyFaults.{early-of_slots, early-of_here}
-use Rattle.pci_tree.proofs.FirstAmong.{among_listed, first_among, in_here, here_not_clear, phase_le}
+use Rattle.pci_tree.proofs.FirstAmong.{among_listed, first_among, in_here, here_not_clear}
+use Rattle.pci_spec.proofs.Looking.{phase_le}
 use Rattle.pci_tree.specs.PlaceFaults.{IsPlaceRefusal}
 use Rattle.pci_tree.specs.declared.record.Record.{Record}
 use Rattle.pci_tree.specs.Values.{record_value}

@@ -10,7 +10,7 @@ use Rattle.pci_spec.specs.System.{System, Function, IsSystem}
 use Rattle.pci_spec.specs.Fault.{Fault, NoVendor, HeaderKind, BarType, BarMask, BarPair, RomMask, WindowMask, CapRange, CapLoop, CapCut, SlotsDiffer, StrayProbe, LoneFunction, PaletteSnoop, VgaEnable, IsaEnable, Subtractive, InReset, PowerState, BusRange, Orphan, Unreached, Clash, Split, IsIn}
 use Rattle.pci_spec.specs.Order.{precedes, slot_key, looking_key, phase_of, is_before, image_at}
 use Rattle.pci_spec.proofs.Firsts.{slot_of}
-use Rattle.pci_spec.proofs.Looking.{key_cases, image_at_is}
+use Rattle.pci_spec.proofs.Looking.{key_cases, phase_le, image_at_is}
 use Rattle.pci_spec.proofs.Members.{in_head, in_tail, in_cons_cases, pairs_head, pairs_tail}
 use Rattle.pci_spec.proofs.Nesting.{earlier_is_lower, one_function}
 use Rattle.pci_spec.proofs.Regions.{precedes-cases}
@@ -18,44 +18,6 @@ use Rattle.pci_spec.proofs.Walks.{chain-no_low_place, chain-no_loop, chain-no_cu
 use Rattle.pci_tree.specs.Profile.{IsHere, IsFirstOf, IsClearBefore}
 use Rattle.pci_tree.specs.Survey.{IsFirstAmong}
 use Rattle.pci_tree.proofs.FirstHere.{rest_of, key_at, key_is}
-
--- ---- phases
-
-key_head : (image_of : Slot → List ℕ) (e : Fault) → looking_key image_of e ≡ phase_of e ∷ drop 1 (looking_key image_of e)
-key_head image_of (NoVendor slot) = refl
-key_head image_of (HeaderKind slot) = refl
-key_head image_of (BarType slot register) = refl
-key_head image_of (BarMask slot register) = refl
-key_head image_of (BarPair slot register) = refl
-key_head image_of (RomMask slot register) = refl
-key_head image_of (WindowMask slot register) = refl
-key_head image_of (CapRange slot place) = refl
-key_head image_of (CapLoop slot place) = refl
-key_head image_of (CapCut slot place) = refl
-key_head image_of (SlotsDiffer slot) = refl
-key_head image_of (StrayProbe slot offset) = refl
-key_head image_of (LoneFunction slot) = refl
-key_head image_of (PaletteSnoop slot) = refl
-key_head image_of (VgaEnable slot) = refl
-key_head image_of (IsaEnable slot) = refl
-key_head image_of (Subtractive slot) = refl
-key_head image_of (InReset slot) = refl
-key_head image_of (PowerState slot) = refl
-key_head image_of (BusRange slot) = refl
-key_head image_of (Orphan slot) = refl
-key_head image_of (Unreached slot register space address bridge) = refl
-key_head image_of (Clash bus space address first first_register second second_register) = refl
-key_head image_of (Split space address first first_register second second_register) = refl
-
--- what is looked for before is of an earlier phase or of the same
-pub phase_le : (image_of : Slot → List ℕ) (other e : Fault) → is_before image_of other e ≡ true → phase_of other ≤ phase_of e
-phase_le image_of other e before =
-    elim (precedes-cases (phase_of other) (phase_of e) (drop 1 (looking_key image_of other)) (drop 1 (looking_key image_of e))
-    (subst (λ k. precedes k (phase_of e ∷ drop 1 (looking_key image_of e)) ≡ true) (key_head image_of other)
-    (subst (λ k. precedes (looking_key image_of other) k ≡ true) (key_head image_of e) before))) [
-      | inl less ↦ omega (arith, less)
-      | inr (same, rest) ↦ omega (arith, same)
-    ]
 
 -- ---- faults of functions by themselves
 

@@ -11,7 +11,7 @@ use Rattle.pci_spec.specs.System.{Function}
 use Rattle.pci_spec.specs.Fault.{Fault, NoVendor, HeaderKind, BarType, BarMask, BarPair, RomMask, WindowMask, CapRange, CapLoop, CapCut, HasBarFault, HasWindowFault}
 use Rattle.pci_spec.specs.Order.{precedes, slot_key, looking_key, phase_of, step_after, longest_walk}
 use Rattle.pci_spec.proofs.Regions.{precedes-cases}
-use Rattle.pci_spec.proofs.Looking.{step_is, step_again, met_by, met_again_by}
+use Rattle.pci_spec.proofs.Looking.{one_number, step_is, step_again, met_by, met_again_by}
 use Rattle.pci_spec.proofs.Walks.{places-at_most_48}
 use Rattle.pci_image.specs.declared.fault.ImageFault.{ImageFault}
 use Rattle.pci_image.specs.declared.fault.ImageFault.TheVariants as images
@@ -21,7 +21,7 @@ use Rattle.pci_image.specs.Windows.{IsLowestWindowFault}
 use Rattle.pci_image.specs.Caps.{IsChainUpTo, IsFirstAlong}
 use Rattle.pci_tree.specs.Fault.{image_fault_at}
 use Rattle.pci_tree.specs.Profile.{IsHere, IsFirstOf}
-use Rattle.pci_tree.proofs.FirstHere.{rest_of, before_here, one_number}
+use Rattle.pci_tree.proofs.FirstHere.{rest_of, before_here}
 
 -- ---- what the fault with this rest of a key says
 

@@ -9,7 +9,7 @@ use Rattle.pci_spec.specs.Fault.{IsIn, LoneFunction, BusRange, Orphan, has_funct
 use Rattle.pci_spec.specs.Fault as faults
 use Rattle.pci_spec.specs.Order.{precedes, slot_key, looking_key, phase_of, is_before, image_at}
 use Rattle.pci_spec.proofs.Firsts.{slot_of}
-use Rattle.pci_spec.proofs.Looking.{key_cases}
+use Rattle.pci_spec.proofs.Looking.{key_cases, one_number}
 use Rattle.pci_tree.specs.declared.fault.Fault.{Fault}
 use Rattle.pci_tree.specs.declared.fault.Fault.TheVariants as codes
 use Rattle.pci_tree.specs.declared.record.Bridge.{Bridge}
@@ -21,7 +21,6 @@ use Rattle.pci_tree.specs.PlaceFaults.{IsPlaceFault, IsSomePlaceFault, IsPlaceRe
 use Rattle.pci_tree.proofs.EarlyFaults.{early-of_some_place}
 use Rattle.pci_tree.proofs.Faces.{SameFace, HaveFaces, faces_of, IsFaceOf, bridge_face, lawful_function, led_function}
 use Rattle.pci_tree.proofs.Finishes.{zero_function}
-use Rattle.pci_tree.proofs.FirstHere.{one_number}
 use Rattle.pci_tree.proofs.Lifting.{Has}
 use Rattle.pci_tree.proofs.Places.{place_fault_in}
 

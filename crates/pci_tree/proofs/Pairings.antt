@@ -13,10 +13,6 @@ use Rattle.pci_spec.specs.System.{System, Function, system_of}
 use Rattle.pci_spec.specs.Fault.{Fault, NoVendor, HeaderKind, BarType, BarMask, BarPair, RomMask, WindowMask, CapRange, CapLoop, CapCut, SlotsDiffer, StrayProbe, LoneFunction, PaletteSnoop, VgaEnable, IsaEnable, Subtractive, InReset, PowerState, BusRange, Orphan, Unreached, Clash, Split, IsIn, IsThere, IsInOne}
 use Rattle.pci_spec.proofs.Pairing.{function_of, same_length, slots-system_of, IsSystem-of_dumps, there-of_in, in-of_there}
 use Rattle.pci_spec.specs.Order.{phase_of, is_before, image_at, IsFirstThere}
-use Rattle.pci_spec.proofs.Looking.{key_cases}
-use Rattle.pci_spec.proofs.Members.{IsMade, in_map_to}
-use Rattle.pci_dump.specs.Pair.{IsNoneBelow}
-use Rattle.pci_tree.proofs.FirstAmong.{phase_le}
 use Rattle.pci_tree.specs.Profile.{IsHere}
 use Rattle.pci_tree.specs.Survey.{Surveyed, earlier, IsSurveyOf, IsAdded, IsRefusedBy, IsOutlineOf}
 use Rattle.pci_dump.specs.declared.memory.Refused.{Refused}
@@ -170,34 +166,6 @@ refused_first v dump probe e hd hp same is no_30 refused =
       none_before = λ other before at.
           refused.first (system_of dump probe) (IsSystem-of_dumps dump probe hd hp same) is (not_of_slots v.roots (system_of dump probe) e (in-of_there v.roots dump probe e same there))
           other before (in-of_there v.roots dump probe other same at);
-    }
-
-slot_in : (blocks : List Block) (slot : Slot) → IsDump blocks → Contains (slots_of blocks) slot → IsSlot slot
-slot_in blocks slot dump has =
-    let made : IsMade (λ (b : Block). b.slot) blocks slot = in_map_to (λ (b : Block). b.slot) blocks slot has in
-    subst IsSlot made.is (All-contains IsBlock blocks made.from dump.each made.has).slot
-
-slot_in_one : (dump probe : List Block) (slot : Slot) → IsDump dump → IsDump probe → IsInOne dump probe slot → IsSlot slot
-slot_in_one dump probe slot hd hp is = elim is [ inl one ↦ slot_in dump slot hd one.0 | inr one ↦ slot_in probe slot hp one.1 ]
-
-first_slot : (roots : List ℕ) (dump probe : List Block) (slot : Slot) (other : Fault) → IsDump dump → IsDump probe → IsNoneBelow dump probe slot
-    → phase_of other ≤ 0 → is_before (image_at (system_of dump probe)) other (SlotsDiffer slot) ≡ true → IsThere roots dump probe other → ⊥
-first_slot roots dump probe slot (SlotsDiffer t) hd hp least low before there = elim (key_cases 0 0 t slot [] [] (slot_in_one dump probe t hd hp there) before) [
-  | inl less ↦ let no : ⊥ = omega (arith, less) in no
-  | inr (phase, inl lower) ↦ least t lower there
-  | inr (phase, inr (same, rest)) ↦ both_ways false refl rest
-]
-first_slot roots dump probe slot _ hd hp least low before there = let no : ⊥ = omega (arith, low) in no
-
--- of two lists of slots, the least that one of them has alone
-pub slots_refusal : (roots : List ℕ) (dump probe a b : List Block) (slot : Slot) → IsDump dump → IsDump probe → a ≡ dump → b ≡ probe → IsInOne a b slot → IsNoneBelow a b slot
-    → IsFirstThere roots dump probe (SlotsDiffer slot)
-slots_refusal roots dump probe a b slot hd hp same_dump same_probe one least =
-    let there : IsInOne dump probe slot = subst (λ x. IsInOne x probe slot) same_dump (subst (λ y. IsInOne a y slot) same_probe one) in
-    let low : IsNoneBelow dump probe slot = subst (λ x. IsNoneBelow x probe slot) same_dump (subst (λ y. IsNoneBelow a y slot) same_probe least) in
-    record {
-      there = there;
-      none_before = λ other before at. first_slot roots dump probe slot other hd hp low (phase_le (image_at (system_of dump probe)) other (SlotsDiffer slot) before) before at;
     }
 
 -- and where it makes an outline, both are admitted
