@@ -1,8 +1,7 @@
 -- Words of addresses and pools: what is none, and of which addresses the others are.
-use Rattle.std.proofs.Common.{◌≡◌, ◌≢◌, ℕ, ◌<◌, ◌≤◌, ◌+◌, ◌^◌, List, [], ◌∷◌, ◌++◌, length, get_or, Option, None, Some, Bor, sym, ◌∙◌, ap, subst, arith, MatchOption}
+use Rattle.std.proofs.Common.{◌≡◌, ◌≢◌, ℕ, ◌<◌, ◌≤◌, ◌^◌, List, length, get_or, Option, None, Some, Bor, sym, ◌∙◌, ap, subst, arith, MatchOption}
 use Rattle.std.proofs.Math.Nat.{pow-le-pow_right}
-use Rattle.std.proofs.lemmas.List.{length-append, get_or_at}
-use Rattle.std.proofs.lemmas.Str.Pattern.{IsSplitOnceResult, split_after, split_parts}
+use Rattle.std.proofs.lemmas.Str.Pattern.{IsSplitOnceResult, split_after}
 use Rattle.pci_spec.specs.Text.{hex_digit}
 use Rattle.pci_spec.specs.Line.{hex_number}
 use Rattle.pci_image.specs.declared.range.Range.{Range}
