@@ -11,3 +11,5 @@ pub mod PlanAnswers
 pub mod PoolWords
 pub mod RootWords
 pub mod Asked
+pub mod Opened
+pub mod Tasks

@@ -304,6 +304,7 @@ pub fn run<A: Allocator + Copy, D: Source, P: Source, O: Sink, E: Sink>(
         → IsSized (D.left dump.old) (P.left probe.old) result (O.taken out.old) (O.taken out.new) }
     ensures planned { (pools : Pools) (writes : Bool) (roots : Roots) → line.now.task ≡ Task.Plan pools writes roots → result < 2
         → IsPlanned record { pools = pools_value pools; writes = writes; roots = buses_of roots } (D.left dump.old) (P.left probe.old) result (O.taken out.old) (O.taken out.new) }
+    ensures silent { result < 2 → err.new ≡ err.old }
     ensures quiet { (result ≡ 2) ⊎ (result ≡ 3) → out.new ≡ out.old }
     ensures begun { line.now.task ≡ Task.Show → result ≡ 4
         → (out.new ≡ out.old) ⊎ IsBegun (D.left dump.old) (P.left probe.old) (O.taken out.old) (O.taken out.new) }

@@ -12,6 +12,8 @@ mod interrupted;
 #[cfg(test)]
 mod no_growth;
 #[cfg(test)]
+mod opening;
+#[cfg(test)]
 mod refused_readings;
 #[cfg(test)]
 mod refused_tasks;

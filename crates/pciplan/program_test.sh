@@ -1,0 +1,134 @@
+#!/bin/sh
+# Runs the built program as its users do. Each case compares what went to standard output, what went to standard error,
+# and the status. A line is printed for each case; the status is 1 where one differs.
+#
+# Usage: program_test.sh [PROGRAM], by default out/pciplan beside this file, which `rt ci` and `rt run` make.
+set -u
+
+here=$(CDPATH='' cd -- "$(dirname -- "$0")" && pwd) || exit 1
+room=$(mktemp -d) || exit 1
+trap 'rm -rf "$room"' EXIT
+cp -- "${1:-$here/out/pciplan}" "$room/pciplan" || exit 1
+cp -- "$here"/data/*.txt "$room" || exit 1
+chmod 755 "$room" "$room/pciplan"
+cd "$room" || exit 1
+
+mkdir folder
+: >empty.txt
+printf '00:01.0' >cut.txt
+printf 'secret' >locked.txt
+chmod 000 locked.txt
+
+passed=0 failed=0
+
+# compare NAME STATUS OUT ERR GOT: compares what a run left in the files out and err, and its status GOT.
+compare() {
+    printf '%s' "$3" >out.wanted
+    printf '%s' "$4" >err.wanted
+    if [ "$5" -eq "$2" ] && cmp -s out out.wanted && cmp -s err err.wanted; then
+        echo "ok: $1"
+        passed=$((passed + 1))
+    else
+        echo "DIFFERS: $1: status $5, wanted $2"
+        echo "standard output:"
+        cat out
+        echo "standard error:"
+        cat err
+        failed=$((failed + 1))
+    fi
+}
+
+# The texts are written with their line feeds, which the shell drops from the end of a command's output.
+lf='
+'
+
+# case_of NAME STATUS OUT ERR WORD..: the program, given the words.
+case_of() {
+    name=$1 status=$2 wrote=$3 told=$4
+    shift 4
+    ./pciplan "$@" >out 2>err
+    compare "$name" "$status" "$wrote" "$told" $?
+}
+
+probe_text=$(cat probe.txt; echo .)
+probe_text=${probe_text%.}
+pools='--io 1000-ffff --mem e0000000-efffffff --pref f0000000-ffffffff'
+
+# what is written to standard output, with nothing on standard error
+case_of 'yes' 0 "yes$lf" '' check dump.txt probe.txt
+case_of 'no' 1 "no 31 StrayProbe 00:01.0 00$lf" '' check dump.txt dump.txt
+case_of 'show: no' 1 "no 31 StrayProbe 00:01.0 00$lf" '' show dump.txt dump.txt
+case_of 'show: nothing to list' 0 '' '' show empty.txt empty.txt
+case_of 'size' 0 "$probe_text" '' size dump.txt probe.txt
+# shellcheck disable=SC2086
+case_of 'plan: nothing to plan' 0 '' '' plan empty.txt empty.txt $pools
+case_of 'plan: no' 1 "no 70 BadPools$lf" '' \
+    plan dump.txt probe.txt --io 2-1 --mem e0000000-efffffff --pref f0000000-ffffffff
+
+# words that are refused
+case_of 'no words' 2 '' "pciplan: usage$lf"
+case_of 'no such command' 2 '' "pciplan: usage$lf" judge dump.txt probe.txt
+case_of 'one text' 2 '' "pciplan: usage$lf" check dump.txt
+case_of 'help' 2 '' "pciplan: usage$lf" --help
+case_of 'a word that is not UTF-8' 2 '' "pciplan: usage$lf" check "$(printf '\377')" probe.txt
+case_of 'the list of root buses' 2 '' "pciplan: root$lf" check --root zz dump.txt probe.txt
+case_of 'the word of a pool' 2 '' "pciplan: pool --mem$lf" \
+    plan dump.txt probe.txt --io 1000-ffff --mem e --pref f0000000-ffffffff
+
+# texts that are refused, the dump first
+case_of 'a fault of the dump' 2 '' "pciplan: dump: 9 Ended 1$lf" check cut.txt probe.txt
+case_of 'a fault of the probe' 2 '' "pciplan: probe: 9 Ended 1$lf" check dump.txt cut.txt
+case_of 'a fault of both' 2 '' "pciplan: dump: 9 Ended 1$lf" check cut.txt cut.txt
+
+# texts that can't be opened or read
+for command in show check size; do
+    case_of "$command: no dump" 4 '' "pciplan: dump: 1 Io$lf" $command missing.txt probe.txt
+    case_of "$command: no probe" 4 '' "pciplan: probe: 1 Io$lf" $command dump.txt missing.txt
+    case_of "$command: neither" 4 '' "pciplan: dump: 1 Io$lf" $command missing.txt missing.txt
+    case_of "$command: a folder as dump" 4 '' "pciplan: dump: 1 Io$lf" $command folder probe.txt
+    case_of "$command: a folder as probe" 4 '' "pciplan: probe: 1 Io$lf" $command dump.txt folder
+done
+case_of 'no probe, and a fault of the dump' 2 '' "pciplan: dump: 9 Ended 1$lf" check cut.txt missing.txt
+case_of 'an empty path' 4 '' "pciplan: dump: 1 Io$lf" check '' probe.txt
+
+# a file that may not be read; root reads every file
+name='a dump that may not be read'
+if ! [ -r locked.txt ]; then
+    case_of "$name" 4 '' "pciplan: dump: 1 Io$lf" check locked.txt probe.txt
+elif su nobody -s /bin/sh -c "cd '$room' && ! [ -r locked.txt ]" 2>err; then
+    su nobody -s /bin/sh -c "cd '$room' && exec ./pciplan check locked.txt probe.txt" >out 2>err
+    compare "$name" 4 '' "pciplan: dump: 1 Io$lf" $?
+else
+    echo "skipped: $name"
+fi
+
+# an output that can't be written; a message that can't be written changes no status
+./pciplan check dump.txt probe.txt 2>err >&-
+got=$?
+: >out
+compare 'standard output is closed' 4 '' "pciplan: 10 Io$lf" $got
+./pciplan check missing.txt probe.txt >out 2>&-
+got=$?
+: >err
+compare 'standard error is closed' 4 '' '' $got
+./pciplan check dump.txt probe.txt >out 2>&-
+got=$?
+: >err
+compare 'an answer where standard error is closed' 0 "yes$lf" '' $got
+if [ -w /dev/full ]; then
+    for command in show check size; do
+        ./pciplan $command dump.txt probe.txt 2>err >/dev/full
+        got=$?
+        : >out
+        compare "$command: standard output is full" 4 '' "pciplan: 10 Io$lf" $got
+    done
+    ./pciplan judge >out 2>/dev/full
+    got=$?
+    : >err
+    compare 'standard error is full' 2 '' '' $got
+else
+    echo 'skipped: standard output is full'
+fi
+
+echo "$passed passed, $failed failed"
+[ "$failed" -eq 0 ]

@@ -1,0 +1,80 @@
+//! Texts that are opened by their paths.
+ghost use Rattle.std.specs.Prelude.{◌≡◌, ◌≤◌, ◌+◌, ℕ, List, length, Option, None, IfOk, OnOk, MatchResult};
+
+use pci_dump::ends::{Failed, Source};
+use pci_dump::failures::Failures;
+use std::fs;
+use std::io::Read;
+use std::rt::Files;
+
+/// A text that is opened by its path.
+pub trait Opening: Source {
+    // Whether a text stands at a path.
+    ghost stands: { Self → List ℕ → Type 0 };
+
+    // The bytes of the text at a path, where they are told.
+    ghost bytes_at: { Self → List ℕ → Option (List ℕ) };
+
+    /// Opens the text at a path. An `Err` raises the count of failures by one.
+    fn open(&mut self, path: &str) -> Result<(), Failed>
+        ensures stands { OnOk result (stands self.old path.now) }
+        ensures bytes { OnOk result (Self.left self.new ≡ bytes_at self.old path.now) }
+        ensures counted { MatchResult result (λ _. Self.failures self.new ≡ Self.failures self.old)
+            (λ _. Self.failures self.new ≡ Self.failures self.old + 1) };
+}
+
+/// A file of the machine. Every read fails while it's closed, and so where it couldn't be opened.
+#[derive(Drop)]
+pub struct FileText<'a, R: Files> {
+    rt: &'a R,
+    file: Option<R::File>,
+    failed: Failures,
+}
+
+impl<'a, R: Files> FileText<'a, R> {
+    /// A file that is closed.
+    pub fn closed(rt: &'a R) -> FileText<'a, R> {
+        FileText {
+            rt,
+            file: None,
+            failed: Failures::new(),
+        }
+    }
+}
+
+impl<R: Files> Source for FileText<'_, R> {
+    ghost use Rattle.pciplan_cli.specs.Opened.{file_left};
+
+    ghost left = { λ s. file_left s.file };
+
+    ghost failures = { λ s. s.failed.count };
+
+    fn read(&mut self, buf: &mut [u8]) -> Result<usize, Failed> {
+        if let Some(file) = &mut self.file {
+            if let Ok(count) = file.read(buf) {
+                return Ok(count);
+            }
+        }
+        self.failed = self.failed.and_one();
+        Err(Failed)
+    }
+}
+
+impl<R: Files> Opening for FileText<'_, R> {
+    ghost stands = { λ _ _. Unit {0} };
+
+    ghost bytes_at = { λ _ _. None };
+
+    fn open(&mut self, path: &str) -> Result<(), Failed> {
+        match fs::open(self.rt, path) {
+            Ok(file) => {
+                self.file = Some(file);
+                Ok(())
+            }
+            Err(_) => {
+                self.failed = self.failed.and_one();
+                Err(Failed)
+            }
+        }
+    }
+}

@@ -1,0 +1,130 @@
+//! The program, from its words to its status.
+ghost use Rattle.std.specs.Prelude.{◌≡◌, ◌≢◌, ◌⊎◌, ◌<◌, ◌≤◌, ◌+◌, ℕ, List, Option, IfErr, string_bytes};
+ghost use Rattle.std.specs.IoError.{error_kind};
+ghost use Rattle.pciplan_cli.specs.Answers.{HasFailed, IsTextRefused, IsTextTrouble};
+ghost use Rattle.pciplan_cli.specs.Statuses.{status_of};
+ghost use Rattle.pciplan_cli.specs.Tasks.{IsLineDone, IsLineBegun};
+
+use crate::line::Line;
+use crate::opened::Opening;
+use crate::run::run;
+use crate::trouble::{Trouble, tell};
+use crate::words::start;
+use pci_dump::ends::{Sink, Source};
+use pci_dump::read_fault::ReadFault;
+use pci_dump::reader::read_dump;
+use std::alloc::{AllocError, Allocator, Global};
+use std::io::ErrorKind;
+use std::rt::Env;
+use std::{env, io};
+
+/// The words after the program's name.
+///
+/// # Errors
+///
+/// Of kind `OutOfMemory` where a growth was refused, of another kind where a word isn't UTF-8.
+pub fn words_of<R: Env + AllocGlobal>(rt: &R) -> io::Result<Vec<String>> {
+    let mut words = Vec::new(rt.alloc());
+    for word in env::args(rt)?.skip(1) {
+        words.push(word)?;
+    }
+    Ok(words)
+}
+
+/// The words as they are read.
+fn lent<'a>(alloc: Global, words: &'a [String]) -> Result<Vec<&'a str>, AllocError> {
+    let mut lent = Vec::new(alloc);
+    for word in words {
+        lent.push(word.as_str())?;
+    }
+    Ok(lent)
+}
+
+/// The line that the words make. Where they make none, or there are none, it writes the message to
+/// `err` and answers the status.
+fn line_of<E: Sink>(alloc: Global, words: io::Result<Vec<String>>, err: &mut E) -> Result<Line, u8>
+    ensures refused { IfErr result (λ status. (status ≡ 2) ⊎ (status ≡ 3)) }
+    ensures memory { IfErr words (λ error. error_kind error ≡ ErrorKind.OutOfMemory → result ≡ Err 3) }
+    ensures unread { IfErr words (λ error. error_kind error ≢ ErrorKind.OutOfMemory → result ≡ Err 2) }
+{
+    match words {
+        Ok(words) => match lent(alloc, words.as_slice()) {
+            Ok(lent) => start(alloc, lent.as_slice(), err),
+            Err(_) => Err(tell(err, Trouble::Memory)),
+        },
+        Err(error) if error.kind() == ErrorKind::OutOfMemory => Err(tell(err, Trouble::Memory)),
+        Err(_) => Err(tell(err, Trouble::Usage)),
+    }
+}
+
+/// Why there is no answer where the probe couldn't be opened: that, unless the dump has a trouble.
+fn without_probe<A: Allocator, D: Source>(alloc: A, dump: &mut D) -> Trouble
+    ensures trouble { (probe_left : Option (List ℕ)) → IsTextTrouble (D.left dump.old) probe_left result }
+    ensures failed { status_of result ≡ 4
+        → (D.failures dump.new ≡ D.failures dump.old + 1) ⊎ (result ≡ Trouble.Probe ReadFault.Io) }
+{
+    match read_dump(alloc, dump) {
+        Ok(_) => Trouble::Probe(ReadFault::Io),
+        Err(fault) => Trouble::Dump(fault),
+    }
+}
+
+/// Opens the two texts of a line, the dump first, and carries out its task. Where one can't be opened there is
+/// no answer, and the status is 4, unless the other is the probe and the dump has a fault.
+pub fn carry_out<A: Allocator + Copy, D: Opening, P: Opening, O: Sink, E: Sink>(
+    alloc: A,
+    line: &Line,
+    dump: &mut D,
+    probe: &mut P,
+    out: &mut O,
+    err: &mut E,
+) -> u8
+    ensures done { result < 2 → IsLineDone line.now (D.stands dump.old) (P.stands probe.old)
+        (D.bytes_at dump.old) (P.bytes_at probe.old) result (O.taken out.old) (O.taken out.new) }
+    ensures silent { result < 2 → err.new ≡ err.old }
+    ensures quiet { (result ≡ 2) ⊎ (result ≡ 3) → out.new ≡ out.old }
+    ensures begun { result ≡ 4 → (out.new ≡ out.old)
+        ⊎ IsLineBegun line.now (D.bytes_at dump.old) (P.bytes_at probe.old) (O.taken out.old) (O.taken out.new) }
+    ensures refused { result ≡ 2 → IsTextRefused (D.bytes_at dump.old (string_bytes line.now.dump))
+        (P.bytes_at probe.old (string_bytes line.now.probe)) }
+    ensures failed { result ≡ 4 → HasFailed (D.failures dump.old) (D.failures dump.new)
+        (P.failures probe.old) (P.failures probe.new) (O.failures out.old) (O.failures out.new) }
+    ensures known { result ≤ 4 }
+{
+    if dump.open(line.dump.as_str()).is_err() {
+        return tell(err, Trouble::Dump(ReadFault::Io));
+    }
+    if probe.open(line.probe.as_str()).is_err() {
+        return tell(err, without_probe(alloc, dump));
+    }
+    run(alloc, line, dump, probe, out, err)
+}
+
+/// Does what the words ask for: writes the answer to `out` or a message to `err`, and answers the status. 0 or 1
+/// where the answer was written; 2 where the words or a text are refused; 3 at want of memory; 4 where a text
+/// couldn't be opened, or a read or a write failed. At 2 and 3 nothing was written to `out`, at 4 a beginning of
+/// the answer at most.
+pub fn program<D: Opening, P: Opening, O: Sink, E: Sink>(
+    alloc: Global,
+    words: io::Result<Vec<String>>,
+    dump: &mut D,
+    probe: &mut P,
+    out: &mut O,
+    err: &mut E,
+) -> u8
+    ensures memory { IfErr words (λ error. error_kind error ≡ ErrorKind.OutOfMemory → result ≡ 3) }
+    ensures unread { IfErr words (λ error. error_kind error ≢ ErrorKind.OutOfMemory → result ≡ 2) }
+    ensures done { result < 2 → (line : Line) × IsLineDone line (D.stands dump.old) (P.stands probe.old)
+        (D.bytes_at dump.old) (P.bytes_at probe.old) result (O.taken out.old) (O.taken out.new) }
+    ensures quiet { (result ≡ 2) ⊎ (result ≡ 3) → out.new ≡ out.old }
+    ensures begun { result ≡ 4 → (out.new ≡ out.old)
+        ⊎ ((line : Line) × IsLineBegun line (D.bytes_at dump.old) (P.bytes_at probe.old) (O.taken out.old) (O.taken out.new)) }
+    ensures failed { result ≡ 4 → HasFailed (D.failures dump.old) (D.failures dump.new)
+        (P.failures probe.old) (P.failures probe.new) (O.failures out.old) (O.failures out.new) }
+    ensures known { result ≤ 4 }
+{
+    match line_of(alloc, words, err) {
+        Ok(line) => carry_out(alloc, &line, dump, probe, out, err),
+        Err(status) => status,
+    }
+}
