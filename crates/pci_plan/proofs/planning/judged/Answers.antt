@@ -16,4 +16,4 @@ returns-in-Err-Fault g c =
     let dump : List Block = c.args.dump.now in
     let probe : List Block = c.args.admitted.now.probe in
     refused_unsound c.args.admitted.now.roots dump probe c.in-Err-Fault.fault c.requires.system c.requires.slots
-    (subst (λ rs. IsThere rs dump probe (fault_of c.in-Err-Fault.fault)) c.requires.roots (subst (λ ps. IsThere (buses_of c.args.roots) dump ps (fault_of c.in-Err-Fault.fault)) c.probe.ensures there.0))
+    (subst (λ rs. IsThere rs dump probe (fault_of c.in-Err-Fault.fault)) c.requires.roots (subst (λ ps. IsThere (buses_of c.args.roots) dump ps (fault_of c.in-Err-Fault.fault)) c.probe.ensures there.0.there))
