@@ -1,0 +1,21 @@
+//! Tests of putting plans onto machines: how many accesses it takes and in which order, and what stands where one of
+//! them fails, where a bit doesn't stay, and where a register has changed. And how a firmware does it over accesses of
+//! its own.
+#![tactic(auto)]
+
+#[cfg(test)]
+mod by_rule;
+#[cfg(test)]
+mod changes;
+#[cfg(test)]
+mod counting;
+#[cfg(test)]
+mod firmware;
+#[cfg(test)]
+mod setting;
+#[cfg(test)]
+mod stops;
+#[cfg(test)]
+mod trial;
+#[cfg(test)]
+mod worked;
