@@ -14,7 +14,7 @@ use Rattle.pci_spec.specs.Decoded.{IsDecodable}
 use Rattle.pci_spec.specs.Fault.{has_no_vendor, has_other_layout, NoVendor, HeaderKind, BarType, BarMask, BarPair, RomMask, WindowMask}
 use Rattle.pci_spec.specs.Sound.{IsInProfile}
 use Rattle.pci_spec.specs.Planning.Safety.{IsSafe}
-use Rattle.pci_spec.specs.PlanningLaws.{CutIsSound, OffIsSound, MovedIsSystem, MovedIsNested, MovedIsInProfile, MovedHasChains, ProfileDecodes, LargestFirstIsAligned, Takes, PlacedFillsItsRange, PlacedTakesOnce, FewWritesEach, WindowIsLeastPower, LaidOutIsSound, RomsCanBeOn, PlacesAreATable, PlannedNumbersAreFinal}
+use Rattle.pci_spec.specs.PlanningLaws.{CutIsSound, OffIsSound, MovedIsSystem, MovedIsNested, MovedIsInProfile, MovedHasChains, ProfileDecodes, LargestFirstIsAligned, TakesAddress, PlacedFillsItsRange, PlacedTakesOnce, FewWritesEach, WindowIsLeastPower, LaidOutIsSound, RomsCanBeOn, PlacesAreATable, PlannedNumbersAreFinal}
 use Rattle.pci_spec.proofs.Planning.Faults.{moved_profile}
 use Rattle.pci_spec.proofs.Planning.FewEach.{few_at_each}
 use Rattle.pci_spec.proofs.Planning.Kept.{moved_nested, moved_chains}
@@ -93,39 +93,44 @@ pub largest_first_is_aligned : LargestFirstIsAligned
 largest_first_is_aligned start sizes falling aligned = placed start sizes falling aligned
 
 module _ (a : ℕ) where
-  taken_in_range : (start : ℕ) (sizes : List ℕ) (k : ℕ) → Takes start sizes a k → (start ≤ a) × (a < start + sum sizes)
-  taken_in_range start [] k (less, low, high) = absurd (let no : ⊥ = omega (arith, less) in no)
-  taken_in_range start (x ∷ xs) zero (less, low, high) = let e = sum_cons x xs in (omega (arith, low), omega (arith, high, e))
-  taken_in_range start (x ∷ xs) (suc k) (less, low, high) =
+  -- what the rest of the sizes takes
+  later : (start x : ℕ) (xs : List ℕ) (k : ℕ) → TakesAddress start (x ∷ xs) a (suc k) → TakesAddress (start + x) xs a k
+  later start x xs k t = record { inside = (let less = t.inside in omega (arith, less)); low = t.low; high = t.high }
+
+  taken_in_range : (start : ℕ) (sizes : List ℕ) (k : ℕ) → TakesAddress start sizes a k → (start ≤ a) × (a < start + sum sizes)
+  taken_in_range start [] k t = let less = t.inside in absurd (let no : ⊥ = omega (arith, less) in no)
+  taken_in_range start (x ∷ xs) zero t = let e = sum_cons x xs in let low = t.low in let high = t.high in (omega (arith, low), omega (arith, high, e))
+  taken_in_range start (x ∷ xs) (suc k) t =
       let e = sum_cons x xs in
-      let rest = taken_in_range (start + x) xs k (omega (arith, less), low, high) in
+      let rest = taken_in_range (start + x) xs k (later start x xs k t) in
       let from = rest.0 in
       let to = rest.1 in
       (omega (arith, from), omega (arith, to, e))
 
-  taker_of : (start : ℕ) (sizes : List ℕ) → start ≤ a → a < start + sum sizes → (k : ℕ) × Takes start sizes a k
+  taker_of : (start : ℕ) (sizes : List ℕ) → start ≤ a → a < start + sum sizes → (k : ℕ) × TakesAddress start sizes a k
   taker_of start [] low high = absurd (let no : ⊥ = omega (arith, low, high) in no)
   taker_of start (x ∷ xs) low high =
       let e = sum_cons x xs in
       elim (cases_lt a (start + x)) [
-        | inl here ↦ (0, (omega arith, low, here))
-        | inr later ↦
-            let rest = taker_of (start + x) xs later (omega (arith, high, e)) in
-            let less = rest.1.0 in
-            (suc rest.0, (omega (arith, less), rest.1.1, rest.1.2))
+        | inl here ↦ (0, record { inside = omega arith; low = low; high = here })
+        | inr past ↦
+            let rest = taker_of (start + x) xs past (omega (arith, high, e)) in
+            let less = rest.1.inside in
+            (suc rest.0, record { inside = omega (arith, less); low = rest.1.low; high = rest.1.high })
       ]
 
-  taken_once : (start : ℕ) (sizes : List ℕ) (j k : ℕ) → Takes start sizes a j → Takes start sizes a k → j ≡ k
-  taken_once start [] j k (less, low, high) other = absurd (let no : ⊥ = omega (arith, less) in no)
+  taken_once : (start : ℕ) (sizes : List ℕ) (j k : ℕ) → TakesAddress start sizes a j → TakesAddress start sizes a k → j ≡ k
+  taken_once start [] j k one other = let less = one.inside in absurd (let no : ⊥ = omega (arith, less) in no)
   taken_once start (x ∷ xs) zero zero one other = refl
-  taken_once start (x ∷ xs) zero (suc k) (less, low, high) (less_too, low_too, high_too) =
-      let from = (taken_in_range (start + x) xs k (omega (arith, less_too), low_too, high_too)).0 in
+  taken_once start (x ∷ xs) zero (suc k) one other =
+      let from = (taken_in_range (start + x) xs k (later start x xs k other)).0 in
+      let high = one.high in
       absurd (let no : ⊥ = omega (arith, from, high) in no)
-  taken_once start (x ∷ xs) (suc j) zero (less, low, high) (less_too, low_too, high_too) =
-      let from = (taken_in_range (start + x) xs j (omega (arith, less), low, high)).0 in
-      absurd (let no : ⊥ = omega (arith, from, high_too) in no)
-  taken_once start (x ∷ xs) (suc j) (suc k) (less, low, high) (less_too, low_too, high_too) =
-      ap suc (taken_once (start + x) xs j k (omega (arith, less), low, high) (omega (arith, less_too), low_too, high_too))
+  taken_once start (x ∷ xs) (suc j) zero one other =
+      let from = (taken_in_range (start + x) xs j (later start x xs j one)).0 in
+      let high = other.high in
+      absurd (let no : ⊥ = omega (arith, from, high) in no)
+  taken_once start (x ∷ xs) (suc j) (suc k) one other = ap suc (taken_once (start + x) xs j k (later start x xs j one) (later start x xs k other))
 
 pub placed_fills_its_range : PlacedFillsItsRange
 placed_fills_its_range start sizes a = (λ taken. taken_in_range a start sizes taken.0 taken.1, λ inside. taker_of a start sizes inside.0 inside.1)

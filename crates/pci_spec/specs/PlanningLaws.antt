@@ -59,16 +59,18 @@ abbrev pub LargestFirstIsAligned : Type 0
 LargestFirstIsAligned = (start : ℕ) (sizes : List ℕ) → IsFalling sizes → (0 < length sizes → start % slice_index sizes 0 ≡ 0) → IsPlacedFrom start sizes (starts start sizes)
 
 -- the size at this index, placed from a start on, takes the address
-abbrev pub Takes : ℕ → List ℕ → ℕ → ℕ → Type 0
-Takes start sizes a k = (k < length sizes) × (slice_index (starts start sizes) k ≤ a) × (a < slice_index (starts start sizes) k + slice_index sizes k)
+pub record TakesAddress (start : ℕ) (sizes : List ℕ) (a k : ℕ) : Type 0 where
+  pub inside : k < length sizes
+  pub low : slice_index (starts start sizes) k ≤ a
+  pub high : a < slice_index (starts start sizes) k + slice_index sizes k
 
 -- Sizes that are placed one after another take each address from the start to their sum, and no other:
 abbrev pub PlacedFillsItsRange : Type 0
-PlacedFillsItsRange = (start : ℕ) (sizes : List ℕ) (a : ℕ) → ((k : ℕ) × Takes start sizes a k) ↔ ((start ≤ a) × (a < start + sum sizes))
+PlacedFillsItsRange = (start : ℕ) (sizes : List ℕ) (a : ℕ) → ((k : ℕ) × TakesAddress start sizes a k) ↔ ((start ≤ a) × (a < start + sum sizes))
 
 -- each of them once.
 abbrev pub PlacedTakesOnce : Type 0
-PlacedTakesOnce = (start : ℕ) (sizes : List ℕ) (a j k : ℕ) → Takes start sizes a j → Takes start sizes a k → j ≡ k
+PlacedTakesOnce = (start : ℕ) (sizes : List ℕ) (a j k : ℕ) → TakesAddress start sizes a j → TakesAddress start sizes a k → j ≡ k
 
 -- ---- writes
 
