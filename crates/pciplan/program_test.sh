@@ -44,10 +44,10 @@ lf='
 
 # case_of NAME STATUS OUT ERR WORD..: the program, given the words.
 case_of() {
-    name=$1 status=$2 wrote=$3 told=$4
+    title=$1 status=$2 wrote=$3 told=$4
     shift 4
     ./pciplan "$@" >out 2>err
-    compare "$name" "$status" "$wrote" "$told" $?
+    compare "$title" "$status" "$wrote" "$told" $?
 }
 
 probe_text=$(cat probe.txt; echo .)
@@ -81,12 +81,14 @@ case_of 'a fault of the probe' 2 '' "pciplan: probe: 9 Ended 1$lf" check dump.tx
 case_of 'a fault of both' 2 '' "pciplan: dump: 9 Ended 1$lf" check cut.txt cut.txt
 
 # texts that can't be opened or read
-for command in show check size; do
-    case_of "$command: no dump" 4 '' "pciplan: dump: 1 Io$lf" $command missing.txt probe.txt
-    case_of "$command: no probe" 4 '' "pciplan: probe: 1 Io$lf" $command dump.txt missing.txt
-    case_of "$command: neither" 4 '' "pciplan: dump: 1 Io$lf" $command missing.txt missing.txt
-    case_of "$command: a folder as dump" 4 '' "pciplan: dump: 1 Io$lf" $command folder probe.txt
-    case_of "$command: a folder as probe" 4 '' "pciplan: probe: 1 Io$lf" $command dump.txt folder
+# shellcheck disable=SC2086
+for command in show check size "plan $pools"; do
+    name=${command%% *}
+    case_of "$name: no dump" 4 '' "pciplan: dump: 1 Io$lf" $command missing.txt probe.txt
+    case_of "$name: no probe" 4 '' "pciplan: probe: 1 Io$lf" $command dump.txt missing.txt
+    case_of "$name: neither" 4 '' "pciplan: dump: 1 Io$lf" $command missing.txt missing.txt
+    case_of "$name: a folder as dump" 4 '' "pciplan: dump: 1 Io$lf" $command folder probe.txt
+    case_of "$name: a folder as probe" 4 '' "pciplan: probe: 1 Io$lf" $command dump.txt folder
 done
 case_of 'no probe, and a fault of the dump' 2 '' "pciplan: dump: 9 Ended 1$lf" check cut.txt missing.txt
 case_of 'an empty path' 4 '' "pciplan: dump: 1 Io$lf" check '' probe.txt
@@ -98,6 +100,30 @@ if ! [ -r locked.txt ]; then
 elif su nobody -s /bin/sh -c "cd '$room' && ! [ -r locked.txt ]" 2>err; then
     su nobody -s /bin/sh -c "cd '$room' && exec ./pciplan check locked.txt probe.txt" >out 2>err
     compare "$name" 4 '' "pciplan: dump: 1 Io$lf" $?
+else
+    echo "skipped: $name"
+fi
+
+# memory that holds the program and not the largest of texts, where the shell can limit it
+name='want of memory'
+# shellcheck disable=SC3045
+(ulimit -v 7000 && exec ./pciplan) >out 2>err
+if [ $? -eq 2 ]; then
+    awk 'BEGIN {
+        for (n = 0; n < 4096; n++) {
+            printf "%02x:%02x.%x\n", int(n / 256), int(n / 8) % 32, n % 8
+            for (row = 0; row < 16; row++) {
+                printf "%02x:", row * 16
+                for (byte = 0; byte < 16; byte++)
+                    printf " 00"
+                print ""
+            }
+            print ""
+        }
+    }' >large.txt
+    # shellcheck disable=SC3045
+    (ulimit -v 7000 && exec ./pciplan size large.txt large.txt) >out 2>err
+    compare "$name" 3 '' "pciplan: 2 Memory$lf" $?
 else
     echo "skipped: $name"
 fi

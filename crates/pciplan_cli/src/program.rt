@@ -69,8 +69,9 @@ fn without_probe<A: Allocator, D: Source>(alloc: A, dump: &mut D) -> Trouble
     }
 }
 
-/// Opens the two texts of a line, the dump first, and carries out its task. Where one can't be opened there is
-/// no answer, and the status is 4, unless the other is the probe and the dump has a fault.
+/// Opens the two texts of a line, the dump first, and carries out its task. A text that can't be opened is one
+/// that can't be read: there is no answer then, and the message names it, unless it is the probe and the dump
+/// has a trouble of its own.
 pub fn carry_out<A: Allocator + Copy, D: Opening, P: Opening, O: Sink, E: Sink>(
     alloc: A,
     line: &Line,

@@ -51,11 +51,9 @@ impl Opening for Shelf<'_> {
     ghost bytes_at = { λ _ _. None };
 
     fn open(&mut self, path: &str) -> Result<(), Failed> {
-        for (name, text) in self.texts {
-            if *name == path {
-                self.rest = text.as_bytes();
-                return Ok(());
-            }
+        if let Some(entry) = self.texts.iter().find(|entry| entry.0 == path) {
+            self.rest = entry.1.as_bytes();
+            return Ok(());
         }
         self.failed = self.failed.and_one();
         Err(Failed)
