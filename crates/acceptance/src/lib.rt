@@ -8,6 +8,8 @@ mod listings;
 #[cfg(test)]
 mod messages;
 #[cfg(test)]
+mod options;
+#[cfg(test)]
 mod outlines;
 #[cfg(test)]
 mod roots;
