@@ -1,0 +1,62 @@
+/* The verdict of pciplan, from C: link capture/../crates/pciplan_c/out/libpciplan_c.a.
+
+   The library holds no state, keeps nothing between calls, starts no thread and touches no file. Besides memcpy, memmove,
+   memset and memcmp it needs the three functions of memory at the end; pciplan_memory.c gives them over malloc,
+   pciplan_fixed_memory.c over an array of fixed size.
+
+   What the caller has to uphold, which nothing checks: each pointer is to as many bytes as its length says, and isn't
+   null, even where the length is 0; they stay as they are during the call; what is written to (line, line_used) overlaps
+   nothing else that is handed in. */
+#ifndef PCIPLAN_H
+#define PCIPLAN_H
+
+#include <stddef.h>
+#include <stdint.h>
+
+#ifdef __cplusplus
+extern "C" {
+#endif
+
+enum pciplan_status {
+    PCIPLAN_YES = 0,     /* both texts list the same slots, and their system is sound */
+    PCIPLAN_NO = 1,      /* that isn't so, and a fault that is there is named */
+    PCIPLAN_REFUSED = 2, /* the roots are no list of roots, else the dump is no text, else the probe is none */
+    PCIPLAN_MEMORY = 3,  /* a growth was refused */
+    PCIPLAN_SHORT = 4    /* line is too short */
+};
+
+/* So long a line holds every answer. */
+#define PCIPLAN_LINE 96
+
+/* Judges the texts of a dump and of its probe. roots are the buses on which the host's accesses start, each above the
+   one before it; a plain machine has the one root 0.
+
+   At YES and NO the verdict's line, with its line end, stands at the front of line: "yes", or "no" with the fault. At
+   REFUSED a message without a line end stands there: "root", or whose text it is and its fault, as "dump: 5 BadLine 17".
+   *line_used is its length, and what follows it in line isn't changed.
+
+   At MEMORY and SHORT line isn't changed. At SHORT *line_used is the length that is needed. */
+uint8_t pciplan_check(const uint8_t *dump, size_t dump_len,
+                      const uint8_t *probe, size_t probe_len,
+                      const uint8_t *roots, size_t roots_len,
+                      uint8_t *line, size_t line_len, size_t *line_used);
+
+/* What the library calls for memory. A block that was handed out is the library's until it is given back, and so lies
+   apart from all else. It begins at a multiple of align, a power of two.
+
+   ok is 1 where there was memory, else 0, and at then points to any byte that stays. realloc keeps the first kept bytes
+   of the block at, which is the caller's no more where ok is 1, and as it was where ok is 0. */
+struct pciplan_tried {
+    uint8_t ok;
+    void *at;
+};
+
+struct pciplan_tried rattle_alloc(size_t n, size_t align);
+struct pciplan_tried rattle_realloc(void *at, size_t kept, size_t n, size_t align);
+void rattle_dealloc(void *at);
+
+#ifdef __cplusplus
+}
+#endif
+
+#endif

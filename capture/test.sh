@@ -1,0 +1,15 @@
+#!/bin/sh
+# Builds the library and the C test over both memories, and runs it: capture/test.sh, from anywhere.
+set -e
+here=$(cd "$(dirname "$0")" && pwd)
+library=$here/../crates/pciplan_c/out/libpciplan_c.a
+(cd "$here/../crates/pciplan_c" && rt lib >/dev/null)
+built=$(mktemp -d)
+trap 'rm -rf "$built"' EXIT
+cd "$here/data"
+for memory in pciplan_memory pciplan_fixed_memory; do
+    ${CC:-cc} -std=c11 -Wall -Wextra -O2 -o "$built/$memory" \
+        -Wl,--wrap=rattle_alloc,--wrap=rattle_realloc "$here/pciplan_test.c" "$here/$memory.c" "$library"
+    printf '%s: ' "$memory"
+    "$built/$memory"
+done

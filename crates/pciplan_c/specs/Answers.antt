@@ -1,0 +1,34 @@
+-- What is answered to two texts and a list of root buses, and where its text is put.
+use Rattle.std.specs.Prelude.{◌≡◌, ◌<◌, ℕ, List, ◌++◌, length, drop, Some}
+use Rattle.pci_tree.specs.Roots.{IsRootList}
+use Rattle.pci_check.specs.Audits.{IsAudited, outcome_line}
+use Rattle.pciplan_c.specs.Refusals.{IsRefusalOf, refusal_text}
+use Rattle.pciplan_c.specs.declared.answer.Answer.{Answer}
+use Rattle.pciplan_c.specs.declared.answer.Answer.TheVariants.{Verdict, Refused}
+
+-- the line of the verdict, or the message of the refusal
+abbrev pub answer_text : Answer → List ℕ
+answer_text (Verdict outcome) = outcome_line outcome
+answer_text (Refused refusal) = refusal_text refusal
+
+-- the verdict on the two texts, or why there is none
+abbrev pub IsAnswerOf : List ℕ → List ℕ → List ℕ → Answer → Type 0
+IsAnswerOf roots dump probe (Verdict outcome) = IsRootList roots × IsAudited roots (Some dump) (Some probe) outcome
+IsAnswerOf roots dump probe (Refused refusal) = IsRefusalOf roots dump probe refusal
+
+-- the text stands at the front of the bytes, and the rest is as it was
+abbrev pub IsPutInto : List ℕ → List ℕ → List ℕ → Type 0
+IsPutInto old new text = new ≡ text ++ drop (length text) old
+
+-- the answer to the two texts, with its text at the front of the bytes
+pub record IsTold (roots dump probe : List ℕ) (answer : Answer) (old new : List ℕ) (used : ℕ) : Type 0 where
+  pub answered : IsAnswerOf roots dump probe answer
+  pub text : IsPutInto old new (answer_text answer)
+  pub count : used ≡ length (answer_text answer)
+
+-- there is an answer, whose text needs so many bytes: more than there are
+pub record IsTooLong (roots dump probe bytes : List ℕ) (needed : ℕ) : Type 0 where
+  pub answer : Answer
+  pub answered : IsAnswerOf roots dump probe answer
+  pub count : needed ≡ length (answer_text answer)
+  pub more : length bytes < needed

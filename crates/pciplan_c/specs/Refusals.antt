@@ -1,0 +1,34 @@
+-- Why two texts and a list of root buses are refused, and how that is said.
+use Rattle.std.specs.Prelude.{◌≡◌, ℕ, List, ◌++◌, Some, codes}
+use Rattle.std.specs.Fmt.{decimal}
+use Rattle.pci_spec.specs.Text.{Block, IsTextOf}
+use Rattle.pci_dump.specs.ReadFault.{IsTextFault}
+use Rattle.pci_dump.specs.declared.read_fault.ReadFault.{ReadFault}
+use Rattle.pci_dump.specs.declared.read_fault.ReadFault.TheVariants as faults
+use Rattle.pci_tree.specs.Roots.{IsRootList}
+use Rattle.pciplan_c.specs.declared.refusal.Refusal.{Refusal}
+use Rattle.pciplan_c.specs.declared.refusal.Refusal.TheVariants.{Root, Dump, Probe}
+
+-- a fault of a text: its number, its name and its line
+abbrev pub read_fault_text : ReadFault → List ℕ
+read_fault_text faults.Io = codes "1 Io"
+read_fault_text faults.Memory = codes "2 Memory"
+read_fault_text (faults.BadSlot n) = codes "3 BadSlot " ++ decimal n
+read_fault_text (faults.BadTitle n) = codes "4 BadTitle " ++ decimal n
+read_fault_text (faults.BadLine n) = codes "5 BadLine " ++ decimal n
+read_fault_text (faults.NoBlank n) = codes "6 NoBlank " ++ decimal n
+read_fault_text (faults.Order n) = codes "7 Order " ++ decimal n
+read_fault_text (faults.TooMany n) = codes "8 TooMany " ++ decimal n
+read_fault_text (faults.Ended n) = codes "9 Ended " ++ decimal n
+
+-- the message of a refusal
+abbrev pub refusal_text : Refusal → List ℕ
+refusal_text Root = codes "root"
+refusal_text (Dump fault) = codes "dump: " ++ read_fault_text fault
+refusal_text (Probe fault) = codes "probe: " ++ read_fault_text fault
+
+-- the buses are no list of roots; else the dump has the fault; else the probe has it
+abbrev pub IsRefusalOf : List ℕ → List ℕ → List ℕ → Refusal → Type 0
+IsRefusalOf roots dump probe Root = IsRootList roots → ⊥
+IsRefusalOf roots dump probe (Dump fault) = IsRootList roots × IsTextFault dump fault
+IsRefusalOf roots dump probe (Probe fault) = IsRootList roots × ((blocks : List Block) × IsTextOf dump blocks) × IsTextFault probe fault

@@ -1,0 +1,55 @@
+//! Why there is no verdict.
+ghost use Rattle.std.specs.Prelude.{◌≡◌, Some};
+
+use pci_dump::read_fault::ReadFault;
+use std::fmt;
+
+/// Why two texts and a list of root buses are refused.
+#[derive(Clone, Copy, Debug, PartialEq, Eq)]
+pub enum Refusal {
+    /// The list is empty or doesn't rise.
+    Root,
+    /// The dump's text has this fault.
+    Dump(ReadFault),
+    /// The probe's text has this fault, and the dump's is a text.
+    Probe(ReadFault),
+}
+
+/// A fault of a text as it is said: its number, its name and its line.
+#[derive(Clone, Copy)]
+struct Said(ReadFault);
+
+impl fmt::Display for Said {
+    ghost use Rattle.pciplan_c.specs.Refusals.{read_fault_text};
+
+    ghost output = { λ s. Some (read_fault_text s.0) };
+
+    fn fmt<W: fmt::Write>(&self, f: &mut fmt::Formatter<W>) -> fmt::Result {
+        match self.0 {
+            ReadFault::Io => write!(f, "1 Io"),
+            ReadFault::Memory => write!(f, "2 Memory"),
+            ReadFault::BadSlot(line) => write!(f, "3 BadSlot {line}"),
+            ReadFault::BadTitle(line) => write!(f, "4 BadTitle {line}"),
+            ReadFault::BadLine(line) => write!(f, "5 BadLine {line}"),
+            ReadFault::NoBlank(line) => write!(f, "6 NoBlank {line}"),
+            ReadFault::Order(line) => write!(f, "7 Order {line}"),
+            ReadFault::TooMany(line) => write!(f, "8 TooMany {line}"),
+            ReadFault::Ended(line) => write!(f, "9 Ended {line}"),
+        }
+    }
+}
+
+/// The message, as `dump: 5 BadLine 17`.
+impl fmt::Display for Refusal {
+    ghost use Rattle.pciplan_c.specs.Refusals.{refusal_text};
+
+    ghost output = { λ r. Some (refusal_text r) };
+
+    fn fmt<W: fmt::Write>(&self, f: &mut fmt::Formatter<W>) -> fmt::Result {
+        match *self {
+            Refusal::Root => write!(f, "root"),
+            Refusal::Dump(fault) => write!(f, "dump: {}", Said(fault)),
+            Refusal::Probe(fault) => write!(f, "probe: {}", Said(fault)),
+        }
+    }
+}
