@@ -1,12 +1,12 @@
-/* The verdict of pciplan, from C: link capture/../crates/pciplan_c/out/libpciplan_c.a.
+/* The verdict and the plan of pciplan, from C: link crates/pciplan_c/out/libpciplan_c.a, which `rt lib` makes there.
 
    The library holds no state, keeps nothing between calls, starts no thread and touches no file. Besides memcpy, memmove,
    memset and memcmp it needs the three functions of memory at the end; pciplan_memory.c gives them over malloc,
    pciplan_fixed_memory.c over an array of fixed size.
 
    What the caller has to uphold, which nothing checks: each pointer is to as many bytes as its length says, and isn't
-   null, even where the length is 0; they stay as they are during the call; what is written to (line, line_used) overlaps
-   nothing else that is handed in. */
+   null, even where the length is 0; they stay as they are during the call; what is written to (line, line_used,
+   writes, writes_used, safe_from) overlaps nothing else that is handed in. */
 #ifndef PCIPLAN_H
 #define PCIPLAN_H
 
@@ -18,11 +18,11 @@ extern "C" {
 #endif
 
 enum pciplan_status {
-    PCIPLAN_YES = 0,     /* both texts list the same slots, and their system is sound */
+    PCIPLAN_YES = 0,     /* check: both texts list the same slots, and their system is sound; plan: there is one */
     PCIPLAN_NO = 1,      /* that isn't so, and a fault that is there is named */
     PCIPLAN_REFUSED = 2, /* the roots are no list of roots, else the dump is no text, else the probe is none */
     PCIPLAN_MEMORY = 3,  /* a growth was refused */
-    PCIPLAN_SHORT = 4    /* line is too short */
+    PCIPLAN_SHORT = 4    /* line or writes is too short */
 };
 
 /* So long a line holds every answer. */
@@ -40,6 +40,36 @@ uint8_t pciplan_check(const uint8_t *dump, size_t dump_len,
                       const uint8_t *probe, size_t probe_len,
                       const uint8_t *roots, size_t roots_len,
                       uint8_t *line, size_t line_len, size_t *line_used);
+
+/* A pool of addresses for I/O, for memory and for prefetchable memory, both ends of each inclusive. */
+struct pciplan_pools {
+    uint64_t io_first, io_last;
+    uint64_t mem_first, mem_last;
+    uint64_t pref_first, pref_last;
+};
+
+/* A write of width little-endian bytes, 2 or 4, to the configuration register at offset. */
+struct pciplan_write {
+    uint8_t bus, device, function, offset, width;
+    uint32_t value;
+};
+
+/* Plans the texts of a dump and of its probe in these pools.
+
+   At YES the writes of the plan, in the order in which they are to be made, stand at the front of writes, and
+   *writes_used of them count. After *safe_from of them or more one may stop anywhere: what the registers then hold is
+   sound. line isn't changed.
+
+   At NO and REFUSED line and *line_used are as pciplan_check leaves them, where NO names a fault of the texts or of
+   planning; writes isn't changed. At MEMORY and SHORT neither writes nor line is changed. At SHORT *writes_used or
+   *line_used is what is needed, and the other one 0. */
+uint8_t pciplan_plan(const uint8_t *dump, size_t dump_len,
+                     const uint8_t *probe, size_t probe_len,
+                     const uint8_t *roots, size_t roots_len,
+                     const struct pciplan_pools *pools,
+                     struct pciplan_write *writes, size_t writes_len, size_t *writes_used,
+                     size_t *safe_from,
+                     uint8_t *line, size_t line_len, size_t *line_used);
 
 /* What the library calls for memory. A block that was handed out is the library's until it is given back, and so lies
    apart from all else. It begins at a multiple of align, a power of two.

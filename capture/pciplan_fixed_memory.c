@@ -1,7 +1,7 @@
 /* The memory of the library, from an array of fixed size: for firmware, where there is no malloc.
 
    Blocks are handed out one behind the other. A block that is given back is used again only if it is the last one; once
-   all are given back, as they are when a call has returned, the array is empty again. */
+   all are given back, as they are when a call has returned, the array is empty again. One call at a time may run. */
 #include "pciplan.h"
 
 #include <string.h>

@@ -6,6 +6,8 @@
 #include <stdlib.h>
 #include <string.h>
 
+#define COUNT(xs) (sizeof(xs) / sizeof((xs)[0]))
+
 /* ---- growths, of which one may be refused */
 
 struct pciplan_tried __real_rattle_alloc(size_t n, size_t align);
@@ -119,11 +121,11 @@ static uint8_t made(const struct call *c, struct text dump, struct text probe, s
     return status;
 }
 
-int main(void)
+/* Makes all calls for verdicts. The answer is how many growths were refused. */
+static size_t verdicts(void)
 {
     size_t refusals = 0;
-    size_t count = sizeof calls / sizeof calls[0];
-    for (size_t i = 0; i < count; i++) {
+    for (size_t i = 0; i < COUNT(calls); i++) {
         const struct call *c = &calls[i];
         struct text dump = text_of(c->dump);
         struct text probe = text_of(c->probe);
@@ -138,6 +140,113 @@ int main(void)
         free(dump.bytes);
         free(probe.bytes);
     }
-    printf("%zu calls answered as they should be, %zu growths refused in turn\n", count, refusals);
+    return refusals;
+}
+
+/* ---- plans of a board that was never set up */
+
+#define BARE "../../crates/pciplan/data/bare.txt"
+#define BARE_PROBE "../../crates/pciplan/data/bare_probe.txt"
+
+static const struct pciplan_pools pools = {0x1000, 0xffff, 0xe0000000, 0xe02fffff, 0x100000000, 0x1ffffffff};
+static const struct pciplan_pools small = {0x1000, 0xffff, 0xe0000000, 0xe01fffff, 0x100000000, 0x1ffffffff};
+static const struct pciplan_pools bad = {0x1000, 0x0fff, 0xe0000000, 0xe02fffff, 0x100000000, 0x1ffffffff};
+
+static const struct pciplan_write writes[] = {
+    {0x00, 0x01, 0, 0x20, 4, 0xe010e000}, {0x00, 0x02, 0, 0x10, 4, 0xe0200000},
+    {0x01, 0x00, 0, 0x10, 4, 0xe0000000}, {0x01, 0x00, 0, 0x14, 4, 0xe0100000},
+    {0x00, 0x01, 0, 0x04, 2, 0x0002},     {0x00, 0x02, 0, 0x04, 2, 0x0002},
+    {0x01, 0x00, 0, 0x04, 2, 0x0002},
+};
+
+enum { ROOM = 16, ALL = COUNT(writes) };
+
+struct plan_call {
+    const char *name;
+    const struct pciplan_pools *pools;
+    size_t dump_cut;
+    size_t roots_len;
+    size_t writes_len;
+    size_t line_len;
+    uint8_t status;
+    size_t writes_used;
+    const char *line;
+};
+
+static const struct plan_call plan_calls[] = {
+    {"plan", &pools, 0, 1, ROOM, PCIPLAN_LINE, PCIPLAN_YES, ALL, ""},
+    {"plan with just room", &pools, 0, 1, ALL, 0, PCIPLAN_YES, ALL, ""},
+    {"too few writes", &pools, 0, 1, ALL - 1, PCIPLAN_LINE, PCIPLAN_SHORT, ALL, ""},
+    {"no room", &small, 0, 1, ROOM, PCIPLAN_LINE, PCIPLAN_NO, 0, "no 72 NoRoom mem\n"},
+    {"bad pools", &bad, 0, 1, ROOM, PCIPLAN_LINE, PCIPLAN_NO, 0, "no 70 BadPools\n"},
+    {"plan without roots", &pools, 0, 0, ROOM, PCIPLAN_LINE, PCIPLAN_REFUSED, 0, "root"},
+    {"plan of a cut dump", &pools, 1, 1, ROOM, PCIPLAN_LINE, PCIPLAN_REFUSED, 0, "dump: 9 Ended 54"},
+    {"line too short", &small, 0, 1, ROOM, 16, PCIPLAN_SHORT, 0, "no 72 NoRoom mem\n"},
+};
+
+static int is_write(struct pciplan_write w, struct pciplan_write v)
+{
+    return w.bus == v.bus && w.device == v.device && w.function == v.function && w.offset == v.offset &&
+           w.width == v.width && w.value == v.value;
+}
+
+/* Makes a call, and sees to all that it leaves whatever the status. The answer is the status. */
+static uint8_t planned(const struct plan_call *c, struct text dump, struct text probe, size_t refused)
+{
+    static const struct pciplan_write none = {FILLED, FILLED, FILLED, FILLED, FILLED, FILLED};
+    static const uint8_t host = 0;
+    struct pciplan_write put[ROOM];
+    uint8_t line[PCIPLAN_LINE];
+    size_t writes_used = UNTOLD, safe_from = UNTOLD, line_used = UNTOLD;
+    for (size_t i = 0; i < ROOM; i++)
+        put[i] = none;
+    memset(line, FILLED, sizeof line);
+    growths = 0;
+    refuse = refused;
+    uint8_t status = pciplan_plan(dump.bytes, dump.len - c->dump_cut, probe.bytes, probe.len, &host, c->roots_len,
+                                  c->pools, put, c->writes_len, &writes_used, &safe_from, line, c->line_len,
+                                  &line_used);
+    int held_back = status == PCIPLAN_MEMORY || status == PCIPLAN_SHORT;
+    for (size_t i = 0; i < ROOM; i++)
+        if (!is_write(put[i], status == PCIPLAN_YES && i < ALL ? writes[i] : none))
+            fail("another write", c->name);
+    size_t len = strlen(c->line);
+    for (size_t i = 0; i < sizeof line; i++)
+        if (line[i] != (!held_back && i < len ? (uint8_t)c->line[i] : FILLED))
+            fail("another line", c->name);
+    int told = status != PCIPLAN_MEMORY;
+    if (writes_used != (told ? c->writes_used : UNTOLD) || line_used != (told ? len : UNTOLD) ||
+        safe_from != (status == PCIPLAN_YES ? 0 : UNTOLD))
+        fail("another number", c->name);
+    return status;
+}
+
+/* Makes all calls for plans. The answer is how many growths were refused. */
+static size_t plans(void)
+{
+    struct text dump = text_of(BARE);
+    struct text probe = text_of(BARE_PROBE);
+    size_t refusals = 0;
+    for (size_t i = 0; i < COUNT(plan_calls); i++) {
+        const struct plan_call *c = &plan_calls[i];
+        if (planned(c, dump, probe, 0) != c->status)
+            fail("another status", c->name);
+        size_t all = growths;
+        for (size_t n = 1; n <= all; n++) {
+            if (planned(c, dump, probe, n) != PCIPLAN_MEMORY)
+                fail("a refused growth isn't told", c->name);
+            refusals++;
+        }
+    }
+    free(dump.bytes);
+    free(probe.bytes);
+    return refusals;
+}
+
+int main(void)
+{
+    size_t refusals = verdicts() + plans();
+    printf("%zu calls answered as they should be, %zu growths refused in turn\n", COUNT(calls) + COUNT(plan_calls),
+           refusals);
     return 0;
 }

@@ -16,9 +16,9 @@ abbrev pub IsAnswerOf : List ℕ → List ℕ → List ℕ → Answer → Type 0
 IsAnswerOf roots dump probe (Verdict outcome) = IsRootList roots × IsAudited roots (Some dump) (Some probe) outcome
 IsAnswerOf roots dump probe (Refused refusal) = IsRefusalOf roots dump probe refusal
 
--- the text stands at the front of the bytes, and the rest is as it was
-abbrev pub IsPutInto : List ℕ → List ℕ → List ℕ → Type 0
-IsPutInto old new text = new ≡ text ++ drop (length text) old
+-- the items stand at the front, and the rest is as it was
+abbrev pub IsPutInto : {T : Type 0} → List T → List T → List T → Type 0
+IsPutInto old new items = new ≡ items ++ drop (length items) old
 
 -- the answer to the two texts, with its text at the front of the bytes
 pub record IsTold (roots dump probe : List ℕ) (answer : Answer) (old new : List ℕ) (used : ℕ) : Type 0 where

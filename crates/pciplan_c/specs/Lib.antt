@@ -1,2 +1,4 @@
 pub mod Refusals
 pub mod Answers
+pub mod PlanAnswers
+pub mod Endings

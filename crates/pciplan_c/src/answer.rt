@@ -16,6 +16,6 @@ pub enum Answer {
 pub enum Withheld {
     /// A growth was refused.
     Memory,
-    /// The caller's bytes are too few: so many are needed.
+    /// The caller has no room: for so many bytes, or writes, it is needed.
     NoRoom(usize),
 }

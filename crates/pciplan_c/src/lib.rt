@@ -1,16 +1,23 @@
-//! Verdicts for callers in C: two texts and a list of root buses in, a status and a line of text out.
+//! Verdicts and plans for callers in C: two texts and a list of root buses in, a status and a line of text out, or the
+//! register writes of a plan.
 //!
-//! `calls` has what C calls; what C has to uphold is said in capture/pciplan.h. `verdict` does the work over slices:
-//! it reads the texts where they lie (`held`), and puts the line into the caller's bytes only once it is whole.
+//! `calls` has what C calls; what C has to uphold is said in capture/pciplan.h. `verdict` and `planning`
+//! do the work over slices: they read the texts where they lie (`held`), and put what is answered into the caller's
+//! memory only once it is whole (`put`).
 #![tactic(auto)]
 
 pub mod answer;
 pub mod calls;
 pub mod held;
+pub mod no_plan;
+#[cfg(test)]
+mod plan_tests;
+pub mod planning;
 pub mod put;
 pub mod refusal;
 #[cfg(test)]
 mod refusing;
+pub mod register_write;
 #[cfg(test)]
 mod tests;
 #[cfg(test)]

@@ -1,24 +1,24 @@
-//! Puts a text into bytes of the caller's.
+//! Puts bytes of a text, or writes of a plan, into memory of the caller's.
 ghost use Rattle.std.specs.Prelude.{◌≡◌, ◌<◌, length, IfOk, IfErr};
 ghost use Rattle.pciplan_c.specs.Answers.{IsPutInto};
 
 use crate::answer::Withheld;
 
-/// Puts a text at the front of some bytes, and answers its length.
+/// Puts items at the front of others, and answers how many.
 ///
 /// # Errors
 ///
-/// `NoRoom` where the bytes are fewer. They stay as they were.
-pub fn put(text: &[u8], bytes: &mut [u8]) -> Result<usize, Withheld>
-    ensures put { IfOk result (λ _. IsPutInto bytes.old bytes.new text.now) }
-    ensures length { IfOk result (λ used. used ≡ length text.now) }
-    ensures quiet { IfErr result (λ _. bytes.new ≡ bytes.old) }
-    ensures room { IfErr result (λ why. (why ≡ Withheld.NoRoom (length text.now)) × (length bytes.old < length text.now)) }
+/// `NoRoom` where the others are fewer. They stay as they were.
+pub fn put<T: Copy>(items: &[T], room: &mut [T]) -> Result<usize, Withheld>
+    ensures put { IfOk result (λ _. IsPutInto room.old room.new items.now) }
+    ensures length { IfOk result (λ used. used ≡ length items.now) }
+    ensures quiet { IfErr result (λ _. room.new ≡ room.old) }
+    ensures needed { IfErr result (λ why. (why ≡ Withheld.NoRoom (length items.now)) × (length room.old < length items.now)) }
 {
-    let count = text.len();
-    if bytes.len() < count {
+    let count = items.len();
+    if room.len() < count {
         return Err(Withheld::NoRoom(count));
     }
-    bytes[..count].copy_from_slice(text);
+    room[..count].copy_from_slice(items);
     Ok(count)
 }

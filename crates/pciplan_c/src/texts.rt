@@ -42,7 +42,7 @@ fn add_block(text: &mut String, block: &str) -> Result<(), AllocError> {
 }
 
 /// The text of blocks whose lines of zeros are left out.
-fn whole(alloc: Global, blocks: &str) -> Result<String, AllocError> {
+pub fn whole(alloc: Global, blocks: &str) -> Result<String, AllocError> {
     let mut text = String::new(alloc);
     for block in blocks.split("\n\n") {
         add_block(&mut text, block)?;

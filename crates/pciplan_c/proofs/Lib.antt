@@ -1,0 +1,2 @@
+pub mod NoPlans
+pub mod Lengths

@@ -1,0 +1,174 @@
+//! The plan of two texts that lie in memory.
+ghost use Rattle.std.specs.Prelude.{◌≡◌, IfOk, IfErr};
+ghost use Rattle.pci_spec.specs.Plan.{Pools as PoolsValue};
+ghost use Rattle.pci_spec.specs.Text.{IsTextOf};
+ghost use Rattle.pci_dump.specs.ReadFault.{IsTextFault};
+ghost use Rattle.pciplan_c.specs.PlanAnswers.{AreTexts, IsNoPlanOf, ArePlanned, pools_of};
+ghost use Rattle.pciplan_c.specs.Endings.{IsToldOf, IsTooLongFor, IsEnding, IsHeldBack};
+
+use crate::answer::Withheld;
+use crate::held::Bytes;
+use crate::no_plan::NoPlan;
+use crate::put::put;
+use crate::refusal::Refusal;
+use crate::register_write::{PoolsOfC, RegisterWrite, writes_of};
+use pci_dump::dump::Dump;
+use pci_dump::memory::{OutOfMemory, Refused};
+use pci_dump::read_fault::ReadFault;
+use pci_dump::reader::read_dump;
+use pci_plan::planning::plan;
+use pci_tree::admit::admit_with;
+use pci_tree::admitted::Admitted;
+use pci_tree::roots::Roots;
+use std::alloc::Allocator;
+
+/// The dump of a text.
+fn read<A: Allocator>(alloc: A, text: &[u8]) -> Result<Dump<A>, Refused<ReadFault>>
+    ensures ok { IfOk result (IsTextOf text.now) }
+    ensures fault { IfErr result (λ why. (fault : ReadFault) → why ≡ Refused.Fault fault → IsTextFault text.now fault) }
+{
+    match read_dump(alloc, &mut Bytes::of(text)) {
+        Ok(dump) => Ok(dump),
+        Err(ReadFault::Memory) => Err(Refused::Memory),
+        Err(fault) => Err(Refused::Fault(fault)),
+    }
+}
+
+/// The two dumps, admitted.
+fn admit_texts<A: Allocator + Copy>(
+    alloc: A,
+    dump: &[u8],
+    probe: &[u8],
+    roots: &[u8],
+) -> Result<Admitted<A>, Refused<NoPlan>>
+    ensures texts { IfOk result (AreTexts roots.now dump.now probe.now) }
+    ensures why { IfErr result (λ why. (no : NoPlan) (pools : PoolsValue) → why ≡ Refused.Fault no → IsNoPlanOf roots.now dump.now probe.now pools no) }
+{
+    let Some(roots) = Roots::of(roots) else {
+        return Err(Refused::Fault(NoPlan::Refused(Refusal::Root)));
+    };
+    let dump = match read(alloc, dump) {
+        Ok(dump) => dump,
+        Err(Refused::Fault(fault)) => {
+            return Err(Refused::Fault(NoPlan::Refused(Refusal::Dump(fault))));
+        }
+        Err(Refused::Memory) => return Err(Refused::Memory),
+    };
+    let probe = match read(alloc, probe) {
+        Ok(probe) => probe,
+        Err(Refused::Fault(fault)) => {
+            return Err(Refused::Fault(NoPlan::Refused(Refusal::Probe(fault))));
+        }
+        Err(Refused::Memory) => return Err(Refused::Memory),
+    };
+    match admit_with(alloc, dump, probe, roots) {
+        Ok(admitted) => Ok(admitted),
+        Err(Refused::Fault(fault)) => Err(Refused::Fault(NoPlan::NotAdmitted(fault))),
+        Err(Refused::Memory) => Err(Refused::Memory),
+    }
+}
+
+/// The writes of a plan, and from how many on a stop leaves a sound system.
+#[derive(Drop)]
+struct Steps<A: Allocator> {
+    writes: Vec<RegisterWrite, A>,
+    safe_from: usize,
+}
+
+/// Plans two texts.
+fn plan_texts<A: Allocator + Copy>(
+    alloc: A,
+    dump: &[u8],
+    probe: &[u8],
+    roots: &[u8],
+    pools: &PoolsOfC,
+) -> Result<Steps<A>, Refused<NoPlan>>
+    ensures planned { IfOk result (λ s. ArePlanned roots.now dump.now probe.now (pools_of pools.now) s.writes.items s.safe_from) }
+    ensures why { IfErr result (λ why. (no : NoPlan) → why ≡ Refused.Fault no → IsNoPlanOf roots.now dump.now probe.now (pools_of pools.now) no) }
+{
+    let admitted = match admit_texts(alloc, dump, probe, roots) {
+        Ok(admitted) => admitted,
+        Err(why) => return Err(why),
+    };
+    let plan = match plan(alloc, &admitted, &pools.pools()) {
+        Ok(plan) => plan,
+        Err(Refused::Fault(fault)) => return Err(Refused::Fault(NoPlan::NotPlanned(fault))),
+        Err(Refused::Memory) => return Err(Refused::Memory),
+    };
+    let safe_from = plan.safe_from();
+    match writes_of(alloc, plan.writes()) {
+        Ok(writes) => Ok(Steps { writes, safe_from }),
+        Err(OutOfMemory) => Err(Refused::Memory),
+    }
+}
+
+/// What planning ends with.
+#[derive(Clone, Copy, Debug, PartialEq, Eq)]
+pub enum Ending {
+    /// So many writes were put, and a stop from so many on leaves a sound system.
+    Plan { count: usize, safe_from: usize },
+    /// There is no plan, and so many bytes of the line say why.
+    NoPlan { why: NoPlan, used: usize },
+}
+
+/// Why nothing is put anywhere.
+#[derive(Clone, Copy, Debug, PartialEq, Eq)]
+pub enum HeldBack {
+    /// A growth was refused.
+    Memory,
+    /// The array has room for fewer writes than these.
+    Writes(usize),
+    /// The line is shorter than this.
+    Line(usize),
+}
+
+/// Puts why there is no plan into a line.
+fn tell<A: Allocator>(alloc: A, why: NoPlan, line: &mut [u8]) -> Result<Ending, HeldBack>
+    ensures told { IfOk result (IsToldOf why line.old line.new) }
+    ensures quiet { IfErr result (λ _. line.new ≡ line.old) }
+    ensures room { IfErr result (IsTooLongFor why line.old) }
+{
+    let text = match format!(in alloc; "{why}") {
+        Ok(text) => text,
+        Err(_) => return Err(HeldBack::Memory),
+    };
+    match put(text.as_bytes(), line) {
+        Ok(used) => Ok(Ending::NoPlan { why, used }),
+        Err(Withheld::Memory) => Err(HeldBack::Memory),
+        Err(Withheld::NoRoom(needed)) => Err(HeldBack::Line(needed)),
+    }
+}
+
+/// Plans two texts in these pools, with a list of root buses that has to rise strictly and to have a bus. The writes of
+/// the plan are put at the front of `writes`; where there is no plan, why is put at the front of `line`.
+///
+/// # Errors
+///
+/// `Memory` where a growth was refused, `Writes` and `Line` where `writes` or `line` has no room. Then both stay as they
+/// were.
+pub fn plan_into<A: Allocator + Copy>(
+    alloc: A,
+    dump: &[u8],
+    probe: &[u8],
+    roots: &[u8],
+    pools: &PoolsOfC,
+    writes: &mut [RegisterWrite],
+    line: &mut [u8],
+) -> Result<Ending, HeldBack>
+    ensures ending { IfOk result (IsEnding roots.now dump.now probe.now (pools_of pools.now) writes.old writes.new line.old line.new) }
+    ensures writes { IfErr result (λ _. writes.new ≡ writes.old) }
+    ensures line { IfErr result (λ _. line.new ≡ line.old) }
+    ensures room { IfErr result (IsHeldBack roots.now dump.now probe.now (pools_of pools.now) writes.old line.old) }
+{
+    let steps = match plan_texts(alloc, dump, probe, roots, pools) {
+        Ok(steps) => steps,
+        Err(Refused::Fault(why)) => return tell(alloc, why, line),
+        Err(Refused::Memory) => return Err(HeldBack::Memory),
+    };
+    let safe_from = steps.safe_from;
+    match put(steps.writes.as_slice(), writes) {
+        Ok(count) => Ok(Ending::Plan { count, safe_from }),
+        Err(Withheld::Memory) => Err(HeldBack::Memory),
+        Err(Withheld::NoRoom(needed)) => Err(HeldBack::Writes(needed)),
+    }
+}

@@ -1,0 +1,87 @@
+//! Writes and pools as C has them.
+ghost use Rattle.std.specs.Prelude.{◌≡◌, map, IfOk};
+ghost use Rattle.pci_plan.specs.Pools.{pools_value};
+ghost use Rattle.pci_plan.specs.Writes.{write_value};
+ghost use Rattle.pciplan_c.specs.PlanAnswers.{pools_of, value_of};
+
+use pci_dump::memory::OutOfMemory;
+use pci_image::range::Range;
+use pci_plan::pools::Pools;
+use pci_plan::write::Write;
+use std::alloc::Allocator;
+
+/// A write of `width` little-endian bytes, 2 or 4, to a byte offset of a function.
+#[repr(C)]
+#[derive(Clone, Copy, Debug, PartialEq, Eq)]
+pub struct RegisterWrite {
+    pub bus: u8,
+    pub device: u8,
+    pub function: u8,
+    pub offset: u8,
+    pub width: u8,
+    pub value: u32,
+}
+
+impl RegisterWrite {
+    /// A write of a plan.
+    pub fn of(write: &Write) -> RegisterWrite
+        ensures { value_of result ≡ write_value write.now }
+    {
+        RegisterWrite {
+            bus: write.slot.bus(),
+            device: write.slot.dev(),
+            function: write.slot.fun(),
+            offset: write.off,
+            width: write.width,
+            value: write.value,
+        }
+    }
+}
+
+/// The writes of a plan.
+pub fn writes_of<A: Allocator>(
+    alloc: A,
+    writes: &[Write],
+) -> Result<Vec<RegisterWrite, A>, OutOfMemory>
+    ensures { IfOk result (λ all. map value_of all.items ≡ map write_value writes.now) }
+{
+    let mut all = Vec::new(alloc);
+    for write in writes {
+        all.push(RegisterWrite::of(write))?;
+    }
+    Ok(all)
+}
+
+/// A pool of addresses for I/O, memory and prefetchable memory, both ends of each inclusive.
+#[repr(C)]
+#[derive(Clone, Copy, Debug, PartialEq, Eq)]
+pub struct PoolsOfC {
+    pub io_first: u64,
+    pub io_last: u64,
+    pub mem_first: u64,
+    pub mem_last: u64,
+    pub pref_first: u64,
+    pub pref_last: u64,
+}
+
+impl PoolsOfC {
+    /// The pools as planning takes them.
+    pub fn pools(&self) -> Pools
+        ensures { pools_value result ≡ pools_of self.now }
+    {
+        Pools {
+            io: Range {
+                first: self.io_first,
+                last: self.io_last,
+            },
+            mem: Range {
+                first: self.mem_first,
+                last: self.mem_last,
+            },
+            pref: Range {
+                first: self.pref_first,
+                last: self.pref_last,
+            },
+        }
+    }
+}
