@@ -1,6 +1,6 @@
 -- No line of a verdict is longer than 96 bytes.
 use Rattle.std.proofs.Common.{◌≡◌, ℕ, ◌≤◌, ◌<◌, List, length, refl, arith, Some}
-use Rattle.pci_spec.specs.System.{Space, Io, Memory}
+use Rattle.pci_spec.specs.System.{Io, Memory}
 use Rattle.pci_spec.specs.Fault.{Fault, NoVendor, HeaderKind, BarType, BarMask, BarPair, RomMask, WindowMask, CapRange, CapLoop, CapCut, SlotsDiffer, StrayProbe, LoneFunction, PaletteSnoop, VgaEnable, IsaEnable, Subtractive, InReset, PowerState, BusRange, Orphan, Unreached, Clash, Split}
 use Rattle.pci_spec.specs.Line.{verdict_line}
 use Rattle.pci_tree.specs.Fault.{fault_of}

@@ -1,5 +1,5 @@
 -- Why two texts and a list of root buses are refused, and how that is said.
-use Rattle.std.specs.Prelude.{◌≡◌, ℕ, List, ◌++◌, Some, codes}
+use Rattle.std.specs.Prelude.{ℕ, List, ◌++◌, codes}
 use Rattle.std.specs.Fmt.{decimal}
 use Rattle.pci_spec.specs.Text.{Block, IsTextOf}
 use Rattle.pci_dump.specs.ReadFault.{IsTextFault}
