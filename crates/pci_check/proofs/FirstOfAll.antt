@@ -4,7 +4,7 @@ use Rattle.std.proofs.lemmas.Bool.{cases_lt}
 use Rattle.pci_spec.specs.Slot.{Slot}
 use Rattle.pci_spec.specs.System.{system_of}
 use Rattle.pci_spec.specs.Fault.{Fault, IsIn, NoVendor, HeaderKind, BarType, BarMask, BarPair, RomMask, WindowMask, CapRange, CapLoop, CapCut, SlotsDiffer, StrayProbe, LoneFunction, PaletteSnoop, VgaEnable, IsaEnable, Subtractive, InReset, PowerState, BusRange, Orphan, Unreached, Clash, Split}
-use Rattle.pci_spec.specs.Order.{IsFirst, IsFirstThere, precedes, looking_key, judging_key, phase_of, is_before, image_at}
+use Rattle.pci_spec.specs.Order.{IsFirst, IsFirstThere, precedes, looking_key, judging_key, phase_of, image_at}
 use Rattle.pci_spec.proofs.Looking.{phase_le}
 use Rattle.pci_spec.proofs.Nesting.{no_bus_fault_where_nested}
 use Rattle.pci_spec.proofs.Pairing.{there-of_in, in-of_there}

@@ -1,16 +1,11 @@
 -- The faults of one function by itself, in the order in which they are looked for.
-use Rattle.std.proofs.Common.{◌≡◌, ◌⊎◌, ℕ, zero, suc, ◌<◌, List, [], ◌∷◌, ◌++◌, drop, refl, true, false, ◌&&◌, inl, inr, arith, sym, ◌∙◌, subst, ap, IsTrue}
-use Rattle.std.specs.Prelude.{◌==◌}
-use Rattle.std.proofs.lemmas.Bool.{both_ways, cases_lt, and_parts}
-use Rattle.pci_spec.specs.Number.{has_bit}
+use Rattle.std.proofs.Common.{◌≡◌, ◌⊎◌, ℕ, ◌<◌, List, [], ◌∷◌, ◌++◌, drop, refl, true, false, inl, inr, arith, ◌∙◌, subst, ap}
 use Rattle.pci_spec.specs.Slot.{Slot}
-use Rattle.pci_spec.specs.Header.{command, class_code, layout, bridge_control}
 use Rattle.pci_spec.specs.System.{Function}
-use Rattle.pci_spec.specs.Fault.{Fault, NoVendor, HeaderKind, BarType, BarMask, BarPair, RomMask, WindowMask, CapRange, CapLoop, CapCut, SlotsDiffer, StrayProbe, LoneFunction, PaletteSnoop, VgaEnable, IsaEnable, Subtractive, InReset, PowerState, BusRange, Orphan, Unreached, Clash, Split, has_no_vendor, has_other_layout, is_stray, IsAsleep}
+use Rattle.pci_spec.specs.Fault.{Fault, NoVendor, HeaderKind, BarType, BarMask, BarPair, RomMask, WindowMask, CapRange, CapLoop, CapCut, SlotsDiffer, StrayProbe, LoneFunction, PaletteSnoop, VgaEnable, IsaEnable, Subtractive, InReset, PowerState, BusRange, Orphan, Unreached, Clash, Split, has_no_vendor}
 use Rattle.pci_spec.specs.Order.{precedes, slot_key, looking_key, phase_of, is_before, step_after}
-use Rattle.pci_spec.proofs.Regions.{precedes-cases}
 use Rattle.pci_spec.proofs.Looking.{key_here, one_number, IdentityIs, only_vendor}
-use Rattle.pci_tree.specs.Profile.{IsHere, IsFirstOf, IsPlainBridge, controls_bridge, is_subtractive_bridge}
+use Rattle.pci_tree.specs.Profile.{IsHere, IsFirstOf}
 
 -- ---- keys of the faults of one function
 

@@ -1,5 +1,5 @@
 -- The first fault of places, among all faults of places of a system.
-use Rattle.std.proofs.Common.{◌≡◌, ℕ, zero, suc, ◌+◌, ◌<◌, ◌≤◌, List, [], ◌∷◌, ◌++◌, refl, true, not, ◌&&◌, inl, inr, arith, sym, ◌∙◌, subst, ap, map, IsTrue}
+use Rattle.std.proofs.Common.{◌≡◌, ℕ, zero, suc, ◌+◌, ◌<◌, ◌≤◌, List, [], ◌∷◌, ◌++◌, refl, true, not, inl, inr, arith, sym, ◌∙◌, subst, ap, map}
 use Rattle.std.specs.List.{Contains}
 use Rattle.std.proofs.lemmas.Bool.{both_ways, and_parts, not-true}
 use Rattle.pci_spec.specs.Slot.{Slot, IsSlot, slot_number}
@@ -21,7 +21,6 @@ use Rattle.pci_tree.specs.PlaceFaults.{IsPlaceFault, IsSomePlaceFault, IsPlaceRe
 use Rattle.pci_tree.proofs.EarlyFaults.{early-of_some_place}
 use Rattle.pci_tree.proofs.Faces.{SameFace, HaveFaces, faces_of, IsFaceOf, bridge_face, lawful_function, led_function}
 use Rattle.pci_tree.proofs.Finishes.{zero_function}
-use Rattle.pci_tree.proofs.Lifting.{Has}
 use Rattle.pci_tree.proofs.Places.{place_fault_in}
 
 -- ---- what a fault of places says, by its number in the key

@@ -1,18 +1,17 @@
 -- The system of a dump and its probe, block by block.
-use Rattle.std.proofs.Common.{◌≡◌, ◌≢◌, ℕ, zero, suc, ◌+◌, ◌<◌, ◌≤◌, List, [], ◌∷◌, ◌++◌, map, length, get_or, take, refl, true, false, inl, inr, arith, sym, ◌∙◌, ap, subst, Option, Some, None}
+use Rattle.std.proofs.Common.{◌≡◌, ◌≢◌, ℕ, zero, suc, ◌+◌, ◌<◌, ◌≤◌, List, [], ◌∷◌, ◌++◌, map, length, get_or, take, refl, inl, inr, arith, sym, ◌∙◌, ap, subst, Option, Some, None}
 use Rattle.std.specs.Prelude.{IfSome, MatchOption, nat_lt}
 use Rattle.std.specs.List.{Contains}
-use Rattle.std.proofs.lemmas.Bool.{cases_Bool, both_ways}
+use Rattle.std.proofs.lemmas.Bool.{cases_Bool}
 use Rattle.std.proofs.lemmas.List.{get_or-map, length-map, take_all}
-use Rattle.std.proofs.lemmas.List.Elements.{All-contains}
 use Rattle.std.proofs.lemmas.List.Kept.{AllPairs-from_increasing}
-use Rattle.pci_spec.specs.Slot.{Slot, IsSlot, IsRising, slot_number}
+use Rattle.pci_spec.specs.Slot.{Slot, IsRising, slot_number}
 use Rattle.pci_spec.specs.Stops.{IsAboveLast}
-use Rattle.pci_spec.specs.Text.{Block, IsBlock, IsDump, slots_of}
+use Rattle.pci_spec.specs.Text.{Block, IsDump, slots_of}
 use Rattle.pci_spec.specs.System.{System, Function, system_of}
-use Rattle.pci_spec.specs.Fault.{Fault, NoVendor, HeaderKind, BarType, BarMask, BarPair, RomMask, WindowMask, CapRange, CapLoop, CapCut, SlotsDiffer, StrayProbe, LoneFunction, PaletteSnoop, VgaEnable, IsaEnable, Subtractive, InReset, PowerState, BusRange, Orphan, Unreached, Clash, Split, IsIn, IsThere, IsInOne}
+use Rattle.pci_spec.specs.Fault.{Fault, NoVendor, HeaderKind, BarType, BarMask, BarPair, RomMask, WindowMask, CapRange, CapLoop, CapCut, SlotsDiffer, StrayProbe, LoneFunction, PaletteSnoop, VgaEnable, IsaEnable, Subtractive, InReset, PowerState, BusRange, Orphan, Unreached, Clash, Split, IsIn, IsThere}
 use Rattle.pci_spec.proofs.Pairing.{function_of, same_length, slots-system_of, IsSystem-of_dumps, there-of_in, in-of_there}
-use Rattle.pci_spec.specs.Order.{phase_of, is_before, image_at, IsFirstThere}
+use Rattle.pci_spec.specs.Order.{phase_of, IsFirstThere}
 use Rattle.pci_tree.specs.Profile.{IsHere}
 use Rattle.pci_tree.specs.Survey.{Surveyed, earlier, IsSurveyOf, IsAdded, IsRefusedBy, IsOutlineOf}
 use Rattle.pci_dump.specs.declared.memory.Refused.{Refused}

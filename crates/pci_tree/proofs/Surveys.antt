@@ -15,7 +15,7 @@ use Rattle.pci_spec.proofs.Members.{in_nil, in_cons_cases, in_head, in_tail, pai
 use Rattle.pci_tree.specs.declared.record.Record.{Record}
 use Rattle.pci_tree.specs.Regions.{IsLawful}
 use Rattle.pci_spec.specs.Order.{phase_of}
-use Rattle.pci_tree.specs.Profile.{IsHere, IsClearBefore, IsFirstFault, IsExamined}
+use Rattle.pci_tree.specs.Profile.{IsClearBefore, IsFirstFault, IsExamined}
 use Rattle.std.specs.Option.{is_some, option_map}
 use Rattle.pci_tree.specs.declared.roots.Roots.{Roots}
 use Rattle.pci_tree.specs.declared.fault.Fault.{Fault as FaultOfCode}

@@ -246,15 +246,15 @@ fn plan_all(alloc: Global, first: u64, end: u64) -> Result<(), Fail> {
 
 #[test]
 fn boards_by_rule_are_planned(rt: HostRuntime) -> Result<(), Fail> {
-    plan_all(rt.alloc(), 0, 200)
+    plan_all(rt.alloc(), 0, 1000)
 }
 
 #[test]
 fn more_boards_by_rule_are_planned(rt: HostRuntime) -> Result<(), Fail> {
-    plan_all(rt.alloc(), 1000, 1200)
+    plan_all(rt.alloc(), 1000, 2000)
 }
 
 #[test]
 fn still_more_boards_by_rule_are_planned(rt: HostRuntime) -> Result<(), Fail> {
-    plan_all(rt.alloc(), 2000, 2200)
+    plan_all(rt.alloc(), 2000, 3000)
 }

@@ -14,6 +14,8 @@ mod no_growth;
 #[cfg(test)]
 mod opening;
 #[cfg(test)]
+mod refused_plans;
+#[cfg(test)]
 mod refused_readings;
 #[cfg(test)]
 mod refused_tasks;

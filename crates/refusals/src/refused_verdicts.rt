@@ -116,7 +116,7 @@ fn each_growth_of_a_listing_is_refused(rt: HostRuntime) -> Result<(), Fail> {
 }
 
 /// Whether two texts are still those that were admitted.
-fn is_as_it_was<'a>(
+pub fn is_as_it_was<'a>(
     alloc: Global,
     board: &Admitted<&'a Refusing<Global>>,
     texts: &Texts,
