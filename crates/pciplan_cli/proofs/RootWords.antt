@@ -1,5 +1,5 @@
 -- Words that list buses: how long they are, what stands where, and that no two lists have one word.
-use Rattle.std.proofs.Common.{◌≡◌, ◌≢◌, ℕ, zero, suc, ◌+◌, ◌*◌, ◌-◌, ◌<◌, ◌≤◌, List, [], ◌∷◌, ◌++◌, length, get_or, take, Option, None, Some, MatchOption, refl, sym, ◌∙◌, ap, subst, inl, inr, arith}
+use Rattle.std.proofs.Common.{◌≡◌, ℕ, zero, suc, ◌+◌, ◌*◌, ◌-◌, ◌<◌, ◌≤◌, List, [], ◌∷◌, ◌++◌, length, get_or, take, Option, None, Some, MatchOption, refl, sym, ◌∙◌, ap, subst, inl, inr, arith}
 use Rattle.std.specs.Prelude.{◌↔◌, IsSome, IsSomeAnd, IfSome}
 use Rattle.std.specs.List.{All, flat_map}
 use Rattle.std.specs.List.Sorted.{IsStrictlyIncreasing}

@@ -16,19 +16,26 @@ use pci_tree::roots::Roots;
 /// The words of `plan`'s options.
 #[derive(Clone, Copy)]
 pub struct PlanWords<'a> {
+    /// The list of root buses, where there is one.
     pub root: Option<&'a str>,
+    /// The pools of I/O, of memory and of prefetchable memory.
     pub io: &'a str,
     pub mem: &'a str,
     pub pref: &'a str,
+    /// Whether the writes are asked for, and not the planned dump.
     pub writes: bool,
 }
 
 /// The task that is asked for, with the words of its options.
 #[derive(Clone, Copy)]
 pub enum Asked<'a> {
+    /// The listing.
     Show,
+    /// The verdict, with the list of root buses where there is one.
     Check { root: Option<&'a str> },
+    /// The sizing run.
     Size,
+    /// The plan.
     Plan(PlanWords<'a>),
 }
 
