@@ -1,7 +1,7 @@
 //! How a firmware puts a plan onto its board: a port over its own access routine, and what it does after each answer.
 ghost use Rattle.std.specs.Prelude.{◌≡◌, List, IsTrue, IfSome, if◌then◌else◌, ◌&&◌};
 ghost use Rattle.pci_spec.specs.Machine.{Target, write_targets};
-ghost use Rattle.pci_machine.specs.Port.{IsLawful, ShowsNumber, has_function, is_access as is_lawful_access, fits as has_room};
+ghost use Rattle.pci_spec.specs.Port.{IsLawful, ShowsNumber, has_function, is_access as is_lawful_access, fits as has_room};
 
 use crate::setting::{POOLS, machine_of, slot, three};
 use crate::trial::{Trial, tried};
