@@ -9,3 +9,4 @@ pub mod Ends
 pub mod MaskBits
 pub mod TargetOf
 pub mod MadeOf
+pub mod MadeOrder

@@ -5,7 +5,7 @@ ghost use Rattle.pci_spec.specs.Machine.{target_of};
 ghost use Rattle.pci_spec.specs.Decoded.{IsDecodable};
 ghost use Rattle.pci_image.specs.Faults.{IsImageFaultIn, image_fault_number};
 ghost use Rattle.pci_spec.specs.Port.{IsTarget};
-ghost use Rattle.pci_machine.specs.Made.{name_fault};
+ghost use Rattle.pci_machine.specs.Made.{name_fault, IsFirstOfRegisters};
 
 use crate::mask::{clearing_bytes, writable_bytes};
 use crate::registers::Registers;
@@ -19,7 +19,7 @@ use pci_image::slot::Slot;
 use pci_image::window::Windows;
 
 /// The registers of the function at a slot, if its address registers decode. The fault is one of 20
-/// to 26.
+/// to 26: of BARs the lowest, else that of the ROM, else of windows the lowest.
 pub fn registers_of(slot: Slot, image: &Image, probe: &Image) -> Result<Registers, ImageFault>
     requires { IsImage image.now.0 }
     ensures made { IfOk result (λ registers. registers ≡ target_of record { slot = slot; image = image.now.0; probe = probe.now.0 }) }
@@ -28,6 +28,7 @@ pub fn registers_of(slot: Slot, image: &Image, probe: &Image) -> Result<Register
     ensures header { IfOk result (λ registers. byte_at registers.writable 0x0e ≡ 0) }
     ensures fault { IfErr result (IsImageFaultIn image.now.0 probe.now.0) }
     ensures number { IfErr result (λ fault. image_fault_number fault ≤ 26) }
+    ensures first { IfErr result (IsFirstOfRegisters image.now.0 probe.now.0) }
 {
     match bars(image, probe) {
         Ok(_) => {}

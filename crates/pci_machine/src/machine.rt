@@ -3,7 +3,7 @@ ghost use Rattle.std.specs.Prelude.{◌≡◌, ◌<◌, ℕ, List, map, All, IsT
 ghost use Rattle.pci_spec.specs.System.{system_of};
 ghost use Rattle.pci_spec.specs.Decoded.{IsDecodable};
 ghost use Rattle.pci_dump.specs.Pair.{IsPair};
-ghost use Rattle.pci_machine.specs.Made.{IsRefusedFor};
+ghost use Rattle.pci_machine.specs.Made.{IsRefusedFor, IsFirstFor};
 ghost use Rattle.pci_spec.specs.Sizing.{function_at, IsSizable};
 ghost use Rattle.pci_spec.specs.Machine.{Target, target_of, sized, write_targets};
 ghost use Rattle.std.specs.Option.{option_map};
@@ -47,8 +47,8 @@ impl<A: Allocator> Machine<A> {
     ///
     /// # Errors
     ///
-    /// 30, then by function 20, 21 and 31, as [`pair`]; then by function 22 to 26; `Memory` where a
-    /// growth was refused.
+    /// 30, then by function 20, 21 and 31, as [`pair`]; then by function 22 to 26: the first that is
+    /// there. `Memory` where a growth was refused.
     pub fn of<B: Allocator, C: Allocator>(
         alloc: A,
         dump: &Dump<B>,
@@ -60,6 +60,7 @@ impl<A: Allocator> Machine<A> {
         ensures read_backs { IfOk result (λ machine. All (λ f. sized (function_at machine f.slot) ≡ f.probe) (system_of dump.now probe.now)) }
         ensures sizable { IfOk result (λ machine. All (λ f. IsSizable machine f.slot) (system_of dump.now probe.now)) }
         ensures fault { IfErr result (IsRefusedFor dump.now probe.now) }
+        ensures first { IfErr result (IsFirstFor dump.now probe.now) }
     {
         match pair(dump, probe) {
             Ok(()) => {}

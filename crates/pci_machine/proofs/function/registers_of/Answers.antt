@@ -14,6 +14,7 @@ use Rattle.pci_spec.specs.Port.{IsTarget}
 use Rattle.pci_machine.specs.Masks.{HasBits}
 use Rattle.pci_machine.specs.RegisterTable.{writable_by, clearing_by}
 use Rattle.pci_machine.proofs.MaskBits.{are_writable_bits, are_clearing_bits}
+use Rattle.pci_machine.proofs.MadeOrder.{first_of_bars, first_of_rom, first_of_windows}
 use Rattle.pci_machine.proofs.TargetOf.{IsTarget-target_of, no_write_of_header}
 use Rattle.pci_machine.proofs.function.registers_of.Goals as goal
 use Rattle.pci_machine.proofs.function.registers_of.Goals.{then-bridge+in-Ok-of, else-bridge}
@@ -43,6 +44,20 @@ returns-in-Err-of-clause-fault c =
 pub returns-in-Err-of-clause-number : goal.returns-in-Err-of-clause-number
 returns-in-Err-of-clause-number c =
     (window_fault c.args.image.now.0 c.args.probe.now.0 c.in-Err-of.fault (sym c.layout-bridge.ensures ∙ c.if-bridge.true) c.in-Err-of.ensures.fault).1
+
+pub returns-in-Err-clause-first : goal.returns-in-Err-clause-first
+returns-in-Err-clause-first c = first_of_bars c.args.image.now.0 c.args.probe.now.0 c.in-Err.fault c.in-Err.ensures.lowest
+
+pub returns-in-Err-rom-clause-first : goal.returns-in-Err-rom-clause-first
+returns-in-Err-rom-clause-first c =
+    let of_bars : HasLawfulBars c.args.image.now.0 c.args.probe.now.0 = c.in-Ok.ensures.lawful.0 refl in
+    first_of_rom c.args.image.now.0 c.args.probe.now.0 c.in-Err-rom.fault of_bars.each c.in-Err-rom.ensures.fault.1
+
+pub returns-in-Err-of-clause-first : goal.returns-in-Err-of-clause-first
+returns-in-Err-of-clause-first c =
+    let of_bars : HasLawfulBars c.args.image.now.0 c.args.probe.now.0 = c.in-Ok.ensures.lawful.0 refl in
+    let of_rom : HasLawfulRom c.args.image.now.0 c.args.probe.now.0 = c.in-Ok-rom.ensures.lawful.0 refl in
+    first_of_windows c.args.image.now.0 c.args.probe.now.0 c.in-Err-of.fault of_bars.each of_rom.rom c.in-Err-of.ensures.lowest
 
 pub returns-clause-made : goal.returns-clause-made
 returns-clause-made c =

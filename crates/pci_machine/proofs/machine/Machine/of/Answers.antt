@@ -1,16 +1,19 @@
-use Rattle.std.proofs.Common.{◌≡◌, [], map, get_or, arith, sym, ◌∙◌, ap, subst}
+use Rattle.std.proofs.Common.{◌≡◌, ℕ, List, [], map, get_or, arith, sym, ◌∙◌, ap, subst}
 use Rattle.std.specs.List.{All}
 use Rattle.std.proofs.lemmas.List.{take_all}
-use Rattle.pci_spec.specs.Text.{Block, slots_of}
+use Rattle.pci_spec.specs.Text.{Block, IsDump, slots_of}
 use Rattle.pci_spec.specs.System.{system_of}
 use Rattle.pci_spec.specs.Machine.{target_of, sized}
 use Rattle.pci_spec.specs.Fault.{IsThere}
 use Rattle.pci_spec.specs.Decoded.{IsDecodable}
 use Rattle.pci_spec.proofs.Pairing.{same_length, length-system_of}
+use Rattle.pci_dump.specs.declared.memory.Refused.TheVariants as refusals
 use Rattle.pci_dump.specs.PairFault.{pair_fault}
+use Rattle.pci_dump.specs.Pair.{IsPair}
 use Rattle.pci_machine.specs.Memory.{IsMachine}
 use Rattle.pci_spec.specs.Sizing.{function_at, IsSizable}
-use Rattle.pci_machine.specs.Made.{name_fault}
+use Rattle.pci_machine.specs.Made.{name_fault, IsFirstFor}
+use Rattle.pci_machine.proofs.MadeOrder.{refused_first}
 use Rattle.pci_machine.proofs.MadeOf.{made_more, decodable_more, fault_there, machine-of, function-of, sizable-of, read_backs-of}
 use Rattle.pci_machine.proofs.machine.Machine.of.Goals as goal
 
@@ -34,6 +37,29 @@ returns-in-Err-registers_of-clause-fault g c roots =
     subst (λ f. IsThere roots c.args.dump.now c.args.probe.now (pair_fault f)) (sym c.named.ensures)
     (subst (λ xs. IsThere roots xs c.args.probe.now (pair_fault (name_fault c.block.inside.slot c.in-Err-registers_of.fault))) c.blocks-blocks.ensures.value
     (subst (λ xs. IsThere roots dump xs (pair_fault (name_fault c.block.inside.slot c.in-Err-registers_of.fault))) c.blocks-probes.ensures.value there))
+
+-- none before a fault of `pair`
+pub returns-in-Err-clause-first : goal.returns-in-Err-clause-first
+returns-in-Err-clause-first g c roots other before not there = (c.in-Err.ensures.first roots).none_before other before there
+
+pub returns-in-Err-registers_of-clause-first : goal.returns-in-Err-registers_of-clause-first
+returns-in-Err-registers_of-clause-first g c =
+    let dump = c.blocks-blocks.result.now in
+    let probe = c.blocks-probes.result.now in
+    let b : Block = record { slot = c.block.inside.slot; title = c.block.inside.title; image = c.block.inside.image.0 } in
+    let p : Block = record { slot = c.read_backs.inside.slot; title = c.read_backs.inside.title; image = c.read_backs.inside.image.0 } in
+    let b_is = subst (λ x. x ≡ get_or dump c.loop-i.i x) (sym c.block.view_is) c.index-blocks-i.is in
+    let p_is = subst (λ x. x ≡ get_or probe c.loop-i.i x) (sym c.read_backs.view_is) c.index-probes-i.is in
+    let hd : IsDump dump = subst IsDump (sym c.blocks-blocks.ensures.value) c.blocks-blocks.ensures.dump in
+    let hp : IsDump probe = subst IsDump (sym c.blocks-probes.ensures.value) c.blocks-probes.ensures.dump in
+    let pair : (roots : List ℕ) → IsPair roots dump probe = λ roots.
+    subst (λ xs. IsPair roots xs probe) (sym c.blocks-blocks.ensures.value) (subst (λ xs. IsPair roots c.args.dump.now xs) (sym c.blocks-probes.ensures.value) (c.in-Ok.ensures.ok roots)) in
+    let fault = name_fault c.block.inside.slot c.in-Err-registers_of.fault in
+    let first = refused_first dump probe hd hp pair c.loop-i.i b p c.loop-i-test.true b_is p_is c.loop-i.invariant.decodable c.in-Err-registers_of.fault
+    c.in-Err-registers_of.ensures.fault c.in-Err-registers_of.ensures.number c.in-Err-registers_of.ensures.first in
+    subst (λ f. IsFirstFor c.args.dump.now c.args.probe.now (refusals.Fault f)) (sym c.named.ensures)
+    (subst (λ xs. IsFirstFor xs c.args.probe.now (refusals.Fault fault)) c.blocks-blocks.ensures.value
+    (subst (λ xs. IsFirstFor dump xs (refusals.Fault fault)) c.blocks-probes.ensures.value first))
 
 pub loop-i-preserved : goal.loop-i-preserved
 loop-i-preserved g c =
