@@ -11,3 +11,6 @@ mod Planned
 mod HexWords
 mod PoolWords
 mod RootWords
+mod CommandWords
+mod CommandLines
+mod Asking

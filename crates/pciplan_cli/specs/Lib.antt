@@ -11,5 +11,7 @@ pub mod PlanAnswers
 pub mod PoolWords
 pub mod RootWords
 pub mod Asked
+pub mod CommandWords
+pub mod CommandLines
 pub mod Opened
 pub mod Tasks

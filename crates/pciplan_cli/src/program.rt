@@ -1,7 +1,8 @@
 //! The program, from its words to its status.
-ghost use Rattle.std.specs.Prelude.{◌≡◌, ◌≢◌, ◌⊎◌, ◌<◌, ◌≤◌, ◌+◌, ℕ, List, Option, IfErr, string_bytes};
+ghost use Rattle.std.specs.Prelude.{◌≡◌, ◌≢◌, ◌⊎◌, ◌<◌, ◌≤◌, ◌+◌, ℕ, List, Option, IfErr, IfOk, MatchResult, map, string_bytes};
 ghost use Rattle.std.specs.IoError.{error_kind};
 ghost use Rattle.pciplan_cli.specs.Answers.{HasFailed, IsTextRefused, IsTextTrouble};
+ghost use Rattle.pciplan_cli.specs.CommandLines.{IsLineOf, HasBadWords};
 ghost use Rattle.pciplan_cli.specs.Statuses.{status_of};
 ghost use Rattle.pciplan_cli.specs.Tasks.{IsLineDone, IsLineBegun};
 
@@ -32,7 +33,9 @@ pub fn words_of<R: Env + AllocGlobal>(rt: &R) -> io::Result<Vec<String>> {
 }
 
 /// The words as they are read.
-fn lent<'a>(alloc: Global, words: &'a [String]) -> Result<Vec<&'a str>, AllocError> {
+fn lent<'a>(alloc: Global, words: &'a [String]) -> Result<Vec<&'a str>, AllocError>
+    ensures { IfOk result (λ lent. map (λ word. word.now) lent.items ≡ map string_bytes words.now) }
+{
     let mut lent = Vec::new(alloc);
     for word in words {
         lent.push(word.as_str())?;
@@ -43,7 +46,10 @@ fn lent<'a>(alloc: Global, words: &'a [String]) -> Result<Vec<&'a str>, AllocErr
 /// The line that the words make. Where they make none, or there are none, it writes the message to
 /// `err` and answers the status.
 fn line_of<E: Sink>(alloc: Global, words: io::Result<Vec<String>>, err: &mut E) -> Result<Line, u8>
-    ensures refused { IfErr result (λ status. (status ≡ 2) ⊎ (status ≡ 3)) }
+    ensures line { IfOk result (λ line. MatchResult words (λ words. IsLineOf (map string_bytes words.items) line) (λ _. ⊥)) }
+    ensures refused { result ≡ Err 2 → IfOk words (λ words. HasBadWords (map string_bytes words.items)) }
+    ensures status { IfErr result (λ status. (status ≡ 2) ⊎ (status ≡ 3)) }
+    ensures silent { IfOk result (λ _. err.new ≡ err.old) }
     ensures memory { IfErr words (λ error. error_kind error ≡ ErrorKind.OutOfMemory → result ≡ Err 3) }
     ensures unread { IfErr words (λ error. error_kind error ≢ ErrorKind.OutOfMemory → result ≡ Err 2) }
 {
@@ -115,11 +121,16 @@ pub fn program<D: Opening, P: Opening, O: Sink, E: Sink>(
 ) -> u8
     ensures memory { IfErr words (λ error. error_kind error ≡ ErrorKind.OutOfMemory → result ≡ 3) }
     ensures unread { IfErr words (λ error. error_kind error ≢ ErrorKind.OutOfMemory → result ≡ 2) }
-    ensures done { result < 2 → (line : Line) × IsLineDone line (D.stands dump.old) (P.stands probe.old)
-        (D.bytes_at dump.old) (P.bytes_at probe.old) result (O.taken out.old) (O.taken out.new) }
+    ensures done { result < 2 → MatchResult words (λ words. (line : Line) × IsLineOf (map string_bytes words.items) line
+        × IsLineDone line (D.stands dump.old) (P.stands probe.old) (D.bytes_at dump.old) (P.bytes_at probe.old) result
+        (O.taken out.old) (O.taken out.new)) (λ _. ⊥) }
+    ensures silent { result < 2 → err.new ≡ err.old }
     ensures quiet { (result ≡ 2) ⊎ (result ≡ 3) → out.new ≡ out.old }
-    ensures begun { result ≡ 4 → (out.new ≡ out.old)
-        ⊎ ((line : Line) × IsLineBegun line (D.bytes_at dump.old) (P.bytes_at probe.old) (O.taken out.old) (O.taken out.new)) }
+    ensures begun { result ≡ 4 → (out.new ≡ out.old) ⊎ MatchResult words (λ words. (line : Line) × IsLineOf (map string_bytes words.items) line
+        × IsLineBegun line (D.bytes_at dump.old) (P.bytes_at probe.old) (O.taken out.old) (O.taken out.new)) (λ _. ⊥) }
+    ensures refused { result ≡ 2 → IfOk words (λ words. HasBadWords (map string_bytes words.items)
+        ⊎ ((line : Line) × IsLineOf (map string_bytes words.items) line × IsTextRefused (D.bytes_at dump.old (string_bytes line.dump))
+        (P.bytes_at probe.old (string_bytes line.probe)))) }
     ensures failed { result ≡ 4 → HasFailed (D.failures dump.old) (D.failures dump.new)
         (P.failures probe.old) (P.failures probe.new) (O.failures out.old) (O.failures out.new) }
     ensures known { result ≤ 4 }

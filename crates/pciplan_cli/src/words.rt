@@ -1,7 +1,13 @@
 //! The words of the command line.
-ghost use Rattle.std.specs.Prelude.{◌≡◌, ◌⊎◌, IfErr, IfOk, MatchResult};
-ghost use Rattle.pciplan_cli.specs.Asked.{IsTaskOf, IsRefusedFor};
+ghost use Rattle.std.specs.Prelude.{◌≡◌, ◌≢◌, ◌⊎◌, List, ℕ, false, map, IfErr, IfOk, MatchOption, MatchResult};
+ghost use Rattle.clap.specs.Words.{app_of, found_of, kind_of, rows_of, rule_of};
+ghost use Rattle.clap.specs.declared.error.kind.ErrorKind.{ErrorKind};
+ghost use Rattle.clap.specs.declared.builder.command.Command.TheViews.{out-Command};
+ghost use Rattle.pciplan_cli.specs.CommandLines.{pool_rule, with_paths, planning, commands, IsGiven, HasNoLine, IsLineOf, IsRefusedLine};
+ghost use Rattle.pciplan_cli.specs.CommandWords.{HasPlanWords, IsAsked, IsSaid};
 ghost use Rattle.pciplan_cli.specs.declared.asked.Asked.{Asked};
+ghost use Rattle.pciplan_cli.specs.declared.asked.PlanWords.{PlanWords};
+ghost use Rattle.pciplan_cli.specs.Statuses.{status_of};
 ghost use Rattle.pciplan_cli.specs.declared.trouble.Trouble.{Trouble};
 
 use crate::asked::{Asked, PlanWords, task_of};
@@ -39,7 +45,8 @@ impl From<AllocError> for Trouble {
 
 /// A line that is refused, or that asks for help, is a fault of usage.
 impl From<clap::Error> for Trouble {
-    ghost from_gives = { λ _ trouble. (trouble ≡ Trouble.Memory) ⊎ (trouble ≡ Trouble.Usage) };
+    ghost from_gives = { λ error trouble. ((kind_of error ≡ ErrorKind.OutOfMemory) × (trouble ≡ Trouble.Memory))
+        ⊎ ((kind_of error ≢ ErrorKind.OutOfMemory) × (trouble ≡ Trouble.Usage)) };
 
     fn from(error: clap::Error) -> Trouble {
         if error.kind() == clap::error::ErrorKind::OutOfMemory {
@@ -51,19 +58,28 @@ impl From<clap::Error> for Trouble {
 }
 
 /// A subcommand that takes the two texts.
-fn of_texts<'a>(alloc: Global, name: &'a str) -> Result<Command<'a>, AllocError> {
+fn of_texts<'a>(alloc: Global, name: &'a str) -> Result<Command<'a>, AllocError>
+    ensures app { IfOk result (λ command. app_of command ≡ with_paths name.now) }
+    ensures local { IfOk result (λ command. (out-Command command).has_globals ≡ false) }
+{
     let dump = Arg::new(alloc, DUMP).required(true);
     let probe = Arg::new(alloc, PROBE).required(true);
     Command::new(alloc, name).arg(dump)?.arg(probe)
 }
 
 /// The required option of this name, of a pool.
-fn pool_arg<'a>(alloc: Global, name: &'a str) -> Arg<'a> {
+fn pool_arg<'a>(alloc: Global, name: &'a str) -> Arg<'a>
+    ensures rule { rule_of result ≡ pool_rule name.now }
+    ensures local { result.global ≡ false }
+{
     Arg::new(alloc, name).long(name).required(true)
 }
 
 /// `pciplan plan DUMP PROBE --io A-B --mem A-B --pref A-B [--writes] [--root LIST]`.
-fn plan_command<'a>(alloc: Global) -> Result<Command<'a>, AllocError> {
+fn plan_command<'a>(alloc: Global) -> Result<Command<'a>, AllocError>
+    ensures app { IfOk result (λ command. app_of command ≡ planning) }
+    ensures local { IfOk result (λ command. (out-Command command).has_globals ≡ false) }
+{
     let writes = Arg::new(alloc, WRITES)
         .long(WRITES)
         .action(ArgAction::SetTrue);
@@ -76,7 +92,9 @@ fn plan_command<'a>(alloc: Global) -> Result<Command<'a>, AllocError> {
 }
 
 /// `pciplan show DUMP PROBE`, `pciplan check [--root LIST] DUMP PROBE`, `pciplan size DUMP PROBE`, and `pciplan plan`.
-fn command<'a>(alloc: Global) -> Result<Command<'a>, AllocError> {
+fn command<'a>(alloc: Global) -> Result<Command<'a>, AllocError>
+    ensures { IfOk result (λ command. app_of command ≡ commands) }
+{
     Command::new(alloc, "pciplan")
         .no_binary_name(true)
         .subcommand_required(true)
@@ -95,7 +113,10 @@ struct Given<'a> {
 }
 
 /// The words of the options of `plan`.
-fn plan_words<'a>(found: &ArgMatches<'a>) -> Option<PlanWords<'a>> {
+fn plan_words<'a>(found: &ArgMatches<'a>) -> Option<PlanWords<'a>>
+    ensures { MatchOption result ((words : PlanWords) → HasPlanWords (rows_of (found_of found.now)) words → ⊥)
+        (HasPlanWords (rows_of (found_of found.now))) }
+{
     Some(PlanWords {
         root: found.get_str(ROOT),
         io: found.get_str(IO)?,
@@ -106,7 +127,10 @@ fn plan_words<'a>(found: &ArgMatches<'a>) -> Option<PlanWords<'a>> {
 }
 
 /// The task of this name, with the words of its options.
-fn asked_of<'a>(name: &str, found: &ArgMatches<'a>) -> Option<Asked<'a>> {
+fn asked_of<'a>(name: &str, found: &ArgMatches<'a>) -> Option<Asked<'a>>
+    ensures { MatchOption result ((asked : Asked) → IsAsked name.now (rows_of (found_of found.now)) asked → ⊥)
+        (IsAsked name.now (rows_of (found_of found.now))) }
+{
     match name {
         "show" => Some(Asked::Show),
         "check" => Some(Asked::Check {
@@ -119,7 +143,10 @@ fn asked_of<'a>(name: &str, found: &ArgMatches<'a>) -> Option<Asked<'a>> {
 }
 
 /// What the words of a subcommand say.
-fn given_of<'a>(name: &str, found: &ArgMatches<'a>) -> Option<Given<'a>> {
+fn given_of<'a>(name: &str, found: &ArgMatches<'a>) -> Option<Given<'a>>
+    ensures { MatchOption result ((asked : Asked) (dump probe : List ℕ) → IsSaid name.now (rows_of (found_of found.now)) asked dump probe → ⊥)
+        (λ given. IsSaid name.now (rows_of (found_of found.now)) given.asked given.dump.now given.probe.now) }
+{
     Some(Given {
         asked: asked_of(name, found)?,
         dump: found.get_str(DUMP)?,
@@ -129,7 +156,8 @@ fn given_of<'a>(name: &str, found: &ArgMatches<'a>) -> Option<Given<'a>> {
 
 /// What the words say.
 fn words_given<'a>(alloc: Global, words: &'a [&'a str]) -> Result<Given<'a>, Trouble>
-    ensures { IfErr result (λ trouble. (trouble ≡ Trouble.Memory) ⊎ (trouble ≡ Trouble.Usage)) }
+    ensures { MatchResult result (λ given. IsGiven (map (λ w. w.now) words.now) given.asked given.dump.now given.probe.now)
+        (λ trouble. (trouble ≡ Trouble.Memory) ⊎ ((trouble ≡ Trouble.Usage) × HasNoLine (map (λ w. w.now) words.now))) }
 {
     let matches = command(alloc)?.try_get_matches_from(words)?;
     let (name, found) = matches.subcommand().ok_or(Trouble::Usage)?;
@@ -138,8 +166,7 @@ fn words_given<'a>(alloc: Global, words: &'a [&'a str]) -> Result<Given<'a>, Tro
 
 /// The line that the words make.
 fn line_of(alloc: Global, words: &[&str]) -> Result<Line, Trouble>
-    ensures { MatchResult result (λ line. (asked : Asked) × IsTaskOf asked line.task)
-        (λ trouble. (trouble ≡ Trouble.Memory) ⊎ (trouble ≡ Trouble.Usage) ⊎ ((asked : Asked) × IsRefusedFor asked trouble)) }
+    ensures { MatchResult result (IsLineOf (map (λ w. w.now) words.now)) (IsRefusedLine (map (λ w. w.now) words.now)) }
 {
     let Given { asked, dump, probe } = words_given(alloc, words)?;
     Ok(Line {
@@ -152,8 +179,10 @@ fn line_of(alloc: Global, words: &[&str]) -> Result<Line, Trouble>
 /// Reads the words after the program's name. Where they make no line it writes the message to `err`
 /// and answers the status: 2 for a fault of usage, then of the root list, and then of a pool's word, 3 at want of memory.
 pub fn start<E: Sink>(alloc: Global, words: &[&str], err: &mut E) -> Result<Line, u8>
-    ensures line { IfOk result (λ line. (asked : Asked) × IsTaskOf asked line.task) }
+    ensures line { IfOk result (IsLineOf (map (λ w. w.now) words.now)) }
+    ensures refused { IfErr result (λ status. (trouble : Trouble) × IsRefusedLine (map (λ w. w.now) words.now) trouble × (status ≡ status_of trouble)) }
     ensures status { IfErr result (λ status. (status ≡ 2) ⊎ (status ≡ 3)) }
+    ensures silent { IfOk result (λ _. err.new ≡ err.old) }
 {
     match line_of(alloc, words) {
         Ok(line) => Ok(line),
