@@ -7,3 +7,4 @@ pub mod Found
 pub mod Roms
 pub mod Windows
 pub mod Walking
+pub mod PlaceSets

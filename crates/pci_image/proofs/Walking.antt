@@ -1,11 +1,14 @@
 -- A walk along the capabilities list, place by place.
-use Rattle.std.proofs.Common.{◌≡◌, ◌≢◌, ℕ, zero, suc, ◌+◌, ◌%◌, ◌<◌, ◌≤◌, List, [], ◌∷◌, ◌++◌, length, get_or, length-append, refl, true, false, inl, inr, arith, sym, ◌∙◌, ap, subst, add-one}
+use Rattle.std.proofs.Common.{◌≡◌, ◌≢◌, ℕ, zero, suc, ◌+◌, ◌/◌, ◌%◌, ◌<◌, ◌≤◌, ◌||◌, List, [], ◌∷◌, ◌++◌, length, get_or, length-append, refl, true, false, inl, inr, arith, sym, ◌∙◌, ap, subst, add-one}
 use Rattle.std.specs.Bool.{nat_eq}
 use Rattle.std.specs.List.{list_any}
 use Rattle.std.proofs.Math.Dec.{eqb}
 use Rattle.std.proofs.lemmas.Bool.{cases_lt, or_cases, eqb-true, eqb-false, ne_eqb, both_ways, or_parts}
 use Rattle.std.proofs.lemmas.List.{get_or_append_left}
+use Rattle.std.proofs.lemmas.List.Folds.{list_any-append}
+use Rattle.std.proofs.Math.Bool.{or-false}
 use Rattle.std.proofs.Math.Seq.{get_or-append_seam}
+use Rattle.pci_spec.specs.Number.{has_bit}
 use Rattle.pci_spec.specs.Capability.{pointer, pointer_at, body_length, IsChain, ComesTwiceTo}
 use Rattle.pci_image.specs.Caps.{IsChainUpTo}
 use Rattle.pci_spec.proofs.Walks.{places-at_most_48, pointer-aligned}
@@ -70,27 +73,32 @@ walk-at_most_48 image places place walk = places-at_most_48 image (length places
 
 -- ---- places among others
 
--- a place that is not found is not among them
-pub place-fresh : (places : List ℕ) (place : ℕ) → list_any (λ p. nat_eq p place) places ≡ false → (n : ℕ) → n < length places → get_or places n 0 ≢ place
-place-fresh [] place h n within = absurd (let no : ⊥ = omega (arith, within) in no)
-place-fresh (p ∷ places) place h zero within = eqb-false _ _ (or_parts (nat_eq p place) _ h).0
-place-fresh (p ∷ places) place h (suc n) within = place-fresh places place (or_parts (nat_eq p place) _ h).1 n (omega (arith, within))
+-- a set has the places of a list, each by its number among the multiples of four
+abbrev pub HasPlaces : ℕ → List ℕ → Type 0
+HasPlaces bits places = (k : ℕ) → has_bit bits k ≡ list_any (λ p. nat_eq (p / 4) k) places
 
--- a place that is found is among them
-pub place-found : (places : List ℕ) (place : ℕ) → list_any (λ p. nat_eq p place) places ≡ true → (n : ℕ) × (n < length places) × (get_or places n 0 ≡ place)
+-- one more place
+pub places-more : (bits more place : ℕ) (places : List ℕ) → HasPlaces bits places
+    → ((k : ℕ) → has_bit more k ≡ (has_bit bits k || nat_eq (place / 4) k)) → HasPlaces more (places ++ place ∷ [])
+places-more bits more place places set added k =
+    added k ∙ ap (λ b. b || nat_eq (place / 4) k) (set k) ∙ ap (λ b. list_any (λ p. nat_eq (p / 4) k) places || b) (sym (or-false (nat_eq (place / 4) k)))
+    ∙ sym (list_any-append (λ p. nat_eq (p / 4) k) places (place ∷ []))
+
+-- a place whose number is not found is not among them
+place-fresh : (places : List ℕ) (place : ℕ) → list_any (λ p. nat_eq (p / 4) (place / 4)) places ≡ false → (n : ℕ) → n < length places → get_or places n 0 ≢ place
+place-fresh [] place h n within = absurd (let no : ⊥ = omega (arith, within) in no)
+place-fresh (p ∷ places) place h zero within = λ same. eqb-false _ _ (or_parts (nat_eq (p / 4) (place / 4)) _ h).0 (ap (λ q. q / 4) same)
+place-fresh (p ∷ places) place h (suc n) within = place-fresh places place (or_parts (nat_eq (p / 4) (place / 4)) _ h).1 n (omega (arith, within))
+
+-- a number that is found is that of one of them
+place-found : (places : List ℕ) (place : ℕ) → list_any (λ p. nat_eq (p / 4) (place / 4)) places ≡ true → (n : ℕ) × (n < length places) × (get_or places n 0 / 4 ≡ place / 4)
 place-found [] place h = absurd (let no : ⊥ = both_ways false refl h in no)
-place-found (p ∷ places) place h = elim (or_cases (nat_eq p place) _ h) [
+place-found (p ∷ places) place h = elim (or_cases (nat_eq (p / 4) (place / 4)) _ h) [
   | inl here ↦ (0, omega arith, eqb-true _ _ here)
   | inr later ↦ let found = place-found places place later in (suc found.0, omega (arith, found.1), found.2)
 ]
 
 -- ---- faults
-
--- a walk that stands at one of its places comes to it twice
-pub walk-twice : (image places : List ℕ) (place : ℕ) → IsWalk image places place → place ≢ 0 → list_any (λ p. nat_eq p place) places ≡ true → ComesTwiceTo image place
-walk-twice image places place walk nonzero h =
-    let found = place-found places place h in
-    (found.0, length places, found.1, sym (walk.each found.0 found.1) ∙ found.2, sym walk.here, nonzero)
 
 -- a place is a multiple of four
 pub walk-aligned : (image places : List ℕ) (place : ℕ) → IsWalk image places place → place % 4 ≡ 0
@@ -101,29 +109,41 @@ pub walk-up_to : (image places : List ℕ) (place : ℕ) → IsWalk image places
 walk-up_to image places place walk = record { in_range = walk.in_range; distinct = walk.distinct; bodies = walk.bodies }
 
 -- to one that is found among its places it came at a step before
-pub walk-before : (image places : List ℕ) (place : ℕ) → IsWalk image places place → list_any (λ p. nat_eq p place) places ≡ true
+pub walk-before : (image places : List ℕ) (place bits : ℕ) → IsWalk image places place → HasPlaces bits places → has_bit bits (place / 4) ≡ true
     → (m : ℕ) × (m < length places) × (pointer image m ≡ place)
-walk-before image places place walk h = let found = place-found places place h in (found.0, found.1, sym (walk.each found.0 found.1) ∙ found.2)
+walk-before image places place bits walk set h =
+    let found = place-found places place (sym (set (place / 4)) ∙ h) in
+    let met = walk.each found.0 found.1 in
+    let same = found.2 in
+    let before = pointer-aligned image found.0 in
+    let here = walk-aligned image places place walk in
+    (found.0, found.1, omega (arith, met, same, before, here))
+
+-- so it comes to it twice
+pub walk-twice : (image places : List ℕ) (place bits : ℕ) → IsWalk image places place → HasPlaces bits places → place ≢ 0 → has_bit bits (place / 4) ≡ true → ComesTwiceTo image place
+walk-twice image places place bits walk set nonzero h =
+    let before = walk-before image places place bits walk set h in
+    (before.0, length places, before.1, before.2, sym walk.here, nonzero)
 
 -- to one that is not found among them it didn't
-pub walk-not_before : (image places : List ℕ) (place : ℕ) → IsWalk image places place → list_any (λ p. nat_eq p place) places ≡ false
+pub walk-not_before : (image places : List ℕ) (place bits : ℕ) → IsWalk image places place → HasPlaces bits places → has_bit bits (place / 4) ≡ false
     → (k : ℕ) → k < length places → pointer image k ≢ place
-walk-not_before image places place walk h k within same = place-fresh places place h k within (walk.each k within ∙ same)
+walk-not_before image places place bits walk set h k within same = place-fresh places place (sym (set (place / 4)) ∙ h) k within (walk.each k within ∙ same)
 
 -- ---- the loop's step
 
 -- one more place
-pub walk_on : (image places : List ℕ) (place next : ℕ) → IsWalk image places place → 0x40 ≤ place → place < 256 → list_any (λ p. nat_eq p place) places ≡ false
+pub walk_on : (image places : List ℕ) (place next bits : ℕ) → IsWalk image places place → HasPlaces bits places → 0x40 ≤ place → place < 256 → has_bit bits (place / 4) ≡ false
     → place + body_length image place ≤ 256 → next ≡ pointer_at image (place + 1) → IsWalk image (places ++ place ∷ []) next
-walk_on image places place next walk low small fresh fits following =
+walk_on image places place next bits walk set low small fresh fits following =
     let aligned = walk-aligned image places place walk in
-    walk_step image places place next walk low (omega (arith, small, aligned)) (place-fresh places place fresh) fits following
+    walk_step image places place next walk low (omega (arith, small, aligned)) (place-fresh places place (sym (set (place / 4)) ∙ fresh)) fits following
 
 -- there is room for one more place
-pub walk-room : (image places : List ℕ) (place : ℕ) → IsWalk image places place → 0x40 ≤ place → place < 256 → list_any (λ p. nat_eq p place) places ≡ false
+pub walk-room : (image places : List ℕ) (place bits : ℕ) → IsWalk image places place → HasPlaces bits places → 0x40 ≤ place → place < 256 → has_bit bits (place / 4) ≡ false
     → place + body_length image place ≤ 256 → length places < 48
-walk-room image places place walk low small fresh fits =
-    let next = walk_on image places place _ walk low small fresh fits refl in
+walk-room image places place bits walk set low small fresh fits =
+    let next = walk_on image places place _ bits walk set low small fresh fits refl in
     let most = walk-at_most_48 image (places ++ place ∷ []) _ next in
     let longer = length-append places (place ∷ []) in
     omega (arith, most, longer)

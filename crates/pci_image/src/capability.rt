@@ -1,12 +1,12 @@
 //! The capabilities list (PCI 3.0, 6.7).
-ghost use Rattle.std.specs.Prelude.{◌≡◌, ◌<◌, ◌≤◌, ◌+◌, ◌%◌, ◌/◌, ◌*◌, ◌==◌, ◌↔◌, length, slice_range, MatchOption, IsOk, IfOk, IfErr, IsTrue, map, All};
-ghost use Rattle.std.specs.List.{list_any};
+ghost use Rattle.std.specs.Prelude.{◌≡◌, ◌<◌, ◌≤◌, ◌+◌, ◌%◌, ◌/◌, ◌*◌, ◌↔◌, [], length, slice_range, MatchOption, IsOk, IfOk, OnOk, IfErr, IsTrue, map, All};
 ghost use Rattle.pci_spec.specs.Capability.{body_length, message_control, msi_length, pointer, pointer_at, HasChain, IsChain};
 ghost use Rattle.pci_image.specs.Caps.{place_of, body_of, IsCapIn, IsChainFaultIn, IsFirstAlong};
 
 use super::fault::ImageFault;
 use super::image::Image;
 use super::offset::{CAPABILITIES_POINTER, MESSAGE_CONTROL, STATUS};
+use super::place_set::PlaceSet;
 use arrayvec::ArrayVec;
 
 /// A capability: its place, which is the byte offset of its ID, and its body, which is the image's
@@ -143,13 +143,6 @@ impl<'a> Cap<'a> {
     }
 }
 
-/// Whether a place is one of some places.
-fn is_among(places: &[u8], place: u8) -> bool
-    ensures { result ≡ list_any (λ p. p == place) places.now }
-{
-    places.iter().any(|&p| p == place)
-}
-
 /// The places of a function's capabilities, along its list: each is the byte offset of an ID. A
 /// function without a list has none.
 ///
@@ -167,21 +160,39 @@ pub fn places(image: &Image) -> Result<ArrayVec<u8, 48>, ImageFault>
     ensures first { IfErr result (IsFirstAlong image.now.0) }
 {
     let mut found = ArrayVec::new();
+    add_places(image, &mut found)?;
+    Ok(found)
+}
+
+/// Adds the places of a function's capabilities to a list of none, as [`places`] gives them.
+///
+/// # Errors
+///
+/// As of [`places`]. Those before the refused one were added.
+pub fn add_places(image: &Image, found: &mut ArrayVec<u8, 48>) -> Result<(), ImageFault>
+    requires none { found.old.items ≡ [] }
+    ensures lawful { IsOk result ↔ HasChain image.now.0 }
+    ensures chain { OnOk result (IsChain image.now.0 found.new.items) }
+    ensures fault { IfErr result (IsChainFaultIn image.now.0) }
+    ensures first { IfErr result (IsFirstAlong image.now.0) }
+{
+    let mut met = PlaceSet::new();
     let mut place = first_pointer(image);
     while place != 0 {
         if place < FIRST_PLACE {
             return Err(ImageFault::CapRange(place));
         }
-        if is_among(&found, place) {
+        if met.has(place) {
             return Err(ImageFault::CapLoop(place));
         }
         if !ends_within(image, place) {
             return Err(ImageFault::CapCut(place));
         }
+        met.insert(place);
         found.push(place);
         place = pointer_at(image, place + 1);
     }
-    Ok(found)
+    Ok(())
 }
 
 /// The capabilities of a function, at the places of its list.

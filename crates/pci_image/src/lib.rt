@@ -18,6 +18,7 @@ pub mod fault;
 pub mod header;
 pub mod image;
 pub mod offset;
+mod place_set;
 pub mod range;
 pub mod rom;
 pub mod slot;

@@ -7,7 +7,6 @@ use Rattle.pci_spec.specs.Fault.{Fault}
 use Rattle.pci_image.specs.declared.fault.ImageFault.{ImageFault}
 use Rattle.pci_image.specs.declared.fault.ImageFault.TheVariants.{NoVendor, HeaderKind, BarType, BarMask, BarPair, RomMask, WindowMask, CapRange, CapLoop, CapCut}
 use Rattle.pci_image.specs.Faults.{IsImageFaultIn}
-use Rattle.pci_image.specs.Caps.{IsChainFaultIn}
 use Rattle.pci_tree.specs.Profile.{IsAnswering, IsHereIn, IsClearBefore, IsFirstOf, IsFirstFault}
 use Rattle.pci_tree.specs.Fault.{image_fault_at}
 use Rattle.pci_tree.proofs.FirstHere.{first_no_vendor, first_header_kind}
@@ -57,16 +56,3 @@ first_of_image f (WindowMask register) a is first = record { here = (refl, is); 
 first_of_image f (CapRange place) a is first = record { here = (refl, is); clear = clear_2 f a; first = first }
 first_of_image f (CapLoop place) a is first = record { here = (refl, is); clear = clear_2 f a; first = first }
 first_of_image f (CapCut place) a is first = record { here = (refl, is); clear = clear_2 f a; first = first }
-
--- a fault of a list is one of the image
-pub chain_fault_in : (image probe : List ℕ) (fault : ImageFault) → IsChainFaultIn image fault → IsImageFaultIn image probe fault
-chain_fault_in image probe (CapRange place) is = is
-chain_fault_in image probe (CapLoop place) is = is
-chain_fault_in image probe (CapCut place) is = is
-chain_fault_in image probe NoVendor is = absurd is
-chain_fault_in image probe HeaderKind is = absurd is
-chain_fault_in image probe (BarType register) is = absurd is
-chain_fault_in image probe (BarMask register) is = absurd is
-chain_fault_in image probe (BarPair register) is = absurd is
-chain_fault_in image probe (RomMask register) is = absurd is
-chain_fault_in image probe (WindowMask register) is = absurd is

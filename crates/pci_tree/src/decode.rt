@@ -1,6 +1,7 @@
 //! What is decoded of one function: its record, from its image and its read backs.
-ghost use Rattle.std.specs.Prelude.{IfErr, MatchResult};
+ghost use Rattle.std.specs.Prelude.{◌≡◌, [], OnOk, IfErr, MatchResult};
 ghost use Rattle.pci_spec.specs.Number.{IsImage};
+ghost use Rattle.pci_spec.specs.Capability.{IsChain};
 ghost use Rattle.pci_image.specs.Faults.{IsImageFaultIn};
 ghost use Rattle.pci_image.specs.Windows.{IsLowestWindowFault};
 ghost use Rattle.pci_tree.specs.Fault.{image_fault_at};
@@ -8,8 +9,9 @@ ghost use Rattle.pci_tree.specs.Profile.{IsFirstOf};
 ghost use Rattle.pci_tree.specs.Decoding.{IsBridgeAt, IsRecordOf};
 
 use super::record::{Bridge, Record};
+use arrayvec::ArrayVec;
 use pci_image::bar::bars;
-use pci_image::capability::places;
+use pci_image::capability::add_places;
 use pci_image::fault::ImageFault;
 use pci_image::header::Header;
 use pci_image::image::Image;
@@ -54,10 +56,25 @@ pub fn decode(slot: Slot, image: &Image, probe: &Image) -> Result<Record, ImageF
     ensures decoded { MatchResult result (IsRecordOf record { slot = slot; image = image.now.0; probe = probe.now.0 }) (IsImageFaultIn image.now.0 probe.now.0) }
     ensures first { IfErr result (λ e. IsFirstOf 2 record { slot = slot; image = image.now.0; probe = probe.now.0 } (image_fault_at slot e)) }
 {
+    decode_with_places(slot, image, probe, &mut ArrayVec::new())
+}
+
+/// The record of a function as of [`decode`], and the places of its capabilities, which are added to a list of none.
+pub(crate) fn decode_with_places(
+    slot: Slot,
+    image: &Image,
+    probe: &Image,
+    places: &mut ArrayVec<u8, 48>,
+) -> Result<Record, ImageFault>
+    requires none { places.old.items ≡ [] }
+    ensures decoded { MatchResult result (IsRecordOf record { slot = slot; image = image.now.0; probe = probe.now.0 }) (IsImageFaultIn image.now.0 probe.now.0) }
+    ensures first { IfErr result (λ e. IsFirstOf 2 record { slot = slot; image = image.now.0; probe = probe.now.0 } (image_fault_at slot e)) }
+    ensures places { OnOk result (IsChain image.now.0 places.new.items) }
+{
     let bars = bars(image, probe)?;
     let rom = rom(image, probe)?;
     let bridge = bridge_at(image, probe)?;
-    let _places = places(image)?;
+    add_places(image, places)?;
     let _bytes = bytes_of(&image.0);
     Ok(Record {
         slot,

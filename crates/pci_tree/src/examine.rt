@@ -4,11 +4,11 @@ ghost use Rattle.std.specs.Prelude.{MatchResult};
 ghost use Rattle.pci_tree.specs.Fault.{fault_of};
 ghost use Rattle.pci_tree.specs.Profile.{IsExamined, IsFirstFault};
 
-use super::decode::decode;
+use super::decode::decode_with_places;
 use super::fault::Fault;
 use super::profile::{identity_fault, profile_fault};
 use super::record::Record;
-use pci_image::capability::places;
+use arrayvec::ArrayVec;
 use pci_image::image::Image;
 use pci_image::slot::Slot;
 
@@ -26,15 +26,12 @@ pub fn examine(slot: Slot, image: &Image, probe: &Image) -> Result<Record, Fault
         Some(fault) => return Err(fault),
         None => {}
     }
-    let decoded = match decode(slot, image, probe) {
+    let mut places = ArrayVec::new();
+    let decoded = match decode_with_places(slot, image, probe, &mut places) {
         Ok(decoded) => decoded,
         Err(fault) => return Err(Fault::of_image(slot, fault)),
     };
-    let list = match places(image) {
-        Ok(list) => list,
-        Err(fault) => return Err(Fault::of_image(slot, fault)),
-    };
-    match profile_fault(slot, image, probe, &list) {
+    match profile_fault(slot, image, probe, &places) {
         Some(fault) => Err(fault),
         None => Ok(decoded),
     }

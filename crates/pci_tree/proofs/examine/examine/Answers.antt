@@ -2,8 +2,7 @@ use Rattle.std.proofs.Common.{sym, subst}
 use Rattle.pci_spec.specs.System.{Function}
 use Rattle.pci_tree.specs.Fault.{fault_of}
 use Rattle.pci_tree.specs.Profile.{IsFirstFault}
-use Rattle.pci_tree.proofs.Examined.{clear_1, clear_3, first_fault_of, first_of_image, chain_fault_in}
-use Rattle.pci_tree.proofs.FirstDecoded.{first_of_chain}
+use Rattle.pci_tree.proofs.Examined.{clear_1, clear_3, first_fault_of, first_of_image}
 use Rattle.pci_tree.proofs.examine.examine.Goals as goal
 
 pub returns-in-Some : goal.returns-in-Some
@@ -15,13 +14,6 @@ pub returns-in-Err : goal.returns-in-Err
 returns-in-Err c =
     let f : Function = record { slot = c.args.slot; image = c.args.image.now.0; probe = c.args.probe.now.0 } in
     subst (IsFirstFault f) (sym c.of_image.ensures) (first_of_image f c.in-Err.fault c.in-None.ensures.fault c.in-Err.ensures.decoded c.in-Err.ensures.first)
-
-pub returns-in-Err-places : goal.returns-in-Err-places
-returns-in-Err-places c =
-    let f : Function = record { slot = c.args.slot; image = c.args.image.now.0; probe = c.args.probe.now.0 } in
-    subst (IsFirstFault f) (sym c.of_image-in-Err-places.ensures)
-    (first_of_image f c.in-Err-places.fault c.in-None.ensures.fault (chain_fault_in f.image f.probe c.in-Err-places.fault c.in-Err-places.ensures.fault)
-    (first_of_chain f c.in-Err-places.fault record { bars = c.in-Ok.ensures.decoded.decodable.bars; rom = c.in-Ok.ensures.decoded.decodable.rom; windows = c.in-Ok.ensures.decoded.decodable.windows } c.in-Err-places.ensures.first))
 
 pub returns-in-Some-profile_fault : goal.returns-in-Some-profile_fault
 returns-in-Some-profile_fault c =

@@ -9,7 +9,7 @@ use Rattle.pci_tree.specs.declared.record.Record.{Record}
 use Rattle.pci_tree.specs.Values.{record_value}
 use Rattle.pci_tree.proofs.Decodes.{record_is, lawful_record}
 use Rattle.pci_tree.proofs.FirstDecoded.{first_of_bars, first_of_rom, first_of_windows, first_of_chain}
-use Rattle.pci_tree.proofs.decode.decode.Goals as goal
+use Rattle.pci_tree.proofs.decode.decode_with_places.Goals as goal
 
 pub returns-clause-decoded : goal.returns-clause-decoded
 returns-clause-decoded c =
@@ -20,7 +20,7 @@ returns-clause-decoded c =
     let decodable : IsDecodable f = record { vendor = bars.vendor; header = bars.header; bars = bars.each; rom = rom.rom; windows = c.in_ok-bridge.ensures.bridge.windows } in
     let same : record_value r ≡ record_of f = record_is r f refl c.u16.ensures c.in_ok-bars.ensures.decoded c.in_ok-rom.ensures.decoded c.in_ok-bridge.ensures.bridge.same in
     let image : IsImage f.image = record { full = c.bytes_of-bytes.ensures.full; bytes = c.bytes_of-bytes.ensures.bytes } in
-    record { decodable = decodable; same = same; lawful = lawful_record r f image decodable same; chain = c.in_ok-_places.ensures.lawful.0 refl }
+    record { decodable = decodable; same = same; lawful = lawful_record r f image decodable same; chain = c.in_ok-add_places.ensures.lawful.0 refl }
 
 pub returns-in_err-bars-clause-first : goal.returns-in_err-bars-clause-first
 returns-in_err-bars-clause-first c =
@@ -43,10 +43,10 @@ returns-in_err-bridge-clause-first c =
     let p = err_from_is_err_and c.from_residual-in_err-bridge.result c.from_residual-in_err-bridge.ensures.1 in
     rw (p.1, p.2) (first_of_windows f c.in_err-bridge.field-0.0 bars.each rom.rom c.in_err-bridge.ensures.lowest)
 
-pub returns-in_err-_places-clause-first : goal.returns-in_err-_places-clause-first
-returns-in_err-_places-clause-first c =
+pub returns-in_err-add_places-clause-first : goal.returns-in_err-add_places-clause-first
+returns-in_err-add_places-clause-first c =
     let f : Function = record { slot = c.args.slot; image = c.args.image.now.0; probe = c.args.probe.now.0 } in
     let bars : HasLawfulBars f.image f.probe = c.in_ok-bars.ensures.lawful.0 refl in
     let rom : HasLawfulRom f.image f.probe = c.in_ok-rom.ensures.lawful.0 refl in
-    let p = err_from_is_err_and c.from_residual-in_err-_places.result c.from_residual-in_err-_places.ensures.1 in
-    rw (p.1, p.2) (first_of_chain f c.in_err-_places.field-0.0 record { bars = bars.each; rom = rom.rom; windows = c.in_ok-bridge.ensures.bridge.windows } c.in_err-_places.ensures.first)
+    let p = err_from_is_err_and c.from_residual-in_err-add_places.result c.from_residual-in_err-add_places.ensures.1 in
+    rw (p.1, p.2) (first_of_chain f c.in_err-add_places.field-0.0 record { bars = bars.each; rom = rom.rom; windows = c.in_ok-bridge.ensures.bridge.windows } c.in_err-add_places.ensures.first)
