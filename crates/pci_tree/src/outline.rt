@@ -201,7 +201,9 @@ fn regions_among<A: Allocator>(
 ) -> Result<Vec<Region, A>, OutOfMemory>
     ensures { IfOk result (λ v. v.items ≡ flat_map (λ r. regions_of r (space_of space)) records.now) }
 {
-    let mut regions = Vec::new(alloc);
+    let Ok(mut regions) = Vec::with_capacity(alloc, records.len()) else {
+        return Err(OutOfMemory);
+    };
     for function in records {
         add_regions(&mut regions, function, space)?;
     }
