@@ -1,5 +1,5 @@
 -- Tests of bus numbers, bus by bus.
-use Rattle.std.proofs.Common.{◌≡◌, ℕ, ◌+◌, ◌<◌, ◌≤◌, List, get_or, sym, ap, ◌∙◌, subst, inl, inr, arith}
+use Rattle.std.proofs.Common.{◌≡◌, ℕ, ◌+◌, ◌<◌, ◌≤◌, ◌↔◌, List, get_or, refl, sym, ap, ◌∙◌, subst, inl, inr, arith}
 use Rattle.std.specs.List.{Contains, All}
 use Rattle.std.proofs.lemmas.Bool.{cases_eq}
 use Rattle.std.proofs.lemmas.List.Elements.{All-contains, Contains-get_or}
@@ -37,6 +37,17 @@ apart_of_all n roots records part slot b on side all k d within other some less 
     let c : Record = get_or part k d in
     let at : Contains records c × (c.slot.bus ≡ n) = on.each c (Contains-get_or part k d within) in
     all c other (record { has = at.0; is = some }) (subst (λ m. AreSideBySide roots m slot.bus) (sym at.1) side) less
+
+-- on a bus that isn't a root, only those of the same bus count
+pub apart_on_own : (roots : List ℕ) (records part : List Record) (slot : Slot) (b : Bridge) {P : Type 0} → IsBusPart records slot.bus part
+    → (Contains roots slot.bus → ⊥) → (P ↔ IsApartFromLower part slot b) → (P ↔ IsApartFromEarlier roots records slot b)
+apart_on_own roots records part slot b on other test = (
+  λ p c d bridge side less. elim side [
+    | inl same ↦ All-contains (λ r. IsApartFrom r slot b) part c (test.0 p) (on.all c bridge.has same) d bridge.is less
+    | inr both ↦ absurd (other both.1)
+  ],
+  λ all. test.1 (apart_of_all slot.bus roots records part slot b on (inl refl) all),
+)
 
 pub apart_all : (n : ℕ) (roots : List ℕ) (records : List Record) (slot : Slot) (b : Bridge) → 256 ≤ n → All (λ r. IsSlot r.slot) records
     → IsApartBelow n roots records slot b → IsApartFromEarlier roots records slot b

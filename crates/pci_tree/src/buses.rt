@@ -2,12 +2,12 @@
 //! each bus that is no root, and the bus numbers of bridges fit (Bridge 1.2, 3.2.5).
 ghost use Rattle.std.specs.Prelude.{◌≡◌, ◌↔◌, ◌<◌, ℕ, IsTrue, MatchOption, map};
 ghost use Rattle.std.specs.Option.{is_some};
-ghost use Rattle.std.specs.List.{All, Contains};
+ghost use Rattle.std.specs.List.{All};
 ghost use Rattle.pci_spec.specs.Slot.{IsSlot};
 ghost use Rattle.pci_tree.specs.Roots.{buses_of};
 ghost use Rattle.pci_tree.specs.Ways.{slots_of};
 ghost use Rattle.pci_tree.specs.Outline.{RiseBySlot};
-ghost use Rattle.pci_tree.specs.BusNumbers.{HasBusOrder, AreApart, AreSideBySide, IsApartFrom, IsApartFromLower, IsApartFromEarlier, IsInsideParents, HasNoRootBehind, IsBehind, HasLawfulBuses, IsLedTo, IsNotLone, IsInPlace, AreLeastEnds, least_of, EndsWithin};
+ghost use Rattle.pci_tree.specs.BusNumbers.{HasBusOrder, AreApart, AreSideBySide, IsApartFrom, IsApartFromLower, IsApartFromEarlier, IsInsideParents, HasNoRootBehind, HasLawfulBuses, IsLedTo, IsNotLone, IsInPlace, AreLeastEnds, least_of, EndsWithin};
 ghost use Rattle.pci_tree.specs.PlaceFaults.{IsPlaceFault, IsSomePlaceFault};
 
 use super::bus::{lists, on_bus};
@@ -66,8 +66,12 @@ fn is_apart_from_earlier(records: &[Record], roots: &Roots, slot: Slot, bridge: 
     requires slots { All (λ r. IsSlot r.slot) records.now }
     ensures { IsTrue result ↔ IsApartFromEarlier (buses_of roots.now) records.now slot bridge.now }
 {
+    let own = slot.bus();
+    if !roots.has(own) {
+        return is_apart_from_lower(on_bus(records, own), slot, bridge);
+    }
     for bus in 0..256usize {
-        if are_side_by_side(roots, bus as u8, slot.bus()) {
+        if are_side_by_side(roots, bus as u8, own) {
             let part = on_bus(records, bus as u8);
             if !is_apart_from_lower(part, slot, bridge) {
                 return false;
@@ -77,19 +81,12 @@ fn is_apart_from_earlier(records: &[Record], roots: &Roots, slot: Slot, bridge: 
     true
 }
 
-/// Whether a bus is a root behind a bridge.
-fn is_root_behind(roots: &Roots, bridge: &Bridge, bus: u8) -> bool
-    ensures { IsTrue result ↔ (Contains (buses_of roots.now) bus × IsBehind bridge.now bus) }
-{
-    bridge.secondary <= bus && bus <= bridge.subordinate && roots.has(bus)
-}
-
 /// Whether no root is behind a bridge.
 fn has_no_root_behind(roots: &Roots, bridge: &Bridge) -> bool
     ensures { IsTrue result ↔ HasNoRootBehind (buses_of roots.now) bridge.now }
 {
-    for bus in 0..256usize {
-        if is_root_behind(roots, bridge, bus as u8) {
+    for bus in usize::from(bridge.secondary)..usize::from(bridge.subordinate) + 1 {
+        if roots.has(bus as u8) {
             return false;
         }
     }
