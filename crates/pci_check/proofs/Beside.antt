@@ -1,6 +1,6 @@
 -- Texts that are read on, and two that are read side by side.
 use Rattle.std.proofs.Common.{◌≡◌, ◌≢◌, ◌⊎◌, ℕ, ◌+◌, ◌<◌, List, [], ◌∷◌, ◌++◌, length, take, get_or, refl, inl, inr, arith, sym, ◌∙◌, ap, subst, Bool, true, false, Option, Some, None, Ok, Err, append-nil, append_assoc}
-use Rattle.std.specs.Prelude.{IfOk, MatchOption}
+use Rattle.std.specs.Prelude.{IfOk}
 use Rattle.std.specs.declared.result.Result.{Result}
 use Rattle.std.proofs.lemmas.List.{length-append}
 use Rattle.std.proofs.lemmas.List.Elements.{All-nil}
@@ -12,7 +12,7 @@ use Rattle.pci_dump.specs.declared.read_fault.ReadFault.{ReadFault}
 use Rattle.pci_dump.specs.declared.ahead.Progress.{Progress}
 use Rattle.pci_dump.specs.declared.ahead.Progress.TheVariants as stages
 use Rattle.std.specs.Io.KnownBytes.{Consumes, prepend_known}
-use Rattle.pci_dump.specs.State.{Ahead, State, state_of, IsRead, TakesBlock, TakesNone, TakesFault}
+use Rattle.pci_dump.specs.State.{Ahead, State, state_of, IsRead, TakesBlock, TakesNone, TakesBlockOrNone, TakesFault}
 use Rattle.pci_dump.proofs.Texts.{read_all, read_all_one, read_fault, read_more_text}
 use Rattle.pci_dump.proofs.Pairs.{in_left, in_right, in_left_more, in_right_more, none_below_both, none_below_left, none_below_right}
 use Rattle.pci_tree.specs.Survey.{Surveyed, IsSurveyOf, IsAdded}
@@ -185,8 +185,8 @@ module _ (texts : Texts) (buses : List ℕ) (d e p q : State) (v : Surveyed) whe
   }
 
   -- the probe's, whatever was taken of the dump
-  pub decided_by_probe : (fault : ReadFault) (found : Option Block) → IsBeside texts buses d p v → MatchOption found (TakesNone d e) (TakesBlock d e) → TakesFault p q fault → IsDecided texts buses e q v
-  decided_by_probe fault None s td t = record {
+  pub decided_by_probe : (fault : ReadFault) (b : Block) (taken : Bool) → IsBeside texts buses d p v → TakesBlockOrNone taken d e b → TakesFault p q fault → IsDecided texts buses e q v
+  decided_by_probe fault b false s td t = record {
     dump = s.dump;
     probe = s.probe;
     dump_taken = taken_end texts.dump_left texts.dump_failures d e s.dump s.dump_read td;
@@ -194,7 +194,7 @@ module _ (texts : Texts) (buses : List ℕ) (d e p q : State) (v : Surveyed) whe
     roots = s.roots;
     decided = λ more_dump more_probe rd rp. absurd (rp.going fault t.progress);
   }
-  decided_by_probe fault (Some b) s td t = record {
+  decided_by_probe fault b true s td t = record {
     dump = s.dump ++ b ∷ [];
     probe = s.probe;
     dump_taken = taken_open texts.dump_left texts.dump_failures e (s.dump ++ b ∷ []) (read_more_text texts.dump_left texts.dump_failures d e s.dump (s.dump ++ b ∷ []) b s.dump_read td refl);

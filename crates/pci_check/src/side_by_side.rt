@@ -28,11 +28,12 @@ fn read_out<S: Source>(ahead: &mut ReadAhead, source: &mut S) -> Result<(), Read
         → IsTaken left failures (state_of ahead.old (S.left source.old) (S.failures source.old)) blocks
         → IsReadFaultOf left failures (S.failures source.new) fault) }
 {
+    let mut block = Block::blank();
     loop {
-        match ahead.next_block(source) {
+        match ahead.next_into(source, &mut block) {
             Err(fault) => return Err(fault),
-            Ok(None) => return Ok(()),
-            Ok(Some(_)) => {}
+            Ok(false) => return Ok(()),
+            Ok(true) => {}
         }
     }
 }
@@ -82,12 +83,14 @@ impl<A: Allocator> SideBySide<A> {
         Ok(false)
     }
 
-    /// Takes the next block of each text. False where there are no two: a text has ended, or it has a fault, which
-    /// its `ReadAhead` goes on answering; or their slots differ.
+    /// Takes the next block of each text, by way of `block` and `other`. False where there are no two: a text has
+    /// ended, or it has a fault, which its `ReadAhead` goes on answering; or their slots differ.
     fn take_pair<D: Source, P: Source>(
         &mut self,
         dump: &mut D,
         probe: &mut P,
+        block: &mut Block,
+        other: &mut Block,
     ) -> Result<bool, OutOfMemory>
         requires dump { IsOver self.old.listed (D.left dump.old) }
         requires probe { IsOver self.old.read_back (P.left probe.old) }
@@ -102,25 +105,26 @@ impl<A: Allocator> SideBySide<A> {
             (state_of self.new.read_back (P.left probe.new) (P.failures probe.new)) self.new.survey) }
         ensures fewer { IfOk result (λ taken. taken ≡ true → (self.old.listed.count < 4096) × (self.new.listed.count ≡ self.old.listed.count + 1)) }
     {
-        match self.listed.next_block(dump) {
-            Err(_) => Ok(false),
-            Ok(None) => match self.read_back.next_block(probe) {
-                Err(_) => Ok(false),
-                Ok(None) => Ok(false),
-                Ok(Some(other)) => {
-                    self.survey.only(other.slot);
-                    Ok(false)
-                }
-            },
-            Ok(Some(block)) => match self.read_back.next_block(probe) {
-                Err(_) => Ok(false),
-                Ok(None) => {
-                    self.survey.only(block.slot);
-                    Ok(false)
-                }
-                Ok(Some(other)) => self.add(&block, &other),
-            },
+        let listed = match self.listed.next_into(dump, block) {
+            Err(_) => return Ok(false),
+            Ok(listed) => listed,
+        };
+        let read_back = match self.read_back.next_into(probe, other) {
+            Err(_) => return Ok(false),
+            Ok(read_back) => read_back,
+        };
+        if !listed {
+            if !read_back {
+                return Ok(false);
+            }
+            self.survey.only(other.slot);
+            return Ok(false);
         }
+        if !read_back {
+            self.survey.only(block.slot);
+            return Ok(false);
+        }
+        self.add(block, other)
     }
 
     /// Takes one block of each text in turn, as long as both have one of the same slot.
@@ -141,7 +145,9 @@ impl<A: Allocator> SideBySide<A> {
             → IsDecided texts buses (state_of self.new.listed (D.left dump.new) (D.failures dump.new))
             (state_of self.new.read_back (P.left probe.new) (P.failures probe.new)) self.new.survey) }
     {
-        while self.take_pair(dump, probe)? {}
+        let mut block = Block::blank();
+        let mut other = Block::blank();
+        while self.take_pair(dump, probe, &mut block, &mut other)? {}
         Ok(())
     }
 }

@@ -1,8 +1,7 @@
 -- What is at the front of the bytes that are held.
-use Rattle.std.proofs.Common.{◌≡◌, ◌≢◌, ℕ, ◌+◌, ◌-◌, ◌<◌, ◌≤◌, List, [], ◌++◌, arith, sym, ◌∙◌, ap, subst, length, drop, take, Option, Result, Err, IfErr}
+use Rattle.std.proofs.Common.{◌≡◌, ◌≢◌, ℕ, ◌+◌, ◌-◌, ◌<◌, ◌≤◌, List, [], ◌++◌, arith, sym, ◌∙◌, ap, subst, length, drop, take, Result, Err, IfErr}
 use Rattle.std.specs.Prelude.{slice_range}
 use Rattle.std.proofs.lemmas.List.{length-take, drop-take, drop-drop}
-use Rattle.pci_spec.specs.Text.{Block}
 use Rattle.pci_dump.specs.declared.read_fault.ReadFault.{ReadFault}
 use Rattle.pci_dump.specs.declared.read_fault.ReadFault.TheVariants as faults
 use Rattle.pci_dump.specs.declared.parse.Stop.{Stop}
@@ -40,25 +39,25 @@ fault_no_memory count (stops.Ended r) e = absurd cc
 fault_no_memory count stops.EndedFirst e = absurd cc
 
 -- where a block stops
-pub holds_stop : (old new : Ahead) (stop : Stop) (fault : ReadFault) (result : Result (Option Block) ReadFault) → old.count < 4096 → BlockStops old.last old.held stop → fault ≡ fault_at old.count stop → result ≡ Err fault
+pub holds_stop : {A : Type 0} (old new : Ahead) (stop : Stop) (fault : ReadFault) (result : Result A ReadFault) → old.count < 4096 → BlockStops old.last old.held stop → fault ≡ fault_at old.count stop → result ≡ Err fault
     → new ≡ record old { progress = stages.Failed fault } → IfErr result (λ f. HoldsFault old new f)
-holds_stop old new stop fault result few stops_there fault_is result_is state =
+holds_stop {A = A} old new stop fault result few stops_there fault_is result_is state =
     let there : HoldsFault old new fault = record {
       text = (λ more enough. subst (λ (f : ReadFault). IsFaultAfter old.count old.last (old.held ++ more) f) (sym fault_is) (fault_here old.last old.held more old.count stop few stops_there enough));
       state = state;
       no_io = (λ e. fault_no_io old.count stop (sym fault_is ∙ e));
       no_memory = (λ e. fault_no_memory old.count stop (sym fault_is ∙ e));
     } in
-    subst (λ (r : Result (Option Block) ReadFault). IfErr r (λ f. HoldsFault old new f)) (sym result_is) there
+    subst (λ (r : Result A ReadFault). IfErr r (λ f. HoldsFault old new f)) (sym result_is) there
 
 -- where bytes follow all the blocks that there may be
-pub holds_many : (old new : Ahead) (result : Result (Option Block) ReadFault) → old.count ≡ 4096 → old.held ≢ [] → result ≡ Err (faults.TooMany 73729)
+pub holds_many : {A : Type 0} (old new : Ahead) (result : Result A ReadFault) → old.count ≡ 4096 → old.held ≢ [] → result ≡ Err (faults.TooMany 73729)
     → new ≡ record old { progress = stages.Failed (faults.TooMany 73729) } → IfErr result (λ f. HoldsFault old new f)
-holds_many old new result full some result_is state =
+holds_many {A = A} old new result full some result_is state =
     let there : HoldsFault old new (faults.TooMany 73729) = record {
       text = (λ more enough. many_here old.last old.held more old.count full some);
       state = state;
       no_io = (λ e. absurd cc);
       no_memory = (λ e. absurd cc);
     } in
-    subst (λ (r : Result (Option Block) ReadFault). IfErr r (λ f. HoldsFault old new f)) (sym result_is) there
+    subst (λ (r : Result A ReadFault). IfErr r (λ f. HoldsFault old new f)) (sym result_is) there

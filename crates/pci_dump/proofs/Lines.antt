@@ -1,7 +1,7 @@
 -- Lines of bytes one after the other.
-use Rattle.std.proofs.Common.{◌≡◌, None, Some, ℕ, zero, suc, ◌+◌, ◌-◌, ◌*◌, replicate, ◌/◌, ◌%◌, ◌<◌, ◌≤◌, List, [], ◌∷◌, ◌++◌, refl, arith, sym, ◌∙◌, ap, subst, length, take, drop, append_assoc, append-nil, map}
+use Rattle.std.proofs.Common.{◌≡◌, None, Some, ℕ, zero, suc, ◌+◌, ◌-◌, ◌*◌, ◌/◌, ◌%◌, ◌<◌, ◌≤◌, List, [], ◌∷◌, ◌++◌, refl, arith, sym, ◌∙◌, ap, subst, length, take, drop, append_assoc, append-nil, map}
 use Rattle.std.specs.Prelude.{slice_get}
-use Rattle.std.proofs.lemmas.List.{length-append, length-take, drop_at, take_all, take-append-le, drop-append-le, length-drop, drop-drop, drop-replicate, take-replicate}
+use Rattle.std.proofs.lemmas.List.{length-append, length-take, drop_at, take_all, take-append-le, drop-append-le, length-drop}
 use Rattle.pci_spec.specs.Text.{hex_digit, line_ends}
 use Rattle.pci_spec.specs.Form.{Cell, Fixed, Fits, Breaks, Leaves, BreaksIn, value_cells, row_cells, rows_cells, rest_cells, row_text, rows_text, ends_in}
 use Rattle.pci_spec.proofs.Forms.{fits_append, fits_length, fits_rows, fits_row, filler, ends_of, line_ends_append, AreSmall, small_append}
@@ -9,7 +9,6 @@ use Rattle.pci_spec.proofs.Faults.{rows_ends, row_front, breaks_in_row, breaks_i
 use Rattle.pci_dump.specs.declared.parse.Stop.{Stop}
 use Rattle.pci_dump.specs.declared.parse.Stop.TheVariants.{BadSlot, BadTitle, BadLine, NoBlank, Order, Ended, EndedFirst}
 use Rattle.pci_dump.specs.Stop.{RowStops, RestStops}
-use Rattle.pci_dump.proofs.Values.{take_on}
 
 pub row_long : (row : ℕ) → length (row_cells row) ≡ 52
 unfolding value_cells
@@ -53,16 +52,6 @@ pub small_more : (image new values : List ℕ) (row : ℕ) → AreSmall (take (1
 small_more image new values row small fine written =
     let k : 16 * row + 16 ≡ 16 * (row + 1) = omega arith in
     subst AreSmall (sym written ∙ ap (λ (j : ℕ). take j new) k) (small_append (take (16 * row) image) values small fine)
-
--- a row of zeros stands where there are zeros alone
-pub zeros_row : (image : List ℕ) (row : ℕ) → row < 16 → drop (16 * row) image ≡ drop (16 * row) (replicate 256 0) → take (16 * row + 16) image ≡ take (16 * row) image ++ replicate 16 0
-zeros_row image row h zeros =
-    take_on image (16 * row) 16
-    ∙ ap (λ (t : List ℕ). take (16 * row) image ++ t) (ap (take 16) (zeros ∙ drop-replicate (16 * row) 256 0) ∙ take-replicate 16 (256 - 16 * row) 0 (omega (arith, h)))
-
--- and behind it too
-pub zeros_behind : (image : List ℕ) (row : ℕ) → drop (16 * row) image ≡ drop (16 * row) (replicate 256 0) → drop (16 * row + 16) image ≡ drop (16 * row + 16) (replicate 256 0)
-zeros_behind image row zeros = sym (drop-drop 16 (16 * row) image) ∙ ap (drop 16) zeros ∙ drop-drop 16 (16 * row) (replicate 256 0)
 
 pub rows_fit : (image : List ℕ) (row : ℕ) → row ≤ 16 → length image ≡ 256 → AreSmall (take (16 * row) image) → Fits (rows_cells 0 row) (rows_text 0 row (take (16 * row) image))
 rows_fit image row h long small = let t = length-take (16 * row) image in fits_rows 0 row (take (16 * row) image) (omega (arith, t, long, h)) small

@@ -1,6 +1,5 @@
 -- A line of values by its places, and by its cells.
-use Rattle.std.proofs.Common.{◌≡◌, replicate, inl, inr, Option, None, Some, ℕ, zero, suc, ◌+◌, ◌-◌, ◌*◌, ◌/◌, ◌%◌, ◌<◌, ◌≤◌, List, [], ◌∷◌, ◌++◌, refl, arith, sym, ◌∙◌, ap, subst, length, get_or, take, drop, append-nil}
-use Rattle.std.specs.Prelude.{IfSome, IfNone}
+use Rattle.std.proofs.Common.{◌≡◌, replicate, inl, inr, ℕ, zero, suc, ◌+◌, ◌-◌, ◌*◌, ◌/◌, ◌%◌, ◌<◌, ◌≤◌, List, [], ◌∷◌, ◌++◌, refl, arith, sym, ◌∙◌, ap, subst, length, get_or, take, drop, append-nil}
 use Rattle.std.proofs.Common.{Bool, true}
 use Rattle.std.specs.Prelude.{nat_lt}
 use Rattle.pci_spec.specs.Number.{each_from}
@@ -120,15 +119,12 @@ small_values v cells l h k = elim (cases_lt k 16) [
   | inr past ↦ let z = get_or_past v k 0 (omega (arith, l, past)) in omega (arith, z)
 ]
 
-pub some_row : (r : Option (List ℕ)) (row : ℕ) (line : List ℕ) → length line ≡ 52 → row < 16 → get_or line 0 0 ≡ hex_digit row → get_or line 1 0 ≡ 48 → get_or line 2 0 ≡ 58 → get_or line 51 0 ≡ 10
-    → IfSome r (λ v. (length v ≡ 16) × AreValues (slice_range line 3 51) v 16) → IfSome r (λ v. (length v ≡ 16) × AreSmall v × (line ≡ row_text row v))
-some_row None row line l h a b c d e = tt
-some_row (Some v) row line l h a b c d e = (e.0, small_values v (slice_range line 3 51) e.0 e.1, read_row row line v l h e.0 a b c d e.1)
+pub whole_row : (row : ℕ) (line v : List ℕ) → length line ≡ 52 → row < 16 → get_or line 0 0 ≡ hex_digit row → get_or line 1 0 ≡ 48 → get_or line 2 0 ≡ 58 → get_or line 51 0 ≡ 10
+    → length v ≡ 16 → AreValues (slice_range line 3 51) v 16 → AreSmall v × (line ≡ row_text row v)
+whole_row row line v l h a b c d m e = (small_values v (slice_range line 3 51) m e, read_row row line v l h m a b c d e)
 
-pub no_row : (r : Option (List ℕ)) (row : ℕ) (line : List ℕ) → row < 16
-    → IfNone r ((v : List ℕ) → AreValues (slice_range line 3 51) v 16 → ⊥) → IfNone r (Fits (row_cells row) line → ⊥)
-no_row None row line h e = λ f. let p = row_places row line h f in e p.values p.each
-no_row (Some v) row line h e = tt
+pub no_row : (row : ℕ) (line : List ℕ) → row < 16 → ((v : List ℕ) → AreValues (slice_range line 3 51) v 16 → ⊥) → Fits (row_cells row) line → ⊥
+no_row row line h none f = let p = row_places row line h f in none p.values p.each
 
 -- a line of zeros
 pub zeros_there : (cells : List ℕ) → cells ≡ flat_map spaced (replicate 16 0) → AreValues cells (replicate 16 0) 16

@@ -1,5 +1,5 @@
 -- What is at the front of the bytes that are held.
-use Rattle.std.specs.Prelude.{◌≡◌, ◌≢◌, ◌⊎◌, ℕ, ◌+◌, ◌<◌, ◌≤◌, List, [], ◌++◌, length, Some}
+use Rattle.std.specs.Prelude.{◌≡◌, ◌≢◌, ◌⊎◌, Bool, true, false, ℕ, ◌+◌, ◌<◌, ◌≤◌, List, [], ◌++◌, length, Some}
 use Rattle.pci_spec.specs.Text.{Block, IsBlock, block_text}
 use Rattle.pci_spec.specs.Stops.{IsAboveLast}
 use Rattle.pci_dump.specs.declared.read_fault.ReadFault.{ReadFault}
@@ -19,6 +19,11 @@ pub record HoldsBlock (old new : Ahead) (b : Block) : Type 0 where
 pub record HoldsNone (old new : Ahead) : Type 0 where
   pub empty : old.held ≡ []
   pub state : new ≡ record old { progress = stages.Done }
+
+-- a block's text, or nothing
+abbrev pub HoldsBlockOrNone : Bool → Ahead → Ahead → Block → Type 0
+HoldsBlockOrNone true old new b = HoldsBlock old new b
+HoldsBlockOrNone false old new b = HoldsNone old new
 
 -- Bytes at which the text has this fault, where they are as long as a block or all that is left.
 pub record HoldsFault (old new : Ahead) (fault : ReadFault) : Type 0 where

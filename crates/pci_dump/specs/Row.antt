@@ -1,9 +1,12 @@
--- What a line of values spells.
-use Rattle.std.specs.Prelude.{ℕ, List, replicate}
-use Rattle.pci_dump.specs.declared.row.Row.{Row}
-use Rattle.pci_dump.specs.declared.row.Row.TheVariants.{Zeros, Values}
+-- A line of values that is read into an image.
+use Rattle.std.specs.Prelude.{◌≡◌, ◌+◌, ◌*◌, ◌++◌, ℕ, List, length, take}
+use Rattle.pci_spec.specs.Form.{row_text}
+use Rattle.pci_dump.specs.Value.{AreSmall}
 
--- its sixteen values
-abbrev pub values_of : Row → List ℕ
-values_of Zeros = replicate 16 0
-values_of (Values values) = values
+-- the line of a row, whose values follow those of the rows before
+pub record IsRowRead (row : ℕ) (line old new : List ℕ) : Type 0 where
+  pub values : List ℕ
+  pub long : length values ≡ 16
+  pub small : AreSmall values
+  pub text : line ≡ row_text row values
+  pub written : take (16 * row + 16) new ≡ take (16 * row) old ++ values

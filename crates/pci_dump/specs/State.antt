@@ -1,5 +1,5 @@
 -- What a reader has before it, and what a step of it does.
-use Rattle.std.specs.Prelude.{◌≡◌, ◌≢◌, ℕ, ◌+◌, ◌<◌, Bool, true, List, ◌++◌, length, Option, Some}
+use Rattle.std.specs.Prelude.{◌≡◌, ◌≢◌, ℕ, ◌+◌, ◌<◌, Bool, true, false, List, ◌++◌, length, Option, Some}
 use Rattle.std.specs.Io.KnownBytes.{Consumes, IsAtEnd, Keeps, prepend_known}
 use Rattle.pci_spec.specs.Slot.{Slot}
 use Rattle.pci_spec.specs.Text.{Block, IsBlock, IsDump, block_text, text_of}
@@ -69,6 +69,11 @@ pub record TakesNone (old new : State) : Type 0 where
   pub blocks : HasSameBlocks old new
   pub progress : new.progress ≡ stages.Done
   pub failures : new.failures ≡ old.failures
+
+-- this block was taken, or none was left
+abbrev pub TakesBlockOrNone : Bool → State → State → Block → Type 0
+TakesBlockOrNone true old new b = TakesBlock old new b
+TakesBlockOrNone false old new b = TakesNone old new
 
 -- The text has this fault, or a read failed, now or before.
 pub record TakesFault (old new : State) (fault : ReadFault) : Type 0 where

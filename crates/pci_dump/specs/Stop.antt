@@ -2,7 +2,6 @@
 use Rattle.std.specs.Prelude.{◌≡◌, ◌≢◌, ◌⊎◌, ℕ, zero, suc, ◌+◌, ◌<◌, ◌≤◌, List, [], ◌∷◌, ◌++◌, Option, None, Some, take, drop, length, IsTrue, IfSome}
 use Rattle.std.specs.List.{All}
 use Rattle.pci_spec.specs.Slot.{Slot}
-use Rattle.pci_dump.specs.declared.parse.Found.{Found}
 use Rattle.pci_spec.specs.Text.{Block, IsBlock, IsTitle, is_title_byte, block_text, title_text, line_ends}
 use Rattle.pci_spec.specs.Form.{slot_cells, Breaks, Leaves, BreaksIn, row_cells, rest_cells}
 use Rattle.pci_spec.specs.Stops.{IsAboveLast, Stops, EndsIn, InSlot, InTitleText, InLine, AtSlotEnd}
@@ -95,9 +94,6 @@ pub record IsBlockAt (last : Option Slot) (bytes : List ℕ) (b : Block) (used :
   pub text : bytes ≡ block_text b ++ drop used bytes
   pub above : IsAboveLast last b.slot
   pub fits : used ≤ length bytes
-
-abbrev pub IsFoundIn : Option Slot → List ℕ → Found → Type 0
-IsFoundIn last bytes f = IsBlockAt last bytes f.block f.used
 
 -- it does not say that the input ends
 abbrev pub GoesOn : Stop → Type 0

@@ -7,7 +7,7 @@ ghost use Rattle.pci_dump.specs.FaultAt.{fault_at};
 
 use super::block::Block;
 use super::ends::{Failed, Source};
-use super::parse::{Found, Stop, block_in};
+use super::parse::{Stop, block_into};
 use super::read_fault::ReadFault;
 use pci_image::slot::Slot;
 use std::marker::Model;
@@ -67,8 +67,8 @@ impl Model for ReadAhead {
 
 impl ReadAhead {
     ghost use Rattle.pci_dump.specs.declared.read_fault.ReadFault.{ReadFault};
-    ghost use Rattle.pci_dump.specs.State.{Ahead, IsOver, state_of, TakesNone, TakesBlock, TakesFault};
-    ghost use Rattle.pci_dump.specs.Front.{HoldsBlock, HoldsNone, HoldsFault};
+    ghost use Rattle.pci_dump.specs.State.{Ahead, IsOver, state_of, TakesNone, TakesBlock, TakesBlockOrNone, TakesFault};
+    ghost use Rattle.pci_dump.specs.Front.{HoldsBlockOrNone, HoldsFault};
     ghost use Rattle.pci_dump.specs.Fill.{HoldsMore, Moves, HoldsEnough, IsSameText};
 
     /// Nothing is held, and no block was read.
@@ -109,14 +109,42 @@ impl ReadAhead {
         ensures again { (fault : ReadFault) → self.old.progress ≡ Progress.Failed fault → (result ≡ Err fault) × (self.new ≡ self.old) }
         ensures untouched { self.old.progress ≢ Progress.Open → source.new ≡ source.old }
     {
+        let mut block = Block::blank();
+        match self.next_into(source, &mut block) {
+            Err(fault) => Err(fault),
+            Ok(false) => Ok(None),
+            Ok(true) => Ok(Some(block)),
+        }
+    }
+
+    /// Reads the next block into `block`, in the place of what it held. False at the text's end. `source` is the one of
+    /// each call before. A `next_block` that moves no block: at an error `block` may hold parts of what was read.
+    ///
+    /// Errors: 3 to 9 where the text has that fault, 1 `Io` where a read failed. After a fault it
+    /// answers that fault, after false it answers false, and reads no more.
+    pub fn next_into<S: Source>(
+        &mut self,
+        source: &mut S,
+        block: &mut Block,
+    ) -> Result<bool, ReadFault>
+        requires { IsOver self.old (S.left source.old) }
+        ensures over { IsOver self.new (S.left source.new) }
+        ensures ok { IfOk result (λ taken. TakesBlockOrNone taken (state_of self.old (S.left source.old) (S.failures source.old))
+            (state_of self.new (S.left source.new) (S.failures source.new)) block.new) }
+        ensures err { IfErr result
+            (TakesFault (state_of self.old (S.left source.old) (S.failures source.old)) (state_of self.new (S.left source.new) (S.failures source.new))) }
+        ensures done { self.old.progress ≡ Progress.Done → (result ≡ Ok false) × (self.new ≡ self.old) }
+        ensures again { (fault : ReadFault) → self.old.progress ≡ Progress.Failed fault → (result ≡ Err fault) × (self.new ≡ self.old) }
+        ensures untouched { self.old.progress ≢ Progress.Open → source.new ≡ source.old }
+    {
         match self.progress {
-            Progress::Done => return Ok(None),
+            Progress::Done => return Ok(false),
             Progress::Failed(fault) => return Err(fault),
             Progress::Open => {}
         }
         match self.fill(source) {
             Err(Failed) => self.fail(ReadFault::Io),
-            Ok(()) => self.take_block(),
+            Ok(()) => self.take_block(block),
         }
     }
 
@@ -182,28 +210,27 @@ impl ReadAhead {
         Err(fault)
     }
 
-    /// The block at the front of what is held, which is a block's text at least or all that is left.
-    fn take_block(&mut self) -> Result<Option<Block>, ReadFault>
+    /// Takes the block at the front of what is held, which is a block's text at least or all that is left. False where
+    /// nothing is held.
+    fn take_block(&mut self, block: &mut Block) -> Result<bool, ReadFault>
         requires enough { HoldsEnough self.old }
         requires going { self.old.progress ≡ Progress.Open }
-        ensures ok { IfOk result (λ found. MatchOption found (HoldsNone self.old self.new) (HoldsBlock self.old self.new)) }
+        ensures ok { IfOk result (λ taken. HoldsBlockOrNone taken self.old self.new block.new) }
         ensures err { IfErr result (λ fault. HoldsFault self.old self.new fault) }
     {
         if self.held().is_empty() {
             self.progress = Progress::Done;
-            return Ok(None);
+            return Ok(false);
         }
         if self.count == COUNT_MAX {
             return self.fail(ReadFault::TooMany(LINE_AFTER_ALL));
         }
-        match block_in(self.held(), self.last) {
-            Err(stop) => self.fail(fault_of(stop, self.count)),
-            Ok(found) => {
-                let Found { block, used } = found;
-                self.take(used, block.slot);
-                Ok(Some(block))
-            }
-        }
+        let used = match block_into(self.held(), self.last, block) {
+            Err(stop) => return self.fail(fault_of(stop, self.count)),
+            Ok(used) => used,
+        };
+        self.take(used, block.slot);
+        Ok(true)
     }
 
     /// Whether no read is needed.

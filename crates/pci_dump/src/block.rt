@@ -1,5 +1,5 @@
 //! One function of a dump: its slot, its title and its image.
-ghost use Rattle.std.specs.Prelude.{◌≡◌, ◌≤◌, ◌<◌, ◌↔◌, length, ℕ, List, IsSome, IfSome, IsTrue};
+ghost use Rattle.std.specs.Prelude.{◌≡◌, ◌≤◌, ◌<◌, ◌↔◌, length, replicate, ℕ, List, None, IsSome, IfSome, IsTrue};
 ghost use Rattle.std.specs.List.{All};
 ghost use Rattle.pci_spec.specs.Text.{Block as BlockValue, IsBlock, IsTitle, is_title_byte};
 ghost use Rattle.pci_spec.specs.Stops.{IsAboveLast};
@@ -96,6 +96,17 @@ impl Model for Block {
 }
 
 impl Block {
+    /// A block at 00:00.0 that has no title and 256 zeros: a place to read blocks into.
+    pub fn blank() -> Block
+        ensures { result ≡ record { slot = record { bus = 0; device = 0; function = 0 }; title = None; image = replicate 256 0 } }
+    {
+        Block {
+            slot: Slot::default(),
+            title: None,
+            image: Image([0; 256]),
+        }
+    }
+
     /// An equal block.
     pub fn copy(&self) -> Block
         ensures { result ≡ self.now }

@@ -4,12 +4,11 @@ ghost use Rattle.std.specs.List.{All};
 ghost use Rattle.pci_spec.specs.Text.{is_title_byte, IsTitle, block_text};
 ghost use Rattle.pci_spec.specs.Form.{slot_cells};
 ghost use Rattle.pci_spec.specs.Stops.{IsAboveLast};
-ghost use Rattle.pci_dump.specs.Stop.{BlockStops, TitleStops, SlotStops, IsFoundIn, IsHead, head_long, title_at};
+ghost use Rattle.pci_dump.specs.Stop.{BlockStops, TitleStops, SlotStops, IsBlockAt, IsHead, head_long, title_at};
 
 use super::block::{Block, Title, is_title};
-use super::rows::image_in;
+use super::rows::image_into;
 use super::slot_text::slot_of;
-use pci_image::image::Image;
 use pci_image::slot::Slot;
 
 /// How many bytes `bb:dd.f` has.
@@ -94,17 +93,11 @@ fn may_follow(slot: Slot, last: Option<Slot>) -> bool
     }
 }
 
-/// A block that was found, and how many bytes its text has.
-#[derive(Drop)]
-pub(crate) struct Found {
-    pub(crate) block: Block,
-    pub(crate) used: usize,
-}
-
-/// The block at the front of some bytes. They are all that are left, or 1042 and more.
-pub(crate) fn block_in(bytes: &[u8], last: Option<Slot>) -> Result<Found, Stop>
+/// Reads the block at the front of some bytes into `block`, and answers how many bytes its text has. They are all that
+/// are left, or 1042 and more. At a stop `block` may hold parts of it.
+pub(crate) fn block_into(bytes: &[u8], last: Option<Slot>, block: &mut Block) -> Result<usize, Stop>
     requires { bytes.now ≢ [] }
-    ensures ok { IfOk result (λ found. IsFoundIn last bytes.now found) }
+    ensures ok { IfOk result (λ used. IsBlockAt last bytes.now block.new used) }
     ensures err { IfErr result (λ stop. BlockStops last bytes.now stop) }
 {
     if bytes.len() < SLOT_LEN {
@@ -124,19 +117,13 @@ pub(crate) fn block_in(bytes: &[u8], last: Option<Slot>) -> Result<Found, Stop>
     };
     let head = head_len(title_len);
     let (_line, rest) = after.split_at(head);
-    let image = match image_in(rest) {
+    match image_into(rest, &mut block.image.0) {
         Err(stop) => return Err(stop),
-        Ok(image) => image,
-    };
-    let title = title_at(after, title_len);
-    Ok(Found {
-        block: Block {
-            slot,
-            title,
-            image: Image(image),
-        },
-        used: SLOT_LEN + head + LINES_LEN,
-    })
+        Ok(()) => {}
+    }
+    block.slot = slot;
+    block.title = title_at(after, title_len);
+    Ok(SLOT_LEN + head + LINES_LEN)
 }
 
 /// How many bytes a slot line has after the slot.

@@ -1,5 +1,5 @@
 //! Reads a text block by block, or whole.
-ghost use Rattle.std.specs.Prelude.{◌≡◌, ◌+◌, ◌++◌, ◌≢◌, ℕ, List, Option, Some, None, Ok, Err, IfOk, IfErr, OnOk, OnErr, IsErrOf, MatchOption};
+ghost use Rattle.std.specs.Prelude.{◌≡◌, ◌+◌, ◌++◌, ◌≢◌, ℕ, List, Option, Some, None, Ok, Err, false, IfOk, IfErr, OnOk, OnErr, IsErrOf, MatchOption};
 ghost use Rattle.std.specs.Io.KnownBytes.{IsAtEnd};
 ghost use Rattle.pci_spec.specs.Text.{Block as BlockValue, IsTextOf};
 ghost use Rattle.pci_dump.specs.ReadFault.{IsTextFault};
@@ -33,7 +33,7 @@ impl<S: Source> Model for Reader<S> {
 
 impl<S: Source> Reader<S> {
     ghost use Rattle.pci_dump.specs.declared.read_fault.ReadFault.{ReadFault};
-    ghost use Rattle.pci_dump.specs.State.{State, TakesNone, TakesBlock, TakesFault};
+    ghost use Rattle.pci_dump.specs.State.{State, TakesNone, TakesBlock, TakesBlockOrNone, TakesFault};
 
     /// A reader before the first block, with all that the source has left.
     pub fn new(source: S) -> Reader<S>
@@ -61,6 +61,20 @@ impl<S: Source> Reader<S> {
     {
         self.ahead.next_block(&mut self.source)
     }
+
+    /// Reads the next block into `block`, in the place of what it held. False at the text's end. A `next_block` that
+    /// moves no block: at an error `block` may hold parts of what was read.
+    ///
+    /// Errors: 3 to 9 where the text has that fault, 1 `Io` where a read failed in this call or an
+    /// earlier one. After a fault it answers that fault, after false it answers false.
+    pub fn next_into(&mut self, block: &mut Block) -> Result<bool, ReadFault>
+        ensures ok { IfOk result (λ taken. TakesBlockOrNone taken self.old self.new block.new) }
+        ensures err { IfErr result (TakesFault self.old self.new) }
+        ensures done { self.old.progress ≡ Progress.Done → (result ≡ Ok false) × (self.new ≡ self.old) }
+        ensures again { (fault : ReadFault) → self.old.progress ≡ Progress.Failed fault → (result ≡ Err fault) × (self.new ≡ self.old) }
+    {
+        self.ahead.next_into(&mut self.source, block)
+    }
 }
 
 /// The dump whose text `source` has left.
@@ -79,11 +93,16 @@ pub fn read_dump<S: Source, A: Allocator>(alloc: A, source: &mut S) -> Result<Du
 {
     let mut ahead = ReadAhead::new();
     let mut dump = Dump::empty(alloc);
-    while let Some(block) = ahead.next_block(source)? {
+    loop {
+        let mut block = Block::blank();
+        match ahead.next_into(source, &mut block) {
+            Err(fault) => return Err(fault),
+            Ok(false) => return Ok(dump),
+            Ok(true) => {}
+        }
         match dump.append(block) {
             Ok(()) => {}
             Err(OutOfMemory) => return Err(ReadFault::Memory),
         }
     }
-    Ok(dump)
 }

@@ -1,19 +1,11 @@
 //! Lines of sixteen bytes.
-ghost use Rattle.std.specs.Prelude.{◌≡◌, ◌≤◌, ◌<◌, ◌+◌, ◌*◌, ◌++◌, take, replicate, true, ℕ, List, length, IfSome, IfNone, Some, slice_index, slice_range};
+ghost use Rattle.std.specs.Prelude.{◌≡◌, ◌≤◌, ◌<◌, ◌+◌, ◌*◌, ◌++◌, take, replicate, true, false, ℕ, List, length, IfSome, IfNone, IsTrue, slice_index, slice_range};
 ghost use Rattle.std.specs.Int.{from_le_bytes, w64};
 ghost use Rattle.pci_spec.specs.Text.{hex_digit};
 ghost use Rattle.pci_spec.specs.Form.{Fits, value_cells, row_cells, row_text};
 ghost use Rattle.pci_dump.specs.Value.{IsValueAt, AreValues, AreSmall};
-ghost use Rattle.pci_dump.specs.Row.{values_of};
 
 use super::digit::{digit_of, two_digits_value};
-
-/// What a line of values spells.
-#[derive(Clone, Copy, Debug, PartialEq, Eq)]
-pub(crate) enum Row {
-    Zeros,
-    Values([u8; 16]),
-}
 
 /// A line's cells where all values are 0.
 static ZEROS: [u8; 48] = *b" 00 00 00 00 00 00 00 00 00 00 00 00 00 00 00 00";
@@ -58,35 +50,47 @@ fn value_at(cells: &[u8], at: usize) -> Option<u8>
 
 /// Sixteen bytes, each after a space.
 #[inline(never)]
-fn values_in(cells: &[u8]) -> Option<[u8; 16]>
-    requires { length cells.now ≡ 48 }
-    ensures some { IfSome result (λ v. (length v ≡ 16) × AreValues cells.now v 16) }
-    ensures none { IfNone result ((v : List ℕ) → AreValues cells.now v 16 → ⊥) }
+fn values_into(cells: &[u8], values: &mut [u8]) -> bool
+    requires cells { length cells.now ≡ 48 }
+    requires values { length values.old ≡ 16 }
+    ensures long { length values.new ≡ 16 }
+    ensures yes { IsTrue result → AreValues cells.now values.new 16 }
+    ensures no { result ≡ false → (v : List ℕ) → AreValues cells.now v 16 → ⊥ }
 {
-    let mut values = [0u8; 16];
     for i in 0..16 {
-        values[i] = value_at(cells, 3 * i)?;
+        match value_at(cells, 3 * i) {
+            None => return false,
+            Some(value) => values[i] = value,
+        }
     }
-    Some(values)
+    true
 }
 
-/// The line of a row: its offset, sixteen bytes and the line's end.
+/// Sixteen zeros.
+fn put_zeros(values: &mut [u8])
+    requires { length values.old ≡ 16 }
+    ensures { values.new ≡ replicate 16 0 }
+{
+    values.copy_from_slice(&[0; 16]);
+}
+
+/// The sixteen bytes of a row's line: its offset, the bytes, and the line's end. False where that isn't such a line.
 #[inline(always)]
-pub(crate) fn row_of(line: &[u8], row: u8) -> Option<Row>
-    requires whole { length line.now ≡ 52 }
-    requires within { row < 16 }
-    ensures some { IfSome result (λ r. (length (values_of r) ≡ 16) × AreSmall (values_of r) × (line.now ≡ row_text row (values_of r))) }
-    ensures none { IfNone result (Fits (row_cells row) line.now → ⊥) }
+pub(crate) fn row_into(line: &[u8], row: u8, values: &mut [u8]) -> bool
+    requires line { length line.now ≡ 52 }
+    requires row { row < 16 }
+    requires values { length values.old ≡ 16 }
+    ensures long { length values.new ≡ 16 }
+    ensures yes { IsTrue result → AreSmall values.new × (line.now ≡ row_text row values.new) }
+    ensures no { result ≡ false → Fits (row_cells row) line.now → ⊥ }
 {
     if line[0] != digit_of(row) || line[1] != b'0' || line[2] != b':' || line[51] != b'\n' {
-        return None;
+        return false;
     }
     let cells = &line[3..51];
     if are_zeros(cells) {
-        return Some(Row::Zeros);
+        put_zeros(values);
+        return true;
     }
-    match values_in(cells) {
-        None => None,
-        Some(values) => Some(Row::Values(values)),
-    }
+    values_into(cells, values)
 }

@@ -1,17 +1,14 @@
-use Rattle.std.proofs.lemmas.Result.{err_from_is_err_and}
 use Rattle.pci_dump.proofs.Texts.{read_all_one, read_more_text, read_fault}
 use Rattle.pci_dump.proofs.reader.read_dump.Goals as goal
 
-pub returns-in_err-block-clause-fault : goal.returns-in_err-block-clause-fault
-returns-in_err-block-clause-fault g c =
-    let p = err_from_is_err_and c.from_residual.result c.from_residual.ensures.1 in
-    rw (p.1, p.2) (λ bytes known no_io no_memory. read_fault _ _ _ _ _ bytes _ c.loop-dump.invariant.read c.in_err-block.ensures.err known no_io)
+pub returns-in-Err-clause-fault : goal.returns-in-Err-clause-fault
+returns-in-Err-clause-fault g c = λ bytes known no_io no_memory. read_fault _ _ _ _ _ bytes _ c.loop-fault.invariant.read c.in-Err.ensures.err known no_io
 
-pub loop-dump-preserved : goal.loop-dump-preserved
-loop-dump-preserved g c = record {
-  read = read_more_text _ _ _ _ _ _ _ c.loop-dump.invariant.read (rw c.in-Some.is at c.in_ok-block.ensures.ok) c.in-Ok.ensures.ok;
-  over = c.in_ok-block.ensures.over;
+pub returns-in-Ok-false-clause-only : goal.returns-in-Ok-false-clause-only
+returns-in-Ok-false-clause-only g c = λ bytes known others text. read_all_one _ _ _ _ _ others bytes c.loop-fault.invariant.read (rw c.in-Ok-false.field-0-test at c.in-Ok-false.ensures.ok) known text
+
+pub loop-fault-preserved : goal.loop-fault-preserved
+loop-fault-preserved g c = record {
+  read = read_more_text _ _ _ _ _ _ _ c.loop-fault.invariant.read (rw c.in-Ok-true.field-0-test at c.in-Ok-true.ensures.ok) c.in-Ok.ensures.ok;
+  over = c.in-Ok-true.ensures.over;
 }
-
-pub returns-clause-only : goal.returns-clause-only
-returns-clause-only g c = λ bytes known others text. read_all_one _ _ _ _ _ others bytes c.loop-dump.invariant.read (rw c.in_default.is at c.in_ok-block.ensures.ok) known text

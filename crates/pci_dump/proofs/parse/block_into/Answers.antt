@@ -2,7 +2,7 @@ use Rattle.std.proofs.Common.{◌+◌, ap, List, ℕ, ◌++◌, drop, subst, ◌
 use Rattle.pci_spec.specs.Form.{rows_text}
 use Rattle.pci_dump.proofs.Whole.{short_stops, no_slot_stops, low_stops, title_stops, rest_stops, found_in, not_false}
 use Rattle.pci_dump.specs.Stop.{RestStops}
-use Rattle.pci_dump.proofs.parse.block_in.Goals as goal
+use Rattle.pci_dump.proofs.parse.block_into.Goals as goal
 
 pub returns-then-bytes-lt-SLOT_LEN-clause-err : goal.returns-then-bytes-lt-SLOT_LEN-clause-err
 returns-then-bytes-lt-SLOT_LEN-clause-err c = short_stops _ _ _ c.requires c.part_of_slot.ensures
@@ -18,17 +18,17 @@ pub returns-in-Err-clause-err : goal.returns-in-Err-clause-err
 returns-in-Err-clause-err c =
     title_stops _ _ _ c.split_at.result.1.now c.in-Some.slot _ c.split_at.ensures.by_index.0 c.in-Some.ensures.some (c.may_follow.ensures.0 c.if-not-may_follow.false) c.in-Err.ensures.err
 
-pub returns-in-Err-image_in-clause-err : goal.returns-in-Err-image_in-clause-err
-returns-in-Err-image_in-clause-err c =
+pub returns-in-Err-image_into-clause-err : goal.returns-in-Err-image_into-clause-err
+returns-in-Err-image_into-clause-err c =
     let rest_is = c.split_at-2.ensures.back ∙ ap (λ (n : ℕ). drop n c.split_at.result.1.now) c.head_len-head.ensures in
     rest_stops _ _ _ c.split_at.result.1.now c.in-Some.slot _ _ c.split_at.ensures.by_index.0 c.in-Some.ensures.some (c.may_follow.ensures.0 c.if-not-may_follow.false) c.in-Ok.ensures.ok
-    (subst (λ (t : List ℕ). RestStops t c.in-Err-image_in.stop) rest_is c.in-Err-image_in.ensures.err)
+    (subst (λ (t : List ℕ). RestStops t c.in-Err-image_into.stop) rest_is c.in-Err-image_into.ensures.err)
 
 pub returns-clause-ok : goal.returns-clause-ok
 returns-clause-ok c =
     let rest_is = c.split_at-2.ensures.back ∙ ap (λ (n : ℕ). drop n c.split_at.result.1.now) c.head_len-head.ensures in
-    let image = c.in-Ok-image_in.ensures.image in
-    found_in _ _ _ c.split_at.result.1.now c.in-Some.slot c.in-Ok.title_len _ c.in-Ok-image_in.image _ c.split_at.ensures.by_index.0 c.split_at.ensures.front_len c.split_at.ensures.back
-    c.in-Some.ensures.some (c.may_follow.ensures.0 c.if-not-may_follow.false) c.in-Ok.ensures.ok c.title_at-title.ensures image.0 image.1
-    (subst (λ (t : List ℕ). t ≡ (rows_text 0 16 c.in-Ok-image_in.image ++ 10 ∷ []) ++ drop 833 t) rest_is c.in-Ok-image_in.ensures.ok)
+    let image = c.in-Ok-image_into.ensures.image in
+    found_in _ _ _ c.split_at.result.1.now c.in-Some.slot c.in-Ok.title_len _ c.image_into.new.image _ c.split_at.ensures.by_index.0 c.split_at.ensures.front_len c.split_at.ensures.back
+    c.in-Some.ensures.some (c.may_follow.ensures.0 c.if-not-may_follow.false) c.in-Ok.ensures.ok c.title_at-block-inside.ensures image.0 image.1
+    (subst (λ (t : List ℕ). t ≡ (rows_text 0 16 c.image_into.new.image ++ 10 ∷ []) ++ drop 833 t) rest_is c.in-Ok-image_into.ensures.ok)
     (ap (λ (n : ℕ). 7 + n + 833) c.head_len-head.ensures)
