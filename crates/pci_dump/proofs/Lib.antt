@@ -9,6 +9,7 @@ pub mod Fronted
 pub mod Texts
 pub mod Told
 pub mod Put
+pub mod RowLine
 pub mod Pairs
 pub mod PairOrder
 pub mod Digits

@@ -1,8 +1,8 @@
 //! The text of a block.
-ghost use Rattle.std.specs.Prelude.{◌≡◌, ◌≤◌, ◌<◌, ◌+◌, ◌*◌, ◌++◌, ◌∷◌, [], ℕ, List, length};
-ghost use Rattle.std.specs.List.{flat_map};
+ghost use Rattle.std.specs.Prelude.{◌≡◌, ◌≤◌, ◌<◌, ◌⊎◌, ◌+◌, ◌/◌, ◌%◌, ◌++◌, [], ℕ, length, replicate, slice_index, IsTrue};
 ghost use Rattle.arrayvec.specs.ArrayVec.{array_vec_len};
-ghost use Rattle.pci_spec.specs.Text.{hex_byte, slot_text, title_text, byte_line, block_text};
+ghost use Rattle.pci_spec.specs.Text.{hex_digit, hex_byte, slot_text, title_text, byte_line, block_text};
+ghost use Rattle.pci_spec.specs.Form.{row_text};
 
 use super::block::{Block, Title};
 use super::digit::digit_of;
@@ -57,19 +57,49 @@ fn put_title(text: &mut Text, title: &Option<Title>)
     }
 }
 
-/// Values in two digits, each after a space.
-fn put_values(text: &mut Text, values: &[u8])
-    requires { array_vec_len text.old + 3 * length values.now ≤ 1042 }
-    ensures text { text.new.items ≡ text.old.items ++ flat_map (λ byte. 32 ∷ hex_byte byte) values.now }
-    ensures len { array_vec_len text.new ≡ array_vec_len text.old + 3 * length values.now }
+/// A row's line where all its bytes are 0, but for the first digit of its offset.
+const ROW_OF_ZEROS: [u8; 52] = *b"00: 00 00 00 00 00 00 00 00 00 00 00 00 00 00 00 00\n";
+
+/// Whether all bytes are 0.
+fn are_zero(bytes: &[u8]) -> bool
+    ensures { IsTrue result → bytes.now ≡ replicate (length bytes.now) 0 }
 {
-    for &byte in values {
-        text.push(b' ');
-        put_byte(text, byte);
+    let mut bits = 0;
+    for &byte in bytes {
+        bits |= byte;
     }
+    bits == 0
+}
+
+/// Puts a byte's two digits at a place of a line.
+fn set_digits(line: &mut [u8; 52], at: usize, byte: u8)
+    requires { at < 51 }
+    ensures high { slice_index line.new at ≡ hex_digit (byte / 16) }
+    ensures low { slice_index line.new (at + 1) ≡ hex_digit (byte % 16) }
+    ensures kept { (k : ℕ) → (k < at) ⊎ (at + 1 < k) → slice_index line.new k ≡ slice_index line.old k }
+{
+    line[at] = digit_of(byte / 16);
+    line[at + 1] = digit_of(byte % 16);
 }
 
 /// The line of a row: its offset, sixteen values and the line's end.
+fn row_line(values: &[u8], row: u8) -> [u8; 52]
+    requires whole { length values.now ≡ 16 }
+    requires within { row < 16 }
+    ensures { result ≡ row_text row values.now }
+{
+    let mut line = ROW_OF_ZEROS;
+    line[0] = digit_of(row);
+    if are_zero(values) {
+        return line;
+    }
+    for i in 0..16 {
+        set_digits(&mut line, 3 * i + 4, values[i]);
+    }
+    line
+}
+
+/// The line of a row of an image.
 fn put_row(text: &mut Text, image: &[u8; 256], row: u8)
     requires room { array_vec_len text.old + 52 ≤ 1042 }
     requires row { row < 16 }
@@ -77,10 +107,8 @@ fn put_row(text: &mut Text, image: &[u8; 256], row: u8)
     ensures len { array_vec_len text.new ≡ array_vec_len text.old + 52 }
 {
     let at = usize::from(row) * 16;
-    put_byte(text, row * 16);
-    text.push(b':');
-    put_values(text, &image[at..at + 16]);
-    text.push(b'\n');
+    let line = row_line(&image[at..at + 16], row);
+    put_bytes(text, &line);
 }
 
 /// The eighteen lines of a block.
