@@ -37,3 +37,4 @@ pub mod Table
 pub mod WholePlan
 pub mod Stopped
 pub mod Unplanned
+pub mod DerivedProbes

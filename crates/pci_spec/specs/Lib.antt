@@ -21,6 +21,9 @@ pub mod Plan
 pub mod Place
 pub mod Line
 pub mod Listing
+pub mod Resource
+pub mod Derived
+pub mod NoProbe
 pub mod NestingLaws
 pub mod BarLaws
 pub mod WindowLaws
