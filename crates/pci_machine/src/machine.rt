@@ -27,6 +27,8 @@ use std::marker::Model;
 #[derive(Drop)]
 pub struct Machine<A: Allocator = Global> {
     functions: Vec<Registers, A>,
+    // Where the function of the last access stands: mostly the next access is to it too.
+    last: usize,
 }
 
 impl<A: Allocator> Model for Machine<A> {
@@ -77,7 +79,7 @@ impl<A: Allocator> Machine<A> {
                 Err(fault) => return Err(Refused::Fault(named(block.slot, fault))),
             }
         }
-        Ok(Machine { functions })
+        Ok(Machine { functions, last: 0 })
     }
 
     /// The configuration space of the function at a slot, as it is now.
@@ -113,6 +115,10 @@ impl<A: Allocator> Machine<A> {
         ensures lawful { IsLawful self.now }
         ensures found { IfSome result (λ i. (t : Target) × (slice_get self.now i ≡ Some t) × (target_at self.now slot ≡ Some t)) }
     {
+        let last = self.last;
+        if last < self.functions.len() && self.functions[last].is_at(slot) {
+            return Some(last);
+        }
         let number = slot.number();
         let place = self
             .functions
@@ -141,6 +147,7 @@ impl<A: Allocator> ConfigPort for Machine<A> {
         if !is_access(off, width) {
             return Err(PortError::BadAccess);
         }
+        self.last = place;
         let registers = &self.functions[place];
         Ok(registers.number(off, width))
     }
@@ -152,6 +159,7 @@ impl<A: Allocator> ConfigPort for Machine<A> {
         if !is_access(off, width) || !fits(width, value) {
             return Err(PortError::BadAccess);
         }
+        self.last = place;
         let registers = &mut self.functions[place];
         registers.write(off, width, value);
         Ok(())

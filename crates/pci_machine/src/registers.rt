@@ -69,34 +69,36 @@ impl Registers {
         requires { IsTrue (port.is_access off width) }
         ensures { self.new ≡ record self.old { image = written self.old off width value } }
     {
-        self.image = self.written(off, width, value);
-    }
-
-    /// The configuration space after a write.
-    fn written(&self, off: u8, width: u8, value: u32) -> Image
-        requires { IsTrue (port.is_access off width) }
-        ensures { result.0 ≡ written self.now off width value }
-    {
-        let mut bytes = bytes_of(&self.image);
-        let mut rest = value;
-        for j in 0..width {
-            let place = usize::from(off + j);
-            let datum = (rest % 256) as u8;
-            bytes[place] = written_byte(
-                bytes[place],
-                self.writable[place],
-                self.clearing[place],
-                datum,
-            );
-            rest /= 256;
-        }
-        Image(bytes)
+        write_bytes(
+            &mut self.image.0,
+            &self.writable,
+            &self.clearing,
+            off,
+            width,
+            value,
+        );
     }
 }
 
-/// The bytes of an image.
-fn bytes_of(image: &Image) -> [u8; 256]
-    ensures { result ≡ image.now.0 }
+/// Writes to `width` bytes at an offset of a configuration space, with these writable and clearing
+/// bits.
+fn write_bytes(
+    bytes: &mut [u8; 256],
+    writable: &[u8; 256],
+    clearing: &[u8; 256],
+    off: u8,
+    width: u8,
+    value: u32,
+)
+    requires { IsTrue (port.is_access off width) }
+    ensures { (slot : place.Slot) → bytes.new
+        ≡ written record { slot = slot; image = bytes.old; writable = writable.now; clearing = clearing.now } off width value }
 {
-    image.0
+    let mut rest = value;
+    for j in 0..width {
+        let place = usize::from(off + j);
+        let datum = (rest % 256) as u8;
+        bytes[place] = written_byte(bytes[place], writable[place], clearing[place], datum);
+        rest /= 256;
+    }
 }

@@ -10,7 +10,7 @@ use Rattle.pci_machine.specs.Memory.{IsMachine}
 use Rattle.pci_machine.proofs.Targets.{found}
 use Rattle.pci_machine.proofs.Memory.{lawful_from_rising, below_in_front, at_place, not_at_point}
 use Rattle.pci_machine.proofs.machine.Machine.place.Goals as goal
-use Rattle.pci_machine.proofs.machine.Machine.place.Goals.{else-place-len-via-then-place-len+else-is_at, else-place-len-via-else-place-len}
+use Rattle.pci_machine.proofs.machine.Machine.place.Goals.{else-place-len-via-then-place-len+else-is_at-2, else-place-len-via-else-place-len}
 
 pub returns-then-is_at-clause-lawful : goal.returns-then-is_at-clause-lawful
 returns-then-is_at-clause-lawful g c = lawful_from_rising c.args.self.now (subst IsMachine c.self.view_is c.self.invariant)
@@ -18,14 +18,30 @@ returns-then-is_at-clause-lawful g c = lawful_from_rising c.args.self.now (subst
 pub returns-else-place-len-clause-lawful : goal.returns-else-place-len-clause-lawful
 returns-else-place-len-clause-lawful g c = lawful_from_rising c.args.self.now (subst IsMachine c.self.view_is c.self.invariant)
 
+pub returns-then-is_at-2-clause-lawful : goal.returns-then-is_at-2-clause-lawful
+returns-then-is_at-2-clause-lawful g c = lawful_from_rising c.args.self.now (subst IsMachine c.self.view_is c.self.invariant)
+
 pub returns-then-is_at-clause-found : goal.returns-then-is_at-clause-found
 returns-then-is_at-clause-found g c =
     let items = c.self.inside.functions.items in
-    let k = c.partition_point-place.result in
+    let k = c.self.inside.last in
     let t = c.index.result.now in
-    let within : k < length items = omega (arith, c.if-place-len.true, c.len.ensures, c.deref.ensures.len, ap length c.deref.ensures.value) in
+    let within : k < length items = omega (arith, c.if-last-len.true, c.len.ensures) in
     let at : slice_get items k ≡ Some t = slice_get-get_or items k t within ∙ ap Some (sym c.index.ensures) in
     let is : t.slot ≡ c.args.slot = c.is_at.ensures.0 c.if-is_at.true in (
+      t,
+      ap (λ xs. slice_get xs k) (sym c.self.view_is) ∙ at,
+      ap (λ xs. target_at xs c.args.slot) (sym c.self.view_is) ∙ found items c.args.slot k t (lawful_from_rising items c.self.invariant) at is,
+    )
+
+pub returns-then-is_at-2-clause-found : goal.returns-then-is_at-2-clause-found
+returns-then-is_at-2-clause-found g c =
+    let items = c.self.inside.functions.items in
+    let k = c.partition_point-place.result in
+    let t = c.index-then-place-len.result.now in
+    let within : k < length items = omega (arith, c.if-place-len.true, c.len-2.ensures, c.deref.ensures.len, ap length c.deref.ensures.value) in
+    let at : slice_get items k ≡ Some t = slice_get-get_or items k t within ∙ ap Some (sym c.index-then-place-len.ensures) in
+    let is : t.slot ≡ c.args.slot = c.is_at-then-place-len.ensures.0 c.if-is_at-2.true in (
       t,
       ap (λ xs. slice_get xs k) (sym c.self.view_is) ∙ at,
       ap (λ xs. target_at xs c.args.slot) (sym c.self.view_is) ∙ found items c.args.slot k t (lawful_from_rising items c.self.invariant) at is,
@@ -42,11 +58,11 @@ returns-else-place-len-clause-there g c =
     let there = subst (λ m. IsPartitionPoint (λ t. nat_lt (slot_number t.slot) m ≡ true) (λ t. nat_lt (slot_number t.slot) m ≡ false) xs k) c.number-number.ensures.number point in
     ap (λ ys. has_function ys c.args.slot) (sym same) ∙ not_at_point xs machine c.args.slot k there (λ t at is.
     elim c.else-place-len.branch [
-      | else-place-len-via-then-place-len+else-is_at w ↦
-          let r : w.index.result.now ≡ t =
-          at_place xs k t w.index.result.now at (w.index.ensures ∙ ap (λ ys. get_or ys k w.index.result.now) (sym c.deref.ensures.value)) in
-          both_ways w.is_at.result w.if-is_at.false (w.is_at.ensures.1 (ap (λ (u : Target). u.slot) r ∙ is))
+      | else-place-len-via-then-place-len+else-is_at-2 w ↦
+          let r : w.index-then-place-len.result.now ≡ t =
+          at_place xs k t w.index-then-place-len.result.now at (w.index-then-place-len.ensures ∙ ap (λ ys. get_or ys k w.index-then-place-len.result.now) (sym c.deref.ensures.value)) in
+          both_ways w.is_at-then-place-len.result w.if-is_at-2.false (w.is_at-then-place-len.ensures.1 (ap (λ (u : Target). u.slot) r ∙ is))
       | else-place-len-via-else-place-len w ↦
           let within = slice_get_within xs k t at in
-          omega (arith, within, w.if-place-len.false, c.len.ensures, c.deref.ensures.len)
+          omega (arith, within, w.if-place-len.false, c.len-2.ensures, c.deref.ensures.len)
     ])
