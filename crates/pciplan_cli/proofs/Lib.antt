@@ -14,3 +14,4 @@ mod RootWords
 mod CommandWords
 mod CommandLines
 mod Asking
+pub mod HexPushes

@@ -3,6 +3,7 @@
 
 pub mod asked;
 mod digit;
+mod hex_text;
 pub mod line;
 pub mod listing;
 pub mod opened;

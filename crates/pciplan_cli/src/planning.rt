@@ -1,5 +1,5 @@
 //! What `plan` answers of a dump and its probe.
-ghost use Rattle.std.specs.Prelude.{◌≡◌, map, IsTrue, IfOk};
+ghost use Rattle.std.specs.Prelude.{◌≡◌, ◌++◌, map, IsTrue, IfOk, OnOk};
 ghost use Rattle.std.specs.List.{All, flat_map};
 ghost use Rattle.std.specs.String.{string_bytes};
 ghost use Rattle.pci_spec.specs.Line.{write_line};
@@ -8,6 +8,7 @@ ghost use Rattle.pci_plan.specs.Pools.{pools_value};
 ghost use Rattle.pci_plan.specs.Writes.{is_plain, write_value};
 ghost use Rattle.pciplan_cli.specs.PlanAnswers.{IsPlanningOf};
 
+use crate::hex_text::{push_byte, push_hex, push_slot};
 use pci_dump::dump::Dump;
 use pci_dump::memory::{OutOfMemory, Refused};
 use pci_plan::plan_fault::PlanFault;
@@ -17,8 +18,7 @@ use pci_plan::write::Write as RegisterWrite;
 use pci_tree::admit::admit_with;
 use pci_tree::fault::Fault;
 use pci_tree::roots::Roots;
-use std::alloc::Allocator;
-use std::fmt::Write;
+use std::alloc::{AllocError, Allocator};
 
 /// What planning answers: the whole text that is written, and whether it is a plan's.
 #[derive(Drop)]
@@ -33,6 +33,21 @@ pub enum Planned<A: Allocator> {
     NoPlan(PlanFault),
 }
 
+/// Appends the line of a write.
+fn push_write<A: Allocator>(text: &mut String<A>, write: &RegisterWrite) -> Result<(), AllocError>
+    requires { IsTrue (is_plain write.now) }
+    ensures { OnOk result (string_bytes text.new ≡ string_bytes text.old ++ write_line (write_value write.now)) }
+{
+    push_slot(text, write.slot)?;
+    text.push(' ')?;
+    push_byte(text, write.off)?;
+    text.push('.')?;
+    push_hex(text, u64::from(write.width), 1)?;
+    text.push(' ')?;
+    push_hex(text, u64::from(write.value), 2 * u32::from(write.width))?;
+    text.push('\n')
+}
+
 /// A line for each write.
 fn lines_of<A: Allocator>(alloc: A, writes: &[RegisterWrite]) -> Result<String<A>, OutOfMemory>
     requires { All (λ w. IsTrue (is_plain w)) writes.now }
@@ -40,7 +55,7 @@ fn lines_of<A: Allocator>(alloc: A, writes: &[RegisterWrite]) -> Result<String<A
 {
     let mut text = String::new(alloc);
     for write in writes {
-        match writeln!(text, "{write}") {
+        match push_write(&mut text, write) {
             Ok(()) => {}
             Err(_) => return Err(OutOfMemory),
         }

@@ -1,0 +1,65 @@
+-- Hex digits that are appended one after the other.
+use Rattle.std.proofs.Common.{refl, ◌≡◌, ℕ, zero, suc, ◌+◌, ◌-◌, ◌*◌, ◌/◌, ◌%◌, ◌^◌, ◌<◌, ◌≤◌, ◌++◌, ◌∷◌, [], List, Bool, true, arith, sym, ◌∙◌, ap, get_or, nat_lt}
+use Rattle.std.specs.Prelude.{◌==◌, ◌&&◌}
+use Rattle.std.proofs.Math.Nat.{div-div-eq-div-mul, pow-suc}
+use Rattle.std.proofs.lemmas.Bool.{eqb-true, ltb-true, and_parts}
+use Rattle.std.proofs.lemmas.List.{append_assoc}
+use Rattle.pci_spec.specs.Number.{each_from}
+use Rattle.pci_spec.specs.Text.{hex_digit, hex_byte}
+use Rattle.pci_spec.specs.Line.{hex_number}
+use Rattle.pci_spec.proofs.Bits.{each_from-at}
+use Rattle.pciplan_cli.specs.declared.hex_text.TheConstants.{HEX}
+
+-- the table has the digits, and they are ASCII
+abbrev is_digit_of : ℕ → Bool
+is_digit_of number = (get_or HEX number 0 == hex_digit number) && nat_lt (get_or HEX number 0) 128
+
+all_digits : each_from 0 16 is_digit_of ≡ true
+unfolding each_from
+all_digits = refl
+
+both : (number : ℕ) → number < 16 → ((get_or HEX number 0 == hex_digit number) ≡ true) × (nat_lt (get_or HEX number 0) 128 ≡ true)
+both number small =
+    and_parts (get_or HEX number 0 == hex_digit number) (nat_lt (get_or HEX number 0) 128) (each_from-at 0 16 is_digit_of all_digits number (omega arith) (omega (arith, small)))
+
+pub digit_there : (number : ℕ) → number < 16 → get_or HEX number 0 ≡ hex_digit number
+digit_there number small = eqb-true _ _ (both number small).0
+
+pub digit_ascii : (number : ℕ) → number < 16 → get_or HEX number 0 < 128
+digit_ascii number small = ltb-true _ 128 (both number small).1
+
+-- four bits are a digit
+pow_four : (k : ℕ) → 2 ^ (4 * k) ≡ 16 ^ k
+pow_four zero = refl
+pow_four (suc k) =
+    let e : 4 * suc k ≡ suc (suc (suc (suc (4 * k)))) = omega arith in
+    let a = pow-suc 2 (4 * k) in
+    let b = pow-suc 2 (suc (4 * k)) in
+    let c = pow-suc 2 (suc (suc (4 * k))) in
+    let d = pow-suc 2 (suc (suc (suc (4 * k)))) in
+    let s = pow-suc 16 k in
+    let before = pow_four k in
+    ap (λ j. 2 ^ j) e ∙ omega (arith, a, b, c, d, s, before)
+
+-- one digit more
+pub digit_more : (start old new : List ℕ) (number digits done digit : ℕ) → done < digits → old ≡ start ++ hex_number done (number / 16 ^ (digits - done))
+    → digit ≡ number / 2 ^ (4 * (digits - 1 - done)) % 16 → new ≡ old ++ hex_digit digit ∷ []
+    → new ≡ start ++ hex_number (done + 1) (number / 16 ^ (digits - (done + 1)))
+digit_more start old new number digits done digit more before is pushed =
+    let k = digits - 1 - done in
+    let e : digits - (done + 1) ≡ k = omega arith in
+    let s : digits - done ≡ suc k = omega (arith, more) in
+    let n : done + 1 ≡ suc done = omega arith in
+    let next = number / 16 ^ k in
+    let high : number / 16 ^ (digits - done) ≡ next / 16 =
+    ap (λ j. number / 16 ^ j) s ∙ ap (λ m. number / m) (pow-suc 16 k ∙ omega arith) ∙ sym (div-div-eq-div-mul number (16 ^ k) 16) in
+    let low : digit ≡ next % 16 = is ∙ ap (λ m. number / m % 16) (pow_four k) in
+    pushed ∙ (λ i. before i ++ hex_digit (low i) ∷ []) ∙ ap (λ m. (start ++ hex_number done m) ++ hex_digit (next % 16) ∷ []) high
+    ∙ append_assoc start (hex_number done (next / 16)) (hex_digit (next % 16) ∷ [])
+    ∙ ap (λ m. start ++ hex_number m next) (sym n) ∙ ap (λ m. start ++ hex_number (done + 1) (number / 16 ^ m)) (sym e)
+
+-- a byte in two digits
+pub two_of_byte : (byte : ℕ) → byte < 256 → hex_number 2 byte ≡ hex_byte byte
+two_of_byte byte small =
+    let high : byte / 16 % 16 ≡ byte / 16 = omega (arith, small) in
+    ap (λ d. hex_digit d ∷ hex_digit (byte % 16) ∷ []) high

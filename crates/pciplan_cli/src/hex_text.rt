@@ -1,0 +1,57 @@
+//! Hex digits at the end of a text.
+ghost use Rattle.std.specs.Prelude.{◌≡◌, ◌≤◌, ◌<◌, ◌++◌, OnOk};
+ghost use Rattle.std.specs.String.{string_bytes};
+ghost use Rattle.pci_spec.specs.Text.{hex_byte, hex_digit, slot_text};
+ghost use Rattle.pci_spec.specs.Line.{hex_number};
+
+use pci_image::slot::Slot;
+use std::alloc::{AllocError, Allocator};
+
+/// The hex digits in lower case.
+static HEX: [char; 16] = [
+    '0', '1', '2', '3', '4', '5', '6', '7', '8', '9', 'a', 'b', 'c', 'd', 'e', 'f',
+];
+
+/// The hex digit of a number below 16.
+fn digit_of(number: u64) -> char
+    requires { number < 16 }
+    ensures digit { result ≡ hex_digit number }
+    ensures ascii { result < 128 }
+{
+    HEX[number as usize]
+}
+
+/// Appends a number in so many hex digits.
+pub(crate) fn push_hex<A: Allocator>(
+    text: &mut String<A>,
+    number: u64,
+    digits: u32,
+) -> Result<(), AllocError>
+    requires { digits ≤ 16 }
+    ensures { OnOk result (string_bytes text.new ≡ string_bytes text.old ++ hex_number digits number) }
+{
+    for done in 0..digits {
+        let digit = (number >> (4 * (digits - 1 - done))) % 16;
+        text.push(digit_of(digit))?;
+    }
+    Ok(())
+}
+
+/// Appends a byte in two hex digits.
+pub(crate) fn push_byte<A: Allocator>(text: &mut String<A>, byte: u8) -> Result<(), AllocError>
+    ensures { OnOk result (string_bytes text.new ≡ string_bytes text.old ++ hex_byte byte) }
+{
+    push_hex(text, u64::from(byte), 2)
+}
+
+/// Appends `bb:dd.f`.
+pub(crate) fn push_slot<A: Allocator>(text: &mut String<A>, slot: Slot) -> Result<(), AllocError>
+    ensures { OnOk result (string_bytes text.new ≡ string_bytes text.old ++ slot_text slot) }
+{
+    let function = u64::from(slot.number() % 8);
+    push_byte(text, slot.bus())?;
+    text.push(':')?;
+    push_byte(text, slot.dev())?;
+    text.push('.')?;
+    text.push(digit_of(function))
+}
