@@ -35,6 +35,4 @@ mod rows;
 mod slot_text;
 pub mod std_ends;
 pub mod stray;
-#[cfg(test)]
-mod tests;
 pub mod write;

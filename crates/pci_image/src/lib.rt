@@ -22,6 +22,4 @@ mod place_set;
 pub mod range;
 pub mod rom;
 pub mod slot;
-#[cfg(test)]
-mod tests;
 pub mod window;

@@ -27,5 +27,3 @@ mod registers;
 pub mod size;
 pub mod size_fault;
 pub mod table;
-#[cfg(test)]
-mod tests;

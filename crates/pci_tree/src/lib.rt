@@ -19,7 +19,5 @@ pub mod region;
 pub mod roots;
 pub mod space;
 pub mod survey;
-#[cfg(test)]
-mod tests;
 pub mod way;
 pub mod window;

@@ -1,7 +1,7 @@
-use super::registers::{bridge, device};
-use crate::fault::ImageFault;
-use crate::rom::Rom;
-use crate::rom::register::rom;
+use crate::registers::{bridge, device};
+use pci_image::fault::ImageFault;
+use pci_image::rom::Rom;
+use pci_image::rom::register::rom;
 
 #[test]
 fn a_rom_has_the_range_that_its_comparator_answers(rt: HostRuntime) {

@@ -1,6 +1,6 @@
-use super::registers::{bridge, device};
-use crate::fault::ImageFault;
-use crate::header::Header;
+use crate::registers::{bridge, device};
+use pci_image::fault::ImageFault;
+use pci_image::header::Header;
 
 #[test]
 fn a_header_is_of_one_of_two_layouts(rt: HostRuntime) {

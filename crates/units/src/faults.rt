@@ -1,6 +1,6 @@
-use crate::fault::Fault;
-use crate::space::Space;
 use pci_image::slot::Slot;
+use pci_tree::fault::Fault;
+use pci_tree::space::Space;
 use std::test::Fail;
 
 #[test]

@@ -1,10 +1,10 @@
-use super::block;
-use super::fakes::Pieces;
-use crate::block::Block;
-use crate::dump::Dump;
-use crate::pair::pair;
-use crate::pair_fault::PairFault;
-use crate::reader::read_dump;
+use crate::fakes::Pieces;
+use crate::texts::block;
+use pci_dump::block::Block;
+use pci_dump::dump::Dump;
+use pci_dump::pair::pair;
+use pci_dump::pair_fault::PairFault;
+use pci_dump::reader::read_dump;
 use pci_image::image::Image;
 use pci_image::slot::Slot;
 use std::test::Fail;

@@ -1,4 +1,4 @@
-use crate::slot::Slot;
+use pci_image::slot::Slot;
 use std::test::Fail;
 
 #[test]

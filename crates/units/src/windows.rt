@@ -1,7 +1,7 @@
-use super::registers::{Registers, bridge, device};
-use crate::fault::ImageFault;
-use crate::range::Range;
-use crate::window::{Window, Windows};
+use crate::registers::{Registers, bridge, device};
+use pci_image::fault::ImageFault;
+use pci_image::range::Range;
+use pci_image::window::{Window, Windows};
 
 /// Whether a window has upper halves, and its range.
 type Shown = Option<(bool, Option<Range>)>;

@@ -1,8 +1,8 @@
-use super::registers::{Registers, bridge, device};
-use crate::decode::decode;
-use crate::region::{Part, add_regions};
-use crate::space::Space;
+use crate::registers::{Registers, bridge, device};
 use pci_image::slot::Slot;
+use pci_tree::decode::decode;
+use pci_tree::region::{Part, add_regions};
+use pci_tree::space::Space;
 use std::test::Fail;
 
 /// A device with one BAR of each kind and a ROM, by its Command and whether the ROM is on.

@@ -1,8 +1,8 @@
-use super::fakes::Pieces;
-use super::{EXAMPLE, STEPS, block, joined, outcome};
-use crate::block::Title;
-use crate::read_fault::ReadFault;
-use crate::reader::{Reader, read_dump};
+use crate::fakes::Pieces;
+use crate::texts::{EXAMPLE, STEPS, block, joined, outcome};
+use pci_dump::block::Title;
+use pci_dump::read_fault::ReadFault;
+use pci_dump::reader::{Reader, read_dump};
 use std::test::Fail;
 
 #[test]

@@ -1,11 +1,8 @@
-mod fakes;
-mod pairs;
-mod reading;
-mod writing;
+//! Texts of dumps, for the tests that read and write them.
 
-use crate::read_fault::ReadFault;
-use crate::reader::read_dump;
-use fakes::Pieces;
+use crate::fakes::Pieces;
+use pci_dump::read_fault::ReadFault;
+use pci_dump::reader::read_dump;
 use std::test::Fail;
 
 /// The lines of a block with a title, of 849 bytes.

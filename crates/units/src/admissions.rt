@@ -1,11 +1,11 @@
-use super::registers::{Registers, bridge, device, list_at};
-use crate::admit::{admit, admit_with};
-use crate::fault::Fault;
-use crate::roots::Roots;
+use crate::registers::{Registers, bridge, device, list_at};
 use pci_dump::block::Block;
 use pci_dump::dump::Dump;
 use pci_dump::memory::Refused;
 use pci_image::slot::Slot;
+use pci_tree::admit::{admit, admit_with};
+use pci_tree::fault::Fault;
+use pci_tree::roots::Roots;
 use std::test::Fail;
 
 /// A function on bus, device and function.

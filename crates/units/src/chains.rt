@@ -1,6 +1,6 @@
-use super::registers::{Registers, device, list_at};
-use crate::capability::{Cap, chain};
-use crate::fault::ImageFault;
+use crate::registers::{Registers, device, list_at};
+use pci_image::capability::{Cap, chain};
+use pci_image::fault::ImageFault;
 
 /// A list of 48 places, 40h to FCh; the last pointer leads to `end`.
 fn longest(end: u8) -> Registers {

@@ -1,9 +1,4 @@
 //! What sizing does access by access, what a machine answers, and which machines are refused.
-use crate::fail_at::FailAt;
-use crate::machine::Machine;
-use crate::port::{ConfigPort, PortError};
-use crate::size::size;
-use crate::size_fault::SizeFault;
 use pci_dump::block::Block;
 use pci_dump::dump::Dump;
 use pci_dump::memory::Refused;
@@ -11,6 +6,11 @@ use pci_dump::pair_fault::PairFault;
 use pci_image::fault::ImageFault;
 use pci_image::image::Image;
 use pci_image::slot::Slot;
+use pci_machine::fail_at::FailAt;
+use pci_machine::machine::Machine;
+use pci_machine::port::{ConfigPort, PortError};
+use pci_machine::size::size;
+use pci_machine::size_fault::SizeFault;
 use std::alloc::Global;
 use std::test::Fail;
 

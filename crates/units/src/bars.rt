@@ -1,6 +1,6 @@
-use super::registers::{bridge, device};
-use crate::bar::{Bar, BarKind, bars};
-use crate::fault::ImageFault;
+use crate::registers::{bridge, device};
+use pci_image::bar::{Bar, BarKind, bars};
+use pci_image::fault::ImageFault;
 
 /// A BAR at register 10h.
 fn bar(kind: BarKind, prefetch: bool, first: u64, last: u64) -> Bar {

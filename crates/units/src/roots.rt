@@ -1,4 +1,4 @@
-use crate::roots::Roots;
+use pci_tree::roots::Roots;
 use std::test::Fail;
 
 #[test]

@@ -1,9 +1,9 @@
-use super::registers::{bridge, device, list_at};
-use crate::decode::decode;
+use crate::registers::{bridge, device, list_at};
 use pci_image::bar::{Bar, BarKind};
 use pci_image::fault::ImageFault;
 use pci_image::rom::Rom;
 use pci_image::slot::Slot;
+use pci_tree::decode::decode;
 use std::test::Fail;
 
 #[test]

@@ -1,0 +1,40 @@
+//! Tests of single calls: what one function's registers decode to, texts that are read and written, a machine in
+//! memory, admission and what it keeps.
+#![tactic(auto)]
+
+#[cfg(test)]
+mod admissions;
+#[cfg(test)]
+mod bars;
+#[cfg(test)]
+mod chains;
+#[cfg(test)]
+mod fakes;
+#[cfg(test)]
+mod faults;
+#[cfg(test)]
+mod headers;
+#[cfg(test)]
+mod machines;
+#[cfg(test)]
+mod pairs;
+#[cfg(test)]
+mod reading;
+#[cfg(test)]
+mod records;
+#[cfg(test)]
+mod regions;
+#[cfg(test)]
+mod registers;
+#[cfg(test)]
+mod roms;
+#[cfg(test)]
+mod roots;
+#[cfg(test)]
+mod slots;
+#[cfg(test)]
+mod texts;
+#[cfg(test)]
+mod windows;
+#[cfg(test)]
+mod writing;
