@@ -13,4 +13,5 @@ pub mod RowLine
 pub mod Pairs
 pub mod PairOrder
 pub mod Digits
+pub mod SixteenLanes
 pub mod Registers

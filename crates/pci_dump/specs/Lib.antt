@@ -2,6 +2,7 @@ pub mod ReadFault
 pub mod PairFault
 pub mod Value
 pub mod Row
+pub mod Lane
 pub mod Stop
 pub mod FaultAt
 pub mod State

@@ -35,15 +35,6 @@ pub(crate) fn digit_value(byte: u8) -> Option<u8>
     if value < 16 { Some(value as u8) } else { None }
 }
 
-/// What two hex digits in lower case stand for.
-pub(crate) fn two_digits_value(high: u8, low: u8) -> Option<u8>
-    ensures some { IfSome result (λ v. (high ≡ hex_digit (v / 16)) × (low ≡ hex_digit (v % 16))) }
-    ensures none { IfNone result ((v : ℕ) → v < 256 → high ≡ hex_digit (v / 16) → low ≡ hex_digit (v % 16) → ⊥) }
-{
-    let value = number_of(high) * 16 + number_of(low);
-    if value < 256 { Some(value as u8) } else { None }
-}
-
 /// The hex digits in lower case.
 static HEX: [u8; 16] = *b"0123456789abcdef";
 

@@ -24,6 +24,7 @@ mod digit;
 pub mod dump;
 pub mod ends;
 pub mod failures;
+mod lanes;
 pub mod memory;
 pub mod pair;
 pub mod pair_fault;

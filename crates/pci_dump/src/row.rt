@@ -5,7 +5,9 @@ ghost use Rattle.pci_spec.specs.Text.{hex_digit};
 ghost use Rattle.pci_spec.specs.Form.{Fits, value_cells, row_cells, row_text};
 ghost use Rattle.pci_dump.specs.Value.{IsValueAt, AreValues, AreSmall};
 
-use super::digit::{digit_of, two_digits_value};
+use super::digit::digit_of;
+use super::lanes::{are_digits, are_spaces, bytes_of, numbers_of};
+use std::simd::prelude::*;
 
 /// A line's cells where all values are 0.
 static ZEROS: [u8; 48] = *b" 00 00 00 00 00 00 00 00 00 00 00 00 00 00 00 00";
@@ -36,20 +38,8 @@ fn are_zeros(cells: &[u8]) -> bool
     true
 }
 
-/// A space and a byte in two digits.
-fn value_at(cells: &[u8], at: usize) -> Option<u8>
-    requires { at + 2 < length cells.now }
-    ensures some { IfSome result (λ v. IsValueAt cells.now at v) }
-    ensures none { IfNone result ((v : ℕ) → IsValueAt cells.now at v → ⊥) }
-{
-    if cells[at] != b' ' {
-        return None;
-    }
-    two_digits_value(cells[at + 1], cells[at + 2])
-}
-
-/// Sixteen bytes, each after a space.
-#[inline(never)]
+/// Sixteen bytes, each after a space, all at once: their spaces, upper and lower digits are every third cell.
+#[inline(always)]
 fn values_into(cells: &[u8], values: &mut [u8]) -> bool
     requires cells { length cells.now ≡ 48 }
     requires values { length values.old ≡ 16 }
@@ -57,12 +47,28 @@ fn values_into(cells: &[u8], values: &mut [u8]) -> bool
     ensures yes { IsTrue result → AreValues cells.now values.new 16 }
     ensures no { result ≡ false → (v : List ℕ) → AreValues cells.now v 16 → ⊥ }
 {
-    for i in 0..16 {
-        match value_at(cells, 3 * i) {
-            None => return false,
-            Some(value) => values[i] = value,
-        }
+    let a = u8x16::from_slice(&cells[0..16]);
+    let b = u8x16::from_slice(&cells[16..32]);
+    let c = u8x16::from_slice(&cells[32..48]);
+    let spaces = a
+        .shuffle(b, [0, 3, 6, 9, 12, 15, 18, 21, 24, 27, 30, 0, 0, 0, 0, 0])
+        .shuffle(c, [0, 1, 2, 3, 4, 5, 6, 7, 8, 9, 10, 17, 20, 23, 26, 29]);
+    let high = a
+        .shuffle(b, [1, 4, 7, 10, 13, 16, 19, 22, 25, 28, 31, 0, 0, 0, 0, 0])
+        .shuffle(c, [0, 1, 2, 3, 4, 5, 6, 7, 8, 9, 10, 18, 21, 24, 27, 30]);
+    let low = a
+        .shuffle(b, [2, 5, 8, 11, 14, 17, 20, 23, 26, 29, 0, 0, 0, 0, 0, 0])
+        .shuffle(c, [0, 1, 2, 3, 4, 5, 6, 7, 8, 9, 16, 19, 22, 25, 28, 31]);
+    if !are_spaces(spaces) {
+        return false;
     }
+    if !are_digits(high) {
+        return false;
+    }
+    if !are_digits(low) {
+        return false;
+    }
+    bytes_of(numbers_of(high), numbers_of(low)).copy_to_slice(values);
     true
 }
 

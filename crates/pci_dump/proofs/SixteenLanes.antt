@@ -1,0 +1,248 @@
+-- Vectors of sixteen bytes, lane by lane.
+use Rattle.std.proofs.Common.{◌≡◌, ℕ, zero, suc, ◌+◌, ◌*◌, ◌/◌, ◌%◌, ◌^◌, ◌<◌, ◌≤◌, List, [], ◌∷◌, ◌++◌, refl, arith, sym, ◌∙◌, ap, subst, length, get_or, take, replicate, Bool, true, false, cond, eqb, w8}
+use Rattle.std.specs.Prelude.{nat_lt, ◌==◌, IsTrue}
+use mathlib.Core.List.{map}
+use lib.Lanes.{Each1, zip2, sel_l, mask_l, top, pick_l}
+use mir.Val.{Fits}
+use native.Mathlib.Nat.{two-pow-succ}
+use borrow.Rule.Simd.Lanes.{act2}
+use borrow.Table.Row.{s_int}
+use mir.Syntax.{bit_or as lane_or, mask, lt, eq, unsigned, wrap_sub, shl}
+use Rattle.pci_spec.specs.Number.{each_from}
+use Rattle.pci_spec.specs.Text.{hex_digit}
+use Rattle.pci_spec.proofs.Bits.{each_from-at}
+use Rattle.std.proofs.lemmas.Bool.{eqb-true, eq-eqb, cond-true, ltb-true, false≢true}
+use Rattle.std.proofs.lemmas.List.{length-map}
+use Rattle.std.proofs.lemmas.List.{get_or-map}
+use Rattle.std.proofs.lemmas.Simd.{mask_l-mod, bit_mask_l, pick_l_whole}
+use Rattle.std.specs.List.{range_with_len, slice_range}
+use Rattle.pci_dump.specs.Value.{AreValues}
+use Rattle.pci_dump.specs.declared.digit.TheConstants.{DIGITS}
+use Rattle.pci_dump.specs.Lane.{IsDigit, AreDigits, AreSpaces}
+use Rattle.pci_dump.proofs.Digits.{digit_there}
+
+abbrev pub less : ℕ → ℕ → ℕ
+less = act2 (mask (lt unsigned)) (s_int w8) (s_int w8) (s_int w8)
+
+abbrev pub same : ℕ → ℕ → ℕ
+same = act2 (mask eq) (s_int w8) (s_int w8) (s_int w8)
+
+abbrev pub minus : ℕ → ℕ → ℕ
+minus = act2 wrap_sub (s_int w8) (s_int w8) (s_int w8)
+
+abbrev pub either : ℕ → ℕ → ℕ
+either = act2 lane_or (s_int w8) (s_int w8) (s_int w8)
+
+abbrev pub shifted : ℕ → ℕ → ℕ
+shifted = act2 shl (s_int w8) (s_int w8) (s_int w8)
+
+-- ---- masks
+
+abbrev is_one_at : ℕ → Bool
+is_one_at k = eqb (65535 / 2 ^ k % 2) 1
+
+all_ones : each_from 0 16 is_one_at ≡ true
+unfolding each_from
+all_ones = refl
+
+true_from_one : (b : Bool) → ◌≡◌ {A = ℕ} (cond b 1 0) 1 → b ≡ true
+true_from_one true e = refl
+true_from_one false e = absurd (let no : ⊥ = omega (arith, e) in no)
+
+full_mask : (ms : List Bool) → ((k : ℕ) → k < length ms → get_or ms k false ≡ true) → mask_l ms + 1 ≡ 2 ^ length ms
+full_mask [] each = refl
+full_mask (m ∷ ms) each =
+    let first : ◌≡◌ {A = ℕ} (cond m 1 0) 1 = ap (λ (b : Bool). cond b 1 0) (each 0 (omega arith)) in
+    let rest = full_mask ms (λ k below. each (suc k) (omega (arith, below))) in
+    let double = two-pow-succ (length ms) in
+    omega (arith, first, rest, double)
+
+pub all_set : (test : ℕ → Bool) (xs : List ℕ) → length xs ≡ 16 → eqb (mask_l (map test xs) % 2 ^ 64) 65535 ≡ true → (k : ℕ) → k < 16 → test (get_or xs k 0) ≡ true
+all_set test xs long e k below =
+    let many = length-map xs test in
+    let full : mask_l (map test xs) ≡ 65535 = sym (mask_l-mod (map test xs) 64 (omega (arith, long, many))) ∙ eqb-true _ 65535 e in
+    let set = eqb-true (65535 / 2 ^ k % 2) 1 (each_from-at 0 16 is_one_at all_ones k (omega arith) (omega (arith, below))) in
+    let one = sym (bit_mask_l (map test xs) k) ∙ ap (λ n. n / 2 ^ k % 2) full ∙ set in
+    sym (get_or-map test xs k 0 false (omega (arith, below, long))) ∙ true_from_one _ one
+
+pub set_all : (test : ℕ → Bool) (xs : List ℕ) → length xs ≡ 16 → ((k : ℕ) → k < 16 → test (get_or xs k 0) ≡ true) → eqb (mask_l (map test xs) % 2 ^ 64) 65535 ≡ true
+set_all test xs long each =
+    let many = length-map xs test in
+    let full = full_mask (map test xs) (λ k below. get_or-map test xs k 0 false (omega (arith, below, many)) ∙ each k (omega (arith, below, many, long))) in
+    let power : 2 ^ length (map test xs) ≡ 65536 = ap (λ n. 2 ^ n) (many ∙ long) in
+    eq-eqb _ 65535 (mask_l-mod (map test xs) 64 (omega (arith, long, many)) ∙ (let all : mask_l (map test xs) ≡ 65535 = omega (arith, full, power) in all))
+
+-- ---- spaces
+
+abbrev pub space_test : ℕ → Bool
+space_test c = top 7 (same c 32)
+
+pub spaces_map : (cells : List ℕ) → map (top 7) (zip2 same cells (replicate (length cells) 32)) ≡ map space_test cells
+spaces_map [] = refl
+spaces_map (c ∷ cells) = ap (λ l. space_test c ∷ l) (spaces_map cells)
+
+-- ---- digits
+
+abbrev pub digit_test : ℕ → Bool
+digit_test c = top 7 (either (less (minus c 48) 10) (less (minus c 97) 6))
+
+pub digits_map : (cells : List ℕ) → map (top 7) (zip2 either (zip2 less (zip2 minus cells (replicate (length cells) 48)) (replicate (length cells) 10)) (zip2 less (zip2 minus cells (replicate (length cells) 97)) (replicate (length cells) 6))) ≡ map digit_test cells
+digits_map [] = refl
+digits_map (c ∷ cells) = ap (λ l. digit_test c ∷ l) (digits_map cells)
+
+abbrev pub digit_number : ℕ → ℕ
+digit_number c = cond (top 7 (less (minus c 48) 10)) (minus c 48) (minus c 87)
+
+pub numbers_map : (cells : List ℕ) → sel_l (map (top 7) (zip2 less (zip2 minus cells (replicate (length cells) 48)) (replicate (length cells) 10))) (zip2 minus cells (replicate (length cells) 48)) (zip2 minus cells (replicate (length cells) 87)) ≡ map digit_number cells
+numbers_map [] = refl
+numbers_map (c ∷ cells) = ap (λ l. digit_number c ∷ l) (numbers_map cells)
+
+abbrev pub join : ℕ → ℕ → ℕ
+join high low = either (shifted high 4) low
+
+pub joined : (highs lows : List ℕ) → zip2 either (zip2 shifted highs (replicate (length highs) 4)) lows ≡ zip2 join highs lows
+joined [] lows = refl
+joined (h ∷ highs) [] = refl
+joined (h ∷ highs) (l ∷ lows) = ap (λ r. join h l ∷ r) (joined highs lows)
+
+-- ---- each byte
+
+abbrev is_right_digit : ℕ → Bool
+is_right_digit c = cond (digit_test c) (nat_lt (get_or DIGITS c 0) 16) true
+
+all_right_digits : each_from 0 256 is_right_digit ≡ true
+unfolding each_from
+all_right_digits = refl
+
+abbrev is_right_number : ℕ → Bool
+is_right_number d = cond (digit_test (hex_digit d)) (digit_number (hex_digit d) == d) false
+
+all_right_numbers : each_from 0 16 is_right_number ≡ true
+unfolding each_from
+all_right_numbers = refl
+
+abbrev is_right_space : ℕ → Bool
+is_right_space c = cond (space_test c) (c == 32) true
+
+all_right_spaces : each_from 0 256 is_right_space ≡ true
+unfolding each_from
+all_right_spaces = refl
+
+abbrev is_right_join : ℕ → Bool
+is_right_join v = join (v / 16) (v % 16) == v
+
+all_right_joins : each_from 0 256 is_right_join ≡ true
+unfolding each_from
+all_right_joins = refl
+
+first_true : (a b : Bool) → cond a b false ≡ true → a ≡ true
+first_true true b e = refl
+first_true false b e = absurd (false≢true e)
+
+then_true : (a b : Bool) → cond a b false ≡ true → b ≡ true
+then_true true b e = e
+then_true false b e = absurd (false≢true e)
+
+pub is_digit : (c : ℕ) → c < 256 → digit_test c ≡ true → IsDigit c
+is_digit c small e =
+    let test = each_from-at 0 256 is_right_digit all_right_digits c (omega arith) (omega (arith, small)) in
+    let below = ltb-true (get_or DIGITS c 0) 16 (sym (cond-true (digit_test c) (nat_lt (get_or DIGITS c 0) 16) true e) ∙ test) in
+    (get_or DIGITS c 0, below, digit_there c small below)
+
+pub passes_digit : (c : ℕ) → IsDigit c → digit_test c ≡ true
+passes_digit c d =
+    ap digit_test d.2 ∙ first_true _ _ (each_from-at 0 16 is_right_number all_right_numbers d.0 (omega arith) (omega (arith, d.1)))
+
+pub number_is : (d : ℕ) → d < 16 → digit_number (hex_digit d) ≡ d
+number_is d small = eqb-true _ d (then_true _ _ (each_from-at 0 16 is_right_number all_right_numbers d (omega arith) (omega (arith, small))))
+
+pub is_space : (c : ℕ) → c < 256 → space_test c ≡ true → c ≡ 32
+is_space c small e = eqb-true c 32 (sym (cond-true (space_test c) (c == 32) true e) ∙ each_from-at 0 256 is_right_space all_right_spaces c (omega arith) (omega (arith, small)))
+
+pub join_is : (v : ℕ) → v < 256 → join (v / 16) (v % 16) ≡ v
+join_is v small = eqb-true _ v (each_from-at 0 256 is_right_join all_right_joins v (omega arith) (omega (arith, small)))
+
+pub passes_space : (c : ℕ) → c ≡ 32 → space_test c ≡ true
+passes_space c e = ap space_test e
+
+-- what holds for a vector's own length holds for sixteen
+pub at_sixteen : (xs : List ℕ) → length xs ≡ 16 → (P : ℕ → Type 0) → P (length xs) → P 16
+at_sixteen xs long P h = subst P long h
+
+-- each lane is a byte
+pub byte_at_lane : (xs : List ℕ) (k : ℕ) → Each1 (Fits w8) xs → get_or xs k 0 < 256
+byte_at_lane [] k fits = omega arith
+byte_at_lane (x ∷ xs) zero fits = let f = fits.0.fits in omega (arith, f)
+byte_at_lane (x ∷ xs) (suc k) fits = byte_at_lane xs k fits.1
+
+-- ---- every third of 48
+
+abbrev pub places : ℕ → List ℕ
+places n = map (λ k. 3 * k + n) (range_with_len 0 16)
+
+abbrev is_right_place : ℕ → Bool
+is_right_place k = get_or (range_with_len 0 16) k 0 == k
+
+all_right_places : each_from 0 16 is_right_place ≡ true
+unfolding each_from
+all_right_places = refl
+
+pub third_at : (xs : List ℕ) (n k : ℕ) → k < 16 → get_or (pick_l 0 xs (places n)) k 0 ≡ get_or xs (3 * k + n) 0
+third_at xs n k below =
+    let at = eqb-true _ k (each_from-at 0 16 is_right_place all_right_places k (omega arith) (omega (arith, below))) in
+    get_or-map (λ j. get_or xs j 0) (places n) k 0 0 (omega (arith, below))
+    ∙ ap (λ j. get_or xs j 0) (get_or-map (λ j. 3 * j + n) (range_with_len 0 16) k 0 0 (omega (arith, below)) ∙ ap (λ j. 3 * j + n) at)
+
+-- two shuffles of a line's three parts
+abbrev pub picked : List ℕ → List ℕ → List ℕ → List ℕ
+picked xs first second = pick_l 0 (pick_l 0 (take 16 (slice_range xs 0 16) ++ take 16 (slice_range xs 16 32)) first ++ take 16 (slice_range xs 32 48)) second
+
+pub thirds_0 : (xs : List ℕ) → length xs ≡ 48 → picked xs (0 ∷ 3 ∷ 6 ∷ 9 ∷ 12 ∷ 15 ∷ 18 ∷ 21 ∷ 24 ∷ 27 ∷ 30 ∷ 0 ∷ 0 ∷ 0 ∷ 0 ∷ 0 ∷ []) (0 ∷ 1 ∷ 2 ∷ 3 ∷ 4 ∷ 5 ∷ 6 ∷ 7 ∷ 8 ∷ 9 ∷ 10 ∷ 17 ∷ 20 ∷ 23 ∷ 26 ∷ 29 ∷ []) ≡ pick_l 0 xs (places 0)
+thirds_0 xs long = subst (λ (ys : List ℕ). picked ys (0 ∷ 3 ∷ 6 ∷ 9 ∷ 12 ∷ 15 ∷ 18 ∷ 21 ∷ 24 ∷ 27 ∷ 30 ∷ 0 ∷ 0 ∷ 0 ∷ 0 ∷ 0 ∷ []) (0 ∷ 1 ∷ 2 ∷ 3 ∷ 4 ∷ 5 ∷ 6 ∷ 7 ∷ 8 ∷ 9 ∷ 10 ∷ 17 ∷ 20 ∷ 23 ∷ 26 ∷ 29 ∷ []) ≡ pick_l 0 ys (places 0)) (pick_l_whole 0 xs 48 long) refl
+
+pub thirds_1 : (xs : List ℕ) → length xs ≡ 48 → picked xs (1 ∷ 4 ∷ 7 ∷ 10 ∷ 13 ∷ 16 ∷ 19 ∷ 22 ∷ 25 ∷ 28 ∷ 31 ∷ 0 ∷ 0 ∷ 0 ∷ 0 ∷ 0 ∷ []) (0 ∷ 1 ∷ 2 ∷ 3 ∷ 4 ∷ 5 ∷ 6 ∷ 7 ∷ 8 ∷ 9 ∷ 10 ∷ 18 ∷ 21 ∷ 24 ∷ 27 ∷ 30 ∷ []) ≡ pick_l 0 xs (places 1)
+thirds_1 xs long = subst (λ (ys : List ℕ). picked ys (1 ∷ 4 ∷ 7 ∷ 10 ∷ 13 ∷ 16 ∷ 19 ∷ 22 ∷ 25 ∷ 28 ∷ 31 ∷ 0 ∷ 0 ∷ 0 ∷ 0 ∷ 0 ∷ []) (0 ∷ 1 ∷ 2 ∷ 3 ∷ 4 ∷ 5 ∷ 6 ∷ 7 ∷ 8 ∷ 9 ∷ 10 ∷ 18 ∷ 21 ∷ 24 ∷ 27 ∷ 30 ∷ []) ≡ pick_l 0 ys (places 1)) (pick_l_whole 0 xs 48 long) refl
+
+pub thirds_2 : (xs : List ℕ) → length xs ≡ 48 → picked xs (2 ∷ 5 ∷ 8 ∷ 11 ∷ 14 ∷ 17 ∷ 20 ∷ 23 ∷ 26 ∷ 29 ∷ 0 ∷ 0 ∷ 0 ∷ 0 ∷ 0 ∷ 0 ∷ []) (0 ∷ 1 ∷ 2 ∷ 3 ∷ 4 ∷ 5 ∷ 6 ∷ 7 ∷ 8 ∷ 9 ∷ 16 ∷ 19 ∷ 22 ∷ 25 ∷ 28 ∷ 31 ∷ []) ≡ pick_l 0 xs (places 2)
+thirds_2 xs long = subst (λ (ys : List ℕ). picked ys (2 ∷ 5 ∷ 8 ∷ 11 ∷ 14 ∷ 17 ∷ 20 ∷ 23 ∷ 26 ∷ 29 ∷ 0 ∷ 0 ∷ 0 ∷ 0 ∷ 0 ∷ 0 ∷ []) (0 ∷ 1 ∷ 2 ∷ 3 ∷ 4 ∷ 5 ∷ 6 ∷ 7 ∷ 8 ∷ 9 ∷ 16 ∷ 19 ∷ 22 ∷ 25 ∷ 28 ∷ 31 ∷ []) ≡ pick_l 0 ys (places 2)) (pick_l_whole 0 xs 48 long) refl
+
+-- the three thirds of what sixteen values spell
+pub spaces_there : (cells spaces values : List ℕ) → AreValues cells values 16 → spaces ≡ pick_l 0 cells (places 0) → AreSpaces spaces
+spaces_there cells spaces values each is k below = ap (λ (l : List ℕ). get_or l k 0) is ∙ third_at cells 0 k below ∙ ap (λ j. get_or cells j 0) (let e : 3 * k + 0 ≡ 3 * k = omega arith in e) ∙ (each k below).space
+
+pub highs_there : (cells highs values : List ℕ) → AreValues cells values 16 → highs ≡ pick_l 0 cells (places 1) → AreDigits highs
+highs_there cells highs values each is k below =
+    let v = each k below in
+    let small = v.small in
+    (get_or values k 0 / 16, omega (arith, small), ap (λ (l : List ℕ). get_or l k 0) is ∙ third_at cells 1 k below ∙ v.high)
+
+pub lows_there : (cells lows values : List ℕ) → AreValues cells values 16 → lows ≡ pick_l 0 cells (places 2) → AreDigits lows
+lows_there cells lows values each is k below =
+    let v = each k below in
+    (get_or values k 0 % 16, omega arith, ap (λ (l : List ℕ). get_or l k 0) is ∙ third_at cells 2 k below ∙ v.low)
+
+-- and back
+pub values_there : (cells spaces highs lows high_numbers low_numbers values : List ℕ) → spaces ≡ pick_l 0 cells (places 0) → highs ≡ pick_l 0 cells (places 1) → lows ≡ pick_l 0 cells (places 2)
+    → AreSpaces spaces → AreDigits highs → AreDigits lows
+    → ((k d : ℕ) → k < 16 → d < 16 → get_or highs k 0 ≡ hex_digit d → get_or high_numbers k 0 ≡ d)
+    → ((k d : ℕ) → k < 16 → d < 16 → get_or lows k 0 ≡ hex_digit d → get_or low_numbers k 0 ≡ d)
+    → ((k v : ℕ) → k < 16 → v < 256 → get_or high_numbers k 0 ≡ v / 16 → get_or low_numbers k 0 ≡ v % 16 → get_or values k 0 ≡ v)
+    → AreValues cells values 16
+values_there cells spaces highs lows high_numbers low_numbers values s h l spaced high_digits low_digits high_is low_is value_is k below =
+    let hd = high_digits k below in
+    let ld = low_digits k below in
+    let high : ℕ = hd.0 in
+    let low : ℕ = ld.0 in
+    let high_small : high < 16 = hd.1 in
+    let low_small : low < 16 = ld.1 in
+    let upper : high ≡ (high * 16 + low) / 16 = omega (arith, low_small) in
+    let lower : low ≡ (high * 16 + low) % 16 = omega (arith, low_small) in
+    let small : high * 16 + low < 256 = omega (arith, high_small, low_small) in
+    let v = value_is k (high * 16 + low) below small (high_is k high below high_small hd.2 ∙ upper) (low_is k low below low_small ld.2 ∙ lower) in
+    let at : 3 * k ≡ 3 * k + 0 = omega arith in
+    record {
+      small = omega (arith, v, small);
+      space = ap (λ j. get_or cells j 0) at ∙ sym (third_at cells 0 k below) ∙ sym (ap (λ (t : List ℕ). get_or t k 0) s) ∙ spaced k below;
+      high = sym (third_at cells 1 k below) ∙ sym (ap (λ (t : List ℕ). get_or t k 0) h) ∙ hd.2 ∙ ap hex_digit (upper ∙ ap (λ n. n / 16) (sym v));
+      low = sym (third_at cells 2 k below) ∙ sym (ap (λ (t : List ℕ). get_or t k 0) l) ∙ ld.2 ∙ ap hex_digit (lower ∙ ap (λ n. n % 16) (sym v));
+    }

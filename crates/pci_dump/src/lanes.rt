@@ -1,0 +1,47 @@
+//! Sixteen hex digits at once.
+ghost use Rattle.std.specs.Prelude.{◌≡◌, ◌<◌, ◌/◌, ◌%◌, ℕ, length, false, IsTrue, slice_index};
+ghost use Rattle.pci_spec.specs.Text.{hex_digit};
+ghost use Rattle.pci_dump.specs.Lane.{AreDigits, AreSpaces};
+
+use std::simd::prelude::*;
+
+/// Whether all are spaces.
+#[inline(always)]
+pub(crate) fn are_spaces(cells: u8x16) -> bool
+    ensures yes { IsTrue result → AreSpaces cells }
+    ensures no { result ≡ false → AreSpaces cells → ⊥ }
+{
+    cells.simd_eq(u8x16::splat(b' ')).all()
+}
+
+/// Whether all are hex digits in lower case.
+#[inline(always)]
+pub(crate) fn are_digits(cells: u8x16) -> bool
+    ensures yes { IsTrue result → AreDigits cells }
+    ensures no { result ≡ false → AreDigits cells → ⊥ }
+{
+    let number = (cells - u8x16::splat(48)).simd_lt(u8x16::splat(10));
+    let letter = (cells - u8x16::splat(97)).simd_lt(u8x16::splat(6));
+    (number | letter).all()
+}
+
+/// What hex digits in lower case stand for.
+#[inline(always)]
+pub(crate) fn numbers_of(digits: u8x16) -> u8x16
+    ensures long { length result ≡ 16 }
+    ensures each { (k d : ℕ) → k < 16 → d < 16 → slice_index digits k ≡ hex_digit d → slice_index result k ≡ d }
+{
+    let number = digits - u8x16::splat(48);
+    number
+        .simd_lt(u8x16::splat(10))
+        .select(number, digits - u8x16::splat(87))
+}
+
+/// The bytes of these upper and lower halves.
+#[inline(always)]
+pub(crate) fn bytes_of(high: u8x16, low: u8x16) -> u8x16
+    ensures long { length result ≡ 16 }
+    ensures each { (k v : ℕ) → k < 16 → v < 256 → slice_index high k ≡ v / 16 → slice_index low k ≡ v % 16 → slice_index result k ≡ v }
+{
+    (high << u8x16::splat(4)) | low
+}
