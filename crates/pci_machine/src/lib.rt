@@ -19,6 +19,7 @@ pub mod fail_at;
 mod function;
 pub mod machine;
 mod mask;
+pub mod number;
 pub mod port;
 pub mod quiet;
 mod read_back;

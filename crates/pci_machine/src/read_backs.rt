@@ -1,5 +1,5 @@
 //! What all address registers of a function read back.
-ghost use Rattle.std.specs.Prelude.{◌≡◌, ◌+◌, ◌<◌, ◌≤◌, ◌/◌, ◌%◌, ◌^◌, ◌⊎◌, ℕ, List, IsTrue, IfOk, IfErr, OnOk, OnErr, slice_index, if◌then◌else◌};
+ghost use Rattle.std.specs.Prelude.{◌≡◌, ◌+◌, ℕ, List, IsTrue, IfOk, IfErr, OnOk, OnErr, if◌then◌else◌};
 ghost use Rattle.pci_spec.specs.Header.{layout};
 ghost use Rattle.pci_spec.specs.Machine.{sized};
 ghost use Rattle.pci_spec.specs.Port as ports;
@@ -8,6 +8,7 @@ ghost use Rattle.pci_machine.specs.Outcome.{failures_of_stop};
 
 use crate::access_at::Stop;
 use crate::address_register::{address_registers, sizing_ones};
+use crate::number::put;
 use crate::port::{ConfigPort, PortError};
 use crate::read_back::read_back;
 use pci_image::image::Image;
@@ -37,17 +38,4 @@ pub fn read_backs<P: ConfigPort>(port: &mut P, slot: Slot, bridge: bool) -> Resu
         }
     }
     Ok(Image(bytes))
-}
-
-/// Puts the bytes of a number at an offset.
-fn put(bytes: &mut [u8; 256], off: u8, width: u8, value: u32)
-    requires { IsTrue (ports.is_access off width) }
-    ensures inside { (j : ℕ) → j < width → slice_index bytes.new (off + j) ≡ value / 256 ^ j % 256 }
-    ensures outside { (place : ℕ) → (place < off) ⊎ (off + width ≤ place) → slice_index bytes.new place ≡ slice_index bytes.old place }
-{
-    let mut rest = value;
-    for j in 0..width {
-        bytes[usize::from(off + j)] = (rest % 256) as u8;
-        rest /= 256;
-    }
 }

@@ -120,7 +120,7 @@ fn bar_bits(probe: &Image, n: u8) -> u32
 }
 
 /// Whether BAR register n starts a BAR, and is not the upper half of one.
-fn starts_bar(probe: &Image, n: u8) -> bool
+pub fn starts_bar(probe: &Image, n: u8) -> bool
     requires { n < 6 }
     ensures { result ≡ bar.starts_bar probe.now.0 n }
 {
