@@ -33,8 +33,7 @@ fn push_bars<A: Allocator>(text: &mut String<A>, bars: &[Bar]) -> Result<(), All
     ensures { OnOk result (string_bytes text.new ≡ string_bytes text.old ++ flat_map bar_line (map decoded_bar_of bars.now)) }
 {
     for bar in bars {
-        let line = BarLine::of(*bar);
-        write!(text, "{line}")?;
+        BarLine::of(*bar).push_to(text)?;
     }
     Ok(())
 }
@@ -44,8 +43,7 @@ fn push_rom<A: Allocator>(text: &mut String<A>, rom: Option<Rom>) -> Result<(), 
     ensures { OnOk result (string_bytes text.new ≡ string_bytes text.old ++ rom_lines (option_map decoded_rom_of rom)) }
 {
     if let Some(rom) = rom {
-        let line = RomLine::of(rom);
-        write!(text, "{line}")?;
+        RomLine::of(rom).push_to(text)?;
     }
     Ok(())
 }

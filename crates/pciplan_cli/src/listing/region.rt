@@ -1,15 +1,17 @@
 //! The lines of a function's BARs and of its expansion ROM.
-ghost use Rattle.std.specs.Prelude.{◌≡◌, Some};
+ghost use Rattle.std.specs.Prelude.{◌≡◌, ◌++◌, OnOk};
+ghost use Rattle.std.specs.String.{string_bytes};
 ghost use Rattle.pci_spec.specs.Listing.{bar_line, rom_line, kind_text};
 ghost use Rattle.pci_image.specs.Bars.{decoded_bar_of, decoded_kind_of};
 ghost use Rattle.pci_image.specs.Roms.{decoded_rom_of};
 
 use super::span::Span;
+use crate::hex_text::push_byte;
 use pci_image::bar::{Bar, BarKind};
 use pci_image::range::Range;
 use pci_image::rom::Rom;
 use pci_tree::space::Space;
-use std::fmt;
+use std::alloc::{AllocError, Allocator};
 
 /// What a BAR maps: `io`, `mem32` or `mem64`, and `pref` where it is prefetchable.
 #[derive(Clone, Copy)]
@@ -18,17 +20,18 @@ struct Mapping {
     prefetch: bool,
 }
 
-impl fmt::Display for Mapping {
-    ghost output = { λ m. Some (kind_text (decoded_kind_of m.kind) m.prefetch) };
-
-    fn fmt<W: fmt::Write>(&self, f: &mut fmt::Formatter<W>) -> fmt::Result {
+impl Mapping {
+    /// The mapping in words.
+    fn text(self) -> &'static str
+        ensures { result.now ≡ kind_text (decoded_kind_of self.kind) self.prefetch }
+    {
         match (self.kind, self.prefetch) {
-            (BarKind::Io, false) => write!(f, "io"),
-            (BarKind::Io, true) => write!(f, "io pref"),
-            (BarKind::Mem32, false) => write!(f, "mem32"),
-            (BarKind::Mem32, true) => write!(f, "mem32 pref"),
-            (BarKind::Mem64, false) => write!(f, "mem64"),
-            (BarKind::Mem64, true) => write!(f, "mem64 pref"),
+            (BarKind::Io, false) => "io",
+            (BarKind::Io, true) => "io pref",
+            (BarKind::Mem32, false) => "mem32",
+            (BarKind::Mem32, true) => "mem32 pref",
+            (BarKind::Mem64, false) => "mem64",
+            (BarKind::Mem64, true) => "mem64 pref",
         }
     }
 }
@@ -65,16 +68,18 @@ impl BarLine {
             span: Span { space, range },
         }
     }
-}
 
-impl fmt::Display for BarLine {
-    ghost use Rattle.pciplan_cli.specs.RegionLines.{bar_line_text};
-
-    ghost output = { λ l. Some (bar_line_text l) };
-
-    fn fmt<W: fmt::Write>(&self, f: &mut fmt::Formatter<W>) -> fmt::Result {
-        let (reg, mapping, span) = (self.reg, self.mapping, self.span);
-        writeln!(f, "  bar {reg:02x} {mapping} {span}")
+    /// Appends the line.
+    pub fn push_to<A: Allocator>(self, text: &mut String<A>) -> Result<(), AllocError>
+        ensures { OnOk result (string_bytes text.new ≡ string_bytes text.old ++ bar_line_text self) }
+    {
+        text.push_str("  bar ")?;
+        push_byte(text, self.reg)?;
+        text.push(' ')?;
+        text.push_str(self.mapping.text())?;
+        text.push(' ')?;
+        self.span.push_to(text)?;
+        text.push('\n')
     }
 }
 
@@ -106,19 +111,15 @@ impl RomLine {
             },
         }
     }
-}
 
-impl fmt::Display for RomLine {
-    ghost use Rattle.pciplan_cli.specs.RegionLines.{rom_line_text};
-
-    ghost output = { λ l. Some (rom_line_text l) };
-
-    fn fmt<W: fmt::Write>(&self, f: &mut fmt::Formatter<W>) -> fmt::Result {
-        let (reg, span) = (self.reg, self.span);
-        if self.on {
-            writeln!(f, "  rom {reg:02x} on {span}")
-        } else {
-            writeln!(f, "  rom {reg:02x} off {span}")
-        }
+    /// Appends the line.
+    pub fn push_to<A: Allocator>(self, text: &mut String<A>) -> Result<(), AllocError>
+        ensures { OnOk result (string_bytes text.new ≡ string_bytes text.old ++ rom_line_text self) }
+    {
+        text.push_str("  rom ")?;
+        push_byte(text, self.reg)?;
+        text.push_str(if self.on { " on " } else { " off " })?;
+        self.span.push_to(text)?;
+        text.push('\n')
     }
 }
