@@ -1,6 +1,6 @@
 -- Vectors of sixteen bytes, lane by lane.
-use Rattle.std.proofs.Common.{◌≡◌, ℕ, zero, suc, ◌+◌, ◌*◌, ◌/◌, ◌%◌, ◌^◌, ◌<◌, ◌≤◌, List, [], ◌∷◌, ◌++◌, refl, arith, sym, ◌∙◌, ap, subst, length, get_or, take, replicate, Bool, true, false, cond, eqb, w8}
-use Rattle.std.specs.Prelude.{nat_lt, ◌==◌, IsTrue}
+use Rattle.std.proofs.Common.{◌≡◌, ℕ, zero, suc, ◌+◌, ◌*◌, ◌/◌, ◌%◌, ◌^◌, ◌<◌, List, [], ◌∷◌, ◌++◌, refl, arith, sym, ◌∙◌, ap, subst, length, get_or, take, replicate, Bool, true, false, cond, eqb, w8}
+use Rattle.std.specs.Prelude.{nat_lt, ◌==◌}
 use mathlib.Core.List.{map}
 use lib.Lanes.{Each1, zip2, sel_l, mask_l, top, pick_l}
 use mir.Val.{Fits}

@@ -1,4 +1,4 @@
-use Rattle.std.proofs.Common.{◌≡◌, ◌∙◌, ◌%◌, ◌^◌, ℕ, sym, ap, replicate, eqb}
+use Rattle.std.proofs.Common.{◌≡◌, ◌∙◌, ◌%◌, ◌^◌, sym, ap, replicate, eqb}
 use mathlib.Core.List.{map}
 use lib.Lanes.{zip2, mask_l, top}
 use Rattle.std.proofs.lemmas.Bool.{false≢true}

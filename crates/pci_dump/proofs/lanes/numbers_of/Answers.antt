@@ -1,4 +1,4 @@
-use Rattle.std.proofs.Common.{◌≡◌, ◌∙◌, ℕ, List, sym, ap, arith, length, get_or, replicate}
+use Rattle.std.proofs.Common.{◌≡◌, ◌∙◌, ℕ, List, ap, arith, length, get_or, replicate}
 use mathlib.Core.List.{map}
 use lib.Lanes.{zip2, sel_l, top}
 use Rattle.std.proofs.lemmas.List.{length-map, get_or-map}

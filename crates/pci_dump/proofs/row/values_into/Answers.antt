@@ -1,4 +1,4 @@
-use Rattle.std.proofs.Common.{◌≡◌, ◌<◌, ◌∙◌, ℕ, List, sym, subst, arith, length}
+use Rattle.std.proofs.Common.{◌∙◌, ℕ, List, sym, subst}
 use Rattle.std.proofs.lemmas.Simd.{put_chunk_whole}
 use Rattle.pci_dump.specs.Value.{AreValues}
 use Rattle.pci_dump.proofs.SixteenLanes.{thirds_0, thirds_1, thirds_2, spaces_there, highs_there, lows_there, values_there}
