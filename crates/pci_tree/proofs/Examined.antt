@@ -1,5 +1,5 @@
 -- The first fault of a function by itself.
-use Rattle.std.proofs.Common.{ℕ, List, refl, arith, sym, subst}
+use Rattle.std.proofs.Common.{ℕ, refl, arith, sym, subst}
 use Rattle.pci_spec.specs.Capability.{HasChain}
 use Rattle.pci_spec.specs.System.{Function}
 use Rattle.pci_spec.specs.Decoded.{IsDecodable}

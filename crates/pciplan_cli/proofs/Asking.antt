@@ -1,5 +1,5 @@
 -- From the words to the line that is carried out.
-use Rattle.std.proofs.Common.{◌≡◌, ◌⊎◌, inr, inl, List, ℕ, sym}
+use Rattle.std.proofs.Common.{◌≡◌, ◌⊎◌, inr, List, ℕ, sym}
 use Rattle.std.specs.Prelude.{Result, Ok, Err, IfOk, IfErr, MatchResult}
 use Rattle.std.proofs.lemmas.Result.{IfErr-at_err}
 use Rattle.clap.specs.Words.{Text}
