@@ -9,7 +9,7 @@ here=$(CDPATH='' cd -- "$(dirname -- "$0")" && pwd) || exit 1
 room=$(mktemp -d) || exit 1
 trap 'rm -rf "$room"' EXIT
 cp -- "${1:-$here/out/pciplan}" "$room/pciplan" || exit 1
-cp -- "$here"/data/*.txt "$room" || exit 1
+cp -- "$here"/data/*.txt "$here"/../../machines/* "$room" || exit 1
 chmod 755 "$room" "$room/pciplan"
 cd "$room" || exit 1
 
@@ -50,8 +50,14 @@ case_of() {
     compare "$title" "$status" "$wrote" "$told" $?
 }
 
-probe_text=$(cat probe.txt; echo .)
-probe_text=${probe_text%.}
+# text_of FILE: sets `text` to what the file holds, with its last line feed.
+text_of() {
+    text=$(cat "$1"; echo .)
+    text=${text%.}
+}
+
+text_of probe.txt
+probe_text=$text
 pools='--io 1000-ffff --mem e0000000-efffffff --pref f0000000-ffffffff'
 
 # what is written to standard output, with nothing on standard error
@@ -64,6 +70,22 @@ case_of 'size' 0 "$probe_text" '' size dump.txt probe.txt
 case_of 'plan: nothing to plan' 0 '' '' plan empty.txt empty.txt $pools
 case_of 'plan: no' 1 "no 70 BadPools$lf" '' \
     plan dump.txt probe.txt --io 2-1 --mem e0000000-efffffff --pref f0000000-ffffffff
+
+# dumps of machines, each with its verdict, its listing, and what sizing it finds, which is its probe
+for machine in desk old port roots; do
+    roots=00
+    [ $machine = roots ] && roots=00,40
+    text_of $machine.check
+    [ "$text" = "yes$lf" ]
+    case_of "$machine: check" $? "$text" '' check --root $roots $machine.dump $machine.probe
+    text_of $machine.show
+    refused=0
+    [ $machine = port ] && refused=1
+    case_of "$machine: show" $refused "$text" '' show $machine.dump $machine.probe
+    [ $machine = port ] || text_of $machine.probe
+    case_of "$machine: size" $refused "$text" '' size $machine.dump $machine.probe
+done
+case_of 'roots: one root bus alone' 1 "no 58 Orphan 40:00.0$lf" '' check roots.dump roots.probe
 
 # words that are refused
 case_of 'no words' 2 '' "pciplan: usage$lf"
