@@ -1,0 +1,42 @@
+//! What is derived for an address register.
+
+/// A read back, or why there is none.
+#[derive(Clone, Copy, Debug, PartialEq, Eq)]
+pub enum Derived {
+    /// It follows from what is shown and told.
+    Known(u64),
+    /// Nothing tells it and nothing enabled hangs on it: this is assumed.
+    Assumed(u64),
+    /// 32: the register is enabled, and no size is told.
+    NoSize,
+    /// 33: the register shows 0, and what is told of it has another encoding or size.
+    OtherSize,
+}
+
+impl Derived {
+    ghost use Rattle.std.specs.Prelude.{◌≡◌, ◌%◌, ◌/◌, ◌^◌};
+    ghost use Rattle.pci_spec.specs.Derived.{lower_half, read_back_of};
+    ghost use Rattle.pci_probe.specs.Derived.{derived_of};
+
+    /// The lower 32 bits.
+    pub fn lower_half(self) -> Derived
+        ensures { derived_of result ≡ lower_half (derived_of self) }
+    {
+        match self {
+            Derived::Known(read_back) => Derived::Known(read_back % 0x1_0000_0000),
+            Derived::Assumed(read_back) => Derived::Assumed(read_back % 0x1_0000_0000),
+            Derived::NoSize => Derived::NoSize,
+            Derived::OtherSize => Derived::OtherSize,
+        }
+    }
+
+    /// The upper 32 bits, 0 where there is no read back.
+    pub fn upper_half(self) -> u64
+        ensures { result ≡ read_back_of (derived_of self) / 2 ^ 32 }
+    {
+        match self {
+            Derived::Known(read_back) | Derived::Assumed(read_back) => read_back / 0x1_0000_0000,
+            Derived::NoSize | Derived::OtherSize => 0,
+        }
+    }
+}
