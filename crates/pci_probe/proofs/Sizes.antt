@@ -1,10 +1,10 @@
 -- Numbers of addresses that are powers of two.
-use Rattle.std.proofs.Common.{◌≡◌, ◌≢◌, ℕ, ◌+◌, ◌-◌, ◌*◌, ◌%◌, ◌^◌, ◌<◌, ◌≤◌, ◌==◌, Bool, true, false, ◌&&◌, inl, inr, arith, sym, ◌∙◌, ap, subst}
+use Rattle.std.proofs.Common.{◌≡◌, ℕ, ◌+◌, ◌-◌, ◌*◌, ◌%◌, ◌^◌, ◌<◌, ◌≤◌, ◌==◌, Bool, true, false, inl, inr, arith, sym, ◌∙◌, ap}
 use Rattle.std.specs.Bool.{nat_le}
 use Rattle.std.specs.Int.{bit_at, w64, trailing_zeros}
-use Rattle.std.proofs.lemmas.Bool.{and_parts, and_from, and_left, le-leb, leb-true, eqb-true, eq-eqb, false_from_ne_true, cases_lt}
+use Rattle.std.proofs.lemmas.Bool.{and_parts, and_from, le-leb, leb-true, eqb-true, eq-eqb, false_from_ne_true, cases_lt}
 use Rattle.std.proofs.lemmas.Nat.{one_shl, pow_below, pow_pos}
-use Rattle.std.proofs.lemmas.Nat.Bits.{bit_at-trailing_zeros, bit_at-pow_same, bit_at-pow_other}
+use Rattle.std.proofs.lemmas.Nat.Bits.{bit_at-trailing_zeros, bit_at-pow_other}
 use Rattle.pci_spec.specs.Number.{some_from}
 use Rattle.pci_spec.specs.Resource.{ResourceLine, has_size, address_count}
 use Rattle.pci_spec.proofs.Bits.{some_from-at, some_from-gives}

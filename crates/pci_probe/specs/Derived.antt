@@ -1,5 +1,5 @@
 -- What is derived for a register, as the definitions have it.
-use Rattle.std.specs.Prelude.{ℕ, ◌<◌, ◌^◌}
+use Rattle.std.specs.Prelude.{◌<◌, ◌^◌}
 use Rattle.pci_spec.specs.Derived.{Derived as SpecDerived, read_back_of}
 use Rattle.pci_spec.specs.Derived as spec
 use Rattle.pci_probe.specs.declared.derived.Derived.{Derived}

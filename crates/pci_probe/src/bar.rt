@@ -1,5 +1,5 @@
 //! What is derived for a BAR (PCI 3.0, 6.2.5.1).
-ghost use Rattle.std.specs.Prelude.{◌≡◌, ◌+◌, ◌-◌, ◌*◌, ◌%◌, ◌^◌, ◌<◌, ◌≤◌, ℕ, true, false, ⊤, if◌then◌else◌, MatchOption};
+ghost use Rattle.std.specs.Prelude.{◌≡◌, ◌+◌, ◌-◌, ◌*◌, ◌%◌, ◌^◌, ◌<◌, ◌≤◌, true, false, ⊤, if◌then◌else◌, MatchOption};
 ghost use Rattle.pci_spec.specs.Bar as bars;
 ghost use Rattle.pci_spec.specs.Header.{layout};
 ghost use Rattle.pci_spec.specs.Machine.{without_low};

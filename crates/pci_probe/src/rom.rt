@@ -1,7 +1,5 @@
 //! What is derived for an expansion ROM (PCI 3.0, 6.2.5.2).
 ghost use Rattle.std.specs.Prelude.{◌≡◌, ◌≤◌, ◌^◌, ◌<◌, ⊤, true, false, MatchOption};
-ghost use Rattle.pci_spec.specs.Number.{has_bit};
-ghost use Rattle.pci_spec.specs.Header.{command};
 ghost use Rattle.pci_spec.specs.Resource.{address_count, tells_rom};
 ghost use Rattle.pci_spec.specs.Derived as spec;
 ghost use Rattle.pci_probe.specs.Derived.{derived_of, IsNarrow};

@@ -1,4 +1,4 @@
-use Rattle.std.proofs.Common.{◌≡◌, ◌+◌, ◌-◌, ◌≤◌, true, false, arith, subst}
+use Rattle.std.proofs.Common.{◌≡◌, ◌+◌, ◌-◌, true, false, arith, subst}
 use Rattle.pci_spec.specs.Resource.{has_size, address_count}
 use Rattle.pci_probe.proofs.Sizes.{none_below, none_of_all, told, counted, bounded, none_else}
 use Rattle.pci_probe.proofs.line.ResourceLine.size.Goals as goal
