@@ -21,4 +21,6 @@ pub mod fault;
 pub mod line;
 pub mod register;
 mod rom;
+#[cfg(test)]
+mod tests;
 mod window;
