@@ -1,6 +1,6 @@
 #!/bin/sh
 # Runs the built program as its users do. Each case compares what went to standard output, what went to standard error,
-# and the status. A line is printed for each case; the status is 1 where one differs.
+# and the status. A line is printed for each case, and one for each file of cases; the status is 1 where one differs.
 #
 # Usage: program_test.sh [PROGRAM], by default out/pciplan beside this file, which `rt ci` and `rt run` make.
 set -u
@@ -10,6 +10,7 @@ room=$(mktemp -d) || exit 1
 trap 'rm -rf "$room"' EXIT
 cp -- "${1:-$here/out/pciplan}" "$room/pciplan" || exit 1
 cp -- "$here"/data/*.txt "$here"/../../machines/* "$room" || exit 1
+cp -R -- "$here"/cases "$here"/cases.awk "$room" || exit 1
 chmod 755 "$room" "$room/pciplan"
 cd "$room" || exit 1
 
@@ -177,6 +178,31 @@ if [ -w /dev/full ]; then
 else
     echo 'skipped: standard output is full'
 fi
+
+# a way of 255 bridges to bus FFh, where all pass its BAR, and where one is closed
+awk 'BEGIN {
+    for (closed = -1; closed < 255; closed += 51) {
+        print "# 255 bridges in a row"
+        for (bus = 0; bus < 255; bus++)
+            printf "%02x:00.0 bridge %02x %02x ff 04=%s 20=e000e000/fff0fff0\n", bus, bus, bus + 1,
+                bus == closed ? "0000" : "0002"
+        print "ff:00.0 04=0002 10=e0000000/fff00000"
+        print "$ check dump probe"
+        if (closed < 0)
+            print "yes\n"
+        else
+            printf "no 60 Unreached ff:00.0 10 mem 00000000e0000000 bridge %02x:00.0\n\n", closed
+    }
+}' >cases/deep.txt
+
+# boards written as text, with what the program answers about each: each file prints `FILE: N passed, M failed`
+for cases in cases/*.txt; do
+    awk -f cases.awk "$cases" >told
+    cat told
+    # shellcheck disable=SC2046
+    set -- $(tail -n 1 told)
+    passed=$((passed + $2)) failed=$((failed + $4))
+done
 
 echo "$passed passed, $failed failed"
 [ "$failed" -eq 0 ]

@@ -1,25 +1,7 @@
-//! Tests that cross crates: what the program prints of boards that are built register by register.
+//! Tests that cross crates: who gets where in a tree of buses, and a slow judge beside the fast one.
 #![tactic(auto)]
 
 #[cfg(test)]
-mod faults;
-#[cfg(test)]
-mod listings;
-#[cfg(test)]
-mod messages;
-#[cfg(test)]
-mod options;
-#[cfg(test)]
 mod outlines;
 #[cfg(test)]
-mod roots;
-#[cfg(test)]
-mod sizes;
-#[cfg(test)]
 mod slow;
-#[cfg(test)]
-mod trees;
-#[cfg(test)]
-mod verdicts;
-#[cfg(test)]
-mod words;

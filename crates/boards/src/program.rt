@@ -90,49 +90,18 @@ pub fn prints(
     is_answer(&run_words(rt, words, texts.0, texts.1), wanted)
 }
 
-/// Whether a task prints this about a board, without a message, and ends with the status.
-///
-/// # Errors
-///
-/// What isn't as it is wanted.
-pub fn answers(
-    rt: &impl AllocGlobal,
-    task: Task,
-    board: &[Function],
-    out: &str,
-    status: u8,
-) -> Result<(), Fail> {
-    let texts = texts_of(rt.alloc(), board)?;
-    let got = run_task(rt, task, texts.dump.as_str(), texts.probe.as_str());
-    is_answer(&got, (out, "", status))
-}
-
 /// Whether `check` gives this verdict on a board: `yes` with status 0, or a `no` line with status 1.
 ///
 /// # Errors
 ///
 /// What isn't as it is wanted.
 pub fn judges(rt: &impl AllocGlobal, board: &[Function], verdict: &str) -> Result<(), Fail> {
-    judges_with(rt, &["check", "d", "p"], board, verdict)
-}
-
-/// The same with the words of the line.
-///
-/// # Errors
-///
-/// What isn't as it is wanted.
-pub fn judges_with(
-    rt: &impl AllocGlobal,
-    words: &[&str],
-    board: &[Function],
-    verdict: &str,
-) -> Result<(), Fail> {
     let texts = texts_of(rt.alloc(), board)?;
     let line = format!(in rt.alloc(); "{verdict}\n")?;
     let status = if verdict == "yes" { 0 } else { 1 };
     prints(
         rt,
-        words,
+        &["check", "d", "p"],
         (texts.dump.as_str(), texts.probe.as_str()),
         (line.as_str(), "", status),
     )
