@@ -1,14 +1,10 @@
-//! Tests of planning: what is planned of boards that are built register by register, and where the writes may stop.
+//! Tests of planning: where the writes of a plan may stop, and what is planned of boards made by rule.
 #![tactic(auto)]
 
 #[cfg(test)]
 mod by_rule;
 #[cfg(test)]
 mod made;
-#[cfg(test)]
-mod orders;
-#[cfg(test)]
-mod outputs;
 #[cfg(test)]
 mod samples;
 #[cfg(test)]
