@@ -15,13 +15,25 @@ pub fn with_failing_read(
     dump_fails: u64,
     probe_fails: u64,
 ) -> Answer {
+    let mut dump = Pieces::new(texts.dump.as_bytes(), 500, dump_fails);
+    let mut probe = Pieces::new(texts.probe.as_bytes(), 500, probe_fails);
+    run_on_pieces(rt, task, &mut dump, &mut probe)
+}
+
+/// What a task answers to texts that come in pieces.
+fn run_on_pieces(
+    rt: &impl AllocGlobal,
+    task: Task,
+    dump: &mut Pieces<'_>,
+    probe: &mut Pieces<'_>,
+) -> Answer {
     let mut out = Vec::new(rt.alloc());
     let mut err = Vec::new(rt.alloc());
     let status = run(
         rt.alloc(),
         &line_of(rt, task),
-        &mut Pieces::new(texts.dump.as_bytes(), 500, dump_fails),
-        &mut Pieces::new(texts.probe.as_bytes(), 500, probe_fails),
+        dump,
+        probe,
         &mut Outgoing::new(&mut out),
         &mut Outgoing::new(&mut err),
     );

@@ -2,7 +2,10 @@
 use crate::refused_readings::read;
 use crate::refused_verdicts::admitted;
 use crate::refusing::Refusing;
+use boards::board::Texts;
 use boards::samples::samples;
+use pci_dump::block::Block;
+use pci_dump::dump::Dump;
 use pci_dump::memory::Refused;
 use pci_dump::pair::pair;
 use pci_dump::reader::Reader;
@@ -12,8 +15,10 @@ use pci_image::range::Range;
 use pci_machine::machine::Machine;
 use pci_machine::size::size;
 use pci_plan::apply::apply;
+use pci_plan::plan::Plan;
 use pci_plan::planning::plan;
 use pci_plan::pools::Pools;
+use pci_tree::admitted::Admitted;
 use pci_tree::fault::Fault;
 use pci_tree::survey::Survey;
 use std::alloc::Global;
@@ -42,6 +47,21 @@ fn texts_are_read_paired_and_written(rt: HostRuntime) -> Result<(), Fail> {
     Ok(())
 }
 
+/// The machine of a dump and its probe.
+fn machine_of<'a>(
+    heap: &'a Refusing<Global>,
+    dump: &Dump<&'a Refusing<Global>>,
+    probe: &Dump<&'a Refusing<Global>>,
+) -> Result<Machine<&'a Refusing<Global>>, Fail> {
+    let machine = Machine::of(heap, dump, probe)?;
+    Ok(machine)
+}
+
+/// Whether sizing a function finds what its block of the probe holds.
+fn is_sized<'a>(machine: &mut Machine<&'a Refusing<Global>>, block: &Block) -> bool {
+    size(machine, block.slot) == Ok(block.image)
+}
+
 #[test]
 fn functions_are_sized(rt: HostRuntime) -> Result<(), Fail> {
     let heap = Refusing::new(rt.alloc());
@@ -49,10 +69,10 @@ fn functions_are_sized(rt: HostRuntime) -> Result<(), Fail> {
         heap.refuse(0);
         let dump = read(&heap, texts.dump.as_str())?;
         let probe = read(&heap, texts.probe.as_str())?;
-        let mut machine = Machine::of(&heap, &dump, &probe)?;
+        let mut machine = machine_of(&heap, &dump, &probe)?;
         heap.refuse(1);
         for block in probe.blocks() {
-            assert_eq!(rt; size(&mut machine, block.slot), Ok(block.image));
+            assert!(rt; is_sized(&mut machine, block));
         }
         assert!(rt; heap.is_due());
     }
@@ -111,23 +131,46 @@ fn wide_pools() -> Pools {
     }
 }
 
+/// A plan of an admitted board.
+fn planned<'p, 'a>(
+    heap: &'a Refusing<Global>,
+    board: &'p Admitted<&'a Refusing<Global>>,
+) -> Result<Plan<'p, &'a Refusing<Global>>, Fail> {
+    let plan = plan(heap, board, &wide_pools())?;
+    Ok(plan)
+}
+
+/// Whether a machine is as it is planned once a plan is applied to it.
+fn is_applied<'a>(
+    machine: &mut Machine<&'a Refusing<Global>>,
+    plan: &Plan<'_, &'a Refusing<Global>>,
+) -> bool {
+    if apply(machine, plan) != Ok(()) || plan.writes().len() < plan.safe_from() {
+        return false;
+    }
+    for block in plan.dump().blocks() {
+        if machine.image(block.slot) != Some(&block.image) {
+            return false;
+        }
+    }
+    true
+}
+
+/// Whether a plan of two texts is lent and applied with no growth.
+fn is_planned_and_applied<'a>(heap: &'a Refusing<Global>, texts: &Texts) -> Result<bool, Fail> {
+    heap.refuse(0);
+    let board = admitted(heap, texts)?;
+    let mut machine = machine_of(heap, board.dump(), board.probe())?;
+    let plan = planned(heap, &board)?;
+    heap.refuse(1);
+    Ok(is_applied(&mut machine, &plan) && heap.is_due())
+}
+
 #[test]
 fn plans_are_lent_and_applied(rt: HostRuntime) -> Result<(), Fail> {
     let heap = Refusing::new(rt.alloc());
     for (texts, _) in samples(rt.alloc())? {
-        heap.refuse(0);
-        let board = admitted(&heap, &texts)?;
-        let mut machine = Machine::of(&heap, board.dump(), board.probe())?;
-        let Ok(plan) = plan(&heap, &board, &wide_pools()) else {
-            return Err("no plan".into());
-        };
-        heap.refuse(1);
-        assert!(rt; plan.safe_from() <= plan.writes().len());
-        assert_eq!(rt; apply(&mut machine, &plan), Ok(()));
-        for block in plan.dump().blocks() {
-            assert!(rt; machine.image(block.slot) == Some(&block.image));
-        }
-        assert!(rt; heap.is_due());
+        assert!(rt; is_planned_and_applied(&heap, &texts)?);
     }
     Ok(())
 }

@@ -10,6 +10,7 @@ use pci_plan::plan::Plan;
 use pci_plan::plan_fault::PlanFault;
 use pci_plan::planning::plan;
 use pci_plan::pools::Pools;
+use pci_tree::admitted::Admitted;
 use pci_tree::roots::Roots;
 use pciplan_cli::line::Task;
 use std::alloc::{AllocError, Global};
@@ -29,6 +30,22 @@ const POOLS: Pools = Pools {
     pref: Range {
         first: 0x1_0000_0000,
         last: 0x1_ffff_ffff,
+    },
+};
+
+/// Memory above 4 GB.
+const BAD_POOLS: Pools = Pools {
+    io: Range {
+        first: 0x1000,
+        last: 0xffff,
+    },
+    mem: Range {
+        first: 0x1_0000_0000,
+        last: 0x1_ffff_ffff,
+    },
+    pref: Range {
+        first: 0xe000_0000,
+        last: 0xe02f_ffff,
     },
 };
 
@@ -65,6 +82,16 @@ fn boards(alloc: Global) -> Result<[(Texts, &'static str); 2], AllocError> {
 }
 
 /// What planning answers: the lines of the writes, or why there are none.
+fn lines_of<'a>(
+    alloc: Global,
+    board: &Admitted<&'a Refusing<Global>>,
+    heap: &'a Refusing<Global>,
+    pools: &Pools,
+) -> Result<String, AllocError> {
+    answer_of(alloc, &plan(heap, board, pools))
+}
+
+/// The same of an answer.
 fn answer_of<'p, 'a>(
     alloc: Global,
     answer: &Result<Plan<'p, &'a Refusing<Global>>, Refused<PlanFault>>,
@@ -91,7 +118,7 @@ fn each_growth_of_a_plan_is_refused(rt: HostRuntime) -> Result<(), Fail> {
         let mut refused = 0u64;
         for n in 1..MANY {
             heap.refuse(n);
-            let answer = answer_of(rt.alloc(), &plan(&heap, &board, &POOLS))?;
+            let answer = lines_of(rt.alloc(), &board, &heap, &POOLS)?;
             let is_due = heap.is_due();
             assert!(rt; is_as_it_was(rt.alloc(), &board, &texts)?);
             if is_due {
@@ -100,7 +127,7 @@ fn each_growth_of_a_plan_is_refused(rt: HostRuntime) -> Result<(), Fail> {
             }
             assert_eq!(rt; answer.as_str(), "2 Memory\n");
             heap.refuse(0);
-            let again = answer_of(rt.alloc(), &plan(&heap, &board, &POOLS))?;
+            let again = lines_of(rt.alloc(), &board, &heap, &POOLS)?;
             assert_eq!(rt; again.as_str(), lines);
             refused = n;
         }
@@ -112,16 +139,11 @@ fn each_growth_of_a_plan_is_refused(rt: HostRuntime) -> Result<(), Fail> {
 #[test]
 fn pools_that_are_no_pools_are_told_without_memory(rt: HostRuntime) -> Result<(), Fail> {
     let heap = Refusing::new(rt.alloc());
-    let pools = Pools {
-        io: POOLS.io,
-        mem: POOLS.pref,
-        pref: POOLS.mem,
-    };
     for (texts, _) in boards(rt.alloc())? {
         heap.refuse(0);
         let board = admitted(&heap, &texts)?;
         heap.refuse(1);
-        let answer = answer_of(rt.alloc(), &plan(&heap, &board, &pools))?;
+        let answer = lines_of(rt.alloc(), &board, &heap, &BAD_POOLS)?;
         assert_eq!(rt; answer.as_str(), "70 BadPools\n");
         assert!(rt; heap.is_due());
     }
