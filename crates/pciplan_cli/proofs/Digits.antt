@@ -1,8 +1,9 @@
 -- What a hole for a number writes is the definitions' number.
-use Rattle.std.proofs.Common.{◌≡◌, ℕ, ◌+◌, ◌-◌, ◌/◌, ◌%◌, ◌^◌, ◌<◌, ◌==◌, nat_lt, true, false, if◌then◌else◌, codes, [], ◌∷◌, ◌++◌, sym, ◌∙◌, ap, arith, inl, inr}
+use Rattle.std.proofs.Common.{refl, ◌≡◌, ℕ, ◌+◌, ◌-◌, ◌/◌, ◌%◌, ◌^◌, ◌<◌, ◌==◌, nat_lt, true, false, if◌then◌else◌, codes, [], ◌∷◌, ◌++◌, sym, ◌∙◌, ap, arith, inl, inr}
 use Rattle.std.proofs.lemmas.Fmt.{decimal_digit, decimal_step}
 use Rattle.std.proofs.lemmas.Bool.{cases_lt, eq-eqb, ne_eqb, lt-ltb, le-ltb}
 use Rattle.std.specs.Fmt.{digits, decimal, padded_integral, format_spec}
+use Rattle.pci_spec.specs.Text.{hex_digit}
 use Rattle.pci_spec.specs.Line.{hex_number}
 use Rattle.pci_spec.specs.Listing.{decimal_text, vectors_text}
 use Rattle.std.proofs.Math.Pow.{pow-lt}
@@ -44,3 +45,9 @@ decimal_vectors code known =
     let test : nat_lt code 6 ≡ true = lt-ltb code 6 known in
     let few : 2 ^ code < 2 ^ 6 = pow-lt known in
     rw test (sym (decimal_two (2 ^ code) (omega (arith, few))))
+
+-- a number below 10 in hex and in decimal
+pub decimal_small : (n : ℕ) → n < 10 → hex_digit n ∷ [] ≡ decimal_text n
+decimal_small n small =
+    let test : nat_lt n 10 ≡ true = lt-ltb n 10 small in
+    rw test refl

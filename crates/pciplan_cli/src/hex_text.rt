@@ -1,8 +1,9 @@
 //! Hex digits at the end of a text.
-ghost use Rattle.std.specs.Prelude.{◌≡◌, ◌≤◌, ◌<◌, ◌++◌, OnOk};
+ghost use Rattle.std.specs.Prelude.{◌≡◌, ◌≤◌, ◌<◌, ◌++◌, [], ◌∷◌, OnOk};
 ghost use Rattle.std.specs.String.{string_bytes};
 ghost use Rattle.pci_spec.specs.Text.{hex_byte, hex_digit, slot_text};
 ghost use Rattle.pci_spec.specs.Line.{hex_number};
+ghost use Rattle.pci_spec.specs.Listing.{decimal_text};
 
 use pci_image::slot::Slot;
 use std::alloc::{AllocError, Allocator};
@@ -44,6 +45,36 @@ pub(crate) fn push_byte<A: Allocator>(text: &mut String<A>, byte: u8) -> Result<
     push_hex(text, u64::from(byte), 2)
 }
 
+/// Appends a word in four hex digits.
+pub(crate) fn push_word<A: Allocator>(text: &mut String<A>, word: u16) -> Result<(), AllocError>
+    ensures { OnOk result (string_bytes text.new ≡ string_bytes text.old ++ hex_number 4 word) }
+{
+    push_hex(text, u64::from(word), 4)
+}
+
+/// Appends the hex digit of a number below 16.
+fn push_digit<A: Allocator>(text: &mut String<A>, number: u64) -> Result<(), AllocError>
+    requires { number < 16 }
+    ensures { OnOk result (string_bytes text.new ≡ string_bytes text.old ++ hex_digit number ∷ []) }
+{
+    text.push(digit_of(number))
+}
+
+/// Appends a number below 10.
+pub(crate) fn push_decimal<A: Allocator>(text: &mut String<A>, number: u8) -> Result<(), AllocError>
+    requires { number < 10 }
+    ensures { OnOk result (string_bytes text.new ≡ string_bytes text.old ++ decimal_text number) }
+{
+    push_digit(text, u64::from(number))
+}
+
+/// Ends a line.
+pub(crate) fn end_line<A: Allocator>(text: &mut String<A>) -> Result<(), AllocError>
+    ensures { OnOk result (string_bytes text.new ≡ string_bytes text.old ++ 10 ∷ []) }
+{
+    text.push('\n')
+}
+
 /// Appends `bb:dd.f`.
 pub(crate) fn push_slot<A: Allocator>(text: &mut String<A>, slot: Slot) -> Result<(), AllocError>
     ensures { OnOk result (string_bytes text.new ≡ string_bytes text.old ++ slot_text slot) }
@@ -53,5 +84,5 @@ pub(crate) fn push_slot<A: Allocator>(text: &mut String<A>, slot: Slot) -> Resul
     text.push(':')?;
     push_byte(text, slot.dev())?;
     text.push('.')?;
-    text.push(digit_of(function))
+    push_digit(text, function)
 }

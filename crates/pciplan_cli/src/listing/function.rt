@@ -118,7 +118,7 @@ fn push_registers<A: Allocator>(
 {
     let bridge = is_bridge(image)?;
     let first = HeaderLine::of(slot, u8::from(bridge), image);
-    write!(text, "{first}")?;
+    first.push_to(text)?;
     let bars = bars(image, probe)?;
     push_bars(text, bars.as_slice())?;
     let rom = rom(image, probe)?;

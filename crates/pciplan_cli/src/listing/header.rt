@@ -1,12 +1,14 @@
 //! The first line of a function: its slot and its identity, Command and Status.
-ghost use Rattle.std.specs.Prelude.{◌≡◌, ◌<◌, Some};
+ghost use Rattle.std.specs.Prelude.{◌≡◌, ◌<◌, ◌++◌, OnOk};
+ghost use Rattle.std.specs.String.{string_bytes};
 ghost use Rattle.pci_spec.specs.Header.{layout};
 ghost use Rattle.pci_spec.specs.Listing.{header_line};
 
+use crate::hex_text::{end_line, push_decimal, push_hex, push_slot, push_word};
 use pci_image::image::Image;
 use pci_image::offset::{BASE_CLASS, COMMAND, DEVICE_ID, INTERFACE, STATUS, SUB_CLASS, VENDOR_ID};
 use pci_image::slot::Slot;
-use std::fmt;
+use std::alloc::{AllocError, Allocator};
 
 /// Who made the function, and what it is (PCI 3.0, 6.2.1).
 #[derive(Clone, Copy)]
@@ -18,19 +20,28 @@ struct Identity {
     base_class: u8,
 }
 
-impl fmt::Display for Identity {
-    ghost use Rattle.pciplan_cli.specs.HeaderLines.{identity_text};
+impl Identity {
+    ghost use Rattle.pciplan_cli.specs.HeaderLines.{identity_text, class_of};
 
-    ghost output = { λ i. Some (identity_text i) };
+    /// The class code.
+    fn class(self) -> u64
+        ensures { result ≡ class_of self }
+    {
+        u64::from(self.interface)
+            + u64::from(self.sub_class) * 256
+            + u64::from(self.base_class) * 65536
+    }
 
-    fn fmt<W: fmt::Write>(&self, f: &mut fmt::Formatter<W>) -> fmt::Result {
-        let (vendor, device) = (self.vendor, self.device);
-        let (base, sub, interface) = (self.base_class, self.sub_class, self.interface);
-        let class = u32::from(interface) + u32::from(sub) * 256 + u32::from(base) * 65536;
-        write!(
-            f,
-            "vendor {vendor:04x} device {device:04x} class {class:06x}"
-        )
+    /// Appends the identity, as `vendor 1234 device 5678 class 000000`.
+    fn push_to<A: Allocator>(self, text: &mut String<A>) -> Result<(), AllocError>
+        ensures { OnOk result (string_bytes text.new ≡ string_bytes text.old ++ identity_text self) }
+    {
+        text.push_str("vendor ")?;
+        push_word(text, self.vendor)?;
+        text.push_str(" device ")?;
+        push_word(text, self.device)?;
+        text.push_str(" class ")?;
+        push_hex(text, self.class(), 6)
     }
 }
 
@@ -70,19 +81,20 @@ impl HeaderLine {
             status: image.u16(STATUS),
         }
     }
-}
 
-impl fmt::Display for HeaderLine {
-    ghost use Rattle.pciplan_cli.specs.HeaderLines.{header_line_text};
-
-    ghost output = { λ l. Some (header_line_text l) };
-
-    fn fmt<W: fmt::Write>(&self, f: &mut fmt::Formatter<W>) -> fmt::Result {
-        let (slot, kind, identity) = (self.slot, self.kind, self.identity);
-        let (command, status) = (self.command, self.status);
-        writeln!(
-            f,
-            "{slot} type {kind} {identity} command {command:04x} status {status:04x}"
-        )
+    /// Appends the line.
+    pub fn push_to<A: Allocator>(self, text: &mut String<A>) -> Result<(), AllocError>
+        ensures { OnOk result (string_bytes text.new ≡ string_bytes text.old ++ header_line_text self) }
+    {
+        push_slot(text, self.slot)?;
+        text.push_str(" type ")?;
+        push_decimal(text, self.kind)?;
+        text.push_str(" ")?;
+        self.identity.push_to(text)?;
+        text.push_str(" command ")?;
+        push_word(text, self.command)?;
+        text.push_str(" status ")?;
+        push_word(text, self.status)?;
+        end_line(text)
     }
 }

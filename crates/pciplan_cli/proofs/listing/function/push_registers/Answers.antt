@@ -25,12 +25,12 @@ returns-in_ok-push_bridge-clause-ok g c =
     let image = c.args.image.now.0 in
     let probe = c.args.probe.now.0 in
     let start = string_bytes c.args.text.now in
-    let bars = c.in_ok-push_bars.ensures ∙ ap (λ xs. string_bytes c.write.new.self ++ flat_map bar_line xs) (ap (λ xs. map decoded_bar_of xs) c.as_slice.ensures.value ∙ c.in_ok-bars.ensures.decoded) in
+    let bars = c.in_ok-push_bars.ensures ∙ ap (λ xs. string_bytes c.push_to.new.text ++ flat_map bar_line xs) (ap (λ xs. map decoded_bar_of xs) c.as_slice.ensures.value ∙ c.in_ok-bars.ensures.decoded) in
     let rom = c.in_ok-push_rom.ensures ∙ ap (λ x. string_bytes c.push_bars.new.text ++ rom_lines x) c.in_ok-rom.ensures.decoded in
     let windows = bridge_of-windows image probe c.in_ok-windows.windows c.in_ok-windows.ensures.decoded in
     let bridge = c.in_ok-push_bridge.ensures ∙ ap (λ x. string_bytes c.push_rom.new.text ++ bridge_lines x) windows in
     four_more start (header_line slot image) (flat_map bar_line (decoded_bars image probe)) (rom_lines (decoded_rom image probe)) (bridge_lines (bridge_of image probe))
-    (c.in_ok-write.ensures.bytes ∙ ap (λ x. start ++ x) c.of-first.ensures) bars rom bridge
+    (c.in_ok-push_to.ensures ∙ ap (λ x. start ++ x) c.of-first.ensures) bars rom bridge
     ∙ ap (λ x. start ++ x) (sym (registers_listing-bridge slot image probe (c.in_ok-bridge.ensures.ok ∙ ap (λ b. if b then 1 else 0) c.if-bridge.true)))
 
 pub returns-else-bridge-clause-ok : goal.returns-else-bridge-clause-ok
@@ -39,8 +39,8 @@ returns-else-bridge-clause-ok g c =
     let image = c.args.image.now.0 in
     let probe = c.args.probe.now.0 in
     let start = string_bytes c.args.text.now in
-    let bars = c.in_ok-push_bars.ensures ∙ ap (λ xs. string_bytes c.write.new.self ++ flat_map bar_line xs) (ap (λ xs. map decoded_bar_of xs) c.as_slice.ensures.value ∙ c.in_ok-bars.ensures.decoded) in
+    let bars = c.in_ok-push_bars.ensures ∙ ap (λ xs. string_bytes c.push_to.new.text ++ flat_map bar_line xs) (ap (λ xs. map decoded_bar_of xs) c.as_slice.ensures.value ∙ c.in_ok-bars.ensures.decoded) in
     let rom = c.in_ok-push_rom.ensures ∙ ap (λ x. string_bytes c.push_bars.new.text ++ rom_lines x) c.in_ok-rom.ensures.decoded in
     four_more start (header_line slot image) (flat_map bar_line (decoded_bars image probe)) (rom_lines (decoded_rom image probe)) []
-    (c.in_ok-write.ensures.bytes ∙ ap (λ x. start ++ x) c.of-first.ensures) bars rom (sym (append-nil (string_bytes c.push_rom.new.text)))
+    (c.in_ok-push_to.ensures ∙ ap (λ x. start ++ x) c.of-first.ensures) bars rom (sym (append-nil (string_bytes c.push_rom.new.text)))
     ∙ ap (λ x. start ++ x) (sym (registers_listing-device slot image probe (c.in_ok-bridge.ensures.ok ∙ ap (λ b. if b then 1 else 0) c.if-bridge.false)))
