@@ -5,26 +5,24 @@ use Rattle.pci_spec.specs.Capability.{capability_id, body_length}
 use Rattle.pci_spec.specs.Listing.{decimal_text, flag_text, vectors_text, power_line, message_line, raw_line}
 use Rattle.pci_image.specs.declared.capability.Cap.{Cap}
 use Rattle.pci_image.specs.Caps.{place_of, IsKindOf}
-use Rattle.pciplan_cli.specs.declared.listing.capability.PowerSupport.{PowerSupport}
-use Rattle.pciplan_cli.specs.declared.listing.capability.PowerState.{PowerState}
-use Rattle.pciplan_cli.specs.declared.listing.capability.MessageControl.{MessageControl}
 use Rattle.pciplan_cli.specs.declared.listing.capability.CapabilityLine.{CapabilityLine}
 use Rattle.pciplan_cli.specs.declared.listing.capability.CapabilityLine.TheVariants.{Power, Message, Raw}
 
-abbrev pub power_support_text : PowerSupport → List ℕ
-power_support_text p =
-    codes "version " ++ (decimal_text (p.capabilities % 8) ++ (codes " d1 " ++ (flag_text p.capabilities 9
-    ++ (codes " d2 " ++ (flag_text p.capabilities 10 ++ (codes " pme " ++ hex_byte (p.capabilities / 2 ^ 11)))))))
+-- what Power Management Capabilities say
+abbrev pub power_support_text : ℕ → List ℕ
+power_support_text capabilities =
+    codes "version " ++ (decimal_text (capabilities % 8) ++ (codes " d1 " ++ (flag_text capabilities 9
+    ++ (codes " d2 " ++ (flag_text capabilities 10 ++ (codes " pme " ++ hex_byte (capabilities / 2 ^ 11)))))))
 
-abbrev pub power_state_text : PowerState → List ℕ
-power_state_text p =
-    codes "state " ++ (decimal_text (p.control % 4) ++ (codes " enable " ++ (flag_text p.control 8 ++ (codes " status " ++ flag_text p.control 15))))
+abbrev pub power_state_text : ℕ → List ℕ
+power_state_text control =
+    codes "state " ++ (decimal_text (control % 4) ++ (codes " enable " ++ (flag_text control 8 ++ (codes " status " ++ flag_text control 15))))
 
-abbrev pub message_control_text : MessageControl → List ℕ
-message_control_text m =
-    codes "on " ++ (flag_text m.control 0 ++ (codes " capable " ++ (vectors_text (m.control / 2 % 8)
-    ++ (codes " enabled " ++ (vectors_text (m.control / 16 % 8)
-    ++ (codes " wide " ++ (flag_text m.control 7 ++ (codes " mask " ++ flag_text m.control 8))))))))
+abbrev pub message_control_text : ℕ → List ℕ
+message_control_text control =
+    codes "on " ++ (flag_text control 0 ++ (codes " capable " ++ (vectors_text (control / 2 % 8)
+    ++ (codes " enabled " ++ (vectors_text (control / 16 % 8)
+    ++ (codes " wide " ++ (flag_text control 7 ++ (codes " mask " ++ flag_text control 8))))))))
 
 abbrev pub capability_line_text : CapabilityLine → List ℕ
 capability_line_text (Power place capabilities control) = power_line place capabilities control

@@ -1,16 +1,19 @@
 //! The lines of capabilities (PCI 3.0, 6.7).
-ghost use Rattle.std.specs.Prelude.{◌≡◌, ◌<◌, Some};
-ghost use Rattle.std.specs.Fmt.{decimal};
+ghost use Rattle.std.specs.Prelude.{◌≡◌, ◌<◌, ◌++◌, [], ◌∷◌, codes, OnOk};
+ghost use Rattle.std.specs.String.{string_bytes};
 ghost use Rattle.std.specs.Int.{bit_at};
+ghost use Rattle.pci_spec.specs.Text.{hex_byte};
 ghost use Rattle.pci_spec.specs.Listing.{flag_text, vectors_text, capability_line};
+ghost use Rattle.pciplan_cli.specs.CapabilityLines.{power_support_text, power_state_text, message_control_text};
 
+use crate::hex_text::{end_line, push_byte, push_decimal, push_hex, push_word};
 use pci_image::capability::{Cap, VECTOR_MASKING_BIT, WIDE_ADDRESS_BIT};
 use pci_image::image::Image;
 use pci_image::offset::{
     MESSAGE_ADDRESS, MESSAGE_CONTROL, MESSAGE_DATA, MESSAGE_UPPER_ADDRESS, POWER_CAPABILITIES,
     POWER_CONTROL, WIDE_MESSAGE_DATA,
 };
-use std::fmt;
+use std::alloc::{AllocError, Allocator};
 
 /// Power Management Capabilities: the version in bits 2:0, D1 and D2 support, and in bits 15:11 the
 /// states that PME# is asserted from (Power Management 1.2, 3.2.3).
@@ -39,106 +42,96 @@ const ENABLED_CODE: u32 = 4;
 
 const VECTOR_CODES: u16 = 8;
 
-/// The codes from this one on are reserved; a lower code c means 2^c vectors.
-const RESERVED_CODE: u16 = 6;
-
 /// A bit of a register as the number 0 or 1.
 fn flag(register: u16, bit: u32) -> u16
     requires { bit < 16 }
-    ensures value { result ≡ bit_at register bit }
-    ensures digit { decimal result ≡ flag_text register bit }
+    ensures { result ≡ bit_at register bit }
 {
     (register >> bit) % 2
 }
 
-/// Which power states a function supports.
-#[derive(Clone, Copy)]
-struct PowerSupport {
-    capabilities: u16,
-}
-
-impl fmt::Display for PowerSupport {
-    ghost use Rattle.pciplan_cli.specs.CapabilityLines.{power_support_text};
-
-    ghost output = { λ p. Some (power_support_text p) };
-
-    fn fmt<W: fmt::Write>(&self, f: &mut fmt::Formatter<W>) -> fmt::Result {
-        let capabilities = self.capabilities;
-        let version = capabilities % VERSIONS;
-        let d1 = flag(capabilities, D1_SUPPORT);
-        let d2 = flag(capabilities, D2_SUPPORT);
-        let pme = capabilities >> PME_SUPPORT;
-        write!(f, "version {version} d1 {d1} d2 {d2} pme {pme:02x}")
-    }
-}
-
-/// The power state that a function is in.
-#[derive(Clone, Copy)]
-struct PowerState {
-    control: u16,
-}
-
-impl fmt::Display for PowerState {
-    ghost use Rattle.pciplan_cli.specs.CapabilityLines.{power_state_text};
-
-    ghost output = { λ p. Some (power_state_text p) };
-
-    fn fmt<W: fmt::Write>(&self, f: &mut fmt::Formatter<W>) -> fmt::Result {
-        let control = self.control;
-        let state = control % POWER_STATES;
-        let enable = flag(control, PME_ENABLE);
-        let status = flag(control, PME_STATUS);
-        write!(f, "state {state} enable {enable} status {status}")
-    }
+/// Appends a bit of a register as a digit.
+fn push_flag<A: Allocator>(text: &mut String<A>, register: u16, bit: u32) -> Result<(), AllocError>
+    requires { bit < 16 }
+    ensures { OnOk result (string_bytes text.new ≡ string_bytes text.old ++ flag_text register bit) }
+{
+    text.push_str(if flag(register, bit) == 1 { "1" } else { "0" })
 }
 
 /// A number of vectors by its code.
-#[derive(Clone, Copy)]
-struct Vectors {
-    code: u16,
-}
-
-impl fmt::Display for Vectors {
-    ghost output = { λ v. Some (vectors_text v.code) };
-
-    fn fmt<W: fmt::Write>(&self, f: &mut fmt::Formatter<W>) -> fmt::Result {
-        let code = self.code;
-        if code < RESERVED_CODE {
-            let count = 1u16 << code;
-            write!(f, "{count}")
-        } else {
-            write!(f, "reserved")
-        }
+fn vectors_text(code: u16) -> &'static str
+    ensures { result.now ≡ vectors_text code }
+{
+    match code {
+        0 => "1",
+        1 => "2",
+        2 => "4",
+        3 => "8",
+        4 => "16",
+        5 => "32",
+        _ => "reserved",
     }
 }
 
-/// What Message Control says.
-#[derive(Clone, Copy)]
-struct MessageControl {
-    control: u16,
+/// Appends which power states a function supports.
+fn push_support<A: Allocator>(text: &mut String<A>, capabilities: u16) -> Result<(), AllocError>
+    ensures { OnOk result (string_bytes text.new ≡ string_bytes text.old ++ power_support_text capabilities) }
+{
+    let version = (capabilities % VERSIONS) as u8;
+    let pme = (capabilities >> PME_SUPPORT) as u8;
+    text.push_str("version ")?;
+    push_decimal(text, version)?;
+    text.push_str(" d1 ")?;
+    push_flag(text, capabilities, D1_SUPPORT)?;
+    text.push_str(" d2 ")?;
+    push_flag(text, capabilities, D2_SUPPORT)?;
+    text.push_str(" pme ")?;
+    push_byte(text, pme)
 }
 
-impl fmt::Display for MessageControl {
-    ghost use Rattle.pciplan_cli.specs.CapabilityLines.{message_control_text};
+/// Appends the power state that a function is in.
+fn push_state<A: Allocator>(text: &mut String<A>, control: u16) -> Result<(), AllocError>
+    ensures { OnOk result (string_bytes text.new ≡ string_bytes text.old ++ (power_state_text control ++ 10 ∷ [])) }
+{
+    let state = (control % POWER_STATES) as u8;
+    text.push_str("state ")?;
+    push_decimal(text, state)?;
+    text.push_str(" enable ")?;
+    push_flag(text, control, PME_ENABLE)?;
+    text.push_str(" status ")?;
+    push_flag(text, control, PME_STATUS)?;
+    end_line(text)
+}
 
-    ghost output = { λ m. Some (message_control_text m) };
+/// Appends what Message Control says.
+fn push_control<A: Allocator>(text: &mut String<A>, control: u16) -> Result<(), AllocError>
+    ensures { OnOk result (string_bytes text.new ≡ string_bytes text.old ++ message_control_text control) }
+{
+    let capable = vectors_text((control >> CAPABLE_CODE) % VECTOR_CODES);
+    let enabled = vectors_text((control >> ENABLED_CODE) % VECTOR_CODES);
+    text.push_str("on ")?;
+    push_flag(text, control, MSI_ENABLE)?;
+    text.push_str(" capable ")?;
+    text.push_str(capable)?;
+    text.push_str(" enabled ")?;
+    text.push_str(enabled)?;
+    text.push_str(" wide ")?;
+    push_flag(text, control, WIDE_ADDRESS_BIT)?;
+    text.push_str(" mask ")?;
+    push_flag(text, control, VECTOR_MASKING_BIT)
+}
 
-    fn fmt<W: fmt::Write>(&self, f: &mut fmt::Formatter<W>) -> fmt::Result {
-        let control = self.control;
-        let on = flag(control, MSI_ENABLE);
-        let capable = Vectors {
-            code: (control >> CAPABLE_CODE) % VECTOR_CODES,
-        };
-        let enabled = Vectors {
-            code: (control >> ENABLED_CODE) % VECTOR_CODES,
-        };
-        let wide = flag(control, WIDE_ADDRESS_BIT);
-        let mask = flag(control, VECTOR_MASKING_BIT);
-        write!(
-            f,
-            "on {on} capable {capable} enabled {enabled} wide {wide} mask {mask}"
-        )
-    }
+/// Appends the place of a capability and its kind.
+fn push_place<A: Allocator>(
+    text: &mut String<A>,
+    place: u8,
+    kind: &'static str,
+) -> Result<(), AllocError>
+    ensures { OnOk result (string_bytes text.new ≡ string_bytes text.old ++ (codes "  cap " ++ (hex_byte place ++ kind.now))) }
+{
+    text.push_str("  cap ")?;
+    push_byte(text, place)?;
+    text.push_str(kind)
 }
 
 /// The line of a capability, at its place.
@@ -221,23 +214,21 @@ impl CapabilityLine {
             value,
         }
     }
-}
 
-impl fmt::Display for CapabilityLine {
-    ghost use Rattle.pciplan_cli.specs.CapabilityLines.{capability_line_text};
-
-    ghost output = { λ l. Some (capability_line_text l) };
-
-    fn fmt<W: fmt::Write>(&self, f: &mut fmt::Formatter<W>) -> fmt::Result {
-        match *self {
+    /// Appends the line.
+    pub fn push_to<A: Allocator>(self, text: &mut String<A>) -> Result<(), AllocError>
+        ensures { OnOk result (string_bytes text.new ≡ string_bytes text.old ++ capability_line_text self) }
+    {
+        match self {
             CapabilityLine::Power {
                 place,
                 capabilities,
                 control,
             } => {
-                let support = PowerSupport { capabilities };
-                let state = PowerState { control };
-                writeln!(f, "  cap {place:02x} power {support} {state}")
+                push_place(text, place, " power ")?;
+                push_support(text, capabilities)?;
+                text.push_str(" ")?;
+                push_state(text, control)
             }
             CapabilityLine::Message {
                 place,
@@ -245,13 +236,19 @@ impl fmt::Display for CapabilityLine {
                 address,
                 value,
             } => {
-                let control = MessageControl { control };
-                writeln!(
-                    f,
-                    "  cap {place:02x} msi {control} address {address:016x} data {value:04x}"
-                )
+                push_place(text, place, " msi ")?;
+                push_control(text, control)?;
+                text.push_str(" address ")?;
+                push_hex(text, address, 16)?;
+                text.push_str(" data ")?;
+                push_word(text, value)?;
+                end_line(text)
             }
-            CapabilityLine::Raw { place, id } => writeln!(f, "  cap {place:02x} raw {id:02x}"),
+            CapabilityLine::Raw { place, id } => {
+                push_place(text, place, " raw ")?;
+                push_byte(text, id)?;
+                end_line(text)
+            }
         }
     }
 }

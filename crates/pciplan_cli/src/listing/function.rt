@@ -89,8 +89,7 @@ fn push_capabilities<A: Allocator>(
     ensures { OnOk result (string_bytes text.new ≡ string_bytes text.old ++ flat_map (capability_line image.now.0) (map place_of caps.now)) }
 {
     for cap in caps {
-        let line = CapabilityLine::of(image, *cap);
-        write!(text, "{line}")?;
+        CapabilityLine::of(image, *cap).push_to(text)?;
     }
     Ok(())
 }
