@@ -1,11 +1,15 @@
 //! The lines of a bridge: its bus numbers and its windows.
-ghost use Rattle.std.specs.Prelude.{Option, Some};
+ghost use Rattle.std.specs.Prelude.{Option, ◌≡◌, ◌++◌, [], ◌∷◌, codes, OnOk};
+ghost use Rattle.std.specs.String.{string_bytes};
+ghost use Rattle.pci_spec.specs.Text.{hex_byte};
+ghost use Rattle.pciplan_cli.specs.BridgeLines.{held_text};
 
 use super::span::Span;
+use crate::hex_text::{end_line, push_byte};
 use pci_image::offset::{IO_BASE, MEMORY_BASE, PREFETCHABLE_BASE};
 use pci_image::window::Window;
 use pci_tree::space::Space;
-use std::fmt;
+use std::alloc::{AllocError, Allocator};
 
 /// The line of a bridge's primary, secondary and subordinate bus, as `bus 00 01 01`.
 #[derive(Clone, Copy)]
@@ -15,14 +19,20 @@ pub struct BusLine {
     pub subordinate: u8,
 }
 
-impl fmt::Display for BusLine {
+impl BusLine {
     ghost use Rattle.pciplan_cli.specs.BridgeLines.{bus_line_text};
 
-    ghost output = { λ l. Some (bus_line_text l) };
-
-    fn fmt<W: fmt::Write>(&self, f: &mut fmt::Formatter<W>) -> fmt::Result {
-        let (primary, secondary, subordinate) = (self.primary, self.secondary, self.subordinate);
-        writeln!(f, "  bus {primary:02x} {secondary:02x} {subordinate:02x}")
+    /// Appends the line.
+    pub fn push_to<A: Allocator>(self, text: &mut String<A>) -> Result<(), AllocError>
+        ensures { OnOk result (string_bytes text.new ≡ string_bytes text.old ++ bus_line_text self) }
+    {
+        text.push_str("  bus ")?;
+        push_byte(text, self.primary)?;
+        text.push_str(" ")?;
+        push_byte(text, self.secondary)?;
+        text.push_str(" ")?;
+        push_byte(text, self.subordinate)?;
+        end_line(text)
     }
 }
 
@@ -41,22 +51,23 @@ struct Held {
     window: Option<Window>,
 }
 
-impl fmt::Display for Held {
+impl Held {
     ghost use Rattle.pciplan_cli.specs.BridgeLines.{held_text};
 
-    ghost output = { λ h. Some (held_text h) };
-
-    fn fmt<W: fmt::Write>(&self, f: &mut fmt::Formatter<W>) -> fmt::Result {
+    /// Appends what the window holds.
+    fn push_to<A: Allocator>(self, text: &mut String<A>) -> Result<(), AllocError>
+        ensures { OnOk result (string_bytes text.new ≡ string_bytes text.old ++ held_text self) }
+    {
         match self.window {
-            None => write!(f, "none"),
+            None => text.push_str("none"),
             Some(window) => match window.range() {
-                None => write!(f, "closed"),
+                None => text.push_str("closed"),
                 Some(range) => {
                     let span = Span {
                         space: self.space,
                         range,
                     };
-                    write!(f, "{span}")
+                    span.push_to(text)
                 }
             },
         }
@@ -70,29 +81,44 @@ pub struct WindowLine {
     pub window: Option<Window>,
 }
 
-impl fmt::Display for WindowLine {
+impl WindowLine {
     ghost use Rattle.pciplan_cli.specs.BridgeLines.{window_line_text};
 
-    ghost output = { λ l. Some (window_line_text l) };
-
-    fn fmt<W: fmt::Write>(&self, f: &mut fmt::Formatter<W>) -> fmt::Result {
+    /// Appends the line.
+    pub fn push_to<A: Allocator>(self, text: &mut String<A>) -> Result<(), AllocError>
+        ensures { OnOk result (string_bytes text.new ≡ string_bytes text.old ++ window_line_text self) }
+    {
         let window = self.window;
         match self.kind {
             WindowKind::Io => {
                 let space = Space::Io;
-                let held = Held { space, window };
-                writeln!(f, "  window {IO_BASE:02x} io {held}")
+                push_window(text, IO_BASE, " io ", Held { space, window })
             }
             WindowKind::Memory => {
                 let space = Space::Mem;
-                let held = Held { space, window };
-                writeln!(f, "  window {MEMORY_BASE:02x} mem {held}")
+                push_window(text, MEMORY_BASE, " mem ", Held { space, window })
             }
             WindowKind::Prefetch => {
                 let space = Space::Mem;
-                let held = Held { space, window };
-                writeln!(f, "  window {PREFETCHABLE_BASE:02x} pref {held}")
+                push_window(text, PREFETCHABLE_BASE, " pref ", Held { space, window })
             }
         }
     }
+}
+
+/// Appends the line of the window at a register.
+fn push_window<A: Allocator>(
+    text: &mut String<A>,
+    register: u8,
+    kind: &'static str,
+    held: Held,
+) -> Result<(), AllocError>
+    ensures { OnOk result (string_bytes text.new
+        ≡ string_bytes text.old ++ (codes "  window " ++ (hex_byte register ++ (kind.now ++ (held_text held ++ 10 ∷ []))))) }
+{
+    text.push_str("  window ")?;
+    push_byte(text, register)?;
+    text.push_str(kind)?;
+    held.push_to(text)?;
+    end_line(text)
 }

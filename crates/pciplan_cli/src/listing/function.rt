@@ -61,22 +61,22 @@ fn push_bridge<A: Allocator>(
         secondary: image.u8(SECONDARY_BUS),
         subordinate: image.u8(SUBORDINATE_BUS),
     };
-    write!(text, "{buses}")?;
+    buses.push_to(text)?;
     let io = WindowLine {
         kind: WindowKind::Io,
         window: windows.io,
     };
-    write!(text, "{io}")?;
+    io.push_to(text)?;
     let memory = WindowLine {
         kind: WindowKind::Memory,
         window: Some(windows.mem),
     };
-    write!(text, "{memory}")?;
+    memory.push_to(text)?;
     let prefetch = WindowLine {
         kind: WindowKind::Prefetch,
         window: windows.pref,
     };
-    write!(text, "{prefetch}")
+    prefetch.push_to(text)
 }
 
 /// Appends a line for each capability of an image's list.

@@ -1,4 +1,4 @@
-use Rattle.std.proofs.Common.{◌+◌, ◌-◌, ◌*◌, ◌/◌, ◌%◌, ◌^◌, ◌++◌, ◌∷◌, [], ◌∙◌, ap, refl}
+use Rattle.std.proofs.Common.{◌-◌, ◌*◌, ◌/◌, ◌%◌, ◌^◌, ◌++◌, ◌∷◌, [], ◌∙◌, ap, refl}
 use Rattle.std.specs.String.{string_bytes}
 use Rattle.pciplan_cli.proofs.HexPushes.{digit_more}
 use Rattle.pciplan_cli.proofs.hex_text.push_hex.Goals as goal

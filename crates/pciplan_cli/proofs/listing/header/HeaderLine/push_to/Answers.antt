@@ -1,8 +1,6 @@
-use Rattle.std.proofs.Common.{◌≡◌, ◌++◌, ◌∙◌}
-use Rattle.std.specs.String.{string_bytes}
+use Rattle.std.proofs.Common.{◌∙◌}
 use Rattle.std.proofs.lemmas.List.{append_assoc}
 use Rattle.std.proofs.lemmas.Result.{on_ok_weaker}
-use Rattle.pci_spec.specs.Text.{slot_text}
 use Rattle.pciplan_cli.proofs.listing.header.HeaderLine.push_to.Goals as goal
 
 pub returns : goal.returns
