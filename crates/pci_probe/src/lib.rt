@@ -21,6 +21,7 @@ pub mod fault;
 pub mod line;
 pub mod register;
 mod rom;
+pub mod sizes;
 #[cfg(test)]
 mod tests;
 mod window;

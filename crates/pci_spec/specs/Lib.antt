@@ -24,6 +24,7 @@ pub mod Listing
 pub mod Resource
 pub mod Derived
 pub mod NoProbe
+pub mod SizesText
 pub mod NestingLaws
 pub mod BarLaws
 pub mod WindowLaws
