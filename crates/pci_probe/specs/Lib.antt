@@ -1,2 +1,4 @@
 pub mod Derived
 pub mod Fault
+pub mod ProbeFault
+pub mod Derivation

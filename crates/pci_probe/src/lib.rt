@@ -14,11 +14,15 @@
 //! ```
 #![tactic(auto)]
 
+pub mod assumed;
 mod bar;
 pub mod derive;
 pub mod derived;
 pub mod fault;
 pub mod line;
+mod lone;
+pub mod probe;
+pub mod probe_fault;
 pub mod register;
 mod rom;
 pub mod sizes;

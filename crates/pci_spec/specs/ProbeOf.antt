@@ -74,10 +74,10 @@ abbrev pub slots_fault : List Slot → List Slot → Option ProbeFault
 slots_fault slots others = option_map SlotsDiffer (least_slot (lone_slots slots others))
 
 -- of a function's header
-abbrev pub identity_fault : Told → Option ProbeFault
-identity_fault f =
-    if has_no_vendor f.image then Some (NoVendor f.slot)
-    else if has_other_layout f.image then Some (HeaderKind f.slot)
+abbrev pub identity_fault : Block → Option ProbeFault
+identity_fault b =
+    if has_no_vendor b.image then Some (NoVendor b.slot)
+    else if has_other_layout b.image then Some (HeaderKind b.slot)
     else None
 
 -- a function's first register without a read back, with its slot
@@ -89,7 +89,7 @@ abbrev pub read_back_fault : Bool → Told → Option ProbeFault
 read_back_fault exact f = option_map (at_slot f.slot) (no_probe exact f.image f.lines)
 
 -- that of the first function that has one
-unfoldable pub first_of : (Told → Option ProbeFault) → List Told → Option ProbeFault
+unfoldable pub first_of : {X : Type 0} → (X → Option ProbeFault) → List X → Option ProbeFault
 first_of fault [] = None
 first_of fault (f ∷ functions) = option_or (fault f) (first_of fault functions)
 
@@ -97,7 +97,7 @@ first_of fault (f ∷ functions) = option_or (fault f) (first_of fault functions
 unfoldable pub probe_fault : Bool → List Block → List SizesBlock → Option ProbeFault
 probe_fault exact dump sizes =
     option_or (slots_fault (slots_of dump) (sized_slots sizes))
-    (option_or (first_of identity_fault (told_of dump sizes)) (first_of (read_back_fault exact) (told_of dump sizes)))
+    (option_or (first_of identity_fault dump) (first_of (read_back_fault exact) (told_of dump sizes)))
 
 -- ---- how it is printed
 
