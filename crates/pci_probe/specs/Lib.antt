@@ -2,3 +2,4 @@ pub mod Derived
 pub mod Fault
 pub mod ProbeFault
 pub mod Derivation
+pub mod Sizes

@@ -1,9 +1,13 @@
 //! What Linux tells of the address registers of functions, which rise by slot.
-ghost use Rattle.std.specs.Prelude.{◌≡◌, ◌++◌, [], ◌∷◌, OnOk, OnErr};
-ghost use Rattle.pci_spec.specs.SizesText.{SizesBlock as BlockValue, IsSizes};
+ghost use Rattle.std.specs.Prelude.{◌≡◌, ◌↔◌, ◌++◌, [], ◌∷◌, length, OnOk, OnErr, IfErr, IsTrue};
+ghost use Rattle.std.specs.List.{All};
+ghost use Rattle.pci_spec.specs.Slot.{IsRising};
+ghost use Rattle.pci_spec.specs.SizesText.{SizesBlock as BlockValue, IsResourceLine, IsSizesBlock, IsSizes, sized_slots};
+ghost use Rattle.pci_probe.specs.Sizes.{IsNotPushed};
 
 use super::line::ResourceLine;
-use pci_dump::memory::OutOfMemory;
+use pci_dump::dump::{BLOCKS_MAX, PushFault};
+use pci_dump::memory::{OutOfMemory, Refused};
 use pci_image::slot::Slot;
 use std::alloc::{Allocator, Global};
 use std::marker::Model;
@@ -24,6 +28,45 @@ impl Model for SizesBlock {
     ghost view = { λ b. record { slot = b.slot; lines = b.lines } };
 
     ghost inverse = { λ v. record { slot = v.slot; lines = v.lines } };
+}
+
+/// Each line has numbers of 64 bits.
+fn is_line(line: &ResourceLine)
+    ensures { IsResourceLine line.now }
+{
+    // They are read for what their types say of them.
+    let _first = line.first;
+    let _last = line.last;
+    let _flags = line.flags;
+}
+
+/// Seven lines are those of a block.
+fn are_lines(lines: &[ResourceLine; 7])
+    ensures seven { length lines.now ≡ 7 }
+    ensures each { All IsResourceLine lines.now }
+{
+    for line in lines {
+        is_line(line);
+    }
+}
+
+/// Each block is one of sizes.
+fn is_block(block: &SizesBlock)
+    ensures { IsSizesBlock block.now }
+{
+    let _number = block.slot.number();
+    are_lines(&block.lines);
+}
+
+/// Whether a slot may stand after those of some blocks.
+pub(crate) fn may_follow(blocks: &[SizesBlock], slot: Slot) -> bool
+    requires { IsRising (sized_slots blocks.now) }
+    ensures { IsTrue result ↔ IsRising (sized_slots blocks.now ++ slot ∷ []) }
+{
+    match blocks.last() {
+        None => true,
+        Some(last) => last.slot.number() < slot.number(),
+    }
 }
 
 /// Blocks that rise by slot, at most 4,096 of them.
@@ -59,6 +102,26 @@ impl<A: Allocator> Sizes<A> {
         ensures sizes { IsSizes self.now }
     {
         self.blocks.as_slice()
+    }
+
+    /// Puts a block after all that are there.
+    ///
+    /// Errors: 11 `NotAbove` where its slot isn't above the last one, else 12 `Full` where there are
+    /// 4,096 blocks, else `Memory` where the growth was refused. They are then as they were.
+    pub fn push(&mut self, block: SizesBlock) -> Result<(), Refused<PushFault>>
+        ensures ok { OnOk result (self.new ≡ self.old ++ block ∷ []) }
+        ensures refused { IfErr result (IsNotPushed self.old block) }
+        ensures err { OnErr result (self.new ≡ self.old) }
+    {
+        if !may_follow(self.blocks(), block.slot) {
+            return Err(Refused::Fault(PushFault::NotAbove));
+        }
+        if self.blocks.len() == BLOCKS_MAX {
+            return Err(Refused::Fault(PushFault::Full));
+        }
+        is_block(&block);
+        self.append(block)?;
+        Ok(())
     }
 
     /// Puts a block that may stand there after all that are there. At an error they are as they were.
