@@ -2,15 +2,23 @@
 //! and from what Linux tells of them.
 //!
 //! Linux sizes every register as it boots, and shows what it found in sysfs: a file `resource` with a
-//! line for each BAR register and for the ROM. [`derive::derive`] makes a function's probe of its
-//! image and those seven lines, register by register ([`register::register`]); nothing is written to
-//! a device. Where no size is told of a register that isn't enabled, a read back is assumed by habit,
-//! and the register is named; where the register is enabled, there is no probe.
+//! line for each BAR register and for the ROM. [`probe::probe_of`] makes the probe of a dump by the
+//! lines of its functions, one function after another ([`derive::derive`]) and register by register
+//! ([`register::register`]); nothing is written to a device. Where no size is told of a register that
+//! isn't enabled, a read back is assumed by habit, and the register is named; where the register is
+//! enabled, there is no probe.
 //!
 //! ```text
-//! let mut probe = Image([0; 256]);
-//! let assumed = derive(&image, &lines, false, &mut probe)?;
-//! for register in &assumed { /* its read back was assumed */ }
+//! let mut sizes = Sizes::empty(rt.alloc());
+//! sizes.push(SizesBlock { slot, lines })?;
+//! match probe_of(rt.alloc(), &dump, &sizes, false) {
+//!     Ok(derivation) => {
+//!         write_dump(&mut output, &derivation.probe)?;
+//!         for register in &derivation.assumed { eprintln!(rt; "{register}")?; }
+//!     }
+//!     Err(Refused::Fault(fault)) => eprintln!(rt; "{fault}")?,
+//!     Err(Refused::Memory) => { /* a growth was refused */ }
+//! }
 //! ```
 #![tactic(auto)]
 
