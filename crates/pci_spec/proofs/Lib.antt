@@ -7,6 +7,8 @@ pub mod Forms
 pub mod Stopping
 pub mod Faults
 pub mod HexTexts
+pub mod HexNumbers
+pub mod SizesTexts
 pub mod BusRanges
 pub mod Nesting
 pub mod Ways
