@@ -9,6 +9,7 @@ pub mod Faults
 pub mod HexTexts
 pub mod HexNumbers
 pub mod SizesTexts
+pub mod SizesFaults
 pub mod BusRanges
 pub mod Nesting
 pub mod Ways

@@ -134,7 +134,7 @@ sizes_in bytes h =
 
 -- ---- lengths
 
-cells_long : length sizes_cells ≡ 408
+pub cells_long : length sizes_cells ≡ 408
 unfolding sizes_cells lines_cells
 cells_long = refl
 
