@@ -270,6 +270,13 @@ module _ (blocks : List SizesBlock) (bytes : List ℕ) (k : ℕ) (d : IsSizes bl
         line_of blocks bytes (ends_before k) d.each (ap line_ends (sym whole) ∙ ends_at k part within fits),
       )
 
+pub fits_first : (n : ℕ) (cells : List Cell) (bytes : List ℕ) → Fits cells bytes → Fits (take n cells) (take n bytes)
+fits_first zero cells bytes h = tt
+fits_first (suc n) [] [] h = tt
+fits_first (suc n) [] (x ∷ bytes) h = absurd h
+fits_first (suc n) (t ∷ cells) [] h = absurd h
+fits_first (suc n) (t ∷ cells) (x ∷ bytes) h = (h.0, fits_first n cells bytes h.1)
+
 -- the slot isn't above the last one
 pub fault_order : (blocks : List SizesBlock) (bytes more : List ℕ) (s : Slot) → IsSizes blocks → length blocks < 4096 → IsSlot s → 7 ≤ length bytes → take 7 bytes ≡ slot_text s → (IsRising (sized_slots blocks ++ s ∷ []) → ⊥)
     → IsSizesFaultOf (sizes_text_of blocks ++ (bytes ++ more)) (Order (9 * length blocks + 0 + 1))
@@ -277,7 +284,8 @@ fault_order blocks bytes more s d few is_slot long first low =
     let six : take 6 bytes ++ get_or bytes 6 0 ∷ [] ≡ take 7 bytes = sym (take_more bytes 6 0 (omega (arith, long))) in
     let seven : Fits (take 7 sizes_cells) (take 7 bytes) =
     subst (λ (cs : List Cell). Fits cs (take 7 bytes)) (sym slot_cells_first) (subst (λ (t : List ℕ). Fits slot_cells t) (sym first) (fits_slot s is_slot)) in
-    let fits : Fits (take 6 sizes_cells) (take 6 bytes) = fits_less 6 sizes_cells bytes seven in
+    let fits : Fits (take 6 sizes_cells) (take 6 bytes) = subst (λ (t : List ℕ). Fits (take 6 sizes_cells) t) (take-take 6 7 bytes (omega arith))
+    (subst (λ (cs : List Cell). Fits cs (take 6 (take 7 bytes))) (take-take 6 7 sizes_cells (omega arith)) (fits_first 6 (take 7 sizes_cells) (take 7 bytes) seven)) in
     let part = part_long blocks bytes 6 d few (omega arith) fits in
     let begins = part_begins blocks bytes 7 d few (omega arith) seven in
     let count = length-append (take 6 bytes) (get_or bytes 6 0 ∷ []) in
@@ -286,13 +294,7 @@ fault_order blocks bytes more s d few is_slot long first low =
     let same = slot_of_part (take 6 bytes ++ get_or bytes 6 0 ∷ []) g.rest b s g.whole (omega (arith, count, part)) (ap (λ (t : List ℕ). take 7 t) six ∙ first_of_first 7 bytes (omega arith) ∙ first) in
     low (subst IsRising (slots_with blocks b s same) (g.rising (omega (arith, count, part)))))
     (ends_at 6 (take 6 bytes) (omega arith) fits)
-    (part, subst BeginsSizes (sym six) begins) where
-      fits_less : (n : ℕ) (cells : List Cell) (bs : List ℕ) → Fits (take (suc n) cells) (take (suc n) bs) → Fits (take n cells) (take n bs)
-      fits_less zero cells bs h = tt
-      fits_less (suc n) [] [] h = tt
-      fits_less (suc n) [] (x ∷ bs) h = absurd h
-      fits_less (suc n) (t ∷ cells) [] h = absurd h
-      fits_less (suc n) (t ∷ cells) (x ∷ bs) h = (h.0, fits_less n cells bs h.1)
+    (part, subst BeginsSizes (sym six) begins)
 
 -- a byte after all the blocks that there is room for
 pub fault_many : (blocks : List SizesBlock) (c : ℕ) (more : List ℕ) → IsSizes blocks → length blocks ≡ 4096 → IsSizesFaultOf (sizes_text_of blocks ++ c ∷ more) (TooMany (9 * length blocks + 0 + 1))
