@@ -1,2 +1,3 @@
 pub mod Derived
 pub mod Fault
+pub mod SizesFault

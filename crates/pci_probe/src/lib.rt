@@ -22,6 +22,8 @@ pub mod line;
 pub mod register;
 mod rom;
 pub mod sizes;
+mod sizes_block;
+mod sizes_line;
 #[cfg(test)]
 mod tests;
 mod window;

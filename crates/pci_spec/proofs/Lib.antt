@@ -8,6 +8,7 @@ pub mod Stopping
 pub mod Faults
 pub mod HexTexts
 pub mod HexNumbers
+pub mod Cells
 pub mod SizesTexts
 pub mod SizesFaults
 pub mod BusRanges

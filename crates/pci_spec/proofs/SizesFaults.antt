@@ -12,6 +12,7 @@ use Rattle.pci_spec.specs.Form.{Cell, Fixed, Takes, Fits, slot_cells, ends_in}
 use Rattle.pci_spec.specs.SizesText.{SizesBlock, IsSizesBlock, sized_slots, IsSizes, sizes_block_text, sizes_text_of, IsPartOfSizes, BeginsSizes, IsSizesFront, IsGoodSizes, SizesStopWhere, IsSizesFaultOf}
 use Rattle.pci_spec.specs.SizesForm.{lines_cells, sizes_cells}
 use Rattle.pci_spec.proofs.Bits.{each_from-at}
+use Rattle.pci_spec.proofs.Cells.{fits_first}
 use Rattle.pci_spec.proofs.Forms.{fits_length, takes_at, ends_of, fits_slot, line_ends_append}
 use Rattle.pci_spec.proofs.Spelling.{slot_same}
 use Rattle.pci_spec.proofs.SizesTexts.{same_front, same_back, block_long, sizes_long, cells_long, sizes_same, begun_sizes, fits_sizes}
@@ -269,13 +270,6 @@ module _ (blocks : List SizesBlock) (bytes : List ℕ) (k : ℕ) (d : IsSizes bl
             let no : ⊥ = omega (arith, long, mine, theirs, all, some, within) in no),
         line_of blocks bytes (ends_before k) d.each (ap line_ends (sym whole) ∙ ends_at k part within fits),
       )
-
-pub fits_first : (n : ℕ) (cells : List Cell) (bytes : List ℕ) → Fits cells bytes → Fits (take n cells) (take n bytes)
-fits_first zero cells bytes h = tt
-fits_first (suc n) [] [] h = tt
-fits_first (suc n) [] (x ∷ bytes) h = absurd h
-fits_first (suc n) (t ∷ cells) [] h = absurd h
-fits_first (suc n) (t ∷ cells) (x ∷ bytes) h = (h.0, fits_first n cells bytes h.1)
 
 -- the slot isn't above the last one
 pub fault_order : (blocks : List SizesBlock) (bytes more : List ℕ) (s : Slot) → IsSizes blocks → length blocks < 4096 → IsSlot s → 7 ≤ length bytes → take 7 bytes ≡ slot_text s → (IsRising (sized_slots blocks ++ s ∷ []) → ⊥)
