@@ -34,6 +34,8 @@ pub mod probe_fault;
 pub mod register;
 mod rom;
 pub mod sizes;
+mod sizes_block;
+mod sizes_line;
 #[cfg(test)]
 mod tests;
 mod window;

@@ -1,11 +1,11 @@
 //! What Linux tells of the address registers of functions, which rise by slot.
-ghost use Rattle.std.specs.Prelude.{◌≡◌, ◌↔◌, ◌++◌, [], ◌∷◌, length, OnOk, OnErr, IfErr, IsTrue};
+ghost use Rattle.std.specs.Prelude.{◌≡◌, ◌++◌, [], ◌∷◌, length, OnOk, OnErr, IfErr};
 ghost use Rattle.std.specs.List.{All};
-ghost use Rattle.pci_spec.specs.Slot.{IsRising};
-ghost use Rattle.pci_spec.specs.SizesText.{SizesBlock as BlockValue, IsResourceLine, IsSizesBlock, IsSizes, sized_slots};
+ghost use Rattle.pci_spec.specs.SizesText.{SizesBlock as BlockValue, IsResourceLine, IsSizesBlock, IsSizes};
 ghost use Rattle.pci_probe.specs.Sizes.{IsNotPushed};
 
 use super::line::ResourceLine;
+use super::sizes_block::may_follow;
 use pci_dump::dump::{BLOCKS_MAX, PushFault};
 use pci_dump::memory::{OutOfMemory, Refused};
 use pci_image::slot::Slot;
@@ -56,17 +56,6 @@ fn is_block(block: &SizesBlock)
 {
     let _number = block.slot.number();
     are_lines(&block.lines);
-}
-
-/// Whether a slot may stand after those of some blocks.
-pub(crate) fn may_follow(blocks: &[SizesBlock], slot: Slot) -> bool
-    requires { IsRising (sized_slots blocks.now) }
-    ensures { IsTrue result ↔ IsRising (sized_slots blocks.now ++ slot ∷ []) }
-{
-    match blocks.last() {
-        None => true,
-        Some(last) => last.slot.number() < slot.number(),
-    }
 }
 
 /// Blocks that rise by slot, at most 4,096 of them.

@@ -25,6 +25,7 @@ pub mod Resource
 pub mod Derived
 pub mod NoProbe
 pub mod SizesText
+pub mod SizesForm
 pub mod ProbeOf
 pub mod NestingLaws
 pub mod BarLaws
