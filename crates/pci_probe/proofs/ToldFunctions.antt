@@ -66,6 +66,9 @@ module _ (dump : List Block) (sizes : List SizesBlock) (same : slots_of dump ≡
       map-map (λ (b : Block). b.slot) probe_block (λ (f : Told). f.slot) (λ f. refl) (take i functions)
       ∙ sym (take-map (λ (f : Told). f.slot) i functions) ∙ ap (take i) (slots-told_of dump sizes (same_count dump sizes same))
 
+  pub slots-probe_of : slots_of (map probe_block functions) ≡ slots_of dump
+  slots-probe_of = map-map (λ (b : Block). b.slot) probe_block (λ (f : Told). f.slot) (λ f. refl) functions ∙ slots-told_of dump sizes (same_count dump sizes same)
+
   pub next_above : (i : ℕ) (b : Block) → IsDump dump → i < length dump → b ≡ get_or dump i b → IsAboveLast (last_slot (map probe_block (take i functions))) b.slot
   next_above i b is within at =
       let long = length-map dump (λ (c : Block). c.slot) in

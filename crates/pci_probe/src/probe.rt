@@ -1,10 +1,11 @@
 //! The probe of a whole dump, derived from what its functions show and what Linux tells of them.
-ghost use Rattle.std.specs.Prelude.{◌≡◌, ◌<◌, ◌++◌, ◌∷◌, [], length, map, None, Some, IfNone, IfSome, IfOk, IfErr, OnOk};
+ghost use Rattle.std.specs.Prelude.{◌≡◌, ℕ, List, ◌<◌, ◌++◌, ◌∷◌, [], length, map, None, Some, IfNone, IfSome, IfOk, IfErr, OnOk};
 ghost use Rattle.pci_spec.specs.Stops.{IsAboveLast, last_slot};
 ghost use Rattle.pci_spec.specs.NoProbe.{no_probe};
 ghost use Rattle.pci_spec.specs.ProbeOf.{assumed_at, assumed_in, assumed_of, first_of, identity_fault, probe_block, probe_fault};
 ghost use Rattle.pci_spec.specs.ProbeOf as spec;
 ghost use Rattle.pci_image.specs.Header.{HasHeader};
+ghost use Rattle.pci_dump.specs.Pair.{IsPair};
 ghost use Rattle.pci_probe.specs.ProbeFault.{IsFirstFault, fault_value};
 ghost use Rattle.pci_probe.specs.Derivation.{IsFaultOfFunction, told};
 
@@ -93,7 +94,8 @@ fn add<A: Allocator>(
 }
 
 /// The probe of a dump, by what Linux tells of its functions' registers. It has the dump's slots and
-/// no titles. In an `exact` probe nothing is assumed.
+/// no titles, and goes with the dump as [`pci_dump::pair::pair`] asks. In an `exact` probe nothing is
+/// assumed.
 ///
 /// # Errors
 ///
@@ -111,6 +113,7 @@ pub fn probe_of<A: Allocator + Copy, B: Allocator, C: Allocator>(
     ensures told { OnOk result (probe_fault exact dump.now sizes.now ≡ None) }
     ensures probe { IfOk result (λ derivation. derivation.probe ≡ spec.probe_of dump.now sizes.now) }
     ensures assumed { IfOk result (λ derivation. derivation.assumed.items ≡ assumed_of dump.now sizes.now) }
+    ensures pair { IfOk result (λ derivation. (roots : List ℕ) → IsPair roots dump.now derivation.probe) }
     ensures fault { IfErr result (IsFirstFault exact dump.now sizes.now) }
 {
     let blocks = dump.blocks();

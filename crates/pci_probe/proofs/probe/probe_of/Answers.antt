@@ -1,4 +1,4 @@
-use Rattle.std.proofs.Common.{◌<◌, ◌++◌, ◌∷◌, [], List, refl, sym, ◌∙◌, ap, subst, arith, length, map, None, Some}
+use Rattle.std.proofs.Common.{◌≡◌, ◌<◌, ◌++◌, ◌∷◌, [], List, refl, sym, ◌∙◌, ap, subst, arith, length, map, None, Some}
 use Rattle.std.specs.List.{flat_map}
 use Rattle.std.specs.Option.{option_map}
 use Rattle.pci_spec.specs.Text.{Block, IsDump}
@@ -9,6 +9,8 @@ use Rattle.pci_probe.specs.Derivation.{told}
 use Rattle.pci_probe.specs.ProbeFault.{IsFirstFault}
 use Rattle.pci_probe.proofs.FirstOf.{first_of-more, first_of-none, header_of-none}
 use Rattle.pci_probe.proofs.ToldFunctions.{same_count, length-told_of, told_at, next_above, all_told, blocks_more, assumed_more}
+use Rattle.pci_dump.specs.Pair.{IsPair}
+use Rattle.pci_probe.proofs.ProbePairs.{pair_of}
 use Rattle.pci_probe.proofs.ProbeFaults.{fault_by, register_fault_by}
 use Rattle.pci_probe.proofs.probe.probe_of.Goals as goal
 
@@ -98,3 +100,13 @@ returns-clause-assumed g c =
     let sizes = c.blocks-told.ensures.value in
     c.loop-i.invariant.assumed ∙ ap (flat_map assumed_in) (all_told c.blocks-blocks.result.now c.blocks-told.result.now c.in-None.ensures.same c.loop-i.i c.loop-i-test.false)
     ∙ (λ i. assumed_of (dump i) (sizes i))
+
+pub returns-clause-pair : goal.returns-clause-pair
+returns-clause-pair g c roots =
+    let blocks = c.blocks-blocks.result.now in
+    let told = c.blocks-told.result.now in
+    let dump = c.blocks-blocks.ensures.value in
+    let sizes = c.blocks-told.ensures.value in
+    let probe : probe_of blocks told ≡ c.loop-i.derivation.probe = (λ i. probe_of (dump i) (sizes i)) ∙ sym (returns-clause-probe g c) in
+    subst (λ (bs : List Block). IsPair roots bs c.loop-i.derivation.probe) dump
+    (subst (λ (ps : List Block). IsPair roots blocks ps) probe (pair_of blocks told c.in-None.ensures.same c.in-None-header_fault.ensures.none roots))
