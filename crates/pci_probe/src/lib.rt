@@ -23,6 +23,7 @@ pub mod register;
 mod rom;
 pub mod sizes;
 mod sizes_block;
+mod sizes_fault;
 mod sizes_line;
 #[cfg(test)]
 mod tests;
