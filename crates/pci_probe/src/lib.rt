@@ -25,6 +25,7 @@ pub mod sizes;
 mod sizes_block;
 mod sizes_fault;
 mod sizes_line;
+pub mod sizes_reader;
 #[cfg(test)]
 mod tests;
 mod window;
