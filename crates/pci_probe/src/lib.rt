@@ -9,8 +9,8 @@
 //! enabled, there is no probe.
 //!
 //! ```text
-//! let mut sizes = Sizes::empty(rt.alloc());
-//! sizes.push(SizesBlock { slot, lines })?;
+//! let dump = read_dump(rt.alloc(), &mut Incoming::new(dump_file))?;
+//! let sizes = read_sizes(rt.alloc(), &mut Incoming::new(sizes_file))?;
 //! match probe_of(rt.alloc(), &dump, &sizes, false) {
 //!     Ok(derivation) => {
 //!         write_dump(&mut output, &derivation.probe)?;
@@ -35,7 +35,9 @@ pub mod register;
 mod rom;
 pub mod sizes;
 mod sizes_block;
+mod sizes_fault;
 mod sizes_line;
+pub mod sizes_reader;
 #[cfg(test)]
 mod tests;
 mod window;

@@ -1,9 +1,10 @@
 //! A block of a sizes text: nine lines, 408 bytes.
-ghost use Rattle.std.specs.Prelude.{◌≡◌, ◌≤◌, ◌<◌, ◌↔◌, ◌++◌, ◌∷◌, [], false, length, take, slice_index, IsTrue, IfErr};
+ghost use Rattle.std.specs.Prelude.{◌≡◌, ◌↔◌, ◌++◌, ◌∷◌, [], false, length, IsTrue};
 ghost use Rattle.pci_spec.specs.Slot.{IsRising};
-ghost use Rattle.pci_spec.specs.Form.{Takes, Fits, Fixed};
-ghost use Rattle.pci_spec.specs.SizesText.{IsSizesBlock, IsSizes, sized_slots, sizes_block_text};
+ghost use Rattle.pci_spec.specs.Form.{Fits};
+ghost use Rattle.pci_spec.specs.SizesText.{IsSizesBlock, sized_slots, sizes_block_text};
 ghost use Rattle.pci_spec.specs.SizesForm.{sizes_cells};
+ghost use Rattle.pci_probe.specs.SizesFault.{IsNoBlockAfter};
 
 use super::sizes::SizesBlock;
 use super::sizes_line::lines_into;
@@ -38,4 +39,20 @@ pub(crate) fn may_follow(blocks: &[SizesBlock], slot: Slot) -> bool
         None => true,
         Some(last) => last.slot.number() < slot.number(),
     }
+}
+
+/// Reads the block that bytes are into `block`, where it may stand after some blocks. False where it may not, or where
+/// they are none.
+pub(crate) fn block_after(blocks: &[SizesBlock], bytes: &[u8], block: &mut SizesBlock) -> bool
+    requires { IsRising (sized_slots blocks.now) }
+    ensures yes { IsTrue result → IsSizesBlock block.new × (bytes.now ≡ sizes_block_text block.new) × IsRising (sized_slots (blocks.now ++ block.new ∷ [])) }
+    ensures no { result ≡ false → IsNoBlockAfter blocks.now bytes.now }
+{
+    if bytes.len() != BLOCK_LEN {
+        return false;
+    }
+    if !block_into(bytes, block) {
+        return false;
+    }
+    may_follow(blocks, block.slot)
 }

@@ -1,6 +1,8 @@
 -- Bytes in cells, at some of their places.
-use Rattle.std.proofs.Common.{◌≡◌, ℕ, zero, suc, ◌<◌, List, [], ◌∷◌, length, take, drop, get_or, arith}
+use Rattle.std.proofs.Common.{◌≡◌, ℕ, zero, suc, ◌+◌, ◌<◌, List, [], ◌∷◌, ◌++◌, length, take, drop, get_or, sym, subst, arith}
+use Rattle.std.proofs.lemmas.List.{take_more}
 use Rattle.pci_spec.specs.Form.{Cell, Takes, Fits}
+use Rattle.pci_spec.proofs.Forms.{fits_append}
 
 pub fits_first : (n : ℕ) (cells : List Cell) (bytes : List ℕ) → Fits cells bytes → Fits (take n cells) (take n bytes)
 fits_first zero cells bytes h = tt
@@ -25,3 +27,10 @@ fits_at k [] bytes cell h within = absurd (omega (arith, within))
 fits_at k (t ∷ cells) [] cell h within = absurd h
 fits_at zero (t ∷ cells) (x ∷ bytes) cell h within = h.0
 fits_at (suc k) (t ∷ cells) (x ∷ bytes) cell h within = fits_at k cells bytes cell h.1 (omega (arith, within))
+
+-- a byte more
+pub fits_more : (k : ℕ) (cells : List Cell) (bytes : List ℕ) (cell : Cell) → k < length cells → k < length bytes → Fits (take k cells) (take k bytes) → Takes (get_or cells k cell) (get_or bytes k 0) → Fits (take (k + 1) cells) (take (k + 1) bytes)
+fits_more k cells bytes cell within inside fits takes =
+    subst (λ (cs : List Cell). Fits cs (take (k + 1) bytes)) (sym (take_more cells k cell within))
+    (subst (λ (t : List ℕ). Fits (take k cells ++ get_or cells k cell ∷ []) t) (sym (take_more bytes k 0 inside))
+    (fits_append (take k cells) (get_or cells k cell ∷ []) (take k bytes) (get_or bytes k 0 ∷ []) fits (takes, tt)))

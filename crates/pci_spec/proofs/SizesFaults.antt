@@ -11,6 +11,7 @@ use Rattle.pci_spec.specs.Text.{slot_text, line_ends, line_after, BadSlot, BadLi
 use Rattle.pci_spec.specs.Form.{Cell, Fixed, Takes, Fits, slot_cells, ends_in}
 use Rattle.pci_spec.specs.SizesText.{SizesBlock, IsSizesBlock, sized_slots, IsSizes, sizes_block_text, sizes_text_of, IsPartOfSizes, BeginsSizes, IsSizesFront, IsGoodSizes, SizesStopWhere, IsSizesFaultOf}
 use Rattle.pci_spec.specs.SizesForm.{lines_cells, sizes_cells}
+use Rattle.pci_spec.specs.SizesStops.{cell_at, ends_before, SlotFollows}
 use Rattle.pci_spec.proofs.Bits.{each_from-at}
 use Rattle.pci_spec.proofs.Cells.{fits_first}
 use Rattle.pci_spec.proofs.Forms.{fits_length, takes_at, ends_of, fits_slot, line_ends_append}
@@ -122,10 +123,6 @@ front_of blocks part b d few begun above = record { split = refl; each = d.each;
 
 -- ---- line ends
 
--- the line ends before a place of a block
-abbrev pub ends_before : ℕ → ℕ
-ends_before k = cond (nat_lt k 8) 0 (1 + (k - 8) / 57)
-
 counts_ends : ℕ → Bool
 counts_ends k = ends_in (take k sizes_cells) == ends_before k
 
@@ -163,16 +160,12 @@ unfolding sizes_cells
 slot_cells_first = refl
 
 -- bytes of a block up to the end of its slot at least
-slot_of_part : (start rest : List ℕ) (b : SizesBlock) (s : Slot) → start ++ rest ≡ sizes_block_text b → 7 ≤ length start → take 7 start ≡ slot_text s → b.slot ≡ s
+pub slot_of_part : (start rest : List ℕ) (b : SizesBlock) (s : Slot) → start ++ rest ≡ sizes_block_text b → 7 ≤ length start → take 7 start ≡ slot_text s → b.slot ≡ s
 slot_of_part start rest b s whole long first =
     (slot_same b.slot s [] [] (sym (slot_first b) ∙ ap (λ (t : List ℕ). take 7 t) (sym whole) ∙ take-append-le 7 start rest long ∙ first)).0
 
-slots_with : (blocks : List SizesBlock) (b : SizesBlock) (s : Slot) → b.slot ≡ s → sized_slots (blocks ++ b ∷ []) ≡ sized_slots blocks ++ s ∷ []
+pub slots_with : (blocks : List SizesBlock) (b : SizesBlock) (s : Slot) → b.slot ≡ s → sized_slots (blocks ++ b ∷ []) ≡ sized_slots blocks ++ s ∷ []
 slots_with blocks b s e = map-append (λ (x : SizesBlock). x.slot) blocks (b ∷ []) ∙ ap (λ (x : Slot). sized_slots blocks ++ x ∷ []) e
-
--- the slot, once all its seven bytes are among the first k, may stand after these blocks
-abbrev pub SlotFollows : List SizesBlock → List ℕ → ℕ → Type 0
-SlotFollows blocks bytes k = 7 ≤ k → (s : Slot) × (take 7 bytes ≡ slot_text s) × IsRising (sized_slots blocks ++ s ∷ [])
 
 first_of_first : (k : ℕ) (bytes : List ℕ) → 7 ≤ k → take 7 (take k bytes) ≡ take 7 bytes
 first_of_first k bytes h = take-take 7 k bytes h
@@ -232,7 +225,7 @@ module _ (blocks : List SizesBlock) (bytes : List ℕ) (k : ℕ) (d : IsSizes bl
         }
 
     -- as it doesn't go into its cell
-    module _ (wrong : Takes (get_or sizes_cells k (Fixed 0)) byte → ⊥) where
+    module _ (wrong : Takes (cell_at k) byte → ⊥) where
       no_block : (b : SizesBlock) (rest : List ℕ) → IsSizesBlock b → (part ++ byte ∷ []) ++ rest ≡ sizes_block_text b → ⊥
       no_block b rest h whole =
           let c = cells_long in

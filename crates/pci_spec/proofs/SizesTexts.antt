@@ -174,7 +174,7 @@ lines_same (l ∷ ls) (m ∷ ms) xs ys long h g e =
     let more = lines_same ls ms xs ys (omega (arith, long)) (λ k d b. h (suc k) d (omega (arith, b))) (λ k d b. g (suc k) d (omega (arith, b))) one.1 in
     λ i. one.0 i ∷ more i
 
-sized_same : (b c : SizesBlock) → IsSizesBlock b → IsSizesBlock c → sizes_block_text b ≡ sizes_block_text c → b ≡ c
+pub sized_same : (b c : SizesBlock) → IsSizesBlock b → IsSizesBlock c → sizes_block_text b ≡ sizes_block_text c → b ≡ c
 unfolding sizes_block_text
 sized_same b c h g e =
     let slots = slot_same b.slot c.slot ((10 ∷ flat_map resource_text b.lines) ++ (10 ∷ [])) ((10 ∷ flat_map resource_text c.lines) ++ (10 ∷ [])) e in

@@ -26,6 +26,7 @@ pub mod Derived
 pub mod NoProbe
 pub mod SizesText
 pub mod SizesForm
+pub mod SizesStops
 pub mod ProbeOf
 pub mod NestingLaws
 pub mod BarLaws

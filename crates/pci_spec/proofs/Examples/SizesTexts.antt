@@ -12,10 +12,11 @@ use Rattle.pci_spec.specs.Resource.{ResourceLine, no_line}
 use Rattle.pci_spec.specs.Form.{Digit, Takes, Fits}
 use Rattle.pci_spec.specs.SizesText.{SizesBlock, IsResourceLine, IsSizesBlock, IsSizes, resource_text, sizes_block_text, sizes_text_of, IsSizesTextOf, IsSizesFaultOf}
 use Rattle.pci_spec.specs.SizesForm.{lines_cells, sizes_cells}
+use Rattle.pci_spec.specs.SizesStops.{SlotFollows}
 use Rattle.pci_spec.proofs.Bits.{some_from-at}
 use Rattle.pci_spec.proofs.Cells.{fits_first}
 use Rattle.pci_spec.proofs.SizesTexts.{fits_sizes}
-use Rattle.pci_spec.proofs.SizesFaults.{SlotFollows, fault_slot, fault_line, fault_blank, fault_ended, fault_order, fault_many}
+use Rattle.pci_spec.proofs.SizesFaults.{fault_slot, fault_line, fault_blank, fault_ended, fault_order, fault_many}
 use Rattle.pci_spec.proofs.Examples.Samples.{slot}
 
 -- ---- bytes of a text
