@@ -27,7 +27,7 @@ fn number_of(byte: u8) -> u32
 }
 
 /// What a hex digit in lower case stands for.
-pub(crate) fn digit_value(byte: u8) -> Option<u8>
+pub fn digit_value(byte: u8) -> Option<u8>
     ensures some { IfSome result (λ d. (d ≤ 15) × (byte ≡ hex_digit d)) }
     ensures found { (d : ℕ) → d < 16 → byte ≡ hex_digit d → result ≡ Some d }
 {

@@ -20,7 +20,7 @@
 pub mod ahead;
 pub mod block;
 mod block_text;
-mod digit;
+pub mod digit;
 pub mod dump;
 pub mod ends;
 pub mod failures;
@@ -33,7 +33,7 @@ pub mod read_fault;
 pub mod reader;
 mod row;
 mod rows;
-mod slot_text;
+pub mod slot_text;
 pub mod std_ends;
 pub mod stray;
 pub mod write;

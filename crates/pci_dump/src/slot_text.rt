@@ -9,7 +9,7 @@ use super::digit::digit_value;
 use pci_image::slot::Slot;
 
 /// The slot that seven bytes spell.
-pub(crate) fn slot_of(text: &[u8]) -> Option<Slot>
+pub fn slot_of(text: &[u8]) -> Option<Slot>
     requires { length text.now ≡ 7 }
     ensures some { IfSome result (λ s. IsSlot s × (text.now ≡ slot_text s)) }
     ensures none { IfNone result (Fits slot_cells text.now → ⊥) }

@@ -1,2 +1,6 @@
 pub mod Derived
 pub mod Fault
+pub mod SizesFault
+pub mod ProbeFault
+pub mod Derivation
+pub mod Sizes

@@ -19,7 +19,7 @@ use pci_machine::address_register::address_registers;
 use pci_machine::number::put;
 
 /// Whether a function is a bridge, by its header, and not a device.
-fn is_bridge(image: &Image) -> Result<bool, ImageFault>
+pub(crate) fn is_bridge(image: &Image) -> Result<bool, ImageFault>
     ensures header { OnOk result (HasHeader image.now.0) }
     ensures layout { IfOk result (λ bridge. layout image.now.0 ≡ (if bridge then 1 else 0)) }
     ensures fault { IfErr result (IsHeaderFault image.now.0) }

@@ -2,25 +2,42 @@
 //! and from what Linux tells of them.
 //!
 //! Linux sizes every register as it boots, and shows what it found in sysfs: a file `resource` with a
-//! line for each BAR register and for the ROM. [`derive::derive`] makes a function's probe of its
-//! image and those seven lines, register by register ([`register::register`]); nothing is written to
-//! a device. Where no size is told of a register that isn't enabled, a read back is assumed by habit,
-//! and the register is named; where the register is enabled, there is no probe.
+//! line for each BAR register and for the ROM. [`probe::probe_of`] makes the probe of a dump by the
+//! lines of its functions, one function after another ([`derive::derive`]) and register by register
+//! ([`register::register`]); nothing is written to a device. Where no size is told of a register that
+//! isn't enabled, a read back is assumed by habit, and the register is named; where the register is
+//! enabled, there is no probe.
 //!
 //! ```text
-//! let mut probe = Image([0; 256]);
-//! let assumed = derive(&image, &lines, false, &mut probe)?;
-//! for register in &assumed { /* its read back was assumed */ }
+//! let dump = read_dump(rt.alloc(), &mut Incoming::new(dump_file))?;
+//! let sizes = read_sizes(rt.alloc(), &mut Incoming::new(sizes_file))?;
+//! match probe_of(rt.alloc(), &dump, &sizes, false) {
+//!     Ok(derivation) => {
+//!         write_dump(&mut output, &derivation.probe)?;
+//!         for register in &derivation.assumed { eprintln!(rt; "{register}")?; }
+//!     }
+//!     Err(Refused::Fault(fault)) => eprintln!(rt; "{fault}")?,
+//!     Err(Refused::Memory) => { /* a growth was refused */ }
+//! }
 //! ```
 #![tactic(auto)]
 
+pub mod assumed;
 mod bar;
 pub mod derive;
 pub mod derived;
 pub mod fault;
 pub mod line;
+mod lone;
+pub mod probe;
+pub mod probe_fault;
 pub mod register;
 mod rom;
+pub mod sizes;
+mod sizes_block;
+mod sizes_fault;
+mod sizes_line;
+pub mod sizes_reader;
 #[cfg(test)]
 mod tests;
 mod window;

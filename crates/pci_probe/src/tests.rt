@@ -3,3 +3,4 @@
 mod lines;
 mod probes;
 mod rows;
+mod systems;

@@ -38,3 +38,5 @@ pub mod WholePlan
 pub mod Stopped
 pub mod Unplanned
 pub mod DerivedProbes
+pub mod SizesTexts
+pub mod ProbesOf

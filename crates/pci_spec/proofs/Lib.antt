@@ -7,6 +7,10 @@ pub mod Forms
 pub mod Stopping
 pub mod Faults
 pub mod HexTexts
+pub mod HexNumbers
+pub mod Cells
+pub mod SizesTexts
+pub mod SizesFaults
 pub mod BusRanges
 pub mod Nesting
 pub mod Ways

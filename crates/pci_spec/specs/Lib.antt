@@ -24,6 +24,10 @@ pub mod Listing
 pub mod Resource
 pub mod Derived
 pub mod NoProbe
+pub mod SizesText
+pub mod SizesForm
+pub mod SizesStops
+pub mod ProbeOf
 pub mod NestingLaws
 pub mod BarLaws
 pub mod WindowLaws

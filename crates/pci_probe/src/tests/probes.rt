@@ -1,4 +1,4 @@
-use super::rows::{ROWS, Registers, Row};
+use super::rows::{Line, ROWS, Registers, Row};
 use crate::derive::derive;
 use crate::derived::Derived;
 use crate::fault::DeriveFault;
@@ -9,7 +9,7 @@ use pci_image::image::Image;
 use std::test::Fail;
 
 /// These bytes with registers put in.
-fn with_registers(mut bytes: [u8; 256], registers: Registers) -> Image {
+pub fn with_registers(mut bytes: [u8; 256], registers: Registers) -> Image {
     for (offset, value) in registers {
         let mut rest = *value;
         for j in 0..4 {
@@ -23,13 +23,18 @@ fn with_registers(mut bytes: [u8; 256], registers: Registers) -> Image {
     Image(bytes)
 }
 
-/// What a row's function shows, and the seven lines that are told of it.
-fn function(row: &Row) -> (Image, [ResourceLine; 7]) {
+/// What a function of vendor 1234h shows.
+pub fn shown(registers: Registers) -> Image {
     let mut vendor = [0; 256];
     vendor[0] = 0x34;
     vendor[1] = 0x12;
+    with_registers(vendor, registers)
+}
+
+/// Seven lines, of zeros but for these.
+pub fn told(some: &[Line]) -> [ResourceLine; 7] {
     let mut lines = [ResourceLine::default(); 7];
-    for (n, first, last, flags) in row.1 {
+    for (n, first, last, flags) in some {
         if *n < 7 {
             lines[*n] = ResourceLine {
                 first: *first,
@@ -38,7 +43,12 @@ fn function(row: &Row) -> (Image, [ResourceLine; 7]) {
             };
         }
     }
-    (with_registers(vendor, row.0), lines)
+    lines
+}
+
+/// What a row's function shows, and the seven lines that are told of it.
+fn function(row: &Row) -> (Image, [ResourceLine; 7]) {
+    (shown(row.0), told(row.1))
 }
 
 #[test]

@@ -6,11 +6,11 @@ use Rattle.pci_spec.specs.Derived.{bar_of_size, derived_bar, derived_rom, window
 use Rattle.pci_spec.specs.NoProbe.{NoProbe, NoSize, OtherSize, first_at, no_probe}
 use Rattle.pci_spec.proofs.Examples.Samples.{puts, blank, zeros}
 
-abbrev line : ℕ → ℕ → ℕ → ResourceLine
+abbrev pub line : ℕ → ℕ → ℕ → ResourceLine
 line first last flags = record { first = first; last = last; flags = flags }
 
 -- seven lines of zeros but for one
-abbrev lines : ℕ → ResourceLine → List ResourceLine
+abbrev pub lines : ℕ → ResourceLine → List ResourceLine
 lines n l = set (replicate 7 no_line) n l
 
 -- what the registers of a device and of a bridge read back, those that are assumed, and the fault of the function

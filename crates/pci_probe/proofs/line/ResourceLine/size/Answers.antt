@@ -1,6 +1,6 @@
 use Rattle.std.proofs.Common.{◌≡◌, ◌+◌, ◌-◌, true, false, arith, subst}
 use Rattle.pci_spec.specs.Resource.{has_size, address_count}
-use Rattle.pci_probe.proofs.Sizes.{none_below, none_of_all, told, counted, bounded, none_else}
+use Rattle.pci_probe.proofs.Powers.{none_below, none_of_all, told, counted, bounded, none_else}
 use Rattle.pci_probe.proofs.line.ResourceLine.size.Goals as goal
 use Rattle.pci_probe.proofs.line.ResourceLine.size.Goals.{then-self-via-then-self, then-self-via-else-self+then-self-2, else-place-most-via-then-place-most+else-size-place, else-place-most-via-else-place-most}
 

@@ -1,0 +1,33 @@
+-- Why a dump has no derived probe, as the definitions have it.
+use Rattle.std.specs.Prelude.{◌≡◌, Bool, List, Some}
+use Rattle.pci_spec.specs.Slot.{Slot}
+use Rattle.pci_spec.specs.Text.{Block}
+use Rattle.pci_spec.specs.SizesText.{SizesBlock}
+use Rattle.pci_spec.specs.ProbeOf.{probe_fault}
+use Rattle.pci_spec.specs.ProbeOf as spec
+use Rattle.pci_image.specs.declared.fault.ImageFault.TheVariants as of_image
+use Rattle.pci_dump.specs.declared.memory.Refused.{Refused}
+use Rattle.pci_dump.specs.declared.memory.Refused.TheVariants.{Fault, Memory}
+use Rattle.pci_probe.specs.declared.fault.DeriveFault.{DeriveFault}
+use Rattle.pci_probe.specs.declared.fault.DeriveFault.TheVariants as of_function
+use Rattle.pci_probe.specs.declared.probe_fault.ProbeFault.{ProbeFault}
+use Rattle.pci_probe.specs.declared.probe_fault.ProbeFault.TheVariants.{SlotsDiffer, NoVendor, HeaderKind, NoSize, OtherSize}
+
+abbrev pub fault_value : ProbeFault → spec.ProbeFault
+fault_value (SlotsDiffer slot) = spec.SlotsDiffer slot
+fault_value (NoVendor slot) = spec.NoVendor slot
+fault_value (HeaderKind slot) = spec.HeaderKind slot
+fault_value (NoSize slot register) = spec.NoSize slot register
+fault_value (OtherSize slot register) = spec.OtherSize slot register
+
+-- the fault of a function, with its slot; a header has no other faults
+abbrev pub fault_at : Slot → DeriveFault → spec.ProbeFault
+fault_at slot (of_function.Header of_image.HeaderKind) = spec.HeaderKind slot
+fault_at slot (of_function.Header _) = spec.NoVendor slot
+fault_at slot (of_function.NoSize register) = spec.NoSize slot register
+fault_at slot (of_function.OtherSize register) = spec.OtherSize slot register
+
+-- what is named is the first that there is
+abbrev pub IsFirstFault : Bool → List Block → List SizesBlock → Refused ProbeFault → Type 0
+IsFirstFault exact dump sizes (Fault fault) = probe_fault exact dump sizes ≡ Some (fault_value fault)
+IsFirstFault exact dump sizes Memory = Unit {0}

@@ -1,0 +1,140 @@
+//! The probe of a whole dump, derived from what its functions show and what Linux tells of them.
+ghost use Rattle.std.specs.Prelude.{◌≡◌, ℕ, List, ◌<◌, ◌++◌, ◌∷◌, [], length, map, None, Some, IfNone, IfSome, IfOk, IfErr, OnOk};
+ghost use Rattle.pci_spec.specs.Stops.{IsAboveLast, last_slot};
+ghost use Rattle.pci_spec.specs.NoProbe.{no_probe};
+ghost use Rattle.pci_spec.specs.ProbeOf.{assumed_at, assumed_in, assumed_of, first_of, identity_fault, probe_block, probe_fault};
+ghost use Rattle.pci_spec.specs.ProbeOf as spec;
+ghost use Rattle.pci_image.specs.Header.{HasHeader};
+ghost use Rattle.pci_dump.specs.Pair.{IsPair};
+ghost use Rattle.pci_probe.specs.ProbeFault.{IsFirstFault, fault_value};
+ghost use Rattle.pci_probe.specs.Derivation.{IsFaultOfFunction, told};
+
+use super::assumed::AssumedRegister;
+use super::derive::{derive, is_bridge};
+use super::fault::DeriveFault;
+use super::lone::lone_slot;
+use super::probe_fault::ProbeFault;
+use super::sizes::{Sizes, SizesBlock};
+use pci_dump::block::Block;
+use pci_dump::dump::Dump;
+use pci_dump::memory::{OutOfMemory, Refused};
+use pci_image::image::Image;
+use pci_image::slot::Slot;
+use std::alloc::{Allocator, Global};
+
+/// A probe, and the registers in it whose read backs are assumed, by rising slot and offset.
+#[derive(Drop)]
+pub struct Derivation<A: Allocator = Global> {
+    pub probe: Dump<A>,
+    pub assumed: Vec<AssumedRegister, A>,
+}
+
+/// The fault of the first function whose header isn't decoded.
+fn header_fault(dump: &[Block]) -> Option<ProbeFault>
+    ensures none { IfNone result (first_of identity_fault dump.now ≡ None) }
+    ensures some { IfSome result (λ fault. first_of identity_fault dump.now ≡ Some (fault_value fault)) }
+{
+    for block in dump {
+        match is_bridge(&block.image) {
+            Ok(_) => {}
+            Err(fault) => return Some(ProbeFault::at(block.slot, DeriveFault::Header(fault))),
+        }
+    }
+    None
+}
+
+/// Puts the registers of the function at a slot after all that are there.
+fn add_assumed<A: Allocator>(
+    assumed: &mut Vec<AssumedRegister, A>,
+    slot: Slot,
+    registers: &[u8],
+) -> Result<(), OutOfMemory>
+    ensures { OnOk result (assumed.new.items ≡ assumed.old.items ++ map (assumed_at slot) registers.now) }
+{
+    for register in registers {
+        assumed.push(AssumedRegister {
+            slot,
+            register: *register,
+        })?;
+    }
+    Ok(())
+}
+
+/// Derives the probe of one function more, which stands above all that there are.
+fn add<A: Allocator>(
+    derivation: &mut Derivation<A>,
+    block: &Block,
+    sizes: &SizesBlock,
+    exact: bool,
+) -> Result<(), Refused<ProbeFault>>
+    requires header { HasHeader block.now.image }
+    requires above { IsAboveLast (last_slot derivation.old.probe) block.now.slot }
+    requires room { length derivation.old.probe < 4096 }
+    ensures told { OnOk result (no_probe exact block.now.image sizes.now.lines ≡ None) }
+    ensures probe { OnOk result (derivation.new.probe ≡ derivation.old.probe ++ probe_block (told block.now sizes.now) ∷ []) }
+    ensures assumed { OnOk result (derivation.new.assumed.items ≡ derivation.old.assumed.items ++ assumed_in (told block.now sizes.now)) }
+    ensures fault { IfErr result (IsFaultOfFunction exact (told block.now sizes.now)) }
+{
+    let mut image = Image([0; 256]);
+    let registers = match derive(&block.image, &sizes.lines, exact, &mut image) {
+        Ok(registers) => registers,
+        Err(fault) => return Err(Refused::Fault(ProbeFault::at(block.slot, fault))),
+    };
+    match derivation.probe.push(Block {
+        slot: block.slot,
+        title: None,
+        image,
+    }) {
+        Ok(()) => {}
+        Err(Refused::Fault(_)) => unreachable!(),
+        Err(Refused::Memory) => return Err(Refused::Memory),
+    }
+    add_assumed(&mut derivation.assumed, block.slot, registers.as_slice())?;
+    Ok(())
+}
+
+/// The probe of a dump, by what Linux tells of its functions' registers. It has the dump's slots and
+/// no titles, and goes with the dump as [`pci_dump::pair::pair`] asks. In an `exact` probe nothing is
+/// assumed.
+///
+/// # Errors
+///
+/// 2 `Memory` where a growth was refused. Of the faults the first, in the order in which
+/// `pciplan check` looks for those of two texts: 30 `SlotsDiffer` with the least slot that only one
+/// of dump and sizes lists; 20 `NoVendor` and 21 `HeaderKind` with the lowest function whose header
+/// isn't decoded; 32 `NoSize` and 33 `OtherSize` with the lowest register without a read back of the
+/// lowest such function, as [`derive`] finds it.
+pub fn probe_of<A: Allocator + Copy, B: Allocator, C: Allocator>(
+    alloc: A,
+    dump: &Dump<B>,
+    sizes: &Sizes<C>,
+    exact: bool,
+) -> Result<Derivation<A>, Refused<ProbeFault>>
+    ensures told { OnOk result (probe_fault exact dump.now sizes.now ≡ None) }
+    ensures probe { IfOk result (λ derivation. derivation.probe ≡ spec.probe_of dump.now sizes.now) }
+    ensures assumed { IfOk result (λ derivation. derivation.assumed.items ≡ assumed_of dump.now sizes.now) }
+    ensures pair { IfOk result (λ derivation. (roots : List ℕ) → IsPair roots dump.now derivation.probe) }
+    ensures fault { IfErr result (IsFirstFault exact dump.now sizes.now) }
+{
+    let blocks = dump.blocks();
+    let told = sizes.blocks();
+    match lone_slot(blocks, told) {
+        None => {}
+        Some(slot) => return Err(Refused::Fault(ProbeFault::SlotsDiffer(slot))),
+    }
+    match header_fault(blocks) {
+        None => {}
+        Some(fault) => return Err(Refused::Fault(fault)),
+    }
+    let mut derivation = Derivation {
+        probe: Dump::empty(alloc),
+        assumed: Vec::new(alloc),
+    };
+    for i in 0..blocks.len() {
+        match add(&mut derivation, &blocks[i], &told[i], exact) {
+            Ok(()) => {}
+            Err(refused) => return Err(refused),
+        }
+    }
+    Ok(derivation)
+}

@@ -1,0 +1,212 @@
+use super::probes::{shown, told, with_registers};
+use super::rows::{Line, Registers};
+use crate::probe::probe_of;
+use crate::probe_fault::ProbeFault;
+use crate::sizes::{Sizes, SizesBlock};
+use pci_dump::block::{Block, Title};
+use pci_dump::dump::{Dump, PushFault};
+use pci_dump::memory::Refused;
+use pci_image::slot::Slot;
+use std::test::Fail;
+
+/// Functions of bus 00 by their device numbers: what they show, what is told of them, whether the
+/// probe has to be exact, and their read backs with the remarks, or the fault.
+struct System(
+    &'static [(u8, Registers)],
+    &'static [(u8, &'static [Line])],
+    bool,
+    Result<(&'static [Registers], &'static [&'static str]), &'static str>,
+);
+
+/// A device whose memory BAR shows an address: enabled, and not.
+const ENABLED: Registers = &[(0x04, 2), (0x10, 0xe000_0000)];
+
+const DISABLED: Registers = &[(0x10, 0xe000_0000)];
+
+/// The same with a ROM.
+const WITH_ROM: Registers = &[(0x10, 0xe000_0000), (0x30, 0xfebe_0000)];
+
+/// What reads FFFFh as its vendor, and a header of type 2.
+const SILENT: Registers = &[(0x00, 0xffff)];
+
+const CARD: Registers = &[(0x0c, 0x0002_0000)];
+
+/// What is told of 4 KB of memory, of 4 KB of 64-bit memory, and of nothing.
+const SIZED: &[Line] = &[(0, 0xe000_0000, 0xe000_0fff, 0x4_0200)];
+
+const WIDE: &[Line] = &[(0, 0, 0xfff, 0x14_0204)];
+
+const UNTOLD: &[Line] = &[];
+
+const SYSTEMS: [System; 15] = [
+    System(&[], &[], true, Ok((&[], &[]))),
+    System(
+        &[(1, ENABLED), (2, ENABLED)],
+        &[(1, SIZED), (2, SIZED)],
+        true,
+        Ok((&[&[(0x10, 0xffff_f000)], &[(0x10, 0xffff_f000)]], &[])),
+    ),
+    // remarks by slot and register
+    System(
+        &[(1, DISABLED), (2, WITH_ROM)],
+        &[(1, UNTOLD), (2, UNTOLD)],
+        false,
+        Ok((
+            &[
+                &[(0x10, 0xffff_fff0)],
+                &[(0x10, 0xffff_fff0), (0x30, 0xffff_f800)],
+            ],
+            &[
+                "assumed 00:01.0 10",
+                "assumed 00:02.0 10",
+                "assumed 00:02.0 30",
+            ],
+        )),
+    ),
+    System(
+        &[(1, ENABLED), (2, WITH_ROM)],
+        &[(1, SIZED), (2, SIZED)],
+        true,
+        Err("32 NoSize 00:02.0 30"),
+    ),
+    // slots that differ, the least of them, before all else
+    System(&[(1, ENABLED)], &[], false, Err("30 SlotsDiffer 00:01.0")),
+    System(&[], &[(3, UNTOLD)], false, Err("30 SlotsDiffer 00:03.0")),
+    System(
+        &[(1, SILENT), (2, ENABLED)],
+        &[(1, UNTOLD), (3, UNTOLD)],
+        false,
+        Err("30 SlotsDiffer 00:02.0"),
+    ),
+    System(
+        &[(1, ENABLED), (3, ENABLED)],
+        &[(1, UNTOLD), (2, UNTOLD)],
+        false,
+        Err("30 SlotsDiffer 00:02.0"),
+    ),
+    System(
+        &[(1, ENABLED)],
+        &[(1, UNTOLD), (2, UNTOLD)],
+        false,
+        Err("30 SlotsDiffer 00:02.0"),
+    ),
+    // headers, of all functions before any register
+    System(
+        &[(1, CARD), (2, SILENT)],
+        &[(1, UNTOLD), (2, UNTOLD)],
+        false,
+        Err("21 HeaderKind 00:01.0"),
+    ),
+    System(
+        &[(1, SILENT), (2, CARD)],
+        &[(1, UNTOLD), (2, UNTOLD)],
+        false,
+        Err("20 NoVendor 00:01.0"),
+    ),
+    System(
+        &[(1, ENABLED), (2, SILENT)],
+        &[(1, UNTOLD), (2, UNTOLD)],
+        false,
+        Err("20 NoVendor 00:02.0"),
+    ),
+    // registers, by slot
+    System(
+        &[(1, DISABLED), (2, ENABLED)],
+        &[(1, UNTOLD), (2, UNTOLD)],
+        false,
+        Err("32 NoSize 00:02.0 10"),
+    ),
+    System(
+        &[(1, &[(0x04, 2)]), (2, ENABLED)],
+        &[(1, WIDE), (2, UNTOLD)],
+        false,
+        Err("33 OtherSize 00:01.0 10"),
+    ),
+    System(
+        &[(1, ENABLED), (2, &[])],
+        &[(1, UNTOLD), (2, WIDE)],
+        false,
+        Err("32 NoSize 00:01.0 10"),
+    ),
+];
+
+/// The slot of a device of bus 00.
+fn slot(device: u8) -> Slot {
+    Slot::new(0, device, 0).unwrap_or_default()
+}
+
+/// A system's dump, whose blocks have a title, and its sizes.
+fn texts(rt: &HostRuntime, system: &System) -> Result<(Dump, Sizes), Fail> {
+    let mut dump = Dump::empty(rt.alloc());
+    for (device, registers) in system.0 {
+        let pushed = dump.push(Block {
+            slot: slot(*device),
+            title: Title::of(b"Device"),
+            image: shown(registers),
+        });
+        if pushed.is_err() {
+            return Err(Fail::from("a row's slots don't rise"));
+        }
+    }
+    let mut sizes = Sizes::empty(rt.alloc());
+    for (device, lines) in system.1 {
+        let pushed = sizes.push(SizesBlock {
+            slot: slot(*device),
+            lines: told(lines),
+        });
+        if pushed.is_err() {
+            return Err(Fail::from("a row's slots don't rise"));
+        }
+    }
+    Ok((dump, sizes))
+}
+
+#[test]
+fn systems_have_these_probes(rt: HostRuntime) -> Result<(), Fail> {
+    for system in &SYSTEMS {
+        let (dump, sizes) = texts(&rt, system)?;
+        match (probe_of(rt.alloc(), &dump, &sizes, system.2), &system.3) {
+            (Ok(derivation), Ok((read_backs, remarks))) => {
+                let blocks = derivation.probe.blocks();
+                assert_eq!(rt; blocks.len(), read_backs.len());
+                for (block, registers) in blocks.iter().zip(read_backs.iter()) {
+                    assert!(rt; block.title.is_none());
+                    assert_eq!(rt; block.image, with_registers([0; 256], registers));
+                }
+                for (block, (device, _)) in blocks.iter().zip(system.0.iter()) {
+                    assert_eq!(rt; block.slot, slot(*device));
+                }
+                assert_eq!(rt; derivation.assumed.len(), remarks.len());
+                for (register, remark) in derivation.assumed.iter().zip(remarks.iter()) {
+                    assert_eq!(rt; format!(in rt.alloc(); "{register}")?.as_str(), *remark);
+                }
+            }
+            (Err(Refused::Fault(fault)), Err(expected)) => {
+                assert_eq!(rt; format!(in rt.alloc(); "{fault}")?.as_str(), *expected);
+            }
+            _ => return Err(Fail::from("another answer")),
+        }
+    }
+    Ok(())
+}
+
+#[test]
+fn blocks_of_sizes_rise(rt: HostRuntime) {
+    let mut sizes = Sizes::empty(rt.alloc());
+    let above = SizesBlock {
+        slot: slot(2),
+        lines: told(SIZED),
+    };
+    assert!(rt; sizes.push(above).is_ok());
+    assert_eq!(rt;
+        sizes.push(above).err(),
+        Some(Refused::Fault(PushFault::NotAbove))
+    );
+    assert_eq!(rt;
+        sizes.push(SizesBlock::default()).err(),
+        Some(Refused::Fault(PushFault::NotAbove))
+    );
+    assert_eq!(rt; sizes.blocks().len(), 1);
+    assert_eq!(rt; ProbeFault::SlotsDiffer(slot(1)).number(), 30);
+    assert_eq!(rt; ProbeFault::OtherSize(slot(1), 0x10).number(), 33);
+}
