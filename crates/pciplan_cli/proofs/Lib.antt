@@ -14,4 +14,5 @@ mod RootWords
 mod CommandWords
 mod CommandLines
 mod Asking
+mod Refusals
 pub mod HexPushes

@@ -18,7 +18,7 @@ use Rattle.pci_dump.specs.declared.read_fault.ReadFault.{ReadFault}
 use Rattle.pci_dump.specs.declared.read_fault.ReadFault.TheVariants as faults
 use Rattle.pciplan_cli.specs.Statuses.{status_of}
 use Rattle.pciplan_cli.specs.declared.trouble.Trouble.{Trouble}
-use Rattle.pciplan_cli.specs.declared.trouble.Trouble.TheVariants.{Usage, Root, Pool, Dump, Probe, Memory, Io}
+use Rattle.pciplan_cli.specs.declared.trouble.Trouble.TheVariants.{Usage, Root, Pool, Dump, Probe, Sizes, Memory, Io}
 
 -- the dump whose text was left, where the bytes are told
 abbrev pub IsDumpOf : Option (List ℕ) → List Block → Type 0
@@ -67,6 +67,7 @@ IsTextTrouble dump_left probe_left Root = ⊥
 IsTextTrouble dump_left probe_left (Pool option) = ⊥
 IsTextTrouble dump_left probe_left (Dump fault) = IsFaultOfLeft dump_left fault
 IsTextTrouble dump_left probe_left (Probe fault) = ((dump : List Block) × IsDumpOf dump_left dump) × IsFaultOfLeft probe_left fault
+IsTextTrouble dump_left probe_left (Sizes fault) = ⊥
 IsTextTrouble dump_left probe_left Memory = Unit {0}
 IsTextTrouble dump_left probe_left Io = ⊥
 

@@ -40,6 +40,7 @@ IsTaskOf asked.Show t = t ≡ task.Show
 IsTaskOf (asked.Check root) t = (roots : Roots) × AreRootsOf root roots × (t ≡ task.Check roots)
 IsTaskOf asked.Size t = t ≡ task.Size
 IsTaskOf (asked.Plan words) t = IsPlanningOf words t
+IsTaskOf (asked.Probe exact) t = t ≡ task.Probe exact
 
 -- the words before the one that is refused have their roots and pools
 abbrev pub HasRoots : PlanWords → Type 0

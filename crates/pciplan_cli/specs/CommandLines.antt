@@ -35,6 +35,9 @@ abbrev pub planning : App
 planning = with_rule (with_rule (with_rule (with_rule (with_rule (with_paths (codes "plan"))
     (pool_rule (codes "io"))) (pool_rule (codes "mem"))) (pool_rule (codes "pref"))) (flag_rule (codes "writes"))) (option_rule (codes "root"))
 
+abbrev pub probing : App
+probing = with_rule (with_paths (codes "probe")) (flag_rule (codes "exact"))
+
 -- the program: its words come without its name, and one of them has to name a subcommand
 abbrev pub program : App
 program = record (new_app (codes "pciplan")) {
@@ -42,8 +45,8 @@ program = record (new_app (codes "pciplan")) {
 }
 
 abbrev pub commands : App
-commands = with_subcommand (with_subcommand (with_subcommand (with_subcommand program (with_paths (codes "show")).top)
-    checking.top) (with_paths (codes "size")).top) planning.top
+commands = with_subcommand (with_subcommand (with_subcommand (with_subcommand (with_subcommand program (with_paths (codes "show")).top)
+    checking.top) (with_paths (codes "size")).top) planning.top) probing.top
 
 -- what the words of a command line say, which no fault of usage refuses
 pub record IsGiven (words : List Text) (asked : Asked) (dump probe : Text) : Type 0 where

@@ -3,7 +3,7 @@ use Rattle.std.specs.Prelude.{◌≡◌, Bool, true, false, List, Option, None, 
 use Rattle.std.specs.Borrow.{Bor}
 use Rattle.clap.specs.Words.{Row, Text, first_of, one_of}
 use Rattle.pciplan_cli.specs.declared.asked.Asked.{Asked}
-use Rattle.pciplan_cli.specs.declared.asked.Asked.TheVariants.{Show, Check, Size, Plan}
+use Rattle.pciplan_cli.specs.declared.asked.Asked.TheVariants.{Show, Check, Size, Plan, Probe}
 use Rattle.pciplan_cli.specs.declared.asked.PlanWords.{PlanWords}
 
 -- the word of an option or a path, where it has one
@@ -30,8 +30,9 @@ IsAsked name rows Show = name ≡ codes "show"
 IsAsked name rows (Check root) = (name ≡ codes "check") × (first_of (codes "root") rows ≡ word_of root)
 IsAsked name rows Size = name ≡ codes "size"
 IsAsked name rows (Plan words) = (name ≡ codes "plan") × HasPlanWords rows words
+IsAsked name rows (Probe exact) = (name ≡ codes "probe") × IsFlag (one_of (codes "exact") rows) exact
 
--- what the words of a subcommand say: what is asked for, and the paths of the dump and the probe
+-- what the words of a subcommand say: what is asked for, and the paths of the dump and of the second text
 pub record IsSaid (name : Text) (rows : List Row) (asked : Asked) (dump probe : Text) : Type 0 where
   pub task : IsAsked name rows asked
   pub dump_is : first_of (codes "DUMP") rows ≡ Some dump

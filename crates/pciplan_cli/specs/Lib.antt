@@ -14,4 +14,5 @@ pub mod Asked
 pub mod CommandWords
 pub mod CommandLines
 pub mod Opened
+pub mod ProbeAnswers
 pub mod Tasks

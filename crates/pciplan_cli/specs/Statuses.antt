@@ -3,7 +3,7 @@ use Rattle.std.specs.Prelude.{ℕ}
 use Rattle.pci_dump.specs.declared.read_fault.ReadFault.{ReadFault}
 use Rattle.pci_dump.specs.declared.read_fault.ReadFault.TheVariants as faults
 use Rattle.pciplan_cli.specs.declared.trouble.Trouble.{Trouble}
-use Rattle.pciplan_cli.specs.declared.trouble.Trouble.TheVariants.{Usage, Root, Pool, Dump, Probe, Memory, Io}
+use Rattle.pciplan_cli.specs.declared.trouble.Trouble.TheVariants.{Usage, Root, Pool, Dump, Probe, Sizes, Memory, Io}
 
 -- of a text that isn't read
 abbrev pub text_status : ReadFault → ℕ
@@ -18,5 +18,6 @@ status_of Root = 2
 status_of (Pool option) = 2
 status_of (Dump fault) = text_status fault
 status_of (Probe fault) = text_status fault
+status_of (Sizes fault) = text_status fault
 status_of Memory = 3
 status_of Io = 4

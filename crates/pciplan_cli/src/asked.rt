@@ -37,6 +37,8 @@ pub enum Asked<'a> {
     Size,
     /// The plan.
     Plan(PlanWords<'a>),
+    /// The derived probe, and whether it has to be exact.
+    Probe { exact: bool },
 }
 
 /// The root buses of the word of `--root`, bus 00 alone where there is none.
@@ -83,5 +85,6 @@ pub fn task_of(asked: &Asked<'_>) -> Result<Task, Trouble>
         }),
         Asked::Size => Ok(Task::Size),
         Asked::Plan(words) => planning_of(words),
+        Asked::Probe { exact } => Ok(Task::Probe { exact: *exact }),
     }
 }

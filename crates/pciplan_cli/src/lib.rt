@@ -9,6 +9,7 @@ pub mod listing;
 pub mod opened;
 pub mod planning;
 pub mod pool_word;
+pub mod probing;
 pub mod program;
 pub mod root_list;
 pub mod run;

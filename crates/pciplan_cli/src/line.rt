@@ -20,9 +20,14 @@ pub enum Task {
         writes: bool,
         roots: Roots,
     },
+    /// Derives the probe from the dump and the sizes that Linux tells, which are the second text. Where it has to be
+    /// exact, nothing is assumed.
+    Probe {
+        exact: bool,
+    },
 }
 
-/// A task, and the paths of its two texts.
+/// A task, and the paths of its two texts: the dump, and the probe or the sizes.
 #[derive(Drop)]
 pub struct Line {
     pub task: Task,

@@ -1,12 +1,13 @@
 //! The program, from its words to its status.
 ghost use Rattle.std.specs.Prelude.{◌≡◌, ◌≢◌, ◌⊎◌, ◌<◌, ◌≤◌, ◌+◌, ℕ, List, Option, IfErr, IfOk, MatchResult, map, string_bytes};
 ghost use Rattle.std.specs.IoError.{error_kind};
-ghost use Rattle.pciplan_cli.specs.Answers.{HasFailed, IsTextRefused, IsTextTrouble};
+ghost use Rattle.pci_spec.specs.Text.{Block};
+ghost use Rattle.pciplan_cli.specs.Answers.{HasFailed, IsDumpOf};
 ghost use Rattle.pciplan_cli.specs.CommandLines.{IsLineOf, HasBadWords};
 ghost use Rattle.pciplan_cli.specs.Statuses.{status_of};
-ghost use Rattle.pciplan_cli.specs.Tasks.{IsLineDone, IsLineBegun};
+ghost use Rattle.pciplan_cli.specs.Tasks.{IsLineDone, IsLineBegun, IsTaskRefused, IsTroubleOf};
 
-use crate::line::Line;
+use crate::line::{Line, Task};
 use crate::opened::Opening;
 use crate::run::run;
 use crate::trouble::{Trouble, tell};
@@ -63,20 +64,30 @@ fn line_of<E: Sink>(alloc: Global, words: io::Result<Vec<String>>, err: &mut E) 
     }
 }
 
-/// Why there is no answer where the probe couldn't be opened: that, unless the dump has a trouble.
-fn without_probe<A: Allocator, D: Source>(alloc: A, dump: &mut D) -> Trouble
-    ensures trouble { (probe_left : Option (List ℕ)) → IsTextTrouble (D.left dump.old) probe_left result }
-    ensures failed { status_of result ≡ 4
-        → (D.failures dump.new ≡ D.failures dump.old + 1) ⊎ (result ≡ Trouble.Probe ReadFault.Io) }
+/// The second text of a task can't be read.
+fn unread(task: Task) -> Trouble
+    ensures { (dump_left probe_left : Option (List ℕ)) → ((dump : List Block) × IsDumpOf dump_left dump) → IsTroubleOf task dump_left probe_left result }
+{
+    match task {
+        Task::Probe { .. } => Trouble::Sizes(ReadFault::Io),
+        Task::Show | Task::Check { .. } | Task::Size | Task::Plan { .. } => Trouble::Probe(
+            ReadFault::Io,
+        ),
+    }
+}
+
+/// Why there is no answer where the second text couldn't be opened: that, unless the dump has a trouble.
+fn without_second<A: Allocator, D: Source>(alloc: A, task: Task, dump: &mut D) -> Trouble
+    ensures { (probe_left : Option (List ℕ)) → IsTroubleOf task (D.left dump.old) probe_left result }
 {
     match read_dump(alloc, dump) {
-        Ok(_) => Trouble::Probe(ReadFault::Io),
+        Ok(_) => unread(task),
         Err(fault) => Trouble::Dump(fault),
     }
 }
 
 /// Opens the two texts of a line, the dump first, and carries out its task. A text that can't be opened is one
-/// that can't be read: there is no answer then, and the message names it, unless it is the probe and the dump
+/// that can't be read: there is no answer then, and the message names it, unless it is the second and the dump
 /// has a trouble of its own.
 pub fn carry_out<A: Allocator + Copy, D: Opening, P: Opening, O: Sink, E: Sink>(
     alloc: A,
@@ -87,12 +98,12 @@ pub fn carry_out<A: Allocator + Copy, D: Opening, P: Opening, O: Sink, E: Sink>(
     err: &mut E,
 ) -> u8
     ensures done { result < 2 → IsLineDone line.now (D.stands dump.old) (P.stands probe.old)
-        (D.bytes_at dump.old) (P.bytes_at probe.old) result (O.taken out.old) (O.taken out.new) }
-    ensures silent { result < 2 → err.new ≡ err.old }
+        (D.bytes_at dump.old) (P.bytes_at probe.old) result (O.taken out.old) (O.taken out.new)
+        (E.taken err.old) (E.taken err.new) (err.new ≡ err.old) }
     ensures quiet { (result ≡ 2) ⊎ (result ≡ 3) → out.new ≡ out.old }
     ensures begun { result ≡ 4 → (out.new ≡ out.old)
         ⊎ IsLineBegun line.now (D.bytes_at dump.old) (P.bytes_at probe.old) (O.taken out.old) (O.taken out.new) }
-    ensures refused { result ≡ 2 → IsTextRefused (D.bytes_at dump.old (string_bytes line.now.dump))
+    ensures refused { result ≡ 2 → IsTaskRefused line.now.task (D.bytes_at dump.old (string_bytes line.now.dump))
         (P.bytes_at probe.old (string_bytes line.now.probe)) }
     ensures failed { result ≡ 4 → HasFailed (D.failures dump.old) (D.failures dump.new)
         (P.failures probe.old) (P.failures probe.new) (O.failures out.old) (O.failures out.new) }
@@ -102,13 +113,13 @@ pub fn carry_out<A: Allocator + Copy, D: Opening, P: Opening, O: Sink, E: Sink>(
         return tell(err, Trouble::Dump(ReadFault::Io));
     }
     if probe.open(line.probe.as_str()).is_err() {
-        return tell(err, without_probe(alloc, dump));
+        return tell(err, without_second(alloc, line.task, dump));
     }
     run(alloc, line, dump, probe, out, err)
 }
 
 /// Does what the words ask for: writes the answer to `out` or a message to `err`, and answers the status. 0 or 1
-/// where the answer was written; 2 where the words or a text are refused; 3 at want of memory; 4 where a text
+/// where the answer was written, and the remarks on a derived probe to `err`; 2 where the words or a text are refused; 3 at want of memory; 4 where a text
 /// couldn't be opened, or a read or a write failed. At 2 and 3 nothing was written to `out`, at 4 a beginning of
 /// the answer at most.
 pub fn program<D: Opening, P: Opening, O: Sink, E: Sink>(
@@ -123,13 +134,12 @@ pub fn program<D: Opening, P: Opening, O: Sink, E: Sink>(
     ensures unread { IfErr words (λ error. error_kind error ≢ ErrorKind.OutOfMemory → result ≡ 2) }
     ensures done { result < 2 → MatchResult words (λ words. (line : Line) × IsLineOf (map string_bytes words.items) line
         × IsLineDone line (D.stands dump.old) (P.stands probe.old) (D.bytes_at dump.old) (P.bytes_at probe.old) result
-        (O.taken out.old) (O.taken out.new)) (λ _. ⊥) }
-    ensures silent { result < 2 → err.new ≡ err.old }
+        (O.taken out.old) (O.taken out.new) (E.taken err.old) (E.taken err.new) (err.new ≡ err.old)) (λ _. ⊥) }
     ensures quiet { (result ≡ 2) ⊎ (result ≡ 3) → out.new ≡ out.old }
     ensures begun { result ≡ 4 → (out.new ≡ out.old) ⊎ MatchResult words (λ words. (line : Line) × IsLineOf (map string_bytes words.items) line
         × IsLineBegun line (D.bytes_at dump.old) (P.bytes_at probe.old) (O.taken out.old) (O.taken out.new)) (λ _. ⊥) }
     ensures refused { result ≡ 2 → IfOk words (λ words. HasBadWords (map string_bytes words.items)
-        ⊎ ((line : Line) × IsLineOf (map string_bytes words.items) line × IsTextRefused (D.bytes_at dump.old (string_bytes line.dump))
+        ⊎ ((line : Line) × IsLineOf (map string_bytes words.items) line × IsTaskRefused line.task (D.bytes_at dump.old (string_bytes line.dump))
         (P.bytes_at probe.old (string_bytes line.probe)))) }
     ensures failed { result ≡ 4 → HasFailed (D.failures dump.old) (D.failures dump.new)
         (P.failures probe.old) (P.failures probe.new) (O.failures out.old) (O.failures out.new) }

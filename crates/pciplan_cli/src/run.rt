@@ -10,6 +10,7 @@ ghost use Rattle.pci_tree.specs.Roots.{buses_of};
 ghost use Rattle.pci_tree.specs.declared.roots.Roots.{Roots};
 ghost use Rattle.pciplan_cli.specs.Answers.{HasFailed, IsChecked, IsAnswer, IsDumpOf, IsShown, IsBegun, IsSized, IsSizeBegun, IsSizing, IsTextRefused, IsTextTrouble};
 ghost use Rattle.pciplan_cli.specs.PlanAnswers.{IsPlannedAnswer, IsPlanned, IsPlanBegun, plan_fault_line, made_status, made_text};
+ghost use Rattle.pciplan_cli.specs.ProbeAnswers.{IsProbed, IsProbeBegun, AreSizesRefused};
 ghost use Rattle.pciplan_cli.specs.Statuses.{status_of};
 ghost use Rattle.pci_plan.specs.Plans.{plan_fault_of};
 ghost use Rattle.pci_plan.specs.Pools.{pools_value};
@@ -17,6 +18,7 @@ ghost use Rattle.pci_plan.specs.declared.pools.Pools.{Pools};
 
 use crate::line::{Line, Task};
 use crate::planning::{Planned, plan_pair};
+use crate::probing::run_probe;
 use crate::show::show;
 use crate::sizing::size_all;
 use crate::trouble::{Trouble, tell};
@@ -284,7 +286,7 @@ fn run_plan<A: Allocator + Copy, D: Source, P: Source, O: Sink>(
     send_made(out, &made)
 }
 
-/// Carries out a task: reads `dump` and `probe`, writes the answer to `out` or a message to `err`, and
+/// Carries out a task: reads `dump` and `probe` (the sizes, where a probe is to be derived), writes the answer to `out` or a message to `err`, and
 /// answers the status: 0 or 1 where the answer was written; 2 where a text has a fault; 3 at want of
 /// memory; 4 where a read or a write failed. At 2 and 3 nothing was written to `out`, at 4 a beginning
 /// of the answer at most.
@@ -304,7 +306,9 @@ pub fn run<A: Allocator + Copy, D: Source, P: Source, O: Sink, E: Sink>(
         → IsSized (D.left dump.old) (P.left probe.old) result (O.taken out.old) (O.taken out.new) }
     ensures planned { (pools : Pools) (writes : Bool) (roots : Roots) → line.now.task ≡ Task.Plan pools writes roots → result < 2
         → IsPlanned record { pools = pools_value pools; writes = writes; roots = buses_of roots } (D.left dump.old) (P.left probe.old) result (O.taken out.old) (O.taken out.new) }
-    ensures silent { result < 2 → err.new ≡ err.old }
+    ensures probed { (exact : Bool) → line.now.task ≡ Task.Probe exact → result < 2
+        → IsProbed exact (D.left dump.old) (P.left probe.old) result (O.taken out.old) (O.taken out.new) (E.taken err.old) (E.taken err.new) }
+    ensures silent { ((exact : Bool) → line.now.task ≢ Task.Probe exact) → result < 2 → err.new ≡ err.old }
     ensures quiet { (result ≡ 2) ⊎ (result ≡ 3) → out.new ≡ out.old }
     ensures begun { line.now.task ≡ Task.Show → result ≡ 4
         → (out.new ≡ out.old) ⊎ IsBegun (D.left dump.old) (P.left probe.old) (O.taken out.old) (O.taken out.new) }
@@ -314,7 +318,10 @@ pub fn run<A: Allocator + Copy, D: Source, P: Source, O: Sink, E: Sink>(
         → (out.new ≡ out.old) ⊎ IsSizeBegun (D.left dump.old) (P.left probe.old) (O.taken out.old) (O.taken out.new) }
     ensures plan_begun { (pools : Pools) (writes : Bool) (roots : Roots) → line.now.task ≡ Task.Plan pools writes roots → result ≡ 4
         → (out.new ≡ out.old) ⊎ IsPlanBegun record { pools = pools_value pools; writes = writes; roots = buses_of roots } (D.left dump.old) (P.left probe.old) (O.taken out.old) (O.taken out.new) }
-    ensures refused { result ≡ 2 → IsTextRefused (D.left dump.old) (P.left probe.old) }
+    ensures probe_begun { (exact : Bool) → line.now.task ≡ Task.Probe exact → result ≡ 4
+        → (out.new ≡ out.old) ⊎ IsProbeBegun exact (D.left dump.old) (P.left probe.old) (O.taken out.old) (O.taken out.new) }
+    ensures refused { ((exact : Bool) → line.now.task ≢ Task.Probe exact) → result ≡ 2 → IsTextRefused (D.left dump.old) (P.left probe.old) }
+    ensures probe_refused { (exact : Bool) → line.now.task ≡ Task.Probe exact → result ≡ 2 → AreSizesRefused (D.left dump.old) (P.left probe.old) }
     ensures failed { result ≡ 4 → HasFailed (D.failures dump.old) (D.failures dump.new)
         (P.failures probe.old) (P.failures probe.new) (O.failures out.old) (O.failures out.new) }
     ensures known { result ≤ 4 }
@@ -328,6 +335,7 @@ pub fn run<A: Allocator + Copy, D: Source, P: Source, O: Sink, E: Sink>(
             writes,
             roots,
         } => run_plan(alloc, &pools, writes, roots, dump, probe, out),
+        Task::Probe { exact } => run_probe(alloc, exact, dump, probe, out, err),
     };
     match done {
         Ok(status) => status,

@@ -28,6 +28,8 @@ pub enum Trouble {
     Dump(ReadFault),
     /// The text of the probe has a fault, or can't be read.
     Probe(ReadFault),
+    /// The text of the sizes has a fault, or can't be read.
+    Sizes(ReadFault),
     /// 2: a growth was refused.
     Memory,
     /// 10: standard output failed.
@@ -45,9 +47,11 @@ impl fmt::Display for Trouble {
             Trouble::Pool(PoolOption::Pref) => write!(f, "pool --pref"),
             Trouble::Dump(ReadFault::Memory)
             | Trouble::Probe(ReadFault::Memory)
+            | Trouble::Sizes(ReadFault::Memory)
             | Trouble::Memory => write!(f, "2 Memory"),
             Trouble::Dump(fault) => write!(f, "dump: {fault}"),
             Trouble::Probe(fault) => write!(f, "probe: {fault}"),
+            Trouble::Sizes(fault) => write!(f, "sizes: {fault}"),
             Trouble::Io => write!(f, "10 Io"),
         }
     }
@@ -61,7 +65,7 @@ impl Trouble {
     {
         match self {
             Trouble::Usage | Trouble::Root | Trouble::Pool(_) => 2,
-            Trouble::Dump(fault) | Trouble::Probe(fault) => match fault {
+            Trouble::Dump(fault) | Trouble::Probe(fault) | Trouble::Sizes(fault) => match fault {
                 ReadFault::Io => 4,
                 ReadFault::Memory => 3,
                 _ => 2,

@@ -3,7 +3,7 @@ ghost use Rattle.std.specs.Prelude.{◌≡◌, ◌≢◌, ◌⊎◌, List, ℕ, 
 ghost use Rattle.clap.specs.Words.{app_of, found_of, kind_of, rows_of, rule_of};
 ghost use Rattle.clap.specs.declared.error.kind.ErrorKind.{ErrorKind};
 ghost use Rattle.clap.specs.declared.builder.command.Command.TheViews.{out-Command};
-ghost use Rattle.pciplan_cli.specs.CommandLines.{pool_rule, with_paths, planning, commands, IsGiven, HasNoLine, IsLineOf, IsRefusedLine};
+ghost use Rattle.pciplan_cli.specs.CommandLines.{pool_rule, with_paths, planning, probing, commands, IsGiven, HasNoLine, IsLineOf, IsRefusedLine};
 ghost use Rattle.pciplan_cli.specs.CommandWords.{HasPlanWords, IsAsked, IsSaid};
 ghost use Rattle.pciplan_cli.specs.declared.asked.Asked.{Asked};
 ghost use Rattle.pciplan_cli.specs.declared.asked.PlanWords.{PlanWords};
@@ -34,6 +34,9 @@ const IO: &str = "io";
 const MEM: &str = "mem";
 
 const PREF: &str = "pref";
+
+/// The name of the option that lets nothing be assumed.
+const EXACT: &str = "exact";
 
 impl From<AllocError> for Trouble {
     ghost from_gives = { λ _ trouble. trouble ≡ Trouble.Memory };
@@ -91,7 +94,19 @@ fn plan_command<'a>(alloc: Global) -> Result<Command<'a>, AllocError>
         .arg(Arg::new(alloc, ROOT).long(ROOT))
 }
 
-/// `pciplan show DUMP PROBE`, `pciplan check [--root LIST] DUMP PROBE`, `pciplan size DUMP PROBE`, and `pciplan plan`.
+/// `pciplan probe DUMP SIZES [--exact]`.
+fn probe_command<'a>(alloc: Global) -> Result<Command<'a>, AllocError>
+    ensures app { IfOk result (λ command. app_of command ≡ probing) }
+    ensures local { IfOk result (λ command. (out-Command command).has_globals ≡ false) }
+{
+    let exact = Arg::new(alloc, EXACT)
+        .long(EXACT)
+        .action(ArgAction::SetTrue);
+    of_texts(alloc, "probe")?.arg(exact)
+}
+
+/// `pciplan show DUMP PROBE`, `pciplan check [--root LIST] DUMP PROBE`, `pciplan size DUMP PROBE`, and `pciplan plan` and
+/// `pciplan probe`.
 fn command<'a>(alloc: Global) -> Result<Command<'a>, AllocError>
     ensures { IfOk result (λ command. app_of command ≡ commands) }
 {
@@ -101,7 +116,8 @@ fn command<'a>(alloc: Global) -> Result<Command<'a>, AllocError>
         .subcommand(of_texts(alloc, "show")?)?
         .subcommand(of_texts(alloc, "check")?.arg(Arg::new(alloc, ROOT).long(ROOT))?)?
         .subcommand(of_texts(alloc, "size")?)?
-        .subcommand(plan_command(alloc)?)
+        .subcommand(plan_command(alloc)?)?
+        .subcommand(probe_command(alloc)?)
 }
 
 /// What the words of a command line say: the task with the words of its options, and the paths of the two texts.
@@ -138,6 +154,9 @@ fn asked_of<'a>(name: &str, found: &ArgMatches<'a>) -> Option<Asked<'a>>
         }),
         "size" => Some(Asked::Size),
         "plan" => Some(Asked::Plan(plan_words(found)?)),
+        "probe" => Some(Asked::Probe {
+            exact: found.get_flag(EXACT),
+        }),
         _ => None,
     }
 }

@@ -1,4 +1,4 @@
-use Rattle.std.proofs.Common.{inl, inr, map}
+use Rattle.std.proofs.Common.{inl, inr, map, sym}
 use Rattle.std.specs.String.{string_bytes}
 use Rattle.pciplan_cli.specs.CommandLines.{IsLineOf, HasBadWords}
 use Rattle.pciplan_cli.proofs.Asking.{with_line, with_line_ok}
@@ -6,7 +6,8 @@ use Rattle.pciplan_cli.proofs.program.program.Goals as goal
 
 pub returns-in-Ok-clause-done : goal.returns-in-Ok-clause-done
 returns-in-Ok-clause-done g c = λ done.
-    with_line (λ given. λ line. IsLineOf (map string_bytes given.items) line) _ c.args.words c.in-Ok.line c.in-Ok.ensures.line (c.carry_out.ensures.done done)
+    rw (sym c.in-Ok.ensures.silent)
+    (with_line (λ given. λ line. IsLineOf (map string_bytes given.items) line) _ c.args.words c.in-Ok.line c.in-Ok.ensures.line (c.carry_out.ensures.done done))
 
 pub returns-in-Ok-clause-begun : goal.returns-in-Ok-clause-begun
 returns-in-Ok-clause-begun g c = λ failed. elim (c.carry_out.ensures.begun failed) [
