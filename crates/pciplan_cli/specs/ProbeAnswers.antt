@@ -1,5 +1,5 @@
 -- What the program answers where a probe is to be derived from a dump and its sizes.
-use Rattle.std.specs.Prelude.{◌≡◌, ◌≢◌, ℕ, List, [], ◌∷◌, ◌++◌, Option, Some, None, Bool, codes}
+use Rattle.std.specs.Prelude.{◌≡◌, ◌≢◌, ◌⊎◌, ℕ, List, [], ◌∷◌, ◌++◌, Option, Some, None, Bool, codes}
 use Rattle.std.specs.List.{flat_map}
 use Rattle.std.specs.String.{string_bytes}
 use Rattle.std.specs.Io.KnownBytes.{Appends}
@@ -49,15 +49,19 @@ abbrev pub derived_answer : {A : Type 0} → Derived A → ProbeAnswer
 derived_answer (derived.Probe probe remarks) = record { status = 0; text = text_of probe; remarks = string_bytes remarks }
 derived_answer (derived.Refused line) = record { status = 1; text = string_bytes line; remarks = [] }
 
--- The answer to the two texts that were left was written. What standard error doesn't take changes nothing.
-pub record IsProbed (exact : Bool) (dump_left sizes_left : Option (List ℕ)) (status : ℕ) (before after err_before err_after : Option (List ℕ)) : Type 0 where
+-- all of a text went out, or a write of it failed after a beginning
+abbrev pub IsTold : Option (List ℕ) → Option (List ℕ) → Type 0 → List ℕ → Type 0
+IsTold before after failed text = Appends before after text ⊎ (failed × AppendsBeginning before after text)
+
+-- The answer to the two texts that were left was written, and the remarks, if standard error takes them.
+pub record IsProbed (exact : Bool) (dump_left sizes_left : Option (List ℕ)) (status : ℕ) (before after err_before err_after : Option (List ℕ)) (err_failed : Type 0) : Type 0 where
   pub dump : List Block
   pub sizes : List SizesBlock
   pub dump_text : IsDumpOf dump_left dump
   pub sizes_text : AreSizesOf sizes_left sizes
   pub named : status ≡ (probe_answer exact dump sizes).status
   pub written : Appends before after (probe_answer exact dump sizes).text
-  pub remarked : AppendsBeginning err_before err_after (probe_answer exact dump sizes).remarks
+  pub remarked : IsTold err_before err_after err_failed (probe_answer exact dump sizes).remarks
 
 -- a beginning of it was written
 pub record IsProbeBegun (exact : Bool) (dump_left sizes_left : Option (List ℕ)) (before after : Option (List ℕ)) : Type 0 where

@@ -13,14 +13,14 @@ use Rattle.pciplan_cli.specs.declared.line.Task.TheVariants.{Show, Check, Size, 
 use Rattle.pciplan_cli.specs.declared.trouble.Trouble.{Trouble}
 
 -- the task's answer to the two texts that were left was written, with the remarks on a probe
-abbrev pub IsAnswered : Task → Option (List ℕ) → Option (List ℕ) → ℕ → Option (List ℕ) → Option (List ℕ) → Option (List ℕ) → Option (List ℕ) → Type 0
-IsAnswered Show dump_left probe_left status before after err_before err_after = IsShown dump_left probe_left status before after
-IsAnswered (Check roots) dump_left probe_left status before after err_before err_after = IsChecked (buses_of roots) dump_left probe_left status before after
-IsAnswered Size dump_left probe_left status before after err_before err_after = IsSized dump_left probe_left status before after
-IsAnswered (Plan pools writes roots) dump_left probe_left status before after err_before err_after =
+abbrev pub IsAnswered : Task → Option (List ℕ) → Option (List ℕ) → ℕ → Option (List ℕ) → Option (List ℕ) → Option (List ℕ) → Option (List ℕ) → Type 0 → Type 0
+IsAnswered Show dump_left probe_left status before after err_before err_after err_failed = IsShown dump_left probe_left status before after
+IsAnswered (Check roots) dump_left probe_left status before after err_before err_after err_failed = IsChecked (buses_of roots) dump_left probe_left status before after
+IsAnswered Size dump_left probe_left status before after err_before err_after err_failed = IsSized dump_left probe_left status before after
+IsAnswered (Plan pools writes roots) dump_left probe_left status before after err_before err_after err_failed =
     IsPlanned record { pools = pools_value pools; writes = writes; roots = buses_of roots } dump_left probe_left status before after
-IsAnswered (Probe exact) dump_left sizes_left status before after err_before err_after =
-    IsProbed exact dump_left sizes_left status before after err_before err_after
+IsAnswered (Probe exact) dump_left sizes_left status before after err_before err_after err_failed =
+    IsProbed exact dump_left sizes_left status before after err_before err_after err_failed
 
 -- standard error is the same, but for the remarks on a probe
 abbrev pub IsSilent : Task → Type 0 → Type 0
@@ -57,10 +57,10 @@ IsTroubleOf (Probe exact) dump_left sizes_left trouble = IsSizesTrouble dump_lef
 
 -- a line was carried out on the two texts at its paths, and its answer was written
 pub record IsLineDone (line : Line) (dump_stands probe_stands : List ℕ → Type 0) (dump_at probe_at : List ℕ → Option (List ℕ))
-    (status : ℕ) (before after err_before err_after : Option (List ℕ)) (same : Type 0) : Type 0 where
+    (status : ℕ) (before after err_before err_after : Option (List ℕ)) (err_failed same : Type 0) : Type 0 where
   pub dump : dump_stands (string_bytes line.dump)
   pub probe : probe_stands (string_bytes line.probe)
-  pub answer : IsAnswered line.task (dump_at (string_bytes line.dump)) (probe_at (string_bytes line.probe)) status before after err_before err_after
+  pub answer : IsAnswered line.task (dump_at (string_bytes line.dump)) (probe_at (string_bytes line.probe)) status before after err_before err_after err_failed
   pub silent : IsSilent line.task same
 
 -- a beginning of that answer was written

@@ -6,7 +6,7 @@ ghost use Rattle.std.specs.Io.KnownBytes.{Appends};
 ghost use Rattle.pci_dump.specs.Begun.{AppendsBeginning};
 ghost use Rattle.pci_probe.specs.ProbeFault.{fault_value};
 ghost use Rattle.pciplan_cli.specs.Answers.{HasFailed, IsDumpOf};
-ghost use Rattle.pciplan_cli.specs.ProbeAnswers.{AreSizesOf, IsProbed, IsProbeBegun, IsSizesTrouble, derived_answer, probe_answer, probe_fault_line, remark};
+ghost use Rattle.pciplan_cli.specs.ProbeAnswers.{AreSizesOf, IsProbed, IsProbeBegun, IsSizesTrouble, IsTold, derived_answer, probe_answer, probe_fault_line, remark};
 ghost use Rattle.pciplan_cli.specs.Statuses.{status_of};
 
 use crate::trouble::Trouble;
@@ -121,7 +121,7 @@ fn send<A: Allocator, O: Sink, E: Sink>(
     derived: &Derived<A>,
 ) -> Result<u8, Trouble>
     ensures sent { IfOk result (λ status. (status ≡ (derived_answer derived.now).status) × Appends (O.taken out.old) (O.taken out.new) (derived_answer derived.now).text) }
-    ensures remarked { OnOk result (AppendsBeginning (E.taken err.old) (E.taken err.new) (derived_answer derived.now).remarks) }
+    ensures remarked { OnOk result (IsTold (E.taken err.old) (E.taken err.new) (E.failures err.new ≡ E.failures err.old + 1) (derived_answer derived.now).remarks) }
     ensures begun { IfErr result (λ trouble. (trouble ≡ Trouble.Io) × AppendsBeginning (O.taken out.old) (O.taken out.new) (derived_answer derived.now).text) }
     ensures failed { IfErr result (λ _. O.failures out.new ≡ O.failures out.old + 1) }
 {
@@ -149,7 +149,8 @@ pub fn run_probe<A: Allocator + Copy, D: Source, S: Source, O: Sink, E: Sink>(
     out: &mut O,
     err: &mut E,
 ) -> Result<u8, Trouble>
-    ensures probed { IfOk result (λ status. IsProbed exact (D.left dump.old) (S.left sizes.old) status (O.taken out.old) (O.taken out.new) (E.taken err.old) (E.taken err.new)) }
+    ensures probed { IfOk result (λ status. IsProbed exact (D.left dump.old) (S.left sizes.old) status (O.taken out.old) (O.taken out.new)
+        (E.taken err.old) (E.taken err.new) (E.failures err.new ≡ E.failures err.old + 1)) }
     ensures trouble { IfErr result (λ trouble. trouble ≢ Trouble.Io → IsSizesTrouble (D.left dump.old) (S.left sizes.old) trouble) }
     ensures quiet { IfErr result (λ trouble. trouble ≢ Trouble.Io → out.new ≡ out.old) }
     ensures begun { IfErr result (λ trouble. trouble ≡ Trouble.Io

@@ -99,7 +99,7 @@ pub fn carry_out<A: Allocator + Copy, D: Opening, P: Opening, O: Sink, E: Sink>(
 ) -> u8
     ensures done { result < 2 → IsLineDone line.now (D.stands dump.old) (P.stands probe.old)
         (D.bytes_at dump.old) (P.bytes_at probe.old) result (O.taken out.old) (O.taken out.new)
-        (E.taken err.old) (E.taken err.new) (err.new ≡ err.old) }
+        (E.taken err.old) (E.taken err.new) (E.failures err.new ≡ E.failures err.old + 1) (err.new ≡ err.old) }
     ensures quiet { (result ≡ 2) ⊎ (result ≡ 3) → out.new ≡ out.old }
     ensures begun { result ≡ 4 → (out.new ≡ out.old)
         ⊎ IsLineBegun line.now (D.bytes_at dump.old) (P.bytes_at probe.old) (O.taken out.old) (O.taken out.new) }
@@ -134,7 +134,7 @@ pub fn program<D: Opening, P: Opening, O: Sink, E: Sink>(
     ensures unread { IfErr words (λ error. error_kind error ≢ ErrorKind.OutOfMemory → result ≡ 2) }
     ensures done { result < 2 → MatchResult words (λ words. (line : Line) × IsLineOf (map string_bytes words.items) line
         × IsLineDone line (D.stands dump.old) (P.stands probe.old) (D.bytes_at dump.old) (P.bytes_at probe.old) result
-        (O.taken out.old) (O.taken out.new) (E.taken err.old) (E.taken err.new) (err.new ≡ err.old)) (λ _. ⊥) }
+        (O.taken out.old) (O.taken out.new) (E.taken err.old) (E.taken err.new) (E.failures err.new ≡ E.failures err.old + 1) (err.new ≡ err.old)) (λ _. ⊥) }
     ensures quiet { (result ≡ 2) ⊎ (result ≡ 3) → out.new ≡ out.old }
     ensures begun { result ≡ 4 → (out.new ≡ out.old) ⊎ MatchResult words (λ words. (line : Line) × IsLineOf (map string_bytes words.items) line
         × IsLineBegun line (D.bytes_at dump.old) (P.bytes_at probe.old) (O.taken out.old) (O.taken out.new)) (λ _. ⊥) }

@@ -307,7 +307,8 @@ pub fn run<A: Allocator + Copy, D: Source, P: Source, O: Sink, E: Sink>(
     ensures planned { (pools : Pools) (writes : Bool) (roots : Roots) → line.now.task ≡ Task.Plan pools writes roots → result < 2
         → IsPlanned record { pools = pools_value pools; writes = writes; roots = buses_of roots } (D.left dump.old) (P.left probe.old) result (O.taken out.old) (O.taken out.new) }
     ensures probed { (exact : Bool) → line.now.task ≡ Task.Probe exact → result < 2
-        → IsProbed exact (D.left dump.old) (P.left probe.old) result (O.taken out.old) (O.taken out.new) (E.taken err.old) (E.taken err.new) }
+        → IsProbed exact (D.left dump.old) (P.left probe.old) result (O.taken out.old) (O.taken out.new)
+        (E.taken err.old) (E.taken err.new) (E.failures err.new ≡ E.failures err.old + 1) }
     ensures silent { ((exact : Bool) → line.now.task ≢ Task.Probe exact) → result < 2 → err.new ≡ err.old }
     ensures quiet { (result ≡ 2) ⊎ (result ≡ 3) → out.new ≡ out.old }
     ensures begun { line.now.task ≡ Task.Show → result ≡ 4
