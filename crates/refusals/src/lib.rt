@@ -16,6 +16,8 @@ mod opening;
 #[cfg(test)]
 mod refused_plans;
 #[cfg(test)]
+mod refused_probes;
+#[cfg(test)]
 mod refused_readings;
 #[cfg(test)]
 mod refused_tasks;
