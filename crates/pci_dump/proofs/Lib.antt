@@ -14,4 +14,5 @@ pub mod Pairs
 pub mod PairOrder
 pub mod Digits
 pub mod SixteenLanes
+pub mod TitleRuns
 pub mod Registers

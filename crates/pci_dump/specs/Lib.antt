@@ -3,6 +3,7 @@ pub mod PairFault
 pub mod Value
 pub mod Row
 pub mod Lane
+pub mod TitleRun
 pub mod Stop
 pub mod FaultAt
 pub mod State

@@ -68,6 +68,15 @@ impl Title {
         Title { bytes }
     }
 
+    /// These bytes, which are a title, in the place of its own.
+    pub(crate) fn set(&mut self, bytes: &[u8])
+        requires { IsTitle bytes.now }
+        ensures { self.new ≡ bytes.now }
+    {
+        self.bytes.clear();
+        self.bytes.try_extend_from_slice(bytes).unwrap();
+    }
+
     /// An equal title.
     fn copy(&self) -> Title
         ensures { result ≡ self.now }

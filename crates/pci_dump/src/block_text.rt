@@ -90,13 +90,21 @@ fn row_line(values: &[u8], row: u8) -> [u8; 52]
 {
     let mut line = ROW_OF_ZEROS;
     line[0] = digit_of(row);
-    if are_zero(values) {
-        return line;
-    }
     for i in 0..16 {
         set_digits(&mut line, 3 * i + 4, values[i]);
     }
     line
+}
+
+/// The line of a row whose bytes are all 0.
+fn put_zeros(text: &mut Text, row: u8)
+    requires room { array_vec_len text.old + 52 ≤ 1042 }
+    requires row { row < 16 }
+    ensures text { text.new.items ≡ text.old.items ++ row_text row (replicate 16 0) }
+    ensures len { array_vec_len text.new ≡ array_vec_len text.old + 52 }
+{
+    text.push(digit_of(row));
+    put_bytes(text, &ROW_OF_ZEROS[1..]);
 }
 
 /// The line of a row of an image.
@@ -107,8 +115,12 @@ fn put_row(text: &mut Text, image: &[u8; 256], row: u8)
     ensures len { array_vec_len text.new ≡ array_vec_len text.old + 52 }
 {
     let at = usize::from(row) * 16;
-    let line = row_line(&image[at..at + 16], row);
-    put_bytes(text, &line);
+    let values = &image[at..at + 16];
+    if are_zero(values) {
+        put_zeros(text, row);
+    } else {
+        put_bytes(text, &row_line(values, row));
+    }
 }
 
 /// The eighteen lines of a block.

@@ -1,7 +1,8 @@
-//! Sixteen hex digits at once.
-ghost use Rattle.std.specs.Prelude.{◌≡◌, ◌<◌, ◌/◌, ◌%◌, ℕ, length, false, IsTrue, slice_index};
+//! Sixteen bytes at once.
+ghost use Rattle.std.specs.Prelude.{◌≡◌, ◌+◌, ◌<◌, ◌≤◌, ◌/◌, ◌%◌, ℕ, length, false, IsTrue, slice_index};
 ghost use Rattle.pci_spec.specs.Text.{hex_digit};
 ghost use Rattle.pci_dump.specs.Lane.{AreDigits, AreSpaces};
+ghost use Rattle.pci_dump.specs.TitleRun.{IsTitleRun, first_of_16};
 
 use std::simd::prelude::*;
 
@@ -44,4 +45,26 @@ pub(crate) fn bytes_of(high: u8x16, low: u8x16) -> u8x16
     ensures each { (k v : ℕ) → k < 16 → v < 256 → slice_index high k ≡ v / 16 → slice_index low k ≡ v % 16 → slice_index result k ≡ v }
 {
     (high << u8x16::splat(4)) | low
+}
+
+/// The place of the lowest of sixteen bits that is set, 16 where none is.
+fn first_of_16(bits: u64) -> usize
+    ensures { result ≡ first_of_16 bits }
+{
+    if bits == 0 {
+        16
+    } else {
+        bits.trailing_zeros() as usize
+    }
+}
+
+/// How many of the sixteen bytes from a place on may stand in a title, before the first that may not.
+#[inline(always)]
+pub(crate) fn title_run(bytes: &[u8], at: usize) -> usize
+    requires { at + 16 ≤ length bytes.now }
+    ensures { IsTitleRun bytes.now at result }
+{
+    let sixteen = u8x16::from_slice(&bytes[at..]);
+    let others = sixteen.simd_lt(u8x16::splat(0x20)) | sixteen.simd_eq(u8x16::splat(0x7f));
+    first_of_16(others.to_bitmask())
 }

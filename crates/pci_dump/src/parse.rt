@@ -1,12 +1,11 @@
 //! A block at the front of some bytes.
-ghost use Rattle.std.specs.Prelude.{◌≡◌, ◌<◌, ◌≤◌, ◌+◌, ◌++◌, length, take, drop, ◌≢◌, [], slice_index, IfOk, IfErr, IsTrue, ◌↔◌};
-ghost use Rattle.std.specs.List.{All};
-ghost use Rattle.pci_spec.specs.Text.{is_title_byte, IsTitle, block_text};
-ghost use Rattle.pci_spec.specs.Form.{slot_cells};
+ghost use Rattle.std.specs.Prelude.{◌≡◌, ◌<◌, ◌≤◌, length, ◌≢◌, [], IfOk, IfErr, IsTrue, ◌↔◌};
 ghost use Rattle.pci_spec.specs.Stops.{IsAboveLast};
 ghost use Rattle.pci_dump.specs.Stop.{BlockStops, TitleStops, SlotStops, IsBlockAt, IsHead, head_long, title_at};
+ghost use Rattle.pci_dump.specs.TitleRun.{IsTitleFront};
 
 use super::block::{Block, Title, is_title};
+use super::lanes::title_run;
 use super::rows::image_into;
 use super::slot_text::slot_of;
 use pci_image::slot::Slot;
@@ -32,12 +31,25 @@ pub(crate) enum Stop {
     EndedFirst,
 }
 
-/// How many bytes of a title stand in front, at most 200.
+/// How many bytes of a title stand in front, at most 200. Sixteen at a time, where there are enough of them.
 fn title_len(bytes: &[u8]) -> usize
-    ensures bound { result ≤ length bytes.now }
-    ensures few { result ≤ 200 }
-    ensures each { All (λ c. IsTrue (is_title_byte c)) (take result bytes.now) }
-    ensures last { result < length bytes.now → IsTrue (is_title_byte (slice_index bytes.now result)) → result ≡ 200 }
+    ensures { IsTitleFront bytes.now result }
+{
+    if bytes.len() < 208 {
+        return last_title_len(bytes);
+    }
+    for part in 0..13 {
+        let run = title_run(bytes, 16 * part);
+        if run < 16 {
+            return usize::min(16 * part + run, 200);
+        }
+    }
+    200
+}
+
+/// The same near the input's end.
+fn last_title_len(bytes: &[u8]) -> usize
+    ensures { IsTitleFront bytes.now result }
 {
     for i in 0..200 {
         if i == bytes.len() || !is_title(bytes[i]) {
@@ -122,7 +134,7 @@ pub(crate) fn block_into(bytes: &[u8], last: Option<Slot>, block: &mut Block) ->
         Ok(()) => {}
     }
     block.slot = slot;
-    block.title = title_at(after, title_len);
+    title_into(after, title_len, &mut block.title);
     Ok(SLOT_LEN + head + LINES_LEN)
 }
 
@@ -134,15 +146,19 @@ fn head_len(title_len: usize) -> usize
     if title_len == 0 { 1 } else { title_len + 2 }
 }
 
-/// The title of so many bytes after a slot and a space, none for 0.
-fn title_at(after: &[u8], title_len: usize) -> Option<Title>
+/// The title of so many bytes after a slot and a space goes into `place`, none for 0.
+fn title_into(after: &[u8], title_len: usize, place: &mut Option<Title>)
     requires { IsHead after.now title_len }
-    ensures { result ≡ title_at after.now title_len }
+    ensures { place.new ≡ title_at after.now title_len }
 {
     if title_len == 0 {
-        return None;
+        *place = None;
+        return;
     }
     let (_space, rest) = after.split_at(1);
-    let (title, _end) = rest.split_at(title_len);
-    Some(Title::of_title(title))
+    let (bytes, _end) = rest.split_at(title_len);
+    match place {
+        Some(title) => title.set(bytes),
+        None => *place = Some(Title::of_title(bytes)),
+    }
 }

@@ -29,6 +29,6 @@ returns-clause-ok c =
     let rest_is = c.split_at-2.ensures.back ∙ ap (λ (n : ℕ). drop n c.split_at.result.1.now) c.head_len-head.ensures in
     let image = c.in-Ok-image_into.ensures.image in
     found_in _ _ _ c.split_at.result.1.now c.in-Some.slot c.in-Ok.title_len _ c.image_into.new.image _ c.split_at.ensures.by_index.0 c.split_at.ensures.front_len c.split_at.ensures.back
-    c.in-Some.ensures.some (c.may_follow.ensures.0 c.if-not-may_follow.false) c.in-Ok.ensures.ok c.title_at-block-inside.ensures image.0 image.1
+    c.in-Some.ensures.some (c.may_follow.ensures.0 c.if-not-may_follow.false) c.in-Ok.ensures.ok c.title_into.ensures image.0 image.1
     (subst (λ (t : List ℕ). t ≡ (rows_text 0 16 c.image_into.new.image ++ 10 ∷ []) ++ drop 833 t) rest_is c.in-Ok-image_into.ensures.ok)
     (ap (λ (n : ℕ). 7 + n + 833) c.head_len-head.ensures)
