@@ -1,5 +1,4 @@
 //! A port that counts accesses.
-ghost use Rattle.std.specs.Prelude.{◌≡◌};
 
 use pci_image::slot::Slot;
 use pci_machine::port::{ConfigPort, PortError};

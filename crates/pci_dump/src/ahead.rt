@@ -1,8 +1,5 @@
 //! A text read ahead of its blocks, apart from its source.
-ghost use Rattle.std.specs.Prelude.{◌≡◌, ◌≢◌, ◌⊎◌, ◌<◌, ◌≤◌, ◌+◌, ◌-◌, ◌++◌, ℕ, List, [], true, false, length, drop, slice_range, Some, None, Ok, Err, IfOk, IfErr, OnOk, OnErr, MatchOption, MatchResult, IsTrue};
-ghost use Rattle.std.specs.Io.KnownBytes.{Keeps, IsAtEnd, prepend_known};
-ghost use Rattle.pci_spec.specs.Text.{Block as BlockValue, IsBlock, block_text};
-ghost use Rattle.pci_spec.specs.Stops.{IsAboveLast};
+ghost use Rattle.std.specs.Prelude.{◌≡◌, ◌≢◌, ◌<◌, ◌≤◌, ◌+◌, ◌-◌, [], true, false, length, drop, slice_range, Some, None, Ok, Err, IfOk, IfErr, OnOk, OnErr, MatchOption, MatchResult, IsTrue};
 ghost use Rattle.pci_dump.specs.FaultAt.{fault_at};
 
 use super::block::Block;
@@ -69,7 +66,7 @@ impl ReadAhead {
     ghost use Rattle.pci_dump.specs.declared.read_fault.ReadFault.{ReadFault};
     ghost use Rattle.pci_dump.specs.State.{Ahead, IsOver, state_of, TakesNone, TakesBlock, TakesBlockOrNone, TakesFault};
     ghost use Rattle.pci_dump.specs.Front.{HoldsBlockOrNone, HoldsFault};
-    ghost use Rattle.pci_dump.specs.Fill.{HoldsMore, Moves, HoldsEnough, IsSameText};
+    ghost use Rattle.pci_dump.specs.Fill.{HoldsMore, Moves, HoldsEnough};
 
     /// Nothing is held, and no block was read.
     pub fn new() -> ReadAhead

@@ -1,6 +1,5 @@
 //! One function of a dump: its slot, its title and its image.
-ghost use Rattle.std.specs.Prelude.{◌≡◌, ◌≤◌, ◌<◌, ◌↔◌, length, replicate, ℕ, List, None, IsSome, IfSome, IsTrue};
-ghost use Rattle.std.specs.List.{All};
+ghost use Rattle.std.specs.Prelude.{◌≡◌, ◌<◌, ◌↔◌, replicate, ℕ, List, None, IsSome, IfSome, IsTrue};
 ghost use Rattle.pci_spec.specs.Text.{Block as BlockValue, IsBlock, IsTitle, is_title_byte};
 ghost use Rattle.pci_spec.specs.Stops.{IsAboveLast};
 ghost use Rattle.pci_spec.specs.Number.{IsImage};

@@ -1,5 +1,5 @@
 //! Hex digits in lower case.
-ghost use Rattle.std.specs.Prelude.{◌≡◌, ◌⊎◌, ◌≤◌, ◌<◌, ◌/◌, ◌%◌, ℕ, IfSome, IfNone, Some};
+ghost use Rattle.std.specs.Prelude.{◌≡◌, ◌⊎◌, ◌≤◌, ◌<◌, ◌/◌, ℕ, IfSome, Some};
 ghost use Rattle.pci_spec.specs.Text.{hex_digit};
 
 /// No digit, and too large to be a part of a byte.

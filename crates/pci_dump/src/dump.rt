@@ -1,5 +1,5 @@
 //! A dump: blocks that rise by slot.
-ghost use Rattle.std.specs.Prelude.{◌≡◌, ◌≤◌, ◌<◌, ◌↔◌, ◌++◌, [], ◌∷◌, length, OnOk, OnErr, IsErrOf, IsTrue};
+ghost use Rattle.std.specs.Prelude.{◌≡◌, ◌<◌, ◌↔◌, ◌++◌, [], ◌∷◌, length, OnOk, OnErr, IsErrOf};
 ghost use Rattle.pci_spec.specs.Text.{Block as BlockValue, IsBlock, IsDump};
 ghost use Rattle.pci_spec.specs.Stops.{IsAboveLast, last_slot};
 

@@ -1,6 +1,5 @@
 //! Reads a text block by block, or whole.
-ghost use Rattle.std.specs.Prelude.{◌≡◌, ◌+◌, ◌++◌, ◌≢◌, ℕ, List, Option, Some, None, Ok, Err, false, IfOk, IfErr, OnOk, OnErr, IsErrOf, MatchOption};
-ghost use Rattle.std.specs.Io.KnownBytes.{IsAtEnd};
+ghost use Rattle.std.specs.Prelude.{◌≡◌, ◌+◌, ◌≢◌, ℕ, List, Option, Some, None, Ok, Err, false, IfOk, IfErr, OnOk, MatchOption};
 ghost use Rattle.pci_spec.specs.Text.{Block as BlockValue, IsTextOf};
 ghost use Rattle.pci_dump.specs.ReadFault.{IsTextFault};
 

@@ -1,9 +1,8 @@
 //! Lines of sixteen bytes.
-ghost use Rattle.std.specs.Prelude.{◌≡◌, ◌≤◌, ◌<◌, ◌+◌, ◌*◌, ◌++◌, take, replicate, true, false, ℕ, List, length, IfSome, IfNone, IsTrue, slice_index, slice_range};
+ghost use Rattle.std.specs.Prelude.{◌≡◌, ◌<◌, ◌+◌, ◌*◌, replicate, true, false, ℕ, List, length, IsTrue};
 ghost use Rattle.std.specs.Int.{from_le_bytes, w64};
-ghost use Rattle.pci_spec.specs.Text.{hex_digit};
-ghost use Rattle.pci_spec.specs.Form.{Fits, value_cells, row_cells, row_text};
-ghost use Rattle.pci_dump.specs.Value.{IsValueAt, AreValues, AreSmall};
+ghost use Rattle.pci_spec.specs.Form.{Fits, row_cells, row_text};
+ghost use Rattle.pci_dump.specs.Value.{AreValues, AreSmall};
 
 use super::digit::digit_of;
 use super::lanes::{are_digits, are_spaces, bytes_of, numbers_of};

@@ -1,6 +1,6 @@
 //! The lines after a slot line.
-ghost use Rattle.std.specs.Prelude.{◌≡◌, ◌<◌, ◌++◌, ◌∷◌, [], ℕ, List, length, drop, false, IsTrue, OnOk, IfErr};
-ghost use Rattle.pci_spec.specs.Form.{Breaks, Fits, Leaves, row_cells, rest_cells, rows_text};
+ghost use Rattle.std.specs.Prelude.{◌≡◌, ◌<◌, ◌++◌, ◌∷◌, [], length, drop, false, IsTrue, OnOk, IfErr};
+ghost use Rattle.pci_spec.specs.Form.{Fits, row_cells, rows_text};
 ghost use Rattle.pci_dump.specs.Value.{AreSmall};
 ghost use Rattle.pci_dump.specs.Row.{IsRowRead};
 ghost use Rattle.pci_dump.specs.Stop.{RowStops, RestStops};

@@ -1,9 +1,8 @@
 //! The text of a slot.
-ghost use Rattle.std.specs.Prelude.{◌≡◌, ◌<◌, ◌≤◌, ◌↔◌, ◌/◌, ◌%◌, IsTrue, IfSome, IfNone, length};
-ghost use Rattle.pci_spec.specs.Slot.{Slot as SlotValue, IsSlot, slot_number};
-ghost use Rattle.pci_spec.specs.Text.{slot_text, hex_digit};
+ghost use Rattle.std.specs.Prelude.{◌≡◌, ◌<◌, ◌/◌, IfSome, IfNone, length};
+ghost use Rattle.pci_spec.specs.Slot.{IsSlot};
+ghost use Rattle.pci_spec.specs.Text.{slot_text};
 ghost use Rattle.pci_spec.specs.Form.{Fits, slot_cells};
-ghost use Rattle.pci_spec.specs.Stops.{IsAboveLast};
 
 use super::digit::digit_value;
 use pci_image::slot::Slot;

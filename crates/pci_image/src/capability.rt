@@ -1,6 +1,6 @@
 //! The capabilities list (PCI 3.0, 6.7).
-ghost use Rattle.std.specs.Prelude.{◌≡◌, ◌<◌, ◌≤◌, ◌+◌, ◌%◌, ◌/◌, ◌*◌, ◌↔◌, [], length, slice_range, MatchOption, IsOk, IfOk, OnOk, IfErr, IsTrue, map, All};
-ghost use Rattle.pci_spec.specs.Capability.{body_length, message_control, msi_length, pointer, pointer_at, HasChain, IsChain};
+ghost use Rattle.std.specs.Prelude.{◌≡◌, ◌<◌, ◌≤◌, ◌+◌, ◌%◌, ◌/◌, ◌*◌, ◌↔◌, [], length, IsOk, IfOk, OnOk, IfErr, IsTrue, map, All};
+ghost use Rattle.pci_spec.specs.Capability.{body_length, msi_length, pointer, pointer_at, HasChain, IsChain};
 ghost use Rattle.pci_image.specs.Caps.{place_of, body_of, IsCapIn, IsChainFaultIn, IsFirstAlong};
 
 use super::fault::ImageFault;

@@ -3,7 +3,7 @@
 //!
 //! Ones in an address register would let the function decode addresses that belong to others. So
 //! its decode bits are cleared first, and put back at the end.
-ghost use Rattle.std.specs.Prelude.{◌≡◌, ◌≢◌, ◌↔◌, ◌+◌, ◌%◌, ℕ, List, true, None, IsTrue, IsFalse, IsOk, IfOk, IfErr, OnOk, OnErr, IfSome, MatchOption, if◌then◌else◌};
+ghost use Rattle.std.specs.Prelude.{◌≡◌, ◌≢◌, ◌+◌, ◌%◌, ℕ, List, true, None, IsTrue, IsFalse, IsOk, IfOk, IfErr, OnOk, OnErr, IfSome, MatchOption, if◌then◌else◌};
 ghost use Rattle.pci_spec.specs.Header.{command, layout};
 ghost use Rattle.pci_spec.specs.Machine.{sized};
 ghost use Rattle.pci_spec.specs.Fault.{has_no_vendor, has_other_layout};

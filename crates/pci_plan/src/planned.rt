@@ -8,7 +8,7 @@ ghost use Rattle.pci_spec.specs.System.{system_of};
 ghost use Rattle.pci_spec.specs.Plan.{Class as ClassValue};
 ghost use Rattle.pci_spec.specs.PlanPromise.{CanBePlanned};
 ghost use Rattle.pci_spec.specs.Planning.Numbers.{IsPlannedFunction};
-ghost use Rattle.pci_plan.specs.Pools.{class_value, pools_value};
+ghost use Rattle.pci_plan.specs.Pools.{pools_value};
 ghost use Rattle.pci_plan.specs.Above.{system_in};
 ghost use Rattle.pci_plan.specs.Needs.{AreAllNeeds};
 ghost use Rattle.pci_plan.specs.Places.{HasPlaces};

@@ -1,7 +1,7 @@
 //! Whether what is of a class fits its pool.
-ghost use Rattle.std.specs.Prelude.{◌≡◌, ◌<◌, ◌≤◌, ◌^◌, ℕ, map, slice_index};
+ghost use Rattle.std.specs.Prelude.{◌≡◌, ◌<◌, ◌≤◌, ◌^◌, map, slice_index};
 ghost use Rattle.std.specs.List.{All, sum};
-ghost use Rattle.pci_spec.specs.Plan.{fits, raised_to, pool_of, greatest_of_roots};
+ghost use Rattle.pci_spec.specs.Plan.{fits, raised_to};
 ghost use Rattle.pci_tree.specs.Roots.{buses_of};
 ghost use Rattle.pci_plan.specs.Pools.{class_value, pools_value};
 ghost use Rattle.pci_plan.specs.Above.{system_in};

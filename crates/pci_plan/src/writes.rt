@@ -1,6 +1,5 @@
 //! The writes that lead from one dump to another, in an order in which they may stop anywhere.
 ghost use Rattle.std.specs.Prelude.{◌≡◌, ◌++◌, ◌*◌, map, length, count_by, OnOk, IfOk};
-ghost use Rattle.std.specs.List.{flat_map};
 ghost use Rattle.pci_spec.specs.Header.{command};
 ghost use Rattle.pci_spec.specs.Machine.{without_low};
 ghost use Rattle.pci_spec.specs.Planning.PlanWrites.{plan_writes, closing_writes, registers_of, opening_of};

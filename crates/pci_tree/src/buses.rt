@@ -1,13 +1,12 @@
 //! Whether functions stand in their places: function 0 is beside each other function of a device, a bridge leads to
 //! each bus that is no root, and the bus numbers of bridges fit (Bridge 1.2, 3.2.5).
-ghost use Rattle.std.specs.Prelude.{◌≡◌, ◌↔◌, ◌<◌, ℕ, IsTrue, MatchOption, map};
+ghost use Rattle.std.specs.Prelude.{◌≡◌, ◌↔◌, ◌<◌, IsTrue, MatchOption};
 ghost use Rattle.std.specs.Option.{is_some};
 ghost use Rattle.std.specs.List.{All};
 ghost use Rattle.pci_spec.specs.Slot.{IsSlot};
 ghost use Rattle.pci_tree.specs.Roots.{buses_of};
-ghost use Rattle.pci_tree.specs.Ways.{slots_of};
 ghost use Rattle.pci_tree.specs.Outline.{RiseBySlot};
-ghost use Rattle.pci_tree.specs.BusNumbers.{HasBusOrder, AreApart, AreSideBySide, IsApartFrom, IsApartFromLower, IsApartFromEarlier, IsInsideParents, HasNoRootBehind, HasLawfulBuses, IsLedTo, IsNotLone, IsInPlace, AreLeastEnds, least_of, EndsWithin};
+ghost use Rattle.pci_tree.specs.BusNumbers.{HasBusOrder, AreApart, AreSideBySide, IsApartFrom, IsApartFromLower, IsApartFromEarlier, HasNoRootBehind, HasLawfulBuses, IsNotLone, IsInPlace, AreLeastEnds, least_of, EndsWithin};
 ghost use Rattle.pci_tree.specs.PlaceFaults.{IsPlaceFault, IsSomePlaceFault};
 
 use super::bus::{lists, on_bus};

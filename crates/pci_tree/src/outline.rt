@@ -1,5 +1,5 @@
 //! The outline of a system: its records in slot order, its root buses, and who is where and how one gets there.
-ghost use Rattle.std.specs.Prelude.{◌≡◌, ◌<◌, ℕ, map, length, IfOk, OnOk, IsTrue, ◌↔◌, MatchOption, MatchResult, slice_index_or, List};
+ghost use Rattle.std.specs.Prelude.{◌≡◌, ◌<◌, ℕ, map, length, IfOk, OnOk, MatchOption, MatchResult, slice_index_or, List};
 ghost use Rattle.std.specs.List.{All, AllPairs, Contains, filter, flat_map};
 ghost use Rattle.std.specs.List.Sorted.{IsPermutation};
 ghost use Rattle.pci_spec.specs.System.{System, is_bridge};

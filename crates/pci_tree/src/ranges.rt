@@ -1,5 +1,5 @@
 //! Inclusive ranges of addresses, and lists of them that rise with a gap between two.
-ghost use Rattle.std.specs.Prelude.{◌≡◌, ◌<◌, ◌≤◌, ◌↔◌, ℕ, length, IsTrue, MatchOption};
+ghost use Rattle.std.specs.Prelude.{◌<◌, ◌≤◌, ◌↔◌, ℕ, length, IsTrue, MatchOption};
 ghost use Rattle.std.specs.List.{AllWithin};
 ghost use Rattle.pci_tree.specs.Ranges.{Holds, Covers, IsCanonical, IsLeastOutside, IsLeastFrom};
 

@@ -1,6 +1,6 @@
 //! The addresses that get to each bus, made from the roots downwards: those of a bus are what the bridge above it
 //! passes of those of its own bus.
-ghost use Rattle.std.specs.Prelude.{◌≡◌, ◌<◌, ◌≤◌, ◌∷◌, [], ℕ, List, length, IfOk, IfSome, slice_index_or};
+ghost use Rattle.std.specs.Prelude.{◌≡◌, ◌<◌, ℕ, List, length, IfOk, IfSome, slice_index_or};
 ghost use Rattle.std.specs.List.{All};
 ghost use Rattle.pci_image.specs.declared.range.Range.{Range};
 ghost use Rattle.pci_tree.specs.Space.{space_of};

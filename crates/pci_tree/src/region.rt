@@ -3,7 +3,6 @@ ghost use Rattle.std.specs.Prelude.{◌≡◌, ◌++◌, OnOk};
 ghost use Rattle.std.specs.Option.{option_map};
 ghost use Rattle.pci_image.specs.Ranges.{decoded_range_of};
 ghost use Rattle.pci_tree.specs.Space.{space_of};
-ghost use Rattle.pci_tree.specs.Passes.{range_in};
 ghost use Rattle.pci_tree.specs.Regions.{space_in, same_space, bar_regions, window_regions, bridge_regions, rom_regions, regions_of};
 
 use super::record::{Bridge, Record};

@@ -1,5 +1,5 @@
 //! A survey: functions are taken one by one, each with its image and its probe, and what is decoded of them is kept.
-ghost use Rattle.std.specs.Prelude.{◌≡◌, ◌≢◌, ◌<◌, ℕ, [], ◌∷◌, ◌++◌, None, Some, OnOk, OnErr, IfSome, MatchResult};
+ghost use Rattle.std.specs.Prelude.{◌≡◌, ◌≢◌, ◌<◌, [], ◌∷◌, ◌++◌, None, Some, OnOk, OnErr, IfSome, MatchResult};
 ghost use Rattle.std.specs.Option.{option_map};
 ghost use Rattle.pci_spec.specs.Stops.{IsAboveLast};
 ghost use Rattle.pci_spec.specs.System.{System};

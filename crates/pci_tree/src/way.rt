@@ -1,5 +1,5 @@
 //! The bridges that lead to a bus, found from a table of the 256 buses.
-ghost use Rattle.std.specs.Prelude.{◌≡◌, ◌<◌, ℕ, MatchOption};
+ghost use Rattle.std.specs.Prelude.{◌<◌, MatchOption};
 ghost use Rattle.pci_tree.specs.Roots.{buses_of};
 ghost use Rattle.pci_tree.specs.Ways.{IsForest, IsTable, AreClear, AreSlotsOfWay, IsUnled};
 

@@ -1,5 +1,5 @@
 //! Why there is no verdict.
-ghost use Rattle.std.specs.Prelude.{◌≡◌, Some};
+ghost use Rattle.std.specs.Prelude.{Some};
 
 use pci_dump::read_fault::ReadFault;
 use std::fmt;

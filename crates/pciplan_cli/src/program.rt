@@ -4,7 +4,6 @@ ghost use Rattle.std.specs.IoError.{error_kind};
 ghost use Rattle.pci_spec.specs.Text.{Block};
 ghost use Rattle.pciplan_cli.specs.Answers.{HasFailed, IsDumpOf};
 ghost use Rattle.pciplan_cli.specs.CommandLines.{IsLineOf, HasBadWords};
-ghost use Rattle.pciplan_cli.specs.Statuses.{status_of};
 ghost use Rattle.pciplan_cli.specs.Tasks.{IsLineDone, IsLineBegun, IsTaskRefused, IsTroubleOf};
 
 use crate::line::{Line, Task};

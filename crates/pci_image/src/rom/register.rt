@@ -4,7 +4,7 @@ ghost use Rattle.std.specs.Option.{option_map};
 ghost use Rattle.pci_spec.specs.Number.{some_from, lowest_one};
 ghost use Rattle.pci_spec.specs.Rom.{is_rom_size};
 ghost use Rattle.pci_spec.specs.Decoded.{aligned_range, decoded_rom};
-ghost use Rattle.pci_image.specs.Faults.{IsImageFaultIn, image_fault_number};
+ghost use Rattle.pci_image.specs.Faults.{IsImageFaultIn};
 ghost use Rattle.pci_image.specs.Roms.{decoded_rom_of, HasLawfulRom, IsComparedRom, is_lawful_rom, is_rom_fault};
 ghost use Rattle.pci_image.specs.Ranges.{decoded_range_of};
 

@@ -4,7 +4,7 @@
 //! and a bridge always has a memory window.
 ghost use Rattle.std.specs.Prelude.{◌≡◌, ◌≢◌, ◌^◌, ◌%◌, ◌<◌, ◌==◌, IsTrue, IsFalse, MatchOption};
 ghost use Rattle.std.specs.Option.{option_map};
-ghost use Rattle.pci_spec.specs.Window.{bounds_at, is_lawful_window, is_optional, is_zero, lower_pages, page_bits, page_size, upper_bits, window_register};
+ghost use Rattle.pci_spec.specs.Window.{bounds_at, is_optional, is_zero, lower_pages, page_bits, page_size, upper_bits, window_register};
 ghost use Rattle.pci_image.specs.Bounds.{spec_bounds_of, spec_kind_of, page_of, range_between, is_implemented, is_read_back, is_value};
 ghost use Rattle.pci_image.specs.Ranges.{decoded_range_of};
 
