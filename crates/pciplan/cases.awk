@@ -16,14 +16,17 @@
 #   - `OFFSET=VALUE` or `OFFSET=VALUE/READS`: a number, its last byte first, and what it reads back after ones were
 #     written;
 #   - `OFFSET:BYTES`: bytes in their order;
+#   - `lineN=FIRST-LAST/FLAGS`, N from 0 to 6: what Linux tells of BAR register N or, by line 6, of the ROM, in digits
+#     without leading zeros. A line that isn't said is three zeros;
 #   - `| TITLE`, at the end: the title in the dump.
-#   `dump` or `probe` before the slot leaves the function out of the other text, and its title is in that one;
-# - `!` and a command of the shell, which makes more files of the board's two texts, the files dump and probe;
+#   `dump`, `probe` or `sizes` before the slot: the function stands in that text alone, in a probe with its title too;
+# - `!` and a command of the shell, which makes more files of the board's three texts, the files dump, probe and sizes;
 # - `$` and the words that the program is given, as a shell reads them. Several such lines have one answer;
 # - what is printed then, line by line: to standard output, or, after `2>`, to standard error. `=` stands for nothing,
 #   `= FILE` for all that FILE holds, and `>` begins a function of a dump, which is the file planned from then on. The
-#   status is 4 where a message ends with `Io`, 2 where there is another, else 1 where a line begins with `no`, else 0.
-#   More commands and words may follow, about the same board.
+#   status is 4 where a message ends with `Io`, 2 where there is another but remarks, which begin with
+#   `pciplan: assumed`, else 1 where a line begins with `no`, else 0. More commands and words may follow, about the same
+#   board.
 # A line that ends with `\` goes on in the next one.
 
 function fail(why) {
@@ -47,10 +50,24 @@ function block(head, image,    text, at) {
     return text "\n\n"
 }
 
-# Reads a function's line into `slot`, `label`, `image` and `reads`.
+# A number of 64 bits, as Linux prints it.
+function number(digits) {
+    return "0x" substr("0000000000000000" digits, length(digits) + 1)
+}
+
+# A block of a sizes text: slot, seven lines, and an empty line.
+function sizes_block(    text, at) {
+    text = slot "\n"
+    for (at = 0; at < 7; at++)
+        text = text (at in resource ? resource[at] : number("0") " " number("0") " " number("0")) "\n"
+    return text "\n"
+}
+
+# Reads a function's line into `slot`, `label`, `image`, `reads` and `resource`.
 function read_function(line,    items, count, at, parts, offset) {
     split("", image)
     split("", reads)
+    split("", resource)
     label = ""
     if (at = index(line, " | ")) {
         label = " " substr(line, at + 3)
@@ -75,6 +92,9 @@ function read_function(line,    items, count, at, parts, offset) {
             put(image, offset, parts[1], 1)
             if (2 in parts)
                 put(reads, offset, parts[2], 1)
+        } else if (items[at] ~ /^line[0-6]=(0|[1-9a-f][0-9a-f]*)-(0|[1-9a-f][0-9a-f]*)\/(0|[1-9a-f][0-9a-f]*)$/) {
+            split(substr(items[at], 7), parts, "[-/]")
+            resource[substr(items[at], 5, 1)] = number(parts[1]) " " number(parts[2]) " " number(parts[3])
         } else
             fail("what is " items[at] "?")
     }
@@ -90,12 +110,13 @@ function begin() {
     if (!begun) {
         write_file("dump", dump)
         write_file("probe", probe)
+        write_file("sizes", sizes)
     }
     begun = 1
 }
 
 # Runs the words that were read last, and compares.
-function run_words(    at, status, compared) {
+function run_words(    at, status, compared, messages) {
     if (!asked)
         return
     if (!told)
@@ -109,7 +130,9 @@ function run_words(    at, status, compared) {
     else
         write_file("out.wanted", out)
     write_file("err.wanted", err)
-    status = err ~ / Io\n$/ ? 4 : err != "" ? 2 : out ~ /^no / ? 1 : 0
+    messages = err
+    gsub(/pciplan: assumed [^\n]*\n/, "", messages)
+    status = messages ~ / Io\n$/ ? 4 : messages != "" ? 2 : out ~ /^no / ? 1 : 0
     compared = "; [ $? -eq " status " ] && cmp -s out out.wanted && cmp -s err err.wanted"
     for (at = 1; at <= asked; at++)
         if (system("./pciplan" words[at] " >out 2>err" compared)) {
@@ -122,10 +145,10 @@ function run_words(    at, status, compared) {
 }
 
 function end_case() {
-    if (dump probe != "" && !begun)
+    if (dump probe sizes != "" && !begun)
         fail("nothing is asked")
     run_words()
-    dump = probe = title = ""
+    dump = probe = sizes = title = ""
     begun = 0
 }
 
@@ -155,12 +178,14 @@ begun { told = 1 }
 /^> / && begun { read_function(substr($0, 3)); planned = planned block(slot label, image); next }
 begun { out = out $0 "\n"; next }
 {
-    only = $1 ~ /^(dump|probe)$/ ? $1 : ""
+    only = $1 ~ /^(dump|probe|sizes)$/ ? $1 : ""
     read_function(only ? substr($0, length(only) + 2) : $0)
-    if (only != "probe")
+    if (!only || only == "dump")
         dump = dump block(slot label, image)
-    if (only != "dump")
+    if (!only || only == "probe")
         probe = probe block(slot (only ? label : ""), reads)
+    if (!only || only == "sizes")
+        sizes = sizes sizes_block()
 }
 
 END {

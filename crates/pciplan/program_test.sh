@@ -88,6 +88,35 @@ for machine in desk old port roots; do
 done
 case_of 'roots: one root bus alone' 1 "no 58 Orphan 40:00.0$lf" '' check roots.dump roots.probe
 
+# derived NAME REMARKS VERDICT STATUS [FAULT]: the probe that is derived of the machine is the file NAME.derived, which
+# the caller made; an exact one is the same or has the fault.
+derived() {
+    machine=$1 remarks=$2 verdict=$3 refused=$4 fault=${5-}
+    roots=00
+    [ "$machine" = roots ] && roots=00,40
+    text_of "$machine.derived"
+    case_of "$machine: probe" 0 "$text" "$remarks" probe "$machine.dump" "$machine.sizes"
+    if [ -n "$fault" ]; then
+        case_of "$machine: probe --exact" 1 "$fault$lf" '' probe "$machine.dump" "$machine.sizes" --exact
+    else
+        case_of "$machine: probe --exact" 0 "$text" '' probe "$machine.dump" "$machine.sizes" --exact
+    fi
+    case_of "$machine: check of the derived probe" "$refused" "$verdict$lf" '' \
+        check --root "$roots" "$machine.dump" "$machine.derived"
+}
+
+# Two devices have a ROM of 64 KB of which Linux tells a copy in memory; port has a window that can't be opened.
+sed '/^02:01.0/,/^$/s/^30: 00 00/30: 00 f8/' desk.probe >desk.derived
+sed '/^00:02.0/,/^$/s/^30: 00 00/30: 00 f8/' old.probe >old.derived
+sed '/^00:06.0/,/^$/s/^\(10:.*\) f0 00 00 00$/\1 f0 f0 00 00/' port.probe >port.derived
+cp roots.probe roots.derived
+derived desk "pciplan: assumed 02:01.0 30$lf" 'no 52 VgaEnable 00:02.0' 1 'no 32 NoSize 02:01.0 30'
+derived old "pciplan: assumed 00:02.0 30$lf" yes 0 'no 32 NoSize 00:02.0 30'
+derived port '' 'no 60 Unreached 02:00.0 18 io 00002000 bridge 00:06.0' 1
+derived roots '' yes 0
+case_of 'probe: nothing to derive' 0 '' '' probe empty.txt empty.txt
+case_of "probe: another machine's sizes" 1 "no 30 SlotsDiffer 00:01.0$lf" '' probe old.dump desk.sizes
+
 # words that are refused
 case_of 'no words' 2 '' "pciplan: usage$lf"
 case_of 'no such command' 2 '' "pciplan: usage$lf" judge dump.txt probe.txt
@@ -101,6 +130,15 @@ case_of 'the word of a pool' 2 '' "pciplan: pool --mem$lf" \
 # texts that are refused, the dump first
 case_of 'a fault of the dump' 2 '' "pciplan: dump: 9 Ended 1$lf" check cut.txt probe.txt
 case_of 'a fault of the probe' 2 '' "pciplan: probe: 9 Ended 1$lf" check dump.txt cut.txt
+case_of 'a fault of the sizes' 2 '' "pciplan: sizes: 9 Ended 1$lf" probe dump.txt cut.txt
+case_of 'a fault of dump and sizes' 2 '' "pciplan: dump: 9 Ended 1$lf" probe cut.txt cut.txt
+for size in 1 7 8 407 409 4487; do
+    head -c $size old.sizes >cut.sizes
+    case_of "sizes that are cut after $size bytes" 2 '' \
+        "pciplan: sizes: 9 Ended $(($(wc -l <cut.sizes) + 1))$lf" probe old.dump cut.sizes
+done
+head -c 4080 old.sizes >cut.sizes
+case_of 'sizes that are cut after a function' 1 "no 30 SlotsDiffer 02:02.0$lf" '' probe old.dump cut.sizes
 case_of 'a fault of both' 2 '' "pciplan: dump: 9 Ended 1$lf" check cut.txt cut.txt
 
 # texts that can't be opened or read
@@ -113,6 +151,19 @@ for command in show check size "plan $pools"; do
     case_of "$name: a folder as dump" 4 '' "pciplan: dump: 1 Io$lf" $command folder probe.txt
     case_of "$name: a folder as probe" 4 '' "pciplan: probe: 1 Io$lf" $command dump.txt folder
 done
+for option in '' --exact; do
+    name="probe${option:+ $option}"
+    # shellcheck disable=SC2086
+    {
+        case_of "$name: no dump" 4 '' "pciplan: dump: 1 Io$lf" probe missing.txt old.sizes $option
+        case_of "$name: no sizes" 4 '' "pciplan: sizes: 1 Io$lf" probe old.dump missing.txt $option
+        case_of "$name: neither" 4 '' "pciplan: dump: 1 Io$lf" probe missing.txt missing.txt $option
+        case_of "$name: a folder as dump" 4 '' "pciplan: dump: 1 Io$lf" probe folder old.sizes $option
+        case_of "$name: a folder as sizes" 4 '' "pciplan: sizes: 1 Io$lf" probe old.dump folder $option
+        case_of "$name: two folders" 4 '' "pciplan: dump: 1 Io$lf" probe folder folder $option
+    }
+done
+case_of 'no sizes, and a fault of the dump' 2 '' "pciplan: dump: 9 Ended 1$lf" probe cut.txt missing.txt
 case_of 'no probe, and a fault of the dump' 2 '' "pciplan: dump: 9 Ended 1$lf" check cut.txt missing.txt
 case_of 'an empty path' 4 '' "pciplan: dump: 1 Io$lf" check '' probe.txt
 
@@ -164,6 +215,15 @@ compare 'standard error is closed' 4 '' '' $got
 got=$?
 : >err
 compare 'an answer where standard error is closed' 0 "yes$lf" '' $got
+./pciplan probe old.dump old.sizes 2>err >&-
+got=$?
+: >out
+compare 'probe: standard output is closed' 4 '' "pciplan: 10 Io$lf" $got
+text_of old.derived
+./pciplan probe old.dump old.sizes >out 2>&-
+got=$?
+: >err
+compare 'probe: remarks where standard error is closed' 0 "$text" '' $got
 if [ -w /dev/full ]; then
     for command in show check size; do
         ./pciplan $command dump.txt probe.txt 2>err >/dev/full
@@ -171,6 +231,17 @@ if [ -w /dev/full ]; then
         : >out
         compare "$command: standard output is full" 4 '' "pciplan: 10 Io$lf" $got
     done
+    for option in '' --exact; do
+        # shellcheck disable=SC2086
+        ./pciplan probe old.dump old.sizes $option 2>err >/dev/full
+        got=$?
+        : >out
+        compare "probe${option:+ $option}: standard output is full" 4 '' "pciplan: 10 Io$lf" $got
+    done
+    ./pciplan probe old.dump old.sizes >out 2>/dev/full
+    got=$?
+    : >err
+    compare 'probe: remarks where standard error is full' 0 "$text" '' $got
     ./pciplan judge >out 2>/dev/full
     got=$?
     : >err
