@@ -1,5 +1,5 @@
 use crate::fakes::Pieces;
-use crate::texts::{EXAMPLE, STEPS, block, joined, outcome};
+use crate::texts::{EXAMPLE, STEPS, block, joined, outcome, reads_as};
 use pci_dump::block::{Block, Title};
 use pci_dump::read_fault::ReadFault;
 use pci_dump::reader::{Reader, read_dump};
@@ -100,17 +100,6 @@ fn each_byte_of_the_example_counts(rt: HostRuntime) -> Result<(), Fail> {
         }
     }
     Ok(())
-}
-
-/// Whether two parts together are read so, in each cutting.
-fn reads_as(
-    rt: &HostRuntime,
-    front: &[u8],
-    end: &[u8],
-    wanted: Result<usize, ReadFault>,
-) -> Result<bool, Fail> {
-    let text = joined(rt, &[front, end])?;
-    Ok(STEPS.iter().all(|&step| outcome(rt, &text, step) == wanted))
 }
 
 /// What a text begins with.

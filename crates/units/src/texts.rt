@@ -61,3 +61,14 @@ pub fn outcome(rt: &HostRuntime, text: &[u8], step: usize) -> Result<usize, Read
     let dump = read_dump(rt.alloc(), &mut Pieces::new(text, step, 0))?;
     Ok(dump.blocks().len())
 }
+
+/// Whether two parts together are read so, in each cutting.
+pub fn reads_as(
+    rt: &HostRuntime,
+    front: &[u8],
+    end: &[u8],
+    wanted: Result<usize, ReadFault>,
+) -> Result<bool, Fail> {
+    let text = joined(rt, &[front, end])?;
+    Ok(STEPS.iter().all(|&step| outcome(rt, &text, step) == wanted))
+}
