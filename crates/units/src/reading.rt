@@ -1,5 +1,5 @@
 use crate::fakes::Pieces;
-use crate::texts::{EXAMPLE, STEPS, block, joined, outcome, reads_as};
+use crate::texts::{STEPS, block, example, joined, outcome, reads_as};
 use pci_dump::block::{Block, Title};
 use pci_dump::read_fault::ReadFault;
 use pci_dump::reader::{Reader, read_dump};
@@ -34,7 +34,7 @@ fn has_ended(reader: &mut Reader<Pieces<'_>>) -> bool {
 
 #[test]
 fn the_example_is_read_in_any_cutting(rt: HostRuntime) -> Result<(), Fail> {
-    let text = joined(&rt, &EXAMPLE)?;
+    let text = example(&rt)?;
     assert_eq!(rt; text.len(), 849);
     for step in STEPS {
         let mut reader = Reader::new(Pieces::new(&text, step, 0));
@@ -47,7 +47,7 @@ fn the_example_is_read_in_any_cutting(rt: HostRuntime) -> Result<(), Fail> {
 
 #[test]
 fn cut_after_each_byte_the_example_ends_there(rt: HostRuntime) -> Result<(), Fail> {
-    let text = joined(&rt, &EXAMPLE)?;
+    let text = example(&rt)?;
     let mut line = 1u64;
     for cut in 1..849 {
         let Some(front) = text.get(..cut) else {
@@ -79,7 +79,7 @@ fn changed(at: usize, line: u64) -> Result<usize, ReadFault> {
 
 #[test]
 fn each_byte_of_the_example_counts(rt: HostRuntime) -> Result<(), Fail> {
-    let mut text = joined(&rt, &EXAMPLE)?;
+    let mut text = example(&rt)?;
     let mut line = 1u64;
     for at in 0..849usize {
         let Some(&byte) = text.get(at) else {
@@ -256,22 +256,29 @@ fn a_reader_stays_at_a_failed_read(rt: HostRuntime) -> Result<(), Fail> {
     Ok(())
 }
 
+/// Faults with their numbers and texts.
+const SHOWN: [(ReadFault, u8, &str); 9] = [
+    (ReadFault::Io, 1, "1 Io"),
+    (ReadFault::Memory, 2, "2 Memory"),
+    (ReadFault::BadSlot(1), 3, "3 BadSlot 1"),
+    (ReadFault::BadTitle(19), 4, "4 BadTitle 19"),
+    (ReadFault::BadLine(17), 5, "5 BadLine 17"),
+    (ReadFault::NoBlank(18), 6, "6 NoBlank 18"),
+    (ReadFault::Order(19), 7, "7 Order 19"),
+    (ReadFault::TooMany(73729), 8, "8 TooMany 73729"),
+    (ReadFault::Ended(4), 9, "9 Ended 4"),
+];
+
+/// Whether a fault is shown so.
+fn is_shown(rt: &HostRuntime, fault: ReadFault, text: &str) -> Result<bool, Fail> {
+    Ok(format!(in rt.alloc(); "{fault}")?.as_str() == text)
+}
+
 #[test]
 fn faults_are_shown_by_number_name_and_line(rt: HostRuntime) -> Result<(), Fail> {
-    let cases = [
-        (ReadFault::Io, 1, "1 Io"),
-        (ReadFault::Memory, 2, "2 Memory"),
-        (ReadFault::BadSlot(1), 3, "3 BadSlot 1"),
-        (ReadFault::BadTitle(19), 4, "4 BadTitle 19"),
-        (ReadFault::BadLine(17), 5, "5 BadLine 17"),
-        (ReadFault::NoBlank(18), 6, "6 NoBlank 18"),
-        (ReadFault::Order(19), 7, "7 Order 19"),
-        (ReadFault::TooMany(73729), 8, "8 TooMany 73729"),
-        (ReadFault::Ended(4), 9, "9 Ended 4"),
-    ];
-    for (fault, number, text) in cases {
+    for (fault, number, text) in SHOWN {
         assert_eq!(rt; fault.number(), number);
-        assert_eq!(rt; format!(in rt.alloc(); "{fault}")?.as_str(), text);
+        assert!(rt; is_shown(&rt, fault, text)?, "{text}");
     }
     Ok(())
 }

@@ -6,7 +6,7 @@ use pci_dump::reader::read_dump;
 use std::test::Fail;
 
 /// The lines of a block with a title, of 849 bytes.
-pub const EXAMPLE: [&[u8]; 18] = [
+const EXAMPLE: [&[u8]; 18] = [
     b"00:02.0 Example\n",
     b"00: 34 12 78 56 02 00 10 00 00 00 00 00 00 00 00 00\n",
     b"10: 08 00 00 fe 00 00 00 00 00 00 00 00 00 00 00 00\n",
@@ -37,6 +37,11 @@ pub fn joined(rt: &HostRuntime, parts: &[&[u8]]) -> Result<Vec<u8>, Fail> {
         text.extend_from_slice(part)?;
     }
     Ok(text)
+}
+
+/// The example's text.
+pub fn example(rt: &HostRuntime) -> Result<Vec<u8>, Fail> {
+    joined(rt, &EXAMPLE)
 }
 
 /// A block of zeros, whose slot line is this.

@@ -1,5 +1,5 @@
 use crate::fakes::{Narrow, Pieces};
-use crate::texts::{EXAMPLE, STEPS, block, joined, reads_as};
+use crate::texts::{STEPS, block, example, joined, reads_as};
 use pci_dump::block::Block;
 use pci_dump::dump::{Dump, PushFault};
 use pci_dump::memory::Refused;
@@ -31,9 +31,9 @@ fn is_written_again(
 
 #[test]
 fn what_is_read_is_written_again(rt: HostRuntime) -> Result<(), Fail> {
-    let example = joined(&rt, &EXAMPLE)?;
+    let first = example(&rt)?;
     let last = block(&rt, b"ff:1f.7 \xe9 ~\n")?;
-    let text = joined(&rt, &[&example, &last])?;
+    let text = joined(&rt, &[&first, &last])?;
     for step in STEPS {
         let dump = read_dump(rt.alloc(), &mut Pieces::new(&text, step, 0));
         assert!(rt; is_written_again(&rt, dump, &text)?, "{step}");
@@ -75,7 +75,7 @@ fn takes_all(dump: &Dump, text: &[u8], writer: Narrow) -> bool {
 
 #[test]
 fn a_failing_writer_holds_a_beginning(rt: HostRuntime) -> Result<(), Fail> {
-    let text = joined(&rt, &EXAMPLE)?;
+    let text = example(&rt)?;
     let dump = read_dump(rt.alloc(), &mut Pieces::new(&text, 4096, 0))?;
     for (step, room, fails) in [
         (4096, 100, true),
