@@ -99,9 +99,9 @@ fn each_fault_is_named(rt: HostRuntime) -> Result<(), Fail> {
         (bridge(), Some(Fault::BusRange(slot))),
     ];
     for (registers, fault) in rows {
-        assert_eq!(rt;
-            refusal(&rt, Roots::host(), &[(0, 2, 0, registers)])?,
-            fault
+        assert!(rt;
+            refusal(&rt, Roots::host(), &[(0, 2, 0, registers)])? == fault,
+            "{fault:?}"
         );
     }
     Ok(())
@@ -137,9 +137,9 @@ fn the_earlier_phase_is_named(rt: HostRuntime) -> Result<(), Fail> {
         ),
     ];
     for (one, other, fault) in rows {
-        assert_eq!(rt;
-            refusal(&rt, Roots::host(), &[(0, 1, 0, one), (0, 2, 0, other)])?,
-            Some(fault)
+        assert!(rt;
+            refusal(&rt, Roots::host(), &[(0, 1, 0, one), (0, 2, 0, other)])? == Some(fault),
+            "{fault:?}"
         );
     }
     Ok(())
@@ -169,7 +169,7 @@ fn each_function_has_its_place(rt: HostRuntime) -> Result<(), Fail> {
         ),
     ];
     for (roots, functions, fault) in rows {
-        assert_eq!(rt; refusal(&rt, roots, functions)?, fault);
+        assert!(rt; refusal(&rt, roots, functions)? == fault, "{fault:?}");
     }
     Ok(())
 }
@@ -207,10 +207,7 @@ fn other_slots_are_named_first(rt: HostRuntime) -> Result<(), Fail> {
         ),
     ];
     for (ours, theirs) in rows {
-        assert_eq!(rt;
-            refusal_of_both(&rt, ours, theirs)?,
-            Some(Fault::SlotsDiffer(second))
-        );
+        assert!(rt; refusal_of_both(&rt, ours, theirs)? == Some(Fault::SlotsDiffer(second)));
     }
     Ok(())
 }
@@ -231,10 +228,10 @@ fn both_dumps_and_the_outline_are_lent(rt: HostRuntime) -> Result<(), Fail> {
     let bridge = Slot::new(0, 1, 0).ok_or("a slot")?;
     let device = Slot::new(1, 0, 0).ok_or("a slot")?;
     let admitted = bridged(&rt)?;
-    assert_eq!(rt; admitted.dump().blocks().len(), 2);
-    assert_eq!(rt; admitted.probe().blocks().len(), 2);
-    assert_eq!(rt; admitted.outline().records().len(), 2);
-    assert_eq!(rt; admitted.outline().roots(), Roots::host());
+    assert!(rt; admitted.dump().blocks().len() == 2);
+    assert!(rt; admitted.probe().blocks().len() == 2);
+    assert!(rt; admitted.outline().records().len() == 2);
+    assert!(rt; admitted.outline().roots() == Roots::host());
     assert!(rt; is_behind(&admitted, device, bridge));
     Ok(())
 }

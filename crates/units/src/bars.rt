@@ -298,6 +298,9 @@ fn a_register_that_is_no_bar_is_refused(rt: HostRuntime) {
         ),
     ];
     for (function, fault) in rows {
-        assert_eq!(rt; bars(&function.image, &function.probe).err(), Some(fault));
+        assert!(rt;
+            bars(&function.image, &function.probe).err() == Some(fault),
+            "{fault:?}"
+        );
     }
 }

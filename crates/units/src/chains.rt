@@ -83,7 +83,7 @@ fn a_message_capability_is_as_long_as_its_control_says(rt: HostRuntime) {
         ),
     ];
     for (function, length) in rows {
-        assert_eq!(rt; length_of(&function), length);
+        assert!(rt; length_of(&function) == length, "{length:?}");
     }
 }
 
@@ -109,7 +109,7 @@ fn a_list_that_does_not_end_well_is_refused(rt: HostRuntime) {
         (longest(0x3c), ImageFault::CapRange(0x3c)),
     ];
     for (function, fault) in rows {
-        assert_eq!(rt; chain(&function.image).err(), Some(fault));
+        assert!(rt; chain(&function.image).err() == Some(fault), "{fault:?}");
     }
 }
 
@@ -125,5 +125,5 @@ fn is_dense(function: &Registers) -> Result<bool, ImageFault> {
 
 #[test]
 fn a_list_has_up_to_48_places(rt: HostRuntime) {
-    assert_eq!(rt; is_dense(&longest(0x00)), Ok(true));
+    assert!(rt; is_dense(&longest(0x00)) == Ok(true));
 }

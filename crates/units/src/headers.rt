@@ -26,8 +26,8 @@ fn a_header_is_of_one_of_two_layouts(rt: HostRuntime) {
     // more than one function, and a vendor whose low byte alone is FFh
     assert!(rt; is_type_0(&device().byte(0x0e, 0x80)));
     assert!(rt; is_type_0(&device().bytes(0x00, &[0xff, 0x00])));
-    assert_eq!(rt; fault_of(&card_bus), Some(ImageFault::HeaderKind));
-    assert_eq!(rt; fault_of(&absent), Some(ImageFault::NoVendor));
+    assert!(rt; fault_of(&card_bus) == Some(ImageFault::HeaderKind));
+    assert!(rt; fault_of(&absent) == Some(ImageFault::NoVendor));
 }
 
 const NUMBERED: [(ImageFault, u8); 10] = [
@@ -46,14 +46,14 @@ const NUMBERED: [(ImageFault, u8); 10] = [
 #[test]
 fn faults_have_their_numbers(rt: HostRuntime) {
     for (fault, number) in NUMBERED {
-        assert_eq!(rt; fault.number(), number);
+        assert!(rt; fault.number() == number, "{number}");
     }
 }
 
 #[test]
 fn an_image_reads_little_endian_numbers(rt: HostRuntime) {
     let image = device().bytes(0xfc, &[0x78, 0x56, 0x34, 0x12]).image;
-    assert_eq!(rt; image.u8(0xff), 0x12);
-    assert_eq!(rt; image.u16(0xfe), 0x1234);
-    assert_eq!(rt; image.u32(0xfc), 0x1234_5678);
+    assert!(rt; image.u8(0xff) == 0x12);
+    assert!(rt; image.u16(0xfe) == 0x1234);
+    assert!(rt; image.u32(0xfc) == 0x1234_5678);
 }

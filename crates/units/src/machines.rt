@@ -1,5 +1,8 @@
 //! What sizing does access by access, what a machine answers, and which machines are refused.
-use pci_dump::block::Block;
+use crate::setting::{
+    add, bridge, capable_device, device, image, image_at, machine_of_pair, machine_with, read_at,
+    sized, slot, write_at,
+};
 use pci_dump::dump::Dump;
 use pci_dump::memory::Refused;
 use pci_dump::pair_fault::PairFault;
@@ -13,132 +16,6 @@ use pci_machine::size::size;
 use pci_machine::size_fault::SizeFault;
 use std::alloc::Global;
 use std::test::Fail;
-
-/// A slot of bus 00.
-fn slot(dev: u8) -> Result<Slot, Fail> {
-    let slot = Slot::new(0, dev, 0).ok_or("no slot")?;
-    Ok(slot)
-}
-
-/// An image with these registers of four bytes, and 0 elsewhere.
-fn image(registers: &[(u8, u32)]) -> Image {
-    let mut bytes = [0; 256];
-    for (offset, value) in registers {
-        let mut rest = *value;
-        for j in 0..4 {
-            let at = usize::from(*offset) + j;
-            if at < 256 {
-                bytes[at] = (rest % 256) as u8;
-            }
-            rest /= 256;
-        }
-    }
-    Image(bytes)
-}
-
-/// A device with all decode bits set, a pending error in Status, and a BAR of 1 MB.
-fn device() -> (Image, Image) {
-    (
-        image(&[
-            (0x00, 0x5678_1234),
-            (0x04, 0xf900_0003),
-            (0x10, 0xfe00_0000),
-        ]),
-        image(&[(0x10, 0xfff0_0000)]),
-    )
-}
-
-/// A bridge whose windows are all there.
-fn bridge() -> (Image, Image) {
-    (
-        image(&[
-            (0x00, 0x5678_1234),
-            (0x04, 0x0000_0003),
-            (0x0c, 0x0001_0000),
-            (0x18, 0x0001_0100),
-            (0x1c, 0xf900_f1e1),
-            (0x20, 0xe010_e000),
-            (0x24, 0x0001_0001),
-            (0x28, 0x0000_0001),
-            (0x2c, 0x0000_0001),
-            (0x30, 0x0001_0001),
-            (0x38, 0xfe00_0001),
-        ]),
-        image(&[
-            (0x1c, 0x0000_f1f1),
-            (0x20, 0xfff0_fff0),
-            (0x24, 0xfff1_fff1),
-            (0x28, 0xffff_ffff),
-            (0x2c, 0xffff_ffff),
-            (0x30, 0xffff_ffff),
-            (0x38, 0xfffe_0000),
-        ]),
-    )
-}
-
-/// A device with a prefetchable BAR and two capabilities, with power management and MSI.
-fn capable_device() -> (Image, Image) {
-    (
-        image(&[
-            (0x00, 0x5678_1234),
-            (0x04, 0x0010_0002),
-            (0x10, 0xfe00_0008),
-            (0x34, 0x0000_0040),
-            (0x40, 0x0002_5001),
-            (0x50, 0x0080_0005),
-            (0x54, 0xfee0_0000),
-            (0x5c, 0x0000_4041),
-        ]),
-        image(&[(0x10, 0xfff0_0008)]),
-    )
-}
-
-/// Appends function 0 of a device of bus 00 to a dump.
-fn add(dump: &mut Dump, dev: u8, image: Image) -> Result<(), Fail> {
-    let slot = slot(dev)?;
-    dump.push(Block {
-        slot,
-        title: None,
-        image,
-    })?;
-    Ok(())
-}
-
-/// The machine of a dump and a probe, or why there is none.
-fn machine_of_pair(
-    alloc: Global,
-    dump: &Dump,
-    probe: &Dump,
-) -> Result<Machine, Refused<PairFault>> {
-    Machine::of(alloc, dump, probe)
-}
-
-/// A machine with functions of bus 00, each a device number, an image and what its registers read back.
-fn machine_of(alloc: Global, functions: &[(u8, (Image, Image))]) -> Result<Machine, Fail> {
-    let mut dump = Dump::empty(alloc);
-    let mut probe = Dump::empty(alloc);
-    for (dev, function) in functions {
-        add(&mut dump, *dev, function.0)?;
-        add(&mut probe, *dev, function.1)?;
-    }
-    let machine = machine_of_pair(alloc, &dump, &probe)?;
-    Ok(machine)
-}
-
-/// A machine with one function, at 00:00.0.
-fn machine_with(alloc: Global, function: (Image, Image)) -> Result<Machine, Fail> {
-    machine_of(alloc, &[(0, function)])
-}
-
-/// What sizing finds.
-fn sized(machine: &mut Machine, slot: Slot) -> Result<Image, SizeFault> {
-    size(machine, slot)
-}
-
-/// The image that a machine has at a slot.
-fn image_at(machine: &Machine, slot: Slot) -> Option<Image> {
-    machine.image(slot).copied()
-}
 
 /// What sizing 00:00.0 of a machine does when its n-th access fails, and the image that it leaves.
 fn failing_on(machine: Machine, n: u64) -> Result<(Result<Image, SizeFault>, Image), Fail> {
@@ -250,9 +127,9 @@ fn a_failing_read_back_leaves_the_register_open(rt: HostRuntime) -> Result<(), F
         fault: PortError::Failed,
         command: Some(0x0003),
     };
-    assert_eq!(rt; found, Err(fault));
-    assert_eq!(rt; left.u32(0x04), 0xf900_0000);
-    assert_eq!(rt; left.u32(0x10), 0xfff0_0000);
+    assert!(rt; found == Err(fault));
+    assert!(rt; left.u32(0x04) == 0xf900_0000);
+    assert!(rt; left.u32(0x10) == 0xfff0_0000);
     Ok(())
 }
 
@@ -263,12 +140,12 @@ fn faults_of_sizing_and_of_ports_have_their_numbers(rt: HostRuntime) {
         fault: PortError::Failed,
         command: Some(0x0003),
     };
-    assert_eq!(rt; SizeFault::Header(ImageFault::NoVendor).number(), 20);
-    assert_eq!(rt; PortError::NoFunction.number(), 40);
-    assert_eq!(rt; PortError::BadAccess.number(), 41);
-    assert_eq!(rt; PortError::Failed.number(), 42);
-    assert_eq!(rt; port.number(), 43);
-    assert_eq!(rt; SizeFault::Stuck.number(), 44);
+    assert!(rt; SizeFault::Header(ImageFault::NoVendor).number() == 20);
+    assert!(rt; PortError::NoFunction.number() == 40);
+    assert!(rt; PortError::BadAccess.number() == 41);
+    assert!(rt; PortError::Failed.number() == 42);
+    assert!(rt; port.number() == 43);
+    assert!(rt; SizeFault::Stuck.number() == 44);
 }
 
 /// A machine with a device whose memory decode bit is pinned.
@@ -286,8 +163,8 @@ fn pinned(alloc: Global) -> Result<Machine, Fail> {
 fn a_pinned_decode_bit_stops_sizing(rt: HostRuntime) -> Result<(), Fail> {
     let here = slot(0)?;
     let mut machine = pinned(rt.alloc())?;
-    assert_eq!(rt; sized(&mut machine, here), Err(SizeFault::Stuck));
-    assert_eq!(rt; image_at(&machine, here), Some(device().0));
+    assert!(rt; sized(&mut machine, here) == Err(SizeFault::Stuck));
+    assert!(rt; image_at(&machine, here) == Some(device().0));
     Ok(())
 }
 
@@ -300,8 +177,8 @@ fn command_is_written_back_where_a_decode_bit_is_pinned(rt: HostRuntime) -> Resu
         fault: PortError::Failed,
         command: Some(0x0003),
     };
-    assert_eq!(rt; found, Err(fault));
-    assert_eq!(rt; left.u32(0x04), 0xf900_0002);
+    assert!(rt; found == Err(fault));
+    assert!(rt; left.u32(0x04) == 0xf900_0002);
     Ok(())
 }
 
@@ -319,10 +196,10 @@ fn a_slot_without_a_function_is_not_sized(rt: HostRuntime) -> Result<(), Fail> {
         command: None,
     };
     let mut port = FailAt::new(machine_with(rt.alloc(), device())?, 1);
-    assert_eq!(rt; sized_on(&mut port, other), Err(fault));
+    assert!(rt; sized_on(&mut port, other) == Err(fault));
     // the first access is still to fail
     assert!(rt; sized_on(&mut port, here).is_err());
-    assert_eq!(rt; sized_on(&mut port, here), Ok(device().1));
+    assert!(rt; sized_on(&mut port, here) == Ok(device().1));
     Ok(())
 }
 
@@ -351,33 +228,31 @@ const NO_WRITES: [(u8, u8, u8, u32, PortError); 3] = [
     (1, 0x04, 2, 0x1_0000, PortError::NoFunction),
 ];
 
-/// What a read answers.
-fn read_at(machine: &mut Machine, slot: Slot, off: u8, width: u8) -> Result<u32, PortError> {
-    machine.read(slot, off, width)
+/// Whether a read answers what its row says.
+fn reads_so(
+    machine: &mut Machine,
+    row: (u8, u8, u8, Result<u32, PortError>),
+) -> Result<bool, Fail> {
+    let (dev, off, width, answer) = row;
+    let slot = slot(dev)?;
+    Ok(read_at(machine, slot, off, width) == answer)
 }
 
-/// What a write answers.
-fn write_at(
-    machine: &mut Machine,
-    slot: Slot,
-    off: u8,
-    width: u8,
-    value: u32,
-) -> Result<(), PortError> {
-    machine.write(slot, off, width, value)
+/// Whether a write is refused by what its row says.
+fn refuses_write(machine: &mut Machine, row: (u8, u8, u8, u32, PortError)) -> Result<bool, Fail> {
+    let (dev, off, width, value, fault) = row;
+    let slot = slot(dev)?;
+    Ok(write_at(machine, slot, off, width, value) == Err(fault))
 }
 
 #[test]
 fn accesses_are_refused_by_40_and_then_41(rt: HostRuntime) -> Result<(), Fail> {
     let mut machine = machine_with(rt.alloc(), device())?;
-    for (dev, off, width, answer) in READS {
-        assert_eq!(rt; read_at(&mut machine, slot(dev)?, off, width), answer);
+    for row in READS {
+        assert!(rt; reads_so(&mut machine, row)?, "{row:?}");
     }
-    for (dev, off, width, value, fault) in NO_WRITES {
-        assert_eq!(rt;
-            write_at(&mut machine, slot(dev)?, off, width, value),
-            Err(fault)
-        );
+    for row in NO_WRITES {
+        assert!(rt; refuses_write(&mut machine, row)?, "{row:?}");
     }
     Ok(())
 }
@@ -486,39 +361,53 @@ fn a_dump_and_probe_of_other_slots_make_no_machine(rt: HostRuntime) -> Result<()
     }
     let refused = machine_of_pair(rt.alloc(), &dump, &probe).err();
     let fault = PairFault::SlotsDiffer(slot(2)?);
-    assert_eq!(rt; refused, Some(Refused::Fault(fault)));
+    assert!(rt; refused == Some(Refused::Fault(fault)));
     Ok(())
 }
 
-/// Devices of bus 00 with a function each.
-const DEVICES: [u8; 6] = [0, 1, 4, 7, 8, 31];
+/// The function that a machine of six functions has at a device of bus 00.
+fn one_of_six(dev: u8) -> Option<(Image, Image)> {
+    match dev {
+        4 => Some(bridge()),
+        7 => Some(capable_device()),
+        0 | 1 | 8 | 31 => Some(device()),
+        _ => None,
+    }
+}
 
-/// A machine with those functions, of which 4 is a bridge and 7 has capabilities.
+/// A machine of six functions.
 fn six_functions(alloc: Global) -> Result<Machine, Fail> {
-    machine_of(
-        alloc,
-        &[
-            (0, device()),
-            (1, device()),
-            (4, bridge()),
-            (7, capable_device()),
-            (8, device()),
-            (31, device()),
-        ],
-    )
+    let mut dump = Dump::empty(alloc);
+    let mut probe = Dump::empty(alloc);
+    for dev in 0..32 {
+        if let Some(function) = one_of_six(dev) {
+            add(&mut dump, dev, function.0)?;
+            add(&mut probe, dev, function.1)?;
+        }
+    }
+    let machine = machine_of_pair(alloc, &dump, &probe)?;
+    Ok(machine)
+}
+
+/// Whether a machine has this function at a slot, or none, and sizes it so.
+fn is_found(machine: &mut Machine, slot: Slot, function: Option<(Image, Image)>) -> bool {
+    match function {
+        Some((image, read_backs)) => {
+            image_at(machine, slot) == Some(image) && sized(machine, slot) == Ok(read_backs)
+        }
+        None => image_at(machine, slot).is_none() && sized(machine, slot).is_err(),
+    }
 }
 
 #[test]
 fn each_function_of_a_machine_is_found(rt: HostRuntime) -> Result<(), Fail> {
     let mut machine = six_functions(rt.alloc())?;
     for dev in 0..32 {
-        let here = slot(dev)?;
-        let there = DEVICES.contains(&dev);
-        assert_eq!(rt; image_at(&machine, here).is_some(), there, "{dev}");
-        assert_eq!(rt; sized(&mut machine, here).is_ok(), there, "{dev}");
+        assert!(rt;
+            is_found(&mut machine, slot(dev)?, one_of_six(dev)),
+            "{dev}"
+        );
     }
-    assert_eq!(rt; sized(&mut machine, slot(4)?), Ok(bridge().1));
-    assert_eq!(rt; sized(&mut machine, slot(7)?), Ok(capable_device().1));
     Ok(())
 }
 
@@ -539,12 +428,9 @@ fn an_access_that_fails_is_not_passed_on(rt: HostRuntime) -> Result<(), Fail> {
         Err(PortError::Failed),
         Ok(0x1234),
     ] {
-        assert_eq!(rt;
-            vendor_of(&mut port, other, 0x00),
-            Err(PortError::NoFunction)
-        );
-        assert_eq!(rt; vendor_of(&mut port, here, 0x01), Err(PortError::BadAccess));
-        assert_eq!(rt; vendor_of(&mut port, here, 0x00), answer);
+        assert!(rt; vendor_of(&mut port, other, 0x00) == Err(PortError::NoFunction));
+        assert!(rt; vendor_of(&mut port, here, 0x01) == Err(PortError::BadAccess));
+        assert!(rt; vendor_of(&mut port, here, 0x00) == answer, "{answer:?}");
     }
     Ok(())
 }

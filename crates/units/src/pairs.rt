@@ -159,6 +159,6 @@ fn faults_are_numbered(rt: HostRuntime) {
         (PairFault::WindowMask(slot, 0x1c), 26),
     ];
     for (fault, number) in cases {
-        assert_eq!(rt; fault.number(), number);
+        assert!(rt; fault.number() == number, "{number}");
     }
 }

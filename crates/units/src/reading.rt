@@ -35,7 +35,7 @@ fn has_ended(reader: &mut Reader<Pieces<'_>>) -> bool {
 #[test]
 fn the_example_is_read_in_any_cutting(rt: HostRuntime) -> Result<(), Fail> {
     let text = example(&rt)?;
-    assert_eq!(rt; text.len(), 849);
+    assert!(rt; text.len() == 849);
     for step in STEPS {
         let mut reader = Reader::new(Pieces::new(&text, step, 0));
         assert!(rt; gives_example(&mut reader), "{step}");
@@ -56,13 +56,12 @@ fn cut_after_each_byte_the_example_ends_there(rt: HostRuntime) -> Result<(), Fai
         if front.last() == Some(&b'\n') {
             line = line.wrapping_add(1);
         }
-        assert_eq!(rt;
-            outcome(&rt, front, 100),
-            Err(ReadFault::Ended(line)),
+        assert!(rt;
+            outcome(&rt, front, 100) == Err(ReadFault::Ended(line)),
             "{cut}"
         );
     }
-    assert_eq!(rt; line, 18);
+    assert!(rt; line == 18);
     Ok(())
 }
 
@@ -90,7 +89,7 @@ fn each_byte_of_the_example_counts(rt: HostRuntime) -> Result<(), Fail> {
         }
         let wanted = changed(at.wrapping_add(1), line);
         for step in [64, 4096] {
-            assert_eq!(rt; outcome(&rt, &text, step), wanted, "{at}");
+            assert!(rt; outcome(&rt, &text, step) == wanted, "{at}");
         }
         if let Some(place) = text.get_mut(at) {
             *place = byte;
@@ -196,7 +195,7 @@ fn titled(rt: &HostRuntime, len: usize) -> Result<Vec<u8>, Fail> {
 #[test]
 fn a_title_has_at_most_200_bytes(rt: HostRuntime) -> Result<(), Fail> {
     let long = titled(&rt, 200)?;
-    assert_eq!(rt; long.len(), 1042);
+    assert!(rt; long.len() == 1042);
     let longer = titled(&rt, 201)?;
     assert!(rt; reads_as(&rt, &long, b"", Ok(1))?);
     assert!(rt; reads_as(&rt, &longer, b"", Err(ReadFault::BadTitle(1)))?);
@@ -277,7 +276,7 @@ fn is_shown(rt: &HostRuntime, fault: ReadFault, text: &str) -> Result<bool, Fail
 #[test]
 fn faults_are_shown_by_number_name_and_line(rt: HostRuntime) -> Result<(), Fail> {
     for (fault, number, text) in SHOWN {
-        assert_eq!(rt; fault.number(), number);
+        assert!(rt; fault.number() == number, "{number}");
         assert!(rt; is_shown(&rt, fault, text)?, "{text}");
     }
     Ok(())

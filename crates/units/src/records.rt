@@ -47,11 +47,11 @@ fn a_record_has_what_judging_needs(rt: HostRuntime) -> Result<(), Fail> {
         .register(0x14, 0xfebf_f008, 0xffff_f008)
         .register(0x30, 0xfea0_0001, 0xfffe_0000);
     let found = decoded(slot, &function)?;
-    assert_eq!(rt; found.slot, slot);
-    assert_eq!(rt; found.command, 0x0103);
-    assert_eq!(rt; found.bars.as_slice(), BARS.as_slice());
-    assert_eq!(rt; found.rom, Some(ROM));
-    assert_eq!(rt; found.bridge, None);
+    assert!(rt; found.slot == slot);
+    assert!(rt; found.command == 0x0103);
+    assert!(rt; found.bars.as_slice() == BARS.as_slice());
+    assert!(rt; found.rom == Some(ROM));
+    assert!(rt; found.bridge == None);
     Ok(())
 }
 
@@ -66,13 +66,10 @@ fn a_bridge_has_its_bus_numbers_and_windows(rt: HostRuntime) -> Result<(), Fail>
         first: 0xe000_0000,
         last: 0xe01f_ffff,
     };
-    assert_eq!(rt;
-        (found.primary, found.secondary, found.subordinate),
-        (1, 4, 9)
-    );
-    assert_eq!(rt; found.windows.mem.range(), Some(range));
-    assert_eq!(rt; found.windows.io, None);
-    assert_eq!(rt; found.windows.pref, None);
+    assert!(rt; (found.primary, found.secondary, found.subordinate) == (1, 4, 9));
+    assert!(rt; found.windows.mem.range() == Some(range));
+    assert!(rt; found.windows.io == None);
+    assert!(rt; found.windows.pref == None);
     Ok(())
 }
 
@@ -123,7 +120,7 @@ fn the_first_fault_of_a_function_is_named(rt: HostRuntime) -> Result<(), Fail> {
         ),
     ];
     for (function, fault) in rows {
-        assert_eq!(rt; fault_of(slot, &function), Some(fault));
+        assert!(rt; fault_of(slot, &function) == Some(fault), "{fault:?}");
     }
     Ok(())
 }

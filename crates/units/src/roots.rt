@@ -16,9 +16,9 @@ const LISTS: [(&[u8], bool); 8] = [
 #[test]
 fn roots_rise_and_are_some(rt: HostRuntime) {
     for (buses, lawful) in LISTS {
-        assert_eq!(rt; Roots::of(buses).is_some(), lawful, "{buses:?}");
+        assert!(rt; Roots::of(buses).is_some() == lawful, "{buses:?}");
     }
-    assert_eq!(rt; Roots::of(&[0]), Some(Roots::host()));
+    assert!(rt; Roots::of(&[0]) == Some(Roots::host()));
 }
 
 /// Buses, and whether they are among the roots 00 and 80.
@@ -35,7 +35,7 @@ const BUSES: [(u8, bool); 6] = [
 fn roots_are_the_buses_that_are_listed(rt: HostRuntime) -> Result<(), Fail> {
     let roots = Roots::of(&[0, 0x80]).ok_or("roots")?;
     for (bus, is_root) in BUSES {
-        assert_eq!(rt; roots.has(bus), is_root, "{bus}");
+        assert!(rt; roots.has(bus) == is_root, "{bus}");
     }
     Ok(())
 }

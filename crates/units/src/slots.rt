@@ -25,8 +25,8 @@ fn a_slot_is_shown_by_bus_device_and_function(rt: HostRuntime) -> Result<(), Fai
 
 #[test]
 fn a_bus_has_32_devices_of_8_functions(rt: HostRuntime) {
-    assert_eq!(rt; Slot::new(0, 32, 0), None);
-    assert_eq!(rt; Slot::new(0, 0, 8), None);
+    assert!(rt; Slot::new(0, 32, 0) == None);
+    assert!(rt; Slot::new(0, 0, 8) == None);
 }
 
 /// Numbers of slots, each above the one before.

@@ -98,7 +98,10 @@ fn windows_hold_from_their_base_to_the_end_of_their_last_page(rt: HostRuntime) {
         ),
     ];
     for (function, io, mem, pref) in rows {
-        assert_eq!(rt; windows_of(&function), Ok((io, mem, pref)));
+        assert!(rt;
+            windows_of(&function) == Ok((io, mem, pref)),
+            "{io:?} {mem:?} {pref:?}"
+        );
     }
 }
 

@@ -101,8 +101,8 @@ fn a_failing_writer_holds_a_beginning(rt: HostRuntime) -> Result<(), Fail> {
 #[test]
 fn a_failed_write_is_shown_by_number_and_name(rt: HostRuntime) -> Result<(), Fail> {
     let fault = WriteFault::Io;
-    assert_eq!(rt; fault.number(), 10);
-    assert_eq!(rt; format!(in rt.alloc(); "{fault}")?.as_str(), "10 Io");
+    assert!(rt; fault.number() == 10);
+    assert!(rt; format!(in rt.alloc(); "{fault}")?.as_str() == "10 Io");
     Ok(())
 }
 
@@ -140,9 +140,9 @@ fn a_dump_has_at_most_4096_blocks(rt: HostRuntime) -> Result<(), Fail> {
     }
     assert!(rt; is_refused(&mut dump, 4096, PushFault::Full));
     assert!(rt; is_refused(&mut dump, 4095, PushFault::NotAbove));
-    assert_eq!(rt; dump.blocks().len(), 4096);
+    assert!(rt; dump.blocks().len() == 4096);
     let text = written(&rt, &dump)?;
-    assert_eq!(rt; text.len(), 3_444_736);
+    assert!(rt; text.len() == 3_444_736);
     assert!(rt; reads_as(&rt, &text, b"", Ok(4096))?);
     for end in [b"0", b"G", b"\n"] {
         assert!(rt; reads_as(&rt, &text, end, Err(ReadFault::TooMany(73729)))?);
@@ -152,6 +152,6 @@ fn a_dump_has_at_most_4096_blocks(rt: HostRuntime) -> Result<(), Fail> {
 
 #[test]
 fn faults_of_a_push_are_numbered(rt: HostRuntime) {
-    assert_eq!(rt; PushFault::NotAbove.number(), 11);
-    assert_eq!(rt; PushFault::Full.number(), 12);
+    assert!(rt; PushFault::NotAbove.number() == 11);
+    assert!(rt; PushFault::Full.number() == 12);
 }
