@@ -1,15 +1,15 @@
 //! Registers that changed since the plan was made.
 use crate::counting::Counting;
-use crate::setting::{POOLS, WIDE_POOLS, admitted, held, machine_of, slot, three};
+use crate::setting::{
+    POOLS, WIDE_POOLS, admitted, held, machine_at, machine_of, read_at, slot, three, write_at,
+};
+use crate::stops::put_onto;
 use crate::trial::{Trial, tried};
 use boards::board::{Function, bridge, device};
 use pci_image::slot::Slot;
 use pci_machine::machine::Machine;
-use pci_machine::port::ConfigPort;
-use pci_plan::apply::apply;
 use pci_plan::apply_fault::ApplyFault;
 use pci_plan::plan::Plan;
-use std::alloc::{AllocError, Global};
 use std::process::Abort;
 use std::test::Fail;
 
@@ -76,38 +76,36 @@ struct Register {
     bit: u32,
 }
 
-/// Appends the registers of a function.
-fn push_registers(
-    registers: &mut Vec<Register>,
-    slot: Slot,
-    table: &[(u8, u8, u32)],
-) -> Result<(), AllocError> {
-    for (offset, width, bit) in table {
-        registers.push(Register {
-            slot,
-            offset: *offset,
-            width: *width,
-            bit: *bit,
-        })?;
-    }
-    Ok(())
-}
+/// The functions of the full board by bus and device, in the order in which they are compared, with their registers.
+const FULL: [(u8, u8, &[(u8, u8, u32)]); 4] = [
+    (0, 0, &OF_DEVICE),
+    (0, 1, &OF_BRIDGE),
+    (1, 0, &OF_BRIDGE),
+    (2, 0, &OF_DEVICE),
+];
 
-/// The registers of the full board in the order in which they are compared.
-fn registers(alloc: Global) -> Result<Vec<Register>, Fail> {
-    let mut registers = Vec::new(alloc);
-    push_registers(&mut registers, slot(0, 0)?, &OF_DEVICE)?;
-    push_registers(&mut registers, slot(0, 1)?, &OF_BRIDGE)?;
-    push_registers(&mut registers, slot(1, 0)?, &OF_BRIDGE)?;
-    push_registers(&mut registers, slot(2, 0)?, &OF_DEVICE)?;
-    Ok(registers)
+/// The n-th register of the full board, counted from 0, in the order in which they are compared.
+fn nth_register(n: usize) -> Option<Register> {
+    let mut rest = n;
+    for (bus, dev, table) in FULL {
+        if let Some(&(offset, width, bit)) = table.get(rest) {
+            return Some(Register {
+                slot: Slot::new(bus, dev, 0)?,
+                offset,
+                width,
+                bit,
+            });
+        }
+        rest = rest.saturating_sub(table.len());
+    }
+    None
 }
 
 /// Changes a register's bit.
 fn change(machine: &mut Machine, register: &Register) -> Result<(), Fail> {
     let (slot, offset, width) = (register.slot, register.offset, register.width);
-    let value = machine.read(slot, offset, width)?;
-    machine.write(slot, offset, width, value ^ register.bit)?;
+    let value = read_at(machine, slot, offset, width)?;
+    write_at(machine, slot, offset, width, value ^ register.bit)?;
     Ok(())
 }
 
@@ -128,11 +126,10 @@ fn names_first(
     let before = held(rt.alloc(), plan, &machine)?;
     let mut port = Counting::new(machine);
     let (slot, offset) = (first.slot, first.offset);
-    let answer = apply(&mut port, plan);
-    assert_eq!(rt; answer, Err(ApplyFault::Changed(slot, offset)));
-    assert_eq!(rt;
-        (port.reads, port.writes),
-        (reads as u64, 0),
+    let answer = put_onto(&mut port, plan);
+    assert!(rt; answer == Err(ApplyFault::Changed(slot, offset)));
+    assert!(rt;
+        (port.reads, port.writes) == (reads as u64, 0),
         "{slot} {offset}"
     );
     let left = held(rt.alloc(), plan, &port.into_inner())?;
@@ -142,13 +139,14 @@ fn names_first(
 
 /// Asserts that the first register that changed is named, whichever two of the full board did.
 pub fn each_change_is_named(rt: &(impl Abort + AllocGlobal), plan: &Plan<'_>) -> Result<(), Fail> {
-    let registers = registers(rt.alloc())?;
-    assert_eq!(rt; registers.len(), 36);
-    for (before, first) in registers.iter().enumerate() {
+    assert!(rt; nth_register(35).is_some() && nth_register(36).is_none());
+    for before in 0..36usize {
+        let first = nth_register(before).ok_or("no register")?;
         let reads = before.saturating_add(1);
-        names_first(rt, plan, first, None, reads)?;
-        for second in registers.iter().skip(reads) {
-            names_first(rt, plan, first, Some(second), reads)?;
+        names_first(rt, plan, &first, None, reads)?;
+        for after in reads..36 {
+            let second = nth_register(after).ok_or("no register")?;
+            names_first(rt, plan, &first, Some(&second), reads)?;
         }
     }
     Ok(())
@@ -156,16 +154,15 @@ pub fn each_change_is_named(rt: &(impl Abort + AllocGlobal), plan: &Plan<'_>) ->
 
 /// Asserts that a bit of Command is compared that no plan changes.
 pub fn command_is_compared(rt: &(impl Abort + AllocGlobal), plan: &Plan<'_>) -> Result<(), Fail> {
+    let (bridge, device) = (slot(0, 1)?, slot(0, 2)?);
     let mut machine = machine_of(rt.alloc(), plan)?;
-    let here = slot(0, 2)?;
-    machine.write(here, 0x04, 2, 0x0004)?;
-    let fault = ApplyFault::Changed(here, 0x04);
-    assert_eq!(rt; fault.number(), 80);
-    assert_eq!(rt; apply(&mut machine, plan), Err(fault));
-    machine.write(here, 0x04, 2, 0x0000)?;
-    assert_eq!(rt; apply(&mut machine, plan), Ok(()));
-    let fault = ApplyFault::Changed(slot(0, 1)?, 0x04);
-    assert_eq!(rt; apply(&mut machine, plan), Err(fault));
+    let fault = ApplyFault::Changed(device, 0x04);
+    assert!(rt; fault.number() == 80);
+    write_at(&mut machine, device, 0x04, 2, 0x0004)?;
+    assert!(rt; put_onto(&mut machine, plan) == Err(fault));
+    write_at(&mut machine, device, 0x04, 2, 0x0000)?;
+    assert!(rt; put_onto(&mut machine, plan) == Ok(()));
+    assert!(rt; put_onto(&mut machine, plan) == Err(ApplyFault::Changed(bridge, 0x04)));
     Ok(())
 }
 
@@ -174,14 +171,14 @@ pub fn other_bytes_may_change(
     rt: &(impl Abort + AllocGlobal),
     plan: &Plan<'_>,
 ) -> Result<(), Fail> {
-    let mut machine = machine_of(rt.alloc(), plan)?;
     let (bridge, device) = (slot(0, 1)?, slot(0, 2)?);
+    let mut machine = machine_of(rt.alloc(), plan)?;
     // Interrupt Line, and the subordinate bus
-    machine.write(device, 0x3c, 1, 0x0b)?;
-    machine.write(bridge, 0x1a, 1, 0x05)?;
-    assert_eq!(rt; apply(&mut machine, plan), Ok(()));
-    assert_eq!(rt; machine.read(device, 0x3c, 4), Ok(0x0b));
-    assert_eq!(rt; machine.read(bridge, 0x18, 4), Ok(0x0005_0100));
+    write_at(&mut machine, device, 0x3c, 1, 0x0b)?;
+    write_at(&mut machine, bridge, 0x1a, 1, 0x05)?;
+    assert!(rt; put_onto(&mut machine, plan) == Ok(()));
+    assert!(rt; read_at(&mut machine, device, 0x3c, 4) == Ok(0x0b));
+    assert!(rt; read_at(&mut machine, bridge, 0x18, 4) == Ok(0x0005_0100));
     Ok(())
 }
 
@@ -192,12 +189,11 @@ pub fn gone_function_is_a_failed_access(
 ) -> Result<(), Fail> {
     let [bridge, _gone, device] = three(0);
     let rest = admitted(rt.alloc(), &[bridge, device])?;
-    let machine = Machine::of(rt.alloc(), rest.dump(), rest.probe())?;
-    let mut port = Counting::new(machine);
+    let mut port = Counting::new(machine_at(rt.alloc(), &rest)?);
     let fault = ApplyFault::Port { done: 0 };
-    assert_eq!(rt; fault.number(), 81);
-    assert_eq!(rt; apply(&mut port, plan), Err(fault));
-    assert_eq!(rt; (port.reads, port.writes), (10, 0));
+    assert!(rt; fault.number() == 81);
+    assert!(rt; put_onto(&mut port, plan) == Err(fault));
+    assert!(rt; (port.reads, port.writes) == (10, 0));
     Ok(())
 }
 

@@ -3,7 +3,7 @@ ghost use Rattle.std.specs.Prelude.{◌≡◌, List, IsTrue, IfSome, if◌then�
 ghost use Rattle.pci_spec.specs.Machine.{Target, write_targets};
 ghost use Rattle.pci_spec.specs.Port.{IsLawful, ShowsNumber, has_function, is_access as is_lawful_access, fits as has_room};
 
-use crate::setting::{POOLS, machine_of, slot, three};
+use crate::setting::{POOLS, machine_of, pin, slot, three};
 use crate::trial::{Trial, tried};
 use pci_dump::failures::Failures;
 use pci_image::slot::Slot;
@@ -160,12 +160,12 @@ fn goes_on(
         },
         failed: Failures::new(),
     };
-    assert_eq!(rt; set_up(&mut firmware, plan), next, "access {n}");
+    assert!(rt; set_up(&mut firmware, plan) == next, "access {n}");
     // what was written stays, and what was written to isn't what the plan starts from
     if next == Next::TryAgain {
-        assert_eq!(rt; set_up(&mut firmware, plan), Next::Start, "access {n}");
+        assert!(rt; set_up(&mut firmware, plan) == Next::Start, "access {n}");
     }
-    assert_eq!(rt; set_up(&mut firmware, plan), Next::PlanAnew, "access {n}");
+    assert!(rt; set_up(&mut firmware, plan) == Next::PlanAnew, "access {n}");
     Ok(())
 }
 
@@ -190,9 +190,9 @@ pub fn firmware_learns_what_stuck(
     rt: &(impl Abort + AllocGlobal),
     plan: &Plan<'_>,
 ) -> Result<(), Fail> {
-    let mut machine = machine_of(rt.alloc(), plan)?;
     let here = slot(0, 2)?;
-    assert!(rt; machine.pin(here, 0x13, 0xff));
+    let mut machine = machine_of(rt.alloc(), plan)?;
+    assert!(rt; pin(&mut machine, here, 0x13, 0xff));
     let mut firmware = Firmware {
         hardware: Board { functions: machine },
         failed: Failures::new(),
@@ -203,7 +203,7 @@ pub fn firmware_learns_what_stuck(
         width: 4,
         value: 0xe020_0000,
     };
-    assert_eq!(rt; set_up(&mut firmware, plan), Next::Distrust(stuck));
+    assert!(rt; set_up(&mut firmware, plan) == Next::Distrust(stuck));
     Ok(())
 }
 

@@ -4,16 +4,20 @@ use pci_check::check::check;
 use pci_check::verdict::Verdict;
 use pci_dump::block::Block;
 use pci_dump::dump::Dump;
+use pci_dump::memory::Refused;
+use pci_dump::pair_fault::PairFault;
+use pci_dump::read_fault::ReadFault;
 use pci_dump::reader::read_dump;
 use pci_dump::std_ends::Incoming;
 use pci_image::range::Range;
 use pci_image::slot::Slot;
 use pci_machine::machine::Machine;
-use pci_machine::port::ConfigPort;
+use pci_machine::port::{ConfigPort, PortError};
 use pci_plan::plan::Plan;
 use pci_plan::pools::Pools;
 use pci_tree::admit::admit;
 use pci_tree::admitted::Admitted;
+use pci_tree::fault::Fault;
 use std::alloc::Global;
 use std::test::Fail;
 
@@ -65,12 +69,22 @@ pub fn three(command: u16) -> [Function; 3] {
     ]
 }
 
+/// The dump that a text is.
+fn read(alloc: Global, text: &str) -> Result<Dump, ReadFault> {
+    read_dump(alloc, &mut Incoming::new(text.as_bytes()))
+}
+
+/// A dump and its probe, admitted.
+fn admitted_pair(alloc: Global, dump: Dump, probe: Dump) -> Result<Admitted, Refused<Fault>> {
+    admit(alloc, dump, probe)
+}
+
 /// The dump and the probe of a board, admitted.
 pub fn admitted(alloc: Global, board: &[Function]) -> Result<Admitted, Fail> {
     let texts = texts_of(alloc, board)?;
-    let dump = read_dump(alloc, &mut Incoming::new(texts.dump.as_bytes()))?;
-    let probe = read_dump(alloc, &mut Incoming::new(texts.probe.as_bytes()))?;
-    Ok(admit(alloc, dump, probe)?)
+    let dump = read(alloc, texts.dump.as_str())?;
+    let probe = read(alloc, texts.probe.as_str())?;
+    Ok(admitted_pair(alloc, dump, probe)?)
 }
 
 /// An equal dump.
@@ -86,13 +100,47 @@ fn copy_of(alloc: Global, dump: &Dump) -> Result<Dump, Fail> {
 pub fn planned(alloc: Global, plan: &Plan<'_>) -> Result<Admitted, Fail> {
     let dump = copy_of(alloc, plan.dump())?;
     let probe = copy_of(alloc, plan.start().probe())?;
-    Ok(admit(alloc, dump, probe)?)
+    Ok(admitted_pair(alloc, dump, probe)?)
+}
+
+/// The machine of a dump and a probe, or why there is none.
+fn machine_of_pair(
+    alloc: Global,
+    dump: &Dump,
+    probe: &Dump,
+) -> Result<Machine, Refused<PairFault>> {
+    Machine::of(alloc, dump, probe)
+}
+
+/// The machine of an admitted dump and probe.
+pub fn machine_at(alloc: Global, start: &Admitted) -> Result<Machine, Fail> {
+    Ok(machine_of_pair(alloc, start.dump(), start.probe())?)
 }
 
 /// The machine that a plan starts from.
 pub fn machine_of(alloc: Global, plan: &Plan<'_>) -> Result<Machine, Fail> {
-    let start = plan.start();
-    Ok(Machine::of(alloc, start.dump(), start.probe())?)
+    machine_at(alloc, plan.start())
+}
+
+/// What a read of a machine answers.
+pub fn read_at(machine: &mut Machine, slot: Slot, off: u8, width: u8) -> Result<u32, PortError> {
+    machine.read(slot, off, width)
+}
+
+/// What a write to a machine answers.
+pub fn write_at(
+    machine: &mut Machine,
+    slot: Slot,
+    off: u8,
+    width: u8,
+    value: u32,
+) -> Result<(), PortError> {
+    machine.write(slot, off, width, value)
+}
+
+/// Pins bits of a byte of a machine, so that writes leave them as they are. Whether there is a function at the slot.
+pub fn pin(machine: &mut Machine, slot: Slot, off: u8, bits: u8) -> bool {
+    machine.pin(slot, off, bits)
 }
 
 /// What a machine holds at the slots that a plan is for.
@@ -113,7 +161,13 @@ pub fn held(alloc: Global, plan: &Plan<'_>, machine: &Machine) -> Result<Dump, F
 pub fn held_after(alloc: Global, plan: &Plan<'_>, done: usize) -> Result<Dump, Fail> {
     let mut machine = machine_of(alloc, plan)?;
     for write in plan.writes().iter().take(done) {
-        machine.write(write.slot, write.off, write.width, write.value)?;
+        write_at(
+            &mut machine,
+            write.slot,
+            write.off,
+            write.width,
+            write.value,
+        )?;
     }
     held(alloc, plan, &machine)
 }
@@ -121,7 +175,7 @@ pub fn held_after(alloc: Global, plan: &Plan<'_>, done: usize) -> Result<Dump, F
 /// Whether a dump, with the probe that a plan is for, is judged sound.
 pub fn is_sound(alloc: Global, plan: &Plan<'_>, dump: Dump) -> Result<bool, Fail> {
     let probe = copy_of(alloc, plan.start().probe())?;
-    let admitted = admit(alloc, dump, probe)?;
+    let admitted = admitted_pair(alloc, dump, probe)?;
     match check(alloc, &admitted)? {
         Verdict::Yes(_) => Ok(true),
         Verdict::No(_) => Ok(false),

@@ -3,6 +3,7 @@ use crate::setting::{held, held_after, is_sound, machine_of};
 use pci_dump::dump::Dump;
 use pci_machine::fail_at::FailAt;
 use pci_machine::machine::Machine;
+use pci_machine::port::ConfigPort;
 use pci_plan::apply::apply;
 use pci_plan::apply_fault::ApplyFault;
 use pci_plan::plan::Plan;
@@ -27,12 +28,17 @@ pub fn accesses(plan: &Plan<'_>) -> u64 {
 }
 
 /// The answer where access `n` fails, counted from 1, or where none does, and how many writes were made.
-fn stop_at(plan: &Plan<'_>, n: u64) -> Result<(Result<(), ApplyFault>, usize), Fail> {
+fn stop_at(plan: &Plan<'_>, n: u64) -> (Result<(), ApplyFault>, usize) {
     if n == 0 || accesses(plan) < n {
-        return Ok((Ok(()), plan.writes().len()));
+        return (Ok(()), plan.writes().len());
     }
-    let done = usize::try_from(n.saturating_sub(comparisons(plan)) / 2)?;
-    Ok((Err(ApplyFault::Port { done }), done))
+    let done = (n.saturating_sub(comparisons(plan)) / 2) as usize;
+    (Err(ApplyFault::Port { done }), done)
+}
+
+/// What putting a plan onto a port answers.
+pub fn put_onto(port: &mut impl ConfigPort, plan: &Plan<'_>) -> Result<(), ApplyFault> {
+    apply(port, plan)
 }
 
 /// What a plan answers on the machine that it starts from where access `n` fails, and the machine that is left.
@@ -42,7 +48,7 @@ pub fn applied(
     n: u64,
 ) -> Result<(Result<(), ApplyFault>, Machine), Fail> {
     let mut port = FailAt::new(machine_of(alloc, plan)?, n);
-    let answer = apply(&mut port, plan);
+    let answer = put_onto(&mut port, plan);
     Ok((answer, port.into_inner()))
 }
 
@@ -53,9 +59,9 @@ fn stops_at(
     plan: &Plan<'_>,
     n: u64,
 ) -> Result<(usize, Dump), Fail> {
-    let (wanted, done) = stop_at(plan, n)?;
+    let (wanted, done) = stop_at(plan, n);
     let (answer, machine) = applied(rt.alloc(), plan, n)?;
-    assert_eq!(rt; answer, wanted, "access {n}");
+    assert!(rt; answer == wanted, "access {n}");
     let left = held(rt.alloc(), plan, &machine)?;
     let wanted = held_after(rt.alloc(), plan, done)?;
     assert!(rt; left.blocks() == wanted.blocks(), "access {n}");

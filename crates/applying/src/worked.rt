@@ -1,14 +1,14 @@
 //! Boards whose plans and accesses are counted out by hand.
 use crate::counting::Counting;
-use crate::setting::{POOLS, held, held_after, machine_of, slot, three};
-use crate::stops::{accesses, applied, comparisons, stops_anywhere};
+use crate::setting::{POOLS, held, held_after, machine_of, pin, read_at, slot, three};
+use crate::stops::{accesses, applied, comparisons, put_onto, stops_anywhere};
 use crate::trial::{Trial, tried, tried_again};
 use boards::board::{Function, bridge, device};
-use pci_machine::port::ConfigPort;
-use pci_plan::apply::apply;
+use pci_machine::machine::Machine;
 use pci_plan::apply_fault::ApplyFault;
 use pci_plan::plan::Plan;
 use pci_plan::write::Write;
+use std::alloc::Global;
 use std::process::Abort;
 use std::test::Fail;
 
@@ -34,10 +34,10 @@ pub fn takes(
     writes: u64,
 ) -> Result<(), Fail> {
     let mut port = Counting::new(machine_of(rt.alloc(), plan)?);
-    assert_eq!(rt; apply(&mut port, plan), Ok(()));
-    assert_eq!(rt; port.reads, compared.saturating_add(writes));
-    assert_eq!(rt; port.writes, writes);
-    assert_eq!(rt; comparisons(plan), compared);
+    assert!(rt; put_onto(&mut port, plan) == Ok(()));
+    assert!(rt; port.reads == compared.saturating_add(writes));
+    assert!(rt; port.writes == writes);
+    assert!(rt; comparisons(plan) == compared);
     let left = held(rt.alloc(), plan, &port.into_inner())?;
     assert!(rt; left.blocks() == plan.dump().blocks());
     stops_anywhere(rt, plan)
@@ -45,9 +45,9 @@ pub fn takes(
 
 /// Asserts what the third write, where it fails, leaves of the plan of three functions.
 pub fn third_write_fails(rt: &(impl Abort + AllocGlobal), plan: &Plan<'_>) -> Result<(), Fail> {
-    assert_eq!(rt; accesses(plan), 40);
+    assert!(rt; accesses(plan) == 40);
     let (answer, mut machine) = applied(rt.alloc(), plan, 31)?;
-    assert_eq!(rt; answer, Err(ApplyFault::Port { done: 2 }));
+    assert!(rt; answer == Err(ApplyFault::Port { done: 2 }));
     for (bus, dev, offset, value) in [
         (0, 1, 0x04, 0),
         (0, 1, 0x20, 0xe010_e000),
@@ -57,24 +57,40 @@ pub fn third_write_fails(rt: &(impl Abort + AllocGlobal), plan: &Plan<'_>) -> Re
         (1, 0, 0x10, 0),
         (1, 0, 0x14, 0),
     ] {
-        let read = machine.read(slot(bus, dev)?, offset, 4);
-        assert_eq!(rt; read, Ok(value), "{bus} {dev} {offset}");
+        let read = read_at(&mut machine, slot(bus, dev)?, offset, 4);
+        assert!(rt; read == Ok(value), "{bus} {dev} {offset}");
     }
     Ok(())
 }
 
+/// The machine that a plan starts from, with the memory decode bit of 00:02.0 pinned.
+fn pinned(alloc: Global, plan: &Plan<'_>) -> Result<Machine, Fail> {
+    let here = slot(0, 2)?;
+    let mut machine = machine_of(alloc, plan)?;
+    if pin(&mut machine, here, 0x04, 0b10) {
+        Ok(machine)
+    } else {
+        Err("not pinned".into())
+    }
+}
+
 /// Asserts that a Command bit that can't be set stops the plan of three functions at its sixth write.
 pub fn pinned_command_stops(rt: &(impl Abort + AllocGlobal), plan: &Plan<'_>) -> Result<(), Fail> {
-    let mut machine = machine_of(rt.alloc(), plan)?;
-    assert!(rt; machine.pin(slot(0, 2)?, 0x04, 0b10));
-    let mut port = Counting::new(machine);
-    let answer = apply(&mut port, plan);
-    assert_eq!(rt; answer, Err(ApplyFault::Stuck { done: 6 }));
-    assert_eq!(rt; (port.reads, port.writes), (32, 6));
+    let mut port = Counting::new(pinned(rt.alloc(), plan)?);
+    let answer = put_onto(&mut port, plan);
+    assert!(rt; answer == Err(ApplyFault::Stuck { done: 6 }));
+    assert!(rt; (port.reads, port.writes) == (32, 6));
     let left = held(rt.alloc(), plan, &port.into_inner())?;
     let wanted = held_after(rt.alloc(), plan, 5)?;
     assert!(rt; left.blocks() == wanted.blocks());
     Ok(())
+}
+
+/// Pins the bits of the register that a write goes to.
+fn pin_register(machine: &mut Machine, write: &Write) {
+    for byte in 0..write.width {
+        pin(machine, write.slot, write.off.saturating_add(byte), 0xff);
+    }
 }
 
 /// Asserts that a write that doesn't stay, after so many others, is the last one.
@@ -85,12 +101,10 @@ fn pinned_register_stops(
     write: &Write,
 ) -> Result<(), Fail> {
     let mut machine = machine_of(rt.alloc(), plan)?;
-    for byte in 0..write.width {
-        machine.pin(write.slot, write.off.saturating_add(byte), 0xff);
-    }
+    pin_register(&mut machine, write);
     let done = before.saturating_add(1);
-    let answer = apply(&mut machine, plan);
-    assert_eq!(rt; answer, Err(ApplyFault::Stuck { done }));
+    let answer = put_onto(&mut machine, plan);
+    assert!(rt; answer == Err(ApplyFault::Stuck { done }));
     let left = held(rt.alloc(), plan, &machine)?;
     let wanted = held_after(rt.alloc(), plan, before)?;
     assert!(rt; left.blocks() == wanted.blocks(), "{done}");

@@ -2,8 +2,10 @@ use crate::registers::{Registers, bridge, device, list_at};
 use pci_dump::block::Block;
 use pci_dump::dump::Dump;
 use pci_dump::memory::Refused;
+use pci_image::image::Image;
 use pci_image::slot::Slot;
 use pci_tree::admit::{admit, admit_with};
+use pci_tree::admitted::Admitted;
 use pci_tree::fault::Fault;
 use pci_tree::roots::Roots;
 use std::test::Fail;
@@ -23,27 +25,24 @@ fn read_back(off: u8) -> Registers {
     changed
 }
 
+/// Appends a function to a dump.
+fn add(dump: &mut Dump, slot: Slot, image: Image) -> Result<(), Fail> {
+    dump.push(Block {
+        slot,
+        title: None,
+        image,
+    })?;
+    Ok(())
+}
+
 /// The dump and the probe of some functions.
 fn pair(rt: &HostRuntime, functions: &[Placed]) -> Result<(Dump, Dump), Fail> {
     let mut dump = Dump::empty(rt.alloc());
     let mut probe = Dump::empty(rt.alloc());
     for (bus, device, function, registers) in functions {
         let slot = Slot::new(*bus, *device, *function).ok_or("a slot")?;
-        let image = registers.image;
-        dump.push(Block {
-            slot,
-            title: None,
-            image,
-        })
-        .or(Err("a block"))?;
-        let image = registers.probe;
-        probe
-            .push(Block {
-                slot,
-                title: None,
-                image,
-            })
-            .or(Err("a block"))?;
+        add(&mut dump, slot, registers.image)?;
+        add(&mut probe, slot, registers.probe)?;
     }
     Ok((dump, probe))
 }
@@ -100,9 +99,9 @@ fn each_fault_is_named(rt: HostRuntime) -> Result<(), Fail> {
         (bridge(), Some(Fault::BusRange(slot))),
     ];
     for (registers, fault) in rows {
-        assert_eq!(rt;
-            refusal(&rt, Roots::host(), &[(0, 2, 0, registers)])?,
-            fault
+        assert!(rt;
+            refusal(&rt, Roots::host(), &[(0, 2, 0, registers)])? == fault,
+            "{fault:?}"
         );
     }
     Ok(())
@@ -138,9 +137,9 @@ fn the_earlier_phase_is_named(rt: HostRuntime) -> Result<(), Fail> {
         ),
     ];
     for (one, other, fault) in rows {
-        assert_eq!(rt;
-            refusal(&rt, Roots::host(), &[(0, 1, 0, one), (0, 2, 0, other)])?,
-            Some(fault)
+        assert!(rt;
+            refusal(&rt, Roots::host(), &[(0, 1, 0, one), (0, 2, 0, other)])? == Some(fault),
+            "{fault:?}"
         );
     }
     Ok(())
@@ -151,37 +150,43 @@ fn each_function_has_its_place(rt: HostRuntime) -> Result<(), Fail> {
     let lone = Slot::new(0, 1, 3).ok_or("a slot")?;
     let orphan = Slot::new(1, 0, 0).ok_or("a slot")?;
     let behind = Slot::new(0, 1, 0).ok_or("a slot")?;
+    let host = Roots::host();
     let both = Roots::of(&[0, 1]).ok_or("roots")?;
-    assert_eq!(rt;
-        refusal(&rt, Roots::host(), &[(0, 1, 3, device())])?,
-        Some(Fault::LoneFunction(lone))
-    );
-    assert_eq!(rt;
-        refusal(
-            &rt,
-            Roots::host(),
-            &[(0, 1, 0, device()), (0, 1, 3, device())]
-        )?,
-        None
-    );
-    assert_eq!(rt;
-        refusal(&rt, Roots::host(), &[(1, 0, 0, device())])?,
-        Some(Fault::Orphan(orphan))
-    );
-    assert_eq!(rt; refusal(&rt, both, &[(1, 0, 0, device())])?, None);
-    assert_eq!(rt;
-        refusal(
-            &rt,
-            Roots::host(),
-            &[(0, 1, 0, to_bus_1()), (1, 0, 0, device())]
-        )?,
-        None
-    );
-    assert_eq!(rt;
-        refusal(&rt, both, &[(0, 1, 0, to_bus_1()), (1, 0, 0, device())])?,
-        Some(Fault::BusRange(behind))
-    );
+    let rows: [(Roots, &[Placed], Option<Fault>); 6] = [
+        (
+            host,
+            &[(0, 1, 3, device())],
+            Some(Fault::LoneFunction(lone)),
+        ),
+        (host, &[(0, 1, 0, device()), (0, 1, 3, device())], None),
+        (host, &[(1, 0, 0, device())], Some(Fault::Orphan(orphan))),
+        (both, &[(1, 0, 0, device())], None),
+        (host, &[(0, 1, 0, to_bus_1()), (1, 0, 0, device())], None),
+        (
+            both,
+            &[(0, 1, 0, to_bus_1()), (1, 0, 0, device())],
+            Some(Fault::BusRange(behind)),
+        ),
+    ];
+    for (roots, functions, fault) in rows {
+        assert!(rt; refusal(&rt, roots, functions)? == fault, "{fault:?}");
+    }
     Ok(())
+}
+
+/// The fault that the dump of some functions and the probe of others are refused by.
+fn refusal_of_both(
+    rt: &HostRuntime,
+    ours: &[Placed],
+    theirs: &[Placed],
+) -> Result<Option<Fault>, Fail> {
+    let (dump, _) = pair(rt, ours)?;
+    let (_, probe) = pair(rt, theirs)?;
+    let refused = match admit(rt.alloc(), dump, probe) {
+        Ok(_) => return Ok(None),
+        Err(refused) => refused,
+    };
+    fault_in(refused)
 }
 
 #[test]
@@ -202,33 +207,31 @@ fn other_slots_are_named_first(rt: HostRuntime) -> Result<(), Fail> {
         ),
     ];
     for (ours, theirs) in rows {
-        let (dump, _) = pair(&rt, ours)?;
-        let (_, probe) = pair(&rt, theirs)?;
-        match admit(rt.alloc(), dump, probe) {
-            Ok(_) => panic!(rt; "admitted"),
-            Err(refused) => assert_eq!(rt; refused, Refused::Fault(Fault::SlotsDiffer(second))),
-        }
+        assert!(rt; refusal_of_both(&rt, ours, theirs)? == Some(Fault::SlotsDiffer(second)));
     }
     Ok(())
 }
 
+/// A bridge and a device behind it, admitted.
+fn bridged(rt: &HostRuntime) -> Result<Admitted, Fail> {
+    let (dump, probe) = pair(rt, &[(0, 1, 0, to_bus_1()), (1, 0, 0, device())])?;
+    Ok(admit(rt.alloc(), dump, probe)?)
+}
+
+/// Whether the path to a slot leads through one bridge.
+fn is_behind(admitted: &Admitted, slot: Slot, bridge: Slot) -> bool {
+    matches!(admitted.path(slot), Some(path) if path.as_slice() == [bridge].as_slice())
+}
+
 #[test]
 fn both_dumps_and_the_outline_are_lent(rt: HostRuntime) -> Result<(), Fail> {
-    let (dump, probe) = pair(&rt, &[(0, 1, 0, to_bus_1()), (1, 0, 0, device())])?;
     let bridge = Slot::new(0, 1, 0).ok_or("a slot")?;
     let device = Slot::new(1, 0, 0).ok_or("a slot")?;
-    match admit(rt.alloc(), dump, probe) {
-        Ok(admitted) => {
-            assert_eq!(rt; admitted.dump().blocks().len(), 2);
-            assert_eq!(rt; admitted.probe().blocks().len(), 2);
-            assert_eq!(rt; admitted.outline().records().len(), 2);
-            assert_eq!(rt; admitted.outline().roots(), Roots::host());
-            match admitted.path(device) {
-                Some(path) => assert_eq!(rt; path.as_slice(), [bridge].as_slice()),
-                None => panic!(rt; "no path"),
-            }
-        }
-        Err(refused) => panic!(rt; "{refused:?}"),
-    }
+    let admitted = bridged(&rt)?;
+    assert!(rt; admitted.dump().blocks().len() == 2);
+    assert!(rt; admitted.probe().blocks().len() == 2);
+    assert!(rt; admitted.outline().records().len() == 2);
+    assert!(rt; admitted.outline().roots() == Roots::host());
+    assert!(rt; is_behind(&admitted, device, bridge));
     Ok(())
 }

@@ -11,12 +11,15 @@ fn longest(end: u8) -> Registers {
     all.byte(0xfd, end)
 }
 
+/// Whether a function's list has these capabilities, in this order.
+fn lists(function: &Registers, expected: &[Cap<'_>]) -> bool {
+    matches!(chain(&function.image), Ok(caps) if caps.as_slice() == expected)
+}
+
 #[test]
 fn a_list_has_its_capabilities_in_order(rt: HostRuntime) {
-    let none = device().byte(0x34, 0x40);
-    assert!(rt; matches!(chain(&none.image), Ok(caps) if caps.is_empty()));
-    let ended = list_at(0x03);
-    assert!(rt; matches!(chain(&ended.image), Ok(caps) if caps.is_empty()));
+    assert!(rt; lists(&device().byte(0x34, 0x40), &[]));
+    assert!(rt; lists(&list_at(0x03), &[]));
 
     let masked = list_at(0x43).bytes(0x40, &[0x09, 0x02, 0xaa, 0xbb]);
     let body = [0x09, 0x02, 0xaa, 0xbb];
@@ -24,7 +27,7 @@ fn a_list_has_its_capabilities_in_order(rt: HostRuntime) {
         place: 0x40,
         body: &body,
     }];
-    assert!(rt; matches!(chain(&masked.image), Ok(caps) if caps.as_slice() == expected.as_slice()));
+    assert!(rt; lists(&masked, &expected));
 
     let power = list_at(0xf8).bytes(0xf8, &[0x01, 0x00, 0x03, 0xce, 0x03, 0x81, 0x00, 0x00]);
     let body = [0x01, 0x00, 0x03, 0xce, 0x03, 0x81, 0x00, 0x00];
@@ -32,7 +35,7 @@ fn a_list_has_its_capabilities_in_order(rt: HostRuntime) {
         place: 0xf8,
         body: &body,
     }];
-    assert!(rt; matches!(chain(&power.image), Ok(caps) if caps.as_slice() == expected.as_slice()));
+    assert!(rt; lists(&power, &expected));
 
     let both = list_at(0x60)
         .bytes(0x60, &[0x05, 0x43, 0x80, 0x00])
@@ -49,7 +52,16 @@ fn a_list_has_its_capabilities_in_order(rt: HostRuntime) {
             body: &body,
         },
     ];
-    assert!(rt; matches!(chain(&both.image), Ok(caps) if caps.as_slice() == expected.as_slice()));
+    assert!(rt; lists(&both, &expected));
+}
+
+/// The length of the one capability of a list.
+fn length_of(function: &Registers) -> Result<usize, ImageFault> {
+    let caps = chain(&function.image)?;
+    match caps.as_slice() {
+        [cap] => Ok(cap.body().len()),
+        _ => Ok(0),
+    }
 }
 
 #[test]
@@ -71,12 +83,7 @@ fn a_message_capability_is_as_long_as_its_control_says(rt: HostRuntime) {
         ),
     ];
     for (function, length) in rows {
-        match chain(&function.image) {
-            Ok(caps) => assert!(rt;
-                caps.len() == 1 && caps.iter().all(|cap| Ok(cap.body().len()) == length)
-            ),
-            Err(fault) => assert_eq!(rt; Err(fault), length),
-        }
+        assert!(rt; length_of(&function) == length, "{length:?}");
     }
 }
 
@@ -102,20 +109,21 @@ fn a_list_that_does_not_end_well_is_refused(rt: HostRuntime) {
         (longest(0x3c), ImageFault::CapRange(0x3c)),
     ];
     for (function, fault) in rows {
-        assert_eq!(rt; chain(&function.image).err(), Some(fault));
+        assert!(rt; chain(&function.image).err() == Some(fault), "{fault:?}");
     }
+}
+
+/// Whether the places of a function's list are each four bytes after the one before, from 40h on.
+fn is_dense(function: &Registers) -> Result<bool, ImageFault> {
+    let caps = chain(&function.image)?;
+    let mut dense = caps.len() == 48;
+    for (cap, quarter) in caps.iter().zip(16u8..64) {
+        dense = dense && cap.place() / 4 == quarter && cap.place() % 4 == 0;
+    }
+    Ok(dense)
 }
 
 #[test]
 fn a_list_has_up_to_48_places(rt: HostRuntime) {
-    let all = longest(0x00);
-    match chain(&all.image) {
-        Ok(caps) => {
-            assert_eq!(rt; caps.len(), 48);
-            for (cap, quarter) in caps.iter().zip(16u8..64) {
-                assert_eq!(rt; u16::from(cap.place()), 4 * u16::from(quarter));
-            }
-        }
-        Err(fault) => panic!(rt; "{fault:?}"),
-    }
+    assert!(rt; is_dense(&longest(0x00)) == Ok(true));
 }

@@ -31,6 +31,8 @@ mod roms;
 #[cfg(test)]
 mod roots;
 #[cfg(test)]
+mod setting;
+#[cfg(test)]
 mod slots;
 #[cfg(test)]
 mod texts;

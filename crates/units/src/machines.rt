@@ -1,5 +1,8 @@
 //! What sizing does access by access, what a machine answers, and which machines are refused.
-use pci_dump::block::Block;
+use crate::setting::{
+    add, bridge, capable_device, device, image, image_at, machine_of_pair, machine_with, read_at,
+    sized, slot, write_at,
+};
 use pci_dump::dump::Dump;
 use pci_dump::memory::Refused;
 use pci_dump::pair_fault::PairFault;
@@ -14,118 +17,22 @@ use pci_machine::size_fault::SizeFault;
 use std::alloc::Global;
 use std::test::Fail;
 
-/// A slot of bus 00.
-fn slot(dev: u8) -> Result<Slot, Fail> {
-    let slot = Slot::new(0, dev, 0).ok_or("no slot")?;
-    Ok(slot)
+/// What sizing 00:00.0 of a machine does when its n-th access fails, and the image that it leaves.
+fn failing_on(machine: Machine, n: u64) -> Result<(Result<Image, SizeFault>, Image), Fail> {
+    let here = slot(0)?;
+    let mut port = FailAt::new(machine, n);
+    let found = size(&mut port, here);
+    let left = image_at(&port.into_inner(), here).ok_or("no function")?;
+    Ok((found, left))
 }
 
-/// An image with these registers of four bytes, and 0 elsewhere.
-fn image(registers: &[(u8, u32)]) -> Image {
-    let mut bytes = [0; 256];
-    for (offset, value) in registers {
-        let mut rest = *value;
-        for j in 0..4 {
-            let at = usize::from(*offset) + j;
-            if at < 256 {
-                bytes[at] = (rest % 256) as u8;
-            }
-            rest /= 256;
-        }
-    }
-    Image(bytes)
-}
-
-/// A device with all decode bits set, a pending error in Status, and a BAR of 1 MB.
-fn device() -> (Image, Image) {
-    (
-        image(&[
-            (0x00, 0x5678_1234),
-            (0x04, 0xf900_0003),
-            (0x10, 0xfe00_0000),
-        ]),
-        image(&[(0x10, 0xfff0_0000)]),
-    )
-}
-
-/// A bridge whose windows are all there.
-fn bridge() -> (Image, Image) {
-    (
-        image(&[
-            (0x00, 0x5678_1234),
-            (0x04, 0x0000_0003),
-            (0x0c, 0x0001_0000),
-            (0x18, 0x0001_0100),
-            (0x1c, 0xf900_f1e1),
-            (0x20, 0xe010_e000),
-            (0x24, 0x0001_0001),
-            (0x28, 0x0000_0001),
-            (0x2c, 0x0000_0001),
-            (0x30, 0x0001_0001),
-            (0x38, 0xfe00_0001),
-        ]),
-        image(&[
-            (0x1c, 0x0000_f1f1),
-            (0x20, 0xfff0_fff0),
-            (0x24, 0xfff1_fff1),
-            (0x28, 0xffff_ffff),
-            (0x2c, 0xffff_ffff),
-            (0x30, 0xffff_ffff),
-            (0x38, 0xfffe_0000),
-        ]),
-    )
-}
-
-/// A device with a prefetchable BAR and two capabilities, with power management and MSI.
-fn capable_device() -> (Image, Image) {
-    (
-        image(&[
-            (0x00, 0x5678_1234),
-            (0x04, 0x0010_0002),
-            (0x10, 0xfe00_0008),
-            (0x34, 0x0000_0040),
-            (0x40, 0x0002_5001),
-            (0x50, 0x0080_0005),
-            (0x54, 0xfee0_0000),
-            (0x5c, 0x0000_4041),
-        ]),
-        image(&[(0x10, 0xfff0_0008)]),
-    )
-}
-
-/// A dump of functions of bus 00, each by its device number.
-fn dump_of(alloc: Global, functions: &[(u8, Image)]) -> Result<Dump, Fail> {
-    let mut dump = Dump::empty(alloc);
-    for (dev, image) in functions {
-        dump.push(Block {
-            slot: slot(*dev)?,
-            title: None,
-            image: *image,
-        })?;
-    }
-    Ok(dump)
-}
-
-/// A machine with one function, at 00:00.0.
-fn machine_of(alloc: Global, function: (Image, Image)) -> Result<Machine, Fail> {
-    let dump = dump_of(alloc, &[(0, function.0)])?;
-    let probe = dump_of(alloc, &[(0, function.1)])?;
-    let machine = Machine::of(alloc, &dump, &probe)?;
-    Ok(machine)
-}
-
-/// What sizing does when its n-th access fails, and the image that it leaves.
+/// The same of a machine with one function.
 fn failing(
     alloc: Global,
     function: (Image, Image),
     n: u64,
 ) -> Result<(Result<Image, SizeFault>, Image), Fail> {
-    let machine = machine_of(alloc, function)?;
-    let mut port = FailAt::new(machine, n);
-    let found = size(&mut port, slot(0)?);
-    let machine = port.into_inner();
-    let left = machine.image(slot(0)?).ok_or("no function")?;
-    Ok((found, *left))
+    failing_on(machine_with(alloc, function)?, n)
 }
 
 /// What each access of sizing is made to, after those to the header and Command.
@@ -170,6 +77,32 @@ fn left_by(function: (Image, Image), registers: &[u8], n: usize) -> Image {
     Image(bytes)
 }
 
+/// What sizing answers when its n-th access fails.
+fn fault_at(registers: &[u8], n: usize) -> SizeFault {
+    SizeFault::Port {
+        offset: offset_of(registers, n),
+        fault: PortError::Failed,
+        command: if n < 5 { None } else { Some(0x0003) },
+    }
+}
+
+/// Whether sizing a function, of which these registers are sized, stops at its n-th access when that fails.
+fn stops_at(
+    alloc: Global,
+    function: (Image, Image),
+    registers: &[u8],
+    n: usize,
+) -> Result<bool, Fail> {
+    let (found, left) = failing(alloc, function, n as u64)?;
+    Ok(found == Err(fault_at(registers, n)) && left == left_by(function, registers, n))
+}
+
+/// Whether sizing a function makes no n-th access.
+fn ends_before(alloc: Global, function: (Image, Image), n: usize) -> Result<bool, Fail> {
+    let (found, left) = failing(alloc, function, n as u64)?;
+    Ok(found == Ok(function.1) && left == function.0)
+}
+
 #[test]
 fn sizing_a_device_takes_34_accesses_and_a_bridge_42(rt: HostRuntime) -> Result<(), Fail> {
     for (function, registers, accesses) in [
@@ -177,20 +110,10 @@ fn sizing_a_device_takes_34_accesses_and_a_bridge_42(rt: HostRuntime) -> Result<
         (bridge(), BRIDGE_REGISTERS.as_slice(), 42),
     ] {
         for n in 1..=accesses {
-            let (found, left) = failing(rt.alloc(), function, n as u64)?;
-            let command = if n < 5 { None } else { Some(0x0003) };
-            let fault = SizeFault::Port {
-                offset: offset_of(registers, n),
-                fault: PortError::Failed,
-                command,
-            };
-            assert_eq!(rt; found, Err(fault), "access {n}");
-            assert_eq!(rt; left, left_by(function, registers, n), "access {n}");
+            assert!(rt; stops_at(rt.alloc(), function, registers, n)?, "access {n}");
         }
         for none in [0, accesses + 1] {
-            let (found, left) = failing(rt.alloc(), function, none as u64)?;
-            assert_eq!(rt; found, Ok(function.1));
-            assert_eq!(rt; left, function.0);
+            assert!(rt; ends_before(rt.alloc(), function, none)?, "access {none}");
         }
     }
     Ok(())
@@ -204,117 +127,197 @@ fn a_failing_read_back_leaves_the_register_open(rt: HostRuntime) -> Result<(), F
         fault: PortError::Failed,
         command: Some(0x0003),
     };
-    assert_eq!(rt; found, Err(fault));
-    assert_eq!(rt; fault.number(), 43);
-    assert_eq!(rt; left.u32(0x04), 0xf900_0000);
-    assert_eq!(rt; left.u32(0x10), 0xfff0_0000);
+    assert!(rt; found == Err(fault));
+    assert!(rt; left.u32(0x04) == 0xf900_0000);
+    assert!(rt; left.u32(0x10) == 0xfff0_0000);
     Ok(())
 }
 
 #[test]
+fn faults_of_sizing_and_of_ports_have_their_numbers(rt: HostRuntime) {
+    let port = SizeFault::Port {
+        offset: 0x10,
+        fault: PortError::Failed,
+        command: Some(0x0003),
+    };
+    assert!(rt; SizeFault::Header(ImageFault::NoVendor).number() == 20);
+    assert!(rt; PortError::NoFunction.number() == 40);
+    assert!(rt; PortError::BadAccess.number() == 41);
+    assert!(rt; PortError::Failed.number() == 42);
+    assert!(rt; port.number() == 43);
+    assert!(rt; SizeFault::Stuck.number() == 44);
+}
+
+/// A machine with a device whose memory decode bit is pinned.
+fn pinned(alloc: Global) -> Result<Machine, Fail> {
+    let (here, other) = (slot(0)?, slot(1)?);
+    let mut machine = machine_with(alloc, device())?;
+    if machine.pin(here, 0x04, 0b10) && !machine.pin(other, 0x04, 0b10) {
+        Ok(machine)
+    } else {
+        Err("not pinned".into())
+    }
+}
+
+#[test]
 fn a_pinned_decode_bit_stops_sizing(rt: HostRuntime) -> Result<(), Fail> {
-    let mut machine = machine_of(rt.alloc(), device())?;
-    assert!(rt; machine.pin(slot(0)?, 0x04, 0b10));
-    assert!(rt; !machine.pin(slot(1)?, 0x04, 0b10));
-    let found = size(&mut machine, slot(0)?);
-    assert_eq!(rt; found, Err(SizeFault::Stuck));
-    assert_eq!(rt; SizeFault::Stuck.number(), 44);
-    assert_eq!(rt; machine.image(slot(0)?).copied(), Some(device().0));
+    let here = slot(0)?;
+    let mut machine = pinned(rt.alloc())?;
+    assert!(rt; sized(&mut machine, here) == Err(SizeFault::Stuck));
+    assert!(rt; image_at(&machine, here) == Some(device().0));
+    Ok(())
+}
+
+#[test]
+fn command_is_written_back_where_a_decode_bit_is_pinned(rt: HostRuntime) -> Result<(), Fail> {
     // the sixth access writes Command back
-    let mut port = FailAt::new(machine, 6);
+    let (found, left) = failing_on(pinned(rt.alloc())?, 6)?;
     let fault = SizeFault::Port {
         offset: 0x04,
         fault: PortError::Failed,
         command: Some(0x0003),
     };
-    assert_eq!(rt; size(&mut port, slot(0)?), Err(fault));
-    let machine = port.into_inner();
-    let left = machine.image(slot(0)?).ok_or("no function")?;
-    assert_eq!(rt; left.u32(0x04), 0xf900_0002);
+    assert!(rt; found == Err(fault));
+    assert!(rt; left.u32(0x04) == 0xf900_0002);
     Ok(())
+}
+
+/// What sizing answers on a port whose accesses may fail.
+fn sized_on(port: &mut FailAt<Machine>, slot: Slot) -> Result<Image, SizeFault> {
+    size(port, slot)
 }
 
 #[test]
 fn a_slot_without_a_function_is_not_sized(rt: HostRuntime) -> Result<(), Fail> {
-    let machine = machine_of(rt.alloc(), device())?;
-    let mut port = FailAt::new(machine, 1);
+    let (here, other) = (slot(0)?, slot(1)?);
     let fault = SizeFault::Port {
         offset: 0x00,
         fault: PortError::NoFunction,
         command: None,
     };
-    assert_eq!(rt; size(&mut port, slot(1)?), Err(fault));
-    assert_eq!(rt;
-        size(&mut port, slot(0)?).is_err(),
-        true,
-        "the first access is still to fail"
-    );
-    let mut machine = port.into_inner();
-    assert_eq!(rt; size(&mut machine, slot(0)?), Ok(device().1));
-    assert_eq!(rt; SizeFault::Header(ImageFault::NoVendor).number(), 20);
+    let mut port = FailAt::new(machine_with(rt.alloc(), device())?, 1);
+    assert!(rt; sized_on(&mut port, other) == Err(fault));
+    // the first access is still to fail
+    assert!(rt; sized_on(&mut port, here).is_err());
+    assert!(rt; sized_on(&mut port, here) == Ok(device().1));
     Ok(())
+}
+
+/// A device of bus 00, an offset and a width, and what a read of them answers.
+const READS: [(u8, u8, u8, Result<u32, PortError>); 14] = [
+    (0, 0, 0, Err(PortError::BadAccess)),
+    (0, 0, 3, Err(PortError::BadAccess)),
+    (0, 0, 8, Err(PortError::BadAccess)),
+    (0, 1, 2, Err(PortError::BadAccess)),
+    (0, 2, 4, Err(PortError::BadAccess)),
+    (0, 255, 2, Err(PortError::BadAccess)),
+    (1, 0, 0, Err(PortError::NoFunction)),
+    (1, 0, 3, Err(PortError::NoFunction)),
+    (1, 0, 8, Err(PortError::NoFunction)),
+    (1, 1, 2, Err(PortError::NoFunction)),
+    (1, 2, 4, Err(PortError::NoFunction)),
+    (1, 255, 2, Err(PortError::NoFunction)),
+    (0, 255, 1, Ok(0)),
+    (0, 0x10, 4, Ok(0xfe00_0000)),
+];
+
+/// A device of bus 00, an offset, a width and a value, and why they are not written.
+const NO_WRITES: [(u8, u8, u8, u32, PortError); 3] = [
+    (0, 0x3c, 1, 0x100, PortError::BadAccess),
+    (0, 0x04, 2, 0x1_0000, PortError::BadAccess),
+    (1, 0x04, 2, 0x1_0000, PortError::NoFunction),
+];
+
+/// Whether a read answers what its row says.
+fn reads_so(
+    machine: &mut Machine,
+    row: (u8, u8, u8, Result<u32, PortError>),
+) -> Result<bool, Fail> {
+    let (dev, off, width, answer) = row;
+    let slot = slot(dev)?;
+    Ok(read_at(machine, slot, off, width) == answer)
+}
+
+/// Whether a write is refused by what its row says.
+fn refuses_write(machine: &mut Machine, row: (u8, u8, u8, u32, PortError)) -> Result<bool, Fail> {
+    let (dev, off, width, value, fault) = row;
+    let slot = slot(dev)?;
+    Ok(write_at(machine, slot, off, width, value) == Err(fault))
 }
 
 #[test]
 fn accesses_are_refused_by_40_and_then_41(rt: HostRuntime) -> Result<(), Fail> {
-    let mut machine = machine_of(rt.alloc(), device())?;
-    let here = slot(0)?;
-    for (off, width) in [(0, 0), (0, 3), (0, 8), (1, 2), (2, 4), (255, 2)] {
-        assert_eq!(rt; machine.read(here, off, width), Err(PortError::BadAccess));
-        assert_eq!(rt;
-            machine.read(slot(1)?, off, width),
-            Err(PortError::NoFunction)
-        );
+    let mut machine = machine_with(rt.alloc(), device())?;
+    for row in READS {
+        assert!(rt; reads_so(&mut machine, row)?, "{row:?}");
     }
-    assert_eq!(rt;
-        machine.write(here, 0x3c, 1, 0x100),
-        Err(PortError::BadAccess)
-    );
-    assert_eq!(rt;
-        machine.write(here, 0x04, 2, 0x1_0000),
-        Err(PortError::BadAccess)
-    );
-    assert_eq!(rt;
-        machine.write(slot(1)?, 0x04, 2, 0x1_0000),
-        Err(PortError::NoFunction)
-    );
-    assert_eq!(rt; machine.read(here, 255, 1), Ok(0));
-    assert_eq!(rt; machine.read(here, 0x10, 4), Ok(0xfe00_0000));
-    assert_eq!(rt; PortError::NoFunction.number(), 40);
-    assert_eq!(rt; PortError::BadAccess.number(), 41);
-    assert_eq!(rt; PortError::Failed.number(), 42);
+    for row in NO_WRITES {
+        assert!(rt; refuses_write(&mut machine, row)?, "{row:?}");
+    }
     Ok(())
+}
+
+/// Offset, width, value that is written, offset of the four bytes that are read then, and what they are.
+type Written = (u8, u8, u32, u8, u32);
+
+const WRITTEN_TO_DEVICE: [Written; 7] = [
+    (0x00, 4, 0xffff_ffff, 0x00, 0x5678_1234),
+    (0x04, 4, 0xffff_ffff, 0x04, 0x0000_0547),
+    (0x04, 2, 0x0000_0000, 0x04, 0xf900_0000),
+    (0x06, 2, 0x0000_1000, 0x04, 0xe900_0003),
+    (0x3c, 4, 0xffff_ffff, 0x3c, 0x0000_00ff),
+    (0x10, 4, 0xffff_ffff, 0x10, 0xfff0_0000),
+    (0x12, 1, 0x0000_00ff, 0x10, 0xfef0_0000),
+];
+
+const WRITTEN_TO_BRIDGE: [Written; 6] = [
+    (0x18, 4, 0xffff_ffff, 0x18, 0x00ff_ffff),
+    (0x1c, 4, 0x0000_0000, 0x1c, 0xf900_0101),
+    (0x1c, 4, 0xffff_ffff, 0x1c, 0x0000_f1f1),
+    (0x38, 4, 0xffff_ffff, 0x38, 0xfffe_0001),
+    (0x38, 4, 0x0000_0000, 0x38, 0x0000_0000),
+    (0x3c, 4, 0xffff_ffff, 0x3c, 0x0000_00ff),
+];
+
+/// Whether a write to a function leaves what its row says.
+fn leaves(alloc: Global, function: (Image, Image), row: Written) -> Result<bool, Fail> {
+    let (off, width, value, at, after) = row;
+    let here = slot(0)?;
+    let mut machine = machine_with(alloc, function)?;
+    Ok(
+        write_at(&mut machine, here, off, width, value) == Ok(())
+            && read_at(&mut machine, here, at, 4) == Ok(after),
+    )
 }
 
 #[test]
 fn writes_set_and_clear_just_the_bits_of_the_table(rt: HostRuntime) -> Result<(), Fail> {
-    // offset, width, value that is written, word at the offset's multiple of four before and after
-    let rows = [
-        (device(), 0x00, 4, 0xffff_ffff, 0x00, 0x5678_1234),
-        (device(), 0x04, 4, 0xffff_ffff, 0x04, 0x0000_0547),
-        (device(), 0x04, 2, 0x0000_0000, 0x04, 0xf900_0000),
-        (device(), 0x06, 2, 0x0000_1000, 0x04, 0xe900_0003),
-        (device(), 0x3c, 4, 0xffff_ffff, 0x3c, 0x0000_00ff),
-        (device(), 0x10, 4, 0xffff_ffff, 0x10, 0xfff0_0000),
-        (device(), 0x12, 1, 0x0000_00ff, 0x10, 0xfef0_0000),
-        (bridge(), 0x18, 4, 0xffff_ffff, 0x18, 0x00ff_ffff),
-        (bridge(), 0x1c, 4, 0x0000_0000, 0x1c, 0xf900_0101),
-        (bridge(), 0x1c, 4, 0xffff_ffff, 0x1c, 0x0000_f1f1),
-        (bridge(), 0x38, 4, 0xffff_ffff, 0x38, 0xfffe_0001),
-        (bridge(), 0x38, 4, 0x0000_0000, 0x38, 0x0000_0000),
-        (bridge(), 0x3c, 4, 0xffff_ffff, 0x3c, 0x0000_00ff),
-    ];
-    for (function, off, width, value, at, after) in rows {
-        let mut machine = machine_of(rt.alloc(), function)?;
-        assert_eq!(rt; machine.write(slot(0)?, off, width, value), Ok(()));
-        assert_eq!(rt; machine.read(slot(0)?, at, 4), Ok(after), "{off} {value}");
+    for row in WRITTEN_TO_DEVICE {
+        assert!(rt; leaves(rt.alloc(), device(), row)?, "{row:?}");
+    }
+    for row in WRITTEN_TO_BRIDGE {
+        assert!(rt; leaves(rt.alloc(), bridge(), row)?, "{row:?}");
     }
     Ok(())
 }
 
+/// Whether an image and its read backs, at 00:00.0, make no machine because of this fault.
+fn is_refused(
+    alloc: Global,
+    image: Image,
+    read_backs: Image,
+    fault: PairFault,
+) -> Result<bool, Fail> {
+    let mut dump = Dump::empty(alloc);
+    let mut probe = Dump::empty(alloc);
+    add(&mut dump, 0, image)?;
+    add(&mut probe, 0, read_backs)?;
+    let refused = machine_of_pair(alloc, &dump, &probe).err();
+    Ok(refused == Some(Refused::Fault(fault)))
+}
+
 #[test]
 fn a_dump_and_probe_that_are_no_pair_make_no_machine(rt: HostRuntime) -> Result<(), Fail> {
-    let alloc = rt.alloc();
     let zero = image(&[]);
     let here = slot(0)?;
     let rows = [
@@ -337,71 +340,97 @@ fn a_dump_and_probe_that_are_no_pair_make_no_machine(rt: HostRuntime) -> Result<
         (bridge().0, zero, PairFault::RomMask(here, 0x38)),
     ];
     for (image, read_backs, fault) in rows {
-        let dump = dump_of(alloc, &[(0, image)])?;
-        let probe = dump_of(alloc, &[(0, read_backs)])?;
-        let refused = Machine::of(alloc, &dump, &probe).err();
-        assert_eq!(rt; refused, Some(Refused::Fault(fault)));
+        assert!(rt;
+            is_refused(rt.alloc(), image, read_backs, fault)?,
+            "{fault:?}"
+        );
     }
-    let dump = dump_of(alloc, &[(0, device().0), (2, device().0)])?;
-    let probe = dump_of(alloc, &[(0, device().1), (3, device().1)])?;
-    let refused = Machine::of(alloc, &dump, &probe).err();
-    assert_eq!(rt;
-        refused,
-        Some(Refused::Fault(PairFault::SlotsDiffer(slot(2)?)))
-    );
     Ok(())
+}
+
+#[test]
+fn a_dump_and_probe_of_other_slots_make_no_machine(rt: HostRuntime) -> Result<(), Fail> {
+    let (image, read_backs) = device();
+    let mut dump = Dump::empty(rt.alloc());
+    let mut probe = Dump::empty(rt.alloc());
+    for dev in [0, 2] {
+        add(&mut dump, dev, image)?;
+    }
+    for dev in [0, 3] {
+        add(&mut probe, dev, read_backs)?;
+    }
+    let refused = machine_of_pair(rt.alloc(), &dump, &probe).err();
+    let fault = PairFault::SlotsDiffer(slot(2)?);
+    assert!(rt; refused == Some(Refused::Fault(fault)));
+    Ok(())
+}
+
+/// The function that a machine of six functions has at a device of bus 00.
+fn one_of_six(dev: u8) -> Option<(Image, Image)> {
+    match dev {
+        4 => Some(bridge()),
+        7 => Some(capable_device()),
+        0 | 1 | 8 | 31 => Some(device()),
+        _ => None,
+    }
+}
+
+/// A machine of six functions.
+fn six_functions(alloc: Global) -> Result<Machine, Fail> {
+    let mut dump = Dump::empty(alloc);
+    let mut probe = Dump::empty(alloc);
+    for dev in 0..32 {
+        if let Some(function) = one_of_six(dev) {
+            add(&mut dump, dev, function.0)?;
+            add(&mut probe, dev, function.1)?;
+        }
+    }
+    let machine = machine_of_pair(alloc, &dump, &probe)?;
+    Ok(machine)
+}
+
+/// Whether a machine has this function at a slot, or none, and sizes it so.
+fn is_found(machine: &mut Machine, slot: Slot, function: Option<(Image, Image)>) -> bool {
+    match function {
+        Some((image, read_backs)) => {
+            image_at(machine, slot) == Some(image) && sized(machine, slot) == Ok(read_backs)
+        }
+        None => image_at(machine, slot).is_none() && sized(machine, slot).is_err(),
+    }
 }
 
 #[test]
 fn each_function_of_a_machine_is_found(rt: HostRuntime) -> Result<(), Fail> {
-    let alloc = rt.alloc();
-    let devices = [0, 1, 4, 7, 8, 31];
-    let mut dump = Dump::empty(alloc);
-    let mut probe = Dump::empty(alloc);
-    for dev in devices {
-        let (image, read_backs) = match dev {
-            4 => bridge(),
-            7 => capable_device(),
-            _ => device(),
-        };
-        dump.push(Block {
-            slot: slot(dev)?,
-            title: None,
-            image,
-        })?;
-        probe.push(Block {
-            slot: slot(dev)?,
-            title: None,
-            image: read_backs,
-        })?;
-    }
-    let mut machine = Machine::of(alloc, &dump, &probe)?;
+    let mut machine = six_functions(rt.alloc())?;
     for dev in 0..32 {
-        let there = devices.contains(&dev);
-        assert_eq!(rt; machine.image(slot(dev)?).is_some(), there);
-        assert_eq!(rt; size(&mut machine, slot(dev)?).is_ok(), there);
+        assert!(rt;
+            is_found(&mut machine, slot(dev)?, one_of_six(dev)),
+            "{dev}"
+        );
     }
-    assert_eq!(rt; size(&mut machine, slot(4)?), Ok(bridge().1));
-    assert_eq!(rt; size(&mut machine, slot(7)?), Ok(capable_device().1));
     Ok(())
+}
+
+/// What a read of the Vendor ID answers on a port within a port, either of whose accesses may fail.
+fn vendor_of(port: &mut FailAt<FailAt<Machine>>, slot: Slot, off: u8) -> Result<u32, PortError> {
+    port.read(slot, off, 2)
 }
 
 #[test]
 fn an_access_that_fails_is_not_passed_on(rt: HostRuntime) -> Result<(), Fail> {
-    let machine = machine_of(rt.alloc(), device())?;
-    let here = slot(0)?;
-    let vendor = machine.image(here).ok_or("no function")?.u16(0x00);
+    let (here, other) = (slot(0)?, slot(1)?);
+    let machine = machine_with(rt.alloc(), device())?;
     // the port inside fails its second access
     let mut port = FailAt::new(FailAt::new(machine, 2), 1);
     for answer in [
         Err(PortError::Failed),
-        Ok(u32::from(vendor)),
+        Ok(0x1234),
         Err(PortError::Failed),
-        Ok(u32::from(vendor)),
+        Ok(0x1234),
     ] {
-        assert_eq!(rt; port.read(slot(1)?, 0x00, 2), Err(PortError::NoFunction));
-        assert_eq!(rt; port.read(here, 0x01, 2), Err(PortError::BadAccess));
-        assert_eq!(rt; port.read(here, 0x00, 2), answer);
+        assert!(rt; vendor_of(&mut port, other, 0x00) == Err(PortError::NoFunction));
+        assert!(rt; vendor_of(&mut port, here, 0x01) == Err(PortError::BadAccess));
+        assert!(rt; vendor_of(&mut port, here, 0x00) == answer, "{answer:?}");
     }
     Ok(())
 }

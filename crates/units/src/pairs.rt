@@ -70,87 +70,65 @@ fn answers(
     }
 }
 
+/// The functions of a dump, those of a probe, and the text of the fault that the pair is refused by.
+type Row = (&'static [(u8, Bytes)], &'static [(u8, Bytes)], &'static str);
+
+const ROWS: [Row; 16] = [
+    (&[], &[], ""),
+    (&[(1, NONE), (2, HALF)], &[(1, BARS), (2, NONE)], ""),
+    (&[(1, BRIDGE)], &[(1, WINDOWS)], ""),
+    (&[(0, DEAD)], &[(0, NONE)], "20 NoVendor 00:00.0"),
+    (&[(0, DEAD)], &[], "30 SlotsDiffer 00:00.0"),
+    (&[], &[(3, NONE)], "30 SlotsDiffer 00:03.0"),
+    (
+        &[(1, DEAD), (2, NONE)],
+        &[(1, NONE), (3, NONE)],
+        "30 SlotsDiffer 00:02.0",
+    ),
+    (
+        &[(1, NONE), (3, NONE)],
+        &[(1, NONE), (2, NONE)],
+        "30 SlotsDiffer 00:02.0",
+    ),
+    (
+        &[(1, NONE), (2, NONE)],
+        &[(1, NONE)],
+        "30 SlotsDiffer 00:02.0",
+    ),
+    (&[(1, CARD)], &[(1, STRAY)], "21 HeaderKind 00:01.0"),
+    (
+        &[(1, NONE), (2, DEAD)],
+        &[(1, STRAY), (2, NONE)],
+        "31 StrayProbe 00:01.0 28",
+    ),
+    (&[(1, NONE)], &[(1, WINDOWS)], "31 StrayProbe 00:01.0 38"),
+    (
+        &[(1, BRIDGE)],
+        &[(1, &[(0x18, 1)])],
+        "31 StrayProbe 00:01.0 18",
+    ),
+    (
+        &[(1, BRIDGE)],
+        &[(1, &[(0x1e, 1)])],
+        "31 StrayProbe 00:01.0 1e",
+    ),
+    (
+        &[(1, BRIDGE)],
+        &[(1, &[(0x34, 1)])],
+        "31 StrayProbe 00:01.0 34",
+    ),
+    (
+        &[(1, BRIDGE)],
+        &[(1, &[(0x3c, 1)])],
+        "31 StrayProbe 00:01.0 3c",
+    ),
+];
+
 #[test]
 fn a_pair_is_refused_by_the_first_fault(rt: HostRuntime) -> Result<(), Fail> {
-    assert!(rt; answers(&rt, &[], &[], "")?);
-    assert!(rt; answers(&rt, &[(1, NONE), (2, HALF)], &[(1, BARS), (2, NONE)], "")?);
-    assert!(rt; answers(&rt, &[(1, BRIDGE)], &[(1, WINDOWS)], "")?);
-    assert!(rt; answers(&rt, &[(0, DEAD)], &[(0, NONE)], "20 NoVendor 00:00.0")?);
-    assert!(rt; answers(&rt, &[(0, DEAD)], &[], "30 SlotsDiffer 00:00.0")?);
-    assert!(rt; answers(&rt, &[], &[(3, NONE)], "30 SlotsDiffer 00:03.0")?);
-    assert!(rt;
-        answers(
-            &rt,
-            &[(1, DEAD), (2, NONE)],
-            &[(1, NONE), (3, NONE)],
-            "30 SlotsDiffer 00:02.0"
-        )?
-    );
-    assert!(rt;
-        answers(
-            &rt,
-            &[(1, NONE), (3, NONE)],
-            &[(1, NONE), (2, NONE)],
-            "30 SlotsDiffer 00:02.0"
-        )?
-    );
-    assert!(rt;
-        answers(
-            &rt,
-            &[(1, NONE), (2, NONE)],
-            &[(1, NONE)],
-            "30 SlotsDiffer 00:02.0"
-        )?
-    );
-    assert!(rt; answers(&rt, &[(1, CARD)], &[(1, STRAY)], "21 HeaderKind 00:01.0")?);
-    assert!(rt;
-        answers(
-            &rt,
-            &[(1, NONE), (2, DEAD)],
-            &[(1, STRAY), (2, NONE)],
-            "31 StrayProbe 00:01.0 28"
-        )?
-    );
-    assert!(rt;
-        answers(
-            &rt,
-            &[(1, NONE)],
-            &[(1, WINDOWS)],
-            "31 StrayProbe 00:01.0 38"
-        )?
-    );
-    assert!(rt;
-        answers(
-            &rt,
-            &[(1, BRIDGE)],
-            &[(1, &[(0x18, 1)])],
-            "31 StrayProbe 00:01.0 18"
-        )?
-    );
-    assert!(rt;
-        answers(
-            &rt,
-            &[(1, BRIDGE)],
-            &[(1, &[(0x1e, 1)])],
-            "31 StrayProbe 00:01.0 1e"
-        )?
-    );
-    assert!(rt;
-        answers(
-            &rt,
-            &[(1, BRIDGE)],
-            &[(1, &[(0x34, 1)])],
-            "31 StrayProbe 00:01.0 34"
-        )?
-    );
-    assert!(rt;
-        answers(
-            &rt,
-            &[(1, BRIDGE)],
-            &[(1, &[(0x3c, 1)])],
-            "31 StrayProbe 00:01.0 3c"
-        )?
-    );
+    for (dump, probe, wanted) in ROWS {
+        assert!(rt; answers(&rt, dump, probe, wanted)?, "{wanted}");
+    }
     Ok(())
 }
 
@@ -181,6 +159,6 @@ fn faults_are_numbered(rt: HostRuntime) {
         (PairFault::WindowMask(slot, 0x1c), 26),
     ];
     for (fault, number) in cases {
-        assert_eq!(rt; fault.number(), number);
+        assert!(rt; fault.number() == number, "{number}");
     }
 }

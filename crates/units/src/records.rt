@@ -1,10 +1,41 @@
-use crate::registers::{bridge, device, list_at};
+use crate::registers::{Registers, bridge, device, list_at};
 use pci_image::bar::{Bar, BarKind};
 use pci_image::fault::ImageFault;
+use pci_image::range::Range;
 use pci_image::rom::Rom;
 use pci_image::slot::Slot;
 use pci_tree::decode::decode;
+use pci_tree::record::Record;
 use std::test::Fail;
+
+/// The record of a function at a slot.
+fn decoded(slot: Slot, function: &Registers) -> Result<Record, Fail> {
+    Ok(decode(slot, &function.image, &function.probe)?)
+}
+
+const BARS: [Bar; 2] = [
+    Bar {
+        reg: 0x10,
+        kind: BarKind::Io,
+        prefetch: false,
+        first: 0xe000,
+        last: 0xe0ff,
+    },
+    Bar {
+        reg: 0x14,
+        kind: BarKind::Mem32,
+        prefetch: true,
+        first: 0xfebf_f000,
+        last: 0xfebf_ffff,
+    },
+];
+
+const ROM: Rom = Rom {
+    reg: 0x30,
+    on: true,
+    first: 0xfea0_0000,
+    last: 0xfea1_ffff,
+};
 
 #[test]
 fn a_record_has_what_judging_needs(rt: HostRuntime) -> Result<(), Fail> {
@@ -15,43 +46,12 @@ fn a_record_has_what_judging_needs(rt: HostRuntime) -> Result<(), Fail> {
         .register(0x10, 0x0000_e001, 0xffff_ff01)
         .register(0x14, 0xfebf_f008, 0xffff_f008)
         .register(0x30, 0xfea0_0001, 0xfffe_0000);
-    match decode(slot, &function.image, &function.probe) {
-        Ok(record) => {
-            assert_eq!(rt; record.slot, slot);
-            assert_eq!(rt; record.command, 0x0103);
-            assert_eq!(rt;
-                record.bars.as_slice(),
-                [
-                    Bar {
-                        reg: 0x10,
-                        kind: BarKind::Io,
-                        prefetch: false,
-                        first: 0xe000,
-                        last: 0xe0ff
-                    },
-                    Bar {
-                        reg: 0x14,
-                        kind: BarKind::Mem32,
-                        prefetch: true,
-                        first: 0xfebf_f000,
-                        last: 0xfebf_ffff
-                    },
-                ]
-                .as_slice()
-            );
-            assert_eq!(rt;
-                record.rom,
-                Some(Rom {
-                    reg: 0x30,
-                    on: true,
-                    first: 0xfea0_0000,
-                    last: 0xfea1_ffff
-                })
-            );
-            assert_eq!(rt; record.bridge, None);
-        }
-        Err(fault) => panic!(rt; "{fault:?}"),
-    }
+    let found = decoded(slot, &function)?;
+    assert!(rt; found.slot == slot);
+    assert!(rt; found.command == 0x0103);
+    assert!(rt; found.bars.as_slice() == BARS.as_slice());
+    assert!(rt; found.rom == Some(ROM));
+    assert!(rt; found.bridge == None);
     Ok(())
 }
 
@@ -61,25 +61,21 @@ fn a_bridge_has_its_bus_numbers_and_windows(rt: HostRuntime) -> Result<(), Fail>
     let function = bridge()
         .bytes(0x18, &[1, 4, 9])
         .register(0x20, 0xe010_e000, 0xfff0_fff0);
-    match decode(slot, &function.image, &function.probe) {
-        Ok(record) => match record.bridge {
-            Some(found) => {
-                assert_eq!(rt;
-                    (found.primary, found.secondary, found.subordinate),
-                    (1, 4, 9)
-                );
-                assert_eq!(rt;
-                    found.windows.mem.range().map(|r| (r.first, r.last)),
-                    Some((0xe000_0000, 0xe01f_ffff))
-                );
-                assert_eq!(rt; found.windows.io, None);
-                assert_eq!(rt; found.windows.pref, None);
-            }
-            None => panic!(rt; "no bridge"),
-        },
-        Err(fault) => panic!(rt; "{fault:?}"),
-    }
+    let found = decoded(slot, &function)?.bridge.ok_or("no bridge")?;
+    let range = Range {
+        first: 0xe000_0000,
+        last: 0xe01f_ffff,
+    };
+    assert!(rt; (found.primary, found.secondary, found.subordinate) == (1, 4, 9));
+    assert!(rt; found.windows.mem.range() == Some(range));
+    assert!(rt; found.windows.io == None);
+    assert!(rt; found.windows.pref == None);
     Ok(())
+}
+
+/// The fault of a function that has no record.
+fn fault_of(slot: Slot, function: &Registers) -> Option<ImageFault> {
+    decode(slot, &function.image, &function.probe).err()
 }
 
 #[test]
@@ -124,10 +120,7 @@ fn the_first_fault_of_a_function_is_named(rt: HostRuntime) -> Result<(), Fail> {
         ),
     ];
     for (function, fault) in rows {
-        match decode(slot, &function.image, &function.probe) {
-            Ok(_) => panic!(rt; "a record in place of {fault:?}"),
-            Err(found) => assert_eq!(rt; found, fault),
-        }
+        assert!(rt; fault_of(slot, &function) == Some(fault), "{fault:?}");
     }
     Ok(())
 }

@@ -1,7 +1,7 @@
 use crate::registers::{Registers, bridge, device};
 use pci_image::slot::Slot;
 use pci_tree::decode::decode;
-use pci_tree::region::{Part, add_regions};
+use pci_tree::region::{Part, Region, add_regions};
 use pci_tree::space::Space;
 use std::test::Fail;
 
@@ -24,6 +24,44 @@ fn windows(command: u8, memory: u32) -> Registers {
 
 /// A region's register, part, whether it is prefetchable, and range.
 type Row = (u8, Part, bool, u64, u64);
+
+/// Whether a region is of this slot and as its row says.
+fn is_region(region: &Region, slot: Slot, row: &Row) -> bool {
+    region.slot == slot
+        && region.reg == row.0
+        && region.part == row.1
+        && region.prefetch == row.2
+        && (region.first, region.last) == (row.3, row.4)
+}
+
+/// The regions that a function has in a space.
+fn regions_of(
+    rt: &HostRuntime,
+    slot: Slot,
+    function: &Registers,
+    space: Space,
+) -> Result<Vec<Region>, Fail> {
+    let record = decode(slot, &function.image, &function.probe)?;
+    let mut found = Vec::new(rt.alloc());
+    add_regions(&mut found, &record, space)?;
+    Ok(found)
+}
+
+/// Whether the regions that a function has in a space are these.
+fn has_regions(
+    rt: &HostRuntime,
+    slot: Slot,
+    function: &Registers,
+    space: Space,
+    wanted: &[Row],
+) -> Result<bool, Fail> {
+    let found = regions_of(rt, slot, function, space)?;
+    let mut all = found.len() == wanted.len();
+    for (region, row) in found.iter().zip(wanted) {
+        all = all && is_region(region, slot, row);
+    }
+    Ok(all)
+}
 
 #[test]
 fn enabled_parts_are_listed_by_register(rt: HostRuntime) -> Result<(), Fail> {
@@ -65,30 +103,7 @@ fn enabled_parts_are_listed_by_register(rt: HostRuntime) -> Result<(), Fail> {
         (windows(1, 0xe010_e000), Space::Mem, &[]),
     ];
     for (function, space, wanted) in rows {
-        match decode(slot, &function.image, &function.probe) {
-            Ok(record) => {
-                let mut found = Vec::new(rt.alloc());
-                match add_regions(&mut found, &record, space) {
-                    Ok(()) => {}
-                    Err(_) => panic!(rt; "no memory"),
-                }
-                assert_eq!(rt; found.len(), wanted.len());
-                for (region, row) in found.iter().zip(wanted) {
-                    assert_eq!(rt; region.slot, slot);
-                    assert_eq!(rt;
-                        (
-                            region.reg,
-                            region.part,
-                            region.prefetch,
-                            region.first,
-                            region.last
-                        ),
-                        *row
-                    );
-                }
-            }
-            Err(fault) => panic!(rt; "{fault:?}"),
-        }
+        assert!(rt; has_regions(&rt, slot, &function, space, wanted)?);
     }
     Ok(())
 }

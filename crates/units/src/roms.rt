@@ -46,7 +46,10 @@ fn a_rom_has_the_range_that_its_comparator_answers(rt: HostRuntime) {
         ),
     ];
     for (function, expected) in rows {
-        assert_eq!(rt; rom(&function.image, &function.probe), Ok(expected));
+        assert!(rt;
+            rom(&function.image, &function.probe) == Ok(expected),
+            "{expected:?}"
+        );
     }
 }
 
@@ -92,6 +95,9 @@ fn a_register_that_is_no_rom_is_refused(rt: HostRuntime) {
         ),
     ];
     for (function, fault) in rows {
-        assert_eq!(rt; rom(&function.image, &function.probe), Err(fault));
+        assert!(rt;
+            rom(&function.image, &function.probe) == Err(fault),
+            "{fault:?}"
+        );
     }
 }

@@ -6,7 +6,7 @@ use pci_dump::reader::read_dump;
 use std::test::Fail;
 
 /// The lines of a block with a title, of 849 bytes.
-pub const EXAMPLE: [&[u8]; 18] = [
+const EXAMPLE: [&[u8]; 18] = [
     b"00:02.0 Example\n",
     b"00: 34 12 78 56 02 00 10 00 00 00 00 00 00 00 00 00\n",
     b"10: 08 00 00 fe 00 00 00 00 00 00 00 00 00 00 00 00\n",
@@ -39,6 +39,11 @@ pub fn joined(rt: &HostRuntime, parts: &[&[u8]]) -> Result<Vec<u8>, Fail> {
     Ok(text)
 }
 
+/// The example's text.
+pub fn example(rt: &HostRuntime) -> Result<Vec<u8>, Fail> {
+    joined(rt, &EXAMPLE)
+}
+
 /// A block of zeros, whose slot line is this.
 pub fn block(rt: &HostRuntime, line: &[u8]) -> Result<Vec<u8>, Fail> {
     let mut text = Vec::new(rt.alloc());
@@ -60,4 +65,15 @@ pub fn block(rt: &HostRuntime, line: &[u8]) -> Result<Vec<u8>, Fail> {
 pub fn outcome(rt: &HostRuntime, text: &[u8], step: usize) -> Result<usize, ReadFault> {
     let dump = read_dump(rt.alloc(), &mut Pieces::new(text, step, 0))?;
     Ok(dump.blocks().len())
+}
+
+/// Whether two parts together are read so, in each cutting.
+pub fn reads_as(
+    rt: &HostRuntime,
+    front: &[u8],
+    end: &[u8],
+    wanted: Result<usize, ReadFault>,
+) -> Result<bool, Fail> {
+    let text = joined(rt, &[front, end])?;
+    Ok(STEPS.iter().all(|&step| outcome(rt, &text, step) == wanted))
 }

@@ -15,6 +15,16 @@ fn open(wide: bool, first: u64, last: u64) -> Shown {
     Some((wide, Some(Range { first, last })))
 }
 
+/// The windows of a bridge: I/O, memory and prefetchable memory.
+fn windows_of(function: &Registers) -> Result<(Shown, Shown, Shown), ImageFault> {
+    let windows = Windows::of(&function.image, &function.probe)?;
+    Ok((
+        shown(windows.io),
+        shown(Some(windows.mem)),
+        shown(windows.pref),
+    ))
+}
+
 #[test]
 fn windows_hold_from_their_base_to_the_end_of_their_last_page(rt: HostRuntime) {
     let rows: [(Registers, Shown, Shown, Shown); 9] = [
@@ -88,14 +98,10 @@ fn windows_hold_from_their_base_to_the_end_of_their_last_page(rt: HostRuntime) {
         ),
     ];
     for (function, io, mem, pref) in rows {
-        match Windows::of(&function.image, &function.probe) {
-            Ok(windows) => {
-                assert_eq!(rt; shown(windows.io), io);
-                assert_eq!(rt; shown(Some(windows.mem)), mem);
-                assert_eq!(rt; shown(windows.pref), pref);
-            }
-            Err(fault) => panic!(rt; "{fault:?}"),
-        }
+        assert!(rt;
+            windows_of(&function) == Ok((io, mem, pref)),
+            "{io:?} {mem:?} {pref:?}"
+        );
     }
 }
 

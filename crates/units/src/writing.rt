@@ -1,5 +1,5 @@
 use crate::fakes::{Narrow, Pieces};
-use crate::texts::{EXAMPLE, STEPS, block, joined, outcome};
+use crate::texts::{STEPS, block, example, joined, reads_as};
 use pci_dump::block::Block;
 use pci_dump::dump::{Dump, PushFault};
 use pci_dump::memory::Refused;
@@ -20,31 +20,63 @@ fn written(rt: &HostRuntime, dump: &Dump) -> Result<Vec<u8>, Fail> {
     Ok(text)
 }
 
+/// Whether a dump that was read is written as this text.
+fn is_written_again(
+    rt: &HostRuntime,
+    dump: Result<Dump, ReadFault>,
+    text: &[u8],
+) -> Result<bool, Fail> {
+    Ok(written(rt, &dump?)?.as_slice() == text)
+}
+
 #[test]
 fn what_is_read_is_written_again(rt: HostRuntime) -> Result<(), Fail> {
-    let example = joined(&rt, &EXAMPLE)?;
+    let first = example(&rt)?;
     let last = block(&rt, b"ff:1f.7 \xe9 ~\n")?;
-    let text = joined(&rt, &[&example, &last])?;
+    let text = joined(&rt, &[&first, &last])?;
     for step in STEPS {
-        match read_dump(rt.alloc(), &mut Pieces::new(&text, step, 0)) {
-            Ok(dump) => assert!(rt; written(&rt, &dump)? == text),
-            Err(_) => assert!(rt; false),
-        }
+        let dump = read_dump(rt.alloc(), &mut Pieces::new(&text, step, 0));
+        assert!(rt; is_written_again(&rt, dump, &text)?, "{step}");
     }
-    match read_dump(rt.alloc(), &mut Incoming::new(text.as_slice())) {
-        Ok(dump) => assert!(rt; written(&rt, &dump)? == text),
-        Err(_) => assert!(rt; false),
-    }
+    let dump = read_dump(rt.alloc(), &mut Incoming::new(text.as_slice()));
+    assert!(rt; is_written_again(&rt, dump, &text)?);
     Ok(())
+}
+
+/// A writer with so much room.
+fn narrow(rt: &HostRuntime, room: usize, step: usize, fails: bool) -> Narrow {
+    Narrow {
+        taken: Vec::new(rt.alloc()),
+        room,
+        step,
+        fails,
+    }
+}
+
+/// What writing a dump to a writer answers.
+fn write_to(writer: &mut Narrow, dump: &Dump) -> Result<(), WriteFault> {
+    write_dump(&mut Outgoing::new(writer), dump)
+}
+
+/// Whether writing a dump, whose text is this, fails and leaves the beginning of it that there was room for.
+fn leaves_beginning(dump: &Dump, text: &[u8], writer: Narrow) -> bool {
+    let room = writer.room;
+    let mut writer = writer;
+    write_to(&mut writer, dump) == Err(WriteFault::Io)
+        && writer.taken.len() == room
+        && text.get(..room) == Some(writer.taken.as_slice())
+}
+
+/// Whether all of a text is written.
+fn takes_all(dump: &Dump, text: &[u8], writer: Narrow) -> bool {
+    let mut writer = writer;
+    write_to(&mut writer, dump) == Ok(()) && writer.taken.as_slice() == text
 }
 
 #[test]
 fn a_failing_writer_holds_a_beginning(rt: HostRuntime) -> Result<(), Fail> {
-    let text = joined(&rt, &EXAMPLE)?;
-    let Ok(dump) = read_dump(rt.alloc(), &mut Pieces::new(&text, 4096, 0)) else {
-        assert!(rt; false);
-        return Ok(());
-    };
+    let text = example(&rt)?;
+    let dump = read_dump(rt.alloc(), &mut Pieces::new(&text, 4096, 0))?;
     for (step, room, fails) in [
         (4096, 100, true),
         (4096, 100, false),
@@ -52,45 +84,25 @@ fn a_failing_writer_holds_a_beginning(rt: HostRuntime) -> Result<(), Fail> {
         (1, 100, false),
         (7, 0, true),
     ] {
-        let mut writer = Narrow {
-            taken: Vec::new(rt.alloc()),
-            room,
-            step,
-            fails,
-        };
-        let done = write_dump(&mut Outgoing::new(&mut writer), &dump);
-        assert_eq!(rt; done, Err(WriteFault::Io));
-        assert!(rt;
-            text.get(..room)
-                .is_some_and(|front| front == writer.taken.as_slice())
-        );
+        let writer = narrow(&rt, room, step, fails);
+        assert!(rt; leaves_beginning(&dump, &text, writer), "{step} {room}");
     }
     for room in 0..849 {
-        let mut writer = Narrow {
-            taken: Vec::new(rt.alloc()),
-            room,
-            step: 1,
-            fails: true,
-        };
-        let done = write_dump(&mut Outgoing::new(&mut writer), &dump);
-        assert_eq!(rt; (done, writer.taken.len()), (Err(WriteFault::Io), room));
+        let writer = narrow(&rt, room, 1, true);
+        assert!(rt; leaves_beginning(&dump, &text, writer), "{room}");
     }
     for step in [1, 848, 4096] {
-        let mut writer = Narrow {
-            taken: Vec::new(rt.alloc()),
-            room: 849,
-            step,
-            fails: true,
-        };
-        let done = write_dump(&mut Outgoing::new(&mut writer), &dump);
-        assert_eq!(rt; done, Ok(()));
-        assert!(rt; writer.taken == text);
+        let writer = narrow(&rt, 849, step, true);
+        assert!(rt; takes_all(&dump, &text, writer), "{step}");
     }
-    assert_eq!(rt; WriteFault::Io.number(), 10);
-    assert_eq!(rt;
-        format!(in rt.alloc(); "{}", WriteFault::Io)?.as_str(),
-        "10 Io"
-    );
+    Ok(())
+}
+
+#[test]
+fn a_failed_write_is_shown_by_number_and_name(rt: HostRuntime) -> Result<(), Fail> {
+    let fault = WriteFault::Io;
+    assert!(rt; fault.number() == 10);
+    assert!(rt; format!(in rt.alloc(); "{fault}")?.as_str() == "10 Io");
     Ok(())
 }
 
@@ -104,43 +116,42 @@ fn block_at(n: u16) -> Option<Block> {
     })
 }
 
+/// What pushing the n-th block onto a dump answers.
+fn pushed(dump: &mut Dump, n: u16) -> Option<Result<(), Refused<PushFault>>> {
+    let block = block_at(n)?;
+    Some(dump.push(block))
+}
+
+/// Whether the n-th block is refused.
+fn is_refused(dump: &mut Dump, n: u16, fault: PushFault) -> bool {
+    pushed(dump, n) == Some(Err(Refused::Fault(fault)))
+}
+
+/// Whether a dump takes the n-th block once.
+fn takes_once(dump: &mut Dump, n: u16) -> bool {
+    pushed(dump, n) == Some(Ok(())) && is_refused(dump, n, PushFault::NotAbove)
+}
+
 #[test]
 fn a_dump_has_at_most_4096_blocks(rt: HostRuntime) -> Result<(), Fail> {
     let mut dump = Dump::empty(rt.alloc());
     for n in 0..4096u16 {
-        if let Some(block) = block_at(n) {
-            assert_eq!(rt; dump.push(block), Ok(()));
-        }
-        if let Some(block) = block_at(n) {
-            assert_eq!(rt; dump.push(block), Err(Refused::Fault(PushFault::NotAbove)));
-        }
+        assert!(rt; takes_once(&mut dump, n), "{n}");
     }
-    if let Some(block) = block_at(4096) {
-        assert_eq!(rt; dump.push(block), Err(Refused::Fault(PushFault::Full)));
-    }
-    if let Some(block) = block_at(4095) {
-        assert_eq!(rt; dump.push(block), Err(Refused::Fault(PushFault::NotAbove)));
-    }
-    assert_eq!(rt; dump.blocks().len(), 4096);
-    assert_eq!(rt;
-        (PushFault::NotAbove.number(), PushFault::Full.number()),
-        (11, 12)
-    );
-    let mut text = written(&rt, &dump)?;
-    assert_eq!(rt; text.len(), 3_444_736);
-    for step in STEPS {
-        assert_eq!(rt; outcome(&rt, &text, step), Ok(4096), "{step}");
-    }
-    for byte in [b'0', b'G', b'\n'] {
-        text.push(byte)?;
-        for step in STEPS {
-            assert_eq!(rt;
-                outcome(&rt, &text, step),
-                Err(ReadFault::TooMany(73729)),
-                "{step}"
-            );
-        }
-        let _ = text.pop();
+    assert!(rt; is_refused(&mut dump, 4096, PushFault::Full));
+    assert!(rt; is_refused(&mut dump, 4095, PushFault::NotAbove));
+    assert!(rt; dump.blocks().len() == 4096);
+    let text = written(&rt, &dump)?;
+    assert!(rt; text.len() == 3_444_736);
+    assert!(rt; reads_as(&rt, &text, b"", Ok(4096))?);
+    for end in [b"0", b"G", b"\n"] {
+        assert!(rt; reads_as(&rt, &text, end, Err(ReadFault::TooMany(73729)))?);
     }
     Ok(())
+}
+
+#[test]
+fn faults_of_a_push_are_numbered(rt: HostRuntime) {
+    assert!(rt; PushFault::NotAbove.number() == 11);
+    assert!(rt; PushFault::Full.number() == 12);
 }

@@ -1,0 +1,148 @@
+//! Machines in memory with functions of bus 00, and calls of them.
+use pci_dump::block::Block;
+use pci_dump::dump::Dump;
+use pci_dump::memory::Refused;
+use pci_dump::pair_fault::PairFault;
+use pci_image::image::Image;
+use pci_image::slot::Slot;
+use pci_machine::machine::Machine;
+use pci_machine::port::{ConfigPort, PortError};
+use pci_machine::size::size;
+use pci_machine::size_fault::SizeFault;
+use std::alloc::Global;
+use std::test::Fail;
+
+/// A slot of bus 00.
+pub fn slot(dev: u8) -> Result<Slot, Fail> {
+    let slot = Slot::new(0, dev, 0).ok_or("no slot")?;
+    Ok(slot)
+}
+
+/// An image with these registers of four bytes, and 0 elsewhere.
+pub fn image(registers: &[(u8, u32)]) -> Image {
+    let mut bytes = [0; 256];
+    for (offset, value) in registers {
+        let mut rest = *value;
+        for j in 0..4 {
+            let at = usize::from(*offset) + j;
+            if at < 256 {
+                bytes[at] = (rest % 256) as u8;
+            }
+            rest /= 256;
+        }
+    }
+    Image(bytes)
+}
+
+/// A device with all decode bits set, a pending error in Status, and a BAR of 1 MB.
+pub fn device() -> (Image, Image) {
+    (
+        image(&[
+            (0x00, 0x5678_1234),
+            (0x04, 0xf900_0003),
+            (0x10, 0xfe00_0000),
+        ]),
+        image(&[(0x10, 0xfff0_0000)]),
+    )
+}
+
+/// A bridge whose windows are all there.
+pub fn bridge() -> (Image, Image) {
+    (
+        image(&[
+            (0x00, 0x5678_1234),
+            (0x04, 0x0000_0003),
+            (0x0c, 0x0001_0000),
+            (0x18, 0x0001_0100),
+            (0x1c, 0xf900_f1e1),
+            (0x20, 0xe010_e000),
+            (0x24, 0x0001_0001),
+            (0x28, 0x0000_0001),
+            (0x2c, 0x0000_0001),
+            (0x30, 0x0001_0001),
+            (0x38, 0xfe00_0001),
+        ]),
+        image(&[
+            (0x1c, 0x0000_f1f1),
+            (0x20, 0xfff0_fff0),
+            (0x24, 0xfff1_fff1),
+            (0x28, 0xffff_ffff),
+            (0x2c, 0xffff_ffff),
+            (0x30, 0xffff_ffff),
+            (0x38, 0xfffe_0000),
+        ]),
+    )
+}
+
+/// A device with a prefetchable BAR and two capabilities, with power management and MSI.
+pub fn capable_device() -> (Image, Image) {
+    (
+        image(&[
+            (0x00, 0x5678_1234),
+            (0x04, 0x0010_0002),
+            (0x10, 0xfe00_0008),
+            (0x34, 0x0000_0040),
+            (0x40, 0x0002_5001),
+            (0x50, 0x0080_0005),
+            (0x54, 0xfee0_0000),
+            (0x5c, 0x0000_4041),
+        ]),
+        image(&[(0x10, 0xfff0_0008)]),
+    )
+}
+
+/// Appends function 0 of a device of bus 00 to a dump.
+pub fn add(dump: &mut Dump, dev: u8, image: Image) -> Result<(), Fail> {
+    let slot = slot(dev)?;
+    dump.push(Block {
+        slot,
+        title: None,
+        image,
+    })?;
+    Ok(())
+}
+
+/// The machine of a dump and a probe, or why there is none.
+pub fn machine_of_pair(
+    alloc: Global,
+    dump: &Dump,
+    probe: &Dump,
+) -> Result<Machine, Refused<PairFault>> {
+    Machine::of(alloc, dump, probe)
+}
+
+/// A machine with one function, at 00:00.0.
+pub fn machine_with(alloc: Global, function: (Image, Image)) -> Result<Machine, Fail> {
+    let mut dump = Dump::empty(alloc);
+    let mut probe = Dump::empty(alloc);
+    add(&mut dump, 0, function.0)?;
+    add(&mut probe, 0, function.1)?;
+    let machine = machine_of_pair(alloc, &dump, &probe)?;
+    Ok(machine)
+}
+
+/// What sizing finds.
+pub fn sized(machine: &mut Machine, slot: Slot) -> Result<Image, SizeFault> {
+    size(machine, slot)
+}
+
+/// The image that a machine has at a slot.
+pub fn image_at(machine: &Machine, slot: Slot) -> Option<Image> {
+    machine.image(slot).copied()
+}
+
+/// What a read answers.
+pub fn read_at(machine: &mut Machine, slot: Slot, off: u8, width: u8) -> Result<u32, PortError> {
+    machine.read(slot, off, width)
+}
+
+/// What a write answers.
+pub fn write_at(
+    machine: &mut Machine,
+    slot: Slot,
+    off: u8,
+    width: u8,
+    value: u32,
+) -> Result<(), PortError> {
+    machine.write(slot, off, width, value)
+}
