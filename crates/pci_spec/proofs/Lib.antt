@@ -44,3 +44,4 @@ pub mod Chains
 pub mod Pairing
 pub mod Planning
 pub mod PlanningLaws
+pub mod ToldAlike
