@@ -45,3 +45,4 @@ pub mod Pairing
 pub mod Planning
 pub mod PlanningLaws
 pub mod ToldAlike
+pub mod ToldSystems
