@@ -44,3 +44,5 @@ pub mod Chains
 pub mod Pairing
 pub mod Planning
 pub mod PlanningLaws
+pub mod ToldAlike
+pub mod ToldSystems

@@ -28,6 +28,7 @@ pub mod SizesText
 pub mod SizesForm
 pub mod SizesStops
 pub mod ProbeOf
+pub mod ToldAlike
 pub mod NestingLaws
 pub mod BarLaws
 pub mod WindowLaws
@@ -37,6 +38,7 @@ pub mod MachineLaws
 pub mod JudgingLaws
 pub mod SoundLaws
 pub mod RecordLaws
+pub mod ProbeLaws
 pub mod PlanningLaws
 pub mod Planning
 pub mod PlanPromise

@@ -1,0 +1,15 @@
+//! Laws of probes. These functions do nothing: each contract is a law.
+
+ghost use Rattle.pci_spec.specs.ProbeLaws.{AlikeClaimTheSame, AlikeHaveTheSameFaults, AlikeHaveTheSameFirstFault, AlikeAreSoundTogether};
+
+/// What a function claims is settled by its image and the sizes of what is enabled.
+pub fn sizes_of_the_enabled_settle_claims()
+    ensures { AlikeClaimTheSame }
+{}
+
+/// So is the verdict on a system: which faults it has, which is the first, and whether it is sound.
+pub fn sizes_of_the_enabled_settle_the_verdict()
+    ensures faults { AlikeHaveTheSameFaults }
+    ensures first { AlikeHaveTheSameFirstFault }
+    ensures sound { AlikeAreSoundTogether }
+{}
