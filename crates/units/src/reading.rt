@@ -208,7 +208,7 @@ fn is_title(bytes: &[u8]) -> bool {
 }
 
 #[test]
-fn a_title_has_neither_controls_nor_del(rt: HostRuntime) {
+fn titles_have_1_to_200_bytes_and_no_controls(rt: HostRuntime) {
     for title in [&[b'a'; 200], b" ".as_slice(), b"\x80 ~\xff"] {
         assert!(rt; is_title(title));
     }
