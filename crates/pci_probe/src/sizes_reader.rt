@@ -28,6 +28,7 @@ fn fill<S: Source>(source: &mut S, chunk: &mut [u8; 8160]) -> Result<usize, Fail
         (λ _. S.failures source.new ≡ S.failures source.old + 1) }
 {
     let mut len = 0;
+    // A full chunk ends it as well: there is room for nothing then, and nothing is read.
     let mut drained = false;
     while !drained {
         let read = match source.read(&mut chunk[len..]) {
