@@ -1,5 +1,5 @@
 -- A line of a sizes text, from its digits.
-use Rattle.std.proofs.Common.{◌≡◌, ℕ, zero, suc, ◌+◌, ◌-◌, ◌*◌, ◌^◌, ◌<◌, ◌≤◌, List, [], ◌∷◌, ◌++◌, length, take, drop, get_or, set, refl, append-nil, sym, ◌∙◌, ap, subst, arith, lit<, Option, None, Some}
+use Rattle.std.proofs.Common.{◌≡◌, ℕ, zero, suc, ◌+◌, ◌-◌, ◌*◌, ◌^◌, ◌<◌, ◌≤◌, List, [], ◌∷◌, ◌++◌, length, take, drop, get_or, set, refl, append-nil, sym, ◌∙◌, ap, subst, arith, lit<, Option, None, Some, true, nat_eq}
 use Rattle.std.specs.Prelude.{IfNone, slice_range}
 use Rattle.std.specs.List.{All, flat_map}
 use Rattle.std.proofs.Math.Nat.{pow-le-pow_right}
@@ -11,7 +11,9 @@ use Rattle.std.proofs.lemmas.List.Folds.{drop_split}
 use Rattle.pci_spec.specs.Text.{hex_digit}
 use Rattle.pci_spec.specs.Line.{hex_number}
 use Rattle.pci_spec.specs.Form.{Cell, Takes, Digit, Fits, Fixed}
-use Rattle.pci_spec.specs.Resource.{ResourceLine}
+use Rattle.std.specs.Cmp.Lexicographic.{pointwise, bytes_decides}
+use Rattle.pci_probe.specs.declared.sizes_line.TheConstants.{NO_LINE}
+use Rattle.pci_spec.specs.Resource.{ResourceLine, no_line}
 use Rattle.pci_spec.specs.SizesText.{IsResourceLine, number_text, resource_text}
 use Rattle.pci_spec.specs.SizesForm.{number_cells, resource_cells, lines_cells}
 use Rattle.pci_spec.proofs.Cells.{fits_at, fits_between}
@@ -120,3 +122,7 @@ pub all_read : (text : List ℕ) (lines : List ResourceLine) (n : ℕ) → lengt
 all_read text lines n long seven e r =
     let whole : take n lines ≡ lines = take_all n lines (omega (arith, seven, e)) in
     (subst (λ (ls : List ResourceLine). All IsResourceLine ls) whole r.each, sym (take_all (57 * n) text (omega (arith, long, e))) ∙ r.so_far ∙ ap (flat_map resource_text) whole)
+
+-- the line of three zeros
+pub no_line_there : (text zeros : List ℕ) → true ≡ pointwise nat_eq text zeros → zeros ≡ NO_LINE → text ≡ resource_text no_line
+no_line_there text zeros same is = (bytes_decides text zeros).0 (sym same) ∙ is

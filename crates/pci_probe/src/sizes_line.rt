@@ -43,12 +43,22 @@ fn number_of(text: &[u8]) -> Option<u64>
     digits_of(&text[2..18])
 }
 
+/// The line of a register of which nothing is told.
+static NO_LINE: [u8; 57] = *b"0x0000000000000000 0x0000000000000000 0x0000000000000000\n";
+
 /// What a line tells: three numbers with a space between, and the line's end.
 pub(crate) fn line_of(text: &[u8]) -> Option<ResourceLine>
     requires { length text.now ≡ 57 }
     ensures some { IfSome result (λ line. IsResourceLine line × (text.now ≡ resource_text line)) }
     ensures none { IfNone result (Fits resource_cells text.now → ⊥) }
 {
+    if text == NO_LINE.as_slice() {
+        return Some(ResourceLine {
+            first: 0,
+            last: 0,
+            flags: 0,
+        });
+    }
     if text[18] != b' ' || text[37] != b' ' || text[56] != b'\n' {
         return None;
     }

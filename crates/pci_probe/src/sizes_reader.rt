@@ -28,14 +28,14 @@ fn fill<S: Source>(source: &mut S, chunk: &mut [u8; 8160]) -> Result<usize, Fail
         (λ _. S.failures source.new ≡ S.failures source.old + 1) }
 {
     let mut len = 0;
-    while len < CHUNK_LEN {
+    // A full chunk ends it as well: there is room for nothing then, and nothing is read.
+    let mut drained = false;
+    while !drained {
         let read = match source.read(&mut chunk[len..]) {
             Err(failed) => return Err(failed),
             Ok(read) => read,
         };
-        if read == 0 {
-            return Ok(len);
-        }
+        drained = read == 0;
         len += read;
     }
     Ok(len)

@@ -80,10 +80,12 @@ line_in bytes h =
     let last = number_after 32 t.a t.first in
     let flags = number_after 32 u.a u.first in
     let end = one_fixed 10 u.b u.second in
+    let tail : t.b ≡ (32 ∷ number_text flags.0) ++ (10 ∷ []) = u.split ∙ (λ i. flags.2 i ++ end i) in
+    let rest : s.b ≡ (32 ∷ number_text last.0) ++ ((32 ∷ number_text flags.0) ++ (10 ∷ [])) = t.split ∙ (λ i. last.2 i ++ tail i) in
     record {
       line = record { first = first.number; last = last.0; flags = flags.0 };
       small = record { first = first.small; last = last.1; flags = flags.1 };
-      text = s.split ∙ (λ i. first.text i ++ (t.split ∙ (λ j. last.2 j ++ (u.split ∙ (λ k. flags.2 k ++ end k)) j)) i);
+      text = s.split ∙ (λ i. first.text i ++ rest i);
     }
 
 record LinesIn (n : ℕ) (bytes : List ℕ) : Type 0 where

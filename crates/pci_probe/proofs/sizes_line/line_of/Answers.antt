@@ -1,7 +1,7 @@
 use Rattle.std.proofs.Common.{arith}
 use Rattle.pci_spec.specs.Form.{Fits}
 use Rattle.pci_spec.specs.SizesForm.{resource_cells}
-use Rattle.pci_probe.proofs.SizesLines.{line_there, line_cells, if_none}
+use Rattle.pci_probe.proofs.SizesLines.{line_there, line_cells, if_none, no_line_there}
 use Rattle.pci_probe.proofs.sizes_line.line_of.Goals as goal
 use Rattle.pci_probe.proofs.sizes_line.line_of.Goals.{then-text-ne32-via-then-text-ne32, then-text-ne32-via-else-text-ne32+then-text-ne32-2, then-text-ne32-via-else-text-ne32+else-text-ne32-2+then-text-ne10}
 
@@ -25,3 +25,6 @@ returns-clause-some c = (
   record { first = omega arith; last = omega arith; flags = omega arith },
   line_there c.args.text.now _ (omega (arith, c.requires)) c.if-text-ne32.false c.if-text-ne32-2.false c.if-text-ne10.false c.in_ok-number_of.ensures.some c.in_ok-number_of-2.ensures.some c.in_ok-number_of-3.ensures.some,
 )
+
+pub returns-then-eq-clause-some : goal.returns-then-eq-clause-some
+returns-then-eq-clause-some c = (record { first = omega arith; last = omega arith; flags = omega arith }, no_line_there c.args.text.now c.as_slice.result.now c.if-eq.ensures c.as_slice.ensures)

@@ -1,20 +1,22 @@
 use Rattle.std.proofs.Common.{◌-◌, List, ℕ, take, sym, ◌∙◌, subst, arith}
 use Rattle.std.specs.Io.KnownBytes.{Consumes}
+use Rattle.std.proofs.lemmas.Bool.{eqb-true}
 use borrow.Rule.Slice.PartMut.{same_len_mid}
 use Rattle.pci_probe.proofs.SizesTaken.{consumes_more, chunk_more}
 use Rattle.pci_probe.proofs.sizes_reader.fill.Goals as goal
 
-pub loop-len-preserved : goal.loop-len-preserved
-loop-len-preserved g c =
-    let len = c.loop-len.len in
-    let long = c.loop-len.invariant.long in
+pub loop-drained-preserved : goal.loop-drained-preserved
+loop-drained-preserved g c =
+    let len = c.loop-drained.len in
+    let long = c.loop-drained.invariant.long in
     let bound = c.in-Ok.ensures.bound in
     let bytes = c.in-Ok.ensures.bytes in
     let got = c.read.auto.buf in
     record {
       few = omega (arith, bound, got);
-      long = same_len_mid len (8160 - len) c.loop-len.chunk c.read.new.buf got ∙ long;
-      bytes = subst (λ (t : List ℕ). Consumes (g.S.Source.left c.args.source.now) (g.S.Source.left c.read.new.self) t) (sym (chunk_more c.loop-len.chunk c.read.new.buf len (8160 - len) c.in-Ok.read (omega (arith, long)) bound))
-          (consumes_more (g.S.Source.left c.args.source.now) (g.S.Source.left c.loop-len.source) (g.S.Source.left c.read.new.self) (take len c.loop-len.chunk) (take c.in-Ok.read c.read.new.buf) c.loop-len.invariant.bytes bytes.0);
-      fine = c.in-Ok.ensures.counted ∙ c.loop-len.invariant.fine;
+      long = same_len_mid len (8160 - len) c.loop-drained.chunk c.read.new.buf got ∙ long;
+      bytes = subst (λ (t : List ℕ). Consumes (g.S.Source.left c.args.source.now) (g.S.Source.left c.read.new.self) t) (sym (chunk_more c.loop-drained.chunk c.read.new.buf len (8160 - len) c.in-Ok.read (omega (arith, long)) bound))
+          (consumes_more (g.S.Source.left c.args.source.now) (g.S.Source.left c.loop-drained.source) (g.S.Source.left c.read.new.self) (take len c.loop-drained.chunk) (take c.in-Ok.read c.read.new.buf) c.loop-drained.invariant.bytes bytes.0);
+      over = (λ none less. let zero = eqb-true c.in-Ok.read 0 none in bytes.1 zero (omega (arith, got, long, less, zero)));
+      fine = c.in-Ok.ensures.counted ∙ c.loop-drained.invariant.fine;
     }
