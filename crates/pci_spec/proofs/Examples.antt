@@ -40,3 +40,4 @@ pub mod Unplanned
 pub mod DerivedProbes
 pub mod SizesTexts
 pub mod ProbesOf
+pub mod ToldAlike

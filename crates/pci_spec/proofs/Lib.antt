@@ -43,6 +43,7 @@ pub mod Looking
 pub mod Chains
 pub mod Pairing
 pub mod Planning
+pub mod Readable
 pub mod PlanningLaws
 pub mod ToldAlike
 pub mod ToldSystems

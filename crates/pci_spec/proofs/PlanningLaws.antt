@@ -1,20 +1,17 @@
 -- The laws of planning, from the lemmas that planning stands on.
-use Rattle.std.proofs.Common.{◌≡◌, ℕ, zero, suc, ◌+◌, ◌<◌, ◌≤◌, inl, inr, List, [], ◌∷◌, refl, Bool, true, false, Option, None, Some, arith, sym, ap, subst}
-use Rattle.std.specs.Bool.{IsTrue, ◌==◌}
-use Rattle.std.specs.List.{Contains, sum}
-use Rattle.std.proofs.lemmas.Bool.{cases_Bool, cases_lt}
-use Rattle.std.proofs.lemmas.List.Elements.{All-contains_itself, All-weaker}
-use Rattle.pci_spec.specs.Header.{layout, bar_count, bar_register, rom_register}
-use Rattle.pci_spec.specs.Bar.{BarFault, bar_fault}
-use Rattle.pci_spec.specs.Bar as bars
-use Rattle.pci_spec.specs.Rom.{breaks_rom_rule}
-use Rattle.pci_spec.specs.Window.{window_register, breaks_window_rule}
-use Rattle.pci_spec.specs.System.{System, Function}
+use Rattle.std.proofs.Common.{◌≡◌, ◌&&◌, ℕ, zero, suc, ◌+◌, ◌<◌, ◌≤◌, inl, inr, List, [], ◌∷◌, refl, true, arith, ap}
+use Rattle.std.specs.Bool.{nat_le, ◌==◌}
+use Rattle.std.specs.List.{sum}
+use Rattle.std.proofs.lemmas.Bool.{cases_lt, or_cases, or_left, or_right}
+use Rattle.std.proofs.lemmas.List.Elements.{All-weaker}
 use Rattle.pci_spec.specs.Decoded.{IsDecodable}
-use Rattle.pci_spec.specs.Fault.{has_no_vendor, has_other_layout, NoVendor, HeaderKind, BarType, BarMask, BarPair, RomMask, WindowMask}
-use Rattle.pci_spec.specs.Sound.{IsInProfile}
+use Rattle.pci_spec.specs.Fault.{fault_number}
+use Rattle.pci_spec.specs.Sound.{is_profile_number}
 use Rattle.pci_spec.specs.Planning.Safety.{IsSafe}
 use Rattle.pci_spec.specs.PlanningLaws.{CutIsSound, OffIsSound, MovedIsSystem, MovedIsNested, MovedIsInProfile, MovedHasChains, ProfileDecodes, LargestFirstIsAligned, TakesAddress, PlacedFillsItsRange, PlacedTakesOnce, FewWritesEach, WindowIsLeastPower, LaidOutIsSound, RomsCanBeOn, PlacesAreATable, PlannedNumbersAreFinal}
+use Rattle.pci_spec.specs.ProbeLaws.{is_reading_number}
+use Rattle.pci_spec.specs.ToldAlike.{IsReadable}
+use Rattle.pci_spec.proofs.Readable.{readable_of_none}
 use Rattle.pci_spec.proofs.Planning.Faults.{moved_profile}
 use Rattle.pci_spec.proofs.Planning.FewEach.{few_at_each}
 use Rattle.pci_spec.proofs.Planning.Kept.{moved_nested, moved_chains}
@@ -61,31 +58,15 @@ moved_has_chains s t moved system chains = moved_chains s t system moved chains
 
 -- ---- the profile
 
-false_by : (b : Bool) → (b ≡ true → ⊥) → b ≡ false
-false_by b never = elim (cases_Bool b) [ inl lit ↦ absurd (never lit) | inr dark ↦ dark ]
-
-none_by : (o : Option BarFault) → ((fault : BarFault) → o ≡ Some fault → ⊥) → o ≡ None
-none_by None never = refl
-none_by (Some fault) never = absurd (never fault refl)
-
-module _ (roots : List ℕ) (s : System) (profile : IsInProfile roots s) (f : Function) (listed : Contains s f) where
-  no_bar_fault : (n : ℕ) → n < bar_count (layout f.image) → (fault : BarFault) → bar_fault f.image f.probe n ≡ Some fault → ⊥
-  no_bar_fault n less bars.BarType is = profile (BarType f.slot (bar_register n)) refl (f, listed, refl, (n, less, refl, is))
-  no_bar_fault n less bars.BarMask is = profile (BarMask f.slot (bar_register n)) refl (f, listed, refl, (n, less, refl, is))
-  no_bar_fault n less bars.BarPair is = profile (BarPair f.slot (bar_register n)) refl (f, listed, refl, (n, less, refl, is))
-
-  decodes : IsDecodable f
-  decodes = record {
-    vendor = false_by (has_no_vendor f.image) (λ is. profile (NoVendor f.slot) refl (f, listed, refl, is));
-    header = false_by (has_other_layout f.image) (λ is. profile (HeaderKind f.slot) refl (f, listed, refl, is));
-    bars = λ n less. none_by (bar_fault f.image f.probe n) (no_bar_fault n less);
-    rom = false_by (breaks_rom_rule f.image f.probe) (λ is. profile (RomMask f.slot (rom_register (layout f.image))) refl (f, listed, refl, (refl, is)));
-    windows = λ kind bridge. false_by (breaks_window_rule kind f.image f.probe)
-        (λ is. profile (WindowMask f.slot (window_register kind)) refl (f, listed, refl, (kind, subst (λ n. IsTrue (n == 1)) (sym bridge) refl, refl, is)));
-  }
+-- faults of reading are of the profile
+reading_in_profile : (n : ℕ) → is_reading_number n ≡ true → is_profile_number n ≡ true
+reading_in_profile n reading = elim (or_cases (nat_le 20 n && nat_le n 26) (n == 31) reading) [
+  | inl low ↦ or_left _ _ (or_left _ _ (or_left _ _ low))
+  | inr stray ↦ or_left _ _ (or_right _ _ stray)
+]
 
 pub profile_decodes : ProfileDecodes
-profile_decodes roots s profile = All-weaker (Contains s) IsDecodable (λ f listed. decodes roots s profile f listed) s (All-contains_itself s)
+profile_decodes roots s profile = All-weaker IsReadable IsDecodable (λ f readable. readable.decodable) s (readable_of_none roots s (λ fault reading. profile fault (reading_in_profile (fault_number fault) reading)))
 
 -- ---- largest first
 

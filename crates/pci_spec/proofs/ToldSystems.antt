@@ -1,23 +1,21 @@
 -- Two systems of which the same is told have the same faults, and are sound together.
-use Rattle.std.proofs.Common.{◌≡◌, ℕ, ◌<◌, List, [], ◌∷◌, refl, Bool, true, ◌&&◌, ◌||◌, not, None, Some, Option, sym, ◌∙◌, ap, subst, is_some}
+use Rattle.std.proofs.Common.{◌≡◌, ℕ, ◌<◌, List, [], ◌∷◌, refl, Bool, true, ◌&&◌, ◌||◌, not, sym, ◌∙◌, ap, subst}
 use Rattle.std.specs.Bool.{IsTrue, nat_lt, ◌==◌, if◌then◌else◌}
 use Rattle.std.specs.List.{All, AllZip, Contains, list_all, list_any}
-use Rattle.std.proofs.lemmas.Bool.{both_ways, eqb-true}
 use Rattle.std.proofs.lemmas.List.Elements.{All-contains}
 use Rattle.pci_spec.specs.Number.{has_bit}
 use Rattle.pci_spec.specs.Slot.{Slot, same_slot, slot_number}
 use Rattle.pci_spec.specs.Header.{command, class_code, layout, bridge_control, secondary_bus}
-use Rattle.pci_spec.specs.Bar.{BarFault, bar_fault}
-use Rattle.pci_spec.specs.Bar as bars
 use Rattle.pci_spec.specs.Capability.{HasLowPlace, ComesTwiceTo, HasCutBody}
-use Rattle.pci_spec.specs.System.{System, Function, Space, Claims, is_bridge, Leads, Gets, forwards, passes, is_prefetchable_part}
+use Rattle.pci_spec.specs.System.{System, Function, Space, is_bridge, Leads, Gets, forwards, passes, is_prefetchable_part}
 use Rattle.pci_spec.specs.Bus.{has_bus_order, has_no_root_behind, has_lawful_buses, is_inside, are_apart, are_side_by_side, is_root, is_led_to}
-use Rattle.pci_spec.specs.Fault.{Fault, IsIn, NoVendor, HeaderKind, BarType, BarMask, BarPair, RomMask, WindowMask, CapRange, CapLoop, CapCut, SlotsDiffer, StrayProbe, LoneFunction, PaletteSnoop, VgaEnable, IsaEnable, Subtractive, InReset, PowerState, BusRange, Orphan, Unreached, Clash, Split, SomeAt, HasBarFault, IsAsleep, has_no_vendor, has_other_layout, has_function_zero, IsUnreached, ClaimsOnBus}
+use Rattle.pci_spec.specs.Fault.{Fault, IsIn, NoVendor, HeaderKind, BarType, BarMask, BarPair, RomMask, WindowMask, CapRange, CapLoop, CapCut, SlotsDiffer, StrayProbe, LoneFunction, PaletteSnoop, VgaEnable, IsaEnable, Subtractive, InReset, PowerState, BusRange, Orphan, Unreached, Clash, Split, SomeAt, IsAsleep, has_no_vendor, has_other_layout, has_function_zero, IsUnreached, ClaimsOnBus}
 use Rattle.pci_spec.specs.Order.{image_at, is_before, IsFirstIn}
 use Rattle.pci_spec.specs.ToldAlike.{IsToldAlike, IsReadable}
 use Rattle.pci_spec.specs.ProbeLaws.{AlikeHaveTheSameFaults, AlikeHaveTheSameFirstFault, AlikeAreSoundTogether}
 use Rattle.pci_spec.proofs.Planning.Kept.{member_forth}
 use Rattle.pci_spec.proofs.Sounding.{sound_without_faults}
+use Rattle.pci_spec.proofs.Readable.{none_of_readable}
 use Rattle.pci_spec.proofs.ToldAlike.{told_back, same_register, same_forwards, same_passes, claims_too, same_prefetchable}
 
 -- ---- what is seen of slots and images alone
@@ -63,10 +61,6 @@ pairs_back [] [] pairs = tt
 pairs_back [] (y ∷ t) pairs = absurd pairs
 pairs_back (x ∷ s) [] pairs = absurd pairs
 pairs_back (x ∷ s) (y ∷ t) (h, rest) = (told_back x y h, pairs_back s t rest)
-
--- no BAR breaks a rule and breaks none
-none_or_some : (x : Option BarFault) (fault : BarFault) → x ≡ None → x ≡ Some fault → ⊥
-none_or_some x fault none some = both_ways true (sym (ap is_some some) ∙ ap is_some none) refl
 
 -- what belongs together in two systems
 record IsMate (f g : Function) : Type 0 where
@@ -129,10 +123,6 @@ module _ (roots : List ℕ) (s t : System) (is_s : All IsReadable s) (is_t : All
   -- by its image alone
   image_too : (slot : Slot) (P : List ℕ → Type 0) → SomeAt s slot (λ f. P f.image) → SomeAt t slot (λ f. P f.image)
   image_too slot P there = some_too slot (λ f. P f.image) (λ f. P f.image) (λ f g m. subst P m.alike.image) there
-
-  no_bar_fault : (slot : Slot) (register : ℕ) (fault : BarFault) → SomeAt s slot (λ f. HasBarFault f.image f.probe register fault) → ⊥
-  no_bar_fault slot register fault (f, listed, at, (n, inside, place, broken)) =
-      none_or_some (bar_fault f.image f.probe n) fault ((All-contains IsReadable s f is_s listed).decodable.bars n inside) broken
 
   -- ---- the tree of buses
 
@@ -225,17 +215,16 @@ module _ (roots : List ℕ) (s t : System) (is_s : All IsReadable s) (is_t : All
   pub fault_too : (fault : Fault) → IsIn roots s fault → IsIn roots t fault
   fault_too (NoVendor slot) there = image_too slot (λ image. IsTrue (has_no_vendor image)) there
   fault_too (HeaderKind slot) there = image_too slot (λ image. IsTrue (has_other_layout image)) there
-  fault_too (BarType slot register) there = absurd (no_bar_fault slot register bars.BarType there)
-  fault_too (BarMask slot register) there = absurd (no_bar_fault slot register bars.BarMask there)
-  fault_too (BarPair slot register) there = absurd (no_bar_fault slot register bars.BarPair there)
-  fault_too (RomMask slot register) (f, listed, at, (place, there)) = absurd (both_ways _ (All-contains IsReadable s f is_s listed).decodable.rom there)
-  fault_too (WindowMask slot register) (f, listed, at, (kind, bridge, place, there)) =
-      absurd (both_ways _ ((All-contains IsReadable s f is_s listed).decodable.windows kind (eqb-true (layout f.image) 1 bridge)) there)
+  fault_too (BarType slot register) there = absurd (none_of_readable roots s is_s (BarType slot register) refl there)
+  fault_too (BarMask slot register) there = absurd (none_of_readable roots s is_s (BarMask slot register) refl there)
+  fault_too (BarPair slot register) there = absurd (none_of_readable roots s is_s (BarPair slot register) refl there)
+  fault_too (RomMask slot register) there = absurd (none_of_readable roots s is_s (RomMask slot register) refl there)
+  fault_too (WindowMask slot register) there = absurd (none_of_readable roots s is_s (WindowMask slot register) refl there)
   fault_too (CapRange slot place) there = image_too slot (λ image. HasLowPlace image place) there
   fault_too (CapLoop slot place) there = image_too slot (λ image. ComesTwiceTo image place) there
   fault_too (CapCut slot place) there = image_too slot (λ image. HasCutBody image place) there
   fault_too (SlotsDiffer slot) there = there
-  fault_too (StrayProbe slot offset) (f, listed, at, there) = absurd (both_ways _ ((All-contains IsReadable s f is_s listed).clean offset) there)
+  fault_too (StrayProbe slot offset) there = absurd (none_of_readable roots s is_s (StrayProbe slot offset) refl there)
   fault_too (LoneFunction slot) there = some_too slot (λ f. (0 < slot.function) × IsTrue (not (has_function_zero s slot))) (λ f. (0 < slot.function) × IsTrue (not (has_function_zero t slot)))
       (λ f g m h. (h.0, sym (ap not (zero_same slot)) ∙ h.1)) there
   fault_too (PaletteSnoop slot) there = image_too slot (λ image. IsTrue (has_bit (command image) 5)) there

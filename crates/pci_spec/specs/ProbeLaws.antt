@@ -1,12 +1,22 @@
 -- Laws of probes: what isn't told of a function settles nothing.
-use Rattle.std.specs.Prelude.{ℕ, ◌↔◌, List}
+use Rattle.std.specs.Prelude.{ℕ, ◌==◌, nat_le, Bool, ◌&&◌, ◌||◌, ◌↔◌, IsTrue, List}
 use Rattle.std.specs.List.{All, AllZip}
 use Rattle.pci_spec.specs.System.{System, Function, IsSystem, Space, Part, Claims}
-use Rattle.pci_spec.specs.Fault.{Fault, IsIn}
+use Rattle.pci_spec.specs.Fault.{Fault, fault_number, IsIn}
 use Rattle.pci_spec.specs.Order.{IsFirstIn}
 use Rattle.pci_spec.specs.Sound.{IsSound}
 use Rattle.pci_spec.specs.Decoded.{IsDecodable}
 use Rattle.pci_spec.specs.ToldAlike.{IsToldAlike, IsReadable}
+
+-- whether a fault's number is one of reading a header, its address registers and its probe
+abbrev pub is_reading_number : ℕ → Bool
+is_reading_number n = (nat_le 20 n && nat_le n 26) || n == 31
+
+-- Each function is readable exactly where no such fault is there.
+abbrev pub ReadableWithoutFaults : Type 0
+ReadableWithoutFaults =
+    (roots : List ℕ) (s : System)
+    → All IsReadable s ↔ ((fault : Fault) → IsTrue (is_reading_number (fault_number fault)) → IsIn roots s fault → ⊥)
 
 -- Two functions of which the same is told claim the same addresses, part by part.
 abbrev pub AlikeClaimTheSame : Type 0
