@@ -1,16 +1,17 @@
 -- One device with two probes: a size matters where the BAR is enabled, and nowhere else.
-use Rattle.std.proofs.Common.{◌≡◌, ◌⊎◌, ℕ, zero, suc, ◌<◌, ◌≤◌, inl, inr, List, [], ◌∷◌, refl, true, false, ◌&&◌, None, arith, sym, ◌∙◌, ap, subst, lit<, lit≤}
-use Rattle.std.specs.Bool.{nat_lt}
+use Rattle.std.proofs.Common.{◌≡◌, ◌⊎◌, ℕ, zero, suc, ◌<◌, ◌≤◌, inl, inr, List, [], ◌∷◌, refl, true, false, ◌&&◌, ◌||◌, not, None, arith, sym, ◌∙◌, ap, subst, lit<, lit≤}
+use Rattle.std.specs.Bool.{nat_lt, ◌==◌}
 use Rattle.std.specs.List.{All, Contains}
 use Rattle.std.proofs.lemmas.Bool.{and_parts, both_ways, false_from_ne_true, ltb-true}
 use Rattle.pci_spec.specs.Number.{each_from, some_from, has_bit}
 use Rattle.pci_spec.specs.Slot.{Slot}
 use Rattle.pci_spec.specs.Header.{command, layout, bar_count}
 use Rattle.pci_spec.specs.Bar.{Memory32, bar_fault, starts_bar}
+use Rattle.pci_spec.specs.Rom.{breaks_rom_rule}
 use Rattle.pci_spec.specs.Capability.{HasChain, pointer}
 use Rattle.pci_spec.specs.System.{Function, IsFunction, IsSystem, Space, Memory, Part, Bar, Rom, Window, Claims, register_of, is_bridge}
 use Rattle.pci_spec.specs.Bus.{IsNested, is_root}
-use Rattle.pci_spec.specs.Fault.{IsIn, NoVendor, HeaderKind, BarType, BarMask, BarPair, RomMask, WindowMask, CapRange, CapLoop, CapCut, SlotsDiffer, StrayProbe, LoneFunction, PaletteSnoop, VgaEnable, IsaEnable, Subtractive, InReset, PowerState, BusRange, Orphan, Unreached, Clash, Split}
+use Rattle.pci_spec.specs.Fault.{IsIn, NoVendor, HeaderKind, BarType, BarMask, BarPair, RomMask, WindowMask, CapRange, CapLoop, CapCut, SlotsDiffer, StrayProbe, LoneFunction, PaletteSnoop, VgaEnable, IsaEnable, Subtractive, InReset, PowerState, BusRange, Orphan, Unreached, Clash, Split, has_no_vendor, is_stray}
 use Rattle.pci_spec.specs.Sound.{IsSound, IsSameRegion, IsInProfile}
 use Rattle.pci_spec.specs.Decoded.{has_bar, bar_size}
 use Rattle.pci_spec.specs.ToldAlike.{IsToldAlike, IsReadable, enables_bar}
@@ -118,6 +119,20 @@ module _ (f : Function) (readable : IsReadable f) (at : f.slot ≡ slot 0 1 0) (
     chains = λ x listed. subst (λ (z : Function). HasChain z.image) (only_one f x listed) (no_chain f.image plain);
   }
 
+-- a device whose registers decode
+reads : (f : Function) → layout f.image ≡ 0 → has_no_vendor f.image ≡ false → breaks_rom_rule f.image f.probe ≡ false → ((n : ℕ) → n < 6 → bar_fault f.image f.probe n ≡ None)
+    → each_from 0 256 (λ offset. not (is_stray f.image f.probe offset)) ≡ true → IsReadable f
+reads f is_device vendor rom bars clean = record {
+  decodable = record {
+    vendor = vendor;
+    header = ap (λ kind. not (kind == 0 || kind == 1)) is_device;
+    bars = λ n less. bars n (subst (λ kind. n < bar_count kind) is_device less);
+    rom = rom;
+    windows = λ kind is. absurd (let contradiction : ⊥ = omega (arith, is, is_device) in contradiction);
+  };
+  clean = λ offset. false_from_ne_true (is_stray f.image f.probe offset) (no_stray f.image f.probe clean offset);
+}
+
 -- a BAR that a device has enabled is one of six
 below_six : (f : Function) → layout f.image ≡ 0 → (n : ℕ) → enables_bar f.image n ≡ true → n < 6
 below_six f is_device n on =
@@ -139,17 +154,11 @@ of_16_bits = io_device ((0x10, 0xffc1) ∷ (0x14, 0xffff0000) ∷ [])
 
 readable_32 : IsReadable of_32_bits
 unfolding each_from some_from
-readable_32 = record {
-  decodable = record { vendor = refl; header = refl; bars = six (λ n. bar_fault of_32_bits.image of_32_bits.probe n ≡ None) refl refl refl refl refl refl; rom = refl; windows = λ kind is. absurd (let contradiction : ⊥ = omega (arith, is) in contradiction) };
-  clean = λ offset. false_from_ne_true _ (no_stray of_32_bits.image of_32_bits.probe refl offset);
-}
+readable_32 = reads of_32_bits refl refl refl (six (λ n. bar_fault of_32_bits.image of_32_bits.probe n ≡ None) refl refl refl refl refl refl) refl
 
 readable_16 : IsReadable of_16_bits
 unfolding each_from some_from
-readable_16 = record {
-  decodable = record { vendor = refl; header = refl; bars = six (λ n. bar_fault of_16_bits.image of_16_bits.probe n ≡ None) refl refl refl refl refl refl; rom = refl; windows = λ kind is. absurd (let contradiction : ⊥ = omega (arith, is) in contradiction) };
-  clean = λ offset. false_from_ne_true _ (no_stray of_16_bits.image of_16_bits.probe refl offset);
-}
+readable_16 = reads of_16_bits refl refl refl (six (λ n. bar_fault of_16_bits.image of_16_bits.probe n ≡ None) refl refl refl refl refl refl) refl
 
 -- the same is told of both
 told_alike : IsToldAlike of_32_bits of_16_bits
@@ -203,17 +212,11 @@ one_in_the_other = memory_device ((0x10, 0xffffe000) ∷ (0x14, 0xfffff000) ∷ 
 
 readable_side_by_side : IsReadable side_by_side
 unfolding each_from some_from
-readable_side_by_side = record {
-  decodable = record { vendor = refl; header = refl; bars = six (λ n. bar_fault side_by_side.image side_by_side.probe n ≡ None) refl refl refl refl refl refl; rom = refl; windows = λ kind is. absurd (let contradiction : ⊥ = omega (arith, is) in contradiction) };
-  clean = λ offset. false_from_ne_true _ (no_stray side_by_side.image side_by_side.probe refl offset);
-}
+readable_side_by_side = reads side_by_side refl refl refl (six (λ n. bar_fault side_by_side.image side_by_side.probe n ≡ None) refl refl refl refl refl refl) refl
 
 readable_in_the_other : IsReadable one_in_the_other
 unfolding each_from some_from
-readable_in_the_other = record {
-  decodable = record { vendor = refl; header = refl; bars = six (λ n. bar_fault one_in_the_other.image one_in_the_other.probe n ≡ None) refl refl refl refl refl refl; rom = refl; windows = λ kind is. absurd (let contradiction : ⊥ = omega (arith, is) in contradiction) };
-  clean = λ offset. false_from_ne_true _ (no_stray one_in_the_other.image one_in_the_other.probe refl offset);
-}
+readable_in_the_other = reads one_in_the_other refl refl refl (six (λ n. bar_fault one_in_the_other.image one_in_the_other.probe n ≡ None) refl refl refl refl refl refl) refl
 
 -- which BAR it is, and at which addresses
 abbrev IsOneOfTwo : Part → ℕ → Type 0
