@@ -1,4 +1,4 @@
--- One device with two probes: a size matters where the BAR is enabled, and nowhere else.
+-- One function with two probes: what they show of the enabled matters, and nothing else does.
 use Rattle.std.proofs.Common.{◌≡◌, ◌⊎◌, ℕ, zero, suc, ◌<◌, ◌≤◌, inl, inr, List, [], ◌∷◌, refl, true, false, ◌&&◌, ◌||◌, not, None, arith, sym, ◌∙◌, ap, subst, lit<, lit≤}
 use Rattle.std.specs.Bool.{nat_lt, ◌==◌}
 use Rattle.std.specs.List.{All, Contains}
@@ -8,8 +8,9 @@ use Rattle.pci_spec.specs.Slot.{Slot}
 use Rattle.pci_spec.specs.Header.{command, layout, bar_count}
 use Rattle.pci_spec.specs.Bar.{Memory32, bar_fault, starts_bar}
 use Rattle.pci_spec.specs.Rom.{breaks_rom_rule}
+use Rattle.pci_spec.specs.Window.{WindowKind, IoWindow, MemoryWindow, PrefetchWindow, breaks_window_rule}
 use Rattle.pci_spec.specs.Capability.{HasChain, pointer}
-use Rattle.pci_spec.specs.System.{Function, IsFunction, IsSystem, Space, Memory, Part, Bar, Rom, Window, Claims, register_of, is_bridge}
+use Rattle.pci_spec.specs.System.{Function, IsFunction, IsSystem, Space, Io, Memory, Part, Bar, Rom, Window, Claims, register_of, is_bridge}
 use Rattle.pci_spec.specs.Bus.{IsNested, is_root}
 use Rattle.pci_spec.specs.Fault.{IsIn, NoVendor, HeaderKind, BarType, BarMask, BarPair, RomMask, WindowMask, CapRange, CapLoop, CapCut, SlotsDiffer, StrayProbe, LoneFunction, PaletteSnoop, VgaEnable, IsaEnable, Subtractive, InReset, PowerState, BusRange, Orphan, Unreached, Clash, Split, has_no_vendor, is_stray}
 use Rattle.pci_spec.specs.Sound.{IsSound, IsSameRegion, IsInProfile}
@@ -21,7 +22,7 @@ use Rattle.pci_spec.proofs.BarLaws.{bar_answers_its_size}
 use Rattle.pci_spec.proofs.Readable.{none_of_readable}
 use Rattle.pci_spec.proofs.Verdicts.{single_without_clashes}
 use Rattle.pci_spec.proofs.ToldSystems.{alike_are_sound_together}
-use Rattle.pci_spec.proofs.Examples.Samples.{slot, device, host}
+use Rattle.pci_spec.proofs.Examples.Samples.{slot, device, bridge, host}
 use Rattle.pci_spec.proofs.Examples.Sound.{no_chain, no_place, no_stray}
 use Rattle.pci_spec.proofs.Examples.Texts.{bytes_by}
 
@@ -275,3 +276,87 @@ same_bars = six (λ n. has_bar side_by_side.probe n ≡ has_bar one_in_the_other
 
 other_size : IsToldAlike side_by_side one_in_the_other → ⊥
 other_size h = let e : 4096 ≡ 8192 = h.bar_sizes 0 refl refl in omega (arith, e)
+
+-- ---- a window that shows 0, where I/O is enabled
+
+-- a bridge with 64 ports of its own at C00h
+abbrev io_bridge : List (ℕ × ℕ) → Function
+io_bridge masks = bridge (slot 0 1 0) 1 0x010100 ((0x10, 0xc01) ∷ []) ((0x10, 0xffffffc1) ∷ masks)
+
+-- without an I/O window, and with one, which is open from 0 to FFFh
+abbrev without_window : Function
+without_window = io_bridge []
+
+abbrev with_window : Function
+with_window = io_bridge ((0x1c, 0xf0f0) ∷ [])
+
+either_of_two : (f : Function) → bar_fault f.image f.probe 0 ≡ None → bar_fault f.image f.probe 1 ≡ None → (n : ℕ) → n < 2 → bar_fault f.image f.probe n ≡ None
+either_of_two f first second zero less = first
+either_of_two f first second (suc zero) less = second
+either_of_two f first second (suc (suc n)) less = absurd (let contradiction : ⊥ = omega (arith, less) in contradiction)
+
+-- both go with what the bridge shows
+reads_bridge : (f : Function) → layout f.image ≡ 1 → has_no_vendor f.image ≡ false → breaks_rom_rule f.image f.probe ≡ false → bar_fault f.image f.probe 0 ≡ None → bar_fault f.image f.probe 1 ≡ None
+    → ((kind : WindowKind) → breaks_window_rule kind f.image f.probe ≡ false) → each_from 0 256 (λ offset. not (is_stray f.image f.probe offset)) ≡ true → IsReadable f
+reads_bridge f is_bridge vendor rom first second windows clean = record {
+  decodable = record {
+    vendor = vendor;
+    header = ap (λ kind. not (kind == 0 || kind == 1)) is_bridge;
+    bars = λ n less. either_of_two f first second n (subst (λ kind. n < bar_count kind) is_bridge less);
+    rom = rom;
+    windows = λ kind is. windows kind;
+  };
+  clean = λ offset. false_from_ne_true (is_stray f.image f.probe offset) (no_stray f.image f.probe clean offset);
+}
+
+windows_without : (kind : WindowKind) → breaks_window_rule kind without_window.image without_window.probe ≡ false
+windows_without IoWindow = refl
+windows_without MemoryWindow = refl
+windows_without PrefetchWindow = refl
+
+windows_with : (kind : WindowKind) → breaks_window_rule kind with_window.image with_window.probe ≡ false
+windows_with IoWindow = refl
+windows_with MemoryWindow = refl
+windows_with PrefetchWindow = refl
+
+readable_without : IsReadable without_window
+unfolding each_from some_from
+readable_without = reads_bridge without_window refl refl refl refl refl windows_without refl
+
+readable_with : IsReadable with_window
+unfolding each_from some_from
+readable_with = reads_bridge with_window refl refl refl refl refl windows_with refl
+
+window_clash : IsIn host (with_window ∷ []) (Clash 0 Io 0xc00 (slot 0 1 0) 0x10 (slot 0 1 0) 0x1c)
+unfolding each_from
+window_clash = record {
+  gets = (0, (0, lit< tt, refl), [], refl, refl);
+  claims_first = (
+    with_window,
+    Bar 0,
+    (0, lit< tt, refl),
+    refl,
+    refl,
+    refl,
+    record { there = refl; enabled = refl; maps = refl; address = lit< tt; decodes = (refl, (6, refl, interval-agrees 6 0xc00 0xc01 (lit≤ tt) (lit≤ tt))) },
+  );
+  claims_second = (with_window, Window IoWindow, (0, lit< tt, refl), refl, refl, refl, record { there = refl; enabled = refl; maps = refl; address = lit< tt; decodes = refl });
+  differ = λ same. let e = same.1 in omega (arith, e);
+}
+
+-- no part at 1Ch claims anything without the window
+none_at_1c : (part : Part) (a : ℕ) → register_of without_window part ≡ 0x1c → Claims without_window part Io a → ⊥
+none_at_1c (Bar n) a is c = let less = ltb-true n 2 c.there in omega (arith, is, less)
+none_at_1c Rom a is c = no c.enabled
+none_at_1c (Window IoWindow) a is c = no c.decodes
+none_at_1c (Window MemoryWindow) a is c = no c.enabled
+none_at_1c (Window PrefetchWindow) a is c = no c.enabled
+
+no_clash_without : IsIn host (without_window ∷ []) (Clash 0 Io 0xc00 (slot 0 1 0) 0x10 (slot 0 1 0) 0x1c) → ⊥
+no_clash_without clash =
+    let second = clash.claims_second in
+    let is = only_one without_window second.0 second.2 in
+    none_at_1c second.1 0xc00 (ap (λ f. register_of f second.1) is ∙ second.5) (subst (λ f. Claims f second.1 Io 0xc00) (sym is) second.6)
+
+other_windows : IsToldAlike without_window with_window → ⊥
+other_windows h = both_ways true (sym (h.windows IoWindow refl)) refl
