@@ -47,3 +47,4 @@ pub mod Readable
 pub mod PlanningLaws
 pub mod ToldAlike
 pub mod ToldSystems
+pub mod DerivedBits

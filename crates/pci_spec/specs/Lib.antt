@@ -29,6 +29,7 @@ pub mod SizesForm
 pub mod SizesStops
 pub mod ProbeOf
 pub mod ToldAlike
+pub mod TrueLines
 pub mod NestingLaws
 pub mod BarLaws
 pub mod WindowLaws
