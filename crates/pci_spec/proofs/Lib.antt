@@ -48,3 +48,5 @@ pub mod PlanningLaws
 pub mod ToldAlike
 pub mod ToldSystems
 pub mod DerivedBits
+pub mod DerivedBytes
+pub mod DerivedBars
