@@ -25,10 +25,10 @@ use Rattle.pci_spec.proofs.DerivedBytes.{IsLayout, bar_number, bar_no_fault}
 
 -- ---- registers of one encoding
 
-record IsSameKind (a b : ℕ) : Type 0 where
-  encoding : IsOfEncoding a b
-  kind : bar_kind a ≡ bar_kind b
-  second : has_bit a 1 ≡ has_bit b 1
+pub record IsSameKind (a b : ℕ) : Type 0 where
+  pub encoding : IsOfEncoding a b
+  pub kind : bar_kind a ≡ bar_kind b
+  pub second : has_bit a 1 ≡ has_bit b 1
 
 second_bit : (io : Bool) (a b : ℕ) → a % (if io then 4 else 16) ≡ b % (if io then 4 else 16) → bit_at a 1 ≡ bit_at b 1
 second_bit true a b same = omega (arith, same)
@@ -41,7 +41,7 @@ kind_of_tests false a b x y same =
     let io : is_io a ≡ is_io b = x ∙ sym y in
     λ i. kind_by (io i) (type i == 2) (type i == 0)
 
-same_kind : (a b : ℕ) → a % encodings b ≡ b % encodings b → IsSameKind a b
+pub same_kind : (a b : ℕ) → a % encodings b ≡ b % encodings b → IsSameKind a b
 same_kind a b same =
     let encoding = same_encoding a b same in
     record {
@@ -56,12 +56,12 @@ width_of_tests false true narrow = refl
 width_of_tests false false true = refl
 width_of_tests false false false = refl
 
-width_of_register : (mask : ℕ) → width_of (bar_kind mask) ≡ (if is_wide mask then 64 else 32)
+pub width_of_register : (mask : ℕ) → width_of (bar_kind mask) ≡ (if is_wide mask then 64 else 32)
 width_of_register mask = width_of_tests (is_io mask) (type_bits mask == 2) (type_bits mask == 0)
 
 -- ---- registers that keep the rules have no fault
 
-keeps_rules : (last : Bool) (value mask whole_value whole_mask : ℕ) → mask ≢ 0 → ObeysRules last value mask whole_value whole_mask
+pub keeps_rules : (last : Bool) (value mask whole_value whole_mask : ℕ) → mask ≢ 0 → ObeysRules last value mask whole_value whole_mask
     → first_broken last value mask whole_value whole_mask ≡ None
 keeps_rules last value mask whole_value whole_mask some r =
     let z : nat_eq mask 0 ≡ false = ne_eqb mask 0 some in
@@ -92,7 +92,7 @@ keeps_rules last value mask whole_value whole_mask some r =
           else if not (g i) then Some BarMask
           else None
 
-absent_is_fine : (last : Bool) (value mask whole_value whole_mask : ℕ) → value ≡ 0 → mask ≡ 0 → first_broken last value mask whole_value whole_mask ≡ None
+pub absent_is_fine : (last : Bool) (value mask whole_value whole_mask : ℕ) → value ≡ 0 → mask ≡ 0 → first_broken last value mask whole_value whole_mask ≡ None
 absent_is_fine last value mask whole_value whole_mask v m =
     let z : nat_eq mask 0 ≡ true = eq-eqb mask 0 m in
     let w : nat_eq value 0 ≡ true = eq-eqb value 0 v in
@@ -104,7 +104,7 @@ abbrev derived_by : Bool → Bool → Bool → Bool → ℕ → ℕ → Derived
 derived_by told clear addresses enabled size least =
     if told then Known size else if clear then (if addresses then OtherSize else Known 0) else if enabled then NoSize else Assumed least
 
-abbrev Cases : Bool → Bool → Bool → Bool → ℕ → ℕ → ℕ → Type 0
+abbrev pub Cases : Bool → Bool → Bool → Bool → ℕ → ℕ → ℕ → Type 0
 Cases told clear addresses enabled size least read_back =
     ((told ≡ true) × (read_back ≡ size))
     ⊎ ((clear ≡ true) × (addresses ≡ false) × (read_back ≡ 0))
@@ -119,30 +119,30 @@ derived_cases register false true false enabled size least none = inr (inl (refl
 derived_cases register false false addresses true size least none = absurd (cc)
 derived_cases register false false addresses false size least none = inr (inr (refl, refl, refl))
 
-bar_cases : (register : ℕ) (line : ResourceLine) (width : ℕ) (enabled : Bool) (value : ℕ) → register_fault false register (lower_half (derived_bar line width enabled value)) ≡ None
+pub bar_cases : (register : ℕ) (line : ResourceLine) (width : ℕ) (enabled : Bool) (value : ℕ) → register_fault false register (lower_half (derived_bar line width enabled value)) ≡ None
     → Cases (tells_bar line width value) (value == 0) (is_of_register line) enabled (bar_of_size width value (address_count line)) (bar_of_size width value (encodings value))
     (read_back_of (derived_bar line width enabled value))
 unfolding derived_bar
 bar_cases register line width enabled value none =
     derived_cases register (tells_bar line width value) (value == 0) (is_of_register line) enabled (bar_of_size width value (address_count line)) (bar_of_size width value (encodings value)) none
 
-lower_read_back : (d : Derived) → read_back_of (lower_half d) ≡ read_back_of d % 2 ^ 32
+pub lower_read_back : (d : Derived) → read_back_of (lower_half d) ≡ read_back_of d % 2 ^ 32
 lower_read_back (Known read_back) = refl
 lower_read_back (Assumed read_back) = refl
 lower_read_back NoSize = refl
 lower_read_back OtherSize = refl
 
-aligned_told : (line : ResourceLine) (width value : ℕ) → tells_bar line width value ≡ true → without_low (encodings value) value % address_count line ≡ 0
+pub aligned_told : (line : ResourceLine) (width value : ℕ) → tells_bar line width value ≡ true → without_low (encodings value) value % address_count line ≡ 0
 unfolding tells_bar
 aligned_told line width value told = eqb-true _ 0 (and_parts _ (without_low (encodings value) value % address_count line == 0) told).1
 
-aligned_by : (io : Bool) (value : ℕ) → without_low (if io then 4 else 16) value % (if io then 4 else 16) ≡ 0
+pub aligned_by : (io : Bool) (value : ℕ) → without_low (if io then 4 else 16) value % (if io then 4 else 16) ≡ 0
 aligned_by true value = omega arith
 aligned_by false value = omega arith
 
 -- ---- numbers
 
-low_encoding : (io wide : Bool) (rb v low high : ℕ) → v ≡ (if wide then low + 2 ^ 32 * high else low) → rb % (if io then 4 else 16) ≡ v % (if io then 4 else 16)
+pub low_encoding : (io wide : Bool) (rb v low high : ℕ) → v ≡ (if wide then low + 2 ^ 32 * high else low) → rb % (if io then 4 else 16) ≡ v % (if io then 4 else 16)
     → rb % 2 ^ 32 % (if io then 4 else 16) ≡ low % (if io then 4 else 16)
 low_encoding true true rb v low high e same = omega (arith, e, same)
 low_encoding true false rb v low high e same = omega (arith, e, same)
@@ -150,13 +150,13 @@ low_encoding false true rb v low high e same = omega (arith, e, same)
 low_encoding false false rb v low high e same = omega (arith, e, same)
 
 -- a register of an encoding of 64 bits isn't 0
-wide_some : (n : ℕ) → is_wide n ≡ true → n ≡ 0 → ⊥
+pub wide_some : (n : ℕ) → is_wide n ≡ true → n ≡ 0 → ⊥
 wide_some n wide none = both_ways false refl (sym (ap is_wide none) ∙ wide)
 
-io_of_whole : (wide : Bool) (low high : ℕ) → is_io (if wide then low + 2 ^ 32 * high else low) ≡ is_io low
+pub io_of_whole : (wide : Bool) (low high : ℕ) → is_io (if wide then low + 2 ^ 32 * high else low) ≡ is_io low
 io_of_whole true low high = ap (λ n. n == 1) (let e : bit_at (low + 2 ^ 32 * high) 0 ≡ bit_at low 0 = omega arith in e)
 io_of_whole false low high = refl
 
-zero_of_whole : (wide : Bool) (low high : ℕ) → (if wide then low + 2 ^ 32 * high else low) ≡ 0 → low ≡ 0
+pub zero_of_whole : (wide : Bool) (low high : ℕ) → (if wide then low + 2 ^ 32 * high else low) ≡ 0 → low ≡ 0
 zero_of_whole true low high e = omega (arith, e)
 zero_of_whole false low high e = e

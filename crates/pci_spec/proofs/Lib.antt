@@ -50,3 +50,4 @@ pub mod ToldSystems
 pub mod DerivedBits
 pub mod DerivedBytes
 pub mod DerivedBars
+pub mod ToldBars
