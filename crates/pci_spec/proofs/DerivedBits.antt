@@ -17,7 +17,7 @@ abbrev pub sized_mask : BarKind → ℕ → ℕ → ℕ
 sized_mask kind value k = without_low (2 ^ first_bit kind) (2 ^ width_of kind - 2 ^ k) + value % 2 ^ first_bit kind
 
 -- a power of two is a multiple of a lesser one
-multiple : (low k : ℕ) → low ≤ k → 2 ^ k ≡ 2 ^ low * 2 ^ (k - low)
+pub multiple : (low k : ℕ) → low ≤ k → 2 ^ k ≡ 2 ^ low * 2 ^ (k - low)
 multiple low k within = ap (λ j. 2 ^ j) (let e : k ≡ low + (k - low) = omega (arith, within) in e) ∙ pow-add 2 low (k - low)
 
 -- its ones above the encoding, and the encoding
@@ -28,7 +28,7 @@ pub record IsSized (kind : BarKind) (value k mask : ℕ) : Type 0 where
   pub some : 2 ^ (width_of kind - 1) ≤ mask
 
 -- powers of two rise
-pow_within : (j k : ℕ) → j ≤ k → 2 ^ j ≤ 2 ^ k
+pub pow_within : (j k : ℕ) → j ≤ k → 2 ^ j ≤ 2 ^ k
 pow_within j k h = elim (cases_lt j k) [
   | inl below ↦ let less = pow_below j k below in omega (arith, less)
   | inr at ↦ let e : j ≡ k = omega arith in subst (λ i. 2 ^ j ≤ 2 ^ i) e (omega arith)
@@ -103,7 +103,7 @@ widest Memory32 = lit≤ tt
 widest Memory64 = lit≤ tt
 widest Reserved = lit≤ tt
 
-in_run : (k i top : ℕ) → k ≤ i → i ≤ top → (nat_le k i && nat_le i top) ≡ true
+pub in_run : (k i top : ℕ) → k ≤ i → i ≤ top → (nat_le k i && nat_le i top) ≡ true
 in_run k i top low high = and_from (nat_le k i) (nat_le i top) (le-leb k i low) (le-leb i top high)
 
 -- a value that is a multiple of the size, its encoding aside, has ones only where the read back has them

@@ -72,7 +72,7 @@ none_stray image lines place = elim (cases_Bool (nat_lt place 256)) [
 
 -- ---- registers of 32 bits
 
-abbrev is_found : ℕ → Option (ℕ × ℕ) → Bool
+abbrev pub is_found : ℕ → Option (ℕ × ℕ) → Bool
 is_found register None = false
 is_found register (Some (offset, width)) = offset == register && width == 4
 
@@ -89,21 +89,51 @@ four_bytes : (n b0 b1 b2 b3 : ℕ) → b0 ≡ n % 256 → b1 ≡ n / 256 % 256 �
 four_bytes n b0 b1 b2 b3 e0 e1 e2 e3 = omega (arith, e0, e1, e2, e3)
 
 -- the table of a header, register by register: each byte is of the register that it is looked for in
-abbrev has_bytes : ℕ → ℕ → Bool
+abbrev pub has_bytes : ℕ → ℕ → Bool
 has_bytes kind register = each_from 0 4 (λ j. nat_lt (register + j) 256 && is_found register (register_at kind (register + j)))
 
-register_number : (image : List ℕ) (lines : List ResourceLine) (register : ℕ) → has_bytes (layout image) register ≡ true
+pub register_byte : (image : List ℕ) (lines : List ResourceLine) (register : ℕ) → has_bytes (layout image) register ≡ true → (j : ℕ) → j < 4
+    → byte_at (derived_probe image lines) (register + j) ≡ read_back_of (register_derived image lines register) / 256 ^ j % 256
+register_byte image lines register all j less =
+    let both = and_parts (nat_lt (register + j) 256) (is_found register (register_at (layout image) (register + j)))
+    (each_from-at 0 4 (λ j. nat_lt (register + j) 256 && is_found register (register_at (layout image) (register + j))) all j (omega arith) (omega (arith, less))) in
+    read_at image lines register 4 j (ltb-true (register + j) 256 both.0) (found_is register (register_at (layout image) (register + j)) both.1)
+
+pub register_number : (image : List ℕ) (lines : List ResourceLine) (register : ℕ) → has_bytes (layout image) register ≡ true
     → number_at (derived_probe image lines) register 4 ≡ read_back_of (register_derived image lines register) % 2 ^ 32
 register_number image lines register all =
     let n = read_back_of (register_derived image lines register) in
-    let byte : (j : ℕ) → j < 4 → byte_at (derived_probe image lines) (register + j) ≡ n / 256 ^ j % 256 = λ j less.
-    let both = and_parts (nat_lt (register + j) 256) (is_found register (register_at (layout image) (register + j))) (each_from-at 0 4 (λ j. nat_lt (register + j) 256 && is_found register (register_at (layout image) (register + j))) all j (omega arith) (omega (arith, less))) in
-    read_at image lines register 4 j (ltb-true (register + j) 256 both.0) (found_is register (register_at (layout image) (register + j)) both.1) in
-    let b0 : byte_at (derived_probe image lines) (register + 0) ≡ n % 256 = let e = byte 0 (lit< tt) in omega (arith, e) in
-    let b1 : byte_at (derived_probe image lines) (register + 1) ≡ n / 256 % 256 = byte 1 (lit< tt) in
-    let b2 : byte_at (derived_probe image lines) (register + 2) ≡ n / 65536 % 256 = byte 2 (lit< tt) in
-    let b3 : byte_at (derived_probe image lines) (register + 3) ≡ n / 16777216 % 256 = byte 3 (lit< tt) in
+    let b0 : byte_at (derived_probe image lines) (register + 0) ≡ n % 256 = let e = register_byte image lines register all 0 (lit< tt) in omega (arith, e) in
+    let b1 : byte_at (derived_probe image lines) (register + 1) ≡ n / 256 % 256 = register_byte image lines register all 1 (lit< tt) in
+    let b2 : byte_at (derived_probe image lines) (register + 2) ≡ n / 65536 % 256 = register_byte image lines register all 2 (lit< tt) in
+    let b3 : byte_at (derived_probe image lines) (register + 3) ≡ n / 16777216 % 256 = register_byte image lines register all 3 (lit< tt) in
     let sum = four_bytes n (byte_at (derived_probe image lines) (register + 0)) (byte_at (derived_probe image lines) (register + 1)) (byte_at (derived_probe image lines) (register + 2)) (byte_at (derived_probe image lines) (register + 3)) b0 b1 b2 b3 in
+    omega (arith, sum)
+
+two_bytes : (n b0 b1 : ℕ) → b0 ≡ n % 256 → b1 ≡ n / 256 % 256 → b0 + b1 * 256 ≡ n % 65536
+two_bytes n b0 b1 e0 e1 = omega (arith, e0, e1)
+
+pub lower_number : (image : List ℕ) (lines : List ResourceLine) (register : ℕ) → has_bytes (layout image) register ≡ true
+    → number_at (derived_probe image lines) register 2 ≡ read_back_of (register_derived image lines register) % 2 ^ 16
+lower_number image lines register all =
+    let n = read_back_of (register_derived image lines register) in
+    let b0 : byte_at (derived_probe image lines) (register + 0) ≡ n % 256 = let e = register_byte image lines register all 0 (lit< tt) in omega (arith, e) in
+    let b1 : byte_at (derived_probe image lines) (register + 1) ≡ n / 256 % 256 = register_byte image lines register all 1 (lit< tt) in
+    let sum = two_bytes n (byte_at (derived_probe image lines) (register + 0)) (byte_at (derived_probe image lines) (register + 1)) b0 b1 in
+    omega (arith, sum)
+
+upper_bytes : (n b0 b1 : ℕ) → b0 ≡ n / 65536 % 256 → b1 ≡ n / 16777216 % 256 → b0 + b1 * 256 ≡ n / 65536 % 65536
+upper_bytes n b0 b1 e0 e1 = omega (arith, e0, e1)
+
+pub upper_number : (image : List ℕ) (lines : List ResourceLine) (register : ℕ) → has_bytes (layout image) register ≡ true
+    → number_at (derived_probe image lines) (register + 2) 2 ≡ read_back_of (register_derived image lines register) / 2 ^ 16 % 2 ^ 16
+upper_number image lines register all =
+    let n = read_back_of (register_derived image lines register) in
+    let b2 : byte_at (derived_probe image lines) (register + 2) ≡ n / 65536 % 256 = register_byte image lines register all 2 (lit< tt) in
+    let b3 : byte_at (derived_probe image lines) (register + 3) ≡ n / 16777216 % 256 = register_byte image lines register all 3 (lit< tt) in
+    let at2 : byte_at (derived_probe image lines) (register + 2 + 0) ≡ byte_at (derived_probe image lines) (register + 2) = ap (byte_at (derived_probe image lines)) (let e : register + 2 + 0 ≡ register + 2 = omega arith in e) in
+    let at3 : byte_at (derived_probe image lines) (register + 2 + 1) ≡ byte_at (derived_probe image lines) (register + 3) = ap (byte_at (derived_probe image lines)) (let e : register + 2 + 1 ≡ register + 3 = omega arith in e) in
+    let sum = upper_bytes n (byte_at (derived_probe image lines) (register + 2 + 0)) (byte_at (derived_probe image lines) (register + 2 + 1)) (at2 ∙ b2) (at3 ∙ b3) in
     omega (arith, sum)
 
 -- ---- what the tables of both layouts have
@@ -212,3 +242,19 @@ module _ (image : List ℕ) (lines : List ResourceLine) (kind : IsLayout (layout
       let fault = first_none (λ register. register_fault false register (register_derived image lines register)) (register_offsets image) (rom_row (layout image)) none (ltb-true (rom_row (layout image)) (length (register_offsets image)) bytes.1) in
       sym (ap (register_fault false (rom_register (layout image))) rom_derived_at)
       ∙ sym (ap (λ register. register_fault false register (register_derived image lines register)) at) ∙ fault
+
+  -- ---- windows
+
+  abbrev window_by : ℕ → ℕ → Derived
+  window_by register kind =
+      if nat_lt register (bar_register (bar_count kind)) then bar_register_derived image lines ((register - bar_register 0) / 4)
+      else if register == rom_register kind then rom_derived image lines
+      else window_register_derived image register
+
+  pub window_derived_at : layout image ≡ 1 → (register : ℕ) → nat_lt register (bar_register (bar_count 1)) ≡ false → (register == rom_register 1) ≡ false
+      → register_derived image lines register ≡ window_register_derived image register
+  unfolding register_derived
+  window_derived_at bridge register past other =
+      ap (window_by register) bridge
+      ∙ ap (λ b. if b then bar_register_derived image lines ((register - bar_register 0) / 4) else if register == rom_register 1 then rom_derived image lines else window_register_derived image register) past
+      ∙ ap (λ b. if b then rom_derived image lines else window_register_derived image register) other

@@ -51,3 +51,5 @@ pub mod DerivedBits
 pub mod DerivedBytes
 pub mod DerivedBars
 pub mod ToldBars
+pub mod ToldRoms
+pub mod ToldWindows
