@@ -53,3 +53,4 @@ pub mod DerivedBars
 pub mod ToldBars
 pub mod ToldRoms
 pub mod ToldWindows
+pub mod DerivedSystems

@@ -40,6 +40,7 @@ pub mod JudgingLaws
 pub mod SoundLaws
 pub mod RecordLaws
 pub mod ProbeLaws
+pub mod DerivedLaws
 pub mod PlanningLaws
 pub mod Planning
 pub mod PlanPromise
