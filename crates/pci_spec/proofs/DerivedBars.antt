@@ -1,27 +1,18 @@
 -- The BARs of a derived probe: each register reads back a BAR that its value goes with, of the size that is told.
 use Rattle.std.specs.Prelude.{◌⊎◌}
-use Rattle.std.proofs.Common.{◌≡◌, ◌≢◌, ℕ, zero, suc, ◌+◌, ◌-◌, ◌*◌, ◌/◌, ◌%◌, ◌^◌, ◌<◌, ◌≤◌, Bool, true, false, ◌&&◌, ◌||◌, not, List, Option, Some, None, inl, inr, refl, arith, sym, ◌∙◌, ap, subst}
-use Rattle.std.specs.Bool.{nat_lt, nat_eq, ◌==◌, if◌then◌else◌, IsTrue}
+use Rattle.std.proofs.Common.{◌≡◌, ◌≢◌, ℕ, ◌+◌, ◌*◌, ◌%◌, ◌^◌, Bool, true, false, ◌&&◌, not, Some, None, inl, inr, refl, arith, sym, ◌∙◌, ap}
+use Rattle.std.specs.Bool.{nat_eq, ◌==◌, if◌then◌else◌}
 use Rattle.std.specs.Int.{bit_at}
-use Rattle.std.proofs.lemmas.Bool.{and_parts, and_from, and_left, and_cases, both_ways, cases_Bool, eqb-true, eqb-false, eq-eqb, ne_eqb, lt-ltb, ltb-true, not-true, not-false, not_from_false, not_from_true, or_parts}
-use Rattle.pci_spec.specs.Number.{has_bit, lowest_one, IsImage}
-use Rattle.pci_spec.specs.Header.{layout, bar_count, bar_register}
-use Rattle.pci_spec.specs.Bar.{BarKind, BarFault, BarMask, BarType, BarPair, bar_at, bar_kind, bar_fault, first_broken, is_io, is_wide, type_bits, starts_bar, whole_bar, encodings, is_lawful, has_lawful_size, is_within}
-use Rattle.pci_spec.specs.System.{Function}
-use Rattle.pci_spec.specs.Fault.{has_other_layout}
+use Rattle.std.proofs.lemmas.Bool.{and_parts, both_ways, eqb-true, eq-eqb, ne_eqb}
+use Rattle.pci_spec.specs.Number.{has_bit}
+use Rattle.pci_spec.specs.Bar.{BarMask, BarType, BarPair, bar_kind, first_broken, is_io, is_wide, type_bits, encodings, has_lawful_size, is_within}
 use Rattle.pci_spec.specs.Machine.{without_low}
-use Rattle.pci_spec.specs.Decoded.{IsDecodable, has_bar, bar_size}
-use Rattle.pci_spec.specs.Resource.{ResourceLine, line_at, is_of_register, is_of_io, has_size, address_count, tells_bar}
-use Rattle.pci_spec.specs.Derived.{Derived, Known, Assumed, NoSize, OtherSize, is_pair, shown_bar, bar_width, is_enabled, bar_of_size, derived_bar, bar_derived, lower_half, read_back_of, bar_register_derived, derived_probe}
-use Rattle.pci_spec.specs.NoProbe.{register_fault, no_probe}
-use Rattle.pci_spec.specs.ToldAlike.{enables_bar}
-use Rattle.pci_spec.specs.TrueLines.{IsTrueOf, is_told_bar, is_untold_bar}
+use Rattle.pci_spec.specs.Resource.{ResourceLine, is_of_register, address_count, tells_bar}
+use Rattle.pci_spec.specs.Derived.{Derived, Known, Assumed, NoSize, OtherSize, bar_of_size, derived_bar, lower_half, read_back_of}
+use Rattle.pci_spec.specs.NoProbe.{register_fault}
 use Rattle.pci_spec.proofs.BarLaws.{kind_by}
-use Rattle.pci_spec.proofs.ReadBacks.{encodings-power}
-use Rattle.pci_spec.proofs.Ranges.{first_bit, width_of, lowest_one-of_lawful, has_lawful_size-of_lawful, lawful-lowest_one, ObeysRules, obeys_rules, first_bit-of_register, whole_bar-fits}
-use Rattle.pci_spec.proofs.ToldAlike.{IsOfEncoding, same_encoding, shows_encoding, starts_shown, absent_shows_0}
-use Rattle.pci_spec.proofs.DerivedBits.{sized_mask, IsSized, is_sized, IsBound, lawful_bound, sized_lawful, least_lawful, sized_within}
-use Rattle.pci_spec.proofs.DerivedBytes.{IsLayout, bar_number, bar_no_fault}
+use Rattle.pci_spec.proofs.Ranges.{width_of, ObeysRules}
+use Rattle.pci_spec.proofs.ToldAlike.{IsOfEncoding, same_encoding}
 
 -- ---- registers of one encoding
 

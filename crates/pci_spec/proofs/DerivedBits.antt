@@ -1,11 +1,11 @@
 -- The read back of a size: ones from the size upward, with the encoding that is shown.
-use Rattle.std.proofs.Common.{◌≡◌, ◌≢◌, ℕ, suc, ◌+◌, ◌-◌, ◌*◌, ◌/◌, ◌%◌, ◌^◌, ◌<◌, ◌≤◌, refl, Bool, true, false, not, ◌&&◌, ◌||◌, inl, inr, arith, sym, ◌∙◌, ap, subst, lit<, lit≤}
+use Rattle.std.proofs.Common.{◌≡◌, ℕ, ◌+◌, ◌-◌, ◌*◌, ◌/◌, ◌%◌, ◌^◌, ◌<◌, ◌≤◌, refl, true, false, ◌&&◌, ◌||◌, inl, inr, arith, ◌∙◌, ap, subst, lit≤}
 use Rattle.std.specs.Bool.{nat_le}
 use Rattle.std.specs.Int.{bit_at}
-use Rattle.std.proofs.lemmas.Bool.{and_parts, and_from, or_left, le-leb, lt-leb, leb-true, cases_lt, both_ways}
+use Rattle.std.proofs.lemmas.Bool.{and_parts, and_from, or_left, le-leb, cases_lt, both_ways}
 use Rattle.std.proofs.lemmas.Nat.{pow-add, pow_pos, pow_below}
 use Rattle.std.proofs.lemmas.Nat.Bits.{bit_at-lt, bit_at_above, bit_at-zero}
-use Rattle.pci_spec.specs.Number.{has_bit, each_from}
+use Rattle.pci_spec.specs.Number.{each_from}
 use Rattle.pci_spec.specs.Bar.{BarKind, IoBar, Memory32, Memory64, Reserved, is_run, is_lawful, is_within}
 use Rattle.pci_spec.specs.Machine.{without_low}
 use Rattle.pci_spec.proofs.Bits.{each_from-by, run_mask, bit_at-mod, bit_at-without_low, bit_of_true}
@@ -110,25 +110,25 @@ in_run k i top low high = and_from (nat_le k i) (nat_le i top) (le-leb k i low) 
 pub sized_within : (kind : BarKind) (value k mask : ℕ) → IsBound kind k → IsSized kind value k mask → value < 2 ^ width_of kind
     → without_low (2 ^ first_bit kind) value % 2 ^ k ≡ 0 → is_within 0 value mask ≡ true
 sized_within kind value k mask b s small aligned = each_from-by 0 64 (λ i. nat_le (bit_at value i) (bit_at mask i)) (λ i from to. le-leb (bit_at value i) (bit_at mask i) (
-  elim (cases_lt i (first_bit kind)) [
-    | inl low ↦
-        let v = bit_at-mod value (first_bit kind) i low in
-        let m = bit_at-mod mask (first_bit kind) i low in
-        let e = ap (λ n. bit_at n i) s.encoding in
-        omega (arith, v, m, e)
-    | inr high ↦ elim (cases_lt i k) [
-      | inl under ↦
-          let v = bit_at-without_low value (first_bit kind) i high in
-          let m = bit_at-mod (without_low (2 ^ first_bit kind) value) k i under in
-          let e = ap (λ n. bit_at n i) aligned in
-          let z = bit_at-zero i in
-          omega (arith, v, m, e, z)
-      | inr at ↦ elim (cases_lt i (width_of kind)) [
-        | inl inside ↦
-            let one = bit_of_true mask i (bit_of_run (first_bit kind) mask k (width_of kind - 1) i (sized_run kind value k mask b s) high to ∙ in_run k i (width_of kind - 1) at (omega (arith, inside))) in
-            let v = bit_at-lt value i in
-            omega (arith, one, v)
-        | inr above ↦ let v = bit_at_above value (width_of kind) i small above in omega (arith, v)
+    elim (cases_lt i (first_bit kind)) [
+      | inl low ↦
+          let v = bit_at-mod value (first_bit kind) i low in
+          let m = bit_at-mod mask (first_bit kind) i low in
+          let e = ap (λ n. bit_at n i) s.encoding in
+          omega (arith, v, m, e)
+      | inr high ↦ elim (cases_lt i k) [
+        | inl under ↦
+            let v = bit_at-without_low value (first_bit kind) i high in
+            let m = bit_at-mod (without_low (2 ^ first_bit kind) value) k i under in
+            let e = ap (λ n. bit_at n i) aligned in
+            let z = bit_at-zero i in
+            omega (arith, v, m, e, z)
+        | inr at ↦ elim (cases_lt i (width_of kind)) [
+          | inl inside ↦
+              let one = bit_of_true mask i (bit_of_run (first_bit kind) mask k (width_of kind - 1) i (sized_run kind value k mask b s) high to ∙ in_run k i (width_of kind - 1) at (omega (arith, inside))) in
+              let v = bit_at-lt value i in
+              omega (arith, one, v)
+          | inr above ↦ let v = bit_at_above value (width_of kind) i small above in omega (arith, v)
+        ]
       ]
-    ]
-  ]))
+    ]))

@@ -1,8 +1,8 @@
 -- The bytes of a derived probe, and the registers that they make.
 use Rattle.std.specs.Prelude.{◌⊎◌}
-use Rattle.std.proofs.Common.{◌≡◌, ℕ, zero, suc, ◌+◌, ◌-◌, ◌*◌, ◌/◌, ◌%◌, ◌^◌, ◌<◌, ◌≤◌, Bool, true, false, ◌&&◌, not, List, [], ◌∷◌, map, length, get_or, Option, Some, None, inl, inr, refl, arith, sym, ◌∙◌, ap, lit<, lit≤}
-use Rattle.std.specs.Bool.{nat_lt, nat_eq, ◌==◌, if◌then◌else◌}
-use Rattle.std.specs.List.{range_with_len, list_any, find}
+use Rattle.std.proofs.Common.{◌≡◌, ℕ, zero, suc, ◌+◌, ◌-◌, ◌*◌, ◌/◌, ◌%◌, ◌^◌, ◌<◌, Bool, true, false, ◌&&◌, not, List, [], ◌∷◌, map, length, get_or, Option, Some, None, inl, inr, refl, arith, sym, ◌∙◌, ap, lit<}
+use Rattle.std.specs.Bool.{nat_lt, ◌==◌, if◌then◌else◌}
+use Rattle.std.specs.List.{list_any, find}
 use Rattle.std.specs.Option.{option_or}
 use Rattle.std.proofs.lemmas.Bool.{and_parts, both_ways, cases_Bool, cases_lt, eqb-true, eq-eqb, lt-ltb, ltb-true, and_right, not_from_true, or_parts, cond-true, cond-false}
 use Rattle.std.proofs.lemmas.Option.{none-some}
@@ -10,7 +10,7 @@ use Rattle.std.proofs.lemmas.List.{get_or_past}
 use Rattle.std.proofs.lemmas.List.FromFn.{get_or-map-range_with_len, length-map-range_with_len}
 use Rattle.pci_spec.specs.Number.{byte_at, number_at, each_from, IsImage}
 use Rattle.pci_spec.specs.Header.{layout, bar_count, bar_register, rom_register, address_registers, is_in_register}
-use Rattle.pci_spec.specs.Bar.{bar_at, starts_bar}
+use Rattle.pci_spec.specs.Bar.{bar_at}
 use Rattle.pci_spec.specs.Rom.{rom_at}
 use Rattle.pci_spec.specs.Machine.{register_at}
 use Rattle.pci_spec.specs.Fault.{is_in_address_register, is_stray}

@@ -1,10 +1,10 @@
 -- Functions and systems with derived probes.
-use Rattle.std.proofs.Common.{◌≡◌, ℕ, zero, suc, ◌+◌, ◌<◌, List, [], ◌∷◌, map, false, ◌&&◌, None, refl, arith, sym, ap, subst}
+use Rattle.std.proofs.Common.{◌≡◌, zero, suc, List, [], ◌∷◌, map, false, None, refl, arith, sym, ap, subst}
 use Rattle.std.specs.Bool.{◌==◌}
 use Rattle.std.specs.List.{All, AllZip}
 use Rattle.std.proofs.lemmas.Bool.{and_parts, eqb-true}
 use Rattle.pci_spec.specs.Number.{has_bit}
-use Rattle.pci_spec.specs.Slot.{Slot, IsRising}
+use Rattle.pci_spec.specs.Slot.{IsRising}
 use Rattle.pci_spec.specs.Header.{command, layout}
 use Rattle.pci_spec.specs.System.{System, Function, IsFunction, IsSystem}
 use Rattle.pci_spec.specs.Resource.{ResourceLine}

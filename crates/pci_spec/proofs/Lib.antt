@@ -54,3 +54,4 @@ pub mod ToldBars
 pub mod ToldRoms
 pub mod ToldWindows
 pub mod DerivedSystems
+pub mod DerivedDumps

@@ -9,11 +9,11 @@ use Rattle.pci_spec.specs.Bar.{BarKind, bar_at, bar_kind, bar_fault, first_broke
 use Rattle.pci_spec.specs.System.{Function}
 use Rattle.pci_spec.specs.Machine.{without_low}
 use Rattle.pci_spec.specs.Decoded.{IsDecodable, has_bar, bar_size}
-use Rattle.pci_spec.specs.Resource.{ResourceLine, line_at, is_of_register, address_count, tells_bar}
+use Rattle.pci_spec.specs.Resource.{ResourceLine, line_at, address_count, tells_bar}
 use Rattle.pci_spec.specs.Derived.{Known, is_pair, shown_bar, bar_width, is_enabled, bar_of_size, bar_derived, lower_half, read_back_of, bar_register_derived, derived_probe}
 use Rattle.pci_spec.specs.NoProbe.{register_fault, no_probe}
 use Rattle.pci_spec.specs.ToldAlike.{enables_bar}
-use Rattle.pci_spec.specs.TrueLines.{IsTrueOf, is_told_bar, is_untold_bar}
+use Rattle.pci_spec.specs.TrueLines.{IsTrueOf}
 use Rattle.pci_spec.proofs.ReadBacks.{encodings-power}
 use Rattle.pci_spec.proofs.Ranges.{first_bit, width_of, lowest_one-of_lawful, has_lawful_size-of_lawful, lawful-lowest_one, lawful_bar, ObeysRules, first_bit-of_register, whole_bar-fits}
 use Rattle.pci_spec.proofs.ToldAlike.{IsOfEncoding, shows_encoding, starts_shown, absent_shows_0}

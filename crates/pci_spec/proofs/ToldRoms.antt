@@ -1,6 +1,6 @@
 -- The ROM of a function whose probe is derived from lines that are true of it.
 use Rattle.std.specs.Prelude.{◌⊎◌}
-use Rattle.std.proofs.Common.{◌≡◌, ℕ, ◌+◌, ◌-◌, ◌*◌, ◌/◌, ◌%◌, ◌^◌, ◌<◌, ◌≤◌, Bool, true, false, ◌&&◌, ◌||◌, not, List, None, inl, inr, refl, arith, sym, ◌∙◌, ap, subst, lit<, lit≤}
+use Rattle.std.proofs.Common.{◌≡◌, ℕ, ◌+◌, ◌%◌, ◌^◌, ◌<◌, ◌≤◌, Bool, true, false, ◌&&◌, List, None, inl, inr, refl, arith, sym, ◌∙◌, ap, lit<, lit≤}
 use Rattle.std.specs.Bool.{nat_le, ◌==◌, if◌then◌else◌, IsTrue}
 use Rattle.std.specs.Int.{bit_at}
 use Rattle.std.proofs.lemmas.Bool.{and_parts, and_from, and_left, and_right, both_ways, cases_lt, eqb-true, eqb-false, eq-eqb, le-leb, not_from_true}
@@ -42,24 +42,24 @@ rom_sized k mask least most is =
 rom_within : (k value mask : ℕ) → is_rom_size mask k ≡ true → value < 2 ^ 32 → ((i : ℕ) → 1 ≤ i → i < 11 → bit_at value i ≡ 0) → without_low rom_step value % 2 ^ k ≡ 0
     → is_within 1 value mask ≡ true
 rom_within k value mask lawful small low aligned = each_from-by 1 63 (λ i. nat_le (bit_at value i) (bit_at mask i)) (λ i from to. le-leb (bit_at value i) (bit_at mask i) (
-  elim (cases_lt i 11) [
-    | inl under ↦ let clear = low i from under in omega (arith, clear)
-    | inr over ↦ elim (cases_lt i k) [
-      | inl below ↦
-          let v = bit_at-without_low value 11 i over in
-          let m = bit_at-mod (without_low rom_step value) k i below in
-          let e = ap (λ n. bit_at n i) aligned in
-          let z = bit_at-zero i in
-          omega (arith, v, m, e, z)
-      | inr at ↦ elim (cases_lt i 32) [
-        | inl inside ↦
-            let one = bit_of_true mask i (bit_of_run 0 mask k 31 i (rom_run mask k lawful).run (omega arith) to ∙ in_run k i 31 at (omega (arith, inside))) in
-            let v = bit_at-lt value i in
-            omega (arith, one, v)
-        | inr above ↦ let v = bit_at_above value 32 i small above in omega (arith, v)
+    elim (cases_lt i 11) [
+      | inl under ↦ let clear = low i from under in omega (arith, clear)
+      | inr over ↦ elim (cases_lt i k) [
+        | inl below ↦
+            let v = bit_at-without_low value 11 i over in
+            let m = bit_at-mod (without_low rom_step value) k i below in
+            let e = ap (λ n. bit_at n i) aligned in
+            let z = bit_at-zero i in
+            omega (arith, v, m, e, z)
+        | inr at ↦ elim (cases_lt i 32) [
+          | inl inside ↦
+              let one = bit_of_true mask i (bit_of_run 0 mask k 31 i (rom_run mask k lawful).run (omega arith) to ∙ in_run k i 31 at (omega (arith, inside))) in
+              let v = bit_at-lt value i in
+              omega (arith, one, v)
+          | inr above ↦ let v = bit_at_above value 32 i small above in omega (arith, v)
+        ]
       ]
-    ]
-  ]))
+    ]))
 
 -- ---- the cases of a derived ROM
 

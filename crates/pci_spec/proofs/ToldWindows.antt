@@ -1,8 +1,8 @@
 -- The windows of a bridge whose probe is derived.
 use Rattle.std.specs.Prelude.{◌⊎◌}
-use Rattle.std.proofs.Common.{◌≡◌, ℕ, ◌+◌, ◌*◌, ◌/◌, ◌%◌, ◌^◌, ◌<◌, ◌≤◌, Bool, true, false, ◌&&◌, ◌||◌, not, List, None, inl, inr, refl, arith, sym, ◌∙◌, ap, subst, lit<}
+use Rattle.std.proofs.Common.{◌≡◌, ℕ, ◌+◌, ◌*◌, ◌/◌, ◌%◌, ◌^◌, ◌<◌, Bool, true, false, ◌&&◌, not, List, inl, inr, refl, arith, sym, ◌∙◌, ap, subst, lit<}
 use Rattle.std.specs.Bool.{◌==◌, if◌then◌else◌, IsTrue}
-use Rattle.std.proofs.lemmas.Bool.{and_parts, and_from, and_left, or_left, or_right, both_ways, cases_Bool, eqb-true, eq-eqb, ne_eqb, not_from_true, not_from_false}
+use Rattle.std.proofs.lemmas.Bool.{and_from, and_left, or_left, or_right, both_ways, cases_Bool, eq-eqb, ne_eqb, not_from_true, not_from_false}
 use Rattle.pci_spec.specs.Number.{byte_at, number_at, each_from, has_bit}
 use Rattle.pci_spec.specs.Header.{layout, command}
 use Rattle.pci_spec.specs.Window.{WindowKind, IoWindow, MemoryWindow, PrefetchWindow, Bounds, bounds_at, page_bits, upper_bits, is_zero, has_window, is_lawful_window, is_optional, breaks_window_rule}
@@ -10,12 +10,11 @@ use Rattle.pci_spec.specs.System.{Function}
 use Rattle.pci_spec.specs.Machine.{register_at}
 use Rattle.pci_spec.specs.Decoded.{IsDecodable}
 use Rattle.pci_spec.specs.Resource.{ResourceLine}
-use Rattle.pci_spec.specs.Derived.{Derived, Known, Assumed, shows_none, window_nibble, window_enable, bounds_of_nibble, window_read_back, read_back_of, window_register_derived, register_derived, derived_probe}
+use Rattle.pci_spec.specs.Derived.{Known, Assumed, shows_none, window_nibble, window_enable, bounds_of_nibble, window_read_back, read_back_of, window_register_derived, register_derived, derived_probe}
 use Rattle.pci_spec.specs.ToldAlike.{enables_window}
-use Rattle.pci_spec.specs.TrueLines.{IsTrueOf, is_untold_window}
-use Rattle.pci_spec.proofs.ReadBacks.{IsLawful, AreZero, are_zero, window_rules}
+use Rattle.pci_spec.specs.TrueLines.{IsTrueOf}
+use Rattle.pci_spec.proofs.ReadBacks.{IsLawful, AreZero, window_rules}
 use Rattle.pci_spec.proofs.DerivedBytes.{has_bytes, read_at, register_number, lower_number, upper_number, window_derived_at}
-use Rattle.pci_spec.proofs.ToldBars.{layouts}
 
 -- ---- how much the registers of a window hold
 

@@ -1,13 +1,16 @@
 -- Laws of derived probes: where what is told is true, they give the verdict that the machine's own read backs give.
 use Rattle.std.specs.Prelude.{◌≡◌, ◌↔◌, ℕ, false, List, None}
 use Rattle.std.specs.List.{All, AllZip}
-use Rattle.pci_spec.specs.System.{System, Function, IsFunction, IsSystem}
+use Rattle.pci_spec.specs.Text.{Block, slots_of}
+use Rattle.pci_spec.specs.System.{System, Function, IsFunction, IsSystem, system_of}
 use Rattle.pci_spec.specs.Fault.{Fault, IsIn}
 use Rattle.pci_spec.specs.Order.{IsFirstIn}
 use Rattle.pci_spec.specs.Sound.{IsSound}
 use Rattle.pci_spec.specs.Resource.{ResourceLine}
 use Rattle.pci_spec.specs.Derived.{derived_probe}
 use Rattle.pci_spec.specs.NoProbe.{no_probe}
+use Rattle.pci_spec.specs.SizesText.{SizesBlock}
+use Rattle.pci_spec.specs.ProbeOf.{probe_of, probe_fault}
 use Rattle.pci_spec.specs.ToldAlike.{IsToldAlike, IsReadable}
 use Rattle.pci_spec.specs.TrueLines.{IsTrueOf}
 
@@ -43,3 +46,14 @@ abbrev pub DerivedIsSoundWithOwn : Type 0
 DerivedIsSoundWithOwn =
     (roots : List ℕ) (s t : System) → IsSystem s → All IsReadable s → AllZip IsDerivedOf s t
     → IsSound roots s ↔ IsSound roots t
+
+-- So a dump with the probe that is derived for it, and with the read backs of its machine, of which what is told is true.
+-- Both have the same first fault, and both are sound or neither is.
+abbrev pub DumpHasTheSameVerdict : Type 0
+DumpHasTheSameVerdict =
+    (roots : List ℕ) (dump own : List Block) (sizes : List SizesBlock)
+    → slots_of dump ≡ slots_of own → IsSystem (system_of dump own) → All IsReadable (system_of dump own)
+    → AllZip (λ (f : Function) (told : SizesBlock). IsTrueOf told.lines f.image f.probe) (system_of dump own) sizes
+    → probe_fault false dump sizes ≡ None
+    → ((fault : Fault) → IsFirstIn roots (system_of dump own) fault ↔ IsFirstIn roots (system_of dump (probe_of dump sizes)) fault)
+    × (IsSound roots (system_of dump own) ↔ IsSound roots (system_of dump (probe_of dump sizes)))

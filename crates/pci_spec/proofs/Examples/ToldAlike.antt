@@ -26,13 +26,13 @@ use Rattle.pci_spec.proofs.Examples.Samples.{slot, device, bridge, host}
 use Rattle.pci_spec.proofs.Examples.Sound.{no_chain, no_place, no_stray}
 use Rattle.pci_spec.proofs.Examples.Texts.{bytes_by}
 
-no : {A : Type 0} → false ≡ true → A
+pub no : {A : Type 0} → false ≡ true → A
 no h = absurd (let contradiction : ⊥ = both_ways false refl h in contradiction)
 
 -- ---- a device alone on the host bus
 
 -- all numbers below 6
-six : (P : ℕ → Type 0) → P 0 → P 1 → P 2 → P 3 → P 4 → P 5 → (n : ℕ) → n < 6 → P n
+pub six : (P : ℕ → Type 0) → P 0 → P 1 → P 2 → P 3 → P 4 → P 5 → (n : ℕ) → n < 6 → P n
 six P a b c d e f zero less = a
 six P a b c d e f (suc zero) less = b
 six P a b c d e f (suc (suc zero)) less = c
@@ -121,7 +121,7 @@ module _ (f : Function) (readable : IsReadable f) (at : f.slot ≡ slot 0 1 0) (
   }
 
 -- a device whose registers decode
-reads : (f : Function) → layout f.image ≡ 0 → has_no_vendor f.image ≡ false → breaks_rom_rule f.image f.probe ≡ false → ((n : ℕ) → n < 6 → bar_fault f.image f.probe n ≡ None)
+pub reads : (f : Function) → layout f.image ≡ 0 → has_no_vendor f.image ≡ false → breaks_rom_rule f.image f.probe ≡ false → ((n : ℕ) → n < 6 → bar_fault f.image f.probe n ≡ None)
     → each_from 0 256 (λ offset. not (is_stray f.image f.probe offset)) ≡ true → IsReadable f
 reads f is_device vendor rom bars clean = record {
   decodable = record {
@@ -200,15 +200,15 @@ sound_with_16_bits = (alike_are_sound_together host (of_32_bits ∷ []) (of_16_b
 
 -- ---- memory is enabled
 
-abbrev memory_device : List (ℕ × ℕ) → Function
+abbrev pub memory_device : List (ℕ × ℕ) → Function
 memory_device masks = device (slot 0 1 0) 2 ((0x10, 0xe0000000) ∷ (0x14, 0xe0001000) ∷ []) masks
 
 -- 4 KB, and 4 KB right behind them
-abbrev side_by_side : Function
+abbrev pub side_by_side : Function
 side_by_side = memory_device ((0x10, 0xfffff000) ∷ (0x14, 0xfffff000) ∷ [])
 
 -- 8 KB, and 4 KB in their upper half
-abbrev one_in_the_other : Function
+abbrev pub one_in_the_other : Function
 one_in_the_other = memory_device ((0x10, 0xffffe000) ∷ (0x14, 0xfffff000) ∷ [])
 
 readable_side_by_side : IsReadable side_by_side
@@ -280,14 +280,14 @@ other_size h = let e : 4096 ≡ 8192 = h.bar_sizes 0 refl refl in omega (arith, 
 -- ---- a window that shows 0, where I/O is enabled
 
 -- a bridge with 64 ports of its own at C00h
-abbrev io_bridge : List (ℕ × ℕ) → Function
+abbrev pub io_bridge : List (ℕ × ℕ) → Function
 io_bridge masks = bridge (slot 0 1 0) 1 0x010100 ((0x10, 0xc01) ∷ []) ((0x10, 0xffffffc1) ∷ masks)
 
 -- without an I/O window, and with one, which is open from 0 to FFFh
-abbrev without_window : Function
+abbrev pub without_window : Function
 without_window = io_bridge []
 
-abbrev with_window : Function
+abbrev pub with_window : Function
 with_window = io_bridge ((0x1c, 0xf0f0) ∷ [])
 
 either_of_two : (f : Function) → bar_fault f.image f.probe 0 ≡ None → bar_fault f.image f.probe 1 ≡ None → (n : ℕ) → n < 2 → bar_fault f.image f.probe n ≡ None
