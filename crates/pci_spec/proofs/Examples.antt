@@ -41,3 +41,4 @@ pub mod DerivedProbes
 pub mod SizesTexts
 pub mod ProbesOf
 pub mod ToldAlike
+pub mod TrueLines

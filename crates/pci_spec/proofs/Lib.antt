@@ -47,3 +47,11 @@ pub mod Readable
 pub mod PlanningLaws
 pub mod ToldAlike
 pub mod ToldSystems
+pub mod DerivedBits
+pub mod DerivedBytes
+pub mod DerivedBars
+pub mod ToldBars
+pub mod ToldRoms
+pub mod ToldWindows
+pub mod DerivedSystems
+pub mod DerivedDumps

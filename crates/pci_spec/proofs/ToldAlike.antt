@@ -18,10 +18,10 @@ use Rattle.pci_spec.proofs.Ranges.{obeys_rules, decoded_bar-decodes, has_bar-of_
 -- ---- what a register shows of its encoding
 
 -- a value shows the encoding of its read back
-record IsOfEncoding (value mask : ℕ) : Type 0 where
-  io : is_io value ≡ is_io mask
-  wide : is_wide value ≡ is_wide mask
-  prefetchable : is_prefetchable value ≡ is_prefetchable mask
+pub record IsOfEncoding (value mask : ℕ) : Type 0 where
+  pub io : is_io value ≡ is_io mask
+  pub wide : is_wide value ≡ is_wide mask
+  pub prefetchable : is_prefetchable value ≡ is_prefetchable mask
 
 io_encoding : (value mask : ℕ) → is_io mask ≡ true → value % 4 ≡ mask % 4 → IsOfEncoding value mask
 io_encoding value mask io same =
@@ -44,20 +44,20 @@ memory_encoding value mask same =
       prefetchable = λ i. not (bit i == 1) && third i == 1;
     }
 
-same_encoding : (value mask : ℕ) → value % encodings mask ≡ mask % encodings mask → IsOfEncoding value mask
+pub same_encoding : (value mask : ℕ) → value % encodings mask ≡ mask % encodings mask → IsOfEncoding value mask
 same_encoding value mask same = elim (cases_Bool (is_io mask)) [
   | inl io ↦ io_encoding value mask io (subst (λ b. value % (if b then 4 else 16) ≡ mask % (if b then 4 else 16)) io same)
   | inr memory ↦ memory_encoding value mask (subst (λ b. value % (if b then 4 else 16) ≡ mask % (if b then 4 else 16)) memory same)
 ]
 
 -- a BAR that isn't there shows 0
-absent_shows_0 : (value : ℕ) → (if value == 0 then None else Some BarMask) ≡ None → value ≡ 0
+pub absent_shows_0 : (value : ℕ) → (if value == 0 then None else Some BarMask) ≡ None → value ≡ 0
 absent_shows_0 value none = elim (cases_Bool (value == 0)) [
   | inl zeros ↦ eqb-true value 0 zeros
   | inr ones ↦ absurd (let broken : true ≡ false = sym (ap (λ b. is_some (if b then None else Some BarMask)) ones) ∙ ap is_some none in both_ways true broken refl)
 ]
 
-shows_encoding : (image probe : List ℕ) (n : ℕ) → starts_bar probe n ≡ true → bar_fault image probe n ≡ None → IsOfEncoding (bar_at image n) (bar_at probe n)
+pub shows_encoding : (image probe : List ℕ) (n : ℕ) → starts_bar probe n ≡ true → bar_fault image probe n ≡ None → IsOfEncoding (bar_at image n) (bar_at probe n)
 shows_encoding image probe n starts none =
     let kept = rw starts at none in
     elim (cases_Bool (bar_at probe n == 0)) [
@@ -71,7 +71,7 @@ shows_encoding image probe n starts none =
     ]
 
 -- an image shows which registers start BARs
-starts_shown : (image probe : List ℕ) → ((n : ℕ) → n < bar_count (layout image) → bar_fault image probe n ≡ None)
+pub starts_shown : (image probe : List ℕ) → ((n : ℕ) → n < bar_count (layout image) → bar_fault image probe n ≡ None)
     → (n : ℕ) → n < bar_count (layout image) → starts_bar probe n ≡ starts_bar image n
 starts_shown image probe none zero less = refl
 starts_shown image probe none (suc n) less =
@@ -94,7 +94,7 @@ window_bit f MemoryWindow = refl
 window_bit f PrefetchWindow = refl
 
 -- a ROM that is on is there
-on_is_there : (image probe : List ℕ) → rom_is_on image ≡ true → has_rom image probe ≡ true
+pub on_is_there : (image probe : List ℕ) → rom_is_on image ≡ true → has_rom image probe ≡ true
 on_is_there image probe on =
     let bit = eqb-true (bit_at (rom_at image image) 0) 1 on in
     not_from_false _ (and_left (rom_at image image == 0) (rom_at image probe == 0) (ne_eqb (rom_at image image) 0 (λ zeros. omega (arith, bit, zeros))))

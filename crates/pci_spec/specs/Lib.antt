@@ -29,6 +29,7 @@ pub mod SizesForm
 pub mod SizesStops
 pub mod ProbeOf
 pub mod ToldAlike
+pub mod TrueLines
 pub mod NestingLaws
 pub mod BarLaws
 pub mod WindowLaws
@@ -39,6 +40,7 @@ pub mod JudgingLaws
 pub mod SoundLaws
 pub mod RecordLaws
 pub mod ProbeLaws
+pub mod DerivedLaws
 pub mod PlanningLaws
 pub mod Planning
 pub mod PlanPromise

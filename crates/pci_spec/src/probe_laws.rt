@@ -1,6 +1,7 @@
 //! Laws of probes. These functions do nothing: each contract is a law.
 
 ghost use Rattle.pci_spec.specs.ProbeLaws.{ReadableWithoutFaults, AlikeClaimTheSame, AlikeHaveTheSameFaults, AlikeHaveTheSameFirstFault, AlikeAreSoundTogether};
+ghost use Rattle.pci_spec.specs.DerivedLaws.{DerivedIsToldAlike, DerivedHasTheSameFaults, DerivedHasTheSameFirstFault, DerivedIsSoundWithOwn, DumpHasTheSameVerdict};
 
 /// Functions are readable exactly where none of the faults 20 to 26 and 31 is there.
 pub fn readable_functions_have_no_fault_of_reading()
@@ -17,4 +18,21 @@ pub fn sizes_of_the_enabled_settle_the_verdict()
     ensures faults { AlikeHaveTheSameFaults }
     ensures first { AlikeHaveTheSameFirstFault }
     ensures sound { AlikeAreSoundTogether }
+{}
+
+/// A probe that is derived from true lines shows the sizes of what is enabled that the function's own shows.
+pub fn derived_probes_are_told_alike()
+    ensures { DerivedIsToldAlike }
+{}
+
+/// So a system has the same faults, the same first one, and the same soundness with derived probes as with its own.
+pub fn derived_probes_give_the_same_verdict()
+    ensures faults { DerivedHasTheSameFaults }
+    ensures first { DerivedHasTheSameFirstFault }
+    ensures sound { DerivedIsSoundWithOwn }
+{}
+
+/// And so has a dump with the probe that is derived for it, where what is told is true of the machine.
+pub fn derived_probes_judge_dumps_as_the_machine_does()
+    ensures { DumpHasTheSameVerdict }
 {}

@@ -1,16 +1,18 @@
--- One device with two probes: a size matters where the BAR is enabled, and nowhere else.
-use Rattle.std.proofs.Common.{◌≡◌, ◌⊎◌, ℕ, zero, suc, ◌<◌, ◌≤◌, inl, inr, List, [], ◌∷◌, refl, true, false, ◌&&◌, None, arith, sym, ◌∙◌, ap, subst, lit<, lit≤}
-use Rattle.std.specs.Bool.{nat_lt}
+-- One function with two probes: what they show of the enabled matters, and nothing else does.
+use Rattle.std.proofs.Common.{◌≡◌, ◌⊎◌, ℕ, zero, suc, ◌<◌, ◌≤◌, inl, inr, List, [], ◌∷◌, refl, true, false, ◌&&◌, ◌||◌, not, None, arith, sym, ◌∙◌, ap, subst, lit<, lit≤}
+use Rattle.std.specs.Bool.{nat_lt, ◌==◌}
 use Rattle.std.specs.List.{All, Contains}
 use Rattle.std.proofs.lemmas.Bool.{and_parts, both_ways, false_from_ne_true, ltb-true}
 use Rattle.pci_spec.specs.Number.{each_from, some_from, has_bit}
 use Rattle.pci_spec.specs.Slot.{Slot}
 use Rattle.pci_spec.specs.Header.{command, layout, bar_count}
 use Rattle.pci_spec.specs.Bar.{Memory32, bar_fault, starts_bar}
+use Rattle.pci_spec.specs.Rom.{breaks_rom_rule}
+use Rattle.pci_spec.specs.Window.{WindowKind, IoWindow, MemoryWindow, PrefetchWindow, breaks_window_rule}
 use Rattle.pci_spec.specs.Capability.{HasChain, pointer}
-use Rattle.pci_spec.specs.System.{Function, IsFunction, IsSystem, Space, Memory, Part, Bar, Rom, Window, Claims, register_of, is_bridge}
+use Rattle.pci_spec.specs.System.{Function, IsFunction, IsSystem, Space, Io, Memory, Part, Bar, Rom, Window, Claims, register_of, is_bridge}
 use Rattle.pci_spec.specs.Bus.{IsNested, is_root}
-use Rattle.pci_spec.specs.Fault.{IsIn, NoVendor, HeaderKind, BarType, BarMask, BarPair, RomMask, WindowMask, CapRange, CapLoop, CapCut, SlotsDiffer, StrayProbe, LoneFunction, PaletteSnoop, VgaEnable, IsaEnable, Subtractive, InReset, PowerState, BusRange, Orphan, Unreached, Clash, Split}
+use Rattle.pci_spec.specs.Fault.{IsIn, NoVendor, HeaderKind, BarType, BarMask, BarPair, RomMask, WindowMask, CapRange, CapLoop, CapCut, SlotsDiffer, StrayProbe, LoneFunction, PaletteSnoop, VgaEnable, IsaEnable, Subtractive, InReset, PowerState, BusRange, Orphan, Unreached, Clash, Split, has_no_vendor, is_stray}
 use Rattle.pci_spec.specs.Sound.{IsSound, IsSameRegion, IsInProfile}
 use Rattle.pci_spec.specs.Decoded.{has_bar, bar_size}
 use Rattle.pci_spec.specs.ToldAlike.{IsToldAlike, IsReadable, enables_bar}
@@ -20,17 +22,17 @@ use Rattle.pci_spec.proofs.BarLaws.{bar_answers_its_size}
 use Rattle.pci_spec.proofs.Readable.{none_of_readable}
 use Rattle.pci_spec.proofs.Verdicts.{single_without_clashes}
 use Rattle.pci_spec.proofs.ToldSystems.{alike_are_sound_together}
-use Rattle.pci_spec.proofs.Examples.Samples.{slot, device, host}
+use Rattle.pci_spec.proofs.Examples.Samples.{slot, device, bridge, host}
 use Rattle.pci_spec.proofs.Examples.Sound.{no_chain, no_place, no_stray}
 use Rattle.pci_spec.proofs.Examples.Texts.{bytes_by}
 
-no : {A : Type 0} → false ≡ true → A
+pub no : {A : Type 0} → false ≡ true → A
 no h = absurd (let contradiction : ⊥ = both_ways false refl h in contradiction)
 
 -- ---- a device alone on the host bus
 
 -- all numbers below 6
-six : (P : ℕ → Type 0) → P 0 → P 1 → P 2 → P 3 → P 4 → P 5 → (n : ℕ) → n < 6 → P n
+pub six : (P : ℕ → Type 0) → P 0 → P 1 → P 2 → P 3 → P 4 → P 5 → (n : ℕ) → n < 6 → P n
 six P a b c d e f zero less = a
 six P a b c d e f (suc zero) less = b
 six P a b c d e f (suc (suc zero)) less = c
@@ -118,6 +120,20 @@ module _ (f : Function) (readable : IsReadable f) (at : f.slot ≡ slot 0 1 0) (
     chains = λ x listed. subst (λ (z : Function). HasChain z.image) (only_one f x listed) (no_chain f.image plain);
   }
 
+-- a device whose registers decode
+pub reads : (f : Function) → layout f.image ≡ 0 → has_no_vendor f.image ≡ false → breaks_rom_rule f.image f.probe ≡ false → ((n : ℕ) → n < 6 → bar_fault f.image f.probe n ≡ None)
+    → each_from 0 256 (λ offset. not (is_stray f.image f.probe offset)) ≡ true → IsReadable f
+reads f is_device vendor rom bars clean = record {
+  decodable = record {
+    vendor = vendor;
+    header = ap (λ kind. not (kind == 0 || kind == 1)) is_device;
+    bars = λ n less. bars n (subst (λ kind. n < bar_count kind) is_device less);
+    rom = rom;
+    windows = λ kind is. absurd (let contradiction : ⊥ = omega (arith, is, is_device) in contradiction);
+  };
+  clean = λ offset. false_from_ne_true (is_stray f.image f.probe offset) (no_stray f.image f.probe clean offset);
+}
+
 -- a BAR that a device has enabled is one of six
 below_six : (f : Function) → layout f.image ≡ 0 → (n : ℕ) → enables_bar f.image n ≡ true → n < 6
 below_six f is_device n on =
@@ -139,17 +155,11 @@ of_16_bits = io_device ((0x10, 0xffc1) ∷ (0x14, 0xffff0000) ∷ [])
 
 readable_32 : IsReadable of_32_bits
 unfolding each_from some_from
-readable_32 = record {
-  decodable = record { vendor = refl; header = refl; bars = six (λ n. bar_fault of_32_bits.image of_32_bits.probe n ≡ None) refl refl refl refl refl refl; rom = refl; windows = λ kind is. absurd (let contradiction : ⊥ = omega (arith, is) in contradiction) };
-  clean = λ offset. false_from_ne_true _ (no_stray of_32_bits.image of_32_bits.probe refl offset);
-}
+readable_32 = reads of_32_bits refl refl refl (six (λ n. bar_fault of_32_bits.image of_32_bits.probe n ≡ None) refl refl refl refl refl refl) refl
 
 readable_16 : IsReadable of_16_bits
 unfolding each_from some_from
-readable_16 = record {
-  decodable = record { vendor = refl; header = refl; bars = six (λ n. bar_fault of_16_bits.image of_16_bits.probe n ≡ None) refl refl refl refl refl refl; rom = refl; windows = λ kind is. absurd (let contradiction : ⊥ = omega (arith, is) in contradiction) };
-  clean = λ offset. false_from_ne_true _ (no_stray of_16_bits.image of_16_bits.probe refl offset);
-}
+readable_16 = reads of_16_bits refl refl refl (six (λ n. bar_fault of_16_bits.image of_16_bits.probe n ≡ None) refl refl refl refl refl refl) refl
 
 -- the same is told of both
 told_alike : IsToldAlike of_32_bits of_16_bits
@@ -190,30 +200,24 @@ sound_with_16_bits = (alike_are_sound_together host (of_32_bits ∷ []) (of_16_b
 
 -- ---- memory is enabled
 
-abbrev memory_device : List (ℕ × ℕ) → Function
+abbrev pub memory_device : List (ℕ × ℕ) → Function
 memory_device masks = device (slot 0 1 0) 2 ((0x10, 0xe0000000) ∷ (0x14, 0xe0001000) ∷ []) masks
 
 -- 4 KB, and 4 KB right behind them
-abbrev side_by_side : Function
+abbrev pub side_by_side : Function
 side_by_side = memory_device ((0x10, 0xfffff000) ∷ (0x14, 0xfffff000) ∷ [])
 
 -- 8 KB, and 4 KB in their upper half
-abbrev one_in_the_other : Function
+abbrev pub one_in_the_other : Function
 one_in_the_other = memory_device ((0x10, 0xffffe000) ∷ (0x14, 0xfffff000) ∷ [])
 
 readable_side_by_side : IsReadable side_by_side
 unfolding each_from some_from
-readable_side_by_side = record {
-  decodable = record { vendor = refl; header = refl; bars = six (λ n. bar_fault side_by_side.image side_by_side.probe n ≡ None) refl refl refl refl refl refl; rom = refl; windows = λ kind is. absurd (let contradiction : ⊥ = omega (arith, is) in contradiction) };
-  clean = λ offset. false_from_ne_true _ (no_stray side_by_side.image side_by_side.probe refl offset);
-}
+readable_side_by_side = reads side_by_side refl refl refl (six (λ n. bar_fault side_by_side.image side_by_side.probe n ≡ None) refl refl refl refl refl refl) refl
 
 readable_in_the_other : IsReadable one_in_the_other
 unfolding each_from some_from
-readable_in_the_other = record {
-  decodable = record { vendor = refl; header = refl; bars = six (λ n. bar_fault one_in_the_other.image one_in_the_other.probe n ≡ None) refl refl refl refl refl refl; rom = refl; windows = λ kind is. absurd (let contradiction : ⊥ = omega (arith, is) in contradiction) };
-  clean = λ offset. false_from_ne_true _ (no_stray one_in_the_other.image one_in_the_other.probe refl offset);
-}
+readable_in_the_other = reads one_in_the_other refl refl refl (six (λ n. bar_fault one_in_the_other.image one_in_the_other.probe n ≡ None) refl refl refl refl refl refl) refl
 
 -- which BAR it is, and at which addresses
 abbrev IsOneOfTwo : Part → ℕ → Type 0
@@ -272,3 +276,87 @@ same_bars = six (λ n. has_bar side_by_side.probe n ≡ has_bar one_in_the_other
 
 other_size : IsToldAlike side_by_side one_in_the_other → ⊥
 other_size h = let e : 4096 ≡ 8192 = h.bar_sizes 0 refl refl in omega (arith, e)
+
+-- ---- a window that shows 0, where I/O is enabled
+
+-- a bridge with 64 ports of its own at C00h
+abbrev pub io_bridge : List (ℕ × ℕ) → Function
+io_bridge masks = bridge (slot 0 1 0) 1 0x010100 ((0x10, 0xc01) ∷ []) ((0x10, 0xffffffc1) ∷ masks)
+
+-- without an I/O window, and with one, which is open from 0 to FFFh
+abbrev pub without_window : Function
+without_window = io_bridge []
+
+abbrev pub with_window : Function
+with_window = io_bridge ((0x1c, 0xf0f0) ∷ [])
+
+either_of_two : (f : Function) → bar_fault f.image f.probe 0 ≡ None → bar_fault f.image f.probe 1 ≡ None → (n : ℕ) → n < 2 → bar_fault f.image f.probe n ≡ None
+either_of_two f first second zero less = first
+either_of_two f first second (suc zero) less = second
+either_of_two f first second (suc (suc n)) less = absurd (let contradiction : ⊥ = omega (arith, less) in contradiction)
+
+-- both go with what the bridge shows
+reads_bridge : (f : Function) → layout f.image ≡ 1 → has_no_vendor f.image ≡ false → breaks_rom_rule f.image f.probe ≡ false → bar_fault f.image f.probe 0 ≡ None → bar_fault f.image f.probe 1 ≡ None
+    → ((kind : WindowKind) → breaks_window_rule kind f.image f.probe ≡ false) → each_from 0 256 (λ offset. not (is_stray f.image f.probe offset)) ≡ true → IsReadable f
+reads_bridge f is_bridge vendor rom first second windows clean = record {
+  decodable = record {
+    vendor = vendor;
+    header = ap (λ kind. not (kind == 0 || kind == 1)) is_bridge;
+    bars = λ n less. either_of_two f first second n (subst (λ kind. n < bar_count kind) is_bridge less);
+    rom = rom;
+    windows = λ kind is. windows kind;
+  };
+  clean = λ offset. false_from_ne_true (is_stray f.image f.probe offset) (no_stray f.image f.probe clean offset);
+}
+
+windows_without : (kind : WindowKind) → breaks_window_rule kind without_window.image without_window.probe ≡ false
+windows_without IoWindow = refl
+windows_without MemoryWindow = refl
+windows_without PrefetchWindow = refl
+
+windows_with : (kind : WindowKind) → breaks_window_rule kind with_window.image with_window.probe ≡ false
+windows_with IoWindow = refl
+windows_with MemoryWindow = refl
+windows_with PrefetchWindow = refl
+
+readable_without : IsReadable without_window
+unfolding each_from some_from
+readable_without = reads_bridge without_window refl refl refl refl refl windows_without refl
+
+readable_with : IsReadable with_window
+unfolding each_from some_from
+readable_with = reads_bridge with_window refl refl refl refl refl windows_with refl
+
+window_clash : IsIn host (with_window ∷ []) (Clash 0 Io 0xc00 (slot 0 1 0) 0x10 (slot 0 1 0) 0x1c)
+unfolding each_from
+window_clash = record {
+  gets = (0, (0, lit< tt, refl), [], refl, refl);
+  claims_first = (
+    with_window,
+    Bar 0,
+    (0, lit< tt, refl),
+    refl,
+    refl,
+    refl,
+    record { there = refl; enabled = refl; maps = refl; address = lit< tt; decodes = (refl, (6, refl, interval-agrees 6 0xc00 0xc01 (lit≤ tt) (lit≤ tt))) },
+  );
+  claims_second = (with_window, Window IoWindow, (0, lit< tt, refl), refl, refl, refl, record { there = refl; enabled = refl; maps = refl; address = lit< tt; decodes = refl });
+  differ = λ same. let e = same.1 in omega (arith, e);
+}
+
+-- no part at 1Ch claims anything without the window
+none_at_1c : (part : Part) (a : ℕ) → register_of without_window part ≡ 0x1c → Claims without_window part Io a → ⊥
+none_at_1c (Bar n) a is c = let less = ltb-true n 2 c.there in omega (arith, is, less)
+none_at_1c Rom a is c = no c.enabled
+none_at_1c (Window IoWindow) a is c = no c.decodes
+none_at_1c (Window MemoryWindow) a is c = no c.enabled
+none_at_1c (Window PrefetchWindow) a is c = no c.enabled
+
+no_clash_without : IsIn host (without_window ∷ []) (Clash 0 Io 0xc00 (slot 0 1 0) 0x10 (slot 0 1 0) 0x1c) → ⊥
+no_clash_without clash =
+    let second = clash.claims_second in
+    let is = only_one without_window second.0 second.2 in
+    none_at_1c second.1 0xc00 (ap (λ f. register_of f second.1) is ∙ second.5) (subst (λ f. Claims f second.1 Io 0xc00) (sym is) second.6)
+
+other_windows : IsToldAlike without_window with_window → ⊥
+other_windows h = both_ways true (sym (h.windows IoWindow refl)) refl
