@@ -1,5 +1,5 @@
 -- Bytes in cells, at some of their places.
-use Rattle.std.proofs.Common.{◌≡◌, ℕ, zero, suc, ◌+◌, ◌<◌, List, [], ◌∷◌, ◌++◌, length, take, drop, get_or, sym, subst, arith}
+use Rattle.std.proofs.Common.{ℕ, zero, suc, ◌+◌, ◌<◌, List, [], ◌∷◌, ◌++◌, length, take, drop, get_or, sym, subst, arith}
 use Rattle.std.proofs.lemmas.List.{take_more}
 use Rattle.pci_spec.specs.Form.{Cell, Takes, Fits}
 use Rattle.pci_spec.proofs.Forms.{fits_append}
