@@ -137,6 +137,27 @@ for size in 1 7 8 407 409 4487; do
     case_of "sizes that are cut after $size bytes" 2 '' \
         "pciplan: sizes: 9 Ended $(($(wc -l <cut.sizes) + 1))$lf" probe old.dump cut.sizes
 done
+# each byte of a function's sizes in turn, as one that stands nowhere in such a text
+wrong=0 at=0
+while [ $at -lt 408 ]; do
+    { head -c $((408 + at)) old.sizes; printf G; tail -c +$((410 + at)) old.sizes; } >changed.sizes
+    if [ $at -lt 8 ]; then
+        fault='3 BadSlot 10'
+    elif [ $at -lt 407 ]; then
+        fault="5 BadLine $((11 + (at - 8) / 57))"
+    else
+        fault='6 NoBlank 18'
+    fi
+    ./pciplan probe old.dump changed.sizes >out 2>err
+    if [ $? -ne 2 ] || [ -s out ] || [ "$(cat err)" != "pciplan: sizes: $fault" ]; then
+        echo "byte $at: $fault is wanted: $(cat err)"
+        wrong=$((wrong + 1))
+    fi
+    at=$((at + 1))
+done
+echo "$wrong" >out
+: >err
+compare 'sizes with a changed byte, each of 408' 0 "0$lf" '' 0
 head -c 4080 old.sizes >cut.sizes
 case_of 'sizes that are cut after a function' 1 "no 30 SlotsDiffer 02:02.0$lf" '' probe old.dump cut.sizes
 case_of 'a fault of both' 2 '' "pciplan: dump: 9 Ended 1$lf" check cut.txt cut.txt
