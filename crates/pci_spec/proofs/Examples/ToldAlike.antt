@@ -323,7 +323,7 @@ readable_without : IsReadable without_window
 unfolding each_from some_from
 readable_without = reads_bridge without_window refl refl refl refl refl windows_without refl
 
-readable_with : IsReadable with_window
+pub readable_with : IsReadable with_window
 unfolding each_from some_from
 readable_with = reads_bridge with_window refl refl refl refl refl windows_with refl
 
