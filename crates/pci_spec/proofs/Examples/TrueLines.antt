@@ -1,24 +1,29 @@
 -- Lines that are true of a function's own probe, and what goes wrong where one of them isn't.
-use Rattle.std.proofs.Common.{◌≡◌, ℕ, zero, suc, ◌<◌, List, [], ◌∷◌, refl, Bool, true, false, ◌&&◌, None, set, arith, lit<}
+use Rattle.std.proofs.Common.{◌≡◌, ◌↔◌, ℕ, zero, suc, ◌<◌, List, [], ◌∷◌, refl, Bool, true, false, ◌&&◌, None, set, arith, lit<}
 use Rattle.std.specs.Bool.{nat_lt}
 use Rattle.std.proofs.lemmas.Bool.{and_parts, both_ways, ltb-true}
 use Rattle.pci_spec.specs.Number.{each_from, some_from}
 use Rattle.pci_spec.specs.Bar.{bar_fault}
 use Rattle.pci_spec.specs.Window.{WindowKind, IoWindow, has_window}
 use Rattle.pci_spec.specs.Rom.{rom_at, has_rom}
-use Rattle.pci_spec.specs.System.{Function, IsFunction}
+use Rattle.pci_spec.specs.Text.{Block}
+use Rattle.pci_spec.specs.System.{Function, IsFunction, system_of}
 use Rattle.pci_spec.specs.Decoded.{has_bar, bar_size, rom_size}
 use Rattle.pci_spec.specs.Resource.{ResourceLine, no_line, line_at, rom_line, address_count, has_size, tells_bar, tells_rom}
 use Rattle.pci_spec.specs.Derived.{bar_of_size, derived_bar, derived_rom, window_read_back, bar_register_derived, window_register_derived, register_derived, derived_probe}
 use Rattle.pci_spec.specs.NoProbe.{first_at, no_probe}
+use Rattle.pci_spec.specs.SizesText.{SizesBlock}
+use Rattle.pci_spec.specs.ProbeOf.{first_of, probe_of, probe_fault}
+use Rattle.pci_spec.specs.Sound.{IsSound}
 use Rattle.pci_spec.specs.ToldAlike.{IsToldAlike, IsReadable}
 use Rattle.pci_spec.specs.TrueLines.{IsTrueOf, is_told_bar, is_untold_bar, is_untold_window}
 use Rattle.pci_spec.specs.DerivedLaws.{with_derived, IsDerivedOf}
 use Rattle.pci_spec.proofs.DerivedSystems.{derived_is_told_alike}
-use Rattle.pci_spec.proofs.Examples.Samples.{slot, device}
+use Rattle.pci_spec.proofs.DerivedDumps.{dump_has_the_same_verdict}
+use Rattle.pci_spec.proofs.Examples.Samples.{slot, device, host}
 use Rattle.pci_spec.proofs.Examples.Texts.{bytes_by}
 use Rattle.pci_spec.proofs.Examples.DerivedProbes.{line, lines}
-use Rattle.pci_spec.proofs.Examples.ToldAlike.{no, six, reads, side_by_side, one_in_the_other, without_window, with_window, readable_with}
+use Rattle.pci_spec.proofs.Examples.ToldAlike.{no, six, reads, side_by_side, one_in_the_other, without_window, with_window, readable_with, all_readable, system_alone}
 
 -- ---- a BAR of 4 KB and a ROM of 64 KB, both told
 
@@ -58,6 +63,17 @@ derived = record { lines = told_lines; told = true_lines; derivable = refl; deri
 -- so by the law
 told_alike : IsReadable (with_derived told_lines told_device) × IsToldAlike told_device (with_derived told_lines told_device)
 told_alike = derived_is_told_alike told_device (with_derived told_lines told_device) function readable derived
+
+-- the dump of that device alone, what its registers read back, and what is told of it
+abbrev one_block : List ℕ → List Block
+one_block bytes = record { slot = slot 0 1 0; title = None; image = bytes } ∷ []
+
+abbrev one_told : List SizesBlock
+one_told = record { slot = slot 0 1 0; lines = told_lines } ∷ []
+
+same_word : IsSound host (told_device ∷ []) ↔ IsSound host (system_of (one_block told_device.image) (probe_of (one_block told_device.image) one_told))
+unfolding some_from has_size tells_bar tells_rom bar_of_size derived_bar derived_rom window_read_back bar_register_derived window_register_derived register_derived first_at no_probe first_of probe_fault
+same_word = (dump_has_the_same_verdict host false (one_block told_device.image) (one_block told_device.probe) one_told refl (system_alone told_device function) (all_readable told_device readable) (true_lines, tt) refl).1
 
 -- ---- where one premise fails and the others hold, the function isn't told alike
 
