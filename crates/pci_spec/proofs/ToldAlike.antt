@@ -94,7 +94,7 @@ window_bit f MemoryWindow = refl
 window_bit f PrefetchWindow = refl
 
 -- a ROM that is on is there
-pub on_is_there : (image probe : List ℕ) → rom_is_on image ≡ true → has_rom image probe ≡ true
+on_is_there : (image probe : List ℕ) → rom_is_on image ≡ true → has_rom image probe ≡ true
 on_is_there image probe on =
     let bit = eqb-true (bit_at (rom_at image image) 0) 1 on in
     not_from_false _ (and_left (rom_at image image == 0) (rom_at image probe == 0) (ne_eqb (rom_at image image) 0 (λ zeros. omega (arith, bit, zeros))))

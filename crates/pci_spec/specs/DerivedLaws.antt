@@ -1,5 +1,5 @@
 -- Laws of derived probes: where what is told is true, they give the verdict that the machine's own read backs give.
-use Rattle.std.specs.Prelude.{◌≡◌, ◌↔◌, ℕ, false, List, None}
+use Rattle.std.specs.Prelude.{◌≡◌, ◌↔◌, ℕ, Bool, false, List, None}
 use Rattle.std.specs.List.{All, AllZip}
 use Rattle.pci_spec.specs.Text.{Block, slots_of}
 use Rattle.pci_spec.specs.System.{System, Function, IsFunction, IsSystem, system_of}
@@ -51,9 +51,9 @@ DerivedIsSoundWithOwn =
 -- Both have the same first fault, and both are sound or neither is.
 abbrev pub DumpHasTheSameVerdict : Type 0
 DumpHasTheSameVerdict =
-    (roots : List ℕ) (dump own : List Block) (sizes : List SizesBlock)
+    (roots : List ℕ) (exact : Bool) (dump own : List Block) (sizes : List SizesBlock)
     → slots_of dump ≡ slots_of own → IsSystem (system_of dump own) → All IsReadable (system_of dump own)
     → AllZip (λ (f : Function) (told : SizesBlock). IsTrueOf told.lines f.image f.probe) (system_of dump own) sizes
-    → probe_fault false dump sizes ≡ None
+    → probe_fault exact dump sizes ≡ None
     → ((fault : Fault) → IsFirstIn roots (system_of dump own) fault ↔ IsFirstIn roots (system_of dump (probe_of dump sizes)) fault)
     × (IsSound roots (system_of dump own) ↔ IsSound roots (system_of dump (probe_of dump sizes)))

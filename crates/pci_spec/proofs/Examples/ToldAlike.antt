@@ -49,7 +49,7 @@ each_alone : (f : Function) → IsFunction f → All IsFunction (f ∷ [])
 each_alone f is zero d less = is
 each_alone f is (suc k) d less = absurd (let contradiction : ⊥ = omega (arith, less) in contradiction)
 
-all_readable : (f : Function) → IsReadable f → All IsReadable (f ∷ [])
+pub all_readable : (f : Function) → IsReadable f → All IsReadable (f ∷ [])
 all_readable f is zero d less = is
 all_readable f is (suc k) d less = absurd (let contradiction : ⊥ = omega (arith, less) in contradiction)
 
@@ -185,7 +185,7 @@ sound_with_32_bits : IsSound host (of_32_bits ∷ [])
 sound_with_32_bits = sound_alone of_32_bits readable_32 refl refl refl refl
     (λ p q space a x y. ap (register_of of_32_bits) (only_io p space a x ∙ sym (only_io q space a y)))
 
-system_alone : (f : Function) → IsFunction f → IsSystem (f ∷ [])
+pub system_alone : (f : Function) → IsFunction f → IsSystem (f ∷ [])
 system_alone f is = record { each = each_alone f is; rising = λ k less. absurd (let contradiction : ⊥ = omega (arith, less) in contradiction) }
 
 system_32 : IsSystem (of_32_bits ∷ [])
@@ -323,7 +323,7 @@ readable_without : IsReadable without_window
 unfolding each_from some_from
 readable_without = reads_bridge without_window refl refl refl refl refl windows_without refl
 
-readable_with : IsReadable with_window
+pub readable_with : IsReadable with_window
 unfolding each_from some_from
 readable_with = reads_bridge with_window refl refl refl refl refl windows_with refl
 
