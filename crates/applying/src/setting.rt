@@ -8,7 +8,7 @@ use pci_dump::memory::Refused;
 use pci_dump::pair_fault::PairFault;
 use pci_dump::read_fault::ReadFault;
 use pci_dump::reader::read_dump;
-use pci_dump::std_ends::Incoming;
+use pci_dump::std_streams::Incoming;
 use pci_image::range::Range;
 use pci_image::slot::Slot;
 use pci_machine::machine::Machine;

@@ -1,6 +1,6 @@
 //! The program, run on texts that are held in memory.
 use crate::board::{Function, texts_of};
-use pci_dump::std_ends::{Incoming, Outgoing};
+use pci_dump::std_streams::{Incoming, Outgoing};
 use pciplan_cli::line::{Line, Task};
 use pciplan_cli::run::run;
 use pciplan_cli::words::start;

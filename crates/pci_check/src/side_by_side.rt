@@ -10,9 +10,9 @@ ghost use Rattle.pci_check.specs.SideBySide.{Texts, IsTaken, IsRest, IsOpen, IsB
 use super::outcome::AuditFault;
 use pci_dump::ahead::ReadAhead;
 use pci_dump::block::Block;
-use pci_dump::ends::Source;
 use pci_dump::memory::OutOfMemory;
 use pci_dump::read_fault::ReadFault;
+use pci_dump::streams::Source;
 use pci_tree::roots::Roots;
 use pci_tree::survey::Survey;
 use std::alloc::Allocator;

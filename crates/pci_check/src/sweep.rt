@@ -30,7 +30,7 @@ fn least_met(allowed: &[Range], region: &Region, reached: Option<u64>) -> Option
 }
 
 /// What is reached with one more region, which ends at `last`.
-fn further(reached: Option<u64>, last: u64) -> Option<u64>
+fn extended(reached: Option<u64>, last: u64) -> Option<u64>
     ensures { (a : ℕ) → Reaches result a ↔ (Reaches reached a ⊎ (a ≤ last)) }
 {
     match reached {
@@ -44,7 +44,7 @@ fn further(reached: Option<u64>, last: u64) -> Option<u64>
 /// What a region shares with those before it begins at its own first address and ends at the greatest
 /// last address so far. So one number has to be kept, and the first region that shares an allowed
 /// address has the least of all.
-fn least_twice(regions: &[Region], allowed: &[Range]) -> Option<u64>
+fn first_shared_address(regions: &[Region], allowed: &[Range]) -> Option<u64>
     requires { IsCanonical allowed.now }
     ensures { MatchOption result ((a : ℕ) → Covers allowed.now a → IsTwice regions.now a → ⊥) (λ a. StandByFirst regions.now → IsLeastTwice regions.now allowed.now a) }
 {
@@ -54,7 +54,7 @@ fn least_twice(regions: &[Region], allowed: &[Range]) -> Option<u64>
             Some(a) => return Some(a),
             None => {}
         }
-        reached = further(reached, region.last);
+        reached = extended(reached, region.last);
     }
     None
 }
@@ -74,7 +74,7 @@ pub fn is_before(one: &Region, other: &Region) -> bool
 }
 
 /// Whether a region claims the address, and stands after the one at a place, where one is given.
-fn counts(regions: &[Region], region: &Region, a: u64, after: Option<usize>) -> bool
+fn claims_after(regions: &[Region], region: &Region, a: u64, after: Option<usize>) -> bool
     requires { IfSome after (λ k. k < length regions.now) }
     ensures { IsTrue result ↔ (Spans region.now a × Follows regions.now after region.now) }
 {
@@ -109,7 +109,7 @@ fn least_claimant(regions: &[Region], a: u64, after: Option<usize>) -> Option<us
 {
     let mut best = None;
     for (i, region) in regions.iter().enumerate() {
-        if counts(regions, region, a, after) {
+        if claims_after(regions, region, a, after) {
             best = Some(lesser(regions, best, i));
         }
     }
@@ -144,7 +144,7 @@ pub fn first_overlap(regions: &[Region], allowed: &[Range]) -> Option<Overlap>
     requires { IsCanonical allowed.now }
     ensures { MatchOption result (StandByFirst regions.now → AreDistinct regions.now → (a : ℕ) → Covers allowed.now a → IsTwice regions.now a → ⊥) (λ o. IsFirstOverlap regions.now allowed.now o.address o.first o.second) }
 {
-    match least_twice(regions, allowed) {
+    match first_shared_address(regions, allowed) {
         None => None,
         Some(address) => match two_least(regions, address) {
             None => None,

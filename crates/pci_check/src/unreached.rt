@@ -136,7 +136,7 @@ fn bus_behind(path: &[Slot], i: usize, end: u8) -> u8
 
 /// The place of a bridge on a path, and an address that it doesn't pass.
 #[derive(Clone, Copy, Debug, PartialEq, Eq)]
-struct Stop {
+struct MissedAt {
     place: usize,
     address: u64,
 }
@@ -147,13 +147,13 @@ fn first_stop<A: Allocator + Copy>(
     region: &Region,
     reached: &Reached<A>,
     space: Space,
-) -> Option<Stop>
+) -> Option<MissedAt>
     ensures { MatchOption result ((k : ℕ) → k < length path.now → IsWholeBehind reached.now (space_of space) path.now region.now.slot.bus region.now k) (λ s. IsFirstStop reached.now (space_of space) path.now region.now.slot.bus region.now s.place s.address) }
 {
     let end = region.slot.bus();
     for i in 0..path.len() {
         match least_lost(region, reached, space, bus_behind(path, i, end)) {
-            Some(address) => return Some(Stop { place: i, address }),
+            Some(address) => return Some(MissedAt { place: i, address }),
             None => {}
         }
     }

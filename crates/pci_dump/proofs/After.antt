@@ -4,9 +4,9 @@ use Rattle.pci_spec.specs.Slot.{Slot}
 use Rattle.pci_spec.specs.Text.{Block, IsDump, text_of, IsFaultOf, TextFault, BadSlot, BadTitle, BadLine, NoBlank, Order, TooMany, Ended, line_ends}
 use Rattle.pci_spec.specs.Stops.{Stops, EndsIn, InSlot, InTitleText, InLine, AtSlotEnd, last_slot}
 use Rattle.pci_spec.proofs.Faults.{fault_slot, fault_order, fault_title, fault_line, fault_blank, fault_ended, fault_many}
-use Rattle.pci_dump.specs.declared.parse.Stop.{Stop}
-use Rattle.pci_dump.specs.declared.parse.Stop.TheVariants as stops
-use Rattle.pci_dump.specs.Stop.{BlockStops, GoesOn}
+use Rattle.pci_dump.specs.declared.parse.BlockFault.{BlockFault}
+use Rattle.pci_dump.specs.declared.parse.BlockFault.TheVariants as stops
+use Rattle.pci_dump.specs.BlockFault.{BlockStops, GoesOn}
 use Rattle.pci_dump.specs.State.{IsFaultAfter}
 use Rattle.pci_dump.specs.FaultAt.{fault_at}
 use Rattle.pci_dump.proofs.Lengths.{ends_short}
@@ -16,7 +16,7 @@ at_line : (bytes : List ℕ) (fault : ℕ → TextFault) (a b : ℕ) → a ≡ b
 at_line bytes fault a b e h = subst (λ (n : ℕ). IsFaultOf bytes (fault n)) e h
 
 -- bytes that stop before their end, whatever follows
-pub fault_after : (last : Option Slot) (bytes more : List ℕ) (count : ℕ) (stop : Stop) → count < 4096 → GoesOn stop → BlockStops last bytes stop → IsFaultAfter count last (bytes ++ more) (fault_at count stop)
+pub fault_after : (last : Option Slot) (bytes more : List ℕ) (count : ℕ) (stop : BlockFault) → count < 4096 → GoesOn stop → BlockStops last bytes stop → IsFaultAfter count last (bytes ++ more) (fault_at count stop)
 fault_after last bytes more count stops.BadSlot few g s blocks d n l =
     at_line _ BadSlot _ _ (omega (arith, n)) (fault_slot blocks bytes more d (omega (arith, n, few)) (subst (λ (o : Option Slot). Stops o bytes InSlot) (sym l) s))
 fault_after last bytes more count stops.BadTitle few g s blocks d n l =
@@ -36,7 +36,7 @@ ended_after last bytes count k line few s e at blocks d n l =
     at_line (text_of blocks ++ bytes) Ended (18 * length blocks + line_ends bytes + 1) line (omega (arith, n, e, at)) (fault_ended blocks bytes d (omega (arith, n, few)) (subst (λ (o : Option Slot). EndsIn o bytes) (sym l) s))
 
 -- all the bytes there are
-pub fault_whole : (last : Option Slot) (bytes : List ℕ) (count : ℕ) (stop : Stop) → count < 4096 → BlockStops last bytes stop → IsFaultAfter count last bytes (fault_at count stop)
+pub fault_whole : (last : Option Slot) (bytes : List ℕ) (count : ℕ) (stop : BlockFault) → count < 4096 → BlockStops last bytes stop → IsFaultAfter count last bytes (fault_at count stop)
 fault_whole last bytes count (stops.Ended r) few s = ended_after last bytes count (1 + r) _ few s.0 s.1 (omega arith)
 fault_whole last bytes count stops.EndedFirst few s = ended_after last bytes count 0 _ few s.0 s.1 (omega arith)
 fault_whole last bytes count stops.BadSlot few s = subst (λ (t : List ℕ). IsFaultAfter count last t (fault_at count stops.BadSlot)) (append-nil bytes) (fault_after last bytes [] count stops.BadSlot few tt s)
@@ -45,7 +45,7 @@ fault_whole last bytes count (stops.BadLine r) few s = subst (λ (t : List ℕ).
 fault_whole last bytes count stops.NoBlank few s = subst (λ (t : List ℕ). IsFaultAfter count last t (fault_at count stops.NoBlank)) (append-nil bytes) (fault_after last bytes [] count stops.NoBlank few tt s)
 fault_whole last bytes count stops.Order few s = subst (λ (t : List ℕ). IsFaultAfter count last t (fault_at count stops.Order)) (append-nil bytes) (fault_after last bytes [] count stops.Order few tt s)
 
-ended_here : (last : Option Slot) (bytes more : List ℕ) (count : ℕ) (stop : Stop) → count < 4096 → BlockStops last bytes stop → EndsIn last bytes → (1042 ≤ length bytes) ⊎ (more ≡ [])
+ended_here : (last : Option Slot) (bytes more : List ℕ) (count : ℕ) (stop : BlockFault) → count < 4096 → BlockStops last bytes stop → EndsIn last bytes → (1042 ≤ length bytes) ⊎ (more ≡ [])
     → IsFaultAfter count last (bytes ++ more) (fault_at count stop)
 ended_here last bytes more count stop few s ends enough = elim enough [
   | inl long ↦ let short = ends_short last bytes ends in absurd (let no : ⊥ = omega (arith, long, short) in no)
@@ -53,7 +53,7 @@ ended_here last bytes more count stop few s ends enough = elim enough [
 ]
 
 -- the bytes are a block's text at least, or all there are
-pub fault_here : (last : Option Slot) (bytes more : List ℕ) (count : ℕ) (stop : Stop) → count < 4096 → BlockStops last bytes stop → (1042 ≤ length bytes) ⊎ (more ≡ []) → IsFaultAfter count last (bytes ++ more) (fault_at count stop)
+pub fault_here : (last : Option Slot) (bytes more : List ℕ) (count : ℕ) (stop : BlockFault) → count < 4096 → BlockStops last bytes stop → (1042 ≤ length bytes) ⊎ (more ≡ []) → IsFaultAfter count last (bytes ++ more) (fault_at count stop)
 fault_here last bytes more count stops.BadSlot few s enough = fault_after last bytes more count stops.BadSlot few tt s
 fault_here last bytes more count stops.BadTitle few s enough = fault_after last bytes more count stops.BadTitle few tt s
 fault_here last bytes more count (stops.BadLine r) few s enough = fault_after last bytes more count (stops.BadLine r) few tt s

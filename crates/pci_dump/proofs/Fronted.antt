@@ -4,9 +4,9 @@ use Rattle.std.specs.Prelude.{slice_range}
 use Rattle.std.proofs.lemmas.List.{length-take, drop-take, drop-drop}
 use Rattle.pci_dump.specs.declared.read_fault.ReadFault.{ReadFault}
 use Rattle.pci_dump.specs.declared.read_fault.ReadFault.TheVariants as faults
-use Rattle.pci_dump.specs.declared.parse.Stop.{Stop}
-use Rattle.pci_dump.specs.declared.parse.Stop.TheVariants as stops
-use Rattle.pci_dump.specs.Stop.{BlockStops}
+use Rattle.pci_dump.specs.declared.parse.BlockFault.{BlockFault}
+use Rattle.pci_dump.specs.declared.parse.BlockFault.TheVariants as stops
+use Rattle.pci_dump.specs.BlockFault.{BlockStops}
 use Rattle.pci_dump.specs.FaultAt.{fault_at}
 use Rattle.pci_dump.specs.State.{Ahead, IsFaultAfter}
 use Rattle.pci_dump.specs.Front.{HoldsFault}
@@ -20,7 +20,7 @@ range_rest buf at end n few =
     let m : n + (end - (at + n)) ≡ end - at = omega (arith, few, t) in
     ap (λ (xs : List ℕ). take (end - (at + n)) xs) (sym (drop-drop n at buf)) ∙ sym (drop-take n (end - (at + n)) (drop at buf)) ∙ ap (λ (k : ℕ). drop n (take k (drop at buf))) m
 
-fault_no_io : (count : ℕ) (stop : Stop) → fault_at count stop ≢ faults.Io
+fault_no_io : (count : ℕ) (stop : BlockFault) → fault_at count stop ≢ faults.Io
 fault_no_io count stops.BadSlot e = absurd cc
 fault_no_io count stops.BadTitle e = absurd cc
 fault_no_io count (stops.BadLine r) e = absurd cc
@@ -29,7 +29,7 @@ fault_no_io count stops.Order e = absurd cc
 fault_no_io count (stops.Ended r) e = absurd cc
 fault_no_io count stops.EndedFirst e = absurd cc
 
-fault_no_memory : (count : ℕ) (stop : Stop) → fault_at count stop ≢ faults.Memory
+fault_no_memory : (count : ℕ) (stop : BlockFault) → fault_at count stop ≢ faults.Memory
 fault_no_memory count stops.BadSlot e = absurd cc
 fault_no_memory count stops.BadTitle e = absurd cc
 fault_no_memory count (stops.BadLine r) e = absurd cc
@@ -39,7 +39,7 @@ fault_no_memory count (stops.Ended r) e = absurd cc
 fault_no_memory count stops.EndedFirst e = absurd cc
 
 -- where a block stops
-pub holds_stop : {A : Type 0} (old new : Ahead) (stop : Stop) (fault : ReadFault) (result : Result A ReadFault) → old.count < 4096 → BlockStops old.last old.held stop → fault ≡ fault_at old.count stop → result ≡ Err fault
+pub holds_stop : {A : Type 0} (old new : Ahead) (stop : BlockFault) (fault : ReadFault) (result : Result A ReadFault) → old.count < 4096 → BlockStops old.last old.held stop → fault ≡ fault_at old.count stop → result ≡ Err fault
     → new ≡ record old { progress = stages.Failed fault } → IfErr result (λ f. HoldsFault old new f)
 holds_stop {A = A} old new stop fault result few stops_there fault_is result_is state =
     let there : HoldsFault old new fault = record {

@@ -6,9 +6,9 @@ use Rattle.pci_spec.specs.Text.{hex_digit, line_ends}
 use Rattle.pci_spec.specs.Form.{Cell, Fixed, Fits, Breaks, Leaves, BreaksIn, value_cells, row_cells, rows_cells, rest_cells, row_text, rows_text, ends_in}
 use Rattle.pci_spec.proofs.Forms.{fits_append, fits_length, fits_rows, fits_row, filler, ends_of, line_ends_append, AreSmall, small_append}
 use Rattle.pci_spec.proofs.Faults.{rows_ends, row_front, breaks_in_row, breaks_in_blank, leaves_in_row, leaves_in_blank, refused_line, refused_part, taken_part, breaks_longer, padded}
-use Rattle.pci_dump.specs.declared.parse.Stop.{Stop}
-use Rattle.pci_dump.specs.declared.parse.Stop.TheVariants.{BadSlot, BadTitle, BadLine, NoBlank, Order, Ended, EndedFirst}
-use Rattle.pci_dump.specs.Stop.{RowStops, RestStops}
+use Rattle.pci_dump.specs.declared.parse.BlockFault.{BlockFault}
+use Rattle.pci_dump.specs.declared.parse.BlockFault.TheVariants.{BadSlot, BadTitle, BadLine, NoBlank, Order, Ended, EndedFirst}
+use Rattle.pci_dump.specs.BlockFault.{RowStops, RestStops}
 
 pub row_long : (row : ℕ) → length (row_cells row) ≡ 52
 unfolding value_cells
@@ -60,7 +60,7 @@ row_left : (row : ℕ) (done todo : List Cell) → row_cells row ≡ done ++ tod
 row_left row done [] e some = absurd (some refl)
 row_left row done (x ∷ todo) e some = row_front row done x todo e
 
-pub part_stops : (bytes image rest : List ℕ) (row : ℕ) (stop : Stop) → row < 16 → length image ≡ 256 → AreSmall (take (16 * row) image) → bytes ≡ rows_text 0 row (take (16 * row) image) ++ rest
+pub part_stops : (bytes image rest : List ℕ) (row : ℕ) (stop : BlockFault) → row < 16 → length image ≡ 256 → AreSmall (take (16 * row) image) → bytes ≡ rows_text 0 row (take (16 * row) image) ++ rest
     → RowStops row rest stop → RestStops bytes stop
 part_stops bytes image rest row (BadLine r) h long small so_far s =
     let fits = rows_fit image row (omega (arith, h)) long small in

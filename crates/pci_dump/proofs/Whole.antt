@@ -10,11 +10,11 @@ use Rattle.pci_spec.specs.Form.{Fixed, rows_cells, Fits, Breaks, Leaves, slot_ce
 use Rattle.pci_spec.proofs.Forms.{fits_append, fits_length, ends_of, line_ends_append, no_end_cons, fits_slot, fits_rows, image_rows, lines_text}
 use Rattle.pci_spec.proofs.Stopping.{stop_in_slot, stop_after_slot, stop_at_order, stop_in_title, stop_in_rest, with_slot, with_line, line_has_one_end, no_ends_in_front, title_has_no_end}
 use Rattle.pci_spec.proofs.Faults.{ends_in_slot, ends_after_slot, ends_in_title, ends_in_rest, refused_part, taken_part, refused_line, breaks_longer}
-use Rattle.pci_dump.specs.declared.parse.Stop.{Stop}
-use Rattle.pci_dump.specs.declared.parse.Stop.TheVariants.{BadSlot, BadTitle, BadLine, NoBlank, Order, Ended, EndedFirst}
+use Rattle.pci_dump.specs.declared.parse.BlockFault.{BlockFault}
+use Rattle.pci_dump.specs.declared.parse.BlockFault.TheVariants.{BadSlot, BadTitle, BadLine, NoBlank, Order, Ended, EndedFirst}
 use Rattle.pci_dump.proofs.Lines.{rest_long}
 use Rattle.pci_dump.specs.Value.{AreSmall}
-use Rattle.pci_dump.specs.Stop.{SlotStops, TitleStops, TitleBreaks, TitleLeaves, RestStops, BlockStops, IsHead, IsBlockAt, title_at, head_long}
+use Rattle.pci_dump.specs.BlockFault.{SlotStops, TitleStops, TitleBreaks, TitleLeaves, RestStops, BlockStops, IsHead, IsBlockAt, title_at, head_long}
 
 abbrev pub sample_slot : List ℕ
 sample_slot = 48 ∷ 48 ∷ 58 ∷ 48 ∷ 48 ∷ 46 ∷ 48 ∷ []
@@ -25,7 +25,7 @@ slot_refused part text short e none = refused_part slot_cells part short (λ f. 
 pub slot_taken : (part text : List ℕ) (s : Slot) → length part < 7 → text ≡ part ++ drop (length part) sample_slot → IsSlot s × (text ≡ slot_text s) → Leaves slot_cells part
 slot_taken part text s short e h = taken_part slot_cells part (drop (length part) sample_slot) short (subst (λ (t : List ℕ). Fits slot_cells t) (sym h.1 ∙ e) (fits_slot s h.0))
 
-pub short_stops : (last : Option Slot) (bytes : List ℕ) (stop : Stop) → bytes ≢ [] → SlotStops bytes stop → BlockStops last bytes stop
+pub short_stops : (last : Option Slot) (bytes : List ℕ) (stop : BlockFault) → bytes ≢ [] → SlotStops bytes stop → BlockStops last bytes stop
 short_stops last bytes BadSlot some s = stop_in_slot last bytes s
 short_stops last bytes EndedFirst some s = (ends_in_slot last bytes s some, ends_of s.done bytes s.fits ∙ no_ends_in_front s.done s.todo slot_cells refl s.cells_split)
 short_stops last bytes BadTitle some s = absurd s
@@ -47,7 +47,7 @@ low_stops last bytes text after s e h low = stop_at_order last bytes s after h.0
 slot_ends : (s : Slot) → IsSlot s → line_ends (slot_text s) ≡ 0
 slot_ends s h = ends_of slot_cells (slot_text s) (fits_slot s h)
 
-pub title_stops : (last : Option Slot) (bytes text after : List ℕ) (s : Slot) (stop : Stop) → bytes ≡ text ++ after → IsSlot s × (text ≡ slot_text s) → IsAboveLast last s → TitleStops after stop → BlockStops last bytes stop
+pub title_stops : (last : Option Slot) (bytes text after : List ℕ) (s : Slot) (stop : BlockFault) → bytes ≡ text ++ after → IsSlot s × (text ≡ slot_text s) → IsAboveLast last s → TitleStops after stop → BlockStops last bytes stop
 title_stops last bytes text after s BadSlot e h high t = stop_after_slot last bytes s t.0 (drop 1 after) h.0 (with_text bytes text after s e h.1 ∙ ap (λ (x : List ℕ). slot_text s ++ x) t.1) high t.2 t.3
 title_stops last bytes text after s BadTitle e h high t =
     stop_in_title last bytes s t.begun t.c t.more h.0 high t.few t.each (with_text bytes text after s e h.1 ∙ ap (λ (x : List ℕ). slot_text s ++ x) t.split) t.no_line t.full
@@ -72,7 +72,7 @@ title_stops last bytes text after s (Ended r) e h high t = absurd t
 line_whole : (bytes text after : List ℕ) (s : Slot) (n : ℕ) → bytes ≡ text ++ after → text ≡ slot_text s → IsHead after n → bytes ≡ with_line s (title_at after n) (drop (head_long n) after)
 line_whole bytes text after s n e f h = with_text bytes text after s e f ∙ ap (λ (x : List ℕ). slot_text s ++ x) h.text
 
-pub rest_stops : (last : Option Slot) (bytes text after : List ℕ) (s : Slot) (n : ℕ) (stop : Stop) → bytes ≡ text ++ after → IsSlot s × (text ≡ slot_text s) → IsAboveLast last s → IsHead after n
+pub rest_stops : (last : Option Slot) (bytes text after : List ℕ) (s : Slot) (n : ℕ) (stop : BlockFault) → bytes ≡ text ++ after → IsSlot s × (text ≡ slot_text s) → IsAboveLast last s → IsHead after n
     → RestStops (drop (head_long n) after) stop → BlockStops last bytes stop
 rest_stops last bytes text after s n (BadLine r) e h high t k =
     (k.0, subst (λ (j : ℕ). Stops last bytes (InLine (1 + j))) k.1.ends (stop_in_rest last bytes s (title_at after n) (drop (head_long n) after) h.0 t.title high (line_whole bytes text after s n e h.1 t) k.1.breaks))

@@ -2,10 +2,10 @@
 use Rattle.std.specs.Prelude.{ℕ, ◌+◌, ◌*◌}
 use Rattle.pci_dump.specs.declared.read_fault.ReadFault.{ReadFault}
 use Rattle.pci_dump.specs.declared.read_fault.ReadFault.TheVariants as faults
-use Rattle.pci_dump.specs.declared.parse.Stop.{Stop}
-use Rattle.pci_dump.specs.declared.parse.Stop.TheVariants as stops
+use Rattle.pci_dump.specs.declared.parse.BlockFault.{BlockFault}
+use Rattle.pci_dump.specs.declared.parse.BlockFault.TheVariants as stops
 
-abbrev pub fault_at : ℕ → Stop → ReadFault
+abbrev pub fault_at : ℕ → BlockFault → ReadFault
 fault_at count stops.BadSlot = faults.BadSlot (18 * count + 1)
 fault_at count stops.BadTitle = faults.BadTitle (18 * count + 1)
 fault_at count (stops.BadLine r) = faults.BadLine (18 * count + r + 2)

@@ -4,7 +4,7 @@ pub mod Value
 pub mod Row
 pub mod Lane
 pub mod TitleRun
-pub mod Stop
+pub mod BlockFault
 pub mod FaultAt
 pub mod State
 pub mod Fill

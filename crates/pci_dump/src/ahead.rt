@@ -3,9 +3,9 @@ ghost use Rattle.std.specs.Prelude.{◌≡◌, ◌≢◌, ◌<◌, ◌≤◌, �
 ghost use Rattle.pci_dump.specs.FaultAt.{fault_at};
 
 use super::block::Block;
-use super::ends::{Failed, Source};
-use super::parse::{Stop, block_into};
+use super::parse::{BlockFault, block_into};
 use super::read_fault::ReadFault;
+use super::streams::{Failed, Source};
 use pci_image::slot::Slot;
 use std::marker::Model;
 
@@ -251,18 +251,18 @@ fn shift(buf: &mut [u8; 8192], at: usize, end: usize)
 }
 
 /// The fault of the text where a block stops after `count` blocks of eighteen lines each.
-fn fault_of(stop: Stop, count: u64) -> ReadFault
+fn fault_of(stop: BlockFault, count: u64) -> ReadFault
     requires { count < 4096 }
     ensures { result ≡ fault_at count stop }
 {
     let first = 18 * count + 1;
     match stop {
-        Stop::BadSlot => ReadFault::BadSlot(first),
-        Stop::BadTitle => ReadFault::BadTitle(first),
-        Stop::BadLine(row) => ReadFault::BadLine(first + 1 + u64::from(row)),
-        Stop::NoBlank => ReadFault::NoBlank(first + 17),
-        Stop::Order => ReadFault::Order(first),
-        Stop::Ended(row) => ReadFault::Ended(first + 1 + u64::from(row)),
-        Stop::EndedFirst => ReadFault::Ended(first),
+        BlockFault::BadSlot => ReadFault::BadSlot(first),
+        BlockFault::BadTitle => ReadFault::BadTitle(first),
+        BlockFault::BadLine(row) => ReadFault::BadLine(first + 1 + u64::from(row)),
+        BlockFault::NoBlank => ReadFault::NoBlank(first + 17),
+        BlockFault::Order => ReadFault::Order(first),
+        BlockFault::Ended(row) => ReadFault::Ended(first + 1 + u64::from(row)),
+        BlockFault::EndedFirst => ReadFault::Ended(first),
     }
 }

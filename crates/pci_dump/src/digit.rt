@@ -19,7 +19,7 @@ static DIGITS: [u32; 256] = [
 ];
 
 /// What a byte stands for as a hex digit in lower case.
-fn number_of(byte: u8) -> u32
+fn nibble(byte: u8) -> u32
     ensures known { (result ≡ 256) ⊎ ((result < 16) × (byte ≡ hex_digit result)) }
     ensures found { (d : ℕ) → d < 16 → byte ≡ hex_digit d → result ≡ d }
 {
@@ -31,7 +31,7 @@ pub fn digit_value(byte: u8) -> Option<u8>
     ensures some { IfSome result (λ d. (d ≤ 15) × (byte ≡ hex_digit d)) }
     ensures found { (d : ℕ) → d < 16 → byte ≡ hex_digit d → result ≡ Some d }
 {
-    let value = number_of(byte);
+    let value = nibble(byte);
     if value < 16 { Some(value as u8) } else { None }
 }
 

@@ -1,7 +1,7 @@
 //! A block at the front of some bytes.
 ghost use Rattle.std.specs.Prelude.{◌≡◌, ◌<◌, ◌≤◌, length, ◌≢◌, [], IfOk, IfErr, IsTrue, ◌↔◌};
 ghost use Rattle.pci_spec.specs.Stops.{IsAboveLast};
-ghost use Rattle.pci_dump.specs.Stop.{BlockStops, TitleStops, SlotStops, IsBlockAt, IsHead, head_long, title_at};
+ghost use Rattle.pci_dump.specs.BlockFault.{BlockStops, TitleStops, SlotStops, IsBlockAt, IsHead, head_long, title_at};
 ghost use Rattle.pci_dump.specs.TitleRun.{IsTitleFront};
 
 use super::block::{Block, Title, is_title};
@@ -18,7 +18,7 @@ const LINES_LEN: usize = 833;
 
 /// Where a block stops.
 #[derive(Clone, Copy, Debug, PartialEq, Eq)]
-pub(crate) enum Stop {
+pub(crate) enum BlockFault {
     BadSlot,
     BadTitle,
     /// In a row.
@@ -60,37 +60,37 @@ fn last_title_len(bytes: &[u8]) -> usize
 }
 
 /// What a slot that the input ends in stops at.
-fn part_of_slot(part: &[u8]) -> Stop
+fn part_of_slot(part: &[u8]) -> BlockFault
     requires { length part.now < 7 }
     ensures { SlotStops part.now result }
 {
     let mut text = *b"00:00.0";
     text[..part.len()].copy_from_slice(part);
     match slot_of(&text) {
-        None => Stop::BadSlot,
-        Some(_) => Stop::EndedFirst,
+        None => BlockFault::BadSlot,
+        Some(_) => BlockFault::EndedFirst,
     }
 }
 
 /// What follows a slot in its line: how long the title is, 0 where there is none.
-fn title_in(bytes: &[u8]) -> Result<usize, Stop>
+fn title_in(bytes: &[u8]) -> Result<usize, BlockFault>
     ensures few { IfOk result (λ n. n ≤ 200) }
     ensures ok { IfOk result (λ n. IsHead bytes.now n) }
     ensures err { IfErr result (λ stop. TitleStops bytes.now stop) }
 {
     match bytes.first() {
-        None => return Err(Stop::EndedFirst),
+        None => return Err(BlockFault::EndedFirst),
         Some(b'\n') => return Ok(0),
         Some(b' ') => {}
-        Some(_) => return Err(Stop::BadSlot),
+        Some(_) => return Err(BlockFault::BadSlot),
     }
     let (_space, rest) = bytes.split_at(1);
     let len = title_len(rest);
     if len == rest.len() {
-        return Err(Stop::EndedFirst);
+        return Err(BlockFault::EndedFirst);
     }
     if len == 0 || rest[len] != b'\n' {
-        return Err(Stop::BadTitle);
+        return Err(BlockFault::BadTitle);
     }
     Ok(len)
 }
@@ -107,7 +107,11 @@ fn may_follow(slot: Slot, last: Option<Slot>) -> bool
 
 /// Reads the block at the front of some bytes into `block`, and answers how many bytes its text has. They are all that
 /// are left, or 1042 and more. At a stop `block` may hold parts of it.
-pub(crate) fn block_into(bytes: &[u8], last: Option<Slot>, block: &mut Block) -> Result<usize, Stop>
+pub(crate) fn block_into(
+    bytes: &[u8],
+    last: Option<Slot>,
+    block: &mut Block,
+) -> Result<usize, BlockFault>
     requires { bytes.now ≢ [] }
     ensures ok { IfOk result (λ used. IsBlockAt last bytes.now block.new used) }
     ensures err { IfErr result (λ stop. BlockStops last bytes.now stop) }
@@ -117,11 +121,11 @@ pub(crate) fn block_into(bytes: &[u8], last: Option<Slot>, block: &mut Block) ->
     }
     let (text, after) = bytes.split_at(SLOT_LEN);
     let slot = match slot_of(text) {
-        None => return Err(Stop::BadSlot),
+        None => return Err(BlockFault::BadSlot),
         Some(slot) => slot,
     };
     if !may_follow(slot, last) {
-        return Err(Stop::Order);
+        return Err(BlockFault::Order);
     }
     let title_len = match title_in(after) {
         Err(stop) => return Err(stop),

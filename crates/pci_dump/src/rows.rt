@@ -3,10 +3,10 @@ ghost use Rattle.std.specs.Prelude.{◌≡◌, ◌<◌, ◌++◌, ◌∷◌, [],
 ghost use Rattle.pci_spec.specs.Form.{Fits, row_cells, rows_text};
 ghost use Rattle.pci_dump.specs.Value.{AreSmall};
 ghost use Rattle.pci_dump.specs.Row.{IsRowRead};
-ghost use Rattle.pci_dump.specs.Stop.{RowStops, RestStops};
+ghost use Rattle.pci_dump.specs.BlockFault.{RowStops, RestStops};
 
 use super::digit::digit_of;
-use super::parse::Stop;
+use super::parse::BlockFault;
 use super::row::row_into;
 
 /// The line of a row goes into its sixteen places of an image. False where that isn't such a line.
@@ -22,7 +22,7 @@ fn read_row(line: &[u8], row: u8, image: &mut [u8; 256]) -> bool
 }
 
 /// What a line that the input ends in stops at.
-fn part_of_row(part: &[u8], row: u8) -> Stop
+fn part_of_row(part: &[u8], row: u8) -> BlockFault
     requires short { length part.now < 52 }
     requires within { row < 16 }
     ensures { RowStops row part.now result }
@@ -32,14 +32,14 @@ fn part_of_row(part: &[u8], row: u8) -> Stop
     line[..part.len()].copy_from_slice(part);
     let mut values = [0u8; 16];
     if row_into(&line, row, &mut values) {
-        Stop::Ended(row)
+        BlockFault::Ended(row)
     } else {
-        Stop::BadLine(row)
+        BlockFault::BadLine(row)
     }
 }
 
 /// The sixteen lines of bytes and the empty line. At a stop the image may hold some of them.
-pub(crate) fn image_into(bytes: &[u8], image: &mut [u8; 256]) -> Result<(), Stop>
+pub(crate) fn image_into(bytes: &[u8], image: &mut [u8; 256]) -> Result<(), BlockFault>
     ensures ok { OnOk result (bytes.now ≡ (rows_text 0 16 image.new ++ 10 ∷ []) ++ drop 833 bytes.now) }
     ensures image { OnOk result ((length image.new ≡ 256) × AreSmall image.new) }
     ensures err { IfErr result (λ stop. RestStops bytes.now stop) }
@@ -51,13 +51,13 @@ pub(crate) fn image_into(bytes: &[u8], image: &mut [u8; 256]) -> Result<(), Stop
         }
         let (line, next) = rest.split_at(52);
         if !read_row(line, row, image) {
-            return Err(Stop::BadLine(row));
+            return Err(BlockFault::BadLine(row));
         }
         rest = next;
     }
     match rest.first() {
-        None => Err(Stop::Ended(16)),
+        None => Err(BlockFault::Ended(16)),
         Some(b'\n') => Ok(()),
-        Some(_) => Err(Stop::NoBlank),
+        Some(_) => Err(BlockFault::NoBlank),
     }
 }

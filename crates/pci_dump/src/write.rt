@@ -6,8 +6,8 @@ ghost use Rattle.pci_spec.specs.Text.{text_of, IsTextOf};
 
 use super::block_text::{Text, put_block};
 use super::dump::Dump;
-use super::ends::{Failed, Sink};
 use super::read_fault::WriteFault;
+use super::streams::{Failed, Sink};
 use std::alloc::Allocator;
 
 /// Writes all of some bytes, or a beginning of them where a write fails.

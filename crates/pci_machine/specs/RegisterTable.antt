@@ -9,17 +9,17 @@ use Rattle.pci_machine.specs.declared.table.Writable.{Writable}
 use Rattle.pci_machine.specs.declared.table.Writable.TheVariants.{Bits, Bar, Rom, RomEnable, Page, Upper}
 
 -- the bits of a register that a write sets
-abbrev pub set_bits : List ℕ → ℕ → ℕ → Writable → ℕ
-set_bits probe register width (Bits bits) = bits
-set_bits probe register width (Bar n) = (bar_field probe n).bits
-set_bits probe register width Rom = number_at probe register width
-set_bits probe register width RomEnable = if number_at probe register 4 == 0 then 0 else 1
-set_bits probe register width Page = without_low 16 (number_at probe register width)
-set_bits probe register width Upper = without_low 1 (number_at probe register width)
+abbrev pub writable_bits : List ℕ → ℕ → ℕ → Writable → ℕ
+writable_bits probe register width (Bits bits) = bits
+writable_bits probe register width (Bar n) = (bar_field probe n).bits
+writable_bits probe register width Rom = number_at probe register width
+writable_bits probe register width RomEnable = if number_at probe register 4 == 0 then 0 else 1
+writable_bits probe register width Page = without_low 16 (number_at probe register width)
+writable_bits probe register width Upper = without_low 1 (number_at probe register width)
 
 -- the bits of a row that a write sets
 abbrev pub writable_of : List ℕ → Row → Field
-writable_of probe row = record { offset = row.0; width = row.1; bits = set_bits probe row.0 row.1 row.2 }
+writable_of probe row = record { offset = row.0; width = row.1; bits = writable_bits probe row.0 row.1 row.2 }
 
 -- the bits of a row that a one clears
 abbrev pub clearing_of : Row → Field

@@ -38,7 +38,7 @@ pub fn written_byte(old: u8, writable: u8, clearing: u8, datum: u8) -> u8
 }
 
 /// The little-endian number of 1, 2 or 4 bytes at an offset.
-pub fn number_of(image: &Image, off: u8, width: u8) -> u32
+pub fn value_at(image: &Image, off: u8, width: u8) -> u32
     requires { IsTrue (port.is_access off width) }
     ensures { result ≡ number_at image.now.0 off width }
 {

@@ -11,13 +11,18 @@ use pci_image::slot::Slot;
 
 /// An access that failed: the offset that it was made at, and why.
 #[derive(Clone, Copy)]
-pub struct Stop {
+pub struct AccessFault {
     pub offset: u8,
     pub fault: PortError,
 }
 
 /// Reads a number of a function that is there.
-pub fn read_at<P: ConfigPort>(port: &mut P, slot: Slot, off: u8, width: u8) -> Result<u32, Stop>
+pub fn read_at<P: ConfigPort>(
+    port: &mut P,
+    slot: Slot,
+    off: u8,
+    width: u8,
+) -> Result<u32, AccessFault>
     requires there { IsTrue (ports.has_function (P.targets port.old) slot) }
     requires lawful { IsTrue (ports.is_access off width) }
     ensures value { IfOk result (λ value. value ≡ number_at (function_at (P.targets port.old) slot).image off width) }
@@ -30,7 +35,7 @@ pub fn read_at<P: ConfigPort>(port: &mut P, slot: Slot, off: u8, width: u8) -> R
 {
     match port.read(slot, off, width) {
         Ok(value) => Ok(value),
-        Err(fault) => Err(Stop { offset: off, fault }),
+        Err(fault) => Err(AccessFault { offset: off, fault }),
     }
 }
 
@@ -41,7 +46,7 @@ pub fn write_at<P: ConfigPort>(
     off: u8,
     width: u8,
     value: u32,
-) -> Result<(), Stop>
+) -> Result<(), AccessFault>
     requires there { IsTrue (ports.has_function (P.targets port.old) slot) }
     requires lawful { IsTrue (ports.is_access off width && ports.fits width value) }
     requires targets { ports.IsLawful (P.targets port.old) }
@@ -57,6 +62,6 @@ pub fn write_at<P: ConfigPort>(
 {
     match port.write(slot, off, width, value) {
         Ok(()) => Ok(()),
-        Err(fault) => Err(Stop { offset: off, fault }),
+        Err(fault) => Err(AccessFault { offset: off, fault }),
     }
 }

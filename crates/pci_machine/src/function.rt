@@ -8,7 +8,7 @@ ghost use Rattle.pci_spec.specs.Port.{IsTarget};
 ghost use Rattle.pci_machine.specs.Made.{name_fault, IsFirstOfRegisters};
 
 use crate::mask::{clearing_bytes, writable_bytes};
-use crate::registers::Registers;
+use crate::registers::ConfigSpace;
 use pci_dump::pair_fault::PairFault;
 use pci_image::bar::bars;
 use pci_image::fault::ImageFault;
@@ -20,7 +20,7 @@ use pci_image::window::Windows;
 
 /// The registers of the function at a slot, if its address registers decode. The fault is one of 20
 /// to 26: of BARs the lowest, else that of the ROM, else of windows the lowest.
-pub fn registers_of(slot: Slot, image: &Image, probe: &Image) -> Result<Registers, ImageFault>
+pub fn registers_of(slot: Slot, image: &Image, probe: &Image) -> Result<ConfigSpace, ImageFault>
     requires { IsImage image.now.0 }
     ensures made { IfOk result (λ registers. registers ≡ target_of record { slot = slot; image = image.now.0; probe = probe.now.0 }) }
     ensures decodable { OnOk result (IsDecodable record { slot = slot; image = image.now.0; probe = probe.now.0 }) }
@@ -45,7 +45,7 @@ pub fn registers_of(slot: Slot, image: &Image, probe: &Image) -> Result<Register
             Err(fault) => return Err(fault),
         }
     }
-    Ok(Registers {
+    Ok(ConfigSpace {
         slot,
         image: *image,
         writable: writable_bytes(bridge, probe),

@@ -13,7 +13,7 @@ ghost use Rattle.pci_spec.specs.Port.{has_function, target_at, IsLawful};
 use crate::access::{fits, is_access};
 use crate::function::{named, registers_of};
 use crate::port::{ConfigPort, PortError};
-use crate::registers::Registers;
+use crate::registers::ConfigSpace;
 use pci_dump::dump::Dump;
 use pci_dump::memory::Refused;
 use pci_dump::pair::pair;
@@ -26,7 +26,7 @@ use std::marker::Model;
 /// Functions in memory.
 #[derive(Drop)]
 pub struct Machine<A: Allocator = Global> {
-    functions: Vec<Registers, A>,
+    functions: Vec<ConfigSpace, A>,
     // Where the function of the last access stands: mostly the next access is to it too.
     last: usize,
 }

@@ -6,7 +6,7 @@ ghost use Rattle.pci_spec.specs.Port as port;
 ghost use Rattle.pci_machine.specs.RegisterTable.{writable_by, clearing_by};
 ghost use Rattle.pci_machine.specs.Masks.{HasBits, AddsField};
 
-use crate::table::{Row, rows, set_bits};
+use crate::table::{Row, rows, writable_bits};
 use pci_image::image::Image;
 
 /// The bits of each byte that a write sets, by what the registers of a device or a bridge read
@@ -17,7 +17,7 @@ pub fn writable_bytes(bridge: bool, probe: &Image) -> [u8; 256]
 {
     let mut bytes = [0; 256];
     for row in rows(bridge) {
-        add(&mut bytes, row.0, row.1, set_bits(*row, probe));
+        add(&mut bytes, row.0, row.1, writable_bits(*row, probe));
     }
     bytes
 }

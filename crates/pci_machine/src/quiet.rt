@@ -6,7 +6,7 @@ ghost use Rattle.pci_spec.specs.Port as ports;
 ghost use Rattle.pci_spec.specs.Sizing.{function_at, quieted};
 ghost use Rattle.pci_machine.specs.Outcome.{failures_of_stop};
 
-use crate::access_at::{Stop, read_at, write_at};
+use crate::access_at::{AccessFault, read_at, write_at};
 use crate::port::{ConfigPort, PortError};
 use pci_image::offset::COMMAND;
 use pci_image::slot::Slot;
@@ -34,7 +34,7 @@ impl Model for Quiet {
 
 impl Quiet {
     /// Clears the decode bits of a function that is there.
-    pub fn begin<P: ConfigPort>(port: &mut P, slot: Slot) -> Result<Quiet, Stop>
+    pub fn begin<P: ConfigPort>(port: &mut P, slot: Slot) -> Result<Quiet, AccessFault>
         requires there { IsTrue (ports.has_function (P.targets port.old) slot) }
         requires lawful { ports.IsLawful (P.targets port.old) }
         ensures command { IfOk result (λ quiet. quiet ≡ command (function_at (P.targets port.old) slot).image) }
@@ -64,7 +64,7 @@ impl Quiet {
     }
 
     /// Puts the old Command back. Where that fails, the error has it.
-    pub fn end<P: ConfigPort>(self, port: &mut P, slot: Slot) -> Result<(), (Stop, u16)>
+    pub fn end<P: ConfigPort>(self, port: &mut P, slot: Slot) -> Result<(), (AccessFault, u16)>
         requires there { IsTrue (ports.has_function (P.targets port.old) slot) }
         requires lawful { ports.IsLawful (P.targets port.old) }
         ensures written { OnOk result (P.targets port.new

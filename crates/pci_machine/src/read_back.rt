@@ -6,7 +6,7 @@ ghost use Rattle.pci_spec.specs.Port as ports;
 ghost use Rattle.pci_spec.specs.Sizing.{function_at, IsPlain, DiffersWithin};
 ghost use Rattle.pci_machine.specs.Outcome.{failures_of_stop};
 
-use crate::access_at::{Stop, read_at, write_at};
+use crate::access_at::{AccessFault, read_at, write_at};
 use crate::port::{ConfigPort, PortError};
 use pci_image::slot::Slot;
 
@@ -17,7 +17,7 @@ pub fn read_back<P: ConfigPort>(
     off: u8,
     width: u8,
     ones: u32,
-) -> Result<u32, Stop>
+) -> Result<u32, AccessFault>
     requires there { IsTrue (ports.has_function (P.targets port.old) slot) }
     requires access { IsTrue (ports.is_access off width && ports.fits width ones) }
     requires lawful { ports.IsLawful (P.targets port.old) }

@@ -6,7 +6,7 @@ ghost use Rattle.pci_spec.specs.Port as ports;
 ghost use Rattle.pci_spec.specs.Sizing.{function_at, DiffersInRegisters, is_address_register};
 ghost use Rattle.pci_machine.specs.Outcome.{failures_of_stop};
 
-use crate::access_at::Stop;
+use crate::access_at::AccessFault;
 use crate::address_register::{address_registers, sizing_ones};
 use crate::number::put;
 use crate::port::{ConfigPort, PortError};
@@ -15,7 +15,11 @@ use pci_image::image::Image;
 use pci_image::slot::Slot;
 
 /// What the address registers of a function read back, in an image that has 0 elsewhere.
-pub fn read_backs<P: ConfigPort>(port: &mut P, slot: Slot, bridge: bool) -> Result<Image, Stop>
+pub fn read_backs<P: ConfigPort>(
+    port: &mut P,
+    slot: Slot,
+    bridge: bool,
+) -> Result<Image, AccessFault>
     requires there { IsTrue (ports.has_function (P.targets port.old) slot) }
     requires lawful { ports.IsLawful (P.targets port.old) }
     requires header { layout (function_at (P.targets port.old) slot).image ≡ (if bridge then 1 else 0) }

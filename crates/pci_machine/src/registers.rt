@@ -6,7 +6,7 @@ ghost use Rattle.pci_spec.specs.Machine.{written};
 ghost use Rattle.pci_spec.specs.Port as port;
 ghost use Rattle.pci_machine.specs.Memory.{pinned};
 
-use crate::access::{number_of, written_byte};
+use crate::access::{value_at, written_byte};
 use pci_image::image::Image;
 use pci_image::slot::Slot;
 use std::marker::Model;
@@ -14,14 +14,14 @@ use std::marker::Model;
 /// A function's configuration space, with the bits of each byte that a write sets and those that a
 /// written one clears.
 #[derive(Drop)]
-pub struct Registers {
+pub struct ConfigSpace {
     pub slot: Slot,
     pub image: Image,
     pub writable: [u8; 256],
     pub clearing: [u8; 256],
 }
 
-impl Model for Registers {
+impl Model for ConfigSpace {
     ghost use Rattle.pci_spec.specs.Machine.{Target};
 
     ghost Value = { Target };
@@ -34,7 +34,7 @@ impl Model for Registers {
     } };
 }
 
-impl Registers {
+impl ConfigSpace {
     /// Whether the function is at a slot.
     pub fn is_at(&self, slot: Slot) -> bool
         ensures { IsTrue result ↔ (self.now.slot ≡ slot) }
@@ -54,7 +54,7 @@ impl Registers {
         requires { IsTrue (port.is_access off width) }
         ensures { result ≡ number_at self.now.image off width }
     {
-        number_of(&self.image, off, width)
+        value_at(&self.image, off, width)
     }
 
     /// Makes bits of a byte unwritable.

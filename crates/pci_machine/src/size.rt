@@ -12,7 +12,7 @@ ghost use Rattle.pci_spec.specs.Sizing.{function_at, DiffersInRegisters, IsSizab
 ghost use Rattle.pci_machine.specs.Outcome.{failures_of_stop};
 ghost use Rattle.pci_machine.specs.SizeOutcome.{SizingLeaves, failures_of_size};
 
-use crate::access_at::{Stop, read_at};
+use crate::access_at::{AccessFault, read_at};
 use crate::port::{ConfigPort, PortError};
 use crate::quiet::{COMMAND_WIDTH, DECODE_BITS, Quiet};
 use crate::read_backs::read_backs;
@@ -109,7 +109,7 @@ fn is_bridge<P: ConfigPort>(port: &mut P, slot: Slot) -> Result<bool, SizeFault>
 }
 
 /// The fault of an access that failed.
-fn stopped(stop: Stop, command: Option<u16>) -> SizeFault
+fn stopped(stop: AccessFault, command: Option<u16>) -> SizeFault
     ensures { result ≡ SizeFault.Port stop.offset stop.fault command }
 {
     SizeFault::Port {
@@ -124,7 +124,7 @@ fn read_when_quiet<P: ConfigPort>(
     port: &mut P,
     slot: Slot,
     bridge: bool,
-) -> Result<Option<Image>, Stop>
+) -> Result<Option<Image>, AccessFault>
     requires there { IsTrue (ports.has_function (P.targets port.old) slot) }
     requires lawful { ports.IsLawful (P.targets port.old) }
     requires header { layout (function_at (P.targets port.old) slot).image ≡ (if bridge then 1 else 0) }

@@ -7,9 +7,9 @@ ghost use Rattle.std.specs.Prelude.{◌≡◌, ◌++◌, ◌<◌, ℕ, List, map
 ghost use Rattle.std.specs.List.{list_all};
 ghost use Rattle.pci_spec.specs.Bar as bar;
 ghost use Rattle.pci_spec.specs.Machine.{bar_field};
-ghost use Rattle.pci_machine.specs.RegisterTable.{writable_of, clearing_of, set_bits, is_lawful_row, status_fields, writable_by, clearing_by, rest_of};
+ghost use Rattle.pci_machine.specs.RegisterTable.{writable_of, clearing_of, writable_bits, is_lawful_row, status_fields, writable_by, clearing_by, rest_of};
 
-use crate::access::number_of;
+use crate::access::value_at;
 use pci_image::image::Image;
 use pci_image::offset::{
     BASE_ADDRESS, BRIDGE_EXPANSION_ROM, COMMAND, EXPANSION_ROM, INTERRUPT_LINE, IO_BASE,
@@ -91,18 +91,18 @@ pub fn rows(bridge: bool) -> &'static [Row]
 }
 
 /// The bits of a register that a write sets, by what the function's registers read back.
-pub fn set_bits(row: Row, probe: &Image) -> u32
+pub fn writable_bits(row: Row, probe: &Image) -> u32
     requires { IsTrue (is_lawful_row row) }
-    ensures { result ≡ set_bits probe.now.0 row.0 row.1 row.2 }
+    ensures { result ≡ writable_bits probe.now.0 row.0 row.1 row.2 }
 {
     let Row(register, width, writable, _) = row;
     match writable {
         Writable::Bits(bits) => bits,
         Writable::Bar(n) => bar_bits(probe, n),
-        Writable::Rom => number_of(probe, register, width),
+        Writable::Rom => value_at(probe, register, width),
         Writable::RomEnable => { if probe.u32(register) == 0 { 0 } else { 1 } }
-        Writable::Page => number_of(probe, register, width) / 16 * 16,
-        Writable::Upper => number_of(probe, register, width),
+        Writable::Page => value_at(probe, register, width) / 16 * 16,
+        Writable::Upper => value_at(probe, register, width),
     }
 }
 

@@ -7,7 +7,7 @@ use Rattle.std.proofs.lemmas.List.{get_or-map, length-map}
 use Rattle.std.proofs.lemmas.List.Elements.{All-contains, Contains-get_or}
 use Rattle.std.proofs.lemmas.List.Sorted.{IsPermutation-sym, Contains-permutation}
 use Rattle.pci_spec.specs.System.{System, Function, IsSystem, Window}
-use Rattle.pci_spec.specs.Bus.{secondary, is_root, are_side_by_side, IsNested}
+use Rattle.pci_spec.specs.Bus.{secondary, is_root, are_siblings, IsNested}
 use Rattle.pci_spec.specs.Plan.{Pools, Class, pool_of, raised_to, greatest_of_roots, window_of}
 use Rattle.pci_spec.specs.Place.{Item, window_item, own_items, items_beside, start_of, place_of}
 use Rattle.pci_spec.specs.Planning.Numbers.{item_of, place_at}
@@ -193,8 +193,8 @@ module _ (roots : List ℕ) (s : System) (pools : Pools) (c : Class) (system : I
       let own : Contains (own_items s pools c f) v = subst (λ g. Contains (own_items s pools c g) v) (sym (own_function s pools c piece.of v piece.piece)) piece.piece in
       let bus = f.slot.bus in
       let beside : Contains (items_beside roots s pools c bus) v =
-      in_flat_map_from (λ g. if are_side_by_side roots bus g.slot.bus then own_items s pools c g else []) s f v listed
-      (in_cond_from (are_side_by_side roots bus bus) (own_items s pools c f) v (or_left (bus == bus) (is_root roots bus && is_root roots bus) (eq-eqb bus bus refl)) own) in
+      in_flat_map_from (λ g. if are_siblings roots bus g.slot.bus then own_items s pools c g else []) s f v listed
+      (in_cond_from (are_siblings roots bus bus) (own_items s pools c f) v (or_left (bus == bus) (is_root roots bus && is_root roots bus) (eq-eqb bus bus refl)) own) in
       let least = le_greatest (item_sizes (items_beside roots s pools c bus)) i.size (in_map_from (λ (j : Item). j.size) (items_beside roots s pools c bus) v beside) in
       let some = (in_pool_of i has).some in
       elim (cases_Bool (is_root roots bus)) [

@@ -10,7 +10,7 @@ use pci_image::header::layout;
 use pci_image::image::Image;
 use pci_image::offset::COMMAND;
 use pci_image::slot::Slot;
-use pci_machine::access::number_of;
+use pci_machine::access::value_at;
 use pci_machine::address_register::address_registers;
 use pci_machine::port::ConfigPort;
 
@@ -30,7 +30,7 @@ fn compare_register<P: ConfigPort>(
 {
     match port.read(slot, offset, width) {
         Ok(value) => {
-            if value == number_of(image, offset, width) {
+            if value == value_at(image, offset, width) {
                 Ok(())
             } else {
                 Err(ApplyFault::Changed(slot, offset))

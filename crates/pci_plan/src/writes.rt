@@ -12,7 +12,7 @@ use pci_image::header::layout;
 use pci_image::image::Image;
 use pci_image::offset::COMMAND;
 use pci_image::slot::Slot;
-use pci_machine::access::number_of;
+use pci_machine::access::value_at;
 use pci_machine::address_register::address_registers;
 use std::alloc::Allocator;
 
@@ -64,8 +64,8 @@ fn add_registers<A: Allocator>(
     ensures { OnOk result (map write_value writes.new.items ≡ map write_value writes.old.items ++ registers_of (block_change old.now new.now)) }
 {
     for register in address_registers(layout(&old.image) == 1) {
-        let value = number_of(&new.image, register.offset, register.width);
-        if value != number_of(&old.image, register.offset, register.width) {
+        let value = value_at(&new.image, register.offset, register.width);
+        if value != value_at(&old.image, register.offset, register.width) {
             writes.push(Write {
                 slot: old.slot,
                 off: register.offset,

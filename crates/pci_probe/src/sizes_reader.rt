@@ -8,9 +8,9 @@ use super::sizes::{Sizes, SizesBlock};
 use super::sizes_block::{BLOCK_LEN, block_after};
 use super::sizes_fault::fault_after;
 use pci_dump::dump::BLOCKS_MAX;
-use pci_dump::ends::{Failed, Source};
 use pci_dump::memory::OutOfMemory;
 use pci_dump::read_fault::ReadFault;
+use pci_dump::streams::{Failed, Source};
 use std::alloc::Allocator;
 
 /// How many bytes are read before their blocks are taken: twenty whole blocks.

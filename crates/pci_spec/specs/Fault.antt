@@ -96,8 +96,8 @@ abbrev pub is_stray : List ℕ → List ℕ → ℕ → Bool
 is_stray image probe offset = nat_lt offset 256 && not (byte_at probe offset == 0) && not (is_in_address_register (layout image) offset)
 
 -- a power management capability shows another state than D0
-abbrev pub IsAsleep : List ℕ → Type 0
-IsAsleep image = (place : ℕ) × ComesTo image place × (capability_id image place ≡ 1) × (power_state image place ≢ 0)
+abbrev pub IsNotInD0 : List ℕ → Type 0
+IsNotInD0 image = (place : ℕ) × ComesTo image place × (capability_id image place ≡ 1) × (power_state image place ≢ 0)
 
 -- ---- of a system
 
@@ -167,7 +167,7 @@ IsIn roots s (VgaEnable slot) = SomeAt s slot (λ f. IsTrue (is_bridge f && has_
 IsIn roots s (IsaEnable slot) = SomeAt s slot (λ f. IsTrue (is_bridge f && has_bit (bridge_control f.image) 2))
 IsIn roots s (Subtractive slot) = SomeAt s slot (λ f. IsTrue (is_bridge f && class_code f.image == 0x060401))
 IsIn roots s (InReset slot) = SomeAt s slot (λ f. IsTrue (is_bridge f && has_bit (bridge_control f.image) 6))
-IsIn roots s (PowerState slot) = SomeAt s slot (λ f. IsAsleep f.image)
+IsIn roots s (PowerState slot) = SomeAt s slot (λ f. IsNotInD0 f.image)
 IsIn roots s (BusRange slot) = SomeAt s slot (λ f. IsTrue (is_bridge f && not (has_lawful_buses roots s f)))
 IsIn roots s (Orphan slot) = SomeAt s slot (λ f. IsTrue (not (is_led_to roots s slot.bus)))
 IsIn roots s (Unreached slot register space address bridge) = IsUnreached roots s slot register space address bridge

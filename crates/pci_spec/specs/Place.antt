@@ -7,7 +7,7 @@ use Rattle.pci_spec.specs.Window.{WindowKind, Bounds, bounds_at, has_window, is_
 use Rattle.pci_spec.specs.Rom.{rom_at}
 use Rattle.pci_spec.specs.Decoded.{Range, decoded_bar, rom_size, aligned_range, window_range}
 use Rattle.pci_spec.specs.System.{System, Function, Part, Bar, Rom, Window, is_implemented, bars_and_rom, register_of, is_bridge}
-use Rattle.pci_spec.specs.Bus.{secondary, is_root, are_side_by_side}
+use Rattle.pci_spec.specs.Bus.{secondary, is_root, are_siblings}
 use Rattle.pci_spec.specs.Plan.{Pools, Class, pool_of, class_of, size_of, same_class, window_of, need_of, window_size, greatest, raised_to, has_behind}
 
 -- ---- items
@@ -38,7 +38,7 @@ own_items s pools c f =
 -- what is placed side by side: the items of a bus, those of all roots being one bus's
 abbrev pub items_beside : List ℕ → System → Pools → Class → ℕ → List Item
 items_beside roots s pools c bus =
-    flat_map (λ f. if are_side_by_side roots bus f.slot.bus then own_items s pools c f else []) s
+    flat_map (λ f. if are_siblings roots bus f.slot.bus then own_items s pools c f else []) s
 
 -- ---- places
 

@@ -7,14 +7,14 @@ use Rattle.pci_spec.specs.Slot.{Slot, IsSlot, slot_number}
 use Rattle.pci_tree.specs.declared.record.Bridge.{Bridge}
 use Rattle.pci_tree.specs.declared.record.Record.{Record}
 use Rattle.pci_tree.specs.Outline.{IsBusPart}
-use Rattle.pci_tree.specs.BusNumbers.{IsBridgeWith, AreSideBySide, AreApart, IsApartFrom, IsApartFromLower, IsApartFromEarlier, IsBehind, HasBusOrder, HasNoRootBehind, IsInsideParents, HasLawfulBuses, first_function}
+use Rattle.pci_tree.specs.BusNumbers.{IsBridgeWith, AreSiblings, AreApart, IsApartFrom, IsApartFromLower, IsApartFromEarlier, IsBehind, HasBusOrder, HasNoRootBehind, IsInsideParents, HasLawfulBuses, first_function}
 use Rattle.pci_tree.specs.Ways.{slots_of}
 use Rattle.pci_spec.proofs.Members.{IsMade, in_map_to, in_map_from}
 
 -- apart from the earlier bridges on the buses below a number
 abbrev pub IsApartBelow : ℕ → List ℕ → List Record → Slot → Bridge → Type 0
 IsApartBelow n roots records slot b =
-    (c : Record) (d : Bridge) → c.slot.bus < n → IsBridgeWith records c d → AreSideBySide roots c.slot.bus slot.bus → slot_number c.slot < slot_number slot → AreApart b d
+    (c : Record) (d : Bridge) → c.slot.bus < n → IsBridgeWith records c d → AreSiblings roots c.slot.bus slot.bus → slot_number c.slot < slot_number slot → AreApart b d
 
 pub apart_on_bus : (n : ℕ) (roots : List ℕ) (records part : List Record) (slot : Slot) (b : Bridge) → IsBusPart records n part → IsApartFromLower part slot b
     → IsApartBelow n roots records slot b → IsApartBelow (n + 1) roots records slot b
@@ -23,20 +23,20 @@ apart_on_bus n roots records part slot b on here below c d lt bridge side less =
   | inr ne ↦ below c d (omega arith) bridge side less
 ]
 
-pub apart_beside : (n : ℕ) (roots : List ℕ) (records : List Record) (slot : Slot) (b : Bridge) → (AreSideBySide roots n slot.bus → ⊥)
+pub apart_beside : (n : ℕ) (roots : List ℕ) (records : List Record) (slot : Slot) (b : Bridge) → (AreSiblings roots n slot.bus → ⊥)
     → IsApartBelow n roots records slot b → IsApartBelow (n + 1) roots records slot b
 apart_beside n roots records slot b off below c d lt bridge side less = elim (cases_eq c.slot.bus n) [
-  | inl e ↦ absurd (off (subst (λ m. AreSideBySide roots m slot.bus) e side))
+  | inl e ↦ absurd (off (subst (λ m. AreSiblings roots m slot.bus) e side))
   | inr ne ↦ below c d (omega arith) bridge side less
 ]
 
 -- a bridge that is apart from the earlier ones is so from those of a bus beside its own
-pub apart_of_all : (n : ℕ) (roots : List ℕ) (records part : List Record) (slot : Slot) (b : Bridge) → IsBusPart records n part → AreSideBySide roots n slot.bus
+pub apart_of_all : (n : ℕ) (roots : List ℕ) (records part : List Record) (slot : Slot) (b : Bridge) → IsBusPart records n part → AreSiblings roots n slot.bus
     → IsApartFromEarlier roots records slot b → IsApartFromLower part slot b
 apart_of_all n roots records part slot b on side all k d within other some less =
     let c : Record = get_or part k d in
     let at : Contains records c × (c.slot.bus ≡ n) = on.each c (Contains-get_or part k d within) in
-    all c other (record { has = at.0; is = some }) (subst (λ m. AreSideBySide roots m slot.bus) (sym at.1) side) less
+    all c other (record { has = at.0; is = some }) (subst (λ m. AreSiblings roots m slot.bus) (sym at.1) side) less
 
 -- on a bus that isn't a root, only those of the same bus count
 pub apart_on_own : (roots : List ℕ) (records part : List Record) (slot : Slot) (b : Bridge) {P : Type 0} → IsBusPart records slot.bus part

@@ -7,14 +7,14 @@ use Rattle.std.proofs.lemmas.Bool.{and_from, and_parts, or_cases, or_left, or_ri
 use Rattle.pci_spec.specs.Slot.{Slot, slot_number}
 use Rattle.pci_spec.specs.Header.{primary_bus, secondary_bus, subordinate_bus}
 use Rattle.pci_spec.specs.System.{System, Function, is_bridge}
-use Rattle.pci_spec.specs.Bus.{secondary, subordinate, is_behind, are_apart, is_inside, is_root, has_bus_order, are_side_by_side, is_apart_from_earlier, is_inside_its_parents, has_no_root_behind, has_lawful_buses, is_led_to}
+use Rattle.pci_spec.specs.Bus.{secondary, subordinate, is_behind, are_apart, is_inside, is_root, has_bus_order, are_siblings, is_apart_from_earlier, is_inside_its_parents, has_no_root_behind, has_lawful_buses, is_led_to}
 use Rattle.pci_spec.specs.Decoded.{record_of, bridge_of}
 use Rattle.pci_spec.specs.Decoded as decoded
 use Rattle.pci_spec.proofs.BusRanges.{all_gives, all_from, any_gives, any_from, second_side, bus_order_means, within_of_behind, behind_of_within, IsWithin, inside_from, inside_parts, root_means}
 use Rattle.pci_tree.specs.declared.record.Bridge.{Bridge}
 use Rattle.pci_tree.specs.declared.record.Record.{Record}
 use Rattle.pci_tree.specs.Values.{record_value, bridge_value}
-use Rattle.pci_tree.specs.BusNumbers.{IsBridgeWith, HasBusOrder, AreApart, AreSideBySide, HasLawfulBuses, IsLedTo}
+use Rattle.pci_tree.specs.BusNumbers.{IsBridgeWith, HasBusOrder, AreApart, AreSiblings, HasLawfulBuses, IsLedTo}
 use Rattle.pci_tree.proofs.Lifting.{Has, StandsFor, record_for, function_for, same_bridge, same_slot_of}
 use Rattle.pci_tree.proofs.Regions.{some_is}
 use Rattle.pci_tree.proofs.RegionParts.{same_bridge_of}
@@ -88,13 +88,13 @@ implies_from p q h = elim (cases_Bool p) [
 implies_gives : (p q : Bool) → (not p || q) ≡ true → p ≡ true → q ≡ true
 implies_gives p q h is = second_side (not p) q h (not_from_true p is)
 
-side_to : (roots : List ℕ) (m n : ℕ) → are_side_by_side roots m n ≡ true → AreSideBySide roots m n
+side_to : (roots : List ℕ) (m n : ℕ) → are_siblings roots m n ≡ true → AreSiblings roots m n
 side_to roots m n h = elim (or_cases (m == n) (is_root roots m && is_root roots n) h) [
   | inl same ↦ inl (eqb-true m n same)
   | inr both ↦ (let p : (is_root roots m ≡ true) × (is_root roots n ≡ true) = and_parts (is_root roots m) (is_root roots n) both in inr ((root_means roots m).0 p.0, (root_means roots n).0 p.1))
 ]
 
-side_from : (roots : List ℕ) (m n : ℕ) → AreSideBySide roots m n → are_side_by_side roots m n ≡ true
+side_from : (roots : List ℕ) (m n : ℕ) → AreSiblings roots m n → are_siblings roots m n ≡ true
 side_from roots m n h = elim h [
   | inl same ↦ or_left (m == n) (is_root roots m && is_root roots n) (eq-eqb m n same)
   | inr both ↦ or_right (m == n) (is_root roots m && is_root roots n) (and_from (is_root roots m) (is_root roots n) ((root_means roots m).1 both.0) ((root_means roots n).1 both.1))
@@ -136,14 +136,14 @@ lawful_function roots s rs f r b faces face lawful =
     let order : HasBusOrder r.slot.bus b = lawful.order in
     let ordered : has_bus_order f ≡ true = (bus_order_means f).1 (omega arith, omega arith, omega arith) in
     let apart : is_apart_from_earlier roots s f ≡ true =
-    all_from (λ c. not (is_bridge c && are_side_by_side roots c.slot.bus f.slot.bus && nat_lt (slot_number c.slot) (slot_number f.slot)) || are_apart f c) s
-    (λ c in_c. implies_from (is_bridge c && are_side_by_side roots c.slot.bus f.slot.bus && nat_lt (slot_number c.slot) (slot_number f.slot)) (are_apart f c) (λ h. (
-    let outer : ((is_bridge c && are_side_by_side roots c.slot.bus f.slot.bus) ≡ true) × (nat_lt (slot_number c.slot) (slot_number f.slot) ≡ true) =
-    and_parts (is_bridge c && are_side_by_side roots c.slot.bus f.slot.bus) (nat_lt (slot_number c.slot) (slot_number f.slot)) h in
-    let inner : (is_bridge c ≡ true) × (are_side_by_side roots c.slot.bus f.slot.bus ≡ true) = and_parts (is_bridge c) (are_side_by_side roots c.slot.bus f.slot.bus) outer.0 in
+    all_from (λ c. not (is_bridge c && are_siblings roots c.slot.bus f.slot.bus && nat_lt (slot_number c.slot) (slot_number f.slot)) || are_apart f c) s
+    (λ c in_c. implies_from (is_bridge c && are_siblings roots c.slot.bus f.slot.bus && nat_lt (slot_number c.slot) (slot_number f.slot)) (are_apart f c) (λ h. (
+    let outer : ((is_bridge c && are_siblings roots c.slot.bus f.slot.bus) ≡ true) × (nat_lt (slot_number c.slot) (slot_number f.slot) ≡ true) =
+    and_parts (is_bridge c && are_siblings roots c.slot.bus f.slot.bus) (nat_lt (slot_number c.slot) (slot_number f.slot)) h in
+    let inner : (is_bridge c ≡ true) × (are_siblings roots c.slot.bus f.slot.bus ≡ true) = and_parts (is_bridge c) (are_siblings roots c.slot.bus f.slot.bus) outer.0 in
     let x : (x : Record) × (d : Bridge) × IsFaceOf rs c x d = bridge_face s rs c faces in_c inner.0 in
-    let side : AreSideBySide roots x.0.slot.bus r.slot.bus =
-    subst (λ m. AreSideBySide roots m r.slot.bus) (sym (bus_of_face rs c x.0 x.1 x.2)) (subst (λ n. AreSideBySide roots c.slot.bus n) (sym bus) (side_to roots c.slot.bus f.slot.bus inner.1)) in
+    let side : AreSiblings roots x.0.slot.bus r.slot.bus =
+    subst (λ m. AreSiblings roots m r.slot.bus) (sym (bus_of_face rs c x.0 x.1 x.2)) (subst (λ n. AreSiblings roots c.slot.bus n) (sym bus) (side_to roots c.slot.bus f.slot.bus inner.1)) in
     let less : slot_number x.0.slot < slot_number r.slot =
     subst (λ m. slot_number m < slot_number r.slot) (sym x.2.slot) (subst (λ n. slot_number c.slot < slot_number n) (sym face.slot) (ltb-true _ _ outer.1)) in
     apart_from rs f c r x.0 b x.1 face x.2 (lawful.apart x.0 x.1 x.2.bridge side less)))) in
@@ -192,15 +192,15 @@ lawful_record_of roots s rs f r b faces face lawful =
       order = (omega arith, omega arith, omega arith);
       apart = λ c d bridge side less. (
           let g : IsFunctionOf s rs c d = face_function s rs c d faces bridge in
-          let there : are_side_by_side roots g.f.slot.bus f.slot.bus ≡ true =
-          side_from roots g.f.slot.bus f.slot.bus (subst (λ m. AreSideBySide roots m f.slot.bus) (bus_of_face rs g.f c d g.face) (subst (λ n. AreSideBySide roots c.slot.bus n) bus side)) in
+          let there : are_siblings roots g.f.slot.bus f.slot.bus ≡ true =
+          side_from roots g.f.slot.bus f.slot.bus (subst (λ m. AreSiblings roots m f.slot.bus) (bus_of_face rs g.f c d g.face) (subst (λ n. AreSiblings roots c.slot.bus n) bus side)) in
           let lower : nat_lt (slot_number g.f.slot) (slot_number f.slot) ≡ true =
           lt-ltb _ _ (subst (λ m. slot_number m < slot_number f.slot) g.face.slot (subst (λ n. slot_number c.slot < slot_number n) face.slot less)) in
           apart_to rs f g.f r c b d face g.face
-          (implies_gives (is_bridge g.f && are_side_by_side roots g.f.slot.bus f.slot.bus && nat_lt (slot_number g.f.slot) (slot_number f.slot)) (are_apart f g.f)
-          (all_gives (λ x. not (is_bridge x && are_side_by_side roots x.slot.bus f.slot.bus && nat_lt (slot_number x.slot) (slot_number f.slot)) || are_apart f x) s three.1 g.f g.has)
-          (and_from (is_bridge g.f && are_side_by_side roots g.f.slot.bus f.slot.bus) (nat_lt (slot_number g.f.slot) (slot_number f.slot))
-          (and_from (is_bridge g.f) (are_side_by_side roots g.f.slot.bus f.slot.bus) g.is there) lower)));
+          (implies_gives (is_bridge g.f && are_siblings roots g.f.slot.bus f.slot.bus && nat_lt (slot_number g.f.slot) (slot_number f.slot)) (are_apart f g.f)
+          (all_gives (λ x. not (is_bridge x && are_siblings roots x.slot.bus f.slot.bus && nat_lt (slot_number x.slot) (slot_number f.slot)) || are_apart f x) s three.1 g.f g.has)
+          (and_from (is_bridge g.f && are_siblings roots g.f.slot.bus f.slot.bus) (nat_lt (slot_number g.f.slot) (slot_number f.slot))
+          (and_from (is_bridge g.f) (are_siblings roots g.f.slot.bus f.slot.bus) g.is there) lower)));
       inside = λ off c d bridge leads. (
           let g : IsFunctionOf s rs c d = face_function s rs c d faces bridge in
           let gs : d.secondary ≡ secondary_bus g.f.image = g.face.secondary in

@@ -1,14 +1,14 @@
 -- Lists of ranges that grow at their end.
 use Rattle.std.proofs.Common.{◌≡◌, ℕ, ◌+◌, ◌<◌, ◌≤◌, List, [], ◌∷◌, ◌++◌, length, get_or, take, sym, ap, subst, inl, inr, ◌⊎◌, arith, Option, Some, None}
-use Rattle.std.specs.Prelude.{◌↔◌, MatchOption}
+use Rattle.std.specs.Prelude.{◌↔◌}
 use Rattle.std.specs.List.{Contains}
 use Rattle.std.proofs.lemmas.List.{get_or-take, take_more, length-take-le}
 use Rattle.std.proofs.lemmas.List.Quantifiers.{Any-push, all_pairs_push}
 use Rattle.std.proofs.lemmas.List.Elements.{All-push, Contains-push_cases, Contains-append_left}
 use Rattle.pci_image.specs.declared.range.Range.{Range}
-use Rattle.pci_tree.specs.declared.passed.Passed.{Passed}
-use Rattle.pci_tree.specs.Ranges.{Holds, Covers, IsCanonical, IsLeastOutside}
-use Rattle.pci_tree.specs.Passing.{Passes, IsPush, IsReach, IsLeastUnpassed}
+use Rattle.pci_tree.specs.declared.forwarded.Forwarded.{Forwarded}
+use Rattle.pci_tree.specs.Ranges.{Holds, Covers, IsCanonical}
+use Rattle.pci_tree.specs.Passing.{Passes, IsPush, IsReach}
 use Rattle.pci_tree.proofs.RangeLists.{covers_at, found_at}
 
 pub covers_push : (rs : List Range) (m : Range) (a : ℕ) → Covers (rs ++ m ∷ []) a ↔ (Covers rs a ⊎ Holds m a)
@@ -79,54 +79,18 @@ below_next rs i a z can within (k, r, inside, at, held) =
     let b : (get_or rs k z).last + 1 < (get_or rs i z).first = can.apart k i z lt within in omega arith
 
 -- one more range
-pub reach_more : (rs mid out : List Range) (i : ℕ) (z : Range) (passed : Passed) → i < length rs → IsReach (take i rs) passed mid
-    → IsPush mid out (λ a. Holds (get_or rs i z) a × Passes passed a) → IsReach (take (i + 1) rs) passed out
-reach_more rs mid out i z passed within so step = subst (λ xs. IsReach xs passed out) (sym (take_more rs i z within)) (record {
+pub reach_more : (rs mid out : List Range) (i : ℕ) (z : Range) (forwarded : Forwarded) → i < length rs → IsReach (take i rs) forwarded mid
+    → IsPush mid out (λ a. Holds (get_or rs i z) a × Passes forwarded a) → IsReach (take (i + 1) rs) forwarded out
+reach_more rs mid out i z forwarded within so step = subst (λ xs. IsReach xs forwarded out) (sym (take_more rs i z within)) (record {
   canonical = step.canonical;
   exact = λ a. (
     λ (h : Covers out a). elim ((step.exact a).0 h) [
-      | inl m ↦ (let p : Covers (take i rs) a × Passes passed a = (so.exact a).0 m in ((covers_push (take i rs) (get_or rs i z) a).1 (inl p.0), p.1))
+      | inl m ↦ (let p : Covers (take i rs) a × Passes forwarded a = (so.exact a).0 m in ((covers_push (take i rs) (get_or rs i z) a).1 (inl p.0), p.1))
       | inr both ↦ ((covers_push (take i rs) (get_or rs i z) a).1 (inr both.0), both.1)
     ],
-    λ (h : Covers (take i rs ++ get_or rs i z ∷ []) a × Passes passed a). elim ((covers_push (take i rs) (get_or rs i z) a).0 h.0) [
+    λ (h : Covers (take i rs ++ get_or rs i z ∷ []) a × Passes forwarded a). elim ((covers_push (take i rs) (get_or rs i z) a).0 h.0) [
       | inl before ↦ (step.exact a).1 (inl ((so.exact a).1 (before, h.1)))
       | inr held ↦ (step.exact a).1 (inr (held, h.1))
     ],
   );
 })
-
--- ---- what a bridge passes, as a list
-
-none_covered : (a : ℕ) → Covers [] a → ⊥
-none_covered a (k, r, within, at, held) = omega arith
-
-pub one_canonical : (w : Range) → w.first ≤ w.last → IsCanonical (w ∷ [])
-one_canonical w lawful = canonical_push [] w
-    (record { each = λ k d within. absurd (omega arith); apart = λ i j d lt within. absurd (omega arith) }) lawful (λ a h. absurd (none_covered a h))
-
-pub one_covers : (w : Range) (a : ℕ) → Covers (w ∷ []) a ↔ Holds w a
-one_covers w a = (
-  λ (h : Covers (w ∷ []) a). elim ((covers_push [] w a).0 h) [ inl before ↦ absurd (none_covered a before) | inr held ↦ held ],
-  λ (h : Holds w a). (covers_push [] w a).1 (inr h),
-)
-
-pub two_canonical : (v w : Range) → v.first ≤ v.last → w.first ≤ w.last → v.last + 1 < w.first → IsCanonical (v ∷ (w ∷ []))
-two_canonical v w lawful_v lawful_w gap = canonical_push (v ∷ []) w (one_canonical v lawful_v) lawful_w
-    (λ a h. (let held : Holds v a = (one_covers v a).0 h in omega arith))
-
-pub two_cover : (v w : Range) (a : ℕ) → Covers (v ∷ (w ∷ [])) a ↔ (Holds v a ⊎ Holds w a)
-two_cover v w a = (
-  λ (h : Covers (v ∷ (w ∷ [])) a). elim ((covers_push (v ∷ []) w a).0 h) [ inl before ↦ inl ((one_covers v a).0 before) | inr held ↦ inr held ],
-  λ (h : Holds v a ⊎ Holds w a). (covers_push (v ∷ []) w a).1 (elim h [ inl held ↦ inl ((one_covers v a).1 held) | inr held ↦ inr held ]),
-)
-
--- an answer about a list that covers what passes
-pub unpassed : (r : Range) (rs : List Range) (passed : Passed) (o : Option ℕ) → ((a : ℕ) → Covers rs a ↔ Passes passed a)
-    → MatchOption o ((a : ℕ) → Holds r a → Covers rs a) (λ a. IsLeastOutside r rs a)
-    → MatchOption o ((a : ℕ) → Holds r a → Passes passed a) (λ a. IsLeastUnpassed r passed a)
-unpassed r rs passed None same h = λ a held. (same a).0 (h a held)
-unpassed r rs passed (Some a) same h = record {
-  held = h.held;
-  stopped = λ p. h.outside ((same a).1 p);
-  least = λ b lt held. (same b).0 (h.least b lt held);
-}

@@ -11,7 +11,7 @@ use Rattle.pci_tree.specs.Values.{record_value}
 use Rattle.pci_tree.specs.Passes.{record_passes}
 use Rattle.pci_tree.specs.Ranges.{Holds, Covers, IsCanonical}
 use Rattle.pci_tree.specs.Passing.{Passes, IsReach}
-use Rattle.pci_tree.specs.declared.passed.Passed.{Passed}
+use Rattle.pci_tree.specs.declared.forwarded.Forwarded.{Forwarded}
 use Rattle.pci_tree.specs.Ways.{Leads, IsForest, IsBridgeIn, bus_behind, IsPlaceAbove}
 use Rattle.pci_tree.specs.Reaches.{PassAll, GetsTo, IsReachOf, IsWhole, IsPassedOn, IsStep, StandsBelow}
 use Rattle.pci_tree.proofs.Passing.{covers_push, canonical_push}
@@ -52,13 +52,13 @@ whole_of space whole out e lawful exact = subst (λ xs. IsWhole space xs) (sym e
 })
 
 -- what a bridge passes of some ranges
-pub passed_on_of : (above : List Range) (space : Space) (prefetch : Bool) (bridge : Record) (passed : Passed) (out : List Range)
-    → ((a : ℕ) → Passes passed a ↔ IsTrue (record_passes space prefetch a (record_value bridge))) → IsReach above passed out
+pub passed_on_of : (above : List Range) (space : Space) (prefetch : Bool) (bridge : Record) (forwarded : Forwarded) (out : List Range)
+    → ((a : ℕ) → Passes forwarded a ↔ IsTrue (record_passes space prefetch a (record_value bridge))) → IsReach above forwarded out
     → IsPassedOn above space prefetch (record_value bridge) out
-passed_on_of above space prefetch bridge passed out exact step = record {
+passed_on_of above space prefetch bridge forwarded out exact step = record {
   canonical = step.canonical;
   exact = λ a. (
-    λ (h : Covers out a). (let p : Covers above a × Passes passed a = (step.exact a).0 h in (p.0, (exact a).0 p.1)),
+    λ (h : Covers out a). (let p : Covers above a × Passes forwarded a = (step.exact a).0 h in (p.0, (exact a).0 p.1)),
     λ (h : Covers above a × IsTrue (record_passes space prefetch a (record_value bridge))). (step.exact a).1 (h.0, (exact a).1 h.1),
   );
 }
@@ -164,12 +164,12 @@ more_at P out new r n e size h here k d lt = elim (cases_lt k n) [
 
 -- the step to a bus that a bridge leads to, from what its place and its bus are read as
 pub step_of : (above : List (List Range)) (records : List Record) (k bus : ℕ) (bridge : Record) (parent ranges : List Range) (place : Option ℕ) (space : Space)
-    (prefetch is_root : Bool) (passed : Passed) (out : List Range) → place ≡ Some k → is_root ≡ false → k < length records → bridge ≡ get_or records k bridge
+    (prefetch is_root : Bool) (forwarded : Forwarded) (out : List Range) → place ≡ Some k → is_root ≡ false → k < length records → bridge ≡ get_or records k bridge
     → bus ≡ bridge.slot.bus → bus < length above → parent ≡ get_or above bus parent → ranges ≡ parent
-    → ((a : ℕ) → Passes passed a ↔ IsTrue (record_passes space prefetch a (record_value bridge))) → IsReach ranges passed out
+    → ((a : ℕ) → Passes forwarded a ↔ IsTrue (record_passes space prefetch a (record_value bridge))) → IsReach ranges forwarded out
     → IsStep above records place space prefetch is_root out
-step_of above records k bus bridge parent ranges place space prefetch is_root passed out some off within here on low there lent exact step =
-    let got : IsPassedOn ranges space prefetch (record_value bridge) out = passed_on_of ranges space prefetch bridge passed out exact step in
+step_of above records k bus bridge parent ranges place space prefetch is_root forwarded out some off within here on low there lent exact step =
+    let got : IsPassedOn ranges space prefetch (record_value bridge) out = passed_on_of ranges space prefetch bridge forwarded out exact step in
     let each : IsStep above records (Some k) space prefetch false out = λ d r. (
     let same : bridge ≡ get_or records k r = here ∙ get_or_default records k bridge r within in
     let at : ranges ≡ get_or above bridge.slot.bus d = lent ∙ there ∙ get_or_default above bus parent d low ∙ ap (λ n. get_or above n d) on in

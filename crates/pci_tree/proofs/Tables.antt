@@ -6,7 +6,7 @@ use Rattle.std.proofs.lemmas.Bool.{cases_eq, false≢true}
 use Rattle.std.proofs.lemmas.List.{get_or_default, get_or-replicate, get_or-set_same, get_or-set_other}
 use Rattle.pci_tree.specs.declared.record.Bridge.{Bridge}
 use Rattle.pci_tree.specs.declared.record.Record.{Record}
-use Rattle.pci_tree.specs.Ways.{secondary_in, bus_behind, LeadsAt, IsPlaceAbove, IsTable}
+use Rattle.pci_tree.specs.Ways.{secondary_in, bus_behind, LeadsAt, IsPlaceAbove, IsBridgeToBus}
 
 -- the place of a bridge that leads to a bus, if one of those below a place does
 abbrev IsPlaceBelow : ℕ → List Record → ℕ → Option ℕ → Type 0
@@ -65,6 +65,6 @@ whole_place : (records : List Record) (bus : ℕ) (o : Option ℕ) → IsPlaceBe
 whole_place records bus None was = λ b here there. (let (k, within, at) = here.has in was k within (leads_at records bus k b within (sym at) here.is there))
 whole_place records bus (Some k) was = was
 
-pub whole_table : (n : ℕ) (records : List Record) (table : List (Option ℕ)) → n ≡ length records → IsTableBelow n records table → IsTable records table
+pub whole_table : (n : ℕ) (records : List Record) (table : List (Option ℕ)) → n ≡ length records → IsTableBelow n records table → IsBridgeToBus records table
 whole_table n records table e was bus small =
     whole_place records bus (get_or table bus None) (subst (λ m. IsPlaceBelow m records bus (get_or table bus None)) e (was bus small))

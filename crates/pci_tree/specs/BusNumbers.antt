@@ -24,8 +24,8 @@ abbrev pub AreApart : Bridge → Bridge → Type 0
 AreApart b d = (b.subordinate < d.secondary) ⊎ (d.subordinate < b.secondary)
 
 -- two buses are the same, or both are roots
-abbrev pub AreSideBySide : List ℕ → ℕ → ℕ → Type 0
-AreSideBySide roots m n = (m ≡ n) ⊎ (Contains roots m × Contains roots n)
+abbrev pub AreSiblings : List ℕ → ℕ → ℕ → Type 0
+AreSiblings roots m n = (m ≡ n) ⊎ (Contains roots m × Contains roots n)
 
 -- the range is apart from that of a function which is a bridge with a lower slot
 abbrev pub IsApartFrom : Record → Slot → Bridge → Type 0
@@ -38,7 +38,7 @@ IsApartFromLower part slot b = All (λ c. IsApartFrom c slot b) part
 -- and from those that stand on its bus, or on any root where its bus is one
 abbrev pub IsApartFromEarlier : List ℕ → List Record → Slot → Bridge → Type 0
 IsApartFromEarlier roots records slot b =
-    (c : Record) (d : Bridge) → IsBridgeWith records c d → AreSideBySide roots c.slot.bus slot.bus → slot_number c.slot < slot_number slot → AreApart b d
+    (c : Record) (d : Bridge) → IsBridgeWith records c d → AreSiblings roots c.slot.bus slot.bus → slot_number c.slot < slot_number slot → AreApart b d
 
 -- the range ends where that of each bridge that leads to its bus does, or before; a root has no such
 abbrev pub IsInsideParents : List ℕ → List Record → Slot → Bridge → Type 0

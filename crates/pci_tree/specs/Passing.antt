@@ -1,18 +1,18 @@
 -- What a bridge passes.
 use Rattle.std.specs.Prelude.{ℕ, ◌+◌, ◌<◌, ◌≤◌, ◌⊎◌, ◌↔◌, List, Option, None, Some}
 use Rattle.pci_image.specs.declared.range.Range.{Range}
-use Rattle.pci_tree.specs.declared.passed.Passed.{Passed}
-use Rattle.pci_tree.specs.declared.passed.Passed.TheVariants.{Nothing, One, Two}
+use Rattle.pci_tree.specs.declared.forwarded.Forwarded.{Forwarded}
+use Rattle.pci_tree.specs.declared.forwarded.Forwarded.TheVariants.{Nothing, One, Two}
 use Rattle.pci_tree.specs.Ranges.{Holds, Covers, IsCanonical}
 
 -- the address passes
-abbrev pub Passes : Passed → ℕ → Type 0
+abbrev pub Passes : Forwarded → ℕ → Type 0
 Passes Nothing a = ⊥
 Passes (One r) a = Holds r a
 Passes (Two r s) a = Holds r a ⊎ Holds s a
 
 -- no range is empty, and two have an address between them
-abbrev pub IsPassed : Passed → Type 0
+abbrev pub IsPassed : Forwarded → Type 0
 IsPassed Nothing = Unit {0}
 IsPassed (One r) = r.first ≤ r.last
 IsPassed (Two r s) = (r.first ≤ r.last) × (s.first ≤ s.last) × (r.last + 1 < s.first)
@@ -28,12 +28,6 @@ pub record IsPush (old new : List Range) (more : ℕ → Type 0) : Type 0 where
   pub exact : (a : ℕ) → Covers new a ↔ (Covers old a ⊎ more a)
 
 -- the addresses of a list that pass
-pub record IsReach (rs : List Range) (passed : Passed) (out : List Range) : Type 0 where
+pub record IsReach (rs : List Range) (forwarded : Forwarded) (out : List Range) : Type 0 where
   pub canonical : IsCanonical out
-  pub exact : (a : ℕ) → Covers out a ↔ (Covers rs a × Passes passed a)
-
--- the least address of a range that doesn't pass
-pub record IsLeastUnpassed (r : Range) (passed : Passed) (a : ℕ) : Type 0 where
-  pub held : Holds r a
-  pub stopped : Passes passed a → ⊥
-  pub least : (b : ℕ) → b < a → Holds r b → Passes passed b
+  pub exact : (a : ℕ) → Covers out a ↔ (Covers rs a × Passes forwarded a)

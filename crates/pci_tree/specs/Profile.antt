@@ -7,7 +7,7 @@ use Rattle.pci_spec.specs.Capability.{ComesTwiceTo, HasLowPlace, HasCutBody, Has
 use Rattle.pci_spec.specs.System.{Function}
 use Rattle.pci_spec.specs.Decoded.{IsDecodable}
 use Rattle.pci_spec.specs.Order.{is_before, phase_of}
-use Rattle.pci_spec.specs.Fault.{Fault, NoVendor, HeaderKind, BarType, BarMask, BarPair, RomMask, WindowMask, CapRange, CapLoop, CapCut, SlotsDiffer, StrayProbe, LoneFunction, PaletteSnoop, VgaEnable, IsaEnable, Subtractive, InReset, PowerState, BusRange, Orphan, Unreached, Clash, Split, has_no_vendor, has_other_layout, is_stray, HasBarFault, HasRomFault, HasWindowFault, IsAsleep}
+use Rattle.pci_spec.specs.Fault.{Fault, NoVendor, HeaderKind, BarType, BarMask, BarPair, RomMask, WindowMask, CapRange, CapLoop, CapCut, SlotsDiffer, StrayProbe, LoneFunction, PaletteSnoop, VgaEnable, IsaEnable, Subtractive, InReset, PowerState, BusRange, Orphan, Unreached, Clash, Split, has_no_vendor, has_other_layout, is_stray, HasBarFault, HasRomFault, HasWindowFault, IsNotInD0}
 use Rattle.pci_tree.specs.declared.record.Record.{Record}
 use Rattle.pci_tree.specs.Decoding.{IsRecordOf}
 
@@ -36,11 +36,11 @@ pub record IsPlainBridge (image : List ℕ) : Type 0 where
 pub record IsPlain (image : List ℕ) : Type 0 where
   pub palette : IsFalse (has_bit (command image) 5)
   pub bridge : IsPlainBridge image
-  pub awake : IsAsleep image → ⊥
+  pub awake : IsNotInD0 image → ⊥
 
 -- a capability at a place shows another power state than D0
-abbrev pub IsAsleepAt : List ℕ → ℕ → Type 0
-IsAsleepAt image place = (capability_id image place ≡ 1) × (power_state image place ≢ 0)
+abbrev pub IsNotInD0At : List ℕ → ℕ → Type 0
+IsNotInD0At image place = (capability_id image place ≡ 1) × (power_state image place ≢ 0)
 
 -- the fault is one of the function by itself
 abbrev pub IsHere : Function → Fault → Type 0
@@ -62,7 +62,7 @@ IsHere f (VgaEnable slot) = (slot ≡ f.slot) × IsTrue (controls_bridge f.image
 IsHere f (IsaEnable slot) = (slot ≡ f.slot) × IsTrue (controls_bridge f.image 2)
 IsHere f (Subtractive slot) = (slot ≡ f.slot) × IsTrue (is_subtractive_bridge f.image)
 IsHere f (InReset slot) = (slot ≡ f.slot) × IsTrue (controls_bridge f.image 6)
-IsHere f (PowerState slot) = (slot ≡ f.slot) × IsAsleep f.image
+IsHere f (PowerState slot) = (slot ≡ f.slot) × IsNotInD0 f.image
 IsHere f (BusRange slot) = ⊥
 IsHere f (Orphan slot) = ⊥
 IsHere f (Unreached slot register space address bridge) = ⊥

@@ -48,8 +48,8 @@ abbrev pub IsPlaceAbove : List Record → ℕ → Option ℕ → Type 0
 IsPlaceAbove records bus o = MatchOption o ((b : Record) → IsBridgeIn records b → bus_behind b ≡ bus → ⊥) (λ k. LeadsAt records bus k)
 
 -- at each bus the place of the bridge that leads there
-abbrev pub IsTable : List Record → List (Option ℕ) → Type 0
-IsTable records table = (bus : ℕ) → bus < 256 → IsPlaceAbove records bus (slice_index_or table bus None)
+abbrev pub IsBridgeToBus : List Record → List (Option ℕ) → Type 0
+IsBridgeToBus records bridge_to_bus = (bus : ℕ) → bus < 256 → IsPlaceAbove records bus (slice_index_or bridge_to_bus bus None)
 
 -- the one list of bridges that leads to a bus from a root
 pub record IsTheWay (records : List Record) (roots : List ℕ) (way : List Record) (to : ℕ) : Type 0 where

@@ -31,7 +31,7 @@ pub fn on_bus(records: &[Record], bus: u8) -> &[Record]
 }
 
 /// Whether a function of some records has the slot.
-pub fn lists(records: &[Record], slot: Slot) -> bool
+pub fn has_slot(records: &[Record], slot: Slot) -> bool
     ensures { IsTrue result ↔ Contains (slots_of records.now) slot }
 {
     for function in records {

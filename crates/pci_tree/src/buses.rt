@@ -6,10 +6,10 @@ ghost use Rattle.std.specs.List.{All};
 ghost use Rattle.pci_spec.specs.Slot.{IsSlot};
 ghost use Rattle.pci_tree.specs.Roots.{buses_of};
 ghost use Rattle.pci_tree.specs.Outline.{RiseBySlot};
-ghost use Rattle.pci_tree.specs.BusNumbers.{HasBusOrder, AreApart, AreSideBySide, IsApartFrom, IsApartFromLower, IsApartFromEarlier, HasNoRootBehind, HasLawfulBuses, IsNotLone, IsInPlace, AreLeastEnds, least_of, EndsWithin};
+ghost use Rattle.pci_tree.specs.BusNumbers.{HasBusOrder, AreApart, AreSiblings, IsApartFrom, IsApartFromLower, IsApartFromEarlier, HasNoRootBehind, HasLawfulBuses, IsNotLone, IsInPlace, AreLeastEnds, least_of, EndsWithin};
 ghost use Rattle.pci_tree.specs.PlaceFaults.{IsPlaceFault, IsSomePlaceFault};
 
-use super::bus::{lists, on_bus};
+use super::bus::{has_slot, on_bus};
 use super::fault::Fault;
 use super::record::{Bridge, Record};
 use super::roots::Roots;
@@ -52,8 +52,8 @@ fn is_apart_from_lower(part: &[Record], slot: Slot, bridge: &Bridge) -> bool
 }
 
 /// Whether two buses are the same, or both are roots.
-fn are_side_by_side(roots: &Roots, bus: u8, other: u8) -> bool
-    ensures { IsTrue result ↔ AreSideBySide (buses_of roots.now) bus other }
+fn are_siblings(roots: &Roots, bus: u8, other: u8) -> bool
+    ensures { IsTrue result ↔ AreSiblings (buses_of roots.now) bus other }
 {
     bus == other || (roots.has(bus) && roots.has(other))
 }
@@ -70,7 +70,7 @@ fn is_apart_from_earlier(records: &[Record], roots: &Roots, slot: Slot, bridge: 
         return is_apart_from_lower(on_bus(records, own), slot, bridge);
     }
     for bus in 0..256usize {
-        if are_side_by_side(roots, bus as u8, own) {
+        if are_siblings(roots, bus as u8, own) {
             let part = on_bus(records, bus as u8);
             if !is_apart_from_lower(part, slot, bridge) {
                 return false;
@@ -93,7 +93,7 @@ fn has_no_root_behind(roots: &Roots, bridge: &Bridge) -> bool
 }
 
 /// At each bus the least subordinate bus of the bridges that lead there.
-fn least_ends(records: &[Record]) -> [Option<u8>; 256]
+fn least_subordinates(records: &[Record]) -> [Option<u8>; 256]
     ensures { AreLeastEnds records.now result }
 {
     let mut table = [None; 256];
@@ -127,7 +127,7 @@ fn ends_within(end: Option<u8>, bridge: &Bridge) -> bool
 }
 
 /// Whether a bridge leads to a bus with this least subordinate bus.
-fn has_leader(end: Option<u8>) -> bool
+fn has_upstream_bridge(end: Option<u8>) -> bool
     ensures { result ≡ is_some end }
 {
     end.is_some()
@@ -170,7 +170,7 @@ fn is_not_lone(records: &[Record], slot: Slot) -> bool
     }
     match Slot::new(slot.bus(), slot.dev(), 0) {
         None => false,
-        Some(first) => lists(on_bus(records, slot.bus()), first),
+        Some(first) => has_slot(on_bus(records, slot.bus()), first),
     }
 }
 
@@ -191,7 +191,7 @@ fn place_fault(
     if !is_not_lone(records, slot) {
         return Some(Fault::LoneFunction(slot));
     }
-    if !roots.has(bus) && !has_leader(ends[bus as usize]) {
+    if !roots.has(bus) && !has_upstream_bridge(ends[bus as usize]) {
         return Some(Fault::Orphan(slot));
     }
     match &function.bridge {
@@ -212,7 +212,7 @@ pub fn first_place_fault(records: &[Record], roots: &Roots) -> Option<Fault>
     requires slots { All (λ r. IsSlot r.slot) records.now }
     ensures { MatchOption result (All (IsInPlace (buses_of roots.now) records.now) records.now) (IsSomePlaceFault (buses_of roots.now) records.now) }
 {
-    let ends = least_ends(records);
+    let ends = least_subordinates(records);
     for function in records {
         match place_fault(records, roots, &ends, function) {
             Some(fault) => return Some(fault),

@@ -18,15 +18,15 @@ ghost use Rattle.pci_tree.specs.Regions.{AreRegionsOf, IsLawful, regions_of, reg
 ghost use Rattle.pci_tree.specs.Ways.{is_bridging, slots_of};
 ghost use Rattle.pci_tree.specs.Outline.{RiseBySlot, IsOutline, IsPathTo, IsReachTo, IsBefore, AreSortedRegionsOf};
 
-use super::bus::{lists, on_bus};
+use super::bus::{has_slot, on_bus};
 use super::buses::first_place_fault;
 use super::fault::Fault;
+use super::path::{bridge_to_bus, path};
 use super::reach::{Reach, reaches};
 use super::record::Record;
 use super::region::{Region, add_regions};
 use super::roots::Roots;
 use super::space::Space;
-use super::way::{table, way};
 use arrayvec::ArrayVec;
 use pci_dump::memory::OutOfMemory;
 use pci_image::range::Range;
@@ -40,21 +40,21 @@ pub struct Outline<A: Allocator = Global> {
     records: Vec<Record, A>,
     roots: Roots,
     /// At each bus the place of the bridge that leads there.
-    table: [Option<usize>; 256],
+    bridge_to_bus: [Option<usize>; 256],
 }
 
 impl<A: Allocator> Model for Outline<A> {
     ghost use Rattle.std.specs.Prelude.{map};
     ghost use Rattle.pci_tree.specs.Values.{record_value};
     ghost use Rattle.pci_tree.specs.Roots.{buses_of};
-    ghost use Rattle.pci_tree.specs.Ways.{IsTable};
+    ghost use Rattle.pci_tree.specs.Ways.{IsBridgeToBus};
     ghost use Rattle.pci_tree.specs.Outline.{Tree, IsOutline};
 
     ghost Value = { Tree };
 
     ghost view = { λ o. record { roots = buses_of o.roots; records = map record_value o.records.items } };
 
-    ghost invariant = { λ o. IsOutline (buses_of o.roots) o.records.items × IsTable o.records.items o.table };
+    ghost invariant = { λ o. IsOutline (buses_of o.roots) o.records.items × IsBridgeToBus o.records.items o.bridge_to_bus };
 }
 
 impl<A: Allocator> Outline<A> {
@@ -64,11 +64,11 @@ impl<A: Allocator> Outline<A> {
         ensures roots { result.roots ≡ buses_of roots }
         ensures records { result.records ≡ map record_value records.items }
     {
-        let table = table(&records);
+        let bridge_to_bus = bridge_to_bus(&records);
         Outline {
             records,
             roots,
-            table,
+            bridge_to_bus,
         }
     }
 
@@ -134,10 +134,10 @@ impl<A: Allocator + Copy> Outline<A> {
     pub fn path(&self, slot: Slot) -> Option<ArrayVec<Slot, 255>>
         ensures { MatchOption result (Contains (map (λ r. r.slot) self.now.records) slot → ⊥) (λ v. (s : System) → HasRecords s self.now.records → IsPathTo self.now.roots s v.items slot.bus) }
     {
-        if !lists(&self.records, slot) {
+        if !has_slot(&self.records, slot) {
             return None;
         }
-        way(&self.records, &self.table, &self.roots, slot.bus())
+        path(&self.records, &self.bridge_to_bus, &self.roots, slot.bus())
     }
 
     /// For each bus the addresses of a space that get there from a root, `prefetch` saying that they are a prefetchable
@@ -151,7 +151,7 @@ impl<A: Allocator + Copy> Outline<A> {
         reaches(
             *self.records.allocator(),
             &self.records,
-            &self.table,
+            &self.bridge_to_bus,
             &self.roots,
             space,
             prefetch,

@@ -3,9 +3,9 @@ ghost use Rattle.std.specs.Prelude.{◌≡◌, ◌+◌, ◌≤◌, ◌↔◌, �
 ghost use Rattle.pci_spec.specs.Number.{has_bit};
 ghost use Rattle.pci_spec.specs.Header.{class_code, command};
 ghost use Rattle.pci_spec.specs.Capability.{body_length, IsChain};
-ghost use Rattle.pci_spec.specs.Fault.{IsAsleep};
+ghost use Rattle.pci_spec.specs.Fault.{IsNotInD0};
 ghost use Rattle.pci_tree.specs.Fault.{fault_of};
-ghost use Rattle.pci_tree.specs.Profile.{IsAnswering, IsPlainBridge, IsPlain, IsAsleepAt, IsHereIn, IsFirstOf};
+ghost use Rattle.pci_tree.specs.Profile.{IsAnswering, IsPlainBridge, IsPlain, IsNotInD0At, IsHereIn, IsFirstOf};
 
 use super::fault::Fault;
 use pci_dump::stray::stray_byte;
@@ -92,20 +92,20 @@ fn bridge_fault(slot: Slot, image: &Image, probe: &Image) -> Option<Fault>
 }
 
 /// Whether a capability is power management and shows another power state than D0.
-fn is_asleep_at(image: &Image, place: u8) -> bool
+fn is_not_in_d0_at(image: &Image, place: u8) -> bool
     requires { place + body_length image.now.0 place ≤ 256 }
-    ensures { IsTrue result ↔ IsAsleepAt image.now.0 place }
+    ensures { IsTrue result ↔ IsNotInD0At image.now.0 place }
 {
     image.u8(place) == POWER_MANAGEMENT && image.u8(place + POWER_CONTROL) % 4 != 0
 }
 
 /// Whether one of the capabilities of a function shows another power state than D0.
-fn is_asleep(image: &Image, places: &[u8]) -> bool
+fn is_not_in_d0(image: &Image, places: &[u8]) -> bool
     requires { IsChain image.now.0 places.now }
-    ensures { IsTrue result ↔ IsAsleep image.now.0 }
+    ensures { IsTrue result ↔ IsNotInD0 image.now.0 }
 {
     for &place in places {
-        if is_asleep_at(image, place) {
+        if is_not_in_d0_at(image, place) {
             return true;
         }
     }
@@ -127,7 +127,7 @@ pub fn profile_fault(slot: Slot, image: &Image, probe: &Image, places: &[u8]) ->
         Some(fault) => return Some(fault),
         None => {}
     }
-    if is_asleep(image, places) {
+    if is_not_in_d0(image, places) {
         return Some(Fault::PowerState(slot));
     }
     None

@@ -1,16 +1,9 @@
 //! Inclusive ranges of addresses, and lists of them that rise with a gap between two.
-ghost use Rattle.std.specs.Prelude.{◌<◌, ◌≤◌, ◌↔◌, ℕ, length, IsTrue, MatchOption};
+ghost use Rattle.std.specs.Prelude.{◌<◌, ◌≤◌, ◌↔◌, ℕ, length, MatchOption};
 ghost use Rattle.std.specs.List.{AllWithin};
 ghost use Rattle.pci_tree.specs.Ranges.{Holds, Covers, IsCanonical, IsLeastOutside, IsLeastFrom};
 
 use pci_image::range::Range;
-
-/// Whether the range has the address.
-pub fn contains(r: Range, a: u64) -> bool
-    ensures { IsTrue result ↔ Holds r a }
-{
-    r.first <= a && a <= r.last
-}
 
 /// The addresses that two ranges have in common.
 pub fn meet(r: Range, s: Range) -> Option<Range>

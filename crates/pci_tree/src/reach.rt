@@ -6,14 +6,14 @@ ghost use Rattle.pci_image.specs.declared.range.Range.{Range};
 ghost use Rattle.pci_tree.specs.Space.{space_of};
 ghost use Rattle.pci_tree.specs.Ranges.{IsCanonical};
 ghost use Rattle.pci_tree.specs.Roots.{buses_of};
-ghost use Rattle.pci_tree.specs.Ways.{IsForest, IsTable};
+ghost use Rattle.pci_tree.specs.Ways.{IsForest, IsBridgeToBus};
 ghost use Rattle.pci_tree.specs.Reaches.{IsReachOf, IsStep, IsWhole, HasSpans, StandsBelow};
 
-use super::passed::passed_on;
+use super::forwarded::passed_on;
 use super::record::Record;
 use super::roots::Roots;
 use super::space::Space;
-use super::window::passed;
+use super::window::forwarded;
 use pci_dump::memory::OutOfMemory;
 use pci_image::range::Range;
 use std::alloc::{Allocator, Global};
@@ -61,7 +61,7 @@ fn all_of<A: Allocator>(alloc: A, space: Space) -> Result<Vec<Range, A>, OutOfMe
 }
 
 /// The addresses that get to a bus, from those of the lower buses and the place of the bridge that leads there.
-fn next<A: Allocator>(
+fn reach_of_bus<A: Allocator>(
     alloc: A,
     above: &[Reach<A>],
     records: &[Record],
@@ -83,7 +83,7 @@ fn next<A: Allocator>(
         Some(place) => {
             let bridge = &records[place];
             let parent = &above[bridge.slot.bus() as usize];
-            passed_on(alloc, parent.ranges(), passed(bridge, space, prefetch))
+            passed_on(alloc, parent.ranges(), forwarded(bridge, space, prefetch))
         }
     }
 }
@@ -93,24 +93,24 @@ fn next<A: Allocator>(
 pub fn reaches<A: Allocator + Copy>(
     alloc: A,
     records: &[Record],
-    table: &[Option<usize>; 256],
+    bridge_to_bus: &[Option<usize>; 256],
     roots: &Roots,
     space: Space,
     prefetch: bool,
 ) -> Result<Vec<Reach<A>, A>, OutOfMemory>
     requires forest { IsForest records.now }
-    requires table { IsTable records.now table.now }
+    requires bridge_to_bus { IsBridgeToBus records.now bridge_to_bus.now }
     requires spans { All HasSpans records.now }
     ensures size { IfOk result (λ v. length v.items ≡ 256) }
     ensures exact { IfOk result (λ v. (bus : ℕ) (d : List Range) → bus < 256 → IsReachOf records.now (buses_of roots.now) (space_of space) prefetch bus (slice_index_or v.items bus d)) }
 {
     let mut out = Vec::new(alloc);
     for bus in 0..256usize {
-        let ranges = next(
+        let ranges = reach_of_bus(
             alloc,
             &out,
             records,
-            table[bus],
+            bridge_to_bus[bus],
             space,
             prefetch,
             roots.has(bus as u8),

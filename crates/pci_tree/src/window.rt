@@ -7,7 +7,7 @@ ghost use Rattle.pci_tree.specs.Values.{bridge_value, record_value};
 ghost use Rattle.pci_tree.specs.Passing.{Passes, IsPassed};
 ghost use Rattle.pci_tree.specs.Passes.{range_in, windows_pass, record_passes, HaveSpans};
 
-use super::passed::{Passed, union};
+use super::forwarded::{Forwarded, union};
 use super::record::{Bridge, Record};
 use super::space::Space;
 use pci_image::range::Range;
@@ -24,7 +24,7 @@ pub(crate) fn range_of(window: Option<Window>) -> Option<Range>
 }
 
 /// What a bridge passes of a region, by its windows: the prefetchable one serves prefetchable BARs alone.
-fn windows_passed(bridge: Bridge, space: Space, prefetch: bool) -> Passed
+fn windows_passed(bridge: Bridge, space: Space, prefetch: bool) -> Forwarded
     requires { HaveSpans (bridge_value bridge).windows }
     ensures lawful { IsPassed result }
     ensures exact { (a : ℕ) → Passes result a ↔ IsTrue (windows_pass (space_of space) prefetch a (bridge_value bridge).windows) }
@@ -44,16 +44,16 @@ fn windows_passed(bridge: Bridge, space: Space, prefetch: bool) -> Passed
 
 /// The addresses that a bridge passes of a region, `prefetch` saying that the region is a prefetchable BAR.
 /// A function that is no bridge passes none.
-pub fn passed(function: &Record, space: Space, prefetch: bool) -> Passed
+pub fn forwarded(function: &Record, space: Space, prefetch: bool) -> Forwarded
     requires { IfSome function.now.bridge (λ b. HaveSpans (bridge_value b).windows) }
     ensures lawful { IsPassed result }
     ensures exact { (a : ℕ) → Passes result a ↔ IsTrue (record_passes (space_of space) prefetch a (record_value function.now)) }
 {
     if !space.is_on(function.command) {
-        return Passed::Nothing;
+        return Forwarded::Nothing;
     }
     match function.bridge {
-        None => Passed::Nothing,
+        None => Forwarded::Nothing,
         Some(bridge) => windows_passed(bridge, space, prefetch),
     }
 }

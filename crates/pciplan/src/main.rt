@@ -1,7 +1,7 @@
 //! The program: `pciplan show|check|size|plan DUMP PROBE`.
 #![tactic(auto)]
 
-use pci_dump::std_ends::Outgoing;
+use pci_dump::std_streams::Outgoing;
 use pciplan_cli::opened::FileText;
 use pciplan_cli::program::{program, words_of};
 use std::process::ExitCode;

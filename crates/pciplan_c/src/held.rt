@@ -1,8 +1,8 @@
 //! Texts that lie in memory: one that is read, and one that grows.
 ghost use Rattle.std.specs.Prelude.{◌≡◌, ◌≤◌, ◌<◌, ◌+◌, ℕ, List, [], length, Option, Some, IfOk, MatchResult};
 
-use pci_dump::ends::{Failed, Sink, Source};
 use pci_dump::failures::Failures;
+use pci_dump::streams::{Failed, Sink, Source};
 use std::alloc::Allocator;
 
 /// What is left of some bytes. No read of it fails.

@@ -1,8 +1,8 @@
 //! Texts that are opened by their paths.
 ghost use Rattle.std.specs.Prelude.{◌≡◌, ◌≤◌, ◌+◌, ℕ, List, length, Option, None, IfOk, OnOk, MatchResult};
 
-use pci_dump::ends::{Failed, Source};
 use pci_dump::failures::Failures;
+use pci_dump::streams::{Failed, Source};
 use std::fs;
 use std::io::Read;
 use std::rt::Files;

@@ -11,9 +11,9 @@ ghost use Rattle.pciplan_cli.specs.Statuses.{status_of};
 
 use crate::trouble::Trouble;
 use pci_dump::dump::Dump;
-use pci_dump::ends::{Sink, Source};
 use pci_dump::memory::Refused;
 use pci_dump::reader::read_dump;
+use pci_dump::streams::{Sink, Source};
 use pci_dump::write::{write_all, write_dump};
 use pci_probe::assumed::AssumedRegister;
 use pci_probe::probe::probe_of;

@@ -2,8 +2,8 @@
 ghost use Rattle.std.specs.Prelude.{◌≡◌};
 ghost use Rattle.pciplan_cli.specs.Statuses.{status_of};
 
-use pci_dump::ends::Sink;
 use pci_dump::read_fault::ReadFault;
+use pci_dump::streams::Sink;
 use pci_dump::write::write_all;
 use std::fmt::{self, Write};
 

@@ -14,7 +14,7 @@ use crate::asked::{Asked, PlanWords, task_of};
 use crate::line::Line;
 use crate::trouble::{Trouble, tell};
 use clap::{Arg, ArgAction, ArgMatches, Command};
-use pci_dump::ends::Sink;
+use pci_dump::streams::Sink;
 use std::alloc::{AllocError, Global};
 
 /// The names of the two texts among the words.

@@ -1,6 +1,6 @@
 //! Boards that are built register by register, with the pools to plan them in.
 use boards::board::{Function, Texts, bridge, device, texts_of};
-use pci_dump::std_ends::Outgoing;
+use pci_dump::std_streams::Outgoing;
 use pci_plan::pools::Pools;
 use pci_tree::roots::Roots;
 use pciplan_cli::line::Task;

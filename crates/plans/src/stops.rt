@@ -6,7 +6,7 @@ use pci_check::verdict::Verdict;
 use pci_dump::block::Block;
 use pci_dump::dump::Dump;
 use pci_dump::reader::read_dump;
-use pci_dump::std_ends::Incoming;
+use pci_dump::std_streams::Incoming;
 use pci_machine::machine::Machine;
 use pci_machine::port::ConfigPort;
 use pci_plan::plan::Plan;

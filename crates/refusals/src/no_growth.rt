@@ -9,7 +9,7 @@ use pci_dump::dump::Dump;
 use pci_dump::memory::Refused;
 use pci_dump::pair::pair;
 use pci_dump::reader::Reader;
-use pci_dump::std_ends::{Incoming, Outgoing};
+use pci_dump::std_streams::{Incoming, Outgoing};
 use pci_dump::write::write_dump;
 use pci_image::range::Range;
 use pci_machine::machine::Machine;

@@ -3,9 +3,9 @@ ghost use Rattle.std.specs.Prelude.{ℕ, List, None};
 
 use boards::example::{DUMP, LISTING, PROBE};
 use boards::program::Answer;
-use pci_dump::ends::{Failed, Source};
 use pci_dump::failures::Failures;
-use pci_dump::std_ends::Outgoing;
+use pci_dump::std_streams::Outgoing;
+use pci_dump::streams::{Failed, Source};
 use pciplan_cli::opened::Opening;
 use pciplan_cli::program::program;
 use std::alloc::AllocError;

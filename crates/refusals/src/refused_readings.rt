@@ -6,7 +6,7 @@ use pci_dump::block::Block;
 use pci_dump::dump::Dump;
 use pci_dump::memory::{OutOfMemory, Refused};
 use pci_dump::reader::read_dump;
-use pci_dump::std_ends::Incoming;
+use pci_dump::std_streams::Incoming;
 use pci_machine::machine::Machine;
 use pci_tree::admit::admit;
 use pci_tree::survey::Survey;

@@ -4,7 +4,7 @@ use crate::refusing::Refusing;
 use boards::board::Texts;
 use boards::program::{line_of, run_task};
 use boards::samples::samples;
-use pci_dump::std_ends::{Incoming, Outgoing};
+use pci_dump::std_streams::{Incoming, Outgoing};
 use pci_tree::roots::Roots;
 use pciplan_cli::line::Task;
 use pciplan_cli::run::run;

@@ -10,7 +10,7 @@ use pci_check::line::line_of;
 use pci_check::outcome::AuditFault;
 use pci_check::verdict::Verdict;
 use pci_dump::memory::OutOfMemory;
-use pci_dump::std_ends::{Incoming, Outgoing};
+use pci_dump::std_streams::{Incoming, Outgoing};
 use pci_dump::write::write_dump;
 use pci_tree::admit::admit;
 use pci_tree::admitted::Admitted;

@@ -1,8 +1,8 @@
 //! Sources and writers over memory.
 ghost use Rattle.std.specs.Prelude.{◌≡◌, ◌≤◌, Some, None};
 
-use pci_dump::ends::{Failed, Source};
 use pci_dump::failures::Failures;
+use pci_dump::streams::{Failed, Source};
 use std::io;
 use std::io::{ErrorKind, Write};
 

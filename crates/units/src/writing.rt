@@ -5,7 +5,7 @@ use pci_dump::dump::{Dump, PushFault};
 use pci_dump::memory::Refused;
 use pci_dump::read_fault::{ReadFault, WriteFault};
 use pci_dump::reader::read_dump;
-use pci_dump::std_ends::{Incoming, Outgoing};
+use pci_dump::std_streams::{Incoming, Outgoing};
 use pci_dump::write::write_dump;
 use pci_image::image::Image;
 use pci_image::slot::Slot;

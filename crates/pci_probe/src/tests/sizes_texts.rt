@@ -2,10 +2,10 @@ ghost use Rattle.std.specs.Prelude.{Some};
 
 use crate::line::ResourceLine;
 use crate::sizes_reader::read_sizes;
-use pci_dump::ends::{Failed, Source};
 use pci_dump::failures::Failures;
 use pci_dump::read_fault::ReadFault;
-use pci_dump::std_ends::Incoming;
+use pci_dump::std_streams::Incoming;
+use pci_dump::streams::{Failed, Source};
 use pci_image::slot::Slot;
 use std::test::Fail;
 

@@ -5,7 +5,7 @@ use Rattle.std.specs.List.{range_with_len}
 use Rattle.std.proofs.lemmas.Bool.{cond-true, eq-eqb, cond-false, ne_eqb, eqb-true}
 use Rattle.pci_spec.specs.Number.{each_from}
 use Rattle.pci_spec.specs.Capability.{pointer, pointer_at, body_length, msi_length, power_state, ComesTo, ComesTwiceTo, HasChain, HasLowPlace, HasCutBody}
-use Rattle.pci_spec.specs.Fault.{IsAsleep}
+use Rattle.pci_spec.specs.Fault.{IsNotInD0}
 use Rattle.pci_spec.proofs.Bits.{each_from-at}
 use Rattle.pci_spec.proofs.Examples.Samples.{put_bytes, blank}
 
@@ -59,7 +59,7 @@ other_bits_of_message_control_add_nothing = refl
 power_state_is_in_bits_1_and_0 : power_state (with_list ((0x40, 1) ∷ (0x42, 0x03) ∷ (0x43, 0xce) ∷ (0x44, 0x03) ∷ (0x45, 0x81) ∷ [])) 0x40 ∷ power_state (with_list ((0x40, 1) ∷ (0x44, 0xfc) ∷ (0x45, 0xff) ∷ [])) 0x40 ∷ [] ≡ 3 ∷ 0 ∷ []
 power_state_is_in_bits_1_and_0 = refl
 
-second_power_management_asleep : IsAsleep (with_list ((0x34, 0x40) ∷ (0x40, 1) ∷ (0x41, 0x48) ∷ (0x48, 1) ∷ (0x4c, 1) ∷ []))
+second_power_management_asleep : IsNotInD0 (with_list ((0x34, 0x40) ∷ (0x40, 1) ∷ (0x41, 0x48) ∷ (0x48, 1) ∷ (0x4c, 1) ∷ []))
 second_power_management_asleep = (0x48, (1, refl, λ e. omega (arith, e)), refl, λ e. let no : 1 ≡ 0 = e in omega (arith, no))
 
 -- ---- lists

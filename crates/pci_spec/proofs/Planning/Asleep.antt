@@ -4,7 +4,7 @@ use Rattle.std.specs.Bool.{◌==◌, if◌then◌else◌}
 use Rattle.std.proofs.lemmas.Bool.{cases_lt}
 use Rattle.pci_spec.specs.Number.{byte_at, IsImage}
 use Rattle.pci_spec.specs.Capability.{pointer, pointer_at, HasChain, body_length, msi_length, message_control, power_state}
-use Rattle.pci_spec.specs.Fault.{IsAsleep}
+use Rattle.pci_spec.specs.Fault.{IsNotInD0}
 use Rattle.pci_spec.specs.System.{Function}
 use Rattle.pci_spec.specs.Plan.{IsMoved}
 use Rattle.pci_spec.proofs.Planning.Moved.{rest_same, pointer_same}
@@ -17,7 +17,7 @@ stays_ended image m e (suc n) past = elim (cases_lt n m) [
   | inr more ↦ ap (λ p. if p == 0 then 0 else pointer_at image (p + 1)) (stays_ended image m e n more)
 ]
 
-pub asleep_before : (f g : Function) → IsMoved f g → IsImage f.image → HasChain f.image → IsAsleep g.image → IsAsleep f.image
+pub asleep_before : (f g : Function) → IsMoved f g → IsImage f.image → HasChain f.image → IsNotInD0 g.image → IsNotInD0 f.image
 asleep_before f g m is (places, chain) (place, (n, at, some), id, state) =
     let count = length places in
     let ended : pointer g.image count ≡ 0 = pointer_same f g m is places chain count (omega arith) ∙ chain.end in

@@ -6,7 +6,7 @@ use Rattle.std.proofs.lemmas.Bool.{and_parts, and_from, eqb-true, eq-eqb}
 use Rattle.std.proofs.lemmas.List.Elements.{Contains-append_cases, Contains-append_left, Contains-append_right}
 use Rattle.std.proofs.lemmas.List.Sorted.{IsPermutation-sym, Contains-permutation}
 use Rattle.pci_spec.specs.System.{System, Function, IsSystem, is_bridge}
-use Rattle.pci_spec.specs.Bus.{secondary, is_root, are_side_by_side, IsNested}
+use Rattle.pci_spec.specs.Bus.{secondary, is_root, are_siblings, IsNested}
 use Rattle.pci_spec.specs.Plan.{Pools, Class, pool_of, sizes_in, window_size, limited, items_on, greatest, greatest_of_roots, raised_to}
 use Rattle.pci_spec.specs.Place.{Item, own_items, items_beside, start_of}
 use Rattle.pci_spec.specs.Planning.Room.{root_items}
@@ -111,10 +111,10 @@ module _ (roots : List ℕ) (s : System) (pools : Pools) (c : Class) (system : I
   pub on_roots_to : (bus n : ℕ) → is_root roots bus ≡ true → Contains (item_sizes (items_beside roots s pools c bus)) n → Contains (root_items roots s pools c) n
   on_roots_to bus n root listed =
       let made : IsMade (λ (i : Item). i.size) (items_beside roots s pools c bus) n = in_map_to (λ (i : Item). i.size) (items_beside roots s pools c bus) n listed in
-      let piece : IsInPiece (λ f. if are_side_by_side roots bus f.slot.bus then own_items s pools c f else []) s made.from =
-      in_flat_map_to (λ f. if are_side_by_side roots bus f.slot.bus then own_items s pools c f else []) s made.from made.has in
+      let piece : IsInPiece (λ f. if are_siblings roots bus f.slot.bus then own_items s pools c f else []) s made.from =
+      in_flat_map_to (λ f. if are_siblings roots bus f.slot.bus then own_items s pools c f else []) s made.from made.has in
       let f = piece.of in
-      let has = in_cond (are_side_by_side roots bus f.slot.bus) (own_items s pools c f) made.from piece.piece in
+      let has = in_cond (are_siblings roots bus f.slot.bus) (own_items s pools c f) made.from piece.piece in
       let own : Contains (item_sizes (own_items s pools c f)) n = subst (Contains (item_sizes (own_items s pools c f))) made.is (in_map_from (λ (i : Item). i.size) (own_items s pools c f) made.from has.1) in
       let sizes = sizes_in s pools c f ++ window_sizes s pools c f in
       let size = Contains-permutation (item_sizes (own_items s pools c f)) sizes n (IsPermutation-sym sizes (item_sizes (own_items s pools c f)) (own_permutes s pools c roots system nested f piece.has)) own in
@@ -128,10 +128,10 @@ module _ (roots : List ℕ) (s : System) (pools : Pools) (c : Class) (system : I
       let sizes = sizes_in s pools c f ++ window_sizes s pools c f in
       let own = Contains-permutation sizes (item_sizes (own_items s pools c f)) n (own_permutes s pools c roots system nested f on.listed) on.size in
       let made : IsMade (λ (i : Item). i.size) (own_items s pools c f) n = in_map_to (λ (i : Item). i.size) (own_items s pools c f) n own in
-      let beside : are_side_by_side roots bus f.slot.bus ≡ true = beside_root roots bus f.slot.bus root ∙ (root_means roots f.slot.bus).1 (subst (Contains roots) (sym on.at) piece.has) in
+      let beside : are_siblings roots bus f.slot.bus ≡ true = beside_root roots bus f.slot.bus root ∙ (root_means roots f.slot.bus).1 (subst (Contains roots) (sym on.at) piece.has) in
       subst (Contains (item_sizes (items_beside roots s pools c bus))) made.is
       (in_map_from (λ (i : Item). i.size) (items_beside roots s pools c bus) made.from
-      (in_flat_map_from (λ g. if are_side_by_side roots bus g.slot.bus then own_items s pools c g else []) s f made.from on.listed
+      (in_flat_map_from (λ g. if are_siblings roots bus g.slot.bus then own_items s pools c g else []) s f made.from on.listed
       (subst (λ t. Contains (cond t (own_items s pools c f) []) made.from) (sym beside) made.has)))
 
   pub greatest_on_roots : (bus : ℕ) → is_root roots bus ≡ true → greatest (item_sizes (items_beside roots s pools c bus)) ≡ greatest_of_roots roots s pools c

@@ -12,7 +12,7 @@ use Rattle.pci_spec.specs.Rom.{rom_at}
 use Rattle.pci_spec.specs.Decoded.{has_bar}
 use Rattle.pci_spec.specs.Window.{WindowKind, IoWindow, MemoryWindow, PrefetchWindow}
 use Rattle.pci_spec.specs.System.{System, Function, IsSystem, Part, Bar, Rom, Window, is_bridge}
-use Rattle.pci_spec.specs.Bus.{is_root, are_side_by_side, IsNested}
+use Rattle.pci_spec.specs.Bus.{is_root, are_siblings, IsNested}
 use Rattle.pci_spec.specs.Plan.{Pools, Class, IoClass, MemoryClass, PrefetchClass, class_of, window_class, window_of, same_class, window_size, limited}
 use Rattle.pci_spec.specs.Place.{Item, window_item, own_items, items_beside, place_from, start_of, place_of}
 use Rattle.pci_spec.specs.Planning.Placing.{IsPower, IsFalling, starts}
@@ -119,31 +119,31 @@ module _ (roots : List ℕ) (s : System) (pools : Pools) (c : Class) (system : I
 
   pub record IsBeside (bus : ℕ) (i : Item) : Type 0 where
     pub listed : Contains s i.function
-    pub beside : are_side_by_side roots bus i.function.slot.bus ≡ true
+    pub beside : are_siblings roots bus i.function.slot.bus ≡ true
     pub part : IsOfPart s pools c i
 
   beside_to : (bus : ℕ) (i : Item) → Contains (items_beside roots s pools c bus) i → IsBeside bus i
   beside_to bus i has =
-      let piece : IsInPiece (λ f. if are_side_by_side roots bus f.slot.bus then own_items s pools c f else []) s i =
-      in_flat_map_to (λ f. if are_side_by_side roots bus f.slot.bus then own_items s pools c f else []) s i has in
+      let piece : IsInPiece (λ f. if are_siblings roots bus f.slot.bus then own_items s pools c f else []) s i =
+      in_flat_map_to (λ f. if are_siblings roots bus f.slot.bus then own_items s pools c f else []) s i has in
       let f = piece.of in
-      let on = in_cond (are_side_by_side roots bus f.slot.bus) (own_items s pools c f) i piece.piece in
+      let on = in_cond (are_siblings roots bus f.slot.bus) (own_items s pools c f) i piece.piece in
       let same = sym (own_function s pools c f i on.1) in
       record {
         listed = subst (Contains s) same piece.has;
-        beside = subst (λ (g : Function). are_side_by_side roots bus g.slot.bus ≡ true) same on.0;
+        beside = subst (λ (g : Function). are_siblings roots bus g.slot.bus ≡ true) same on.0;
         part = own_part f i piece.has on.1;
       }
 
-  beside_from : (bus : ℕ) (f : Function) (i : Item) → Contains s f → are_side_by_side roots bus f.slot.bus ≡ true → Contains (own_items s pools c f) i → Contains (items_beside roots s pools c bus) i
+  beside_from : (bus : ℕ) (f : Function) (i : Item) → Contains s f → are_siblings roots bus f.slot.bus ≡ true → Contains (own_items s pools c f) i → Contains (items_beside roots s pools c bus) i
   beside_from bus f i listed beside own =
-      in_flat_map_from (λ g. if are_side_by_side roots bus g.slot.bus then own_items s pools c g else []) s f i listed
-      (in_cond_from (are_side_by_side roots bus f.slot.bus) (own_items s pools c f) i beside own)
+      in_flat_map_from (λ g. if are_siblings roots bus g.slot.bus then own_items s pools c g else []) s f i listed
+      (in_cond_from (are_siblings roots bus f.slot.bus) (own_items s pools c f) i beside own)
 
   beside_order : (bus : ℕ) → AllPairs StandsBefore (items_beside roots s pools c bus)
   beside_order bus =
       subst (AllPairs StandsBefore) (sym (beside_filter roots s pools c bus))
-      (pairs_filter StandsBefore (λ i. are_side_by_side roots bus i.function.slot.bus) (all_items s pools c) (all_order s pools c system))
+      (pairs_filter StandsBefore (λ i. are_siblings roots bus i.function.slot.bus) (all_items s pools c) (all_order s pools c system))
 
   abbrev pub sorted_on : ℕ → List Item
   sorted_on bus = ordered (items_beside roots s pools c bus)
@@ -152,13 +152,13 @@ module _ (roots : List ℕ) (s : System) (pools : Pools) (c : Class) (system : I
   sorted_to bus i has =
       beside_to bus i (Contains-permutation (sorted_on bus) (items_beside roots s pools c bus) i (IsPermutation-sym (items_beside roots s pools c bus) (sorted_on bus) (ordered_permutes (items_beside roots s pools c bus))) has)
 
-  pub sorted_from : (bus : ℕ) (f : Function) (p : Part) → Contains s f → are_side_by_side roots bus f.slot.bus ≡ true → is_placed s pools c f p ≡ true → Contains (sorted_on bus) (item_of s pools f p)
+  pub sorted_from : (bus : ℕ) (f : Function) (p : Part) → Contains s f → are_siblings roots bus f.slot.bus ≡ true → is_placed s pools c f p ≡ true → Contains (sorted_on bus) (item_of s pools f p)
   sorted_from bus f p listed beside placed =
       Contains-permutation (items_beside roots s pools c bus) (sorted_on bus) (item_of s pools f p) (ordered_permutes (items_beside roots s pools c bus))
       (beside_from bus f (item_of s pools f p) listed beside (part_owned f p listed placed))
 
   -- one bus, or roots
-  same_places : (bus other : ℕ) → are_side_by_side roots bus other ≡ true
+  same_places : (bus other : ℕ) → are_siblings roots bus other ≡ true
       → (start_of roots s pools c other ≡ start_of roots s pools c bus) × (items_beside roots s pools c other ≡ items_beside roots s pools c bus)
   same_places bus other beside = elim (or_cases (bus == other) (is_root roots bus && is_root roots other) beside) [
     | inl one ↦ (let e = sym (eqb-true bus other one) in (ap (start_of roots s pools c) e, ap (items_beside roots s pools c) e))

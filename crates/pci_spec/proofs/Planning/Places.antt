@@ -9,7 +9,7 @@ use Rattle.std.proofs.lemmas.List.Elements.{filter_agree, filter-append, Contain
 use Rattle.std.proofs.lemmas.List.Sums.{sum_by-cons, sum_by_more, sum-map}
 use Rattle.std.proofs.lemmas.List.Sorted.{sum_by-IsPermutation, IsPermutation-sym, Contains-permutation}
 use Rattle.pci_spec.specs.System.{System, Function}
-use Rattle.pci_spec.specs.Bus.{is_root, are_side_by_side, IsNested}
+use Rattle.pci_spec.specs.Bus.{is_root, are_siblings, IsNested}
 use Rattle.pci_spec.specs.Plan.{Pools, Class, pool_of, greatest, raised_to}
 use Rattle.pci_spec.specs.Place.{Item, own_items, items_beside, comes_before, place_from, start_of, place_of}
 use Rattle.pci_spec.specs.Planning.Sorted.{all_items, group_of, item_group, Precedes, IsInOrder, group_sum}
@@ -47,10 +47,10 @@ filter_pieces test p f (x ∷ xs) same =
     ∙ sym (filter-append p (f x) (flat_map f xs))
 
 pub beside_filter : (roots : List ℕ) (s : System) (pools : Pools) (c : Class) (bus : ℕ)
-    → items_beside roots s pools c bus ≡ filter (λ i. are_side_by_side roots bus i.function.slot.bus) (all_items s pools c)
+    → items_beside roots s pools c bus ≡ filter (λ i. are_siblings roots bus i.function.slot.bus) (all_items s pools c)
 beside_filter roots s pools c bus =
-    filter_pieces (λ f. are_side_by_side roots bus f.slot.bus) (λ i. are_side_by_side roots bus i.function.slot.bus) (own_items s pools c) s
-    (λ f i listed. ap (λ (g : Function). are_side_by_side roots bus g.slot.bus) (own_function s pools c f i listed))
+    filter_pieces (λ f. are_siblings roots bus f.slot.bus) (λ i. are_siblings roots bus i.function.slot.bus) (own_items s pools c) s
+    (λ f i listed. ap (λ (g : Function). are_siblings roots bus g.slot.bus) (own_function s pools c f i listed))
 
 -- ---- groups
 
@@ -79,14 +79,14 @@ root_test a b true false same root = or_false (a == b) ∙ ne_eqb a b (λ e. bot
 root_test a b false root_b same root = absurd (both_ways false refl root)
 
 -- what is beside a root is what is on one
-pub beside_root : (roots : List ℕ) (bus other : ℕ) → is_root roots bus ≡ true → are_side_by_side roots bus other ≡ is_root roots other
+pub beside_root : (roots : List ℕ) (bus other : ℕ) → is_root roots bus ≡ true → are_siblings roots bus other ≡ is_root roots other
 beside_root roots bus other root = root_test bus other (is_root roots bus) (is_root roots other) (λ e. ap (is_root roots) e) root
 
 pub items_on_roots : (roots : List ℕ) (s : System) (pools : Pools) (c : Class) (bus : ℕ) → is_root roots bus ≡ true
     → items_beside roots s pools c bus ≡ filter (λ i. is_root roots i.function.slot.bus) (all_items s pools c)
 items_on_roots roots s pools c bus root =
     beside_filter roots s pools c bus
-    ∙ filter_agree (λ i. are_side_by_side roots bus i.function.slot.bus) (λ i. is_root roots i.function.slot.bus) (λ i. beside_root roots bus i.function.slot.bus root) (all_items s pools c)
+    ∙ filter_agree (λ i. are_siblings roots bus i.function.slot.bus) (λ i. is_root roots i.function.slot.bus) (λ i. beside_root roots bus i.function.slot.bus root) (all_items s pools c)
 
 -- all roots start at one place, and have the same items
 pub same_on_roots : (roots : List ℕ) (s : System) (pools : Pools) (c : Class) (a b : ℕ) → is_root roots a ≡ true → is_root roots b ≡ true
@@ -124,7 +124,7 @@ module _ (roots : List ℕ) (s : System) (nested : IsNested roots s) where
       omega (arith, up, to)
 
   -- two functions are side by side where their buses are of one group
-  pub group_test : (f g : Function) → Contains s f → Contains s g → are_side_by_side roots f.slot.bus g.slot.bus ≡ (group_of roots f.slot.bus == group_of roots g.slot.bus)
+  pub group_test : (f g : Function) → Contains s f → Contains s g → are_siblings roots f.slot.bus g.slot.bus ≡ (group_of roots f.slot.bus == group_of roots g.slot.bus)
   group_test f g in_f in_g =
       beside_test f.slot.bus g.slot.bus (is_root roots f.slot.bus) (is_root roots g.slot.bus) (λ e. ap (is_root roots) e) (above_zero f in_f) (above_zero g in_g)
 
@@ -147,14 +147,14 @@ module _ (roots : List ℕ) (s : System) (nested : IsNested roots s) where
 
     -- what an item has before it: nothing but items of its group that come before it
     abbrev term : Item → Item → ℕ
-    term x i = cond (are_side_by_side roots x.function.slot.bus i.function.slot.bus) (cond (comes_before i x) i.size 0) 0
+    term x i = cond (are_siblings roots x.function.slot.bus i.function.slot.bus) (cond (comes_before i x) i.size 0) 0
 
     abbrev group_term : Item → Item → ℕ
     group_term x i = if item_group roots i == item_group roots x then i.size else 0
 
     place_terms : (start : ℕ) (x : Item) → place_from start (items_beside roots s pools c x.function.slot.bus) x ≡ start + sum_by (term x) sorted
     place_terms start x =
-        let beside : Item → Bool = λ i. are_side_by_side roots x.function.slot.bus i.function.slot.bus in
+        let beside : Item → Bool = λ i. are_siblings roots x.function.slot.bus i.function.slot.bus in
         let before : Item → ℕ = λ i. cond (comes_before i x) i.size 0 in
         let e = ap (λ items. sum (map (λ (i : Item). i.size) (filter (λ i. comes_before i x) items))) (beside_filter roots s pools c x.function.slot.bus) in
         let a = sum-map (λ (i : Item). i.size) (filter (λ i. comes_before i x) (filter beside (all_items s pools c))) in
@@ -163,15 +163,15 @@ module _ (roots : List ℕ) (s : System) (nested : IsNested roots s) where
         let g : sum_by (term x) sorted ≡ sum_by (term x) (all_items s pools c) = sum_by-IsPermutation (term x) (all_items s pools c) sorted same in
         omega (arith, e, a, b, f, g)
 
-    not_beside : (x i : Item) → are_side_by_side roots x.function.slot.bus i.function.slot.bus ≡ false → term x i ≡ 0
+    not_beside : (x i : Item) → are_siblings roots x.function.slot.bus i.function.slot.bus ≡ false → term x i ≡ 0
     not_beside x i other = ap (λ b. cond b (cond (comes_before i x) i.size 0) 0) other
 
     not_before : (x i : Item) → comes_before i x ≡ false → term x i ≡ 0
     not_before x i other =
-        ap (λ b. cond (are_side_by_side roots x.function.slot.bus i.function.slot.bus) (cond b i.size 0) 0) other
-        ∙ cond_zero (are_side_by_side roots x.function.slot.bus i.function.slot.bus)
+        ap (λ b. cond (are_siblings roots x.function.slot.bus i.function.slot.bus) (cond b i.size 0) 0) other
+        ∙ cond_zero (are_siblings roots x.function.slot.bus i.function.slot.bus)
 
-    other_group : (x i : Item) → Contains s x.function → Contains s i.function → (item_group roots x ≡ item_group roots i → ⊥) → are_side_by_side roots x.function.slot.bus i.function.slot.bus ≡ false
+    other_group : (x i : Item) → Contains s x.function → Contains s i.function → (item_group roots x ≡ item_group roots i → ⊥) → are_siblings roots x.function.slot.bus i.function.slot.bus ≡ false
     other_group x i in_x in_i other = group_test x.function i.function in_x in_i ∙ ne_eqb (item_group roots x) (item_group roots i) other
 
     preceding_term : (x i : Item) → Contains s x.function → Contains s i.function → Precedes roots i x → term x i ≡ group_term x i

@@ -8,7 +8,7 @@ use Rattle.std.proofs.lemmas.List.{get_or-map, length-map}
 use Rattle.std.proofs.lemmas.List.Elements.{Contains-get_or}
 use Rattle.std.proofs.lemmas.List.Sorted.{IsPermutation-sym, IsPermutation-map, Contains-permutation}
 use Rattle.pci_spec.specs.System.{System, Function, IsSystem, Part, Window, is_bridge}
-use Rattle.pci_spec.specs.Bus.{secondary, is_root, are_side_by_side, IsNested}
+use Rattle.pci_spec.specs.Bus.{secondary, is_root, are_siblings, IsNested}
 use Rattle.pci_spec.specs.Plan.{Pools, Class, same_class, pool_of, window_of, window_class, limited, fits, greatest, raised_to}
 use Rattle.pci_spec.specs.Place.{Item, window_item, items_beside, start_of, place_of}
 use Rattle.pci_spec.specs.Planning.Placing.{IsFalling, starts}
@@ -83,7 +83,7 @@ module _ (roots : List ℕ) (s : System) (pools : Pools) (c : Class) (system : I
         ∙ place_in_order roots s pools c system nested small bus k e within
         ∙ ap (λ xs. get_or (starts (start_of roots s pools c bus) xs) k 0) (sym (part_sizes bus))
 
-    all_there : (f : Function) (p : Part) → Contains s f → are_side_by_side roots bus f.slot.bus ≡ true → is_placed s pools c f p ≡ true
+    all_there : (f : Function) (p : Part) → Contains s f → are_siblings roots bus f.slot.bus ≡ true → is_placed s pools c f p ≡ true
         → (k : ℕ) × (k < length (parts bus)) × ((d : PlacedPart) → get_or (parts bus) k d ≡ record { function = f; part = p })
     all_there f p listed beside there =
         let i = item_of s pools f p in
@@ -93,7 +93,7 @@ module _ (roots : List ℕ) (s : System) (pools : Pools) (c : Class) (system : I
         (found.0, omega (arith, long, within), λ d. get_or-map placed_part (sorted bus) found.0 i d within ∙ ap placed_part found.2 ∙ part_placed s pools f p)
 
     -- what is placed on a bus, by its start and its sum
-    placed_on : (Side : Function → Type 0) (total start : ℕ) → ((f : Function) → Contains s f → Side f → are_side_by_side roots bus f.slot.bus ≡ true)
+    placed_on : (Side : Function → Type 0) (total start : ℕ) → ((f : Function) → Contains s f → Side f → are_siblings roots bus f.slot.bus ≡ true)
         → start_of roots s pools c bus ≡ start → sum (item_sizes (items_beside roots s pools c bus)) ≡ total → IsAligned bus
         → IsPlacedOn s pools c (place_at roots s pools) Side total start (parts bus)
     placed_on Side total start beside starts_at adds aligned = record {
@@ -146,7 +146,7 @@ module _ (roots : List ℕ) (s : System) (pools : Pools) (c : Class) (system : I
       let enough = least.enough in
       let there : is_placed s pools c b (Window (window_of c)) ≡ true =
       and_from (is_bridge b && same_class c (window_class (window_of c))) (nat_lt 0 n) (and_from (is_bridge b) (same_class c (window_class (window_of c))) bridge (class_itself c)) (lt-ltb 0 n need) in
-      let beside : are_side_by_side roots b.slot.bus b.slot.bus ≡ true = or_left (b.slot.bus == b.slot.bus) (is_root roots b.slot.bus && is_root roots b.slot.bus) (eq-eqb b.slot.bus b.slot.bus refl) in
+      let beside : are_siblings roots b.slot.bus b.slot.bus ≡ true = or_left (b.slot.bus == b.slot.bus) (is_root roots b.slot.bus && is_root roots b.slot.bus) (eq-eqb b.slot.bus b.slot.bus refl) in
       let found : Contains (sorted b.slot.bus) i =
       subst (λ d. Contains (sorted b.slot.bus) (window_item s pools d b)) (class_through c) (sorted_from roots s pools c system nested small b.slot.bus b (Window (window_of c)) listed beside there) in
       let k = found.0 in

@@ -15,7 +15,7 @@ use Rattle.pci_spec.specs.Capability.{HasChain}
 use Rattle.pci_spec.specs.Decoded.{IsDecodable}
 use Rattle.pci_spec.specs.System.{System, Function, IsSystem, is_bridge}
 use Rattle.pci_spec.specs.Bus.{IsNested}
-use Rattle.pci_spec.specs.Fault.{NoVendor, HeaderKind, BarType, BarMask, BarPair, RomMask, WindowMask, CapRange, CapLoop, CapCut, SlotsDiffer, StrayProbe, LoneFunction, PaletteSnoop, VgaEnable, IsaEnable, Subtractive, InReset, PowerState, BusRange, Orphan, Unreached, Clash, Split, SomeAt, IsAsleep, HasBarFault, has_function_zero, is_stray, is_in_address_register}
+use Rattle.pci_spec.specs.Fault.{NoVendor, HeaderKind, BarType, BarMask, BarPair, RomMask, WindowMask, CapRange, CapLoop, CapCut, SlotsDiffer, StrayProbe, LoneFunction, PaletteSnoop, VgaEnable, IsaEnable, Subtractive, InReset, PowerState, BusRange, Orphan, Unreached, Clash, Split, SomeAt, IsNotInD0, HasBarFault, has_function_zero, is_stray, is_in_address_register}
 use Rattle.pci_spec.specs.Machine.{in_fields, address_fields}
 use Rattle.pci_spec.specs.Sound.{HasChains, IsInProfile}
 use Rattle.pci_spec.specs.Plan.{IsMoved}
@@ -74,7 +74,7 @@ module _ (f g : Function) (h : IsRomOn f g) (is : IsImage f.image) where
   pub chain_kept : HasChain f.image → HasChain g.image
   chain_kept chain = (chain.0, chain_same (record f { probe = g.image }) (record g { probe = g.image }) as_moved is chain.0 chain.1)
 
-  asleep_off : HasChain f.image → IsAsleep g.image → IsAsleep f.image
+  asleep_off : HasChain f.image → IsNotInD0 g.image → IsNotInD0 f.image
   asleep_off chain = asleep_before (record f { probe = g.image }) (record g { probe = g.image }) as_moved is chain
 
   control_kept : (bit : ℕ) → (is_bridge g && has_bit (bridge_control g.image) bit) ≡ (is_bridge f && has_bit (bridge_control f.image) bit)
@@ -168,7 +168,7 @@ module _ (roots : List ℕ) (t : System) (system : IsSystem t) (decodable : All 
     profile_on (Subtractive slot) k there = profile (Subtractive slot) refl (some_off slot (λ f. IsTrue (is_bridge f && class_code f.image == 0x060401)) (λ f. IsTrue (is_bridge f && class_code f.image == 0x060401))
         (λ f g listed is on h. sym (subtractive_kept f g on is) ∙ h) there)
     profile_on (InReset slot) k there = profile (InReset slot) refl (control_none 6 slot there)
-    profile_on (PowerState slot) k there = profile (PowerState slot) refl (some_off slot (λ f. IsAsleep f.image) (λ f. IsAsleep f.image)
+    profile_on (PowerState slot) k there = profile (PowerState slot) refl (some_off slot (λ f. IsNotInD0 f.image) (λ f. IsNotInD0 f.image)
         (λ f g listed is on h. asleep_off f g on is (chains f listed) h) there)
     profile_on (BusRange slot) k there = both_ways false refl k
     profile_on (Orphan slot) k there = both_ways false refl k

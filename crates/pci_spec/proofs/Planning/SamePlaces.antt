@@ -7,7 +7,7 @@ use Rattle.std.proofs.lemmas.Bool.{and_parts, cases_Bool, both_ways}
 use Rattle.std.proofs.lemmas.List.Elements.{All-contains}
 use Rattle.pci_spec.specs.Slot.{Slot, slot_number}
 use Rattle.pci_spec.specs.System.{System, Function, IsSystem, IsFunction, Part, Bar, Rom, register_of, is_bridge, is_implemented}
-use Rattle.pci_spec.specs.Bus.{secondary, is_root, are_side_by_side}
+use Rattle.pci_spec.specs.Bus.{secondary, is_root, are_siblings}
 use Rattle.pci_spec.specs.Plan.{Pools, Class, IsMoved, pool_of, class_of, same_class, window_size, need_of, greatest, raised_to, has_behind}
 use Rattle.pci_spec.specs.Place.{Item, part_item, window_item, items_among, own_items, items_beside, comes_before, place_from, start_of_roots, behind_window, start_within, start_of, place_of}
 use Rattle.pci_spec.proofs.Members.{in_head, in_tail}
@@ -157,9 +157,9 @@ module _ (s t : System) (system : IsSystem s) (pairs : AllZip IsMoved s t) (pool
 
   module _ (roots : List ℕ) where
     items_same : (bus : ℕ) → AllZip IsSameItem (items_beside roots s pools c bus) (items_beside roots t pools c bus)
-    items_same bus = zip_flat_map IsMoved (λ f. if are_side_by_side roots bus f.slot.bus then own_items s pools c f else []) (λ g. if are_side_by_side roots bus g.slot.bus then own_items t pools c g else []) s t
-        (λ f g listed m. zip_choice (are_side_by_side roots bus f.slot.bus) (are_side_by_side roots bus g.slot.bus) (own_items s pools c f) (own_items t pools c g)
-        (ap (λ (x : Slot). are_side_by_side roots bus x.bus) m.slot) (λ beside. own_items_same f g listed m)) pairs
+    items_same bus = zip_flat_map IsMoved (λ f. if are_siblings roots bus f.slot.bus then own_items s pools c f else []) (λ g. if are_siblings roots bus g.slot.bus then own_items t pools c g else []) s t
+        (λ f g listed m. zip_choice (are_siblings roots bus f.slot.bus) (are_siblings roots bus g.slot.bus) (own_items s pools c f) (own_items t pools c g)
+        (ap (λ (x : Slot). are_siblings roots bus x.bus) m.slot) (λ beside. own_items_same f g listed m)) pairs
 
     roots_same : (bus : ℕ) → start_of_roots roots t pools c bus ≡ start_of_roots roots s pools c bus
     roots_same bus = ap (λ sizes. raised_to (greatest sizes) (pool_of pools c).first) (all_sizes (items_beside roots s pools c bus) (items_beside roots t pools c bus) (items_same bus))

@@ -9,7 +9,7 @@ use Rattle.std.proofs.lemmas.List.Elements.{filter-append}
 use Rattle.std.proofs.lemmas.List.Sums.{sum_by-cons, sum_by-append, sum-map}
 use Rattle.std.proofs.lemmas.List.Sorted.{sum_by-IsPermutation, IsPermutation-append_comm, IsPermutation-append_right}
 use Rattle.pci_spec.specs.System.{System, Function, IsSystem, Part, Rom, is_bridge, is_implemented}
-use Rattle.pci_spec.specs.Bus.{is_root, are_side_by_side, IsNested}
+use Rattle.pci_spec.specs.Bus.{is_root, are_siblings, IsNested}
 use Rattle.pci_spec.specs.Plan.{Pools, Class, class_of, same_class, size_of, sizes_in, window_size, limited, items_on, has_behind}
 use Rattle.pci_spec.specs.Place.{Item, part_item, window_item, items_among, own_items, items_beside}
 use Rattle.pci_spec.specs.Planning.Room.{root_items}
@@ -125,13 +125,13 @@ module _ (s : System) (pools : Pools) (c : Class) where
     cond_sum false items n e = refl
 
     beside_sum : (bus : ℕ) → sum (item_sizes (items_beside roots s pools c bus))
-        ≡ sum_by (λ f. if are_side_by_side roots bus f.slot.bus then added s pools c f (need_behind s pools c f) else 0) s
+        ≡ sum_by (λ f. if are_siblings roots bus f.slot.bus then added s pools c f (need_behind s pools c f) else 0) s
     beside_sum bus =
         sum-map (λ (i : Item). i.size) (items_beside roots s pools c bus)
-        ∙ sum_flat_map (λ (i : Item). i.size) (λ f. if are_side_by_side roots bus f.slot.bus then own_items s pools c f else []) s
-        ∙ sum_same (λ f. sum_by (λ (i : Item). i.size) (if are_side_by_side roots bus f.slot.bus then own_items s pools c f else []))
-        (λ f. if are_side_by_side roots bus f.slot.bus then added s pools c f (need_behind s pools c f) else 0) s
-        (λ f listed. cond_sum (are_side_by_side roots bus f.slot.bus) (own_items s pools c f) (added s pools c f (need_behind s pools c f)) (own_sum f listed))
+        ∙ sum_flat_map (λ (i : Item). i.size) (λ f. if are_siblings roots bus f.slot.bus then own_items s pools c f else []) s
+        ∙ sum_same (λ f. sum_by (λ (i : Item). i.size) (if are_siblings roots bus f.slot.bus then own_items s pools c f else []))
+        (λ f. if are_siblings roots bus f.slot.bus then added s pools c f (need_behind s pools c f) else 0) s
+        (λ f listed. cond_sum (are_siblings roots bus f.slot.bus) (own_items s pools c f) (added s pools c f (need_behind s pools c f)) (own_sum f listed))
 
     or_false : (x y z : Bool) → z ≡ false → (x || (z && y)) ≡ x
     or_false true y z off = refl
@@ -147,7 +147,7 @@ module _ (s : System) (pools : Pools) (c : Class) where
     pub sum_on_bus : (bus : ℕ) → is_root roots bus ≡ false → sum (item_sizes (items_beside roots s pools c bus)) ≡ sum (items_on s pools c bus)
     sum_on_bus bus off =
         beside_sum bus
-        ∙ sum_same (λ f. if are_side_by_side roots bus f.slot.bus then added s pools c f (need_behind s pools c f) else 0)
+        ∙ sum_same (λ f. if are_siblings roots bus f.slot.bus then added s pools c f (need_behind s pools c f) else 0)
         (λ f. if f.slot.bus == bus then added s pools c f (need_behind s pools c f) else 0) s
         (λ f listed. ap (λ b. cond b (added s pools c f (need_behind s pools c f)) 0) (or_false (bus == f.slot.bus) (is_root roots f.slot.bus) (is_root roots bus) off ∙ other_way bus f.slot.bus))
         ∙ sym (need_added s pools c bus roots system nested)
@@ -189,6 +189,6 @@ module _ (s : System) (pools : Pools) (c : Class) where
     pub sum_on_roots : (bus : ℕ) → is_root roots bus ≡ true → IsStrictlyIncreasing roots → sum (item_sizes (items_beside roots s pools c bus)) ≡ sum (root_items roots s pools c)
     sum_on_roots bus root rising =
         beside_sum bus
-        ∙ sum_same (λ f. if are_side_by_side roots bus f.slot.bus then added s pools c f (need_behind s pools c f) else 0) (on_some roots) s
+        ∙ sum_same (λ f. if are_siblings roots bus f.slot.bus then added s pools c f (need_behind s pools c f) else 0) (on_some roots) s
         (λ f listed. ap (λ b. cond b (added s pools c f (need_behind s pools c f)) 0) (beside_root roots bus f.slot.bus root))
         ∙ some_sum roots (pairs_of_rising roots rising)

@@ -1,7 +1,7 @@
 use Rattle.std.proofs.Common.{◌+◌, ap, List, ℕ, ◌++◌, drop, subst, ◌∙◌, ◌≡◌, ◌∷◌, []}
 use Rattle.pci_spec.specs.Form.{rows_text}
 use Rattle.pci_dump.proofs.Whole.{short_stops, no_slot_stops, low_stops, title_stops, rest_stops, found_in, not_false}
-use Rattle.pci_dump.specs.Stop.{RestStops}
+use Rattle.pci_dump.specs.BlockFault.{RestStops}
 use Rattle.pci_dump.proofs.parse.block_into.Goals as goal
 
 pub returns-then-bytes-lt-SLOT_LEN-clause-err : goal.returns-then-bytes-lt-SLOT_LEN-clause-err

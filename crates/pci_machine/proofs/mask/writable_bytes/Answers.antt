@@ -27,10 +27,10 @@ loop-row-preserved c =
     let within = c.loop-row-test.true in
     record {
       image = c.add.ensures.image;
-      bits = bits_more (map (writable_of probe) items) k record { offset = row.0; width = row.1; bits = c.set_bits.result } c.loop-row.bytes c.add.new.bytes
+      bits = bits_more (map (writable_of probe) items) k record { offset = row.0; width = row.1; bits = c.writable_bits.result } c.loop-row.bytes c.add.new.bytes
           (omega (arith, within, length-map {B = Field} items (writable_of probe)))
-          (get_or-map (writable_of probe) items k none record { offset = row.0; width = row.1; bits = c.set_bits.result } within
-          ∙ ap (λ b. let f : Field = record { offset = row.0; width = row.1; bits = b } in f) (sym c.set_bits.ensures))
+          (get_or-map (writable_of probe) items k none record { offset = row.0; width = row.1; bits = c.writable_bits.result } within
+          ∙ ap (λ b. let f : Field = record { offset = row.0; width = row.1; bits = b } in f) (sym c.writable_bits.ensures))
           c.loop-row.invariant.bits c.add.ensures.added;
     }
 

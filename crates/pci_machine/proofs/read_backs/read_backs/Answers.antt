@@ -6,7 +6,7 @@ use Rattle.pci_spec.specs.Machine.{read_back, written}
 use Rattle.pci_spec.specs.Number.{number_at}
 use Rattle.pci_spec.specs.Port.{is_access, fits, with_image}
 use Rattle.pci_spec.specs.Sizing.{function_at, DiffersWithin, is_address_register}
-use Rattle.pci_machine.specs.declared.access_at.Stop.{Stop}
+use Rattle.pci_machine.specs.declared.access_at.AccessFault.{AccessFault}
 use Rattle.pci_machine.specs.declared.address_register.AddressRegister.{AddressRegister}
 use Rattle.pci_machine.proofs.Sizing.{target-there}
 use Rattle.pci_machine.proofs.RegisterOrder.{layout_of, is_sound, found_in, IsSound, sound_at, sound_parts, register_plain, within_registers, found_more, found_all, register_begins}
@@ -72,8 +72,8 @@ returns-in-Err-clause-stop g c =
     let within = c.loop-register-test.true in
     let register = get_or items k none in
     let kind = layout (function_at (g.P.ConfigPort.targets c.args.port.now) c.args.slot).image in (
-      ap (λ (s : Stop). s.fault) c.in-Err.ensures.stop,
-      ap (λ (s : Stop). is_address_register kind s.offset) c.in-Err.ensures.stop ∙ ap (λ n. is_address_register n register.offset) c.requires.header
+      ap (λ (s : AccessFault). s.fault) c.in-Err.ensures.stop,
+      ap (λ (s : AccessFault). is_address_register kind s.offset) c.in-Err.ensures.stop ∙ ap (λ n. is_address_register n register.offset) c.requires.header
           ∙ register_begins c.args.bridge k (here items c.args.bridge table k within none) (in_table items c.args.bridge table k within none) (at_place items c.args.bridge table k within none),
     )
 

@@ -4,7 +4,7 @@ use Rattle.std.proofs.lemmas.Option.{MatchOption-at_some, MatchOption-at_none}
 use Rattle.pci_spec.specs.Header.{command, layout}
 use Rattle.pci_spec.specs.Machine.{sized}
 use Rattle.pci_image.specs.declared.image.Image.{Image}
-use Rattle.pci_machine.specs.declared.access_at.Stop.{Stop}
+use Rattle.pci_machine.specs.declared.access_at.AccessFault.{AccessFault}
 use Rattle.pci_spec.specs.Port.{has_function}
 use Rattle.pci_spec.specs.Sizing.{function_at, IsStuck}
 use Rattle.pci_machine.specs.SizeOutcome.{SizingLeaves, StopLeaves, IsCause}
@@ -94,8 +94,8 @@ returns-in-Err-end-clause-fault g c =
     c.in-Ok-begin.ensures.quieted c.in-Ok-begin.ensures.function after c.in-Err-end.command (stop.1 ∙ c.in-Ok-begin.ensures.command)
     (c.in-Err-end.ensures.kept ∙ c.in-Ok-read_when_quiet.ensures.kept) in
     subst (SizingLeaves (g.P.ConfigPort.targets c.args.port.now) slot after) (sym c.stopped-in-Err-end.ensures) (
-      subst (λ (e : Stop). IsCause e.fault (has_function (g.P.ConfigPort.targets c.args.port.now) slot)) (sym stop.0) c.in-Ok.ensures.there,
-      subst (λ n. StopLeaves (g.P.ConfigPort.targets c.args.port.now) slot after n (Some c.in-Err-end.command)) (ap (λ (e : Stop). e.offset) (sym stop.0)) (subst (λ xs. StopLeaves xs slot after 0x04 (Some c.in-Err-end.command)) same left),
+      subst (λ (e : AccessFault). IsCause e.fault (has_function (g.P.ConfigPort.targets c.args.port.now) slot)) (sym stop.0) c.in-Ok.ensures.there,
+      subst (λ n. StopLeaves (g.P.ConfigPort.targets c.args.port.now) slot after n (Some c.in-Err-end.command)) (ap (λ (e : AccessFault). e.offset) (sym stop.0)) (subst (λ xs. StopLeaves xs slot after 0x04 (Some c.in-Err-end.command)) same left),
     )
 
 pub returns-in-None-clause-succeeds : goal.returns-in-None-clause-succeeds

@@ -8,14 +8,14 @@ use Rattle.pci_plan.proofs.writes.add_registers.Goals as goal
 abbrev none : AddressRegister
 none = record { offset = 0; width = 0 }
 
-pub number_of-value-requires : goal.number_of-value-requires
-number_of-value-requires g c =
+pub value_at-value-requires : goal.value_at-value-requires
+value_at-value-requires g c =
     let image = c.old.inside.image.0 in
     let table = c.address_registers-register-items.ensures ∙ ap (λ n. address_registers (if n == 1 then 1 else 0)) c.layout.ensures ∙ registers_of_layout (layout image) in
     register_access c.address_registers-register-items.result.now (layout image) table c.loop-register.register-index none c.loop-register-test.true
 
-pub number_of-requires : goal.number_of-requires
-number_of-requires g c =
+pub value_at-requires : goal.value_at-requires
+value_at-requires g c =
     let image = c.old.inside.image.0 in
     let table = c.address_registers-register-items.ensures ∙ ap (λ n. address_registers (if n == 1 then 1 else 0)) c.layout.ensures ∙ registers_of_layout (layout image) in
     register_access c.address_registers-register-items.result.now (layout image) table c.loop-register.register-index none c.loop-register-test.true

@@ -1,7 +1,7 @@
 use Rattle.std.proofs.Common.{◌∙◌, ◌==◌, ap, sym, subst, length, arith, ℕ, List, Option}
 use Rattle.std.proofs.lemmas.Bool.{false≢true}
 use Rattle.pci_spec.specs.Slot.{Slot}
-use Rattle.pci_dump.specs.Stop.{BlockStops}
+use Rattle.pci_dump.specs.BlockFault.{BlockStops}
 use Rattle.pci_dump.specs.FaultAt.{fault_at}
 use Rattle.pci_dump.proofs.Fronted.{holds_stop, holds_many}
 use Rattle.pci_dump.proofs.ahead.ReadAhead.take_block.Goals as goal

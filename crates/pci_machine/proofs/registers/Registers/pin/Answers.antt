@@ -2,7 +2,7 @@ use Rattle.std.proofs.Common.{ℕ, slice_index_or, slice_set, rules, ◌∙◌, 
 use Rattle.pci_spec.specs.Machine.{Target}
 use Rattle.pci_machine.specs.Memory.{pinned}
 use Rattle.pci_machine.proofs.Bytes.{without_bits-and}
-use Rattle.pci_machine.proofs.registers.Registers.pin.Goals as goal
+use Rattle.pci_machine.proofs.registers.ConfigSpace.pin.Goals as goal
 
 pub returns : goal.returns
 returns c =

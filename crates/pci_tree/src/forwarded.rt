@@ -1,0 +1,105 @@
+//! The addresses that a bridge passes, and what it leaves of a list of ranges.
+ghost use Rattle.std.specs.Prelude.{◌+◌, ◌<◌, ◌≤◌, ◌↔◌, ◌⊎◌, ℕ, IfOk, OnOk, IfSome, MatchOption};
+ghost use Rattle.pci_tree.specs.Ranges.{Holds, Covers, IsCanonical};
+ghost use Rattle.pci_tree.specs.Passing.{Passes, IsPassed, HoldsSome, IsPush, IsReach};
+
+use super::ranges::meet;
+use pci_dump::memory::OutOfMemory;
+use pci_image::range::Range;
+use std::alloc::Allocator;
+
+/// What a bridge passes: nothing, one range, or two with at least one address between them.
+#[derive(Clone, Copy, Debug, PartialEq, Eq)]
+pub enum Forwarded {
+    Nothing,
+    One(Range),
+    Two(Range, Range),
+}
+
+/// What two ranges pass together.
+fn join(r: Range, s: Range) -> Forwarded
+    requires first { r.first ≤ r.last }
+    requires second { s.first ≤ s.last }
+    ensures lawful { IsPassed result }
+    ensures exact { (a : ℕ) → Passes result a ↔ (Holds r a ⊎ Holds s a) }
+{
+    if r.last < s.first && 1 < s.first - r.last {
+        return Forwarded::Two(r, s);
+    }
+    if s.last < r.first && 1 < r.first - s.last {
+        return Forwarded::Two(s, r);
+    }
+    let first = if r.first < s.first { r.first } else { s.first };
+    let last = if r.last < s.last { s.last } else { r.last };
+    Forwarded::One(Range { first, last })
+}
+
+/// What a bridge passes by two windows, each of which may be absent.
+pub fn union(v: Option<Range>, w: Option<Range>) -> Forwarded
+    requires first { IfSome v (λ r. r.first ≤ r.last) }
+    requires second { IfSome w (λ r. r.first ≤ r.last) }
+    ensures lawful { IsPassed result }
+    ensures exact { (a : ℕ) → Passes result a ↔ (HoldsSome v a ⊎ HoldsSome w a) }
+{
+    match v {
+        None => match w {
+            None => Forwarded::Nothing,
+            Some(s) => Forwarded::One(s),
+        },
+        Some(r) => match w {
+            None => Forwarded::One(r),
+            Some(s) => join(r, s),
+        },
+    }
+}
+
+/// Adds what two ranges have in common to ranges that lie below one of them.
+fn add_meet<A: Allocator>(out: &mut Vec<Range, A>, r: Range, w: Range) -> Result<(), OutOfMemory>
+    requires canonical { IsCanonical out.old.items }
+    requires below { (a : ℕ) → Covers out.old.items a → (a + 1 < r.first) ⊎ (a + 1 < w.first) }
+    ensures { OnOk result (IsPush out.old.items out.new.items (λ a. Holds r a × Holds w a)) }
+{
+    if let Some(m) = meet(r, w) {
+        out.push(m)?;
+    }
+    Ok(())
+}
+
+/// Adds what a bridge passes of a range to ranges that lie below it.
+fn add_passed<A: Allocator>(
+    out: &mut Vec<Range, A>,
+    r: Range,
+    forwarded: Forwarded,
+) -> Result<(), OutOfMemory>
+    requires canonical { IsCanonical out.old.items }
+    requires below { (a : ℕ) → Covers out.old.items a → a + 1 < r.first }
+    requires lawful { IsPassed forwarded }
+    ensures { OnOk result (IsPush out.old.items out.new.items (λ a. Holds r a × Passes forwarded a)) }
+{
+    match forwarded {
+        Forwarded::Nothing => {}
+        Forwarded::One(w) => add_meet(out, r, w)?,
+        Forwarded::Two(v, w) => {
+            add_meet(out, r, v)?;
+            add_meet(out, r, w)?;
+        }
+    }
+    Ok(())
+}
+
+/// What a bridge passes of the addresses that get to its own bus.
+pub fn passed_on<A: Allocator>(
+    alloc: A,
+    rs: &[Range],
+    forwarded: Forwarded,
+) -> Result<Vec<Range, A>, OutOfMemory>
+    requires canonical { IsCanonical rs.now }
+    requires lawful { IsPassed forwarded }
+    ensures { IfOk result (λ out. IsReach rs.now forwarded out.items) }
+{
+    let mut out = Vec::new(alloc);
+    for r in rs {
+        add_passed(&mut out, *r, forwarded)?;
+    }
+    Ok(out)
+}

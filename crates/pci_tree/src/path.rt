@@ -1,0 +1,49 @@
+//! The bridges that lead to a bus, found from a table of the 256 buses.
+ghost use Rattle.std.specs.Prelude.{◌<◌, MatchOption};
+ghost use Rattle.pci_tree.specs.Roots.{buses_of};
+ghost use Rattle.pci_tree.specs.Ways.{IsForest, IsBridgeToBus, AreClear, AreSlotsOfWay, IsUnled};
+
+use super::record::Record;
+use super::roots::Roots;
+use arrayvec::ArrayVec;
+use pci_image::slot::Slot;
+
+/// At each bus the place of the bridge that leads there.
+pub fn bridge_to_bus(records: &[Record]) -> [Option<usize>; 256]
+    ensures { IsBridgeToBus records.now result }
+{
+    let mut bridge_to_bus = [None; 256];
+    for (place, function) in records.iter().enumerate() {
+        if let Some(bridge) = function.bridge {
+            bridge_to_bus[bridge.secondary as usize] = Some(place);
+        }
+    }
+    bridge_to_bus
+}
+
+/// The bridges from a root to a bus, or None where none leads there from a root.
+pub fn path(
+    records: &[Record],
+    bridge_to_bus: &[Option<usize>; 256],
+    roots: &Roots,
+    bus: u8,
+) -> Option<ArrayVec<Slot, 255>>
+    requires forest { IsForest records.now }
+    requires bridge_to_bus { IsBridgeToBus records.now bridge_to_bus.now }
+    requires clear { AreClear (buses_of roots.now) records.now }
+    ensures { MatchOption result (IsUnled records.now (buses_of roots.now) bus) (λ v. AreSlotsOfWay records.now (buses_of roots.now) v.items bus) }
+{
+    let mut up = ArrayVec::new();
+    let mut at = bus;
+    while !roots.has(at) {
+        let place = match bridge_to_bus[at as usize] {
+            None => return None,
+            Some(place) => place,
+        };
+        let slot = records[place].slot;
+        up.push(slot);
+        at = slot.bus();
+    }
+    up.as_mut_slice().reverse();
+    Some(up)
+}
