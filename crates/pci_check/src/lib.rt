@@ -5,7 +5,7 @@
 //! region that isn't reached, then for two that clash on a bus, then for two that are split over the roots.
 //!
 //! ```text
-//! match audit(rt.alloc(), &mut dump, &mut probe, &mut output)? {
+//! match audit::audit(rt.alloc(), &mut dump, &mut probe, &mut output)? {
 //!     Outcome::Yes => {}          // "yes" was written: the system is sound
 //!     Outcome::No(fault) => {}    // "no" with this fault was written: it is there
 //! }
@@ -25,6 +25,6 @@ pub mod sweep;
 pub mod unreached;
 pub mod verdict;
 
-pub use audit::{audit, audit_with};
+pub use audit::audit_with;
 pub use outcome::{AuditFault, Outcome};
 pub use verdict::{Sound, Verdict};

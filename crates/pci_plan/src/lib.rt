@@ -12,11 +12,11 @@
 //! one; from another start each does that holds all closing writes.
 //!
 //! ```text
-//! let plan = plan(rt.alloc(), &admitted, &pools)?; // the places, the planned dump and its writes
+//! let plan = planning::plan(rt.alloc(), &admitted, &pools)?; // the places, the planned dump and its writes
 //! for write in plan.writes() {
 //!     println!(rt; "{write}")?;
 //! }
-//! apply(&mut port, &plan)?; // compares, then writes; stops at the first failure
+//! apply::apply(&mut port, &plan)?; // compares, then writes; stops at the first failure
 //! ```
 #![tactic(auto)]
 

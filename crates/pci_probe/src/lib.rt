@@ -43,7 +43,6 @@ mod tests;
 mod window;
 
 pub use assumed::AssumedRegister;
-pub use derive::derive;
 pub use derived::Derived;
 pub use fault::DeriveFault;
 pub use line::ResourceLine;

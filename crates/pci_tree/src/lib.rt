@@ -2,7 +2,7 @@
 //! gets to a bus.
 //!
 //! ```text
-//! let admitted = admit(rt.alloc(), dump, probe)?; // or the first fault, 20 to 58
+//! let admitted = admit::admit(rt.alloc(), dump, probe)?; // or the first fault, 20 to 58
 //! for region in &admitted.sorted(0, Space::Mem)? {
 //!     println!(rt; "{} {:02x}: {:x} to {:x}", region.slot, region.reg, region.first, region.last)?;
 //! }
@@ -29,7 +29,7 @@ pub mod space;
 pub mod survey;
 pub mod window;
 
-pub use admit::{admit, admit_with};
+pub use admit::admit_with;
 pub use admitted::Admitted;
 pub use fault::Fault;
 pub use outline::Outline;

@@ -5,8 +5,8 @@
 //! calls.
 //!
 //! ```text
-//! let words = words_of(&rt); // as in `check DUMP PROBE`
-//! let status = program(rt.alloc(), words, &mut dump, &mut probe, &mut output, &mut errors);
+//! let words = program::words_of(&rt); // as in `check DUMP PROBE`
+//! let status = program::program(rt.alloc(), words, &mut dump, &mut probe, &mut output, &mut errors);
 //! // 0 done or yes, 1 no, 2 refused, 3 out of memory, 4 a write failed
 //! ```
 #![tactic(auto)]
@@ -29,5 +29,4 @@ pub mod trouble;
 pub mod words;
 
 pub use line::{Line, Task};
-pub use program::program;
 pub use trouble::Trouble;
