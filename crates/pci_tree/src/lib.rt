@@ -6,18 +6,21 @@ pub mod admit;
 pub mod admitted;
 pub mod bus;
 mod buses;
-pub mod decode;
-mod examine;
-pub mod fault;
+
+pub use pci_function::{decode, fault};
+
 pub mod forwarded;
 pub mod outline;
 pub mod path;
-mod profile;
 pub mod ranges;
 pub mod reach;
-pub mod record;
+
+pub use pci_function::record;
+
 pub mod region;
 pub mod roots;
-pub mod space;
+
+pub use pci_function::space;
+
 pub mod survey;
 pub mod window;
