@@ -10,8 +10,8 @@ use super::reached::Reached;
 use super::sweep::{Shared, least_shared};
 use pci_dump::memory::OutOfMemory;
 use pci_function::fault::Fault;
-use pci_tree::region::Region;
 use pci_function::space::Space;
+use pci_tree::region::Region;
 use std::alloc::Allocator;
 
 /// The clash of a bus and space at the least address, with the two least of its regions that claim it.

@@ -10,8 +10,8 @@ use super::split::first_split;
 use super::unreached::first_unreached;
 use pci_dump::memory::OutOfMemory;
 use pci_function::fault::Fault;
-use pci_tree::outline::Outline;
 use pci_function::space::Space;
+use pci_tree::outline::Outline;
 use std::alloc::Allocator;
 
 /// The first unreached region or, where there is none, the first clash.

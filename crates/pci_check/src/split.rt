@@ -8,10 +8,10 @@ use super::reached::BUSES;
 use super::sweep::{Shared, least_shared};
 use pci_dump::memory::OutOfMemory;
 use pci_function::fault::Fault;
+use pci_function::space::Space;
 use pci_tree::outline::Outline;
 use pci_tree::region::Region;
 use pci_tree::roots::Roots;
-use pci_function::space::Space;
 use std::alloc::Allocator;
 
 /// The regions of all root buses that claim some address of a space.

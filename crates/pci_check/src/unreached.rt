@@ -8,13 +8,13 @@ ghost use Rattle.pci_check.specs.Stops.{is_of_window, AreReachesOf, IsWholeAt, I
 
 use super::reached::Reached;
 use super::sweep::is_before;
+use pci_function::fault::Fault;
+use pci_function::space::Space;
 use pci_image::range::Range;
 use pci_image::slot::Slot;
-use pci_function::fault::Fault;
 use pci_tree::outline::Outline;
 use pci_tree::ranges::least_outside;
 use pci_tree::region::{Part, Region};
-use pci_function::space::Space;
 use std::alloc::Allocator;
 
 /// The least address of a region that doesn't get to a bus.

@@ -1,7 +1,6 @@
-use Rattle.std.proofs.Common.{arith, sym, subst, get_or, List}
+use Rattle.std.proofs.Common.{arith, subst, List}
 use Rattle.pci_tree.specs.declared.region.Region.{Region}
 use Rattle.pci_tree.specs.Regions.{region_number as number_of}
-use Rattle.pci_tree.specs.Ranges.{Covers}
 use Rattle.pci_tree.proofs.Orders.{own_numbers}
 use Rattle.pci_check.specs.Sweep.{IsFirstOverlap}
 use Rattle.pci_check.proofs.Overlaps.{alone, unshared, shared}
