@@ -5,11 +5,10 @@ use Rattle.std.specs.List.{Contains, list_all}
 use Rattle.std.proofs.lemmas.List.{get_or-map, length-map}
 use Rattle.pci_spec.specs.Number.{number_at}
 use Rattle.pci_spec.specs.Slot.{Slot}
-use Rattle.pci_spec.specs.Header.{layout, address_registers}
+use Rattle.pci_spec.specs.Header.{layout, address_registers, registers_by}
 use Rattle.pci_spec.specs.Machine.{Target}
 use Rattle.pci_spec.proofs.Members.{in_head, in_tail, in_cons_cases}
 use Rattle.pci_spec.proofs.Planning.Behind.{all_gives}
-use Rattle.pci_spec.proofs.Planning.Staging.{registers_by}
 use Rattle.pci_spec.specs.Port.{is_access, ShowsNumber}
 use Rattle.pci_machine.specs.declared.address_register.AddressRegister.{AddressRegister}
 use Rattle.pci_plan.specs.declared.apply_fault.ApplyFault.{ApplyFault}

@@ -5,14 +5,13 @@ use Rattle.std.specs.List.{Contains, flat_map, list_all}
 use Rattle.std.proofs.lemmas.List.{append-nil, get_or-map, length-map, take_more}
 use Rattle.std.proofs.lemmas.Grind.{flat_map-append}
 use Rattle.std.proofs.Math.Seq.{drop-cons}
-use Rattle.pci_spec.specs.Header.{command, address_registers}
+use Rattle.pci_spec.specs.Header.{command, address_registers, registers_by}
 use Rattle.pci_spec.specs.Text.{Block}
 use Rattle.pci_spec.specs.Machine.{Write, without_low}
 use Rattle.pci_spec.specs.Planning.PlanWrites.{Change, closing_of, closing_writes, register_writes, opening_writes, plan_writes, registers_of, opening_of}
 use Rattle.pci_spec.specs.System.{system_of}
 use Rattle.pci_spec.specs.PlanPromise.{changes_between}
 use Rattle.pci_spec.proofs.Planning.Behind.{all_gives}
-use Rattle.pci_spec.proofs.Planning.Staging.{registers_by}
 use Rattle.pci_spec.specs.Port.{is_access}
 use Rattle.pci_machine.specs.declared.address_register.AddressRegister.{AddressRegister}
 use Rattle.pci_plan.specs.Writes.{is_image_on, block_change, block_changes}

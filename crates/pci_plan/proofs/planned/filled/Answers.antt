@@ -4,11 +4,11 @@ use Rattle.std.specs.List.{AllPairs, Contains}
 use Rattle.std.proofs.lemmas.List.{length-map, take_all, take_more}
 use Rattle.std.proofs.lemmas.List.Elements.{Contains-get_or}
 use Rattle.std.proofs.Math.ListN.{get_or-map}
-use Rattle.pci_spec.specs.Header.{address_registers, layout}
+use Rattle.pci_spec.specs.Header.{address_registers, layout, registers_by}
 use Rattle.pci_spec.specs.System.{is_bridge}
 use Rattle.pci_spec.specs.Planning.Numbers.{new_number, new_command}
 use Rattle.pci_spec.proofs.Members.{in_map_from}
-use Rattle.pci_spec.proofs.Planning.Staging.{Follows, is_register, registers_by, registers_in_order, pairs_in_order}
+use Rattle.pci_spec.proofs.Planning.Staging.{Follows, is_register, registers_in_order, pairs_in_order}
 use Rattle.pci_spec.proofs.Planning.NumbersFit.{numbers_fit}
 use Rattle.pci_machine.specs.declared.address_register.AddressRegister.{AddressRegister}
 use Rattle.pci_plan.specs.Fillings.{FillingOf}
