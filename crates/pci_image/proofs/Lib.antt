@@ -1,3 +1,4 @@
+pub mod Accesses
 pub mod Comparators
 pub mod Registers
 pub mod Sizes
