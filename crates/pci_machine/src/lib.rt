@@ -25,3 +25,8 @@ mod read_backs;
 mod registers;
 pub mod size;
 pub mod size_fault;
+
+pub use fail_at::FailAt;
+pub use machine::Machine;
+pub use port::{ConfigPort, PortError};
+pub use size_fault::SizeFault;

@@ -1,5 +1,12 @@
 //! Records of functions and the tree of buses that their bridges make: who claims which addresses, and how an access
 //! gets to a bus.
+//!
+//! ```text
+//! let admitted = admit::admit(rt.alloc(), dump, probe)?; // or the first fault, 20 to 58
+//! for region in &admitted.sorted(0, Space::Mem)? {
+//!     println!(rt; "{} {:02x}: {:x} to {:x}", region.slot, region.reg, region.first, region.last)?;
+//! }
+//! ```
 #![tactic(auto)]
 
 pub mod admit;
@@ -21,3 +28,14 @@ pub mod roots;
 pub mod space;
 pub mod survey;
 pub mod window;
+
+pub use admit::admit_with;
+pub use admitted::Admitted;
+pub use fault::Fault;
+pub use outline::Outline;
+pub use reach::Reach;
+pub use record::{Bridge, Record};
+pub use region::{Part, Region};
+pub use roots::Roots;
+pub use space::{Address, Space};
+pub use survey::Survey;
