@@ -13,7 +13,7 @@ use Rattle.pci_spec.specs.System.{system_of}
 use Rattle.pci_spec.specs.PlanPromise.{changes_between}
 use Rattle.pci_spec.proofs.Planning.Behind.{all_gives}
 use Rattle.pci_spec.specs.Port.{is_access}
-use Rattle.pci_machine.specs.declared.address_register.AddressRegister.{AddressRegister}
+use Rattle.pci_image.specs.declared.register.Register.{Register}
 use Rattle.pci_plan.specs.Writes.{is_image_on, block_change, block_changes}
 
 abbrev pub closing_write : Block → Write
@@ -33,7 +33,7 @@ closing_more blocks k d less = ap (λ bs. closing_writes (block_changes bs bs)) 
 
 -- ---- registers
 
-abbrev pub pair_of : AddressRegister → ℕ × ℕ
+abbrev pub pair_of : Register → ℕ × ℕ
 pair_of r = (r.offset, r.width)
 
 access_by : (bridge : Bool) → list_all (λ q. is_access q.0 q.1) (registers_by bridge) ≡ true
@@ -49,7 +49,7 @@ pub registers_of_layout : (k : ℕ) → address_registers (if k == 1 then 1 else
 registers_of_layout k = by_bridge (k == 1)
 
 -- each is a lawful access
-pub register_access : (items : List AddressRegister) (k : ℕ) → map pair_of items ≡ address_registers k → (i : ℕ) (d : AddressRegister) → i < length items
+pub register_access : (items : List Register) (k : ℕ) → map pair_of items ≡ address_registers k → (i : ℕ) (d : Register) → i < length items
     → is_access (get_or items i d).offset (get_or items i d).width ≡ true
 register_access items k table i d within =
     let long : i < length (map pair_of items) = (let l = length-map items pair_of in omega (arith, l, within)) in

@@ -26,8 +26,8 @@ use pci_image::offset::{
     BASE_ADDRESS, BRIDGE_EXPANSION_ROM, COMMAND, EXPANSION_ROM, IO_BASE, IO_BASE_UPPER,
     MEMORY_BASE, PREFETCHABLE_BASE, PREFETCHABLE_BASE_UPPER, PREFETCHABLE_LIMIT_UPPER,
 };
+use pci_image::register::Register;
 use pci_image::window::Window;
-use pci_machine::address_register::AddressRegister;
 use pci_tree::record::{Bridge, Record};
 
 /// A function with the places of its parts.
@@ -299,7 +299,7 @@ impl Filling<'_> {
     }
 
     /// What an address register holds.
-    pub fn number(&self, register: AddressRegister) -> u32
+    pub fn number(&self, register: Register) -> u32
         requires of { FillingOf self.now }
         requires listed { IsListed self.now.record.now register }
         ensures { (of : FillingOf self.now) → result ≡ numbers.new_number of.roots of.system of.pools of.function (register.offset, register.width) }

@@ -11,9 +11,8 @@ use pci_dump::memory::OutOfMemory;
 use pci_image::header::layout;
 use pci_image::image::Image;
 use pci_image::offset::COMMAND;
+use pci_image::register::address_registers;
 use pci_image::slot::Slot;
-use pci_machine::access::value_at;
-use pci_machine::address_register::address_registers;
 use std::alloc::Allocator;
 
 /// Command with bits 0 and 1, which enable I/O and memory space, clear (PCI 3.0, 6.2.2).
@@ -64,8 +63,8 @@ fn add_registers<A: Allocator>(
     ensures { OnOk result (map write_value writes.new.items ≡ map write_value writes.old.items ++ registers_of (block_change old.now new.now)) }
 {
     for register in address_registers(layout(&old.image) == 1) {
-        let value = value_at(&new.image, register.offset, register.width);
-        if value != value_at(&old.image, register.offset, register.width) {
+        let value = new.image.number(register.offset, register.width);
+        if value != old.image.number(register.offset, register.width) {
             writes.push(Write {
                 slot: old.slot,
                 off: register.offset,
