@@ -13,8 +13,7 @@
 //!
 //! From bytes to blocks: a `Source` gives bytes, `ahead` holds them and hands out blocks, `parse`
 //! finds a block at the front of some bytes, `rows`, `row` and `digit` its lines. Back:
-//! `block_text` spells a block, `write` hands it to a `Sink`. `pair` says whether a dump and a probe
-//! go together, `stray` where a probe may have bytes.
+//! `block_text` spells a block, `write` hands it to a `Sink`.
 #![tactic(auto)]
 
 pub mod ahead;
@@ -25,8 +24,6 @@ pub mod dump;
 pub mod failures;
 mod lanes;
 pub mod memory;
-pub mod pair;
-pub mod pair_fault;
 mod parse;
 pub mod read_fault;
 pub mod reader;
@@ -34,7 +31,6 @@ mod row;
 mod rows;
 pub mod slot_text;
 pub mod std_streams;
-pub mod stray;
 pub mod streams;
 pub mod write;
 

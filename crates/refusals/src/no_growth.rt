@@ -7,7 +7,7 @@ use boards::samples::samples;
 use pci_dump::block::Block;
 use pci_dump::dump::Dump;
 use pci_dump::memory::Refused;
-use pci_dump::pair::pair;
+use pci_function::pair::pair;
 use pci_dump::reader::Reader;
 use pci_dump::std_streams::{Incoming, Outgoing};
 use pci_dump::write::write_dump;
