@@ -2,8 +2,8 @@
 //!
 //! Where the standards leave a function free, these are the bits of Command that most functions
 //! have, and no capability can be written.
-ghost use Rattle.std.specs.Prelude.{◌≡◌, map, IsTrue, if◌then◌else◌};
-ghost use Rattle.std.specs.List.{list_all};
+ghost use Rattle.std.specs.Prelude.{◌≡◌, ◌<◌, ℕ, false, map, slice_index_or, IsTrue, if◌then◌else◌};
+ghost use Rattle.std.specs.List.{list_all, list_any};
 ghost use Rattle.pci_spec.specs.Registers.{device_header, bridge_header};
 ghost use Rattle.pci_spec.specs.Header as header;
 ghost use Rattle.pci_image.specs.Registers.{register_value, is_readable};
@@ -87,6 +87,33 @@ const BRIDGE: [Register; 16] = [
     register!(INTERRUPT_LINE, 1, Role::Control(0xff)), // PCI 3.0, 6.2.4
 ];
 
+/// How many bytes a header has.
+pub const HEADER_LEN: usize = 64;
+
+/// In an address register.
+const A: bool = true;
+
+/// Elsewhere in a header.
+const O: bool = false;
+
+/// The bytes of a type 0 header that lie in address registers: the BARs and the expansion ROM
+/// (PCI 3.0, 6.2.5).
+static DEVICE_BYTES: [bool; HEADER_LEN] = [
+    O, O, O, O, O, O, O, O, O, O, O, O, O, O, O, O, // 00
+    A, A, A, A, A, A, A, A, A, A, A, A, A, A, A, A, // 10: BARs 0 to 3
+    A, A, A, A, A, A, A, A, O, O, O, O, O, O, O, O, // 20: BARs 4 and 5
+    A, A, A, A, O, O, O, O, O, O, O, O, O, O, O, O, // 30: the expansion ROM
+];
+
+/// Those of a type 1 header: the BARs, the I/O, memory and prefetchable windows with their upper
+/// halves, and the expansion ROM (Bridge 1.2, 3.2.5).
+static BRIDGE_BYTES: [bool; HEADER_LEN] = [
+    O, O, O, O, O, O, O, O, O, O, O, O, O, O, O, O, // 00
+    A, A, A, A, A, A, A, A, O, O, O, O, A, A, O, O, // 10: BARs 0 and 1; the I/O window at 1c
+    A, A, A, A, A, A, A, A, A, A, A, A, A, A, A, A, // 20: the memory and prefetchable windows
+    A, A, A, A, O, O, O, O, A, A, A, A, O, O, O, O, // 30: the I/O window; the expansion ROM at 38
+];
+
 /// The registers of a device's or a bridge's header that a write can change.
 pub fn registers(bridge: bool) -> &'static [Register]
     ensures table { map register_value result.now ≡ (if bridge then bridge_header else device_header) }
@@ -100,6 +127,13 @@ pub fn address_registers(bridge: bool) -> &'static [Register]
     ensures { map (λ r. (r.offset, r.width)) result.now ≡ header.address_registers (if bridge then 1 else 0) }
 {
     if bridge { &BRIDGE[..9] } else { &DEVICE[..7] }
+}
+
+/// Which bytes of a header lie in one of those.
+pub fn address_bytes(bridge: bool) -> &'static [bool; HEADER_LEN]
+    ensures { (offset : ℕ) → offset < 64 → slice_index_or result.now offset false ≡ list_any (header.is_in_register offset) (header.registers_by bridge) }
+{
+    if bridge { &BRIDGE_BYTES } else { &DEVICE_BYTES }
 }
 
 /// The offset of the Expansion ROM Base Address register of a device or a bridge.
