@@ -1,5 +1,6 @@
 //! The writes that lead from one dump to another, in an order in which they may stop anywhere.
 ghost use Rattle.std.specs.Prelude.{◌≡◌, ◌++◌, ◌*◌, map, length, count_by, OnOk, IfOk};
+ghost use Rattle.pci_spec.specs.Registers as table;
 ghost use Rattle.pci_spec.specs.Header.{command};
 ghost use Rattle.pci_spec.specs.Machine.{without_low};
 ghost use Rattle.pci_spec.specs.Planning.PlanWrites.{plan_writes, closing_writes, registers_of, opening_of};
@@ -31,7 +32,7 @@ fn is_on(image: &Image) -> bool
 
 /// A write to Command.
 fn command_write(slot: Slot, command: u16) -> Write
-    ensures { write_value result ≡ record { slot = slot; offset = 0x04; width = 2; value = command } }
+    ensures { write_value result ≡ record { slot = slot; offset = table.COMMAND; width = 2; value = command } }
 {
     Write {
         slot,
