@@ -2,8 +2,10 @@
 ghost use Rattle.std.specs.Prelude.{◌≡◌, ◌+◌, ◌*◌, ◌%◌, ◌^◌, ◌<◌, ◌≤◌, ◌↔◌, false, IsTrue, MatchResult, MatchOption, IsOk, IfOk, IfErr, None, map, All};
 ghost use Rattle.pci_spec.specs.Decoded.{decoded_bars};
 ghost use Rattle.pci_spec.specs.Number.{number_at};
+ghost use Rattle.pci_spec.specs.Bar as bar;
 ghost use Rattle.pci_spec.specs.Bar.{bar_kind, is_prefetchable, has_lawful_size, is_lawful};
 ghost use Rattle.pci_spec.specs.Header.{bar_register};
+ghost use Rattle.pci_spec.specs.Planning.Showing.{first_bit};
 ghost use Rattle.pci_image.specs.Bars.{decoded_kind_of, decoded_bar_of, HasLawfulBars, IsBarFault, IsLowestBarFault, IsComparedBar, IsDecodedAt, IsPlaced, broken_encoding, broken_register, broken_size};
 ghost use Rattle.pci_image.specs.Faults.{IsImageFaultIn, image_fault_number};
 
@@ -49,6 +51,30 @@ impl Default for Bar {
             first: 0,
             last: 0,
         }
+    }
+}
+
+impl BarKind {
+    /// How many encodings the low bits of a BAR's register have: bits 1:0 for I/O, bits 3:0 for
+    /// memory (6.2.5.1).
+    fn encodings(self) -> u32
+        ensures { result ≡ 2 ^ first_bit (decoded_kind_of self) }
+    {
+        match self {
+            BarKind::Io => 4,
+            BarKind::Mem32 | BarKind::Mem64 => 16,
+        }
+    }
+}
+
+impl Bar {
+    /// What the BAR's registers hold, both together where it has two, to answer addresses from a
+    /// first one on: that address, over the encoding that stands in its register.
+    pub fn value_from(&self, register: u32, first: u64) -> u64
+        requires { first + register % 2 ^ first_bit (decoded_kind_of self.now.kind) < 2 ^ 64 }
+        ensures { result ≡ first + register % 2 ^ first_bit (decoded_kind_of self.now.kind) }
+    {
+        first + u64::from(register % self.kind.encodings())
     }
 }
 
@@ -98,6 +124,27 @@ fn kind_of(reg: u8, value: u32, mask: u32) -> Result<BarKind, ImageFault>
         MEMORY_64 => Ok(BarKind::Mem64),
         _ => Err(ImageFault::BarType(reg)),
     }
+}
+
+/// Whether a BAR register is the lower half of a 64-bit memory BAR.
+fn is_wide(mask: u32) -> bool
+    ensures { result ≡ bar.is_wide mask }
+{
+    mask % 2 != 1 && mask / 2 % 4 == 2
+}
+
+/// Whether BAR register n starts a BAR, and is not the upper half of one, by what registers read
+/// back.
+pub fn starts_bar(probe: &Image, n: u8) -> bool
+    requires { n < 6 }
+    ensures { result ≡ bar.starts_bar probe.now.0 n }
+{
+    let mut starts = true;
+    for i in 0..n {
+        let before = probe.u32(BASE_ADDRESS + 4 * i);
+        starts = !(starts && is_wide(before));
+    }
+    starts
 }
 
 /// Whether a register is of a prefetchable memory BAR.

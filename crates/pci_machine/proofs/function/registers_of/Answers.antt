@@ -12,7 +12,7 @@ use Rattle.pci_image.specs.declared.fault.ImageFault.{ImageFault}
 use Rattle.pci_image.specs.declared.fault.ImageFault.TheVariants.{NoVendor, HeaderKind, BarType, BarMask, BarPair, RomMask, WindowMask, CapRange, CapLoop, CapCut}
 use Rattle.pci_spec.specs.Port.{IsTarget}
 use Rattle.pci_machine.specs.Masks.{HasBits}
-use Rattle.pci_machine.specs.RegisterTable.{writable_by, clearing_by}
+use Rattle.pci_spec.specs.Machine.{writable_by, clearing_by}
 use Rattle.pci_machine.proofs.MaskBits.{are_writable_bits, are_clearing_bits}
 use Rattle.pci_machine.proofs.MadeOrder.{first_of_bars, first_of_rom, first_of_windows}
 use Rattle.pci_machine.proofs.TargetOf.{IsTarget-target_of, no_write_of_header}

@@ -5,7 +5,7 @@ use Rattle.std.proofs.lemmas.Nat.Bits.{same_from_bits_below, bit_at_and, bit_at_
 use Rattle.pci_spec.specs.Number.{has_bit}
 use Rattle.pci_spec.specs.Machine.{written_bit}
 use Rattle.pci_spec.proofs.Bits.{digit, digit_of_bit, bit_at-number_of_bits, number_of_bits-lt}
-use Rattle.pci_machine.proofs.access.written_byte.Goals as goal
+use Rattle.pci_machine.proofs.registers.written_byte.Goals as goal
 
 by_cases : (w c d o : Bool) → max (min (min (digit o) (1 - digit w)) (1 - min (digit c) (digit d))) (min (digit d) (digit w)) ≡ digit (cond w d (cond (c && d) false o))
 by_cases true true true true = refl

@@ -1,6 +1,6 @@
 use Rattle.std.proofs.Common.{◌≡◌, ◌<◌, ◌≤◌, ◌+◌, ◌/◌, ◌%◌, ◌^◌, ℕ, length, slice_index}
 use Rattle.std.specs.Prelude.{◌⊎◌}
-use Rattle.pci_machine.proofs.number.put.Given as goal
+use Rattle.pci_image.proofs.image.put.Given as goal
 
 abbrev pub invariant-loop-j : goal.invariant-loop-j
 invariant-loop-j l = record {

@@ -1,7 +1,7 @@
 use Rattle.std.proofs.Common.{◌≡◌, ◌≢◌, ◌+◌, ◌^◌, ◌/◌, ◌%◌, slice_index, set, arith, inl, inr, ap, ◌∙◌, sym, below_more, rules, get_or-set_same, get_or-set_other, length-set}
 use Rattle.std.proofs.Math.Nat.{div-div-eq-div-mul, pow-suc}
-use Rattle.pci_machine.proofs.Sizing.{access-end}
-use Rattle.pci_machine.proofs.number.put.Goals as goal
+use Rattle.pci_image.proofs.Accesses.{access-end}
+use Rattle.pci_image.proofs.image.put.Goals as goal
 
 pub loop-j-preserved : goal.loop-j-preserved
 loop-j-preserved c =

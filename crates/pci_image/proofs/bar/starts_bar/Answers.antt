@@ -1,7 +1,7 @@
 use Rattle.std.proofs.Common.{◌&&◌, not, sym, ◌∙◌, ap, add-one}
 use Rattle.pci_spec.specs.Bar.{starts_bar, is_wide, bar_at}
-use Rattle.pci_machine.proofs.table.starts_bar.Goals as goal
-use Rattle.pci_machine.proofs.table.starts_bar.Goals.{then-starts, else-starts}
+use Rattle.pci_image.proofs.bar.starts_bar.Goals as goal
+use Rattle.pci_image.proofs.bar.starts_bar.Goals.{then-starts, else-starts}
 
 pub loop-i-preserved : goal.loop-i-preserved
 loop-i-preserved c =
