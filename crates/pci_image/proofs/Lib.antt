@@ -1,6 +1,7 @@
 pub mod Accesses
 pub mod AddressBytes
 pub mod Comparators
+pub mod Puts
 pub mod Registers
 pub mod Sizes
 pub mod Decoding

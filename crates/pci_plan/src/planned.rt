@@ -22,27 +22,11 @@ use super::pools::Pools;
 use pci_dump::block::Block;
 use pci_dump::dump::Dump;
 use pci_dump::memory::{OutOfMemory, Refused};
-use pci_image::image::Image;
+use pci_image::image::{Image, put};
 use pci_image::offset::COMMAND;
 use pci_image::register::address_registers;
 use pci_tree::admitted::Admitted;
 use std::alloc::Allocator;
-
-/// Puts the little-endian bytes of a value into `width` bytes from an offset on.
-fn put(image: &mut Image, offset: u8, width: u8, value: u32)
-    requires image { IsImage image.old.0 }
-    requires room { offset + width ≤ 256 }
-    requires fits { value < 256 ^ width }
-    ensures number { number_at image.new.0 offset width ≡ value }
-    ensures others { (place : ℕ) → (place < offset) ⊎ (offset + width ≤ place) → byte_at image.new.0 place ≡ byte_at image.old.0 place }
-    ensures image { IsImage image.new.0 }
-{
-    let mut rest = value;
-    for j in 0..width {
-        image.0[usize::from(offset + j)] = (rest % 256) as u8;
-        rest /= 256;
-    }
-}
 
 /// The image of a function with its new numbers.
 fn filled(filling: &Filling<'_>) -> Image
@@ -52,13 +36,13 @@ fn filled(filling: &Filling<'_>) -> Image
     let mut image = *filling.image;
     for register in address_registers(filling.record.bridge.is_some()) {
         put(
-            &mut image,
+            &mut image.0,
             register.offset,
             register.width,
             filling.number(*register),
         );
     }
-    put(&mut image, COMMAND, 2, u32::from(filling.command()));
+    put(&mut image.0, COMMAND, 2, u32::from(filling.command()));
     image
 }
 
