@@ -2,16 +2,16 @@
 ghost use Rattle.std.specs.Prelude.{IfOk, MatchOption};
 ghost use Rattle.pci_spec.specs.System.{Space as SpaceValue, Io, Memory};
 ghost use Rattle.pci_tree.specs.Outline.{Tree};
-ghost use Rattle.pci_tree.specs.Space.{space_of};
+ghost use Rattle.pci_function.specs.Space.{space_of};
 ghost use Rattle.pci_check.specs.Stops.{AreReachesOf, AreListed};
 ghost use Rattle.pci_check.specs.Clashes.{NoneClashOn, IsClashFaultOn, IsClashFaultOnBus};
 
 use super::reached::Reached;
 use super::sweep::{Shared, least_shared};
 use pci_dump::memory::OutOfMemory;
-use pci_tree::fault::Fault;
+use pci_function::fault::Fault;
+use pci_function::space::Space;
 use pci_tree::region::Region;
-use pci_tree::space::Space;
 use std::alloc::Allocator;
 
 /// The clash of a bus and space at the least address, with the two least of its regions that claim it.

@@ -9,9 +9,9 @@ use super::reached::{BUSES, Reached};
 use super::split::first_split;
 use super::unreached::first_unreached;
 use pci_dump::memory::OutOfMemory;
-use pci_tree::fault::Fault;
+use pci_function::fault::Fault;
+use pci_function::space::Space;
 use pci_tree::outline::Outline;
-use pci_tree::space::Space;
 use std::alloc::Allocator;
 
 /// The first unreached region or, where there is none, the first clash.

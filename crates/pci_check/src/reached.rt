@@ -1,14 +1,14 @@
 //! What gets to each bus, of both spaces.
 ghost use Rattle.std.specs.Prelude.{◌≡◌, IfOk};
-ghost use Rattle.pci_tree.specs.Space.{space_of};
+ghost use Rattle.pci_function.specs.Space.{space_of};
 ghost use Rattle.pci_tree.specs.Ranges.{IsCanonical};
 ghost use Rattle.pci_check.specs.Stops.{AreReachesOf, AlwaysNested, ranges_at};
 
 use pci_dump::memory::OutOfMemory;
+use pci_function::space::Space;
 use pci_image::range::Range;
 use pci_tree::outline::Outline;
 use pci_tree::reach::Reach;
-use pci_tree::space::Space;
 use std::alloc::{Allocator, Global};
 use std::marker::Model;
 

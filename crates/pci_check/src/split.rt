@@ -1,17 +1,17 @@
 //! Splits: two regions on two root buses that claim one address.
 ghost use Rattle.std.specs.Prelude.{◌≡◌, IfOk, MatchOption};
 ghost use Rattle.pci_tree.specs.Roots.{buses_of};
-ghost use Rattle.pci_tree.specs.Space.{space_of};
+ghost use Rattle.pci_function.specs.Space.{space_of};
 ghost use Rattle.pci_check.specs.Clashes.{AreRootsListed, NoneSplitIn, IsSplitFaultIn, NoneSplit, IsSplitFault};
 
 use super::reached::BUSES;
 use super::sweep::{Shared, least_shared};
 use pci_dump::memory::OutOfMemory;
-use pci_tree::fault::Fault;
+use pci_function::fault::Fault;
+use pci_function::space::Space;
 use pci_tree::outline::Outline;
 use pci_tree::region::Region;
 use pci_tree::roots::Roots;
-use pci_tree::space::Space;
 use std::alloc::Allocator;
 
 /// The regions of all root buses that claim some address of a space.

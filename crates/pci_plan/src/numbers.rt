@@ -28,7 +28,7 @@ use pci_image::offset::{
 };
 use pci_image::window::Window;
 use pci_machine::address_register::AddressRegister;
-use pci_tree::record::{Bridge, Record};
+use pci_function::record::{Bridge, Record};
 
 /// A function with the places of its parts.
 #[derive(Clone, Copy)]

@@ -4,8 +4,8 @@ use Rattle.std.specs.List.{Contains, HoldsAt}
 use Rattle.pci_spec.specs.System.{Space, IsAddress}
 use Rattle.pci_spec.specs.Decoded as decoded
 use Rattle.pci_image.specs.declared.range.Range.{Range}
-use Rattle.pci_tree.specs.declared.record.Record.{Record}
-use Rattle.pci_tree.specs.Values.{record_value, bridge_value}
+use Rattle.pci_function.specs.declared.record.Record.{Record}
+use Rattle.pci_function.specs.Values.{record_value, bridge_value}
 use Rattle.pci_tree.specs.Passes.{record_passes, HaveSpans}
 use Rattle.pci_tree.specs.Ranges.{Covers, IsCanonical}
 use Rattle.pci_tree.specs.Ways.{Leads}

@@ -2,13 +2,13 @@
 ghost use Rattle.std.specs.Prelude.{◌≡◌, ◌++◌, OnOk};
 ghost use Rattle.std.specs.Option.{option_map};
 ghost use Rattle.pci_image.specs.Ranges.{decoded_range_of};
-ghost use Rattle.pci_tree.specs.Space.{space_of};
+ghost use Rattle.pci_function.specs.Space.{space_of};
 ghost use Rattle.pci_tree.specs.Regions.{space_in, same_space, bar_regions, window_regions, bridge_regions, rom_regions, regions_of};
 
-use super::record::{Bridge, Record};
-use super::space::Space;
 use super::window::range_of;
 use pci_dump::memory::OutOfMemory;
+use pci_function::record::{Bridge, Record};
+use pci_function::space::Space;
 use pci_image::bar::{Bar, BarKind};
 use pci_image::offset::{IO_BASE, MEMORY_BASE, PREFETCHABLE_BASE};
 use pci_image::range::Range;

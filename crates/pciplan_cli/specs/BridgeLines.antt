@@ -3,7 +3,7 @@ use Rattle.std.specs.Prelude.{ℕ, List, [], ◌∷◌, codes}
 use Rattle.pci_spec.specs.Text.{hex_byte}
 use Rattle.pci_spec.specs.Window as windows
 use Rattle.pci_spec.specs.Listing.{inner_line, window_text, window_line}
-use Rattle.pci_tree.specs.Space.{space_of}
+use Rattle.pci_function.specs.Space.{space_of}
 use Rattle.pciplan_cli.specs.declared.listing.bridge.BusLine.{BusLine}
 use Rattle.pciplan_cli.specs.declared.listing.bridge.Held.{Held}
 use Rattle.pciplan_cli.specs.declared.listing.bridge.WindowKind.{WindowKind}

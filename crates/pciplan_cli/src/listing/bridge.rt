@@ -8,7 +8,7 @@ use super::span::Span;
 use crate::hex_text::{end_line, push_byte};
 use pci_image::offset::{IO_BASE, MEMORY_BASE, PREFETCHABLE_BASE};
 use pci_image::window::Window;
-use pci_tree::space::Space;
+use pci_function::space::Space;
 use std::alloc::{AllocError, Allocator};
 
 /// The line of a bridge's primary, secondary and subordinate bus, as `bus 00 01 01`.

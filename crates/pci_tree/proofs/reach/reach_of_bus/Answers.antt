@@ -1,7 +1,7 @@
 use Rattle.std.proofs.Common.{◌<◌, length, subst, sym, ◌∙◌}
 use Rattle.std.specs.Prelude.{IfOk}
 use Rattle.std.proofs.lemmas.Result.{IfOk-weaker}
-use Rattle.pci_tree.specs.Space.{space_of}
+use Rattle.pci_function.specs.Space.{space_of}
 use Rattle.pci_tree.specs.Ranges.{IsCanonical}
 use Rattle.pci_tree.specs.Reaches.{IsStep}
 use Rattle.pci_tree.proofs.Reaching.{step_of, stands_below}

@@ -1,5 +1,5 @@
 use Rattle.std.proofs.Common.{subst, sym, ◌∙◌, arith}
-use Rattle.pci_tree.specs.Space.{space_of}
+use Rattle.pci_function.specs.Space.{space_of}
 use Rattle.pci_tree.specs.Outline.{IsReachTo}
 use Rattle.pci_tree.proofs.outline.Outline.reach.Goals as goal
 

@@ -4,7 +4,7 @@ use Rattle.std.specs.List.{All}
 use Rattle.std.proofs.lemmas.Result.{IfOk-weaker}
 use Rattle.pci_spec.specs.Bus.{IsNested}
 use Rattle.pci_spec.specs.Decoded.{HasRecords}
-use Rattle.pci_tree.specs.Space.{space_of}
+use Rattle.pci_function.specs.Space.{space_of}
 use Rattle.pci_tree.specs.Roots.{buses_of}
 use Rattle.pci_tree.specs.Ranges.{IsCanonical}
 use Rattle.pci_tree.specs.Reaches.{HasSpans, IsReachOf}
