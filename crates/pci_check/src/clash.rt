@@ -24,7 +24,8 @@ fn clash_on<A: Allocator + Copy>(
 {
     let sorted = outline.sorted(bus, space)?;
     let regions = sorted.as_slice();
-    match first_overlap(regions, reached.ranges(bus, space, true)) {
+    // Two regions meet where any access gets, so what gets furthest decides.
+    match first_overlap(regions, reached.ranges(bus, space.furthest())) {
         None => Ok(None),
         Some(overlap) => {
             let first = &regions[overlap.first];

@@ -8,3 +8,4 @@ pub mod Roms
 pub mod Windows
 pub mod Walking
 pub mod PlaceSets
+pub mod WindowKinds

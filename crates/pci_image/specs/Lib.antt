@@ -6,3 +6,4 @@ pub mod Header
 pub mod Ranges
 pub mod Roms
 pub mod Windows
+pub mod WindowKinds

@@ -23,3 +23,4 @@ pub mod range;
 pub mod rom;
 pub mod slot;
 pub mod window;
+pub mod window_kind;

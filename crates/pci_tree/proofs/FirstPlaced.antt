@@ -1,5 +1,5 @@
 -- The first fault of places, among all faults of places of a system.
-use Rattle.std.proofs.Common.{◌≡◌, ℕ, zero, suc, ◌+◌, ◌<◌, ◌≤◌, List, [], ◌∷◌, ◌++◌, refl, true, not, inl, inr, arith, sym, ◌∙◌, subst, ap, map}
+use Rattle.std.proofs.Common.{◌≡◌, ℕ, zero, suc, ◌<◌, ◌≤◌, List, [], ◌∷◌, ◌++◌, refl, true, not, inl, inr, arith, sym, ◌∙◌, subst, ap, map}
 use Rattle.std.specs.List.{Contains}
 use Rattle.std.proofs.lemmas.Bool.{both_ways, and_parts, not-true}
 use Rattle.pci_spec.specs.Slot.{Slot, IsSlot, slot_number}
