@@ -13,7 +13,7 @@ use Rattle.pci_spec.specs.Order.{IsFirst}
 use Rattle.pci_spec.specs.JudgingLaws.{region_number}
 use Rattle.pci_spec.proofs.Regions.{register_of-lt}
 use Rattle.pci_spec.proofs.Firsts.{slot_of, least_unreached_is_first}
-use Rattle.pci_tree.specs.declared.fault.Fault.{Fault}
+use Rattle.pci_function.specs.declared.fault.Fault.{Fault}
 use Rattle.pci_tree.specs.declared.region.Region.{Region}
 use Rattle.pci_tree.specs.Outline.{Tree}
 use Rattle.pci_check.specs.Trees.{HasTree}

@@ -3,7 +3,7 @@ use Rattle.pci_spec.specs.System.{System}
 use Rattle.pci_spec.specs.Sound.{IsHome}
 use Rattle.pci_spec.specs.JudgingLaws.{HasNoUnreached}
 use Rattle.pci_spec.proofs.Verdicts.{single_without_clashes, home_without_unreached}
-use Rattle.pci_tree.specs.declared.fault.Fault.{Fault}
+use Rattle.pci_function.specs.declared.fault.Fault.{Fault}
 use Rattle.pci_tree.specs.Outline.{Tree}
 use Rattle.pci_check.specs.Trees.{HasTree}
 use Rattle.pci_check.specs.Stops.{AlwaysNested}

@@ -3,7 +3,7 @@ use Rattle.std.proofs.Common.{ℕ, ◌<◌, List, [], get_or, Bool, true, false}
 use Rattle.pci_spec.specs.Window.{WindowKind, IoWindow, MemoryWindow, PrefetchWindow}
 use Rattle.pci_spec.specs.System.{System, Space, Io, Memory, window_space}
 use Rattle.pci_image.specs.declared.range.Range.{Range}
-use Rattle.pci_tree.specs.Space.{is_prefetch}
+use Rattle.pci_function.specs.Space.{is_prefetch}
 use Rattle.pci_tree.specs.Outline.{Tree}
 use Rattle.pci_check.specs.Trees.{HasTree}
 use Rattle.pci_check.specs.Listings.{AreReached}

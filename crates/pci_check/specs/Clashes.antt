@@ -4,9 +4,9 @@ use Rattle.std.specs.List.{Contains}
 use Rattle.pci_spec.specs.System.{System, Function, Space, Io, Memory, Part, Claims}
 use Rattle.pci_spec.specs.Order.{IsFirst}
 use Rattle.pci_spec.specs.JudgingLaws.{HasNoUnreached, HasNoClash, HasNoClashAt, HasNoSplit, HasNoSplitAt}
-use Rattle.pci_tree.specs.declared.fault.Fault.{Fault}
+use Rattle.pci_function.specs.declared.fault.Fault.{Fault}
 use Rattle.pci_tree.specs.declared.region.Region.{Region}
-use Rattle.pci_tree.specs.Fault.{fault_of}
+use Rattle.pci_function.specs.Fault.{fault_of}
 use Rattle.pci_tree.specs.Outline.{Tree}
 use Rattle.pci_check.specs.Trees.{HasTree}
 use Rattle.pci_check.specs.Listings.{IsRegionIn}

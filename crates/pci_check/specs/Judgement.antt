@@ -3,8 +3,8 @@ use Rattle.std.specs.Prelude.{Option, MatchOption}
 use Rattle.pci_spec.specs.System.{System}
 use Rattle.pci_spec.specs.Sound.{IsSingle, IsHome}
 use Rattle.pci_spec.specs.Order.{IsFirst}
-use Rattle.pci_tree.specs.declared.fault.Fault.{Fault}
-use Rattle.pci_tree.specs.Fault.{fault_of}
+use Rattle.pci_function.specs.declared.fault.Fault.{Fault}
+use Rattle.pci_function.specs.Fault.{fault_of}
 use Rattle.pci_tree.specs.Outline.{Tree}
 use Rattle.pci_check.specs.Trees.{HasTree}
 

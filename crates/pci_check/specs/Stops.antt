@@ -7,11 +7,11 @@ use Rattle.pci_spec.specs.System.{System, Function, Part, Space, is_window}
 use Rattle.pci_spec.specs.Bus.{IsNested}
 use Rattle.pci_spec.specs.Order.{IsFirst}
 use Rattle.pci_image.specs.declared.range.Range.{Range}
-use Rattle.pci_tree.specs.declared.fault.Fault.{Fault}
+use Rattle.pci_function.specs.declared.fault.Fault.{Fault}
 use Rattle.pci_tree.specs.declared.region.Region.{Region}
-use Rattle.pci_tree.specs.Space.{kind_in}
+use Rattle.pci_function.specs.Space.{kind_in}
 use Rattle.pci_tree.specs.Ranges.{Covers, IsCanonical}
-use Rattle.pci_tree.specs.Fault.{fault_of}
+use Rattle.pci_function.specs.Fault.{fault_of}
 use Rattle.pci_tree.specs.Outline.{Tree}
 use Rattle.pci_check.specs.Trees.{HasTree}
 use Rattle.pci_check.specs.Listings.{is_of_window, AreReached, IsRegionIn, AreRegions}

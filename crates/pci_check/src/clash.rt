@@ -1,15 +1,15 @@
 //! Clashes: two regions of one bus that claim an address which gets there.
 ghost use Rattle.std.specs.Prelude.{IfOk, MatchOption};
-ghost use Rattle.pci_tree.specs.Space.{space_of};
+ghost use Rattle.pci_function.specs.Space.{space_of};
 ghost use Rattle.pci_check.specs.Stops.{AreReachesOf};
 ghost use Rattle.pci_check.specs.Clashes.{NoneClashOn, IsClashFaultOn, NoneClash, IsClashFault};
 
 use super::reached::{BUSES, Reached};
 use super::sweep::first_overlap;
 use pci_dump::memory::OutOfMemory;
-use pci_tree::fault::Fault;
+use pci_function::fault::Fault;
 use pci_tree::outline::Outline;
-use pci_tree::space::Space;
+use pci_function::space::Space;
 use std::alloc::Allocator;
 
 /// The clash of a bus and space at the least address, with the two least regions that claim it.

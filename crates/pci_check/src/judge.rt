@@ -7,7 +7,7 @@ use super::reached::Reached;
 use super::split::first_split;
 use super::unreached::first_unreached;
 use pci_dump::memory::OutOfMemory;
-use pci_tree::fault::Fault;
+use pci_function::fault::Fault;
 use pci_tree::outline::Outline;
 use std::alloc::Allocator;
 

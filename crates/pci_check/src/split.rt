@@ -3,17 +3,17 @@ ghost use Rattle.std.specs.Prelude.{◌≡◌, IfOk, OnOk, MatchOption};
 ghost use Rattle.std.specs.List.Sorted.{IsNonDecreasingBy, IsPermutation};
 ghost use Rattle.pci_tree.specs.declared.region.Region.{Region};
 ghost use Rattle.pci_tree.specs.Roots.{buses_of};
-ghost use Rattle.pci_tree.specs.Space.{space_of};
+ghost use Rattle.pci_function.specs.Space.{space_of};
 ghost use Rattle.pci_check.specs.Clashes.{AreRootsListed, NoneSplitIn, IsSplitFaultIn, NoneSplit, IsSplitFault};
 
 use super::reached::BUSES;
 use super::sweep::first_overlap;
 use pci_dump::memory::OutOfMemory;
-use pci_tree::fault::Fault;
+use pci_function::fault::Fault;
 use pci_tree::outline::Outline;
 use pci_tree::region::Region;
 use pci_tree::roots::Roots;
-use pci_tree::space::Space;
+use pci_function::space::Space;
 use std::alloc::Allocator;
 
 /// The regions of all root buses that claim some address of a space.

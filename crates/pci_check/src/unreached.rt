@@ -3,24 +3,24 @@
 ghost use Rattle.std.specs.Prelude.{◌≡◌, ◌<◌, ℕ, false, length, Option, IfOk, IfSome, MatchOption, MatchBool};
 ghost use Rattle.pci_spec.specs.System.{System, Io, Memory};
 ghost use Rattle.pci_spec.specs.Sound.{IsHome};
-ghost use Rattle.pci_tree.specs.declared.fault.Fault.{Fault};
-ghost use Rattle.pci_tree.specs.Space.{space_of};
+ghost use Rattle.pci_function.specs.declared.fault.Fault.{Fault};
+ghost use Rattle.pci_function.specs.Space.{space_of};
 ghost use Rattle.pci_check.specs.Trees.{HasTree};
 ghost use Rattle.pci_check.specs.Listings.{is_of_window};
 ghost use Rattle.pci_check.specs.Stops.{AreReachesOf, IsWholeAt, IsReachedAt, IsOutsideAnswer, IsBusBehind, IsWholeBehind, IsLeastLost, IsFirstStop, IsEarlier, IsUnreachedFault, IsUnreachedFaultOn, IsWholeInEach, AreHomeInEach, AlwaysNested, AreListed};
 ghost use Rattle.pci_spec.specs.Order.{IsFirst};
-ghost use Rattle.pci_tree.specs.Fault.{fault_of};
+ghost use Rattle.pci_function.specs.Fault.{fault_of};
 
 use super::reached::{BUSES, Reached};
 use super::sweep::is_before;
 use pci_dump::memory::OutOfMemory;
 use pci_image::range::Range;
 use pci_image::slot::Slot;
-use pci_tree::fault::Fault;
+use pci_function::fault::Fault;
 use pci_tree::outline::Outline;
 use pci_tree::ranges::least_outside;
 use pci_tree::region::{Part, Region};
-use pci_tree::space::Space;
+use pci_function::space::Space;
 use std::alloc::Allocator;
 
 /// The least address of a region that doesn't get to a bus.

@@ -5,7 +5,7 @@ pub mod Decoding
 pub mod Reading
 pub mod Found
 pub mod Roms
-pub mod Windows
+pub mod WindowRules
 pub mod Walking
 pub mod PlaceSets
 pub mod WindowKinds

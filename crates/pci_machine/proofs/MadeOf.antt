@@ -20,8 +20,8 @@ use Rattle.pci_spec.proofs.Sizing.{sizing_finds_probe}
 use Rattle.pci_image.specs.Faults.{IsImageFaultIn, image_fault_number}
 use Rattle.pci_image.specs.declared.fault.ImageFault.{ImageFault}
 use Rattle.pci_image.specs.declared.fault.ImageFault.TheVariants.{NoVendor, HeaderKind, BarType, BarMask, BarPair, RomMask, WindowMask, CapRange, CapLoop, CapCut}
-use Rattle.pci_dump.specs.PairFault.{pair_fault}
-use Rattle.pci_dump.specs.Pair.{IsPair}
+use Rattle.pci_function.specs.PairFault.{pair_fault}
+use Rattle.pci_function.specs.Pair.{IsPair}
 use Rattle.pci_spec.specs.Port.{IsTarget}
 use Rattle.pci_machine.specs.Memory.{IsMachine}
 use Rattle.pci_spec.specs.Sizing.{function_at, IsSizable, IsStuck}

@@ -27,8 +27,8 @@ use Rattle.pci_image.specs.Faults.{IsImageFaultIn, image_fault_number}
 use Rattle.pci_image.specs.declared.fault.ImageFault.{ImageFault}
 use Rattle.pci_image.specs.declared.fault.ImageFault.TheVariants as images
 use Rattle.pci_dump.specs.declared.memory.Refused.TheVariants as refusals
-use Rattle.pci_dump.specs.PairFault.{pair_fault}
-use Rattle.pci_dump.specs.Pair.{IsPair}
+use Rattle.pci_function.specs.PairFault.{pair_fault}
+use Rattle.pci_function.specs.Pair.{IsPair}
 use Rattle.pci_machine.specs.Made.{name_fault, is_of_list, IsFirstFor, AreBarsFine, IsFirstOfRegisters}
 use Rattle.pci_machine.proofs.MadeOf.{at_place}
 

@@ -13,11 +13,11 @@ use Rattle.pci_spec.specs.Order.{is_before, image_at}
 use Rattle.pci_image.specs.Bars.{HasNoBarFaultBelow}
 use Rattle.pci_image.specs.declared.fault.ImageFault.{ImageFault}
 use Rattle.pci_image.specs.declared.fault.ImageFault.TheVariants as of_image
-use Rattle.pci_dump.specs.declared.pair_fault.PairFault.{PairFault}
-use Rattle.pci_dump.specs.declared.pair_fault.PairFault.TheVariants as of_pair
+use Rattle.pci_function.specs.declared.pair_fault.PairFault.{PairFault}
+use Rattle.pci_function.specs.declared.pair_fault.PairFault.TheVariants as of_pair
 use Rattle.pci_dump.specs.declared.memory.Refused.{Refused}
 use Rattle.pci_dump.specs.declared.memory.Refused.TheVariants.{Fault, Memory}
-use Rattle.pci_dump.specs.PairFault.{pair_fault}
+use Rattle.pci_function.specs.PairFault.{pair_fault}
 
 -- the fault of a function, with its slot; capabilities are not looked at
 abbrev pub name_fault : Slot → ImageFault → PairFault

@@ -9,7 +9,7 @@ ghost use Rattle.pci_machine.specs.Made.{name_fault, IsFirstOfRegisters};
 
 use crate::mask::{clearing_bytes, writable_bytes};
 use crate::registers::ConfigSpace;
-use pci_dump::pair_fault::PairFault;
+use pci_function::pair_fault::PairFault;
 use pci_image::bar::bars;
 use pci_image::fault::ImageFault;
 use pci_image::header::layout;

@@ -25,8 +25,8 @@ use Rattle.pci_spec.proofs.Planning.NumbersFit.{window_room, parts_fit}
 use Rattle.pci_spec.proofs.Planning.WindowFits.{few_nibbles, by_absent, by_open, by_closed}
 use Rattle.pci_image.specs.WindowKinds.{kind_value, by_kind}
 use Rattle.pci_image.specs.Windows.{window_of}
-use Rattle.pci_tree.specs.declared.record.Bridge.{Bridge}
-use Rattle.pci_tree.specs.Values.{bridge_value}
+use Rattle.pci_function.specs.declared.record.Bridge.{Bridge}
+use Rattle.pci_function.specs.Values.{bridge_value}
 use Rattle.pci_tree.proofs.Lifting.{same_bridge}
 use Rattle.pci_tree.proofs.RegionParts.{same_bridge_of}
 use Rattle.pci_image.specs.declared.window_kind.WindowKind.{WindowKind as CodeKind}

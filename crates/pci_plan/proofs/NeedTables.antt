@@ -20,9 +20,9 @@ use Rattle.pci_spec.specs.Planning.Table.{need_behind}
 use Rattle.pci_spec.specs.Planning.BusNeeds.{added, added_on}
 use Rattle.pci_spec.proofs.Planning.Sums.{need_added}
 use Rattle.pci_spec.proofs.Planning.Tallies.{limited_add, greatest_append, behind_sizes, function_sizes, root_sizes, sum_of_function, part_of, added_more, whole_behind, greatest_by_slots}
-use Rattle.pci_tree.specs.declared.record.Bridge.{Bridge}
-use Rattle.pci_tree.specs.declared.record.Record.{Record}
-use Rattle.pci_tree.specs.Values.{record_value}
+use Rattle.pci_function.specs.declared.record.Bridge.{Bridge}
+use Rattle.pci_function.specs.declared.record.Record.{Record}
+use Rattle.pci_function.specs.Values.{record_value}
 use Rattle.pci_tree.proofs.Lifting.{same_bridge, same_slot_of}
 use Rattle.pci_tree.proofs.RegionParts.{same_bridge_of}
 use Rattle.pci_plan.specs.declared.above.Above.{Above}

@@ -15,7 +15,7 @@ use Rattle.pci_spec.specs.Plan.{class_of, same_class, size_of, sizes_in, bridges
 use Rattle.pci_image.specs.declared.rom.Rom.{Rom as CodeRom}
 use Rattle.pci_image.specs.Bars.{decoded_bar_of}
 use Rattle.pci_image.specs.Roms.{decoded_rom_of}
-use Rattle.pci_tree.specs.declared.record.Record.{Record}
+use Rattle.pci_function.specs.declared.record.Record.{Record}
 use Rattle.pci_plan.specs.declared.above.Above.{Above}
 use Rattle.pci_plan.specs.declared.pools.Pools.{Pools}
 use Rattle.pci_plan.specs.Pools.{pools_value}

@@ -22,8 +22,8 @@ use Rattle.pci_spec.proofs.Pairing.{function_of, function-at, length-system_of, 
 use Rattle.pci_spec.proofs.Planning.Placings.{table_of_places}
 use Rattle.pci_spec.proofs.Planning.Reach.{AreGood, good_pools}
 use Rattle.pci_tree.specs.Admission.{Admission, IsAdmitted}
-use Rattle.pci_tree.specs.declared.record.Record.{Record}
-use Rattle.pci_tree.specs.Values.{record_value}
+use Rattle.pci_function.specs.declared.record.Record.{Record}
+use Rattle.pci_function.specs.Values.{record_value}
 use Rattle.pci_tree.proofs.Pairings.{later_is_above}
 use Rattle.pci_check.proofs.Beside.{system_last}
 use Rattle.pci_plan.specs.Above.{system_in}

@@ -11,7 +11,7 @@ use Rattle.pci_spec.specs.Planning.Plannable.{IsPlannable}
 use Rattle.pci_spec.specs.Planning.Table.{is_placed, IsTable}
 use Rattle.pci_spec.specs.Planning.Numbers.{place_at}
 use Rattle.pci_machine.specs.declared.address_register.AddressRegister.{AddressRegister}
-use Rattle.pci_tree.specs.declared.record.Record.{Record}
+use Rattle.pci_function.specs.declared.record.Record.{Record}
 use Rattle.pci_image.specs.declared.window_kind.WindowKind.{WindowKind as CodeKind}
 use Rattle.pci_image.specs.declared.window_kind.WindowKind.TheVariants.{Io, Memory, Prefetchable}
 use Rattle.pci_plan.specs.declared.numbers.Bounds.{Bounds}

@@ -10,8 +10,8 @@ use Rattle.pci_spec.specs.Place.{Item}
 use Rattle.pci_spec.specs.Planning.Sorted.{all_items, group_of}
 use Rattle.pci_image.specs.declared.bar.Bar.{Bar as CodeBar}
 use Rattle.pci_image.specs.declared.rom.Rom.{Rom as CodeRom}
-use Rattle.pci_tree.specs.declared.record.Bridge.{Bridge}
-use Rattle.pci_tree.specs.declared.record.Record.{Record}
+use Rattle.pci_function.specs.declared.record.Bridge.{Bridge}
+use Rattle.pci_function.specs.declared.record.Record.{Record}
 use Rattle.pci_plan.specs.declared.above.Above.{Above}
 use Rattle.pci_plan.specs.declared.pools.Pools.{Pools as CodePools}
 use Rattle.pci_plan.specs.declared.item.Item.{Item as CodeItem}

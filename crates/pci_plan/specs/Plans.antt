@@ -11,8 +11,8 @@ use Rattle.pci_spec.specs.PlanPromise.{changes_between, IsPlanOf, IsSafeFrom, St
 use Rattle.pci_spec.specs.Planning.PlanWrites.{closing_writes, plan_writes, most_writes}
 use Rattle.pci_image.specs.WindowKinds.{kind_value}
 use Rattle.pci_tree.specs.Admission.{Admission, IsAdmitted}
-use Rattle.pci_tree.specs.Fault.{fault_of}
-use Rattle.pci_tree.specs.declared.fault.Fault.{Fault}
+use Rattle.pci_function.specs.Fault.{fault_of}
+use Rattle.pci_function.specs.declared.fault.Fault.{Fault}
 use Rattle.pci_plan.specs.Above.{system_in}
 use Rattle.pci_plan.specs.Pools.{pools_value}
 use Rattle.pci_plan.specs.declared.pools.Pools.{Pools}

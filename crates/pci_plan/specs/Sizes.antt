@@ -6,8 +6,8 @@ use Rattle.pci_spec.specs.Plan.{same_class, window_size, limited}
 use Rattle.pci_spec.specs.Plan as plan
 use Rattle.pci_image.specs.declared.bar.Bar.{Bar}
 use Rattle.pci_image.specs.declared.rom.Rom.{Rom}
-use Rattle.pci_tree.specs.declared.record.Bridge.{Bridge}
-use Rattle.pci_tree.specs.declared.record.Record.{Record}
+use Rattle.pci_function.specs.declared.record.Bridge.{Bridge}
+use Rattle.pci_function.specs.declared.record.Record.{Record}
 use Rattle.pci_plan.specs.declared.above.Above.{Above}
 use Rattle.pci_plan.specs.declared.pools.Pools.{Pools}
 use Rattle.pci_plan.specs.declared.need.Tally.{Tally}

@@ -21,7 +21,7 @@ use pci_image::bar::Bar;
 use pci_image::offset::BASE_ADDRESS;
 use pci_image::rom::Rom;
 use pci_tree::admitted::Admitted;
-use pci_tree::record::{Bridge, Record};
+use pci_function::record::{Bridge, Record};
 use pci_tree::roots::Roots;
 use std::alloc::Allocator;
 use std::cmp::Reverse;

@@ -16,7 +16,7 @@ use pci_image::window_kind::WindowKind;
 use pci_image::bar::Bar;
 use pci_image::rom::Rom;
 use pci_tree::admitted::Admitted;
-use pci_tree::record::Record;
+use pci_function::record::Record;
 use std::alloc::Allocator;
 
 /// No pool holds so much.

@@ -27,7 +27,7 @@ use pci_image::offset::{
     MEMORY_BASE, PREFETCHABLE_BASE, PREFETCHABLE_BASE_UPPER, PREFETCHABLE_LIMIT_UPPER,
 };
 use pci_machine::address_register::AddressRegister;
-use pci_tree::record::{Bridge, Record};
+use pci_function::record::{Bridge, Record};
 
 /// A function with the places of its parts.
 #[derive(Clone, Copy)]

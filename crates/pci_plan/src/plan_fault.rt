@@ -5,7 +5,7 @@ ghost use Rattle.pci_spec.specs.Line.{plan_fault_text};
 
 use pci_image::window_kind::WindowKind;
 use pci_image::slot::Slot;
-use pci_tree::fault::Fault;
+use pci_function::fault::Fault;
 use std::fmt;
 
 /// Why nothing is planned.

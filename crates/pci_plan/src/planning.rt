@@ -38,7 +38,7 @@ use pci_dump::dump::Dump;
 use pci_dump::memory::{OutOfMemory, Refused};
 use pci_tree::admit::outline_of;
 use pci_tree::admitted::Admitted;
-use pci_tree::fault::Fault;
+use pci_function::fault::Fault;
 use pci_tree::roots::Roots;
 use std::alloc::Allocator;
 

@@ -13,8 +13,8 @@ use Rattle.pci_spec.specs.Resource.{ResourceLine}
 use Rattle.pci_spec.specs.Derived.{derived_byte, derived_probe}
 use Rattle.pci_spec.specs.SizesText.{SizesBlock, sized_slots}
 use Rattle.pci_spec.specs.ProbeOf.{told_of, probe_block, probe_of, identity_fault, first_of}
-use Rattle.pci_dump.specs.Pair.{IsFine, IsPair}
-use Rattle.pci_dump.proofs.Pairs.{pair_is_fine}
+use Rattle.pci_function.specs.Pair.{IsFine, IsPair}
+use Rattle.pci_function.proofs.Pairs.{pair_is_fine}
 use Rattle.pci_machine.proofs.Targets.{find-none}
 use Rattle.pci_probe.specs.Derivation.{told}
 use Rattle.pci_probe.proofs.FirstOf.{first_of-none, header_of-none}

@@ -11,9 +11,9 @@ use Rattle.pci_spec.specs.Slot.{Slot, IsSlot, slot_number}
 use Rattle.pci_spec.specs.System.{System, Function, Space, Part}
 use Rattle.pci_spec.specs.Decoded.{IsDecodable, record_of}
 use Rattle.pci_spec.proofs.Members.{IsInPiece, in_flat_map_to, in_flat_map_from, pairs_flat_map}
-use Rattle.pci_tree.specs.declared.record.Record.{Record}
+use Rattle.pci_function.specs.declared.record.Record.{Record}
 use Rattle.pci_tree.specs.declared.region.Region.{Region}
-use Rattle.pci_tree.specs.Values.{record_value}
+use Rattle.pci_function.specs.Values.{record_value}
 use Rattle.pci_tree.specs.Regions.{regions_of, region_number, IsRegionOf, HasRegionOf, IsLawful, AreRegionsOf}
 use Rattle.pci_tree.specs.Outline.{RiseBySlot, IsBusPart}
 use Rattle.pci_tree.proofs.Lifting.{Has, StandsFor, record_for, function_for, same_slot_of}

@@ -22,12 +22,12 @@ use Rattle.pci_tree.proofs.EarlyFaults.{early-of_slots, early-of_here}
 use Rattle.pci_tree.proofs.FirstAmong.{among_listed, first_among, in_here, here_not_clear}
 use Rattle.pci_spec.proofs.Looking.{phase_le}
 use Rattle.pci_tree.specs.PlaceFaults.{IsPlaceRefusal}
-use Rattle.pci_tree.specs.declared.record.Record.{Record}
-use Rattle.pci_tree.specs.Values.{record_value}
+use Rattle.pci_function.specs.declared.record.Record.{Record}
+use Rattle.pci_function.specs.Values.{record_value}
 use Rattle.pci_tree.specs.Ways.{slots_of}
 use Rattle.pci_tree.specs.Outline.{RiseBySlot, Tree}
 use Rattle.pci_tree.specs.BusNumbers.{IsInPlace, first_function}
-use Rattle.pci_tree.specs.Profile.{IsAnswering, IsPlain, IsHere, IsClearBefore, controls_bridge, is_subtractive_bridge}
+use Rattle.pci_function.specs.Profile.{IsAnswering, IsPlain, IsHere, IsClearBefore, controls_bridge, is_subtractive_bridge}
 use Rattle.pci_tree.specs.Survey.{Surveyed, phase_noted, IsSurveyOf, IsOutlineOf, IsRefusedBy}
 use Rattle.pci_tree.proofs.Lifting.{Has}
 use Rattle.pci_tree.proofs.Faces.{SameFace, HaveFaces, faces_of}

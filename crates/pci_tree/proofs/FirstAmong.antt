@@ -14,9 +14,9 @@ use Rattle.pci_spec.proofs.Looking.{key_cases, phase_le, image_at_is}
 use Rattle.pci_spec.proofs.Members.{in_head, in_tail, in_cons_cases, pairs_head, pairs_tail}
 use Rattle.pci_spec.proofs.Nesting.{earlier_is_lower, one_function}
 use Rattle.pci_spec.proofs.Walks.{chain-no_low_place, chain-no_loop, chain-no_cut_body}
-use Rattle.pci_tree.specs.Profile.{IsHere, IsClearBefore}
+use Rattle.pci_function.specs.Profile.{IsHere, IsClearBefore}
 use Rattle.pci_tree.specs.Survey.{IsFirstAmong}
-use Rattle.pci_tree.proofs.FirstHere.{rest_of, key_at, key_is}
+use Rattle.pci_function.proofs.FirstHere.{rest_of, key_at, key_is}
 
 -- ---- faults of functions by themselves
 

@@ -15,10 +15,10 @@ use Rattle.pci_spec.specs.System as system
 use Rattle.pci_spec.specs.Decoded.{HasRecords, IsDecodable, record_of, bridge_of}
 use Rattle.pci_spec.specs.Decoded as decoded
 use Rattle.pci_spec.proofs.Members.{IsMade, in_map_to, in_map_from, pairs_map}
-use Rattle.pci_tree.specs.declared.record.Record.{Record}
-use Rattle.pci_tree.specs.declared.record.Bridge.{Bridge}
-use Rattle.pci_tree.specs.Values.{record_value, bridge_value}
-use Rattle.pci_tree.specs.Space.{is_prefetch}
+use Rattle.pci_function.specs.declared.record.Record.{Record}
+use Rattle.pci_function.specs.declared.record.Bridge.{Bridge}
+use Rattle.pci_function.specs.Values.{record_value, bridge_value}
+use Rattle.pci_function.specs.Space.{is_prefetch}
 use Rattle.pci_tree.specs.Passes.{record_passes}
 use Rattle.pci_tree.specs.Ways.{secondary_in, bus_behind, Leads, IsTheWay, AreSlotsOfWay, slots_of}
 use Rattle.pci_tree.specs.Reaches.{PassAll, GetsTo}

@@ -4,7 +4,7 @@ use Rattle.std.specs.List.{Contains}
 use Rattle.std.proofs.lemmas.List.{reverse-append, append_assoc, append-nil, length_push}
 use Rattle.std.proofs.lemmas.List.Elements.{Contains-get_or}
 use Rattle.pci_spec.specs.Slot.{Slot}
-use Rattle.pci_tree.specs.declared.record.Record.{Record}
+use Rattle.pci_function.specs.declared.record.Record.{Record}
 use Rattle.pci_tree.specs.Ways.{bus_behind, IsBridgeIn, Leads, IsForest, AreClear, LeadsAt, IsPlaceAbove, slots_of, AreSlotsOfWay, IsUnled}
 
 -- the record at a place is of a bridge

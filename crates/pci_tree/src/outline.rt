@@ -7,29 +7,29 @@ ghost use Rattle.pci_spec.specs.Decoded.{HasRecords};
 ghost use Rattle.pci_spec.specs.Bus.{IsNested};
 ghost use Rattle.pci_spec.specs.Slot.{IsSlot};
 ghost use Rattle.pci_tree.specs.PlaceFaults.{IsPlaceRefusal};
-ghost use Rattle.pci_tree.specs.Fault.{fault_of};
+ghost use Rattle.pci_function.specs.Fault.{fault_of};
 ghost use Rattle.pci_image.specs.declared.range.Range.{Range as RangeValue};
 ghost use Rattle.pci_image.specs.WindowKinds.{kind_value};
-ghost use Rattle.pci_tree.specs.Space.{space_of, is_prefetch};
+ghost use Rattle.pci_function.specs.Space.{space_of, is_prefetch};
 ghost use Rattle.pci_tree.specs.Roots.{buses_of};
 ghost use Rattle.pci_tree.specs.Ranges.{IsCanonical};
 ghost use Rattle.pci_tree.specs.BusNumbers.{IsInPlace};
-ghost use Rattle.pci_tree.specs.Values.{record_value};
+ghost use Rattle.pci_function.specs.Values.{record_value};
 ghost use Rattle.pci_tree.specs.Regions.{AreRegionsOf, IsLawful, regions_of, region_number};
 ghost use Rattle.pci_tree.specs.Ways.{is_bridging, slots_of};
 ghost use Rattle.pci_tree.specs.Outline.{RiseBySlot, IsOutline, IsPathTo, IsReachTo, IsBefore, AreSortedRegionsOf};
 
 use super::bus::{has_slot, on_bus};
 use super::buses::first_place_fault;
-use super::fault::Fault;
 use super::path::{bridge_to_bus, path};
 use super::reach::{Reach, reaches};
-use super::record::Record;
 use super::region::{Region, add_regions};
 use super::roots::Roots;
-use super::space::Space;
 use arrayvec::ArrayVec;
 use pci_dump::memory::OutOfMemory;
+use pci_function::fault::Fault;
+use pci_function::record::Record;
+use pci_function::space::Space;
 use pci_image::range::Range;
 use pci_image::slot::Slot;
 use pci_image::window_kind::WindowKind;
@@ -47,7 +47,7 @@ pub struct Outline<A: Allocator = Global> {
 
 impl<A: Allocator> Model for Outline<A> {
     ghost use Rattle.std.specs.Prelude.{map};
-    ghost use Rattle.pci_tree.specs.Values.{record_value};
+    ghost use Rattle.pci_function.specs.Values.{record_value};
     ghost use Rattle.pci_tree.specs.Roots.{buses_of};
     ghost use Rattle.pci_tree.specs.Ways.{IsBridgeToBus};
     ghost use Rattle.pci_tree.specs.Outline.{Tree, IsOutline};

@@ -3,9 +3,9 @@ ghost use Rattle.std.specs.Prelude.{◌<◌, MatchOption};
 ghost use Rattle.pci_tree.specs.Roots.{buses_of};
 ghost use Rattle.pci_tree.specs.Ways.{IsForest, IsBridgeToBus, AreClear, AreSlotsOfWay, IsUnled};
 
-use super::record::Record;
 use super::roots::Roots;
 use arrayvec::ArrayVec;
+use pci_function::record::Record;
 use pci_image::slot::Slot;
 
 /// At each bus the place of the bridge that leads there.

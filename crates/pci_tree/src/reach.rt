@@ -4,18 +4,18 @@ ghost use Rattle.std.specs.Prelude.{◌≡◌, ◌<◌, ℕ, List, length, IfOk,
 ghost use Rattle.std.specs.List.{All};
 ghost use Rattle.pci_image.specs.declared.range.Range.{Range};
 ghost use Rattle.pci_image.specs.WindowKinds.{kind_value};
-ghost use Rattle.pci_tree.specs.Space.{space_of};
+ghost use Rattle.pci_function.specs.Space.{space_of};
 ghost use Rattle.pci_tree.specs.Ranges.{IsCanonical};
 ghost use Rattle.pci_tree.specs.Roots.{buses_of};
 ghost use Rattle.pci_tree.specs.Ways.{IsForest, IsBridgeToBus};
 ghost use Rattle.pci_tree.specs.Reaches.{IsReachOf, IsStep, IsWhole, HasSpans, StandsBelow};
 
 use super::forwarded::passed_on;
-use super::record::Record;
 use super::roots::Roots;
-use super::space::Space;
 use super::window::forwarded;
 use pci_dump::memory::OutOfMemory;
+use pci_function::record::Record;
+use pci_function::space::Space;
 use pci_image::range::Range;
 use pci_image::window_kind::WindowKind;
 use std::alloc::{Allocator, Global};

@@ -12,8 +12,8 @@ use Rattle.pci_dump.specs.declared.memory.Refused.TheVariants as refusals
 use Rattle.pci_image.specs.Faults.{IsImageFaultIn}
 use Rattle.pci_image.specs.declared.fault.ImageFault.{ImageFault}
 use Rattle.pci_image.specs.declared.fault.ImageFault.TheVariants.{NoVendor, HeaderKind, BarType, BarMask, BarPair, RomMask, WindowMask, CapRange, CapLoop, CapCut}
-use Rattle.pci_tree.specs.declared.fault.Fault.{Fault}
-use Rattle.pci_tree.specs.Fault.{image_fault_at}
+use Rattle.pci_function.specs.declared.fault.Fault.{Fault}
+use Rattle.pci_function.specs.Fault.{image_fault_at}
 use Rattle.pciplan_cli.specs.Shows.{function_of, IsRefusedFor, IsRefusedIn}
 
 -- two dumps of the same slots have as many blocks

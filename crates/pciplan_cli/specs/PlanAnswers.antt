@@ -10,7 +10,7 @@ use Rattle.pci_spec.specs.Plan as plan
 use Rattle.pci_spec.specs.PlanPromise.{IsPlanFaultOf}
 use Rattle.pci_dump.specs.Begun.{AppendsBeginning}
 use Rattle.pci_tree.specs.Admission.{Admission, IsAdmitted}
-use Rattle.pci_tree.specs.Fault.{fault_of}
+use Rattle.pci_function.specs.Fault.{fault_of}
 use Rattle.pci_plan.specs.Above.{system_in}
 use Rattle.pci_plan.specs.Plans.{PlanValue, IsPlanIn, plan_fault_of}
 use Rattle.pciplan_cli.specs.Answers.{IsDumpOf}

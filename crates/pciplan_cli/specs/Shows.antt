@@ -7,8 +7,8 @@ use Rattle.pci_dump.specs.declared.memory.Refused.{Refused}
 use Rattle.pci_dump.specs.declared.memory.Refused.TheVariants as refusals
 use Rattle.pci_image.specs.Faults.{IsImageFaultIn}
 use Rattle.pci_image.specs.declared.fault.ImageFault.{ImageFault}
-use Rattle.pci_tree.specs.declared.fault.Fault.{Fault}
-use Rattle.pci_tree.specs.Fault.{fault_of, image_fault_at}
+use Rattle.pci_function.specs.declared.fault.Fault.{Fault}
+use Rattle.pci_function.specs.Fault.{fault_of, image_fault_at}
 
 -- the function of a block and of its probe
 abbrev pub function_of : Block → Block → Function

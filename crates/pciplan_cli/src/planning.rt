@@ -16,7 +16,7 @@ use pci_plan::planning::plan;
 use pci_plan::pools::Pools;
 use pci_plan::write::Write as RegisterWrite;
 use pci_tree::admit::admit_with;
-use pci_tree::fault::Fault;
+use pci_function::fault::Fault;
 use pci_tree::roots::Roots;
 use std::alloc::{AllocError, Allocator};
 

@@ -5,7 +5,7 @@ ghost use Rattle.std.specs.Io.KnownBytes.{Appends};
 ghost use Rattle.pci_spec.specs.Line.{verdict_line};
 ghost use Rattle.pci_check.specs.Audits.{HasBegun};
 ghost use Rattle.pci_dump.specs.Begun.{AppendsBeginning};
-ghost use Rattle.pci_tree.specs.Fault.{fault_of};
+ghost use Rattle.pci_function.specs.Fault.{fault_of};
 ghost use Rattle.pci_tree.specs.Roots.{buses_of};
 ghost use Rattle.pci_tree.specs.declared.roots.Roots.{Roots};
 ghost use Rattle.pciplan_cli.specs.Answers.{HasFailed, IsChecked, IsAnswer, IsDumpOf, IsShown, IsBegun, IsSized, IsSizeBegun, IsSizing, IsTextRefused, IsTextTrouble};
@@ -31,7 +31,7 @@ use pci_dump::streams::{Sink, Source};
 use pci_dump::write::{write_all, write_dump};
 use pci_plan::plan_fault::PlanFault;
 use pci_plan::pools::Pools;
-use pci_tree::fault::Fault;
+use pci_function::fault::Fault;
 use pci_tree::roots::Roots;
 use std::alloc::Allocator;
 

@@ -3,8 +3,8 @@ ghost use Rattle.std.specs.Prelude.{◌≡◌, ◌++◌, [], ◌∷◌, OnOk, If
 ghost use Rattle.std.specs.String.{string_bytes};
 ghost use Rattle.pci_spec.specs.System.{system_of};
 ghost use Rattle.pci_spec.specs.Listing.{listing, function_listing};
-ghost use Rattle.pci_dump.specs.PairFault.{pair_fault};
-ghost use Rattle.pci_tree.specs.Fault.{fault_of};
+ghost use Rattle.pci_function.specs.PairFault.{pair_fault};
+ghost use Rattle.pci_function.specs.Fault.{fault_of};
 ghost use Rattle.pciplan_cli.specs.Shows.{function_of, IsRefusedFor, IsRefusedIn};
 
 use crate::listing::function::push_function;
@@ -12,9 +12,9 @@ use crate::listing::stop::Stop;
 use pci_dump::block::Block;
 use pci_dump::dump::Dump;
 use pci_dump::memory::Refused;
-use pci_dump::pair::pair;
-use pci_dump::pair_fault::PairFault;
-use pci_tree::fault::Fault;
+use pci_function::pair::pair;
+use pci_function::pair_fault::PairFault;
+use pci_function::fault::Fault;
 use std::alloc::Allocator;
 
 /// The fault of a dump and its probe, as one of a system.

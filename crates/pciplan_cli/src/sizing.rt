@@ -13,7 +13,7 @@ use pci_image::image::Image;
 use pci_image::slot::Slot;
 use pci_machine::machine::Machine;
 use pci_machine::size::size;
-use pci_tree::fault::Fault;
+use pci_function::fault::Fault;
 use std::alloc::Allocator;
 
 /// What sizing the function at a slot finds.

@@ -1,5 +1,5 @@
 use Rattle.std.proofs.Common.{arith, ◌∙◌, ap, get_or, []}
-use Rattle.pci_tree.specs.Space.{space_of}
+use Rattle.pci_function.specs.Space.{space_of}
 use Rattle.pci_check.specs.Stops.{reaches_by}
 use Rattle.pci_check.proofs.Clashing.{allowed_at, none_clash, clash_fault}
 use Rattle.pci_check.proofs.clash.clash_on.Goals as goal

@@ -1,7 +1,7 @@
 use Rattle.std.proofs.Common.{◌≡◌, Option, None, Some, arith, subst, ℕ}
 use Rattle.std.specs.Prelude.{MatchOption}
 use Rattle.pci_spec.specs.System.{Space, Io, Memory}
-use Rattle.pci_tree.specs.declared.fault.Fault.{Fault}
+use Rattle.pci_function.specs.declared.fault.Fault.{Fault}
 use Rattle.pci_tree.specs.Outline.{Tree}
 use Rattle.pci_check.specs.Clashes.{NoneClashOn, IsClashFaultOn}
 use Rattle.pci_check.proofs.Clashing.{none_below_more, none_clash_at_all, first_in_io, first_in_memory}

@@ -1,6 +1,6 @@
 use Rattle.std.proofs.Common.{◌≡◌, Option, None, Some, subst}
 use Rattle.std.specs.Prelude.{MatchOption}
-use Rattle.pci_tree.specs.declared.fault.Fault.{Fault}
+use Rattle.pci_function.specs.declared.fault.Fault.{Fault}
 use Rattle.pci_check.specs.Clashes.{NoneClash, IsClashFault, NoneSplit, IsSplitFault}
 use Rattle.pci_check.specs.Judgement.{IsFirstInEach}
 use Rattle.pci_check.proofs.Judges.{AreHome, clash_is_first, split_is_first, free}

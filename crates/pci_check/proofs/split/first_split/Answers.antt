@@ -1,7 +1,7 @@
 use Rattle.std.proofs.Common.{◌≡◌, Option, None, Some, subst}
 use Rattle.std.specs.Prelude.{MatchOption}
 use Rattle.pci_spec.specs.System.{Space, Io, Memory}
-use Rattle.pci_tree.specs.declared.fault.Fault.{Fault}
+use Rattle.pci_function.specs.declared.fault.Fault.{Fault}
 use Rattle.pci_tree.specs.Outline.{Tree}
 use Rattle.pci_check.specs.Clashes.{NoneSplitIn, IsSplitFaultIn}
 use Rattle.pci_check.proofs.Splitting.{split_first_in_io, split_first_in_memory, none_split_at_all}

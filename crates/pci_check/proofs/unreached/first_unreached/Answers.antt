@@ -1,6 +1,6 @@
 use Rattle.std.proofs.Common.{Option, arith, below_more, subst}
 use Rattle.std.specs.Prelude.{MatchOption}
-use Rattle.pci_tree.specs.declared.fault.Fault.{Fault}
+use Rattle.pci_function.specs.declared.fault.Fault.{Fault}
 use Rattle.pci_check.specs.Stops.{AreHomeInEach, IsUnreachedFaultOn}
 use Rattle.pci_check.proofs.Homes.{all_home}
 use Rattle.pci_check.proofs.unreached.first_unreached.Goals as goal

@@ -3,7 +3,7 @@ use Rattle.std.specs.List.Sorted.{IsStrictlyIncreasing}
 use Rattle.pci_spec.specs.Decoded.{HasRecords}
 use Rattle.pci_spec.specs.Planning.Sorted.{group_of}
 use Rattle.pci_image.specs.WindowKinds.{kind_value}
-use Rattle.pci_tree.specs.Values.{record_value}
+use Rattle.pci_function.specs.Values.{record_value}
 use Rattle.pci_tree.proofs.RootLists.{set_rises}
 use Rattle.pci_plan.specs.Above.{system_in}
 use Rattle.pci_plan.proofs.ItemValues.{items_none, items_all, bars_at, items_step}

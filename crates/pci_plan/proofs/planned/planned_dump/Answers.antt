@@ -15,8 +15,8 @@ use Rattle.pci_spec.specs.Planning.Table.{IsTable}
 use Rattle.pci_spec.specs.Planning.Numbers.{IsPlannedFunction, place_at}
 use Rattle.pci_spec.proofs.Pairing.{function_of, same_length, length-system_of}
 use Rattle.pci_tree.specs.Admission.{IsAdmitted}
-use Rattle.pci_tree.specs.Values.{record_value}
-use Rattle.pci_tree.specs.declared.record.Record.{Record}
+use Rattle.pci_function.specs.Values.{record_value}
+use Rattle.pci_function.specs.declared.record.Record.{Record}
 use Rattle.pci_tree.proofs.RootLists.{set_rises}
 use Rattle.pci_plan.specs.Above.{system_in}
 use Rattle.pci_plan.specs.Pools.{pools_value}

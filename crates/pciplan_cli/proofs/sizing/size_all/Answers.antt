@@ -7,8 +7,8 @@ use Rattle.pci_spec.specs.System.{system_of}
 use Rattle.pci_spec.specs.Machine.{Target, sized}
 use Rattle.pci_spec.specs.Fault as faults
 use Rattle.pci_dump.specs.declared.memory.Refused.{Refused}
-use Rattle.pci_dump.specs.declared.pair_fault.PairFault.{PairFault}
-use Rattle.pci_dump.specs.PairFault.{pair_fault}
+use Rattle.pci_function.specs.declared.pair_fault.PairFault.{PairFault}
+use Rattle.pci_function.specs.PairFault.{pair_fault}
 use Rattle.pci_machine.specs.Made.{IsRefusedFor}
 use Rattle.pci_spec.specs.Sizing.{function_at, IsSizable}
 use Rattle.pciplan_cli.proofs.Shows.{same_count}

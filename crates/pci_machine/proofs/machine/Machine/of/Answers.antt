@@ -8,8 +8,8 @@ use Rattle.pci_spec.specs.Fault.{IsThere}
 use Rattle.pci_spec.specs.Decoded.{IsDecodable}
 use Rattle.pci_spec.proofs.Pairing.{same_length, length-system_of}
 use Rattle.pci_dump.specs.declared.memory.Refused.TheVariants as refusals
-use Rattle.pci_dump.specs.PairFault.{pair_fault}
-use Rattle.pci_dump.specs.Pair.{IsPair}
+use Rattle.pci_function.specs.PairFault.{pair_fault}
+use Rattle.pci_function.specs.Pair.{IsPair}
 use Rattle.pci_machine.specs.Memory.{IsMachine}
 use Rattle.pci_spec.specs.Sizing.{function_at, IsSizable}
 use Rattle.pci_machine.specs.Made.{name_fault, IsFirstFor}

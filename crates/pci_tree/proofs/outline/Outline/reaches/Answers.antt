@@ -6,7 +6,7 @@ use Rattle.pci_spec.specs.Bus.{IsNested}
 use Rattle.pci_spec.specs.Decoded.{HasRecords}
 use Rattle.pci_spec.specs.System.{window_space}
 use Rattle.pci_image.specs.WindowKinds.{kind_value}
-use Rattle.pci_tree.specs.Space.{is_prefetch}
+use Rattle.pci_function.specs.Space.{is_prefetch}
 use Rattle.pci_tree.specs.Roots.{buses_of}
 use Rattle.pci_tree.specs.Ranges.{IsCanonical}
 use Rattle.pci_tree.specs.Reaches.{HasSpans, IsReachOf}
