@@ -16,7 +16,6 @@ pub mod decode;
 pub mod examine;
 pub mod fault;
 pub mod pair;
-pub mod pair_fault;
 mod profile;
 pub mod record;
 pub mod space;
