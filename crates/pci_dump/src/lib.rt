@@ -33,3 +33,12 @@ pub mod slot_text;
 pub mod std_streams;
 pub mod streams;
 pub mod write;
+
+pub use block::{Block, Title};
+pub use dump::{Dump, PushFault};
+pub use memory::{OutOfMemory, Refused};
+pub use read_fault::{ReadFault, WriteFault};
+pub use reader::{Reader, read_dump};
+pub use std_streams::{Incoming, Outgoing};
+pub use streams::{Failed, Sink, Source};
+pub use write::write_dump;

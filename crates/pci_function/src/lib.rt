@@ -20,3 +20,8 @@ mod profile;
 pub mod record;
 pub mod space;
 mod stray;
+
+pub use fault::Fault;
+pub use pair_fault::PairFault;
+pub use record::{Bridge, Record};
+pub use space::{Address, Space};

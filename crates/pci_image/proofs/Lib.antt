@@ -5,6 +5,6 @@ pub mod Decoding
 pub mod Reading
 pub mod Found
 pub mod Roms
-pub mod Windows
+pub mod WindowRules
 pub mod Walking
 pub mod PlaceSets

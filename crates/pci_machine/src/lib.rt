@@ -28,3 +28,8 @@ mod registers;
 pub mod size;
 pub mod size_fault;
 pub mod table;
+
+pub use fail_at::FailAt;
+pub use machine::Machine;
+pub use port::{ConfigPort, PortError};
+pub use size_fault::SizeFault;

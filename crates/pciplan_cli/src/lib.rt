@@ -1,4 +1,14 @@
 //! The command line of `pciplan`: its words, its tasks, its messages and its statuses.
+//!
+//! [`words::start`] makes a line of the words, or writes why there is none. [`run::run`] carries it out over two
+//! texts that are handed in, and [`program::program`] over texts that it opens by their paths: it is all that `main`
+//! calls.
+//!
+//! ```text
+//! let words = program::words_of(&rt); // as in `check DUMP PROBE`
+//! let status = program::program(rt.alloc(), words, &mut dump, &mut probe, &mut output, &mut errors);
+//! // 0 done or yes, 1 no, 2 refused, 3 out of memory, 4 a write failed
+//! ```
 #![tactic(auto)]
 
 pub mod asked;
@@ -17,3 +27,6 @@ pub mod show;
 pub mod sizing;
 pub mod trouble;
 pub mod words;
+
+pub use line::{Line, Task};
+pub use trouble::Trouble;

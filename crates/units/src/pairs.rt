@@ -1,5 +1,5 @@
-use crate::fakes::Pieces;
 use crate::texts::block;
+use boards::fakes::Pieces;
 use pci_dump::block::Block;
 use pci_dump::dump::Dump;
 use pci_function::pair::pair;

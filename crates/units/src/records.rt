@@ -1,4 +1,4 @@
-use crate::registers::{Registers, bridge, device, list_at};
+use boards::registers::{Registers, bridge, device, list_at};
 use pci_image::bar::{Bar, BarKind};
 use pci_image::fault::ImageFault;
 use pci_image::range::Range;

@@ -1,6 +1,6 @@
 use Rattle.std.proofs.Common.{refl}
 use Rattle.std.proofs.lemmas.Result.{err_from_is_err_and}
-use Rattle.pci_image.proofs.Windows.{header_fault-no_window}
+use Rattle.pci_image.proofs.WindowRules.{header_fault-no_window}
 use Rattle.pci_function.proofs.Decodes.{bridge_is_at}
 use Rattle.pci_function.proofs.decode.bridge_at.Goals as goal
 

@@ -9,14 +9,17 @@ pub struct Registers {
     pub probe: Image,
 }
 
-/// A device of vendor 1234h, without any BAR.
-pub fn device() -> Registers {
+/// Nothing but zeros.
+pub fn zeros() -> Registers {
     Registers {
         image: Image([0; 256]),
         probe: Image([0; 256]),
     }
-    .byte(0x00, 0x34)
-    .byte(0x01, 0x12)
+}
+
+/// A device of vendor 1234h and device 5678h, without any BAR.
+pub fn device() -> Registers {
+    zeros().bytes(0x00, &[0x34, 0x12, 0x78, 0x56])
 }
 
 /// A bridge of vendor 1234h with a memory window at 0 that has only its registers.

@@ -1,5 +1,4 @@
 //! The program, run on texts that are held in memory.
-use crate::board::{Function, texts_of};
 use pci_dump::std_streams::{Incoming, Outgoing};
 use pciplan_cli::line::{Line, Task};
 use pciplan_cli::run::run;
@@ -88,21 +87,4 @@ pub fn prints(
     wanted: (&str, &str, u8),
 ) -> Result<(), Fail> {
     is_answer(&run_words(rt, words, texts.0, texts.1), wanted)
-}
-
-/// Whether `check` gives this verdict on a board: `yes` with status 0, or a `no` line with status 1.
-///
-/// # Errors
-///
-/// What isn't as it is wanted.
-pub fn judges(rt: &impl AllocGlobal, board: &[Function], verdict: &str) -> Result<(), Fail> {
-    let texts = texts_of(rt.alloc(), board)?;
-    let line = format!(in rt.alloc(); "{verdict}\n")?;
-    let status = if verdict == "yes" { 0 } else { 1 };
-    prints(
-        rt,
-        &["check", "d", "p"],
-        (texts.dump.as_str(), texts.probe.as_str()),
-        (line.as_str(), "", status),
-    )
 }

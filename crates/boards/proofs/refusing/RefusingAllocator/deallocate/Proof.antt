@@ -38,11 +38,11 @@ use denote.RawPtr.{Ptr, block_ptr, null_ptr, ptr_val, rawptr_vals, rawptr_Tells}
 use denote.Builtin.{usize, RawPtr, RefOf}
 use denote.Triple.Call.{calls_at}
 use Rattle.std.proofs.alloc.Calls.{Al, α, seen, token, gives_key, Gives, at_gives, Gives-goes, Gives-Gives}
-use Rattle.pciplan_c.specs.contracts.refusing.Refusing as wrapper
-use Rattle.pciplan_c.specs.contracts.refusing.RefusingAllocator.deallocate as F
-use Rattle.pciplan_c.specs.contracts.refusing.RefusingAllocator.deallocate.Key as key
-use Rattle.pciplan_c.proofs.refusing.RefusingAllocator.deallocate.Statement as stated
-use Rattle.pciplan_c.proofs.refusing.RefusingAllocator.deallocate.Code as code
+use Rattle.boards.specs.contracts.refusing.Refusing as wrapper
+use Rattle.boards.specs.contracts.refusing.RefusingAllocator.deallocate as F
+use Rattle.boards.specs.contracts.refusing.RefusingAllocator.deallocate.Key as key
+use Rattle.boards.proofs.refusing.RefusingAllocator.deallocate.Statement as stated
+use Rattle.boards.proofs.refusing.RefusingAllocator.deallocate.Code as code
 
 module _ (Z : Al) where
   abbrev args : Args

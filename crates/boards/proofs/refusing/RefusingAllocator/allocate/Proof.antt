@@ -36,16 +36,16 @@ use denote.RawPtr.{block_ptr}
 use denote.Builtin.{usize, RefOf, u64, bool}
 use denote.Triple.Call.{calls_at}
 use Rattle.std.proofs.alloc.Calls.{Al, α, seen, Answer, answer_val, Answer-typed, Answer-Ok, Answer-err, takes_key, Takes, at_takes, Answered, Takes-goes, Takes-gives, answers}
-use Rattle.pciplan_c.proofs.refusing.is_refused.Symbol as c_sym
-use Rattle.pciplan_c.proofs.refusing.is_refused.Met as c_met
-use Rattle.pciplan_c.specs.contracts.refusing.Refusing as wrapper
-use Rattle.pciplan_c.specs.contracts.refusing.RefusingAllocator.allocate as F
-use Rattle.pciplan_c.specs.contracts.refusing.RefusingAllocator.allocate.Key as key
-use Rattle.pciplan_c.proofs.refusing.RefusingAllocator.allocate.Statement as stated
-use Rattle.pciplan_c.proofs.refusing.RefusingAllocator.allocate.Code as code
+use Rattle.boards.proofs.refusing.is_refused.Symbol as c_sym
+use Rattle.boards.proofs.refusing.is_refused.Met as c_met
+use Rattle.boards.specs.contracts.refusing.Refusing as wrapper
+use Rattle.boards.specs.contracts.refusing.RefusingAllocator.allocate as F
+use Rattle.boards.specs.contracts.refusing.RefusingAllocator.allocate.Key as key
+use Rattle.boards.proofs.refusing.RefusingAllocator.allocate.Statement as stated
+use Rattle.boards.proofs.refusing.RefusingAllocator.allocate.Code as code
 use denote.Memory.{hidden_shr}
 use Rattle.std.specs.contracts.cell.Cell as CE
-use Rattle.pciplan_c.specs.contracts.refusing.is_refused as TK
+use Rattle.boards.specs.contracts.refusing.is_refused as TK
 
 abbrev Calls : RattleType
 Calls = CE.the_row u64
@@ -149,4 +149,4 @@ allocate_spec 𝓤 𝓛 𝓜 𝓡 wired Y L g d d' met _ =
     entered 𝓤 𝓛.H (triple_of 𝓛 (F.signature Y) (F.spec Y g d d' 𝓛 𝓜.mem 𝓡.returns)) 𝓣.C 𝓣.Λ (key.name (args Z)) (here Z) (code.unfolded 𝓤 𝓛.H 𝓜 𝓡 wired (Y, tt) d d')
     (walk_Meets 𝓛 (ended Z) (stayed Z) (Goes-dropped 𝓛 2 (self Z) yes (λ κs x f. refl), (Goes-dropped 𝓛 2 (plain (λ _. usize)) yes (λ κs x f. refl), (Goes-dropped 𝓛 2 (plain (λ _. usize)) yes (λ κs x f. refl), tt))) c (WpFn 𝓤 𝓛.H 𝓣.C 𝓣.Λ (here Z)) (WpFn-mono 𝓤 𝓛.H 𝓛.laws 𝓣 (here Z))
     (walked 𝓛 (ended Z) (stayed Z) c (WpFn 𝓤 𝓛.H 𝓣.C 𝓣.Λ (here Z)) (λ κs. (shr_vals, (uint_vals w64, (uint_vals w64, tt)))) (λ κs. ((λ r vs s. s.0), (uint_Tells w64, (uint_Tells w64, tt))))
-    (λ κs qs bounds a τ are. walk Z 𝓛 𝓜.mem 𝓡.returns 𝓣 (met.allocate d') (cited 𝓤 𝓛.H _ 𝓜 𝓡 𝓡.env c_sym.name (𝓡.env c_sym.name) refl (c_met.met 𝓤 𝓛 𝓜 𝓡 (code.calls-pciplan_c::refusing::is_refused 𝓡.env wired))) κs.0 κs.1.0 qs.0 qs.1.0 bounds.0 a.0 a.1.0 a.1.1.0 τ are.1.0.1 are.1.1.0.1)))
+    (λ κs qs bounds a τ are. walk Z 𝓛 𝓜.mem 𝓡.returns 𝓣 (met.allocate d') (cited 𝓤 𝓛.H _ 𝓜 𝓡 𝓡.env c_sym.name (𝓡.env c_sym.name) refl (c_met.met 𝓤 𝓛 𝓜 𝓡 (code.calls-boards::refusing::is_refused 𝓡.env wired))) κs.0 κs.1.0 qs.0 qs.1.0 bounds.0 a.0 a.1.0 a.1.1.0 τ are.1.0.1 are.1.1.0.1)))
