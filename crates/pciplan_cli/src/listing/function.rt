@@ -96,12 +96,12 @@ fn push_capabilities<A: Allocator>(
 }
 
 /// Appends the lines of a record: its BARs, its ROM, and its bus numbers and windows.
-fn push_record<A: Allocator>(text: &mut String<A>, record: &Record) -> Result<(), AllocError>
-    ensures { OnOk result (string_bytes text.new ≡ string_bytes text.old ++ record_lines (record_value record.now)) }
+fn push_record<A: Allocator>(text: &mut String<A>, decoded: &Record) -> Result<(), AllocError>
+    ensures { OnOk result (string_bytes text.new ≡ string_bytes text.old ++ record_lines (record_value decoded.now)) }
 {
-    push_bars(text, record.bars.as_slice())?;
-    push_rom(text, record.rom)?;
-    match record.bridge {
+    push_bars(text, decoded.bars.as_slice())?;
+    push_rom(text, decoded.rom)?;
+    match decoded.bridge {
         None => Ok(()),
         Some(bridge) => push_bridge(text, bridge),
     }
