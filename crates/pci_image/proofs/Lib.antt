@@ -1,3 +1,5 @@
+pub mod Accesses
+pub mod AddressBytes
 pub mod Comparators
 pub mod Registers
 pub mod Sizes

@@ -27,6 +27,7 @@ pub mod image;
 pub mod offset;
 mod place_set;
 pub mod range;
+pub mod register;
 pub mod rom;
 pub mod slot;
 pub mod window;

@@ -22,7 +22,7 @@ use Rattle.pci_function.proofs.Pairs.{at_place}
 use Rattle.pci_spec.specs.Port.{IsTarget}
 use Rattle.pci_machine.specs.Memory.{IsMachine}
 use Rattle.pci_spec.specs.Sizing.{function_at, IsSizable, IsStuck}
-use Rattle.pci_machine.specs.RegisterTable.{writable_by}
+use Rattle.pci_spec.specs.Machine.{writable_by}
 use Rattle.pci_machine.proofs.Targets.{found, map-map, some_at}
 use Rattle.pci_machine.proofs.Memory.{lawful_from_rising}
 use Rattle.pci_machine.proofs.Sizing.{function_at-is}

@@ -1,6 +1,7 @@
 //! The registers of one function of a dump.
 ghost use Rattle.std.specs.Prelude.{◌≡◌, ◌≤◌, IfOk, IfErr, OnOk};
 ghost use Rattle.pci_spec.specs.Number.{byte_at, IsImage};
+ghost use Rattle.pci_spec.specs.Registers as table;
 ghost use Rattle.pci_spec.specs.Machine.{target_of};
 ghost use Rattle.pci_spec.specs.Decoded.{IsDecodable};
 ghost use Rattle.pci_image.specs.Faults.{IsImageFaultIn, image_fault_number};
@@ -23,7 +24,7 @@ pub fn registers_of(slot: Slot, image: &Image, probe: &Image) -> Result<ConfigSp
     ensures made { IfOk result (λ registers. registers ≡ target_of record { slot = slot; image = image.now.0; probe = probe.now.0 }) }
     ensures decodable { OnOk result (IsDecodable record { slot = slot; image = image.now.0; probe = probe.now.0 }) }
     ensures lawful { IfOk result IsTarget }
-    ensures header { IfOk result (λ registers. byte_at registers.writable 0x0e ≡ 0) }
+    ensures header { IfOk result (λ registers. byte_at registers.writable table.HEADER_TYPE ≡ 0) }
     ensures fault { IfErr result (IsImageFaultIn image.now.0 probe.now.0) }
     ensures number { IfErr result (λ fault. image_fault_number fault ≤ 26) }
     ensures first { IfErr result (λ e. IsFirstOf 2 record { slot = slot; image = image.now.0; probe = probe.now.0 } (image_fault_at slot e)) }

@@ -9,11 +9,11 @@ use Rattle.std.proofs.lemmas.List.{get_or_default, get_or-set_same, get_or-set_o
 use Rattle.std.proofs.lemmas.List.Elements.{Contains-push_cases}
 use Rattle.std.proofs.lemmas.List.Folds.{list_any-append}
 use Rattle.pci_spec.specs.Number.{byte_at, number_at, IsImage}
-use Rattle.pci_spec.specs.Header.{address_registers, is_in_register, layout}
+use Rattle.pci_spec.specs.Header.{address_registers, is_in_register, layout, registers_by}
 use Rattle.pci_spec.specs.System.{Function}
 use Rattle.pci_spec.specs.Planning.Numbers.{IsFilled}
 use Rattle.pci_spec.proofs.Members.{in_nil}
-use Rattle.pci_spec.proofs.Planning.Staging.{Follows, is_register, registers_by}
+use Rattle.pci_spec.proofs.Planning.Staging.{Follows, is_register}
 
 -- the same bytes make the same number
 pub same_bytes : (a b : List ℕ) (offset width : ℕ) → ((place : ℕ) → offset ≤ place → place < offset + width → byte_at a place ≡ byte_at b place) → number_at a offset width ≡ number_at b offset width

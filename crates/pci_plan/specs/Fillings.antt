@@ -12,7 +12,7 @@ use Rattle.pci_spec.specs.Planning.Plannable.{IsPlannable}
 use Rattle.pci_spec.specs.Planning.Table.{is_placed, IsTable}
 use Rattle.pci_spec.specs.Planning.Numbers.{place_at}
 use Rattle.pci_image.specs.declared.window.Windows.{Windows}
-use Rattle.pci_machine.specs.declared.address_register.AddressRegister.{AddressRegister}
+use Rattle.pci_image.specs.declared.register.Register.{Register}
 use Rattle.pci_function.specs.declared.record.Record.{Record}
 use Rattle.pci_plan.specs.declared.pools.Class.{Class}
 use Rattle.pci_plan.specs.declared.pools.Class.TheVariants.{Io, Memory, Prefetchable}
@@ -64,5 +64,5 @@ pub record FillingOf (filling : Filling) : Type 0 where
   pub needs : AreAllNeeds roots system pools filling.needs.now
 
 -- a register is one of those that address decoding is set by
-abbrev pub IsListed : Record → AddressRegister → Type 0
+abbrev pub IsListed : Record → Register → Type 0
 IsListed r register = Contains (address_registers (if is_some r.bridge then 1 else 0)) (register.offset, register.width)

@@ -2,6 +2,7 @@
 use Rattle.std.specs.Prelude.{◌≡◌, ℕ, ◌/◌, ◌-◌, ◌<◌, ◌≤◌, nat_lt, if◌then◌else◌, IsTrue, List, [], ◌∷◌, ◌++◌, map, Option, None, Some, length, slice_index, slice_index_or}
 use Rattle.std.specs.List.{All, filter}
 use Rattle.std.specs.List.Sorted.{IsStrictlyIncreasing}
+use Rattle.pci_spec.specs.Registers.{BASE_ADDRESS}
 use Rattle.pci_spec.specs.System.{System, Function, IsSystem, Part, Bar, Rom, Window, is_bridge}
 use Rattle.pci_spec.specs.Bus.{secondary, IsNested}
 use Rattle.pci_spec.specs.Plan.{Pools, Class, MemoryClass, same_class, window_of, window_size}
@@ -38,10 +39,10 @@ owned o part size = record { function = o.function; group = o.group; part = part
 
 -- a BAR at a Base Address register, with some address
 abbrev pub IsBar : CodeBar → Type 0
-IsBar bar = (0x10 ≤ bar.reg) × (bar.first ≤ bar.last)
+IsBar bar = (BASE_ADDRESS ≤ bar.reg) × (bar.first ≤ bar.last)
 
 abbrev pub bar_item : Owner → CodeBar → CodeItem
-bar_item o bar = owned o (parts.Bar ((bar.reg - 0x10) / 4)) (span bar.first bar.last)
+bar_item o bar = owned o (parts.Bar ((bar.reg - BASE_ADDRESS) / 4)) (span bar.first bar.last)
 
 -- the BARs of a class
 abbrev pub bar_items : Owner → Class → Above → CodePools → List CodeBar → List CodeItem

@@ -26,8 +26,8 @@ use pci_image::offset::{
     BASE_ADDRESS, BRIDGE_EXPANSION_ROM, COMMAND, EXPANSION_ROM, IO_BASE, IO_BASE_UPPER,
     MEMORY_BASE, PREFETCHABLE_BASE, PREFETCHABLE_BASE_UPPER, PREFETCHABLE_LIMIT_UPPER,
 };
+use pci_image::register::Register;
 use pci_image::window::Window;
-use pci_machine::address_register::AddressRegister;
 use pci_function::record::{Bridge, Record};
 
 /// A function with the places of its parts.
@@ -160,16 +160,6 @@ fn has_memory_part(record: &Record) -> bool
     record.rom.is_some()
 }
 
-/// How many encodings the low bits of a BAR's register have: bits 1:0 for I/O, bits 3:0 for memory (PCI 3.0, 6.2.5.1).
-fn encodings(kind: BarKind) -> u32
-    ensures { result ≡ 2 ^ first_bit (decoded_kind_of kind) }
-{
-    match kind {
-        BarKind::Io => 4,
-        BarKind::Mem32 | BarKind::Mem64 => 16,
-    }
-}
-
 /// The lower half of a number.
 fn lower_half(number: u64) -> u32
     ensures { result ≡ number % 2 ^ 32 }
@@ -199,7 +189,7 @@ impl Filling<'_> {
         requires listed { Contains self.now.record.now.bars.items bar.now }
         ensures { (of : FillingOf self.now) (n : ℕ) → bar.now.reg ≡ bar_register n → result ≡ numbers.new_bar of.roots of.system of.pools of.function n }
     {
-        self.place_of(bar) + u64::from(self.image.u32(bar.reg) % encodings(bar.kind))
+        bar.value_from(self.image.u32(bar.reg), self.place_of(bar))
     }
 
     /// Of a Base Address register: a BAR's, its upper half, or what stands there.
@@ -299,7 +289,7 @@ impl Filling<'_> {
     }
 
     /// What an address register holds.
-    pub fn number(&self, register: AddressRegister) -> u32
+    pub fn number(&self, register: Register) -> u32
         requires of { FillingOf self.now }
         requires listed { IsListed self.now.record.now register }
         ensures { (of : FillingOf self.now) → result ≡ numbers.new_number of.roots of.system of.pools of.function (register.offset, register.width) }

@@ -24,7 +24,7 @@ use pci_dump::dump::Dump;
 use pci_dump::memory::{OutOfMemory, Refused};
 use pci_image::image::Image;
 use pci_image::offset::COMMAND;
-use pci_machine::address_register::address_registers;
+use pci_image::register::address_registers;
 use pci_tree::admitted::Admitted;
 use std::alloc::Allocator;
 

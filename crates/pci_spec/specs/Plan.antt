@@ -4,6 +4,7 @@ use Rattle.std.specs.List.{list_any, list_all, filter, fold, flat_map, sum, Cont
 use Rattle.std.specs.Int.{bit_at}
 use Rattle.pci_spec.specs.Number.{byte_at, has_bit, IsImage}
 use Rattle.pci_spec.specs.Slot.{Slot}
+use Rattle.pci_spec.specs.Registers.{COMMAND}
 use Rattle.pci_spec.specs.Header.{command}
 use Rattle.pci_spec.specs.Bar.{bar_at, is_io, is_wide, is_prefetchable}
 use Rattle.pci_spec.specs.Window.{WindowKind, IoWindow, MemoryWindow, PrefetchWindow, has_window, is_wide_window, is_closed}
@@ -176,7 +177,7 @@ pub record IsMoved (old new : Function) : Type 0 where
   pub probe : new.probe ≡ old.probe
   pub image : IsImage new.image
   pub same : (offset i : ℕ) → offset < 256 → i < 8 → IsFalse (in_fields (address_fields old.image old.probe) offset i)
-      → IsFalse (offset == 4 && nat_lt i 2) → bit_at (byte_at new.image offset) i ≡ bit_at (byte_at old.image offset) i
+      → IsFalse (offset == COMMAND && nat_lt i 2) → bit_at (byte_at new.image offset) i ≡ bit_at (byte_at old.image offset) i
 
 -- why nothing is planned
 pub data PlanFault : Type 0 where

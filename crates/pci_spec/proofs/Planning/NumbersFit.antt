@@ -5,7 +5,7 @@ use Rattle.std.specs.List.{Contains, All}
 use Rattle.std.specs.Int.{bit_at}
 use Rattle.std.proofs.lemmas.Bool.{cases_Bool, and_left, eqb-true, ne_eqb}
 use Rattle.std.proofs.lemmas.List.Elements.{All-contains, All-from_recursion}
-use Rattle.pci_spec.specs.Header.{layout, bar_count, bar_register, rom_register, address_registers}
+use Rattle.pci_spec.specs.Header.{layout, bar_count, bar_register, rom_register, address_registers, registers_by}
 use Rattle.pci_spec.specs.Bar.{bar_at, bar_kind}
 use Rattle.pci_spec.specs.Rom.{has_rom}
 use Rattle.pci_spec.specs.Window.{WindowKind, IoWindow, MemoryWindow, PrefetchWindow}
@@ -19,7 +19,6 @@ use Rattle.pci_spec.specs.Planning.Numbers.{place_at, new_number, needs_io, need
 use Rattle.pci_spec.specs.Planning.Plannable.{IsPlannable}
 use Rattle.pci_spec.specs.Planning.Showing.{reach_of}
 use Rattle.pci_spec.specs.Planning.Table.{need_behind, IsTable}
-use Rattle.pci_spec.proofs.Planning.Staging.{registers_by}
 use Rattle.pci_spec.proofs.Planning.BarFits.{bar_register_fits}
 use Rattle.pci_spec.proofs.Planning.BarNumbers.{bar_number_bits, bar_number_small}
 use Rattle.pci_spec.proofs.Planning.BitsFit.{BitsFit, fits_by_bits, fits_joined}

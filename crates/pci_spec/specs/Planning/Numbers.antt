@@ -2,6 +2,7 @@
 use Rattle.std.specs.Prelude.{◌≡◌, ℕ, zero, suc, ◌+◌, ◌*◌, ◌/◌, ◌%◌, ◌-◌, ◌^◌, ◌<◌, ◌==◌, Bool, ◌&&◌, ◌||◌, not, if◌then◌else◌, IsFalse, List}
 use Rattle.std.specs.List.{list_any, Contains}
 use Rattle.pci_spec.specs.Number.{byte_at, number_at, IsImage}
+use Rattle.pci_spec.specs.Registers.{COMMAND, BASE_ADDRESS, EXPANSION_ROM, IO_BASE, MEMORY_BASE, PREFETCHABLE_BASE, PREFETCHABLE_BASE_UPPER, PREFETCHABLE_LIMIT_UPPER, IO_BASE_UPPER}
 use Rattle.pci_spec.specs.Header.{command, layout, address_registers}
 use Rattle.pci_spec.specs.Bar.{bar_at, starts_bar}
 use Rattle.pci_spec.specs.Rom.{rom_at, has_rom}
@@ -53,18 +54,18 @@ new_bounds roots s pools b kind =
 -- ---- registers
 
 abbrev pub device_number : List ℕ → System → Pools → Function → ℕ → ℕ
-device_number roots s pools f offset = if offset == 0x30 then rom_number roots s pools f else bar_number roots s pools f ((offset - 0x10) / 4)
+device_number roots s pools f offset = if offset == EXPANSION_ROM then rom_number roots s pools f else bar_number roots s pools f ((offset - BASE_ADDRESS) / 4)
 
 abbrev pub bridge_number : List ℕ → System → Pools → Function → ℕ → ℕ
 bridge_number roots s pools b offset =
-    if offset == 0x10 then bar_number roots s pools b 0
-    else if offset == 0x14 then bar_number roots s pools b 1
-    else if offset == 0x1c then (new_bounds roots s pools b IoWindow).base + 2 ^ 8 * (new_bounds roots s pools b IoWindow).limit
-    else if offset == 0x20 then (new_bounds roots s pools b MemoryWindow).base + 2 ^ 16 * (new_bounds roots s pools b MemoryWindow).limit
-    else if offset == 0x24 then (new_bounds roots s pools b PrefetchWindow).base + 2 ^ 16 * (new_bounds roots s pools b PrefetchWindow).limit
-    else if offset == 0x28 then (new_bounds roots s pools b PrefetchWindow).base_upper
-    else if offset == 0x2c then (new_bounds roots s pools b PrefetchWindow).limit_upper
-    else if offset == 0x30 then (new_bounds roots s pools b IoWindow).base_upper + 2 ^ 16 * (new_bounds roots s pools b IoWindow).limit_upper
+    if offset == BASE_ADDRESS then bar_number roots s pools b 0
+    else if offset == BASE_ADDRESS + 4 then bar_number roots s pools b 1
+    else if offset == IO_BASE then (new_bounds roots s pools b IoWindow).base + 2 ^ 8 * (new_bounds roots s pools b IoWindow).limit
+    else if offset == MEMORY_BASE then (new_bounds roots s pools b MemoryWindow).base + 2 ^ 16 * (new_bounds roots s pools b MemoryWindow).limit
+    else if offset == PREFETCHABLE_BASE then (new_bounds roots s pools b PrefetchWindow).base + 2 ^ 16 * (new_bounds roots s pools b PrefetchWindow).limit
+    else if offset == PREFETCHABLE_BASE_UPPER then (new_bounds roots s pools b PrefetchWindow).base_upper
+    else if offset == PREFETCHABLE_LIMIT_UPPER then (new_bounds roots s pools b PrefetchWindow).limit_upper
+    else if offset == IO_BASE_UPPER then (new_bounds roots s pools b IoWindow).base_upper + 2 ^ 16 * (new_bounds roots s pools b IoWindow).limit_upper
     else rom_number roots s pools b
 
 -- the number of an address register, by its offset
@@ -92,7 +93,7 @@ pub record IsFilled (value : ℕ × ℕ → ℕ) (new_command : ℕ) (f g : Func
   pub image : IsImage g.image
   pub registers : (r : ℕ × ℕ) → Contains (address_registers (layout f.image)) r → number_at g.image r.0 r.1 ≡ value r
   pub command_is : command g.image ≡ new_command
-  pub others : (offset : ℕ) → offset < 256 → IsFalse (is_in_address_register (layout f.image) offset) → IsFalse (offset == 4 || offset == 5)
+  pub others : (offset : ℕ) → offset < 256 → IsFalse (is_in_address_register (layout f.image) offset) → IsFalse (offset == COMMAND || offset == COMMAND + 1)
       → byte_at g.image offset ≡ byte_at f.image offset
 
 -- the function with everything placed

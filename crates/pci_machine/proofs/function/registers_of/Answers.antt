@@ -4,7 +4,7 @@ use Rattle.pci_spec.specs.Header.{layout}
 use Rattle.pci_spec.specs.Machine.{Target, writable_bits, clearing_bits, in_fields}
 use Rattle.pci_spec.specs.Port.{IsTarget}
 use Rattle.pci_machine.specs.Masks.{HasBits}
-use Rattle.pci_machine.specs.RegisterTable.{writable_by, clearing_by}
+use Rattle.pci_spec.specs.Machine.{writable_by, clearing_by}
 use Rattle.pci_machine.proofs.MaskBits.{are_writable_bits, are_clearing_bits}
 use Rattle.pci_machine.proofs.TargetOf.{IsTarget-target_of, no_write_of_header}
 use Rattle.pci_machine.proofs.function.registers_of.Goals as goal

@@ -4,30 +4,31 @@ use Rattle.std.specs.List.{AllPairs, Contains}
 use Rattle.std.proofs.lemmas.List.{length-map, take_all, take_more}
 use Rattle.std.proofs.lemmas.List.Elements.{Contains-get_or}
 use Rattle.std.proofs.Math.ListN.{get_or-map}
-use Rattle.pci_spec.specs.Header.{address_registers, layout}
+use Rattle.pci_spec.specs.Header.{address_registers, layout, registers_by}
 use Rattle.pci_spec.specs.System.{is_bridge}
 use Rattle.pci_spec.specs.Planning.Numbers.{new_number, new_command}
 use Rattle.pci_spec.proofs.Members.{in_map_from}
-use Rattle.pci_spec.proofs.Planning.Staging.{Follows, is_register, registers_by, registers_in_order, pairs_in_order}
+use Rattle.pci_spec.proofs.Planning.Staging.{Follows, is_register, registers_in_order, pairs_in_order}
 use Rattle.pci_spec.proofs.Planning.NumbersFit.{numbers_fit}
-use Rattle.pci_machine.specs.declared.address_register.AddressRegister.{AddressRegister}
+use Rattle.pci_image.specs.declared.register.Register.{Register}
+use Rattle.pci_image.specs.declared.register.Role.TheVariants as roles
 use Rattle.pci_plan.specs.Fillings.{FillingOf}
 use Rattle.pci_plan.proofs.FilledWindows.{bridge_is, function_is}
 use Rattle.pci_plan.proofs.FilledImages.{ArePut, none_put, more_put, earlier_apart, filled_with, registers_of}
 use Rattle.pci_plan.proofs.planned.filled.Goals as goal
 use Rattle.pci_plan.proofs.planned.filled.Goals.{After-address_registers-register-items}
 
-abbrev pair : AddressRegister → ℕ × ℕ
+abbrev pair : Register → ℕ × ℕ
 pair r = (r.offset, r.width)
 
 -- what stands there where the slice has no register
-abbrev no_register : AddressRegister
-no_register = record { offset = 0; width = 0 }
+abbrev no_register : Register
+no_register = record { offset = 0; width = 0; role = roles.Bar 0 }
 
 -- ---- the registers that are gone over
 
 module _ (c : After-address_registers-register-items) where
-  abbrev items : List AddressRegister
+  abbrev items : List Register
   items = c.address_registers-register-items.result.now
 
   by_record : map pair items ≡ address_registers (if is_some c.args.filling.now.record.now.bridge then 1 else 0)
