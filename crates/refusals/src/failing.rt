@@ -3,7 +3,7 @@ use crate::fakes::{Narrow, Pieces};
 use boards::board::Texts;
 use boards::program::{Answer, line_of, run_task};
 use pci_dump::std_streams::{Incoming, Outgoing};
-use pciplan_cli::line::Task;
+use pciplan_cli::invocation::Task;
 use pciplan_cli::run::run;
 use std::process::Abort;
 
