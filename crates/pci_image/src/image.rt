@@ -1,6 +1,6 @@
 //! The configuration space of one function (PCI 3.0, 6.1).
 ghost use Rattle.std.specs.Prelude.{◌≡◌, ◌+◌, ◌<◌, ◌≤◌, ◌/◌, ◌%◌, ◌^◌, ◌⊎◌, ℕ, IsTrue, slice_index};
-ghost use Rattle.pci_spec.specs.Number.{byte_at, number_at};
+ghost use Rattle.pci_spec.specs.Number.{byte_at, number_at, IsImage};
 ghost use Rattle.pci_spec.specs.Port as port;
 
 use byteorder::{ByteOrder, LittleEndian};
@@ -51,6 +51,8 @@ pub fn put(bytes: &mut [u8; 256], off: u8, width: u8, value: u32)
     requires { IsTrue (port.is_access off width) }
     ensures inside { (j : ℕ) → j < width → slice_index bytes.new (off + j) ≡ value / 256 ^ j % 256 }
     ensures outside { (place : ℕ) → (place < off) ⊎ (off + width ≤ place) → slice_index bytes.new place ≡ slice_index bytes.old place }
+    ensures number { value < 256 ^ width → number_at bytes.new off width ≡ value }
+    ensures image { IsImage bytes.old → IsImage bytes.new }
 {
     let mut rest = value;
     for j in 0..width {

@@ -11,8 +11,7 @@ pub mod PlanAnswers
 pub mod PoolWords
 pub mod RootWords
 pub mod Asked
-pub mod CommandWords
-pub mod CommandLines
+pub mod Invocations
 pub mod Opened
 pub mod ProbeAnswers
 pub mod Tasks

@@ -11,7 +11,7 @@ ghost use Rattle.pciplan_cli.specs.CapabilityLines.{IsListed};
 ghost use Rattle.pciplan_cli.specs.FunctionLines.{record_lines};
 ghost use Rattle.pciplan_cli.specs.Shows.{IsRefusedFor};
 
-use super::bridge::{BusLine, WindowKind, WindowLine};
+use super::bridge::{BusLine, push_window};
 use super::capability::CapabilityLine;
 use super::header::HeaderLine;
 use super::region::{BarLine, RomLine};
@@ -25,6 +25,7 @@ use pci_image::header::layout;
 use pci_image::image::Image;
 use pci_image::rom::Rom;
 use pci_image::slot::Slot;
+use pci_image::window_kind::WindowKind;
 use std::alloc::{AllocError, Allocator};
 
 /// Appends a line for each BAR.
@@ -63,21 +64,9 @@ fn push_bridge<A: Allocator>(text: &mut String<A>, bridge: Bridge) -> Result<(),
         subordinate,
     };
     buses.push_to(text)?;
-    let io = WindowLine {
-        kind: WindowKind::Io,
-        window: windows.io,
-    };
-    io.push_to(text)?;
-    let memory = WindowLine {
-        kind: WindowKind::Memory,
-        window: Some(windows.mem),
-    };
-    memory.push_to(text)?;
-    let prefetch = WindowLine {
-        kind: WindowKind::Prefetch,
-        window: windows.pref,
-    };
-    prefetch.push_to(text)
+    push_window(text, WindowKind::Io, windows.io)?;
+    push_window(text, WindowKind::Memory, Some(windows.mem))?;
+    push_window(text, WindowKind::Prefetchable, windows.pref)
 }
 
 /// Appends a line for each capability of an image's list.

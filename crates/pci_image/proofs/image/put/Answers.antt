@@ -1,6 +1,7 @@
 use Rattle.std.proofs.Common.{◌≡◌, ◌≢◌, ◌+◌, ◌^◌, ◌/◌, ◌%◌, slice_index, set, arith, inl, inr, ap, ◌∙◌, sym, below_more, rules, get_or-set_same, get_or-set_other, length-set}
 use Rattle.std.proofs.Math.Nat.{div-div-eq-div-mul, pow-suc}
 use Rattle.pci_image.proofs.Accesses.{access-end}
+use Rattle.pci_image.proofs.Puts.{number_put, image_put}
 use Rattle.pci_image.proofs.image.put.Goals as goal
 
 pub loop-j-preserved : goal.loop-j-preserved
@@ -27,3 +28,12 @@ loop-j-preserved c =
             (let ne : place ≢ spot = omega (arith, same, high) in get_or-set_other c.loop-j.bytes spot place datum 0 ne ∙ c.loop-j.invariant.outside place (inr (omega arith)))
       ];
     }
+
+pub returns-clause-number : goal.returns-clause-number
+returns-clause-number c = number_put c.loop-j.bytes c.args.off c.args.width c.args.value (λ j below. c.loop-j.invariant.inside j (let done = c.loop-j-test.false in omega (arith, below, done)))
+
+pub returns-clause-image : goal.returns-clause-image
+returns-clause-image c = λ is.
+    image_put c.args.bytes.now c.loop-j.bytes c.args.off c.args.width c.args.value is c.loop-j.invariant.full
+    (λ j below. c.loop-j.invariant.inside j (let done = c.loop-j-test.false in omega (arith, below, done)))
+    (λ place apart. c.loop-j.invariant.outside place (elim apart [ inl low ↦ inl low | inr high ↦ inr (let end = c.loop-j.auto.j-end in omega (arith, high, end)) ]))
