@@ -7,8 +7,7 @@ use Rattle.pci_spec.specs.Decoded.{record_of}
 use Rattle.pci_spec.specs.Listing.{header_line, capability_line, places_of}
 use Rattle.pci_image.specs.declared.capability.Cap.{Cap}
 use Rattle.pci_image.specs.Caps.{place_of}
-use Rattle.pci_function.specs.Profile.{IsHere}
-use Rattle.pci_function.proofs.Examined.{image_here, chain_fault}
+use Rattle.pci_function.proofs.Examined.{chain_fault}
 use Rattle.pciplan_cli.specs.CapabilityLines.{IsListed}
 use Rattle.pciplan_cli.specs.FunctionLines.{record_lines}
 use Rattle.pciplan_cli.proofs.Chains.{listed, places_of-chain}
@@ -22,14 +21,12 @@ push_capabilities-requires g c =
     subst P (sym c.as_slice.ensures.value) each
 
 pub returns-in-Err-clause-refused : goal.returns-in-Err-clause-refused
-returns-in-Err-clause-refused g c =
-    let f : Function = record { slot = c.args.slot; image = c.args.image.now.0; probe = c.args.probe.now.0 } in
-    subst (IsHere f) (sym c.of_image.ensures) (image_here f c.in-Err.fault c.in-Err.ensures.decoded)
+returns-in-Err-clause-refused g c = (c.in-Err.fault, c.of_image.ensures, c.in-Err.ensures.decoded)
 
 pub returns-in-Err-chain-clause-refused : goal.returns-in-Err-chain-clause-refused
 returns-in-Err-chain-clause-refused g c =
     let f : Function = record { slot = c.args.slot; image = c.args.image.now.0; probe = c.args.probe.now.0 } in
-    subst (IsHere f) (sym c.of_image-in-Err-chain.ensures) (image_here f c.in-Err-chain.fault (chain_fault f c.in-Err-chain.fault c.in-Err-chain.ensures.fault))
+    (c.in-Err-chain.fault, c.of_image-in-Err-chain.ensures, chain_fault f c.in-Err-chain.fault c.in-Err-chain.ensures.fault)
 
 pub returns-clause-ok : goal.returns-clause-ok
 returns-clause-ok g c =
