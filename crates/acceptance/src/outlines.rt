@@ -22,12 +22,12 @@ fn admitted(
         dump.push(Block {
             slot,
             title: None,
-            image: function.image,
+            image: function.registers.image,
         })?;
         probe.push(Block {
             slot,
             title: None,
-            image: function.probe,
+            image: function.registers.probe,
         })?;
     }
     Ok(admit(rt.alloc(), dump, probe)?)

@@ -2,8 +2,10 @@
 //!
 //! Boards are made by rule: two bridges in a row and a device on each of the three buses. All regions are whole
 //! megabytes from E0000000h on, so a page stands for all its addresses.
-use boards::board::{Function, bridge, device};
-use boards::program::judges;
+use boards::board::{Function, bridge, device, texts_of};
+use pci_check::audit::audit;
+use pci_check::outcome::{AuditFault, Outcome};
+use pci_dump::std_streams::{Incoming, Outgoing};
 use std::alloc::{AllocError, Global};
 use std::test::Fail;
 
@@ -308,6 +310,38 @@ impl Board {
             None => format!(in alloc; "yes"),
         }
     }
+}
+
+/// The verdict of the fast judge.
+fn audited(
+    alloc: Global,
+    dump: &str,
+    probe: &str,
+    out: &mut Vec<u8>,
+) -> Result<Outcome, AuditFault> {
+    audit(
+        alloc,
+        &mut Incoming::new(dump.as_bytes()),
+        &mut Incoming::new(probe.as_bytes()),
+        &mut Outgoing::new(out),
+    )
+}
+
+/// Whether the fast judge writes this verdict on a board.
+fn judges(rt: &impl AllocGlobal, board: &[Function], verdict: &str) -> Result<(), Fail> {
+    let texts = texts_of(rt.alloc(), board)?;
+    let wanted = format!(in rt.alloc(); "{verdict}\n")?;
+    let mut line = Vec::new(rt.alloc());
+    let outcome = audited(
+        rt.alloc(),
+        texts.dump.as_str(),
+        texts.probe.as_str(),
+        &mut line,
+    );
+    if outcome.is_err() || line.as_slice() != wanted.as_bytes() {
+        return Err(Fail::new(format_args!("not the verdict: {verdict}")));
+    }
+    Ok(())
 }
 
 #[test]

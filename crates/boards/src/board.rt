@@ -1,4 +1,5 @@
 //! Boards for tests: functions by their registers, as texts of a dump and a probe.
+use crate::registers::Registers;
 use pci_image::image::Image;
 use std::alloc::{AllocError, Global};
 
@@ -9,8 +10,7 @@ pub type Register = (u8, u32, u32);
 #[derive(Clone, Copy)]
 pub struct Function {
     slot: &'static str,
-    pub image: Image,
-    pub probe: Image,
+    pub registers: Registers,
 }
 
 /// A dump and its probe.
@@ -22,13 +22,11 @@ pub struct Texts {
 
 /// A function of vendor 1234h and device 5678h with a type 0 header.
 pub fn device(slot: &'static str, command: u16, registers: &[Register]) -> Function {
+    let function = crate::registers::device().half(0x04, command, 0);
     Function {
         slot,
-        image: Image([0; 256]),
-        probe: Image([0; 256]),
+        registers: function,
     }
-    .bytes(0x00, &[0x34, 0x12, 0x78, 0x56])
-    .bytes(0x04, &command.to_le_bytes())
     .registers(registers)
 }
 
@@ -41,24 +39,29 @@ pub fn bridge(
     registers: &[Register],
 ) -> Function {
     let (primary, secondary, subordinate) = buses;
-    device(slot, command, &[(0x20, 0, 0xfff0_fff0)])
-        .bytes(0x0e, &[0x01])
-        .bytes(0x18, &[primary, secondary, subordinate])
-        .registers(registers)
+    let function = crate::registers::bridge()
+        .half(0x04, command, 0)
+        .bytes(0x18, &[primary, secondary, subordinate]);
+    Function {
+        slot,
+        registers: function,
+    }
+    .registers(registers)
 }
 
 /// A device with a capabilities list that starts at a pointer.
 pub fn list_at(slot: &'static str, pointer: u8) -> Function {
-    device(slot, 0, &[])
-        .bytes(0x06, &[0x10])
-        .bytes(0x34, &[pointer])
+    Function {
+        slot,
+        registers: crate::registers::list_at(pointer),
+    }
 }
 
 impl Function {
     /// The same with these bytes in its image from an offset on.
     pub fn bytes(self, offset: u8, bytes: &[u8]) -> Function {
         let mut function = self;
-        put(&mut function.image, offset, bytes);
+        function.registers = function.registers.bytes(offset, bytes);
         function
     }
 
@@ -66,17 +69,9 @@ impl Function {
     pub fn registers(self, registers: &[Register]) -> Function {
         let mut function = self;
         for (offset, value, read_back) in registers {
-            put(&mut function.image, *offset, &value.to_le_bytes());
-            put(&mut function.probe, *offset, &read_back.to_le_bytes());
+            function.registers = function.registers.register(*offset, *value, *read_back);
         }
         function
-    }
-}
-
-/// Puts bytes into an image from an offset on.
-fn put(image: &mut Image, offset: u8, bytes: &[u8]) {
-    for (place, byte) in image.0.iter_mut().skip(usize::from(offset)).zip(bytes) {
-        *place = *byte;
     }
 }
 
@@ -97,8 +92,8 @@ pub fn texts_of(alloc: Global, board: &[Function]) -> Result<Texts, AllocError> 
     let mut dump = String::new(alloc);
     let mut probe = String::new(alloc);
     for function in board {
-        push_block(&mut dump, function.slot, &function.image)?;
-        push_block(&mut probe, function.slot, &function.probe)?;
+        push_block(&mut dump, function.slot, &function.registers.image)?;
+        push_block(&mut probe, function.slot, &function.registers.probe)?;
     }
     Ok(Texts { dump, probe })
 }

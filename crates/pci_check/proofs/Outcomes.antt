@@ -6,7 +6,7 @@ use Rattle.pci_spec.specs.Decoded as decoded
 use Rattle.pci_tree.specs.Outline.{Tree}
 use Rattle.pci_tree.specs.Survey.{Surveyed, IsOutlineOf, IsRefusedBy}
 use Rattle.pci_tree.proofs.Pairings.{refused_first, admitted_pair}
-use Rattle.pci_dump.proofs.PairOrder.{slots_refusal}
+use Rattle.pci_function.proofs.PairOrder.{slots_refusal}
 use Rattle.pci_check.specs.declared.outcome.Outcome.{Outcome}
 use Rattle.pci_check.specs.declared.outcome.Outcome.TheVariants.{Yes, No}
 use Rattle.pci_check.specs.Judgement.{IsJudgement}
@@ -20,8 +20,8 @@ use Rattle.pci_spec.specs.Order.{IsFirst, IsFirstThere}
 use Rattle.pci_spec.specs.Sound.{IsSound}
 use Rattle.pci_spec.proofs.Pairing.{IsSystem-of_dumps, there-of_in, in-of_there}
 use Rattle.pci_spec.proofs.Sounding.{sound_without_faults}
-use Rattle.pci_tree.specs.declared.fault.Fault.{Fault}
-use Rattle.pci_tree.specs.Fault.{fault_of}
+use Rattle.pci_function.specs.declared.fault.Fault.{Fault}
+use Rattle.pci_function.specs.Fault.{fault_of}
 use Rattle.pci_tree.specs.Admission.{Admission, IsAdmitted}
 use Rattle.pci_check.specs.Audits.{IsRefused, IsAudited, IsOutcomeOf}
 

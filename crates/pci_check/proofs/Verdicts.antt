@@ -5,8 +5,8 @@ use Rattle.pci_spec.specs.Decoded.{HasRecords}
 use Rattle.pci_spec.specs.Order.{IsFirst, IsFirstThere}
 use Rattle.pci_spec.specs.Sound.{IsSound, IsSingle, IsHome}
 use Rattle.pci_spec.proofs.Sounding.{sound_without_faults}
-use Rattle.pci_tree.specs.declared.fault.Fault.{Fault}
-use Rattle.pci_tree.specs.Fault.{fault_of}
+use Rattle.pci_function.specs.declared.fault.Fault.{Fault}
+use Rattle.pci_function.specs.Fault.{fault_of}
 use Rattle.pci_tree.specs.Outline.{Tree}
 use Rattle.pci_tree.specs.Admission.{Admission, IsAdmitted}
 use Rattle.pci_check.proofs.FirstOfAll.{admitted_first}

@@ -9,8 +9,8 @@ use Rattle.pci_spec.specs.Line.{verdict_line}
 use Rattle.pci_dump.specs.ReadFault.{IsTextFault}
 use Rattle.pci_dump.specs.declared.read_fault.ReadFault.{ReadFault}
 use Rattle.pci_dump.specs.declared.read_fault.ReadFault.TheVariants as faults
-use Rattle.pci_tree.specs.declared.fault.Fault.{Fault}
-use Rattle.pci_tree.specs.Fault.{fault_of}
+use Rattle.pci_function.specs.declared.fault.Fault.{Fault}
+use Rattle.pci_function.specs.Fault.{fault_of}
 use Rattle.pci_dump.specs.Begun.{AppendsBeginning}
 use Rattle.pci_check.specs.declared.outcome.AuditFault.{AuditFault}
 use Rattle.pci_check.specs.declared.outcome.AuditFault.TheVariants.{Dump, Probe, Memory, Write}

@@ -3,7 +3,7 @@ use Rattle.std.specs.Prelude.{◌≡◌}
 use Rattle.pci_spec.specs.System.{system_of}
 use Rattle.pci_spec.specs.Sound.{IsSound}
 use Rattle.pci_spec.specs.Order.{IsFirst, IsFirstThere}
-use Rattle.pci_tree.specs.Fault.{fault_of}
+use Rattle.pci_function.specs.Fault.{fault_of}
 use Rattle.pci_tree.specs.Admission.{Admission}
 use Rattle.pci_check.specs.declared.verdict.Verdict.{Verdict}
 use Rattle.pci_check.specs.declared.verdict.Verdict.TheVariants.{Yes, No}

@@ -2,10 +2,10 @@
 ghost use Rattle.std.specs.Prelude.{◌≡◌, ◌++◌, ◌∷◌, [], IfOk, IfSome, codes, string_bytes};
 ghost use Rattle.std.specs.Option.{option_map};
 ghost use Rattle.pci_spec.specs.Line.{field, verdict_line};
-ghost use Rattle.pci_tree.specs.Fault.{fault_of};
+ghost use Rattle.pci_function.specs.Fault.{fault_of};
 
 use pci_dump::memory::OutOfMemory;
-use pci_tree::fault::Fault;
+use pci_function::fault::Fault;
 use std::alloc::Allocator;
 use std::fmt::Display;
 

@@ -4,7 +4,7 @@ ghost use Rattle.pci_check.specs.AuditFault.{audit_fault_number};
 
 use pci_dump::memory::MEMORY_NUMBER;
 use pci_dump::read_fault::{ReadFault, WriteFault};
-use pci_tree::fault::Fault;
+use pci_function::fault::Fault;
 
 /// The verdict on two texts.
 #[derive(Clone, Copy, Debug, PartialEq, Eq)]

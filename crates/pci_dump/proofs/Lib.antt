@@ -10,9 +10,6 @@ pub mod Texts
 pub mod Told
 pub mod Put
 pub mod RowLine
-pub mod Pairs
-pub mod PairOrder
 pub mod Digits
 pub mod SixteenLanes
 pub mod TitleRuns
-pub mod Registers

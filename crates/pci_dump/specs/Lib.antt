@@ -1,5 +1,4 @@
 pub mod ReadFault
-pub mod PairFault
 pub mod Value
 pub mod Row
 pub mod Lane
@@ -10,4 +9,3 @@ pub mod State
 pub mod Fill
 pub mod Front
 pub mod Begun
-pub mod Pair

@@ -135,14 +135,11 @@ impl Block {
         ensures above { IsTrue result ↔ IsAboveLast last self.now.slot }
         ensures block { IsBlock self.now }
     {
-        // Both are read for what their types say of them.
+        // All three are read for what their types say of them.
         let _title = self.title_bytes();
         let _image = image_bytes(&self.image.0);
-        let number = self.slot.number();
-        match last {
-            None => true,
-            Some(last) => last.number() < number,
-        }
+        let _number = self.slot.number();
+        self.slot.may_follow(last)
     }
 
     /// The title's bytes, none where there is no title.

@@ -13,8 +13,7 @@
 //!
 //! From bytes to blocks: a `Source` gives bytes, `ahead` holds them and hands out blocks, `parse`
 //! finds a block at the front of some bytes, `rows`, `row` and `digit` its lines. Back:
-//! `block_text` spells a block, `write` hands it to a `Sink`. `pair` says whether a dump and a probe
-//! go together, `stray` where a probe may have bytes.
+//! `block_text` spells a block, `write` hands it to a `Sink`.
 #![tactic(auto)]
 
 pub mod ahead;
@@ -25,8 +24,6 @@ pub mod dump;
 pub mod failures;
 mod lanes;
 pub mod memory;
-pub mod pair;
-pub mod pair_fault;
 mod parse;
 pub mod read_fault;
 pub mod reader;
@@ -34,6 +31,14 @@ mod row;
 mod rows;
 pub mod slot_text;
 pub mod std_streams;
-pub mod stray;
 pub mod streams;
 pub mod write;
+
+pub use block::{Block, Title};
+pub use dump::{Dump, PushFault};
+pub use memory::{OutOfMemory, Refused};
+pub use read_fault::{ReadFault, WriteFault};
+pub use reader::{Reader, read_dump};
+pub use std_streams::{Incoming, Outgoing};
+pub use streams::{Failed, Sink, Source};
+pub use write::write_dump;

@@ -95,16 +95,6 @@ fn title_in(bytes: &[u8]) -> Result<usize, BlockFault>
     Ok(len)
 }
 
-/// Whether a slot may stand after the last one.
-fn may_follow(slot: Slot, last: Option<Slot>) -> bool
-    ensures { IsTrue result ↔ IsAboveLast last slot }
-{
-    match last {
-        None => true,
-        Some(last) => last.number() < slot.number(),
-    }
-}
-
 /// Reads the block at the front of some bytes into `block`, and answers how many bytes its text has. They are all that
 /// are left, or 1042 and more. At a stop `block` may hold parts of it.
 pub(crate) fn block_into(
@@ -124,7 +114,7 @@ pub(crate) fn block_into(
         None => return Err(BlockFault::BadSlot),
         Some(slot) => slot,
     };
-    if !may_follow(slot, last) {
+    if !slot.may_follow(last) {
         return Err(BlockFault::Order);
     }
     let title_len = match title_in(after) {

@@ -1,10 +1,14 @@
+pub mod Accesses
+pub mod AddressBytes
 pub mod Comparators
+pub mod Puts
 pub mod Registers
 pub mod Sizes
 pub mod Decoding
 pub mod Reading
 pub mod Found
 pub mod Roms
-pub mod Windows
+pub mod WindowRules
 pub mod Walking
 pub mod PlaceSets
+pub mod WindowKinds

@@ -157,6 +157,3 @@ chain-aligned image places n chain within = let q = pointer-aligned image n in l
 -- and the body of the capability there ends within the image
 pub chain-fits : (image places : List ℕ) (n : ℕ) → IsChain image places → n < length places → get_or places n 0 + body_length image (get_or places n 0) ≤ 256
 chain-fits image places n chain within = subst (λ p. p + body_length image p ≤ 256) (sym (chain.each n within)) (chain.bodies n within)
-
-pub chain-at_most_48 : (image places : List ℕ) → IsChain image places → length places ≤ 48
-chain-at_most_48 image places chain = places-at_most_48 image (length places) chain.in_range chain.distinct

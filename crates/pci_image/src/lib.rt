@@ -6,6 +6,13 @@
 //! addresses that the function's comparators answer, as inclusive ranges, and
 //! [`capability::chain`] gives its capabilities, which borrow the image. Nothing here takes memory.
 //!
+//! ```text
+//! let slot = Slot::new(0, 2, 0).ok_or("no slot")?; // 00:02.0
+//! for bar in &bars(&image, &probe)? {
+//!     println!(rt; "{slot} {:02x}: {:x} to {:x}", bar.reg, bar.first, bar.last)?;
+//! }
+//! ```
+//!
 //! In the comments "PCI 3.0" is the PCI Local Bus Specification 3.0, "Bridge 1.2" the PCI-to-PCI
 //! Bridge Architecture Specification 1.2 and "Power Management 1.2" the PCI Bus Power Management
 //! Interface Specification 1.2. Places and registers are byte offsets.
@@ -20,6 +27,19 @@ pub mod image;
 pub mod offset;
 mod place_set;
 pub mod range;
+pub mod register;
 pub mod rom;
 pub mod slot;
 pub mod window;
+pub mod window_kind;
+
+pub use bar::{Bar, BarKind, bars};
+pub use capability::{Cap, chain};
+pub use fault::ImageFault;
+pub use header::{Header, Header0, Header1};
+pub use image::Image;
+pub use range::Range;
+pub use rom::Rom;
+pub use slot::Slot;
+pub use window::{Window, Windows};
+pub use window_kind::{ByKind, WindowKind};

@@ -2,6 +2,7 @@
 ghost use Rattle.std.specs.Prelude.{◌≡◌, ◌<◌, ◌↔◌, IsTrue, IsSome, IfSome, Some};
 ghost use Rattle.pci_spec.specs.Slot.{Slot as SlotValue, IsSlot, slot_number};
 ghost use Rattle.pci_spec.specs.Text.{slot_text};
+ghost use Rattle.pci_spec.specs.Stops.{IsAboveLast};
 ghost use Rattle.std.specs.Ordering.{nat_cmp, on, then_cmp};
 
 use std::fmt;
@@ -73,6 +74,16 @@ impl Slot {
         ensures slot { IsSlot self }
     {
         u16::from(self.bus) * 256 + u16::from(self.device) * 8 + u16::from(self.function)
+    }
+
+    /// Whether the slot may stand after the last one of a list.
+    pub fn may_follow(self, last: Option<Slot>) -> bool
+        ensures { IsTrue result ↔ IsAboveLast last self }
+    {
+        match last {
+            None => true,
+            Some(last) => last.number() < self.number(),
+        }
     }
 }
 

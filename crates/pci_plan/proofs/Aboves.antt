@@ -18,8 +18,8 @@ use Rattle.pci_spec.proofs.BusRanges.{all_gives, ordered, behind_of_within}
 use Rattle.pci_spec.proofs.Planning.Safe.{slots_of}
 use Rattle.pci_spec.proofs.Planning.Passed.{IsBefore, in_front_to, in_front_from, lower_is_passed}
 use Rattle.pci_spec.proofs.Planning.AboveBuses.{all_above, all_above_root, root_or_led}
-use Rattle.pci_tree.specs.declared.record.Bridge.{Bridge}
-use Rattle.pci_tree.specs.declared.record.Record.{Record}
+use Rattle.pci_function.specs.declared.record.Bridge.{Bridge}
+use Rattle.pci_function.specs.declared.record.Record.{Record}
 use Rattle.pci_tree.proofs.Lifting.{same_bridge}
 use Rattle.pci_tree.proofs.RegionParts.{same_bridge_of}
 use Rattle.pci_plan.specs.declared.above.Above.{Above}

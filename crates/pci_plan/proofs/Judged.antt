@@ -28,8 +28,8 @@ use Rattle.pci_spec.proofs.Planning.RomsOnLayout.{roms_on_is_sound}
 use Rattle.pci_spec.proofs.Planning.ShownSystem.{switched_on}
 use Rattle.pci_tree.specs.Admission.{Admission, IsAdmitted, IsOutlineFor}
 use Rattle.pci_tree.specs.Outline.{Tree}
-use Rattle.pci_tree.specs.Fault.{fault_of}
-use Rattle.pci_tree.specs.declared.fault.Fault.{Fault}
+use Rattle.pci_function.specs.Fault.{fault_of}
+use Rattle.pci_function.specs.declared.fault.Fault.{Fault}
 use Rattle.pci_check.specs.Judgement.{IsJudgement}
 use Rattle.pci_check.proofs.Verdicts.{fault_is_first}
 use Rattle.pci_plan.specs.Above.{system_in}

@@ -10,7 +10,7 @@ use Rattle.pci_spec.specs.Plan.{bridges_above, is_io_part, LacksWindow}
 use Rattle.pci_spec.specs.PlanPromise.{IsFirstLacking}
 use Rattle.pci_spec.proofs.Nesting.{one_function}
 use Rattle.pci_spec.proofs.Planning.Passed.{in_front_from, passed_or_higher}
-use Rattle.pci_tree.specs.declared.record.Record.{Record}
+use Rattle.pci_function.specs.declared.record.Record.{Record}
 use Rattle.pci_plan.specs.declared.above.Above.{Above}
 use Rattle.pci_plan.specs.Above.{IsAbove}
 use Rattle.pci_plan.specs.Classes.{is_io_kind}

@@ -17,7 +17,7 @@ use Rattle.pci_image.specs.declared.bar.Bar.{Bar as CodeBar}
 use Rattle.pci_image.specs.declared.rom.Rom.{Rom as CodeRom}
 use Rattle.pci_image.specs.Bars.{decoded_bar_of}
 use Rattle.pci_image.specs.Roms.{decoded_rom_of}
-use Rattle.pci_tree.specs.declared.record.Record.{Record}
+use Rattle.pci_function.specs.declared.record.Record.{Record}
 use Rattle.pci_plan.specs.Records.{IsRecordOf}
 use Rattle.pci_plan.specs.Sizes.{span}
 use Rattle.pci_plan.proofs.Mapped.{filter-map}

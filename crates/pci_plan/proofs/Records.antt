@@ -7,8 +7,8 @@ use Rattle.std.proofs.lemmas.List.{length-map}
 use Rattle.std.proofs.lemmas.List.Elements.{All-contains}
 use Rattle.pci_spec.specs.System.{System, Function}
 use Rattle.pci_spec.specs.Decoded.{IsDecodable, HasRecords, record_of}
-use Rattle.pci_tree.specs.Values.{record_value}
-use Rattle.pci_tree.specs.declared.record.Record.{Record}
+use Rattle.pci_function.specs.Values.{record_value}
+use Rattle.pci_function.specs.declared.record.Record.{Record}
 use Rattle.pci_plan.specs.Records.{IsRecordOf}
 
 -- as many functions as records

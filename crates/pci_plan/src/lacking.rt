@@ -11,7 +11,7 @@ use super::above::Above;
 use pci_image::bar::BarKind;
 use pci_image::slot::Slot;
 use pci_tree::admitted::Admitted;
-use pci_tree::record::Record;
+use pci_function::record::Record;
 use std::alloc::Allocator;
 
 /// Whether a function has an I/O BAR.

@@ -10,12 +10,19 @@
 //! two: everything that is on is closed from the highest slot down, then registers are written, then functions are
 //! opened from the lowest slot up (`writes`). So each beginning of the writes leaves a sound system, if the start is
 //! one; from another start each does that holds all closing writes.
+//!
+//! ```text
+//! let plan = planning::plan(rt.alloc(), &admitted, &pools)?; // the places, the planned dump and its writes
+//! for write in plan.writes() {
+//!     println!(rt; "{write}")?;
+//! }
+//! apply::apply(&mut port, &plan)?; // compares, then writes; stops at the first failure
+//! ```
 #![tactic(auto)]
 
 pub mod above;
 pub mod apply;
 pub mod apply_fault;
-pub mod by_class;
 pub mod class;
 mod compare;
 pub mod item;
@@ -32,3 +39,9 @@ pub mod pools;
 pub mod room;
 pub mod write;
 pub mod writes;
+
+pub use apply_fault::ApplyFault;
+pub use plan::Plan;
+pub use plan_fault::PlanFault;
+pub use pools::{Class, Pools};
+pub use write::Write;

@@ -41,3 +41,12 @@ pub mod sizes_reader;
 #[cfg(test)]
 mod tests;
 mod window;
+
+pub use assumed::AssumedRegister;
+pub use derived::Derived;
+pub use fault::DeriveFault;
+pub use line::ResourceLine;
+pub use probe::{Derivation, probe_of};
+pub use probe_fault::ProbeFault;
+pub use sizes::{Sizes, SizesBlock};
+pub use sizes_reader::read_sizes;

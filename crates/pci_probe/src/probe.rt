@@ -5,7 +5,7 @@ ghost use Rattle.pci_spec.specs.NoProbe.{no_probe};
 ghost use Rattle.pci_spec.specs.ProbeOf.{assumed_at, assumed_in, assumed_of, first_of, identity_fault, probe_block, probe_fault};
 ghost use Rattle.pci_spec.specs.ProbeOf as spec;
 ghost use Rattle.pci_image.specs.Header.{HasHeader};
-ghost use Rattle.pci_dump.specs.Pair.{IsPair};
+ghost use Rattle.pci_function.specs.Pair.{IsPair};
 ghost use Rattle.pci_probe.specs.ProbeFault.{IsFirstFault, fault_value};
 ghost use Rattle.pci_probe.specs.Derivation.{IsFaultOfFunction, told};
 
@@ -94,7 +94,7 @@ fn add<A: Allocator>(
 }
 
 /// The probe of a dump, by what Linux tells of its functions' registers. It has the dump's slots and
-/// no titles, and goes with the dump as [`pci_dump::pair::pair`] asks. In an `exact` probe nothing is
+/// no titles, and goes with the dump as [`pci_function::pair::pair`] asks. In an `exact` probe nothing is
 /// assumed.
 ///
 /// # Errors

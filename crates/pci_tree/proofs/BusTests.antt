@@ -4,8 +4,8 @@ use Rattle.std.specs.List.{Contains, All}
 use Rattle.std.proofs.lemmas.Bool.{cases_eq}
 use Rattle.std.proofs.lemmas.List.Elements.{All-contains, Contains-get_or}
 use Rattle.pci_spec.specs.Slot.{Slot, IsSlot, slot_number}
-use Rattle.pci_tree.specs.declared.record.Bridge.{Bridge}
-use Rattle.pci_tree.specs.declared.record.Record.{Record}
+use Rattle.pci_function.specs.declared.record.Bridge.{Bridge}
+use Rattle.pci_function.specs.declared.record.Record.{Record}
 use Rattle.pci_tree.specs.Outline.{IsBusPart}
 use Rattle.pci_tree.specs.BusNumbers.{IsBridgeWith, AreSiblings, AreApart, IsApartFrom, IsApartFromLower, IsApartFromEarlier, IsBehind, HasBusOrder, HasNoRootBehind, IsInsideParents, HasLawfulBuses, first_function}
 use Rattle.pci_tree.specs.Ways.{slots_of}

@@ -3,12 +3,12 @@ use Rattle.std.proofs.Common.{◌≡◌, ℕ, ◌<◌, List, lit<, arith}
 use Rattle.pci_spec.specs.System.{Function}
 use Rattle.pci_spec.specs.Fault.{Fault, fault_number, SlotsDiffer, Unreached, Clash, Split}
 use Rattle.pci_spec.specs.Order.{phase_of}
-use Rattle.pci_tree.specs.Profile.{IsHere}
+use Rattle.pci_function.specs.Profile.{IsHere}
 use Rattle.pci_tree.specs.PlaceFaults.{IsPlaceFault, IsSomePlaceFault}
-use Rattle.pci_tree.specs.Fault.{fault_of}
-use Rattle.pci_tree.specs.declared.record.Record.{Record}
-use Rattle.pci_tree.specs.declared.fault.Fault.{Fault as FaultOfCode}
-use Rattle.pci_tree.specs.declared.fault.Fault.TheVariants as codes
+use Rattle.pci_function.specs.Fault.{fault_of}
+use Rattle.pci_function.specs.declared.record.Record.{Record}
+use Rattle.pci_function.specs.declared.fault.Fault.{Fault as FaultOfCode}
+use Rattle.pci_function.specs.declared.fault.Fault.TheVariants as codes
 
 -- a fault of slots is
 pub early-of_slots : (e : Fault) → phase_of e ≡ 0 → fault_number e < 60

@@ -11,9 +11,9 @@ use Rattle.pci_spec.specs.Bus.{secondary, subordinate, is_behind, are_apart, is_
 use Rattle.pci_spec.specs.Decoded.{record_of, bridge_of}
 use Rattle.pci_spec.specs.Decoded as decoded
 use Rattle.pci_spec.proofs.BusRanges.{all_gives, all_from, any_gives, any_from, second_side, bus_order_means, within_of_behind, behind_of_within, IsWithin, inside_from, inside_parts, root_means}
-use Rattle.pci_tree.specs.declared.record.Bridge.{Bridge}
-use Rattle.pci_tree.specs.declared.record.Record.{Record}
-use Rattle.pci_tree.specs.Values.{record_value, bridge_value}
+use Rattle.pci_function.specs.declared.record.Bridge.{Bridge}
+use Rattle.pci_function.specs.declared.record.Record.{Record}
+use Rattle.pci_function.specs.Values.{record_value, bridge_value}
 use Rattle.pci_tree.specs.BusNumbers.{IsBridgeWith, HasBusOrder, AreApart, AreSiblings, HasLawfulBuses, IsLedTo}
 use Rattle.pci_tree.proofs.Lifting.{Has, StandsFor, record_for, function_for, same_bridge, same_slot_of}
 use Rattle.pci_tree.proofs.Regions.{some_is}

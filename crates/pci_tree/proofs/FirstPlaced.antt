@@ -1,5 +1,5 @@
 -- The first fault of places, among all faults of places of a system.
-use Rattle.std.proofs.Common.{◌≡◌, ℕ, zero, suc, ◌+◌, ◌<◌, ◌≤◌, List, [], ◌∷◌, ◌++◌, refl, true, not, inl, inr, arith, sym, ◌∙◌, subst, ap, map}
+use Rattle.std.proofs.Common.{◌≡◌, ℕ, zero, suc, ◌<◌, ◌≤◌, List, [], ◌∷◌, ◌++◌, refl, true, not, inl, inr, arith, sym, ◌∙◌, subst, ap, map}
 use Rattle.std.specs.List.{Contains}
 use Rattle.std.proofs.lemmas.Bool.{both_ways, and_parts, not-true}
 use Rattle.pci_spec.specs.Slot.{Slot, IsSlot, slot_number}
@@ -10,12 +10,12 @@ use Rattle.pci_spec.specs.Fault as faults
 use Rattle.pci_spec.specs.Order.{precedes, slot_key, looking_key, phase_of, is_before, image_at}
 use Rattle.pci_spec.proofs.Firsts.{slot_of}
 use Rattle.pci_spec.proofs.Looking.{key_cases, one_number}
-use Rattle.pci_tree.specs.declared.fault.Fault.{Fault}
-use Rattle.pci_tree.specs.declared.fault.Fault.TheVariants as codes
-use Rattle.pci_tree.specs.declared.record.Bridge.{Bridge}
-use Rattle.pci_tree.specs.declared.record.Record.{Record}
-use Rattle.pci_tree.specs.Values.{record_value}
-use Rattle.pci_tree.specs.Fault.{fault_of}
+use Rattle.pci_function.specs.declared.fault.Fault.{Fault}
+use Rattle.pci_function.specs.declared.fault.Fault.TheVariants as codes
+use Rattle.pci_function.specs.declared.record.Bridge.{Bridge}
+use Rattle.pci_function.specs.declared.record.Record.{Record}
+use Rattle.pci_function.specs.Values.{record_value}
+use Rattle.pci_function.specs.Fault.{fault_of}
 use Rattle.pci_tree.specs.BusNumbers.{IsNotLone, IsLedTo, IsInPlace}
 use Rattle.pci_tree.specs.PlaceFaults.{IsPlaceFault, IsSomePlaceFault, IsPlaceRefusal}
 use Rattle.pci_tree.proofs.EarlyFaults.{early-of_some_place}

@@ -7,8 +7,8 @@ use Rattle.std.proofs.lemmas.Bool.{cases_eq, cases_lt}
 use Rattle.std.proofs.lemmas.List.{get_or-replicate, get_or-set_same, get_or-set_other, take_more}
 use Rattle.std.proofs.lemmas.List.Elements.{Contains-push, Contains-push_cases, Contains-append_left}
 use Rattle.pci_spec.proofs.Members.{in_nil}
-use Rattle.pci_tree.specs.declared.record.Bridge.{Bridge}
-use Rattle.pci_tree.specs.declared.record.Record.{Record}
+use Rattle.pci_function.specs.declared.record.Bridge.{Bridge}
+use Rattle.pci_function.specs.declared.record.Record.{Record}
 use Rattle.pci_tree.specs.BusNumbers.{IsBridgeWith, IsLeastOf, IsLeastEnd, AreLeastEnds, IsInsideParents, IsLedTo, EndsWithin, least_of}
 
 some_same : {X : Type 0} (x y : X) → Some x ≡ Some y → x ≡ y

@@ -12,12 +12,12 @@ use Rattle.pci_spec.specs.System.{System, Function, system_of}
 use Rattle.pci_spec.specs.Fault.{Fault, NoVendor, HeaderKind, BarType, BarMask, BarPair, RomMask, WindowMask, CapRange, CapLoop, CapCut, SlotsDiffer, StrayProbe, LoneFunction, PaletteSnoop, VgaEnable, IsaEnable, Subtractive, InReset, PowerState, BusRange, Orphan, Unreached, Clash, Split, IsIn, IsThere}
 use Rattle.pci_spec.proofs.Pairing.{function_of, same_length, slots-system_of, IsSystem-of_dumps, there-of_in, in-of_there}
 use Rattle.pci_spec.specs.Order.{phase_of, IsFirstThere}
-use Rattle.pci_tree.specs.Profile.{IsHere}
+use Rattle.pci_function.specs.Profile.{IsHere}
 use Rattle.pci_tree.specs.Survey.{Surveyed, earlier, IsSurveyOf, IsAdded, IsRefusedBy, IsOutlineOf}
 use Rattle.pci_dump.specs.declared.memory.Refused.{Refused}
 use Rattle.pci_dump.specs.declared.memory.Refused.TheVariants as refusals
-use Rattle.pci_tree.specs.declared.fault.Fault.{Fault as FaultOfCode}
-use Rattle.pci_tree.specs.Fault.{fault_of}
+use Rattle.pci_function.specs.declared.fault.Fault.{Fault as FaultOfCode}
+use Rattle.pci_function.specs.Fault.{fault_of}
 use Rattle.pci_tree.specs.Refusals.{IsRefusalOf, IsPairRefusal}
 use Rattle.pci_tree.specs.Admission.{IsAdmitted}
 use Rattle.pci_tree.proofs.Surveys.{survey_more}

@@ -14,12 +14,12 @@ use Rattle.pci_spec.specs.Decoded.{record_of}
 use Rattle.pci_spec.proofs.BusRanges.{any_gives}
 use Rattle.pci_spec.proofs.Members.{in_map_from}
 use Rattle.pci_spec.proofs.Nesting.{nested}
-use Rattle.pci_tree.specs.declared.fault.Fault.{Fault}
-use Rattle.pci_tree.specs.declared.fault.Fault.TheVariants.{NoVendor, HeaderKind, BarType, BarMask, BarPair, RomMask, WindowMask, CapRange, CapLoop, CapCut, SlotsDiffer, StrayProbe, LoneFunction, PaletteSnoop, VgaEnable, IsaEnable, Subtractive, InReset, PowerState, BusRange, Orphan, Unreached, Clash, Split}
-use Rattle.pci_tree.specs.declared.record.Bridge.{Bridge}
-use Rattle.pci_tree.specs.declared.record.Record.{Record}
-use Rattle.pci_tree.specs.Values.{record_value}
-use Rattle.pci_tree.specs.Fault.{fault_of}
+use Rattle.pci_function.specs.declared.fault.Fault.{Fault}
+use Rattle.pci_function.specs.declared.fault.Fault.TheVariants.{NoVendor, HeaderKind, BarType, BarMask, BarPair, RomMask, WindowMask, CapRange, CapLoop, CapCut, SlotsDiffer, StrayProbe, LoneFunction, PaletteSnoop, VgaEnable, IsaEnable, Subtractive, InReset, PowerState, BusRange, Orphan, Unreached, Clash, Split}
+use Rattle.pci_function.specs.declared.record.Bridge.{Bridge}
+use Rattle.pci_function.specs.declared.record.Record.{Record}
+use Rattle.pci_function.specs.Values.{record_value}
+use Rattle.pci_function.specs.Fault.{fault_of}
 use Rattle.pci_tree.specs.Ways.{slots_of}
 use Rattle.pci_tree.specs.Outline.{RiseBySlot}
 use Rattle.pci_tree.specs.BusNumbers.{IsNotLone, IsLedTo, HasLawfulBuses, IsInPlace, first_function}

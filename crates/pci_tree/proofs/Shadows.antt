@@ -11,8 +11,8 @@ use Rattle.pci_spec.specs.System.{System, Function, is_bridge}
 use Rattle.pci_spec.specs.Bus.{secondary, subordinate, is_behind, IsNested}
 use Rattle.pci_spec.proofs.BusRanges.{bus_order_means, within_of_behind, IsWithin}
 use Rattle.pci_spec.proofs.Members.{IsMade, in_map_to, in_map_from, pairs_map}
-use Rattle.pci_tree.specs.declared.record.Bridge.{Bridge}
-use Rattle.pci_tree.specs.declared.record.Record.{Record}
+use Rattle.pci_function.specs.declared.record.Bridge.{Bridge}
+use Rattle.pci_function.specs.declared.record.Record.{Record}
 use Rattle.pci_tree.specs.Ways.{secondary_in, bus_behind, IsBridgeIn, Leads, IsForest, AreClear, IsUnled}
 use Rattle.pci_tree.specs.Regions.{IsLawful}
 use Rattle.pci_tree.specs.Outline.{RiseBySlot, IsOutline}

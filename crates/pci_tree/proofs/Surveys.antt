@@ -12,16 +12,16 @@ use Rattle.pci_spec.specs.Fault.{Fault}
 use Rattle.pci_spec.specs.Decoded.{record_of}
 use Rattle.pci_spec.specs.Decoded as decoded
 use Rattle.pci_spec.proofs.Members.{in_nil, in_cons_cases, in_head, in_tail, pairs_append, pairs_cons, pairs_nil}
-use Rattle.pci_tree.specs.declared.record.Record.{Record}
+use Rattle.pci_function.specs.declared.record.Record.{Record}
 use Rattle.pci_tree.specs.Regions.{IsLawful}
 use Rattle.pci_spec.specs.Order.{phase_of}
-use Rattle.pci_tree.specs.Profile.{IsClearBefore, IsFirstFault, IsExamined}
+use Rattle.pci_function.specs.Profile.{IsClearBefore, IsFirstFault, IsExamined}
 use Rattle.std.specs.Option.{is_some, option_map}
 use Rattle.pci_tree.specs.declared.roots.Roots.{Roots}
-use Rattle.pci_tree.specs.declared.fault.Fault.{Fault as FaultOfCode}
+use Rattle.pci_function.specs.declared.fault.Fault.{Fault as FaultOfCode}
 use Rattle.pci_tree.specs.Roots.{buses_of}
-use Rattle.pci_tree.specs.Fault.{fault_of}
-use Rattle.pci_tree.specs.Values.{record_value}
+use Rattle.pci_function.specs.Fault.{fault_of}
+use Rattle.pci_function.specs.Values.{record_value}
 use Rattle.pci_tree.specs.Survey.{Surveyed, AreKept, IsUpTo, phase_noted, earlier, IsNoted, IsSurveyOf, IsAdded}
 
 -- ---- one more at the end of a list

@@ -2,8 +2,8 @@
 use Rattle.std.specs.Prelude.{◌≡◌, ◌⊎◌, ℕ, ◌<◌, ◌≤◌, List, Option, None, Some, MatchOption, min, slice_index_or}
 use Rattle.std.specs.List.{All, Contains}
 use Rattle.pci_spec.specs.Slot.{Slot, slot_number}
-use Rattle.pci_tree.specs.declared.record.Bridge.{Bridge}
-use Rattle.pci_tree.specs.declared.record.Record.{Record}
+use Rattle.pci_function.specs.declared.record.Bridge.{Bridge}
+use Rattle.pci_function.specs.declared.record.Record.{Record}
 use Rattle.pci_tree.specs.Ways.{slots_of}
 
 -- a record of the list is of a bridge with these numbers

@@ -7,9 +7,9 @@ use Rattle.pci_spec.specs.Bus.{IsNested}
 use Rattle.pci_spec.specs.Decoded.{HasRecords}
 use Rattle.pci_spec.specs.Decoded as decoded
 use Rattle.pci_image.specs.declared.range.Range.{Range}
-use Rattle.pci_tree.specs.declared.record.Record.{Record}
+use Rattle.pci_function.specs.declared.record.Record.{Record}
 use Rattle.pci_tree.specs.declared.region.Region.{Region}
-use Rattle.pci_tree.specs.Values.{record_value}
+use Rattle.pci_function.specs.Values.{record_value}
 use Rattle.pci_tree.specs.Ranges.{Covers, IsCanonical}
 use Rattle.pci_tree.specs.Ways.{IsForest, AreClear, IsUnled}
 use Rattle.pci_tree.specs.Regions.{IsLawful, IsRegionOn, HasEachRegion, region_number}

@@ -8,10 +8,10 @@ use Rattle.pci_spec.specs.Fault as faults
 use Rattle.pci_spec.specs.Order.{phase_of, is_before, image_at}
 use Rattle.pci_spec.specs.Decoded.{HasRecords}
 use Rattle.pci_spec.specs.Decoded as decoded
-use Rattle.pci_tree.specs.declared.fault.Fault.{Fault}
-use Rattle.pci_tree.specs.declared.fault.Fault.TheVariants.{LoneFunction, BusRange, Orphan}
-use Rattle.pci_tree.specs.declared.record.Bridge.{Bridge}
-use Rattle.pci_tree.specs.declared.record.Record.{Record}
+use Rattle.pci_function.specs.declared.fault.Fault.{Fault}
+use Rattle.pci_function.specs.declared.fault.Fault.TheVariants.{LoneFunction, BusRange, Orphan}
+use Rattle.pci_function.specs.declared.record.Bridge.{Bridge}
+use Rattle.pci_function.specs.declared.record.Record.{Record}
 use Rattle.pci_tree.specs.BusNumbers.{IsNotLone, IsLedTo, HasLawfulBuses, IsInPlace}
 
 -- the fault is the first of the function's place: it may be lone, else have no bridge that leads to it, else bus numbers that don't fit

@@ -5,8 +5,8 @@ use Rattle.pci_spec.specs.Fault.{fault_number}
 use Rattle.pci_spec.specs.Order.{IsFirstThere}
 use Rattle.pci_dump.specs.declared.memory.Refused.{Refused}
 use Rattle.pci_dump.specs.declared.memory.Refused.TheVariants.{Fault, Memory}
-use Rattle.pci_tree.specs.declared.fault.Fault.{Fault as FaultOfCode}
-use Rattle.pci_tree.specs.Fault.{fault_of}
+use Rattle.pci_function.specs.declared.fault.Fault.{Fault as FaultOfCode}
+use Rattle.pci_function.specs.Fault.{fault_of}
 use Rattle.pci_tree.specs.Survey.{Surveyed, IsRefusedBy}
 
 -- a survey is refused by a fault alone; it needs no more memory

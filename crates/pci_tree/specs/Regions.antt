@@ -10,12 +10,12 @@ use Rattle.pci_image.specs.declared.bar.BarKind.{BarKind}
 use Rattle.pci_image.specs.declared.bar.BarKind.TheVariants as kinds
 use Rattle.pci_image.specs.declared.rom.Rom.{Rom}
 use Rattle.pci_image.specs.declared.window.Windows.{Windows}
-use Rattle.pci_tree.specs.declared.record.Bridge.{Bridge}
-use Rattle.pci_tree.specs.declared.record.Record.{Record}
+use Rattle.pci_function.specs.declared.record.Bridge.{Bridge}
+use Rattle.pci_function.specs.declared.record.Record.{Record}
 use Rattle.pci_tree.specs.declared.region.Region.{Region}
 use Rattle.pci_tree.specs.declared.region.Part.{Part}
 use Rattle.pci_tree.specs.declared.region.Part.TheVariants as parts
-use Rattle.pci_tree.specs.Space.{is_on}
+use Rattle.pci_function.specs.Space.{is_on}
 use Rattle.pci_tree.specs.Passes.{range_in}
 
 -- the space that a kind of BAR maps into

@@ -8,11 +8,11 @@ use Rattle.pci_spec.specs.Sound.{IsInProfile, HasChains}
 use Rattle.pci_spec.specs.Fault.{Fault, IsIn, fault_number}
 use Rattle.pci_spec.specs.Decoded.{record_of, HasRecords}
 use Rattle.pci_spec.specs.Decoded as decoded
-use Rattle.pci_tree.specs.declared.record.Record.{Record}
+use Rattle.pci_function.specs.declared.record.Record.{Record}
 use Rattle.pci_tree.specs.Regions.{IsLawful}
 use Rattle.pci_tree.specs.Outline.{RiseBySlot, Tree}
 use Rattle.pci_spec.specs.Order.{phase_of, is_before, image_at}
-use Rattle.pci_tree.specs.Profile.{IsHere, IsClearBefore, IsFirstOf, IsFirstFault}
+use Rattle.pci_function.specs.Profile.{IsHere, IsClearBefore, IsFirstOf, IsFirstFault}
 
 -- a survey: its root buses, the records, the fault that is noted, and the slot last added
 pub record Surveyed : Type 0 where

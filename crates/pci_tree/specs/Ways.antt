@@ -3,8 +3,8 @@ use Rattle.std.specs.Prelude.{◌≡◌, ℕ, ◌<◌, Bool, IsTrue, List, [], �
 use Rattle.std.specs.Option.{is_some}
 use Rattle.std.specs.List.{Contains, HoldsAt}
 use Rattle.pci_spec.specs.Slot.{Slot}
-use Rattle.pci_tree.specs.declared.record.Bridge.{Bridge}
-use Rattle.pci_tree.specs.declared.record.Record.{Record}
+use Rattle.pci_function.specs.declared.record.Bridge.{Bridge}
+use Rattle.pci_function.specs.declared.record.Record.{Record}
 
 abbrev pub secondary_in : Option Bridge → ℕ
 secondary_in None = 0

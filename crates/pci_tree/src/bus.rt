@@ -5,7 +5,7 @@ ghost use Rattle.pci_spec.specs.Slot.{IsSlot};
 ghost use Rattle.pci_tree.specs.Ways.{slots_of};
 ghost use Rattle.pci_tree.specs.Outline.{RiseBySlot, IsBusPart};
 
-use super::record::Record;
+use pci_function::record::Record;
 use pci_image::slot::Slot;
 
 /// The place of the first record on this bus or a higher one.

@@ -10,9 +10,9 @@ ghost use Rattle.pci_tree.specs.BusNumbers.{HasBusOrder, AreApart, AreSiblings, 
 ghost use Rattle.pci_tree.specs.PlaceFaults.{IsPlaceFault, IsSomePlaceFault};
 
 use super::bus::{has_slot, on_bus};
-use super::fault::Fault;
-use super::record::{Bridge, Record};
 use super::roots::Roots;
+use pci_function::fault::Fault;
+use pci_function::record::{Bridge, Record};
 use pci_image::slot::Slot;
 
 /// Whether a bridge knows its own bus, and leads to higher ones.

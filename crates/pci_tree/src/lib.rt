@@ -1,23 +1,33 @@
 //! Records of functions and the tree of buses that their bridges make: who claims which addresses, and how an access
 //! gets to a bus.
+//!
+//! ```text
+//! let admitted = admit::admit(rt.alloc(), dump, probe)?; // or the first fault, 20 to 58
+//! for region in &admitted.sorted(0, Space::Mem)? {
+//!     println!(rt; "{} {:02x}: {:x} to {:x}", region.slot, region.reg, region.first, region.last)?;
+//! }
+//! ```
 #![tactic(auto)]
 
 pub mod admit;
 pub mod admitted;
-pub mod bus;
+mod bus;
 mod buses;
-pub mod decode;
-mod examine;
-pub mod fault;
-pub mod forwarded;
+mod forwarded;
 pub mod outline;
-pub mod path;
-mod profile;
+mod path;
 pub mod ranges;
 pub mod reach;
-pub mod record;
 pub mod region;
 pub mod roots;
-pub mod space;
 pub mod survey;
-pub mod window;
+mod window;
+
+pub use admit::admit_with;
+pub use admitted::Admitted;
+pub use outline::Outline;
+pub use pci_function::{decode, fault, record, space};
+pub use reach::Reach;
+pub use region::{Part, Region};
+pub use roots::Roots;
+pub use survey::Survey;

@@ -2,35 +2,37 @@
 ghost use Rattle.std.specs.Prelude.{◌≡◌, ◌<◌, ℕ, map, length, IfOk, OnOk, MatchOption, MatchResult, slice_index_or, List};
 ghost use Rattle.std.specs.List.{All, AllPairs, Contains, filter, flat_map};
 ghost use Rattle.std.specs.List.Sorted.{IsPermutation};
-ghost use Rattle.pci_spec.specs.System.{System, is_bridge};
+ghost use Rattle.pci_spec.specs.System.{System, is_bridge, window_space};
 ghost use Rattle.pci_spec.specs.Decoded.{HasRecords};
 ghost use Rattle.pci_spec.specs.Bus.{IsNested};
 ghost use Rattle.pci_spec.specs.Slot.{IsSlot};
 ghost use Rattle.pci_tree.specs.PlaceFaults.{IsPlaceRefusal};
-ghost use Rattle.pci_tree.specs.Fault.{fault_of};
+ghost use Rattle.pci_function.specs.Fault.{fault_of};
 ghost use Rattle.pci_image.specs.declared.range.Range.{Range as RangeValue};
-ghost use Rattle.pci_tree.specs.Space.{space_of};
+ghost use Rattle.pci_image.specs.WindowKinds.{kind_value};
+ghost use Rattle.pci_function.specs.Space.{space_of, is_prefetch};
 ghost use Rattle.pci_tree.specs.Roots.{buses_of};
 ghost use Rattle.pci_tree.specs.Ranges.{IsCanonical};
 ghost use Rattle.pci_tree.specs.BusNumbers.{IsInPlace};
-ghost use Rattle.pci_tree.specs.Values.{record_value};
+ghost use Rattle.pci_function.specs.Values.{record_value};
 ghost use Rattle.pci_tree.specs.Regions.{AreRegionsOf, IsLawful, regions_of, region_number};
 ghost use Rattle.pci_tree.specs.Ways.{is_bridging, slots_of};
 ghost use Rattle.pci_tree.specs.Outline.{RiseBySlot, IsOutline, IsPathTo, IsReachTo, IsBefore, AreSortedRegionsOf};
 
 use super::bus::{has_slot, on_bus};
 use super::buses::first_place_fault;
-use super::fault::Fault;
-use super::path::{bridge_to_bus, path};
+use super::path::{bridge_to_bus, is_led_to, path};
 use super::reach::{Reach, reaches};
-use super::record::Record;
 use super::region::{Region, add_regions};
 use super::roots::Roots;
-use super::space::Space;
 use arrayvec::ArrayVec;
 use pci_dump::memory::OutOfMemory;
+use pci_function::fault::Fault;
+use pci_function::record::Record;
+use pci_function::space::Space;
 use pci_image::range::Range;
 use pci_image::slot::Slot;
+use pci_image::window_kind::WindowKind;
 use std::alloc::{Allocator, Global};
 use std::marker::Model;
 
@@ -45,7 +47,7 @@ pub struct Outline<A: Allocator = Global> {
 
 impl<A: Allocator> Model for Outline<A> {
     ghost use Rattle.std.specs.Prelude.{map};
-    ghost use Rattle.pci_tree.specs.Values.{record_value};
+    ghost use Rattle.pci_function.specs.Values.{record_value};
     ghost use Rattle.pci_tree.specs.Roots.{buses_of};
     ghost use Rattle.pci_tree.specs.Ways.{IsBridgeToBus};
     ghost use Rattle.pci_tree.specs.Outline.{Tree, IsOutline};
@@ -117,6 +119,9 @@ impl<A: Allocator + Copy> Outline<A> {
     pub fn regions(&self, bus: u8, space: Space) -> Result<Vec<Region, A>, OutOfMemory>
         ensures { IfOk result (λ v. (s : System) → HasRecords s self.now.records → AreRegionsOf s bus (space_of space) v.items) }
     {
+        if !is_led_to(&self.bridge_to_bus, &self.roots, bus) {
+            return Ok(Vec::new(*self.records.allocator()));
+        }
         let part = on_bus(&self.records, bus);
         regions_among(*self.records.allocator(), part, space)
     }
@@ -140,21 +145,20 @@ impl<A: Allocator + Copy> Outline<A> {
         path(&self.records, &self.bridge_to_bus, &self.roots, slot.bus())
     }
 
-    /// For each bus the addresses of a space that get there from a root, `prefetch` saying that they are a prefetchable
-    /// BAR's.
-    pub fn reaches(&self, space: Space, prefetch: bool) -> Result<Vec<Reach<A>, A>, OutOfMemory>
+    /// For each bus the addresses of a kind of access that get there from a root.
+    pub fn reaches(&self, kind: WindowKind) -> Result<Vec<Reach<A>, A>, OutOfMemory>
         ensures size { IfOk result (λ v. length v.items ≡ 256) }
         ensures canonical { IfOk result (λ v. All IsCanonical v.items) }
         ensures nested { (s : System) → HasRecords s self.now.records → IsNested self.now.roots s }
-        ensures exact { IfOk result (λ v. (s : System) (bus : ℕ) (d : List RangeValue) → HasRecords s self.now.records → bus < 256 → IsReachTo self.now.roots s (space_of space) prefetch bus (slice_index_or v.items bus d)) }
+        ensures exact { IfOk result (λ v. (s : System) (bus : ℕ) (d : List RangeValue) → HasRecords s self.now.records → bus < 256
+            → IsReachTo self.now.roots s (window_space (kind_value kind)) (is_prefetch (kind_value kind)) bus (slice_index_or v.items bus d)) }
     {
         reaches(
             *self.records.allocator(),
             &self.records,
             &self.bridge_to_bus,
             &self.roots,
-            space,
-            prefetch,
+            kind,
         )
     }
 
@@ -163,7 +167,7 @@ impl<A: Allocator + Copy> Outline<A> {
     pub fn reach(&self, bus: u8, space: Space, prefetch: bool) -> Result<Vec<Range, A>, OutOfMemory>
         ensures { IfOk result (λ v. (s : System) → HasRecords s self.now.records → IsReachTo self.now.roots s (space_of space) prefetch bus v.items) }
     {
-        let mut all = self.reaches(space, prefetch)?;
+        let mut all = self.reaches(space.kind(prefetch))?;
         let reach = all.swap_remove(bus as usize);
         Ok(reach.into_ranges())
     }

@@ -1,42 +1,25 @@
 //! A survey: functions are taken one by one, each with its image and its probe, and what is decoded of them is kept.
 ghost use Rattle.std.specs.Prelude.{◌≡◌, ◌≢◌, ◌<◌, [], ◌∷◌, ◌++◌, None, Some, OnOk, OnErr, IfSome, MatchResult};
 ghost use Rattle.std.specs.Option.{option_map};
+ghost use Rattle.pci_spec.specs.Number.{IsImage};
 ghost use Rattle.pci_spec.specs.Stops.{IsAboveLast};
 ghost use Rattle.pci_spec.specs.System.{System};
 ghost use Rattle.pci_spec.specs.Fault.{SlotsDiffer};
-ghost use Rattle.pci_tree.specs.Fault.{fault_of};
+ghost use Rattle.pci_function.specs.Fault.{fault_of};
 ghost use Rattle.pci_tree.specs.Roots.{buses_of};
 ghost use Rattle.pci_spec.specs.Order.{phase_of};
 ghost use Rattle.pci_tree.specs.Survey.{earlier, lesser_slot, IsSurveyOf, IsAdded, IsOutlineOf};
 
-use super::examine::examine;
-use super::fault::Fault;
 use super::outline::Outline;
-use super::record::Record;
 use super::roots::Roots;
 use pci_dump::block::Block;
 use pci_dump::memory::{OutOfMemory, Refused};
+use pci_function::examine::examine;
+use pci_function::fault::Fault;
+use pci_function::record::Record;
 use pci_image::slot::Slot;
 use std::alloc::{Allocator, Global};
 use std::marker::Model;
-
-/// The phase in which a fault is looked for: 0 slots, 1 identities and probes, 2 registers and capabilities lists, 3
-/// profiles, 4 places in the tree of buses, 5 regions.
-fn phase(fault: &Fault) -> u8
-    ensures { result ≡ phase_of (fault_of fault.now) }
-{
-    match fault {
-        Fault::SlotsDiffer(_) => 0,
-        Fault::NoVendor(_) | Fault::HeaderKind(_) | Fault::StrayProbe(..) => 1,
-        Fault::BarType(..) | Fault::BarMask(..) | Fault::BarPair(..) => 2,
-        Fault::RomMask(..) | Fault::WindowMask(..) => 2,
-        Fault::CapRange(..) | Fault::CapLoop(..) | Fault::CapCut(..) => 2,
-        Fault::PaletteSnoop(_) | Fault::VgaEnable(_) | Fault::IsaEnable(_) => 3,
-        Fault::Subtractive(_) | Fault::InReset(_) | Fault::PowerState(_) => 3,
-        Fault::LoneFunction(_) | Fault::BusRange(_) | Fault::Orphan(_) => 4,
-        Fault::Unreached { .. } | Fault::Clash { .. } | Fault::Split { .. } => 5,
-    }
-}
 
 /// The fault of the earlier phase; of two of one phase, the one that is noted.
 fn earlier(noted: Option<Fault>, fault: Fault) -> Fault
@@ -45,13 +28,20 @@ fn earlier(noted: Option<Fault>, fault: Fault) -> Fault
     match noted {
         None => fault,
         Some(noted) => {
-            if phase(&fault) < phase(&noted) {
+            if fault.phase() < noted.phase() {
                 fault
             } else {
                 noted
             }
         }
     }
+}
+
+/// The bytes of an image.
+fn bytes_of(bytes: &[u8; 256]) -> &[u8]
+    ensures { IsImage bytes.entry.now }
+{
+    bytes.as_slice()
 }
 
 /// What is decoded of the functions taken so far, or the fault that is noted of them. It holds no image.
@@ -66,9 +56,9 @@ pub struct Survey<A: Allocator = Global> {
 impl<A: Allocator> Model for Survey<A> {
     ghost use Rattle.std.specs.Prelude.{map};
     ghost use Rattle.std.specs.Option.{option_map};
-    ghost use Rattle.pci_tree.specs.Fault.{fault_of};
+    ghost use Rattle.pci_function.specs.Fault.{fault_of};
     ghost use Rattle.pci_tree.specs.Roots.{buses_of};
-    ghost use Rattle.pci_tree.specs.Values.{record_value};
+    ghost use Rattle.pci_function.specs.Values.{record_value};
     ghost use Rattle.pci_tree.specs.Survey.{Surveyed, AreKept};
 
     ghost Value = { Surveyed };
@@ -149,8 +139,9 @@ impl<A: Allocator> Survey<A> {
         ensures err { OnErr result (self.new ≡ self.old) }
     {
         let slot = block.slot;
-        // Read for what it says of the slot.
+        // Both are read for what their types say of them.
         let _number = slot.number();
+        let _bytes = bytes_of(&block.image.0);
         match examine(slot, &block.image, &probe.image) {
             Err(fault) => {
                 self.noted = Some(earlier(self.noted, fault));

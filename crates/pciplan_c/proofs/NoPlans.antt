@@ -6,7 +6,7 @@ use Rattle.pci_dump.specs.declared.memory.Refused.{Refused}
 use Rattle.pci_dump.specs.declared.memory.Refused.TheVariants as refusals
 use Rattle.pci_tree.specs.Roots.{IsRootList}
 use Rattle.pci_tree.specs.Refusals.{IsPairRefusal}
-use Rattle.pci_tree.specs.declared.fault.Fault.{Fault}
+use Rattle.pci_function.specs.declared.fault.Fault.{Fault}
 use Rattle.pciplan_c.specs.PlanAnswers.{IsNoPlanOf}
 use Rattle.pciplan_c.specs.declared.no_plan.NoPlan.{NoPlan}
 use Rattle.pciplan_c.specs.declared.no_plan.NoPlan.TheVariants.{NotAdmitted}

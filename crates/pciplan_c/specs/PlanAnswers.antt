@@ -7,9 +7,9 @@ use Rattle.pci_spec.specs.Machine.{Write}
 use Rattle.pci_spec.specs.Plan as plan
 use Rattle.pci_spec.specs.PlanPromise.{IsPlanFaultOf}
 use Rattle.pci_tree.specs.Admission.{Admission, IsAdmitted}
-use Rattle.pci_tree.specs.Fault.{fault_of}
+use Rattle.pci_function.specs.Fault.{fault_of}
 use Rattle.pci_tree.specs.Roots.{IsRootList}
-use Rattle.pci_tree.specs.declared.fault.Fault.{Fault}
+use Rattle.pci_function.specs.declared.fault.Fault.{Fault}
 use Rattle.pci_plan.specs.Above.{system_in}
 use Rattle.pci_plan.specs.Plans.{PlanValue, IsPlanIn, plan_fault_of}
 use Rattle.pci_plan.specs.declared.plan_fault.PlanFault.{PlanFault}

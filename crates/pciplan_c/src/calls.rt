@@ -1,6 +1,6 @@
 //! What C calls.
 ghost use Rattle.std.specs.Prelude.{◌≡◌, ◌⊎◌, ◌≤◌, length};
-ghost use Rattle.pci_tree.specs.declared.fault.Fault.{Fault};
+ghost use Rattle.pci_function.specs.declared.fault.Fault.{Fault};
 ghost use Rattle.pci_check.specs.declared.outcome.Outcome.TheVariants.{Yes, No};
 ghost use Rattle.pciplan_c.specs.Answers.{IsTold, IsTooLong};
 ghost use Rattle.pciplan_c.specs.Endings.{ArePut, AreTooMany, IsNoPlanTold, IsNoPlanTooLong};

@@ -15,8 +15,6 @@ mod plan_tests;
 pub mod planning;
 pub mod put;
 pub mod refusal;
-#[cfg(test)]
-mod refusing;
 pub mod register_write;
 #[cfg(test)]
 mod tests;

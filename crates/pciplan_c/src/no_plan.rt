@@ -3,7 +3,7 @@ ghost use Rattle.std.specs.Prelude.{◌≡◌, Some};
 
 use crate::refusal::Refusal;
 use pci_plan::plan_fault::PlanFault;
-use pci_tree::fault::Fault;
+use pci_function::fault::Fault;
 use std::fmt;
 
 /// Why there is no plan.

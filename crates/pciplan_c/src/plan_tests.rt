@@ -1,9 +1,9 @@
 //! Plans of a board that was never set up: a bridge with a device behind it, and a device beside it.
 use crate::calls::pciplan_plan;
 use crate::planning::{HeldBack, plan_into};
-use crate::refusing::Refusing;
 use crate::register_write::{PoolsOfC, RegisterWrite};
 use crate::texts::{Pair, whole};
+use boards::refusing::Refusing;
 use std::alloc::{AllocError, Global};
 use std::test::Fail;
 

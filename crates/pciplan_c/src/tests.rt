@@ -2,9 +2,9 @@
 use crate::answer::Withheld;
 use crate::calls::pciplan_check;
 use crate::refusal::Refusal;
-use crate::refusing::Refusing;
 use crate::texts::{Pair, desk_pair, old_pair, roots_pair};
 use crate::verdict::check_into;
+use boards::refusing::Refusing;
 use pci_dump::read_fault::ReadFault;
 use std::alloc::Global;
 use std::test::Fail;

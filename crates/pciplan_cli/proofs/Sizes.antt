@@ -10,7 +10,7 @@ use Rattle.pci_spec.specs.System.{Function, system_of}
 use Rattle.pci_spec.specs.Machine.{Target, target_of, sized}
 use Rattle.pci_spec.specs.Decoded.{IsDecodable}
 use Rattle.pci_spec.proofs.Pairing.{function_of, length-system_of, same_length}
-use Rattle.pci_dump.proofs.Pairs.{slot_at}
+use Rattle.pci_function.proofs.Pairs.{slot_at}
 use Rattle.pci_spec.specs.Sizing.{function_at, IsSizable}
 use Rattle.pci_machine.proofs.MadeOf.{at_place, function-of, sizable-of}
 

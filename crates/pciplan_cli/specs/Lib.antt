@@ -3,7 +3,7 @@ pub mod RegionLines
 pub mod BridgeLines
 pub mod CapabilityLines
 pub mod HeaderLines
-pub mod Stops
+pub mod FunctionLines
 pub mod Shows
 pub mod Statuses
 pub mod Answers

@@ -1,4 +1,13 @@
 //! The command line of `pciplan`: its tasks, its messages and its statuses.
+//!
+//! [`run::run`] carries a task out over two texts that are handed in, and [`program::program`] over texts that it opens
+//! by their paths: it is all that `main` calls.
+//!
+//! ```text
+//! let words = program::words_of(&rt); // as in `check DUMP PROBE`
+//! let status = program::program(rt.alloc(), words, &mut dump, &mut probe, &mut output, &mut errors);
+//! // 0 done or yes, 1 no, 2 refused, 3 out of memory, 4 a write failed
+//! ```
 #![tactic(auto)]
 
 pub mod asked;
@@ -16,3 +25,6 @@ pub mod root_list;
 pub mod run;
 pub mod show;
 pub mod sizing;
+
+pub use failure::Failure;
+pub use invocation::{Invocation, Task};

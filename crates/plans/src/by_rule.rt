@@ -36,8 +36,8 @@ fn admitted(alloc: Global, board: &Board) -> Result<Admitted, Fail> {
     let mut dump = Dump::empty(alloc);
     let mut probe = Dump::empty(alloc);
     for made in &board.functions {
-        push(&mut dump, made, made.function.image)?;
-        push(&mut probe, made, made.function.probe)?;
+        push(&mut dump, made, made.function.registers.image)?;
+        push(&mut probe, made, made.function.registers.probe)?;
     }
     let roots = board.roots().unwrap_or(Roots::host());
     let admitted = admit_with(alloc, dump, probe, roots)?;
@@ -77,7 +77,7 @@ fn is_wanted(board: &Board, made: &Made, class: Class, window: Option<Window>) -
 
 /// Whether the BARs of a function's image are in the pools of their classes.
 fn are_bars_in_place(board: &Board, made: &Made, image: &Image) -> Result<bool, Fail> {
-    let decoded = bars(image, &made.function.probe)?;
+    let decoded = bars(image, &made.function.registers.probe)?;
     for bar in decoded.as_slice() {
         let range = Range {
             first: bar.first,
@@ -101,7 +101,7 @@ fn are_bars_in_place(board: &Board, made: &Made, image: &Image) -> Result<bool, 
 
 /// Whether the ROM of a function's image is in the pool of memory.
 fn is_rom_in_place(board: &Board, made: &Made, image: &Image) -> Result<bool, Fail> {
-    match rom(image, &made.function.probe)? {
+    match rom(image, &made.function.registers.probe)? {
         None => Ok(made.rom.is_none()),
         Some(rom) => {
             let range = Range {
@@ -118,7 +118,7 @@ fn are_windows_wanted(board: &Board, made: &Made, image: &Image) -> Result<bool,
     if made.bridge.is_none() {
         return Ok(true);
     }
-    let windows = Windows::of(image, &made.function.probe)?;
+    let windows = Windows::of(image, &made.function.registers.probe)?;
     Ok(
         is_wanted(board, made, Class::Io, windows.io)
             && is_wanted(board, made, Class::Memory, Some(windows.mem))

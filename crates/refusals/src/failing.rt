@@ -1,7 +1,7 @@
 //! Runs in which a read or a write fails.
-use crate::fakes::{Narrow, Pieces};
+use crate::program::{Answer, line_of, run_task};
 use boards::board::Texts;
-use boards::program::{Answer, line_of, run_task};
+use boards::fakes::{Narrow, Pieces};
 use pci_dump::std_streams::{Incoming, Outgoing};
 use pciplan_cli::invocation::Task;
 use pciplan_cli::run::run;

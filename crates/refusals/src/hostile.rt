@@ -1,9 +1,9 @@
 //! Listings and sizes where a text is none, or a read, a write or a growth fails.
 use crate::failing::{leaves_beginnings, with_failing_read};
-use crate::fakes::Narrow;
+use crate::program::{line_of, prints};
 use crate::refused_tasks::is_refused_in_turn;
 use boards::board::{Texts, bridge, device, list_at, texts_of};
-use boards::program::{line_of, prints};
+use boards::fakes::Narrow;
 use pci_dump::std_streams::{Incoming, Outgoing};
 use pciplan_cli::invocation::Task;
 use pciplan_cli::run::run;

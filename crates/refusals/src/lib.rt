@@ -4,8 +4,6 @@
 #[cfg(test)]
 mod failing;
 #[cfg(test)]
-mod fakes;
-#[cfg(test)]
 mod hostile;
 #[cfg(test)]
 mod interrupted;
@@ -13,6 +11,8 @@ mod interrupted;
 mod no_growth;
 #[cfg(test)]
 mod opening;
+#[cfg(test)]
+mod program;
 #[cfg(test)]
 mod refused_plans;
 #[cfg(test)]
@@ -23,5 +23,3 @@ mod refused_readings;
 mod refused_tasks;
 #[cfg(test)]
 mod refused_verdicts;
-#[cfg(test)]
-mod refusing;

@@ -1,13 +1,13 @@
 //! Calls that take no memory, with the first growth refused: they meet no refusal, and answer the same.
 use crate::refused_readings::read;
 use crate::refused_verdicts::admitted;
-use crate::refusing::Refusing;
 use boards::board::Texts;
+use boards::refusing::Refusing;
 use boards::samples::samples;
 use pci_dump::block::Block;
 use pci_dump::dump::Dump;
 use pci_dump::memory::Refused;
-use pci_dump::pair::pair;
+use pci_function::pair::pair;
 use pci_dump::reader::Reader;
 use pci_dump::std_streams::{Incoming, Outgoing};
 use pci_dump::write::write_dump;

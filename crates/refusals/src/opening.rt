@@ -1,8 +1,8 @@
 //! The program on texts that may not be there, and on words that can't be had.
 ghost use Rattle.std.specs.Prelude.{ℕ, List, None};
 
+use crate::program::Answer;
 use boards::example::{DUMP, LISTING, PROBE};
-use boards::program::Answer;
 use pci_dump::failures::Failures;
 use pci_dump::std_streams::Outgoing;
 use pci_dump::streams::{Failed, Source};

@@ -2,8 +2,8 @@
 use crate::refused_readings::MANY;
 use crate::refused_tasks::is_refused_in_turn;
 use crate::refused_verdicts::{admitted, is_as_it_was};
-use crate::refusing::Refusing;
 use boards::board::{Texts, bridge, device, texts_of};
+use boards::refusing::Refusing;
 use pci_dump::memory::Refused;
 use pci_image::range::Range;
 use pci_plan::plan::Plan;

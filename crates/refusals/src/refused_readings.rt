@@ -1,6 +1,6 @@
 //! Reading and admitting, with the first growth refused, then with the second, and so on until no refusal is met.
-use crate::refusing::Refusing;
 use boards::board::Texts;
+use boards::refusing::Refusing;
 use boards::samples::samples;
 use pci_dump::block::Block;
 use pci_dump::dump::Dump;

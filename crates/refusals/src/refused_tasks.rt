@@ -1,8 +1,8 @@
 //! The program's tasks with the first growth refused, then with the second, and so on until no refusal is met.
+use crate::program::{line_of, run_task};
 use crate::refused_readings::MANY;
-use crate::refusing::Refusing;
 use boards::board::Texts;
-use boards::program::{line_of, run_task};
+use boards::refusing::Refusing;
 use boards::samples::samples;
 use pci_dump::std_streams::{Incoming, Outgoing};
 use pci_tree::roots::Roots;

@@ -1,7 +1,7 @@
 //! Listing and judging, with the first growth refused, then with the second, and so on until no refusal is met.
 use crate::refused_readings::{MANY, read};
-use crate::refusing::Refusing;
 use boards::board::Texts;
+use boards::refusing::Refusing;
 use boards::samples::samples;
 use pci_check::audit::audit;
 use pci_check::check::check;

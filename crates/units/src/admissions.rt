@@ -1,4 +1,4 @@
-use crate::registers::{Registers, bridge, device, list_at};
+use boards::registers::{Registers, bridge, device, list_at};
 use pci_dump::block::Block;
 use pci_dump::dump::Dump;
 use pci_dump::memory::Refused;

@@ -1,4 +1,4 @@
-use crate::registers::{Registers, device, list_at};
+use boards::registers::{Registers, device, list_at};
 use pci_image::capability::{Cap, chain};
 use pci_image::fault::ImageFault;
 

@@ -1,4 +1,4 @@
-use crate::registers::{Registers, bridge, device};
+use boards::registers::{Registers, bridge, device};
 use pci_image::fault::ImageFault;
 use pci_image::header::Header;
 

@@ -9,8 +9,6 @@ mod bars;
 #[cfg(test)]
 mod chains;
 #[cfg(test)]
-mod fakes;
-#[cfg(test)]
 mod faults;
 #[cfg(test)]
 mod headers;
@@ -24,8 +22,6 @@ mod reading;
 mod records;
 #[cfg(test)]
 mod regions;
-#[cfg(test)]
-mod registers;
 #[cfg(test)]
 mod roms;
 #[cfg(test)]

@@ -1,11 +1,13 @@
 //! What sizing does access by access, what a machine answers, and which machines are refused.
 use crate::setting::{
-    add, bridge, capable_device, device, image, image_at, machine_of_pair, machine_with, read_at,
-    sized, slot, write_at,
+    add, bridge, capable_device, device, image_at, machine_of_pair, machine_with, read_at, sized,
+    slot, write_at,
 };
+use boards::registers;
+use boards::registers::{Registers, zeros};
 use pci_dump::dump::Dump;
 use pci_dump::memory::Refused;
-use pci_dump::pair_fault::PairFault;
+use pci_function::fault::PairFault;
 use pci_image::fault::ImageFault;
 use pci_image::image::Image;
 use pci_image::slot::Slot;
@@ -29,7 +31,7 @@ fn failing_on(machine: Machine, n: u64) -> Result<(Result<Image, SizeFault>, Ima
 /// The same of a machine with one function.
 fn failing(
     alloc: Global,
-    function: (Image, Image),
+    function: Registers,
     n: u64,
 ) -> Result<(Result<Image, SizeFault>, Image), Fail> {
     failing_on(machine_with(alloc, function)?, n)
@@ -54,8 +56,8 @@ fn offset_of(registers: &[u8], n: usize) -> u8 {
 
 /// The image that is left when the n-th access fails: Command without its decode bits from the
 /// fifth on, and a register as it reads back where ones were written and not the old value.
-fn left_by(function: (Image, Image), registers: &[u8], n: usize) -> Image {
-    let Image(mut bytes) = function.0;
+fn left_by(function: Registers, registers: &[u8], n: usize) -> Image {
+    let Image(mut bytes) = function.image;
     if 5 <= n {
         bytes[4] -= bytes[4] % 4;
     }
@@ -69,7 +71,7 @@ fn left_by(function: (Image, Image), registers: &[u8], n: usize) -> Image {
             };
             for at in from..from + width {
                 if at < 256 {
-                    bytes[at] = function.1.0[at];
+                    bytes[at] = function.probe.0[at];
                 }
             }
         }
@@ -87,20 +89,15 @@ fn fault_at(registers: &[u8], n: usize) -> SizeFault {
 }
 
 /// Whether sizing a function, of which these registers are sized, stops at its n-th access when that fails.
-fn stops_at(
-    alloc: Global,
-    function: (Image, Image),
-    registers: &[u8],
-    n: usize,
-) -> Result<bool, Fail> {
+fn stops_at(alloc: Global, function: Registers, registers: &[u8], n: usize) -> Result<bool, Fail> {
     let (found, left) = failing(alloc, function, n as u64)?;
     Ok(found == Err(fault_at(registers, n)) && left == left_by(function, registers, n))
 }
 
 /// Whether sizing a function makes no n-th access.
-fn ends_before(alloc: Global, function: (Image, Image), n: usize) -> Result<bool, Fail> {
+fn ends_before(alloc: Global, function: Registers, n: usize) -> Result<bool, Fail> {
     let (found, left) = failing(alloc, function, n as u64)?;
-    Ok(found == Ok(function.1) && left == function.0)
+    Ok(found == Ok(function.probe) && left == function.image)
 }
 
 #[test]
@@ -164,7 +161,7 @@ fn a_pinned_decode_bit_stops_sizing(rt: HostRuntime) -> Result<(), Fail> {
     let here = slot(0)?;
     let mut machine = pinned(rt.alloc())?;
     assert!(rt; sized(&mut machine, here) == Err(SizeFault::Stuck));
-    assert!(rt; image_at(&machine, here) == Some(device().0));
+    assert!(rt; image_at(&machine, here) == Some(device().image));
     Ok(())
 }
 
@@ -199,7 +196,7 @@ fn a_slot_without_a_function_is_not_sized(rt: HostRuntime) -> Result<(), Fail> {
     assert!(rt; sized_on(&mut port, other) == Err(fault));
     // the first access is still to fail
     assert!(rt; sized_on(&mut port, here).is_err());
-    assert!(rt; sized_on(&mut port, here) == Ok(device().1));
+    assert!(rt; sized_on(&mut port, here) == Ok(device().probe));
     Ok(())
 }
 
@@ -280,7 +277,7 @@ const WRITTEN_TO_BRIDGE: [Written; 6] = [
 ];
 
 /// Whether a write to a function leaves what its row says.
-fn leaves(alloc: Global, function: (Image, Image), row: Written) -> Result<bool, Fail> {
+fn leaves(alloc: Global, function: Registers, row: Written) -> Result<bool, Fail> {
     let (off, width, value, at, after) = row;
     let here = slot(0)?;
     let mut machine = machine_with(alloc, function)?;
@@ -301,63 +298,58 @@ fn writes_set_and_clear_just_the_bits_of_the_table(rt: HostRuntime) -> Result<()
     Ok(())
 }
 
-/// Whether an image and its read backs, at 00:00.0, make no machine because of this fault.
-fn is_refused(
-    alloc: Global,
-    image: Image,
-    read_backs: Image,
-    fault: PairFault,
-) -> Result<bool, Fail> {
+/// Whether a function at 00:00.0 makes no machine because of this fault.
+fn is_refused(alloc: Global, function: Registers, fault: PairFault) -> Result<bool, Fail> {
     let mut dump = Dump::empty(alloc);
     let mut probe = Dump::empty(alloc);
-    add(&mut dump, 0, image)?;
-    add(&mut probe, 0, read_backs)?;
+    add(&mut dump, 0, function.image)?;
+    add(&mut probe, 0, function.probe)?;
     let refused = machine_of_pair(alloc, &dump, &probe).err();
     Ok(refused == Some(Refused::Fault(fault)))
 }
 
+/// A function all of whose read backs are 0.
+fn unprobed(function: Registers) -> Registers {
+    Registers {
+        image: function.image,
+        probe: zeros().probe,
+    }
+}
+
 #[test]
 fn a_dump_and_probe_that_are_no_pair_make_no_machine(rt: HostRuntime) -> Result<(), Fail> {
-    let zero = image(&[]);
     let here = slot(0)?;
     let rows = [
         (
-            image(&[(0x00, 0xffff_ffff)]),
-            zero,
+            zeros().register(0x00, 0xffff_ffff, 0),
             PairFault::NoVendor(here),
         ),
         (
-            image(&[(0x00, 0x5678_1234), (0x0c, 0x0002_0000)]),
-            zero,
+            registers::device().register(0x0c, 0x0002_0000, 0),
             PairFault::HeaderKind(here),
         ),
         (
-            device().0,
-            image(&[(0x3c, 0x0000_0100)]),
+            unprobed(device()).register(0x3c, 0, 0x0000_0100),
             PairFault::StrayProbe(here, 0x3d),
         ),
-        (device().0, zero, PairFault::BarMask(here, 0x10)),
-        (bridge().0, zero, PairFault::RomMask(here, 0x38)),
+        (unprobed(device()), PairFault::BarMask(here, 0x10)),
+        (unprobed(bridge()), PairFault::RomMask(here, 0x38)),
     ];
-    for (image, read_backs, fault) in rows {
-        assert!(rt;
-            is_refused(rt.alloc(), image, read_backs, fault)?,
-            "{fault:?}"
-        );
+    for (function, fault) in rows {
+        assert!(rt; is_refused(rt.alloc(), function, fault)?, "{fault:?}");
     }
     Ok(())
 }
 
 #[test]
 fn a_dump_and_probe_of_other_slots_make_no_machine(rt: HostRuntime) -> Result<(), Fail> {
-    let (image, read_backs) = device();
     let mut dump = Dump::empty(rt.alloc());
     let mut probe = Dump::empty(rt.alloc());
     for dev in [0, 2] {
-        add(&mut dump, dev, image)?;
+        add(&mut dump, dev, device().image)?;
     }
     for dev in [0, 3] {
-        add(&mut probe, dev, read_backs)?;
+        add(&mut probe, dev, device().probe)?;
     }
     let refused = machine_of_pair(rt.alloc(), &dump, &probe).err();
     let fault = PairFault::SlotsDiffer(slot(2)?);
@@ -366,7 +358,7 @@ fn a_dump_and_probe_of_other_slots_make_no_machine(rt: HostRuntime) -> Result<()
 }
 
 /// The function that a machine of six functions has at a device of bus 00.
-fn one_of_six(dev: u8) -> Option<(Image, Image)> {
+fn one_of_six(dev: u8) -> Option<Registers> {
     match dev {
         4 => Some(bridge()),
         7 => Some(capable_device()),
@@ -381,8 +373,8 @@ fn six_functions(alloc: Global) -> Result<Machine, Fail> {
     let mut probe = Dump::empty(alloc);
     for dev in 0..32 {
         if let Some(function) = one_of_six(dev) {
-            add(&mut dump, dev, function.0)?;
-            add(&mut probe, dev, function.1)?;
+            add(&mut dump, dev, function.image)?;
+            add(&mut probe, dev, function.probe)?;
         }
     }
     let machine = machine_of_pair(alloc, &dump, &probe)?;
@@ -390,10 +382,11 @@ fn six_functions(alloc: Global) -> Result<Machine, Fail> {
 }
 
 /// Whether a machine has this function at a slot, or none, and sizes it so.
-fn is_found(machine: &mut Machine, slot: Slot, function: Option<(Image, Image)>) -> bool {
+fn is_found(machine: &mut Machine, slot: Slot, function: Option<Registers>) -> bool {
     match function {
-        Some((image, read_backs)) => {
-            image_at(machine, slot) == Some(image) && sized(machine, slot) == Ok(read_backs)
+        Some(function) => {
+            image_at(machine, slot) == Some(function.image)
+                && sized(machine, slot) == Ok(function.probe)
         }
         None => image_at(machine, slot).is_none() && sized(machine, slot).is_err(),
     }

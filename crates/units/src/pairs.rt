@@ -1,9 +1,9 @@
-use crate::fakes::Pieces;
 use crate::texts::block;
+use boards::fakes::Pieces;
 use pci_dump::block::Block;
 use pci_dump::dump::Dump;
-use pci_dump::pair::pair;
-use pci_dump::pair_fault::PairFault;
+use pci_function::pair::pair;
+use pci_function::fault::PairFault;
 use pci_dump::reader::read_dump;
 use pci_image::image::Image;
 use pci_image::slot::Slot;

@@ -1,5 +1,5 @@
-use crate::fakes::Pieces;
 use crate::texts::{STEPS, block, example, joined, outcome, reads_as};
+use boards::fakes::Pieces;
 use pci_dump::block::{Block, Title};
 use pci_dump::read_fault::ReadFault;
 use pci_dump::reader::{Reader, read_dump};

@@ -1,4 +1,4 @@
-use crate::registers::{Registers, bridge, device};
+use boards::registers::{Registers, bridge, device};
 use pci_image::slot::Slot;
 use pci_tree::decode::decode;
 use pci_tree::region::{Part, Region, add_regions};

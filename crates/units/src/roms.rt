@@ -1,4 +1,4 @@
-use crate::registers::{bridge, device};
+use boards::registers::{bridge, device};
 use pci_image::fault::ImageFault;
 use pci_image::rom::Rom;
 use pci_image::rom::register::rom;

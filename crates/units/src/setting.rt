@@ -1,8 +1,10 @@
 //! Machines in memory with functions of bus 00, and calls of them.
+use boards::registers;
+use boards::registers::Registers;
 use pci_dump::block::Block;
 use pci_dump::dump::Dump;
 use pci_dump::memory::Refused;
-use pci_dump::pair_fault::PairFault;
+use pci_function::fault::PairFault;
 use pci_image::image::Image;
 use pci_image::slot::Slot;
 use pci_machine::machine::Machine;
@@ -18,77 +20,36 @@ pub fn slot(dev: u8) -> Result<Slot, Fail> {
     Ok(slot)
 }
 
-/// An image with these registers of four bytes, and 0 elsewhere.
-pub fn image(registers: &[(u8, u32)]) -> Image {
-    let mut bytes = [0; 256];
-    for (offset, value) in registers {
-        let mut rest = *value;
-        for j in 0..4 {
-            let at = usize::from(*offset) + j;
-            if at < 256 {
-                bytes[at] = (rest % 256) as u8;
-            }
-            rest /= 256;
-        }
-    }
-    Image(bytes)
-}
-
 /// A device with all decode bits set, a pending error in Status, and a BAR of 1 MB.
-pub fn device() -> (Image, Image) {
-    (
-        image(&[
-            (0x00, 0x5678_1234),
-            (0x04, 0xf900_0003),
-            (0x10, 0xfe00_0000),
-        ]),
-        image(&[(0x10, 0xfff0_0000)]),
-    )
+pub fn device() -> Registers {
+    registers::device()
+        .register(0x04, 0xf900_0003, 0)
+        .register(0x10, 0xfe00_0000, 0xfff0_0000)
 }
 
 /// A bridge whose windows are all there.
-pub fn bridge() -> (Image, Image) {
-    (
-        image(&[
-            (0x00, 0x5678_1234),
-            (0x04, 0x0000_0003),
-            (0x0c, 0x0001_0000),
-            (0x18, 0x0001_0100),
-            (0x1c, 0xf900_f1e1),
-            (0x20, 0xe010_e000),
-            (0x24, 0x0001_0001),
-            (0x28, 0x0000_0001),
-            (0x2c, 0x0000_0001),
-            (0x30, 0x0001_0001),
-            (0x38, 0xfe00_0001),
-        ]),
-        image(&[
-            (0x1c, 0x0000_f1f1),
-            (0x20, 0xfff0_fff0),
-            (0x24, 0xfff1_fff1),
-            (0x28, 0xffff_ffff),
-            (0x2c, 0xffff_ffff),
-            (0x30, 0xffff_ffff),
-            (0x38, 0xfffe_0000),
-        ]),
-    )
+pub fn bridge() -> Registers {
+    registers::bridge()
+        .register(0x04, 0x0000_0003, 0)
+        .register(0x18, 0x0001_0100, 0)
+        .register(0x1c, 0xf900_f1e1, 0x0000_f1f1)
+        .register(0x20, 0xe010_e000, 0xfff0_fff0)
+        .register(0x24, 0x0001_0001, 0xfff1_fff1)
+        .register(0x28, 0x0000_0001, 0xffff_ffff)
+        .register(0x2c, 0x0000_0001, 0xffff_ffff)
+        .register(0x30, 0x0001_0001, 0xffff_ffff)
+        .register(0x38, 0xfe00_0001, 0xfffe_0000)
 }
 
 /// A device with a prefetchable BAR and two capabilities, with power management and MSI.
-pub fn capable_device() -> (Image, Image) {
-    (
-        image(&[
-            (0x00, 0x5678_1234),
-            (0x04, 0x0010_0002),
-            (0x10, 0xfe00_0008),
-            (0x34, 0x0000_0040),
-            (0x40, 0x0002_5001),
-            (0x50, 0x0080_0005),
-            (0x54, 0xfee0_0000),
-            (0x5c, 0x0000_4041),
-        ]),
-        image(&[(0x10, 0xfff0_0008)]),
-    )
+pub fn capable_device() -> Registers {
+    registers::list_at(0x40)
+        .half(0x04, 0x0002, 0)
+        .register(0x10, 0xfe00_0008, 0xfff0_0008)
+        .register(0x40, 0x0002_5001, 0)
+        .register(0x50, 0x0080_0005, 0)
+        .register(0x54, 0xfee0_0000, 0)
+        .register(0x5c, 0x0000_4041, 0)
 }
 
 /// Appends function 0 of a device of bus 00 to a dump.
@@ -112,11 +73,11 @@ pub fn machine_of_pair(
 }
 
 /// A machine with one function, at 00:00.0.
-pub fn machine_with(alloc: Global, function: (Image, Image)) -> Result<Machine, Fail> {
+pub fn machine_with(alloc: Global, function: Registers) -> Result<Machine, Fail> {
     let mut dump = Dump::empty(alloc);
     let mut probe = Dump::empty(alloc);
-    add(&mut dump, 0, function.0)?;
-    add(&mut probe, 0, function.1)?;
+    add(&mut dump, 0, function.image)?;
+    add(&mut probe, 0, function.probe)?;
     let machine = machine_of_pair(alloc, &dump, &probe)?;
     Ok(machine)
 }

@@ -1,6 +1,6 @@
 //! Texts of dumps, for the tests that read and write them.
 
-use crate::fakes::Pieces;
+use boards::fakes::Pieces;
 use pci_dump::read_fault::ReadFault;
 use pci_dump::reader::read_dump;
 use std::test::Fail;

@@ -1,5 +1,5 @@
-use crate::fakes::{Narrow, Pieces};
 use crate::texts::{STEPS, block, example, joined, reads_as};
+use boards::fakes::{Narrow, Pieces};
 use pci_dump::block::Block;
 use pci_dump::dump::{Dump, PushFault};
 use pci_dump::memory::Refused;

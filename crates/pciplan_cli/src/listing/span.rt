@@ -5,7 +5,7 @@ ghost use Rattle.pci_spec.specs.Line.{hex_number};
 
 use crate::hex_text::push_hex;
 use pci_image::range::Range;
-use pci_tree::space::Space;
+use pci_function::space::Space;
 use std::alloc::{AllocError, Allocator};
 
 /// A range of addresses of a space, as `F-L`: 8 hex digits each in I/O space, 16 in memory space.

@@ -1,7 +1,7 @@
 use Rattle.std.proofs.Common.{List, subst}
 use Rattle.pci_spec.specs.Text.{Block}
 use Rattle.pci_spec.specs.Fault.{IsThere}
-use Rattle.pci_tree.specs.Fault.{fault_of}
+use Rattle.pci_function.specs.Fault.{fault_of}
 use Rattle.pci_tree.specs.Roots.{buses_of}
 use Rattle.pci_plan.proofs.Judged.{judged_result, refused_unsound}
 use Rattle.pci_plan.proofs.planning.judged.Goals as goal

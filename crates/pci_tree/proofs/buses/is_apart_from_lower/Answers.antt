@@ -1,7 +1,7 @@
 use Rattle.std.proofs.Common.{refl, subst}
 use Rattle.std.proofs.lemmas.List.{take_all}
 use Rattle.std.proofs.lemmas.List.Elements.{All-more}
-use Rattle.pci_tree.specs.declared.record.Record.{Record}
+use Rattle.pci_function.specs.declared.record.Record.{Record}
 use Rattle.pci_tree.specs.BusNumbers.{IsApartFrom, IsApartFromLower}
 use Rattle.pci_tree.proofs.buses.is_apart_from_lower.Goals as goal
 

@@ -1,7 +1,7 @@
 use Rattle.std.proofs.Common.{◌≡◌, length, arith, rules, subst, reverse, sym, ap, ◌∙◌, get_or, drop}
 use Rattle.std.proofs.lemmas.Bool.{both_ways}
 use Rattle.std.proofs.lemmas.List.{take_at}
-use Rattle.pci_tree.specs.declared.record.Record.{Record}
+use Rattle.pci_function.specs.declared.record.Record.{Record}
 use Rattle.pci_tree.specs.Roots.{buses_of}
 use Rattle.pci_tree.specs.Ways.{bus_behind, IsBridgeIn, LeadsAt, AreSlotsOfWay}
 use Rattle.pci_tree.proofs.Ways.{GoesUp, bridge_at, at_bus, up_more, none_above, at_root, no_place, some_place}

@@ -2,7 +2,7 @@ use Rattle.std.proofs.Common.{refl}
 use Rattle.std.proofs.lemmas.Bool.{eq-eqb}
 use Rattle.std.proofs.lemmas.Result.{err_from_is_err_and}
 use Rattle.pci_spec.specs.Window.{IoWindow, MemoryWindow, PrefetchWindow}
-use Rattle.pci_image.proofs.Windows.{in_window-holds, in_optional-holds, has_memory_window, io_window-lowest, memory_window-lowest, prefetch_window-lowest, header_fault-no_window}
+use Rattle.pci_image.proofs.WindowRules.{in_window-holds, in_optional-holds, has_memory_window, io_window-lowest, memory_window-lowest, prefetch_window-lowest, header_fault-no_window}
 use Rattle.pci_image.proofs.window.Windows.of.Goals as goal
 
 pub returns-clause-compared : goal.returns-clause-compared

@@ -3,8 +3,9 @@ use Rattle.pci_spec.specs.Stops.{IsAboveLast}
 use Rattle.pci_spec.specs.Text.{Block}
 use Rattle.pci_spec.specs.Decoded as decoded
 use Rattle.pci_spec.proofs.Pairing.{function_of}
-use Rattle.pci_tree.specs.declared.record.Record.{Record}
+use Rattle.pci_function.specs.declared.record.Record.{Record}
 use Rattle.pci_tree.specs.Survey.{Surveyed, AreKept, IsAdded}
+use Rattle.pci_tree.proofs.Lawful.{lawful_record}
 use Rattle.pci_tree.proofs.Surveys.{survey_of, survey_more, append_record, append_nothing, append_fault, kept_later, kept_more}
 use Rattle.pci_tree.proofs.survey.Survey.add_function.Goals as goal
 
@@ -28,7 +29,9 @@ invariant_of-self-in-Ok g c =
     subst (λ rs. AreKept rs (Some c.block.inside.slot)) (sym c.in_ok-push-in-Ok.ensures.items)
     (kept_more c.self.inside.records.items c.in-Ok.decoded c.self.inside.last c.block.inside.slot c.self.invariant
     (above_from _ c.args.self.now _ c.args.block.now c.self.view_is c.block.view_is c.requires.above)
-    (ap (λ (r : decoded.Record). r.slot) c.in-Ok.ensures.decoded.same) c.number-number.ensures.slot c.in-Ok.ensures.decoded.lawful)
+    (ap (λ (r : decoded.Record). r.slot) c.in-Ok.ensures.decoded.same) c.number-number.ensures.slot
+    (lawful_record c.in-Ok.decoded record { slot = c.block.inside.slot; image = c.block.inside.image.0; probe = c.probe.inside.image.0 }
+    record { full = c.bytes_of-bytes.ensures.full; bytes = c.bytes_of-bytes.ensures.bytes } c.in-Ok.ensures.decoded.decodable c.in-Ok.ensures.decoded.same))
 
 pub returns-then-is_some-clause-added : goal.returns-then-is_some-clause-added
 returns-then-is_some-clause-added g c =

@@ -1,6 +1,6 @@
 use Rattle.std.proofs.Common.{refl, sym, ◌∙◌, ap, subst}
 use Rattle.std.specs.Option.{option_map}
-use Rattle.pci_tree.specs.Fault.{fault_of}
+use Rattle.pci_function.specs.Fault.{fault_of}
 use Rattle.pci_tree.specs.Survey.{Surveyed, IsOutlineOf, IsRefusedBy}
 use Rattle.pci_tree.proofs.Surveys.{survey_of}
 use Rattle.pci_tree.proofs.Finishes.{outline_of_survey, refused_by_noted, refused_by_place}

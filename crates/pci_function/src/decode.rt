@@ -1,0 +1,59 @@
+//! What the registers of one function decode to: its record, from its image and its read backs.
+ghost use Rattle.std.specs.Prelude.{◌≤◌, IfErr, MatchResult};
+ghost use Rattle.pci_image.specs.Faults.{IsImageFaultIn, image_fault_number};
+ghost use Rattle.pci_image.specs.Windows.{IsLowestWindowFault};
+ghost use Rattle.pci_function.specs.Fault.{image_fault_at};
+ghost use Rattle.pci_function.specs.Profile.{IsFirstOf};
+ghost use Rattle.pci_function.specs.Decoding.{IsBridgeAt, IsRecordOf};
+
+use super::record::{Bridge, Record};
+use pci_image::bar::bars;
+use pci_image::fault::ImageFault;
+use pci_image::header::Header;
+use pci_image::image::Image;
+use pci_image::offset::{COMMAND, PRIMARY_BUS, SECONDARY_BUS, SUBORDINATE_BUS};
+use pci_image::rom::register::rom;
+use pci_image::slot::Slot;
+use pci_image::window::Windows;
+
+/// The bus numbers and windows of a function, where it is a bridge.
+fn bridge_at(image: &Image, probe: &Image) -> Result<Option<Bridge>, ImageFault>
+    ensures bridge { MatchResult result (IsBridgeAt image.now.0 probe.now.0) (IsImageFaultIn image.now.0 probe.now.0) }
+    ensures lowest { IfErr result (IsLowestWindowFault image.now.0 probe.now.0) }
+{
+    match Header::of(image)? {
+        Header::Type0(_) => Ok(None),
+        Header::Type1(_) => {
+            let windows = Windows::of(image, probe)?;
+            Ok(Some(Bridge {
+                primary: image.u8(PRIMARY_BUS),
+                secondary: image.u8(SECONDARY_BUS),
+                subordinate: image.u8(SUBORDINATE_BUS),
+                windows,
+            }))
+        }
+    }
+}
+
+/// The record of a function.
+///
+/// # Errors
+///
+/// 20 `NoVendor` and 21 `HeaderKind` where it isn't a function that decodes; else the first fault of its registers, in
+/// the order of BARs (22 to 24), ROM (25) and windows (26).
+pub fn decode(slot: Slot, image: &Image, probe: &Image) -> Result<Record, ImageFault>
+    ensures decoded { MatchResult result (IsRecordOf record { slot = slot; image = image.now.0; probe = probe.now.0 }) (IsImageFaultIn image.now.0 probe.now.0) }
+    ensures number { IfErr result (λ e. image_fault_number e ≤ 26) }
+    ensures first { IfErr result (λ e. IsFirstOf 2 record { slot = slot; image = image.now.0; probe = probe.now.0 } (image_fault_at slot e)) }
+{
+    let bars = bars(image, probe)?;
+    let rom = rom(image, probe)?;
+    let bridge = bridge_at(image, probe)?;
+    Ok(Record {
+        slot,
+        command: image.u16(COMMAND),
+        bars,
+        rom,
+        bridge,
+    })
+}

@@ -1,0 +1,43 @@
+//! What is wrong with one function by itself, in the order in which it is looked for: its identity and its probe, its
+//! registers and capabilities list, its profile.
+ghost use Rattle.std.specs.Prelude.{MatchResult};
+ghost use Rattle.pci_function.specs.Fault.{fault_of};
+ghost use Rattle.pci_function.specs.Profile.{IsExamined, IsFirstFault};
+
+use super::decode::decode;
+use super::fault::Fault;
+use super::profile::{identity_fault, profile_fault};
+use super::record::Record;
+use arrayvec::ArrayVec;
+use pci_image::capability::add_places;
+use pci_image::image::Image;
+use pci_image::slot::Slot;
+
+/// The record of a function.
+///
+/// # Errors
+///
+/// Its first fault: 20 `NoVendor`, 21 `HeaderKind`, 31 `StrayProbe`; then 22 to 26 of its registers and 27 to 29 of its
+/// capabilities list; then 51 to 56 of its profile.
+pub fn examine(slot: Slot, image: &Image, probe: &Image) -> Result<Record, Fault>
+    ensures { MatchResult result (IsExamined record { slot = slot; image = image.now.0; probe = probe.now.0 })
+        (λ e. IsFirstFault record { slot = slot; image = image.now.0; probe = probe.now.0 } (fault_of e)) }
+{
+    match identity_fault(slot, image, probe) {
+        Some(fault) => return Err(fault),
+        None => {}
+    }
+    let decoded = match decode(slot, image, probe) {
+        Ok(decoded) => decoded,
+        Err(fault) => return Err(Fault::of_image(slot, fault)),
+    };
+    let mut places = ArrayVec::new();
+    match add_places(image, &mut places) {
+        Ok(()) => {}
+        Err(fault) => return Err(Fault::of_image(slot, fault)),
+    }
+    match profile_fault(slot, image, probe, &places) {
+        Some(fault) => Err(fault),
+        None => Ok(decoded),
+    }
+}

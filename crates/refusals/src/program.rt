@@ -1,0 +1,89 @@
+//! The program, run on texts that are held in memory.
+use pci_dump::std_streams::{Incoming, Outgoing};
+use pciplan_cli::invocation::{Invocation, Task, start};
+use pciplan_cli::run::run;
+use std::test::Fail;
+
+/// What a run left: its status, and what it wrote.
+#[derive(Drop)]
+pub struct Answer {
+    pub status: u8,
+    pub out: Vec<u8>,
+    pub err: Vec<u8>,
+}
+
+/// The line of a task. The paths of its texts don't matter, as the texts are handed in.
+pub fn line_of(rt: &impl AllocGlobal, task: Task) -> Invocation {
+    Invocation {
+        task,
+        dump: String::new(rt.alloc()),
+        probe: String::new(rt.alloc()),
+    }
+}
+
+/// What a task answers to two texts.
+pub fn run_task(rt: &impl AllocGlobal, task: Task, dump: &str, probe: &str) -> Answer {
+    let mut out = Vec::new(rt.alloc());
+    let mut err = Vec::new(rt.alloc());
+    let status = run(
+        rt.alloc(),
+        &line_of(rt, task),
+        &mut Incoming::new(dump.as_bytes()),
+        &mut Incoming::new(probe.as_bytes()),
+        &mut Outgoing::new(&mut out),
+        &mut Outgoing::new(&mut err),
+    );
+    Answer { status, out, err }
+}
+
+/// What a line of words answers to two texts.
+fn run_words(rt: &impl AllocGlobal, words: &[&str], dump: &str, probe: &str) -> Answer {
+    let mut out = Vec::new(rt.alloc());
+    let mut err = Vec::new(rt.alloc());
+    let status = {
+        let mut errors = Outgoing::new(&mut err);
+        match start(rt.alloc(), words, &mut errors) {
+            Err(status) => status,
+            Ok(line) => run(
+                rt.alloc(),
+                &line,
+                &mut Incoming::new(dump.as_bytes()),
+                &mut Incoming::new(probe.as_bytes()),
+                &mut Outgoing::new(&mut out),
+                &mut errors,
+            ),
+        }
+    };
+    Answer { status, out, err }
+}
+
+/// Whether a run left what is wanted on standard output and on standard error, and the status.
+fn is_answer(got: &Answer, wanted: (&str, &str, u8)) -> Result<(), Fail> {
+    let (out, err, status) = wanted;
+    if got.out.as_slice() != out.as_bytes() {
+        return Err(Fail::new(format_args!("not on standard output: {out}")));
+    }
+    if got.err.as_slice() != err.as_bytes() {
+        return Err(Fail::new(format_args!("not on standard error: {err}")));
+    }
+    if got.status != status {
+        let left = got.status;
+        return Err(Fail::new(format_args!("status {left}: {out}{err}")));
+    }
+    Ok(())
+}
+
+/// Whether a line of words prints this about a dump and its probe: what it writes to standard output and to standard
+/// error, and its status.
+///
+/// # Errors
+///
+/// What isn't as it is wanted.
+pub fn prints(
+    rt: &impl AllocGlobal,
+    words: &[&str],
+    texts: (&str, &str),
+    wanted: (&str, &str, u8),
+) -> Result<(), Fail> {
+    is_answer(&run_words(rt, words, texts.0, texts.1), wanted)
+}
