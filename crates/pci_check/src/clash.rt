@@ -7,7 +7,7 @@ ghost use Rattle.pci_check.specs.Stops.{AreReachesOf, AreListed};
 ghost use Rattle.pci_check.specs.Clashes.{NoneClashOn, IsClashFaultOn, IsClashFaultOnBus};
 
 use super::reached::Reached;
-use super::sweep::{Shared, least_shared};
+use super::sweep::{Overlap, first_overlap};
 use pci_dump::memory::OutOfMemory;
 use pci_function::fault::Fault;
 use pci_function::space::Space;
@@ -25,10 +25,10 @@ fn clash_in<A: Allocator + Copy>(
         → MatchOption o (NoneClashOn t bus (space_of space)) (λ fault. IsClashFaultOn t bus (space_of space) fault)) }
 {
     let allowed = reached.ranges(bus, space, true);
-    match least_shared(regions, allowed)? {
+    match first_overlap(regions, allowed)? {
         None => Ok(None),
         Some(
-            Shared {
+            Overlap {
                 address,
                 first,
                 second,
