@@ -12,7 +12,7 @@ use Rattle.pci_spec.proofs.Firsts.{slot_of, least_clash_is_first}
 use Rattle.pci_image.specs.declared.range.Range.{Range}
 use Rattle.pci_function.specs.declared.fault.Fault.{Fault}
 use Rattle.pci_tree.specs.declared.region.Region.{Region}
-use Rattle.pci_tree.specs.Regions.{AreRegionsOf, HasEachRegion}
+use Rattle.pci_tree.specs.Regions.{HasEachRegion}
 use Rattle.pci_tree.specs.Outline.{Tree, IsReachTo}
 use Rattle.pci_check.specs.Trees.{HasTree}
 use Rattle.pci_tree.proofs.Orders.{own_of_rising}

@@ -4,50 +4,13 @@ ghost use Rattle.pci_spec.specs.Fault.{is_in_address_register};
 ghost use Rattle.pci_function.specs.Pair.{stray_at};
 
 use pci_image::image::Image;
-
-/// In an address register.
-const A: bool = true;
-
-/// Elsewhere in a header.
-const O: bool = false;
-
-/// The bytes of a type 0 header that lie in address registers: the BARs and the expansion ROM
-/// (PCI 3.0, 6.2.5).
-static TYPE_0_REGISTERS: [bool; 64] = [
-    O, O, O, O, O, O, O, O, O, O, O, O, O, O, O, O, // 00
-    A, A, A, A, A, A, A, A, A, A, A, A, A, A, A, A, // 10: BARs 0 to 3
-    A, A, A, A, A, A, A, A, O, O, O, O, O, O, O, O, // 20: BARs 4 and 5
-    A, A, A, A, O, O, O, O, O, O, O, O, O, O, O, O, // 30: the expansion ROM
-];
-
-/// Those of a type 1 header: the BARs, the I/O, memory and prefetchable windows with their upper
-/// halves, and the expansion ROM (Bridge 1.2, 3.2.5).
-static TYPE_1_REGISTERS: [bool; 64] = [
-    O, O, O, O, O, O, O, O, O, O, O, O, O, O, O, O, // 00
-    A, A, A, A, A, A, A, A, O, O, O, O, A, A, O, O, // 10: BARs 0 and 1; the I/O window at 1c
-    A, A, A, A, A, A, A, A, A, A, A, A, A, A, A, A, // 20: the memory and prefetchable windows
-    A, A, A, A, O, O, O, O, A, A, A, A, O, O, O, O, // 30: the I/O window; the expansion ROM at 38
-];
-
-/// How many bytes a header has.
-const HEADER_LEN: usize = 64;
-
-/// The address registers of a header.
-fn registers(layout: u8) -> &'static [bool; 64]
-    ensures { (offset : ℕ) → offset < 64 → slice_index_or result.now offset false ≡ is_in_address_register layout offset }
-{
-    if layout == 1 {
-        &TYPE_1_REGISTERS
-    } else {
-        &TYPE_0_REGISTERS
-    }
-}
+use pci_image::register::{HEADER_LEN, address_bytes};
 
 /// Whether an offset lies in an address register of a header.
 fn is_address(layout: u8, offset: usize) -> bool
     ensures { result ≡ is_in_address_register layout offset }
 {
-    offset < HEADER_LEN && registers(layout)[offset]
+    offset < HEADER_LEN && address_bytes(layout == 1)[offset]
 }
 
 /// Whether a probe's byte isn't 00 and lies in no address register.
@@ -63,10 +26,10 @@ fn is_stray(layout: u8, probe: &Image, offset: usize) -> bool
 fn has_stray(layout: u8, probe: &Image) -> bool
     ensures { result ≡ false → (offset : ℕ) → stray_at layout probe.now.0 offset ≡ false }
 {
-    let registers = registers(layout);
+    let is_address = address_bytes(layout == 1);
     let mut found = false;
     for offset in 0..HEADER_LEN {
-        found |= (probe.0[offset] != 0) & !registers[offset];
+        found |= (probe.0[offset] != 0) & !is_address[offset];
     }
     for offset in HEADER_LEN..256 {
         found |= probe.0[offset] != 0;

@@ -1,4 +1,7 @@
+pub mod Accesses
+pub mod AddressBytes
 pub mod Comparators
+pub mod Puts
 pub mod Registers
 pub mod Sizes
 pub mod Decoding
@@ -8,3 +11,4 @@ pub mod Roms
 pub mod WindowRules
 pub mod Walking
 pub mod PlaceSets
+pub mod WindowKinds

@@ -4,5 +4,7 @@ pub mod Caps
 pub mod Faults
 pub mod Header
 pub mod Ranges
+pub mod Registers
 pub mod Roms
 pub mod Windows
+pub mod WindowKinds

@@ -2,8 +2,10 @@
 ghost use Rattle.std.specs.Prelude.{◌≡◌, ◌+◌, ◌*◌, ◌%◌, ◌^◌, ◌<◌, ◌≤◌, ◌↔◌, false, IsTrue, MatchResult, MatchOption, IsOk, IfOk, IfErr, None, map, All};
 ghost use Rattle.pci_spec.specs.Decoded.{decoded_bars};
 ghost use Rattle.pci_spec.specs.Number.{number_at};
+ghost use Rattle.pci_spec.specs.Bar as bar;
 ghost use Rattle.pci_spec.specs.Bar.{bar_kind, is_prefetchable, has_lawful_size, is_lawful};
 ghost use Rattle.pci_spec.specs.Header.{bar_register};
+ghost use Rattle.pci_spec.specs.Planning.Showing.{first_bit};
 ghost use Rattle.pci_image.specs.Bars.{decoded_kind_of, decoded_bar_of, HasLawfulBars, IsBarFault, IsLowestBarFault, IsComparedBar, IsDecodedAt, IsPlaced, broken_encoding, broken_register, broken_size};
 ghost use Rattle.pci_image.specs.Faults.{IsImageFaultIn, image_fault_number};
 
@@ -52,6 +54,30 @@ impl Default for Bar {
     }
 }
 
+impl BarKind {
+    /// How many encodings the low bits of a BAR's register have: bits 1:0 for I/O, bits 3:0 for
+    /// memory (6.2.5.1).
+    fn encodings(self) -> u32
+        ensures { result ≡ 2 ^ first_bit (decoded_kind_of self) }
+    {
+        match self {
+            BarKind::Io => 4,
+            BarKind::Mem32 | BarKind::Mem64 => 16,
+        }
+    }
+}
+
+impl Bar {
+    /// What the BAR's registers hold, both together where it has two, to answer addresses from a
+    /// first one on: that address, over the encoding that stands in its register.
+    pub fn value_from(&self, register: u32, first: u64) -> u64
+        requires { first + register % 2 ^ first_bit (decoded_kind_of self.now.kind) < 2 ^ 64 }
+        ensures { result ≡ first + register % 2 ^ first_bit (decoded_kind_of self.now.kind) }
+    {
+        first + u64::from(register % self.kind.encodings())
+    }
+}
+
 /// Bit 0 of a register: the BAR maps into I/O space.
 const IO_SPACE: u32 = 0b1;
 
@@ -76,7 +102,7 @@ const IO_ENCODING: u32 = 0b11;
 /// The bits of a memory register that hold no address.
 const MEMORY_ENCODING: u32 = 0b1111;
 
-/// The place of the largest size of an I/O BAR, 256 addresses (6.2.5.1).
+/// The binary logarithm of the largest size of an I/O BAR, 256 addresses (6.2.5.1).
 const IO_LARGEST: u32 = 8;
 
 /// The kind of an implemented BAR, by its value and its read back.
@@ -100,6 +126,27 @@ fn kind_of(reg: u8, value: u32, mask: u32) -> Result<BarKind, ImageFault>
     }
 }
 
+/// Whether a BAR register is the lower half of a 64-bit memory BAR.
+fn is_wide(mask: u32) -> bool
+    ensures { result ≡ bar.is_wide mask }
+{
+    mask % 2 != 1 && mask / 2 % 4 == 2
+}
+
+/// Whether BAR register n starts a BAR, and is not the upper half of one, by what registers read
+/// back.
+pub fn starts_bar(probe: &Image, n: u8) -> bool
+    requires { n < 6 }
+    ensures { result ≡ bar.starts_bar probe.now.0 n }
+{
+    let mut starts = true;
+    for i in 0..n {
+        let before = probe.u32(BASE_ADDRESS + 4 * i);
+        starts = !(starts && is_wide(before));
+    }
+    starts
+}
+
 /// Whether a register is of a prefetchable memory BAR.
 fn is_prefetchable(mask: u32) -> bool
     ensures { result ≡ is_prefetchable mask }
@@ -107,10 +154,10 @@ fn is_prefetchable(mask: u32) -> bool
     mask & IO_SPACE == 0 && mask & PREFETCHABLE != 0
 }
 
-/// The place k of a BAR's size, by its read back: it has 2 ^ k addresses.
+/// The binary logarithm k of a BAR's size, by its read back: it has 2 ^ k addresses.
 ///
 /// An I/O BAR may leave bits 31:16 out (6.2.5.1).
-fn size_place(kind: BarKind, mask: u64) -> Option<u32>
+fn size_log2(kind: BarKind, mask: u64) -> Option<u32>
     ensures { MatchOption result (has_lawful_size (decoded_kind_of kind) mask ≡ false) (λ k. IsTrue (is_lawful (decoded_kind_of kind) mask k)) }
 {
     match kind {
@@ -142,13 +189,13 @@ fn placed(reg: u8, kind: BarKind, prefetch: bool, value: u64, mask: u64) -> Resu
         (λ bar. (broken_size (decoded_kind_of kind) value mask ≡ None) × IsPlaced reg (decoded_kind_of kind) prefetch value mask bar)
         (IsBarFault reg (broken_size (decoded_kind_of kind) value mask)) }
 {
-    let Some(place) = size_place(kind, mask) else {
+    let Some(log2) = size_log2(kind, mask) else {
         return Err(ImageFault::BarMask(reg));
     };
     if !fits_within(value, mask) {
         return Err(ImageFault::BarMask(reg));
     }
-    let Range { first, last } = aligned(value, place);
+    let Range { first, last } = aligned(value, log2);
     Ok(Bar {
         reg,
         kind,

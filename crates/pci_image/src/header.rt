@@ -4,7 +4,8 @@ ghost use Rattle.pci_spec.specs.Header.{layout};
 
 use super::fault::ImageFault;
 use super::image::Image;
-use super::offset::{BRIDGE_EXPANSION_ROM, EXPANSION_ROM, HEADER_TYPE, VENDOR_ID};
+use super::offset::{HEADER_TYPE, VENDOR_ID};
+use super::register::rom_register;
 
 /// An image with a type 0 header: a device.
 #[derive(Clone, Copy, Debug, PartialEq, Eq)]
@@ -82,8 +83,8 @@ impl<'a> Header<'a> {
         ensures { result ≡ rom_register (header_layout self.now) }
     {
         match self {
-            Header::Type0(_) => EXPANSION_ROM,
-            Header::Type1(_) => BRIDGE_EXPANSION_ROM,
+            Header::Type0(_) => rom_register(false),
+            Header::Type1(_) => rom_register(true),
         }
     }
 }

@@ -1,6 +1,7 @@
 //! The configuration space of one function (PCI 3.0, 6.1).
-ghost use Rattle.std.specs.Prelude.{◌≡◌, ◌%◌};
-ghost use Rattle.pci_spec.specs.Number.{byte_at, number_at};
+ghost use Rattle.std.specs.Prelude.{◌≡◌, ◌+◌, ◌<◌, ◌≤◌, ◌/◌, ◌%◌, ◌^◌, ◌⊎◌, ℕ, IsTrue, slice_index};
+ghost use Rattle.pci_spec.specs.Number.{byte_at, number_at, IsImage};
+ghost use Rattle.pci_spec.specs.Port as port;
 
 use byteorder::{ByteOrder, LittleEndian};
 
@@ -30,5 +31,32 @@ impl Image {
         ensures { result ≡ number_at self.now.0 off 4 }
     {
         LittleEndian::read_u32(&self.0[usize::from(off)..])
+    }
+
+    /// The little-endian number of 1, 2 or 4 bytes at an offset that is a multiple of their number.
+    pub fn number(&self, off: u8, width: u8) -> u32
+        requires { IsTrue (port.is_access off width) }
+        ensures { result ≡ number_at self.now.0 off width }
+    {
+        match width {
+            1 => u32::from(self.u8(off)),
+            2 => u32::from(self.u16(off)),
+            _ => self.u32(off),
+        }
+    }
+}
+
+/// Puts the bytes of a number at an offset, the low byte first.
+pub fn put(bytes: &mut [u8; 256], off: u8, width: u8, value: u32)
+    requires { IsTrue (port.is_access off width) }
+    ensures inside { (j : ℕ) → j < width → slice_index bytes.new (off + j) ≡ value / 256 ^ j % 256 }
+    ensures outside { (place : ℕ) → (place < off) ⊎ (off + width ≤ place) → slice_index bytes.new place ≡ slice_index bytes.old place }
+    ensures number { value < 256 ^ width → number_at bytes.new off width ≡ value }
+    ensures image { IsImage bytes.old → IsImage bytes.new }
+{
+    let mut rest = value;
+    for j in 0..width {
+        bytes[usize::from(off + j)] = (rest % 256) as u8;
+        rest /= 256;
     }
 }

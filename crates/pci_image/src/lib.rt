@@ -27,9 +27,11 @@ pub mod image;
 pub mod offset;
 mod place_set;
 pub mod range;
+pub mod register;
 pub mod rom;
 pub mod slot;
 pub mod window;
+pub mod window_kind;
 
 pub use bar::{Bar, BarKind, bars};
 pub use capability::{Cap, chain};
@@ -40,3 +42,4 @@ pub use range::Range;
 pub use rom::Rom;
 pub use slot::Slot;
 pub use window::{Window, Windows};
+pub use window_kind::{ByKind, WindowKind};

@@ -1,19 +1,21 @@
 -- Bytes that are made by adding the bits of registers.
-use Rattle.std.proofs.Common.{◌≡◌, ◌≢◌, ℕ, zero, suc, ◌+◌, ◌-◌, ◌*◌, ◌/◌, ◌%◌, ◌^◌, ◌<◌, ◌≤◌, ◌==◌, ◌&&◌, ◌||◌, nat_lt, nat_le, max, bit_or, refl, Bool, true, false, List, [], ◌∷◌, ◌++◌, length, take, get_or, replicate, inl, inr, arith, sym, ◌∙◌, ap}
+use Rattle.std.proofs.Common.{◌≡◌, ◌≢◌, ℕ, zero, suc, ◌+◌, ◌-◌, ◌*◌, ◌/◌, ◌%◌, ◌^◌, ◌<◌, ◌≤◌, ◌==◌, ◌&&◌, ◌||◌, nat_lt, nat_le, max, bit_or, refl, Bool, true, false, List, [], length, map, take, get_or, replicate, inl, inr, arith, sym, ◌∙◌, ap}
 use Rattle.std.specs.Int.{bit_at}
-use Rattle.std.specs.List.{list_all, slice_set}
-use Rattle.std.proofs.lemmas.Bool.{cases_lt, cases_eq, and_parts, and_left, and_right, or_from, le-leb, lt-leb, lt-ltb, le-ltb, eqb-true}
-use Rattle.std.proofs.lemmas.List.{take_all, get_or_past, length-set, get_or-set_same, get_or-set_other, get_or-replicate}
+use Rattle.std.specs.List.{flat_map, slice_set}
+use Rattle.std.proofs.lemmas.Bool.{cases_lt, cases_eq, and_left, and_right, le-leb, lt-leb, lt-ltb, le-ltb}
+use Rattle.std.proofs.lemmas.List.{take_all, take_more, flat_map_more, get_or_past, length-set, get_or-set_same, get_or-set_other, get_or-replicate}
 use Rattle.std.proofs.lemmas.List.FromFn.{fill_by_all}
-use Rattle.std.proofs.lemmas.List.Folds.{list_any-append, list_any_more}
+use Rattle.std.proofs.lemmas.List.Folds.{list_any-append, flat_map-map}
 use Rattle.std.proofs.lemmas.Nat.Bits.{bit_at_or, bit_at-lt}
 use Rattle.std.proofs.lemmas.Nat.{or_of_8}
 use Rattle.pci_spec.specs.Number.{byte_at, has_bit, IsImage}
 use Rattle.pci_spec.specs.Header.{layout}
-use Rattle.pci_spec.specs.Machine.{Field, field_has, in_fields, writable_bits, clearing_bits, writable_fields, clearing_fields, byte_of_bits, bytes_of_bits}
+use Rattle.pci_spec.specs.Machine.{Field, field_has, in_fields, writable_by, clearing_by, writable_bits, clearing_bits, writable_fields, clearing_fields, byte_of_bits, bytes_of_bits}
 use Rattle.pci_spec.proofs.WrittenBits.{bit_at-datum}
-use Rattle.pci_machine.specs.Masks.{HasBits, AddsField}
-use Rattle.pci_machine.specs.RegisterTable.{status_fields, writable_by, clearing_by, rest_of}
+use Rattle.pci_spec.specs.Registers as table
+use Rattle.pci_image.specs.Registers.{register_value}
+use Rattle.pci_image.specs.declared.register.Register.{Register}
+use Rattle.pci_machine.specs.Masks.{HasBits, AddsField, AddsFields}
 use Rattle.pci_machine.proofs.Bytes.{has_bit-zero, byte_by_bits}
 
 -- ---- one byte more of a register
@@ -116,52 +118,24 @@ added_none bytes off bits place i inside small =
 -- ---- the registers of a table, one after another
 
 -- zeros have the bits of no register
-pub no_bits : (n : ℕ) (bytes : List ℕ) → ((place : ℕ) → place < 256 → byte_at bytes place ≡ 0) → HasBits bytes (in_fields [])
-no_bits n bytes zeros place i inside small = ap (λ b. has_bit b i) (zeros place inside) ∙ has_bit-zero i
+pub no_bits : HasBits (replicate 256 0) (in_fields [])
+no_bits place i inside small = ap (λ b. has_bit b i) (get_or-replicate 256 place 0 0 inside) ∙ has_bit-zero i
 
 -- the bits of one register more
-pub bits_more : (fields : List Field) (k : ℕ) (field : Field) (old new : List ℕ) → k < length fields → get_or fields k field ≡ field
-    → HasBits old (in_fields (take k fields)) → AddsField old new field → HasBits new (in_fields (take (k + 1) fields))
-bits_more fields k field old new below is so_far adds place i inside small =
-    adds place i inside small ∙ ap (λ b. b || field_has place i field) (so_far place i inside small)
-    ∙ ap (λ f. in_fields (take k fields) place i || field_has place i f) (sym is) ∙ sym (list_any_more (field_has place i) fields k field below)
+pub bits_more : (fields : Register → List Field) (items : List Register) (k : ℕ) (d : Register) (old new : List ℕ) → k < length items
+    → HasBits old (in_fields (flat_map fields (take k items))) → AddsFields old new (fields (get_or items k d)) → HasBits new (in_fields (flat_map fields (take (k + 1) items)))
+bits_more fields items k d old new below so_far adds place i inside small =
+    let here = fields (get_or items k d) in
+    adds place i inside small ∙ ap (λ b. b || in_fields here place i) (so_far place i inside small)
+    ∙ sym (list_any-append (field_has place i) (flat_map fields (take k items)) here)
+    ∙ ap (λ fs. in_fields fs place i) (flat_map_more fields [] (take k items) (get_or items k d) ∙ ap (flat_map fields) (sym (take_more items k d below)))
 
--- registers without a bit add none
-blank_fields : (fields : List Field) → list_all (λ f. f.bits == 0) fields ≡ true → (place i : ℕ) → in_fields fields place i ≡ false
-blank_fields [] h place i = refl
-blank_fields (f ∷ fields) h place i =
-    let parts = and_parts (f.bits == 0) (list_all (λ f. f.bits == 0) fields) h in
-    or_from (field_has place i f) (in_fields fields place i)
-    (and_right (nat_le f.offset place && nat_lt place (f.offset + f.width)) (has_bit f.bits (8 * (place - f.offset) + i))
-    (ap (λ n. has_bit n (8 * (place - f.offset) + i)) (eqb-true f.bits 0 parts.0) ∙ has_bit-zero (8 * (place - f.offset) + i)))
-    (blank_fields fields parts.1 place i)
-
--- the status registers have no bit that can be set
-status_blank : (bridge : Bool) → list_all (λ f. f.bits == 0) (status_fields bridge) ≡ true
-status_blank true = refl
-status_blank false = refl
-
--- the other registers have no bit that a one clears
-rest_blank : (bridge : Bool) → list_all (λ f. f.bits == 0) (rest_of bridge) ≡ true
-rest_blank true = refl
-rest_blank false = refl
-
--- the bits of all rows of the table are those that a write sets
-pub all_writable : (bridge : Bool) (probe bytes : List ℕ) (n : ℕ) (fields : List Field) → fields ≡ status_fields bridge ++ writable_by bridge probe → length fields ≤ n
-    → HasBits bytes (in_fields (take n fields)) → HasBits bytes (in_fields (writable_by bridge probe))
-all_writable bridge probe bytes n fields is all has place i inside small =
-    has place i inside small ∙ ap (λ fs. in_fields fs place i) (take_all n fields all ∙ is)
-    ∙ list_any-append (field_has place i) (status_fields bridge) (writable_by bridge probe)
-    ∙ ap (λ b. b || in_fields (writable_by bridge probe) place i) (blank_fields (status_fields bridge) (status_blank bridge) place i)
-
--- and those that a one clears
-pub all_clearing : (bridge : Bool) (bytes : List ℕ) (n : ℕ) (fields : List Field) → fields ≡ clearing_by bridge ++ rest_of bridge → length fields ≤ n
-    → HasBits bytes (in_fields (take n fields)) → HasBits bytes (in_fields (clearing_by bridge))
-all_clearing bridge bytes n fields is all has place i inside small =
-    has place i inside small ∙ ap (λ fs. in_fields fs place i) (take_all n fields all ∙ is)
-    ∙ list_any-append (field_has place i) (clearing_by bridge) (rest_of bridge)
-    ∙ ap (λ b. in_fields (clearing_by bridge) place i || b) (blank_fields (rest_of bridge) (rest_blank bridge) place i)
-    ∙ or_false (in_fields (clearing_by bridge) place i)
+-- the bits of all registers
+pub bits_of_all : (fields : table.Register → List Field) (items : List Register) (header : List table.Register) (n : ℕ) (bytes : List ℕ) → map register_value items ≡ header → length items ≤ n
+    → HasBits bytes (in_fields (flat_map (λ r. fields (register_value r)) (take n items))) → HasBits bytes (in_fields (flat_map fields header))
+bits_of_all fields items header n bytes is all has place i inside small =
+    has place i inside small
+    ∙ ap (λ fs. in_fields fs place i) (ap (flat_map (λ r. fields (register_value r))) (take_all n items all) ∙ sym (flat_map-map fields register_value items) ∙ ap (flat_map fields) is)
 
 -- ---- the bits of a function
 

@@ -1,8 +1,7 @@
 -- The function that is sized, under the writes of sizing.
-use Rattle.std.proofs.Common.{◌≡◌, ℕ, zero, suc, ◌+◌, ◌-◌, ◌*◌, ◌/◌, ◌%◌, ◌^◌, ◌<◌, ◌≤◌, ◌==◌, ◌||◌, bit_and, refl, true, List, Option, Some, inl, inr, arith, sym, ◌∙◌, ap, subst}
-use Rattle.std.specs.Prelude.{◌⊎◌}
+use Rattle.std.proofs.Common.{◌≡◌, ℕ, zero, suc, ◌+◌, ◌-◌, ◌*◌, ◌/◌, ◌%◌, ◌^◌, ◌<◌, bit_and, refl, true, List, Option, Some, inl, inr, arith, sym, ◌∙◌, ap, subst}
 use Rattle.std.specs.Option.{unwrap_or}
-use Rattle.std.proofs.lemmas.Bool.{cases_lt, and_parts, or_cases, eqb-true, lt-ltb}
+use Rattle.std.proofs.lemmas.Bool.{cases_lt, lt-ltb}
 use Rattle.std.proofs.lemmas.Nat.Bits.{and_high_mask}
 use Rattle.std.proofs.lemmas.List.{ext_get_or, get_or_past}
 use Rattle.pci_spec.specs.Number.{byte_at, number_at, IsImage}
@@ -12,6 +11,7 @@ use Rattle.pci_spec.specs.Slot.{Slot, same_slot}
 use Rattle.pci_spec.specs.Machine.{Target, write_targets, written, written_byte, byte_of_bits, written_bit}
 use Rattle.pci_spec.specs.Port.{IsLawful, IsTarget, target_at, has_function, with_image, is_access, fits}
 use Rattle.pci_spec.specs.Sizing.{function_at, no_target, DiffersWithin, IsPlain}
+use Rattle.pci_image.proofs.Accesses.{width_cases}
 use Rattle.pci_machine.proofs.Targets.{find-place, found_at, has_found, target_at-with_image, write-with_image, with_image-same, with_image-with_image}
 use Rattle.pci_machine.proofs.Writes.{written_byte-inside, written_byte-below, written_byte-above, byte_at-written, length-written}
 use Rattle.pci_machine.proofs.Bytes.{byte-put_back}
@@ -52,29 +52,6 @@ pub with_image-own : (targets : List Target) (slot : Slot) → IsLawful targets 
 with_image-own targets slot lawful h = with_image-same targets slot (function_at targets slot) lawful (function_found targets slot h)
 
 -- ---- numbers and their bytes
-
--- the widths of an access
-width_cases : (offset width : ℕ) → is_access offset width ≡ true → (width ≡ 1) ⊎ ((width ≡ 2) ⊎ (width ≡ 4))
-width_cases offset width h =
-    elim (or_cases (width == 1 || width == 2) (width == 4) (and_parts (width == 1 || width == 2 || width == 4) (offset % width == 0) h).0) [
-      | inl small ↦ elim (or_cases (width == 1) (width == 2) small) [
-        | inl one ↦ inl (eqb-true width 1 one)
-        | inr two ↦ inr (inl (eqb-true width 2 two))
-      ]
-      | inr four ↦ inr (inr (eqb-true width 4 four))
-    ]
-
--- an access ends within the 256 bytes
-pub access-end : (offset width : ℕ) → is_access offset width ≡ true → offset < 256 → offset + width ≤ 256
-access-end offset width h below =
-    let even = eqb-true (offset % width) 0 (and_parts (width == 1 || width == 2 || width == 4) (offset % width == 0) h).1 in
-    elim (width_cases offset width h) [
-      | inl one ↦ omega (arith, one, below)
-      | inr more ↦ elim more [
-        | inl two ↦ let e : offset % 2 ≡ 0 = ap (λ w. offset % w) (sym two) ∙ even in omega (arith, two, below, e)
-        | inr four ↦ let e : offset % 4 ≡ 0 = ap (λ w. offset % w) (sym four) ∙ even in omega (arith, four, below, e)
-      ]
-    ]
 
 -- the bytes of four
 digits_of_four : (a b c d j : ℕ) → a < 256 → b < 256 → c < 256 → d < 256 → (n : ℕ) → n ≡ a + b * 256 + c * 65536 + d * 16777216

@@ -12,7 +12,7 @@ use Rattle.pci_spec.specs.Machine.{field_has, in_fields, plain_field, writable_f
 use Rattle.pci_spec.proofs.WrittenBits.{byte_at-bytes_of_bits}
 use Rattle.pci_spec.proofs.WritableBits.{no_bit_is_both}
 use Rattle.pci_spec.specs.Port.{IsTarget, is_status_byte}
-use Rattle.pci_machine.specs.RegisterTable.{writable_by, clearing_by}
+use Rattle.pci_spec.specs.Machine.{writable_by, clearing_by}
 use Rattle.pci_machine.proofs.Bytes.{byte_by_bits, byte_of_bits-lt, has_bit-zero}
 
 -- bytes that are made of bits are bytes

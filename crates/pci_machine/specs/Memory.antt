@@ -2,6 +2,7 @@
 use Rattle.std.specs.Prelude.{◌≡◌, ℕ, ◌&&◌, not, if◌then◌else◌, List, map, slice_set}
 use Rattle.std.specs.List.{All}
 use Rattle.pci_spec.specs.Number.{byte_at, has_bit}
+use Rattle.pci_spec.specs.Registers.{HEADER_TYPE}
 use Rattle.pci_spec.specs.Slot.{Slot, same_slot, IsRising}
 use Rattle.pci_spec.specs.Machine.{Target, byte_of_bits}
 use Rattle.pci_spec.specs.Port.{IsTarget}
@@ -10,7 +11,7 @@ use Rattle.pci_spec.specs.Port.{IsTarget}
 pub record IsMachine (targets : List Target) : Type 0 where
   pub each : All IsTarget targets
   pub rising : IsRising (map (λ t. t.slot) targets)
-  pub header : All (λ t. byte_at t.writable 0x0e ≡ 0) targets
+  pub header : All (λ t. byte_at t.writable HEADER_TYPE ≡ 0) targets
 
 -- a byte without the bits of a mask
 abbrev pub without_bits : ℕ → ℕ → ℕ

@@ -2,7 +2,7 @@
 //!
 //! A port (`port::ConfigPort`) reads and writes registers of functions (PCI 3.0, 6.1). A machine
 //! (`machine::Machine`) is one in memory, made of a dump and its probe; its registers are written as
-//! the table in `table` has it. Sizing (`size::size`) finds, over any port, what the address
+//! the tables in `pci_image::register` have it. Sizing (`size::size`) finds, over any port, what the address
 //! registers of a function read back after ones were written to them, and leaves all as it was.
 //!
 //! ```text
@@ -13,21 +13,18 @@
 #![tactic(auto)]
 
 pub mod access;
-pub mod access_at;
-pub mod address_register;
+mod access_at;
 pub mod fail_at;
 mod function;
 pub mod machine;
 mod mask;
-pub mod number;
 pub mod port;
-pub mod quiet;
+mod quiet;
 mod read_back;
 mod read_backs;
 mod registers;
 pub mod size;
 pub mod size_fault;
-pub mod table;
 
 pub use fail_at::FailAt;
 pub use machine::Machine;

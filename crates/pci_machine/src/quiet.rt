@@ -1,5 +1,6 @@
 //! A function that decodes no address while it is sized (PCI 3.0, 6.2.2).
 ghost use Rattle.std.specs.Prelude.{◌≡◌, ◌+◌, ℕ, IsTrue, IfOk, IfErr, OnOk, OnErr};
+ghost use Rattle.pci_spec.specs.Registers as table;
 ghost use Rattle.pci_spec.specs.Header.{command};
 ghost use Rattle.pci_spec.specs.Machine.{written};
 ghost use Rattle.pci_spec.specs.Port as ports;
@@ -42,7 +43,7 @@ impl Quiet {
         ensures function { OnOk result (function_at (P.targets port.new) slot
             ≡ record (function_at (P.targets port.old) slot) { image = quieted (function_at (P.targets port.old) slot) }) }
         ensures kept { OnErr result (P.targets port.new ≡ P.targets port.old) }
-        ensures stop { IfErr result (λ stop. stop ≡ record { offset = 0x04; fault = PortError.Failed }) }
+        ensures stop { IfErr result (λ stop. stop ≡ record { offset = table.COMMAND; fault = PortError.Failed }) }
         ensures counted { P.failures port.new ≡ P.failures port.old + failures_of_stop result }
         ensures there { IsTrue (ports.has_function (P.targets port.new) slot) }
         ensures lawful { ports.IsLawful (P.targets port.new) }
@@ -68,9 +69,9 @@ impl Quiet {
         requires there { IsTrue (ports.has_function (P.targets port.old) slot) }
         requires lawful { ports.IsLawful (P.targets port.old) }
         ensures written { OnOk result (P.targets port.new
-            ≡ ports.with_image (P.targets port.old) slot (written (function_at (P.targets port.old) slot) 0x04 2 self)) }
+            ≡ ports.with_image (P.targets port.old) slot (written (function_at (P.targets port.old) slot) table.COMMAND 2 self)) }
         ensures kept { OnErr result (P.targets port.new ≡ P.targets port.old) }
-        ensures stop { IfErr result (λ e. (e.0 ≡ record { offset = 0x04; fault = PortError.Failed }) × (e.1 ≡ self)) }
+        ensures stop { IfErr result (λ e. (e.0 ≡ record { offset = table.COMMAND; fault = PortError.Failed }) × (e.1 ≡ self)) }
         ensures counted { P.failures port.new ≡ P.failures port.old + failures_of_stop result }
         ensures lawful { ports.IsLawful (P.targets port.new) }
     {

@@ -1,17 +1,18 @@
 //! What all address registers of a function read back.
 ghost use Rattle.std.specs.Prelude.{◌≡◌, ◌+◌, ℕ, List, IsTrue, IfOk, IfErr, OnOk, OnErr, if◌then◌else◌};
 ghost use Rattle.pci_spec.specs.Header.{layout};
+ghost use Rattle.pci_spec.specs.Machine as machine;
 ghost use Rattle.pci_spec.specs.Machine.{sized};
 ghost use Rattle.pci_spec.specs.Port as ports;
 ghost use Rattle.pci_spec.specs.Sizing.{function_at, DiffersInRegisters, is_address_register};
 ghost use Rattle.pci_machine.specs.Outcome.{failures_of_stop};
 
 use crate::access_at::AccessFault;
-use crate::address_register::{address_registers, sizing_ones};
-use crate::number::put;
 use crate::port::{ConfigPort, PortError};
 use crate::read_back::read_back;
-use pci_image::image::Image;
+use pci_image::image::{Image, put};
+use pci_image::offset::IO_BASE;
+use pci_image::register::{Register, address_registers, rom_register};
 use pci_image::slot::Slot;
 
 /// What the address registers of a function read back, in an image that has 0 elsewhere.
@@ -42,4 +43,18 @@ pub fn read_backs<P: ConfigPort>(
         }
     }
     Ok(Image(bytes))
+}
+
+/// What sizing writes to an address register: ones, but zeros to the bits of a ROM register below
+/// its address (PCI 3.0, 6.2.5.1 and 6.2.5.2).
+fn sizing_ones(bridge: bool, register: Register) -> u32
+    ensures { result ≡ machine.sizing_ones (if bridge then 1 else 0) register.offset }
+{
+    if register.offset == rom_register(bridge) {
+        0xffff_f800
+    } else if bridge && register.offset == IO_BASE {
+        0xffff
+    } else {
+        0xffff_ffff
+    }
 }

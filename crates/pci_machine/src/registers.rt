@@ -2,11 +2,10 @@
 ghost use Rattle.std.specs.Prelude.{◌≡◌, ◌↔◌, nat_lt, IsTrue};
 ghost use Rattle.pci_spec.specs.Number.{number_at};
 ghost use Rattle.pci_spec.specs.Slot as place;
-ghost use Rattle.pci_spec.specs.Machine.{written};
+ghost use Rattle.pci_spec.specs.Machine.{byte_of_bits, written, written_bit};
 ghost use Rattle.pci_spec.specs.Port as port;
 ghost use Rattle.pci_machine.specs.Memory.{pinned};
 
-use crate::access::{value_at, written_byte};
 use pci_image::image::Image;
 use pci_image::slot::Slot;
 use std::marker::Model;
@@ -54,7 +53,7 @@ impl ConfigSpace {
         requires { IsTrue (port.is_access off width) }
         ensures { result ≡ number_at self.now.image off width }
     {
-        value_at(&self.image, off, width)
+        self.image.number(off, width)
     }
 
     /// Makes bits of a byte unwritable.
@@ -101,4 +100,12 @@ fn write_bytes(
         bytes[place] = written_byte(bytes[place], writable[place], clearing[place], datum);
         rest /= 256;
     }
+}
+
+/// A byte after a write: writable bits take the datum, a one clears the bits that are cleared so
+/// (PCI 3.0, 6.2.3).
+fn written_byte(old: u8, writable: u8, clearing: u8, datum: u8) -> u8
+    ensures { result ≡ byte_of_bits (written_bit writable clearing old datum) }
+{
+    (old & !writable & !(clearing & datum)) | (datum & writable)
 }

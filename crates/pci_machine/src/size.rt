@@ -4,6 +4,7 @@
 //! Ones in an address register would let the function decode addresses that belong to others. So
 //! its decode bits are cleared first, and put back at the end.
 ghost use Rattle.std.specs.Prelude.{◌≡◌, ◌≢◌, ◌+◌, ◌%◌, ℕ, List, true, None, IsTrue, IsFalse, IsOk, IfOk, IfErr, OnOk, OnErr, IfSome, MatchOption, if◌then◌else◌};
+ghost use Rattle.pci_spec.specs.Registers as table;
 ghost use Rattle.pci_spec.specs.Header.{command, layout};
 ghost use Rattle.pci_spec.specs.Machine.{sized};
 ghost use Rattle.pci_spec.specs.Fault.{has_no_vendor, has_other_layout};
@@ -47,7 +48,7 @@ pub fn size<P: ConfigPort>(port: &mut P, slot: Slot) -> Result<Image, SizeFault>
     ensures succeeds { IsSizable (P.targets port.old) slot → P.failures port.new ≡ P.failures port.old → IsOk result }
     ensures fault { IfErr result (SizingLeaves (P.targets port.old) slot (P.targets port.new)) }
     ensures missing { IsFalse (ports.has_function (P.targets port.old) slot)
-        → result ≡ Err (SizeFault.Port 0x00 PortError.NoFunction None) }
+        → result ≡ Err (SizeFault.Port table.VENDOR_ID PortError.NoFunction None) }
     ensures counted { P.failures port.new ≡ P.failures port.old + failures_of_size result }
 {
     let bridge = match is_bridge(port, slot) {
@@ -79,7 +80,7 @@ fn is_bridge<P: ConfigPort>(port: &mut P, slot: Slot) -> Result<bool, SizeFault>
     ensures bridge { IfOk result (λ bridge. layout (function_at (P.targets port.old) slot).image ≡ (if bridge then 1 else 0)) }
     ensures fault { IfErr result (SizingLeaves (P.targets port.old) slot (P.targets port.new)) }
     ensures missing { IsFalse (ports.has_function (P.targets port.old) slot)
-        → result ≡ Err (SizeFault.Port 0x00 PortError.NoFunction None) }
+        → result ≡ Err (SizeFault.Port table.VENDOR_ID PortError.NoFunction None) }
     ensures same { P.targets port.new ≡ P.targets port.old }
     ensures counted { P.failures port.new ≡ P.failures port.old + failures_of_size result }
     ensures lawful { ports.IsLawful (P.targets port.new) }

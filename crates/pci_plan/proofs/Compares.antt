@@ -5,21 +5,21 @@ use Rattle.std.specs.List.{Contains, list_all}
 use Rattle.std.proofs.lemmas.List.{get_or-map, length-map}
 use Rattle.pci_spec.specs.Number.{number_at}
 use Rattle.pci_spec.specs.Slot.{Slot}
-use Rattle.pci_spec.specs.Header.{layout, address_registers}
+use Rattle.pci_spec.specs.Header.{layout, address_registers, registers_by}
 use Rattle.pci_spec.specs.Machine.{Target}
 use Rattle.pci_spec.proofs.Members.{in_head, in_tail, in_cons_cases}
 use Rattle.pci_spec.proofs.Planning.Behind.{all_gives}
-use Rattle.pci_spec.proofs.Planning.Staging.{registers_by}
 use Rattle.pci_spec.specs.Port.{is_access, ShowsNumber}
-use Rattle.pci_machine.specs.declared.address_register.AddressRegister.{AddressRegister}
+use Rattle.pci_image.specs.declared.register.Register.{Register}
+use Rattle.pci_image.specs.declared.register.Role.TheVariants as roles
 use Rattle.pci_plan.specs.declared.apply_fault.ApplyFault.{ApplyFault}
 use Rattle.pci_plan.specs.declared.apply_fault.ApplyFault.TheVariants.{Changed, Port, Stuck}
 use Rattle.pci_plan.proofs.WriteLists.{pair_of}
 use Rattle.pci_plan.specs.Comparing.{compared, ShowsAll, IsChangedAt, IsRegisterFault, IsFunctionFault}
 
-module _ (items : List AddressRegister) (image : List ℕ) (table : map pair_of items ≡ address_registers (layout image)) where
+module _ (items : List Register) (image : List ℕ) (table : map pair_of items ≡ address_registers (layout image)) where
   -- each listed register is compared
-  pub in_table : (i : ℕ) (d : AddressRegister) → i < length items → Contains (compared image) (pair_of (get_or items i d))
+  pub in_table : (i : ℕ) (d : Register) → i < length items → Contains (compared image) (pair_of (get_or items i d))
   in_table i d within =
       let long : i < length (map pair_of items) = (let l = length-map items pair_of in omega (arith, l, within)) in
       let at : get_or (map pair_of items) i (pair_of (get_or items i d)) ≡ pair_of (get_or items i d) = get_or-map pair_of items i d (pair_of (get_or items i d)) within in
@@ -27,7 +27,7 @@ module _ (items : List AddressRegister) (image : List ℕ) (table : map pair_of 
 
   -- Command and all listed registers are all that are compared
   pub all_shown : (targets : List Target) (slot : Slot) → ShowsNumber targets slot 0x04 2 (number_at image 0x04 2)
-      → ((k : ℕ) (d : AddressRegister) → k < length items → ShowsNumber targets slot (get_or items k d).offset (get_or items k d).width (number_at image (get_or items k d).offset (get_or items k d).width))
+      → ((k : ℕ) (d : Register) → k < length items → ShowsNumber targets slot (get_or items k d).offset (get_or items k d).width (number_at image (get_or items k d).offset (get_or items k d).width))
       → ShowsAll targets slot image
   all_shown targets slot command each r listed = elim (in_cons_cases (0x04, 2) (address_registers (layout image)) r listed) [
     | inl first ↦ subst (λ (q : ℕ × ℕ). ShowsNumber targets slot q.0 q.1 (number_at image q.0 q.1)) first command
@@ -35,7 +35,7 @@ module _ (items : List AddressRegister) (image : List ℕ) (table : map pair_of 
         let there : Contains (map pair_of items) r = subst (λ xs. Contains xs r) (sym table) (later.0, later.1, later.2) in
         let k = there.0 in
         let within : k < length items = (let l = length-map items pair_of in let less = there.1 in omega (arith, l, less)) in
-        let d : AddressRegister = record { offset = 0; width = 0 } in
+        let d : Register = record { offset = 0; width = 0; role = roles.Bar 0 } in
         let at : pair_of (get_or items k d) ≡ r = sym (get_or-map pair_of items k d r within) ∙ there.2 in
         subst (λ (q : ℕ × ℕ). ShowsNumber targets slot q.0 q.1 (number_at image q.0 q.1)) at (each k d within)
   ]

@@ -9,11 +9,11 @@ use Rattle.std.proofs.lemmas.List.{get_or_default, get_or-set_same, get_or-set_o
 use Rattle.std.proofs.lemmas.List.Elements.{Contains-push_cases}
 use Rattle.std.proofs.lemmas.List.Folds.{list_any-append}
 use Rattle.pci_spec.specs.Number.{byte_at, number_at, IsImage}
-use Rattle.pci_spec.specs.Header.{address_registers, is_in_register, layout}
+use Rattle.pci_spec.specs.Header.{address_registers, is_in_register, layout, registers_by}
 use Rattle.pci_spec.specs.System.{Function}
 use Rattle.pci_spec.specs.Planning.Numbers.{IsFilled}
 use Rattle.pci_spec.proofs.Members.{in_nil}
-use Rattle.pci_spec.proofs.Planning.Staging.{Follows, is_register, registers_by}
+use Rattle.pci_spec.proofs.Planning.Staging.{Follows, is_register}
 
 -- the same bytes make the same number
 pub same_bytes : (a b : List ℕ) (offset width : ℕ) → ((place : ℕ) → offset ≤ place → place < offset + width → byte_at a place ≡ byte_at b place) → number_at a offset width ≡ number_at b offset width
@@ -21,48 +21,6 @@ same_bytes a b offset zero same = refl
 same_bytes a b offset (suc width) same =
     ap (λ n. n + byte_at a (offset + width) * 256 ^ width) (same_bytes a b offset width (λ place from to. same place from (omega (arith, to))))
     ∙ ap (λ n. number_at b offset width + n * 256 ^ width) (same (offset + width) (omega arith) (omega arith))
-
--- ---- one more byte
-
-split : (number rest power : ℕ) → number + rest % 256 * power + rest / 256 * (power * 256) ≡ number + rest * power
-split number rest power =
-    let e = ap (λ n. n * power) (div-add-mod' rest 256) in
-    omega (arith, e)
-
-next_power : (j : ℕ) → 256 ^ (j + 1) ≡ 256 ^ j * 256
-next_power j = pow-add 256 j 1
-
-pub next_byte : (image : List ℕ) (offset j rest : ℕ) → offset + j < length image
-    → number_at (set image (offset + j) (rest % 256)) offset (j + 1) + rest / 256 * 256 ^ (j + 1) ≡ number_at image offset j + rest * 256 ^ j
-next_byte image offset j rest inside =
-    let new = set image (offset + j) (rest % 256) in
-    let low : number_at new offset j ≡ number_at image offset j = same_bytes new image offset j (λ place from to. get_or-set_other image (offset + j) place (rest % 256) 0 (λ e. let impossible : ⊥ = omega (arith, e, to) in impossible)) in
-    let high : byte_at new (offset + j) ≡ rest % 256 = get_or-set_same image (offset + j) (rest % 256) 0 inside in
-    let one : j + 1 ≡ suc j = omega arith in
-    ap (λ w. number_at new offset w + rest / 256 * 256 ^ (j + 1)) one
-    ∙ ap (λ n. n + byte_at new (offset + j) * 256 ^ j + rest / 256 * 256 ^ (j + 1)) low
-    ∙ ap (λ n. number_at image offset j + n * 256 ^ j + rest / 256 * 256 ^ (j + 1)) high
-    ∙ ap (λ n. number_at image offset j + rest % 256 * 256 ^ j + rest / 256 * n) (next_power j)
-    ∙ split (number_at image offset j) rest (256 ^ j)
-
-pub still_image : (image : List ℕ) (place byte : ℕ) → IsImage image → byte < 256 → place < 256 → IsImage (set image place byte)
-still_image image place byte is small inside = record {
-  full = length-set image place byte ∙ is.full;
-  bytes = λ k. elim (cases_eq k place) [
-    | inl here ↦
-        let size = is.full in
-        let e = get_or-set_same image place byte 0 (omega (arith, size, inside)) in
-        subst (λ p. byte_at (set image place byte) p < 256) (sym here) (omega (arith, e, small))
-    | inr other ↦ (let e = get_or-set_other image place k byte 0 other in let b = is.bytes k in omega (arith, e, b))
-  ];
-}
-
--- what is left of a number after all bytes
-pub all_bytes : (number rest width value : ℕ) → number + rest * 256 ^ width ≡ value → value < 256 ^ width → number ≡ value
-all_bytes number zero width value e small = omega (arith, e)
-all_bytes number (suc rest) width value e small =
-    let more : 256 ^ width ≤ 256 ^ width * suc rest = le-mul_of_pos_right (256 ^ width) (omega arith) in
-    absurd (let impossible : ⊥ = omega (arith, e, small, more) in impossible)
 
 -- ---- register by register
 

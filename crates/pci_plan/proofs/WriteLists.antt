@@ -5,16 +5,15 @@ use Rattle.std.specs.List.{Contains, flat_map, list_all}
 use Rattle.std.proofs.lemmas.List.{append-nil, get_or-map, length-map, take_more}
 use Rattle.std.proofs.lemmas.Grind.{flat_map-append}
 use Rattle.std.proofs.Math.Seq.{drop-cons}
-use Rattle.pci_spec.specs.Header.{command, address_registers}
+use Rattle.pci_spec.specs.Header.{command, address_registers, registers_by}
 use Rattle.pci_spec.specs.Text.{Block}
 use Rattle.pci_spec.specs.Machine.{Write, without_low}
 use Rattle.pci_spec.specs.Planning.PlanWrites.{Change, closing_of, closing_writes, register_writes, opening_writes, plan_writes, registers_of, opening_of}
 use Rattle.pci_spec.specs.System.{system_of}
 use Rattle.pci_spec.specs.PlanPromise.{changes_between}
 use Rattle.pci_spec.proofs.Planning.Behind.{all_gives}
-use Rattle.pci_spec.proofs.Planning.Staging.{registers_by}
 use Rattle.pci_spec.specs.Port.{is_access}
-use Rattle.pci_machine.specs.declared.address_register.AddressRegister.{AddressRegister}
+use Rattle.pci_image.specs.declared.register.Register.{Register}
 use Rattle.pci_plan.specs.Writes.{is_image_on, block_change, block_changes}
 
 abbrev pub closing_write : Block → Write
@@ -34,7 +33,7 @@ closing_more blocks k d less = ap (λ bs. closing_writes (block_changes bs bs)) 
 
 -- ---- registers
 
-abbrev pub pair_of : AddressRegister → ℕ × ℕ
+abbrev pub pair_of : Register → ℕ × ℕ
 pair_of r = (r.offset, r.width)
 
 access_by : (bridge : Bool) → list_all (λ q. is_access q.0 q.1) (registers_by bridge) ≡ true
@@ -50,7 +49,7 @@ pub registers_of_layout : (k : ℕ) → address_registers (if k == 1 then 1 else
 registers_of_layout k = by_bridge (k == 1)
 
 -- each is a lawful access
-pub register_access : (items : List AddressRegister) (k : ℕ) → map pair_of items ≡ address_registers k → (i : ℕ) (d : AddressRegister) → i < length items
+pub register_access : (items : List Register) (k : ℕ) → map pair_of items ≡ address_registers k → (i : ℕ) (d : Register) → i < length items
     → is_access (get_or items i d).offset (get_or items i d).width ≡ true
 register_access items k table i d within =
     let long : i < length (map pair_of items) = (let l = length-map items pair_of in omega (arith, l, within)) in

@@ -3,6 +3,7 @@ use Rattle.std.specs.Prelude.{◌≡◌, ◌≢◌, ℕ, ◌<◌, ◌⊎◌, IsF
 use Rattle.std.specs.List.{Contains}
 use Rattle.pci_spec.specs.Number.{number_at}
 use Rattle.pci_spec.specs.Slot.{Slot}
+use Rattle.pci_spec.specs.Registers.{COMMAND}
 use Rattle.pci_spec.specs.Header.{layout, address_registers}
 use Rattle.pci_spec.specs.Text.{Block}
 use Rattle.pci_spec.specs.Machine.{Target}
@@ -12,7 +13,7 @@ use Rattle.pci_plan.specs.declared.apply_fault.ApplyFault.TheVariants.{Changed, 
 
 -- the registers that are compared, with their widths: Command and the address registers
 abbrev pub compared : List ℕ → List (ℕ × ℕ)
-compared image = (0x04, 2) ∷ address_registers (layout image)
+compared image = (COMMAND, 2) ∷ address_registers (layout image)
 
 -- each of them shows what it has in the image
 abbrev pub ShowsAll : List Target → Slot → List ℕ → Type 0

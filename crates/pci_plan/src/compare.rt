@@ -9,9 +9,8 @@ use pci_dump::block::Block;
 use pci_image::header::layout;
 use pci_image::image::Image;
 use pci_image::offset::COMMAND;
+use pci_image::register::address_registers;
 use pci_image::slot::Slot;
-use pci_machine::access::value_at;
-use pci_machine::address_register::address_registers;
 use pci_machine::port::ConfigPort;
 
 /// Whether the register of `width` bytes at an offset shows what an image has there.
@@ -30,7 +29,7 @@ fn compare_register<P: ConfigPort>(
 {
     match port.read(slot, offset, width) {
         Ok(value) => {
-            if value == value_at(image, offset, width) {
+            if value == image.number(offset, width) {
                 Ok(())
             } else {
                 Err(ApplyFault::Changed(slot, offset))

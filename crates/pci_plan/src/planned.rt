@@ -5,7 +5,7 @@ ghost use Rattle.pci_spec.specs.Number.{byte_at, number_at, IsImage};
 ghost use Rattle.pci_spec.specs.Text.{slots_of};
 ghost use Rattle.pci_spec.specs.Stops.{IsAboveLast, last_slot};
 ghost use Rattle.pci_spec.specs.System.{system_of};
-ghost use Rattle.pci_spec.specs.Plan.{Class as ClassValue};
+ghost use Rattle.pci_spec.specs.Window.{WindowKind as KindValue};
 ghost use Rattle.pci_spec.specs.PlanPromise.{CanBePlanned};
 ghost use Rattle.pci_spec.specs.Planning.Numbers.{IsPlannedFunction};
 ghost use Rattle.pci_plan.specs.Pools.{pools_value};
@@ -14,7 +14,7 @@ ghost use Rattle.pci_plan.specs.Needs.{AreAllNeeds};
 ghost use Rattle.pci_plan.specs.Places.{HasPlaces};
 ghost use Rattle.pci_plan.specs.Fillings.{FillingOf};
 
-use super::by_class::ByClass;
+use pci_image::window_kind::ByKind;
 use super::need::Needs;
 use super::numbers::Filling;
 use super::place::Places;
@@ -22,27 +22,11 @@ use super::pools::Pools;
 use pci_dump::block::Block;
 use pci_dump::dump::Dump;
 use pci_dump::memory::{OutOfMemory, Refused};
-use pci_image::image::Image;
+use pci_image::image::{Image, put};
 use pci_image::offset::COMMAND;
-use pci_machine::address_register::address_registers;
+use pci_image::register::address_registers;
 use pci_tree::admitted::Admitted;
 use std::alloc::Allocator;
-
-/// Puts the little-endian bytes of a value into `width` bytes from an offset on.
-fn put(image: &mut Image, offset: u8, width: u8, value: u32)
-    requires image { IsImage image.old.0 }
-    requires room { offset + width ≤ 256 }
-    requires fits { value < 256 ^ width }
-    ensures number { number_at image.new.0 offset width ≡ value }
-    ensures others { (place : ℕ) → (place < offset) ⊎ (offset + width ≤ place) → byte_at image.new.0 place ≡ byte_at image.old.0 place }
-    ensures image { IsImage image.new.0 }
-{
-    let mut rest = value;
-    for j in 0..width {
-        image.0[usize::from(offset + j)] = (rest % 256) as u8;
-        rest /= 256;
-    }
-}
 
 /// The image of a function with its new numbers.
 fn filled(filling: &Filling<'_>) -> Image
@@ -52,13 +36,13 @@ fn filled(filling: &Filling<'_>) -> Image
     let mut image = *filling.image;
     for register in address_registers(filling.record.bridge.is_some()) {
         put(
-            &mut image,
+            &mut image.0,
             register.offset,
             register.width,
             filling.number(*register),
         );
     }
-    put(&mut image, COMMAND, 2, u32::from(filling.command()));
+    put(&mut image.0, COMMAND, 2, u32::from(filling.command()));
     image
 }
 
@@ -80,13 +64,13 @@ pub fn planned_dump<A: Allocator, B: Allocator>(
     alloc: A,
     admitted: &Admitted<B>,
     pools: &Pools,
-    needs: &ByClass<Needs>,
+    needs: &ByKind<Needs>,
     places: &[Places],
 ) -> Result<Dump<A>, OutOfMemory>
     requires plannable { CanBePlanned admitted.now.roots (system_in admitted.now) (pools_value pools.now) }
     requires needs { AreAllNeeds admitted.now.roots (system_in admitted.now) (pools_value pools.now) needs.now }
     requires count { length places.now ≡ length (system_in admitted.now) }
-    requires places { (c : ClassValue) → HasPlaces admitted.now.roots (system_in admitted.now) (pools_value pools.now) c places.now }
+    requires places { (c : KindValue) → HasPlaces admitted.now.roots (system_in admitted.now) (pools_value pools.now) c places.now }
     ensures slots { IfOk result (λ dump. slots_of dump ≡ slots_of admitted.now.dump) }
     ensures titles { IfOk result (λ dump. map (λ b. b.title) dump ≡ map (λ b. b.title) admitted.now.dump) }
     ensures planned { IfOk result (λ dump. AllZip (IsPlannedFunction admitted.now.roots (system_in admitted.now) (pools_value pools.now)) (system_in admitted.now) (system_of dump admitted.now.probe)) }

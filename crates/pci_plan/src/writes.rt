@@ -1,5 +1,6 @@
 //! The writes that lead from one dump to another, in an order in which they may stop anywhere.
 ghost use Rattle.std.specs.Prelude.{◌≡◌, ◌++◌, ◌*◌, map, length, count_by, OnOk, IfOk};
+ghost use Rattle.pci_spec.specs.Registers as table;
 ghost use Rattle.pci_spec.specs.Header.{command};
 ghost use Rattle.pci_spec.specs.Machine.{without_low};
 ghost use Rattle.pci_spec.specs.Planning.PlanWrites.{plan_writes, closing_writes, registers_of, opening_of};
@@ -11,9 +12,8 @@ use pci_dump::memory::OutOfMemory;
 use pci_image::header::layout;
 use pci_image::image::Image;
 use pci_image::offset::COMMAND;
+use pci_image::register::address_registers;
 use pci_image::slot::Slot;
-use pci_machine::access::value_at;
-use pci_machine::address_register::address_registers;
 use std::alloc::Allocator;
 
 /// Command with bits 0 and 1, which enable I/O and memory space, clear (PCI 3.0, 6.2.2).
@@ -32,7 +32,7 @@ fn is_on(image: &Image) -> bool
 
 /// A write to Command.
 fn command_write(slot: Slot, command: u16) -> Write
-    ensures { write_value result ≡ record { slot = slot; offset = 0x04; width = 2; value = command } }
+    ensures { write_value result ≡ record { slot = slot; offset = table.COMMAND; width = 2; value = command } }
 {
     Write {
         slot,
@@ -64,8 +64,8 @@ fn add_registers<A: Allocator>(
     ensures { OnOk result (map write_value writes.new.items ≡ map write_value writes.old.items ++ registers_of (block_change old.now new.now)) }
 {
     for register in address_registers(layout(&old.image) == 1) {
-        let value = value_at(&new.image, register.offset, register.width);
-        if value != value_at(&old.image, register.offset, register.width) {
+        let value = new.image.number(register.offset, register.width);
+        if value != old.image.number(register.offset, register.width) {
             writes.push(Write {
                 slot: old.slot,
                 off: register.offset,

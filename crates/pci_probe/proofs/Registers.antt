@@ -14,7 +14,7 @@ use Rattle.pci_spec.specs.Machine.{register_at}
 use Rattle.pci_spec.specs.Resource.{ResourceLine}
 use Rattle.pci_spec.specs.Derived.{Derived, register_derived, read_back_of, is_assumed, derived_byte, derived_probe, assumed_registers}
 use Rattle.pci_spec.specs.NoProbe.{NoProbe, register_fault, first_at, no_probe}
-use Rattle.pci_machine.specs.declared.address_register.AddressRegister.{AddressRegister}
+use Rattle.pci_image.specs.declared.register.Register.{Register}
 use Rattle.pci_machine.proofs.RegisterOrder.{holds_place, found_in, found_in-more, registers_rise, layout_of}
 
 -- ---- the first fault of some registers
@@ -182,11 +182,11 @@ module _ (exact : Bool) (image : List ℕ) (lines : List ResourceLine) (bridge :
 -- ---- the register of a turn
 
 -- in the code's table
-module _ (items : List AddressRegister) (bridge : Bool) (table : map (λ (r : AddressRegister). (r.offset, r.width)) items ≡ address_registers (layout_of bridge)) where
+module _ (items : List Register) (bridge : Bool) (table : map (λ (r : Register). (r.offset, r.width)) items ≡ address_registers (layout_of bridge)) where
   pub length_of_table : length items ≡ length (address_registers (layout_of bridge))
-  length_of_table = sym (length-map {B = ℕ × ℕ} items (λ (r : AddressRegister). (r.offset, r.width))) ∙ ap length table
+  length_of_table = sym (length-map {B = ℕ × ℕ} items (λ (r : Register). (r.offset, r.width))) ∙ ap length table
 
-  module _ (k : ℕ) (within : k < length items) (d : AddressRegister) where
+  module _ (k : ℕ) (within : k < length items) (d : Register) where
     abbrev pub here : ℕ × ℕ
     here = ((get_or items k d).offset, (get_or items k d).width)
 
@@ -194,4 +194,4 @@ module _ (items : List AddressRegister) (bridge : Bool) (table : map (λ (r : Ad
     in_table = omega (arith, within, length_of_table)
 
     pub at_place : get_or (address_registers (layout_of bridge)) k here ≡ here
-    at_place = ap (λ rs. get_or rs k here) (sym table) ∙ get_or-map (λ (r : AddressRegister). (r.offset, r.width)) items k d here within
+    at_place = ap (λ rs. get_or rs k here) (sym table) ∙ get_or-map (λ (r : Register). (r.offset, r.width)) items k d here within

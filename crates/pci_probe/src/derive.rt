@@ -14,9 +14,8 @@ use super::register::register;
 use arrayvec::ArrayVec;
 use pci_image::fault::ImageFault;
 use pci_image::header::Header;
-use pci_image::image::Image;
-use pci_machine::address_register::address_registers;
-use pci_machine::number::put;
+use pci_image::image::{Image, put};
+use pci_image::register::address_registers;
 
 /// Whether a function is a bridge, by its header, and not a device.
 pub(crate) fn is_bridge(image: &Image) -> Result<bool, ImageFault>

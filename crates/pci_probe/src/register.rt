@@ -10,9 +10,10 @@ use super::derived::Derived;
 use super::line::ResourceLine;
 use super::rom::rom;
 use super::window::window;
+use pci_image::bar::starts_bar;
 use pci_image::image::Image;
-use pci_image::offset::{BASE_ADDRESS, BRIDGE_EXPANSION_ROM, COMMAND, EXPANSION_ROM};
-use pci_machine::table::starts_bar;
+use pci_image::offset::{BASE_ADDRESS, COMMAND};
+use pci_image::register::rom_register;
 
 /// What is derived for BAR register `n`: of a BAR, or the upper half of the one before.
 #[tactic(auto, unfolding(pci_spec::specs::Derived::bar_register_derived))]
@@ -44,11 +45,7 @@ pub fn register(image: &Image, lines: &[ResourceLine; 7], bridge: bool, offset: 
     } else {
         BASE_ADDRESS + 24
     };
-    let rom_register = if bridge {
-        BRIDGE_EXPANSION_ROM
-    } else {
-        EXPANSION_ROM
-    };
+    let rom_register = rom_register(bridge);
     if offset < bars_end {
         bar_register(image, lines, bridge, (offset - BASE_ADDRESS) / 4)
     } else if offset == rom_register {

@@ -8,18 +8,18 @@ use Rattle.std.proofs.lemmas.Bool.{cases_lt, and_parts, or_cases, both_ways, leb
 use Rattle.std.proofs.lemmas.Nat.{pow_pos, mod_below}
 use Rattle.std.proofs.lemmas.Nat.Bits.{bit_at-zero, bit_at_above, same_from_bits}
 use Rattle.pci_spec.specs.Number.{byte_at, number_at, has_bit, IsImage}
-use Rattle.pci_spec.specs.Header.{layout, bar_register}
+use Rattle.pci_spec.specs.Header.{layout, bar_register, rom_place, registers_by, is_in_register}
 use Rattle.pci_spec.specs.Bar.{bar_at, is_io, encodings}
 use Rattle.pci_spec.specs.Window.{IoWindow, MemoryWindow, PrefetchWindow}
 use Rattle.pci_spec.specs.Rom.{rom_at}
 use Rattle.pci_spec.specs.System.{Function}
-use Rattle.pci_spec.specs.Machine.{Field, field_has, in_fields, without_low, bar_field, written, target_of}
+use Rattle.pci_spec.specs.Machine.{Field, field_has, in_fields, without_low, bar_field, writable_by, clearing_by, written, target_of}
 use Rattle.pci_spec.specs.MachineLaws.{WritableBitsAreOfRegisters, ClearingBitsAreOfStatus, CommandIsWritable, RomEnableIsWritable, BarKeepsEncoding, WindowKeepsNibbles}
 use Rattle.pci_spec.proofs.Bits.{bit_at-mod, bit_at-without_low_below}
 use Rattle.pci_spec.proofs.WrittenBits.{bit_at-number_at, write_keeps_other_bits, write_leaves_image}
-use Rattle.pci_spec.proofs.WritableBits.{rom_place, writable_by, clearing_by, has_bit-writable_bits, has_bit-clearing_bits}
+use Rattle.pci_spec.proofs.WritableBits.{has_bit-writable_bits, has_bit-clearing_bits}
 use Rattle.pci_spec.proofs.ReadBacks.{encoding_width, encodings-power, RomRules, rom_rules}
-use Rattle.pci_spec.proofs.Sizing.{rom_bytes, rom_in_image, FieldByte, bar_bytes, few_bars, one_byte, or_none, is_in_register, registers_by}
+use Rattle.pci_spec.proofs.Sizing.{rom_bytes, rom_in_image, FieldByte, bar_bytes, few_bars, one_byte, or_none}
 
 -- ---- where the fields are
 

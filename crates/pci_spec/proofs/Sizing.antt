@@ -11,17 +11,17 @@ use Rattle.std.proofs.lemmas.List.{ext_get_or}
 use Rattle.std.proofs.lemmas.List.FromFn.{get_or-map-range_with_len, length-map-range_with_len}
 use Rattle.std.proofs.lemmas.Nat.Bits.{bit_at-zero, bit_at_ones, bit_at_above, bit_at_mask_inside, bit_at_mask_below, same_from_bits_below}
 use Rattle.pci_spec.specs.Number.{byte_at, number_at, has_bit, IsImage}
-use Rattle.pci_spec.specs.Header.{layout, bar_register, address_registers}
+use Rattle.pci_spec.specs.Header.{layout, bar_register, rom_place, registers_by, address_registers, is_in_register}
 use Rattle.pci_spec.specs.Bar.{bar_at, starts_bar, encodings, bar_fault}
 use Rattle.pci_spec.specs.Window.{WindowKind, IoWindow, MemoryWindow, PrefetchWindow, bounds_at}
 use Rattle.pci_spec.specs.System.{Function, IsFunction}
 use Rattle.pci_spec.specs.Fault.{is_stray}
 use Rattle.pci_spec.specs.Decoded.{IsDecodable}
-use Rattle.pci_spec.specs.Machine.{in_fields, without_low, bar_field, written, target_of, read_back, register_at, sized}
+use Rattle.pci_spec.specs.Machine.{in_fields, without_low, bar_field, writable_by, clearing_by, written, target_of, read_back, register_at, sized}
 use Rattle.pci_spec.specs.MachineLaws.{SizingFindsProbe}
 use Rattle.pci_spec.proofs.Bits.{number_of_bits-lt, bit_at-without_low, bit_at-without_low_below, bit_at-mod, bit_of_true, bit_of_false}
 use Rattle.pci_spec.proofs.WrittenBits.{bit_at-number_at, byte_at-written_inside, taken_byte, bit_taken, bit_kept}
-use Rattle.pci_spec.proofs.WritableBits.{rom_place, writable_by, clearing_by, has_bit-writable_bits, has_bit-clearing_bits}
+use Rattle.pci_spec.proofs.WritableBits.{has_bit-writable_bits, has_bit-clearing_bits}
 use Rattle.pci_spec.proofs.ReadBacks.{Agrees, encoding_width, encodings-power, bar_agrees, upper_half_agrees, RomRules, rom_rules, WindowAgrees, window_agrees}
 
 -- ---- a field after ones
@@ -374,12 +374,6 @@ abbrev pub Each : (ℕ × ℕ → Type 0) → List (ℕ × ℕ) → Type 0
 Each P [] = Unit {0}
 Each P (x ∷ xs) = P x × Each P xs
 
-abbrev pub registers_by : Bool → List (ℕ × ℕ)
-registers_by bridge =
-    if bridge
-    then (0x10, 4) ∷ (0x14, 4) ∷ (0x1c, 2) ∷ (0x20, 4) ∷ (0x24, 4) ∷ (0x28, 4) ∷ (0x2c, 4) ∷ (0x30, 4) ∷ (0x38, 4) ∷ []
-    else (0x10, 4) ∷ (0x14, 4) ∷ (0x18, 4) ∷ (0x1c, 4) ∷ (0x20, 4) ∷ (0x24, 4) ∷ (0x30, 4) ∷ []
-
 abbrev pub RegisterReadsBack : Function → Bool → ℕ × ℕ → Type 0
 RegisterReadsBack f bridge r = ReadsBack f r.0 r.1 (ones_by bridge r.0)
 
@@ -401,9 +395,6 @@ registers_read_back f true s windows = bridge_reads_back f s (windows refl)
 registers_read_back f false s windows = device_reads_back f s
 
 -- ---- the register of a place
-
-abbrev pub is_in_register : ℕ → ℕ × ℕ → Bool
-is_in_register place r = nat_le r.0 place && nat_lt place (r.0 + r.1)
 
 some_same : (x y : ℕ × ℕ) → Some x ≡ Some y → x ≡ y
 some_same x y e = ap (λ (o : Option (ℕ × ℕ)). unwrap_or o x) e

@@ -1,31 +1,13 @@
 -- Which bits of each byte are writable or cleared by a one, by the kind of header.
-use Rattle.std.proofs.Common.{◌≡◌, ℕ, ◌+◌, ◌-◌, ◌*◌, ◌<◌, ◌≤◌, inl, inr, List, [], ◌∷◌, ◌++◌, refl, Bool, true, false, ◌&&◌, ◌||◌, arith, sym, ◌∙◌, ap, subst, map}
-use Rattle.std.specs.Prelude.{◌==◌, if◌then◌else◌}
+use Rattle.std.proofs.Common.{◌≡◌, ℕ, ◌+◌, ◌-◌, ◌*◌, ◌<◌, ◌≤◌, inl, inr, List, refl, Bool, true, false, ◌&&◌, ◌||◌, arith, sym, ◌∙◌, ap, subst}
+use Rattle.std.specs.Prelude.{◌==◌}
 use Rattle.std.specs.Bool.{nat_le, nat_lt}
-use Rattle.std.specs.List.{range_with_len}
 use Rattle.std.proofs.lemmas.Bool.{cases_lt, and_parts, or_cases, both_ways, leb-true, ltb-true, false_from_ne_true}
-use Rattle.pci_spec.specs.Number.{byte_at, number_at, has_bit}
+use Rattle.pci_spec.specs.Number.{byte_at, has_bit}
 use Rattle.pci_spec.specs.Header.{layout}
-use Rattle.pci_spec.specs.Machine.{Field, field_has, in_fields, bar_field, window_fields, plain_field, writable_fields, clearing_fields, writable_bits, clearing_bits}
+use Rattle.pci_spec.specs.Machine.{field_has, in_fields, plain_field, writable_by, clearing_by, writable_fields, clearing_fields, writable_bits, clearing_bits}
 use Rattle.pci_spec.specs.MachineLaws.{NoBitIsBoth}
 use Rattle.pci_spec.proofs.WrittenBits.{byte_at-bytes_of_bits, has_bit-byte_of_bits}
-
--- the fields of a bridge or a device
-abbrev pub rom_place : Bool → ℕ
-rom_place bridge = if bridge then 0x38 else 0x30
-
-abbrev pub writable_by : Bool → List ℕ → List Field
-writable_by bridge probe =
-    (plain_field 0x04 2 0x0547
-    ∷ plain_field (rom_place bridge) 1 (if number_at probe (rom_place bridge) 4 == 0 then 0 else 1)
-    ∷ plain_field 0x3c 1 0xff
-    ∷ (if bridge then plain_field 0x18 1 0xff ∷ plain_field 0x19 1 0xff ∷ plain_field 0x1a 1 0xff ∷ [] else []))
-    ++ (map (bar_field probe) (range_with_len 0 (if bridge then 2 else 6))
-    ++ record { offset = rom_place bridge; width = 4; bits = number_at probe (rom_place bridge) 4 } ∷ []
-    ++ (if bridge then window_fields probe else []))
-
-abbrev pub clearing_by : Bool → List Field
-clearing_by bridge = plain_field 0x06 2 0xf900 ∷ (if bridge then plain_field 0x1e 2 0xf900 ∷ [] else [])
 
 -- bits of the masks are those of the fields
 pub has_bit-writable_bits : (image probe : List ℕ) (place i : ℕ) → place < 256 → i < 8

@@ -2,6 +2,7 @@
 use Rattle.std.specs.Prelude.{ℕ, ◌+◌, ◌-◌, ◌*◌, ◌/◌, ◌%◌, ◌^◌, ◌==◌, nat_lt, Bool, true, false, ◌&&◌, if◌then◌else◌, List, map, Option, None, Some}
 use Rattle.std.specs.List.{filter, range_with_len}
 use Rattle.pci_spec.specs.Number.{has_bit}
+use Rattle.pci_spec.specs.Registers.{IO_BASE, MEMORY_BASE, PREFETCHABLE_BASE, PREFETCHABLE_BASE_UPPER, PREFETCHABLE_LIMIT_UPPER}
 use Rattle.pci_spec.specs.Header.{command, layout, bar_count, bar_register, rom_register, address_registers}
 use Rattle.pci_spec.specs.Bar.{bar_at, starts_bar, is_io, is_wide, encodings}
 use Rattle.pci_spec.specs.Rom.{rom_at}
@@ -138,11 +139,11 @@ bar_register_derived image lines n =
 -- of the register of a bridge's windows at an offset
 unfoldable pub window_register_derived : List ℕ → ℕ → Derived
 window_register_derived image offset =
-    if offset == 0x1c then window_derived IoWindow image ((window_read_back IoWindow image).base + 2 ^ 8 * (window_read_back IoWindow image).limit)
-    else if offset == 0x20 then Known ((window_read_back MemoryWindow image).base + 2 ^ 16 * (window_read_back MemoryWindow image).limit)
-    else if offset == 0x24 then window_derived PrefetchWindow image ((window_read_back PrefetchWindow image).base + 2 ^ 16 * (window_read_back PrefetchWindow image).limit)
-    else if offset == 0x28 then Known (window_read_back PrefetchWindow image).base_upper
-    else if offset == 0x2c then Known (window_read_back PrefetchWindow image).limit_upper
+    if offset == IO_BASE then window_derived IoWindow image ((window_read_back IoWindow image).base + 2 ^ 8 * (window_read_back IoWindow image).limit)
+    else if offset == MEMORY_BASE then Known ((window_read_back MemoryWindow image).base + 2 ^ 16 * (window_read_back MemoryWindow image).limit)
+    else if offset == PREFETCHABLE_BASE then window_derived PrefetchWindow image ((window_read_back PrefetchWindow image).base + 2 ^ 16 * (window_read_back PrefetchWindow image).limit)
+    else if offset == PREFETCHABLE_BASE_UPPER then Known (window_read_back PrefetchWindow image).base_upper
+    else if offset == PREFETCHABLE_LIMIT_UPPER then Known (window_read_back PrefetchWindow image).limit_upper
     else Known ((window_read_back IoWindow image).base_upper + 2 ^ 16 * (window_read_back IoWindow image).limit_upper)
 
 -- of the address register at an offset

@@ -1,5 +1,6 @@
 pub mod Number
 pub mod Slot
+pub mod Registers
 pub mod Header
 pub mod Bar
 pub mod Rom

@@ -1,8 +1,9 @@
 -- The functions behind a port, and the accesses that it takes.
-use Rattle.std.specs.Prelude.{◌≡◌, ℕ, ◌^◌, ◌%◌, ◌==◌, nat_lt, Bool, false, ◌&&◌, ◌||◌, IsFalse, if◌then◌else◌, List, map, Option, Some}
+use Rattle.std.specs.Prelude.{◌≡◌, ℕ, ◌^◌, ◌%◌, ◌==◌, nat_lt, Bool, false, ◌&&◌, ◌||◌, IsFalse, if◌then◌else◌, List, map, Option, Some, ◌+◌}
 use Rattle.std.specs.List.{All, find, list_any, slice_get}
 use Rattle.pci_spec.specs.Number.{byte_at, number_at, has_bit, IsImage}
 use Rattle.pci_spec.specs.Slot.{Slot, same_slot}
+use Rattle.pci_spec.specs.Registers.{STATUS, SECONDARY_STATUS}
 use Rattle.pci_spec.specs.Header.{layout}
 use Rattle.pci_spec.specs.Machine.{Target}
 
@@ -29,7 +30,7 @@ ShowsNumber targets slot offset width value =
 
 -- the bytes that can have bits which a one clears: Status, and Secondary Status of a bridge
 abbrev pub is_status_byte : List ℕ → ℕ → Bool
-is_status_byte image place = place == 0x06 || place == 0x07 || (layout image == 1 && (place == 0x1e || place == 0x1f))
+is_status_byte image place = place == STATUS || place == STATUS + 1 || (layout image == 1 && (place == SECONDARY_STATUS || place == SECONDARY_STATUS + 1))
 
 pub record IsTarget (t : Target) : Type 0 where
   pub image : IsImage t.image

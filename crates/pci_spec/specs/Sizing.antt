@@ -4,6 +4,7 @@ use Rattle.std.specs.Option.{unwrap_or}
 use Rattle.std.specs.List.{list_any}
 use Rattle.pci_spec.specs.Number.{byte_at, has_bit, AgreeFrom}
 use Rattle.pci_spec.specs.Slot.{Slot}
+use Rattle.pci_spec.specs.Registers.{VENDOR_ID, COMMAND, HEADER_TYPE}
 use Rattle.pci_spec.specs.Header.{command, layout, address_registers}
 use Rattle.pci_spec.specs.Fault.{is_in_address_register, has_no_vendor, has_other_layout}
 use Rattle.pci_spec.specs.Machine.{Target, written}
@@ -28,7 +29,7 @@ IsPlain t offset width = (place : ℕ) → offset ≤ place → place < offset +
 
 -- the image after Command's decode bits were written with zeros, and all its other bits with what they were
 abbrev pub quieted : Target → List ℕ
-quieted t = written t 0x04 2 (command t.image / 4 * 4)
+quieted t = written t COMMAND 2 (command t.image / 4 * 4)
 
 -- two images of a function differ at most in its address registers
 pub record DiffersInRegisters (image other : List ℕ) : Type 0 where
@@ -37,19 +38,19 @@ pub record DiffersInRegisters (image other : List ℕ) : Type 0 where
 
 -- the bytes that sizing writes: Command and the address registers
 abbrev pub is_sizing_byte : ℕ → ℕ → Bool
-is_sizing_byte kind place = place == 0x04 || place == 0x05 || is_in_address_register kind place
+is_sizing_byte kind place = place == COMMAND || place == COMMAND + 1 || is_in_address_register kind place
 
 -- What an access that failed leaves of a function: its decode bits are clear where they can be written, and the address
 -- registers are open; all else is as it was.
 pub record IsPartlySized (t : Target) (image : List ℕ) : Type 0 where
   pub full : length image ≡ 256
   pub rest_of_command : AgreeFrom 2 (command image) (command t.image)
-  pub quiet : (i : ℕ) → i < 2 → IsTrue (has_bit (byte_at t.writable 0x04) i) → IsFalse (has_bit (command image) i)
+  pub quiet : (i : ℕ) → i < 2 → IsTrue (has_bit (byte_at t.writable COMMAND) i) → IsFalse (has_bit (command image) i)
   pub others : (place : ℕ) → IsFalse (is_sizing_byte (layout t.image) place) → byte_at image place ≡ byte_at t.image place
 
 -- a decode bit of Command is set and can't be written
 abbrev pub IsStuck : Target → Type 0
-IsStuck t = (i : ℕ) × (i < 2) × IsTrue (has_bit (command t.image) i) × IsFalse (has_bit (byte_at t.writable 0x04) i)
+IsStuck t = (i : ℕ) × (i < 2) × IsTrue (has_bit (command t.image) i) × IsFalse (has_bit (byte_at t.writable COMMAND) i)
 
 -- there is a function at the slot, of a known layout, whose decode bits can be cleared
 pub record IsSizable (targets : List Target) (slot : Slot) : Type 0 where
@@ -66,8 +67,8 @@ is_address_register kind offset = list_any (λ r. r.0 == offset) (address_regist
 
 -- before anything is written: Vendor ID, Header Type and Command
 abbrev pub is_looked_at : ℕ → Bool
-is_looked_at offset = offset == 0x00 || offset == 0x0e || offset == 0x04
+is_looked_at offset = offset == VENDOR_ID || offset == HEADER_TYPE || offset == COMMAND
 
 -- from then on: Command and the address registers
 abbrev pub is_written_to : ℕ → ℕ → Bool
-is_written_to kind offset = offset == 0x04 || is_address_register kind offset
+is_written_to kind offset = offset == COMMAND || is_address_register kind offset

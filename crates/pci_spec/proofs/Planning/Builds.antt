@@ -4,7 +4,7 @@ use Rattle.std.specs.List.{Contains}
 use Rattle.std.proofs.lemmas.List.Elements.{Contains-append_cases, Contains-append_left, Contains-append_right}
 use Rattle.pci_spec.specs.Number.{number_at, IsImage}
 use Rattle.pci_spec.specs.Slot.{same_slot}
-use Rattle.pci_spec.specs.Header.{layout, address_registers}
+use Rattle.pci_spec.specs.Header.{layout, address_registers, registers_by}
 use Rattle.pci_spec.specs.System.{Function, is_bridge}
 use Rattle.pci_spec.specs.Machine.{Write}
 use Rattle.pci_spec.proofs.Members.{in_nil, in_cons_cases, in_head, in_map_to, in_map_from, IsMade}
@@ -12,7 +12,7 @@ use Rattle.pci_spec.specs.Planning.Fitting.{IsFitting}
 use Rattle.pci_spec.specs.Planning.Building.{write_of, command_write, built, AreFitting, IsBuilt}
 use Rattle.pci_spec.proofs.Planning.Registers.{fits_by_number}
 use Rattle.pci_spec.proofs.Planning.Fit.{moved_itself}
-use Rattle.pci_spec.proofs.Planning.Staging.{is_register, registers_by, pairs_in_order, registers_in_order}
+use Rattle.pci_spec.proofs.Planning.Staging.{is_register, pairs_in_order, registers_in_order}
 use Rattle.pci_spec.proofs.Planning.Settled.{IsSetting, function_moved, settled}
 use Rattle.pci_spec.proofs.Planning.Reached.{two_of, slot_itself}
 

@@ -8,7 +8,7 @@ use Rattle.std.proofs.lemmas.List.Sums.{sum_by-cons}
 use Rattle.std.proofs.lemmas.List.Elements.{All-contains, Contains-append_left, Contains-append_right}
 use Rattle.pci_spec.specs.Number.{number_at, has_bit, IsImage}
 use Rattle.pci_spec.specs.Slot.{slot_number, same_slot}
-use Rattle.pci_spec.specs.Header.{command, layout, address_registers}
+use Rattle.pci_spec.specs.Header.{command, layout, address_registers, registers_by}
 use Rattle.pci_spec.specs.System.{System, Function, IsSystem, is_bridge}
 use Rattle.pci_spec.specs.Machine.{Write, write_function, write_system, system_after}
 use Rattle.pci_spec.specs.Plan.{IsMoved}
@@ -20,7 +20,7 @@ use Rattle.pci_spec.proofs.Planning.Kept.{images_of}
 use Rattle.pci_spec.proofs.Planning.Registers.{number_below}
 use Rattle.pci_spec.proofs.Planning.Fit.{moved_itself, fitting_later}
 use Rattle.pci_spec.proofs.Planning.Writes.{listed_after, same_fields, other_number}
-use Rattle.pci_spec.proofs.Planning.Staging.{Rise, changes_rise, closing_falls, opening_rises, IsApart, registers_apart, is_register, registers_by, low_clear, fits, closing_to, register_to, opening_to, closing_write, number_write, opening_write}
+use Rattle.pci_spec.proofs.Planning.Staging.{Rise, changes_rise, closing_falls, opening_rises, IsApart, registers_apart, is_register, low_clear, fits, closing_to, register_to, opening_to, closing_write, number_write, opening_write}
 use Rattle.pci_spec.proofs.Planning.Stop.{after_parts}
 use Rattle.pci_spec.proofs.Planning.Reached.{moves, old_listed, image_of, all_fit, in_closing, in_later, closing_quiet, register_quiet, moved_closed, closed_then, slot_itself, closed_le}
 use Rattle.pci_spec.proofs.Planning.Settled.{moved_step, IsQuiet, function_after, system_by_function, function_parts, function_moved, quiet_keeps, untouched, write_shows}

@@ -1,6 +1,6 @@
 -- A write that fits moves a function, and a list of such writes a system.
 use Rattle.std.proofs.Common.{◌≡◌, ℕ, zero, suc, ◌+◌, ◌-◌, ◌/◌, ◌%◌, ◌^◌, ◌<◌, inl, inr, List, [], ◌∷◌, refl, true, false, cond, ◌&&◌, arith, sym, ◌∙◌, ap, subst, length, take}
-use Rattle.std.specs.Bool.{IsFalse, ◌==◌, if◌then◌else◌}
+use Rattle.std.specs.Bool.{IsFalse, ◌==◌}
 use Rattle.std.specs.List.{Contains, AllZip, All}
 use Rattle.std.specs.Int.{bit_at}
 use Rattle.std.proofs.lemmas.Bool.{cases_lt, cases_Bool}
@@ -11,7 +11,7 @@ use Rattle.pci_spec.specs.Number.{byte_at, number_at, has_bit, IsImage}
 use Rattle.pci_spec.specs.Slot.{same_slot}
 use Rattle.pci_spec.specs.Header.{layout, rom_register}
 use Rattle.pci_spec.specs.System.{System, Function}
-use Rattle.pci_spec.specs.Machine.{Target, Write, in_fields, address_fields, byte_of_bits, written_bit, written_byte, written, target_of, bytes_of_bits, plain_field, write_function, write_system, system_after, clearing_bits, writable_bits}
+use Rattle.pci_spec.specs.Machine.{Target, Write, in_fields, address_fields, byte_of_bits, written_bit, written_byte, written, target_of, bytes_of_bits, clearing_by, write_function, write_system, system_after, clearing_bits, writable_bits}
 use Rattle.pci_spec.specs.Plan.{IsMoved}
 use Rattle.pci_spec.proofs.Bits.{digit, digit_of_bit, bit_at-number_of_bits, number_of_bits-lt}
 use Rattle.pci_spec.specs.Planning.Fitting.{IsFitting, FitsAt}
@@ -125,7 +125,7 @@ system_trans (x ∷ r) (y ∷ s) (z ∷ t) images (a, as_rest) (b, bs_rest) = (
 
 pub clearing_same : (f g : Function) → layout g.image ≡ layout f.image → clearing_bits g.image ≡ clearing_bits f.image
 unfolding clearing_bits
-clearing_same f g e = ap (λ k. bytes_of_bits (in_fields (plain_field 0x06 2 0xf900 ∷ (if k == 1 then plain_field 0x1e 2 0xf900 ∷ [] else [])))) e
+clearing_same f g e = ap (λ k. bytes_of_bits (in_fields (clearing_by (k == 1)))) e
 
 pub fitting_later : (w : Write) (f g : Function) → IsImage f.image → IsMoved f g → IsFitting w f → IsFitting w g
 fitting_later w f g is m fits = record {

@@ -8,9 +8,8 @@ use Rattle.pci_spec.specs.Number.{IsImage}
 use Rattle.pci_spec.specs.Slot.{same_slot}
 use Rattle.pci_spec.specs.Header.{layout}
 use Rattle.pci_spec.specs.System.{System, Function}
-use Rattle.pci_spec.specs.Machine.{Write, in_fields, bytes_of_bits, writable_bits, clearing_bits, written, target_of, write_target, write_targets, after_writes, write_function, write_system, system_after}
+use Rattle.pci_spec.specs.Machine.{Write, in_fields, bytes_of_bits, writable_by, writable_bits, clearing_bits, written, target_of, write_target, write_targets, after_writes, write_function, write_system, system_after}
 use Rattle.pci_spec.specs.Plan.{IsMoved}
-use Rattle.pci_spec.proofs.WritableBits.{writable_by}
 use Rattle.pci_spec.specs.Planning.Fitting.{IsFitting, FitsAt}
 use Rattle.pci_spec.proofs.Planning.Moved.{layout_same}
 use Rattle.pci_spec.proofs.Planning.Kept.{member_back}

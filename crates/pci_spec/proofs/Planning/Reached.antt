@@ -9,7 +9,7 @@ use Rattle.std.proofs.lemmas.List.{ext_get_or, get_or_default}
 use Rattle.std.proofs.lemmas.List.Elements.{All-contains, Contains-append_cases, Contains-append_left, Contains-append_right}
 use Rattle.pci_spec.specs.Number.{byte_at, number_at, has_bit, IsImage}
 use Rattle.pci_spec.specs.Slot.{Slot, same_slot}
-use Rattle.pci_spec.specs.Header.{command, layout, address_registers, is_in_register}
+use Rattle.pci_spec.specs.Header.{command, layout, address_registers, is_in_register, registers_by}
 use Rattle.pci_spec.specs.Rom.{rom_at}
 use Rattle.pci_spec.specs.System.{Function, IsSystem, IsFunction, is_bridge}
 use Rattle.pci_spec.specs.Machine.{Write, in_fields, address_fields, system_after}
@@ -25,7 +25,7 @@ use Rattle.pci_spec.proofs.Planning.Moved.{kind_fields}
 use Rattle.pci_spec.proofs.Planning.Registers.{register_bit, number_below}
 use Rattle.pci_spec.proofs.Planning.Fit.{moved_itself}
 use Rattle.pci_spec.proofs.Planning.Writes.{same_number}
-use Rattle.pci_spec.proofs.Planning.Staging.{changes_rise, number_of, registers_by, is_register, pairs_in_order, registers_in_order, closing_to, closing_from, register_to, register_from, opening_to, opening_from, closing_write, number_write, opening_write, fits}
+use Rattle.pci_spec.proofs.Planning.Staging.{changes_rise, number_of, is_register, pairs_in_order, registers_in_order, closing_to, closing_from, register_to, register_from, opening_to, opening_from, closing_write, number_write, opening_write, fits}
 use Rattle.pci_spec.proofs.Planning.Settled.{IsQuiet, IsSetting, function_after, system_by_function, function_parts, function_moved, settled}
 
 -- two elements of a list in order are one, or in order

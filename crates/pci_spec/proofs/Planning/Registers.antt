@@ -1,6 +1,6 @@
 -- A register's bits are those of its bytes, so whether a write fits can be read off numbers.
-use Rattle.std.proofs.Common.{◌≡◌, ℕ, zero, suc, ◌+◌, ◌-◌, ◌*◌, ◌/◌, ◌%◌, ◌^◌, ◌<◌, ◌≤◌, ◌⊎◌, inl, inr, List, [], ◌∷◌, refl, Bool, true, false, ◌&&◌, ◌||◌, arith, sym, ◌∙◌, ap, subst}
-use Rattle.std.specs.Bool.{IsFalse, nat_le, nat_lt, ◌==◌, if◌then◌else◌}
+use Rattle.std.proofs.Common.{◌≡◌, ℕ, zero, suc, ◌+◌, ◌-◌, ◌*◌, ◌/◌, ◌%◌, ◌^◌, ◌<◌, ◌≤◌, ◌⊎◌, inl, inr, List, refl, Bool, true, false, ◌&&◌, ◌||◌, arith, sym, ◌∙◌, ap, subst}
+use Rattle.std.specs.Bool.{IsFalse, nat_le, nat_lt, ◌==◌}
 use Rattle.std.specs.Int.{bit_at}
 use Rattle.std.proofs.lemmas.Bool.{cases_lt, and_left, and_right, lt-leb, le-ltb}
 use Rattle.std.proofs.lemmas.Nat.{shr-shr, pow-add}
@@ -10,7 +10,7 @@ use Rattle.std.proofs.Math.Nat.{mul-le-mul_right, pow-succ'}
 use Rattle.pci_spec.specs.Number.{byte_at, number_at, has_bit, IsImage}
 use Rattle.pci_spec.specs.Header.{layout}
 use Rattle.pci_spec.specs.System.{Function}
-use Rattle.pci_spec.specs.Machine.{Write, field_has, in_fields, address_fields, clearing_fields, clearing_bits, byte_of_bits, plain_field}
+use Rattle.pci_spec.specs.Machine.{Write, field_has, in_fields, address_fields, clearing_by, clearing_fields, clearing_bits, byte_of_bits, plain_field}
 use Rattle.pci_spec.proofs.Bits.{bit_at-mod, digit, bit_at-number_of_bits}
 use Rattle.pci_spec.specs.Planning.Fitting.{IsFitting, FitsByNumber}
 
@@ -67,7 +67,7 @@ misses : (offset bits place i : ℕ) → (place < offset) ⊎ (offset + 2 ≤ pl
 misses offset bits place i (inl before) = and_left (nat_le offset place && nat_lt place (offset + 2)) (has_bit bits (8 * (place - offset) + i)) (and_left (nat_le offset place) (nat_lt place (offset + 2)) (lt-leb offset place before))
 misses offset bits place i (inr after) = and_left (nat_le offset place && nat_lt place (offset + 2)) (has_bit bits (8 * (place - offset) + i)) (and_right (nat_le offset place) (nat_lt place (offset + 2)) (le-ltb place (offset + 2) after))
 
-no_clear : (b : Bool) (place i : ℕ) → (place < 6) ⊎ (8 ≤ place) → (b ≡ true → (place < 0x1e) ⊎ (0x20 ≤ place)) → in_fields (plain_field 0x06 2 0xf900 ∷ (if b then plain_field 0x1e 2 0xf900 ∷ [] else [])) place i ≡ false
+no_clear : (b : Bool) (place i : ℕ) → (place < 6) ⊎ (8 ≤ place) → (b ≡ true → (place < 0x1e) ⊎ (0x20 ≤ place)) → in_fields (clearing_by b) place i ≡ false
 no_clear true place i status second = ap (λ x. x || (field_has place i (plain_field 0x1e 2 0xf900) || false)) (misses 6 0xf900 place i status) ∙ ap (λ x. x || false) (misses 0x1e 0xf900 place i (second refl))
 no_clear false place i status second = ap (λ x. x || false) (misses 6 0xf900 place i status)
 

@@ -1,7 +1,7 @@
 -- What a register shows after writes.
 use Rattle.std.proofs.Common.{◌≡◌, ℕ, zero, suc, ◌+◌, ◌-◌, ◌*◌, ◌/◌, ◌%◌, ◌^◌, ◌<◌, ◌≤◌, ◌⊎◌, inl, inr, List, [], ◌∷◌, ◌++◌, refl, Bool, true, false, ◌&&◌, ◌||◌, arith, sym, ◌∙◌, ap, subst, map}
 use Rattle.std.specs.Bool.{IsFalse, nat_lt, ◌==◌, if◌then◌else◌}
-use Rattle.std.specs.List.{Contains, fold, list_any}
+use Rattle.std.specs.List.{Contains, fold, list_any, range_with_len}
 use Rattle.std.specs.Int.{bit_at}
 use Rattle.std.proofs.lemmas.Bool.{and_parts, cases_Bool, both_ways, eqb-true, ltb-true}
 use Rattle.std.proofs.lemmas.Nat.{mod_below}
@@ -9,12 +9,12 @@ use Rattle.std.proofs.lemmas.Nat.Bits.{same_from_bits_below}
 use Rattle.std.proofs.lemmas.List.Folds.{list_any-append}
 use Rattle.pci_spec.specs.Number.{byte_at, number_at, has_bit, IsImage}
 use Rattle.pci_spec.specs.Slot.{Slot, same_slot}
-use Rattle.pci_spec.specs.Header.{layout}
+use Rattle.pci_spec.specs.Header.{layout, rom_place}
 use Rattle.pci_spec.specs.System.{System, Function}
-use Rattle.pci_spec.specs.Machine.{Target, Write, field_has, in_fields, address_fields, writable_bits, written, target_of, write_function, write_system, system_after, plain_field}
+use Rattle.pci_spec.specs.Machine.{Target, Write, Field, field_has, in_fields, bar_field, window_fields, address_fields, writable_by, writable_bits, written, target_of, write_function, write_system, system_after, plain_field}
 use Rattle.pci_spec.specs.Plan.{IsMoved}
 use Rattle.pci_spec.proofs.Members.{in_nil, in_cons_cases, in_head, in_tail}
-use Rattle.pci_spec.proofs.WritableBits.{writable_by, has_bit-writable_bits}
+use Rattle.pci_spec.proofs.WritableBits.{has_bit-writable_bits}
 use Rattle.pci_spec.proofs.WrittenBits.{write_sets_writable_bits, write_keeps_other_bits}
 use Rattle.pci_spec.specs.Planning.Fitting.{IsFitting}
 use Rattle.pci_spec.proofs.Planning.Moved.{kind_fields}
@@ -24,17 +24,28 @@ use Rattle.pci_spec.proofs.Planning.Fit.{moved_trans, write_moves, fitting_later
 
 -- ---- a write that fits is shown
 
-or_of_second : (b c : Bool) → c ≡ true → (b || c) ≡ true
-or_of_second true c e = refl
-or_of_second false c e = e
+moved_back : (bars rom windows enable control : Bool) → (bars || (rom || windows)) ≡ true → (bars || (windows || (enable || (rom || control)))) ≡ true
+moved_back true rom windows enable control h = refl
+moved_back false rom true enable control h = refl
+moved_back false rom false true control h = refl
+moved_back false true false false control h = refl
+moved_back false false false false control h = absurd (both_ways false refl h)
 
-by_kind_writable : (bridge : Bool) (probe : List ℕ) (place i : ℕ) → in_fields (kind_fields bridge probe (number_at probe (if bridge then 0x38 else 0x30) 4)) place i ≡ true → in_fields (writable_by bridge probe) place i ≡ true
+-- the table has the ROM behind the windows
+among_all : (bars windows control : List Field) (rom enable : Field) (place i : ℕ) → in_fields (bars ++ rom ∷ windows) place i ≡ true → in_fields (bars ++ (windows ++ enable ∷ rom ∷ control)) place i ≡ true
+among_all bars windows control rom enable place i h =
+    let has = field_has place i in
+    list_any-append has bars (windows ++ enable ∷ rom ∷ control) ∙ ap (λ b. list_any has bars || b) (list_any-append has windows (enable ∷ rom ∷ control))
+    ∙ moved_back (list_any has bars) (has rom) (list_any has windows) (has enable) (list_any has control) (sym (list_any-append has bars (rom ∷ windows)) ∙ h)
+
+by_kind_writable : (bridge : Bool) (probe : List ℕ) (place i : ℕ) → in_fields (kind_fields bridge probe (number_at probe (rom_place bridge) 4)) place i ≡ true → in_fields (writable_by bridge probe) place i ≡ true
 by_kind_writable true probe place i h =
-    let control = plain_field 0x04 2 0x0547 ∷ plain_field 0x38 1 (if number_at probe 0x38 4 == 0 then 0 else 1) ∷ plain_field 0x3c 1 0xff ∷ plain_field 0x18 1 0xff ∷ plain_field 0x19 1 0xff ∷ plain_field 0x1a 1 0xff ∷ [] in
-    list_any-append (field_has place i) control (kind_fields true probe (number_at probe 0x38 4)) ∙ or_of_second (list_any (field_has place i) control) (list_any (field_has place i) (kind_fields true probe (number_at probe 0x38 4))) h
+    among_all (map (bar_field probe) (range_with_len 0 2)) (window_fields probe)
+    (plain_field 0x04 2 0x0547 ∷ plain_field 0x18 1 0xff ∷ plain_field 0x19 1 0xff ∷ plain_field 0x1a 1 0xff ∷ plain_field 0x3c 1 0xff ∷ [])
+    (plain_field 0x38 4 (number_at probe 0x38 4)) (plain_field 0x38 1 (if number_at probe 0x38 4 == 0 then 0 else 1)) place i h
 by_kind_writable false probe place i h =
-    let control = plain_field 0x04 2 0x0547 ∷ plain_field 0x30 1 (if number_at probe 0x30 4 == 0 then 0 else 1) ∷ plain_field 0x3c 1 0xff ∷ [] in
-    list_any-append (field_has place i) control (kind_fields false probe (number_at probe 0x30 4)) ∙ or_of_second (list_any (field_has place i) control) (list_any (field_has place i) (kind_fields false probe (number_at probe 0x30 4))) h
+    among_all (map (bar_field probe) (range_with_len 0 6)) [] (plain_field 0x04 2 0x0547 ∷ plain_field 0x3c 1 0xff ∷ [])
+    (plain_field 0x30 4 (number_at probe 0x30 4)) (plain_field 0x30 1 (if number_at probe 0x30 4 == 0 then 0 else 1)) place i h
 
 address_bits_writable : (f : Function) (place i : ℕ) → place < 256 → i < 8 → in_fields (address_fields f.image f.probe) place i ≡ true → has_bit (byte_at (writable_bits f.image f.probe) place) i ≡ true
 address_bits_writable f place i inside small h =

@@ -3,10 +3,9 @@ use Rattle.std.proofs.Common.{◌≡◌, ℕ, zero, suc, ◌+◌, ◌*◌, ◌^�
 use Rattle.std.specs.Bool.{if◌then◌else◌}
 use Rattle.std.specs.List.{Contains}
 use Rattle.pci_spec.specs.Number.{byte_at, number_at, IsImage}
-use Rattle.pci_spec.specs.Header.{layout, bar_count, bar_register, rom_register, address_registers}
+use Rattle.pci_spec.specs.Header.{layout, bar_count, bar_register, rom_register, address_registers, registers_by}
 use Rattle.pci_spec.specs.System.{Function, is_bridge}
 use Rattle.pci_spec.proofs.Planning.Registers.{number_below}
-use Rattle.pci_spec.proofs.Planning.Staging.{registers_by}
 
 -- ---- registers of a header
 

@@ -1,6 +1,6 @@
 -- The writes of a plan are staged, and each fits.
 use Rattle.std.proofs.Common.{◌≡◌, ℕ, ◌+◌, ◌*◌, ◌<◌, ◌≤◌, ◌⊎◌, inl, inr, List, [], ◌∷◌, ◌++◌, refl, Bool, true, false, cond, ◌&&◌, ◌||◌, arith, sym, ◌∙◌, ap, subst, map}
-use Rattle.std.specs.Bool.{nat_lt, nat_le, ◌==◌, if◌then◌else◌}
+use Rattle.std.specs.Bool.{nat_lt, nat_le, ◌==◌}
 use Rattle.std.specs.List.{All, AllPairs, Contains, list_all}
 use Rattle.std.specs.Int.{bit_at}
 use Rattle.std.proofs.lemmas.Bool.{and_parts, cases_lt, both_ways, leb-true, lt-ltb, or_cases}
@@ -8,7 +8,7 @@ use Rattle.std.proofs.lemmas.Nat.Bits.{bit_at_above}
 use Rattle.std.proofs.lemmas.List.Elements.{All-contains, All-contains_itself, All-weaker, Contains-append_cases, Contains-append_left, Contains-append_right}
 use Rattle.pci_spec.specs.Number.{number_at, has_bit, IsImage}
 use Rattle.pci_spec.specs.Slot.{Slot, slot_number, same_slot}
-use Rattle.pci_spec.specs.Header.{command, layout, address_registers}
+use Rattle.pci_spec.specs.Header.{command, layout, registers_by, address_registers}
 use Rattle.pci_spec.specs.System.{Function, IsSystem, IsFunction, is_bridge}
 use Rattle.pci_spec.specs.Machine.{Write, without_low}
 use Rattle.pci_spec.specs.Plan.{IsMoved}
@@ -107,12 +107,6 @@ opening_from changes c listed differs =
     in_flat_map_from opening_of changes c (opening_write c) listed (subst (λ b. Contains (cond b [] (opening_write c ∷ [])) (opening_write c)) (sym differs) (in_head (opening_write c) []))
 
 -- ---- where address registers are
-
-abbrev pub registers_by : Bool → List (ℕ × ℕ)
-registers_by bridge =
-    if bridge
-    then (0x10, 4) ∷ (0x14, 4) ∷ (0x1c, 2) ∷ (0x20, 4) ∷ (0x24, 4) ∷ (0x28, 4) ∷ (0x2c, 4) ∷ (0x30, 4) ∷ (0x38, 4) ∷ []
-    else (0x10, 4) ∷ (0x14, 4) ∷ (0x18, 4) ∷ (0x1c, 4) ∷ (0x20, 4) ∷ (0x24, 4) ∷ (0x30, 4) ∷ []
 
 register_test : (bridge : Bool) (test : ℕ × ℕ → Bool) → list_all test (registers_by true) ≡ true → list_all test (registers_by false) ≡ true → list_all test (registers_by bridge) ≡ true
 register_test true test t f = t

@@ -1,5 +1,5 @@
 -- What writes do to a system, and to what is on in it.
-use Rattle.std.proofs.Common.{◌≡◌, ℕ, zero, suc, ◌+◌, ◌-◌, ◌*◌, ◌/◌, ◌%◌, ◌^◌, ◌<◌, ◌≤◌, ◌⊎◌, inl, inr, List, refl, true, false, cond, ◌&&◌, ◌||◌, arith, sym, ◌∙◌, ap, length, get_or}
+use Rattle.std.proofs.Common.{◌≡◌, ℕ, zero, suc, ◌+◌, ◌-◌, ◌*◌, ◌/◌, ◌%◌, ◌^◌, ◌<◌, ◌≤◌, ◌⊎◌, inl, inr, List, refl, Bool, true, false, cond, ◌&&◌, ◌||◌, arith, sym, ◌∙◌, ap, length, get_or}
 use Rattle.std.specs.Bool.{nat_le, nat_lt, ◌==◌}
 use Rattle.std.specs.List.{Contains}
 use Rattle.std.specs.Int.{bit_at}
@@ -9,9 +9,9 @@ use Rattle.std.proofs.lemmas.List.FromFn.{get_or-map-range_with_len}
 use Rattle.std.proofs.lemmas.List.Elements.{Contains-get_or}
 use Rattle.pci_spec.specs.Number.{byte_at, has_bit}
 use Rattle.pci_spec.specs.Slot.{Slot, same_slot, slot_number}
-use Rattle.pci_spec.specs.Header.{command}
+use Rattle.pci_spec.specs.Header.{layout, command}
 use Rattle.pci_spec.specs.System.{System, Function}
-use Rattle.pci_spec.specs.Machine.{Target, Write, in_fields, writable_fields, writable_bits, byte_of_bits, written_bit, written_byte, written, target_of, write_function, write_system}
+use Rattle.pci_spec.specs.Machine.{Target, Write, in_fields, writable_by, writable_fields, writable_bits, byte_of_bits, written_bit, written_byte, written, target_of, write_function, write_system}
 use Rattle.pci_spec.proofs.Bits.{digit, digit_of_bit, bit_at-number_of_bits, bit_at-mod}
 use Rattle.pci_spec.specs.Planning.Safety.{is_on}
 
@@ -102,15 +102,17 @@ writable_byte : (image probe : List ℕ) → byte_at (writable_bits image probe)
 unfolding writable_bits
 writable_byte image probe = get_or-map-range_with_len (λ offset. byte_of_bits (in_fields (writable_fields image probe) offset)) 0 256 4 4 0 (omega arith) (omega arith)
 
-enables_are_fields : (image probe : List ℕ) (i : ℕ) → i < 2 → in_fields (writable_fields image probe) 4 i ≡ true
-enables_are_fields image probe zero h = refl
-enables_are_fields image probe (suc zero) h = refl
-enables_are_fields image probe (suc (suc i)) h = absurd (let impossible : ⊥ = omega (arith, h) in impossible)
+pub enables_are_fields : (bridge : Bool) (probe : List ℕ) (i : ℕ) → i < 2 → in_fields (writable_by bridge probe) 4 i ≡ true
+enables_are_fields true probe zero h = refl
+enables_are_fields true probe (suc zero) h = refl
+enables_are_fields false probe zero h = refl
+enables_are_fields false probe (suc zero) h = refl
+enables_are_fields bridge probe (suc (suc i)) h = absurd (let impossible : ⊥ = omega (arith, h) in impossible)
 
 pub enables_are_writable : (image probe : List ℕ) (i : ℕ) → i < 2 → has_bit (byte_at (writable_bits image probe) 4) i ≡ true
 enables_are_writable image probe i h =
     ap (λ n. has_bit n i) (writable_byte image probe)
-    ∙ ap (λ n. n == 1) (bit_at-number_of_bits 8 (in_fields (writable_fields image probe) 4) i (omega (arith, h)) ∙ ap digit (enables_are_fields image probe i h))
+    ∙ ap (λ n. n == 1) (bit_at-number_of_bits 8 (in_fields (writable_fields image probe) 4) i (omega (arith, h)) ∙ ap digit (enables_are_fields (layout image == 1) probe i h))
 
 bit_written : (writable clearing old datum i : ℕ) → i < 8 → has_bit writable i ≡ true → bit_at (byte_of_bits (written_bit writable clearing old datum)) i ≡ bit_at datum i
 bit_written writable clearing old datum i h e =

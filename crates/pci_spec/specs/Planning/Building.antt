@@ -2,6 +2,7 @@
 use Rattle.std.specs.Prelude.{◌≡◌, ℕ, ◌^◌, ◌<◌, [], ◌∷◌, ◌++◌, map}
 use Rattle.std.specs.List.{Contains, fold}
 use Rattle.pci_spec.specs.Number.{number_at}
+use Rattle.pci_spec.specs.Registers.{COMMAND}
 use Rattle.pci_spec.specs.Header.{command, layout, address_registers}
 use Rattle.pci_spec.specs.System.{Function}
 use Rattle.pci_spec.specs.Machine.{Write, write_function}
@@ -12,7 +13,7 @@ abbrev pub write_of : Function → (ℕ × ℕ → ℕ) → ℕ × ℕ → Write
 write_of f value r = record { slot = f.slot; offset = r.0; width = r.1; value = value r }
 
 abbrev pub command_write : Function → ℕ → Write
-command_write f value = record { slot = f.slot; offset = 0x04; width = 2; value = value }
+command_write f value = record { slot = f.slot; offset = COMMAND; width = 2; value = value }
 
 abbrev pub built : Function → (ℕ × ℕ → ℕ) → ℕ → Function
 built f value new_command =

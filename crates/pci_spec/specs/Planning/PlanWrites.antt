@@ -2,6 +2,7 @@
 use Rattle.std.specs.Prelude.{ℕ, ◌==◌, if◌then◌else◌, List, [], ◌∷◌, ◌++◌, map}
 use Rattle.std.specs.List.{flat_map}
 use Rattle.pci_spec.specs.Number.{number_at}
+use Rattle.pci_spec.specs.Registers.{COMMAND}
 use Rattle.pci_spec.specs.Header.{command, layout, address_registers}
 use Rattle.pci_spec.specs.System.{System, Function, is_bridge}
 use Rattle.pci_spec.specs.Machine.{Write, without_low}
@@ -23,7 +24,7 @@ abbrev pub closed_command : Function → ℕ
 closed_command f = without_low 4 (command f.image)
 
 abbrev pub closing_of : Change → List Write
-closing_of c = if is_on c.old then record { slot = c.old.slot; offset = 0x04; width = 2; value = closed_command c.old } ∷ [] else []
+closing_of c = if is_on c.old then record { slot = c.old.slot; offset = COMMAND; width = 2; value = closed_command c.old } ∷ [] else []
 
 -- the write of a register that is to change
 abbrev pub register_write : Change → (ℕ × ℕ) → List Write
@@ -37,7 +38,7 @@ registers_of c = flat_map (register_write c) (address_registers (layout c.old.im
 abbrev pub opening_of : Change → List Write
 opening_of c =
     if command c.new.image == closed_command c.old then []
-    else record { slot = c.old.slot; offset = 0x04; width = 2; value = command c.new.image } ∷ []
+    else record { slot = c.old.slot; offset = COMMAND; width = 2; value = command c.new.image } ∷ []
 
 -- what is on is closed, the highest slot first
 abbrev pub closing_writes : List Change → List Write

@@ -7,4 +7,4 @@ pub loop-offset-preserved : goal.loop-offset-preserved
 loop-offset-preserved c = λ none.
     let parts = or_parts c.loop-offset.found _ none in
     below_more _ _ (c.loop-offset.invariant parts.0)
-    (no_stray c.args.layout c.args.probe.now.0 c.loop-offset.offset _ (c.registers-registers.ensures c.loop-offset.offset (omega arith)) parts.1)
+    (no_stray c.args.layout c.args.probe.now.0 c.loop-offset.offset _ (c.address_bytes-is_address.ensures c.loop-offset.offset (omega arith)) parts.1)

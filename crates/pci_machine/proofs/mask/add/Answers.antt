@@ -1,7 +1,7 @@
 use Rattle.std.proofs.Common.{◌≡◌, ◌+◌, ◌<◌, ◌^◌, ◌/◌, ◌%◌, arith, ap, ◌∙◌, sym, rules, lit<}
 use Rattle.std.proofs.lemmas.Nat.{mod_below}
 use Rattle.std.proofs.Math.Nat.{div-div-eq-div-mul, pow-suc}
-use Rattle.pci_machine.proofs.Sizing.{access-end}
+use Rattle.pci_image.proofs.Accesses.{access-end}
 use Rattle.pci_machine.proofs.MaskBits.{added_more, IsImage-or}
 use Rattle.pci_machine.proofs.mask.add.Goals as goal
 

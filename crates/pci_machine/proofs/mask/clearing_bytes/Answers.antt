@@ -1,37 +1,26 @@
-use Rattle.std.proofs.Common.{map, get_or, arith, ◌∙◌, ap}
-use Rattle.std.proofs.lemmas.List.{get_or-map, get_or-replicate, length-map}
-use Rattle.pci_spec.specs.Number.{has_bit}
-use Rattle.pci_spec.specs.Machine.{Field}
-use Rattle.pci_machine.specs.RegisterTable.{clearing_of}
-use Rattle.pci_machine.specs.declared.table.Row.{Row}
-use Rattle.pci_machine.specs.declared.table.Writable.TheVariants.{Bits}
-use Rattle.pci_machine.proofs.Bytes.{has_bit-zero}
-use Rattle.pci_machine.proofs.MaskBits.{IsImage-zeros, bits_more, all_clearing}
+use Rattle.std.proofs.Common.{arith}
+use Rattle.pci_spec.specs.Machine.{cleared_fields}
+use Rattle.pci_image.specs.declared.register.Register.{Register}
+use Rattle.pci_image.specs.declared.register.Role.TheVariants.{Bar}
+use Rattle.pci_image.specs.Registers.{role_value}
+use Rattle.pci_machine.proofs.MaskBits.{IsImage-zeros, no_bits, bits_more, bits_of_all}
 use Rattle.pci_machine.proofs.mask.clearing_bytes.Goals as goal
 
-abbrev none : Row
-none = record { 0 = 0; 1 = 0; 2 = Bits 0; 3 = 0 }
+abbrev none : Register
+none = record { offset = 0; width = 0; role = Bar 0 }
 
-pub loop-row-init : goal.loop-row-init
-loop-row-init c = record {
-  image = IsImage-zeros;
-  bits = λ place i inside small. ap (λ b. has_bit b i) (get_or-replicate 256 place 0 0 inside) ∙ has_bit-zero i;
+pub loop-register-init : goal.loop-register-init
+loop-register-init c = record { image = IsImage-zeros; bits = no_bits }
+
+pub loop-register-preserved : goal.loop-register-preserved
+loop-register-preserved c = record {
+  image = c.add_cleared.ensures.image;
+  bits = bits_more (λ r. cleared_fields r.offset r.width (role_value r.role)) c.registers-register-items.result.now c.loop-register.register-index none
+      c.loop-register.bytes c.add_cleared.new.bytes c.loop-register-test.true c.loop-register.invariant.bits c.add_cleared.ensures.added;
 }
-
-pub loop-row-preserved : goal.loop-row-preserved
-loop-row-preserved c =
-    let items = c.rows-row-items.result.now in
-    let k = c.loop-row.row-index in
-    let row = get_or items k none in
-    let within = c.loop-row-test.true in
-    record {
-      image = c.add.ensures.image;
-      bits = bits_more (map clearing_of items) k (clearing_of row) c.loop-row.bytes c.add.new.bytes (omega (arith, within, length-map {B = Field} items clearing_of))
-          (get_or-map clearing_of items k none (clearing_of row) within) c.loop-row.invariant.bits c.add.ensures.added;
-    }
 
 pub returns-clause-bits : goal.returns-clause-bits
 returns-clause-bits c =
-    let items = c.rows-row-items.result.now in
-    all_clearing c.args.bridge c.loop-row.bytes c.loop-row.row-index (map clearing_of items) c.rows-row-items.ensures.clearing
-    (omega (arith, c.loop-row-test.false, length-map {B = Field} items clearing_of)) c.loop-row.invariant.bits
+    let items = c.registers-register-items in
+    bits_of_all (λ r. cleared_fields r.offset r.width r.role) items.result.now _ c.loop-register.register-index c.loop-register.bytes items.ensures.table
+    (let past = c.loop-register-test.false in omega (arith, past)) c.loop-register.invariant.bits

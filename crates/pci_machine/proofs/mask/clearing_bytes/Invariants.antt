@@ -1,12 +1,13 @@
-use Rattle.std.proofs.Common.{map, take}
+use Rattle.std.proofs.Common.{take}
+use Rattle.std.specs.List.{flat_map}
 use Rattle.pci_spec.specs.Number.{IsImage}
-use Rattle.pci_spec.specs.Machine.{in_fields}
+use Rattle.pci_spec.specs.Machine.{in_fields, cleared_fields}
+use Rattle.pci_image.specs.Registers.{role_value}
 use Rattle.pci_machine.specs.Masks.{HasBits}
-use Rattle.pci_machine.specs.RegisterTable.{clearing_of}
 use Rattle.pci_machine.proofs.mask.clearing_bytes.Given as goal
 
-abbrev pub invariant-loop-row : goal.invariant-loop-row
-invariant-loop-row l = record {
+abbrev pub invariant-loop-register : goal.invariant-loop-register
+invariant-loop-register l = record {
   image : IsImage l.bytes;
-  bits : HasBits l.bytes (in_fields (take l.row-index (map clearing_of l.row-items)));
+  bits : HasBits l.bytes (in_fields (flat_map (λ r. cleared_fields r.offset r.width (role_value r.role)) (take l.register-index l.register-items)));
 }

@@ -6,8 +6,9 @@ use Rattle.pci_spec.specs.Machine.{read_back, written}
 use Rattle.pci_spec.specs.Number.{number_at}
 use Rattle.pci_spec.specs.Port.{is_access, fits, with_image}
 use Rattle.pci_spec.specs.Sizing.{function_at, DiffersWithin, is_address_register}
+use Rattle.pci_image.specs.declared.register.Register.{Register}
+use Rattle.pci_image.specs.declared.register.Role.TheVariants.{Bar}
 use Rattle.pci_machine.specs.declared.access_at.AccessFault.{AccessFault}
-use Rattle.pci_machine.specs.declared.address_register.AddressRegister.{AddressRegister}
 use Rattle.pci_machine.proofs.Sizing.{target-there}
 use Rattle.pci_machine.proofs.RegisterOrder.{layout_of, is_sound, found_in, IsSound, sound_at, sound_parts, register_plain, within_registers, found_more, found_all, register_begins}
 use Rattle.pci_machine.proofs.read_backs.read_backs.Goals as goal
@@ -23,15 +24,15 @@ loop-register-init g c = record {
 }
 
 -- the register of a turn, in the table of its layout
-module _ (items : List AddressRegister) (bridge : Bool) (table : map (λ (r : AddressRegister). (r.offset, r.width)) items ≡ address_registers (layout_of bridge)) (k : ℕ) (within : k < length items) (d : AddressRegister) where
+module _ (items : List Register) (bridge : Bool) (table : map (λ (r : Register). (r.offset, r.width)) items ≡ address_registers (layout_of bridge)) (k : ℕ) (within : k < length items) (d : Register) where
   abbrev here : ℕ × ℕ
   here = ((get_or items k d).offset, (get_or items k d).width)
 
   in_table : k < length (address_registers (layout_of bridge))
-  in_table = omega (arith, within, ap length table, length-map {B = ℕ × ℕ} items (λ (r : AddressRegister). (r.offset, r.width)))
+  in_table = omega (arith, within, ap length table, length-map {B = ℕ × ℕ} items (λ (r : Register). (r.offset, r.width)))
 
   at_place : get_or (address_registers (layout_of bridge)) k here ≡ here
-  at_place = ap (λ rs. get_or rs k here) (sym table) ∙ get_or-map (λ (r : AddressRegister). (r.offset, r.width)) items k d here within
+  at_place = ap (λ rs. get_or rs k here) (sym table) ∙ get_or-map (λ (r : Register). (r.offset, r.width)) items k d here within
 
   sound_test : is_sound (layout_of bridge) here ≡ true
   sound_test = sound_at bridge k here in_table at_place
@@ -39,8 +40,8 @@ module _ (items : List AddressRegister) (bridge : Bool) (table : map (λ (r : Ad
   sound : IsSound (layout_of bridge) here
   sound = sound_parts (layout_of bridge) here sound_test
 
-abbrev none : AddressRegister
-none = record { offset = 0; width = 0 }
+abbrev none : Register
+none = record { offset = 0; width = 0; role = Bar 0 }
 
 pub read_back-requires-clause-access : goal.read_back-requires-clause-access
 read_back-requires-clause-access g c =
@@ -127,5 +128,5 @@ returns-clause-read_backs g c =
     let before = g.P.ConfigPort.targets c.args.port.now in
     let slot = c.args.slot in
     found_all (function_at before slot) c.args.bridge k c.loop-register.bytes c.requires.header c.loop-register.invariant.full
-    (omega (arith, c.loop-register-test.false, ap length table, length-map {B = ℕ × ℕ} items (λ (r : AddressRegister). (r.offset, r.width))))
+    (omega (arith, c.loop-register-test.false, ap length table, length-map {B = ℕ × ℕ} items (λ (r : Register). (r.offset, r.width))))
     (λ place below. c.loop-register.invariant.found place below ∙ ap (λ rs. read_back (function_at before slot) place (found_in (take k rs) place)) table)

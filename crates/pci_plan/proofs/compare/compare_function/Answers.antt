@@ -6,14 +6,15 @@ use Rattle.std.proofs.lemmas.List.{get_or_default}
 use Rattle.pci_spec.specs.Number.{number_at}
 use Rattle.pci_spec.specs.Header.{layout, address_registers}
 use Rattle.pci_spec.specs.Port.{ShowsNumber}
-use Rattle.pci_machine.specs.declared.address_register.AddressRegister.{AddressRegister}
+use Rattle.pci_image.specs.declared.register.Register.{Register}
+use Rattle.pci_image.specs.declared.register.Role.TheVariants as roles
 use Rattle.pci_plan.specs.Comparing.{IsFunctionFault}
 use Rattle.pci_plan.proofs.Compares.{in_table, all_shown, register_access, register_fault}
 use Rattle.pci_plan.proofs.WriteLists.{pair_of, registers_of_layout}
 use Rattle.pci_plan.proofs.compare.compare_function.Goals as goal
 
-abbrev none : AddressRegister
-none = record { offset = 0; width = 0 }
+abbrev none : Register
+none = record { offset = 0; width = 0; role = roles.Bar 0 }
 
 pub compare_register-requires-in-loop-register : goal.compare_register-requires-in-loop-register
 compare_register-requires-in-loop-register g c =
@@ -56,7 +57,7 @@ loop-register-preserved g c =
             | inr last ↦
                 let at : i ≡ k = omega (arith, less, last) in
                 let one : get_or items i none ≡ get_or items k d = get_or_default items i none d c.loop-register-test.true ∙ ap (λ n. get_or items n d) at in
-                subst (λ (r : AddressRegister). ShowsNumber start c.args.slot r.offset r.width (number_at image r.offset r.width)) one
+                subst (λ (r : Register). ShowsNumber start c.args.slot r.offset r.width (number_at image r.offset r.width)) one
                 (subst (λ ts. ShowsNumber ts c.args.slot (get_or items i none).offset (get_or items i none).width (number_at image (get_or items i none).offset (get_or items i none).width)) before
                 c.in_ok-compare_register-2.ensures.shown)
           ];

@@ -4,30 +4,32 @@ use Rattle.std.specs.List.{AllPairs, Contains}
 use Rattle.std.proofs.lemmas.List.{length-map, take_all, take_more}
 use Rattle.std.proofs.lemmas.List.Elements.{Contains-get_or}
 use Rattle.std.proofs.Math.ListN.{get_or-map}
-use Rattle.pci_spec.specs.Header.{address_registers, layout}
+use Rattle.pci_spec.specs.Header.{address_registers, layout, registers_by}
 use Rattle.pci_spec.specs.System.{is_bridge}
 use Rattle.pci_spec.specs.Planning.Numbers.{new_number, new_command}
 use Rattle.pci_spec.proofs.Members.{in_map_from}
-use Rattle.pci_spec.proofs.Planning.Staging.{Follows, is_register, registers_by, registers_in_order, pairs_in_order}
+use Rattle.pci_spec.proofs.Planning.Staging.{Follows, is_register, registers_in_order, pairs_in_order}
 use Rattle.pci_spec.proofs.Planning.NumbersFit.{numbers_fit}
-use Rattle.pci_machine.specs.declared.address_register.AddressRegister.{AddressRegister}
+use Rattle.pci_image.specs.declared.register.Register.{Register}
+use Rattle.pci_image.specs.declared.register.Role.TheVariants as roles
 use Rattle.pci_plan.specs.Fillings.{FillingOf}
 use Rattle.pci_plan.proofs.FilledWindows.{bridge_is, function_is}
 use Rattle.pci_plan.proofs.FilledImages.{ArePut, none_put, more_put, earlier_apart, filled_with, registers_of}
+use Rattle.pci_plan.proofs.WriteLists.{register_access}
 use Rattle.pci_plan.proofs.planned.filled.Goals as goal
 use Rattle.pci_plan.proofs.planned.filled.Goals.{After-address_registers-register-items}
 
-abbrev pair : AddressRegister → ℕ × ℕ
+abbrev pair : Register → ℕ × ℕ
 pair r = (r.offset, r.width)
 
 -- what stands there where the slice has no register
-abbrev no_register : AddressRegister
-no_register = record { offset = 0; width = 0 }
+abbrev no_register : Register
+no_register = record { offset = 0; width = 0; role = roles.Bar 0 }
 
 -- ---- the registers that are gone over
 
 module _ (c : After-address_registers-register-items) where
-  abbrev items : List AddressRegister
+  abbrev items : List Register
   items = c.address_registers-register-items.result.now
 
   by_record : map pair items ≡ address_registers (if is_some c.args.filling.now.record.now.bridge then 1 else 0)
@@ -61,25 +63,10 @@ number-requires-clause-listed c =
     let k = c.loop-register.register-index in
     subst (λ rs. Contains rs (pair (get_or (items start) k no_register))) (by_record start) (here start k c.loop-register-test.true)
 
-pub put-requires-clause-image : goal.put-requires-clause-image
-put-requires-clause-image c = (c.loop-register.invariant c.requires).image
-
-pub put-requires-clause-room : goal.put-requires-clause-room
-put-requires-clause-room c =
-    let start = (goal.at.put-requires-clause-room c).After-address_registers-register-items in
-    let k = c.loop-register.register-index in
-    let high = (is_register c.requires.function (pair (get_or (items start) k no_register)) (of_function start c.requires k c.loop-register-test.true)).high in
-    omega (arith, high)
-
-pub put-requires-clause-fits : goal.put-requires-clause-fits
-put-requires-clause-fits c =
-    let of = c.requires in
-    let start = (goal.at.put-requires-clause-fits c).After-address_registers-register-items in
-    let k = c.loop-register.register-index in
-    let r = pair (get_or (items start) k no_register) in
-    let small = (numbers_fit of.roots of.system of.pools of.plannable of.tables of.function of.recorded.listed).small r (of_function start of k c.loop-register-test.true) in
-    let e = c.number.ensures of in
-    omega (arith, small, e)
+pub put-requires : goal.put-requires
+put-requires c =
+    let start = (goal.at.put-requires c).After-address_registers-register-items in
+    register_access (items start) (if is_some c.args.filling.now.record.now.bridge then 1 else 0) (by_record start) c.loop-register.register-index no_register c.loop-register-test.true
 
 pub loop-register-preserved : goal.loop-register-preserved
 loop-register-preserved c of =
@@ -91,12 +78,12 @@ loop-register-preserved c of =
     let within = within_pairs start k c.loop-register-test.true in
     let at : get_or rs k (pair no_register) ≡ r = get_or-map pair (items start) k no_register in
     let more : take (k + 1) rs ≡ take k rs ++ r ∷ [] = take_more rs k (pair no_register) within ∙ ap (λ q. take k rs ++ q ∷ []) at in
-    let put = more_put (take k rs) r value of.function.image c.loop-register.image.0 c.put.new.image.0 (c.loop-register.invariant of) c.put.ensures.image (c.put.ensures.number ∙ c.number.ensures of) c.put.ensures.others
+    let before = c.loop-register.invariant of in
+    let small = (numbers_fit of.roots of.system of.pools of.plannable of.tables of.function of.recorded.listed).small r (of_function start of k c.loop-register-test.true) in
+    let e = c.number.ensures of in
+    let put = more_put (take k rs) r value of.function.image c.loop-register.image.0 c.put.new.bytes before (c.put.ensures.image before.image) (c.put.ensures.number (omega (arith, small, e)) ∙ e) c.put.ensures.outside
     (λ q earlier. let apart = earlier_apart rs k (pair no_register) (in_order start of) within q earlier in let e = ap (λ (p : ℕ × ℕ). p.0) at in omega (arith, apart, e)) in
-    subst (λ done. ArePut done value of.function.image c.put.new.image.0) (sym more) put
-
-pub put-requires-2-clause-image : goal.put-requires-2-clause-image
-put-requires-2-clause-image c = (c.loop-register.invariant c.requires).image
+    subst (λ done. ArePut done value of.function.image c.put.new.bytes) (sym more) put
 
 pub returns : goal.returns
 returns c of =
@@ -106,6 +93,7 @@ returns c of =
     let done = c.loop-register-test.false in
     let all : take c.loop-register.register-index (map pair (items start)) ≡ address_registers (layout of.function.image) =
     take_all c.loop-register.register-index (map pair (items start)) (omega (arith, size, done)) ∙ by_function start of in
-    filled_with of.function value (new_command of.system of.pools of.function) c.loop-register.image.0 c.put-2.new.image.0
-    (subst (λ rs. ArePut rs value of.function.image c.loop-register.image.0) all (c.loop-register.invariant of)) c.put-2.ensures.image
-    (c.put-2.ensures.number ∙ c.from.ensures ∙ c.command.ensures of) c.put-2.ensures.others
+    let put = subst (λ rs. ArePut rs value of.function.image c.loop-register.image.0) all (c.loop-register.invariant of) in
+    let small = c.from.ensures in
+    filled_with of.function value (new_command of.system of.pools of.function) c.loop-register.image.0 c.put-2.new.bytes put (c.put-2.ensures.image put.image)
+    (c.put-2.ensures.number (omega (arith, small)) ∙ c.from.ensures ∙ c.command.ensures of) c.put-2.ensures.outside

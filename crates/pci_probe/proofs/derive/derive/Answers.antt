@@ -6,7 +6,8 @@ use Rattle.pci_spec.specs.NoProbe.{NoProbe, register_fault, no_probe}
 use Rattle.pci_spec.specs.NoProbe as spec
 use Rattle.pci_spec.specs.Resource.{ResourceLine}
 use Rattle.pci_image.specs.Header.{HasHeader}
-use Rattle.pci_machine.specs.declared.address_register.AddressRegister.{AddressRegister}
+use Rattle.pci_image.specs.declared.register.Register.{Register}
+use Rattle.pci_image.specs.declared.register.Role.TheVariants as roles
 use Rattle.pci_machine.proofs.RegisterOrder.{layout_of, sound_at, sound_parts, register_begins}
 use Rattle.pci_probe.specs.declared.fault.DeriveFault.{DeriveFault}
 use Rattle.pci_probe.specs.declared.fault.DeriveFault.TheVariants.{Header, NoSize, OtherSize}
@@ -16,8 +17,8 @@ use Rattle.pci_probe.proofs.Registers.{derived_none, derived_fault, derived_more
 use Rattle.pci_probe.proofs.derive.derive.Goals as goal
 use Rattle.pci_probe.proofs.derive.derive.Goals.{then-is_assumed, else-is_assumed}
 
-abbrev none : AddressRegister
-none = record { offset = 0; width = 0 }
+abbrev none : Register
+none = record { offset = 0; width = 0; role = roles.Bar 0 }
 
 fault_of : (exact : Bool) (image : List ℕ) (lines : List ResourceLine) (fault : DeriveFault) (found : Option NoProbe) → IsFaultOf fault found → HasHeader image
     → ((x : NoProbe) → found ≡ Some x → no_probe exact image lines ≡ Some x) → IsDeriveFault exact image lines fault

@@ -1,0 +1,148 @@
+//! The registers of a configuration header: a table for each layout (PCI 3.0, 6.1; Bridge 1.2, 3.2).
+//!
+//! Where the standards leave a function free, these are the bits of Command that most functions
+//! have, and no capability can be written.
+ghost use Rattle.std.specs.Prelude.{◌≡◌, ◌<◌, ℕ, false, map, slice_index_or, IsTrue, if◌then◌else◌};
+ghost use Rattle.std.specs.List.{list_all, list_any};
+ghost use Rattle.pci_spec.specs.Registers.{device_header, bridge_header};
+ghost use Rattle.pci_spec.specs.Header as header;
+ghost use Rattle.pci_image.specs.Registers.{register_value, is_readable};
+
+use super::offset::{
+    BASE_ADDRESS, BRIDGE_EXPANSION_ROM, COMMAND, EXPANSION_ROM, INTERRUPT_LINE, IO_BASE,
+    IO_BASE_UPPER, MEMORY_BASE, PREFETCHABLE_BASE, PREFETCHABLE_BASE_UPPER,
+    PREFETCHABLE_LIMIT_UPPER, PRIMARY_BUS, SECONDARY_BUS, SECONDARY_STATUS, STATUS,
+    SUBORDINATE_BUS,
+};
+
+/// What a register is for.
+#[derive(Clone, Copy, Debug, PartialEq, Eq)]
+pub enum Role {
+    /// Base Address register n.
+    Bar(u8),
+    /// The Expansion ROM Base Address register.
+    Rom,
+    /// Base and limit of a window, or their upper halves, each half of the register. What is below
+    /// this step is fixed.
+    Bounds(u32),
+    /// The upper half of a base or of a limit.
+    Upper,
+    /// It decodes no address, and a write sets these bits.
+    Control(u32),
+    /// A one clears these bits, and none can be set.
+    Status(u32),
+}
+
+/// A register: its byte offset, its width in bytes, and what it is for.
+#[derive(Clone, Copy, Debug, PartialEq, Eq)]
+pub struct Register {
+    pub offset: u8,
+    pub width: u8,
+    pub role: Role,
+}
+
+/// A row of a table.
+macro_rules! register {
+    ($offset:expr, $width:expr, $role:expr) => {
+        Register {
+            offset: $offset,
+            width: $width,
+            role: $role,
+        }
+    };
+}
+
+/// A type 0 header, first the registers that address decoding is set by.
+const DEVICE: [Register; 10] = [
+    register!(BASE_ADDRESS, 4, Role::Bar(0)), // PCI 3.0, 6.2.5.1
+    register!(BASE_ADDRESS + 4, 4, Role::Bar(1)),
+    register!(BASE_ADDRESS + 8, 4, Role::Bar(2)),
+    register!(BASE_ADDRESS + 12, 4, Role::Bar(3)),
+    register!(BASE_ADDRESS + 16, 4, Role::Bar(4)),
+    register!(BASE_ADDRESS + 20, 4, Role::Bar(5)),
+    register!(EXPANSION_ROM, 4, Role::Rom), // PCI 3.0, 6.2.5.2
+    register!(COMMAND, 2, Role::Control(0x0547)), // PCI 3.0, 6.2.2
+    register!(STATUS, 2, Role::Status(0xf900)), // PCI 3.0, 6.2.3
+    register!(INTERRUPT_LINE, 1, Role::Control(0xff)), // PCI 3.0, 6.2.4
+];
+
+/// A type 1 header, likewise. I/O Base and Limit are two bytes, as Secondary Status stands behind
+/// them.
+const BRIDGE: [Register; 16] = [
+    register!(BASE_ADDRESS, 4, Role::Bar(0)), // PCI 3.0, 6.2.5.1
+    register!(BASE_ADDRESS + 4, 4, Role::Bar(1)),
+    register!(IO_BASE, 2, Role::Bounds(16)), // Bridge 1.2, 3.2.5
+    register!(MEMORY_BASE, 4, Role::Bounds(16)),
+    register!(PREFETCHABLE_BASE, 4, Role::Bounds(16)),
+    register!(PREFETCHABLE_BASE_UPPER, 4, Role::Upper),
+    register!(PREFETCHABLE_LIMIT_UPPER, 4, Role::Upper),
+    register!(IO_BASE_UPPER, 4, Role::Bounds(1)),
+    register!(BRIDGE_EXPANSION_ROM, 4, Role::Rom),
+    register!(COMMAND, 2, Role::Control(0x0547)), // PCI 3.0, 6.2.2
+    register!(STATUS, 2, Role::Status(0xf900)), // PCI 3.0, 6.2.3
+    register!(PRIMARY_BUS, 1, Role::Control(0xff)), // Bridge 1.2, 3.2.5
+    register!(SECONDARY_BUS, 1, Role::Control(0xff)),
+    register!(SUBORDINATE_BUS, 1, Role::Control(0xff)),
+    register!(SECONDARY_STATUS, 2, Role::Status(0xf900)),
+    register!(INTERRUPT_LINE, 1, Role::Control(0xff)), // PCI 3.0, 6.2.4
+];
+
+/// How many bytes a header has.
+pub const HEADER_LEN: usize = 64;
+
+/// In an address register.
+const A: bool = true;
+
+/// Elsewhere in a header.
+const O: bool = false;
+
+/// The bytes of a type 0 header that lie in address registers: the BARs and the expansion ROM
+/// (PCI 3.0, 6.2.5).
+static DEVICE_BYTES: [bool; HEADER_LEN] = [
+    O, O, O, O, O, O, O, O, O, O, O, O, O, O, O, O, // 00
+    A, A, A, A, A, A, A, A, A, A, A, A, A, A, A, A, // 10: BARs 0 to 3
+    A, A, A, A, A, A, A, A, O, O, O, O, O, O, O, O, // 20: BARs 4 and 5
+    A, A, A, A, O, O, O, O, O, O, O, O, O, O, O, O, // 30: the expansion ROM
+];
+
+/// Those of a type 1 header: the BARs, the I/O, memory and prefetchable windows with their upper
+/// halves, and the expansion ROM (Bridge 1.2, 3.2.5).
+static BRIDGE_BYTES: [bool; HEADER_LEN] = [
+    O, O, O, O, O, O, O, O, O, O, O, O, O, O, O, O, // 00
+    A, A, A, A, A, A, A, A, O, O, O, O, A, A, O, O, // 10: BARs 0 and 1; the I/O window at 1c
+    A, A, A, A, A, A, A, A, A, A, A, A, A, A, A, A, // 20: the memory and prefetchable windows
+    A, A, A, A, O, O, O, O, A, A, A, A, O, O, O, O, // 30: the I/O window; the expansion ROM at 38
+];
+
+/// The registers of a device's or a bridge's header that a write can change.
+pub fn registers(bridge: bool) -> &'static [Register]
+    ensures table { map register_value result.now ≡ (if bridge then bridge_header else device_header) }
+    ensures readable { IsTrue (list_all is_readable result.now) }
+{
+    if bridge { &BRIDGE } else { &DEVICE }
+}
+
+/// Those that address decoding is set by, by rising offset.
+pub fn address_registers(bridge: bool) -> &'static [Register]
+    ensures { map (λ r. (r.offset, r.width)) result.now ≡ header.address_registers (if bridge then 1 else 0) }
+{
+    if bridge { &BRIDGE[..9] } else { &DEVICE[..7] }
+}
+
+/// Which bytes of a header lie in one of those.
+pub fn address_bytes(bridge: bool) -> &'static [bool; HEADER_LEN]
+    ensures { (offset : ℕ) → offset < 64 → slice_index_or result.now offset false ≡ list_any (header.is_in_register offset) (header.registers_by bridge) }
+{
+    if bridge { &BRIDGE_BYTES } else { &DEVICE_BYTES }
+}
+
+/// The offset of the Expansion ROM Base Address register of a device or a bridge.
+pub fn rom_register(bridge: bool) -> u8
+    ensures { result ≡ header.rom_place bridge }
+{
+    if bridge {
+        BRIDGE_EXPANSION_ROM
+    } else {
+        EXPANSION_ROM
+    }
+}
