@@ -16,7 +16,7 @@ use Rattle.pci_tree.specs.Regions.{HasEachRegion}
 use Rattle.pci_tree.specs.Outline.{Tree, IsReachTo}
 use Rattle.pci_check.specs.Trees.{HasTree}
 use Rattle.pci_tree.proofs.Orders.{own_of_rising}
-use Rattle.pci_check.specs.Sweep.{AreDistinct, IsUnshared, IsLeastShared}
+use Rattle.pci_check.specs.Sweep.{AreDistinct, IsUnshared, IsFirstOverlap}
 use Rattle.pci_check.specs.Stops.{Reaches, ranges_at, AreReachesOf, AreListed}
 use Rattle.pci_check.specs.Clashes.{AreRegionsOn, NoneClashOn, IsClashFaultOn, IsClashFaultOnBus, NoneClash, IsClashFault}
 use Rattle.pci_check.proofs.Overlaps.{claims_of, one_claims, differ, least, next_least}
@@ -59,7 +59,7 @@ module _ (t : Tree) (bus : ℕ) (space : Space) (regions : List Region) (allowed
   none_clash none s tree a = unshared_at s tree a (none (own_of_rising regions (listed s tree.records).rising) a)
 
   -- where two do
-  pub clash_fault : (a : ℕ) (first second : Region) → IsLeastShared regions allowed a first second
+  pub clash_fault : (a : ℕ) (first second : Region) → IsFirstOverlap regions allowed a first second
       → (s : System) → HasTree t s → HasNoUnreached t.roots s → ((b : ℕ) → b < bus → (sp : Space) (x : ℕ) → HasNoClashAt t.roots s b sp x)
       → (space ≡ Memory → (x : ℕ) → HasNoClashAt t.roots s bus Io x) → IsFirst t.roots s (Clash bus space a first.slot first.reg second.slot second.reg)
   clash_fault a first second is s tree home lower io =

@@ -16,7 +16,7 @@ use Rattle.pci_image.specs.declared.range.Range.{Range}
 use Rattle.pci_tree.specs.declared.region.Region.{Region}
 use Rattle.pci_tree.specs.Ranges.{Covers}
 use Rattle.pci_tree.specs.Regions.{region_number as number_of}
-use Rattle.pci_check.specs.Sweep.{Spans, IsTwice, StandByFirst, IsFirstOverlap, IsClaimantIn, IsUnshared, IsLeastShared}
+use Rattle.pci_check.specs.Sweep.{Spans, IsTwice, IsLeastTwice, AreTwoLeast, IsClaimantIn, IsUnshared, IsFirstOverlap}
 use Rattle.pci_check.specs.Clashes.{AreRegionsOn}
 
 -- ---- members of a list
@@ -66,36 +66,36 @@ module _ (old new : List Region) (allowed : List Range) (moved : IsPermutation o
   ]
 
   -- where the first overlap was found
-  pub shared : (a i j : ℕ) (first second : Region) → StandByFirst new → IsFirstOverlap new allowed a i j → first ≡ get_or new i first → second ≡ get_or new j second
-      → IsLeastShared old allowed a first second
-  shared a i j first second sorted is is_first is_second =
-      let one : (d : Region) → get_or new i d ≡ first = λ d. get_or_default new i d first is.claimants.within.0 ∙ sym is_first in
-      let two : (d : Region) → get_or new j d ≡ second = λ d. get_or_default new j d second is.claimants.within.1 ∙ sym is_second in
+  pub overlap : (a i j : ℕ) (first second : Region) → IsLeastTwice new allowed a → AreTwoLeast new a i j → first ≡ get_or new i first → second ≡ get_or new j second
+      → IsFirstOverlap old allowed a first second
+  overlap a i j first second twice are is_first is_second =
+      let one : (d : Region) → get_or new i d ≡ first = λ d. get_or_default new i d first are.within.0 ∙ sym is_first in
+      let two : (d : Region) → get_or new j d ≡ second = λ d. get_or_default new j d second are.within.1 ∙ sym is_second in
       let back = IsPermutation-sym old new moved in
       let number_one : (d : Region) → number_of (get_or new i d) ≡ number_of first = λ d. ap number_of (one d) in
       let number_two : (d : Region) → number_of (get_or new j d) ≡ number_of second = λ d. ap number_of (two d) in
       record {
-        covered = (is.least sorted).covered;
+        covered = twice.covered;
         claims_first = record {
-          has = Contains-permutation new old first back (subst (Contains new) (one first) (Contains-get_or new i first is.claimants.within.0));
-          claims = subst (λ (x : Region). Spans x a) (one first) (is.claimants.first first);
+          has = Contains-permutation new old first back (subst (Contains new) (one first) (Contains-get_or new i first are.within.0));
+          claims = subst (λ (x : Region). Spans x a) (one first) (are.first first);
         };
         claims_second = record {
-          has = Contains-permutation new old second back (subst (Contains new) (two second) (Contains-get_or new j second is.claimants.within.1));
-          claims = subst (λ (x : Region). Spans x a) (two second) (is.claimants.second second);
+          has = Contains-permutation new old second back (subst (Contains new) (two second) (Contains-get_or new j second are.within.1));
+          claims = subst (λ (x : Region). Spans x a) (two second) (are.second second);
         };
-        rise = let up = is.claimants.rise first in let e = number_one first in let f = number_two first in omega (arith, up, e, f);
-        lower_addresses = λ b less. unshared b ((is.least sorted).least b less);
+        rise = let up = are.rise first in let e = number_one first in let f = number_two first in omega (arith, up, e, f);
+        lower_addresses = λ b less. unshared b (twice.least b less);
         least = λ r claim.
             let at = at_place new a r (forth a r claim) in
-            let up = is.claimants.least at.k at.within at.claims r in
+            let up = are.least at.k at.within at.claims r in
             let e = number_one r in
             let f = ap number_of (at.is r) in
             omega (arith, up, e, f);
         next_least = λ r claim differ.
             let at = at_place new a r (forth a r claim) in
             let f = ap number_of (at.is r) in
-            let up = is.claimants.next_least at.k at.within at.claims r (λ same. differ (sym f ∙ same ∙ number_one r)) in
+            let up = are.next_least at.k at.within at.claims r (λ same. differ (sym f ∙ same ∙ number_one r)) in
             let e = number_two r in
             omega (arith, up, e, f);
       }
@@ -142,7 +142,7 @@ module _ (s : System) (system : IsSystem s) (IsOne : ℕ → Type 0) (space : Sp
       let second = in_list a c other named one_c two in
       same_where_numbers a b c slot other register named one two (sym first.number ∙ none covered first.r second.r first.claimant second.claimant ∙ second.number)
 
-  module _ (a : ℕ) (first second : Region) (is : IsLeastShared regions allowed a first second) where
+  module _ (a : ℕ) (first second : Region) (is : IsFirstOverlap regions allowed a first second) where
     pub differ : (first.slot ≡ second.slot) × (first.reg ≡ second.reg) → ⊥
     differ same =
         let rise = is.rise in

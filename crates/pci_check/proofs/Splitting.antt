@@ -20,7 +20,7 @@ use Rattle.pci_tree.specs.Outline.{Tree}
 use Rattle.pci_tree.specs.Regions.{IsRegionOn, region_number as number_of}
 use Rattle.pci_check.specs.Trees.{HasTree}
 use Rattle.pci_tree.proofs.Orders.{own_of_rising}
-use Rattle.pci_check.specs.Sweep.{AreDistinct, IsUnshared, IsLeastShared}
+use Rattle.pci_check.specs.Sweep.{AreDistinct, IsUnshared, IsFirstOverlap}
 use Rattle.pci_check.specs.Stops.{AreListed}
 use Rattle.pci_check.specs.Clashes.{AreRegionsOn, AreRootsListed, NoneSplitIn, IsSplitFaultIn, NoneSplit, IsSplitFault}
 use Rattle.pci_check.proofs.Overlaps.{claims_of, one_claims, differ, least, next_least}
@@ -106,7 +106,7 @@ module _ (t : Tree) (space : Space) (regions : List Region) (allowed : List Rang
   pub none_split : (AreDistinct regions → (a : ℕ) → IsUnshared regions allowed a) → NoneSplitIn t space
   none_split none s tree a = unshared_at s tree a (none (own_of_rising regions (listed s tree).rising) a)
 
-  pub split_fault : (a : ℕ) (first second : Region) → IsLeastShared regions allowed a first second
+  pub split_fault : (a : ℕ) (first second : Region) → IsFirstOverlap regions allowed a first second
       → (s : System) → HasTree t s → HasNoUnreached t.roots s → HasNoClash t.roots s → (space ≡ Memory → (x : ℕ) → HasNoSplitAt t.roots s Io x)
       → IsFirst t.roots s (Split space a first.slot first.reg second.slot second.reg)
   split_fault a first second is s tree home apart io =

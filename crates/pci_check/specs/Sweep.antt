@@ -83,11 +83,6 @@ pub record AreTwoLeast (regions : List Region) (a i j : ℕ) : Type 0 where
   pub next_least : (k : ℕ) → k < length regions → HoldsAt (λ r. Spans r a) regions k
       → (d : Region) → (number_of (slice_index_or regions k d) ≡ number_of (slice_index_or regions i d) → ⊥) → number_of (slice_index_or regions j d) ≤ number_of (slice_index_or regions k d)
 
--- an address that two regions claim, the least of a list of ranges where they stand by first address, and the places of the two least that do
-pub record IsFirstOverlap (regions : List Region) (allowed : List Range) (a i j : ℕ) : Type 0 where
-  pub least : StandByFirst regions → IsLeastTwice regions allowed a
-  pub claimants : AreTwoLeast regions a i j
-
 -- ---- the same of the members of a list, in any order
 
 -- a region of the list claims the address
@@ -100,7 +95,7 @@ abbrev pub IsUnshared : List Region → List Range → ℕ → Type 0
 IsUnshared regions allowed a = Covers allowed a → (r q : Region) → IsClaimantIn regions a r → IsClaimantIn regions a q → number_of r ≡ number_of q
 
 -- the least address of the ranges that two regions claim, and the two least that do
-pub record IsLeastShared (regions : List Region) (allowed : List Range) (a : ℕ) (first second : Region) : Type 0 where
+pub record IsFirstOverlap (regions : List Region) (allowed : List Range) (a : ℕ) (first second : Region) : Type 0 where
   pub covered : Covers allowed a
   pub claims_first : IsClaimantIn regions a first
   pub claims_second : IsClaimantIn regions a second

@@ -47,14 +47,8 @@ pub fn judge_texts<A: Allocator + Copy, D: Source, P: Source>(
     ensures fault { IfErr result (IsTextRefusal (D.left dump.old) (D.failures dump.old) (D.failures dump.new) (P.left probe.old) (P.failures probe.old) (P.failures probe.new)) }
     ensures read { IfErr result (λ fault. fault ≢ AuditFault.Write) }
 {
-    let survey = match survey_texts(alloc, dump, probe, roots) {
-        Ok(survey) => survey,
-        Err(fault) => return Err(fault),
-    };
-    match outcome_of(alloc, survey) {
-        Ok(outcome) => Ok(outcome),
-        Err(OutOfMemory) => Err(AuditFault::Memory),
-    }
+    let survey = survey_texts(alloc, dump, probe, roots)?;
+    Ok(outcome_of(alloc, survey)?)
 }
 
 /// The line of an outcome.
@@ -89,14 +83,8 @@ pub fn audit_with<A: Allocator + Copy, D: Source, P: Source, O: Sink>(
         → HasBegun (buses_of roots) (D.left dump.old) (P.left probe.old) (O.taken out.old) (O.taken out.new)) }
     ensures failed { IfErr result (λ fault. fault ≡ AuditFault.Write → O.failures out.new ≡ O.failures out.old + 1) }
 {
-    let outcome = match judge_texts(alloc, dump, probe, roots) {
-        Ok(outcome) => outcome,
-        Err(fault) => return Err(fault),
-    };
-    let line = match outcome_text(alloc, &outcome) {
-        Ok(line) => line,
-        Err(OutOfMemory) => return Err(AuditFault::Memory),
-    };
+    let outcome = judge_texts(alloc, dump, probe, roots)?;
+    let line = outcome_text(alloc, &outcome)?;
     match write_all(out, line.as_bytes()) {
         Ok(()) => Ok(outcome),
         Err(_) => Err(AuditFault::Write),

@@ -7,7 +7,7 @@ ghost use Rattle.pci_check.specs.Stops.{AreReachesOf, AreListed};
 ghost use Rattle.pci_check.specs.Clashes.{NoneClashOn, IsClashFaultOn, IsClashFaultOnBus};
 
 use super::reached::Reached;
-use super::sweep::{Shared, least_shared};
+use super::sweep::{Overlap, first_overlap};
 use pci_dump::memory::OutOfMemory;
 use pci_function::fault::Fault;
 use pci_function::space::Space;
@@ -26,10 +26,10 @@ fn clash_in<A: Allocator + Copy>(
 {
     // Two regions meet where any access gets, so what gets furthest decides.
     let allowed = reached.ranges(bus, space.furthest());
-    match least_shared(regions, allowed)? {
+    match first_overlap(regions, allowed)? {
         None => Ok(None),
         Some(
-            Shared {
+            Overlap {
                 address,
                 first,
                 second,

@@ -2,7 +2,7 @@
 ghost use Rattle.std.specs.Prelude.{◌≡◌};
 ghost use Rattle.pci_check.specs.AuditFault.{audit_fault_number};
 
-use pci_dump::memory::MEMORY_NUMBER;
+use pci_dump::memory::{MEMORY_NUMBER, OutOfMemory};
 use pci_dump::read_fault::{ReadFault, WriteFault};
 use pci_function::fault::Fault;
 
@@ -26,6 +26,16 @@ pub enum AuditFault {
     Memory,
     /// 10: a write failed. A beginning of the line was written.
     Write,
+}
+
+impl From<OutOfMemory> for AuditFault {
+    ghost use Rattle.pci_check.specs.declared.outcome.AuditFault.TheVariants.{Memory};
+
+    ghost from_gives = { λ _ e. e ≡ Memory };
+
+    fn from(_refused: OutOfMemory) -> AuditFault {
+        AuditFault::Memory
+    }
 }
 
 impl AuditFault {

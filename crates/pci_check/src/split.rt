@@ -5,7 +5,7 @@ ghost use Rattle.pci_function.specs.Space.{space_of};
 ghost use Rattle.pci_check.specs.Clashes.{AreRootsListed, NoneSplitIn, IsSplitFaultIn, NoneSplit, IsSplitFault};
 
 use super::reached::BUSES;
-use super::sweep::{Shared, least_shared};
+use super::sweep::{Overlap, first_overlap};
 use pci_dump::memory::OutOfMemory;
 use pci_function::fault::Fault;
 use pci_function::space::Space;
@@ -49,10 +49,10 @@ fn split_in<A: Allocator + Copy>(
 {
     let mut regions = of_roots(alloc, outline, roots, space)?;
     let whole = [space.whole()];
-    match least_shared(&mut regions, &whole)? {
+    match first_overlap(&mut regions, &whole)? {
         None => Ok(None),
         Some(
-            Shared {
+            Overlap {
                 address,
                 first,
                 second,

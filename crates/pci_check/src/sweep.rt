@@ -5,7 +5,7 @@ ghost use Rattle.pci_spec.specs.JudgingLaws.{region_number};
 ghost use Rattle.pci_tree.specs.declared.region.Region.{Region};
 ghost use Rattle.pci_tree.specs.Ranges.{Covers, IsCanonical};
 ghost use Rattle.pci_tree.specs.Regions.{region_number as number_of};
-ghost use Rattle.pci_check.specs.Sweep.{Spans, Reaches, IsLeastMet, IsTwice, IsLeastTwice, Follows, IsLesser, IsClaimant, IsLeastClaimant, AreTwoLeast, StandByFirst, AreDistinct, IsFirstOverlap, IsUnshared, IsLeastShared};
+ghost use Rattle.pci_check.specs.Sweep.{Spans, Reaches, IsLeastMet, IsTwice, IsLeastTwice, Follows, IsLesser, IsClaimant, IsLeastClaimant, AreTwoLeast, StandByFirst, AreDistinct, IsUnshared, IsFirstOverlap};
 
 use pci_dump::memory::OutOfMemory;
 use pci_image::range::Range;
@@ -132,34 +132,6 @@ fn two_least(regions: &[Region], a: u64) -> Option<(usize, usize)>
     }
 }
 
-/// An address that two regions of a list claim, and their places in it.
-#[derive(Clone, Copy, Debug, PartialEq, Eq)]
-pub struct Overlap {
-    pub address: u64,
-    pub first: usize,
-    pub second: usize,
-}
-
-/// The least address of `allowed` that two regions claim, with the two least regions that do, by slot and
-/// register. This is so where the regions stand by first address; where no two of them have one slot and
-/// register, None says that there is no such address.
-pub fn first_overlap(regions: &[Region], allowed: &[Range]) -> Option<Overlap>
-    requires { IsCanonical allowed.now }
-    ensures { MatchOption result (StandByFirst regions.now → AreDistinct regions.now → (a : ℕ) → Covers allowed.now a → IsTwice regions.now a → ⊥) (λ o. IsFirstOverlap regions.now allowed.now o.address o.first o.second) }
-{
-    match first_shared_address(regions, allowed) {
-        None => None,
-        Some(address) => match two_least(regions, address) {
-            None => None,
-            Some((first, second)) => Some(Overlap {
-                address,
-                first,
-                second,
-            }),
-        },
-    }
-}
-
 /// Sorts regions by first address.
 fn sort<A: Allocator>(regions: &mut Vec<Region, A>) -> Result<(), OutOfMemory>
     ensures permutation { IsPermutation regions.old.items regions.new.items }
@@ -173,32 +145,35 @@ fn sort<A: Allocator>(regions: &mut Vec<Region, A>) -> Result<(), OutOfMemory>
 
 /// An address that two regions claim, and which they are.
 #[derive(Clone, Copy, Debug, PartialEq, Eq)]
-pub struct Shared {
+pub struct Overlap {
     pub address: u64,
     pub first: Region,
     pub second: Region,
 }
 
-/// The least address of `allowed` that two regions claim, with the two least regions that do, by slot and register. It
-/// sorts the regions.
-pub fn least_shared<A: Allocator>(
+/// The least address of `allowed` that two regions claim, with the two least regions that do, by slot and register. Where
+/// no two regions have one slot and register, None says that there is no such address. It sorts the regions.
+pub fn first_overlap<A: Allocator>(
     regions: &mut Vec<Region, A>,
     allowed: &[Range],
-) -> Result<Option<Shared>, OutOfMemory>
+) -> Result<Option<Overlap>, OutOfMemory>
     requires { IsCanonical allowed.now }
     ensures { IfOk result (λ o. MatchOption o (AreDistinct regions.old.items → (a : ℕ) → IsUnshared regions.old.items allowed.now a)
-        (λ s. IsLeastShared regions.old.items allowed.now s.address s.first s.second)) }
+        (λ v. IsFirstOverlap regions.old.items allowed.now v.address v.first v.second)) }
 {
     if regions.len() < 2 {
         return Ok(None);
     }
     sort(regions)?;
-    match first_overlap(regions, allowed) {
+    match first_shared_address(regions, allowed) {
         None => Ok(None),
-        Some(overlap) => Ok(Some(Shared {
-            address: overlap.address,
-            first: regions[overlap.first],
-            second: regions[overlap.second],
-        })),
+        Some(address) => match two_least(regions, address) {
+            None => Ok(None),
+            Some((first, second)) => Ok(Some(Overlap {
+                address,
+                first: regions[first],
+                second: regions[second],
+            })),
+        },
     }
 }
