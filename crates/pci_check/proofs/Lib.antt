@@ -8,7 +8,6 @@ pub mod Homes
 pub mod Clashing
 pub mod Splitting
 pub mod Judges
-pub mod Listed
 pub mod Verdicts
 pub mod Outcomes
 pub mod Beside

@@ -1,196 +1,166 @@
--- What an overlap in a list of regions is in the system.
-use Rattle.std.proofs.Common.{◌≡◌, ℕ, ◌<◌, List, [], length, get_or, sym, ◌∙◌, ap, subst, inl, inr, refl, true, false, arith}
+-- What an overlap in a list of regions is of its members, and in the system.
+use Rattle.std.proofs.Common.{◌≡◌, ℕ, ◌<◌, ◌≤◌, List, length, get_or, sym, ◌∙◌, ap, subst, inl, inr, arith}
 use Rattle.std.specs.List.{Contains, HoldsAt}
-use Rattle.std.proofs.lemmas.Bool.{cases_order}
+use Rattle.std.specs.List.Sorted.{IsPermutation}
+use Rattle.std.proofs.lemmas.Bool.{cases_eq, cases_order}
 use Rattle.std.proofs.lemmas.List.{get_or_default}
 use Rattle.std.proofs.lemmas.List.Elements.{Contains-get_or}
+use Rattle.std.proofs.lemmas.List.Sorted.{Contains-permutation, IsPermutation-sym}
 use Rattle.pci_spec.specs.Slot.{Slot}
+use Rattle.pci_spec.specs.System.{System, IsSystem, Space}
+use Rattle.pci_spec.specs.Fault.{ClaimsOnBus}
+use Rattle.pci_spec.specs.JudgingLaws.{region_number}
 use Rattle.pci_spec.proofs.Regions.{region_number-same}
 use Rattle.pci_spec.proofs.Firsts.{named_slot, named_register}
-use Rattle.pci_spec.specs.System.{System, IsSystem, Space, Io, Memory, IsAddress, Gets, IsPassedTo}
-use Rattle.pci_spec.specs.Fault.{ClaimsOnBus}
-use Rattle.pci_spec.specs.JudgingLaws.{region_number, HasNoClash, HasNoClashAt, HasNoSplitAt}
 use Rattle.pci_image.specs.declared.range.Range.{Range}
 use Rattle.pci_tree.specs.declared.region.Region.{Region}
-use Rattle.pci_tree.specs.declared.region.Part.TheVariants as part
 use Rattle.pci_tree.specs.Ranges.{Covers}
-use Rattle.pci_check.specs.Listings.{AreRegions, AreReached}
-use Rattle.pci_check.specs.Sweep.{Spans, number_of, IsTwice, StandByFirst, IsFirstOverlap}
-use Rattle.pci_check.specs.Judging.{IsLeastClashOn, IsLeastSplitIn, AreRootRegions}
+use Rattle.pci_tree.specs.Regions.{region_number as number_of}
+use Rattle.pci_check.specs.Sweep.{Spans, IsTwice, StandByFirst, IsFirstOverlap, IsClaimantIn, IsUnshared, IsLeastShared}
+use Rattle.pci_check.specs.Clashes.{AreRegionsOn}
 
--- an access gets to a bus exactly where a prefetchable BAR's address is passed on to it
-gets_of_passed : (roots : List ℕ) (s : System) (space : Space) (a bus : ℕ) → IsPassedTo roots s space true a bus → Gets roots s space a bus
-gets_of_passed roots s Io a bus h = h
-gets_of_passed roots s Memory a bus h = h
+-- ---- members of a list
 
-passed_of_gets : (roots : List ℕ) (s : System) (space : Space) (a bus : ℕ) → Gets roots s space a bus → IsPassedTo roots s space true a bus
-passed_of_gets roots s Io a bus h = h
-passed_of_gets roots s Memory a bus h = h
-
--- two regions of a list that claim an address, at two places
-twice : (regions : List Region) (a : ℕ) (r q : Region) → Contains regions r → Contains regions q → Spans r a → Spans q a → (r ≡ q → ⊥) → IsTwice regions a
-twice regions a r q (k, in_k, at_k) (m, in_m, at_m) claims_r claims_q differ =
-    let here : HoldsAt (λ x. Spans x a) regions k = λ d. subst (λ (x : Region). Spans x a) (sym at_k ∙ get_or_default regions k r d in_k) claims_r in
-    let there : HoldsAt (λ x. Spans x a) regions m = λ d. subst (λ (x : Region). Spans x a) (sym at_m ∙ get_or_default regions m q d in_m) claims_q in
-    elim (cases_order k m) [
-      | inl same ↦ absurd (differ (sym at_k ∙ ap (λ n. get_or regions n r) same ∙ get_or_default regions m r q in_m ∙ at_m))
-      | inr (inl less) ↦ record { i = k; j = m; differ = less; below = in_m; first = here; second = there }
-      | inr (inr more) ↦ record { i = m; j = k; differ = more; below = in_k; first = there; second = here }
-    ]
-
--- a region for where a list is empty
-abbrev pub blank : Region
-blank = record { slot = record { bus = 0; device = 0; function = 0 }; reg = 0; part = part.Bar; prefetch = false; first = 0; last = 0 }
-
--- the region at a place of a bus's list claims the address
-claims_at : (s : System) (bus : ℕ) (space : Space) (regions : List Region) (a k : ℕ) → AreRegions s bus space regions → k < length regions → HoldsAt (λ r. Spans r a) regions k
-    → ClaimsOnBus s bus space a (get_or regions k blank).slot (get_or regions k blank).reg
-claims_at s bus space regions a k are within claims =
-    let r = get_or regions k blank in
-    let of = are.each (get_or regions k blank) (Contains-get_or regions k blank within) in
-    (of.0, of.1, of.2.listed, of.2.slot, ap (λ (x : Slot). x.bus) (sym of.2.slot) ∙ of.3, of.2.register, (of.2.exact a).1 (claims blank))
-
--- what claims an address is in a bus's list
-record IsIn (regions : List Region) (a : ℕ) (slot : Slot) (register : ℕ) : Type 0 where
-  r : Region
-  there : Contains regions r
-  slot_is : r.slot ≡ slot
-  register_is : r.reg ≡ register
-  claims : Spans r a
-
-in_list : (s : System) (bus : ℕ) (space : Space) (regions : List Region) (a : ℕ) (slot : Slot) (register : ℕ) → AreRegions s bus space regions
-    → ClaimsOnBus s bus space a slot register → IsIn regions a slot register
-in_list s bus space regions a slot register are (f, p, listed, at, on, named, claims) =
-    let found = are.all f p a listed (ap (λ (x : Slot). x.bus) at ∙ on) claims in
-    record { r = found.0; there = found.1; slot_is = sym found.2.slot ∙ at; register_is = sym found.2.register ∙ named; claims = (found.2.exact a).0 claims }
-
--- ---- clashes
-
--- where no address that gets to the bus is claimed twice, none clash there
-pub no_clash_at : (roots : List ℕ) (s : System) (bus : ℕ) (space : Space) (regions : List Region) (allowed : List Range) (a : ℕ) → AreRegions s bus space regions
-    → AreReached roots s space true bus allowed → (Covers allowed a → IsTwice regions a → ⊥) → HasNoClashAt roots s bus space a
-no_clash_at roots s bus space regions allowed a are reached none first fr second sr clash =
-    let one = in_list s bus space regions a first fr are clash.claims_first in
-    let two = in_list s bus space regions a second sr are clash.claims_second in
-    none ((reached a).1 (clash.claims_first.6.address, passed_of_gets roots s space a bus clash.gets))
-    (twice regions a one.r two.r one.there two.there one.claims two.claims
-    (λ same. clash.differ (sym one.slot_is ∙ ap (λ (x : Region). x.slot) same ∙ two.slot_is, sym one.register_is ∙ ap (λ (x : Region). x.reg) same ∙ two.register_is)))
-
-number_same : (s t : Slot) (r q : ℕ) → s ≡ t → r ≡ q → region_number s r ≡ region_number t q
-number_same s t r q slot register = ap (λ (x : Slot). region_number x r) slot ∙ ap (λ n. region_number t n) register
-
--- regions are the same where their numbers are
-same_where_numbers : (s : System) → IsSystem s → (b c : ℕ) (space : Space) (a : ℕ) (slot other : Slot) (register named : ℕ) → ClaimsOnBus s b space a slot register → ClaimsOnBus s c space a other named
-    → region_number slot register ≡ region_number other named → (slot ≡ other) × (register ≡ named)
-same_where_numbers s system b c space a slot other register named one two e =
-    region_number-same slot other register named (named_slot s system b space a slot register one) (named_slot s system c space a other named two)
-    (named_register s b space a slot register one) (named_register s c space a other named two) e
-
--- what claims an address is at a place of the list
-record IsAtPlace (regions : List Region) (a : ℕ) (slot : Slot) (register : ℕ) : Type 0 where
+-- a region that claims an address, at its place in the list
+record IsAtPlace (regions : List Region) (a : ℕ) (r : Region) : Type 0 where
   k : ℕ
   within : k < length regions
-  claims : HoldsAt (λ r. Spans r a) regions k
-  number : number_of (get_or regions k blank) ≡ region_number slot register
+  is : (d : Region) → get_or regions k d ≡ r
+  claims : HoldsAt (λ x. Spans x a) regions k
 
-at_place : (regions : List Region) (a : ℕ) (slot : Slot) (register : ℕ) → IsIn regions a slot register → IsAtPlace regions a slot register
-at_place regions a slot register found = record {
-  k = found.there.0;
-  within = found.there.1;
-  claims = λ d. subst (λ (x : Region). Spans x a) (sym found.there.2 ∙ get_or_default regions found.there.0 found.r d found.there.1) found.claims;
-  number = ap number_of (get_or_default regions found.there.0 blank found.r found.there.1 ∙ found.there.2)
-      ∙ number_same found.r.slot slot found.r.reg register found.slot_is found.register_is;
-}
+at_place : (regions : List Region) (a : ℕ) (r : Region) → IsClaimantIn regions a r → IsAtPlace regions a r
+at_place regions a r c =
+    let is : (d : Region) → get_or regions c.has.0 d ≡ r = λ d. get_or_default regions c.has.0 d r c.has.1 ∙ c.has.2 in
+    record { k = c.has.0; within = c.has.1; is = is; claims = λ d. subst (λ (x : Region). Spans x a) (sym (is d)) c.claims }
 
--- the first overlap of a bus's list is its least clash
-pub least_clash_on : (roots : List ℕ) (s : System) → IsSystem s → (bus : ℕ) (space : Space) (regions : List Region) (allowed : List Range) (a i j : ℕ) → AreRegions s bus space regions
-    → AreReached roots s space true bus allowed → StandByFirst regions → IsFirstOverlap regions allowed a i j
-    → IsLeastClashOn roots s bus space a (get_or regions i blank).slot (get_or regions i blank).reg (get_or regions j blank).slot (get_or regions j blank).reg
-least_clash_on roots s system bus space regions allowed a i j are reached sorted is =
-    let one = claims_at s bus space regions a i are is.claimants.within.0 is.claimants.first in
-    let two = claims_at s bus space regions a j are is.claimants.within.1 is.claimants.second in
-    record {
-      there = record {
-        gets = gets_of_passed roots s space a bus ((reached a).0 (is.least sorted).covered).1;
-        claims_first = one;
-        claims_second = two;
-        differ = λ same.
-            let rise : number_of (get_or regions i blank) < number_of (get_or regions j blank) = is.claimants.rise blank in
-            let e = number_same (get_or regions i blank).slot (get_or regions j blank).slot (get_or regions i blank).reg (get_or regions j blank).reg same.0 same.1 in
-            omega (arith, rise, e);
-      };
-      lower_addresses = λ b less. no_clash_at roots s bus space regions allowed b are reached ((is.least sorted).least b less);
-      least = λ slot register claims.
-          let at = at_place regions a slot register (in_list s bus space regions a slot register are claims) in
-          let up = is.claimants.least at.k at.within at.claims blank in
-          let e = at.number in
-          omega (arith, up, e);
-      next_least = λ slot register claims differ.
-          let at = at_place regions a slot register (in_list s bus space regions a slot register are claims) in
-          let e = at.number in
-          let up = is.claimants.next_least at.k at.within at.claims blank (λ same. differ (same_where_numbers s system bus bus space a slot (get_or regions i blank).slot register (get_or regions i blank).reg claims one (sym e ∙ same))) in
-          omega (arith, up, e);
-    }
+-- two regions of a list that claim an address, at two places
+twice : (regions : List Region) (a : ℕ) (r q : Region) → IsClaimantIn regions a r → IsClaimantIn regions a q → (number_of r ≡ number_of q → ⊥) → IsTwice regions a
+twice regions a r q in_r in_q differ =
+    let one = at_place regions a r in_r in
+    let two = at_place regions a q in_q in
+    elim (cases_order one.k two.k) [
+      | inl same ↦ absurd (differ (ap number_of (sym (one.is r) ∙ ap (λ n. get_or regions n r) same ∙ two.is r)))
+      | inr (inl less) ↦ record { i = one.k; j = two.k; differ = less; below = two.within; first = one.claims; second = two.claims }
+      | inr (inr more) ↦ record { i = two.k; j = one.k; differ = more; below = one.within; first = two.claims; second = one.claims }
+    ]
 
--- ---- splits
+-- a list of one region, or of none
+pub alone : (regions : List Region) (allowed : List Range) → length regions < 2 → (a : ℕ) → IsUnshared regions allowed a
+alone regions allowed few a covered r q in_r in_q =
+    let one = at_place regions a r in_r in
+    let two = at_place regions a q in_q in
+    let within = one.within in
+    let within_q = two.within in
+    let same : one.k ≡ two.k = omega (arith, few, within, within_q) in
+    ap number_of (sym (one.is r) ∙ ap (λ n. get_or regions n r) same ∙ two.is r)
 
--- what claims an address on a root is in the list of the roots' regions
-in_root_list : (roots : List ℕ) (s : System) (space : Space) (regions : List Region) (a : ℕ) (slot : Slot) (register : ℕ) → AreRootRegions roots s space regions
-    → Contains roots slot.bus → ClaimsOnBus s slot.bus space a slot register → IsIn regions a slot register
-in_root_list roots s space regions a slot register are root (f, p, listed, at, on, named, claims) =
-    let found = are.all f p a listed (subst (λ (x : Slot). Contains roots x.bus) (sym at) root) claims in
-    record { r = found.0; there = found.1; slot_is = sym found.2.slot ∙ at; register_is = sym found.2.register ∙ named; claims = (found.2.exact a).0 claims }
+module _ (old new : List Region) (allowed : List Range) (moved : IsPermutation old new) where
+  forth : (a : ℕ) (r : Region) → IsClaimantIn old a r → IsClaimantIn new a r
+  forth a r c = record { has = Contains-permutation old new r moved c.has; claims = c.claims }
 
-claims_at_root : (roots : List ℕ) (s : System) (space : Space) (regions : List Region) (a k : ℕ) → AreRootRegions roots s space regions → k < length regions → HoldsAt (λ r. Spans r a) regions k
-    → Contains roots (get_or regions k blank).slot.bus × ClaimsOnBus s (get_or regions k blank).slot.bus space a (get_or regions k blank).slot (get_or regions k blank).reg
-claims_at_root roots s space regions a k are within claims =
-    let of = are.each (get_or regions k blank) (Contains-get_or regions k blank within) in
-    (subst (λ (x : Slot). Contains roots x.bus) of.2.slot of.3, (of.0, of.1, of.2.listed, of.2.slot, refl, of.2.register, (of.2.exact a).1 (claims blank)))
+  -- where no address is claimed at two places
+  pub unshared : (a : ℕ) → (Covers allowed a → IsTwice new a → ⊥) → IsUnshared old allowed a
+  unshared a none covered r q in_r in_q = elim (cases_eq (number_of r) (number_of q)) [
+    | inl same ↦ same
+    | inr differ ↦ absurd (none covered (twice new a r q (forth a r in_r) (forth a q in_q) differ))
+  ]
 
--- where no address is claimed twice, none are split
-pub no_split_at : (roots : List ℕ) (s : System) (space : Space) (regions : List Region) (allowed : List Range) (a : ℕ) → AreRootRegions roots s space regions
-    → ((x : ℕ) → IsAddress space x → Covers allowed x) → (Covers allowed a → IsTwice regions a → ⊥) → HasNoSplitAt roots s space a
-no_split_at roots s space regions allowed a are whole none first fr second sr split =
-    let one = in_root_list roots s space regions a first fr are split.root_first split.claims_first in
-    let two = in_root_list roots s space regions a second sr are split.root_second split.claims_second in
-    none (whole a split.claims_first.6.address)
-    (twice regions a one.r two.r one.there two.there one.claims two.claims
-    (λ same. split.buses (ap (λ (x : Slot). x.bus) (sym one.slot_is ∙ ap (λ (x : Region). x.slot) same ∙ two.slot_is))))
+  -- where the first overlap was found
+  pub shared : (a i j : ℕ) (first second : Region) → StandByFirst new → IsFirstOverlap new allowed a i j → first ≡ get_or new i first → second ≡ get_or new j second
+      → IsLeastShared old allowed a first second
+  shared a i j first second sorted is is_first is_second =
+      let one : (d : Region) → get_or new i d ≡ first = λ d. get_or_default new i d first is.claimants.within.0 ∙ sym is_first in
+      let two : (d : Region) → get_or new j d ≡ second = λ d. get_or_default new j d second is.claimants.within.1 ∙ sym is_second in
+      let back = IsPermutation-sym old new moved in
+      let number_one : (d : Region) → number_of (get_or new i d) ≡ number_of first = λ d. ap number_of (one d) in
+      let number_two : (d : Region) → number_of (get_or new j d) ≡ number_of second = λ d. ap number_of (two d) in
+      record {
+        covered = (is.least sorted).covered;
+        claims_first = record {
+          has = Contains-permutation new old first back (subst (Contains new) (one first) (Contains-get_or new i first is.claimants.within.0));
+          claims = subst (λ (x : Region). Spans x a) (one first) (is.claimants.first first);
+        };
+        claims_second = record {
+          has = Contains-permutation new old second back (subst (Contains new) (two second) (Contains-get_or new j second is.claimants.within.1));
+          claims = subst (λ (x : Region). Spans x a) (two second) (is.claimants.second second);
+        };
+        rise = let up = is.claimants.rise first in let e = number_one first in let f = number_two first in omega (arith, up, e, f);
+        lower_addresses = λ b less. unshared b ((is.least sorted).least b less);
+        least = λ r claim.
+            let at = at_place new a r (forth a r claim) in
+            let up = is.claimants.least at.k at.within at.claims r in
+            let e = number_one r in
+            let f = ap number_of (at.is r) in
+            omega (arith, up, e, f);
+        next_least = λ r claim differ.
+            let at = at_place new a r (forth a r claim) in
+            let f = ap number_of (at.is r) in
+            let up = is.claimants.next_least at.k at.within at.claims r (λ same. differ (sym f ∙ same ∙ number_one r)) in
+            let e = number_two r in
+            omega (arith, up, e, f);
+      }
 
--- where none clash, the first overlap of the roots' regions is the least split
-pub least_split_in : (roots : List ℕ) (s : System) → IsSystem s → HasNoClash roots s → (space : Space) (regions : List Region) (allowed : List Range) (a i j : ℕ) → AreRootRegions roots s space regions
-    → ((x : ℕ) → IsAddress space x → Covers allowed x) → StandByFirst regions → IsFirstOverlap regions allowed a i j
-    → IsLeastSplitIn roots s space a (get_or regions i blank).slot (get_or regions i blank).reg (get_or regions j blank).slot (get_or regions j blank).reg
-least_split_in roots s system none space regions allowed a i j are whole sorted is =
-    let one = claims_at_root roots s space regions a i are is.claimants.within.0 is.claimants.first in
-    let two = claims_at_root roots s space regions a j are is.claimants.within.1 is.claimants.second in
-    let differ : ((get_or regions i blank).slot ≡ (get_or regions j blank).slot) × ((get_or regions i blank).reg ≡ (get_or regions j blank).reg) → ⊥ = λ same.
-    let rise : number_of (get_or regions i blank) < number_of (get_or regions j blank) = is.claimants.rise blank in
-    let e = number_same (get_or regions i blank).slot (get_or regions j blank).slot (get_or regions i blank).reg (get_or regions j blank).reg same.0 same.1 in
-    omega (arith, rise, e) in
-    record {
-      there = record {
-        root_first = one.0;
-        root_second = two.0;
-        buses = λ same. none (get_or regions i blank).slot.bus space a (get_or regions i blank).slot (get_or regions i blank).reg (get_or regions j blank).slot (get_or regions j blank).reg (record {
-          gets = gets_of_passed roots s space a (get_or regions i blank).slot.bus ((get_or regions i blank).slot.bus, one.0, [], refl, refl);
-          claims_first = one.1;
-          claims_second = (two.1.0, two.1.1, two.1.2, two.1.3, sym same, two.1.5, two.1.6);
-          differ = differ;
-        });
-        claims_first = one.1;
-        claims_second = two.1;
-      };
-      lower_addresses = λ b less. no_split_at roots s space regions allowed b are whole ((is.least sorted).least b less);
-      least = λ slot register root claims.
-          let at = at_place regions a slot register (in_root_list roots s space regions a slot register are root claims) in
-          let up = is.claimants.least at.k at.within at.claims blank in
-          let e = at.number in
-          omega (arith, up, e);
-      next_least = λ slot register root claims different.
-          let at = at_place regions a slot register (in_root_list roots s space regions a slot register are root claims) in
-          let e = at.number in
-          let up = is.claimants.next_least at.k at.within at.claims blank
-          (λ same. different (same_where_numbers s system slot.bus (get_or regions i blank).slot.bus space a slot (get_or regions i blank).slot register (get_or regions i blank).reg claims one.1 (sym e ∙ same))) in
-          omega (arith, up, e);
-    }
+-- ---- regions of a system
+
+pub number_same : (s t : Slot) (r q : ℕ) → s ≡ t → r ≡ q → region_number s r ≡ region_number t q
+number_same s t r q slot register = ap (λ (x : Slot). region_number x r) slot ∙ ap (λ n. region_number t n) register
+
+module _ (s : System) (system : IsSystem s) (IsOne : ℕ → Type 0) (space : Space) (regions : List Region) (are : AreRegionsOn s IsOne space regions) (allowed : List Range) where
+  -- a region of the list that claims an address does so on its bus
+  pub claims_of : (a : ℕ) (r : Region) → IsClaimantIn regions a r → (bus : ℕ) × IsOne bus × ClaimsOnBus s bus space a r.slot r.reg
+  claims_of a r c =
+      let of = are.each r c.has in
+      let on = of.2 in
+      (of.0, of.1, (on.f, on.part, on.listed, sym on.is.slot, ap (λ (x : Slot). x.bus) on.is.slot ∙ on.on_bus, sym on.is.register, (on.is.claims a).0 c.claims))
+
+  -- and what claims one on such a bus is in the list
+  record IsIn (a : ℕ) (slot : Slot) (register : ℕ) : Type 0 where
+    r : Region
+    claimant : IsClaimantIn regions a r
+    number : number_of r ≡ region_number slot register
+
+  in_list : (a bus : ℕ) (slot : Slot) (register : ℕ) → IsOne bus → ClaimsOnBus s bus space a slot register → IsIn a slot register
+  in_list a bus slot register one (f, p, listed, at, on, named, claims) =
+      let found = are.complete bus one f p a listed (ap (λ (x : Slot). x.bus) at ∙ on) claims in
+      record {
+        r = found.q;
+        claimant = record { has = found.has; claims = (found.is.claims a).1 claims };
+        number = number_same found.q.slot slot found.q.reg register (found.is.slot ∙ at) (found.is.register ∙ named);
+      }
+
+  same_where_numbers : (a b c : ℕ) (slot other : Slot) (register named : ℕ) → ClaimsOnBus s b space a slot register → ClaimsOnBus s c space a other named
+      → region_number slot register ≡ region_number other named → (slot ≡ other) × (register ≡ named)
+  same_where_numbers a b c slot other register named one two e =
+      region_number-same slot other register named (named_slot s system b space a slot register one) (named_slot s system c space a other named two)
+      (named_register s b space a slot register one) (named_register s c space a other named two) e
+
+  -- what claims an address that no two regions claim is one region
+  pub one_claims : (a b c : ℕ) (slot other : Slot) (register named : ℕ) → Covers allowed a → IsUnshared regions allowed a → IsOne b → IsOne c
+      → ClaimsOnBus s b space a slot register → ClaimsOnBus s c space a other named → (slot ≡ other) × (register ≡ named)
+  one_claims a b c slot other register named covered none one_b one_c one two =
+      let first = in_list a b slot register one_b one in
+      let second = in_list a c other named one_c two in
+      same_where_numbers a b c slot other register named one two (sym first.number ∙ none covered first.r second.r first.claimant second.claimant ∙ second.number)
+
+  module _ (a : ℕ) (first second : Region) (is : IsLeastShared regions allowed a first second) where
+    pub differ : (first.slot ≡ second.slot) × (first.reg ≡ second.reg) → ⊥
+    differ same =
+        let rise = is.rise in
+        let e = number_same first.slot second.slot first.reg second.reg same.0 same.1 in
+        omega (arith, rise, e)
+
+    pub least : (bus : ℕ) (slot : Slot) (register : ℕ) → IsOne bus → ClaimsOnBus s bus space a slot register → number_of first ≤ region_number slot register
+    least bus slot register one claims =
+        let at = in_list a bus slot register one claims in
+        let up = is.least at.r at.claimant in
+        let e = at.number in
+        omega (arith, up, e)
+
+    pub next_least : (bus : ℕ) (slot : Slot) (register : ℕ) → IsOne bus → ClaimsOnBus s bus space a slot register → ((slot ≡ first.slot) × (register ≡ first.reg) → ⊥)
+        → number_of second ≤ region_number slot register
+    next_least bus slot register one claims other =
+        let at = in_list a bus slot register one claims in
+        let e = at.number in
+        let of = claims_of a first is.claims_first in
+        let up = is.next_least at.r at.claimant (λ same. other (same_where_numbers a bus of.0 slot first.slot register first.reg claims of.2 (sym e ∙ same))) in
+        omega (arith, up, e)

@@ -1,161 +1,153 @@
 -- Splits of each system with a tree.
-use Rattle.std.proofs.Common.{◌≡◌, ℕ, ◌+◌, ◌<◌, List, [], ◌∷◌, ◌++◌, get_or, sym, ◌∙◌, ap, subst, inl, inr, refl, arith}
-use Rattle.std.specs.Prelude.{◌↔◌}
+use Rattle.std.proofs.Common.{◌≡◌, ℕ, ◌+◌, ◌<◌, List, [], ◌∷◌, ◌++◌, sym, ◌∙◌, ap, subst, inl, inr, refl, Option, None, Some, arith}
+use Rattle.std.specs.Prelude.{◌↔◌, MatchOption}
 use Rattle.std.specs.List.{Contains}
-use Rattle.std.specs.List.Sorted.{IsPermutation}
 use Rattle.std.proofs.lemmas.Bool.{cases_eq}
-use Rattle.std.proofs.lemmas.List.{get_or_default}
 use Rattle.std.proofs.lemmas.List.Elements.{Contains-append_left, Contains-append_right, Contains-append_cases}
-use Rattle.std.proofs.lemmas.List.Sorted.{Contains-permutation, IsPermutation-sym}
 use Rattle.pci_spec.specs.Slot.{Slot, IsSlot}
-use Rattle.pci_spec.specs.System.{System, Function, Space, Io, Memory, IsAddress, Part}
-use Rattle.pci_spec.specs.Fault.{Split}
+use Rattle.pci_spec.specs.System.{System, IsSystem, Space, Io, Memory, IsAddress}
+use Rattle.pci_spec.specs.Fault.{Split, ClaimsOnBus}
 use Rattle.pci_spec.specs.Order.{IsFirst}
 use Rattle.pci_spec.specs.JudgingLaws.{HasNoUnreached, HasNoClash, HasNoSplitAt}
 use Rattle.pci_spec.proofs.Members.{in_nil, pairs_nil, pairs_append}
-use Rattle.pci_spec.proofs.Regions.{register_of-lt, region_number-same}
+use Rattle.pci_spec.proofs.Regions.{register_of-lt}
 use Rattle.pci_spec.proofs.Firsts.{slot_of, least_split_is_first}
 use Rattle.pci_image.specs.declared.range.Range.{Range}
 use Rattle.pci_function.specs.declared.fault.Fault.{Fault}
 use Rattle.pci_tree.specs.declared.region.Region.{Region}
 use Rattle.pci_tree.specs.Ranges.{Covers, Holds}
 use Rattle.pci_tree.specs.Outline.{Tree}
-use Rattle.pci_tree.specs.Regions.{AreRegionsOf}
-use Rattle.pci_spec.specs.Decoded.{HasRecords}
+use Rattle.pci_tree.specs.Regions.{IsRegionOn, region_number as number_of}
 use Rattle.pci_check.specs.Trees.{HasTree}
-use Rattle.pci_check.specs.Listings.{IsRegionIn}
-use Rattle.pci_tree.proofs.Orders.{own_numbers}
-use Rattle.pci_check.specs.Sweep.{number_of, StandByFirst, AreDistinct, IsTwice, IsFirstOverlap}
-use Rattle.pci_check.specs.Judging.{AreRootRegions, IsLeastSplitIn}
-use Rattle.pci_check.specs.Clashes.{AreRootRegionsInEachBelow, AreRootsListed, NoneSplitIn, IsSplitFaultIn, NoneSplit, IsSplitFault}
-use Rattle.pci_check.proofs.Overlaps.{blank, no_split_at, least_split_in}
-use Rattle.pci_check.proofs.Clashing.{io_is_not_memory}
-use Rattle.pci_check.proofs.Listed.{regions_listed}
+use Rattle.pci_tree.proofs.Orders.{own_of_rising}
+use Rattle.pci_check.specs.Sweep.{AreDistinct, IsUnshared, IsLeastShared}
+use Rattle.pci_check.specs.Stops.{AreListed}
+use Rattle.pci_check.specs.Clashes.{AreRegionsOn, AreRootsListed, NoneSplitIn, IsSplitFaultIn, NoneSplit, IsSplitFault}
+use Rattle.pci_check.proofs.Overlaps.{claims_of, one_claims, differ, least, next_least}
+use Rattle.pci_check.proofs.Clashing.{gets_of_passed, io_is_not_memory}
 
 -- ---- the list of the roots' regions
 
-pub roots_none : (t : Tree) (space : Space) → AreRootRegionsInEachBelow t space 0 []
+-- a root below a bus
+abbrev IsRootBelow : Tree → ℕ → ℕ → Type 0
+IsRootBelow t bus b = (b < bus) × Contains t.roots b
+
+-- the regions of those, in each system with the tree
+abbrev pub AreRootsListedBelow : Tree → Space → ℕ → List Region → Type 0
+AreRootsListedBelow t space bus regions = (s : System) → HasTree t s → AreRegionsOn s (IsRootBelow t bus) space regions
+
+pub roots_none : (t : Tree) (space : Space) → AreRootsListedBelow t space 0 []
 roots_none t space s tree = record {
-  each = λ r has. absurd (in_nil r has);
-  all = λ f p a listed root less. absurd (let no : ⊥ = omega (arith, less) in no);
-  distinct = pairs_nil (λ r q. number_of r ≡ number_of q → ⊥);
+  each = λ q has. absurd (in_nil q has);
+  complete = λ b root f p a listed at claims. absurd (let less = root.0 in let no : ⊥ = omega (arith, less) in no);
+  rising = pairs_nil (λ r q. number_of r < number_of q);
 }
 
 -- a bus that is no root has none
-pub roots_skip : (t : Tree) (space : Space) (bus : ℕ) (items : List Region) → (Contains t.roots bus → ⊥) → AreRootRegionsInEachBelow t space bus items
-    → AreRootRegionsInEachBelow t space (bus + 1) items
+pub roots_skip : (t : Tree) (space : Space) (bus : ℕ) (items : List Region) → (Contains t.roots bus → ⊥) → AreRootsListedBelow t space bus items → AreRootsListedBelow t space (bus + 1) items
 roots_skip t space bus items no_root below s tree =
     let are = below s tree in
     record {
-      each = λ r has. (let of = are.each r has in let less = of.4 in (of.0, of.1, of.2, of.3, omega (arith, less)));
-      all = λ f p a listed root less claims. elim (cases_eq f.slot.bus bus) [
-        | inl e ↦ absurd (no_root (subst (Contains t.roots) e root))
-        | inr ne ↦ are.all f p a listed root (omega arith) claims
+      each = λ q has. (let of = are.each q has in let less = of.1.0 in (of.0, (omega (arith, less), of.1.1), of.2));
+      complete = λ b root. elim (cases_eq b bus) [
+        | inl e ↦ absurd (no_root (subst (Contains t.roots) e root.1))
+        | inr ne ↦ are.complete b (let less = root.0 in omega (arith, less, ne), root.1)
       ];
-      distinct = are.distinct;
+      rising = are.rising;
     }
 
--- the regions of different buses have different numbers
-differ : (s : System) (space : Space) → (lawful : (f : Function) → Contains s f → IsSlot f.slot) → (f g : Function) (p q : Part) (x y : Region) → IsRegionIn s space f p x → IsRegionIn s space g q y
-    → f.slot.bus < g.slot.bus → number_of x ≡ number_of y → ⊥
-differ s space lawful f g p q x y of_x of_y less e =
-    let slot_x = subst IsSlot of_x.slot (lawful f of_x.listed) in
-    let slot_y = subst IsSlot of_y.slot (lawful g of_y.listed) in
-    let some_x = of_x.some in
-    let some_y = of_y.some in
-    let less_x = register_of-lt f p ((of_x.exact x.first).1 (omega arith, some_x)).there in
-    let less_y = register_of-lt g q ((of_y.exact y.first).1 (omega arith, some_y)).there in
-    let reg_x = of_x.register in
-    let reg_y = of_y.register in
-    let same = region_number-same x.slot y.slot x.reg y.reg slot_x slot_y (omega (arith, less_x, reg_x)) (omega (arith, less_y, reg_y)) e in
-    let bus : f.slot.bus ≡ g.slot.bus = ap (λ (z : Slot). z.bus) (of_x.slot ∙ same.0 ∙ sym of_y.slot) in
-    omega (arith, less, bus)
+-- a region of a lower bus has a lower number
+lower_number : (s : System) → IsSystem s → (space : Space) (b c : ℕ) (x y : Region) → IsRegionOn s b space x → IsRegionOn s c space y → b < c → number_of x < number_of y
+lower_number s system space b c x y on_x on_y less =
+    let slot_x = subst IsSlot (sym on_x.is.slot) (slot_of s system on_x.f on_x.listed) in
+    let some = on_x.is.some in
+    let low = register_of-lt on_x.f on_x.part ((on_x.is.claims x.first).0 (omega arith, some)).there in
+    let register = on_x.is.register in
+    let bus_x : x.slot.bus ≡ b = ap (λ (z : Slot). z.bus) on_x.is.slot ∙ on_x.on_bus in
+    let bus_y : y.slot.bus ≡ c = ap (λ (z : Slot). z.bus) on_y.is.slot ∙ on_y.on_bus in
+    omega (arith, slot_x, low, register, bus_x, bus_y, less)
 
-pub roots_more : (t : Tree) (space : Space) (bus : ℕ) (items regions : List Region) → Contains t.roots bus → AreRootRegionsInEachBelow t space bus items
-    → ((s : System) → HasRecords s t.records → AreRegionsOf s bus space regions)
-    → AreRootRegionsInEachBelow t space (bus + 1) (items ++ regions)
+pub roots_more : (t : Tree) (space : Space) (bus : ℕ) (items regions : List Region) → Contains t.roots bus → AreRootsListedBelow t space bus items → AreListed t bus space regions
+    → AreRootsListedBelow t space (bus + 1) (items ++ regions)
 roots_more t space bus items regions root below listed_on s tree =
     let are = below s tree in
-    let on = regions_listed s bus space regions (listed_on s tree.records) in
-    let rising = (listed_on s tree.records).rising in
+    let on = listed_on s tree.records in
     record {
-      each = λ r has. elim (Contains-append_cases items regions r has) [
-        | inl before ↦ (let of = are.each r before in let less = of.4 in (of.0, of.1, of.2, of.3, omega (arith, less)))
-        | inr here ↦ (let of = on.each r here in let at = of.3 in (of.0, of.1, of.2, subst (Contains t.roots) (sym at) root, omega (arith, at)))
+      each = λ q has. elim (Contains-append_cases items regions q has) [
+        | inl before ↦ (let of = are.each q before in let less = of.1.0 in (of.0, (omega (arith, less), of.1.1), of.2))
+        | inr here ↦ (bus, (omega arith, root), on.each q here)
       ];
-      all = λ f p a listed root less claims. elim (cases_eq f.slot.bus bus) [
-        | inl e ↦ (let found = on.all f p a listed e claims in (found.0, Contains-append_right items regions found.0 found.1, found.2))
-        | inr ne ↦ (let found = are.all f p a listed root (omega arith) claims in (found.0, Contains-append_left items regions found.0 found.1, found.2))
+      complete = λ b of f p a listed at claims. elim (cases_eq b bus) [
+        | inl e ↦ (let found = on.complete f p a listed (at ∙ e) claims in record { q = found.q; has = Contains-append_right items regions found.q found.has; is = found.is })
+        | inr ne ↦ (let less = of.0 in let found = are.complete b (omega (arith, less, ne), of.1) f p a listed at claims in
+            record { q = found.q; has = Contains-append_left items regions found.q found.has; is = found.is })
       ];
-      distinct = pairs_append (λ r q. number_of r ≡ number_of q → ⊥) items regions are.distinct
-          (λ i j d less within e. (let up = rising i j d less within in omega (arith, up, e)))
-          (λ x y in_x in_y.
-          let of_x = are.each x in_x in
-          let of_y = on.each y in_y in
-          let low = of_x.4 in
-          let at = of_y.3 in
-          differ s space (slot_of s tree.system) of_x.0 of_y.0 of_x.1 of_y.1 x y of_x.2 of_y.2 (omega (arith, low, at)));
+      rising = pairs_append (λ r q. number_of r < number_of q) items regions are.rising on.rising
+          (λ x y in_x in_y. (let of = are.each x in_x in lower_number s tree.system space of.0 bus x y of.2 (on.each y in_y) of.1.0));
     }
 
 -- buses have numbers below 256
-pub roots_listed : (t : Tree) (space : Space) (items : List Region) → AreRootRegionsInEachBelow t space 256 items → AreRootsListed t space items
-roots_listed t space items below = record {
-  each = λ s tree. record {
-    each = λ r has. (let of = (below s tree).each r has in (of.0, of.1, of.2, of.3));
-    all = λ f p a listed root claims. (below s tree).all f p a listed root (slot_of s tree.system f listed).0 claims;
-  };
-  distinct = λ s tree. (below s tree).distinct;
-}
-
--- another order of them
-pub roots_ordered : (t : Tree) (space : Space) (xs ys : List Region) → IsPermutation xs ys → AreRootsListed t space xs → AreRootsListed t space ys
-roots_ordered t space xs ys moved are = record {
-  each = λ s tree. record {
-    each = λ r has. (are.each s tree).each r (Contains-permutation ys xs r (IsPermutation-sym xs ys moved) has);
-    all = λ f p a listed root claims. (let found = (are.each s tree).all f p a listed root claims in (found.0, Contains-permutation xs ys found.0 moved found.1, found.2));
-  };
-  distinct = λ s tree. own_numbers number_of xs ys moved (are.distinct s tree);
+pub roots_listed : (t : Tree) (space : Space) (items : List Region) → AreRootsListedBelow t space 256 items → AreRootsListed t space items
+roots_listed t space items below s tree = record {
+  each = λ q has. (let of = (below s tree).each q has in (of.0, of.1.1, of.2));
+  complete = λ b root f p a listed at claims. (below s tree).complete b (subst (λ n. n < 256) at (slot_of s tree.system f listed).0, root) f p a listed at claims;
+  rising = (below s tree).rising;
 }
 
 -- ---- splits
 
-pub none_split : (t : Tree) (space : Space) (regions items : List Region) (allowed : List Range) → regions ≡ items → AreRootsListed t space items → StandByFirst items
-    → ((x : ℕ) → IsAddress space x → Covers allowed x) → (StandByFirst regions → AreDistinct regions → (a : ℕ) → Covers allowed a → IsTwice regions a → ⊥) → NoneSplitIn t space
-none_split t space regions items allowed same are sorted whole none s tree a =
-    no_split_at t.roots s space regions allowed a (subst (λ (rs : List Region). AreRootRegions t.roots s space rs) (sym same) (are.each s tree)) whole
-    (none (subst StandByFirst (sym same) sorted) (subst AreDistinct (sym same) (are.distinct s tree)) a)
+module _ (t : Tree) (space : Space) (regions : List Region) (allowed : List Range) (listed : AreRootsListed t space regions) (whole : (x : ℕ) → IsAddress space x → Covers allowed x) where
+  unshared_at : (s : System) → HasTree t s → (a : ℕ) → IsUnshared regions allowed a → HasNoSplitAt t.roots s space a
+  unshared_at s tree a none first first_register second second_register split =
+      split.buses (ap (λ (x : Slot). x.bus)
+      (one_claims s tree.system (Contains t.roots) space regions (listed s tree) allowed a first.bus second.bus first second first_register second_register
+      (whole a split.claims_first.6.address) none split.root_first split.root_second split.claims_first split.claims_second).0)
 
-pub split_fault : (t : Tree) (space : Space) (regions items : List Region) (allowed : List Range) (a i j : ℕ) (first second : Region) → regions ≡ items → AreRootsListed t space items → StandByFirst items
-    → ((x : ℕ) → IsAddress space x → Covers allowed x) → IsFirstOverlap regions allowed a i j → first ≡ get_or regions i first → second ≡ get_or regions j second
-    → (s : System) → HasTree t s → HasNoUnreached t.roots s → HasNoClash t.roots s → (space ≡ Memory → (x : ℕ) → HasNoSplitAt t.roots s Io x)
-    → IsFirst t.roots s (Split space a first.slot first.reg second.slot second.reg)
-split_fault t space regions items allowed a i j first second same are sorted whole overlap is_first is_second s tree home apart io =
-    let system = tree.system in
-    let least = least_split_in t.roots s system apart space regions allowed a i j (subst (λ (rs : List Region). AreRootRegions t.roots s space rs) (sym same) (are.each s tree)) whole (subst StandByFirst (sym same) sorted) overlap in
-    let one : get_or regions i blank ≡ first = get_or_default regions i blank first overlap.claimants.within.0 ∙ sym is_first in
-    let two : get_or regions j blank ≡ second = get_or_default regions j blank second overlap.claimants.within.1 ∙ sym is_second in
-    let named : IsLeastSplitIn t.roots s space a first.slot first.reg second.slot second.reg =
-    subst (λ (x : Region). IsLeastSplitIn t.roots s space a x.slot x.reg second.slot second.reg) one
-    (subst (λ (y : Region). IsLeastSplitIn t.roots s space a (get_or regions i blank).slot (get_or regions i blank).reg y.slot y.reg) two least) in
-    least_split_is_first t.roots s system space a first.slot first.reg second.slot second.reg record {
-      reached = home;
-      apart = apart;
-      there = named.there;
-      io_before_memory = io;
-      lower_addresses = named.lower_addresses;
-      least = named.least;
-      next_least = named.next_least;
-    }
+  pub none_split : (AreDistinct regions → (a : ℕ) → IsUnshared regions allowed a) → NoneSplitIn t space
+  none_split none s tree a = unshared_at s tree a (none (own_of_rising regions (listed s tree).rising) a)
+
+  pub split_fault : (a : ℕ) (first second : Region) → IsLeastShared regions allowed a first second
+      → (s : System) → HasTree t s → HasNoUnreached t.roots s → HasNoClash t.roots s → (space ≡ Memory → (x : ℕ) → HasNoSplitAt t.roots s Io x)
+      → IsFirst t.roots s (Split space a first.slot first.reg second.slot second.reg)
+  split_fault a first second is s tree home apart io =
+      let system = tree.system in
+      let are = listed s tree in
+      let apart_two = differ s system (Contains t.roots) space regions are allowed a first second is in
+      let one = claims_of s system (Contains t.roots) space regions are allowed a first is.claims_first in
+      let two = claims_of s system (Contains t.roots) space regions are allowed a second is.claims_second in
+      let claims_first : ClaimsOnBus s first.slot.bus space a first.slot first.reg = subst (λ n. ClaimsOnBus s n space a first.slot first.reg) (sym one.2.4) one.2 in
+      let claims_second : ClaimsOnBus s second.slot.bus space a second.slot second.reg = subst (λ n. ClaimsOnBus s n space a second.slot second.reg) (sym two.2.4) two.2 in
+      let root : Contains t.roots first.slot.bus = subst (Contains t.roots) (sym one.2.4) one.1 in
+      least_split_is_first t.roots s system space a first.slot first.reg second.slot second.reg record {
+        reached = home;
+        apart = apart;
+        there = record {
+          root_first = root;
+          root_second = subst (Contains t.roots) (sym two.2.4) two.1;
+          buses = λ same. apart first.slot.bus space a first.slot first.reg second.slot second.reg record {
+            gets = gets_of_passed t.roots s space a first.slot.bus (first.slot.bus, root, [], refl, refl);
+            claims_first = claims_first;
+            claims_second = subst (λ n. ClaimsOnBus s n space a second.slot second.reg) (sym same) claims_second;
+            differ = apart_two;
+          };
+          claims_first = claims_first;
+          claims_second = claims_second;
+        };
+        io_before_memory = io;
+        lower_addresses = λ b less. unshared_at s tree b (is.lower_addresses b less);
+        least = λ slot register on_root claims. least s system (Contains t.roots) space regions are allowed a first second is slot.bus slot register on_root claims;
+        next_least = λ slot register on_root claims other. next_least s system (Contains t.roots) space regions are allowed a first second is slot.bus slot register on_root claims other;
+      }
+
+-- ---- both spaces
 
 pub split_first_in_io : (t : Tree) (fault : Fault) → IsSplitFaultIn t Io fault → IsSplitFault t fault
 split_first_in_io t fault is s tree home apart = is s tree home apart (λ e. absurd (io_is_not_memory e))
 
-pub split_first_in_memory : (t : Tree) (fault : Fault) → NoneSplitIn t Io → IsSplitFaultIn t Memory fault → IsSplitFault t fault
-split_first_in_memory t fault io is s tree home apart = is s tree home apart (λ e. io s tree)
-
-pub none_split_at_all : (t : Tree) → NoneSplitIn t Io → NoneSplitIn t Memory → NoneSplit t
-none_split_at_all t io memory s tree Io = io s tree
-none_split_at_all t io memory s tree Memory = memory s tree
+pub split_first_in_memory : (t : Tree) (o : Option Fault) → NoneSplitIn t Io → MatchOption o (NoneSplitIn t Memory) (λ fault. IsSplitFaultIn t Memory fault)
+    → MatchOption o (NoneSplit t) (λ fault. IsSplitFault t fault)
+split_first_in_memory t None io memory = λ s tree space. elim space as (λ space. (a : ℕ) → HasNoSplitAt t.roots s space a) [ Io ↦ io s tree | Memory ↦ memory s tree ]
+split_first_in_memory t (Some fault) io is = λ s tree home apart. is s tree home apart (λ e. io s tree)
 
 -- the one range of a whole space has all its addresses
 pub whole_space : (space : Space) (r : Range) → ((a : ℕ) → Holds r a ↔ IsAddress space a) → (x : ℕ) → IsAddress space x → Covers (r ∷ []) x

@@ -6,15 +6,15 @@ use Rattle.std.proofs.lemmas.List.{get_or_default, get_or-map, length-map, lengt
 use Rattle.std.proofs.lemmas.List.Elements.{All-contains}
 use Rattle.pci_spec.specs.Slot.{Slot}
 use Rattle.pci_spec.specs.Header.{secondary_bus}
-use Rattle.pci_spec.specs.System.{System, IsSystem, IsFunction, Function, Space, Part, Claims, IsPassedTo, Leads, passes, is_window, is_prefetchable_part, register_of}
+use Rattle.pci_spec.specs.System.{System, IsSystem, IsFunction, Function, Space, Part, Bar, Rom, Window, Claims, IsPassedTo, Leads, passes, is_window, is_prefetchable_part, register_of}
 use Rattle.pci_spec.specs.Bus.{IsNested}
 use Rattle.pci_spec.specs.JudgingLaws.{region_number, IsLeastUnreached}
 use Rattle.pci_spec.proofs.Verdicts.{passed_by_each}
 use Rattle.pci_tree.specs.declared.region.Region.{Region}
 use Rattle.pci_tree.specs.Ranges.{Covers}
-use Rattle.pci_check.specs.Listings.{IsRegionIn, AreReached}
-use Rattle.pci_tree.specs.Outline.{IsPathTo}
-use Rattle.pci_check.specs.Stops.{Reaches, ranges_at, IsWholeAt, IsBusBehind, IsWholeBehind, IsFirstStop}
+use Rattle.pci_tree.specs.Regions.{IsRegionOn, name_of}
+use Rattle.pci_tree.specs.Outline.{IsPathTo, IsReachTo}
+use Rattle.pci_check.specs.Stops.{is_of_window, Reaches, ranges_at, IsWholeAt, IsBusBehind, IsWholeBehind, IsFirstStop}
 
 -- ---- parts of a way
 
@@ -68,11 +68,22 @@ in_take bridges m k z less within =
 secondary_fits : (s : System) → IsSystem s → (b : Function) → Contains s b → secondary_bus b.image < 256
 secondary_fits s system b listed = (All-contains IsFunction s b system.each listed).image.bytes 0x19
 
+pub window_named : (p : Part) → is_window p ≡ is_of_window (name_of p)
+window_named (Bar n) = refl
+window_named Rom = refl
+window_named (Window kind) = refl
+
 -- ---- a region, the path to its bus, and what gets to each bus
 
 module _ (roots : List ℕ) (s : System) (system : IsSystem s) (nested : IsNested roots s) (reaches : Reaches) (space : Space)
-    (reached : (prefetchable : Bool) (bus : ℕ) → bus < 256 → AreReached roots s space prefetchable bus (ranges_at reaches space prefetchable bus))
-    (f : Function) (part : Part) (r : Region) (region : IsRegionIn s space f part r) (path : List Slot) (is_path : IsPathTo roots s path r.slot.bus) where
+    (reached : (prefetchable : Bool) (bus : ℕ) → bus < 256 → IsReachTo roots s space prefetchable bus (ranges_at reaches space prefetchable bus))
+    (on_bus : ℕ) (r : Region) (region : IsRegionOn s on_bus space r) (path : List Slot) (is_path : IsPathTo roots s path r.slot.bus) where
+  abbrev f : Function
+  f = region.f
+
+  abbrev part : Part
+  part = region.part
+
   long : length path ≡ length is_path.bridges
   long = ap length (sym is_path.named) ∙ length-map is_path.bridges (λ (b : Function). b.slot)
 
@@ -102,14 +113,14 @@ module _ (roots : List ℕ) (s : System) (system : IsSystem s) (nested : IsNeste
       → IsPassedTo roots s space r.prefetch a (secondary_bus (get_or is_path.bridges k z).image)
   passed_behind k z within whole a claims =
       let listed = way_listed s is_path.root is_path.bridges r.slot.bus k z is_path.leads within in
-      let covered = whole (secondary_bus (get_or is_path.bridges k z).image) (behind k z within) a ((region.exact a).0 claims) in
-      ((reached r.prefetch (secondary_bus (get_or is_path.bridges k z).image) (secondary_fits s system (get_or is_path.bridges k z) listed) a).0 covered).1
+      let covered = whole (secondary_bus (get_or is_path.bridges k z).image) (behind k z within) a ((region.is.claims a).1 claims) in
+      (((reached r.prefetch (secondary_bus (get_or is_path.bridges k z).image) (secondary_fits s system (get_or is_path.bridges k z) listed)).exact a).0 covered).1
 
   -- the bridge at a place passes what gets to the bus behind it
   passes_behind : (k : ℕ) (z : Function) → k < length is_path.bridges → (a : ℕ) → IsPassedTo roots s space r.prefetch a (secondary_bus (get_or is_path.bridges k z).image)
       → passes space (is_prefetchable_part f part) a (get_or is_path.bridges k z) ≡ true
   passes_behind k z within a way =
-      subst (λ prefetchable. passes space prefetchable a (get_or is_path.bridges k z) ≡ true) (sym region.prefetch)
+      subst (λ prefetchable. passes space prefetchable a (get_or is_path.bridges k z) ≡ true) region.is.prefetch
       (passed_by_each roots s system nested space r.prefetch a is_path.root (secondary_bus (get_or is_path.bridges k z).image) (take (suc k) is_path.bridges) is_path.starts
       (way_behind s is_path.root is_path.bridges r.slot.bus k z is_path.leads within) way (get_or is_path.bridges k z) (in_take is_path.bridges k (suc k) z (omega arith) (omega (arith, within))))
 
@@ -123,7 +134,7 @@ module _ (roots : List ℕ) (s : System) (system : IsSystem s) (nested : IsNeste
       subst (λ (b : Function). passes space (is_prefetchable_part f part) a b ≡ true) is
       (passes_behind m c (omega (arith, lt, within)) a (passed_behind m c (omega (arith, lt, within)) (whole m lt) a claims))
 
-  module _ (no_window : is_window part ≡ false) (k address : ℕ) (stop : IsFirstStop reaches space path r.slot.bus r k address) (d : Slot)
+  module _ (no_window : is_of_window r.part ≡ false) (k address : ℕ) (stop : IsFirstStop reaches space path r.slot.bus r k address) (d : Slot)
       (lesser : (g : Function) (q : Part) (sp : Space) (a : ℕ) → Contains s g → is_window q ≡ false → region_number g.slot (register_of g q) < region_number r.slot r.reg
       → Claims g q sp a → IsPassedTo roots s sp (is_prefetchable_part g q) a g.slot.bus) where
     in_bridges : k < length is_path.bridges
@@ -131,11 +142,11 @@ module _ (roots : List ℕ) (s : System) (system : IsSystem s) (nested : IsNeste
 
     to_bus : (a : ℕ) → Covers (ranges_at reaches space r.prefetch stop.bus) a → IsPassedTo roots s space r.prefetch a (secondary_bus (get_or is_path.bridges k f).image)
     to_bus a covered =
-        subst (λ n. IsPassedTo roots s space r.prefetch a n) (sym (behind_is k stop.bus f in_bridges stop.behind)) ((reached r.prefetch stop.bus stop.small a).0 covered).1
+        subst (λ n. IsPassedTo roots s space r.prefetch a n) (sym (behind_is k stop.bus f in_bridges stop.behind)) (((reached r.prefetch stop.bus stop.small).exact a).0 covered).1
 
     stops : passes space (is_prefetchable_part f part) address (get_or is_path.bridges k f) ≡ false
     stops = false_from_ne_true _ (λ here.
-        let claims : Claims f part space address = (region.exact address).1 stop.lost.held in
+        let claims : Claims f part space address = (region.is.claims address).0 stop.lost.held in
         let n = in_bridges in
         let all = all_more (passes space (is_prefetchable_part f part) address) is_path.bridges k f in_bridges
         (λ c on. earlier k (omega (arith, n)) stop.before c on address claims) here in
@@ -144,18 +155,18 @@ module _ (roots : List ℕ) (s : System) (system : IsSystem s) (nested : IsNeste
           is_path.starts,
           take (suc k) is_path.bridges,
           subst (λ n. Leads s is_path.root (take (suc k) is_path.bridges) n) (behind_is k stop.bus f in_bridges stop.behind) (way_behind s is_path.root is_path.bridges r.slot.bus k f is_path.leads in_bridges),
-          subst (λ prefetchable. list_all (passes space prefetchable address) (take (suc k) is_path.bridges) ≡ true) region.prefetch all,
+          subst (λ prefetchable. list_all (passes space prefetchable address) (take (suc k) is_path.bridges) ≡ true) (sym region.is.prefetch) all,
         ) in
-        stop.lost.outside ((reached r.prefetch stop.bus stop.small address).1 (claims.address, way)))
+        stop.lost.outside (((reached r.prefetch stop.bus stop.small).exact address).1 (claims.address, way)))
 
     pub least_unreached : IsLeastUnreached roots s r.slot r.reg space address (get_or path k d)
     least_unreached = record {
       f = f;
       part = part;
       listed = region.listed;
-      named = (region.slot, region.register);
-      no_window = no_window;
-      claims = (region.exact address).1 stop.lost.held;
+      named = (sym region.is.slot, sym region.is.register);
+      no_window = window_named part ∙ ap is_of_window (sym region.is.named) ∙ no_window;
+      claims = (region.is.claims address).0 stop.lost.held;
       bridges = is_path.bridges;
       root = is_path.root;
       starts = is_path.starts;
@@ -168,7 +179,7 @@ module _ (roots : List ℕ) (s : System) (system : IsSystem s) (nested : IsNeste
       stops = stops;
       lesser_regions = lesser;
       earlier_bridges = let n = in_bridges in earlier k (omega (arith, n)) stop.before;
-      lower_addresses = λ a less claims. passes_behind k f in_bridges a (to_bus a (stop.lost.least a less ((region.exact a).0 claims)));
+      lower_addresses = λ a less claims. passes_behind k f in_bridges a (to_bus a (stop.lost.least a less ((region.is.claims a).1 claims)));
     }
 
   -- where no bridge of the path stops it, the region is whole at its bus
@@ -180,5 +191,5 @@ module _ (roots : List ℕ) (s : System) (system : IsSystem s) (nested : IsNeste
         let n = long in
         let empty : is_path.bridges ≡ [] = nil_from_length is_path.bridges (omega (arith, n, none)) in
         let at : is_path.root ≡ r.slot.bus = subst (λ w. Leads s is_path.root w r.slot.bus) empty is_path.leads in
-        (reached r.prefetch r.slot.bus small a).1 (((region.exact a).1 claims).address, (r.slot.bus, subst (Contains roots) at is_path.starts, [], refl, refl))
+        ((reached r.prefetch r.slot.bus small).exact a).1 (((region.is.claims a).0 claims).address, (r.slot.bus, subst (Contains roots) at is_path.starts, [], refl, refl))
   ]

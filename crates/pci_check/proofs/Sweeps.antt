@@ -8,7 +8,8 @@ use Rattle.std.proofs.lemmas.List.{get_or_default}
 use Rattle.pci_image.specs.declared.range.Range.{Range}
 use Rattle.pci_tree.specs.declared.region.Region.{Region}
 use Rattle.pci_tree.specs.Ranges.{Covers}
-use Rattle.pci_check.specs.Sweep.{Spans, number_of, Reaches, IsLeastMet, IsTwiceBelow, IsTwice, IsLeastTwice, Follows, IsClaimant, IsLeastClaimant, IsLesser, AreTwoLeast}
+use Rattle.pci_tree.specs.Regions.{region_number as number_of}
+use Rattle.pci_check.specs.Sweep.{Spans, Reaches, IsLeastMet, IsTwiceBelow, IsTwice, IsLeastTwice, Follows, IsClaimant, IsLeastClaimant, IsLesser, AreTwoLeast}
 
 -- what is known of an element at one default is known at each
 pub at_each : (P : Region → Type 0) (regions : List Region) (k : ℕ) (z : Region) → k < length regions → P (get_or regions k z) → HoldsAt P regions k

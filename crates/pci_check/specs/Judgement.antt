@@ -12,6 +12,10 @@ use Rattle.pci_check.specs.Trees.{HasTree}
 abbrev pub IsFree : Tree → Type 0
 IsFree t = (s : System) → HasTree t s → IsSingle t.roots s × IsHome t.roots s
 
+-- in every system with the tree each region is reached
+abbrev pub AreHome : Tree → Type 0
+AreHome t = (s : System) → HasTree t s → IsHome t.roots s
+
 -- in every system with the tree this is the first fault of judging
 abbrev pub IsFirstInEach : Tree → Fault → Type 0
 IsFirstInEach t fault = (s : System) → HasTree t s → IsFirst t.roots s (fault_of fault)

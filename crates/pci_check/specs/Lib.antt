@@ -1,7 +1,6 @@
 pub mod Trees
-pub mod Listings
 pub mod Sweep
-pub mod Judging
+pub mod Homes
 pub mod Clashes
 pub mod Stops
 pub mod Judgement

@@ -1,22 +1,25 @@
 -- The first bridge of a path that doesn't pass a whole region, found by what gets to the bus behind each.
 use Rattle.std.specs.Prelude.{◌≡◌, ℕ, ◌+◌, ◌<◌, ◌≤◌, Bool, true, false, List, [], length, slice_index_or, Option, None, Some, MatchOption}
-use Rattle.std.specs.List.{All, AllPairs, AllWithin, HoldsAt}
+use Rattle.std.specs.List.{All, AllWithin, HoldsAt}
 use Rattle.pci_spec.specs.Slot.{Slot}
-use Rattle.pci_spec.specs.System.{System, Function, Part, Space, Io, Memory, is_window}
+use Rattle.pci_spec.specs.System.{System, Space, Io, Memory}
 use Rattle.pci_spec.specs.Bus.{IsNested}
+use Rattle.pci_spec.specs.Decoded.{HasRecords}
 use Rattle.pci_spec.specs.Order.{IsFirst}
 use Rattle.pci_image.specs.declared.range.Range.{Range}
 use Rattle.pci_function.specs.declared.fault.Fault.{Fault}
 use Rattle.pci_tree.specs.declared.region.Region.{Region}
 use Rattle.pci_tree.specs.Ranges.{Covers, IsCanonical}
 use Rattle.pci_function.specs.Fault.{fault_of}
-use Rattle.pci_tree.specs.Outline.{Tree}
+use Rattle.pci_tree.specs.declared.region.Part as parts
+use Rattle.pci_tree.specs.declared.region.Part.TheVariants as part
+use Rattle.pci_tree.specs.Outline.{Tree, IsReachTo}
+use Rattle.pci_tree.specs.Regions.{IsRegionOn, AreRegionsOf, region_number as number_of}
 use Rattle.pci_check.specs.Trees.{HasTree}
-use Rattle.pci_check.specs.Listings.{is_of_window, AreReached, IsRegionIn, AreRegions}
 use Rattle.pci_check.specs.declared.unreached.Foremost.{Foremost}
 use Rattle.pci_check.specs.declared.unreached.Foremost.TheVariants as foremost
-use Rattle.pci_check.specs.Sweep.{Spans, number_of}
-use Rattle.pci_check.specs.Judging.{AreHomeBelow, IsHomeOn}
+use Rattle.pci_check.specs.Sweep.{Spans}
+use Rattle.pci_check.specs.Homes.{AreHomeBelow, IsHomeOn}
 
 -- what gets to each bus: I/O, memory of any region, memory of prefetchable BARs
 pub record Reaches : Type 0 where
@@ -41,7 +44,13 @@ ranges_at reaches Memory true bus = slice_index_or reaches.prefetched bus []
 -- they are those of each system with this tree
 abbrev pub AreReachesOf : Tree → Reaches → Type 0
 AreReachesOf t reaches =
-    (s : System) → HasTree t s → (space : Space) (prefetchable : Bool) (bus : ℕ) → bus < 256 → AreReached t.roots s space prefetchable bus (ranges_at reaches space prefetchable bus)
+    (s : System) → HasTree t s → (space : Space) (prefetchable : Bool) (bus : ℕ) → bus < 256 → IsReachTo t.roots s space prefetchable bus (ranges_at reaches space prefetchable bus)
+
+-- whether a region is a window
+abbrev pub is_of_window : parts.Part → Bool
+is_of_window part.Bar = false
+is_of_window part.Rom = false
+is_of_window part.Window = true
 
 -- each address of the region gets to the bus
 abbrev pub IsWholeAt : Reaches → Space → ℕ → Region → Type 0
@@ -97,7 +106,7 @@ IsEarlier io i memory m (foremost.Memory k) =
 -- the fault of a region whose addresses aren't all passed on to its bus
 abbrev pub IsUnreachedFault : Tree → Space → Region → Fault → Type 0
 IsUnreachedFault t space r fault =
-    (s : System) → HasTree t s → (f : Function) (p : Part) → IsRegionIn s space f p r → is_window p ≡ false → AreHomeBelow t.roots s (number_of r)
+    (s : System) → HasTree t s → (bus : ℕ) → IsRegionOn s bus space r → is_of_window r.part ≡ false → AreHomeBelow t.roots s (number_of r)
     → IsFirst t.roots s (fault_of fault)
 
 -- the first fault, where it is on this bus
@@ -112,13 +121,12 @@ AlwaysNested t = (s : System) → HasTree t s → IsNested t.roots s
 -- in each system with the tree that has the region, all of it gets to its bus
 abbrev pub IsWholeInEach : Tree → Reaches → Space → Region → Type 0
 IsWholeInEach t reaches space r =
-    (s : System) → HasTree t s → (f : Function) (p : Part) → IsRegionIn s space f p r → IsWholeAt reaches space r.slot.bus r
+    (s : System) → HasTree t s → (bus : ℕ) → IsRegionOn s bus space r → IsWholeAt reaches space r.slot.bus r
 
 -- in each system with the tree the BARs and ROMs of the bus are passed on to it
 abbrev pub AreHomeInEach : Tree → ℕ → Type 0
 AreHomeInEach t bus = (s : System) → HasTree t s → (space : Space) → IsHomeOn t.roots s bus space
 
--- the regions of a bus and space in each system with the tree, by slot and register
-pub record AreListed (t : Tree) (bus : ℕ) (space : Space) (regions : List Region) : Type 0 where
-  pub each : (s : System) → HasTree t s → AreRegions s bus space regions
-  pub rising : (s : System) → HasTree t s → AllPairs (λ r q. number_of r < number_of q) regions
+-- the regions of a bus and space in each system with the tree
+abbrev pub AreListed : Tree → ℕ → Space → List Region → Type 0
+AreListed t bus space regions = (s : System) → HasRecords s t.records → AreRegionsOf s bus space regions

@@ -1,19 +1,15 @@
 -- What regions claim, and which addresses two of them claim.
 use Rattle.std.specs.Prelude.{◌≡◌, ℕ, ◌<◌, ◌≤◌, ◌⊎◌, List, length, slice_index_or, Option, None, Some}
-use Rattle.std.specs.List.{AllPairs, HoldsAt}
+use Rattle.std.specs.List.{AllPairs, Contains, HoldsAt}
 use Rattle.std.specs.List.Sorted.{IsNonDecreasingBy}
-use Rattle.pci_spec.specs.JudgingLaws.{region_number}
 use Rattle.pci_image.specs.declared.range.Range.{Range}
 use Rattle.pci_tree.specs.declared.region.Region.{Region}
 use Rattle.pci_tree.specs.Ranges.{Covers}
+use Rattle.pci_tree.specs.Regions.{region_number as number_of}
 
 -- the region claims the address
 abbrev pub Spans : Region → ℕ → Type 0
 Spans r a = (r.first ≤ a) × (a ≤ r.last)
-
--- regions are ordered by slot, then by register
-abbrev pub number_of : Region → ℕ
-number_of r = region_number r.slot r.reg
 
 -- no address, or one that isn't below this one
 abbrev pub Reaches : Option ℕ → ℕ → Type 0
@@ -91,3 +87,24 @@ pub record AreTwoLeast (regions : List Region) (a i j : ℕ) : Type 0 where
 pub record IsFirstOverlap (regions : List Region) (allowed : List Range) (a i j : ℕ) : Type 0 where
   pub least : StandByFirst regions → IsLeastTwice regions allowed a
   pub claimants : AreTwoLeast regions a i j
+
+-- ---- the same of the members of a list, in any order
+
+-- a region of the list claims the address
+pub record IsClaimantIn (regions : List Region) (a : ℕ) (r : Region) : Type 0 where
+  pub has : Contains regions r
+  pub claims : Spans r a
+
+-- no two regions claim the address, where it is of the ranges
+abbrev pub IsUnshared : List Region → List Range → ℕ → Type 0
+IsUnshared regions allowed a = Covers allowed a → (r q : Region) → IsClaimantIn regions a r → IsClaimantIn regions a q → number_of r ≡ number_of q
+
+-- the least address of the ranges that two regions claim, and the two least that do
+pub record IsLeastShared (regions : List Region) (allowed : List Range) (a : ℕ) (first second : Region) : Type 0 where
+  pub covered : Covers allowed a
+  pub claims_first : IsClaimantIn regions a first
+  pub claims_second : IsClaimantIn regions a second
+  pub rise : number_of first < number_of second
+  pub lower_addresses : (b : ℕ) → b < a → IsUnshared regions allowed b
+  pub least : (r : Region) → IsClaimantIn regions a r → number_of first ≤ number_of r
+  pub next_least : (r : Region) → IsClaimantIn regions a r → (number_of r ≡ number_of first → ⊥) → number_of second ≤ number_of r

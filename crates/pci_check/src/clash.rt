@@ -1,64 +1,62 @@
 //! Clashes: two regions of one bus that claim an address which gets there.
 ghost use Rattle.std.specs.Prelude.{IfOk, MatchOption};
+ghost use Rattle.pci_spec.specs.System.{Space as SpaceValue, Io, Memory};
+ghost use Rattle.pci_tree.specs.Outline.{Tree};
 ghost use Rattle.pci_function.specs.Space.{space_of};
-ghost use Rattle.pci_check.specs.Stops.{AreReachesOf};
-ghost use Rattle.pci_check.specs.Clashes.{NoneClashOn, IsClashFaultOn, NoneClash, IsClashFault};
+ghost use Rattle.pci_check.specs.Stops.{AreReachesOf, AreListed};
+ghost use Rattle.pci_check.specs.Clashes.{NoneClashOn, IsClashFaultOn, IsClashFaultOnBus};
 
-use super::reached::{BUSES, Reached};
-use super::sweep::first_overlap;
+use super::reached::Reached;
+use super::sweep::{Shared, least_shared};
 use pci_dump::memory::OutOfMemory;
 use pci_function::fault::Fault;
-use pci_tree::outline::Outline;
 use pci_function::space::Space;
+use pci_tree::region::Region;
 use std::alloc::Allocator;
 
-/// The clash of a bus and space at the least address, with the two least regions that claim it.
-fn clash_on<A: Allocator + Copy>(
-    outline: &Outline<A>,
+/// The clash of a bus and space at the least address, with the two least of its regions that claim it.
+fn clash_in<A: Allocator + Copy>(
     reached: &Reached<A>,
     bus: u8,
     space: Space,
+    regions: &mut Vec<Region, A>,
 ) -> Result<Option<Fault>, OutOfMemory>
-    requires { AreReachesOf outline.now reached.now }
-    ensures { IfOk result (λ o. MatchOption o (NoneClashOn outline.now bus (space_of space)) (λ fault. IsClashFaultOn outline.now bus (space_of space) fault)) }
+    ensures { IfOk result (λ o. (t : Tree) → AreReachesOf t reached.now → AreListed t bus (space_of space) regions.old.items
+        → MatchOption o (NoneClashOn t bus (space_of space)) (λ fault. IsClashFaultOn t bus (space_of space) fault)) }
 {
-    let sorted = outline.sorted(bus, space)?;
-    let regions = sorted.as_slice();
-    match first_overlap(regions, reached.ranges(bus, space, true)) {
+    let allowed = reached.ranges(bus, space, true);
+    match least_shared(regions, allowed)? {
         None => Ok(None),
-        Some(overlap) => {
-            let first = &regions[overlap.first];
-            let second = &regions[overlap.second];
-            Ok(Some(Fault::Clash {
-                bus,
-                space,
-                address: overlap.address,
-                first: first.slot,
-                first_reg: first.reg,
-                second: second.slot,
-                second_reg: second.reg,
-            }))
-        }
+        Some(
+            Shared {
+                address,
+                first,
+                second,
+            },
+        ) => Ok(Some(Fault::Clash {
+            bus,
+            space,
+            address,
+            first: first.slot,
+            first_reg: first.reg,
+            second: second.slot,
+            second_reg: second.reg,
+        })),
     }
 }
 
-/// The first clash: on the lowest bus, in I/O before memory.
+/// The first clash of a bus, whose regions these are: in I/O before memory.
 pub fn first_clash<A: Allocator + Copy>(
-    outline: &Outline<A>,
     reached: &Reached<A>,
+    bus: u8,
+    io: &mut Vec<Region, A>,
+    memory: &mut Vec<Region, A>,
 ) -> Result<Option<Fault>, OutOfMemory>
-    requires { AreReachesOf outline.now reached.now }
-    ensures { IfOk result (λ o. MatchOption o (NoneClash outline.now) (λ fault. IsClashFault outline.now fault)) }
+    ensures { IfOk result (λ o. (t : Tree) → AreReachesOf t reached.now → AreListed t bus Io io.old.items → AreListed t bus Memory memory.old.items
+        → MatchOption o ((space : SpaceValue) → NoneClashOn t bus space) (λ fault. IsClashFaultOnBus t bus fault)) }
 {
-    for bus in 0..BUSES {
-        match clash_on(outline, reached, bus as u8, Space::Io)? {
-            Some(fault) => return Ok(Some(fault)),
-            None => {}
-        }
-        match clash_on(outline, reached, bus as u8, Space::Mem)? {
-            Some(fault) => return Ok(Some(fault)),
-            None => {}
-        }
+    if let Some(fault) = clash_in(reached, bus, Space::Io, io)? {
+        return Ok(Some(fault));
     }
-    Ok(None)
+    clash_in(reached, bus, Space::Mem, memory)
 }

@@ -14,15 +14,15 @@
 
 pub mod audit;
 pub mod check;
-pub mod clash;
+mod clash;
 pub mod judge;
 pub mod line;
 pub mod outcome;
-pub mod reached;
+mod reached;
 mod side_by_side;
-pub mod split;
-pub mod sweep;
-pub mod unreached;
+mod split;
+mod sweep;
+mod unreached;
 pub mod verdict;
 
 pub use audit::audit_with;

@@ -5,10 +5,10 @@ ghost use Rattle.pci_tree.specs.Ranges.{IsCanonical};
 ghost use Rattle.pci_check.specs.Stops.{AreReachesOf, AlwaysNested, ranges_at};
 
 use pci_dump::memory::OutOfMemory;
+use pci_function::space::Space;
 use pci_image::range::Range;
 use pci_tree::outline::Outline;
 use pci_tree::reach::Reach;
-use pci_function::space::Space;
 use std::alloc::{Allocator, Global};
 use std::marker::Model;
 

@@ -1,19 +1,17 @@
 //! Splits: two regions on two root buses that claim one address.
-ghost use Rattle.std.specs.Prelude.{◌≡◌, IfOk, OnOk, MatchOption};
-ghost use Rattle.std.specs.List.Sorted.{IsNonDecreasingBy, IsPermutation};
-ghost use Rattle.pci_tree.specs.declared.region.Region.{Region};
+ghost use Rattle.std.specs.Prelude.{◌≡◌, IfOk, MatchOption};
 ghost use Rattle.pci_tree.specs.Roots.{buses_of};
 ghost use Rattle.pci_function.specs.Space.{space_of};
 ghost use Rattle.pci_check.specs.Clashes.{AreRootsListed, NoneSplitIn, IsSplitFaultIn, NoneSplit, IsSplitFault};
 
 use super::reached::BUSES;
-use super::sweep::first_overlap;
+use super::sweep::{Shared, least_shared};
 use pci_dump::memory::OutOfMemory;
 use pci_function::fault::Fault;
+use pci_function::space::Space;
 use pci_tree::outline::Outline;
 use pci_tree::region::Region;
 use pci_tree::roots::Roots;
-use pci_function::space::Space;
 use std::alloc::Allocator;
 
 /// The regions of all root buses that claim some address of a space.
@@ -39,17 +37,6 @@ fn of_roots<A: Allocator + Copy>(
     Ok(all)
 }
 
-/// Sorts regions by first address.
-fn sort<A: Allocator>(regions: &mut Vec<Region, A>) -> Result<(), OutOfMemory>
-    ensures permutation { IsPermutation regions.old.items regions.new.items }
-    ensures sorted { OnOk result (IsNonDecreasingBy (λ r. r.first) regions.new.items) }
-{
-    match regions.sort_by_key(|region| region.first) {
-        Ok(()) => Ok(()),
-        Err(_) => Err(OutOfMemory),
-    }
-}
-
 /// The split of a space at the least address, with the two least regions that claim it.
 fn split_in<A: Allocator + Copy>(
     alloc: A,
@@ -60,23 +47,24 @@ fn split_in<A: Allocator + Copy>(
     requires { buses_of roots.now ≡ outline.now.roots }
     ensures { IfOk result (λ o. MatchOption o (NoneSplitIn outline.now (space_of space)) (λ fault. IsSplitFaultIn outline.now (space_of space) fault)) }
 {
-    let mut sorted = of_roots(alloc, outline, roots, space)?;
-    sort(&mut sorted)?;
-    let regions = sorted.as_slice();
-    match first_overlap(regions, &[space.whole()]) {
+    let mut regions = of_roots(alloc, outline, roots, space)?;
+    let whole = [space.whole()];
+    match least_shared(&mut regions, &whole)? {
         None => Ok(None),
-        Some(overlap) => {
-            let first = &regions[overlap.first];
-            let second = &regions[overlap.second];
-            Ok(Some(Fault::Split {
-                space,
-                address: overlap.address,
-                first: first.slot,
-                first_reg: first.reg,
-                second: second.slot,
-                second_reg: second.reg,
-            }))
-        }
+        Some(
+            Shared {
+                address,
+                first,
+                second,
+            },
+        ) => Ok(Some(Fault::Split {
+            space,
+            address,
+            first: first.slot,
+            first_reg: first.reg,
+            second: second.slot,
+            second_reg: second.reg,
+        })),
     }
 }
 
@@ -89,12 +77,8 @@ pub fn first_split<A: Allocator + Copy>(
     requires { buses_of roots.now ≡ outline.now.roots }
     ensures { IfOk result (λ o. MatchOption o (NoneSplit outline.now) (λ fault. IsSplitFault outline.now fault)) }
 {
-    match split_in(alloc, outline, roots, Space::Io)? {
-        Some(fault) => return Ok(Some(fault)),
-        None => {}
+    if let Some(fault) = split_in(alloc, outline, roots, Space::Io)? {
+        return Ok(Some(fault));
     }
-    match split_in(alloc, outline, roots, Space::Mem)? {
-        Some(fault) => Ok(Some(fault)),
-        None => Ok(None),
-    }
+    split_in(alloc, outline, roots, Space::Mem)
 }

@@ -1,14 +1,18 @@
 //! Of regions sorted by first address: the least address that two of them claim, and the two least that do.
-ghost use Rattle.std.specs.Prelude.{◌<◌, ◌≤◌, ◌↔◌, ◌⊎◌, ℕ, length, IsTrue, IfSome, MatchOption};
+ghost use Rattle.std.specs.Prelude.{◌<◌, ◌≤◌, ◌↔◌, ◌⊎◌, ℕ, length, IsTrue, IfOk, IfSome, OnOk, MatchOption};
+ghost use Rattle.std.specs.List.Sorted.{IsNonDecreasingBy, IsPermutation};
 ghost use Rattle.pci_spec.specs.JudgingLaws.{region_number};
 ghost use Rattle.pci_tree.specs.declared.region.Region.{Region};
 ghost use Rattle.pci_tree.specs.Ranges.{Covers, IsCanonical};
-ghost use Rattle.pci_check.specs.Sweep.{Spans, number_of, Reaches, IsLeastMet, IsTwice, IsLeastTwice, Follows, IsLesser, IsClaimant, IsLeastClaimant, AreTwoLeast, StandByFirst, AreDistinct, IsFirstOverlap};
+ghost use Rattle.pci_tree.specs.Regions.{region_number as number_of};
+ghost use Rattle.pci_check.specs.Sweep.{Spans, Reaches, IsLeastMet, IsTwice, IsLeastTwice, Follows, IsLesser, IsClaimant, IsLeastClaimant, AreTwoLeast, StandByFirst, AreDistinct, IsFirstOverlap, IsUnshared, IsLeastShared};
 
+use pci_dump::memory::OutOfMemory;
 use pci_image::range::Range;
 use pci_image::slot::Slot;
 use pci_tree::ranges::least_from;
 use pci_tree::region::Region;
+use std::alloc::Allocator;
 
 /// The least address of `allowed` that the region claims, up to what is reached.
 fn least_met(allowed: &[Range], region: &Region, reached: Option<u64>) -> Option<u64>
@@ -50,9 +54,8 @@ fn first_shared_address(regions: &[Region], allowed: &[Range]) -> Option<u64>
 {
     let mut reached = None;
     for (i, region) in regions.iter().enumerate() {
-        match least_met(allowed, region, reached) {
-            Some(a) => return Some(a),
-            None => {}
+        if let Some(a) = least_met(allowed, region, reached) {
+            return Some(a);
         }
         reached = extended(reached, region.last);
     }
@@ -154,5 +157,48 @@ pub fn first_overlap(regions: &[Region], allowed: &[Range]) -> Option<Overlap>
                 second,
             }),
         },
+    }
+}
+
+/// Sorts regions by first address.
+fn sort<A: Allocator>(regions: &mut Vec<Region, A>) -> Result<(), OutOfMemory>
+    ensures permutation { IsPermutation regions.old.items regions.new.items }
+    ensures sorted { OnOk result (IsNonDecreasingBy (λ r. r.first) regions.new.items) }
+{
+    match regions.sort_by_key(|region| region.first) {
+        Ok(()) => Ok(()),
+        Err(_) => Err(OutOfMemory),
+    }
+}
+
+/// An address that two regions claim, and which they are.
+#[derive(Clone, Copy, Debug, PartialEq, Eq)]
+pub struct Shared {
+    pub address: u64,
+    pub first: Region,
+    pub second: Region,
+}
+
+/// The least address of `allowed` that two regions claim, with the two least regions that do, by slot and register. It
+/// sorts the regions.
+pub fn least_shared<A: Allocator>(
+    regions: &mut Vec<Region, A>,
+    allowed: &[Range],
+) -> Result<Option<Shared>, OutOfMemory>
+    requires { IsCanonical allowed.now }
+    ensures { IfOk result (λ o. MatchOption o (AreDistinct regions.old.items → (a : ℕ) → IsUnshared regions.old.items allowed.now a)
+        (λ s. IsLeastShared regions.old.items allowed.now s.address s.first s.second)) }
+{
+    if regions.len() < 2 {
+        return Ok(None);
+    }
+    sort(regions)?;
+    match first_overlap(regions, allowed) {
+        None => Ok(None),
+        Some(overlap) => Ok(Some(Shared {
+            address: overlap.address,
+            first: regions[overlap.first],
+            second: regions[overlap.second],
+        })),
     }
 }

@@ -1,26 +1,20 @@
 //! Unreached regions: a BAR or a ROM that is enabled, and has an address that a bridge on the way to it
 //! doesn't pass.
-ghost use Rattle.std.specs.Prelude.{◌≡◌, ◌<◌, ℕ, false, length, Option, IfOk, IfSome, MatchOption, MatchBool};
-ghost use Rattle.pci_spec.specs.System.{System, Io, Memory};
-ghost use Rattle.pci_spec.specs.Sound.{IsHome};
+ghost use Rattle.std.specs.Prelude.{◌≡◌, ◌<◌, ℕ, false, length, Option, IfSome, MatchOption, MatchBool};
+ghost use Rattle.pci_spec.specs.System.{Io, Memory};
 ghost use Rattle.pci_function.specs.declared.fault.Fault.{Fault};
 ghost use Rattle.pci_function.specs.Space.{space_of};
-ghost use Rattle.pci_check.specs.Trees.{HasTree};
-ghost use Rattle.pci_check.specs.Listings.{is_of_window};
-ghost use Rattle.pci_check.specs.Stops.{AreReachesOf, IsWholeAt, IsReachedAt, IsOutsideAnswer, IsBusBehind, IsWholeBehind, IsLeastLost, IsFirstStop, IsEarlier, IsUnreachedFault, IsUnreachedFaultOn, IsWholeInEach, AreHomeInEach, AlwaysNested, AreListed};
-ghost use Rattle.pci_spec.specs.Order.{IsFirst};
-ghost use Rattle.pci_function.specs.Fault.{fault_of};
+ghost use Rattle.pci_check.specs.Stops.{is_of_window, AreReachesOf, IsWholeAt, IsReachedAt, IsOutsideAnswer, IsBusBehind, IsWholeBehind, IsLeastLost, IsFirstStop, IsEarlier, IsUnreachedFault, IsUnreachedFaultOn, IsWholeInEach, AreHomeInEach, AlwaysNested, AreListed};
 
-use super::reached::{BUSES, Reached};
+use super::reached::Reached;
 use super::sweep::is_before;
-use pci_dump::memory::OutOfMemory;
+use pci_function::fault::Fault;
+use pci_function::space::Space;
 use pci_image::range::Range;
 use pci_image::slot::Slot;
-use pci_function::fault::Fault;
 use pci_tree::outline::Outline;
 use pci_tree::ranges::least_outside;
 use pci_tree::region::{Part, Region};
-use pci_function::space::Space;
 use std::alloc::Allocator;
 
 /// The least address of a region that doesn't get to a bus.
@@ -137,7 +131,7 @@ fn bus_behind(path: &[Slot], i: usize, end: u8) -> u8
 /// The place of a bridge on a path, and an address that it doesn't pass.
 #[derive(Clone, Copy, Debug, PartialEq, Eq)]
 struct MissedAt {
-    place: usize,
+    index: usize,
     address: u64,
 }
 
@@ -148,13 +142,12 @@ fn first_stop<A: Allocator + Copy>(
     reached: &Reached<A>,
     space: Space,
 ) -> Option<MissedAt>
-    ensures { MatchOption result ((k : ℕ) → k < length path.now → IsWholeBehind reached.now (space_of space) path.now region.now.slot.bus region.now k) (λ s. IsFirstStop reached.now (space_of space) path.now region.now.slot.bus region.now s.place s.address) }
+    ensures { MatchOption result ((k : ℕ) → k < length path.now → IsWholeBehind reached.now (space_of space) path.now region.now.slot.bus region.now k) (λ s. IsFirstStop reached.now (space_of space) path.now region.now.slot.bus region.now s.index s.address) }
 {
     let end = region.slot.bus();
     for i in 0..path.len() {
-        match least_lost(region, reached, space, bus_behind(path, i, end)) {
-            Some(address) => return Some(MissedAt { place: i, address }),
-            None => {}
+        if let Some(address) = least_lost(region, reached, space, bus_behind(path, i, end)) {
+            return Some(MissedAt { index: i, address });
         }
     }
     None
@@ -182,15 +175,16 @@ fn unreached_at<A: Allocator + Copy>(
                     reg: region.reg,
                     space,
                     address: stop.address,
-                    bridge: path[stop.place],
+                    bridge: path[stop.index],
                 }),
             }
         }
     }
 }
 
-/// The first unreached region of the regions of a bus.
-fn unreached_among<A: Allocator + Copy>(
+/// The first unreached region of a bus, by slot and register, with the first bridge on the way to it that doesn't pass
+/// all of it, and the least address that this bridge doesn't pass.
+pub fn first_unreached<A: Allocator + Copy>(
     outline: &Outline<A>,
     reached: &Reached<A>,
     bus: u8,
@@ -210,38 +204,4 @@ fn unreached_among<A: Allocator + Copy>(
         Foremost::Io(k) => unreached_at(outline, reached, &io[k], Space::Io),
         Foremost::Memory(k) => unreached_at(outline, reached, &memory[k], Space::Mem),
     }
-}
-
-/// The first unreached region of a bus.
-fn unreached_on<A: Allocator + Copy>(
-    outline: &Outline<A>,
-    reached: &Reached<A>,
-    bus: u8,
-) -> Result<Option<Fault>, OutOfMemory>
-    requires reached { AreReachesOf outline.now reached.now }
-    requires nested { AlwaysNested outline.now }
-    ensures { IfOk result (λ o. MatchOption o (AreHomeInEach outline.now bus) (λ fault. IsUnreachedFaultOn outline.now bus fault)) }
-{
-    let io = outline.regions(bus, Space::Io)?;
-    let memory = outline.regions(bus, Space::Mem)?;
-    Ok(unreached_among(outline, reached, bus, io.as_slice(), memory.as_slice()))
-}
-
-/// The first unreached region, by slot and register, with the first bridge on the way to it that doesn't
-/// pass all of it, and the least address that this bridge doesn't pass.
-pub fn first_unreached<A: Allocator + Copy>(
-    outline: &Outline<A>,
-    reached: &Reached<A>,
-) -> Result<Option<Fault>, OutOfMemory>
-    requires reached { AreReachesOf outline.now reached.now }
-    requires nested { AlwaysNested outline.now }
-    ensures { IfOk result (λ o. MatchOption o ((s : System) → HasTree outline.now s → IsHome outline.now.roots s) (λ fault. (s : System) → HasTree outline.now s → IsFirst outline.now.roots s (fault_of fault))) }
-{
-    for bus in 0..BUSES {
-        match unreached_on(outline, reached, bus as u8)? {
-            Some(fault) => return Ok(Some(fault)),
-            None => {}
-        }
-    }
-    Ok(None)
 }

@@ -1,6 +1,6 @@
 //! The verdict on an admitted dump and its probe: yes, with the evidence, or no, with the first fault.
-use pci_tree::admitted::Admitted;
 use pci_function::fault::Fault;
+use pci_tree::admitted::Admitted;
 use std::alloc::{Allocator, Global};
 use std::marker::Model;
 

@@ -102,7 +102,7 @@ const IO_ENCODING: u32 = 0b11;
 /// The bits of a memory register that hold no address.
 const MEMORY_ENCODING: u32 = 0b1111;
 
-/// The place of the largest size of an I/O BAR, 256 addresses (6.2.5.1).
+/// The binary logarithm of the largest size of an I/O BAR, 256 addresses (6.2.5.1).
 const IO_LARGEST: u32 = 8;
 
 /// The kind of an implemented BAR, by its value and its read back.
@@ -154,10 +154,10 @@ fn is_prefetchable(mask: u32) -> bool
     mask & IO_SPACE == 0 && mask & PREFETCHABLE != 0
 }
 
-/// The place k of a BAR's size, by its read back: it has 2 ^ k addresses.
+/// The binary logarithm k of a BAR's size, by its read back: it has 2 ^ k addresses.
 ///
 /// An I/O BAR may leave bits 31:16 out (6.2.5.1).
-fn size_place(kind: BarKind, mask: u64) -> Option<u32>
+fn size_log2(kind: BarKind, mask: u64) -> Option<u32>
     ensures { MatchOption result (has_lawful_size (decoded_kind_of kind) mask ≡ false) (λ k. IsTrue (is_lawful (decoded_kind_of kind) mask k)) }
 {
     match kind {
@@ -189,13 +189,13 @@ fn placed(reg: u8, kind: BarKind, prefetch: bool, value: u64, mask: u64) -> Resu
         (λ bar. (broken_size (decoded_kind_of kind) value mask ≡ None) × IsPlaced reg (decoded_kind_of kind) prefetch value mask bar)
         (IsBarFault reg (broken_size (decoded_kind_of kind) value mask)) }
 {
-    let Some(place) = size_place(kind, mask) else {
+    let Some(log2) = size_log2(kind, mask) else {
         return Err(ImageFault::BarMask(reg));
     };
     if !fits_within(value, mask) {
         return Err(ImageFault::BarMask(reg));
     }
-    let Range { first, last } = aligned(value, place);
+    let Range { first, last } = aligned(value, log2);
     Ok(Bar {
         reg,
         kind,

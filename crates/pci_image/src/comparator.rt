@@ -32,12 +32,12 @@ pub fn fits_within(value: u64, mask: u64) -> bool
     value & !mask == 0
 }
 
-/// The addresses that agree with a value from bit `place` upward.
-pub fn aligned(value: u64, place: u32) -> Range
-    requires { place < 64 }
-    ensures { decoded_range_of result ≡ aligned_range value (2 ^ place) }
+/// The addresses that agree with a value from bit `size_log2` upward.
+pub fn aligned(value: u64, size_log2: u32) -> Range
+    requires { size_log2 < 64 }
+    ensures { decoded_range_of result ≡ aligned_range value (2 ^ size_log2) }
 {
-    let low = (1u64 << place) - 1;
+    let low = (1u64 << size_log2) - 1;
     let first = value & !low;
     Range {
         first,

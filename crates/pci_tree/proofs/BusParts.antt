@@ -10,12 +10,13 @@ use Rattle.std.proofs.lemmas.List.Elements.{All-contains, Contains-get_or}
 use Rattle.pci_spec.specs.Slot.{Slot, IsSlot, slot_number}
 use Rattle.pci_spec.specs.System.{System, Function, Space, Part}
 use Rattle.pci_spec.specs.Decoded.{IsDecodable, record_of}
-use Rattle.pci_spec.proofs.Members.{IsInPiece, in_flat_map_to, in_flat_map_from, pairs_flat_map}
+use Rattle.pci_spec.proofs.Members.{IsInPiece, in_nil, pairs_nil, in_flat_map_to, in_flat_map_from, pairs_flat_map}
 use Rattle.pci_function.specs.declared.record.Record.{Record}
 use Rattle.pci_tree.specs.declared.region.Region.{Region}
 use Rattle.pci_function.specs.Values.{record_value}
 use Rattle.pci_tree.specs.Regions.{regions_of, region_number, IsRegionOf, HasRegionOf, IsLawful, AreRegionsOf}
-use Rattle.pci_tree.specs.Outline.{RiseBySlot, IsBusPart}
+use Rattle.pci_tree.specs.Ways.{IsUnled}
+use Rattle.pci_tree.specs.Outline.{RiseBySlot, IsOutline, IsBusPart}
 use Rattle.pci_tree.proofs.Lifting.{Has, StandsFor, record_for, function_for, same_slot_of}
 use Rattle.pci_tree.proofs.RegionParts.{regions_are, regions_are_all}
 use Rattle.pci_tree.proofs.RegionOrder.{IsOfRecord, regions_rise, region_of_record}
@@ -141,4 +142,12 @@ regions_of_part s records part bus space is lawful on = record {
       let op : IsOfRecord r p = region_of_record r f.0 space p f.2 hp in
       let oq : IsOfRecord z q = region_of_record z g.0 space q g.2 hq in
       below_by_slot (slot_number p.slot) (slot_number q.slot) (slot_number r.slot) (slot_number z.slot) p.reg q.reg (ap slot_number op.slot) (ap slot_number oq.slot) lt op.low));
+}
+
+-- a bus to which nothing leads has no region
+pub regions_unled : (s : System) (roots : List ℕ) (records : List Record) (bus : ℕ) (space : Space) → Has s records → IsOutline roots records → IsUnled records roots bus → AreRegionsOf s bus space []
+regions_unled s roots records bus space is outline unled = regions_of_part s records [] bus space is outline.lawful record {
+  each = λ r has. absurd (in_nil r has);
+  all = λ r has on. absurd (outline.led r has (subst (IsUnled records roots) (sym on) unled));
+  rising = pairs_nil (λ r q. slot_number r.slot < slot_number q.slot);
 }

@@ -1,6 +1,7 @@
 -- Ways down a tree of buses.
-use Rattle.std.proofs.Common.{◌≡◌, ℕ, ◌+◌, ◌<◌, ◌≤◌, List, [], ◌∷◌, ◌++◌, length, reverse, get_or, sym, ap, ◌∙◌, subst, inl, inr, ◌⊎◌, arith, refl, Option, Some, None}
+use Rattle.std.proofs.Common.{◌≡◌, ℕ, ◌+◌, ◌<◌, ◌≤◌, List, [], ◌∷◌, ◌++◌, length, reverse, get_or, sym, ap, ◌∙◌, subst, inl, inr, ◌⊎◌, arith, refl, false, Option, Some, None}
 use Rattle.std.specs.List.{Contains}
+use Rattle.std.specs.Option.{is_some}
 use Rattle.std.proofs.lemmas.List.{reverse-append, append_assoc, append-nil, length_push}
 use Rattle.std.proofs.lemmas.List.Elements.{Contains-get_or}
 use Rattle.pci_spec.specs.Slot.{Slot}
@@ -110,6 +111,10 @@ at_root records roots at up bus clear starts so = record {
 
 pub no_place : (records : List Record) (at : ℕ) (o : Option ℕ) → o ≡ None → IsPlaceAbove records at o → (b : Record) → IsBridgeIn records b → bus_behind b ≡ at → ⊥
 no_place records at o e h = subst (λ p. IsPlaceAbove records at p) e h
+
+pub no_place_off : (records : List Record) (at : ℕ) (o : Option ℕ) → is_some o ≡ false → IsPlaceAbove records at o → (b : Record) → IsBridgeIn records b → bus_behind b ≡ at → ⊥
+no_place_off records at None e h = h
+no_place_off records at (Some k) e h = absurd (let no : ⊥ = cc in no)
 
 pub some_place : (records : List Record) (at : ℕ) (o : Option ℕ) (k : ℕ) → o ≡ Some k → IsPlaceAbove records at o → LeadsAt records at k
 some_place records at o k e h = subst (λ p. IsPlaceAbove records at p) e h

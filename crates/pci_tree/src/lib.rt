@@ -11,23 +11,22 @@
 
 pub mod admit;
 pub mod admitted;
-pub mod bus;
+mod bus;
 mod buses;
-pub mod forwarded;
+mod forwarded;
 pub mod outline;
-pub mod path;
+mod path;
 pub mod ranges;
 pub mod reach;
 pub mod region;
 pub mod roots;
 pub mod survey;
-pub mod window;
-
-pub use pci_function::{decode, fault, record, space};
+mod window;
 
 pub use admit::admit_with;
 pub use admitted::Admitted;
 pub use outline::Outline;
+pub use pci_function::{decode, fault, record, space};
 pub use reach::Reach;
 pub use region::{Part, Region};
 pub use roots::Roots;

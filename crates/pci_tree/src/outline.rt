@@ -20,7 +20,7 @@ ghost use Rattle.pci_tree.specs.Outline.{RiseBySlot, IsOutline, IsPathTo, IsReac
 
 use super::bus::{has_slot, on_bus};
 use super::buses::first_place_fault;
-use super::path::{bridge_to_bus, path};
+use super::path::{bridge_to_bus, is_led_to, path};
 use super::reach::{Reach, reaches};
 use super::region::{Region, add_regions};
 use super::roots::Roots;
@@ -117,6 +117,9 @@ impl<A: Allocator + Copy> Outline<A> {
     pub fn regions(&self, bus: u8, space: Space) -> Result<Vec<Region, A>, OutOfMemory>
         ensures { IfOk result (λ v. (s : System) → HasRecords s self.now.records → AreRegionsOf s bus (space_of space) v.items) }
     {
+        if !is_led_to(&self.bridge_to_bus, &self.roots, bus) {
+            return Ok(Vec::new(*self.records.allocator()));
+        }
         let part = on_bus(&self.records, bus);
         regions_among(*self.records.allocator(), part, space)
     }

@@ -1,6 +1,7 @@
 //! The bridges that lead to a bus, found from a table of the 256 buses.
-ghost use Rattle.std.specs.Prelude.{◌<◌, MatchOption};
+ghost use Rattle.std.specs.Prelude.{◌≡◌, ◌<◌, false, List, MatchOption};
 ghost use Rattle.pci_tree.specs.Roots.{buses_of};
+ghost use Rattle.pci_function.specs.declared.record.Record.{Record as RecordValue};
 ghost use Rattle.pci_tree.specs.Ways.{IsForest, IsBridgeToBus, AreClear, AreSlotsOfWay, IsUnled};
 
 use super::roots::Roots;
@@ -19,6 +20,13 @@ pub fn bridge_to_bus(records: &[Record]) -> [Option<usize>; 256]
         }
     }
     bridge_to_bus
+}
+
+/// Whether a bus is a root or a bridge leads to it.
+pub fn is_led_to(bridge_to_bus: &[Option<usize>; 256], roots: &Roots, bus: u8) -> bool
+    ensures { result ≡ false → (records : List RecordValue) → IsBridgeToBus records bridge_to_bus.now → IsUnled records (buses_of roots.now) bus }
+{
+    roots.has(bus) || bridge_to_bus[bus as usize].is_some()
 }
 
 /// The bridges from a root to a bus, or None where none leads there from a root.

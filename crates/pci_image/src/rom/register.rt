@@ -18,14 +18,14 @@ use crate::range::Range;
 /// Bit 0 enables the ROM, and is no part of its address.
 const ENABLE: u64 = 0b1;
 
-/// The place of the smallest size, 2 KB: the register has no lower address bits (6.2.5.2).
+/// The binary logarithm of the smallest size, 2 KB: the register has no lower address bits (6.2.5.2).
 const SMALLEST: u32 = 11;
 
-/// The place of the largest size, 16 MB (6.2.5.2).
+/// The binary logarithm of the largest size, 16 MB (6.2.5.2).
 const LARGEST: u32 = 24;
 
-/// The place k of a ROM's size, by its read back: it has 2 ^ k addresses.
-fn size_place(mask: u64) -> Option<u32>
+/// The binary logarithm k of a ROM's size, by its read back: it has 2 ^ k addresses.
+fn size_log2(mask: u64) -> Option<u32>
     ensures { MatchOption result (some_from 0 64 (is_rom_size mask) ≡ false) (λ k. IsTrue (is_rom_size mask k)) }
 {
     let start = run_start(mask, 0, 31)?;
@@ -41,9 +41,9 @@ fn placed(value: u64, mask: u64) -> Option<Range>
     ensures { MatchOption result (is_lawful_rom value mask ≡ false)
         (λ range. IsTrue (is_lawful_rom value mask) × (decoded_range_of range ≡ aligned_range value (2 ^ lowest_one 0 mask))) }
 {
-    let place = size_place(mask)?;
+    let log2 = size_log2(mask)?;
     if fits_within(value & !ENABLE, mask) {
-        Some(aligned(value, place))
+        Some(aligned(value, log2))
     } else {
         None
     }

@@ -8,7 +8,7 @@ returns-in-Some c sorted = met_read c.loop-i.i _ _ _ _ _ sorted (omega arith) c.
 pub loop-i-preserved : goal.loop-i-preserved
 loop-i-preserved c = record {
   reached = reached_read c.loop-i.i c.args.regions.now c.loop-i.reached c.extended-reached.result _ (omega arith) c.index-regions-i.is c.loop-i.invariant.reached c.extended-reached.ensures;
-  none = none_read c.loop-i.i c.args.regions.now c.args.allowed.now c.loop-i.reached _ (omega arith) c.index-regions-i.is c.loop-i.invariant.reached c.loop-i.invariant.none c.in-None.ensures;
+  none = none_read c.loop-i.i c.args.regions.now c.args.allowed.now c.loop-i.reached _ (omega arith) c.index-regions-i.is c.loop-i.invariant.reached c.loop-i.invariant.none c.in_default.ensures;
 }
 
 pub returns : goal.returns

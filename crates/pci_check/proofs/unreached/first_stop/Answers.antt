@@ -17,7 +17,7 @@ returns-in-Some g c =
 
 pub loop-i-preserved : goal.loop-i-preserved
 loop-i-preserved g c =
-    whole_more c.args.reached.now (space_of c.args.space) c.args.path.now c.bus-end.result c.args.region.now c.loop-i.i c.bus_behind.result c.bus_behind.ensures c.in-None.ensures c.loop-i.invariant
+    whole_more c.args.reached.now (space_of c.args.space) c.args.path.now c.bus-end.result c.args.region.now c.loop-i.i c.bus_behind.result c.bus_behind.ensures c.in_default.ensures c.loop-i.invariant
 
 pub returns : goal.returns
 returns g c = subst (λ end. (k : ℕ) → k < length c.args.path.now → IsWholeBehind c.args.reached.now (space_of c.args.space) c.args.path.now end c.args.region.now k) c.bus-end.ensures

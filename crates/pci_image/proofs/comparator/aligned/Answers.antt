@@ -4,6 +4,6 @@ use Rattle.pci_image.proofs.comparator.aligned.Goals as goal
 
 pub returns : goal.returns
 returns c =
-    let first = value_and_high c.args.value c.args.place c.ranges.value.fits c.requires in
-    let last = first_or_low c.args.value c.args.place c.requires in
+    let first = value_and_high c.args.value c.args.size_log2 c.ranges.value.fits c.requires in
+    let last = first_or_low c.args.value c.args.size_log2 c.requires in
     rw (first, last) refl

@@ -6,7 +6,7 @@ use Rattle.pci_image.proofs.rom.register.placed.Goals as goal
 
 pub returns-then-fits_within : goal.returns-then-fits_within
 returns-then-fits_within c =
-    let at = rom-sized c.args.value c.args.mask c.in_ok-place.place c.in_ok-place.ensures in
+    let at = rom-sized c.args.value c.args.mask c.in_ok-log2.log2 c.in_ok-log2.ensures in
     let within = sym (within-code c.args.value c.args.mask c.ranges.value.fits) ∙ sym c.if-fits_within.ensures in
     (and_from _ _ at.0 within, c.aligned.ensures ∙ ap (λ k. aligned_range c.args.value (2 ^ k)) (sym at.1))
 

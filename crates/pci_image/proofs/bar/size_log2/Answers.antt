@@ -1,6 +1,6 @@
 use Rattle.std.proofs.Common.{sym, ◌∙◌}
 use Rattle.pci_image.proofs.Sizes.{size-memory_32, size-memory_64, size-io_none, size-io_large, size-io_some}
-use Rattle.pci_image.proofs.bar.size_place.Goals as goal
+use Rattle.pci_image.proofs.bar.size_log2.Goals as goal
 
 pub returns-in_err-start-in-Io : goal.returns-in_err-start-in-Io
 returns-in_err-start-in-Io c =
