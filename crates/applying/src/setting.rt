@@ -5,7 +5,7 @@ use pci_check::verdict::Verdict;
 use pci_dump::block::Block;
 use pci_dump::dump::Dump;
 use pci_dump::memory::Refused;
-use pci_function::pair_fault::PairFault;
+use pci_function::fault::PairFault;
 use pci_dump::read_fault::ReadFault;
 use pci_dump::reader::read_dump;
 use pci_dump::std_streams::Incoming;

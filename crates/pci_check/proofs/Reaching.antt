@@ -1,19 +1,19 @@
--- What gets to each bus, by three lists of it.
+-- What gets to each bus, by a list for each kind of access.
 use Rattle.std.proofs.Common.{ℕ, ◌<◌, List, [], get_or, Bool, true, false}
-use Rattle.pci_spec.specs.System.{System, Space, Io, Memory}
+use Rattle.pci_spec.specs.Window.{WindowKind, IoWindow, MemoryWindow, PrefetchWindow}
+use Rattle.pci_spec.specs.System.{System, Space, Io, Memory, window_space}
 use Rattle.pci_image.specs.declared.range.Range.{Range}
+use Rattle.pci_function.specs.Space.{is_prefetch}
 use Rattle.pci_tree.specs.Outline.{Tree, IsReachTo}
 use Rattle.pci_check.specs.Trees.{HasTree}
-use Rattle.pci_check.specs.Stops.{AreReachesOf}
+use Rattle.pci_check.specs.Stops.{Reaches, reaches_by, AreReachesOf}
 
--- the lists of a space, for each system with the tree
-abbrev pub AreListsOf : Tree → Space → Bool → List (List Range) → Type 0
-AreListsOf t space prefetchable lists =
-    (s : System) → HasTree t s → (bus : ℕ) (d : List Range) → bus < 256 → IsReachTo t.roots s space prefetchable bus (get_or lists bus d)
+-- the lists of a kind of access, for each system with the tree
+abbrev pub AreListsOf : Tree → WindowKind → List (List Range) → Type 0
+AreListsOf t kind lists =
+    (s : System) → HasTree t s → (bus : ℕ) (d : List Range) → bus < 256 → IsReachTo t.roots s (window_space kind) (is_prefetch kind) bus (get_or lists bus d)
 
-pub reaches_of : (t : Tree) (io plain prefetched : List (List Range)) → AreListsOf t Io true io → AreListsOf t Memory false plain → AreListsOf t Memory true prefetched
-    → AreReachesOf t record { io = io; plain = plain; prefetched = prefetched }
-reaches_of t io plain prefetched h_io h_plain h_prefetched s tree Io true bus small = h_io s tree bus [] small
-reaches_of t io plain prefetched h_io h_plain h_prefetched s tree Io false bus small = let h = h_io s tree bus [] small in record { canonical = h.canonical; exact = h.exact }
-reaches_of t io plain prefetched h_io h_plain h_prefetched s tree Memory false bus small = h_plain s tree bus [] small
-reaches_of t io plain prefetched h_io h_plain h_prefetched s tree Memory true bus small = h_prefetched s tree bus [] small
+pub reaches_of : (t : Tree) (reaches : Reaches) → ((kind : WindowKind) → AreListsOf t kind (reaches_by reaches kind)) → AreReachesOf t reaches
+reaches_of t reaches h s tree Io prefetchable bus small = let r = h IoWindow s tree bus [] small in record { canonical = r.canonical; exact = r.exact }
+reaches_of t reaches h s tree Memory false bus small = h MemoryWindow s tree bus [] small
+reaches_of t reaches h s tree Memory true bus small = h PrefetchWindow s tree bus [] small

@@ -2,13 +2,15 @@
 use Rattle.std.specs.Prelude.{◌≡◌, ℕ, ◌+◌, ◌<◌, ◌≤◌, Bool, true, false, List, [], length, slice_index_or, Option, None, Some, MatchOption}
 use Rattle.std.specs.List.{All, AllWithin, HoldsAt}
 use Rattle.pci_spec.specs.Slot.{Slot}
-use Rattle.pci_spec.specs.System.{System, Space, Io, Memory}
+use Rattle.pci_spec.specs.Window.{WindowKind, IoWindow, MemoryWindow, PrefetchWindow}
+use Rattle.pci_spec.specs.System.{System, Space}
 use Rattle.pci_spec.specs.Bus.{IsNested}
 use Rattle.pci_spec.specs.Decoded.{HasRecords}
 use Rattle.pci_spec.specs.Order.{IsFirst}
 use Rattle.pci_image.specs.declared.range.Range.{Range}
 use Rattle.pci_function.specs.declared.fault.Fault.{Fault}
 use Rattle.pci_tree.specs.declared.region.Region.{Region}
+use Rattle.pci_function.specs.Space.{kind_in}
 use Rattle.pci_tree.specs.Ranges.{Covers, IsCanonical}
 use Rattle.pci_function.specs.Fault.{fault_of}
 use Rattle.pci_tree.specs.declared.region.Part as parts
@@ -21,25 +23,24 @@ use Rattle.pci_check.specs.declared.unreached.Foremost.TheVariants as foremost
 use Rattle.pci_check.specs.Sweep.{Spans}
 use Rattle.pci_check.specs.Homes.{AreHomeBelow, IsHomeOn}
 
--- what gets to each bus: I/O, memory of any region, memory of prefetchable BARs
+-- what gets to each bus, by the kind of access
 pub record Reaches : Type 0 where
   pub io : List (List Range)
-  pub plain : List (List Range)
-  pub prefetched : List (List Range)
+  pub memory : List (List Range)
+  pub prefetch : List (List Range)
+
+abbrev pub reaches_by : Reaches → WindowKind → List (List Range)
+reaches_by reaches IoWindow = reaches.io
+reaches_by reaches MemoryWindow = reaches.memory
+reaches_by reaches PrefetchWindow = reaches.prefetch
 
 -- there are ranges for each of the 256 buses
 pub record AreWholeReaches (r : Reaches) : Type 0 where
-  pub io : length r.io ≡ 256
-  pub plain : length r.plain ≡ 256
-  pub prefetched : length r.prefetched ≡ 256
-  pub io_canonical : All IsCanonical r.io
-  pub plain_canonical : All IsCanonical r.plain
-  pub prefetched_canonical : All IsCanonical r.prefetched
+  pub count : (kind : WindowKind) → length (reaches_by r kind) ≡ 256
+  pub canonical : (kind : WindowKind) → All IsCanonical (reaches_by r kind)
 
 abbrev pub ranges_at : Reaches → Space → Bool → ℕ → List Range
-ranges_at reaches Io prefetchable bus = slice_index_or reaches.io bus []
-ranges_at reaches Memory false bus = slice_index_or reaches.plain bus []
-ranges_at reaches Memory true bus = slice_index_or reaches.prefetched bus []
+ranges_at reaches space prefetchable bus = slice_index_or (reaches_by reaches (kind_in space prefetchable)) bus []
 
 -- they are those of each system with this tree
 abbrev pub AreReachesOf : Tree → Reaches → Type 0

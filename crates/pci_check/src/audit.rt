@@ -32,8 +32,12 @@ fn outcome_of<A: Allocator + Copy>(alloc: A, survey: Survey<A>) -> Result<Outcom
     }
 }
 
-/// The verdict on two texts, from which nothing has been written.
-fn judged<A: Allocator + Copy, D: Source, P: Source>(
+/// The verdict on two texts, which are read to their ends. Nothing is written.
+///
+/// # Errors
+///
+/// As those of [`audit_with`], but for `Write`.
+pub fn judge_texts<A: Allocator + Copy, D: Source, P: Source>(
     alloc: A,
     dump: &mut D,
     probe: &mut P,
@@ -85,7 +89,7 @@ pub fn audit_with<A: Allocator + Copy, D: Source, P: Source, O: Sink>(
         → HasBegun (buses_of roots) (D.left dump.old) (P.left probe.old) (O.taken out.old) (O.taken out.new)) }
     ensures failed { IfErr result (λ fault. fault ≡ AuditFault.Write → O.failures out.new ≡ O.failures out.old + 1) }
 {
-    let outcome = match judged(alloc, dump, probe, roots) {
+    let outcome = match judge_texts(alloc, dump, probe, roots) {
         Ok(outcome) => outcome,
         Err(fault) => return Err(fault),
     };

@@ -24,7 +24,8 @@ fn clash_in<A: Allocator + Copy>(
     ensures { IfOk result (λ o. (t : Tree) → AreReachesOf t reached.now → AreListed t bus (space_of space) regions.old.items
         → MatchOption o (NoneClashOn t bus (space_of space)) (λ fault. IsClashFaultOn t bus (space_of space) fault)) }
 {
-    let allowed = reached.ranges(bus, space, true);
+    // Two regions meet where any access gets, so what gets furthest decides.
+    let allowed = reached.ranges(bus, space.furthest());
     match least_shared(regions, allowed)? {
         None => Ok(None),
         Some(

@@ -1,12 +1,13 @@
-//! What gets to each bus, of both spaces.
-ghost use Rattle.std.specs.Prelude.{◌≡◌, IfOk};
-ghost use Rattle.pci_function.specs.Space.{space_of};
+//! What gets to each bus, by the kind of access.
+ghost use Rattle.std.specs.Prelude.{◌≡◌, IfOk, slice_index_or, []};
+ghost use Rattle.pci_image.specs.WindowKinds.{kind_value};
 ghost use Rattle.pci_tree.specs.Ranges.{IsCanonical};
-ghost use Rattle.pci_check.specs.Stops.{AreReachesOf, AlwaysNested, ranges_at};
+ghost use Rattle.pci_check.specs.Stops.{AreReachesOf, AlwaysNested, reaches_by};
 
 use pci_dump::memory::OutOfMemory;
 use pci_function::space::Space;
 use pci_image::range::Range;
+use pci_image::window_kind::{ByKind, WindowKind};
 use pci_tree::outline::Outline;
 use pci_tree::reach::Reach;
 use std::alloc::{Allocator, Global};
@@ -18,11 +19,7 @@ pub const BUSES: u16 = 256;
 /// For each bus the addresses that get there.
 #[derive(Drop)]
 pub struct Reached<A: Allocator = Global> {
-    io: Vec<Reach<A>, A>,
-    /// Memory of windows, ROMs and BARs that aren't prefetchable.
-    plain: Vec<Reach<A>, A>,
-    /// Memory of prefetchable BARs.
-    prefetched: Vec<Reach<A>, A>,
+    reaches: ByKind<Vec<Reach<A>, A>>,
 }
 
 impl<A: Allocator> Model for Reached<A> {
@@ -30,9 +27,9 @@ impl<A: Allocator> Model for Reached<A> {
 
     ghost Value = { Reaches };
 
-    ghost view = { λ r. record { io = r.io.items; plain = r.plain.items; prefetched = r.prefetched.items } };
+    ghost view = { λ r. record { io = r.reaches.io.items; memory = r.reaches.memory.items; prefetch = r.reaches.prefetchable.items } };
 
-    ghost invariant = { λ r. AreWholeReaches record { io = r.io.items; plain = r.plain.items; prefetched = r.prefetched.items } };
+    ghost invariant = { λ r. AreWholeReaches record { io = r.reaches.io.items; memory = r.reaches.memory.items; prefetch = r.reaches.prefetchable.items } };
 }
 
 impl<A: Allocator + Copy> Reached<A> {
@@ -41,31 +38,24 @@ impl<A: Allocator + Copy> Reached<A> {
         ensures exact { IfOk result (λ r. AreReachesOf outline.now r) }
         ensures nested { IfOk result (λ r. AlwaysNested outline.now) }
     {
-        let io = outline.reaches(Space::Io, true)?;
-        let plain = outline.reaches(Space::Mem, false)?;
-        let prefetched = outline.reaches(Space::Mem, true)?;
+        let io = outline.reaches(WindowKind::Io)?;
+        let memory = outline.reaches(WindowKind::Memory)?;
+        let prefetchable = outline.reaches(WindowKind::Prefetchable)?;
         Ok(Reached {
-            io,
-            plain,
-            prefetched,
+            reaches: ByKind {
+                io,
+                memory,
+                prefetchable,
+            },
         })
     }
 
-    /// The addresses of a space that get to a bus, `prefetch` saying that they are a prefetchable BAR's.
-    pub fn ranges(&self, bus: u8, space: Space, prefetch: bool) -> &[Range]
-        ensures same { result.now ≡ ranges_at self.now (space_of space) prefetch bus }
+    /// The addresses of a kind of access that get to a bus.
+    pub fn ranges(&self, bus: u8, kind: WindowKind) -> &[Range]
+        ensures same { result.now ≡ slice_index_or (reaches_by self.now (kind_value kind)) bus [] }
         ensures canonical { IsCanonical result.now }
     {
-        let place = usize::from(bus);
-        match space {
-            Space::Io => self.io[place].ranges(),
-            Space::Mem => {
-                if prefetch {
-                    self.prefetched[place].ranges()
-                } else {
-                    self.plain[place].ranges()
-                }
-            }
-        }
+        let reaches = self.reaches.get(kind).as_slice();
+        reaches[usize::from(bus)].ranges()
     }
 }

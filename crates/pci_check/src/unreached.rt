@@ -33,7 +33,7 @@ fn least_lost<A: Allocator + Copy>(
     if range.last < range.first {
         return None;
     }
-    least_outside(range, reached.ranges(bus, space, region.prefetch))
+    least_outside(range, reached.ranges(bus, space.kind(region.prefetch)))
 }
 
 /// Whether a region is a window.

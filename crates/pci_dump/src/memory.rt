@@ -1,7 +1,7 @@
 //! Want of memory, and faults beside it.
 ghost use Rattle.std.specs.Prelude.{◌≡◌};
 
-use std::alloc::AllocFailed;
+use std::alloc::{AllocError, AllocFailed};
 
 /// The number of want of memory, everywhere.
 pub const MEMORY_NUMBER: u8 = 2;
@@ -40,6 +40,16 @@ impl<F, T: Drop> From<AllocFailed<T>> for Refused<F> {
     ghost from_gives = { λ _ e. e ≡ Memory };
 
     fn from(_failed: AllocFailed<T>) -> Refused<F> {
+        Refused::Memory
+    }
+}
+
+impl<F> From<AllocError> for Refused<F> {
+    ghost use Rattle.pci_dump.specs.declared.memory.Refused.TheVariants.{Memory};
+
+    ghost from_gives = { λ _ e. e ≡ Memory };
+
+    fn from(_error: AllocError) -> Refused<F> {
         Refused::Memory
     }
 }

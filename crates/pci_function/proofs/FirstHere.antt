@@ -2,10 +2,10 @@
 use Rattle.std.proofs.Common.{◌≡◌, ◌⊎◌, ℕ, ◌<◌, List, [], ◌∷◌, ◌++◌, drop, refl, true, false, inl, inr, arith, ◌∙◌, subst, ap}
 use Rattle.pci_spec.specs.Slot.{Slot}
 use Rattle.pci_spec.specs.System.{Function}
-use Rattle.pci_spec.specs.Fault.{Fault, NoVendor, HeaderKind, BarType, BarMask, BarPair, RomMask, WindowMask, CapRange, CapLoop, CapCut, SlotsDiffer, StrayProbe, LoneFunction, PaletteSnoop, VgaEnable, IsaEnable, Subtractive, InReset, PowerState, BusRange, Orphan, Unreached, Clash, Split, has_no_vendor}
+use Rattle.pci_spec.specs.Fault.{Fault, NoVendor, HeaderKind, BarType, BarMask, BarPair, RomMask, WindowMask, CapRange, CapLoop, CapCut, SlotsDiffer, StrayProbe, LoneFunction, PaletteSnoop, VgaEnable, IsaEnable, Subtractive, InReset, PowerState, BusRange, Orphan, Unreached, Clash, Split}
 use Rattle.pci_spec.specs.Order.{precedes, slot_key, looking_key, phase_of, is_before, step_after}
-use Rattle.pci_spec.proofs.Looking.{key_here, one_number, IdentityIs, only_vendor}
-use Rattle.pci_function.specs.Profile.{IsHere, IsFirstOf}
+use Rattle.pci_spec.proofs.Looking.{key_here}
+use Rattle.pci_function.specs.Profile.{IsHere}
 
 -- ---- keys of the faults of one function
 
@@ -49,33 +49,3 @@ pub before_here : (f : Function) (other e : Fault) (p : ℕ) (ys : List ℕ) →
 before_here f other e p ys is key h =
     key_here (phase_of other) p f.slot (rest_of f other) ys
     (subst (λ k. precedes k (p ∷ slot_key f.slot ++ ys) ≡ true) (key_is f other is) (subst (λ k. precedes (looking_key (λ slot. f.image) other) k ≡ true) key h))
-
--- ---- identity and probe
-
-record IsIdentityFault (f : Function) (other : Fault) : Type 0 where
-  number : ℕ
-  more : List ℕ
-  key : rest_of f other ≡ number ∷ more
-  is : IdentityIs f number more
-
-identity_fault : (f : Function) (other : Fault) → phase_of other ≡ 1 → IsHere f other → IsIdentityFault f other
-identity_fault f (NoVendor slot) phase is = record { number = 0; more = []; key = refl; is = is.1 }
-identity_fault f (HeaderKind slot) phase is = record { number = 1; more = []; key = refl; is = is.1 }
-identity_fault f (StrayProbe slot offset) phase is = record { number = 2; more = offset ∷ []; key = refl; is = (offset, refl, is.1) }
-identity_fault f _ phase is = absurd (let no : ⊥ = omega (arith, phase) in no)
-
--- a fault of identity is the first, where none with a lower key is there
-first_of_identity : (f : Function) (e : Fault) (ys : List ℕ) → looking_key (λ slot. f.image) e ≡ 1 ∷ slot_key f.slot ++ ys
-    → ((j : ℕ) (xs : List ℕ) → precedes (j ∷ xs) ys ≡ true → IdentityIs f j xs → ⊥) → IsFirstOf 1 f e
-first_of_identity f e ys key none other phase before is = elim (before_here f other e 1 ys is key before) [
-  | inl less ↦ absurd (let no : ⊥ = omega (arith, less, phase) in no)
-  | inr (same, rest) ↦
-      let x = identity_fault f other phase is in
-      none x.number x.more (subst (λ k. precedes k ys ≡ true) x.key rest) x.is
-]
-
-pub first_no_vendor : (f : Function) → IsFirstOf 1 f (NoVendor f.slot)
-first_no_vendor f = first_of_identity f (NoVendor f.slot) (0 ∷ []) refl (λ j xs h is. let less = one_number j 0 xs h in let no : ⊥ = omega (arith, less) in no)
-
-pub first_header_kind : (f : Function) → has_no_vendor f.image ≡ false → IsFirstOf 1 f (HeaderKind f.slot)
-first_header_kind f vendor = first_of_identity f (HeaderKind f.slot) (1 ∷ []) refl (λ j xs h is. only_vendor f j xs vendor (one_number j 1 xs h) is)

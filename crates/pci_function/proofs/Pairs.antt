@@ -1,18 +1,17 @@
 -- Two lists of slots, and the functions of a dump and its probe.
-use Rattle.std.proofs.Common.{refl, ◌≡◌, inl, inr, ℕ, zero, suc, ◌+◌, ◌<◌, ◌≤◌, List, [], ◌∷◌, arith, sym, ◌∙◌, ap, subst, length, get_or, take, map, Bool, false, IsTrue}
-use Rattle.std.specs.List.{Contains}
+use Rattle.std.proofs.Common.{refl, ◌≡◌, inl, inr, ℕ, zero, suc, ◌+◌, ◌<◌, ◌≤◌, List, [], ◌∷◌, arith, sym, ◌∙◌, ap, subst, length, get_or, take, map}
+use Rattle.std.specs.List.{All, Contains}
 use Rattle.std.specs.List.Sorted.{IsStrictlyIncreasing}
-use Rattle.std.proofs.lemmas.Bool.{cases_lt, false≢true}
+use Rattle.std.proofs.lemmas.Bool.{both_ways, cases_lt, false_from_ne_true}
 use Rattle.std.proofs.lemmas.List.{get_or_default, get_or-take, length-take, take_more_same, length-map}
+use Rattle.std.proofs.lemmas.List.Elements.{All-contains, All-more}
 use Rattle.pci_spec.specs.Slot.{Slot, IsSlot, IsRising, slot_number}
 use Rattle.pci_spec.specs.Text.{Block, slots_of}
-use Rattle.pci_spec.specs.Fault.{IsInOne, IsThere, has_no_vendor, has_other_layout, is_stray}
+use Rattle.pci_spec.specs.Fault.{IsInOne}
 use Rattle.pci_spec.specs.System.{Function, system_of}
-use Rattle.pci_spec.proofs.Pairing.{function_of}
-use Rattle.pci_function.specs.declared.pair_fault.PairFault.{PairFault}
-use Rattle.pci_function.specs.declared.pair_fault.PairFault.TheVariants as faults
-use Rattle.pci_function.specs.PairFault.{pair_fault}
-use Rattle.pci_function.specs.Pair.{IsFine, IsNoneBelow, IsFaultHere, IsPair}
+use Rattle.pci_spec.proofs.Pairing.{function_of, function-at, same_length, length-system_of}
+use Rattle.pci_function.specs.Profile.{IsAnswering}
+use Rattle.pci_function.specs.Pair.{IsNoneBelow, IsPair}
 
 -- ---- slots
 
@@ -176,70 +175,46 @@ same_more dump probe a p i wd wp ea ep ha hp same e =
 
 -- ---- functions
 
-in_system : (dump probe : List Block) (k : ℕ) (b p : Block) → k < length dump → k < length probe → b ≡ get_or dump k b → p ≡ get_or probe k p → Contains (system_of dump probe) (function_of b p)
-in_system [] probe k b p wd wp eb ep = absurd (let no : ⊥ = omega (arith, wd) in no)
-in_system (d ∷ dump) [] k b p wd wp eb ep = absurd (let no : ⊥ = omega (arith, wp) in no)
-in_system (d ∷ dump) (q ∷ probe) zero b p wd wp eb ep = (0, omega arith, (λ i. function_of (sym eb i) (sym ep i)))
-in_system (d ∷ dump) (q ∷ probe) (suc k) b p wd wp eb ep =
-    let r = in_system dump probe k b p (omega (arith, wd)) (omega (arith, wp)) eb ep in
-    (suc r.0, (let w = r.1 in omega (arith, w)), r.2)
+module _ (dump probe : List Block) (same : slots_of dump ≡ slots_of probe) (k : ℕ) (b p : Block) (below : k < length dump) (eb : b ≡ get_or dump k b) (ep : p ≡ get_or probe k p) where
+  -- the function of the blocks at a place
+  pub at_place : get_or (system_of dump probe) k (function_of b p) ≡ function_of b p
+  at_place =
+      let long = same_length dump probe same in
+      function-at dump probe k b p (function_of b p) below (omega (arith, below, long)) ∙ (λ i. function_of (sym eb i) (sym ep i))
 
--- the two blocks of a function
-pub record From (dump probe : List Block) (k : ℕ) (f : Function) : Type 0 where
-  pub b : Block
-  pub p : Block
-  pub within : k < length dump
-  pub block : b ≡ get_or dump k b
-  pub read_back : p ≡ get_or probe k p
-  pub is : function_of b p ≡ f
+  -- stands there in the system
+  pub placed : Contains (system_of dump probe) (function_of b p)
+  placed =
+      let long = length-system_of dump probe (same_length dump probe same) in
+      (k, omega (arith, below, long), at_place)
 
-pub from_system : (dump probe : List Block) (k : ℕ) (f : Function) → k < length (system_of dump probe) → get_or (system_of dump probe) k f ≡ f → From dump probe k f
-from_system [] probe k f h e = absurd (let no : ⊥ = omega (arith, h) in no)
-from_system (d ∷ dump) [] k f h e = absurd (let no : ⊥ = omega (arith, h) in no)
-from_system (d ∷ dump) (q ∷ probe) zero f h e = record { b = d; p = q; within = omega arith; block = refl; read_back = refl; is = e }
-from_system (d ∷ dump) (q ∷ probe) (suc k) f h e =
-    let r = from_system dump probe k f (omega (arith, h)) e in
-    record { b = r.b; p = r.p; within = (let w = r.within in omega (arith, w)); block = r.block; read_back = r.read_back; is = r.is }
+  -- what holds of the functions before it and of it holds of one more
+  pub holds_of_more : (Holds : Function → Type 0) → All Holds (take k (system_of dump probe)) → Holds (function_of b p) → All Holds (take (k + 1) (system_of dump probe))
+  holds_of_more Holds before it =
+      let long = length-system_of dump probe (same_length dump probe same) in
+      All-more Holds (system_of dump probe) k (function_of b p) (omega (arith, below, long)) before (subst Holds (sym at_place) it)
 
--- the functions before a place are fine
-abbrev pub AreFine : ℕ → List Block → List Block → Type 0
-AreFine n dump probe = (k : ℕ) (b p : Block) → k < n → b ≡ get_or dump k b → p ≡ get_or probe k p → IsFine b p
+-- where each function answers, they are a pair
+pub answering_pair : (dump probe : List Block) → slots_of dump ≡ slots_of probe → All IsAnswering (system_of dump probe) → (roots : List ℕ) → IsPair roots dump probe
+answering_pair dump probe same answering roots =
+    let answers : (f : Function) → Contains (system_of dump probe) f → IsAnswering f = λ f has. All-contains IsAnswering (system_of dump probe) f answering has in
+    record {
+      same = same;
+      slots = (λ slot there. elim there [
+        | inl one ↦ one.1 (subst (λ (ss : List Slot). Contains ss slot) same one.0)
+        | inr one ↦ one.0 (subst (λ (ss : List Slot). Contains ss slot) (sym same) one.1)
+      ]);
+      vendors = (λ slot there. both_ways _ (answers there.1.0 there.1.1).vendor there.1.3);
+      layouts = (λ slot there. both_ways _ (answers there.1.0 there.1.1).header there.1.3);
+      probes = (λ slot offset there. both_ways _ ((answers there.1.0 there.1.1).probe offset) there.1.3);
+    }
 
-pub fine_more : (dump probe : List Block) (i : ℕ) (b p : Block) → i < length dump → i < length probe → b ≡ get_or dump i b → p ≡ get_or probe i p → IsFine b p → AreFine i dump probe → AreFine (i + 1) dump probe
-fine_more dump probe i b p wd wp eb ep fine before k c q h ec eq = elim (cases_lt k i) [
-  | inl low ↦ before k c q low ec eq
-  | inr high ↦
-      let z : k ≡ i = omega (arith, h, high) in
-      let block : b ≡ c = eb ∙ get_or_default dump i b c wd ∙ ap (λ (n : ℕ). get_or dump n c) (sym z) ∙ sym ec in
-      let read_back : p ≡ q = ep ∙ get_or_default probe i p q wp ∙ ap (λ (n : ℕ). get_or probe n q) (sym z) ∙ sym eq in
-      subst (λ (x : Block). IsFine x q) block (subst (λ (x : Block). IsFine b x) read_back fine)
-]
-
-no_such : (dump probe : List Block) (test : Function → Bool) → AreFine (length dump) dump probe → ((b p : Block) → IsFine b p → test (function_of b p) ≡ false) → (f : Function) → Contains (system_of dump probe) f → IsTrue (test f) → ⊥
-no_such dump probe test fine fails f (k, within, is) holds =
-    let r = from_system dump probe k f within is in
-    false≢true (sym (fails r.b r.p (fine k r.b r.p r.within r.block r.read_back)) ∙ ap test r.is ∙ holds)
-
-pub pair_is_fine : (dump probe : List Block) → slots_of dump ≡ slots_of probe → AreFine (length dump) dump probe → (roots : List ℕ) → IsPair roots dump probe
-pair_is_fine dump probe same fine roots = record {
-  same = same;
-  slots = (λ slot there. elim there [
-    | inl one ↦ one.1 (subst (λ (ss : List Slot). Contains ss slot) same one.0)
-    | inr one ↦ one.0 (subst (λ (ss : List Slot). Contains ss slot) (sym same) one.1)
-  ]);
-  vendors = (λ slot there. no_such dump probe (λ f. has_no_vendor f.image) fine (λ b p h. h.vendor) there.1.0 there.1.1 there.1.3);
-  layouts = (λ slot there. no_such dump probe (λ f. has_other_layout f.image) fine (λ b p h. h.layout) there.1.0 there.1.1 there.1.3);
-  probes = (λ slot offset there. no_such dump probe (λ f. is_stray f.image f.probe offset) fine (λ b p h. h.probe_bytes offset) there.1.0 there.1.1 there.1.3);
-}
-
-pub fault_is_there : (dump probe : List Block) (k : ℕ) (b p : Block) (fault : PairFault) → slots_of dump ≡ slots_of probe → k < length dump → k < length probe → b ≡ get_or dump k b → p ≡ get_or probe k p
-    → IsFaultHere b p fault → (roots : List ℕ) → IsThere roots dump probe (pair_fault fault)
-fault_is_there dump probe k b p (faults.NoVendor slot) same wd wp eb ep h roots = (same, (function_of b p, in_system dump probe k b p wd wp eb ep, sym h.0, h.1))
-fault_is_there dump probe k b p (faults.HeaderKind slot) same wd wp eb ep h roots = (same, (function_of b p, in_system dump probe k b p wd wp eb ep, sym h.0, h.1))
-fault_is_there dump probe k b p (faults.StrayProbe slot offset) same wd wp eb ep h roots = (same, (function_of b p, in_system dump probe k b p wd wp eb ep, sym h.0, h.1))
-fault_is_there dump probe k b p (faults.BarType slot register) same wd wp eb ep h roots = absurd h
-fault_is_there dump probe k b p (faults.BarMask slot register) same wd wp eb ep h roots = absurd h
-fault_is_there dump probe k b p (faults.BarPair slot register) same wd wp eb ep h roots = absurd h
-fault_is_there dump probe k b p (faults.RomMask slot register) same wd wp eb ep h roots = absurd h
-fault_is_there dump probe k b p (faults.WindowMask slot register) same wd wp eb ep h roots = absurd h
-fault_is_there dump probe k b p (faults.SlotsDiffer slot) same wd wp eb ep h roots = absurd h
+-- and back
+pub pair_answers : (dump probe : List Block) → ((roots : List ℕ) → IsPair roots dump probe) → (f : Function) → Contains (system_of dump probe) f → IsAnswering f
+pair_answers dump probe pair f has =
+    let is = pair [] in
+    record {
+      vendor = false_from_ne_true _ (λ h. is.vendors f.slot (is.same, (f, has, refl, h)));
+      header = false_from_ne_true _ (λ h. is.layouts f.slot (is.same, (f, has, refl, h)));
+      probe = λ offset. false_from_ne_true _ (λ h. is.probes f.slot offset (is.same, (f, has, refl, h)));
+    }

@@ -15,8 +15,7 @@ pub record IsBridgeAt (image probe : List ℕ) (o : Option Bridge) : Type 0 wher
   pub same : option_map bridge_value o ≡ (if layout image == 1 then Some (bridge_of image probe) else None)
   pub windows : (kind : WindowKind) → layout image ≡ 1 → IsFalse (breaks_window_rule kind image probe)
 
--- the function's registers and capabilities list break no rule, and the record is what they decode to
+-- the function's registers break no rule, and the record is what they decode to
 pub record IsRecordOf (f : Function) (r : Record) : Type 0 where
   pub decodable : IsDecodable f
   pub same : record_value r ≡ record_of f
-  pub chain : HasChain f.image

@@ -1,16 +1,13 @@
-//! What is decoded of one function: its record, from its image and its read backs.
-ghost use Rattle.std.specs.Prelude.{◌≡◌, [], OnOk, IfErr, MatchResult};
-ghost use Rattle.pci_spec.specs.Capability.{IsChain};
-ghost use Rattle.pci_image.specs.Faults.{IsImageFaultIn};
+//! What the registers of one function decode to: its record, from its image and its read backs.
+ghost use Rattle.std.specs.Prelude.{◌≤◌, IfErr, MatchResult};
+ghost use Rattle.pci_image.specs.Faults.{IsImageFaultIn, image_fault_number};
 ghost use Rattle.pci_image.specs.Windows.{IsLowestWindowFault};
 ghost use Rattle.pci_function.specs.Fault.{image_fault_at};
 ghost use Rattle.pci_function.specs.Profile.{IsFirstOf};
 ghost use Rattle.pci_function.specs.Decoding.{IsBridgeAt, IsRecordOf};
 
 use super::record::{Bridge, Record};
-use arrayvec::ArrayVec;
 use pci_image::bar::bars;
-use pci_image::capability::add_places;
 use pci_image::fault::ImageFault;
 use pci_image::header::Header;
 use pci_image::image::Image;
@@ -42,31 +39,16 @@ fn bridge_at(image: &Image, probe: &Image) -> Result<Option<Bridge>, ImageFault>
 ///
 /// # Errors
 ///
-/// 20 `NoVendor` and 21 `HeaderKind` where it isn't a function that decodes; then the first fault of its registers, in
-/// the order of BARs (22 to 24), ROM (25) and windows (26); then the first one of its capabilities list (27 to 29).
+/// 20 `NoVendor` and 21 `HeaderKind` where it isn't a function that decodes; else the first fault of its registers, in
+/// the order of BARs (22 to 24), ROM (25) and windows (26).
 pub fn decode(slot: Slot, image: &Image, probe: &Image) -> Result<Record, ImageFault>
     ensures decoded { MatchResult result (IsRecordOf record { slot = slot; image = image.now.0; probe = probe.now.0 }) (IsImageFaultIn image.now.0 probe.now.0) }
+    ensures number { IfErr result (λ e. image_fault_number e ≤ 26) }
     ensures first { IfErr result (λ e. IsFirstOf 2 record { slot = slot; image = image.now.0; probe = probe.now.0 } (image_fault_at slot e)) }
-{
-    decode_with_places(slot, image, probe, &mut ArrayVec::new())
-}
-
-/// The record of a function as of [`decode`], and the places of its capabilities, which are added to a list of none.
-pub(crate) fn decode_with_places(
-    slot: Slot,
-    image: &Image,
-    probe: &Image,
-    places: &mut ArrayVec<u8, 48>,
-) -> Result<Record, ImageFault>
-    requires none { places.old.items ≡ [] }
-    ensures decoded { MatchResult result (IsRecordOf record { slot = slot; image = image.now.0; probe = probe.now.0 }) (IsImageFaultIn image.now.0 probe.now.0) }
-    ensures first { IfErr result (λ e. IsFirstOf 2 record { slot = slot; image = image.now.0; probe = probe.now.0 } (image_fault_at slot e)) }
-    ensures places { OnOk result (IsChain image.now.0 places.new.items) }
 {
     let bars = bars(image, probe)?;
     let rom = rom(image, probe)?;
     let bridge = bridge_at(image, probe)?;
-    add_places(image, places)?;
     Ok(Record {
         slot,
         command: image.u16(COMMAND),

@@ -4,11 +4,12 @@ ghost use Rattle.std.specs.Prelude.{MatchResult};
 ghost use Rattle.pci_function.specs.Fault.{fault_of};
 ghost use Rattle.pci_function.specs.Profile.{IsExamined, IsFirstFault};
 
-use super::decode::decode_with_places;
+use super::decode::decode;
 use super::fault::Fault;
 use super::profile::{identity_fault, profile_fault};
 use super::record::Record;
 use arrayvec::ArrayVec;
+use pci_image::capability::add_places;
 use pci_image::image::Image;
 use pci_image::slot::Slot;
 
@@ -26,11 +27,15 @@ pub fn examine(slot: Slot, image: &Image, probe: &Image) -> Result<Record, Fault
         Some(fault) => return Err(fault),
         None => {}
     }
-    let mut places = ArrayVec::new();
-    let decoded = match decode_with_places(slot, image, probe, &mut places) {
+    let decoded = match decode(slot, image, probe) {
         Ok(decoded) => decoded,
         Err(fault) => return Err(Fault::of_image(slot, fault)),
     };
+    let mut places = ArrayVec::new();
+    match add_places(image, &mut places) {
+        Ok(()) => {}
+        Err(fault) => return Err(Fault::of_image(slot, fault)),
+    }
     match profile_fault(slot, image, probe, &places) {
         Some(fault) => Err(fault),
         None => Ok(decoded),

@@ -12,17 +12,29 @@ use std::fmt;
 /// configuration space. Its number is that of `number`; it is shown as number, name and fields.
 #[derive(Clone, Copy, Debug, PartialEq, Eq)]
 pub enum Fault {
+    /// 20: the vendor reads FFFFh, so no function answers (PCI 3.0, 6.2.1).
     NoVendor(Slot),
+    /// 21: the header is neither of type 0 nor of type 1.
     HeaderKind(Slot),
+    /// 22: a memory BAR of a reserved type.
     BarType(Slot, u8),
+    /// 23: a BAR whose read back is of no lawful size, or whose value doesn't go with it.
     BarMask(Slot, u8),
+    /// 24: a 64-bit BAR in the header's last BAR register.
     BarPair(Slot, u8),
+    /// 25: an expansion ROM whose read back is of no lawful size, or whose value doesn't go with it.
     RomMask(Slot, u8),
+    /// 26: a bridge window whose read backs or values are none of those that are decoded.
     WindowMask(Slot, u8),
+    /// 27: the capability list leads to a place below 40h.
     CapRange(Slot, u8),
+    /// 28: the capability list comes to a place twice.
     CapLoop(Slot, u8),
+    /// 29: the body of a capability passes the end of the image.
     CapCut(Slot, u8),
+    /// 30: only one of dump and probe lists the slot.
     SlotsDiffer(Slot),
+    /// 31: the probe has a byte other than 00 where there is no address register.
     StrayProbe(Slot, u8),
     LoneFunction(Slot),
     PaletteSnoop(Slot),
@@ -59,8 +71,12 @@ pub enum Fault {
     },
 }
 
+/// Why a dump and a probe are refused: one of 20 to 26, 30 and 31.
+pub type PairFault = Fault;
+
 impl Fault {
     ghost use Rattle.pci_function.specs.Fault.{fault_of, image_fault_at};
+    ghost use Rattle.pci_spec.specs.Order.{phase_of};
 
     /// The fault of a function's image, with the function's slot.
     pub fn of_image(slot: Slot, fault: ImageFault) -> Fault
@@ -109,6 +125,24 @@ impl Fault {
             Fault::Unreached { .. } => 60,
             Fault::Clash { .. } => 61,
             Fault::Split { .. } => 62,
+        }
+    }
+
+    /// The phase in which the fault is looked for: 0 slots, 1 identities and probes, 2 registers and
+    /// capabilities lists, 3 profiles, 4 places in the tree of buses, 5 regions.
+    pub fn phase(&self) -> u8
+        ensures { result ≡ phase_of (fault_of self.now) }
+    {
+        match self {
+            Fault::SlotsDiffer(_) => 0,
+            Fault::NoVendor(_) | Fault::HeaderKind(_) | Fault::StrayProbe(..) => 1,
+            Fault::BarType(..) | Fault::BarMask(..) | Fault::BarPair(..) => 2,
+            Fault::RomMask(..) | Fault::WindowMask(..) => 2,
+            Fault::CapRange(..) | Fault::CapLoop(..) | Fault::CapCut(..) => 2,
+            Fault::PaletteSnoop(_) | Fault::VgaEnable(_) | Fault::IsaEnable(_) => 3,
+            Fault::Subtractive(_) | Fault::InReset(_) | Fault::PowerState(_) => 3,
+            Fault::LoneFunction(_) | Fault::BusRange(_) | Fault::Orphan(_) => 4,
+            Fault::Unreached { .. } | Fault::Clash { .. } | Fault::Split { .. } => 5,
         }
     }
 }

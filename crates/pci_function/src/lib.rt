@@ -1,8 +1,9 @@
 //! One function examined, and what can be wrong: with a function by itself, with a dump and its probe, with a system.
 //!
 //! `examine` looks at a function in the order in which its faults are named: `profile` at its identity and its probe,
-//! `decode` at its registers and its capabilities list, `profile` at what it may not do. What is kept of it is a `Record`.
-//! `pair` says whether a dump and a probe go together, and `fault` has each fault with its number and its text.
+//! `decode` at its registers, then at the places of its capabilities, and `profile` at what it may not do. What is kept
+//! of it is a `Record`. `pair` says whether a dump and a probe go together, and `fault` has each fault with its number,
+//! its phase and its text.
 //!
 //! ```text
 //! let record = examine(block.slot, &block.image, &probe.image)?;
@@ -16,13 +17,11 @@ pub mod decode;
 pub mod examine;
 pub mod fault;
 pub mod pair;
-pub mod pair_fault;
 mod profile;
 pub mod record;
 pub mod space;
 mod stray;
 
-pub use fault::Fault;
-pub use pair_fault::PairFault;
+pub use fault::{Fault, PairFault};
 pub use record::{Bridge, Record};
 pub use space::{Address, Space};

@@ -1,40 +1,19 @@
 //! A dump and its probe: the same functions, each of a known kind, and read backs in address
 //! registers alone.
-ghost use Rattle.std.specs.Prelude.{◌≡◌, ℕ, List, IfSome, IfNone, IfErr, OnOk};
+ghost use Rattle.std.specs.Prelude.{◌≡◌, ◌≤◌, ℕ, List, IfSome, IfNone, IfErr, OnOk};
 ghost use Rattle.pci_spec.specs.Slot.{IsRising};
 ghost use Rattle.pci_spec.specs.Text.{slots_of};
 ghost use Rattle.pci_spec.specs.Fault.{IsInOne, IsThere};
-ghost use Rattle.pci_spec.specs.Order.{IsFirstThere};
-ghost use Rattle.pci_function.specs.PairFault.{pair_fault};
-ghost use Rattle.pci_function.specs.Pair.{IsFine, IsNoneBelow, IsFaultHere, IsFirstHere, IsFaultOfPair, IsPair};
+ghost use Rattle.pci_spec.specs.Order.{phase_of, IsFirstThere};
+ghost use Rattle.pci_function.specs.Fault.{fault_of};
+ghost use Rattle.pci_function.specs.Pair.{IsNoneBelow, IsPair};
 
-use super::pair_fault::PairFault;
-use super::stray::stray_byte;
+use super::fault::{Fault, PairFault};
+use super::profile::identity_fault;
 use pci_dump::block::Block;
 use pci_dump::dump::Dump;
-use pci_image::header::{NO_VENDOR, layout};
-use pci_image::offset::VENDOR_ID;
 use pci_image::slot::Slot;
 use std::alloc::Allocator;
-
-/// Looks at one function: its vendor, then its layout, then its probe.
-fn check_function(block: &Block, probe: &Block) -> Result<(), PairFault>
-    ensures ok { OnOk result (IsFine block.now probe.now) }
-    ensures err { IfErr result (IsFaultHere block.now probe.now) }
-    ensures first { IfErr result (IsFirstHere block.now probe.now) }
-{
-    if block.image.u16(VENDOR_ID) == NO_VENDOR {
-        return Err(PairFault::NoVendor(block.slot));
-    }
-    let layout = layout(&block.image);
-    if 1 < layout {
-        return Err(PairFault::HeaderKind(block.slot));
-    }
-    match stray_byte(layout, &probe.image) {
-        None => Ok(()),
-        Some(offset) => Err(PairFault::StrayProbe(block.slot, offset)),
-    }
-}
 
 /// The least slot that one of two lists of blocks has and the other doesn't: the smaller of the two
 /// slots at the first place where they differ, or the one that one list alone has there. None where
@@ -74,20 +53,22 @@ pub fn first_difference(dump: &[Block], probe: &[Block]) -> Option<Slot>
 /// `NoVendor`, 21 `HeaderKind` and 31 `StrayProbe` with the first such offset.
 pub fn pair<A: Allocator, B: Allocator>(dump: &Dump<A>, probe: &Dump<B>) -> Result<(), PairFault>
     ensures ok { OnOk result ((roots : List ℕ) → IsPair roots dump.now probe.now) }
-    ensures kind { IfErr result IsFaultOfPair }
-    ensures there { IfErr result (λ fault. (roots : List ℕ) → IsThere roots dump.now probe.now (pair_fault fault)) }
-    ensures first { IfErr result (λ fault. (roots : List ℕ) → IsFirstThere roots dump.now probe.now (pair_fault fault)) }
+    ensures kind { IfErr result (λ fault. phase_of (fault_of fault) ≤ 1) }
+    ensures there { IfErr result (λ fault. (roots : List ℕ) → IsThere roots dump.now probe.now (fault_of fault)) }
+    ensures first { IfErr result (λ fault. (roots : List ℕ) → IsFirstThere roots dump.now probe.now (fault_of fault)) }
 {
     let blocks = dump.blocks();
     let probes = probe.blocks();
     match first_difference(blocks, probes) {
-        Some(slot) => return Err(PairFault::SlotsDiffer(slot)),
+        Some(slot) => return Err(Fault::SlotsDiffer(slot)),
         None => {}
     }
     for i in 0..blocks.len() {
-        match check_function(&blocks[i], &probes[i]) {
-            Err(fault) => return Err(fault),
-            Ok(()) => {}
+        let block = &blocks[i];
+        let read_backs = &probes[i];
+        match identity_fault(block.slot, &block.image, &read_backs.image) {
+            Some(fault) => return Err(fault),
+            None => {}
         }
     }
     Ok(())

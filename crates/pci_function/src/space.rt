@@ -4,6 +4,7 @@ ghost use Rattle.pci_spec.specs.Line.{space_text, place_text};
 ghost use Rattle.pci_spec.specs.System.{IsAddress};
 
 use pci_image::range::Range;
+use pci_image::window_kind::WindowKind;
 use std::fmt;
 
 /// I/O space, of 32-bit addresses, or memory space, of 64-bit ones.
@@ -19,7 +20,43 @@ const IO_SPACE: u16 = 1;
 const MEMORY_SPACE: u16 = 2;
 
 impl Space {
-    ghost use Rattle.pci_function.specs.Space.{space_of, is_on};
+    ghost use Rattle.std.specs.Prelude.{true};
+    ghost use Rattle.pci_spec.specs.System.{window_space};
+    ghost use Rattle.pci_image.specs.WindowKinds.{kind_value};
+    ghost use Rattle.pci_function.specs.Space.{space_of, is_on, kind_in};
+
+    /// The space of a window's addresses.
+    pub fn of(kind: WindowKind) -> Space
+        ensures { space_of result ≡ window_space (kind_value kind) }
+    {
+        match kind {
+            WindowKind::Io => Space::Io,
+            WindowKind::Memory | WindowKind::Prefetchable => Space::Mem,
+        }
+    }
+
+    /// The kind of its accesses, `prefetch` saying that they are a prefetchable BAR's.
+    pub fn kind(self, prefetch: bool) -> WindowKind
+        ensures { kind_value result ≡ kind_in (space_of self) prefetch }
+    {
+        match self {
+            Space::Io => WindowKind::Io,
+            Space::Mem => {
+                if prefetch {
+                    WindowKind::Prefetchable
+                } else {
+                    WindowKind::Memory
+                }
+            }
+        }
+    }
+
+    /// The kind of access that gets furthest: each window of the space passes it.
+    pub fn furthest(self) -> WindowKind
+        ensures { kind_value result ≡ kind_in (space_of self) true }
+    {
+        self.kind(true)
+    }
 
     /// Whether a Command register enables the space.
     pub fn is_on(self, command: u16) -> bool

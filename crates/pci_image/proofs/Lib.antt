@@ -11,3 +11,4 @@ pub mod Roms
 pub mod WindowRules
 pub mod Walking
 pub mod PlaceSets
+pub mod WindowKinds

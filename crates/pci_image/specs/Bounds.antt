@@ -1,23 +1,15 @@
 -- The registers of windows as those of the definitions.
 use Rattle.std.specs.Prelude.{ℕ, ◌+◌, ◌-◌, ◌*◌, ◌/◌, ◌%◌, nat_le, ◌==◌, Bool, ◌&&◌, ◌||◌, Option, None, Some, if◌then◌else◌}
-use Rattle.pci_spec.specs.Window.{WindowKind as SpecKind, IoWindow, MemoryWindow, PrefetchWindow, Bounds as SpecBounds, lower_pages, page_bits, page_size, upper_bits, is_lawful_window, is_optional}
+use Rattle.pci_spec.specs.Window.{WindowKind, Bounds as SpecBounds, lower_pages, page_bits, page_size, upper_bits, is_lawful_window, is_optional}
 use Rattle.pci_spec.specs.Decoded.{Range}
-use Rattle.pci_image.specs.declared.window.bounds.WindowKind.{WindowKind}
-use Rattle.pci_image.specs.declared.window.bounds.WindowKind.TheVariants.{Io, Memory, Prefetchable}
 use Rattle.pci_image.specs.declared.window.bounds.Bounds.{Bounds}
-
--- the window as the definitions name it
-abbrev pub spec_kind_of : WindowKind → SpecKind
-spec_kind_of Io = IoWindow
-spec_kind_of Memory = MemoryWindow
-spec_kind_of Prefetchable = PrefetchWindow
 
 -- its registers as the definitions have them
 abbrev pub spec_bounds_of : Bounds → SpecBounds
 spec_bounds_of b = record { base = b.base; limit = b.limit; base_upper = b.base_upper; limit_upper = b.limit_upper }
 
 -- read backs of a window with this low nibble
-abbrev pub is_read_back : SpecKind → ℕ → SpecBounds → Bool
+abbrev pub is_read_back : WindowKind → ℕ → SpecBounds → Bool
 is_read_back kind n mask =
     mask.base == page_bits kind + n && mask.limit == page_bits kind + n
     && mask.base_upper == n * upper_bits kind && mask.limit_upper == n * upper_bits kind
@@ -28,15 +20,15 @@ is_value n value =
     value.base % 16 == n && value.limit % 16 == n && (n == 1 || (value.base_upper == 0 && value.limit_upper == 0))
 
 -- values and read backs of a window that is implemented
-abbrev pub is_implemented : SpecKind → SpecBounds → SpecBounds → Bool
+abbrev pub is_implemented : WindowKind → SpecBounds → SpecBounds → Bool
 is_implemented kind value mask = is_lawful_window kind 0 value mask || (is_optional kind && is_lawful_window kind 1 value mask)
 
 -- the number of a page, by its upper and lower part
-abbrev pub page_of : SpecKind → ℕ → ℕ → ℕ
+abbrev pub page_of : WindowKind → ℕ → ℕ → ℕ
 page_of kind upper lower = upper * lower_pages kind + lower / 16
 
 -- the addresses from one page to another
-abbrev pub range_between : SpecKind → ℕ → ℕ → Option Range
+abbrev pub range_between : WindowKind → ℕ → ℕ → Option Range
 range_between kind base limit =
     if nat_le base limit
     then Some record { first = base * page_size kind; last = limit * page_size kind + (page_size kind - 1) }

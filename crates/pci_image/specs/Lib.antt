@@ -7,3 +7,4 @@ pub mod Ranges
 pub mod Registers
 pub mod Roms
 pub mod Windows
+pub mod WindowKinds

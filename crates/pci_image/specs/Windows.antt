@@ -12,6 +12,12 @@ use Rattle.pci_image.specs.declared.fault.ImageFault.TheVariants.{NoVendor, Head
 abbrev pub decoded_windows_of : Windows → DecodedWindows
 decoded_windows_of w = record { io = w.io; memory = w.mem; prefetch = w.pref }
 
+-- the window of a kind
+abbrev pub window_of : Windows → WindowKind → Option DecodedWindow
+window_of w IoWindow = w.io
+window_of w MemoryWindow = Some w.mem
+window_of w PrefetchWindow = w.pref
+
 -- a function answers, is a bridge, and none of its windows breaks its rule
 pub record HasLawfulWindows (image probe : List ℕ) : Type 0 where
   pub vendor : IsFalse (has_no_vendor image)

@@ -31,6 +31,7 @@ pub mod register;
 pub mod rom;
 pub mod slot;
 pub mod window;
+pub mod window_kind;
 
 pub use bar::{Bar, BarKind, bars};
 pub use capability::{Cap, chain};
@@ -41,3 +42,4 @@ pub use range::Range;
 pub use rom::Rom;
 pub use slot::Slot;
 pub use window::{Window, Windows};
+pub use window_kind::{ByKind, WindowKind};

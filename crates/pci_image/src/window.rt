@@ -7,7 +7,7 @@ use super::fault::ImageFault;
 use super::header::Header;
 use super::image::Image;
 use super::range::Range;
-use bounds::WindowKind;
+use super::window_kind::WindowKind;
 use std::marker::Model;
 
 /// A window that is implemented: its range, and whether it has upper halves.
@@ -42,7 +42,8 @@ impl Window {
     ghost use Rattle.std.specs.Option.{option_map};
     ghost use Rattle.pci_spec.specs.Window.{bounds_at, breaks_window_rule, is_optional, window_register};
     ghost use Rattle.pci_spec.specs.Decoded.{decoded_window, optional_window};
-    ghost use Rattle.pci_image.specs.Bounds.{is_implemented, spec_kind_of};
+    ghost use Rattle.pci_image.specs.WindowKinds.{kind_value};
+    ghost use Rattle.pci_image.specs.Bounds.{is_implemented};
     ghost use Rattle.pci_image.specs.Ranges.{decoded_range_of};
 
     /// The addresses that the window holds; none where it is closed, its base above its limit.
@@ -62,10 +63,10 @@ impl Window {
     /// A window that is implemented.
     fn implemented(kind: WindowKind, image: &Image, probe: &Image) -> Result<Window, ImageFault>
         ensures { MatchResult result
-            (λ w. IsTrue (is_implemented (spec_kind_of kind) (bounds_at (spec_kind_of kind) image.now.0) (bounds_at (spec_kind_of kind) probe.now.0))
-            × (w ≡ decoded_window (spec_kind_of kind) image.now.0 probe.now.0))
-            (λ f. IsFalse (is_implemented (spec_kind_of kind) (bounds_at (spec_kind_of kind) image.now.0) (bounds_at (spec_kind_of kind) probe.now.0))
-            × (f ≡ ImageFault.WindowMask (window_register (spec_kind_of kind)))) }
+            (λ w. IsTrue (is_implemented (kind_value kind) (bounds_at (kind_value kind) image.now.0) (bounds_at (kind_value kind) probe.now.0))
+            × (w ≡ decoded_window (kind_value kind) image.now.0 probe.now.0))
+            (λ f. IsFalse (is_implemented (kind_value kind) (bounds_at (kind_value kind) image.now.0) (bounds_at (kind_value kind) probe.now.0))
+            × (f ≡ ImageFault.WindowMask (window_register (kind_value kind)))) }
     {
         let value = kind.bounds(image);
         let Some(wide) = kind.has_upper(value, kind.bounds(probe)) else {
@@ -83,10 +84,10 @@ impl Window {
         image: &Image,
         probe: &Image,
     ) -> Result<Option<Window>, ImageFault>
-        requires { IsTrue (is_optional (spec_kind_of kind)) }
+        requires { IsTrue (is_optional (kind_value kind)) }
         ensures { MatchResult result
-            (λ w. IsFalse (breaks_window_rule (spec_kind_of kind) image.now.0 probe.now.0) × (w ≡ optional_window (spec_kind_of kind) image.now.0 probe.now.0))
-            (λ f. IsTrue (breaks_window_rule (spec_kind_of kind) image.now.0 probe.now.0) × (f ≡ ImageFault.WindowMask (window_register (spec_kind_of kind)))) }
+            (λ w. IsFalse (breaks_window_rule (kind_value kind) image.now.0 probe.now.0) × (w ≡ optional_window (kind_value kind) image.now.0 probe.now.0))
+            (λ f. IsTrue (breaks_window_rule (kind_value kind) image.now.0 probe.now.0) × (f ≡ ImageFault.WindowMask (window_register (kind_value kind)))) }
     {
         if kind.bounds(image).is_zero() && kind.bounds(probe).is_zero() {
             return Ok(None);
@@ -98,7 +99,8 @@ impl Window {
 impl Windows {
     ghost use Rattle.std.specs.Prelude.{IfErr};
     ghost use Rattle.pci_spec.specs.Decoded.{decoded_windows};
-    ghost use Rattle.pci_image.specs.Windows.{decoded_windows_of, HasLawfulWindows, HoldsAsComparators, IsWindowsFaultIn, IsLowestWindowFault};
+    ghost use Rattle.pci_image.specs.WindowKinds.{kind_value};
+    ghost use Rattle.pci_image.specs.Windows.{decoded_windows_of, window_of, HasLawfulWindows, HoldsAsComparators, IsWindowsFaultIn, IsLowestWindowFault};
 
     /// The windows of a bridge.
     ///
@@ -124,5 +126,16 @@ impl Windows {
             mem: Window::implemented(WindowKind::Memory, image, probe)?,
             pref: Window::optional(WindowKind::Prefetchable, image, probe)?,
         })
+    }
+
+    /// The window of a kind, where it is implemented.
+    pub fn get(&self, kind: WindowKind) -> Option<Window>
+        ensures { result ≡ window_of self.now (kind_value kind) }
+    {
+        match kind {
+            WindowKind::Io => self.io,
+            WindowKind::Memory => Some(self.mem),
+            WindowKind::Prefetchable => self.pref,
+        }
     }
 }

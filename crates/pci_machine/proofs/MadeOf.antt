@@ -17,11 +17,8 @@ use Rattle.pci_spec.specs.Fault.{IsThere, has_no_vendor, has_other_layout}
 use Rattle.pci_spec.specs.Decoded.{IsDecodable}
 use Rattle.pci_spec.proofs.Pairing.{function_of, function-at, same_length, length-system_of, slots-system_of, IsSystem-of_dumps}
 use Rattle.pci_spec.proofs.Sizing.{sizing_finds_probe}
-use Rattle.pci_image.specs.Faults.{IsImageFaultIn, image_fault_number}
-use Rattle.pci_image.specs.declared.fault.ImageFault.{ImageFault}
-use Rattle.pci_image.specs.declared.fault.ImageFault.TheVariants.{NoVendor, HeaderKind, BarType, BarMask, BarPair, RomMask, WindowMask, CapRange, CapLoop, CapCut}
-use Rattle.pci_function.specs.PairFault.{pair_fault}
 use Rattle.pci_function.specs.Pair.{IsPair}
+use Rattle.pci_function.proofs.Pairs.{at_place}
 use Rattle.pci_spec.specs.Port.{IsTarget}
 use Rattle.pci_machine.specs.Memory.{IsMachine}
 use Rattle.pci_spec.specs.Sizing.{function_at, IsSizable, IsStuck}
@@ -29,7 +26,6 @@ use Rattle.pci_spec.specs.Machine.{writable_by}
 use Rattle.pci_machine.proofs.Targets.{found, map-map, some_at}
 use Rattle.pci_machine.proofs.Memory.{lawful_from_rising}
 use Rattle.pci_machine.proofs.Sizing.{function_at-is}
-use Rattle.pci_machine.specs.Made.{name_fault}
 use Rattle.pci_machine.proofs.TargetOf.{IsTarget-target_of, no_write_of_header}
 
 -- ---- the decode bits
@@ -52,47 +48,14 @@ can_clear f (i, below, set, cannot) =
 -- ---- functions by their places
 
 module _ (dump probe : List Block) (same : slots_of dump ≡ slots_of probe) where
-  -- the function of the blocks at a place
-  pub at_place : (k : ℕ) (b p : Block) → k < length dump → b ≡ get_or dump k b → p ≡ get_or probe k p → get_or (system_of dump probe) k (function_of b p) ≡ function_of b p
-  at_place k b p below eb ep =
-      let long = same_length dump probe same in
-      function-at dump probe k b p (function_of b p) below (omega (arith, below, long)) ∙ ap (λ x. function_of x (get_or probe k p)) (sym eb) ∙ ap (function_of b) (sym ep)
-
   -- one function more of the machine
   pub made_more : (k : ℕ) (b p : Block) (made next : List Target) (r : Target) → k < length dump → b ≡ get_or dump k b → p ≡ get_or probe k p
       → made ≡ map target_of (take k (system_of dump probe)) → next ≡ made ++ r ∷ [] → r ≡ target_of (function_of b p)
       → next ≡ map target_of (take (k + 1) (system_of dump probe))
   made_more k b p made next r below eb ep so_far push is =
       let long = length-system_of dump probe (same_length dump probe same) in
-      push ∙ ap (λ xs. xs ++ r ∷ []) so_far ∙ ap (λ x. map target_of (take k (system_of dump probe)) ++ x ∷ []) (is ∙ ap target_of (sym (at_place k b p below eb ep)))
+      push ∙ ap (λ xs. xs ++ r ∷ []) so_far ∙ ap (λ x. map target_of (take k (system_of dump probe)) ++ x ∷ []) (is ∙ ap target_of (sym (at_place dump probe same k b p below eb ep)))
       ∙ sym (map_more target_of (system_of dump probe) k (function_of b p) (omega (arith, below, long)))
-
-  -- one function more that decodes
-  pub decodable_more : (k : ℕ) (b p : Block) → k < length dump → b ≡ get_or dump k b → p ≡ get_or probe k p → All IsDecodable (take k (system_of dump probe))
-      → IsDecodable (function_of b p) → All IsDecodable (take (k + 1) (system_of dump probe))
-  decodable_more k b p below eb ep so_far one =
-      let long = length-system_of dump probe (same_length dump probe same) in
-      All-more IsDecodable (system_of dump probe) k (function_of b p) (omega (arith, below, long)) so_far (subst IsDecodable (sym (at_place k b p below eb ep)) one)
-
-  -- the function of the blocks at a place is of the system
-  listed : (k : ℕ) (b p : Block) → k < length dump → b ≡ get_or dump k b → p ≡ get_or probe k p → Contains (system_of dump probe) (function_of b p)
-  listed k b p below eb ep =
-      let long = length-system_of dump probe (same_length dump probe same) in
-      (k, omega (arith, below, long), at_place k b p below eb ep)
-
-  -- a fault of one function is there
-  pub fault_there : (roots : List ℕ) (k : ℕ) (b p : Block) (fault : ImageFault) → k < length dump → b ≡ get_or dump k b → p ≡ get_or probe k p
-      → IsImageFaultIn b.image p.image fault → image_fault_number fault ≤ 26 → IsThere roots dump probe (pair_fault (name_fault b.slot fault))
-  fault_there roots k b p NoVendor below eb ep h small = (same, (function_of b p, listed k b p below eb ep, refl, h))
-  fault_there roots k b p HeaderKind below eb ep h small = (same, (function_of b p, listed k b p below eb ep, refl, h))
-  fault_there roots k b p (BarType register) below eb ep h small = (same, (function_of b p, listed k b p below eb ep, refl, h))
-  fault_there roots k b p (BarMask register) below eb ep h small = (same, (function_of b p, listed k b p below eb ep, refl, h))
-  fault_there roots k b p (BarPair register) below eb ep h small = (same, (function_of b p, listed k b p below eb ep, refl, h))
-  fault_there roots k b p (RomMask register) below eb ep h small = (same, (function_of b p, listed k b p below eb ep, refl, h))
-  fault_there roots k b p (WindowMask register) below eb ep h small = (same, (function_of b p, listed k b p below eb ep, refl, h))
-  fault_there roots k b p (CapRange register) below eb ep h small = absurd (let no : ⊥ = omega (arith, small) in no)
-  fault_there roots k b p (CapLoop register) below eb ep h small = absurd (let no : ⊥ = omega (arith, small) in no)
-  fault_there roots k b p (CapCut register) below eb ep h small = absurd (let no : ⊥ = omega (arith, small) in no)
 
   -- ---- all functions
 

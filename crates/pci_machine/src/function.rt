@@ -6,18 +6,16 @@ ghost use Rattle.pci_spec.specs.Machine.{target_of};
 ghost use Rattle.pci_spec.specs.Decoded.{IsDecodable};
 ghost use Rattle.pci_image.specs.Faults.{IsImageFaultIn, image_fault_number};
 ghost use Rattle.pci_spec.specs.Port.{IsTarget};
-ghost use Rattle.pci_machine.specs.Made.{name_fault, IsFirstOfRegisters};
+ghost use Rattle.pci_function.specs.Fault.{image_fault_at};
+ghost use Rattle.pci_function.specs.Profile.{IsFirstOf};
 
 use crate::mask::{clearing_bytes, writable_bytes};
 use crate::registers::ConfigSpace;
-use pci_function::pair_fault::PairFault;
-use pci_image::bar::bars;
+use pci_function::decode::decode;
 use pci_image::fault::ImageFault;
 use pci_image::header::layout;
 use pci_image::image::Image;
-use pci_image::rom::register::rom;
 use pci_image::slot::Slot;
-use pci_image::window::Windows;
 
 /// The registers of the function at a slot, if its address registers decode. The fault is one of 20
 /// to 26: of BARs the lowest, else that of the ROM, else of windows the lowest.
@@ -29,44 +27,14 @@ pub fn registers_of(slot: Slot, image: &Image, probe: &Image) -> Result<ConfigSp
     ensures header { IfOk result (λ registers. byte_at registers.writable table.HEADER_TYPE ≡ 0) }
     ensures fault { IfErr result (IsImageFaultIn image.now.0 probe.now.0) }
     ensures number { IfErr result (λ fault. image_fault_number fault ≤ 26) }
-    ensures first { IfErr result (IsFirstOfRegisters image.now.0 probe.now.0) }
+    ensures first { IfErr result (λ e. IsFirstOf 2 record { slot = slot; image = image.now.0; probe = probe.now.0 } (image_fault_at slot e)) }
 {
-    match bars(image, probe) {
-        Ok(_) => {}
-        Err(fault) => return Err(fault),
-    }
-    match rom(image, probe) {
-        Ok(_) => {}
-        Err(fault) => return Err(fault),
-    }
+    let _record = decode(slot, image, probe)?;
     let bridge = layout(image) == 1;
-    if bridge {
-        match Windows::of(image, probe) {
-            Ok(_) => {}
-            Err(fault) => return Err(fault),
-        }
-    }
     Ok(ConfigSpace {
         slot,
         image: *image,
         writable: writable_bytes(bridge, probe),
         clearing: clearing_bytes(bridge),
     })
-}
-
-/// The fault of a function among those of a dump and its probe.
-pub fn named(slot: Slot, fault: ImageFault) -> PairFault
-    requires { image_fault_number fault ≤ 26 }
-    ensures { result ≡ name_fault slot fault }
-{
-    match fault {
-        ImageFault::NoVendor => PairFault::NoVendor(slot),
-        ImageFault::HeaderKind => PairFault::HeaderKind(slot),
-        ImageFault::BarType(register) => PairFault::BarType(slot, register),
-        ImageFault::BarMask(register) => PairFault::BarMask(slot, register),
-        ImageFault::BarPair(register) => PairFault::BarPair(slot, register),
-        ImageFault::RomMask(register) => PairFault::RomMask(slot, register),
-        ImageFault::WindowMask(register) => PairFault::WindowMask(slot, register),
-        ImageFault::CapRange(_) | ImageFault::CapLoop(_) | ImageFault::CapCut(_) => unreachable!(),
-    }
 }

@@ -3,7 +3,7 @@ ghost use Rattle.std.specs.Prelude.{◌≡◌, ◌<◌, ℕ, List, map, All, IsT
 ghost use Rattle.pci_spec.specs.System.{system_of};
 ghost use Rattle.pci_spec.specs.Decoded.{IsDecodable};
 ghost use Rattle.pci_function.specs.Pair.{IsPair};
-ghost use Rattle.pci_machine.specs.Made.{IsRefusedFor, IsFirstFor};
+ghost use Rattle.pci_machine.specs.Made.{IsOfMachine, IsRefusedFor, IsFirstFor};
 ghost use Rattle.pci_spec.specs.Sizing.{function_at, IsSizable};
 ghost use Rattle.pci_spec.specs.Machine.{Target, target_of, sized, write_targets};
 ghost use Rattle.std.specs.Option.{option_map};
@@ -11,13 +11,13 @@ ghost use Rattle.pci_machine.specs.Memory.{pin_targets};
 ghost use Rattle.pci_spec.specs.Port.{has_function, target_at, IsLawful};
 
 use crate::access::{fits, is_access};
-use crate::function::{named, registers_of};
+use crate::function::registers_of;
 use crate::port::{ConfigPort, PortError};
 use crate::registers::ConfigSpace;
 use pci_dump::dump::Dump;
 use pci_dump::memory::Refused;
+use pci_function::fault::{Fault, PairFault};
 use pci_function::pair::pair;
-use pci_function::pair_fault::PairFault;
 use pci_image::image::Image;
 use pci_image::slot::Slot;
 use std::alloc::{Allocator, Global};
@@ -61,6 +61,7 @@ impl<A: Allocator> Machine<A> {
         ensures decodable { OnOk result (All IsDecodable (system_of dump.now probe.now)) }
         ensures read_backs { IfOk result (λ machine. All (λ f. sized (function_at machine f.slot) ≡ f.probe) (system_of dump.now probe.now)) }
         ensures sizable { IfOk result (λ machine. All (λ f. IsSizable machine f.slot) (system_of dump.now probe.now)) }
+        ensures kind { IfErr result IsOfMachine }
         ensures fault { IfErr result (IsRefusedFor dump.now probe.now) }
         ensures first { IfErr result (IsFirstFor dump.now probe.now) }
     {
@@ -76,7 +77,9 @@ impl<A: Allocator> Machine<A> {
             let read_backs = &probes[i];
             match registers_of(block.slot, &block.image, &read_backs.image) {
                 Ok(registers) => functions.push(registers)?,
-                Err(fault) => return Err(Refused::Fault(named(block.slot, fault))),
+                Err(fault) => {
+                    return Err(Refused::Fault(Fault::of_image(block.slot, fault)));
+                }
             }
         }
         Ok(Machine { functions, last: 0 })

@@ -3,7 +3,7 @@ use Rattle.std.proofs.Common.{◌≡◌, ℕ, refl, Bool, true, false, inl, inr,
 use Rattle.std.specs.Bool.{nat_eq, nat_le, if◌then◌else◌}
 use Rattle.std.proofs.lemmas.Bool.{cases_Bool}
 use Rattle.pci_spec.specs.Bar.{BarKind, IoBar, Memory32, Memory64, Reserved, bar_at, bar_kind, is_io, is_wide, is_prefetchable, type_bits}
-use Rattle.pci_spec.specs.Window.{PrefetchWindow, has_window, is_wide_window}
+use Rattle.pci_spec.specs.Window.{IoWindow, MemoryWindow, PrefetchWindow, has_window, is_wide_window}
 use Rattle.pci_spec.specs.Decoded.{DecodedBar, decoded_bar}
 use Rattle.std.specs.List.{list_all}
 use Rattle.pci_spec.specs.System.{System, Function, Bar}
@@ -97,6 +97,6 @@ class_is s f above pools bar n e at =
     let io = kind_io f bar n e in
     let pre : bar.prefetch ≡ is_prefetchable (bar_at f.probe n) = ap (λ (x : DecodedBar). x.prefetchable) e in
     let served = served_is s f above pools bar n e at in
-    ap (λ x. if x then plan.IoClass else if bar.prefetch && is_served_by bar above pools then plan.PrefetchClass else plan.MemoryClass) io
-    ∙ ap (λ x. if is_io (bar_at f.probe n) then plan.IoClass else if x && is_served_by bar above pools then plan.PrefetchClass else plan.MemoryClass) pre
-    ∙ ap (λ x. if is_io (bar_at f.probe n) then plan.IoClass else if is_prefetchable (bar_at f.probe n) && x then plan.PrefetchClass else plan.MemoryClass) served
+    ap (λ x. if x then IoWindow else if bar.prefetch && is_served_by bar above pools then PrefetchWindow else MemoryWindow) io
+    ∙ ap (λ x. if is_io (bar_at f.probe n) then IoWindow else if x && is_served_by bar above pools then PrefetchWindow else MemoryWindow) pre
+    ∙ ap (λ x. if is_io (bar_at f.probe n) then IoWindow else if is_prefetchable (bar_at f.probe n) && x then PrefetchWindow else MemoryWindow) served

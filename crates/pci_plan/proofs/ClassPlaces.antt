@@ -8,10 +8,11 @@ use Rattle.std.proofs.lemmas.Option.{slice_get_within, get_or_from_slice_get}
 use Rattle.std.proofs.lemmas.List.Elements.{All-contains}
 use Rattle.std.proofs.lemmas.List.Sorted.{Contains-permutation}
 use Rattle.pci_spec.specs.Slot.{slot_number}
+use Rattle.pci_spec.specs.Window.{WindowKind}
 use Rattle.pci_spec.specs.System.{System, Function, IsSystem, Part}
 use Rattle.pci_spec.specs.Bus.{IsNested}
 use Rattle.pci_spec.specs.Decoded.{Range}
-use Rattle.pci_spec.specs.Plan.{Pools, Class, pool_of, class_of, raised_to, greatest_of_roots}
+use Rattle.pci_spec.specs.Plan.{Pools, pool_of, class_of, raised_to, greatest_of_roots}
 use Rattle.pci_spec.specs.PlanPromise.{CanBePlanned}
 use Rattle.pci_spec.specs.Place.{Item, own_items, place_of}
 use Rattle.pci_spec.specs.Planning.Numbers.{item_of, place_at}
@@ -45,7 +46,7 @@ one_index s system j k d in_j in_k same =
       ]
     ]
 
-module _ (roots : List ℕ) (s : System) (pools : Pools) (c : Class) (system : IsSystem s) (nested : IsNested roots s)
+module _ (roots : List ℕ) (s : System) (pools : Pools) (c : WindowKind) (system : IsSystem s) (nested : IsNested roots s)
     (table : IsTable roots s pools c (place_at roots s pools)) (low : (pool_of pools c).last < 2 ^ 64) (items : List CodeItem) (are : AreSorted roots s pools c items) where
   -- the item of a part
   pub record HasItem (k : ℕ) (f : Function) (part : Part) : Type 0 where
@@ -97,13 +98,13 @@ module _ (roots : List ℕ) (s : System) (pools : Pools) (c : Class) (system : I
 -- ---- a class that is sorted
 
 -- what is known of the items of a class once they are sorted
-pub record IsReady (roots : List ℕ) (s : System) (pools : Pools) (c : Class) (items : List CodeItem) : Type 0 where
+pub record IsReady (roots : List ℕ) (s : System) (pools : Pools) (c : WindowKind) (items : List CodeItem) : Type 0 where
   pub rooted : IsRooted roots s
   pub low : (pool_of pools c).last < 2 ^ 64
   pub table : IsTable roots s pools c (place_at roots s pools)
   pub sorted : AreSorted roots s pools c items
 
-pub ready : (roots : List ℕ) (s : System) (pools : Pools) (c : Class) (range : CodeRange) → IsRooted roots s → CanBePlanned roots s pools → decoded_range_of range ≡ pool_of pools c → range.last < 2 ^ 64
+pub ready : (roots : List ℕ) (s : System) (pools : Pools) (c : WindowKind) (range : CodeRange) → IsRooted roots s → CanBePlanned roots s pools → decoded_range_of range ≡ pool_of pools c → range.last < 2 ^ 64
     → (old items : List CodeItem) → AreItems roots s pools c old → IsPermutation old items
     → ((number : CodeItem → ℕ) → AllPairs (λ i j. number i < number j) old → AllPairs (IsPlacedBefore number) items) → IsReady roots s pools c items
 ready roots s pools c range rooted can is low old items are moved sorts =
@@ -116,7 +117,7 @@ ready roots s pools c range rooted can is low old items are moved sorts =
       sorted = are_sorted roots s pools c old items are moved (sorts (item_number roots s pools c) (numbers_rise roots s pools c old rooted.system are));
     }
 
-module _ (roots : List ℕ) (s : System) (pools : Pools) (c : Class) (items : List CodeItem) (is : IsReady roots s pools c items) where
+module _ (roots : List ℕ) (s : System) (pools : Pools) (c : WindowKind) (items : List CodeItem) (is : IsReady roots s pools c items) where
   -- where items are, something stands on a root
   pub some_size : (greatest : ℕ) → greatest ≡ greatest_of_roots roots s pools c → (length items == 0) ≡ false → 0 < greatest
   some_size greatest e other = elim (cases_eq (length items) 0) [

@@ -17,7 +17,7 @@ use Rattle.pci_spec.specs.Planning.Showing.{first_bit, reach_of}
 use Rattle.pci_spec.specs.Planning.Numbers.{place_at, new_bar, lower_number, bar_number}
 use Rattle.pci_spec.proofs.Members.{IsMade, in_filter_to, in_filter_from, in_map_to, in_map_from, in_range_to, in_range_from}
 use Rattle.pci_spec.proofs.Planning.Reach.{bar_place}
-use Rattle.pci_spec.proofs.Planning.Planned.{class_same_itself}
+use Rattle.pci_spec.proofs.Planning.Tables.{class_itself}
 use Rattle.pci_spec.proofs.Planning.BarNumbers.{value_small, upper_of_wide, wide_has_bar}
 use Rattle.pci_image.specs.Bars.{decoded_kind_of, decoded_bar_of}
 use Rattle.pci_image.specs.declared.bar.Bar.{Bar as CodeBar}
@@ -129,7 +129,7 @@ module _ (filling : Filling) (of : FillingOf filling) where
       let f = of.function in
       let c = class_of of.system of.pools f (Bar n) in
       of.places (Bar n) (and_from (nat_lt n (bar_count (layout f.image)) && has_bar f.probe n) (same_class c c)
-      (and_from (nat_lt n (bar_count (layout f.image))) (has_bar f.probe n) (lt-ltb n (bar_count (layout f.image)) inside) there) (class_same_itself c))
+      (and_from (nat_lt n (bar_count (layout f.image))) (has_bar f.probe n) (lt-ltb n (bar_count (layout f.image)) inside) there) (class_itself c))
 
   -- the place, over the encoding that stands in the register
   pub bar_number_is : (n : ℕ) → n < bar_count (layout of.function.image) → has_bar of.function.probe n ≡ true

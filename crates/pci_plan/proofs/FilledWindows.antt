@@ -11,7 +11,7 @@ use Rattle.pci_spec.specs.Decoded.{DecodedWindow, optional_window, decoded_windo
 use Rattle.pci_spec.specs.Decoded as decoded
 use Rattle.pci_spec.specs.System.{Function, IsFunction, Window, is_bridge}
 use Rattle.pci_spec.specs.Bus.{secondary}
-use Rattle.pci_spec.specs.Plan.{window_class, same_class, class_of, items_on, limited, need_of, has_behind, window_size}
+use Rattle.pci_spec.specs.Plan.{same_class, class_of, items_on, limited, need_of, has_behind, window_size}
 use Rattle.pci_spec.specs.Plan as plan
 use Rattle.pci_spec.specs.Place.{nibble_of, closed_bounds}
 use Rattle.pci_spec.specs.Planning.Showing.{bounds_for}
@@ -19,45 +19,41 @@ use Rattle.pci_spec.specs.Planning.Table.{need_behind}
 use Rattle.pci_spec.specs.Planning.Numbers.{place_at, new_bounds}
 use Rattle.pci_spec.proofs.Records.{memory_window_there}
 use Rattle.pci_spec.proofs.ReadBacks.{AreZero, are_zero, window_rules}
-use Rattle.pci_spec.proofs.Planning.Planned.{class_same_itself}
+use Rattle.pci_spec.proofs.Planning.Tables.{class_itself}
 use Rattle.pci_spec.proofs.Planning.Reach.{IsReached, need_is_behind}
 use Rattle.pci_spec.proofs.Planning.NumbersFit.{window_room, parts_fit}
 use Rattle.pci_spec.proofs.Planning.WindowFits.{few_nibbles, by_absent, by_open, by_closed}
+use Rattle.pci_image.specs.WindowKinds.{kind_value, by_kind}
+use Rattle.pci_image.specs.Windows.{window_of}
 use Rattle.pci_function.specs.declared.record.Bridge.{Bridge}
 use Rattle.pci_function.specs.Values.{bridge_value}
 use Rattle.pci_tree.proofs.Lifting.{same_bridge}
 use Rattle.pci_tree.proofs.RegionParts.{same_bridge_of}
-use Rattle.pci_plan.specs.declared.pools.Class.{Class}
-use Rattle.pci_plan.specs.declared.pools.Class.TheVariants.{Io, Memory, Prefetchable}
+use Rattle.pci_image.specs.declared.window_kind.WindowKind.{WindowKind as CodeKind}
+use Rattle.pci_image.specs.declared.window_kind.WindowKind.TheVariants.{Io, Memory, Prefetchable}
 use Rattle.pci_plan.specs.declared.need.Needs.{Needs}
 use Rattle.pci_plan.specs.declared.numbers.Filling.{Filling}
-use Rattle.pci_plan.specs.Pools.{class_value, by_class}
 use Rattle.pci_plan.specs.Needs.{AreNeeds, AreAllNeeds}
 use Rattle.pci_plan.specs.Places.{first_in}
-use Rattle.pci_plan.specs.Fillings.{FillingOf, address_bits, window_in, window_kind}
+use Rattle.pci_plan.specs.Fillings.{FillingOf, address_bits}
 
--- ---- classes and kinds
-
-pub kind_class : (class : Class) → window_class (window_kind class) ≡ class_value class
-kind_class Io = refl
-kind_class Memory = refl
-kind_class Prefetchable = refl
+-- ---- kinds
 
 -- how far a window can go
-pub reached_bits : (class : Class) (n end : ℕ) → IsReached (window_kind class) n end → end ≤ 2 ^ address_bits class
+pub reached_bits : (class : CodeKind) (n end : ℕ) → IsReached (kind_value class) n end → end ≤ 2 ^ address_bits class
 reached_bits Io n end h = h
 reached_bits Memory n end h = h
 reached_bits Prefetchable n end h = h.0
 
-pub address_bits_few : (class : Class) → 2 ^ address_bits class ≤ 2 ^ 64
+pub address_bits_few : (class : CodeKind) → 2 ^ address_bits class ≤ 2 ^ 64
 address_bits_few Io = omega arith
 address_bits_few Memory = omega arith
 address_bits_few Prefetchable = omega arith
 
 -- ---- needs
 
-needs_of : (roots : List ℕ) (s : Rattle.pci_spec.specs.System.System) (pools : plan.Pools) (needs : Rattle.pci_plan.specs.declared.by_class.ByClass.ByClass Needs) (class : Class)
-    → AreAllNeeds roots s pools needs → AreNeeds roots s pools (class_value class) (by_class needs class)
+needs_of : (roots : List ℕ) (s : Rattle.pci_spec.specs.System.System) (pools : plan.Pools) (needs : Rattle.pci_image.specs.declared.window_kind.ByKind.ByKind Needs) (class : CodeKind)
+    → AreAllNeeds roots s pools needs → AreNeeds roots s pools (kind_value class) (by_kind needs class)
 needs_of roots s pools needs Io all = all.io
 needs_of roots s pools needs Memory all = all.memory
 needs_of roots s pools needs Prefetchable all = all.prefetch
@@ -108,7 +104,7 @@ module _ (filling : Filling) (of : FillingOf filling) where
     secondary_is = ap (λ (b : decoded.Bridge). b.secondary) same
 
     -- the window of a class is there where the function has one
-    window_is : (class : Class) → window_in bridge.windows class ≡ optional_window (window_kind class) of.function.image of.function.probe
+    window_is : (class : CodeKind) → window_of bridge.windows (kind_value class) ≡ optional_window (kind_value class) of.function.image of.function.probe
     window_is Io = ap (λ (b : decoded.Bridge). b.windows.io) same
     window_is Memory =
         let f = of.function in
@@ -116,52 +112,46 @@ module _ (filling : Filling) (of : FillingOf filling) where
         ap (λ (b : decoded.Bridge). Some b.windows.memory) same ∙ sym (ap (λ t. if t then Some (decoded_window MemoryWindow f.image f.probe) else None) there)
     window_is Prefetchable = ap (λ (b : decoded.Bridge). b.windows.prefetch) same
 
-    pub window_there : (class : Class) → is_some (window_in bridge.windows class) ≡ has_window (window_kind class) of.function.probe
+    pub window_there : (class : CodeKind) → is_some (window_of bridge.windows (kind_value class)) ≡ has_window (kind_value class) of.function.probe
     window_there class =
         let f = of.function in
-        ap is_some (window_is class) ∙ some_if (has_window (window_kind class) f.probe) (decoded_window (window_kind class) f.image f.probe)
+        ap is_some (window_is class) ∙ some_if (has_window (kind_value class) f.probe) (decoded_window (kind_value class) f.image f.probe)
 
-    pub window_wide : (class : Class) (w : DecodedWindow) → window_in bridge.windows class ≡ Some w → w.wide ≡ is_wide_window (window_kind class) of.function.probe
+    pub window_wide : (class : CodeKind) (w : DecodedWindow) → window_of bridge.windows (kind_value class) ≡ Some w → w.wide ≡ is_wide_window (kind_value class) of.function.probe
     window_wide class w is =
         let f = of.function in
-        ap (λ (v : DecodedWindow). v.wide) (wide_if (has_window (window_kind class) f.probe) (decoded_window (window_kind class) f.image f.probe) w (sym is ∙ window_is class))
+        ap (λ (v : DecodedWindow). v.wide) (wide_if (has_window (kind_value class) f.probe) (decoded_window (kind_value class) f.image f.probe) w (sym is ∙ window_is class))
 
     -- what the bus behind needs
-    pub need_is : (class : Class) → slice_index (by_class filling.needs.now class).of_bus bridge.secondary ≡ need_of of.system of.pools (class_value class) (secondary of.function)
+    pub need_is : (class : CodeKind) → slice_index (by_kind filling.needs.now class).of_bus bridge.secondary ≡ need_of of.system of.pools (kind_value class) (secondary of.function)
     need_is class =
         let f = of.function in
         let small : secondary f < 256 = function_is.image.bytes 0x19 in
-        ap (slice_index (by_class filling.needs.now class).of_bus) secondary_is
+        ap (slice_index (by_kind filling.needs.now class).of_bus) secondary_is
         ∙ (needs_of of.roots of.system of.pools filling.needs.now class of.needs).need (secondary f) small
 
-    pub open_is : (class : Class) → nat_lt 0 (slice_index (by_class filling.needs.now class).of_bus bridge.secondary) ≡ has_behind of.system of.pools (class_value class) of.function
+    pub open_is : (class : CodeKind) → nat_lt 0 (slice_index (by_kind filling.needs.now class).of_bus bridge.secondary) ≡ has_behind of.system of.pools (kind_value class) of.function
     open_is class =
         let f = of.function in
-        ap (nat_lt 0) (need_is class) ∙ some_limited (need_behind of.system of.pools (class_value class) f)
-        ∙ sym (need_is_behind of.roots of.system of.pools of.plannable (place_at of.roots of.system of.pools) of.tables f (class_value class) of.recorded.listed is_a_bridge)
+        ap (nat_lt 0) (need_is class) ∙ some_limited (need_behind of.system of.pools (kind_value class) f)
+        ∙ sym (need_is_behind of.roots of.system of.pools of.plannable (place_at of.roots of.system of.pools) of.tables f (kind_value class) of.recorded.listed is_a_bridge)
 
     -- ---- its registers
 
-    pub nibble_few : (class : Class) → nibble_of (window_kind class) of.function ≤ 1
-    nibble_few class = few_nibbles of.function is_a_bridge (window_kind class)
+    pub nibble_few : (class : CodeKind) → nibble_of (kind_value class) of.function ≤ 1
+    nibble_few class = few_nibbles of.function is_a_bridge (kind_value class)
 
     -- the size of a window around what the bus behind needs
-    abbrev pub size : Class → ℕ
-    size class = window_size (class_value class) (need_of of.system of.pools (class_value class) (secondary of.function))
+    abbrev pub size : CodeKind → ℕ
+    size class = window_size (kind_value class) (need_of of.system of.pools (kind_value class) (secondary of.function))
 
-    abbrev kind_size : Class → ℕ
-    kind_size class = window_size (window_class (window_kind class)) (need_of of.system of.pools (window_class (window_kind class)) (secondary of.function))
-
-    same_size : (class : Class) → kind_size class ≡ size class
-    same_size class = ap (λ c. window_size c (need_of of.system of.pools c (secondary of.function))) (kind_class class)
-
-    pub absent_bounds : (class : Class) → has_window (window_kind class) of.function.probe ≡ false
-        → new_bounds of.roots of.system of.pools of.function (window_kind class) ≡ record { base = 0; limit = 0; base_upper = 0; limit_upper = 0 }
+    pub absent_bounds : (class : CodeKind) → has_window (kind_value class) of.function.probe ≡ false
+        → new_bounds of.roots of.system of.pools of.function (kind_value class) ≡ record { base = 0; limit = 0; base_upper = 0; limit_upper = 0 }
     absent_bounds class none =
         let f = of.function in
-        let kind = window_kind class in
+        let kind = kind_value class in
         let mask = are_zero (bounds_at kind f.probe) (not-false (is_zero (bounds_at kind f.probe)) none) in
-        let as_they_are = by_absent f is_a_bridge kind (has_behind of.system of.pools (window_class kind) f) (place_at of.roots of.system of.pools f (Window kind)) (kind_size class) none in
+        let as_they_are = by_absent f is_a_bridge kind (has_behind of.system of.pools kind f) (place_at of.roots of.system of.pools f (Window kind)) (size class) none in
         elim (window_rules kind f.image f.probe (of.recorded.decodable.windows kind (eqb-true (layout f.image) 1 is_a_bridge))) [
           | inl narrow ↦ absurd (no_page kind 0 (sym narrow.base ∙ mask.base))
           | inr other ↦ elim other [
@@ -170,47 +160,44 @@ module _ (filling : Filling) (of : FillingOf filling) where
           ]
         ]
 
-    pub closed_is : (class : Class) → has_window (window_kind class) of.function.probe ≡ true
-        → slice_index (by_class filling.needs.now class).of_bus bridge.secondary ≡ 0
-        → new_bounds of.roots of.system of.pools of.function (window_kind class) ≡ closed_bounds (window_kind class) (nibble_of (window_kind class) of.function)
+    pub closed_is : (class : CodeKind) → has_window (kind_value class) of.function.probe ≡ true
+        → slice_index (by_kind filling.needs.now class).of_bus bridge.secondary ≡ 0
+        → new_bounds of.roots of.system of.pools of.function (kind_value class) ≡ closed_bounds (kind_value class) (nibble_of (kind_value class) of.function)
     closed_is class there none =
         let f = of.function in
-        let kind = window_kind class in
-        let nothing : has_behind of.system of.pools (window_class kind) f ≡ false = ap (λ c. has_behind of.system of.pools c f) (kind_class class) ∙ sym (open_is class) ∙ ap (nat_lt 0) none in
-        by_closed f is_a_bridge kind (has_behind of.system of.pools (window_class kind) f) (place_at of.roots of.system of.pools f (Window kind)) (kind_size class) there nothing
+        let kind = kind_value class in
+        let nothing : has_behind of.system of.pools kind f ≡ false = sym (open_is class) ∙ ap (nat_lt 0) none in
+        by_closed f is_a_bridge kind (has_behind of.system of.pools kind f) (place_at of.roots of.system of.pools f (Window kind)) (size class) there nothing
 
-    something : (class : Class) → 0 < slice_index (by_class filling.needs.now class).of_bus bridge.secondary → has_behind of.system of.pools (window_class (window_kind class)) of.function ≡ true
+    something : (class : CodeKind) → 0 < slice_index (by_kind filling.needs.now class).of_bus bridge.secondary → has_behind of.system of.pools (kind_value class) of.function ≡ true
     something class need =
-        ap (λ c. has_behind of.system of.pools c of.function) (kind_class class) ∙ sym (open_is class) ∙ lt-ltb 0 (slice_index (by_class filling.needs.now class).of_bus bridge.secondary) need
+        sym (open_is class) ∙ lt-ltb 0 (slice_index (by_kind filling.needs.now class).of_bus bridge.secondary) need
 
     -- the place of a window that is open
-    pub record IsOpenAt (class : Class) : Type 0 where
+    pub record IsOpenAt (class : CodeKind) : Type 0 where
       pub some : 0 < size class
-      pub high : first_in filling.places.now (Window (window_kind class)) + size class ≤ 2 ^ address_bits class
-      pub bounds : new_bounds of.roots of.system of.pools of.function (window_kind class)
-          ≡ bounds_for (window_kind class) (nibble_of (window_kind class) of.function) (first_in filling.places.now (Window (window_kind class))) (first_in filling.places.now (Window (window_kind class)) + (size class - 1))
+      pub high : first_in filling.places.now (Window (kind_value class)) + size class ≤ 2 ^ address_bits class
+      pub bounds : new_bounds of.roots of.system of.pools of.function (kind_value class)
+          ≡ bounds_for (kind_value class) (nibble_of (kind_value class) of.function) (first_in filling.places.now (Window (kind_value class))) (first_in filling.places.now (Window (kind_value class)) + (size class - 1))
 
-    pub open_at : (class : Class) → has_window (window_kind class) of.function.probe ≡ true → 0 < slice_index (by_class filling.needs.now class).of_bus bridge.secondary → IsOpenAt class
+    pub open_at : (class : CodeKind) → has_window (kind_value class) of.function.probe ≡ true → 0 < slice_index (by_kind filling.needs.now class).of_bus bridge.secondary → IsOpenAt class
     open_at class there need =
         let f = of.function in
-        let kind = window_kind class in
+        let kind = kind_value class in
         let n = nibble_of kind f in
         let some = something class need in
-        let behind : nat_lt 0 (need_behind of.system of.pools (window_class kind) f) ≡ true =
-        sym (need_is_behind of.roots of.system of.pools of.plannable (place_at of.roots of.system of.pools) of.tables f (window_class kind) of.recorded.listed is_a_bridge) ∙ some in
+        let behind : nat_lt 0 (need_behind of.system of.pools kind f) ≡ true =
+        sym (need_is_behind of.roots of.system of.pools of.plannable (place_at of.roots of.system of.pools) of.tables f kind of.recorded.listed is_a_bridge) ∙ some in
         let at = window_room of.roots of.system of.pools of.plannable of.tables f of.recorded.listed kind is_a_bridge some in
         let placed : first_in filling.places.now (Window kind) ≡ place_at of.roots of.system of.pools f (Window kind) =
-        of.places (Window kind) (and_from (is_bridge f && same_class (window_class kind) (window_class kind)) (nat_lt 0 (need_behind of.system of.pools (window_class kind) f))
-        (and_from (is_bridge f) (same_class (window_class kind) (window_class kind)) is_a_bridge (class_same_itself (window_class kind))) behind) in
-        let reached = reached_bits class n (place_at of.roots of.system of.pools f (Window kind) + kind_size class) at.reached in
-        let first_size = at.some in
-        let e = same_size class in
+        of.places (Window kind) (and_from (is_bridge f && same_class kind kind) (nat_lt 0 (need_behind of.system of.pools kind f))
+        (and_from (is_bridge f) (same_class kind kind) is_a_bridge (class_itself kind)) behind) in
+        let reached = reached_bits class n (place_at of.roots of.system of.pools f (Window kind) + size class) at.reached in
         record {
-          some = omega (arith, first_size, e);
-          high = omega (arith, reached, placed, e);
-          bounds = by_open f is_a_bridge kind (has_behind of.system of.pools (window_class kind) f) (place_at of.roots of.system of.pools f (Window kind)) (kind_size class) there some
-              ∙ ap (λ first. bounds_for kind n first (first + (kind_size class - 1))) (sym placed)
-              ∙ ap (λ count. bounds_for kind n (first_in filling.places.now (Window kind)) (first_in filling.places.now (Window kind) + (count - 1))) e;
+          some = at.some;
+          high = omega (arith, reached, placed);
+          bounds = by_open f is_a_bridge kind (has_behind of.system of.pools kind f) (place_at of.roots of.system of.pools f (Window kind)) (size class) there some
+              ∙ ap (λ first. bounds_for kind n first (first + (size class - 1))) (sym placed);
         }
 
     -- the upper halves of I/O have 16 bits

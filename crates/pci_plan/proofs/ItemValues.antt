@@ -11,11 +11,12 @@ use Rattle.std.proofs.lemmas.Option.{slice_get_within, slice_get-get_or, get_or_
 use Rattle.pci_spec.specs.Slot.{Slot}
 use Rattle.pci_spec.specs.Header.{layout, bar_count, bar_register}
 use Rattle.pci_spec.specs.Rom.{has_rom}
+use Rattle.pci_spec.specs.Window.{WindowKind, MemoryWindow}
 use Rattle.pci_spec.specs.System.{System, Function, IsFunction, IsSystem, Part, Bar, Rom, Window, is_bridge, is_implemented}
 use Rattle.pci_spec.specs.Bus.{secondary, IsNested}
 use Rattle.pci_spec.specs.Decoded.{HasRecords, DecodedBar, DecodedRom, decoded_bar, decoded_rom}
 use Rattle.pci_spec.specs.Decoded as decoded
-use Rattle.pci_spec.specs.Plan.{Class, MemoryClass, same_class, class_of, window_of, window_size, limited, need_of, has_behind}
+use Rattle.pci_spec.specs.Plan.{same_class, class_of, window_size, limited, need_of, has_behind}
 use Rattle.pci_spec.specs.Plan as plan
 use Rattle.pci_spec.specs.Place.{Item, part_item, window_item, items_among, own_items}
 use Rattle.pci_spec.specs.Planning.Sorted.{group_of}
@@ -75,7 +76,7 @@ in_one false x y has = absurd (in_nil y has)
 register_place : (register n : ℕ) → register ≡ bar_register n → (register - 0x10) / 4 ≡ n
 register_place register n at = omega (arith, at)
 
-module _ (s : System) (f : Function) (r : Record) (is : IsRecordOf s f r) (o : Owner) (here : function_in s o.function ≡ f) (c : Class) (pools : Pools) where
+module _ (s : System) (f : Function) (r : Record) (is : IsRecordOf s f r) (o : Owner) (here : function_in s o.function ≡ f) (c : WindowKind) (pools : Pools) where
   abbrev is_of : Part → Bool
   is_of part = same_class c (class_of s (pools_value pools) f part)
 
@@ -112,8 +113,8 @@ module _ (s : System) (f : Function) (r : Record) (is : IsRecordOf s f r) (o : O
   roms_are None e =
       sym (rom_among (has_rom f.image f.probe) ∙ ap (λ b. cond b (cond (is_of Rom) (part_item f Rom ∷ []) []) []) (no_rom (has_rom f.image f.probe) _ e))
   roms_are (Some rom) e =
-      map_cond (item_value s c) (same_class c MemoryClass) (owned o parts.Rom (span rom.first rom.last))
-      ∙ ap (λ i. cond (same_class c MemoryClass) (i ∷ []) []) (rom_is rom e)
+      map_cond (item_value s c) (same_class c MemoryWindow) (owned o parts.Rom (span rom.first rom.last))
+      ∙ ap (λ i. cond (same_class c MemoryWindow) (i ∷ []) []) (rom_is rom e)
       ∙ sym (rom_among (has_rom f.image f.probe) ∙ ap (λ b. cond b (cond (is_of Rom) (part_item f Rom ∷ []) []) []) (rom_there (has_rom f.image f.probe) (decoded_rom_of rom) _ e).0)
 
   -- ---- the window
@@ -143,7 +144,7 @@ module _ (s : System) (f : Function) (r : Record) (is : IsRecordOf s f r) (o : O
         ∙ sym (ap (λ t. t && has_behind s (pools_value pools) c f) bridge) in
         map_cond (item_value s c) (nat_lt 0 (get_or needs.of_bus b.secondary 0)) (owned o (parts.Window b.secondary) (window_size c (get_or needs.of_bus b.secondary 0)))
         ∙ ap (λ i. cond (nat_lt 0 (get_or needs.of_bus b.secondary 0)) (i ∷ []) [])
-        (item_same (function_in s o.function) f (Window (window_of c)) (Window (window_of c)) (window_size c (get_or needs.of_bus b.secondary 0)) _ here refl (ap (window_size c) need))
+        (item_same (function_in s o.function) f (Window c) (Window c) (window_size c (get_or needs.of_bus b.secondary 0)) _ here refl (ap (window_size c) need))
         ∙ ap value_window test
 
     -- ---- all of them
@@ -190,7 +191,7 @@ module _ (s : System) (f : Function) (r : Record) (is : IsRecordOf s f r) (o : O
     rom_in_items : (rom : Option CodeRom) (i : CodeItem) → Contains (rom_items o c rom) i → IsItemIn roots s i
     rom_in_items None i has = absurd (in_nil i has)
     rom_in_items (Some rom) i has =
-        subst (IsItemIn roots s) (in_one (same_class c MemoryClass) (owned o parts.Rom (span rom.first rom.last)) i has) (owned_in parts.Rom (span rom.first rom.last) tt)
+        subst (IsItemIn roots s) (in_one (same_class c MemoryWindow) (owned o parts.Rom (span rom.first rom.last)) i has) (owned_in parts.Rom (span rom.first rom.last) tt)
 
     pub each_is : (above : Above) (needs : List ℕ) (i : CodeItem) → Contains (record_items o c above pools needs r) i → IsItemIn roots s i
     each_is above needs i has =
@@ -212,7 +213,7 @@ bars_fine s f r is lawful k d l =
     let register : bar.reg ≡ bar_register at.0 = ap (λ (x : DecodedBar). x.register) at.1.is in
     (omega (arith, register), (lawful.bars k d l).0)
 
-pub items_more : (s : System) (pools : plan.Pools) (c : Class) (k : ℕ) (f : Function) (old new : List CodeItem) → slice_get s k ≡ Some f
+pub items_more : (s : System) (pools : plan.Pools) (c : WindowKind) (k : ℕ) (f : Function) (old new : List CodeItem) → slice_get s k ≡ Some f
     → map (item_value s c) old ≡ flat_map (own_items s pools c) (take k s) → map (item_value s c) new ≡ own_items s pools c f
     → map (item_value s c) (old ++ new) ≡ flat_map (own_items s pools c) (take (k + 1) s)
 items_more s pools c k f old new at before here =
@@ -232,11 +233,11 @@ each_more P old new before here k d l =
     ]
 
 -- the items of the first k functions
-pub record AreItemsTo (roots : List ℕ) (s : System) (pools : plan.Pools) (c : Class) (k : ℕ) (items : List CodeItem) : Type 0 where
+pub record AreItemsTo (roots : List ℕ) (s : System) (pools : plan.Pools) (c : WindowKind) (k : ℕ) (items : List CodeItem) : Type 0 where
   pub all : map (item_value s c) items ≡ flat_map (own_items s pools c) (take k s)
   pub each : All (IsItemIn roots s) items
 
-module _ (roots : List ℕ) (s : System) (records : List Record) (has : HasRecords s (map record_value records)) (pools : Pools) (c : Class) where
+module _ (roots : List ℕ) (s : System) (records : List Record) (has : HasRecords s (map record_value records)) (pools : Pools) (c : WindowKind) where
   pub items_none : AreItemsTo roots s (pools_value pools) c 0 []
   items_none = record { all = refl; each = All-nil (IsItemIn roots s) }
 

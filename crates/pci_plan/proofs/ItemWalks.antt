@@ -6,9 +6,10 @@ use Rattle.std.proofs.lemmas.Bool.{cases_Bool, ne_eqb, eq-eqb, or_left}
 use Rattle.std.proofs.lemmas.List.{get_or-map, length-map}
 use Rattle.std.proofs.lemmas.List.Elements.{All-contains, Contains-get_or}
 use Rattle.std.proofs.lemmas.List.Sorted.{IsPermutation-sym, Contains-permutation}
+use Rattle.pci_spec.specs.Window.{WindowKind}
 use Rattle.pci_spec.specs.System.{System, Function, IsSystem, Window}
 use Rattle.pci_spec.specs.Bus.{secondary, is_root, are_siblings, IsNested}
-use Rattle.pci_spec.specs.Plan.{Pools, Class, pool_of, raised_to, greatest_of_roots, window_of}
+use Rattle.pci_spec.specs.Plan.{Pools, pool_of, raised_to, greatest_of_roots}
 use Rattle.pci_spec.specs.Place.{Item, window_item, own_items, items_beside, start_of, place_of}
 use Rattle.pci_spec.specs.Planning.Numbers.{item_of, place_at}
 use Rattle.pci_spec.specs.Planning.Sorted.{all_items, group_of, item_group}
@@ -19,7 +20,7 @@ use Rattle.pci_spec.proofs.Planning.Starts.{start_of_window}
 use Rattle.pci_spec.proofs.Planning.Greatest.{le_greatest, greatest_on_roots, start_by_greatest}
 use Rattle.pci_spec.proofs.Planning.Sizes.{item_sizes}
 use Rattle.pci_spec.proofs.Planning.OwnItems.{in_cond_from, own_function}
-use Rattle.pci_spec.proofs.Planning.PlacedItems.{IsOfPart, class_through, own_part}
+use Rattle.pci_spec.proofs.Planning.PlacedItems.{IsOfPart, own_part}
 use Rattle.pci_spec.proofs.Planning.Places.{above_zero, groups_rise, place_of_first, place_of_new_group, place_of_next}
 use Rattle.pci_spec.proofs.Planning.Above.{HasWindowBefore, window_before}
 use Rattle.pci_spec.proofs.Planning.InPool.{IsInPool, in_pool}
@@ -36,12 +37,12 @@ part_of f parts.Rom is = tt
 part_of f (parts.Window bus) is = tt
 
 -- the code's part for a window is that of what is behind its bridge
-window_part : (c : Class) (f : Function) (p : CodePart) → IsPartOf f p → part_value c p ≡ Window (window_of c) → p ≡ parts.Window (secondary f)
+window_part : (c : WindowKind) (f : Function) (p : CodePart) → IsPartOf f p → part_value c p ≡ Window c → p ≡ parts.Window (secondary f)
 window_part c f (parts.Bar n) is e = cc
 window_part c f parts.Rom is e = cc
 window_part c f (parts.Window bus) is e = ap parts.Window (sym is.1)
 
-module _ (roots : List ℕ) (s : System) (pools : Pools) (c : Class) (system : IsSystem s) (nested : IsNested roots s)
+module _ (roots : List ℕ) (s : System) (pools : Pools) (c : WindowKind) (system : IsSystem s) (nested : IsNested roots s)
     (table : IsTable roots s pools c (place_at roots s pools)) (low : (pool_of pools c).last < 2 ^ 64) (items : List CodeItem) (are : AreSorted roots s pools c items) where
   abbrev pub values : List Item
   values = map (item_value s c) items
@@ -171,7 +172,7 @@ module _ (roots : List ℕ) (s : System) (pools : Pools) (c : Class) (system : I
       let of = of_part i has in
       let is = subst (IsPartOf f) window (is_in i has).part in
       let whole : window_item s pools c f ≡ item_value s c i =
-      sym (ap (λ d. window_item s pools d f) (class_through c)) ∙ ap (item_of s pools f) (sym (ap (part_value c) window)) ∙ of.whole in
+      ap (item_of s pools f) (sym (ap (part_value c) window)) ∙ of.whole in
       let up = order_of roots s nested f (listed_function i has) is.0 in
       let to = is.1 in
       sym (ap (place_of roots s pools c) whole)

@@ -9,11 +9,12 @@ use Rattle.std.proofs.lemmas.List.Sums.{fold_push, sum_by_push}
 use Rattle.std.proofs.lemmas.List.Elements.{All-contains}
 use Rattle.std.proofs.lemmas.Option.{slice_get_within, slice_get_read, get_or_from_slice_get}
 use Rattle.pci_spec.specs.Slot.{Slot}
+use Rattle.pci_spec.specs.Window.{WindowKind}
 use Rattle.pci_spec.specs.System.{System, Function, IsFunction, IsSystem, is_bridge}
 use Rattle.pci_spec.specs.Bus.{secondary, is_root, IsNested}
 use Rattle.pci_spec.specs.Decoded.{HasRecords}
 use Rattle.pci_spec.specs.Decoded as decoded
-use Rattle.pci_spec.specs.Plan.{Class, limited, window_size, need_of}
+use Rattle.pci_spec.specs.Plan.{limited, window_size, need_of}
 use Rattle.pci_spec.specs.Plan as plan
 use Rattle.pci_spec.specs.Planning.Table.{need_behind}
 use Rattle.pci_spec.specs.Planning.BusNeeds.{added, added_on}
@@ -56,18 +57,18 @@ tally_small sizes t is = let e = is.total in omega (arith, e)
 -- ---- the table
 
 -- what each bus needs of the functions from place k on, and the greatest of their sizes on the roots
-pub record AreNeedsFrom (roots : List ℕ) (s : System) (pools : plan.Pools) (c : Class) (k : ℕ) (of_bus : List ℕ) (most : ℕ) : Type 0 where
+pub record AreNeedsFrom (roots : List ℕ) (s : System) (pools : plan.Pools) (c : WindowKind) (k : ℕ) (of_bus : List ℕ) (most : ℕ) : Type 0 where
   pub size : length of_bus ≡ 256
   pub need : (bus : ℕ) → bus < 256 → get_or of_bus bus 0 ≡ limited (added_on s pools c bus (drop k s))
   pub greatest : most ≡ plan.greatest (flat_map (root_sizes roots s pools c) (drop k s))
 
-pub needs_small : (roots : List ℕ) (s : System) (pools : plan.Pools) (c : Class) (k : ℕ) (of_bus : List ℕ) (most : ℕ) → AreNeedsFrom roots s pools c k of_bus most → All (λ need. need ≤ 2 ^ 65) of_bus
+pub needs_small : (roots : List ℕ) (s : System) (pools : plan.Pools) (c : WindowKind) (k : ℕ) (of_bus : List ℕ) (most : ℕ) → AreNeedsFrom roots s pools c k of_bus most → All (λ need. need ≤ 2 ^ 65) of_bus
 needs_small roots s pools c k of_bus most was bus d within =
     let size = was.size in
     let e = get_or_default of_bus bus d 0 within ∙ was.need bus (omega (arith, size, within)) in
     omega (arith, e)
 
-pub needs_none : (roots : List ℕ) (s : System) (pools : plan.Pools) (c : Class) (k : ℕ) → length s ≤ k → AreNeedsFrom roots s pools c k (replicate 256 0) 0
+pub needs_none : (roots : List ℕ) (s : System) (pools : plan.Pools) (c : WindowKind) (k : ℕ) → length s ≤ k → AreNeedsFrom roots s pools c k (replicate 256 0) 0
 needs_none roots s pools c k past =
     let none = drop_all k s past in
     record {
@@ -76,7 +77,7 @@ needs_none roots s pools c k past =
       greatest = ap (λ rest. plan.greatest (flat_map (root_sizes roots s pools c) rest)) (sym none);
     }
 
-module _ (roots : List ℕ) (s : System) (system : IsSystem s) (nested : IsNested roots s) (pools : Pools) (c : Class) where
+module _ (roots : List ℕ) (s : System) (system : IsSystem s) (nested : IsNested roots s) (pools : Pools) (c : WindowKind) where
   abbrev value : plan.Pools
   value = pools_value pools
 

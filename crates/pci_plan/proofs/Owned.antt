@@ -8,10 +8,10 @@ use Rattle.std.proofs.lemmas.List.Elements.{filter-append}
 use Rattle.std.proofs.lemmas.List.Folds.{list_any-append}
 use Rattle.pci_spec.specs.Bar.{bar_at, is_io}
 use Rattle.pci_spec.specs.Rom.{has_rom}
-use Rattle.pci_spec.specs.Window.{IoWindow, has_window}
+use Rattle.pci_spec.specs.Window.{WindowKind, IoWindow, MemoryWindow, has_window}
 use Rattle.pci_spec.specs.Decoded.{DecodedRom, decoded_bar, decoded_rom}
 use Rattle.pci_spec.specs.System.{System, Function, Part, Bar, Rom, bars_and_rom}
-use Rattle.pci_spec.specs.Plan.{Class, MemoryClass, class_of, same_class, size_of, sizes_in, bridges_above, is_io_part}
+use Rattle.pci_spec.specs.Plan.{class_of, same_class, size_of, sizes_in, bridges_above, is_io_part}
 use Rattle.pci_image.specs.declared.rom.Rom.{Rom as CodeRom}
 use Rattle.pci_image.specs.Bars.{decoded_bar_of}
 use Rattle.pci_image.specs.Roms.{decoded_rom_of}
@@ -66,7 +66,7 @@ module _ (s : System) (f : Function) (r : Record) (is : IsRecordOf s f r) where
 
     -- ---- sizes
 
-    module _ (pools : Pools) (c : Class) where
+    module _ (pools : Pools) (c : WindowKind) where
       abbrev is_of : Part → Bool
       is_of part = same_class c (class_of s (pools_value pools) f part)
 
@@ -84,7 +84,7 @@ module _ (s : System) (f : Function) (r : Record) (is : IsRecordOf s f r) where
       rom_sizes_are None e =
           sym (ap (λ b. map (size_of f) (filter is_of (cond b (Rom ∷ []) []))) (no_rom (has_rom f.image f.probe) _ e))
       rom_sizes_are (Some rom) e =
-          rom_kept (same_class c MemoryClass) (span rom.first rom.last) (rom_span f rom e).1
+          rom_kept (same_class c MemoryWindow) (span rom.first rom.last) (rom_span f rom e).1
           ∙ sym (ap (λ b. map (size_of f) (filter is_of (cond b (Rom ∷ []) []))) (rom_there (has_rom f.image f.probe) (decoded_rom_of rom) _ e).0)
 
       -- the sizes of a class that a record has are those that its function has

@@ -1,29 +1,31 @@
 -- When planning answers a fault.
 use Rattle.std.proofs.Common.{◌≡◌, refl, sym, ◌∙◌, ap, subst, Result, Ok, Err}
 use Rattle.std.specs.Prelude.{◌↔◌}
+use Rattle.pci_spec.specs.Window.{WindowKind, IoWindow, MemoryWindow, PrefetchWindow}
 use Rattle.pci_spec.specs.System.{IsSystem}
 use Rattle.pci_spec.specs.Plan as plan
 use Rattle.pci_spec.specs.PlanPromise.{CanBePlanned}
 use Rattle.pci_dump.specs.declared.memory.Refused.{Refused}
 use Rattle.pci_dump.specs.declared.memory.Refused.TheVariants as refusals
+use Rattle.pci_image.specs.WindowKinds.{kind_value}
 use Rattle.pci_tree.specs.Admission.{Admission}
 use Rattle.pci_plan.specs.Above.{system_in}
-use Rattle.pci_plan.specs.Pools.{class_value, pools_value}
+use Rattle.pci_plan.specs.Pools.{pools_value}
 use Rattle.pci_plan.specs.Plans.{plan_fault_of, IsFaultOf}
 use Rattle.pci_plan.specs.declared.pools.Pools.{Pools}
-use Rattle.pci_plan.specs.declared.pools.Class.{Class}
-use Rattle.pci_plan.specs.declared.pools.Class.TheVariants as classes
+use Rattle.pci_image.specs.declared.window_kind.WindowKind.{WindowKind as CodeKind}
+use Rattle.pci_image.specs.declared.window_kind.WindowKind.TheVariants as classes
 use Rattle.pci_plan.specs.declared.plan_fault.PlanFault.{PlanFault}
 use Rattle.pci_plan.specs.declared.plan_fault.PlanFault.TheVariants.{BadPools, NoWindow, NoRoom, NotAccepted}
 use Rattle.pci_plan.proofs.Refusing.{none_refused, one_fault}
 
 -- the class of the code by that of the definitions
-class_back : plan.Class → Class
-class_back plan.IoClass = classes.Io
-class_back plan.MemoryClass = classes.Memory
-class_back plan.PrefetchClass = classes.Prefetchable
+class_back : WindowKind → CodeKind
+class_back IoWindow = classes.Io
+class_back MemoryWindow = classes.Memory
+class_back PrefetchWindow = classes.Prefetchable
 
-class_same : (c : Class) → class_back (class_value c) ≡ c
+class_same : (c : CodeKind) → class_back (kind_value c) ≡ c
 unfolding class_back
 class_same classes.Io = refl
 class_same classes.Memory = refl
@@ -33,7 +35,7 @@ class_same classes.Prefetchable = refl
 by_value : (a : Admission) (pools : Pools) (e f : PlanFault) → plan_fault_of e ≡ plan_fault_of f → IsFaultOf a pools e → e ≡ f
 by_value a pools BadPools BadPools same is = refl
 by_value a pools (NoWindow slot) (NoWindow other) same is = let s : slot ≡ other = cc in ap NoWindow s
-by_value a pools (NoRoom c) (NoRoom d) same is = let s : class_value c ≡ class_value d = cc in ap NoRoom (sym (class_same c) ∙ ap class_back s ∙ class_same d)
+by_value a pools (NoRoom c) (NoRoom d) same is = let s : kind_value c ≡ kind_value d = cc in ap NoRoom (sym (class_same c) ∙ ap class_back s ∙ class_same d)
 by_value a pools (NotAccepted x) f same is = absurd is
 by_value a pools BadPools (NoWindow other) same is = cc
 by_value a pools BadPools (NoRoom d) same is = cc

@@ -8,11 +8,12 @@ use Rattle.std.proofs.lemmas.List.Elements.{AllZip-push}
 use Rattle.pci_spec.specs.Slot.{Slot, slot_number}
 use Rattle.pci_spec.specs.Text.{Block, IsDump, slots_of}
 use Rattle.pci_spec.specs.Stops.{IsAboveLast, last_slot}
+use Rattle.pci_spec.specs.Window.{WindowKind, IoWindow, MemoryWindow, PrefetchWindow}
 use Rattle.pci_spec.specs.System.{System, Function, system_of}
 use Rattle.pci_spec.specs.Decoded.{HasRecords}
 use Rattle.pci_spec.specs.Decoded as decoded
 use Rattle.pci_spec.specs.PlanPromise.{CanBePlanned}
-use Rattle.pci_spec.specs.Plan.{Pools, Class, IoClass, MemoryClass, PrefetchClass, class_of, pool_of}
+use Rattle.pci_spec.specs.Plan.{Pools, class_of, pool_of}
 use Rattle.pci_spec.specs.Planning.Plannable.{IsPlannable}
 use Rattle.pci_spec.specs.Planning.Table.{IsTable}
 use Rattle.pci_spec.specs.Planning.Numbers.{place_at}
@@ -26,7 +27,7 @@ use Rattle.pci_function.specs.Values.{record_value}
 use Rattle.pci_tree.proofs.Pairings.{later_is_above}
 use Rattle.pci_check.proofs.Beside.{system_last}
 use Rattle.pci_plan.specs.Above.{system_in}
-use Rattle.pci_plan.specs.declared.by_class.ByClass.{ByClass}
+use Rattle.pci_image.specs.declared.window_kind.ByKind.{ByKind}
 use Rattle.pci_plan.specs.declared.need.Needs.{Needs}
 use Rattle.pci_plan.specs.declared.place.Places.{Places}
 use Rattle.pci_plan.specs.declared.numbers.Filling.{Filling}
@@ -125,9 +126,9 @@ module _ (P : Function → Function → Type 0) (dump probe : List Block) (same 
 
 -- ---- what is filled
 
-module _ (roots : List ℕ) (dump probe : List Block) (pools : Pools) (needs : ByClass Needs) (places : List Places)
-    (plannable : IsPlannable roots (system_of dump probe) pools) (tables : (c : Class) → IsTable roots (system_of dump probe) pools c (place_at roots (system_of dump probe) pools))
-    (all : AreAllNeeds roots (system_of dump probe) pools needs) (placed : (c : Class) → HasPlaces roots (system_of dump probe) pools c places) where
+module _ (roots : List ℕ) (dump probe : List Block) (pools : Pools) (needs : ByKind Needs) (places : List Places)
+    (plannable : IsPlannable roots (system_of dump probe) pools) (tables : (c : WindowKind) → IsTable roots (system_of dump probe) pools c (place_at roots (system_of dump probe) pools))
+    (all : AreAllNeeds roots (system_of dump probe) pools needs) (placed : (c : WindowKind) → HasPlaces roots (system_of dump probe) pools c places) where
   -- a filling with the record, the image and the places of the function at a place
   abbrev pub filling_at : (filling : Filling) (i : ℕ) (f : Function) (d : Places) → slice_get (system_of dump probe) i ≡ Some f → IsRecordOf (system_of dump probe) f filling.record.now
       → filling.image.now.0 ≡ f.image → filling.places.now ≡ slice_index_or places i d → filling.needs.now ≡ needs → FillingOf filling
@@ -163,13 +164,13 @@ function_here dump probe records i b p r same is inside b_at p_at r_at =
 
 -- ---- what can be planned
 
-low_pools : (pools : Pools) → AreGood pools → pools.prefetch.last < 2 ^ 64 → (c : Class) → (pool_of pools c).last < 2 ^ 64
-low_pools pools good low IoClass = let l = good.io in omega (arith, l)
-low_pools pools good low MemoryClass = let l = good.memory in omega (arith, l)
-low_pools pools good low PrefetchClass = low
+low_pools : (pools : Pools) → AreGood pools → pools.prefetch.last < 2 ^ 64 → (c : WindowKind) → (pool_of pools c).last < 2 ^ 64
+low_pools pools good low IoWindow = let l = good.io in omega (arith, l)
+low_pools pools good low MemoryWindow = let l = good.memory in omega (arith, l)
+low_pools pools good low PrefetchWindow = low
 
 -- the places of what can be planned are tables
-pub tables_of : (roots : List ℕ) (s : System) (pools : Pools) → IsPlannable roots s pools → IsStrictlyIncreasing roots → (c : Class) → IsTable roots s pools c (place_at roots s pools)
+pub tables_of : (roots : List ℕ) (s : System) (pools : Pools) → IsPlannable roots s pools → IsStrictlyIncreasing roots → (c : WindowKind) → IsTable roots s pools c (place_at roots s pools)
 tables_of roots s pools p rising c = table_of_places roots s pools c p.system p.nested rising (p.can.room c) (low_pools pools (good_pools pools p.can.good) p.addresses c)
 
 -- an admitted dump and its probe, against whose plan nothing stands

@@ -2,8 +2,9 @@
 use Rattle.std.proofs.Common.{◌≡◌, ℕ, List, refl, arith, sym, ◌∙◌, ap}
 use Rattle.std.proofs.lemmas.Bool.{both_ways}
 use Rattle.pci_spec.specs.Slot.{Slot, slot_number}
+use Rattle.pci_spec.specs.Window.{WindowKind, IoWindow, MemoryWindow, PrefetchWindow}
 use Rattle.pci_spec.specs.System.{System, Function, IsSystem}
-use Rattle.pci_spec.specs.Plan.{Pools, Class, IoClass, MemoryClass, PrefetchClass, LacksWindow}
+use Rattle.pci_spec.specs.Plan.{Pools, LacksWindow}
 use Rattle.pci_spec.specs.Plan as plan
 use Rattle.pci_spec.specs.PlanPromise.{IsFirstLacking, IsFirstTooLarge, IsPlanFaultOf, CanBePlanned}
 use Rattle.pci_spec.proofs.Nesting.{one_function}
@@ -12,9 +13,9 @@ use Rattle.pci_spec.proofs.Nesting.{one_function}
 pub none_refused : (roots : List ℕ) (s : System) (pools : Pools) → CanBePlanned roots s pools → (fault : plan.PlanFault) → IsPlanFaultOf roots s pools fault → ⊥
 none_refused roots s pools can plan.BadPools bad = both_ways _ can.good bad
 none_refused roots s pools can (plan.NoWindow slot) (good, first) = can.windows slot first.lacks
-none_refused roots s pools can (plan.NoRoom IoClass) (good, windows, tight) = both_ways _ tight (can.room IoClass)
-none_refused roots s pools can (plan.NoRoom MemoryClass) (good, windows, tight) = both_ways _ tight.0 (can.room MemoryClass)
-none_refused roots s pools can (plan.NoRoom PrefetchClass) (good, windows, tight) = both_ways _ tight.0 (can.room PrefetchClass)
+none_refused roots s pools can (plan.NoRoom IoWindow) (good, windows, tight) = both_ways _ tight (can.room IoWindow)
+none_refused roots s pools can (plan.NoRoom MemoryWindow) (good, windows, tight) = both_ways _ tight.0 (can.room MemoryWindow)
+none_refused roots s pools can (plan.NoRoom PrefetchWindow) (good, windows, tight) = both_ways _ tight.0 (can.room PrefetchWindow)
 none_refused roots s pools can (plan.NotAccepted fault) is = is
 
 -- two functions that are the first to lack a window are one
@@ -29,16 +30,16 @@ one_lacking s system a b first second =
     let one = one_function s system fa.0 fb.0 fa.1 fb.1 (omega (arith, low, high, ea, eb)) in
     sym fa.2 ∙ ap (λ (f : Function). f.slot) one ∙ fb.2
 
-one_class : (roots : List ℕ) (s : System) (pools : Pools) (c d : Class) → IsFirstTooLarge roots s pools c → IsFirstTooLarge roots s pools d → c ≡ d
-one_class roots s pools IoClass IoClass a b = refl
-one_class roots s pools IoClass MemoryClass a b = absurd (both_ways _ a b.1)
-one_class roots s pools IoClass PrefetchClass a b = absurd (both_ways _ a b.1)
-one_class roots s pools MemoryClass IoClass a b = absurd (both_ways _ b a.1)
-one_class roots s pools MemoryClass MemoryClass a b = refl
-one_class roots s pools MemoryClass PrefetchClass a b = absurd (both_ways _ a.0 b.2)
-one_class roots s pools PrefetchClass IoClass a b = absurd (both_ways _ b a.1)
-one_class roots s pools PrefetchClass MemoryClass a b = absurd (both_ways _ b.0 a.2)
-one_class roots s pools PrefetchClass PrefetchClass a b = refl
+one_class : (roots : List ℕ) (s : System) (pools : Pools) (c d : WindowKind) → IsFirstTooLarge roots s pools c → IsFirstTooLarge roots s pools d → c ≡ d
+one_class roots s pools IoWindow IoWindow a b = refl
+one_class roots s pools IoWindow MemoryWindow a b = absurd (both_ways _ a b.1)
+one_class roots s pools IoWindow PrefetchWindow a b = absurd (both_ways _ a b.1)
+one_class roots s pools MemoryWindow IoWindow a b = absurd (both_ways _ b a.1)
+one_class roots s pools MemoryWindow MemoryWindow a b = refl
+one_class roots s pools MemoryWindow PrefetchWindow a b = absurd (both_ways _ a.0 b.2)
+one_class roots s pools PrefetchWindow IoWindow a b = absurd (both_ways _ b a.1)
+one_class roots s pools PrefetchWindow MemoryWindow a b = absurd (both_ways _ b.0 a.2)
+one_class roots s pools PrefetchWindow PrefetchWindow a b = refl
 
 -- the fault is one
 pub one_fault : (roots : List ℕ) (s : System) (pools : Pools) → IsSystem s → (e f : plan.PlanFault) → IsPlanFaultOf roots s pools e → IsPlanFaultOf roots s pools f → e ≡ f

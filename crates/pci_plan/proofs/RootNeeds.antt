@@ -7,8 +7,9 @@ use Rattle.std.proofs.lemmas.List.{get_or_past, map-id}
 use Rattle.std.proofs.lemmas.List.Elements.{filter-append}
 use Rattle.std.proofs.lemmas.List.FromFn.{map-range_with_len_more}
 use Rattle.std.proofs.lemmas.List.Sums.{sum_by-append, sum-map}
+use Rattle.pci_spec.specs.Window.{WindowKind}
 use Rattle.pci_spec.specs.System.{System}
-use Rattle.pci_spec.specs.Plan.{Pools, Class, pool_of, need_of, need_of_roots, greatest_of_roots, raised_to, fits}
+use Rattle.pci_spec.specs.Plan.{Pools, pool_of, need_of, need_of_roots, greatest_of_roots, raised_to, fits}
 use Rattle.pci_spec.proofs.Members.{in_head, in_tail}
 use Rattle.pci_spec.proofs.Records.{same_truth}
 use Rattle.pci_spec.proofs.Planning.Tallies.{none_needed}
@@ -82,7 +83,7 @@ map_same f g (x ∷ xs) same =
     let rest : map f xs ≡ map g xs = map_same f g xs (λ y has. same y (in_tail x xs y has)) in
     cc
 
-module _ (roots : List ℕ) (s : System) (pools : Pools) (c : Class) where
+module _ (roots : List ℕ) (s : System) (pools : Pools) (c : WindowKind) where
   -- what a table has for the roots is what they need
   pub need_is : (flags : List Bool) (needs : List ℕ) → set_in flags ≡ roots → ((bus : ℕ) → bus < 256 → get_or needs bus 0 ≡ need_of s pools c bus)
       → sum (map (get_or_zero needs) (set_in flags)) ≡ need_of_roots roots s pools c

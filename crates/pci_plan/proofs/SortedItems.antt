@@ -7,9 +7,9 @@ use Rattle.std.proofs.lemmas.Bool.{cases_Bool, cases_lt}
 use Rattle.std.proofs.lemmas.List.Sorted.{IsPermutation-map, All-permutation}
 use Rattle.pci_spec.specs.Slot.{slot_number}
 use Rattle.pci_spec.specs.Header.{layout, rom_register}
-use Rattle.pci_spec.specs.Window.{window_register}
+use Rattle.pci_spec.specs.Window.{WindowKind, IoWindow, MemoryWindow, PrefetchWindow, window_register}
 use Rattle.pci_spec.specs.System.{System, Function, IsSystem, register_of}
-use Rattle.pci_spec.specs.Plan.{Pools, Class, IoClass, MemoryClass, PrefetchClass, window_of}
+use Rattle.pci_spec.specs.Plan.{Pools}
 use Rattle.pci_spec.specs.Planning.Sorted.{all_items, StandsBefore, Precedes, IsInOrder}
 use Rattle.pci_spec.proofs.Members.{pairs_map}
 use Rattle.pci_spec.proofs.Planning.AllItems.{all_order, pairs_unmap}
@@ -21,17 +21,17 @@ use Rattle.pci_plan.specs.Items.{part_value, function_in, item_value, IsPartOf, 
 use Rattle.pci_plan.specs.Sorting.{IsPlacedBefore}
 
 -- all items of a class, in the order in which they are placed
-pub record AreSorted (roots : List ℕ) (s : System) (pools : Pools) (c : Class) (items : List CodeItem) : Type 0 where
+pub record AreSorted (roots : List ℕ) (s : System) (pools : Pools) (c : WindowKind) (items : List CodeItem) : Type 0 where
   pub same : IsPermutation (all_items s pools c) (map (item_value s c) items)
   pub ordered : IsInOrder roots (map (item_value s c) items)
   pub each : All (IsItemIn roots s) items
 
 -- ---- registers lie in the header
 
-low_window : (c : Class) → window_register (window_of c) < 256
-low_window IoClass = omega arith
-low_window MemoryClass = omega arith
-low_window PrefetchClass = omega arith
+low_window : (c : WindowKind) → window_register c < 256
+low_window IoWindow = omega arith
+low_window MemoryWindow = omega arith
+low_window PrefetchWindow = omega arith
 
 low_rom : (kind : ℕ) → rom_register kind < 256
 low_rom kind = elim (cases_Bool (kind == 1)) [
@@ -39,7 +39,7 @@ low_rom kind = elim (cases_Bool (kind == 1)) [
   | inr off ↦ (let e : rom_register kind ≡ 0x30 = ap (λ b. if b then 0x38 else 0x30) off in omega (arith, e))
 ]
 
-low_register : (c : Class) (f : Function) (p : CodePart) → IsPartOf f p → register_of f (part_value c p) < 256
+low_register : (c : WindowKind) (f : Function) (p : CodePart) → IsPartOf f p → register_of f (part_value c p) < 256
 low_register c f (parts.Bar n) is = omega (arith, is)
 low_register c f parts.Rom is = low_rom (layout f.image)
 low_register c f (parts.Window bus) is = low_window c
@@ -56,7 +56,7 @@ to_numbers a b m n low_m before = elim before [
   | inr same ↦ (let e = same.0 in let less = same.1 in omega (arith, e, less))
 ]
 
-module _ (roots : List ℕ) (s : System) (pools : Pools) (c : Class) where
+module _ (roots : List ℕ) (s : System) (pools : Pools) (c : WindowKind) where
   -- the place of an item in the order of slots and registers
   abbrev pub item_number : CodeItem → ℕ
   item_number i = slot_number (function_in s i.function).slot * 256 + register_of (function_in s i.function) (part_value c i.part)

@@ -6,7 +6,6 @@ use Rattle.std.proofs.lemmas.List.{get_or_default, get_or-set_same, get_or-set_o
 use Rattle.std.proofs.lemmas.List.Elements.{Contains-get_or}
 use Rattle.pci_spec.specs.Window.{WindowKind, IoWindow, MemoryWindow, PrefetchWindow}
 use Rattle.pci_spec.specs.System.{Part, Bar, Rom, Window}
-use Rattle.pci_spec.specs.Plan.{Class}
 use Rattle.pci_plan.specs.declared.item.Item.{Item}
 use Rattle.pci_plan.specs.declared.item.Part.{Part as CodePart}
 use Rattle.pci_plan.specs.declared.item.Part.TheVariants as parts
@@ -16,7 +15,7 @@ use Rattle.pci_plan.specs.Places.{first_in}
 use Rattle.pci_plan.specs.Walks.{Walk}
 
 -- the first k items are placed, and it is known where the next one stands
-pub record IsWalked (c : Class) (functions start : ℕ) (items : List Item) (w : Walk c functions start items) (old places : List Places) (starts : List ℕ) (group next k : ℕ) : Type 0 where
+pub record IsWalked (c : WindowKind) (functions start : ℕ) (items : List Item) (w : Walk c functions start items) (old places : List Places) (starts : List ℕ) (group next k : ℕ) : Type 0 where
   pub placed : (j : ℕ) (d : Item) (e : Places) → j < k → first_in (get_or places (get_or items j d).function e) (part_value c (get_or items j d).part) ≡ w.place (get_or items j d)
   pub others : (n : ℕ) (e : Places) (part : Part) → ((j : ℕ) (d : Item) → j < k → (get_or items j d).function ≡ n → part_value c (get_or items j d).part ≡ part → ⊥)
       → first_in (get_or places n e) part ≡ first_in (get_or old n e) part
@@ -81,7 +80,7 @@ by_window part starts after new b n room is at inside e = subst (IsOpening part 
 pub by_other : (part : CodePart) (starts after : List ℕ) (new : ℕ) → length starts ≡ 256 → ((bus : ℕ) → part ≡ parts.Window bus → ⊥) → after ≡ starts → IsOpening part starts new after
 by_other part starts after new room off e = subst (IsOpening part starts new) (sym e) record { room = room; opens = λ bus is. absurd (off bus is); keeps = λ bus none. refl }
 
-module _ (c : Class) (functions start : ℕ) (items : List Item) (w : Walk c functions start items) where
+module _ (c : WindowKind) (functions start : ℕ) (items : List Item) (w : Walk c functions start items) where
   -- what an item asks of the table and of numbers
   pub in_table : (k : ℕ) (d : Item) → k < length items → (n : ℕ) → n ≡ functions → (get_or items k d).function < n
   in_table k d l n same = let f = w.function (get_or items k d) (Contains-get_or items k d l) in omega (arith, f, same)

@@ -1,5 +1,6 @@
 -- The class of a BAR, by what is decoded of it.
 use Rattle.std.specs.Prelude.{Bool, true, false, ◌&&◌, nat_le, if◌then◌else◌}
+use Rattle.pci_spec.specs.Window.{WindowKind, IoWindow, MemoryWindow, PrefetchWindow}
 use Rattle.pci_spec.specs.Plan as plan
 use Rattle.pci_image.specs.declared.bar.Bar.{Bar}
 use Rattle.pci_image.specs.declared.bar.BarKind.{BarKind}
@@ -20,8 +21,8 @@ is_wide_kind Mem64 = true
 abbrev pub is_served_by : Bar → Above → Pools → Bool
 is_served_by bar above pools = if nat_le pools.pref.last 0xffff_ffff then above.pref else is_wide_kind bar.kind && above.wide
 
-abbrev pub bar_class : Bar → Above → Pools → plan.Class
+abbrev pub bar_class : Bar → Above → Pools → WindowKind
 bar_class bar above pools =
-    if is_io_kind bar.kind then plan.IoClass
-    else if bar.prefetch && is_served_by bar above pools then plan.PrefetchClass
-    else plan.MemoryClass
+    if is_io_kind bar.kind then IoWindow
+    else if bar.prefetch && is_served_by bar above pools then PrefetchWindow
+    else MemoryWindow

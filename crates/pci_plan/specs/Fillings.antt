@@ -2,8 +2,7 @@
 use Rattle.std.specs.Prelude.{◌≡◌, ℕ, List, IsTrue, Option, Some, if◌then◌else◌}
 use Rattle.std.specs.List.{Contains}
 use Rattle.std.specs.Option.{is_some}
-use Rattle.pci_spec.specs.Window.{WindowKind, IoWindow, MemoryWindow, PrefetchWindow, Bounds as SpecBounds}
-use Rattle.pci_spec.specs.Decoded.{DecodedWindow}
+use Rattle.pci_spec.specs.Window.{WindowKind, Bounds as SpecBounds}
 use Rattle.pci_spec.specs.Header.{address_registers}
 use Rattle.pci_spec.specs.System.{System, Function, Part}
 use Rattle.pci_spec.specs.Plan.{Pools, class_of}
@@ -11,11 +10,10 @@ use Rattle.pci_spec.specs.Plan as plan
 use Rattle.pci_spec.specs.Planning.Plannable.{IsPlannable}
 use Rattle.pci_spec.specs.Planning.Table.{is_placed, IsTable}
 use Rattle.pci_spec.specs.Planning.Numbers.{place_at}
-use Rattle.pci_image.specs.declared.window.Windows.{Windows}
 use Rattle.pci_image.specs.declared.register.Register.{Register}
 use Rattle.pci_function.specs.declared.record.Record.{Record}
-use Rattle.pci_plan.specs.declared.pools.Class.{Class}
-use Rattle.pci_plan.specs.declared.pools.Class.TheVariants.{Io, Memory, Prefetchable}
+use Rattle.pci_image.specs.declared.window_kind.WindowKind.{WindowKind as CodeKind}
+use Rattle.pci_image.specs.declared.window_kind.WindowKind.TheVariants.{Io, Memory, Prefetchable}
 use Rattle.pci_plan.specs.declared.numbers.Bounds.{Bounds}
 use Rattle.pci_plan.specs.declared.numbers.Filling.{Filling}
 use Rattle.pci_plan.specs.Needs.{AreAllNeeds}
@@ -24,20 +22,8 @@ use Rattle.pci_plan.specs.Records.{IsRecordOf}
 
 -- ---- windows
 
--- the window that what is of a class goes through
-abbrev pub window_kind : Class → WindowKind
-window_kind Io = IoWindow
-window_kind Memory = MemoryWindow
-window_kind Prefetchable = PrefetchWindow
-
--- the window of a class, where it is there
-abbrev pub window_in : Windows → Class → Option DecodedWindow
-window_in w Io = w.io
-window_in w Memory = Some w.mem
-window_in w Prefetchable = w.pref
-
 -- how many bits the addresses of a pool have at most
-abbrev pub address_bits : Class → ℕ
+abbrev pub address_bits : CodeKind → ℕ
 address_bits Io = 16
 address_bits Memory = 32
 address_bits Prefetchable = 64
@@ -56,7 +42,7 @@ pub record FillingOf (filling : Filling) : Type 0 where
   pub pools : Pools
   pub function : Function
   pub plannable : IsPlannable roots system pools
-  pub tables : (c : plan.Class) → IsTable roots system pools c (place_at roots system pools)
+  pub tables : (c : WindowKind) → IsTable roots system pools c (place_at roots system pools)
   pub recorded : IsRecordOf system function filling.record.now
   pub image : filling.image.now.0 ≡ function.image
   pub places : (part : Part) → IsTrue (is_placed system pools (class_of system pools function part) function part)

@@ -3,9 +3,10 @@ use Rattle.std.specs.Prelude.{◌≡◌, ℕ, ◌/◌, ◌-◌, ◌<◌, ◌≤�
 use Rattle.std.specs.List.{All, filter}
 use Rattle.std.specs.List.Sorted.{IsStrictlyIncreasing}
 use Rattle.pci_spec.specs.Registers.{BASE_ADDRESS}
+use Rattle.pci_spec.specs.Window.{WindowKind, MemoryWindow}
 use Rattle.pci_spec.specs.System.{System, Function, IsSystem, Part, Bar, Rom, Window, is_bridge}
 use Rattle.pci_spec.specs.Bus.{secondary, IsNested}
-use Rattle.pci_spec.specs.Plan.{Pools, Class, MemoryClass, same_class, window_of, window_size}
+use Rattle.pci_spec.specs.Plan.{Pools, same_class, window_size}
 use Rattle.pci_spec.specs.Place.{Item}
 use Rattle.pci_spec.specs.Planning.Sorted.{all_items, group_of}
 use Rattle.pci_image.specs.declared.bar.Bar.{Bar as CodeBar}
@@ -21,10 +22,10 @@ use Rattle.pci_plan.specs.declared.item.Part.TheVariants as parts
 use Rattle.pci_plan.specs.Classes.{bar_class}
 use Rattle.pci_plan.specs.Sizes.{span}
 
-abbrev pub part_value : Class → CodePart → Part
+abbrev pub part_value : WindowKind → CodePart → Part
 part_value c (parts.Bar n) = Bar n
 part_value c parts.Rom = Rom
-part_value c (parts.Window bus) = Window (window_of c)
+part_value c (parts.Window bus) = Window c
 
 -- a header has six Base Address registers at most
 abbrev pub IsPart : CodePart → Type 0
@@ -45,11 +46,11 @@ abbrev pub bar_item : Owner → CodeBar → CodeItem
 bar_item o bar = owned o (parts.Bar ((bar.reg - BASE_ADDRESS) / 4)) (span bar.first bar.last)
 
 -- the BARs of a class
-abbrev pub bar_items : Owner → Class → Above → CodePools → List CodeBar → List CodeItem
+abbrev pub bar_items : Owner → WindowKind → Above → CodePools → List CodeBar → List CodeItem
 bar_items o c above pools bars = map (bar_item o) (filter (λ bar. same_class c (bar_class bar above pools)) bars)
 
 -- the window of a bridge with something behind it, by what the buses need
-abbrev pub window_items : Owner → Class → List ℕ → Option Bridge → List CodeItem
+abbrev pub window_items : Owner → WindowKind → List ℕ → Option Bridge → List CodeItem
 window_items o c needs None = []
 window_items o c needs (Some b) =
     if nat_lt 0 (slice_index needs b.secondary)
@@ -57,12 +58,12 @@ window_items o c needs (Some b) =
     else []
 
 -- a ROM, which is memory
-abbrev pub rom_items : Owner → Class → Option CodeRom → List CodeItem
+abbrev pub rom_items : Owner → WindowKind → Option CodeRom → List CodeItem
 rom_items o c None = []
-rom_items o c (Some rom) = if same_class c MemoryClass then owned o parts.Rom (span rom.first rom.last) ∷ [] else []
+rom_items o c (Some rom) = if same_class c MemoryWindow then owned o parts.Rom (span rom.first rom.last) ∷ [] else []
 
 -- in the order of their registers
-abbrev pub record_items : Owner → Class → Above → CodePools → List ℕ → Record → List CodeItem
+abbrev pub record_items : Owner → WindowKind → Above → CodePools → List ℕ → Record → List CodeItem
 record_items o c above pools needs r = bar_items o c above pools r.bars.items ++ (window_items o c needs r.bridge ++ rom_items o c r.rom)
 
 -- ---- their values
@@ -74,7 +75,7 @@ no_function = record { slot = record { bus = 0; device = 0; function = 0 }; imag
 abbrev pub function_in : System → ℕ → Function
 function_in s k = slice_index_or s k no_function
 
-abbrev pub item_value : System → Class → CodeItem → Item
+abbrev pub item_value : System → WindowKind → CodeItem → Item
 item_value s c i = record { function = function_in s i.function; part = part_value c i.part; size = i.size }
 
 -- a window is that around what is behind its bridge
@@ -95,6 +96,6 @@ pub record IsRooted (roots : List ℕ) (s : System) : Type 0 where
   pub rising : IsStrictlyIncreasing roots
 
 -- the items of a class, in the order of slots and registers
-pub record AreItems (roots : List ℕ) (s : System) (pools : Pools) (c : Class) (items : List CodeItem) : Type 0 where
+pub record AreItems (roots : List ℕ) (s : System) (pools : Pools) (c : WindowKind) (items : List CodeItem) : Type 0 where
   pub all : map (item_value s c) items ≡ all_items s pools c
   pub each : All (IsItemIn roots s) items

@@ -1,8 +1,8 @@
 -- The places of a function's parts, as a table of the code has them.
 use Rattle.std.specs.Prelude.{◌≡◌, ℕ, List, length, Some, slice_get, slice_index, slice_index_or, IsTrue, IsFalse}
-use Rattle.pci_spec.specs.Window.{IoWindow, MemoryWindow, PrefetchWindow}
+use Rattle.pci_spec.specs.Window.{WindowKind, IoWindow, MemoryWindow, PrefetchWindow}
 use Rattle.pci_spec.specs.System.{System, Function, Part, Bar, Rom, Window}
-use Rattle.pci_spec.specs.Plan.{Pools, Class}
+use Rattle.pci_spec.specs.Plan.{Pools}
 use Rattle.pci_spec.specs.Planning.Table.{is_placed}
 use Rattle.pci_spec.specs.Planning.Numbers.{place_at}
 use Rattle.pci_plan.specs.declared.place.Places.{Places}
@@ -16,13 +16,13 @@ first_in p (Window MemoryWindow) = p.mem
 first_in p (Window PrefetchWindow) = p.pref
 
 -- everything of a class stands at its place
-abbrev pub HasPlaces : List ℕ → System → Pools → Class → List Places → Type 0
+abbrev pub HasPlaces : List ℕ → System → Pools → WindowKind → List Places → Type 0
 HasPlaces roots s pools c places =
     (k : ℕ) (f : Function) (d : Places) (part : Part) → slice_get s k ≡ Some f → IsTrue (is_placed s pools c f part)
     → first_in (slice_index_or places k d) part ≡ place_at roots s pools f part
 
 -- everything of another class stands where it stood
-pub record KeepsOthers (s : System) (pools : Pools) (c : Class) (old new : List Places) : Type 0 where
+pub record KeepsOthers (s : System) (pools : Pools) (c : WindowKind) (old new : List Places) : Type 0 where
   pub count : length new ≡ length old
   pub others : (k : ℕ) (f : Function) (d : Places) (part : Part) → slice_get s k ≡ Some f → IsFalse (is_placed s pools c f part)
       → first_in (slice_index_or new k d) part ≡ first_in (slice_index_or old k d) part

@@ -9,11 +9,12 @@ use Rattle.pci_spec.specs.Plan as plan
 use Rattle.pci_spec.specs.Plan.{IsMoved}
 use Rattle.pci_spec.specs.PlanPromise.{changes_between, IsPlanOf, IsSafeFrom, StopsSafely, EachWriteChanges, with_rom_on, CanBePlanned, IsPlanFaultOf}
 use Rattle.pci_spec.specs.Planning.PlanWrites.{closing_writes, plan_writes, most_writes}
+use Rattle.pci_image.specs.WindowKinds.{kind_value}
 use Rattle.pci_tree.specs.Admission.{Admission, IsAdmitted}
 use Rattle.pci_function.specs.Fault.{fault_of}
 use Rattle.pci_function.specs.declared.fault.Fault.{Fault}
 use Rattle.pci_plan.specs.Above.{system_in}
-use Rattle.pci_plan.specs.Pools.{class_value, pools_value}
+use Rattle.pci_plan.specs.Pools.{pools_value}
 use Rattle.pci_plan.specs.declared.pools.Pools.{Pools}
 use Rattle.pci_plan.specs.declared.plan_fault.PlanFault.{PlanFault}
 use Rattle.pci_plan.specs.declared.plan_fault.PlanFault.TheVariants.{BadPools, NoWindow, NoRoom, NotAccepted}
@@ -56,7 +57,7 @@ pub record IsPlanIn (a : Admission) (pools : plan.Pools) (p : PlanValue) : Type 
 abbrev pub plan_fault_of : PlanFault → plan.PlanFault
 plan_fault_of BadPools = plan.BadPools
 plan_fault_of (NoWindow slot) = plan.NoWindow slot
-plan_fault_of (NoRoom class) = plan.NoRoom (class_value class)
+plan_fault_of (NoRoom class) = plan.NoRoom (kind_value class)
 plan_fault_of (NotAccepted fault) = plan.NotAccepted (fault_of fault)
 
 -- the fault stands, and none that is looked for before it

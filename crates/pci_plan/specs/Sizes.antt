@@ -1,7 +1,8 @@
 -- The sizes of what a record has of a class.
 use Rattle.std.specs.Prelude.{◌≡◌, ℕ, ◌+◌, ◌-◌, nat_lt, if◌then◌else◌, List, [], ◌∷◌, ◌++◌, map, Option, None, Some, slice_index}
 use Rattle.std.specs.List.{filter, sum}
-use Rattle.pci_spec.specs.Plan.{Class, MemoryClass, same_class, window_size, limited}
+use Rattle.pci_spec.specs.Window.{WindowKind, MemoryWindow}
+use Rattle.pci_spec.specs.Plan.{same_class, window_size, limited}
 use Rattle.pci_spec.specs.Plan as plan
 use Rattle.pci_image.specs.declared.bar.Bar.{Bar}
 use Rattle.pci_image.specs.declared.rom.Rom.{Rom}
@@ -17,20 +18,20 @@ abbrev pub span : ℕ → ℕ → ℕ
 span first last = last - first + 1
 
 -- the sizes of the BARs of a class
-abbrev pub bar_sizes : Class → Above → Pools → List Bar → List ℕ
+abbrev pub bar_sizes : WindowKind → Above → Pools → List Bar → List ℕ
 bar_sizes c above pools bars = map (λ (b : Bar). span b.first b.last) (filter (λ b. same_class c (bar_class b above pools)) bars)
 
 -- the size of a ROM, which is memory
-abbrev pub rom_sizes : Class → Option Rom → List ℕ
+abbrev pub rom_sizes : WindowKind → Option Rom → List ℕ
 rom_sizes c None = []
-rom_sizes c (Some rom) = if same_class c MemoryClass then span rom.first rom.last ∷ [] else []
+rom_sizes c (Some rom) = if same_class c MemoryWindow then span rom.first rom.last ∷ [] else []
 
 -- the sizes of a function's own BARs and ROM of a class
-abbrev pub own_sizes : Class → Above → Pools → Record → List ℕ
+abbrev pub own_sizes : WindowKind → Above → Pools → Record → List ℕ
 own_sizes c above pools r = bar_sizes c above pools r.bars.items ++ rom_sizes c r.rom
 
 -- the size of the window of a bridge with something behind it, by what the buses need
-abbrev pub window_sizes : Class → List ℕ → Option Bridge → List ℕ
+abbrev pub window_sizes : WindowKind → List ℕ → Option Bridge → List ℕ
 window_sizes c needs None = []
 window_sizes c needs (Some b) =
     if nat_lt 0 (slice_index needs b.secondary) then window_size c (slice_index needs b.secondary) ∷ [] else []

@@ -1,17 +1,17 @@
 -- A walk along items in the order in which they are placed.
 use Rattle.std.specs.Prelude.{◌≡◌, ℕ, ◌+◌, ◌^◌, ◌<◌, ◌≤◌, List, length, slice_index_or}
 use Rattle.std.specs.List.{Contains}
-use Rattle.pci_spec.specs.Plan.{Class}
 use Rattle.pci_plan.specs.declared.item.Item.{Item}
 use Rattle.pci_plan.specs.declared.item.Part.TheVariants.{Window}
 use Rattle.pci_plan.specs.Items.{part_value, IsPart}
+use Rattle.pci_spec.specs.Window.{WindowKind}
 
 -- the window around what is behind a bus is among the items before the k-th
 abbrev pub IsOpened : List Item → ℕ → ℕ → Type 0
 IsOpened items k bus = (j : ℕ) × (j < k) × ((d : Item) → (slice_index_or items j d).part ≡ Window bus)
 
 -- Places of items one after another, and where each group starts; what is on the roots starts at `start`.
-pub record Walk (c : Class) (functions start : ℕ) (items : List Item) : Type 0 where
+pub record Walk (c : WindowKind) (functions start : ℕ) (items : List Item) : Type 0 where
   pub place : Item → ℕ
   pub group_start : ℕ → ℕ
   pub roots : group_start 0 ≡ start

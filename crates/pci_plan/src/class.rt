@@ -1,10 +1,11 @@
 //! The class that a BAR is placed in.
 ghost use Rattle.std.specs.Prelude.{◌≡◌};
-ghost use Rattle.pci_plan.specs.Pools.{class_value};
+ghost use Rattle.pci_image.specs.WindowKinds.{kind_value};
 ghost use Rattle.pci_plan.specs.Classes.{bar_class, is_served_by};
 
 use super::above::Above;
-use super::pools::{Class, Pools};
+use super::pools::Pools;
+use pci_image::window_kind::WindowKind;
 use pci_image::bar::{Bar, BarKind};
 
 /// The highest address of 32 bits.
@@ -23,15 +24,15 @@ fn is_served(bar: &Bar, above: Above, pools: &Pools) -> bool
 }
 
 /// The class of a BAR with these windows above it.
-pub fn class_of_bar(bar: &Bar, above: Above, pools: &Pools) -> Class
-    ensures { class_value result ≡ bar_class bar.now above pools.now }
+pub fn class_of_bar(bar: &Bar, above: Above, pools: &Pools) -> WindowKind
+    ensures { kind_value result ≡ bar_class bar.now above pools.now }
 {
     if bar.kind == BarKind::Io {
-        return Class::Io;
+        return WindowKind::Io;
     }
     if bar.prefetch && is_served(bar, above, pools) {
-        Class::Prefetchable
+        WindowKind::Prefetchable
     } else {
-        Class::Memory
+        WindowKind::Memory
     }
 }

@@ -4,7 +4,8 @@ ghost use Rattle.std.specs.List.{All, AllPairs};
 ghost use Rattle.std.specs.List.Sorted.{IsPermutation};
 ghost use Rattle.pci_spec.specs.Planning.Sorted.{group_of};
 ghost use Rattle.pci_tree.specs.Roots.{buses_of};
-ghost use Rattle.pci_plan.specs.Pools.{class_value, pools_value};
+ghost use Rattle.pci_image.specs.WindowKinds.{kind_value};
+ghost use Rattle.pci_plan.specs.Pools.{pools_value};
 ghost use Rattle.pci_plan.specs.Above.{AreAboves, system_in};
 ghost use Rattle.pci_plan.specs.Needs.{AreNeeds};
 ghost use Rattle.pci_plan.specs.Items.{IsBar, owned, bar_items, window_items, rom_items, record_items, AreItems, IsRooted};
@@ -13,7 +14,8 @@ ghost use Rattle.pci_plan.specs.Sorting.{IsLarger, IsPlacedBefore};
 use super::above::Above;
 use super::class::class_of_bar;
 use super::need::{Needs, bar_size, rom_size, window_size_of};
-use super::pools::{Class, Pools};
+use super::pools::Pools;
+use pci_image::window_kind::WindowKind;
 use pci_dump::memory::OutOfMemory;
 use pci_image::bar::Bar;
 use pci_image::offset::BASE_ADDRESS;
@@ -73,12 +75,12 @@ fn add_bars<A: Allocator>(
     items: &mut Vec<Item, A>,
     owner: Owner,
     bars: &[Bar],
-    class: Class,
+    class: WindowKind,
     above: Above,
     pools: &Pools,
 ) -> Result<(), OutOfMemory>
     requires { All IsBar bars.now }
-    ensures { OnOk result (items.new.items ≡ items.old.items ++ bar_items owner (class_value class) above pools.now bars.now) }
+    ensures { OnOk result (items.new.items ≡ items.old.items ++ bar_items owner (kind_value class) above pools.now bars.now) }
 {
     for bar in bars {
         if class_of_bar(bar, above, pools) == class {
@@ -94,11 +96,11 @@ fn add_window<A: Allocator>(
     items: &mut Vec<Item, A>,
     owner: Owner,
     bridge: Option<Bridge>,
-    class: Class,
+    class: WindowKind,
     needs: &Needs,
 ) -> Result<(), OutOfMemory>
     requires { (bus : ℕ) → bus < 256 → slice_index needs.now.of_bus bus ≤ 2 ^ 65 }
-    ensures { OnOk result (items.new.items ≡ items.old.items ++ window_items owner (class_value class) needs.now.of_bus bridge) }
+    ensures { OnOk result (items.new.items ≡ items.old.items ++ window_items owner (kind_value class) needs.now.of_bus bridge) }
 {
     if let Some(bridge) = bridge {
         let secondary = bridge.secondary;
@@ -115,13 +117,13 @@ fn add_rom<A: Allocator>(
     items: &mut Vec<Item, A>,
     owner: Owner,
     rom: Option<Rom>,
-    class: Class,
+    class: WindowKind,
 ) -> Result<(), OutOfMemory>
     requires { IfSome rom (λ rom. rom.first ≤ rom.last) }
-    ensures { OnOk result (items.new.items ≡ items.old.items ++ rom_items owner (class_value class) rom) }
+    ensures { OnOk result (items.new.items ≡ items.old.items ++ rom_items owner (kind_value class) rom) }
 {
     if let Some(rom) = rom {
-        if class == Class::Memory {
+        if class == WindowKind::Memory {
             items.push(owner.item(Part::Rom, rom_size(&rom)))?;
         }
     }
@@ -133,7 +135,7 @@ fn add_items<A: Allocator>(
     items: &mut Vec<Item, A>,
     owner: Owner,
     record: &Record,
-    class: Class,
+    class: WindowKind,
     above: Above,
     pools: &Pools,
     needs: &Needs,
@@ -141,7 +143,7 @@ fn add_items<A: Allocator>(
     requires bars { All IsBar «record».now.bars.items }
     requires rom { IfSome «record».now.rom (λ rom. rom.first ≤ rom.last) }
     requires needs { (bus : ℕ) → bus < 256 → slice_index needs.now.of_bus bus ≤ 2 ^ 65 }
-    ensures { OnOk result (items.new.items ≡ items.old.items ++ record_items owner (class_value class) above pools.now needs.now.of_bus «record».now) }
+    ensures { OnOk result (items.new.items ≡ items.old.items ++ record_items owner (kind_value class) above pools.now needs.now.of_bus «record».now) }
 {
     add_bars(items, owner, record.bars.as_slice(), class, above, pools)?;
     add_window(items, owner, record.bridge, class, needs)?;
@@ -160,13 +162,13 @@ pub fn items_of<A: Allocator, B: Allocator>(
     alloc: A,
     admitted: &Admitted<B>,
     pools: &Pools,
-    class: Class,
+    class: WindowKind,
     aboves: &[Above; 256],
     needs: &Needs,
 ) -> Result<Vec<Item, A>, OutOfMemory>
     requires aboves { AreAboves (system_in admitted.now) aboves.now }
-    requires needs { AreNeeds admitted.now.roots (system_in admitted.now) (pools_value pools.now) (class_value class) needs.now }
-    ensures items { IfOk result (λ items. AreItems admitted.now.roots (system_in admitted.now) (pools_value pools.now) (class_value class) items.items) }
+    requires needs { AreNeeds admitted.now.roots (system_in admitted.now) (pools_value pools.now) (kind_value class) needs.now }
+    ensures items { IfOk result (λ items. AreItems admitted.now.roots (system_in admitted.now) (pools_value pools.now) (kind_value class) items.items) }
     ensures rooted { OnOk result (IsRooted admitted.now.roots (system_in admitted.now)) }
 {
     let outline = admitted.outline();

@@ -23,7 +23,6 @@
 pub mod above;
 pub mod apply;
 pub mod apply_fault;
-pub mod by_class;
 pub mod class;
 mod compare;
 pub mod item;

@@ -2,15 +2,17 @@
 //! around what the bus behind needs.
 ghost use Rattle.std.specs.Prelude.{◌≡◌, ◌≤◌, ◌^◌, ◌<◌, ◌+◌, ℕ, min, max, slice_index, ◌++◌};
 ghost use Rattle.std.specs.List.{All};
-ghost use Rattle.pci_spec.specs.Plan.{step_of, window_size, need_of, greatest_of_roots};
+ghost use Rattle.pci_spec.specs.Plan.{window_size, need_of, greatest_of_roots};
 ghost use Rattle.pci_tree.specs.Regions.{IsLawful};
-ghost use Rattle.pci_plan.specs.Pools.{class_value, pools_value};
+ghost use Rattle.pci_image.specs.WindowKinds.{kind_value};
+ghost use Rattle.pci_plan.specs.Pools.{pools_value};
 ghost use Rattle.pci_plan.specs.Above.{AreAboves, system_in};
 ghost use Rattle.pci_plan.specs.Sizes.{span, own_sizes, window_sizes, IsTallyOf};
 
 use super::above::Above;
 use super::class::class_of_bar;
-use super::pools::{Class, Pools};
+use super::pools::Pools;
+use pci_image::window_kind::WindowKind;
 use pci_image::bar::Bar;
 use pci_image::rom::Rom;
 use pci_tree::admitted::Admitted;
@@ -74,22 +76,12 @@ pub fn rom_size(rom: &Rom) -> u128
     u128::from(rom.last) - u128::from(rom.first) + 1
 }
 
-/// The least size of a window of a class, by which it grows: 4 KB of I/O, 1 MB of memory (Bridge 1.2, chapter 4).
-fn step_of(class: Class) -> u128
-    ensures { result ≡ step_of (class_value class) }
-{
-    match class {
-        Class::Io => 1 << 12,
-        Class::Memory | Class::Prefetchable => 1 << 20,
-    }
-}
-
-/// The least power of two that is no less than the need of the bus behind a bridge, nor than the step.
-pub fn window_size_of(class: Class, need: u128) -> u128
+/// The least power of two that is no less than the need of the bus behind a bridge, nor than a page.
+pub fn window_size_of(class: WindowKind, need: u128) -> u128
     requires { need ≤ 2 ^ 65 }
-    ensures { result ≡ window_size (class_value class) need }
+    ensures { result ≡ window_size (kind_value class) need }
 {
-    let mut size = step_of(class);
+    let mut size = u128::from(class.page_size());
     for _ in 0..66u32 {
         if need <= size {
             return size;
@@ -100,9 +92,9 @@ pub fn window_size_of(class: Class, need: u128) -> u128
 }
 
 /// The sizes of a function's own BARs and ROM of a class.
-fn own_tally(record: &Record, class: Class, above: Above, pools: &Pools) -> Tally
+fn own_tally(record: &Record, class: WindowKind, above: Above, pools: &Pools) -> Tally
     requires { IsLawful «record».now }
-    ensures { IsTallyOf (own_sizes (class_value class) above pools.now «record».now) result }
+    ensures { IsTallyOf (own_sizes (kind_value class) above pools.now «record».now) result }
 {
     let mut tally = Tally::NONE;
     for bar in record.bars.as_slice() {
@@ -111,7 +103,7 @@ fn own_tally(record: &Record, class: Class, above: Above, pools: &Pools) -> Tall
         }
     }
     match &record.rom {
-        Some(rom) if class == Class::Memory => tally.and(rom_size(rom)),
+        Some(rom) if class == WindowKind::Memory => tally.and(rom_size(rom)),
         _ => tally,
     }
 }
@@ -119,14 +111,14 @@ fn own_tally(record: &Record, class: Class, above: Above, pools: &Pools) -> Tall
 /// Those, and the window of a bridge with something behind it.
 fn tally_of(
     record: &Record,
-    class: Class,
+    class: WindowKind,
     above: Above,
     pools: &Pools,
     of_bus: &[u128; 256],
 ) -> Tally
     requires lawful { IsLawful «record».now }
     requires limited { All (λ need. need ≤ 2 ^ 65) of_bus.now }
-    ensures { IsTallyOf (own_sizes (class_value class) above pools.now «record».now ++ window_sizes (class_value class) of_bus.now «record».now.bridge) result }
+    ensures { IsTallyOf (own_sizes (kind_value class) above pools.now «record».now ++ window_sizes (kind_value class) of_bus.now «record».now.bridge) result }
 {
     let tally = own_tally(record, class, above, pools);
     if let Some(bridge) = record.bridge {
@@ -143,12 +135,12 @@ fn tally_of(
 pub fn needs_of<A: Allocator>(
     admitted: &Admitted<A>,
     pools: &Pools,
-    class: Class,
+    class: WindowKind,
     aboves: &[Above; 256],
 ) -> Needs
     requires { AreAboves (system_in admitted.now) aboves.now }
-    ensures need { (bus : ℕ) → bus < 256 → slice_index result.of_bus bus ≡ need_of (system_in admitted.now) (pools_value pools.now) (class_value class) bus }
-    ensures greatest { result.greatest ≡ greatest_of_roots admitted.now.roots (system_in admitted.now) (pools_value pools.now) (class_value class) }
+    ensures need { (bus : ℕ) → bus < 256 → slice_index result.of_bus bus ≡ need_of (system_in admitted.now) (pools_value pools.now) (kind_value class) bus }
+    ensures greatest { result.greatest ≡ greatest_of_roots admitted.now.roots (system_in admitted.now) (pools_value pools.now) (kind_value class) }
 {
     let outline = admitted.outline();
     let records = outline.records();

@@ -11,15 +11,15 @@ ghost use Rattle.pci_spec.specs.Planning.Showing.{bounds_for, first_bit};
 ghost use Rattle.pci_image.specs.Bars.{decoded_kind_of};
 ghost use Rattle.pci_spec.specs.Planning.Numbers as numbers;
 ghost use Rattle.pci_plan.specs.Classes.{is_io_kind};
-ghost use Rattle.pci_plan.specs.Pools.{by_class, class_value};
+ghost use Rattle.pci_image.specs.WindowKinds.{kind_value, by_kind};
 ghost use Rattle.pci_plan.specs.Places.{first_in};
-ghost use Rattle.pci_plan.specs.Fillings.{address_bits, bounds_value, window_kind, window_in, FillingOf, IsListed};
+ghost use Rattle.pci_plan.specs.Fillings.{address_bits, bounds_value, FillingOf, IsListed};
 
-use super::by_class::ByClass;
+use pci_image::window_kind::ByKind;
 use super::lacking::has_io_bar;
 use super::need::{Needs, window_size_of};
 use super::place::Places;
-use super::pools::Class;
+use pci_image::window_kind::WindowKind;
 use pci_image::bar::{Bar, BarKind};
 use pci_image::image::Image;
 use pci_image::offset::{
@@ -27,7 +27,6 @@ use pci_image::offset::{
     MEMORY_BASE, PREFETCHABLE_BASE, PREFETCHABLE_BASE_UPPER, PREFETCHABLE_LIMIT_UPPER,
 };
 use pci_image::register::Register;
-use pci_image::window::Window;
 use pci_function::record::{Bridge, Record};
 
 /// A function with the places of its parts.
@@ -36,7 +35,7 @@ pub struct Filling<'a> {
     pub record: &'a Record,
     pub image: &'a Image,
     pub places: &'a Places,
-    pub needs: &'a ByClass<Needs>,
+    pub needs: &'a ByKind<Needs>,
 }
 
 /// One end of a window: base or limit, and its upper half, 0 where there is none.
@@ -60,18 +59,18 @@ impl Bound {
     /// At the page of an address, over the low nibble that shows whether the window has upper halves. Base and limit hold
     /// bits 15:12 of an I/O address in their bits 7:4, and bits 31:20 of a memory address in their bits 15:4; the upper half
     /// holds all higher bits (Bridge 1.2, 3.2.5).
-    fn at(class: Class, nibble: u16, address: u64) -> Bound
+    fn at(class: WindowKind, nibble: u16, address: u64) -> Bound
         requires nibble { nibble < 16 }
         requires address { address < 2 ^ address_bits class }
-        ensures lower { result.lower ≡ (bounds_for (window_kind class) nibble address address).base }
-        ensures upper { result.upper ≡ (bounds_for (window_kind class) nibble address address).base_upper }
+        ensures lower { result.lower ≡ (bounds_for (kind_value class) nibble address address).base }
+        ensures upper { result.upper ≡ (bounds_for (kind_value class) nibble address address).base_upper }
     {
         match class {
-            Class::Io => Bound {
+            WindowKind::Io => Bound {
                 lower: (address >> 12 & 0xf) as u16 * 16 + nibble,
                 upper: (address >> 16) as u32,
             },
-            Class::Memory | Class::Prefetchable => Bound {
+            WindowKind::Memory | WindowKind::Prefetchable => Bound {
                 lower: (address >> 20 & 0xfff) as u16 * 16 + nibble,
                 upper: (address >> 32) as u32,
             },
@@ -87,11 +86,11 @@ impl Bounds {
     };
 
     /// Of a window from first to last.
-    fn open(class: Class, nibble: u16, first: u64, last: u64) -> Bounds
+    fn open(class: WindowKind, nibble: u16, first: u64, last: u64) -> Bounds
         requires nibble { nibble < 16 }
         requires first { first < 2 ^ address_bits class }
         requires last { last < 2 ^ address_bits class }
-        ensures { bounds_value result ≡ bounds_for (window_kind class) nibble first last }
+        ensures { bounds_value result ≡ bounds_for (kind_value class) nibble first last }
     {
         Bounds {
             base: Bound::at(class, nibble, first),
@@ -100,13 +99,13 @@ impl Bounds {
     }
 
     /// Of a window that is closed: its base at the last page below 64 KB of I/O or 4 GB of memory, its limit at page 0.
-    fn closed(class: Class, nibble: u16) -> Bounds
+    fn closed(class: WindowKind, nibble: u16) -> Bounds
         requires { nibble < 16 }
-        ensures { bounds_value result ≡ closed_bounds (window_kind class) nibble }
+        ensures { bounds_value result ≡ closed_bounds (kind_value class) nibble }
     {
         let last_page = match class {
-            Class::Io => 0xf000,
-            Class::Memory | Class::Prefetchable => 0xfff0_0000,
+            WindowKind::Io => 0xf000,
+            WindowKind::Memory | WindowKind::Prefetchable => 0xfff0_0000,
         };
         Bounds::open(class, nibble, last_page, 0)
     }
@@ -135,17 +134,6 @@ fn joined(first: u16, second: u16, bit: u32) -> u32
     ensures { result ≡ first + 2 ^ bit * second }
 {
     u32::from(first) + (u32::from(second) << bit)
-}
-
-/// The window of a class, where the bridge has one.
-fn window_of(bridge: &Bridge, class: Class) -> Option<Window>
-    ensures { result ≡ window_in bridge.now.windows class }
-{
-    match class {
-        Class::Io => bridge.windows.io,
-        Class::Memory => Some(bridge.windows.mem),
-        Class::Prefetchable => bridge.windows.pref,
-    }
 }
 
 /// Whether a function has a memory BAR or a ROM.
@@ -223,30 +211,30 @@ impl Filling<'_> {
     }
 
     /// What the bus behind a bridge needs.
-    fn need(&self, bridge: &Bridge, class: Class) -> u128
-        ensures { result ≡ slice_index (by_class self.now.needs.now class).of_bus bridge.now.secondary }
+    fn need(&self, bridge: &Bridge, class: WindowKind) -> u128
+        ensures { result ≡ slice_index (by_kind self.now.needs.now class).of_bus bridge.now.secondary }
     {
-        self.needs.of(class).of_bus[usize::from(bridge.secondary)]
+        self.needs.get(class).of_bus[usize::from(bridge.secondary)]
     }
 
     /// The first address of a window's place.
-    fn window_place(&self, class: Class) -> u64
-        ensures { result ≡ first_in self.now.places.now (WindowPart (window_kind class)) }
+    fn window_place(&self, class: WindowKind) -> u64
+        ensures { result ≡ first_in self.now.places.now (WindowPart (kind_value class)) }
     {
         match class {
-            Class::Io => self.places.io,
-            Class::Memory => self.places.mem,
-            Class::Prefetchable => self.places.pref,
+            WindowKind::Io => self.places.io,
+            WindowKind::Memory => self.places.mem,
+            WindowKind::Prefetchable => self.places.pref,
         }
     }
 
     /// Of a window that is there, with its low nibble.
-    fn window_bounds(&self, bridge: &Bridge, class: Class, nibble: u16) -> Bounds
+    fn window_bounds(&self, bridge: &Bridge, class: WindowKind, nibble: u16) -> Bounds
         requires of { FillingOf self.now }
         requires bridge { self.now.record.now.bridge ≡ Some bridge.now }
-        requires nibble { (of : FillingOf self.now) → nibble ≡ nibble_of (window_kind class) of.function }
-        requires there { (of : FillingOf self.now) → IsTrue (has_window (window_kind class) of.function.probe) }
-        ensures { (of : FillingOf self.now) → bounds_value result ≡ numbers.new_bounds of.roots of.system of.pools of.function (window_kind class) }
+        requires nibble { (of : FillingOf self.now) → nibble ≡ nibble_of (kind_value class) of.function }
+        requires there { (of : FillingOf self.now) → IsTrue (has_window (kind_value class) of.function.probe) }
+        ensures { (of : FillingOf self.now) → bounds_value result ≡ numbers.new_bounds of.roots of.system of.pools of.function (kind_value class) }
     {
         let need = self.need(bridge, class);
         if need == 0 {
@@ -258,12 +246,12 @@ impl Filling<'_> {
     }
 
     /// Of a window that may not be there.
-    fn bounds(&self, bridge: &Bridge, class: Class) -> Bounds
+    fn bounds(&self, bridge: &Bridge, class: WindowKind) -> Bounds
         requires of { FillingOf self.now }
         requires bridge { self.now.record.now.bridge ≡ Some bridge.now }
-        ensures { (of : FillingOf self.now) → bounds_value result ≡ numbers.new_bounds of.roots of.system of.pools of.function (window_kind class) }
+        ensures { (of : FillingOf self.now) → bounds_value result ≡ numbers.new_bounds of.roots of.system of.pools of.function (kind_value class) }
     {
-        match window_of(bridge, class) {
+        match bridge.windows.get(class) {
             None => Bounds::ABSENT,
             Some(window) => self.window_bounds(bridge, class, u16::from(window.wide())),
         }
@@ -277,12 +265,12 @@ impl Filling<'_> {
         ensures { (of : FillingOf self.now) → result ≡ numbers.bridge_number of.roots of.system of.pools of.function offset }
     {
         match offset {
-            IO_BASE => self.bounds(bridge, Class::Io).lower(8),
-            MEMORY_BASE => self.bounds(bridge, Class::Memory).lower(16),
-            PREFETCHABLE_BASE => self.bounds(bridge, Class::Prefetchable).lower(16),
-            PREFETCHABLE_BASE_UPPER => self.bounds(bridge, Class::Prefetchable).base.upper,
-            PREFETCHABLE_LIMIT_UPPER => self.bounds(bridge, Class::Prefetchable).limit.upper,
-            IO_BASE_UPPER => self.bounds(bridge, Class::Io).upper(),
+            IO_BASE => self.bounds(bridge, WindowKind::Io).lower(8),
+            MEMORY_BASE => self.bounds(bridge, WindowKind::Memory).lower(16),
+            PREFETCHABLE_BASE => self.bounds(bridge, WindowKind::Prefetchable).lower(16),
+            PREFETCHABLE_BASE_UPPER => self.bounds(bridge, WindowKind::Prefetchable).base.upper,
+            PREFETCHABLE_LIMIT_UPPER => self.bounds(bridge, WindowKind::Prefetchable).limit.upper,
+            IO_BASE_UPPER => self.bounds(bridge, WindowKind::Io).upper(),
             BRIDGE_EXPANSION_ROM => self.rom_number(offset),
             _ => self.bar_number(offset),
         }
@@ -303,13 +291,13 @@ impl Filling<'_> {
     }
 
     /// Whether the function is a bridge with a window of a class, and something of the class is behind it.
-    fn is_open(&self, class: Class) -> bool
+    fn is_open(&self, class: WindowKind) -> bool
         requires { FillingOf self.now }
-        ensures { (of : FillingOf self.now) → result ≡ (is_bridge of.function && has_window (window_kind class) of.function.probe && has_behind of.system of.pools (class_value class) of.function) }
+        ensures { (of : FillingOf self.now) → result ≡ (is_bridge of.function && has_window (kind_value class) of.function.probe && has_behind of.system of.pools (kind_value class) of.function) }
     {
         match &self.record.bridge {
             None => false,
-            Some(bridge) => window_of(bridge, class).is_some() && 0 < self.need(bridge, class),
+            Some(bridge) => bridge.windows.get(class).is_some() && 0 < self.need(bridge, class),
         }
     }
 
@@ -318,7 +306,7 @@ impl Filling<'_> {
         requires { FillingOf self.now }
         ensures { (of : FillingOf self.now) → result ≡ numbers.needs_io of.system of.pools of.function }
     {
-        has_io_bar(self.record) || self.is_open(Class::Io)
+        has_io_bar(self.record) || self.is_open(WindowKind::Io)
     }
 
     /// Whether there is something to decode in memory space.
@@ -327,8 +315,8 @@ impl Filling<'_> {
         ensures { (of : FillingOf self.now) → result ≡ numbers.needs_memory of.system of.pools of.function }
     {
         has_memory_part(self.record)
-            || self.is_open(Class::Memory)
-            || self.is_open(Class::Prefetchable)
+            || self.is_open(WindowKind::Memory)
+            || self.is_open(WindowKind::Prefetchable)
     }
 
     /// What Command holds: bits 0 and 1 as there is something to decode, all others as they stand (PCI 3.0, 6.2.2).

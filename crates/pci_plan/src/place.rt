@@ -3,7 +3,8 @@ ghost use Rattle.std.specs.Prelude.{◌≡◌, ℕ, OnOk, length, slice_index_or
 ghost use Rattle.std.specs.List.{Contains};
 ghost use Rattle.pci_spec.specs.System.{Part as PartValue};
 ghost use Rattle.pci_spec.specs.PlanPromise.{CanBePlanned};
-ghost use Rattle.pci_plan.specs.Pools.{class_value, pools_value};
+ghost use Rattle.pci_image.specs.WindowKinds.{kind_value};
+ghost use Rattle.pci_plan.specs.Pools.{pools_value};
 ghost use Rattle.pci_plan.specs.Above.{AreAboves, system_in};
 ghost use Rattle.pci_plan.specs.Needs.{AreNeeds};
 ghost use Rattle.pci_plan.specs.Items.{part_value, IsPart};
@@ -13,7 +14,8 @@ ghost use Rattle.pci_plan.specs.Walks.{Walk};
 use super::above::Above;
 use super::item::{Item, Part, items_of, sort_items};
 use super::need::Needs;
-use super::pools::{Class, Pools};
+use super::pools::Pools;
+use pci_image::window_kind::WindowKind;
 use super::room::raised;
 use pci_dump::memory::OutOfMemory;
 use pci_tree::admitted::Admitted;
@@ -40,18 +42,18 @@ impl Places {
     };
 
     /// Sets the first address of a part.
-    fn set(&mut self, class: Class, part: Part, first: u64)
+    fn set(&mut self, class: WindowKind, part: Part, first: u64)
         requires { IsPart part }
-        ensures set { first_in self.new (part_value (class_value class) part) ≡ first }
-        ensures others { (other : PartValue) → (other ≡ part_value (class_value class) part → ⊥) → first_in self.new other ≡ first_in self.old other }
+        ensures set { first_in self.new (part_value (kind_value class) part) ≡ first }
+        ensures others { (other : PartValue) → (other ≡ part_value (kind_value class) part → ⊥) → first_in self.new other ≡ first_in self.old other }
     {
         match part {
             Part::Bar(n) => self.bars[usize::from(n)] = first,
             Part::Rom => self.rom = first,
             Part::Window { .. } => match class {
-                Class::Io => self.io = first,
-                Class::Memory => self.mem = first,
-                Class::Prefetchable => self.pref = first,
+                WindowKind::Io => self.io = first,
+                WindowKind::Memory => self.mem = first,
+                WindowKind::Prefetchable => self.pref = first,
             },
         }
     }
@@ -59,11 +61,11 @@ impl Places {
 
 /// Places sorted items one after another, a group from its start on. A bridge stands in a lower group than what is behind
 /// it, or on a root, so the first address of its window is known when that group begins.
-fn place_sorted(items: &[Item], class: Class, start: u128, places: &mut [Places])
-    requires { Walk (class_value class) (length places.old) start items.now }
-    ensures placed { (w : Walk (class_value class) (length places.old) start items.now) (i : Item) (d : Places) → Contains items.now i
-        → first_in (slice_index_or places.new i.function d) (part_value (class_value class) i.part) ≡ w.place i }
-    ensures others { (k : ℕ) (d : Places) (part : PartValue) → ((i : Item) → Contains items.now i → i.function ≡ k → part_value (class_value class) i.part ≡ part → ⊥)
+fn place_sorted(items: &[Item], class: WindowKind, start: u128, places: &mut [Places])
+    requires { Walk (kind_value class) (length places.old) start items.now }
+    ensures placed { (w : Walk (kind_value class) (length places.old) start items.now) (i : Item) (d : Places) → Contains items.now i
+        → first_in (slice_index_or places.new i.function d) (part_value (kind_value class) i.part) ≡ w.place i }
+    ensures others { (k : ℕ) (d : Places) (part : PartValue) → ((i : Item) → Contains items.now i → i.function ≡ k → part_value (kind_value class) i.part ≡ part → ⊥)
         → first_in (slice_index_or places.new k d) part ≡ first_in (slice_index_or places.old k d) part }
 {
     let mut starts = [0u128; 256];
@@ -87,17 +89,17 @@ pub fn place_class<A: Allocator + Copy, B: Allocator>(
     alloc: A,
     admitted: &Admitted<B>,
     pools: &Pools,
-    class: Class,
+    class: WindowKind,
     aboves: &[Above; 256],
     needs: &Needs,
     places: &mut [Places],
 ) -> Result<(), OutOfMemory>
     requires plannable { CanBePlanned admitted.now.roots (system_in admitted.now) (pools_value pools.now) }
     requires aboves { AreAboves (system_in admitted.now) aboves.now }
-    requires needs { AreNeeds admitted.now.roots (system_in admitted.now) (pools_value pools.now) (class_value class) needs.now }
+    requires needs { AreNeeds admitted.now.roots (system_in admitted.now) (pools_value pools.now) (kind_value class) needs.now }
     requires count { length places.old ≡ length (system_in admitted.now) }
-    ensures placed { OnOk result (HasPlaces admitted.now.roots (system_in admitted.now) (pools_value pools.now) (class_value class) places.new) }
-    ensures others { OnOk result (KeepsOthers (system_in admitted.now) (pools_value pools.now) (class_value class) places.old places.new) }
+    ensures placed { OnOk result (HasPlaces admitted.now.roots (system_in admitted.now) (pools_value pools.now) (kind_value class) places.new) }
+    ensures others { OnOk result (KeepsOthers (system_in admitted.now) (pools_value pools.now) (kind_value class) places.old places.new) }
 {
     let pool = pools.of(class);
     let mut items = items_of(alloc, admitted, pools, class, aboves, needs)?;

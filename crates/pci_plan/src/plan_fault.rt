@@ -3,7 +3,7 @@ ghost use Rattle.std.specs.Prelude.{◌≡◌, Some};
 ghost use Rattle.pci_spec.specs.Plan.{plan_fault_number};
 ghost use Rattle.pci_spec.specs.Line.{plan_fault_text};
 
-use super::pools::Class;
+use pci_image::window_kind::WindowKind;
 use pci_image::slot::Slot;
 use pci_function::fault::Fault;
 use std::fmt;
@@ -16,7 +16,7 @@ pub enum PlanFault {
     /// 71: an I/O BAR of the function at the slot is behind a bridge without an I/O window.
     NoWindow(Slot),
     /// 72: what is of the class doesn't fit its pool.
-    NoRoom(Class),
+    NoRoom(WindowKind),
     /// 73: the plan itself is judged, and refused. It never comes.
     NotAccepted(Fault),
 }
@@ -47,9 +47,10 @@ impl fmt::Display for PlanFault {
         match *self {
             PlanFault::BadPools => write!(f, "70 BadPools"),
             PlanFault::NoWindow(slot) => write!(f, "71 NoWindow {slot}"),
-            PlanFault::NoRoom(Class::Io) => write!(f, "72 NoRoom io"),
-            PlanFault::NoRoom(Class::Memory) => write!(f, "72 NoRoom mem"),
-            PlanFault::NoRoom(Class::Prefetchable) => write!(f, "72 NoRoom pref"),
+            PlanFault::NoRoom(class) => {
+                let name = class.name();
+                write!(f, "72 NoRoom {name}")
+            }
             PlanFault::NotAccepted(fault) => write!(f, "73 NotAccepted {fault}"),
         }
     }

@@ -5,7 +5,7 @@ ghost use Rattle.pci_spec.specs.Number.{byte_at, number_at, IsImage};
 ghost use Rattle.pci_spec.specs.Text.{slots_of};
 ghost use Rattle.pci_spec.specs.Stops.{IsAboveLast, last_slot};
 ghost use Rattle.pci_spec.specs.System.{system_of};
-ghost use Rattle.pci_spec.specs.Plan.{Class as ClassValue};
+ghost use Rattle.pci_spec.specs.Window.{WindowKind as KindValue};
 ghost use Rattle.pci_spec.specs.PlanPromise.{CanBePlanned};
 ghost use Rattle.pci_spec.specs.Planning.Numbers.{IsPlannedFunction};
 ghost use Rattle.pci_plan.specs.Pools.{pools_value};
@@ -14,7 +14,7 @@ ghost use Rattle.pci_plan.specs.Needs.{AreAllNeeds};
 ghost use Rattle.pci_plan.specs.Places.{HasPlaces};
 ghost use Rattle.pci_plan.specs.Fillings.{FillingOf};
 
-use super::by_class::ByClass;
+use pci_image::window_kind::ByKind;
 use super::need::Needs;
 use super::numbers::Filling;
 use super::place::Places;
@@ -64,13 +64,13 @@ pub fn planned_dump<A: Allocator, B: Allocator>(
     alloc: A,
     admitted: &Admitted<B>,
     pools: &Pools,
-    needs: &ByClass<Needs>,
+    needs: &ByKind<Needs>,
     places: &[Places],
 ) -> Result<Dump<A>, OutOfMemory>
     requires plannable { CanBePlanned admitted.now.roots (system_in admitted.now) (pools_value pools.now) }
     requires needs { AreAllNeeds admitted.now.roots (system_in admitted.now) (pools_value pools.now) needs.now }
     requires count { length places.now ≡ length (system_in admitted.now) }
-    requires places { (c : ClassValue) → HasPlaces admitted.now.roots (system_in admitted.now) (pools_value pools.now) c places.now }
+    requires places { (c : KindValue) → HasPlaces admitted.now.roots (system_in admitted.now) (pools_value pools.now) c places.now }
     ensures slots { IfOk result (λ dump. slots_of dump ≡ slots_of admitted.now.dump) }
     ensures titles { IfOk result (λ dump. map (λ b. b.title) dump ≡ map (λ b. b.title) admitted.now.dump) }
     ensures planned { IfOk result (λ dump. AllZip (IsPlannedFunction admitted.now.roots (system_in admitted.now) (pools_value pools.now)) (system_in admitted.now) (system_of dump admitted.now.probe)) }

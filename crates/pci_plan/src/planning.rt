@@ -8,9 +8,11 @@ ghost use Rattle.pci_spec.specs.Decoded.{IsDecodable};
 ghost use Rattle.pci_tree.specs.Admission.{IsAdmitted};
 ghost use Rattle.pci_tree.specs.Roots.{buses_of};
 ghost use Rattle.pci_spec.specs.Sound.{IsSound};
-ghost use Rattle.pci_spec.specs.Plan.{Class as ClassValue, fits};
+ghost use Rattle.pci_spec.specs.Window.{WindowKind as KindValue};
+ghost use Rattle.pci_spec.specs.Plan.{fits};
 ghost use Rattle.pci_spec.specs.PlanPromise.{CanBePlanned, IsFirstTooLarge};
-ghost use Rattle.pci_plan.specs.Pools.{class_value, pools_value};
+ghost use Rattle.pci_image.specs.WindowKinds.{kind_value};
+ghost use Rattle.pci_plan.specs.Pools.{pools_value};
 ghost use Rattle.pci_plan.specs.Above.{AreAboves, system_in};
 ghost use Rattle.pci_plan.specs.Needs.{AreAllNeeds};
 ghost use Rattle.pci_plan.specs.Places.{HasPlaces};
@@ -18,14 +20,15 @@ ghost use Rattle.pci_plan.specs.Writes.{is_image_on};
 ghost use Rattle.pci_plan.specs.Plans.{IsPlanIn, IsFaultOf, IsUnsoundIf};
 
 use super::above::{Above, aboves};
-use super::by_class::ByClass;
+use pci_image::window_kind::ByKind;
 use super::lacking::first_lacking;
 use super::need::{Needs, needs_of};
 use super::place::{Places, place_class};
 use super::plan::Plan;
 use super::plan_fault::PlanFault;
 use super::planned::planned_dump;
-use super::pools::{Class, Pools};
+use super::pools::Pools;
+use pci_image::window_kind::WindowKind;
 use super::room::has_room;
 use super::writes::{closings, writes_between};
 use pci_check::check::check;
@@ -44,14 +47,14 @@ fn all_needs<A: Allocator>(
     admitted: &Admitted<A>,
     pools: &Pools,
     aboves: &[Above; 256],
-) -> ByClass<Needs>
+) -> ByKind<Needs>
     requires { AreAboves (system_in admitted.now) aboves.now }
     ensures { AreAllNeeds admitted.now.roots (system_in admitted.now) (pools_value pools.now) result }
 {
-    ByClass {
-        io: needs_of(admitted, pools, Class::Io, aboves),
-        mem: needs_of(admitted, pools, Class::Memory, aboves),
-        pref: needs_of(admitted, pools, Class::Prefetchable, aboves),
+    ByKind {
+        io: needs_of(admitted, pools, WindowKind::Io, aboves),
+        memory: needs_of(admitted, pools, WindowKind::Memory, aboves),
+        prefetchable: needs_of(admitted, pools, WindowKind::Prefetchable, aboves),
     }
 }
 
@@ -59,20 +62,20 @@ fn all_needs<A: Allocator>(
 fn first_too_large<A: Allocator>(
     admitted: &Admitted<A>,
     pools: &Pools,
-    needs: &ByClass<Needs>,
-) -> Option<Class>
+    needs: &ByKind<Needs>,
+) -> Option<WindowKind>
     requires { AreAllNeeds admitted.now.roots (system_in admitted.now) (pools_value pools.now) needs.now }
-    ensures { MatchOption result ((c : ClassValue) → IsTrue (fits admitted.now.roots (system_in admitted.now) (pools_value pools.now) c))
-        (λ class. IsFirstTooLarge admitted.now.roots (system_in admitted.now) (pools_value pools.now) (class_value class)) }
+    ensures { MatchOption result ((c : KindValue) → IsTrue (fits admitted.now.roots (system_in admitted.now) (pools_value pools.now) c))
+        (λ class. IsFirstTooLarge admitted.now.roots (system_in admitted.now) (pools_value pools.now) (kind_value class)) }
 {
-    if !has_room(admitted, pools, Class::Io, &needs.io) {
-        return Some(Class::Io);
+    if !has_room(admitted, pools, WindowKind::Io, &needs.io) {
+        return Some(WindowKind::Io);
     }
-    if !has_room(admitted, pools, Class::Memory, &needs.mem) {
-        return Some(Class::Memory);
+    if !has_room(admitted, pools, WindowKind::Memory, &needs.memory) {
+        return Some(WindowKind::Memory);
     }
-    if !has_room(admitted, pools, Class::Prefetchable, &needs.pref) {
-        return Some(Class::Prefetchable);
+    if !has_room(admitted, pools, WindowKind::Prefetchable, &needs.prefetchable) {
+        return Some(WindowKind::Prefetchable);
     }
     None
 }
@@ -98,33 +101,33 @@ fn all_places<A: Allocator + Copy, B: Allocator>(
     admitted: &Admitted<B>,
     pools: &Pools,
     aboves: &[Above; 256],
-    needs: &ByClass<Needs>,
+    needs: &ByKind<Needs>,
 ) -> Result<Vec<Places, A>, OutOfMemory>
     requires plannable { CanBePlanned admitted.now.roots (system_in admitted.now) (pools_value pools.now) }
     requires aboves { AreAboves (system_in admitted.now) aboves.now }
     requires needs { AreAllNeeds admitted.now.roots (system_in admitted.now) (pools_value pools.now) needs.now }
     ensures count { IfOk result (λ v. length v.items ≡ length (system_in admitted.now)) }
-    ensures places { IfOk result (λ v. (c : ClassValue) → HasPlaces admitted.now.roots (system_in admitted.now) (pools_value pools.now) c v.items) }
+    ensures places { IfOk result (λ v. (c : KindValue) → HasPlaces admitted.now.roots (system_in admitted.now) (pools_value pools.now) c v.items) }
 {
     let mut places = no_places(alloc, admitted)?;
     let all = places.as_mut_slice();
-    place_class(alloc, admitted, pools, Class::Io, aboves, &needs.io, all)?;
+    place_class(alloc, admitted, pools, WindowKind::Io, aboves, &needs.io, all)?;
     place_class(
         alloc,
         admitted,
         pools,
-        Class::Memory,
+        WindowKind::Memory,
         aboves,
-        &needs.mem,
+        &needs.memory,
         all,
     )?;
     place_class(
         alloc,
         admitted,
         pools,
-        Class::Prefetchable,
+        WindowKind::Prefetchable,
         aboves,
-        &needs.pref,
+        &needs.prefetchable,
         all,
     )?;
     Ok(places)
@@ -176,7 +179,7 @@ fn made<'a, A: Allocator + Copy>(
     admitted: &'a Admitted<A>,
     pools: &Pools,
     aboves: &[Above; 256],
-    needs: &ByClass<Needs>,
+    needs: &ByKind<Needs>,
 ) -> Result<Plan<'a, A>, OutOfMemory>
     requires plannable { CanBePlanned admitted.now.roots (system_in admitted.now) (pools_value pools.now) }
     requires aboves { AreAboves (system_in admitted.now) aboves.now }

@@ -2,20 +2,15 @@
 ghost use Rattle.std.specs.Prelude.{◌≡◌};
 ghost use Rattle.pci_spec.specs.Plan.{are_bad, pool_of};
 ghost use Rattle.pci_image.specs.Ranges.{decoded_range_of};
-ghost use Rattle.pci_plan.specs.Pools.{pools_value, class_value};
+ghost use Rattle.pci_image.specs.WindowKinds.{kind_value};
+ghost use Rattle.pci_plan.specs.Pools.{pools_value};
 
 use pci_image::range::Range;
+use pci_image::window_kind::WindowKind;
 
-/// Which pool a region is placed in.
-#[derive(Clone, Copy, Debug, PartialEq, Eq)]
-pub enum Class {
-    /// BARs in I/O space.
-    Io,
-    /// Memory that isn't placed in the prefetchable pool: BARs and ROMs.
-    Memory,
-    /// Prefetchable BARs to which prefetchable windows lead all the way.
-    Prefetchable,
-}
+/// The class of a region, which says what pool it is placed in: that of the windows which lead to it. Prefetchable BARs
+/// to which prefetchable windows lead all the way are `Prefetchable`, and all other memory is `Memory`.
+pub use pci_image::window_kind::WindowKind as Class;
 
 /// The highest address of a pool of I/O, and of one of memory.
 const IO_LAST: u64 = 0xffff;
@@ -32,13 +27,13 @@ pub struct Pools {
 
 impl Pools {
     /// The pool of a class.
-    pub fn of(&self, class: Class) -> Range
-        ensures { decoded_range_of result ≡ pool_of (pools_value self.now) (class_value class) }
+    pub fn of(&self, class: WindowKind) -> Range
+        ensures { decoded_range_of result ≡ pool_of (pools_value self.now) (kind_value class) }
     {
         match class {
-            Class::Io => self.io,
-            Class::Memory => self.mem,
-            Class::Prefetchable => self.pref,
+            WindowKind::Io => self.io,
+            WindowKind::Memory => self.mem,
+            WindowKind::Prefetchable => self.pref,
         }
     }
 

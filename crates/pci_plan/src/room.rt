@@ -3,12 +3,14 @@ ghost use Rattle.std.specs.Prelude.{◌≡◌, ◌<◌, ◌≤◌, ◌^◌, map,
 ghost use Rattle.std.specs.List.{All, sum};
 ghost use Rattle.pci_spec.specs.Plan.{fits, raised_to};
 ghost use Rattle.pci_tree.specs.Roots.{buses_of};
-ghost use Rattle.pci_plan.specs.Pools.{class_value, pools_value};
+ghost use Rattle.pci_image.specs.WindowKinds.{kind_value};
+ghost use Rattle.pci_plan.specs.Pools.{pools_value};
 ghost use Rattle.pci_plan.specs.Above.{system_in};
 ghost use Rattle.pci_plan.specs.Needs.{AreNeeds};
 
 use super::need::Needs;
-use super::pools::{Class, Pools};
+use super::pools::Pools;
+use pci_image::window_kind::WindowKind;
 use pci_tree::admitted::Admitted;
 use pci_tree::roots::Roots;
 use std::alloc::Allocator;
@@ -42,11 +44,11 @@ pub fn raised(size: u128, first: u64) -> u128
 pub fn has_room<A: Allocator>(
     admitted: &Admitted<A>,
     pools: &Pools,
-    class: Class,
+    class: WindowKind,
     needs: &Needs,
 ) -> bool
-    requires { AreNeeds admitted.now.roots (system_in admitted.now) (pools_value pools.now) (class_value class) needs.now }
-    ensures { result ≡ fits admitted.now.roots (system_in admitted.now) (pools_value pools.now) (class_value class) }
+    requires { AreNeeds admitted.now.roots (system_in admitted.now) (pools_value pools.now) (kind_value class) needs.now }
+    ensures { result ≡ fits admitted.now.roots (system_in admitted.now) (pools_value pools.now) (kind_value class) }
 {
     let need = need_of_roots(&admitted.outline().roots(), needs);
     let pool = pools.of(class);

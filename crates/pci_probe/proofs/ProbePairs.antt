@@ -13,8 +13,10 @@ use Rattle.pci_spec.specs.Resource.{ResourceLine}
 use Rattle.pci_spec.specs.Derived.{derived_byte, derived_probe}
 use Rattle.pci_spec.specs.SizesText.{SizesBlock, sized_slots}
 use Rattle.pci_spec.specs.ProbeOf.{told_of, probe_block, probe_of, identity_fault, first_of}
-use Rattle.pci_function.specs.Pair.{IsFine, IsPair}
-use Rattle.pci_function.proofs.Pairs.{pair_is_fine}
+use Rattle.pci_spec.proofs.Pairing.{function_of, function-at, same_length, length-system_of}
+use Rattle.pci_function.specs.Profile.{IsAnswering}
+use Rattle.pci_function.specs.Pair.{IsPair}
+use Rattle.pci_function.proofs.Pairs.{answering_pair}
 use Rattle.pci_machine.proofs.Targets.{find-none}
 use Rattle.pci_probe.specs.Derivation.{told}
 use Rattle.pci_probe.proofs.FirstOf.{first_of-none, header_of-none}
@@ -42,8 +44,10 @@ none_stray image lines place = elim (cases_Bool (nat_lt place 256)) [
 
 -- ---- blocks
 
-pub pair_of : (dump : List Block) (sizes : List SizesBlock) → slots_of dump ≡ sized_slots sizes → first_of identity_fault dump ≡ None → (roots : List ℕ) → IsPair roots dump (probe_of dump sizes)
-pair_of dump sizes same headers = pair_is_fine dump (probe_of dump sizes) (sym (slots-probe_of dump sizes same)) (λ k b p within b_is p_is.
+-- each function of the dump and its derived probe answers
+answers : (dump : List Block) (sizes : List SizesBlock) (k : ℕ) (b p : Block) → slots_of dump ≡ sized_slots sizes → first_of identity_fault dump ≡ None → k < length dump → b ≡ get_or dump k b
+    → p ≡ get_or (probe_of dump sizes) k p → IsAnswering (function_of b p)
+answers dump sizes k b p same headers within b_is p_is =
     let count = same_count dump sizes same in
     let long = length-told_of dump sizes count in
     let inside : k < length sizes = omega (arith, count, within) in
@@ -53,4 +57,18 @@ pair_of dump sizes same headers = pair_is_fine dump (probe_of dump sizes) (sym (
     let probe : probe_block (told b s) ≡ p =
     sym (p_is ∙ get_or-map probe_block (told_of dump sizes) k (told b s) p (omega (arith, long, within)) ∙ ap probe_block at) in
     let header = header_of-none b (first_of-none identity_fault dump k b within (sym b_is) headers) in
-    subst (λ (q : Block). IsFine b q) probe record { vendor = header.vendor; layout = header.layout; probe_bytes = none_stray b.image s.lines })
+    subst (λ (q : Block). IsAnswering (function_of b q)) probe record { vendor = header.vendor; header = header.layout; probe = none_stray b.image s.lines }
+
+pub pair_of : (dump : List Block) (sizes : List SizesBlock) → slots_of dump ≡ sized_slots sizes → first_of identity_fault dump ≡ None → (roots : List ℕ) → IsPair roots dump (probe_of dump sizes)
+pair_of dump sizes same headers =
+    let probe : List Block = probe_of dump sizes in
+    let slots : slots_of dump ≡ slots_of probe = sym (slots-probe_of dump sizes same) in
+    answering_pair dump probe slots (λ k f within.
+      let long = same_length dump probe slots in
+      let all = length-system_of dump probe long in
+      let none : Block = record { slot = f.slot; title = None; image = f.image } in
+      let in_dump : k < length dump = omega (arith, within, all) in
+      let in_probe : k < length probe = omega (arith, in_dump, long) in
+      subst IsAnswering (sym (function-at dump probe k none none f in_dump in_probe))
+      (answers dump sizes k (get_or dump k none) (get_or probe k none) same headers in_dump
+      (get_or_default dump k none (get_or dump k none) in_dump) (get_or_default probe k none (get_or probe k none) in_probe)))

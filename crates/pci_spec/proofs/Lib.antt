@@ -16,6 +16,7 @@ pub mod Nesting
 pub mod Ways
 pub mod BarLaws
 pub mod BarKinds
+pub mod WindowKinds
 pub mod WindowLaws
 pub mod Beginnings
 pub mod TextLaws

@@ -101,19 +101,6 @@ phase_le image_of other e before =
       | inr (same, rest) ↦ omega (arith, same)
     ]
 
--- ---- identities and probes
-
--- what the fault with this rest of a key says
-abbrev pub IdentityIs : Function → ℕ → List ℕ → Type 0
-IdentityIs f zero ys = IsTrue (has_no_vendor f.image)
-IdentityIs f (suc zero) ys = IsTrue (has_other_layout f.image)
-IdentityIs f (suc (suc n)) ys = (offset : ℕ) × (ys ≡ offset ∷ []) × IsTrue (is_stray f.image f.probe offset)
-
--- without the vendor's fault there is none before the next
-pub only_vendor : (f : Function) (j : ℕ) (xs : List ℕ) → has_no_vendor f.image ≡ false → j < 1 → IdentityIs f j xs → ⊥
-only_vendor f zero xs vendor less is = both_ways _ vendor is
-only_vendor f (suc j) xs vendor less is = let no : ⊥ = omega (arith, less) in no
-
 -- ---- steps of a walk
 
 -- the step at which a place is met is one at which the walk is there

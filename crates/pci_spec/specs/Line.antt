@@ -2,10 +2,11 @@
 use Rattle.std.specs.Prelude.{ℕ, zero, suc, ◌+◌, ◌/◌, ◌%◌, List, [], ◌∷◌, ◌++◌, codes, Option, None, Some}
 use Rattle.pci_spec.specs.Slot.{Slot}
 use Rattle.pci_spec.specs.Text.{hex_digit, hex_byte, slot_text}
+use Rattle.pci_spec.specs.Window.{WindowKind, IoWindow, MemoryWindow, PrefetchWindow}
 use Rattle.pci_spec.specs.System.{Space, Io, Memory}
 use Rattle.pci_spec.specs.Fault.{Fault, fault_number, NoVendor, HeaderKind, BarType, BarMask, BarPair, RomMask, WindowMask, CapRange, CapLoop, CapCut, SlotsDiffer, StrayProbe, LoneFunction, PaletteSnoop, VgaEnable, IsaEnable, Subtractive, InReset, PowerState, BusRange, Orphan, Unreached, Clash, Split}
 use Rattle.pci_spec.specs.Machine.{Write}
-use Rattle.pci_spec.specs.Plan.{Class, IoClass, MemoryClass, PrefetchClass, PlanFault, BadPools, NoWindow, NoRoom, NotAccepted, plan_fault_number}
+use Rattle.pci_spec.specs.Plan.{PlanFault, BadPools, NoWindow, NoRoom, NotAccepted, plan_fault_number}
 
 -- a number in so many hex digits
 abbrev pub hex_number : ℕ → ℕ → List ℕ
@@ -115,16 +116,17 @@ fault_fields (Split space address first first_register second second_register) =
 abbrev pub fault_text : Fault → List ℕ
 fault_text fault = two_digits (fault_number fault) ++ field (fault_name fault) ++ fault_fields fault
 
--- why nothing is planned: a number, a name and its fields
-abbrev pub class_field : Class → List ℕ
-class_field IoClass = field (codes "io")
-class_field MemoryClass = field (codes "mem")
-class_field PrefetchClass = field (codes "pref")
+-- a window of a bridge, or the pool of what goes through it
+abbrev pub window_name : WindowKind → List ℕ
+window_name IoWindow = codes "io"
+window_name MemoryWindow = codes "mem"
+window_name PrefetchWindow = codes "pref"
 
+-- why nothing is planned: a number, a name and its fields
 abbrev pub plan_fault_words : PlanFault → List ℕ
 plan_fault_words BadPools = codes "BadPools"
 plan_fault_words (NoWindow slot) = codes "NoWindow" ++ slot_field slot
-plan_fault_words (NoRoom class) = codes "NoRoom" ++ class_field class
+plan_fault_words (NoRoom class) = codes "NoRoom" ++ field (window_name class)
 plan_fault_words (NotAccepted fault) = codes "NotAccepted" ++ field (fault_text fault)
 
 abbrev pub plan_fault_text : PlanFault → List ℕ

@@ -9,7 +9,7 @@ use Rattle.pci_spec.specs.Window.{WindowKind, IoWindow, MemoryWindow, PrefetchWi
 use Rattle.pci_spec.specs.Capability.{pointer, capability_id, message_control}
 use Rattle.pci_spec.specs.Text.{hex_byte, slot_text}
 use Rattle.pci_spec.specs.System.{Space, Io, Memory, Function, System, window_space}
-use Rattle.pci_spec.specs.Line.{hex_number, address_text}
+use Rattle.pci_spec.specs.Line.{hex_number, address_text, window_name}
 use Rattle.pci_spec.specs.Decoded.{Range, DecodedBar, DecodedRom, DecodedWindow, Bridge, decoded_bars, decoded_rom, bridge_of}
 
 -- words, each behind a space, and the line's end
@@ -87,11 +87,6 @@ open_text space (Some range) = range_text space range
 abbrev pub window_text : Space → Option DecodedWindow → List ℕ
 window_text space None = codes "none"
 window_text space (Some window) = open_text space window.range
-
-abbrev pub window_name : WindowKind → List ℕ
-window_name IoWindow = codes "io"
-window_name MemoryWindow = codes "mem"
-window_name PrefetchWindow = codes "pref"
 
 abbrev pub window_line : WindowKind → Option DecodedWindow → List ℕ
 window_line kind window =

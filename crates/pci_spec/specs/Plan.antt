@@ -7,7 +7,7 @@ use Rattle.pci_spec.specs.Slot.{Slot}
 use Rattle.pci_spec.specs.Registers.{COMMAND}
 use Rattle.pci_spec.specs.Header.{command}
 use Rattle.pci_spec.specs.Bar.{bar_at, is_io, is_wide, is_prefetchable}
-use Rattle.pci_spec.specs.Window.{WindowKind, IoWindow, MemoryWindow, PrefetchWindow, has_window, is_wide_window, is_closed}
+use Rattle.pci_spec.specs.Window.{WindowKind, IoWindow, MemoryWindow, PrefetchWindow, page_size, has_window, is_wide_window, is_closed}
 use Rattle.pci_spec.specs.Decoded.{Range, InRange, bar_size, rom_size}
 use Rattle.pci_spec.specs.System.{System, Function, Space, Io, Memory, Part, Bar, Rom, Window, has_part, bars_and_rom, is_window, Decodes, is_bridge}
 use Rattle.pci_spec.specs.Bus.{secondary, is_behind}
@@ -20,16 +20,10 @@ pub record Pools : Type 0 where
   pub memory : Range
   pub prefetch : Range
 
--- which pool a region is placed in
-pub data Class : Type 0 where
-  IoClass : Class
-  MemoryClass : Class
-  PrefetchClass : Class
-
-abbrev pub pool_of : Pools → Class → Range
-pool_of pools IoClass = pools.io
-pool_of pools MemoryClass = pools.memory
-pool_of pools PrefetchClass = pools.prefetch
+abbrev pub pool_of : Pools → WindowKind → Range
+pool_of pools IoWindow = pools.io
+pool_of pools MemoryWindow = pools.memory
+pool_of pools PrefetchWindow = pools.prefetch
 
 abbrev pub is_backward : Range → Bool
 is_backward pool = nat_lt pool.last pool.first
@@ -52,31 +46,19 @@ is_served s pools f n =
     then list_all (λ b. has_window PrefetchWindow b.probe) (bridges_above s f.slot.bus)
     else is_wide (bar_at f.probe n) && list_all (λ b. is_wide_window PrefetchWindow b.probe) (bridges_above s f.slot.bus)
 
--- the class of what goes through a window
-abbrev pub window_class : WindowKind → Class
-window_class IoWindow = IoClass
-window_class MemoryWindow = MemoryClass
-window_class PrefetchWindow = PrefetchClass
-
--- the window that what is of a class goes through
-abbrev pub window_of : Class → WindowKind
-window_of IoClass = IoWindow
-window_of MemoryClass = MemoryWindow
-window_of PrefetchClass = PrefetchWindow
-
--- the class that a part is placed in
-abbrev pub class_of : System → Pools → Function → Part → Class
+-- the class that a part is placed in: that of the windows that lead to it
+abbrev pub class_of : System → Pools → Function → Part → WindowKind
 class_of s pools f (Bar n) =
-    if is_io (bar_at f.probe n) then IoClass
-    else if is_prefetchable (bar_at f.probe n) && is_served s pools f n then PrefetchClass
-    else MemoryClass
-class_of s pools f Rom = MemoryClass
-class_of s pools f (Window kind) = window_class kind
+    if is_io (bar_at f.probe n) then IoWindow
+    else if is_prefetchable (bar_at f.probe n) && is_served s pools f n then PrefetchWindow
+    else MemoryWindow
+class_of s pools f Rom = MemoryWindow
+class_of s pools f (Window kind) = kind
 
-abbrev pub same_class : Class → Class → Bool
-same_class IoClass IoClass = true
-same_class MemoryClass MemoryClass = true
-same_class PrefetchClass PrefetchClass = true
+abbrev pub same_class : WindowKind → WindowKind → Bool
+same_class IoWindow IoWindow = true
+same_class MemoryWindow MemoryWindow = true
+same_class PrefetchWindow PrefetchWindow = true
 same_class c d = false
 
 -- how many addresses a BAR or ROM has
@@ -85,14 +67,8 @@ size_of f (Bar n) = bar_size f.probe n
 size_of f Rom = rom_size f.image f.probe
 size_of f (Window kind) = 0
 
--- a window grows by pages of this size
-abbrev pub step_of : Class → ℕ
-step_of IoClass = 4096
-step_of MemoryClass = 2 ^ 20
-step_of PrefetchClass = 2 ^ 20
-
 -- the sizes of a function's BARs and ROM of a class
-abbrev pub sizes_in : System → Pools → Class → Function → List ℕ
+abbrev pub sizes_in : System → Pools → WindowKind → Function → List ℕ
 sizes_in s pools c f = map (size_of f) (filter (λ part. same_class c (class_of s pools f part)) (bars_and_rom f))
 
 -- twice as much, as often as it takes to reach n
@@ -100,9 +76,9 @@ unfoldable pub doubled_to : ℕ → ℕ → ℕ → ℕ
 doubled_to n zero size = size
 doubled_to n (suc times) size = if nat_le n size then size else doubled_to n times (2 * size)
 
--- the size of the window that need behind a bridge asks for: the least power of two that is no less than it, nor than the step
-abbrev pub window_size : Class → ℕ → ℕ
-window_size c need = doubled_to need 66 (step_of c)
+-- the size of the window that need behind a bridge asks for: the least power of two that is no less than it, nor than a page
+abbrev pub window_size : WindowKind → ℕ → ℕ
+window_size c need = doubled_to need 66 (page_size c)
 
 -- no pool holds so much
 abbrev pub limited : ℕ → ℕ
@@ -110,7 +86,7 @@ limited n = min (2 ^ 65) n
 
 -- The sizes of what stands on a bus: BARs and ROMs, and a window for each bridge with something behind it,
 -- where at most `depth` buses are below one another.
-unfoldable pub items_within : System → Pools → Class → ℕ → ℕ → List ℕ
+unfoldable pub items_within : System → Pools → WindowKind → ℕ → ℕ → List ℕ
 items_within s pools c zero bus = []
 items_within s pools c (suc depth) bus =
     flat_map (λ f. if f.slot.bus == bus then sizes_in s pools c f else []) s
@@ -118,10 +94,10 @@ items_within s pools c (suc depth) bus =
     then window_size c (limited (sum (items_within s pools c depth (secondary b)))) ∷ [] else []) s
 
 -- buses rise on the way down, so 256 of them are all
-abbrev pub items_on : System → Pools → Class → ℕ → List ℕ
+abbrev pub items_on : System → Pools → WindowKind → ℕ → List ℕ
 items_on s pools c bus = items_within s pools c 256 bus
 
-abbrev pub need_of : System → Pools → Class → ℕ → ℕ
+abbrev pub need_of : System → Pools → WindowKind → ℕ → ℕ
 need_of s pools c bus = limited (sum (items_on s pools c bus))
 
 abbrev pub greatest : List ℕ → ℕ
@@ -132,14 +108,14 @@ abbrev pub raised_to : ℕ → ℕ → ℕ
 raised_to size n = (n + size - 1) / size * size
 
 -- what the root buses need together: their items are placed as those of one bus
-abbrev pub need_of_roots : List ℕ → System → Pools → Class → ℕ
+abbrev pub need_of_roots : List ℕ → System → Pools → WindowKind → ℕ
 need_of_roots roots s pools c = sum (map (need_of s pools c) roots)
 
-abbrev pub greatest_of_roots : List ℕ → System → Pools → Class → ℕ
+abbrev pub greatest_of_roots : List ℕ → System → Pools → WindowKind → ℕ
 greatest_of_roots roots s pools c = greatest (flat_map (items_on s pools c) roots)
 
 -- whether what is of a class fits its pool
-abbrev pub fits : List ℕ → System → Pools → Class → Bool
+abbrev pub fits : List ℕ → System → Pools → WindowKind → Bool
 fits roots s pools c =
     need_of_roots roots s pools c == 0
     || nat_le (raised_to (greatest_of_roots roots s pools c) (pool_of pools c).first + need_of_roots roots s pools c) ((pool_of pools c).last + 1)
@@ -158,7 +134,7 @@ LacksWindow s slot =
     × IsTrue (list_any (λ b. not (has_window IoWindow b.probe)) (bridges_above s slot.bus))
 
 -- a BAR or ROM of a class is behind a bridge
-abbrev pub has_behind : System → Pools → Class → Function → Bool
+abbrev pub has_behind : System → Pools → WindowKind → Function → Bool
 has_behind s pools c b =
     list_any (λ f. is_behind b f.slot.bus && list_any (λ part. same_class c (class_of s pools f part)) (bars_and_rom f)) s
 
@@ -185,7 +161,7 @@ pub data PlanFault : Type 0 where
   -- an I/O BAR of the function at the slot is behind a bridge without an I/O window
   NoWindow : (slot : Slot) → PlanFault
   -- what is of the class doesn't fit its pool
-  NoRoom : (class : Class) → PlanFault
+  NoRoom : (class : WindowKind) → PlanFault
   -- the plan itself is judged, and refused
   NotAccepted : (fault : Fault) → PlanFault
 
@@ -203,7 +179,7 @@ pub record IsPlanned (old new : System) (pools : Pools) : Type 0 where
       → InRange (pool_of pools (class_of new pools f part)) a
   -- a window is open exactly where something of its class is behind it
   pub windows : (b : Function) (kind : WindowKind) → Contains new b → IsTrue (is_bridge b) → IsTrue (has_window kind b.probe)
-      → is_open b kind ≡ has_behind new pools (window_class kind) b
+      → is_open b kind ≡ has_behind new pools kind b
   -- Command enables exactly the spaces in which there is something to decode
   pub io : (f : Function) → Contains new f → has_bit (command f.image) 0 ≡ wants f Io
   pub memory : (f : Function) → Contains new f → has_bit (command f.image) 1 ≡ wants f Memory

@@ -4,11 +4,12 @@ use Rattle.std.specs.List.{sum}
 use Rattle.pci_spec.specs.Number.{byte_at, has_bit}
 use Rattle.pci_spec.specs.Slot.{Slot, slot_number}
 use Rattle.pci_spec.specs.Header.{layout, rom_register}
+use Rattle.pci_spec.specs.Window.{WindowKind, IoWindow, MemoryWindow, PrefetchWindow}
 use Rattle.pci_spec.specs.Rom.{has_rom}
 use Rattle.pci_spec.specs.System.{System, Function}
 use Rattle.pci_spec.specs.Sound.{IsSound}
 use Rattle.pci_spec.specs.Machine.{Write, system_after}
-use Rattle.pci_spec.specs.Plan.{Pools, Class, IoClass, MemoryClass, PrefetchClass, IsPlanned, fits, are_bad, LacksWindow, PlanFault, BadPools, NoWindow, NoRoom, NotAccepted}
+use Rattle.pci_spec.specs.Plan.{Pools, IsPlanned, fits, are_bad, LacksWindow, PlanFault, BadPools, NoWindow, NoRoom, NotAccepted}
 use Rattle.pci_spec.specs.Place.{IsPlaced}
 use Rattle.pci_spec.specs.Planning.PlanWrites.{Change, closing_writes, plan_writes, most_writes}
 
@@ -61,10 +62,10 @@ pub record IsFirstLacking (s : System) (slot : Slot) : Type 0 where
   pub first : (other : Slot) → LacksWindow s other → slot_number slot ≤ slot_number other
 
 -- a class that doesn't fit its pool, while those that are looked at before it do
-abbrev pub IsFirstTooLarge : List ℕ → System → Pools → Class → Type 0
-IsFirstTooLarge roots s pools IoClass = IsFalse (fits roots s pools IoClass)
-IsFirstTooLarge roots s pools MemoryClass = IsFalse (fits roots s pools MemoryClass) × IsTrue (fits roots s pools IoClass)
-IsFirstTooLarge roots s pools PrefetchClass = IsFalse (fits roots s pools PrefetchClass) × IsTrue (fits roots s pools IoClass) × IsTrue (fits roots s pools MemoryClass)
+abbrev pub IsFirstTooLarge : List ℕ → System → Pools → WindowKind → Type 0
+IsFirstTooLarge roots s pools IoWindow = IsFalse (fits roots s pools IoWindow)
+IsFirstTooLarge roots s pools MemoryWindow = IsFalse (fits roots s pools MemoryWindow) × IsTrue (fits roots s pools IoWindow)
+IsFirstTooLarge roots s pools PrefetchWindow = IsFalse (fits roots s pools PrefetchWindow) × IsTrue (fits roots s pools IoWindow) × IsTrue (fits roots s pools MemoryWindow)
 
 -- the fault is there, and none that is looked for before it
 abbrev pub IsPlanFaultOf : List ℕ → System → Pools → PlanFault → Type 0
@@ -77,4 +78,4 @@ IsPlanFaultOf roots s pools (NotAccepted fault) = ⊥
 pub record CanBePlanned (roots : List ℕ) (s : System) (pools : Pools) : Type 0 where
   pub good : IsFalse (are_bad pools)
   pub windows : (slot : Slot) → LacksWindow s slot → ⊥
-  pub room : (c : Class) → IsTrue (fits roots s pools c)
+  pub room : (c : WindowKind) → IsTrue (fits roots s pools c)

@@ -3,11 +3,12 @@ use Rattle.std.specs.Prelude.{◌≡◌, ℕ, ◌+◌, ◌%◌, ◌^◌, ◌<◌
 use Rattle.std.specs.List.{All, AllZip, Contains, count_by, sum}
 use Rattle.std.specs.List.Sorted.{IsStrictlyIncreasing}
 use Rattle.pci_spec.specs.Slot.{same_slot}
+use Rattle.pci_spec.specs.Window.{WindowKind, page_size}
 use Rattle.pci_spec.specs.System.{System, IsSystem}
 use Rattle.pci_spec.specs.Bus.{IsNested}
 use Rattle.pci_spec.specs.Sound.{HasChains, IsInProfile, IsSound}
 use Rattle.pci_spec.specs.Decoded.{IsDecodable}
-use Rattle.pci_spec.specs.Plan.{Pools, Class, IsMoved, step_of, window_size, are_bad}
+use Rattle.pci_spec.specs.Plan.{Pools, IsMoved, window_size, are_bad}
 use Rattle.pci_spec.specs.PlanPromise.{with_rom_on}
 use Rattle.pci_spec.specs.Planning.Laws.{AreChanges}
 use Rattle.pci_spec.specs.Planning.Layout.{IsLaidOut, IsSwitchedOn}
@@ -82,7 +83,7 @@ FewWritesEach = (changes : List Change) → AreChanges changes → (c : Change) 
 
 -- a window is the least power of two that its need goes into, and no smaller than a page
 abbrev pub WindowIsLeastPower : Type 0
-WindowIsLeastPower = (c : Class) (need : ℕ) → need ≤ 2 ^ 65 → IsLeastPower need (step_of c) (window_size c need)
+WindowIsLeastPower = (c : WindowKind) (need : ℕ) → need ≤ 2 ^ 65 → IsLeastPower need (page_size c) (window_size c need)
 
 -- ---- everything at its place
 
@@ -100,7 +101,7 @@ RomsCanBeOn =
 
 -- The places of what can be planned are those of items placed largest first, in the pool on the roots and in the windows behind bridges.
 abbrev pub PlacesAreATable : Type 0
-PlacesAreATable = (roots : List ℕ) (s : System) (pools : Pools) (c : Class) → IsPlannable roots s pools → IsStrictlyIncreasing roots → IsTable roots s pools c (place_at roots s pools)
+PlacesAreATable = (roots : List ℕ) (s : System) (pools : Pools) (c : WindowKind) → IsPlannable roots s pools → IsStrictlyIncreasing roots → IsTable roots s pools c (place_at roots s pools)
 
 -- The registers that show these places make a system that is planned, sound and at its place.
 abbrev pub PlannedNumbersAreFinal : Type 0

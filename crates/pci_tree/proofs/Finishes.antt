@@ -19,7 +19,8 @@ use Rattle.pci_spec.proofs.BusRanges.{any_from}
 use Rattle.pci_spec.proofs.Members.{IsMade, in_map_to}
 use Rattle.pci_spec.specs.Order.{phase_of, image_at}
 use Rattle.pci_tree.proofs.EarlyFaults.{early-of_slots, early-of_here}
-use Rattle.pci_tree.proofs.FirstAmong.{among_listed, first_among, in_here, here_not_clear}
+use Rattle.pci_function.proofs.FirstIn.{in_here, here_in, here_not_clear}
+use Rattle.pci_tree.proofs.FirstAmong.{among_listed, first_among}
 use Rattle.pci_spec.proofs.Looking.{phase_le}
 use Rattle.pci_tree.specs.PlaceFaults.{IsPlaceRefusal}
 use Rattle.pci_function.specs.declared.record.Record.{Record}
@@ -32,34 +33,6 @@ use Rattle.pci_tree.specs.Survey.{Surveyed, phase_noted, IsSurveyOf, IsOutlineOf
 use Rattle.pci_tree.proofs.Lifting.{Has}
 use Rattle.pci_tree.proofs.Faces.{SameFace, HaveFaces, faces_of}
 use Rattle.pci_tree.proofs.Places.{nested_in_places}
-
--- ---- a fault of a function by itself is one of the system
-
-pub here_in : (roots : List ℕ) (s : System) (f : Function) (e : Fault) → Contains s f → IsHere f e → IsIn roots s e
-here_in roots s f (NoVendor slot) has is = (f, has, sym is.0, is.1)
-here_in roots s f (HeaderKind slot) has is = (f, has, sym is.0, is.1)
-here_in roots s f (BarType slot register) has is = (f, has, sym is.0, is.1)
-here_in roots s f (BarMask slot register) has is = (f, has, sym is.0, is.1)
-here_in roots s f (BarPair slot register) has is = (f, has, sym is.0, is.1)
-here_in roots s f (RomMask slot register) has is = (f, has, sym is.0, is.1)
-here_in roots s f (WindowMask slot register) has is = (f, has, sym is.0, is.1)
-here_in roots s f (CapRange slot place) has is = (f, has, sym is.0, is.1)
-here_in roots s f (CapLoop slot place) has is = (f, has, sym is.0, is.1)
-here_in roots s f (CapCut slot place) has is = (f, has, sym is.0, is.1)
-here_in roots s f (SlotsDiffer slot) has is = absurd is
-here_in roots s f (StrayProbe slot offset) has is = (f, has, sym is.0, is.1)
-here_in roots s f (LoneFunction slot) has is = absurd is
-here_in roots s f (PaletteSnoop slot) has is = (f, has, sym is.0, is.1)
-here_in roots s f (VgaEnable slot) has is = (f, has, sym is.0, is.1)
-here_in roots s f (IsaEnable slot) has is = (f, has, sym is.0, is.1)
-here_in roots s f (Subtractive slot) has is = (f, has, sym is.0, is.1)
-here_in roots s f (InReset slot) has is = (f, has, sym is.0, is.1)
-here_in roots s f (PowerState slot) has is = (f, has, sym is.0, is.1)
-here_in roots s f (BusRange slot) has is = absurd is
-here_in roots s f (Orphan slot) has is = absurd is
-here_in roots s f (Unreached slot register space address bridge) has is = absurd is
-here_in roots s f (Clash bus space address first first_register second second_register) has is = absurd is
-here_in roots s f (Split space address first first_register second second_register) has is = absurd is
 
 -- ---- no function is lone
 

@@ -9,7 +9,8 @@ use Rattle.std.proofs.lemmas.List.{get_or_default, length-map}
 use Rattle.std.proofs.lemmas.List.Elements.{All-contains}
 use Rattle.pci_spec.specs.Slot.{Slot, slot_number}
 use Rattle.pci_spec.specs.Header.{layout, secondary_bus}
-use Rattle.pci_spec.specs.System.{System, Function, Space, Io, Memory, IsAddress, is_bridge, passes, IsPassedTo, Gets}
+use Rattle.pci_spec.specs.Window.{WindowKind}
+use Rattle.pci_spec.specs.System.{System, Function, Io, Memory, IsAddress, is_bridge, passes, window_space, IsPassedTo, Gets}
 use Rattle.pci_spec.specs.System as system
 use Rattle.pci_spec.specs.Decoded.{HasRecords, IsDecodable, record_of, bridge_of}
 use Rattle.pci_spec.specs.Decoded as decoded
@@ -17,6 +18,7 @@ use Rattle.pci_spec.proofs.Members.{IsMade, in_map_to, in_map_from, pairs_map}
 use Rattle.pci_function.specs.declared.record.Record.{Record}
 use Rattle.pci_function.specs.declared.record.Bridge.{Bridge}
 use Rattle.pci_function.specs.Values.{record_value, bridge_value}
+use Rattle.pci_function.specs.Space.{is_prefetch}
 use Rattle.pci_tree.specs.Passes.{record_passes}
 use Rattle.pci_tree.specs.Ways.{secondary_in, bus_behind, Leads, IsTheWay, AreSlotsOfWay, slots_of}
 use Rattle.pci_tree.specs.Reaches.{PassAll, GetsTo}
@@ -195,47 +197,40 @@ path_of_way roots s rs slots bus is rise ways =
 
 -- ---- who gets where
 
-passes_same : (s : System) (rs : List Record) (space : Space) (prefetch : Bool) (a : ℕ) (r : Record) (f : Function) → Has s rs → Contains s f → is_bridge f ≡ true
-    → record_value r ≡ record_of f → passes space prefetch a f ≡ record_passes space prefetch a (record_value r)
-passes_same s rs space prefetch a r f is has bridge e =
-    passes-record space prefetch a f (All-contains IsDecodable s f is.decodable has) bridge ∙ ap (record_passes space prefetch a) (sym e)
+passes_same : (s : System) (rs : List Record) (kind : WindowKind) (a : ℕ) (r : Record) (f : Function) → Has s rs → Contains s f → is_bridge f ≡ true
+    → record_value r ≡ record_of f → passes (window_space kind) (is_prefetch kind) a f ≡ record_passes kind a (record_value r)
+passes_same s rs kind a r f is has bridge e =
+    passes-record kind a f (All-contains IsDecodable s f is.decodable has) bridge ∙ ap (record_passes kind a) (sym e)
 
-pass_up : (s : System) (rs : List Record) (space : Space) (prefetch : Bool) (a from to : ℕ) (way : List Record) (fs : List Function) → Has s rs → system.Leads s from fs to
-    → SameRecords way fs → PassAll space prefetch a way → IsTrue (list_all (passes space prefetch a) fs)
-pass_up s rs space prefetch a from to [] [] is leads e pass = refl
-pass_up s rs space prefetch a from to [] (f ∷ fs) is leads e pass = cc
-pass_up s rs space prefetch a from to (r ∷ way) [] is leads e pass = refl
-pass_up s rs space prefetch a from to (r ∷ way) (f ∷ fs) is (has, bridge, on, rest) e (here, later) =
+pass_up : (s : System) (rs : List Record) (kind : WindowKind) (a from to : ℕ) (way : List Record) (fs : List Function) → Has s rs → system.Leads s from fs to
+    → SameRecords way fs → PassAll kind a way → IsTrue (list_all (passes (window_space kind) (is_prefetch kind) a) fs)
+pass_up s rs kind a from to [] [] is leads e pass = refl
+pass_up s rs kind a from to [] (f ∷ fs) is leads e pass = cc
+pass_up s rs kind a from to (r ∷ way) [] is leads e pass = refl
+pass_up s rs kind a from to (r ∷ way) (f ∷ fs) is (has, bridge, on, rest) e (here, later) =
     let head : record_value r ≡ record_of f = cc in
     let tail : map record_value way ≡ map record_of fs = cc in
-    and_from (passes space prefetch a f) (list_all (passes space prefetch a) fs) (passes_same s rs space prefetch a r f is has bridge head ∙ here)
-    (pass_up s rs space prefetch a (secondary_bus f.image) to way fs is rest tail later)
+    and_from (passes (window_space kind) (is_prefetch kind) a f) (list_all (passes (window_space kind) (is_prefetch kind) a) fs) (passes_same s rs kind a r f is has bridge head ∙ here)
+    (pass_up s rs kind a (secondary_bus f.image) to way fs is rest tail later)
 
-pass_down : (s : System) (rs : List Record) (space : Space) (prefetch : Bool) (a from to : ℕ) (way : List Record) (fs : List Function) → Has s rs → system.Leads s from fs to
-    → SameRecords way fs → IsTrue (list_all (passes space prefetch a) fs) → PassAll space prefetch a way
-pass_down s rs space prefetch a from to [] fs is leads e pass = tt {0}
-pass_down s rs space prefetch a from to (r ∷ way) [] is leads e pass = cc
-pass_down s rs space prefetch a from to (r ∷ way) (f ∷ fs) is (has, bridge, on, rest) e pass =
+pass_down : (s : System) (rs : List Record) (kind : WindowKind) (a from to : ℕ) (way : List Record) (fs : List Function) → Has s rs → system.Leads s from fs to
+    → SameRecords way fs → IsTrue (list_all (passes (window_space kind) (is_prefetch kind) a) fs) → PassAll kind a way
+pass_down s rs kind a from to [] fs is leads e pass = tt {0}
+pass_down s rs kind a from to (r ∷ way) [] is leads e pass = cc
+pass_down s rs kind a from to (r ∷ way) (f ∷ fs) is (has, bridge, on, rest) e pass =
     let head : record_value r ≡ record_of f = cc in
     let tail : map record_value way ≡ map record_of fs = cc in
-    let both : (passes space prefetch a f ≡ true) × (list_all (passes space prefetch a) fs ≡ true) = and_parts (passes space prefetch a f) (list_all (passes space prefetch a) fs) pass in
-    (sym (passes_same s rs space prefetch a r f is has bridge head) ∙ both.0, pass_down s rs space prefetch a (secondary_bus f.image) to way fs is rest tail both.1)
+    let both : (passes (window_space kind) (is_prefetch kind) a f ≡ true) × (list_all (passes (window_space kind) (is_prefetch kind) a) fs ≡ true) = and_parts (passes (window_space kind) (is_prefetch kind) a f) (list_all (passes (window_space kind) (is_prefetch kind) a) fs) pass in
+    (sym (passes_same s rs kind a r f is has bridge head) ∙ both.0, pass_down s rs kind a (secondary_bus f.image) to way fs is rest tail both.1)
 
 -- an address is passed on to a bus by the records exactly where it is in each system that has them
-pub gets-passed : (roots : List ℕ) (s : System) (rs : List Record) (space : Space) (prefetch : Bool) (a bus : ℕ) → Has s rs
-    → GetsTo rs roots space prefetch a bus ↔ IsPassedTo roots s space prefetch a bus
-gets-passed roots s rs space prefetch a bus is = (
-  λ (h : GetsTo rs roots space prefetch a bus). (
+pub gets-passed : (roots : List ℕ) (s : System) (rs : List Record) (kind : WindowKind) (a bus : ℕ) → Has s rs
+    → GetsTo rs roots kind a bus ↔ IsPassedTo roots s (window_space kind) (is_prefetch kind) a bus
+gets-passed roots s rs kind a bus is = (
+  λ (h : GetsTo rs roots kind a bus). (
       let up : IsWayIn s h.root h.way bus = way_up s rs h.root bus h.way is h.leads in
-      (h.root, h.starts, up.fs, up.leads, pass_up s rs space prefetch a h.root bus h.way up.fs is up.leads up.same h.pass)),
-  λ (h : IsPassedTo roots s space prefetch a bus). (
+      (h.root, h.starts, up.fs, up.leads, pass_up s rs kind a h.root bus h.way up.fs is up.leads up.same h.pass)),
+  λ (h : IsPassedTo roots s (window_space kind) (is_prefetch kind) a bus). (
       let down : IsWayOfRecords rs h.0 h.2 bus = way_down s rs h.0 bus h.2 is h.3 in
-      record { root = h.0; starts = h.1; way = down.way; leads = down.leads; pass = pass_down s rs space prefetch a h.0 bus down.way h.2 is h.3 down.same h.4 }),
+      record { root = h.0; starts = h.1; way = down.way; leads = down.leads; pass = pass_down s rs kind a h.0 bus down.way h.2 is h.3 down.same h.4 }),
 )
-
--- an access gets to a bus exactly where a prefetchable region would be passed
-pub gets_io : (roots : List ℕ) (s : System) (a bus : ℕ) → Gets roots s Io a bus ↔ IsPassedTo roots s Io true a bus
-gets_io roots s a bus = (λ (h : Gets roots s Io a bus). h, λ (h : IsPassedTo roots s Io true a bus). h)
-
-pub gets_memory : (roots : List ℕ) (s : System) (a bus : ℕ) → Gets roots s Memory a bus ↔ IsPassedTo roots s Memory true a bus
-gets_memory roots s a bus = (λ (h : Gets roots s Memory a bus). h, λ (h : IsPassedTo roots s Memory true a bus). h)

@@ -1,12 +1,12 @@
 -- What an outline lists is so of each system with its records.
-use Rattle.std.proofs.Common.{◌≡◌, ℕ, ◌+◌, ◌<◌, ◌≤◌, List, [], ◌∷◌, length, get_or, take, map, refl, Bool, cond, inl, inr, sym, ◌∙◌, ap, subst, Option, Some, None}
+use Rattle.std.proofs.Common.{◌≡◌, ℕ, ◌+◌, ◌<◌, ◌≤◌, List, [], ◌∷◌, length, get_or, take, map, refl, Bool, true, false, cond, inl, inr, sym, ◌∙◌, ap, subst, Option, Some, None}
 use Rattle.std.specs.Prelude.{IfSome, MatchOption}
 use Rattle.std.specs.List.{Contains, All, filter}
 use Rattle.std.proofs.lemmas.Bool.{cases_Bool}
 use Rattle.std.proofs.lemmas.List.{map_more}
 use Rattle.std.proofs.lemmas.List.Elements.{All-weaker, Contains-push_cases, Contains-get_or}
 use Rattle.pci_spec.specs.Slot.{Slot}
-use Rattle.pci_spec.specs.System.{System, Function, Space, IsAddress, is_bridge, IsPassedTo, window_space}
+use Rattle.pci_spec.specs.System.{System, Function, Space, Io, Memory, IsAddress, is_bridge, IsPassedTo, window_space}
 use Rattle.pci_spec.specs.Decoded.{HasRecords, record_of}
 use Rattle.pci_spec.specs.Decoded as decoded
 use Rattle.pci_spec.specs.Window.{WindowKind, IoWindow, MemoryWindow, PrefetchWindow}
@@ -16,6 +16,7 @@ use Rattle.pci_function.specs.declared.record.Bridge.{Bridge}
 use Rattle.pci_function.specs.declared.record.Record.{Record}
 use Rattle.pci_function.specs.Values.{record_value, bridge_value}
 use Rattle.pci_tree.specs.Ranges.{Covers}
+use Rattle.pci_function.specs.Space.{is_prefetch, kind_in}
 use Rattle.pci_tree.specs.Passes.{HaveSpans}
 use Rattle.pci_tree.specs.Ways.{is_bridging, slots_of, IsUnled, AreSlotsOfWay}
 use Rattle.pci_tree.specs.Regions.{IsLawful, IsSpanIn, window_in}
@@ -79,15 +80,22 @@ have_spans rs lawful = All-weaker IsLawful HasSpans (λ r is. spans_of r.bridge 
 
 -- ---- reach and ways
 
-pub reach_to : (roots : List ℕ) (s : System) (rs : List Record) (space : Space) (prefetch : Bool) (bus : ℕ) (out : List Range) → Has s rs
-    → IsReachOf rs roots space prefetch bus out → IsReachTo roots s space prefetch bus out
-reach_to roots s rs space prefetch bus out is reach = record {
+pub reach_to : (roots : List ℕ) (s : System) (rs : List Record) (kind : WindowKind) (bus : ℕ) (out : List Range) → Has s rs
+    → IsReachOf rs roots kind bus out → IsReachTo roots s (window_space kind) (is_prefetch kind) bus out
+reach_to roots s rs kind bus out is reach = record {
   canonical = reach.canonical;
   exact = λ a. (
-    λ (h : Covers out a). (let p : IsAddress space a × GetsTo rs roots space prefetch a bus = (reach.exact a).0 h in (p.0, (gets-passed roots s rs space prefetch a bus is).0 p.1)),
-    λ (h : IsAddress space a × IsPassedTo roots s space prefetch a bus). (reach.exact a).1 (h.0, (gets-passed roots s rs space prefetch a bus is).1 h.1),
+    λ (h : Covers out a). (let p : IsAddress (window_space kind) a × GetsTo rs roots kind a bus = (reach.exact a).0 h in (p.0, (gets-passed roots s rs kind a bus is).0 p.1)),
+    λ (h : IsAddress (window_space kind) a × IsPassedTo roots s (window_space kind) (is_prefetch kind) a bus). (reach.exact a).1 (h.0, (gets-passed roots s rs kind a bus is).1 h.1),
   );
 }
+
+-- what gets to a bus of a space is that of the kind of access
+pub reach_in : (roots : List ℕ) (s : System) (space : Space) (prefetch : Bool) (bus : ℕ) (out : List Range)
+    → IsReachTo roots s (window_space (kind_in space prefetch)) (is_prefetch (kind_in space prefetch)) bus out → IsReachTo roots s space prefetch bus out
+reach_in roots s Io prefetch bus out reach = record { canonical = reach.canonical; exact = reach.exact }
+reach_in roots s Memory true bus out reach = reach
+reach_in roots s Memory false bus out reach = reach
 
 -- the way to a listed function is its path
 pub path_to : {V : Type 0} (slots : V → List Slot) (roots : List ℕ) (rs read : List Record) (slot : Slot) (bus : ℕ) (o : Option V) → IsOutline roots rs → read ≡ rs → bus ≡ slot.bus

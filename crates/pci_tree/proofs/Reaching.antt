@@ -4,7 +4,8 @@ use Rattle.std.specs.Prelude.{◌↔◌, IsTrue, IfSome}
 use Rattle.std.specs.List.{Contains}
 use Rattle.std.proofs.lemmas.Bool.{cases_lt}
 use Rattle.std.proofs.lemmas.List.{get_or_append_left, get_or_push, get_or_default}
-use Rattle.pci_spec.specs.System.{Space, IsAddress}
+use Rattle.pci_spec.specs.Window.{WindowKind}
+use Rattle.pci_spec.specs.System.{Space, IsAddress, window_space}
 use Rattle.pci_image.specs.declared.range.Range.{Range}
 use Rattle.pci_function.specs.declared.record.Record.{Record}
 use Rattle.pci_function.specs.Values.{record_value}
@@ -17,17 +18,17 @@ use Rattle.pci_tree.specs.Reaches.{PassAll, GetsTo, IsReachOf, IsWhole, IsPassed
 use Rattle.pci_tree.proofs.Passing.{covers_push, canonical_push}
 use Rattle.pci_tree.proofs.Ways.{way_ends, bridge_at}
 
-pass_push : (space : Space) (prefetch : Bool) (way : List Record) (b : Record) (a : ℕ)
-    → PassAll space prefetch a (way ++ b ∷ []) ↔ (PassAll space prefetch a way × IsTrue (record_passes space prefetch a (record_value b)))
-pass_push space prefetch [] b a = (
-  λ (h : IsTrue (record_passes space prefetch a (record_value b)) × Unit {0}). (tt {0}, h.0),
-  λ (h : Unit {0} × IsTrue (record_passes space prefetch a (record_value b))). (h.1, tt {0}),
+pass_push : (kind : WindowKind) (way : List Record) (b : Record) (a : ℕ)
+    → PassAll kind a (way ++ b ∷ []) ↔ (PassAll kind a way × IsTrue (record_passes kind a (record_value b)))
+pass_push kind [] b a = (
+  λ (h : IsTrue (record_passes kind a (record_value b)) × Unit {0}). (tt {0}, h.0),
+  λ (h : Unit {0} × IsTrue (record_passes kind a (record_value b))). (h.1, tt {0}),
 )
-pass_push space prefetch (c ∷ way) b a = (
-  λ (h : IsTrue (record_passes space prefetch a (record_value c)) × PassAll space prefetch a (way ++ b ∷ [])).
-      (let r : PassAll space prefetch a way × IsTrue (record_passes space prefetch a (record_value b)) = (pass_push space prefetch way b a).0 h.1 in ((h.0, r.0), r.1)),
-  λ (h : (IsTrue (record_passes space prefetch a (record_value c)) × PassAll space prefetch a way) × IsTrue (record_passes space prefetch a (record_value b))).
-      (h.0.0, (pass_push space prefetch way b a).1 (h.0.1, h.1)),
+pass_push kind (c ∷ way) b a = (
+  λ (h : IsTrue (record_passes kind a (record_value c)) × PassAll kind a (way ++ b ∷ [])).
+      (let r : PassAll kind a way × IsTrue (record_passes kind a (record_value b)) = (pass_push kind way b a).0 h.1 in ((h.0, r.0), r.1)),
+  λ (h : (IsTrue (record_passes kind a (record_value c)) × PassAll kind a way) × IsTrue (record_passes kind a (record_value b))).
+      (h.0.0, (pass_push kind way b a).1 (h.0.1, h.1)),
 )
 
 pub leads_push : (records : List Record) (from : ℕ) (way : List Record) (b : Record) → IsBridgeIn records b → Leads records from way b.slot.bus
@@ -52,36 +53,36 @@ whole_of space whole out e lawful exact = subst (λ xs. IsWhole space xs) (sym e
 })
 
 -- what a bridge passes of some ranges
-pub passed_on_of : (above : List Range) (space : Space) (prefetch : Bool) (bridge : Record) (forwarded : Forwarded) (out : List Range)
-    → ((a : ℕ) → Passes forwarded a ↔ IsTrue (record_passes space prefetch a (record_value bridge))) → IsReach above forwarded out
-    → IsPassedOn above space prefetch (record_value bridge) out
-passed_on_of above space prefetch bridge forwarded out exact step = record {
+pub passed_on_of : (above : List Range) (kind : WindowKind) (bridge : Record) (forwarded : Forwarded) (out : List Range)
+    → ((a : ℕ) → Passes forwarded a ↔ IsTrue (record_passes kind a (record_value bridge))) → IsReach above forwarded out
+    → IsPassedOn above kind (record_value bridge) out
+passed_on_of above kind bridge forwarded out exact step = record {
   canonical = step.canonical;
   exact = λ a. (
     λ (h : Covers out a). (let p : Covers above a × Passes forwarded a = (step.exact a).0 h in (p.0, (exact a).0 p.1)),
-    λ (h : Covers above a × IsTrue (record_passes space prefetch a (record_value bridge))). (step.exact a).1 (h.0, (exact a).1 h.1),
+    λ (h : Covers above a × IsTrue (record_passes kind a (record_value bridge))). (step.exact a).1 (h.0, (exact a).1 h.1),
   );
 }
 
 -- every address gets to a root
-root_reach : (records : List Record) (roots : List ℕ) (space : Space) (prefetch : Bool) (bus : ℕ) (out : List Range) → Contains roots bus → IsWhole space out
-    → IsReachOf records roots space prefetch bus out
-root_reach records roots space prefetch bus out starts whole = record {
+root_reach : (records : List Record) (roots : List ℕ) (kind : WindowKind) (bus : ℕ) (out : List Range) → Contains roots bus → IsWhole (window_space kind) out
+    → IsReachOf records roots kind bus out
+root_reach records roots kind bus out starts whole = record {
   canonical = whole.canonical;
   exact = λ a. (
     λ (h : Covers out a). ((whole.exact a).0 h, record { root = bus; starts = starts; way = []; leads = refl; pass = tt {0} }),
-    λ (h : IsAddress space a × GetsTo records roots space prefetch a bus). (whole.exact a).1 h.0,
+    λ (h : IsAddress (window_space kind) a × GetsTo records roots kind a bus). (whole.exact a).1 h.0,
   );
 }
 
 -- nothing gets to a bus that is no root and that no bridge leads to
-orphan_reach : (records : List Record) (roots : List ℕ) (space : Space) (prefetch : Bool) (bus : ℕ) → (Contains roots bus → ⊥)
-    → ((b : Record) → IsBridgeIn records b → bus_behind b ≡ bus → ⊥) → IsReachOf records roots space prefetch bus []
-orphan_reach records roots space prefetch bus off orphan = record {
+orphan_reach : (records : List Record) (roots : List ℕ) (kind : WindowKind) (bus : ℕ) → (Contains roots bus → ⊥)
+    → ((b : Record) → IsBridgeIn records b → bus_behind b ≡ bus → ⊥) → IsReachOf records roots kind bus []
+orphan_reach records roots kind bus off orphan = record {
   canonical = nil_canonical;
   exact = λ a. (
     λ (h : Covers [] a). absurd (none_covered a h),
-    λ (h : IsAddress space a × GetsTo records roots space prefetch a bus). (let g : GetsTo records roots space prefetch a bus = h.1 in
+    λ (h : IsAddress (window_space kind) a × GetsTo records roots kind a bus). (let g : GetsTo records roots kind a bus = h.1 in
         elim (way_ends records g.root g.way bus g.leads) [
           | inl same ↦ absurd (off (subst (Contains roots) same.0 g.starts))
           | inr ends ↦ absurd (orphan ends.last ends.bridge ends.there)
@@ -90,32 +91,32 @@ orphan_reach records roots space prefetch bus off orphan = record {
 }
 
 -- what gets to a bus is what gets to the bus above, and is passed
-bridge_reach : (records : List Record) (roots : List ℕ) (space : Space) (prefetch : Bool) (bus : ℕ) (b : Record) (above out : List Range) → IsForest records
-    → (Contains roots bus → ⊥) → IsBridgeIn records b → bus_behind b ≡ bus → IsReachOf records roots space prefetch b.slot.bus above
-    → IsPassedOn above space prefetch (record_value b) out → IsReachOf records roots space prefetch bus out
-bridge_reach records roots space prefetch bus b above out forest off bridge there so step = record {
+bridge_reach : (records : List Record) (roots : List ℕ) (kind : WindowKind) (bus : ℕ) (b : Record) (above out : List Range) → IsForest records
+    → (Contains roots bus → ⊥) → IsBridgeIn records b → bus_behind b ≡ bus → IsReachOf records roots kind b.slot.bus above
+    → IsPassedOn above kind (record_value b) out → IsReachOf records roots kind bus out
+bridge_reach records roots kind bus b above out forest off bridge there so step = record {
   canonical = step.canonical;
   exact = λ a. (
     λ (h : Covers out a). (
-        let p : Covers above a × IsTrue (record_passes space prefetch a (record_value b)) = (step.exact a).0 h in
-        let q : IsAddress space a × GetsTo records roots space prefetch a b.slot.bus = (so.exact a).0 p.0 in
-        let g : GetsTo records roots space prefetch a b.slot.bus = q.1 in (
+        let p : Covers above a × IsTrue (record_passes kind a (record_value b)) = (step.exact a).0 h in
+        let q : IsAddress (window_space kind) a × GetsTo records roots kind a b.slot.bus = (so.exact a).0 p.0 in
+        let g : GetsTo records roots kind a b.slot.bus = q.1 in (
           q.0,
           record {
             root = g.root;
             starts = g.starts;
             way = g.way ++ b ∷ [];
             leads = subst (λ n. Leads records g.root (g.way ++ b ∷ []) n) there (leads_push records g.root g.way b bridge g.leads);
-            pass = (pass_push space prefetch g.way b a).1 (g.pass, p.1);
+            pass = (pass_push kind g.way b a).1 (g.pass, p.1);
           },
         )),
-    λ (h : IsAddress space a × GetsTo records roots space prefetch a bus). (let g : GetsTo records roots space prefetch a bus = h.1 in
+    λ (h : IsAddress (window_space kind) a × GetsTo records roots kind a bus). (let g : GetsTo records roots kind a bus = h.1 in
         elim (way_ends records g.root g.way bus g.leads) [
           | inl same ↦ absurd (off (subst (Contains roots) same.0 g.starts))
           | inr ends ↦ (
               let one : ends.last ≡ b = forest.single ends.last b ends.bridge bridge (ends.there ∙ sym there) in
-              let p : PassAll space prefetch a ends.front × IsTrue (record_passes space prefetch a (record_value ends.last)) =
-              (pass_push space prefetch ends.front ends.last a).0 (subst (λ w. PassAll space prefetch a w) ends.whole g.pass) in
+              let p : PassAll kind a ends.front × IsTrue (record_passes kind a (record_value ends.last)) =
+              (pass_push kind ends.front ends.last a).0 (subst (λ w. PassAll kind a w) ends.whole g.pass) in
               (step.exact a).1 (
                 (so.exact a).1 (
                   h.0,
@@ -127,7 +128,7 @@ bridge_reach records roots space prefetch bus b above out forest off bridge ther
                     pass = p.0;
                   },
                 ),
-                subst (λ (c : Record). IsTrue (record_passes space prefetch a (record_value c))) one p.1,
+                subst (λ (c : Record). IsTrue (record_passes kind a (record_value c))) one p.1,
               ))
         ]),
   );
@@ -137,21 +138,21 @@ one_of : (records : List Record) (k : ℕ) → k < length records → Record
 one_of [] k within = absurd (omega arith)
 one_of (r ∷ records) k within = r
 
-pub step_reach : (records : List Record) (roots : List ℕ) (space : Space) (prefetch : Bool) (bus : ℕ) (above : List (List Range)) (place : Option ℕ) (is_root : Bool)
+pub step_reach : (records : List Record) (roots : List ℕ) (kind : WindowKind) (bus : ℕ) (above : List (List Range)) (place : Option ℕ) (is_root : Bool)
     (out : List Range) → IsForest records → IsPlaceAbove records bus place → (is_root ≡ true → Contains roots bus) → (is_root ≡ false → Contains roots bus → ⊥)
-    → ((k : ℕ) (e : List Range) → k < bus → IsReachOf records roots space prefetch k (get_or above k e)) → IsStep above records place space prefetch is_root out
-    → IsReachOf records roots space prefetch bus out
-step_reach records roots space prefetch bus above None true out forest at is off so step = root_reach records roots space prefetch bus out (is refl) step
-step_reach records roots space prefetch bus above (Some k) true out forest at is off so step = root_reach records roots space prefetch bus out (is refl) step
-step_reach records roots space prefetch bus above None false out forest at is off so step =
-    subst (λ xs. IsReachOf records roots space prefetch bus xs) (sym step) (orphan_reach records roots space prefetch bus (off refl) at)
-step_reach records roots space prefetch bus above (Some k) false out forest at is off so step =
+    → ((k : ℕ) (e : List Range) → k < bus → IsReachOf records roots kind k (get_or above k e)) → IsStep above records place kind is_root out
+    → IsReachOf records roots kind bus out
+step_reach records roots kind bus above None true out forest at is off so step = root_reach records roots kind bus out (is refl) step
+step_reach records roots kind bus above (Some k) true out forest at is off so step = root_reach records roots kind bus out (is refl) step
+step_reach records roots kind bus above None false out forest at is off so step =
+    subst (λ xs. IsReachOf records roots kind bus xs) (sym step) (orphan_reach records roots kind bus (off refl) at)
+step_reach records roots kind bus above (Some k) false out forest at is off so step =
     let z : Record = one_of records k at.within in
     let b : Record = get_or records k z in
     let bridge : IsBridgeIn records b × (bus_behind b ≡ bus) = bridge_at records bus k z at in
     let rises : b.slot.bus < bus_behind b = forest.rises b bridge.0 in
     let there : bus_behind b ≡ bus = bridge.1 in
-    bridge_reach records roots space prefetch bus b (get_or above b.slot.bus []) out forest (off refl) bridge.0 there (so b.slot.bus [] (omega arith)) (step [] z)
+    bridge_reach records roots kind bus b (get_or above b.slot.bus []) out forest (off refl) bridge.0 there (so b.slot.bus [] (omega arith)) (step [] z)
 
 -- one more element that P holds of
 pub more_at : (P : ℕ → List Range → Type 0) (out new : List (List Range)) (r : List Range) (n : ℕ) → new ≡ out ++ r ∷ [] → length out ≡ n
@@ -163,19 +164,19 @@ more_at P out new r n e size h here k d lt = elim (cases_lt k n) [
 ]
 
 -- the step to a bus that a bridge leads to, from what its place and its bus are read as
-pub step_of : (above : List (List Range)) (records : List Record) (k bus : ℕ) (bridge : Record) (parent ranges : List Range) (place : Option ℕ) (space : Space)
-    (prefetch is_root : Bool) (forwarded : Forwarded) (out : List Range) → place ≡ Some k → is_root ≡ false → k < length records → bridge ≡ get_or records k bridge
+pub step_of : (above : List (List Range)) (records : List Record) (k bus : ℕ) (bridge : Record) (parent ranges : List Range) (place : Option ℕ) (kind : WindowKind)
+    (is_root : Bool) (forwarded : Forwarded) (out : List Range) → place ≡ Some k → is_root ≡ false → k < length records → bridge ≡ get_or records k bridge
     → bus ≡ bridge.slot.bus → bus < length above → parent ≡ get_or above bus parent → ranges ≡ parent
-    → ((a : ℕ) → Passes forwarded a ↔ IsTrue (record_passes space prefetch a (record_value bridge))) → IsReach ranges forwarded out
-    → IsStep above records place space prefetch is_root out
-step_of above records k bus bridge parent ranges place space prefetch is_root forwarded out some off within here on low there lent exact step =
-    let got : IsPassedOn ranges space prefetch (record_value bridge) out = passed_on_of ranges space prefetch bridge forwarded out exact step in
-    let each : IsStep above records (Some k) space prefetch false out = λ d r. (
+    → ((a : ℕ) → Passes forwarded a ↔ IsTrue (record_passes kind a (record_value bridge))) → IsReach ranges forwarded out
+    → IsStep above records place kind is_root out
+step_of above records k bus bridge parent ranges place kind is_root forwarded out some off within here on low there lent exact step =
+    let got : IsPassedOn ranges kind (record_value bridge) out = passed_on_of ranges kind bridge forwarded out exact step in
+    let each : IsStep above records (Some k) kind false out = λ d r. (
     let same : bridge ≡ get_or records k r = here ∙ get_or_default records k bridge r within in
     let at : ranges ≡ get_or above bridge.slot.bus d = lent ∙ there ∙ get_or_default above bus parent d low ∙ ap (λ n. get_or above n d) on in
-    subst (λ (x : Record). IsPassedOn (get_or above x.slot.bus d) space prefetch (record_value x) out) same
-    (subst (λ xs. IsPassedOn xs space prefetch (record_value bridge) out) at got)) in
-    subst (λ b. IsStep above records place space prefetch b out) (sym off) (subst (λ o. IsStep above records o space prefetch false out) (sym some) each)
+    subst (λ (x : Record). IsPassedOn (get_or above x.slot.bus d) kind (record_value x) out) same
+    (subst (λ xs. IsPassedOn xs kind (record_value bridge) out) at got)) in
+    subst (λ b. IsStep above records place kind b out) (sym off) (subst (λ o. IsStep above records o kind false out) (sym some) each)
 
 -- the bus of the bridge at a place is lower
 pub stands_below : (records : List Record) (n k bus : ℕ) (bridge : Record) (place : Option ℕ) → place ≡ Some k → bridge ≡ get_or records k bridge → bus ≡ bridge.slot.bus

@@ -4,11 +4,11 @@ use Rattle.std.specs.Prelude.{◌↔◌, IsTrue, MatchOption, nat_le}
 use Rattle.std.proofs.lemmas.Bool.{and_parts, and_from, leb-true, le-leb, cases_Bool, eqb-true}
 use Rattle.pci_spec.specs.Header.{command}
 use Rattle.pci_spec.specs.Window.{WindowKind, IoWindow, MemoryWindow, PrefetchWindow, has_window, holds}
-use Rattle.pci_spec.specs.System.{Function, Space, Io, Memory, is_bridge, passes, is_space_on}
+use Rattle.pci_spec.specs.System.{Function, Io, Memory, is_bridge, passes, is_space_on, window_space}
 use Rattle.pci_spec.specs.Decoded.{Range, InRange, window_range, optional_window, bridge_of, record_of, IsDecodable}
 use Rattle.pci_spec.proofs.Ranges.{window_range-holds, absent_window}
 use Rattle.pci_spec.proofs.Records.{same_truth, memory_window_there}
-use Rattle.pci_function.specs.Space.{is_on}
+use Rattle.pci_function.specs.Space.{is_on, is_prefetch}
 use Rattle.pci_tree.specs.Passes.{is_in, range_in, bridge_passes, record_passes}
 
 -- a test for an address as what it means
@@ -33,26 +33,32 @@ holds-optional kind image probe a = elim (cases_Bool (has_window kind probe)) [
   | inr absent ↦ absent_window kind image probe a absent ∙ sym (rw absent refl)
 ]
 
-spread : (on mem pre pref : Bool) → ((on && mem) || (pre && (on && pref))) ≡ (on && (mem || (pre && pref)))
-spread true mem pre pref = refl
-spread false mem true pref = refl
-spread false mem false pref = refl
+spread : (on mem pref : Bool) → ((on && mem) || (on && pref)) ≡ (on && (mem || pref))
+spread true mem pref = refl
+spread false mem pref = refl
 
-windows_law : (space : Space) (prefetchable : Bool) (a : ℕ) (f : Function) → IsDecodable f → is_bridge f ≡ true
-    → passes space prefetchable a f ≡ (is_on (command f.image) space && bridge_passes space prefetchable a (Some (bridge_of f.image f.probe)))
-windows_law Io prefetchable a f is bridge = ap (λ h. is_space_on f Io && h) (holds-optional IoWindow f.image f.probe a)
-windows_law Memory prefetchable a f is bridge =
+alone : (on mem : Bool) → (on && mem || false) ≡ (on && mem)
+alone true true = refl
+alone true false = refl
+alone false mem = refl
+
+memory_law : (a : ℕ) (f : Function) → IsDecodable f → is_bridge f ≡ true → holds MemoryWindow f.image f.probe a ≡ is_in (window_range MemoryWindow f.image) a
+memory_law a f is bridge = holds-there MemoryWindow f.image f.probe a (memory_window_there f.image f.probe (is.windows MemoryWindow (eqb-true _ 1 bridge)))
+
+windows_law : (kind : WindowKind) (a : ℕ) (f : Function) → IsDecodable f → is_bridge f ≡ true
+    → passes (window_space kind) (is_prefetch kind) a f ≡ (is_on (command f.image) (window_space kind) && bridge_passes kind a (Some (bridge_of f.image f.probe)))
+windows_law IoWindow a f is bridge = ap (λ h. is_space_on f Io && h) (holds-optional IoWindow f.image f.probe a)
+windows_law MemoryWindow a f is bridge =
+    alone (is_space_on f Memory) (holds MemoryWindow f.image f.probe a) ∙ ap (λ h. is_space_on f Memory && h) (memory_law a f is bridge)
+windows_law PrefetchWindow a f is bridge =
     let on : Bool = is_space_on f Memory in
-    let m : holds MemoryWindow f.image f.probe a ≡ is_in (window_range MemoryWindow f.image) a =
-    holds-there MemoryWindow f.image f.probe a (memory_window_there f.image f.probe (is.windows MemoryWindow (eqb-true _ 1 bridge))) in
-    let p : holds PrefetchWindow f.image f.probe a ≡ is_in (range_in (optional_window PrefetchWindow f.image f.probe)) a = holds-optional PrefetchWindow f.image f.probe a in
-    spread on (holds MemoryWindow f.image f.probe a) prefetchable (holds PrefetchWindow f.image f.probe a)
-    ∙ ap (λ h. on && (h || (prefetchable && holds PrefetchWindow f.image f.probe a))) m
-    ∙ ap (λ h. on && (is_in (window_range MemoryWindow f.image) a || (prefetchable && h))) p
+    spread on (holds MemoryWindow f.image f.probe a) (holds PrefetchWindow f.image f.probe a)
+    ∙ ap (λ h. on && (h || holds PrefetchWindow f.image f.probe a)) (memory_law a f is bridge)
+    ∙ ap (λ h. on && (is_in (window_range MemoryWindow f.image) a || h)) (holds-optional PrefetchWindow f.image f.probe a)
 
 -- what a bridge passes is what its record says
-pub passes-record : (space : Space) (prefetchable : Bool) (a : ℕ) (f : Function) → IsDecodable f → is_bridge f ≡ true
-    → passes space prefetchable a f ≡ record_passes space prefetchable a (record_of f)
-passes-record space prefetchable a f is bridge =
-    windows_law space prefetchable a f is bridge
-    ∙ ap (λ b. is_on (command f.image) space && bridge_passes space prefetchable a (if b then Some (bridge_of f.image f.probe) else None)) (sym bridge)
+pub passes-record : (kind : WindowKind) (a : ℕ) (f : Function) → IsDecodable f → is_bridge f ≡ true
+    → passes (window_space kind) (is_prefetch kind) a f ≡ record_passes kind a (record_of f)
+passes-record kind a f is bridge =
+    windows_law kind a f is bridge
+    ∙ ap (λ b. is_on (command f.image) (window_space kind) && bridge_passes kind a (if b then Some (bridge_of f.image f.probe) else None)) (sym bridge)

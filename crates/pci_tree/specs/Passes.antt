@@ -1,6 +1,7 @@
 -- Which addresses a bridge passes, by its record.
 use Rattle.std.specs.Prelude.{ℕ, ◌≤◌, nat_le, Bool, false, ◌&&◌, ◌||◌, Option, None, Some, IfSome}
-use Rattle.pci_spec.specs.System.{Space, Io, Memory}
+use Rattle.pci_spec.specs.Window.{WindowKind, IoWindow, MemoryWindow, PrefetchWindow}
+use Rattle.pci_spec.specs.System.{window_space}
 use Rattle.pci_spec.specs.Decoded.{Range, DecodedWindow, DecodedWindows, Bridge, Record}
 use Rattle.pci_function.specs.Space.{is_on}
 
@@ -14,18 +15,19 @@ abbrev pub range_in : Option DecodedWindow → Option Range
 range_in None = None
 range_in (Some w) = w.range
 
--- whether the windows pass an address: the prefetchable one serves prefetchable BARs alone
-abbrev pub windows_pass : Space → Bool → ℕ → DecodedWindows → Bool
-windows_pass Io prefetchable a w = is_in (range_in w.io) a
-windows_pass Memory prefetchable a w = is_in w.memory.range a || (prefetchable && is_in (range_in w.prefetch) a)
+-- whether the windows pass an address of a kind of access: prefetchable memory goes through the window of other memory too
+abbrev pub windows_pass : WindowKind → ℕ → DecodedWindows → Bool
+windows_pass IoWindow a w = is_in (range_in w.io) a
+windows_pass MemoryWindow a w = is_in w.memory.range a
+windows_pass PrefetchWindow a w = is_in w.memory.range a || is_in (range_in w.prefetch) a
 
-abbrev pub bridge_passes : Space → Bool → ℕ → Option Bridge → Bool
-bridge_passes space prefetchable a None = false
-bridge_passes space prefetchable a (Some b) = windows_pass space prefetchable a b.windows
+abbrev pub bridge_passes : WindowKind → ℕ → Option Bridge → Bool
+bridge_passes kind a None = false
+bridge_passes kind a (Some b) = windows_pass kind a b.windows
 
--- whether the record is of a bridge that passes an address of a region
-abbrev pub record_passes : Space → Bool → ℕ → Record → Bool
-record_passes space prefetchable a r = is_on r.command space && bridge_passes space prefetchable a r.bridge
+-- whether the record is of a bridge that passes an address of a kind of access
+abbrev pub record_passes : WindowKind → ℕ → Record → Bool
+record_passes kind a r = is_on r.command (window_space kind) && bridge_passes kind a r.bridge
 
 -- the range isn't empty
 abbrev pub IsSpan : Option Range → Type 0

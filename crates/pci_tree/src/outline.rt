@@ -2,14 +2,15 @@
 ghost use Rattle.std.specs.Prelude.{◌≡◌, ◌<◌, ℕ, map, length, IfOk, OnOk, MatchOption, MatchResult, slice_index_or, List};
 ghost use Rattle.std.specs.List.{All, AllPairs, Contains, filter, flat_map};
 ghost use Rattle.std.specs.List.Sorted.{IsPermutation};
-ghost use Rattle.pci_spec.specs.System.{System, is_bridge};
+ghost use Rattle.pci_spec.specs.System.{System, is_bridge, window_space};
 ghost use Rattle.pci_spec.specs.Decoded.{HasRecords};
 ghost use Rattle.pci_spec.specs.Bus.{IsNested};
 ghost use Rattle.pci_spec.specs.Slot.{IsSlot};
 ghost use Rattle.pci_tree.specs.PlaceFaults.{IsPlaceRefusal};
 ghost use Rattle.pci_function.specs.Fault.{fault_of};
 ghost use Rattle.pci_image.specs.declared.range.Range.{Range as RangeValue};
-ghost use Rattle.pci_function.specs.Space.{space_of};
+ghost use Rattle.pci_image.specs.WindowKinds.{kind_value};
+ghost use Rattle.pci_function.specs.Space.{space_of, is_prefetch};
 ghost use Rattle.pci_tree.specs.Roots.{buses_of};
 ghost use Rattle.pci_tree.specs.Ranges.{IsCanonical};
 ghost use Rattle.pci_tree.specs.BusNumbers.{IsInPlace};
@@ -31,6 +32,7 @@ use pci_function::record::Record;
 use pci_function::space::Space;
 use pci_image::range::Range;
 use pci_image::slot::Slot;
+use pci_image::window_kind::WindowKind;
 use std::alloc::{Allocator, Global};
 use std::marker::Model;
 
@@ -143,21 +145,20 @@ impl<A: Allocator + Copy> Outline<A> {
         path(&self.records, &self.bridge_to_bus, &self.roots, slot.bus())
     }
 
-    /// For each bus the addresses of a space that get there from a root, `prefetch` saying that they are a prefetchable
-    /// BAR's.
-    pub fn reaches(&self, space: Space, prefetch: bool) -> Result<Vec<Reach<A>, A>, OutOfMemory>
+    /// For each bus the addresses of a kind of access that get there from a root.
+    pub fn reaches(&self, kind: WindowKind) -> Result<Vec<Reach<A>, A>, OutOfMemory>
         ensures size { IfOk result (λ v. length v.items ≡ 256) }
         ensures canonical { IfOk result (λ v. All IsCanonical v.items) }
         ensures nested { (s : System) → HasRecords s self.now.records → IsNested self.now.roots s }
-        ensures exact { IfOk result (λ v. (s : System) (bus : ℕ) (d : List RangeValue) → HasRecords s self.now.records → bus < 256 → IsReachTo self.now.roots s (space_of space) prefetch bus (slice_index_or v.items bus d)) }
+        ensures exact { IfOk result (λ v. (s : System) (bus : ℕ) (d : List RangeValue) → HasRecords s self.now.records → bus < 256
+            → IsReachTo self.now.roots s (window_space (kind_value kind)) (is_prefetch (kind_value kind)) bus (slice_index_or v.items bus d)) }
     {
         reaches(
             *self.records.allocator(),
             &self.records,
             &self.bridge_to_bus,
             &self.roots,
-            space,
-            prefetch,
+            kind,
         )
     }
 
@@ -166,7 +167,7 @@ impl<A: Allocator + Copy> Outline<A> {
     pub fn reach(&self, bus: u8, space: Space, prefetch: bool) -> Result<Vec<Range, A>, OutOfMemory>
         ensures { IfOk result (λ v. (s : System) → HasRecords s self.now.records → IsReachTo self.now.roots s (space_of space) prefetch bus v.items) }
     {
-        let mut all = self.reaches(space, prefetch)?;
+        let mut all = self.reaches(space.kind(prefetch))?;
         let reach = all.swap_remove(bus as usize);
         Ok(reach.into_ranges())
     }

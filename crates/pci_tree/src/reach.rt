@@ -3,6 +3,7 @@
 ghost use Rattle.std.specs.Prelude.{◌≡◌, ◌<◌, ℕ, List, length, IfOk, IfSome, slice_index_or};
 ghost use Rattle.std.specs.List.{All};
 ghost use Rattle.pci_image.specs.declared.range.Range.{Range};
+ghost use Rattle.pci_image.specs.WindowKinds.{kind_value};
 ghost use Rattle.pci_function.specs.Space.{space_of};
 ghost use Rattle.pci_tree.specs.Ranges.{IsCanonical};
 ghost use Rattle.pci_tree.specs.Roots.{buses_of};
@@ -16,6 +17,7 @@ use pci_dump::memory::OutOfMemory;
 use pci_function::record::Record;
 use pci_function::space::Space;
 use pci_image::range::Range;
+use pci_image::window_kind::WindowKind;
 use std::alloc::{Allocator, Global};
 use std::marker::Model;
 
@@ -66,43 +68,40 @@ fn reach_of_bus<A: Allocator>(
     above: &[Reach<A>],
     records: &[Record],
     place: Option<usize>,
-    space: Space,
-    prefetch: bool,
+    kind: WindowKind,
     is_root: bool,
 ) -> Result<Vec<Range, A>, OutOfMemory>
     requires lower { IfSome place (StandsBelow records.now (length above.now)) }
     requires canonical { All IsCanonical above.now }
     requires spans { All HasSpans records.now }
-    ensures { IfOk result (λ v. IsStep above.now records.now place (space_of space) prefetch is_root v.items) }
+    ensures { IfOk result (λ v. IsStep above.now records.now place (kind_value kind) is_root v.items) }
 {
     if is_root {
-        return all_of(alloc, space);
+        return all_of(alloc, Space::of(kind));
     }
     match place {
         None => Ok(Vec::new(alloc)),
         Some(place) => {
             let bridge = &records[place];
             let parent = &above[bridge.slot.bus() as usize];
-            passed_on(alloc, parent.ranges(), forwarded(bridge, space, prefetch))
+            passed_on(alloc, parent.ranges(), forwarded(bridge, kind))
         }
     }
 }
 
-/// For each bus the addresses of a space that get there from the roots, `prefetch` saying that they are a
-/// prefetchable BAR's.
+/// For each bus the addresses of a kind of access that get there from the roots.
 pub fn reaches<A: Allocator + Copy>(
     alloc: A,
     records: &[Record],
     bridge_to_bus: &[Option<usize>; 256],
     roots: &Roots,
-    space: Space,
-    prefetch: bool,
+    kind: WindowKind,
 ) -> Result<Vec<Reach<A>, A>, OutOfMemory>
     requires forest { IsForest records.now }
     requires bridge_to_bus { IsBridgeToBus records.now bridge_to_bus.now }
     requires spans { All HasSpans records.now }
     ensures size { IfOk result (λ v. length v.items ≡ 256) }
-    ensures exact { IfOk result (λ v. (bus : ℕ) (d : List Range) → bus < 256 → IsReachOf records.now (buses_of roots.now) (space_of space) prefetch bus (slice_index_or v.items bus d)) }
+    ensures exact { IfOk result (λ v. (bus : ℕ) (d : List Range) → bus < 256 → IsReachOf records.now (buses_of roots.now) (kind_value kind) bus (slice_index_or v.items bus d)) }
 {
     let mut out = Vec::new(alloc);
     for bus in 0..256usize {
@@ -111,8 +110,7 @@ pub fn reaches<A: Allocator + Copy>(
             &out,
             records,
             bridge_to_bus[bus],
-            space,
-            prefetch,
+            kind,
             roots.has(bus as u8),
         )?;
         out.push(Reach { ranges })?;

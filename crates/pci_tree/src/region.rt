@@ -1,20 +1,18 @@
 //! The regions of a function: its enabled BARs, windows and ROM, each with the addresses that it claims.
 ghost use Rattle.std.specs.Prelude.{◌≡◌, ◌++◌, OnOk};
-ghost use Rattle.std.specs.Option.{option_map};
-ghost use Rattle.pci_image.specs.Ranges.{decoded_range_of};
+ghost use Rattle.pci_image.specs.WindowKinds.{kind_value};
 ghost use Rattle.pci_function.specs.Space.{space_of};
-ghost use Rattle.pci_tree.specs.Regions.{space_in, same_space, bar_regions, window_regions, bridge_regions, rom_regions, regions_of};
+ghost use Rattle.pci_tree.specs.Regions.{space_in, same_space, bar_regions, kind_regions, bridge_regions, rom_regions, regions_of};
 
 use super::window::range_of;
 use pci_dump::memory::OutOfMemory;
 use pci_function::record::{Bridge, Record};
 use pci_function::space::Space;
 use pci_image::bar::{Bar, BarKind};
-use pci_image::offset::{IO_BASE, MEMORY_BASE, PREFETCHABLE_BASE};
-use pci_image::range::Range;
 use pci_image::rom::Rom;
 use pci_image::slot::Slot;
-use pci_image::window::Window;
+use pci_image::window::Windows;
+use pci_image::window_kind::WindowKind;
 use std::alloc::Allocator;
 
 /// What a region is of a function.
@@ -77,15 +75,15 @@ fn add_bars<A: Allocator>(
 fn add_window<A: Allocator>(
     out: &mut Vec<Region, A>,
     slot: Slot,
-    reg: u8,
-    range: Option<Range>,
+    windows: &Windows,
+    kind: WindowKind,
 ) -> Result<(), OutOfMemory>
-    ensures { OnOk result (out.new.items ≡ out.old.items ++ window_regions slot reg (option_map decoded_range_of range)) }
+    ensures { OnOk result (out.new.items ≡ out.old.items ++ kind_regions slot windows.now (kind_value kind)) }
 {
-    if let Some(range) = range {
+    if let Some(range) = range_of(windows.get(kind)) {
         out.push(Region {
             slot,
-            reg,
+            reg: kind.register(),
             part: Part::Window,
             prefetch: false,
             first: range.first,
@@ -105,12 +103,12 @@ fn add_windows<A: Allocator>(
     ensures { OnOk result (out.new.items ≡ out.old.items ++ bridge_regions slot (space_of space) bridge) }
 {
     if let Some(bridge) = bridge {
-        let windows = bridge.windows;
+        let windows = &bridge.windows;
         match space {
-            Space::Io => add_window(out, slot, IO_BASE, range_of(windows.io))?,
+            Space::Io => add_window(out, slot, windows, WindowKind::Io)?,
             Space::Mem => {
-                add_window(out, slot, MEMORY_BASE, windows.mem.range())?;
-                add_window(out, slot, PREFETCHABLE_BASE, range_of(windows.pref))?;
+                add_window(out, slot, windows, WindowKind::Memory)?;
+                add_window(out, slot, windows, WindowKind::Prefetchable)?;
             }
         }
     }

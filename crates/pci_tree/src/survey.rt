@@ -21,24 +21,6 @@ use pci_image::slot::Slot;
 use std::alloc::{Allocator, Global};
 use std::marker::Model;
 
-/// The phase in which a fault is looked for: 0 slots, 1 identities and probes, 2 registers and capabilities lists, 3
-/// profiles, 4 places in the tree of buses, 5 regions.
-fn phase(fault: &Fault) -> u8
-    ensures { result ≡ phase_of (fault_of fault.now) }
-{
-    match fault {
-        Fault::SlotsDiffer(_) => 0,
-        Fault::NoVendor(_) | Fault::HeaderKind(_) | Fault::StrayProbe(..) => 1,
-        Fault::BarType(..) | Fault::BarMask(..) | Fault::BarPair(..) => 2,
-        Fault::RomMask(..) | Fault::WindowMask(..) => 2,
-        Fault::CapRange(..) | Fault::CapLoop(..) | Fault::CapCut(..) => 2,
-        Fault::PaletteSnoop(_) | Fault::VgaEnable(_) | Fault::IsaEnable(_) => 3,
-        Fault::Subtractive(_) | Fault::InReset(_) | Fault::PowerState(_) => 3,
-        Fault::LoneFunction(_) | Fault::BusRange(_) | Fault::Orphan(_) => 4,
-        Fault::Unreached { .. } | Fault::Clash { .. } | Fault::Split { .. } => 5,
-    }
-}
-
 /// The fault of the earlier phase; of two of one phase, the one that is noted.
 fn earlier(noted: Option<Fault>, fault: Fault) -> Fault
     ensures { fault_of result ≡ earlier (option_map fault_of noted) (fault_of fault) }
@@ -46,7 +28,7 @@ fn earlier(noted: Option<Fault>, fault: Fault) -> Fault
     match noted {
         None => fault,
         Some(noted) => {
-            if phase(&fault) < phase(&noted) {
+            if fault.phase() < noted.phase() {
                 fault
             } else {
                 noted

@@ -2,7 +2,7 @@
 ghost use Rattle.std.specs.Prelude.{◌≡◌, ◌↔◌, ℕ, IfSome, IsTrue};
 ghost use Rattle.std.specs.Option.{option_map};
 ghost use Rattle.pci_image.specs.Ranges.{decoded_range_of};
-ghost use Rattle.pci_function.specs.Space.{space_of};
+ghost use Rattle.pci_image.specs.WindowKinds.{kind_value};
 ghost use Rattle.pci_function.specs.Values.{bridge_value, record_value};
 ghost use Rattle.pci_tree.specs.Passing.{Passes, IsPassed};
 ghost use Rattle.pci_tree.specs.Passes.{range_in, windows_pass, record_passes, HaveSpans};
@@ -12,6 +12,7 @@ use pci_function::record::{Bridge, Record};
 use pci_function::space::Space;
 use pci_image::range::Range;
 use pci_image::window::Window;
+use pci_image::window_kind::WindowKind;
 
 /// The range of a window that is there and open.
 pub(crate) fn range_of(window: Option<Window>) -> Option<Range>
@@ -23,37 +24,31 @@ pub(crate) fn range_of(window: Option<Window>) -> Option<Range>
     }
 }
 
-/// What a bridge passes of a region, by its windows: the prefetchable one serves prefetchable BARs alone.
-fn windows_passed(bridge: Bridge, space: Space, prefetch: bool) -> Forwarded
+/// What a bridge passes of accesses of a kind, by its windows: the prefetchable one serves prefetchable BARs alone.
+fn windows_passed(bridge: Bridge, kind: WindowKind) -> Forwarded
     requires { HaveSpans (bridge_value bridge).windows }
     ensures lawful { IsPassed result }
-    ensures exact { (a : ℕ) → Passes result a ↔ IsTrue (windows_pass (space_of space) prefetch a (bridge_value bridge).windows) }
+    ensures exact { (a : ℕ) → Passes result a ↔ IsTrue (windows_pass (kind_value kind) a (bridge_value bridge).windows) }
 {
     let windows = bridge.windows;
-    match space {
-        Space::Io => union(range_of(windows.io), None),
-        Space::Mem => {
-            if prefetch {
-                union(windows.mem.range(), range_of(windows.pref))
-            } else {
-                union(windows.mem.range(), None)
-            }
-        }
+    match kind {
+        WindowKind::Io => union(range_of(windows.io), None),
+        WindowKind::Memory => union(windows.mem.range(), None),
+        WindowKind::Prefetchable => union(windows.mem.range(), range_of(windows.pref)),
     }
 }
 
-/// The addresses that a bridge passes of a region, `prefetch` saying that the region is a prefetchable BAR.
-/// A function that is no bridge passes none.
-pub fn forwarded(function: &Record, space: Space, prefetch: bool) -> Forwarded
+/// The addresses that a bridge passes of accesses of a kind. A function that is no bridge passes none.
+pub fn forwarded(function: &Record, kind: WindowKind) -> Forwarded
     requires { IfSome function.now.bridge (λ b. HaveSpans (bridge_value b).windows) }
     ensures lawful { IsPassed result }
-    ensures exact { (a : ℕ) → Passes result a ↔ IsTrue (record_passes (space_of space) prefetch a (record_value function.now)) }
+    ensures exact { (a : ℕ) → Passes result a ↔ IsTrue (record_passes (kind_value kind) a (record_value function.now)) }
 {
-    if !space.is_on(function.command) {
+    if !Space::of(kind).is_on(function.command) {
         return Forwarded::Nothing;
     }
     match function.bridge {
         None => Forwarded::Nothing,
-        Some(bridge) => windows_passed(bridge, space, prefetch),
+        Some(bridge) => windows_passed(bridge, kind),
     }
 }

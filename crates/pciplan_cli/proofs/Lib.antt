@@ -5,14 +5,10 @@ mod Functions
 mod Chains
 mod Shows
 mod Sizes
-mod Sent
 mod PlainWrites
-mod Planned
 mod HexWords
 mod PoolWords
 mod RootWords
-mod CommandWords
-mod CommandLines
-mod Asking
-mod Refusals
+mod Invocations
+mod Tasks
 pub mod HexPushes

@@ -9,11 +9,11 @@ use Rattle.pci_spec.specs.Fault as faults
 use Rattle.pci_spec.specs.Listing.{listing, function_listing}
 use Rattle.pci_dump.specs.declared.memory.Refused.{Refused}
 use Rattle.pci_dump.specs.declared.memory.Refused.TheVariants as refusals
-use Rattle.pci_image.specs.Faults.{IsImageFaultIn}
-use Rattle.pci_image.specs.declared.fault.ImageFault.{ImageFault}
-use Rattle.pci_image.specs.declared.fault.ImageFault.TheVariants.{NoVendor, HeaderKind, BarType, BarMask, BarPair, RomMask, WindowMask, CapRange, CapLoop, CapCut}
 use Rattle.pci_function.specs.declared.fault.Fault.{Fault}
-use Rattle.pci_function.specs.Fault.{image_fault_at}
+use Rattle.pci_function.specs.Fault.{fault_of}
+use Rattle.pci_function.proofs.FirstIn.{here_in}
+use Rattle.pci_function.proofs.Pairs.{placed}
+use Rattle.pci_spec.proofs.Pairing.{there-of_in}
 use Rattle.pciplan_cli.specs.Shows.{function_of, IsRefusedFor, IsRefusedIn}
 
 -- two dumps of the same slots have as many blocks
@@ -34,35 +34,11 @@ listing_more (d ∷ dump) (q ∷ probe) (suc k) b p wd wp eb ep =
     ap (λ rest. first ++ rest) (listing_more dump probe k b p (omega (arith, wd)) (omega (arith, wp)) eb ep)
     ∙ sym (append_assoc first before (function_listing (function_of b p)))
 
--- the function of two blocks is one of the system
-in_system : (dump probe : List Block) (k : ℕ) (b p : Block) → k < length dump → k < length probe → b ≡ get_or dump k b → p ≡ get_or probe k p
-    → Contains (system_of dump probe) (function_of b p)
-in_system [] probe k b p wd wp eb ep = absurd (omega (arith, wd))
-in_system (d ∷ dump) [] k b p wd wp eb ep = absurd (omega (arith, wp))
-in_system (d ∷ dump) (q ∷ probe) zero b p wd wp eb ep = (0, omega arith, (λ i. function_of (sym eb i) (sym ep i)))
-in_system (d ∷ dump) (q ∷ probe) (suc k) b p wd wp eb ep =
-    let rest = in_system dump probe k b p (omega (arith, wd)) (omega (arith, wp)) eb ep in
-    (suc rest.0, (let within = rest.1 in omega (arith, within)), rest.2)
-
 -- a function's fault is there in the system
-in_function : (roots : List ℕ) (dump probe : List Block) (f : Function) (g : ImageFault) → slots_of dump ≡ slots_of probe → Contains (system_of dump probe) f
-    → IsImageFaultIn f.image f.probe g → faults.IsThere roots dump probe (image_fault_at f.slot g)
-in_function roots dump probe f NoVendor same at is = (same, (f, at, refl, is))
-in_function roots dump probe f HeaderKind same at is = (same, (f, at, refl, is))
-in_function roots dump probe f (BarType r) same at is = (same, (f, at, refl, is))
-in_function roots dump probe f (BarMask r) same at is = (same, (f, at, refl, is))
-in_function roots dump probe f (BarPair r) same at is = (same, (f, at, refl, is))
-in_function roots dump probe f (RomMask r) same at is = (same, (f, at, refl, is))
-in_function roots dump probe f (WindowMask r) same at is = (same, (f, at, refl, is))
-in_function roots dump probe f (CapRange r) same at is = (same, (f, at, refl, is))
-in_function roots dump probe f (CapLoop r) same at is = (same, (f, at, refl, is))
-in_function roots dump probe f (CapCut r) same at is = (same, (f, at, refl, is))
-
 refused_there : (roots : List ℕ) (dump probe : List Block) (f : Function) (r : Refused Fault) → slots_of dump ≡ slots_of probe → Contains (system_of dump probe) f
     → IsRefusedFor f r → IsRefusedIn roots dump probe r
 refused_there roots dump probe f (refusals.Fault fault) same at is =
-    let P : faults.Fault → Type 0 = faults.IsThere roots dump probe in
-    subst P (sym is.1) (in_function roots dump probe f is.0 same at is.2)
+    there-of_in roots dump probe (fault_of fault) same (here_in roots (system_of dump probe) f (fault_of fault) at is)
 refused_there roots dump probe f refusals.Memory same at is = tt
 
 -- why the lines of a function's blocks aren't made is why those of the whole aren't
@@ -72,4 +48,4 @@ pub refused_at : {T : Type 0} (roots : List ℕ) (dump probe : List Block) (k : 
 refused_at roots dump probe k b p (Ok x) r same wd wp eb ep is wrong = absurd wrong
 refused_at roots dump probe k b p (Err e) r same wd wp eb ep is err =
     let P : Refused Fault → Type 0 = IsRefusedIn roots dump probe in
-    subst P (sym err) (refused_there roots dump probe (function_of b p) r same (in_system dump probe k b p wd wp eb ep) is)
+    subst P (sym err) (refused_there roots dump probe (function_of b p) r same (placed dump probe same k b p wd eb ep) is)

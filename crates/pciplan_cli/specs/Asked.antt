@@ -7,14 +7,14 @@ use Rattle.pci_tree.specs.Roots.{buses_of}
 use Rattle.pci_tree.specs.declared.roots.Roots.{Roots}
 use Rattle.pciplan_cli.specs.PoolWords.{IsPoolWord, HasNoPool}
 use Rattle.pciplan_cli.specs.RootWords.{IsRootWord}
-use Rattle.pciplan_cli.specs.declared.asked.Asked.{Asked}
-use Rattle.pciplan_cli.specs.declared.asked.Asked.TheVariants as asked
-use Rattle.pciplan_cli.specs.declared.asked.PlanWords.{PlanWords}
-use Rattle.pciplan_cli.specs.declared.line.Task.{Task}
-use Rattle.pciplan_cli.specs.declared.line.Task.TheVariants as task
-use Rattle.pciplan_cli.specs.declared.trouble.PoolOption.TheVariants.{Io, Mem, Pref}
-use Rattle.pciplan_cli.specs.declared.trouble.Trouble.{Trouble}
-use Rattle.pciplan_cli.specs.declared.trouble.Trouble.TheVariants.{Root, Pool}
+use Rattle.pciplan_words.specs.declared.asked.Asked.{Asked}
+use Rattle.pciplan_words.specs.declared.asked.Asked.TheVariants as asked
+use Rattle.pciplan_words.specs.declared.asked.PlanWords.{PlanWords}
+use Rattle.pciplan_cli.specs.declared.invocation.Task.{Task}
+use Rattle.pciplan_cli.specs.declared.invocation.Task.TheVariants as task
+use Rattle.pciplan_cli.specs.declared.failure.PoolOption.TheVariants.{Io, Mem, Pref}
+use Rattle.pciplan_cli.specs.declared.failure.Failure.{Failure}
+use Rattle.pciplan_cli.specs.declared.failure.Failure.TheVariants.{Root, Pool}
 
 -- the roots of the word of `--root`: bus 00 alone where there is none
 abbrev pub AreRootsOf : Option (Bor (List ℕ)) → Roots → Type 0
@@ -53,7 +53,7 @@ abbrev pub HasMem : PlanWords → Type 0
 HasMem words = HasIo words × ((pool : Range) × IsPoolWord words.mem.now pool)
 
 -- the first word that is none, of the root list and then the pools of I/O, memory and prefetchable memory
-abbrev pub IsRefusedFor : Asked → Trouble → Type 0
+abbrev pub IsRefusedFor : Asked → Failure → Type 0
 IsRefusedFor (asked.Check root) Root = HasNoRoots root
 IsRefusedFor (asked.Plan words) Root = HasNoRoots words.root
 IsRefusedFor (asked.Plan words) (Pool Io) = HasRoots words × HasNoPool words.io.now

@@ -3,7 +3,7 @@ pub mod RegionLines
 pub mod BridgeLines
 pub mod CapabilityLines
 pub mod HeaderLines
-pub mod Stops
+pub mod FunctionLines
 pub mod Shows
 pub mod Statuses
 pub mod Answers
@@ -11,8 +11,7 @@ pub mod PlanAnswers
 pub mod PoolWords
 pub mod RootWords
 pub mod Asked
-pub mod CommandWords
-pub mod CommandLines
+pub mod Invocations
 pub mod Opened
 pub mod ProbeAnswers
 pub mod Tasks

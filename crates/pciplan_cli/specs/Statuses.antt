@@ -1,9 +1,16 @@
--- The status of the program.
+-- Failures, and the status of the program.
 use Rattle.std.specs.Prelude.{ℕ}
 use Rattle.pci_dump.specs.declared.read_fault.ReadFault.{ReadFault}
 use Rattle.pci_dump.specs.declared.read_fault.ReadFault.TheVariants as faults
-use Rattle.pciplan_cli.specs.declared.trouble.Trouble.{Trouble}
-use Rattle.pciplan_cli.specs.declared.trouble.Trouble.TheVariants.{Usage, Root, Pool, Dump, Probe, Sizes, Memory, Io}
+use Rattle.pciplan_words.specs.declared.asked.WordsFault.{WordsFault}
+use Rattle.pciplan_words.specs.declared.asked.WordsFault.TheVariants as words
+use Rattle.pciplan_cli.specs.declared.failure.Failure.{Failure}
+use Rattle.pciplan_cli.specs.declared.failure.Failure.TheVariants.{Usage, Root, Pool, Dump, Probe, Sizes, Memory, Io}
+
+-- what the words' own faults are
+abbrev pub words_failure : WordsFault → Failure
+words_failure words.Usage = Usage
+words_failure words.Memory = Memory
 
 -- of a text that isn't read
 abbrev pub text_status : ReadFault → ℕ
@@ -12,7 +19,7 @@ text_status faults.Memory = 3
 text_status _ = 2
 
 -- 2 where a text or the words are refused, 3 at want of memory, 4 where reading or writing failed
-abbrev pub status_of : Trouble → ℕ
+abbrev pub status_of : Failure → ℕ
 status_of Usage = 2
 status_of Root = 2
 status_of (Pool option) = 2

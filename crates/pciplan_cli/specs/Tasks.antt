@@ -1,69 +1,102 @@
--- What a task answers to two texts.
-use Rattle.std.specs.Prelude.{ℕ, List, Option}
+-- What a task answers to the two texts that are left, and why it doesn't.
+use Rattle.std.specs.Prelude.{◌≡◌, ◌≢◌, ◌⊎◌, ◌+◌, ℕ, List, [], Option, Some, Bool, true, false}
+use Rattle.std.specs.String.{string_bytes}
+use Rattle.std.specs.Io.KnownBytes.{Appends}
+use Rattle.pci_spec.specs.Text.{Block, IsTextOf}
+use Rattle.pci_spec.specs.SizesText.{SizesBlock, IsSizesTextOf}
+use Rattle.pci_dump.specs.Begun.{AppendsBeginning}
+use Rattle.pci_dump.specs.ReadFault.{IsTextFault}
+use Rattle.pci_dump.specs.declared.read_fault.ReadFault.{ReadFault}
+use Rattle.pci_dump.specs.declared.read_fault.ReadFault.TheVariants as faults
+use Rattle.pci_probe.specs.SizesFault.{IsSizesTextFault}
 use Rattle.pci_tree.specs.Roots.{buses_of}
 use Rattle.pci_plan.specs.Pools.{pools_value}
-use Rattle.pci_check.specs.Audits.{HasBegun}
-use Rattle.pciplan_cli.specs.Answers.{IsShown, IsBegun, IsSized, IsSizeBegun, IsChecked, IsTextRefused, IsTextTrouble}
-use Rattle.pciplan_cli.specs.PlanAnswers.{IsPlanned, IsPlanBegun}
-use Rattle.pciplan_cli.specs.ProbeAnswers.{IsProbed, IsProbeBegun, AreSizesRefused, IsSizesTrouble}
-use Rattle.std.specs.String.{string_bytes}
-use Rattle.pciplan_cli.specs.declared.line.Line.{Line}
-use Rattle.pciplan_cli.specs.declared.line.Task.{Task}
-use Rattle.pciplan_cli.specs.declared.line.Task.TheVariants.{Show, Check, Size, Plan, Probe}
-use Rattle.pciplan_cli.specs.declared.trouble.Trouble.{Trouble}
+use Rattle.pci_check.specs.Audits.{IsDumpOf}
+use Rattle.pciplan_cli.specs.Answers.{Answer, IsShown, IsChecked, IsSized, IsTold}
+use Rattle.pciplan_cli.specs.PlanAnswers.{IsPlanned}
+use Rattle.pciplan_cli.specs.ProbeAnswers.{probe_answer}
+use Rattle.pciplan_cli.specs.Statuses.{status_of}
+use Rattle.pciplan_cli.specs.declared.invocation.Invocation.{Invocation}
+use Rattle.pciplan_cli.specs.declared.invocation.Task.{Task}
+use Rattle.pciplan_cli.specs.declared.invocation.Task.TheVariants as task
+use Rattle.pciplan_cli.specs.declared.failure.Failure.{Failure}
+use Rattle.pciplan_cli.specs.declared.failure.Failure.TheVariants.{Dump, Probe, Sizes, Memory}
 
--- the task's answer to the two texts that were left was written, with the remarks on a probe
-abbrev pub IsAnswered : Task → Option (List ℕ) → Option (List ℕ) → ℕ → Option (List ℕ) → Option (List ℕ) → Option (List ℕ) → Option (List ℕ) → Type 0 → Type 0
-IsAnswered Show dump_left probe_left status before after err_before err_after err_failed = IsShown dump_left probe_left status before after
-IsAnswered (Check roots) dump_left probe_left status before after err_before err_after err_failed = IsChecked (buses_of roots) dump_left probe_left status before after
-IsAnswered Size dump_left probe_left status before after err_before err_after err_failed = IsSized dump_left probe_left status before after
-IsAnswered (Plan pools writes roots) dump_left probe_left status before after err_before err_after err_failed =
-    IsPlanned record { pools = pools_value pools; writes = writes; roots = buses_of roots } dump_left probe_left status before after
-IsAnswered (Probe exact) dump_left sizes_left status before after err_before err_after err_failed =
-    IsProbed exact dump_left sizes_left status before after err_before err_after err_failed
+-- the sizes whose text was left, where the bytes are told
+abbrev pub AreSizesOf : Option (List ℕ) → List SizesBlock → Type 0
+AreSizesOf left sizes = (bytes : List ℕ) → left ≡ Some bytes → IsSizesTextOf bytes sizes
 
--- standard error is the same, but for the remarks on a probe
-abbrev pub IsSilent : Task → Type 0 → Type 0
-IsSilent Show same = same
-IsSilent (Check roots) same = same
-IsSilent Size same = same
-IsSilent (Plan pools writes roots) same = same
-IsSilent (Probe exact) same = Unit {0}
+-- what is answered to the dump and to the blocks of the second text that were left
+pub record IsAnswerTo {B : Type 0} (IsSecond : Option (List ℕ) → List B → Type 0) (Means : List Block → List B → Answer → Type 0)
+    (dump_left second_left : Option (List ℕ)) (answer : Answer) : Type 0 where
+  pub dump : List Block
+  pub second : List B
+  pub dump_text : IsDumpOf dump_left dump
+  pub second_text : IsSecond second_left second
+  pub means : Means dump second answer
 
--- a beginning of it was written
-abbrev pub IsAnswerBegun : Task → Option (List ℕ) → Option (List ℕ) → Option (List ℕ) → Option (List ℕ) → Type 0
-IsAnswerBegun Show dump_left probe_left before after = IsBegun dump_left probe_left before after
-IsAnswerBegun (Check roots) dump_left probe_left before after = HasBegun (buses_of roots) dump_left probe_left before after
-IsAnswerBegun Size dump_left probe_left before after = IsSizeBegun dump_left probe_left before after
-IsAnswerBegun (Plan pools writes roots) dump_left probe_left before after =
-    IsPlanBegun record { pools = pools_value pools; writes = writes; roots = buses_of roots } dump_left probe_left before after
-IsAnswerBegun (Probe exact) dump_left sizes_left before after = IsProbeBegun exact dump_left sizes_left before after
+-- what each task answers
+abbrev pub IsAnswerOf : Task → Option (List ℕ) → Option (List ℕ) → Answer → Type 0
+IsAnswerOf task.Show = IsAnswerTo IsDumpOf IsShown
+IsAnswerOf (task.Check roots) = IsAnswerTo IsDumpOf (IsChecked (buses_of roots))
+IsAnswerOf task.Size = IsAnswerTo IsDumpOf IsSized
+IsAnswerOf (task.Plan pools writes roots) =
+    IsAnswerTo IsDumpOf (IsPlanned record { pools = pools_value pools; writes = writes; roots = buses_of roots })
+IsAnswerOf (task.Probe exact) = IsAnswerTo AreSizesOf (λ dump sizes answer. answer ≡ probe_answer exact dump sizes)
 
--- one of its two texts isn't read, by a fault of that text
+-- the answer was written, and the remarks, if standard error takes them; without remarks it is as before
+pub record IsAnswered (task : Task) (dump_left second_left : Option (List ℕ)) (status : ℕ)
+    (before after err_before err_after : Option (List ℕ)) (err_failed same : Type 0) : Type 0 where
+  pub answer : Answer
+  pub is : IsAnswerOf task dump_left second_left answer
+  pub named : status ≡ answer.status
+  pub written : Appends before after answer.text
+  pub remarked : IsTold err_before err_after err_failed answer.remarks
+  pub silent : answer.remarks ≡ [] → same
+
+-- a beginning of the answer was written
+pub record IsBegun (task : Task) (dump_left second_left before after : Option (List ℕ)) : Type 0 where
+  pub answer : Answer
+  pub is : IsAnswerOf task dump_left second_left answer
+  pub begun : AppendsBeginning before after answer.text
+
+-- whether the second text is one of sizes, and no probe
+abbrev pub takes_sizes : Task → Bool
+takes_sizes (task.Probe exact) = true
+takes_sizes _ = false
+
+-- the fault of the text that was left, where the bytes are told and none was met in reading
+abbrev pub IsFaultOfLeft : (List ℕ → ReadFault → Type 0) → Option (List ℕ) → ReadFault → Type 0
+IsFaultOfLeft IsFault left fault = (bytes : List ℕ) → left ≡ Some bytes → fault ≢ faults.Io → fault ≢ faults.Memory → IsFault bytes fault
+
+abbrev pub HasDump : Option (List ℕ) → Type 0
+HasDump left = (dump : List Block) × ((bytes : List ℕ) → left ≡ Some bytes → IsTextOf bytes dump)
+
+-- why the two texts aren't read: the second one's fault is told only where the dump's text is one
+abbrev pub IsFailureOf : Task → Option (List ℕ) → Option (List ℕ) → Failure → Type 0
+IsFailureOf task dump_left second_left (Dump fault) = IsFaultOfLeft IsTextFault dump_left fault
+IsFailureOf task dump_left second_left (Probe fault) = (takes_sizes task ≡ false) × HasDump dump_left × IsFaultOfLeft IsTextFault second_left fault
+IsFailureOf task dump_left second_left (Sizes fault) = (takes_sizes task ≡ true) × HasDump dump_left × IsFaultOfLeft IsSizesTextFault second_left fault
+IsFailureOf task dump_left second_left Memory = Unit {0}
+IsFailureOf task dump_left second_left _ = ⊥
+
+-- one of the two isn't read, by a fault of its text
 abbrev pub IsTaskRefused : Task → Option (List ℕ) → Option (List ℕ) → Type 0
-IsTaskRefused Show dump_left probe_left = IsTextRefused dump_left probe_left
-IsTaskRefused (Check roots) dump_left probe_left = IsTextRefused dump_left probe_left
-IsTaskRefused Size dump_left probe_left = IsTextRefused dump_left probe_left
-IsTaskRefused (Plan pools writes roots) dump_left probe_left = IsTextRefused dump_left probe_left
-IsTaskRefused (Probe exact) dump_left sizes_left = AreSizesRefused dump_left sizes_left
+IsTaskRefused task dump_left second_left = (failure : Failure) × (status_of failure ≡ 2) × IsFailureOf task dump_left second_left failure
 
--- why its two texts aren't read
-abbrev pub IsTroubleOf : Task → Option (List ℕ) → Option (List ℕ) → Trouble → Type 0
-IsTroubleOf Show dump_left probe_left trouble = IsTextTrouble dump_left probe_left trouble
-IsTroubleOf (Check roots) dump_left probe_left trouble = IsTextTrouble dump_left probe_left trouble
-IsTroubleOf Size dump_left probe_left trouble = IsTextTrouble dump_left probe_left trouble
-IsTroubleOf (Plan pools writes roots) dump_left probe_left trouble = IsTextTrouble dump_left probe_left trouble
-IsTroubleOf (Probe exact) dump_left sizes_left trouble = IsSizesTrouble dump_left sizes_left trouble
+-- a read of the dump or of the second text failed, or a write
+abbrev pub HasFailed : ℕ → ℕ → ℕ → ℕ → ℕ → ℕ → Type 0
+HasFailed dump_before dump_after second_before second_after before after =
+    (dump_after ≡ dump_before + 1) ⊎ (second_after ≡ second_before + 1) ⊎ (after ≡ before + 1)
 
--- a line was carried out on the two texts at its paths, and its answer was written
-pub record IsLineDone (line : Line) (dump_stands probe_stands : List ℕ → Type 0) (dump_at probe_at : List ℕ → Option (List ℕ))
+-- a command line was carried out on the two texts at its paths, and its answer was written
+pub record IsCarriedOut (line : Invocation) (dump_stands second_stands : List ℕ → Type 0) (dump_at second_at : List ℕ → Option (List ℕ))
     (status : ℕ) (before after err_before err_after : Option (List ℕ)) (err_failed same : Type 0) : Type 0 where
   pub dump : dump_stands (string_bytes line.dump)
-  pub probe : probe_stands (string_bytes line.probe)
-  pub answer : IsAnswered line.task (dump_at (string_bytes line.dump)) (probe_at (string_bytes line.probe)) status before after err_before err_after err_failed
-  pub silent : IsSilent line.task same
+  pub second : second_stands (string_bytes line.probe)
+  pub answered : IsAnswered line.task (dump_at (string_bytes line.dump)) (second_at (string_bytes line.probe)) status before after err_before err_after err_failed same
 
 -- a beginning of that answer was written
-abbrev pub IsLineBegun : Line → (List ℕ → Option (List ℕ)) → (List ℕ → Option (List ℕ)) → Option (List ℕ) → Option (List ℕ) → Type 0
-IsLineBegun line dump_at probe_at before after =
-    IsAnswerBegun line.task (dump_at (string_bytes line.dump)) (probe_at (string_bytes line.probe)) before after
+abbrev pub IsCarriedOutBegun : Invocation → (List ℕ → Option (List ℕ)) → (List ℕ → Option (List ℕ)) → Option (List ℕ) → Option (List ℕ) → Type 0
+IsCarriedOutBegun line dump_at second_at before after =
+    IsBegun line.task (dump_at (string_bytes line.dump)) (second_at (string_bytes line.probe)) before after

@@ -1,8 +1,7 @@
-//! The command line of `pciplan`: its words, its tasks, its messages and its statuses.
+//! The command line of `pciplan`: its tasks, its messages and its statuses.
 //!
-//! [`words::start`] makes a line of the words, or writes why there is none. [`run::run`] carries it out over two
-//! texts that are handed in, and [`program::program`] over texts that it opens by their paths: it is all that `main`
-//! calls.
+//! [`run::run`] carries a task out over two texts that are handed in, and [`program::program`] over texts that it opens
+//! by their paths: it is all that `main` calls.
 //!
 //! ```text
 //! let words = program::words_of(&rt); // as in `check DUMP PROBE`
@@ -12,21 +11,20 @@
 #![tactic(auto)]
 
 pub mod asked;
-mod digit;
+pub mod failure;
 mod hex_text;
-pub mod line;
+pub mod invocation;
 pub mod listing;
 pub mod opened;
 pub mod planning;
 pub mod pool_word;
 pub mod probing;
 pub mod program;
+pub mod reply;
 pub mod root_list;
 pub mod run;
 pub mod show;
 pub mod sizing;
-pub mod trouble;
-pub mod words;
 
-pub use line::{Line, Task};
-pub use trouble::Trouble;
+pub use failure::Failure;
+pub use invocation::{Invocation, Task};

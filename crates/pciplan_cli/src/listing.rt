@@ -6,4 +6,3 @@ pub mod function;
 pub mod header;
 pub mod region;
 pub mod span;
-pub mod stop;

@@ -6,32 +6,19 @@ ghost use Rattle.pci_spec.specs.Line.{write_line};
 ghost use Rattle.pci_tree.specs.Roots.{buses_of};
 ghost use Rattle.pci_plan.specs.Pools.{pools_value};
 ghost use Rattle.pci_plan.specs.Writes.{is_plain, write_value};
-ghost use Rattle.pciplan_cli.specs.PlanAnswers.{IsPlanningOf};
+ghost use Rattle.pciplan_cli.specs.Answers.{answer_of};
+ghost use Rattle.pciplan_cli.specs.PlanAnswers.{IsPlanned};
 
 use crate::hex_text::{push_byte, push_hex, push_slot};
+use crate::reply::{Reply, Text, done, refused};
 use pci_dump::dump::Dump;
 use pci_dump::memory::{OutOfMemory, Refused};
-use pci_plan::plan_fault::PlanFault;
 use pci_plan::planning::plan;
 use pci_plan::pools::Pools;
 use pci_plan::write::Write as RegisterWrite;
 use pci_tree::admit::admit_with;
-use pci_function::fault::Fault;
 use pci_tree::roots::Roots;
 use std::alloc::{AllocError, Allocator};
-
-/// What planning answers: the whole text that is written, and whether it is a plan's.
-#[derive(Drop)]
-pub enum Planned<A: Allocator> {
-    /// The planned dump.
-    Dump(Dump<A>),
-    /// The lines of its writes.
-    Writes(String<A>),
-    /// The texts are refused.
-    Refused(Fault),
-    /// Nothing is planned.
-    NoPlan(PlanFault),
-}
 
 /// Appends the line of a write.
 fn push_write<A: Allocator>(text: &mut String<A>, write: &RegisterWrite) -> Result<(), AllocError>
@@ -71,22 +58,22 @@ pub fn plan_pair<A: Allocator + Copy>(
     pools: &Pools,
     writes: bool,
     roots: Roots,
-) -> Result<Planned<A>, OutOfMemory>
-    ensures { IfOk result (IsPlanningOf record { pools = pools_value pools.now; writes = writes; roots = buses_of roots } dump probe) }
+) -> Result<Reply<A>, OutOfMemory>
+    ensures { IfOk result (λ reply. IsPlanned record { pools = pools_value pools.now; writes = writes; roots = buses_of roots } dump probe (answer_of reply)) }
 {
     let admitted = match admit_with(alloc, dump, probe, roots) {
         Ok(admitted) => admitted,
-        Err(Refused::Fault(fault)) => return Ok(Planned::Refused(fault)),
+        Err(Refused::Fault(fault)) => return refused(alloc, &fault),
         Err(Refused::Memory) => return Err(OutOfMemory),
     };
     let plan = match plan(alloc, &admitted, pools) {
         Ok(plan) => plan,
-        Err(Refused::Fault(fault)) => return Ok(Planned::NoPlan(fault)),
+        Err(Refused::Fault(plan_fault)) => return refused(alloc, &plan_fault),
         Err(Refused::Memory) => return Err(OutOfMemory),
     };
     if writes {
-        let text = lines_of(alloc, plan.writes())?;
-        return Ok(Planned::Writes(text));
+        let lines = lines_of(alloc, plan.writes())?;
+        return Ok(done(alloc, Text::Lines(lines)));
     }
-    Ok(Planned::Dump(plan.into_dump()))
+    Ok(done(alloc, Text::Dump(plan.into_dump())))
 }

@@ -3,7 +3,7 @@ ghost use Rattle.std.specs.Prelude.{◌≡◌, ℕ, Some, MatchOption};
 ghost use Rattle.pci_image.specs.declared.range.Range.{Range};
 ghost use Rattle.pciplan_cli.specs.PoolWords.{IsAddressWord, IsPoolWord};
 
-use crate::digit::digit_value;
+use pci_dump::digit::digit_value;
 use pci_image::range::Range;
 
 /// The most digits of an address.

@@ -1,16 +1,13 @@
 //! The program, from its words to its status.
 ghost use Rattle.std.specs.Prelude.{◌≡◌, ◌≢◌, ◌⊎◌, ◌<◌, ◌≤◌, ◌+◌, ℕ, List, Option, IfErr, IfOk, MatchResult, map, string_bytes};
 ghost use Rattle.std.specs.IoError.{error_kind};
-ghost use Rattle.pci_spec.specs.Text.{Block};
-ghost use Rattle.pciplan_cli.specs.Answers.{HasFailed, IsDumpOf};
-ghost use Rattle.pciplan_cli.specs.CommandLines.{IsLineOf, HasBadWords};
-ghost use Rattle.pciplan_cli.specs.Tasks.{IsLineDone, IsLineBegun, IsTaskRefused, IsTroubleOf};
+ghost use Rattle.pciplan_cli.specs.Invocations.{IsInvocationOf, HasBadWords};
+ghost use Rattle.pciplan_cli.specs.Tasks.{HasDump, HasFailed, IsCarriedOut, IsCarriedOutBegun, IsFailureOf, IsTaskRefused};
 
-use crate::line::{Line, Task};
+use crate::failure::{Failure, report};
+use crate::invocation::{Invocation, Task, start};
 use crate::opened::Opening;
 use crate::run::run;
-use crate::trouble::{Trouble, tell};
-use crate::words::start;
 use pci_dump::read_fault::ReadFault;
 use pci_dump::reader::read_dump;
 use pci_dump::streams::{Sink, Source};
@@ -45,8 +42,12 @@ fn lent<'a>(alloc: Global, words: &'a [String]) -> Result<Vec<&'a str>, AllocErr
 
 /// The line that the words make. Where they make none, or there are none, it writes the message to
 /// `err` and answers the status.
-fn line_of<E: Sink>(alloc: Global, words: io::Result<Vec<String>>, err: &mut E) -> Result<Line, u8>
-    ensures line { IfOk result (λ line. MatchResult words (λ words. IsLineOf (map string_bytes words.items) line) (λ _. ⊥)) }
+fn line_of<E: Sink>(
+    alloc: Global,
+    words: io::Result<Vec<String>>,
+    err: &mut E,
+) -> Result<Invocation, u8>
+    ensures line { IfOk result (λ line. MatchResult words (λ words. IsInvocationOf (map string_bytes words.items) line) (λ _. ⊥)) }
     ensures refused { result ≡ Err 2 → IfOk words (λ words. HasBadWords (map string_bytes words.items)) }
     ensures status { IfErr result (λ status. (status ≡ 2) ⊎ (status ≡ 3)) }
     ensures silent { IfOk result (λ _. err.new ≡ err.old) }
@@ -56,52 +57,52 @@ fn line_of<E: Sink>(alloc: Global, words: io::Result<Vec<String>>, err: &mut E) 
     match words {
         Ok(words) => match lent(alloc, words.as_slice()) {
             Ok(lent) => start(alloc, lent.as_slice(), err),
-            Err(_) => Err(tell(err, Trouble::Memory)),
+            Err(_) => Err(report(err, Failure::Memory)),
         },
-        Err(error) if error.kind() == ErrorKind::OutOfMemory => Err(tell(err, Trouble::Memory)),
-        Err(_) => Err(tell(err, Trouble::Usage)),
+        Err(error) if error.kind() == ErrorKind::OutOfMemory => Err(report(err, Failure::Memory)),
+        Err(_) => Err(report(err, Failure::Usage)),
     }
 }
 
 /// The second text of a task can't be read.
-fn unread(task: Task) -> Trouble
-    ensures { (dump_left probe_left : Option (List ℕ)) → ((dump : List Block) × IsDumpOf dump_left dump) → IsTroubleOf task dump_left probe_left result }
+fn unread(task: Task) -> Failure
+    ensures { (dump_left probe_left : Option (List ℕ)) → HasDump dump_left → IsFailureOf task dump_left probe_left result }
 {
     match task {
-        Task::Probe { .. } => Trouble::Sizes(ReadFault::Io),
-        Task::Show | Task::Check { .. } | Task::Size | Task::Plan { .. } => Trouble::Probe(
+        Task::Probe { .. } => Failure::Sizes(ReadFault::Io),
+        Task::Show | Task::Check { .. } | Task::Size | Task::Plan { .. } => Failure::Probe(
             ReadFault::Io,
         ),
     }
 }
 
-/// Why there is no answer where the second text couldn't be opened: that, unless the dump has a trouble.
-fn without_second<A: Allocator, D: Source>(alloc: A, task: Task, dump: &mut D) -> Trouble
-    ensures { (probe_left : Option (List ℕ)) → IsTroubleOf task (D.left dump.old) probe_left result }
+/// Why there is no answer where the second text couldn't be opened: that, unless the dump has a failure.
+fn without_second<A: Allocator, D: Source>(alloc: A, task: Task, dump: &mut D) -> Failure
+    ensures { (probe_left : Option (List ℕ)) → IsFailureOf task (D.left dump.old) probe_left result }
 {
     match read_dump(alloc, dump) {
         Ok(_) => unread(task),
-        Err(fault) => Trouble::Dump(fault),
+        Err(fault) => Failure::Dump(fault),
     }
 }
 
 /// Opens the two texts of a line, the dump first, and carries out its task. A text that can't be opened is one
 /// that can't be read: there is no answer then, and the message names it, unless it is the second and the dump
-/// has a trouble of its own.
+/// has a failure of its own.
 pub fn carry_out<A: Allocator + Copy, D: Opening, P: Opening, O: Sink, E: Sink>(
     alloc: A,
-    line: &Line,
+    line: &Invocation,
     dump: &mut D,
     probe: &mut P,
     out: &mut O,
     err: &mut E,
 ) -> u8
-    ensures done { result < 2 → IsLineDone line.now (D.stands dump.old) (P.stands probe.old)
+    ensures done { result < 2 → IsCarriedOut line.now (D.stands dump.old) (P.stands probe.old)
         (D.bytes_at dump.old) (P.bytes_at probe.old) result (O.taken out.old) (O.taken out.new)
         (E.taken err.old) (E.taken err.new) (E.failures err.new ≡ E.failures err.old + 1) (err.new ≡ err.old) }
     ensures quiet { (result ≡ 2) ⊎ (result ≡ 3) → out.new ≡ out.old }
     ensures begun { result ≡ 4 → (out.new ≡ out.old)
-        ⊎ IsLineBegun line.now (D.bytes_at dump.old) (P.bytes_at probe.old) (O.taken out.old) (O.taken out.new) }
+        ⊎ IsCarriedOutBegun line.now (D.bytes_at dump.old) (P.bytes_at probe.old) (O.taken out.old) (O.taken out.new) }
     ensures refused { result ≡ 2 → IsTaskRefused line.now.task (D.bytes_at dump.old (string_bytes line.now.dump))
         (P.bytes_at probe.old (string_bytes line.now.probe)) }
     ensures failed { result ≡ 4 → HasFailed (D.failures dump.old) (D.failures dump.new)
@@ -109,10 +110,10 @@ pub fn carry_out<A: Allocator + Copy, D: Opening, P: Opening, O: Sink, E: Sink>(
     ensures known { result ≤ 4 }
 {
     if dump.open(line.dump.as_str()).is_err() {
-        return tell(err, Trouble::Dump(ReadFault::Io));
+        return report(err, Failure::Dump(ReadFault::Io));
     }
     if probe.open(line.probe.as_str()).is_err() {
-        return tell(err, without_second(alloc, line.task, dump));
+        return report(err, without_second(alloc, line.task, dump));
     }
     run(alloc, line, dump, probe, out, err)
 }
@@ -131,14 +132,14 @@ pub fn program<D: Opening, P: Opening, O: Sink, E: Sink>(
 ) -> u8
     ensures memory { IfErr words (λ error. error_kind error ≡ ErrorKind.OutOfMemory → result ≡ 3) }
     ensures unread { IfErr words (λ error. error_kind error ≢ ErrorKind.OutOfMemory → result ≡ 2) }
-    ensures done { result < 2 → MatchResult words (λ words. (line : Line) × IsLineOf (map string_bytes words.items) line
-        × IsLineDone line (D.stands dump.old) (P.stands probe.old) (D.bytes_at dump.old) (P.bytes_at probe.old) result
+    ensures done { result < 2 → MatchResult words (λ words. (line : Invocation) × IsInvocationOf (map string_bytes words.items) line
+        × IsCarriedOut line (D.stands dump.old) (P.stands probe.old) (D.bytes_at dump.old) (P.bytes_at probe.old) result
         (O.taken out.old) (O.taken out.new) (E.taken err.old) (E.taken err.new) (E.failures err.new ≡ E.failures err.old + 1) (err.new ≡ err.old)) (λ _. ⊥) }
     ensures quiet { (result ≡ 2) ⊎ (result ≡ 3) → out.new ≡ out.old }
-    ensures begun { result ≡ 4 → (out.new ≡ out.old) ⊎ MatchResult words (λ words. (line : Line) × IsLineOf (map string_bytes words.items) line
-        × IsLineBegun line (D.bytes_at dump.old) (P.bytes_at probe.old) (O.taken out.old) (O.taken out.new)) (λ _. ⊥) }
+    ensures begun { result ≡ 4 → (out.new ≡ out.old) ⊎ MatchResult words (λ words. (line : Invocation) × IsInvocationOf (map string_bytes words.items) line
+        × IsCarriedOutBegun line (D.bytes_at dump.old) (P.bytes_at probe.old) (O.taken out.old) (O.taken out.new)) (λ _. ⊥) }
     ensures refused { result ≡ 2 → IfOk words (λ words. HasBadWords (map string_bytes words.items)
-        ⊎ ((line : Line) × IsLineOf (map string_bytes words.items) line × IsTaskRefused line.task (D.bytes_at dump.old (string_bytes line.dump))
+        ⊎ ((line : Invocation) × IsInvocationOf (map string_bytes words.items) line × IsTaskRefused line.task (D.bytes_at dump.old (string_bytes line.dump))
         (P.bytes_at probe.old (string_bytes line.probe)))) }
     ensures failed { result ≡ 4 → HasFailed (D.failures dump.old) (D.failures dump.new)
         (P.failures probe.old) (P.failures probe.new) (O.failures out.old) (O.failures out.new) }

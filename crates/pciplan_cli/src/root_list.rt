@@ -4,8 +4,8 @@ ghost use Rattle.pci_spec.specs.Text.{hex_byte};
 ghost use Rattle.pci_tree.specs.Roots.{buses_of};
 ghost use Rattle.pciplan_cli.specs.RootWords.{IsRootWord};
 
-use crate::digit::digit_value;
 use arrayvec::ArrayVec;
+use pci_dump::digit::digit_value;
 use pci_tree::roots::Roots;
 
 /// The most buses of a list: there are so many.

@@ -3,36 +3,15 @@ ghost use Rattle.std.specs.Prelude.{◌≡◌, ◌++◌, [], ◌∷◌, OnOk, If
 ghost use Rattle.std.specs.String.{string_bytes};
 ghost use Rattle.pci_spec.specs.System.{system_of};
 ghost use Rattle.pci_spec.specs.Listing.{listing, function_listing};
-ghost use Rattle.pci_function.specs.PairFault.{pair_fault};
-ghost use Rattle.pci_function.specs.Fault.{fault_of};
 ghost use Rattle.pciplan_cli.specs.Shows.{function_of, IsRefusedFor, IsRefusedIn};
 
 use crate::listing::function::push_function;
-use crate::listing::stop::Stop;
 use pci_dump::block::Block;
 use pci_dump::dump::Dump;
 use pci_dump::memory::Refused;
-use pci_function::pair::pair;
-use pci_function::pair_fault::PairFault;
 use pci_function::fault::Fault;
+use pci_function::pair::pair;
 use std::alloc::Allocator;
-
-/// The fault of a dump and its probe, as one of a system.
-pub fn fault_of_pair(fault: PairFault) -> Fault
-    ensures { fault_of result ≡ pair_fault fault }
-{
-    match fault {
-        PairFault::NoVendor(slot) => Fault::NoVendor(slot),
-        PairFault::HeaderKind(slot) => Fault::HeaderKind(slot),
-        PairFault::BarType(slot, reg) => Fault::BarType(slot, reg),
-        PairFault::BarMask(slot, reg) => Fault::BarMask(slot, reg),
-        PairFault::BarPair(slot, reg) => Fault::BarPair(slot, reg),
-        PairFault::RomMask(slot, reg) => Fault::RomMask(slot, reg),
-        PairFault::WindowMask(slot, reg) => Fault::WindowMask(slot, reg),
-        PairFault::SlotsDiffer(slot) => Fault::SlotsDiffer(slot),
-        PairFault::StrayProbe(slot, offset) => Fault::StrayProbe(slot, offset),
-    }
-}
 
 /// Appends the lines of a function, with its block and that of its probe.
 fn push_block<A: Allocator>(
@@ -43,11 +22,7 @@ fn push_block<A: Allocator>(
     ensures ok { OnOk result (string_bytes text.new ≡ string_bytes text.old ++ function_listing (function_of block.now probe.now)) }
     ensures refused { IfErr result (IsRefusedFor (function_of block.now probe.now)) }
 {
-    match push_function(text, block.slot, &block.image, &probe.image) {
-        Ok(()) => Ok(()),
-        Err(Stop::Fault(fault)) => Err(Refused::Fault(Fault::of_image(block.slot, fault))),
-        Err(Stop::Memory) => Err(Refused::Memory),
-    }
+    push_function(text, block.slot, &block.image, &probe.image)
 }
 
 /// The listing of a dump and its probe, in a text of its own.
@@ -64,7 +39,7 @@ pub fn show<A: Allocator, D: Allocator, P: Allocator>(
     ensures refused { IfErr result (IsRefusedIn (0 ∷ []) dump.now probe.now) }
 {
     if let Err(fault) = pair(dump, probe) {
-        return Err(Refused::Fault(fault_of_pair(fault)));
+        return Err(Refused::Fault(fault));
     }
     let blocks = dump.blocks();
     let probes = probe.blocks();

@@ -5,7 +5,6 @@ ghost use Rattle.pci_spec.specs.Stops.{IsAboveLast, last_slot};
 ghost use Rattle.pci_spec.specs.Sizing.{function_at, IsSizable};
 ghost use Rattle.pciplan_cli.specs.Shows.{IsRefusedIn};
 
-use crate::show::fault_of_pair;
 use pci_dump::block::Block;
 use pci_dump::dump::Dump;
 use pci_dump::memory::{OutOfMemory, Refused};
@@ -70,8 +69,7 @@ pub fn size_all<A: Allocator + Copy, D: Allocator, P: Allocator>(
 {
     let mut machine = match Machine::of(alloc, dump, probe) {
         Ok(machine) => machine,
-        Err(Refused::Fault(fault)) => return Err(Refused::Fault(fault_of_pair(fault))),
-        Err(Refused::Memory) => return Err(Refused::Memory),
+        Err(refused) => return Err(refused),
     };
     let blocks = dump.blocks();
     let probes = probe.blocks();

@@ -3,8 +3,7 @@ use boards::board::{Function, Texts, bridge, device, texts_of};
 use pci_dump::std_streams::Outgoing;
 use pci_plan::pools::Pools;
 use pci_tree::roots::Roots;
-use pciplan_cli::line::Task;
-use pciplan_cli::words::start;
+use pciplan_cli::invocation::{Task, start};
 use std::alloc::{AllocError, Global};
 use std::test::Fail;
 

@@ -3,7 +3,7 @@ use crate::program::{Answer, line_of, run_task};
 use boards::board::Texts;
 use boards::fakes::{Narrow, Pieces};
 use pci_dump::std_streams::{Incoming, Outgoing};
-use pciplan_cli::line::Task;
+use pciplan_cli::invocation::Task;
 use pciplan_cli::run::run;
 use std::process::Abort;
 

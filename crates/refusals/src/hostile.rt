@@ -5,7 +5,7 @@ use crate::refused_tasks::is_refused_in_turn;
 use boards::board::{Texts, bridge, device, list_at, texts_of};
 use boards::fakes::Narrow;
 use pci_dump::std_streams::{Incoming, Outgoing};
-use pciplan_cli::line::Task;
+use pciplan_cli::invocation::Task;
 use pciplan_cli::run::run;
 use std::alloc::{AllocError, Global};
 use std::test::Fail;

@@ -2,7 +2,7 @@
 use crate::failing::{leaves_beginnings, with_failing_read};
 use boards::samples::{clash, tree};
 use pci_tree::roots::Roots;
-use pciplan_cli::line::Task;
+use pciplan_cli::invocation::Task;
 use std::test::Fail;
 
 /// A verdict with the one root bus 00.

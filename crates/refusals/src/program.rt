@@ -1,8 +1,7 @@
 //! The program, run on texts that are held in memory.
 use pci_dump::std_streams::{Incoming, Outgoing};
-use pciplan_cli::line::{Line, Task};
+use pciplan_cli::invocation::{Invocation, Task, start};
 use pciplan_cli::run::run;
-use pciplan_cli::words::start;
 use std::test::Fail;
 
 /// What a run left: its status, and what it wrote.
@@ -14,8 +13,8 @@ pub struct Answer {
 }
 
 /// The line of a task. The paths of its texts don't matter, as the texts are handed in.
-pub fn line_of(rt: &impl AllocGlobal, task: Task) -> Line {
-    Line {
+pub fn line_of(rt: &impl AllocGlobal, task: Task) -> Invocation {
+    Invocation {
         task,
         dump: String::new(rt.alloc()),
         probe: String::new(rt.alloc()),

@@ -12,7 +12,7 @@ use pci_plan::planning::plan;
 use pci_plan::pools::Pools;
 use pci_tree::admitted::Admitted;
 use pci_tree::roots::Roots;
-use pciplan_cli::line::Task;
+use pciplan_cli::invocation::Task;
 use std::alloc::{AllocError, Global};
 use std::fmt::Write;
 use std::test::Fail;

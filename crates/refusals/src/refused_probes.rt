@@ -2,7 +2,7 @@
 use crate::failing::{leaves_beginnings, with_failing_read};
 use crate::refused_tasks::is_refused_in_turn;
 use boards::board::{Texts, device, texts_of};
-use pciplan_cli::line::Task;
+use pciplan_cli::invocation::Task;
 use std::alloc::{AllocError, Global};
 use std::fmt::Write;
 use std::test::Fail;

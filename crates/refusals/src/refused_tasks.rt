@@ -6,7 +6,7 @@ use boards::refusing::Refusing;
 use boards::samples::samples;
 use pci_dump::std_streams::{Incoming, Outgoing};
 use pci_tree::roots::Roots;
-use pciplan_cli::line::Task;
+use pciplan_cli::invocation::Task;
 use pciplan_cli::run::run;
 use std::test::Fail;
 

@@ -7,7 +7,7 @@ use boards::registers;
 use boards::registers::{Registers, zeros};
 use pci_dump::dump::Dump;
 use pci_dump::memory::Refused;
-use pci_function::pair_fault::PairFault;
+use pci_function::fault::PairFault;
 use pci_image::fault::ImageFault;
 use pci_image::image::Image;
 use pci_image::slot::Slot;

@@ -3,7 +3,7 @@ use boards::fakes::Pieces;
 use pci_dump::block::Block;
 use pci_dump::dump::Dump;
 use pci_function::pair::pair;
-use pci_function::pair_fault::PairFault;
+use pci_function::fault::PairFault;
 use pci_dump::reader::read_dump;
 use pci_image::image::Image;
 use pci_image::slot::Slot;

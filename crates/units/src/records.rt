@@ -4,6 +4,8 @@ use pci_image::fault::ImageFault;
 use pci_image::range::Range;
 use pci_image::rom::Rom;
 use pci_image::slot::Slot;
+use pci_function::examine::examine;
+use pci_function::fault::Fault;
 use pci_tree::decode::decode;
 use pci_tree::record::Record;
 use std::test::Fail;
@@ -73,9 +75,9 @@ fn a_bridge_has_its_bus_numbers_and_windows(rt: HostRuntime) -> Result<(), Fail>
     Ok(())
 }
 
-/// The fault of a function that has no record.
-fn fault_of(slot: Slot, function: &Registers) -> Option<ImageFault> {
-    decode(slot, &function.image, &function.probe).err()
+/// The fault of a function by itself.
+fn fault_of(slot: Slot, function: &Registers) -> Option<Fault> {
+    examine(slot, &function.image, &function.probe).err()
 }
 
 #[test]
@@ -120,7 +122,7 @@ fn the_first_fault_of_a_function_is_named(rt: HostRuntime) -> Result<(), Fail> {
         ),
     ];
     for (function, fault) in rows {
-        assert!(rt; fault_of(slot, &function) == Some(fault), "{fault:?}");
+        assert!(rt; fault_of(slot, &function) == Some(Fault::of_image(slot, fault)), "{fault:?}");
     }
     Ok(())
 }

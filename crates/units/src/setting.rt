@@ -4,7 +4,7 @@ use boards::registers::Registers;
 use pci_dump::block::Block;
 use pci_dump::dump::Dump;
 use pci_dump::memory::Refused;
-use pci_function::pair_fault::PairFault;
+use pci_function::fault::PairFault;
 use pci_image::image::Image;
 use pci_image::slot::Slot;
 use pci_machine::machine::Machine;

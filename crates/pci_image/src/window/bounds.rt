@@ -4,8 +4,9 @@
 //! and a bridge always has a memory window.
 ghost use Rattle.std.specs.Prelude.{◌≡◌, ◌≢◌, ◌^◌, ◌%◌, ◌<◌, ◌==◌, IsTrue, IsFalse, MatchOption};
 ghost use Rattle.std.specs.Option.{option_map};
-ghost use Rattle.pci_spec.specs.Window.{bounds_at, is_optional, is_zero, lower_pages, page_bits, page_size, upper_bits, window_register};
-ghost use Rattle.pci_image.specs.Bounds.{spec_bounds_of, spec_kind_of, page_of, range_between, is_implemented, is_read_back, is_value};
+ghost use Rattle.pci_spec.specs.Window.{bounds_at, is_optional, is_zero, lower_pages, page_bits, upper_bits};
+ghost use Rattle.pci_image.specs.WindowKinds.{kind_value};
+ghost use Rattle.pci_image.specs.Bounds.{spec_bounds_of, page_of, range_between, is_implemented, is_read_back, is_value};
 ghost use Rattle.pci_image.specs.Ranges.{decoded_range_of};
 
 use crate::image::Image;
@@ -14,14 +15,7 @@ use crate::offset::{
     PREFETCHABLE_BASE_UPPER, PREFETCHABLE_LIMIT, PREFETCHABLE_LIMIT_UPPER,
 };
 use crate::range::Range;
-
-/// The three windows of a bridge.
-#[derive(Clone, Copy)]
-pub enum WindowKind {
-    Io,
-    Memory,
-    Prefetchable,
-}
+use crate::window_kind::WindowKind;
 
 /// What the registers of a window hold: base and limit, and their upper halves, which are 0 where
 /// there are none.
@@ -40,20 +34,9 @@ const NARROW: u16 = 0;
 const WIDE: u16 = 1;
 
 impl WindowKind {
-    /// The offset that names the window.
-    pub fn register(self) -> u8
-        ensures { result ≡ window_register (spec_kind_of self) }
-    {
-        match self {
-            WindowKind::Io => IO_BASE,
-            WindowKind::Memory => MEMORY_BASE,
-            WindowKind::Prefetchable => PREFETCHABLE_BASE,
-        }
-    }
-
     /// What an image, or what was read back, has in the window's registers.
     pub fn bounds(self, image: &Image) -> Bounds
-        ensures { spec_bounds_of result ≡ bounds_at (spec_kind_of self) image.now.0 }
+        ensures { spec_bounds_of result ≡ bounds_at (kind_value self) image.now.0 }
     {
         match self {
             WindowKind::Io => Bounds {
@@ -79,7 +62,7 @@ impl WindowKind {
 
     /// The bits of base and limit above the low nibble.
     fn page_bits(self) -> u16
-        ensures { result ≡ page_bits (spec_kind_of self) }
+        ensures { result ≡ page_bits (kind_value self) }
     {
         match self {
             WindowKind::Io => 0xf0,
@@ -89,7 +72,7 @@ impl WindowKind {
 
     /// The bits of an upper half.
     fn upper_bits(self) -> u32
-        ensures { result ≡ upper_bits (spec_kind_of self) }
+        ensures { result ≡ upper_bits (kind_value self) }
     {
         match self {
             WindowKind::Io => 0xffff,
@@ -100,7 +83,7 @@ impl WindowKind {
 
     /// Whether a bridge may leave the window out, or give it upper halves.
     pub fn is_optional(self) -> bool
-        ensures { result ≡ is_optional (spec_kind_of self) }
+        ensures { result ≡ is_optional (kind_value self) }
     {
         match self {
             WindowKind::Io | WindowKind::Prefetchable => true,
@@ -111,7 +94,7 @@ impl WindowKind {
     /// How many bits of a page number stand below the upper half.
     fn lower_width(self) -> u32
         ensures small { result < 13 }
-        ensures pages { 2 ^ result ≡ lower_pages (spec_kind_of self) }
+        ensures pages { 2 ^ result ≡ lower_pages (kind_value self) }
     {
         match self {
             WindowKind::Io => 4,
@@ -119,20 +102,9 @@ impl WindowKind {
         }
     }
 
-    /// How many bits of an address stand below the page number: pages are of 4 KB or 1 MB.
-    fn page_width(self) -> u32
-        ensures small { result < 21 }
-        ensures pages { 2 ^ result ≡ page_size (spec_kind_of self) }
-    {
-        match self {
-            WindowKind::Io => 12,
-            WindowKind::Memory | WindowKind::Prefetchable => 20,
-        }
-    }
-
     /// The number of a page, by its upper half and the base or limit that it stands in.
     fn page(self, upper: u32, lower: u16) -> u64
-        ensures number { result ≡ page_of (spec_kind_of self) upper lower }
+        ensures number { result ≡ page_of (kind_value self) upper lower }
         ensures small { result < 2 ^ 44 }
     {
         (u64::from(upper) << self.lower_width()) + u64::from(lower >> 4)
@@ -141,18 +113,17 @@ impl WindowKind {
     /// The addresses from the base's page to the limit's; none where the base stands above the limit.
     pub fn range(self, bounds: Bounds) -> Option<Range>
         ensures { option_map decoded_range_of result ≡
-            range_between (spec_kind_of self) (page_of (spec_kind_of self) bounds.base_upper bounds.base) (page_of (spec_kind_of self) bounds.limit_upper bounds.limit) }
+            range_between (kind_value self) (page_of (kind_value self) bounds.base_upper bounds.base) (page_of (kind_value self) bounds.limit_upper bounds.limit) }
     {
         let first_page = self.page(bounds.base_upper, bounds.base);
         let last_page = self.page(bounds.limit_upper, bounds.limit);
         if last_page < first_page {
             return None;
         }
-        let width = self.page_width();
-        let low = (1u64 << width) - 1;
+        let size = self.page_size();
         Some(Range {
-            first: first_page << width,
-            last: last_page << width | low,
+            first: first_page * size,
+            last: last_page * size + (size - 1),
         })
     }
 
@@ -160,8 +131,8 @@ impl WindowKind {
     /// they are those of no window.
     pub fn has_upper(self, value: Bounds, mask: Bounds) -> Option<bool>
         ensures { MatchOption result
-            (IsFalse (is_implemented (spec_kind_of self) (spec_bounds_of value) (spec_bounds_of mask)))
-            (λ wide. IsTrue (is_implemented (spec_kind_of self) (spec_bounds_of value) (spec_bounds_of mask)) × (wide ≡ (mask.base % 16 == 1)) × (mask.base ≢ 0)) }
+            (IsFalse (is_implemented (kind_value self) (spec_bounds_of value) (spec_bounds_of mask)))
+            (λ wide. IsTrue (is_implemented (kind_value self) (spec_bounds_of value) (spec_bounds_of mask)) × (wide ≡ (mask.base % 16 == 1)) × (mask.base ≢ 0)) }
     {
         if self.is_read_back(NARROW, mask) && value.is_value(NARROW) {
             Some(false)
@@ -175,7 +146,7 @@ impl WindowKind {
     /// Whether these read backs are those of a window with this low nibble.
     fn is_read_back(self, nibble: u16, mask: Bounds) -> bool
         requires { nibble < 2 }
-        ensures { result ≡ is_read_back (spec_kind_of self) nibble (spec_bounds_of mask) }
+        ensures { result ≡ is_read_back (kind_value self) nibble (spec_bounds_of mask) }
     {
         let page = self.page_bits() + nibble;
         let upper = self.upper_bits() * u32::from(nibble);

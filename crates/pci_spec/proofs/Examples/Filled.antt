@@ -6,9 +6,10 @@ use Rattle.std.proofs.lemmas.Bool.{or_cases, both_ways, eqb-true}
 use Rattle.pci_spec.specs.Number.{each_from, byte_at, number_at, IsImage}
 use Rattle.pci_spec.specs.Slot.{Slot}
 use Rattle.pci_spec.specs.Header.{command, layout, address_registers}
+use Rattle.pci_spec.specs.Window.{WindowKind, IoWindow, MemoryWindow, PrefetchWindow}
 use Rattle.pci_spec.specs.System.{Function, bars_and_rom}
 use Rattle.pci_spec.specs.Fault.{is_in_address_register}
-use Rattle.pci_spec.specs.Plan.{Class, IoClass, MemoryClass, PrefetchClass, LacksWindow, is_io_part, fits, items_within, doubled_to}
+use Rattle.pci_spec.specs.Plan.{LacksWindow, is_io_part, fits, items_within, doubled_to}
 use Rattle.pci_spec.specs.Place.{start_within}
 use Rattle.pci_spec.specs.PlanPromise.{CanBePlanned}
 use Rattle.pci_spec.specs.Planning.Numbers.{IsFilled, IsPlannedFunction, new_number, new_command}
@@ -91,11 +92,11 @@ each_of_start P a b c f (suc (suc (suc k)), less, is) = absurd (let no : ⊥ = o
 pub no_window_is_lacking : (slot : Slot) → LacksWindow start slot → ⊥
 no_window_is_lacking slot (f, listed, named, io, above) = each_of_start (λ f. IsTrue (list_any (is_io_part f) (bars_and_rom f)) → ⊥) no no no f listed io
 
-each_class_fits : (c : Class) → IsTrue (fits host start pools c)
+each_class_fits : (c : WindowKind) → IsTrue (fits host start pools c)
 unfolding items_within doubled_to
-each_class_fits IoClass = refl
-each_class_fits MemoryClass = refl
-each_class_fits PrefetchClass = refl
+each_class_fits IoWindow = refl
+each_class_fits MemoryWindow = refl
+each_class_fits PrefetchWindow = refl
 
 pub tree_can_be_planned : CanBePlanned host start pools
 tree_can_be_planned = record { good = refl; windows = no_window_is_lacking; room = each_class_fits }

@@ -3,10 +3,10 @@ use Rattle.std.proofs.Common.{◌≡◌, refl, Bool, true, Some, sym}
 use Rattle.std.specs.Bool.{IsTrue, IsFalse, ◌==◌}
 use Rattle.std.specs.List.{Contains, list_all}
 use Rattle.std.proofs.lemmas.Bool.{eqb-true}
-use Rattle.pci_spec.specs.Window.{bounds_at, has_window}
+use Rattle.pci_spec.specs.Window.{WindowKind, IoWindow, MemoryWindow, PrefetchWindow, bounds_at, has_window}
 use Rattle.pci_spec.specs.Decoded.{window_range}
 use Rattle.pci_spec.specs.System.{Function, Part, bars_and_rom, is_bridge}
-use Rattle.pci_spec.specs.Plan.{Class, IoClass, MemoryClass, PrefetchClass, class_of, window_of, has_behind, items_within, doubled_to}
+use Rattle.pci_spec.specs.Plan.{class_of, has_behind, items_within, doubled_to}
 use Rattle.pci_spec.specs.Place.{IsPlaced, start_within, part_item, window_item, place_of, first_of, range_from, closed_bounds, nibble_of}
 use Rattle.pci_spec.proofs.Planning.Behind.{all_gives}
 use Rattle.pci_spec.proofs.Examples.Samples.{host}
@@ -39,24 +39,24 @@ bars_behind = begin_by new_behind refl
 -- the window of a class is open at its place
 abbrev IsOpenThere : Function → Type 0
 IsOpenThere b =
-    (c : Class) → IsTrue (is_bridge b) → IsTrue (has_window (window_of c) b.probe) → IsTrue (has_behind planned pools c b)
-    → window_range (window_of c) b.image ≡ Some (range_from (place_of host planned pools c (window_item planned pools c b)) (window_item planned pools c b).size)
+    (c : WindowKind) → IsTrue (is_bridge b) → IsTrue (has_window c b.probe) → IsTrue (has_behind planned pools c b)
+    → window_range c b.image ≡ Some (range_from (place_of host planned pools c (window_item planned pools c b)) (window_item planned pools c b).size)
 
 open_memory_window : IsOpenThere new_bridge
 unfolding start_within items_within doubled_to
-open_memory_window IoClass bridge window behind = absurd (no window)
-open_memory_window MemoryClass bridge window behind = refl
-open_memory_window PrefetchClass bridge window behind = absurd (no window)
+open_memory_window IoWindow bridge window behind = absurd (no window)
+open_memory_window MemoryWindow bridge window behind = refl
+open_memory_window PrefetchWindow bridge window behind = absurd (no window)
 
 abbrev IsClosedThere : Function → Type 0
 IsClosedThere b =
-    (c : Class) → IsTrue (is_bridge b) → IsTrue (has_window (window_of c) b.probe) → IsFalse (has_behind planned pools c b)
-    → bounds_at (window_of c) b.image ≡ closed_bounds (window_of c) (nibble_of (window_of c) b)
+    (c : WindowKind) → IsTrue (is_bridge b) → IsTrue (has_window c b.probe) → IsFalse (has_behind planned pools c b)
+    → bounds_at c b.image ≡ closed_bounds c (nibble_of c b)
 
 no_other_window : IsClosedThere new_bridge
-no_other_window IoClass bridge window behind = absurd (no window)
-no_other_window MemoryClass bridge window behind = absurd (no (sym behind))
-no_other_window PrefetchClass bridge window behind = absurd (no window)
+no_other_window IoWindow bridge window behind = absurd (no window)
+no_other_window MemoryWindow bridge window behind = absurd (no (sym behind))
+no_other_window PrefetchWindow bridge window behind = absurd (no window)
 
 pub tree_is_in_place : IsPlaced host planned pools
 tree_is_in_place = record {

@@ -4,7 +4,7 @@ use Rattle.std.proofs.lemmas.Bool.{both_ways}
 use Rattle.pci_spec.specs.Window.{IoWindow, MemoryWindow, PrefetchWindow}
 use Rattle.pci_spec.specs.System.{Function, System, Io, Memory, bars_and_rom}
 use Rattle.pci_spec.specs.Machine.{Write, number_of_bits, writable_bits, clearing_bits, written, system_after}
-use Rattle.pci_spec.specs.Plan.{MemoryClass, PrefetchClass, is_open, has_behind, wants, LacksWindow, is_io_part}
+use Rattle.pci_spec.specs.Plan.{is_open, has_behind, wants, LacksWindow, is_io_part}
 use Rattle.pci_spec.proofs.Examples.Samples.{slot, device, bridge, write}
 use Rattle.pci_spec.proofs.Examples.Plans.{pools, deep, small_behind}
 use Rattle.std.specs.Bool.{IsTrue}
@@ -78,16 +78,16 @@ absent_io_window_is_not_open = refl
 device_has_no_open_window : is_open wide_device MemoryWindow ≡ false
 device_has_no_open_window = refl
 
-prefetchable_bar_is_behind : has_behind wide_planned pools PrefetchClass wide_bridge ≡ true
+prefetchable_bar_is_behind : has_behind wide_planned pools PrefetchWindow wide_bridge ≡ true
 prefetchable_bar_is_behind = refl
 
-no_plain_bar_is_behind : has_behind wide_planned pools MemoryClass wide_bridge ≡ false
+no_plain_bar_is_behind : has_behind wide_planned pools MemoryWindow wide_bridge ≡ false
 no_plain_bar_is_behind = refl
 
-plain_bars_are_behind : map (has_behind planned pools MemoryClass) (take 1 planned) ≡ true ∷ []
+plain_bars_are_behind : map (has_behind planned pools MemoryWindow) (take 1 planned) ≡ true ∷ []
 plain_bars_are_behind = refl
 
-bridges_own_bar_is_not_behind_it : has_behind (bridge (slot 0 1 0) 0 0x10100 [] ((0x10, 0xfff00000) ∷ []) ∷ []) pools MemoryClass (bridge (slot 0 1 0) 0 0x10100 [] ((0x10, 0xfff00000) ∷ [])) ≡ false
+bridges_own_bar_is_not_behind_it : has_behind (bridge (slot 0 1 0) 0 0x10100 [] ((0x10, 0xfff00000) ∷ []) ∷ []) pools MemoryWindow (bridge (slot 0 1 0) 0 0x10100 [] ((0x10, 0xfff00000) ∷ [])) ≡ false
 bridges_own_bar_is_not_behind_it = refl
 
 open_prefetchable_window_wants_memory : wants wide_bridge Memory ≡ true
@@ -161,7 +161,7 @@ io_bar_beside_such_a_bridge lacks = both_ways false refl lacks.4
 
 -- ---- behind, open and lacking
 
-a_bar_two_bridges_down_is_behind_both : map (has_behind deep pools MemoryClass) deep ≡ true ∷ true ∷ true ∷ true ∷ false ∷ []
+a_bar_two_bridges_down_is_behind_both : map (has_behind deep pools MemoryWindow) deep ≡ true ∷ true ∷ true ∷ true ∷ false ∷ []
 a_bar_two_bridges_down_is_behind_both = refl
 
 bar_at_20_of_a_device_is_no_window : is_open (device (slot 0 1 0) 0 [] ((0x20, 0xfffff000) ∷ [])) MemoryWindow ≡ false

@@ -4,9 +4,10 @@ use Rattle.std.specs.Bool.{IsTrue}
 use Rattle.std.specs.List.{Contains, list_any}
 use Rattle.std.proofs.lemmas.Bool.{both_ways}
 use Rattle.pci_spec.specs.Slot.{Slot, slot_number}
+use Rattle.pci_spec.specs.Window.{IoWindow, MemoryWindow, PrefetchWindow}
 use Rattle.pci_spec.specs.System.{System, Function, bars_and_rom}
 use Rattle.pci_spec.specs.Fault.{Fault}
-use Rattle.pci_spec.specs.Plan.{Pools, IoClass, MemoryClass, PrefetchClass, PlanFault, BadPools, NoWindow, NoRoom, NotAccepted, plan_fault_number, LacksWindow, is_io_part, items_within, doubled_to}
+use Rattle.pci_spec.specs.Plan.{Pools, PlanFault, BadPools, NoWindow, NoRoom, NotAccepted, plan_fault_number, LacksWindow, is_io_part, items_within, doubled_to}
 use Rattle.pci_spec.specs.PlanPromise.{IsFirstLacking, IsPlanFaultOf, CanBePlanned}
 use Rattle.pci_spec.proofs.Examples.Samples.{slot, device, bridge, host}
 use Rattle.pci_spec.proofs.Examples.Plans.{pools, three, pool}
@@ -14,16 +15,16 @@ use Rattle.pci_spec.proofs.Examples.Placed.{start}
 use Rattle.pci_spec.proofs.Examples.Planned.{no}
 use Rattle.pci_spec.proofs.Examples.Filled.{no_window_is_lacking}
 
-numbers : plan_fault_number BadPools ∷ plan_fault_number (NoWindow (slot 0 1 0)) ∷ plan_fault_number (NoRoom MemoryClass) ∷ [] ≡ 70 ∷ 71 ∷ 72 ∷ []
+numbers : plan_fault_number BadPools ∷ plan_fault_number (NoWindow (slot 0 1 0)) ∷ plan_fault_number (NoRoom MemoryWindow) ∷ [] ≡ 70 ∷ 71 ∷ 72 ∷ []
 numbers = refl
 
 -- what can be planned has no fault
 no_fault_of_what_can_be_planned : (roots : List ℕ) (s : System) (p : Pools) → CanBePlanned roots s p → (fault : PlanFault) → IsPlanFaultOf roots s p fault → ⊥
 no_fault_of_what_can_be_planned roots s p can BadPools bad = both_ways _ can.good bad
 no_fault_of_what_can_be_planned roots s p can (NoWindow at) fault = can.windows at fault.1.lacks
-no_fault_of_what_can_be_planned roots s p can (NoRoom IoClass) fault = both_ways _ fault.2 (can.room IoClass)
-no_fault_of_what_can_be_planned roots s p can (NoRoom MemoryClass) fault = both_ways _ fault.2.0 (can.room MemoryClass)
-no_fault_of_what_can_be_planned roots s p can (NoRoom PrefetchClass) fault = both_ways _ fault.2.0 (can.room PrefetchClass)
+no_fault_of_what_can_be_planned roots s p can (NoRoom IoWindow) fault = both_ways _ fault.2 (can.room IoWindow)
+no_fault_of_what_can_be_planned roots s p can (NoRoom MemoryWindow) fault = both_ways _ fault.2.0 (can.room MemoryWindow)
+no_fault_of_what_can_be_planned roots s p can (NoRoom PrefetchWindow) fault = both_ways _ fault.2.0 (can.room PrefetchWindow)
 no_fault_of_what_can_be_planned roots s p can (NotAccepted fault) never = never
 
 -- ---- pools, before all else
@@ -37,7 +38,7 @@ bad_pools_are_named = refl
 good_pools_are_not : IsPlanFaultOf host start pools BadPools → ⊥
 good_pools_are_not h = no h
 
-no_room_is_not_named_then : IsPlanFaultOf host start too_high (NoRoom MemoryClass) → ⊥
+no_room_is_not_named_then : IsPlanFaultOf host start too_high (NoRoom MemoryWindow) → ⊥
 no_room_is_not_named_then h = no (sym h.0)
 
 -- ---- windows
@@ -82,13 +83,13 @@ not_where_pools_are_bad h = no (sym h.0)
 abbrev none : Pools
 none = three (pool 1 1) (pool 1 1) (pool 2 2)
 
-no_room_is_not_named_before_windows : IsPlanFaultOf host no_io none (NoRoom IoClass) → ⊥
+no_room_is_not_named_before_windows : IsPlanFaultOf host no_io none (NoRoom IoWindow) → ⊥
 no_room_is_not_named_before_windows h = h.1 (slot 1 0 0) first_is_named.lacks
 
 abbrev one_byte_short : Pools
 one_byte_short = three (pool 0x1000 0xffff) (pool 0xe0000000 0xe02ffffe) (pool 0x100000000 0x1ffffffff)
 
-no_room_for_memory : IsPlanFaultOf host start one_byte_short (NoRoom MemoryClass)
+no_room_for_memory : IsPlanFaultOf host start one_byte_short (NoRoom MemoryWindow)
 unfolding items_within doubled_to
 no_room_for_memory = (refl, no_window_is_lacking, (refl, refl))
 
@@ -99,19 +100,19 @@ three_kinds = device (slot 0 1 0) 0 ((0x10, 1) ∷ (0x18, 8) ∷ []) ((0x10, 0xf
 no_bridge : (at : Slot) → LacksWindow three_kinds at → ⊥
 no_bridge at lacks = no lacks.4
 
-io_is_named_first : IsPlanFaultOf host three_kinds none (NoRoom IoClass)
+io_is_named_first : IsPlanFaultOf host three_kinds none (NoRoom IoWindow)
 unfolding items_within doubled_to
 io_is_named_first = (refl, no_bridge, refl)
 
-memory_is_not_named_then : IsPlanFaultOf host three_kinds none (NoRoom MemoryClass) → ⊥
+memory_is_not_named_then : IsPlanFaultOf host three_kinds none (NoRoom MemoryWindow) → ⊥
 unfolding items_within doubled_to
 memory_is_not_named_then h = no h.2.1
 
-prefetchable_is_not_named_then : IsPlanFaultOf host three_kinds (three (pool 0x1000 0xffff) (pool 1 1) (pool 2 2)) (NoRoom PrefetchClass) → ⊥
+prefetchable_is_not_named_then : IsPlanFaultOf host three_kinds (three (pool 0x1000 0xffff) (pool 1 1) (pool 2 2)) (NoRoom PrefetchWindow) → ⊥
 unfolding items_within doubled_to
 prefetchable_is_not_named_then h = no h.2.2
 
-prefetchable_is_named_last : IsPlanFaultOf host three_kinds (three (pool 0x1000 0xffff) (pool 0xe0000000 0xe02fffff) (pool 2 2)) (NoRoom PrefetchClass)
+prefetchable_is_named_last : IsPlanFaultOf host three_kinds (three (pool 0x1000 0xffff) (pool 0xe0000000 0xe02fffff) (pool 2 2)) (NoRoom PrefetchWindow)
 unfolding items_within doubled_to
 prefetchable_is_named_last = (refl, no_bridge, (refl, refl, refl))
 

@@ -11,7 +11,7 @@ use Rattle.pci_spec.specs.Bar.{Memory32, Answers, is_run}
 use Rattle.pci_spec.specs.Window.{WindowKind, IoWindow, MemoryWindow, PrefetchWindow, has_window}
 use Rattle.pci_spec.specs.System.{Function, Io, Memory, is_bridge, Part, Bar, Rom, Window, Decodes, has_part, is_window, System}
 use Rattle.pci_spec.specs.Machine.{in_fields, address_fields}
-use Rattle.pci_spec.specs.Plan.{IsPlanned, IsMoved, class_of, pool_of, wants, is_open, has_behind, window_class}
+use Rattle.pci_spec.specs.Plan.{IsPlanned, IsMoved, class_of, pool_of, wants, is_open, has_behind}
 use Rattle.pci_spec.proofs.Bits.{each_from-at, agree-interval, run_number}
 use Rattle.pci_spec.proofs.Absent.{not_lawful, no_rom}
 use Rattle.pci_spec.proofs.Examples.Samples.{slot, device, bridge}
@@ -142,7 +142,7 @@ no h = both_ways false refl h
 
 -- the windows of a bridge are open where something is behind them
 abbrev AreOpenRight : Function → Type 0
-AreOpenRight b = (kind : WindowKind) → IsTrue (is_bridge b) → IsTrue (has_window kind b.probe) → is_open b kind ≡ has_behind planned pools (window_class kind) b
+AreOpenRight b = (kind : WindowKind) → IsTrue (is_bridge b) → IsTrue (has_window kind b.probe) → is_open b kind ≡ has_behind planned pools kind b
 
 bridge_is_open : AreOpenRight new_bridge
 bridge_is_open IoWindow h w = absurd (no w)

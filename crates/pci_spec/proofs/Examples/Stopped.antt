@@ -4,10 +4,11 @@ use Rattle.std.specs.List.{All, AllZip, Contains}
 use Rattle.std.specs.List.Sorted.{IsStrictlyIncreasing}
 use Rattle.pci_spec.specs.Number.{each_from}
 use Rattle.pci_spec.specs.Slot.{slot_number}
+use Rattle.pci_spec.specs.Window.{WindowKind}
 use Rattle.pci_spec.specs.System.{System, Function, IsSystem}
 use Rattle.pci_spec.specs.Sound.{IsSound}
 use Rattle.pci_spec.specs.Machine.{system_after}
-use Rattle.pci_spec.specs.Plan.{Class, IsMoved}
+use Rattle.pci_spec.specs.Plan.{IsMoved}
 use Rattle.pci_spec.specs.PlanPromise.{changes_between, with_rom_on}
 use Rattle.pci_spec.specs.Planning.Laws.{AreChanges}
 use Rattle.pci_spec.specs.Planning.Numbers.{place_at}
@@ -38,7 +39,7 @@ tree_is_plannable = record { system = tree_is_a_system; nested = tree_is_nested;
 one_root : IsStrictlyIncreasing host
 one_root k less = absurd (let impossible : ⊥ = omega (arith, less) in impossible)
 
-tree_has_a_table : (c : Class) → IsTable host start pools c (place_at host start pools)
+tree_has_a_table : (c : WindowKind) → IsTable host start pools c (place_at host start pools)
 tree_has_a_table c = places_are_a_table host start pools c tree_is_plannable one_root
 
 planned_tree_is_final : IsFinal host start planned pools

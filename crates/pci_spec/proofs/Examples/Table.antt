@@ -4,11 +4,11 @@ use Rattle.std.specs.Bool.{IsTrue, nat_lt}
 use Rattle.std.specs.List.{Contains, sum}
 use Rattle.std.proofs.lemmas.Bool.{and_parts, ltb-true}
 use Rattle.pci_spec.specs.Header.{layout, bar_count}
-use Rattle.pci_spec.specs.Window.{IoWindow, MemoryWindow, PrefetchWindow}
+use Rattle.pci_spec.specs.Window.{WindowKind, IoWindow, MemoryWindow, PrefetchWindow}
 use Rattle.pci_spec.specs.System.{Function, Part, Bar, Rom, Window, is_bridge}
 use Rattle.pci_spec.specs.Bus.{secondary}
 use Rattle.pci_spec.specs.Decoded.{has_bar}
-use Rattle.pci_spec.specs.Plan.{Class, MemoryClass, items_within, doubled_to}
+use Rattle.pci_spec.specs.Plan.{items_within, doubled_to}
 use Rattle.pci_spec.specs.Place.{start_within}
 use Rattle.pci_spec.specs.Planning.Numbers.{place_at}
 use Rattle.pci_spec.specs.Planning.Placing.{IsPower, IsFalling}
@@ -61,10 +61,10 @@ behind_it = item old_behind (Bar 0) ∷ item old_behind (Bar 1) ∷ []
 abbrev StandsIn : List Item → Function → Part → Type 0
 StandsIn items f p = (k : ℕ) × (k < length items) × ((d : Item) → slice_index_or items k d ≡ item f p)
 
-abbrev IsThere : Class → Function → Part → Type 0
+abbrev IsThere : WindowKind → Function → Part → Type 0
 IsThere c f p = IsTrue (is_placed start pools c f p)
 
-bridge_on_the_root : (p : Part) → IsThere MemoryClass old_bridge p → StandsIn on_the_root old_bridge p
+bridge_on_the_root : (p : Part) → IsThere MemoryWindow old_bridge p → StandsIn on_the_root old_bridge p
 unfolding items_within doubled_to
 bridge_on_the_root (Bar zero) there = absurd (no there)
 bridge_on_the_root (Bar (suc zero)) there = absurd (no there)
@@ -74,7 +74,7 @@ bridge_on_the_root (Window IoWindow) there = absurd (no there)
 bridge_on_the_root (Window MemoryWindow) there = (0, lit< tt, λ d. refl)
 bridge_on_the_root (Window PrefetchWindow) there = absurd (no there)
 
-device_on_the_root : (p : Part) → IsThere MemoryClass old_device p → StandsIn on_the_root old_device p
+device_on_the_root : (p : Part) → IsThere MemoryWindow old_device p → StandsIn on_the_root old_device p
 unfolding items_within doubled_to
 device_on_the_root (Bar zero) there = (1, lit< tt, λ d. refl)
 device_on_the_root (Bar (suc zero)) there = absurd (no there)
@@ -88,7 +88,7 @@ device_on_the_root (Window IoWindow) there = absurd (no there)
 device_on_the_root (Window MemoryWindow) there = absurd (no there)
 device_on_the_root (Window PrefetchWindow) there = absurd (no there)
 
-bars_behind_it : (p : Part) → IsThere MemoryClass old_behind p → StandsIn behind_it old_behind p
+bars_behind_it : (p : Part) → IsThere MemoryWindow old_behind p → StandsIn behind_it old_behind p
 unfolding items_within doubled_to
 bars_behind_it (Bar zero) there = (0, lit< tt, λ d. refl)
 bars_behind_it (Bar (suc zero)) there = (1, lit< tt, λ d. refl)
@@ -119,10 +119,10 @@ firsts_behind_it zero d less = refl
 firsts_behind_it (suc zero) d less = refl
 firsts_behind_it (suc (suc k)) d less = absurd (let no : ⊥ = omega (arith, less) in no)
 
-root_is_placed : IsPlacedOn start pools MemoryClass first (λ f. Contains host f.slot.bus) (sum (root_items host start pools MemoryClass)) 0xe0000000 on_the_root
+root_is_placed : IsPlacedOn start pools MemoryWindow first (λ f. Contains host f.slot.bus) (sum (root_items host start pools MemoryWindow)) 0xe0000000 on_the_root
 unfolding start_within items_within doubled_to
 root_is_placed = record {
-  all = λ f p listed side there. each_of_start (λ f. Contains host f.slot.bus → IsThere MemoryClass f p → StandsIn on_the_root f p)
+  all = λ f p listed side there. each_of_start (λ f. Contains host f.slot.bus → IsThere MemoryWindow f p → StandsIn on_the_root f p)
       (λ side. bridge_on_the_root p) (λ side. device_on_the_root p) (λ side. absurd (no_root_1 side)) f listed side there;
   falling = falling_pair 0x200000 0x100000 21 20 refl refl (lit≤ tt);
   aligned = λ some. refl;
@@ -130,10 +130,10 @@ root_is_placed = record {
   sums = refl;
 }
 
-behind_is_placed : IsPlacedOn start pools MemoryClass first (λ f. f.slot.bus ≡ 1) (need_behind start pools MemoryClass old_bridge) (first old_bridge (Window MemoryWindow)) behind_it
+behind_is_placed : IsPlacedOn start pools MemoryWindow first (λ f. f.slot.bus ≡ 1) (need_behind start pools MemoryWindow old_bridge) (first old_bridge (Window MemoryWindow)) behind_it
 unfolding start_within items_within doubled_to
 behind_is_placed = record {
-  all = λ f p listed side there. each_of_start (λ f. f.slot.bus ≡ 1 → IsThere MemoryClass f p → StandsIn behind_it f p)
+  all = λ f p listed side there. each_of_start (λ f. f.slot.bus ≡ 1 → IsThere MemoryWindow f p → StandsIn behind_it f p)
       (λ side. absurd (let e : 0 ≡ 1 = side in let no : ⊥ = omega (arith, e) in no)) (λ side. absurd (let e : 0 ≡ 1 = side in let no : ⊥ = omega (arith, e) in no)) (λ side. bars_behind_it p) f listed side there;
   falling = falling_pair 0x100000 0x1000 20 12 refl refl (lit≤ tt);
   aligned = λ some. refl;
@@ -141,16 +141,16 @@ behind_is_placed = record {
   sums = refl;
 }
 
-pub memory_is_placed : IsPlacing host start pools MemoryClass first
+pub memory_is_placed : IsPlacing host start pools MemoryWindow first
 unfolding items_within doubled_to
 memory_is_placed = record {
   placed_roots = on_the_root;
   on_roots = root_is_placed;
   behind_items = λ b. behind_it;
   behind = λ b listed bridge some. each_of_start
-      (λ b. IsTrue (is_bridge b) → IsPlacedOn start pools MemoryClass first (λ f. f.slot.bus ≡ secondary b) (need_behind start pools MemoryClass b) (first b (Window MemoryWindow)) behind_it)
+      (λ b. IsTrue (is_bridge b) → IsPlacedOn start pools MemoryWindow first (λ f. f.slot.bus ≡ secondary b) (need_behind start pools MemoryWindow b) (first b (Window MemoryWindow)) behind_it)
       (λ h. behind_is_placed) (λ h. absurd (no h)) (λ h. absurd (no h)) b listed bridge;
 }
 
-pub memory_is_a_table : IsTable host start pools MemoryClass first
-memory_is_a_table = table_by_fit host start pools MemoryClass tree_is_a_system tree_is_nested first (tree_can_be_planned.room MemoryClass) (lit< tt) memory_is_placed
+pub memory_is_a_table : IsTable host start pools MemoryWindow first
+memory_is_a_table = table_by_fit host start pools MemoryWindow tree_is_a_system tree_is_nested first (tree_can_be_planned.room MemoryWindow) (lit< tt) memory_is_placed

@@ -8,7 +8,7 @@ use Rattle.pci_spec.specs.Decoded.{Range}
 use Rattle.pci_spec.specs.System.{System, Function, Bar}
 use Rattle.pci_spec.specs.Sound.{IsSound}
 use Rattle.pci_spec.specs.Machine.{Write, system_after}
-use Rattle.pci_spec.specs.Plan.{IsMoved, Pools, MemoryClass, IsPlanned, items_within, doubled_to}
+use Rattle.pci_spec.specs.Plan.{IsMoved, Pools, IsPlanned, items_within, doubled_to}
 use Rattle.pci_spec.specs.Place.{IsPlaced, start_within}
 use Rattle.pci_spec.specs.PlanPromise.{IsPlanOf, changes_between, with_rom_on}
 use Rattle.pci_spec.specs.Planning.PlanWrites.{plan_writes, closing_writes, most_writes}
@@ -110,7 +110,7 @@ last_of (Some r) = r.last
 window_too_large : IsPlaced host (wide_open ∷ bar_behind ∷ []) pools → ⊥
 unfolding start_within items_within doubled_to
 window_too_large p =
-    let e : 0xe01fffff ≡ 0xe00fffff = ap last_of (p.opened wide_open MemoryClass (0, lit< tt, refl) refl refl refl) in
+    let e : 0xe01fffff ≡ 0xe00fffff = ap last_of (p.opened wide_open MemoryWindow (0, lit< tt, refl) refl refl refl) in
     omega (arith, e)
 
 -- a window that is closed by other pages than the last and the first
@@ -119,7 +119,7 @@ closed_otherwise = bridge (slot 0 1 0) 0 0x10100 ((0x20, 0x00000010) ∷ []) []
 
 closed_by_other_pages : IsPlaced host (closed_otherwise ∷ []) pools → ⊥
 closed_by_other_pages p =
-    let e : 0x10 ≡ 0xfff0 = ap (λ (b : Bounds). b.base) (p.closed closed_otherwise MemoryClass (0, lit< tt, refl) refl refl refl) in
+    let e : 0x10 ≡ 0xfff0 = ap (λ (b : Bounds). b.base) (p.closed closed_otherwise MemoryWindow (0, lit< tt, refl) refl refl refl) in
     omega (arith, e)
 
 -- ---- what a plan promises, piece by piece

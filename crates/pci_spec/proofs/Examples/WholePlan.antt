@@ -5,12 +5,12 @@ use Rattle.std.specs.List.{All, Contains, list_all, AllZip}
 use Rattle.std.proofs.lemmas.Bool.{and_parts, ltb-true, eqb-true}
 use Rattle.pci_spec.specs.Number.{has_bit}
 use Rattle.pci_spec.specs.Header.{command, layout, bar_count}
-use Rattle.pci_spec.specs.Window.{IoWindow, MemoryWindow, PrefetchWindow}
+use Rattle.pci_spec.specs.Window.{WindowKind, IoWindow, MemoryWindow, PrefetchWindow}
 use Rattle.pci_spec.specs.Decoded.{Range, has_bar}
 use Rattle.pci_spec.specs.System.{Function, Part, Bar, Rom, Window, Io, Memory}
 use Rattle.pci_spec.specs.Sound.{IsSound}
 use Rattle.pci_spec.specs.Machine.{system_after}
-use Rattle.pci_spec.specs.Plan.{Class, IoClass, MemoryClass, PrefetchClass, raised_to, greatest, window_of, class_of, wants, IsMoved, items_within, doubled_to}
+use Rattle.pci_spec.specs.Plan.{raised_to, greatest, class_of, wants, IsMoved, items_within, doubled_to}
 use Rattle.pci_spec.specs.Place.{start_within}
 use Rattle.pci_spec.specs.PlanPromise.{IsPlanOf, changes_between}
 use Rattle.pci_spec.specs.Planning.Layout.{range_of, is_item, IsSwitchedOn}
@@ -55,7 +55,7 @@ item_is_one f few (Window IoWindow) there = (7, lit< tt, refl)
 item_is_one f few (Window MemoryWindow) there = (8, lit< tt, refl)
 item_is_one f few (Window PrefetchWindow) there = (9, lit< tt, refl)
 
-placed_is_one : (c : Class) (f : Function) → bar_count (layout f.image) ≤ 6 → (p : Part) → IsTrue (is_placed start pools c f p) → Contains all_parts p
+placed_is_one : (c : WindowKind) (f : Function) → bar_count (layout f.image) ≤ 6 → (p : Part) → IsTrue (is_placed start pools c f p) → Contains all_parts p
 placed_is_one c f few (Bar n) there = item_is_one f few (Bar n) (and_parts (is_item f (Bar n)) _ there).0
 placed_is_one c f few Rom there = (6, lit< tt, refl)
 placed_is_one c f few (Window IoWindow) there = (7, lit< tt, refl)
@@ -69,21 +69,21 @@ given false other h is = absurd (no is)
 
 -- ---- nothing of I/O, nor of prefetchable memory
 
-abbrev HasNone : Class → Function → Type 0
+abbrev HasNone : WindowKind → Function → Type 0
 HasNone c f = (p : Part) → IsTrue (is_placed start pools c f p) → ⊥
 
-none_by : (c : Class) (f : Function) → bar_count (layout f.image) ≤ 6 → list_all (λ p. not (is_placed start pools c f p)) all_parts ≡ true → HasNone c f
+none_by : (c : WindowKind) (f : Function) → bar_count (layout f.image) ≤ 6 → list_all (λ p. not (is_placed start pools c f p)) all_parts ≡ true → HasNone c f
 none_by c f few h p there = no (subst (λ b. not b ≡ true) there (all_gives (λ p. not (is_placed start pools c f p)) all_parts p h (placed_is_one c f few p there)))
 
-no_io : (f : Function) → Contains start f → HasNone IoClass f
+no_io : (f : Function) → Contains start f → HasNone IoWindow f
 unfolding items_within doubled_to
-no_io = each_of_start (HasNone IoClass) (none_by IoClass old_bridge (lit≤ tt) refl) (none_by IoClass old_device (lit≤ tt) refl) (none_by IoClass old_behind (lit≤ tt) refl)
+no_io = each_of_start (HasNone IoWindow) (none_by IoWindow old_bridge (lit≤ tt) refl) (none_by IoWindow old_device (lit≤ tt) refl) (none_by IoWindow old_behind (lit≤ tt) refl)
 
-no_prefetchable : (f : Function) → Contains start f → HasNone PrefetchClass f
+no_prefetchable : (f : Function) → Contains start f → HasNone PrefetchWindow f
 unfolding items_within doubled_to
-no_prefetchable = each_of_start (HasNone PrefetchClass) (none_by PrefetchClass old_bridge (lit≤ tt) refl) (none_by PrefetchClass old_device (lit≤ tt) refl) (none_by PrefetchClass old_behind (lit≤ tt) refl)
+no_prefetchable = each_of_start (HasNone PrefetchWindow) (none_by PrefetchWindow old_bridge (lit≤ tt) refl) (none_by PrefetchWindow old_device (lit≤ tt) refl) (none_by PrefetchWindow old_behind (lit≤ tt) refl)
 
-placed_on_none : (c : Class) (Side : Function → Type 0) (at : ℕ) → ((f : Function) → Contains start f → HasNone c f) → IsPlacedOn start pools c first Side 0 at []
+placed_on_none : (c : WindowKind) (Side : Function → Type 0) (at : ℕ) → ((f : Function) → Contains start f → HasNone c f) → IsPlacedOn start pools c first Side 0 at []
 placed_on_none c Side at nothing = record {
   all = λ f p listed side there. absurd (nothing f listed p there);
   falling = record { powers = λ k less. absurd (let no : ⊥ = omega (arith, less) in no); falling = λ j k below less. absurd (let no : ⊥ = omega (arith, less) in no) };
@@ -92,28 +92,28 @@ placed_on_none c Side at nothing = record {
   sums = refl;
 }
 
-io_is_placed : IsPlacing host start pools IoClass first
+io_is_placed : IsPlacing host start pools IoWindow first
 unfolding items_within doubled_to
 io_is_placed = record {
   placed_roots = [];
-  on_roots = placed_on_none IoClass (λ f. Contains host f.slot.bus) (raised_to (greatest (root_items host start pools IoClass)) 0x1000) no_io;
+  on_roots = placed_on_none IoWindow (λ f. Contains host f.slot.bus) (raised_to (greatest (root_items host start pools IoWindow)) 0x1000) no_io;
   behind_items = λ b. [];
-  behind = λ b listed bridge some. absurd (each_of_start (λ b. 0 < need_behind start pools IoClass b → ⊥) (λ some. let no : ⊥ = omega (arith, some) in no) (λ some. let no : ⊥ = omega (arith, some) in no) (λ some. let no : ⊥ = omega (arith, some) in no) b listed some);
+  behind = λ b listed bridge some. absurd (each_of_start (λ b. 0 < need_behind start pools IoWindow b → ⊥) (λ some. let no : ⊥ = omega (arith, some) in no) (λ some. let no : ⊥ = omega (arith, some) in no) (λ some. let no : ⊥ = omega (arith, some) in no) b listed some);
 }
 
-prefetchable_is_placed : IsPlacing host start pools PrefetchClass first
+prefetchable_is_placed : IsPlacing host start pools PrefetchWindow first
 unfolding items_within doubled_to
 prefetchable_is_placed = record {
   placed_roots = [];
-  on_roots = placed_on_none PrefetchClass (λ f. Contains host f.slot.bus) (raised_to (greatest (root_items host start pools PrefetchClass)) 0x100000000) no_prefetchable;
+  on_roots = placed_on_none PrefetchWindow (λ f. Contains host f.slot.bus) (raised_to (greatest (root_items host start pools PrefetchWindow)) 0x100000000) no_prefetchable;
   behind_items = λ b. [];
-  behind = λ b listed bridge some. absurd (each_of_start (λ b. 0 < need_behind start pools PrefetchClass b → ⊥) (λ some. let no : ⊥ = omega (arith, some) in no) (λ some. let no : ⊥ = omega (arith, some) in no) (λ some. let no : ⊥ = omega (arith, some) in no) b listed some);
+  behind = λ b listed bridge some. absurd (each_of_start (λ b. 0 < need_behind start pools PrefetchWindow b → ⊥) (λ some. let no : ⊥ = omega (arith, some) in no) (λ some. let no : ⊥ = omega (arith, some) in no) (λ some. let no : ⊥ = omega (arith, some) in no) b listed some);
 }
 
-tables : (c : Class) → IsTable host start pools c first
-tables IoClass = table_by_fit host start pools IoClass tree_is_a_system tree_is_nested first (tree_can_be_planned.room IoClass) (lit< tt) io_is_placed
-tables MemoryClass = memory_is_a_table
-tables PrefetchClass = table_by_fit host start pools PrefetchClass tree_is_a_system tree_is_nested first (tree_can_be_planned.room PrefetchClass) (lit< tt) prefetchable_is_placed
+tables : (c : WindowKind) → IsTable host start pools c first
+tables IoWindow = table_by_fit host start pools IoWindow tree_is_a_system tree_is_nested first (tree_can_be_planned.room IoWindow) (lit< tt) io_is_placed
+tables MemoryWindow = memory_is_a_table
+tables PrefetchWindow = table_by_fit host start pools PrefetchWindow tree_is_a_system tree_is_nested first (tree_can_be_planned.room PrefetchWindow) (lit< tt) prefetchable_is_placed
 
 -- ---- the registers show it
 
@@ -123,18 +123,18 @@ is_range r q = r.first == q.first && r.last == q.last
 same_range : (r q : Range) → is_range r q ≡ true → r ≡ q
 same_range r q h = let parts = and_parts (r.first == q.first) (r.last == q.last) h in let f = eqb-true r.first q.first parts.0 in let l = eqb-true r.last q.last parts.1 in ap (λ n. range n r.last) f ∙ ap (λ n. range q.first n) l
 
-abbrev where_placed : Class → Function → Part → Range
+abbrev where_placed : WindowKind → Function → Part → Range
 where_placed c f p = record { first = first f p; last = first f p + (size_in start pools c f p - 1) }
 
-abbrev shows_it : Class → Function → Function → Part → Bool
+abbrev shows_it : WindowKind → Function → Function → Part → Bool
 shows_it c f g p = not (is_placed start pools c f p) || is_range (range_of g p) (where_placed c f p)
 
 abbrev has_its_class : Function → Function → Part → Bool
 has_its_class f g p = not (is_item g p) || is_placed start pools (class_of planned pools g p) f p
 
 shown_by : (f g : Function) → bar_count (layout f.image) ≤ 6 → bar_count (layout g.image) ≤ 6 → IsMoved f g
-    → ((c : Class) → list_all (shows_it c f g) all_parts ≡ true)
-    → ((c : Class) → IsTrue (is_placed start pools c f (Window (window_of c))) → IsTrue (is_item g (Window (window_of c))))
+    → ((c : WindowKind) → list_all (shows_it c f g) all_parts ≡ true)
+    → ((c : WindowKind) → IsTrue (is_placed start pools c f (Window c)) → IsTrue (is_item g (Window c)))
     → list_all (has_its_class f g) all_parts ≡ true → IsShown start planned pools first f g
 shown_by f g few few_too moved shows opens only = record {
   moved = moved;
@@ -144,52 +144,52 @@ shown_by f g few few_too moved shows opens only = record {
   only = λ p there. given (is_item g p) (is_placed start pools (class_of planned pools g p) f p) (all_gives (has_its_class f g) all_parts p only (item_is_one g few_too p there)) there;
 }
 
-abbrev Opens : Function → Function → Class → Type 0
-Opens f g c = IsTrue (is_placed start pools c f (Window (window_of c))) → IsTrue (is_item g (Window (window_of c)))
+abbrev Opens : Function → Function → WindowKind → Type 0
+Opens f g c = IsTrue (is_placed start pools c f (Window c)) → IsTrue (is_item g (Window c))
 
-bridge_shows : (c : Class) → list_all (shows_it c old_bridge new_bridge) all_parts ≡ true
+bridge_shows : (c : WindowKind) → list_all (shows_it c old_bridge new_bridge) all_parts ≡ true
 unfolding start_within items_within doubled_to
-bridge_shows IoClass = refl
-bridge_shows MemoryClass = refl
-bridge_shows PrefetchClass = refl
+bridge_shows IoWindow = refl
+bridge_shows MemoryWindow = refl
+bridge_shows PrefetchWindow = refl
 
-bridge_opens : (c : Class) → Opens old_bridge new_bridge c
+bridge_opens : (c : WindowKind) → Opens old_bridge new_bridge c
 unfolding items_within doubled_to
-bridge_opens IoClass there = absurd (no there)
-bridge_opens MemoryClass there = refl
-bridge_opens PrefetchClass there = absurd (no there)
+bridge_opens IoWindow there = absurd (no there)
+bridge_opens MemoryWindow there = refl
+bridge_opens PrefetchWindow there = absurd (no there)
 
 bridge_is_shown : IsShown start planned pools first old_bridge new_bridge
 unfolding items_within doubled_to
 bridge_is_shown = shown_by old_bridge new_bridge (lit≤ tt) (lit≤ tt) bridge_moved bridge_shows bridge_opens refl
 
-device_shows : (c : Class) → list_all (shows_it c old_device new_device) all_parts ≡ true
+device_shows : (c : WindowKind) → list_all (shows_it c old_device new_device) all_parts ≡ true
 unfolding start_within items_within doubled_to
-device_shows IoClass = refl
-device_shows MemoryClass = refl
-device_shows PrefetchClass = refl
+device_shows IoWindow = refl
+device_shows MemoryWindow = refl
+device_shows PrefetchWindow = refl
 
-device_opens : (c : Class) → Opens old_device new_device c
+device_opens : (c : WindowKind) → Opens old_device new_device c
 unfolding items_within doubled_to
-device_opens IoClass there = absurd (no there)
-device_opens MemoryClass there = absurd (no there)
-device_opens PrefetchClass there = absurd (no there)
+device_opens IoWindow there = absurd (no there)
+device_opens MemoryWindow there = absurd (no there)
+device_opens PrefetchWindow there = absurd (no there)
 
 device_is_shown : IsShown start planned pools first old_device new_device
 unfolding items_within doubled_to
 device_is_shown = shown_by old_device new_device (lit≤ tt) (lit≤ tt) device_moved device_shows device_opens refl
 
-behind_shows : (c : Class) → list_all (shows_it c old_behind new_behind) all_parts ≡ true
+behind_shows : (c : WindowKind) → list_all (shows_it c old_behind new_behind) all_parts ≡ true
 unfolding start_within items_within doubled_to
-behind_shows IoClass = refl
-behind_shows MemoryClass = refl
-behind_shows PrefetchClass = refl
+behind_shows IoWindow = refl
+behind_shows MemoryWindow = refl
+behind_shows PrefetchWindow = refl
 
-behind_opens : (c : Class) → Opens old_behind new_behind c
+behind_opens : (c : WindowKind) → Opens old_behind new_behind c
 unfolding items_within doubled_to
-behind_opens IoClass there = absurd (no there)
-behind_opens MemoryClass there = absurd (no there)
-behind_opens PrefetchClass there = absurd (no there)
+behind_opens IoWindow there = absurd (no there)
+behind_opens MemoryWindow there = absurd (no there)
+behind_opens PrefetchWindow there = absurd (no there)
 
 behind_is_shown : IsShown start planned pools first old_behind new_behind
 unfolding items_within doubled_to

@@ -10,10 +10,11 @@ use Rattle.std.proofs.lemmas.List.Sorted.{IsPermutation-sym, Contains-permutatio
 use Rattle.std.proofs.lemmas.Nat.{pow_pos}
 use Rattle.pci_spec.specs.Number.{lowest_one}
 use Rattle.pci_spec.specs.Bar.{bar_at, is_io, whole_bar}
+use Rattle.pci_spec.specs.Window.{WindowKind}
 use Rattle.pci_spec.specs.Rom.{rom_at}
 use Rattle.pci_spec.specs.System.{System, Function, IsSystem, is_bridge}
 use Rattle.pci_spec.specs.Bus.{secondary, is_root, LeadsTo, IsNested}
-use Rattle.pci_spec.specs.Plan.{Pools, Class, sizes_in, window_size, limited, items_on}
+use Rattle.pci_spec.specs.Plan.{Pools, sizes_in, window_size, limited, items_on}
 use Rattle.pci_spec.specs.Place.{Item, window_item, own_items, start_of, place_of}
 use Rattle.pci_spec.specs.Planning.Table.{need_behind}
 use Rattle.pci_spec.specs.Planning.Sorted.{all_items, group_of, item_group, IsInOrder}
@@ -28,7 +29,7 @@ use Rattle.pci_spec.proofs.Planning.Places.{above_zero, earlier_by_group}
 use Rattle.pci_spec.proofs.Planning.Sizes.{item_sizes, window_sizes, own_permutes}
 use Rattle.pci_spec.proofs.Planning.Greatest.{size_on_from}
 
-pub size_some : (s : System) (pools : Pools) (c : Class) (f : Function) (i : Item) → Contains (own_items s pools c f) i → 0 < i.size
+pub size_some : (s : System) (pools : Pools) (c : WindowKind) (f : Function) (i : Item) → Contains (own_items s pools c f) i → 0 < i.size
 size_some s pools c f i own = elim (own_cases s pools c f i own) [
   | of_bar bar ↦ subst (λ (j : Item). 0 < j.size) bar.is (pow_pos (lowest_one (if is_io (bar_at f.probe bar.n) then 2 else 4) (whole_bar f.probe f.probe bar.n)))
   | of_rom rom ↦ subst (λ (j : Item). 0 < j.size) rom.is (pow_pos (lowest_one 0 (rom_at f.image f.probe)))
@@ -38,7 +39,7 @@ size_some s pools c f i own = elim (own_cases s pools c f i own) [
 ]
 
 -- The bridge that leads to the bus of the k-th item: its window is before that item, and the bus starts there.
-pub record HasWindowBefore (roots : List ℕ) (s : System) (pools : Pools) (c : Class) (sorted : List Item) (k bus : ℕ) : Type 0 where
+pub record HasWindowBefore (roots : List ℕ) (s : System) (pools : Pools) (c : WindowKind) (sorted : List Item) (k bus : ℕ) : Type 0 where
   pub bridge : Function
   pub listed : Contains s bridge
   pub is : is_bridge bridge ≡ true
@@ -48,7 +49,7 @@ pub record HasWindowBefore (roots : List ℕ) (s : System) (pools : Pools) (c : 
   pub window : (d : Item) → get_or sorted j d ≡ window_item s pools c bridge
   pub starts_there : start_of roots s pools c bus ≡ place_of roots s pools c (window_item s pools c bridge)
 
-module _ (roots : List ℕ) (s : System) (pools : Pools) (c : Class) (system : IsSystem s) (nested : IsNested roots s) where
+module _ (roots : List ℕ) (s : System) (pools : Pools) (c : WindowKind) (system : IsSystem s) (nested : IsNested roots s) where
   -- an item makes need on its bus
   item_needed : (f : Function) (i : Item) → Contains s f → Contains (own_items s pools c f) i → 0 < sum (items_on s pools c f.slot.bus)
   item_needed f i listed own =

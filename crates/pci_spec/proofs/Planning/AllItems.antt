@@ -7,9 +7,9 @@ use Rattle.std.proofs.lemmas.List.{get_or-map, length-map}
 use Rattle.std.proofs.lemmas.List.Elements.{Contains-append_cases}
 use Rattle.pci_spec.specs.Slot.{slot_number}
 use Rattle.pci_spec.specs.Header.{layout, bar_count, bar_register, rom_register}
-use Rattle.pci_spec.specs.Window.{window_register}
+use Rattle.pci_spec.specs.Window.{WindowKind, IoWindow, MemoryWindow, PrefetchWindow, window_register}
 use Rattle.pci_spec.specs.System.{System, Function, IsSystem, Part, Bar, Rom, is_bridge, is_implemented, register_of}
-use Rattle.pci_spec.specs.Plan.{Pools, Class, IoClass, MemoryClass, PrefetchClass, class_of, same_class, has_behind, window_of}
+use Rattle.pci_spec.specs.Plan.{Pools, class_of, same_class, has_behind}
 use Rattle.pci_spec.specs.Place.{Item, part_item, window_item, items_among, own_items}
 use Rattle.pci_spec.specs.Planning.Sorted.{all_items, StandsBefore}
 use Rattle.pci_spec.proofs.Members.{in_nil, pairs_nil, pairs_cons, pairs_append, pairs_map, pairs_filter, pairs_range, pairs_flat_map}
@@ -24,24 +24,24 @@ bar_below_rom kind n less = elim (cases_Bool (kind == 1)) [
   | inr device ↦ (let a : bar_count kind ≡ 6 = ap (λ b. cond b 2 6) device in let r : rom_register kind ≡ 0x30 = ap (λ b. cond b 0x38 0x30) device in omega (arith, less, a, r))
 ]
 
-window_low : (c : Class) → 0x1c ≤ window_register (window_of c)
-window_low IoClass = omega arith
-window_low MemoryClass = omega arith
-window_low PrefetchClass = omega arith
+window_low : (c : WindowKind) → 0x1c ≤ window_register c
+window_low IoWindow = omega arith
+window_low MemoryWindow = omega arith
+window_low PrefetchWindow = omega arith
 
-window_high : (c : Class) → window_register (window_of c) ≤ 0x24
-window_high IoClass = omega arith
-window_high MemoryClass = omega arith
-window_high PrefetchClass = omega arith
+window_high : (c : WindowKind) → window_register c ≤ 0x24
+window_high IoWindow = omega arith
+window_high MemoryWindow = omega arith
+window_high PrefetchWindow = omega arith
 
 -- of a bridge: its BARs, then its windows, then its ROM
-bar_below_window : (c : Class) (kind n : ℕ) → kind ≡ 1 → n < bar_count kind → bar_register n < window_register (window_of c)
+bar_below_window : (c : WindowKind) (kind n : ℕ) → kind ≡ 1 → n < bar_count kind → bar_register n < window_register c
 bar_below_window c kind n bridge less =
     let a = ap bar_count bridge in
     let low = window_low c in
     omega (arith, less, a, low)
 
-window_below_rom : (c : Class) (kind : ℕ) → kind ≡ 1 → window_register (window_of c) < rom_register kind
+window_below_rom : (c : WindowKind) (kind : ℕ) → kind ≡ 1 → window_register c < rom_register kind
 window_below_rom c kind bridge =
     let a = ap rom_register bridge in
     let high = window_high c in
@@ -49,7 +49,7 @@ window_below_rom c kind bridge =
 
 -- ---- the items of a function
 
-module _ (s : System) (pools : Pools) (c : Class) (f : Function) where
+module _ (s : System) (pools : Pools) (c : WindowKind) (f : Function) where
   among_order : (parts : List Part) → AllPairs (λ p q. register_of f p < register_of f q) parts → AllPairs StandsBefore (items_among s pools c f parts)
   among_order parts rise =
       pairs_map StandsBefore (part_item f) (filter (λ part. same_class c (class_of s pools f part)) (filter (is_implemented f) parts))
@@ -107,7 +107,7 @@ slots_rise s system =
     pairs_unmap (λ x y. slot_number x < slot_number y) (λ (f : Function). f.slot) s
     (pairs_unmap (λ x y. x < y) slot_number (map (λ (f : Function). f.slot) s) (pairs_of_rising (map slot_number (map (λ (f : Function). f.slot) s)) system.rising))
 
-pub all_order : (s : System) (pools : Pools) (c : Class) → IsSystem s → AllPairs StandsBefore (all_items s pools c)
+pub all_order : (s : System) (pools : Pools) (c : WindowKind) → IsSystem s → AllPairs StandsBefore (all_items s pools c)
 all_order s pools c system =
     pairs_flat_map (λ (f g : Function). slot_number f.slot < slot_number g.slot) StandsBefore (own_items s pools c) s (slots_rise s system)
     (λ f listed. own_order s pools c f)

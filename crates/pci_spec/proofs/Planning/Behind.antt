@@ -4,6 +4,7 @@ use Rattle.std.specs.Bool.{nat_lt, nat_le, ◌==◌, if◌then◌else◌}
 use Rattle.std.specs.List.{Contains, list_any, list_all, filter, flat_map, sum, range_with_len}
 use Rattle.std.proofs.lemmas.Bool.{not-true, and_parts, and_from, cases_Bool, cases_lt, cases_eq, both_ways, ltb-true, lt-ltb, leb-true, le-leb, eqb-true, or_cases, le-ltb}
 use Rattle.pci_spec.specs.Slot.{slot_number}
+use Rattle.pci_spec.specs.Window.{WindowKind}
 use Rattle.pci_spec.specs.System.{System, Function, IsSystem, Part, Bar, Rom, Window, is_window, is_implemented, bars_and_rom, is_bridge}
 use Rattle.pci_spec.specs.Bus.{secondary, subordinate, is_behind, is_root, is_inside, IsNested}
 use Rattle.std.proofs.lemmas.Nat.{pow_pos}
@@ -11,7 +12,7 @@ use Rattle.pci_spec.specs.Number.{lowest_one}
 use Rattle.pci_spec.specs.Bar.{bar_at, is_io, whole_bar}
 use Rattle.pci_spec.specs.Rom.{rom_at}
 use Rattle.pci_spec.specs.Header.{primary_bus, layout, bar_count}
-use Rattle.pci_spec.specs.Plan.{Pools, Class, class_of, same_class, size_of, sizes_in, items_on, has_behind, window_size, limited}
+use Rattle.pci_spec.specs.Plan.{Pools, class_of, same_class, size_of, sizes_in, items_on, has_behind, window_size, limited}
 use Rattle.pci_spec.proofs.Members.{in_nil, in_cons_cases, in_head, in_tail, in_flat_map_to, IsInPiece, in_map_to, IsMade, in_filter_to}
 use Rattle.pci_spec.proofs.Nesting.{one_function}
 use Rattle.pci_spec.proofs.BusRanges.{root_means}
@@ -87,10 +88,10 @@ listed_plain f p listed =
       ]
     ]
 
-abbrev has_class : System → Pools → Class → Function → Bool
+abbrev has_class : System → Pools → WindowKind → Function → Bool
 has_class s pools c f = list_any (λ part. same_class c (class_of s pools f part)) (bars_and_rom f)
 
-module _ (roots : List ℕ) (s : System) (pools : Pools) (c : Class) (system : IsSystem s) (nested : IsNested roots s) where
+module _ (roots : List ℕ) (s : System) (pools : Pools) (c : WindowKind) (system : IsSystem s) (nested : IsNested roots s) where
   own_end : (b : Function) → Contains s b → is_bridge b ≡ true → secondary b ≤ subordinate b
   own_end b listed bridge =
       let all = nested.order b listed bridge in

@@ -6,10 +6,10 @@ use Rattle.std.proofs.lemmas.Bool.{cases_Bool, both_ways}
 use Rattle.pci_spec.specs.Number.{IsImage}
 use Rattle.pci_spec.specs.Slot.{Slot}
 use Rattle.pci_spec.specs.Bar.{bar_at, is_io, is_wide, is_prefetchable}
-use Rattle.pci_spec.specs.Window.{PrefetchWindow, has_window, is_wide_window}
+use Rattle.pci_spec.specs.Window.{IoWindow, MemoryWindow, PrefetchWindow, has_window, is_wide_window}
 use Rattle.pci_spec.specs.System.{System, Function, IsSystem, Part, Bar, Rom, Window, is_bridge}
 use Rattle.pci_spec.specs.Bus.{secondary, subordinate, is_behind}
-use Rattle.pci_spec.specs.Plan.{IsMoved, Pools, IoClass, MemoryClass, PrefetchClass, bridges_above, is_served, class_of}
+use Rattle.pci_spec.specs.Plan.{IsMoved, Pools, bridges_above, is_served, class_of}
 use Rattle.pci_spec.proofs.Planning.Moved.{bridge_same, secondary_same, subordinate_same}
 use Rattle.pci_spec.proofs.Planning.Kept.{images_of}
 
@@ -54,7 +54,7 @@ served_same s t system pairs pools f g m n =
 
 pub class_stays : (s t : System) → IsSystem s → AllZip IsMoved s t → (pools : Pools) (f g : Function) → IsMoved f g → (part : Part) → class_of t pools g part ≡ class_of s pools f part
 class_stays s t system pairs pools f g m (Bar n) =
-    ap (λ p. cond (is_io (bar_at p n)) IoClass (cond (is_prefetchable (bar_at p n) && is_served t pools g n) PrefetchClass MemoryClass)) m.probe
-    ∙ ap (λ x. cond (is_io (bar_at f.probe n)) IoClass (cond (is_prefetchable (bar_at f.probe n) && x) PrefetchClass MemoryClass)) (served_same s t system pairs pools f g m n)
+    ap (λ p. cond (is_io (bar_at p n)) IoWindow (cond (is_prefetchable (bar_at p n) && is_served t pools g n) PrefetchWindow MemoryWindow)) m.probe
+    ∙ ap (λ x. cond (is_io (bar_at f.probe n)) IoWindow (cond (is_prefetchable (bar_at f.probe n) && x) PrefetchWindow MemoryWindow)) (served_same s t system pairs pools f g m n)
 class_stays s t system pairs pools f g m Rom = refl
 class_stays s t system pairs pools f g m (Window kind) = refl

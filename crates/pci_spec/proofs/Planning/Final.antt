@@ -5,11 +5,11 @@ use Rattle.std.specs.List.{Contains, AllZip, range_with_len}
 use Rattle.std.proofs.lemmas.Bool.{both_ways}
 use Rattle.std.proofs.lemmas.List.Elements.{Contains-append_cases}
 use Rattle.pci_spec.specs.Header.{layout, bar_count}
-use Rattle.pci_spec.specs.Window.{WindowKind, IoWindow, MemoryWindow, PrefetchWindow, has_window, is_wide_window, bounds_at, is_closed}
+use Rattle.pci_spec.specs.Window.{WindowKind, has_window, is_wide_window, bounds_at, is_closed}
 use Rattle.pci_spec.specs.Decoded.{Range, has_bar, window_range}
 use Rattle.pci_spec.specs.System.{System, Function, Part, Bar, Rom, Window, is_bridge, is_implemented, bars_and_rom}
 use Rattle.pci_spec.specs.Sound.{IsSound}
-use Rattle.pci_spec.specs.Plan.{Pools, Class, IoClass, MemoryClass, PrefetchClass, class_of, window_class, window_of, has_behind, IsMoved, IsPlanned}
+use Rattle.pci_spec.specs.Plan.{Pools, class_of, has_behind, IsMoved, IsPlanned}
 use Rattle.pci_spec.specs.Place.{part_item, window_item, place_of, first_of, nibble_of, closed_bounds, range_from, IsPlaced}
 use Rattle.pci_spec.specs.Planning.Layout.{range_of, IsLaidOut}
 use Rattle.pci_spec.specs.Planning.Numbers.{place_at, IsPlannedFunction}
@@ -59,7 +59,7 @@ listed_bar f n listed =
       kept.1,
     )
 
-module _ (roots : List ℕ) (s t : System) (pools : Pools) (p : IsPlannable roots s pools) (tables : (c : Class) → IsTable roots s pools c (place_at roots s pools))
+module _ (roots : List ℕ) (s t : System) (pools : Pools) (p : IsPlannable roots s pools) (tables : (c : WindowKind) → IsTable roots s pools c (place_at roots s pools))
     (planned : AllZip (IsPlannedFunction roots s pools) s t) where
   pairs : AllZip IsMoved s t
   pairs = planned_pairs roots s t pools p tables planned
@@ -116,46 +116,32 @@ module _ (roots : List ℕ) (s t : System) (pools : Pools) (p : IsPlannable root
   open_range : (kind : WindowKind) (g : Function) (r : Range) → range_of g (Window kind) ≡ r → is_closed kind g.image ≡ false → window_range kind g.image ≡ Some r
   open_range kind g r shown opened = ap (λ b. if b then None else Some (range_of g (Window kind))) opened ∙ ap Some shown
 
-  window_opened : (g : Function) (kind : WindowKind) → Contains t g → is_bridge g ≡ true → has_window kind g.probe ≡ true → has_behind t pools (window_class kind) g ≡ true
-      → window_range kind g.image ≡ Some (range_from (place_of roots t pools (window_class kind) (window_item t pools (window_class kind) g)) (window_item t pools (window_class kind) g).size)
+  window_opened : (g : Function) (kind : WindowKind) → Contains t g → is_bridge g ≡ true → has_window kind g.probe ≡ true → has_behind t pools kind g ≡ true
+      → window_range kind g.image ≡ Some (range_from (place_of roots t pools kind (window_item t pools kind g)) (window_item t pools kind g).size)
   window_opened g kind in_g bridge there has =
       let o = old_bridge g in_g bridge in
       let f = o.f in
-      let c = window_class kind in
-      let was : has_behind s pools c f ≡ true = sym (has_behind_same s t p.system pairs pools c f g o.listed o.moved o.bridge) ∙ has in
+      let was : has_behind s pools kind f ≡ true = sym (has_behind_same s t p.system pairs pools kind f g o.listed o.moved o.bridge) ∙ has in
       let shown = opened_window roots s pools p tables f g o.listed o.filled o.bridge kind (ap (has_window kind) (sym o.moved.probe) ∙ there) was in
-      let same = window_same s t p.system pairs pools c f g o.listed o.moved o.bridge in
-      let place = place_same s t p.system pairs pools c roots (window_item s pools c f) (window_item t pools c g) same in
-      open_range kind g (range_from (place_at roots s pools f (Window kind)) (window_item s pools c f).size) shown.0 shown.1
-      ∙ ap (λ n. Some (range_from n (window_item s pools c f).size)) (sym place)
-      ∙ ap (λ n. Some (range_from (place_of roots t pools c (window_item t pools c g)) n)) (sym same.size)
+      let same = window_same s t p.system pairs pools kind f g o.listed o.moved o.bridge in
+      let place = place_same s t p.system pairs pools kind roots (window_item s pools kind f) (window_item t pools kind g) same in
+      open_range kind g (range_from (place_at roots s pools f (Window kind)) (window_item s pools kind f).size) shown.0 shown.1
+      ∙ ap (λ n. Some (range_from n (window_item s pools kind f).size)) (sym place)
+      ∙ ap (λ n. Some (range_from (place_of roots t pools kind (window_item t pools kind g)) n)) (sym same.size)
 
-  window_closed : (g : Function) (kind : WindowKind) → Contains t g → is_bridge g ≡ true → has_window kind g.probe ≡ true → has_behind t pools (window_class kind) g ≡ false
+  window_closed : (g : Function) (kind : WindowKind) → Contains t g → is_bridge g ≡ true → has_window kind g.probe ≡ true → has_behind t pools kind g ≡ false
       → bounds_at kind g.image ≡ closed_bounds kind (nibble_of kind g)
   window_closed g kind in_g bridge there none =
       let o = old_bridge g in_g bridge in
       let f = o.f in
-      let c = window_class kind in
-      let was : has_behind s pools c f ≡ false = sym (has_behind_same s t p.system pairs pools c f g o.listed o.moved o.bridge) ∙ none in
+      let was : has_behind s pools kind f ≡ false = sym (has_behind_same s t p.system pairs pools kind f g o.listed o.moved o.bridge) ∙ none in
       closed_window roots s pools p tables f g o.listed o.filled o.bridge kind (ap (has_window kind) (sym o.moved.probe) ∙ there) was
       ∙ ap (λ probe. closed_bounds kind (if is_wide_window kind probe then 1 else 0)) (sym o.moved.probe)
-
-  opened_by_class : (g : Function) (c : Class) → Contains t g → is_bridge g ≡ true → has_window (window_of c) g.probe ≡ true → has_behind t pools c g ≡ true
-      → window_range (window_of c) g.image ≡ Some (range_from (place_of roots t pools c (window_item t pools c g)) (window_item t pools c g).size)
-  opened_by_class g IoClass in_g bridge there has = window_opened g IoWindow in_g bridge there has
-  opened_by_class g MemoryClass in_g bridge there has = window_opened g MemoryWindow in_g bridge there has
-  opened_by_class g PrefetchClass in_g bridge there has = window_opened g PrefetchWindow in_g bridge there has
-
-  closed_by_class : (g : Function) (c : Class) → Contains t g → is_bridge g ≡ true → has_window (window_of c) g.probe ≡ true → has_behind t pools c g ≡ false
-      → bounds_at (window_of c) g.image ≡ closed_bounds (window_of c) (nibble_of (window_of c) g)
-  closed_by_class g IoClass in_g bridge there none = window_closed g IoWindow in_g bridge there none
-  closed_by_class g MemoryClass in_g bridge there none = window_closed g MemoryWindow in_g bridge there none
-  closed_by_class g PrefetchClass in_g bridge there none = window_closed g PrefetchWindow in_g bridge there none
 
   -- ---- the whole
 
   pub planned_is_placed : IsPlaced roots t pools
-  planned_is_placed = record { parts = parts_placed; opened = opened_by_class; closed = closed_by_class }
+  planned_is_placed = record { parts = parts_placed; opened = window_opened; closed = window_closed }
 
   pub planned_is_laid_out : IsLaidOut roots t pools
   planned_is_laid_out = laid_out_by_table roots s t pools p.system p.nested (place_at roots s pools) (all_shown roots s t pools p tables planned) tables

@@ -5,9 +5,10 @@ use Rattle.std.specs.List.{Contains, flat_map, fold}
 use Rattle.std.proofs.lemmas.Bool.{and_parts, and_from, eqb-true, eq-eqb}
 use Rattle.std.proofs.lemmas.List.Elements.{Contains-append_cases, Contains-append_left, Contains-append_right}
 use Rattle.std.proofs.lemmas.List.Sorted.{IsPermutation-sym, Contains-permutation}
+use Rattle.pci_spec.specs.Window.{WindowKind}
 use Rattle.pci_spec.specs.System.{System, Function, IsSystem, is_bridge}
 use Rattle.pci_spec.specs.Bus.{secondary, is_root, are_siblings, IsNested}
-use Rattle.pci_spec.specs.Plan.{Pools, Class, pool_of, sizes_in, window_size, limited, items_on, greatest, greatest_of_roots, raised_to}
+use Rattle.pci_spec.specs.Plan.{Pools, pool_of, sizes_in, window_size, limited, items_on, greatest, greatest_of_roots, raised_to}
 use Rattle.pci_spec.specs.Place.{Item, own_items, items_beside, start_of}
 use Rattle.pci_spec.specs.Planning.Room.{root_items}
 use Rattle.pci_spec.specs.Planning.Table.{need_behind}
@@ -48,7 +49,7 @@ greatest_same xs ys to from =
 -- ---- the sizes on a bus
 
 -- a size that a function has on its own bus
-pub record IsSizeOn (s : System) (pools : Pools) (c : Class) (bus n : ℕ) : Type 0 where
+pub record IsSizeOn (s : System) (pools : Pools) (c : WindowKind) (bus n : ℕ) : Type 0 where
   pub of : Function
   pub listed : Contains s of
   pub at : of.slot.bus ≡ bus
@@ -57,7 +58,7 @@ pub record IsSizeOn (s : System) (pools : Pools) (c : Class) (bus n : ℕ) : Typ
 in_cond_from : (b : Bool) (xs : List ℕ) (n : ℕ) → b ≡ true → Contains xs n → Contains (cond b xs []) n
 in_cond_from b xs n is listed = subst (λ t. Contains (cond t xs []) n) (sym is) listed
 
-module _ (roots : List ℕ) (s : System) (pools : Pools) (c : Class) (system : IsSystem s) (nested : IsNested roots s) where
+module _ (roots : List ℕ) (s : System) (pools : Pools) (c : WindowKind) (system : IsSystem s) (nested : IsNested roots s) where
   abbrev windows_over : ℕ → Function → List ℕ
   windows_over bus b = window_over c bus b (items_on s pools c (secondary b))
 

@@ -6,11 +6,12 @@ use Rattle.std.proofs.lemmas.Bool.{and_parts, and_from, cases_Bool, lt-ltb}
 use Rattle.std.proofs.lemmas.Nat.{pow_pos}
 use Rattle.pci_spec.specs.Number.{lowest_one}
 use Rattle.pci_spec.specs.Bar.{bar_at, is_io, whole_bar}
+use Rattle.pci_spec.specs.Window.{WindowKind}
 use Rattle.pci_spec.specs.Rom.{rom_at}
 use Rattle.pci_spec.specs.Decoded.{Range}
 use Rattle.pci_spec.specs.System.{System, Function, IsSystem, Part, Bar, Rom, Window, is_bridge}
 use Rattle.pci_spec.specs.Bus.{secondary, is_root, IsNested}
-use Rattle.pci_spec.specs.Plan.{Pools, Class, pool_of, same_class, window_class, items_on, window_of}
+use Rattle.pci_spec.specs.Plan.{Pools, pool_of, same_class, items_on}
 use Rattle.pci_spec.proofs.BusRanges.{root_means}
 use Rattle.pci_spec.specs.Planning.Room.{root_items}
 use Rattle.pci_spec.specs.Planning.Table.{need_behind, is_placed, size_in, IsTable}
@@ -26,22 +27,22 @@ pub record IsInPool (pool : Range) (first size : ℕ) : Type 0 where
   pub high : first + size ≤ pool.last + 1
   pub multiple : first % size ≡ 0
 
-module _ (roots : List ℕ) (s : System) (pools : Pools) (system : IsSystem s) (nested : IsNested roots s) (first : Function → Part → ℕ) (c : Class) (table : IsTable roots s pools c first) where
+module _ (roots : List ℕ) (s : System) (pools : Pools) (system : IsSystem s) (nested : IsNested roots s) (first : Function → Part → ℕ) (c : WindowKind) (table : IsTable roots s pools c first) where
   size_some : (f : Function) (p : Part) → Contains s f → is_placed s pools c f p ≡ true → 0 < size_in s pools c f p
   size_some f (Bar n) listed there = pow_pos (lowest_one (if is_io (bar_at f.probe n) then 2 else 4) (whole_bar f.probe f.probe n))
   size_some f Rom listed there = pow_pos (lowest_one 0 (rom_at f.image f.probe))
   size_some f (Window kind) listed there =
-      let outer = and_parts (is_bridge f && same_class c (window_class kind)) (nat_lt 0 (need_behind s pools c f)) there in
-      let inner = and_parts (is_bridge f) (same_class c (window_class kind)) outer.0 in
+      let outer = and_parts (is_bridge f && same_class c kind) (nat_lt 0 (need_behind s pools c f)) there in
+      let inner = and_parts (is_bridge f) (same_class c kind) outer.0 in
       power_pos (size_in s pools c f (Window kind)) (size_power s pools c f (Window kind) (table.small f listed inner.0))
 
   need_above : (f : Function) (p : Part) → Contains s f → is_placed s pools c f p ≡ true → (b : Function) → secondary b ≡ f.slot.bus → 0 < need_behind s pools c b
   need_above f p listed there b to = subst (λ bus. 0 < sum (items_on s pools c bus)) (sym to) (needed s pools c roots system nested f p listed there table.small)
 
-  pub window_placed : (b : Function) → is_bridge b ≡ true → 0 < need_behind s pools c b → is_placed s pools c b (Window (window_of c)) ≡ true
+  pub window_placed : (b : Function) → is_bridge b ≡ true → 0 < need_behind s pools c b → is_placed s pools c b (Window c) ≡ true
   window_placed b bridge need =
-      and_from (is_bridge b && same_class c (window_class (window_of c))) (nat_lt 0 (need_behind s pools c b))
-      (and_from (is_bridge b) (same_class c (window_class (window_of c))) bridge (class_itself c)) (lt-ltb 0 (need_behind s pools c b) need)
+      and_from (is_bridge b && same_class c c) (nat_lt 0 (need_behind s pools c b))
+      (and_from (is_bridge b) (same_class c c) bridge (class_itself c)) (lt-ltb 0 (need_behind s pools c b) need)
 
   on_root : (f : Function) (p : Part) → Contains s f → is_placed s pools c f p ≡ true → Contains roots f.slot.bus → IsInPool (pool_of pools c) (first f p) (size_in s pools c f p)
   on_root f p listed there root =
@@ -54,9 +55,9 @@ module _ (roots : List ℕ) (s : System) (pools : Pools) (system : IsSystem s) (
       record { some = size_some f p listed there; low = omega (arith, from, low); high = omega (arith, to, high); multiple = a.multiple }
 
   behind : (f : Function) (p : Part) → Contains s f → is_placed s pools c f p ≡ true → (b : Function) → Contains s b → is_bridge b ≡ true → secondary b ≡ f.slot.bus → (need : 0 < need_behind s pools c b)
-      → IsInPool (pool_of pools c) (first b (Window (window_of c))) (size_in s pools c b (Window (window_of c))) → IsInPool (pool_of pools c) (first f p) (size_in s pools c f p)
+      → IsInPool (pool_of pools c) (first b (Window c)) (size_in s pools c b (Window c)) → IsInPool (pool_of pools c) (first f p) (size_in s pools c f p)
   behind f p listed there b in_b bridge to need outer =
-      let a = is_at s pools c first (λ h. h.slot.bus ≡ secondary b) (need_behind s pools c b) (first b (Window (window_of c))) (table.behind_items b) (table.behind b in_b bridge need) f p listed (sym to) there in
+      let a = is_at s pools c first (λ h. h.slot.bus ≡ secondary b) (need_behind s pools c b) (first b (Window c)) (table.behind_items b) (table.behind b in_b bridge need) f p listed (sym to) there in
       let enough = (window_least c (need_behind s pools c b) (table.small b in_b bridge)).enough in
       let from = outer.low in
       let end = outer.high in
@@ -76,7 +77,7 @@ module _ (roots : List ℕ) (s : System) (pools : Pools) (system : IsSystem s) (
         let to = leads.2 in
         let rises = order_of roots s nested b leads.0 leads.1 in
         let need = need_above f p listed there b to in
-        behind f p listed there b leads.0 leads.1 to need (below n b (Window (window_of c)) (omega (arith, less, rises, to)) leads.0 (window_placed b leads.1 need))
+        behind f p listed there b leads.0 leads.1 to need (below n b (Window c) (omega (arith, less, rises, to)) leads.0 (window_placed b leads.1 need))
   ]
 
   pub in_pool : (f : Function) (p : Part) → Contains s f → is_placed s pools c f p ≡ true → IsInPool (pool_of pools c) (first f p) (size_in s pools c f p)

@@ -1,5 +1,5 @@
 -- A system in which everything has its place is single and home.
-use Rattle.std.proofs.Common.{◌≡◌, ℕ, zero, suc, ◌<◌, inl, inr, List, refl, Bool, true, false, ◌&&◌, ◌||◌, not, arith, sym, ◌∙◌, ap, subst}
+use Rattle.std.proofs.Common.{◌≡◌, ℕ, zero, suc, ◌<◌, inl, inr, List, refl, Bool, true, false, ◌&&◌, ◌||◌, not, arith, sym, ◌∙◌, ap}
 use Rattle.std.specs.Bool.{nat_le, nat_lt, if◌then◌else◌}
 use Rattle.std.specs.List.{All, Contains, list_any}
 use Rattle.std.proofs.lemmas.Bool.{not-true, not_from_false, and_parts, and_from, or_cases, cases_Bool, both_ways, ltb-true, leb-false}
@@ -12,11 +12,11 @@ use Rattle.pci_spec.specs.Decoded.{Range, InRange, has_bar, IsDecodable}
 use Rattle.pci_spec.specs.System.{System, Function, Space, Io, Memory, Part, Bar, Rom, Window, Claims, Decodes, has_part, is_bridge, is_window, is_prefetchable_part, is_space_on, space_of, window_space, window_claims, passes, bars_and_rom}
 use Rattle.pci_spec.specs.Bus.{LeadsTo, IsNested, is_root}
 use Rattle.pci_spec.specs.Sound.{IsSingle, IsHome}
-use Rattle.pci_spec.specs.Plan.{Pools, Class, IoClass, MemoryClass, PrefetchClass, pool_of, window_class, is_open, is_served, is_io_part, are_bad, class_of, window_of}
+use Rattle.pci_spec.specs.Plan.{Pools, pool_of, is_open, is_served, is_io_part, are_bad, class_of}
 use Rattle.pci_spec.proofs.Ranges.{decoded_bar-decodes, has_bar-of_decodes, rom_range-decodes, absent_rom}
 use Rattle.pci_spec.proofs.WindowLaws.{window_holds_its_pages, held, closed_window_holds_nothing}
 use Rattle.pci_spec.proofs.BusRanges.{root_means}
-use Rattle.pci_spec.specs.Planning.Layout.{range_of, is_item, class_space, IsInside, LieApart, IsLaidOut, IsSwitchedOn}
+use Rattle.pci_spec.specs.Planning.Layout.{range_of, is_item, IsInside, LieApart, IsLaidOut, IsSwitchedOn}
 use Rattle.pci_spec.specs.Planning.Ranges.{Ranges}
 use Rattle.pci_spec.specs.Planning.Safety.{IsSafe}
 use Rattle.pci_spec.proofs.Planning.Safe.{order_of}
@@ -83,25 +83,25 @@ place_of_claim f p space a is claim = place_of_decodes f p a is claim.there clai
 
 -- ---- classes and spaces
 
-bar_space : (io pref served : Bool) → (if io then Io else Memory) ≡ class_space (if io then IoClass else if pref && served then PrefetchClass else MemoryClass)
+bar_space : (io pref served : Bool) → (if io then Io else Memory) ≡ window_space (if io then IoWindow else if pref && served then PrefetchWindow else MemoryWindow)
 bar_space true pref served = refl
 bar_space false true true = refl
 bar_space false true false = refl
 bar_space false false served = refl
 
-space_by_class : (t : System) (pools : Pools) (f : Function) (p : Part) → space_of f p ≡ class_space (class_of t pools f p)
+space_by_class : (t : System) (pools : Pools) (f : Function) (p : Part) → space_of f p ≡ window_space (class_of t pools f p)
 space_by_class t pools f (Bar n) = bar_space (is_io (bar_at f.probe n)) (is_prefetchable (bar_at f.probe n)) (is_served t pools f n)
 space_by_class t pools f Rom = refl
 space_by_class t pools f (Window IoWindow) = refl
 space_by_class t pools f (Window MemoryWindow) = refl
 space_by_class t pools f (Window PrefetchWindow) = refl
 
-abbrev is_prefetch_class : Class → Bool
-is_prefetch_class IoClass = false
-is_prefetch_class MemoryClass = false
-is_prefetch_class PrefetchClass = true
+abbrev is_prefetch_class : WindowKind → Bool
+is_prefetch_class IoWindow = false
+is_prefetch_class MemoryWindow = false
+is_prefetch_class PrefetchWindow = true
 
-bar_prefetch : (io pref served : Bool) → is_prefetch_class (if io then IoClass else if pref && served then PrefetchClass else MemoryClass) ≡ true → pref ≡ true
+bar_prefetch : (io pref served : Bool) → is_prefetch_class (if io then IoWindow else if pref && served then PrefetchWindow else MemoryWindow) ≡ true → pref ≡ true
 bar_prefetch true pref served h = absurd (both_ways false refl h)
 bar_prefetch false true served h = refl
 bar_prefetch false false served h = absurd (both_ways false refl h)
@@ -110,16 +110,6 @@ prefetch_by_class : (t : System) (pools : Pools) (f : Function) (p : Part) → i
 prefetch_by_class t pools f (Bar n) plain h = bar_prefetch (is_io (bar_at f.probe n)) (is_prefetchable (bar_at f.probe n)) (is_served t pools f n) h
 prefetch_by_class t pools f Rom plain h = absurd (both_ways false refl h)
 prefetch_by_class t pools f (Window kind) plain h = absurd (both_ways true plain refl)
-
-pub class_of_window : (c : Class) → window_class (window_of c) ≡ c
-class_of_window IoClass = refl
-class_of_window MemoryClass = refl
-class_of_window PrefetchClass = refl
-
-space_of_window : (c : Class) → window_space (window_of c) ≡ class_space c
-space_of_window IoClass = refl
-space_of_window MemoryClass = refl
-space_of_window PrefetchClass = refl
 
 -- ---- what bridges pass
 
@@ -131,36 +121,36 @@ or_right : (x y : Bool) → y ≡ true → (x || y) ≡ true
 or_right true y e = refl
 or_right false y e = e
 
-passes_by : (c : Class) (space : Space) (prefetchable : Bool) (a : ℕ) (b : Function) → class_space c ≡ space → (is_prefetch_class c ≡ true → prefetchable ≡ true)
-    → window_claims b (window_of c) a ≡ true → passes space prefetchable a b ≡ true
-passes_by IoClass Io prefetchable a b e p h = h
-passes_by IoClass Memory prefetchable a b e p h = absurd (not_both e)
-passes_by MemoryClass Io prefetchable a b e p h = absurd (not_both (sym e))
-passes_by MemoryClass Memory prefetchable a b e p h = or_left (window_claims b MemoryWindow a) (prefetchable && window_claims b PrefetchWindow a) h
-passes_by PrefetchClass Io prefetchable a b e p h = absurd (not_both (sym e))
-passes_by PrefetchClass Memory prefetchable a b e p h =
+passes_by : (c : WindowKind) (space : Space) (prefetchable : Bool) (a : ℕ) (b : Function) → window_space c ≡ space → (is_prefetch_class c ≡ true → prefetchable ≡ true)
+    → window_claims b c a ≡ true → passes space prefetchable a b ≡ true
+passes_by IoWindow Io prefetchable a b e p h = h
+passes_by IoWindow Memory prefetchable a b e p h = absurd (not_both e)
+passes_by MemoryWindow Io prefetchable a b e p h = absurd (not_both (sym e))
+passes_by MemoryWindow Memory prefetchable a b e p h = or_left (window_claims b MemoryWindow a) (prefetchable && window_claims b PrefetchWindow a) h
+passes_by PrefetchWindow Io prefetchable a b e p h = absurd (not_both (sym e))
+passes_by PrefetchWindow Memory prefetchable a b e p h =
     or_right (window_claims b MemoryWindow a) (prefetchable && window_claims b PrefetchWindow a) (and_from prefetchable (window_claims b PrefetchWindow a) (p refl) h)
 
 record IsPassedBy (space : Space) (prefetchable : Bool) (a : ℕ) (b : Function) : Type 0 where
-  class : Class
-  same : class_space class ≡ space
+  class : WindowKind
+  same : window_space class ≡ space
   prefetch : is_prefetch_class class ≡ true → prefetchable ≡ true
-  claims : window_claims b (window_of class) a ≡ true
+  claims : window_claims b class a ≡ true
 
 passed_by : (space : Space) (prefetchable : Bool) (a : ℕ) (b : Function) → passes space prefetchable a b ≡ true → IsPassedBy space prefetchable a b
-passed_by Io prefetchable a b h = record { class = IoClass; same = refl; prefetch = λ e. absurd (both_ways false refl e); claims = h }
+passed_by Io prefetchable a b h = record { class = IoWindow; same = refl; prefetch = λ e. absurd (both_ways false refl e); claims = h }
 passed_by Memory prefetchable a b h = elim (or_cases (window_claims b MemoryWindow a) (prefetchable && window_claims b PrefetchWindow a) h) [
-  | inl m ↦ record { class = MemoryClass; same = refl; prefetch = λ e. absurd (both_ways false refl e); claims = m }
-  | inr p ↦ let parts = and_parts prefetchable (window_claims b PrefetchWindow a) p in record { class = PrefetchClass; same = refl; prefetch = λ e. parts.0; claims = parts.1 }
+  | inl m ↦ record { class = MemoryWindow; same = refl; prefetch = λ e. absurd (both_ways false refl e); claims = m }
+  | inr p ↦ let parts = and_parts prefetchable (window_claims b PrefetchWindow a) p in record { class = PrefetchWindow; same = refl; prefetch = λ e. parts.0; claims = parts.1 }
 ]
 
 -- an open window is of a function that is on
-on_by_open : (t : System) (b : Function) (c : Class) → IsSwitchedOn t → Contains t b → is_open b (window_of c) ≡ true → is_space_on b (window_space (window_of c)) ≡ true
-on_by_open t b IoClass on listed h = on.io b listed ∙ or_right (list_any (λ part. is_io_part b part) (bars_and_rom b)) (is_open b IoWindow) h
-on_by_open t b MemoryClass on listed h =
+on_by_open : (t : System) (b : Function) (c : WindowKind) → IsSwitchedOn t → Contains t b → is_open b c ≡ true → is_space_on b (window_space c) ≡ true
+on_by_open t b IoWindow on listed h = on.io b listed ∙ or_right (list_any (λ part. is_io_part b part) (bars_and_rom b)) (is_open b IoWindow) h
+on_by_open t b MemoryWindow on listed h =
     on.memory b listed ∙ or_left (list_any (λ part. not (is_io_part b part)) (bars_and_rom b) || is_open b MemoryWindow) (is_open b PrefetchWindow)
     (or_right (list_any (λ part. not (is_io_part b part)) (bars_and_rom b)) (is_open b MemoryWindow) h)
-on_by_open t b PrefetchClass on listed h =
+on_by_open t b PrefetchWindow on listed h =
     on.memory b listed ∙ or_right (list_any (λ part. not (is_io_part b part)) (bars_and_rom b) || is_open b MemoryWindow) (is_open b PrefetchWindow) h
 
 -- ---- the whole
@@ -182,8 +172,7 @@ module _ (roots : List ℕ) (t : System) (pools : Pools) (nested : IsNested root
         let rises = order_of roots t nested b leads.0 leads.1 in
         let c = class_of t pools f p in
         let through = laid.window f b p listed item leads in
-        let before = in_pool_below n b (Window (window_of c)) (omega (arith, less, rises, to)) leads.0 through.0 in
-        let outer : IsInside (range_of b (Window (window_of c))) (pool_of pools c) = subst (λ k. IsInside (range_of b (Window (window_of c))) (pool_of pools k)) (class_of_window c) before in
+        let outer = in_pool_below n b (Window c) (omega (arith, less, rises, to)) leads.0 through.0 in
         let low_in = through.1.0 in
         let low_out = outer.0 in
         let high_in = through.1.1 in
@@ -226,16 +215,16 @@ module _ (roots : List ℕ) (t : System) (pools : Pools) (nested : IsNested root
   flip r q (inr less) = inl less
 
   -- in the pools of two classes of one space, or of one class
-  by_classes : are_bad pools ≡ false → (c d : Class) (r q : Range) → class_space c ≡ class_space d → IsInside r (pool_of pools c) → IsInside q (pool_of pools d) → (c ≡ d → LieApart r q) → LieApart r q
-  by_classes good IoClass IoClass r q e in_c in_d same = same refl
-  by_classes good IoClass MemoryClass r q e in_c in_d same = absurd (not_both e)
-  by_classes good IoClass PrefetchClass r q e in_c in_d same = absurd (not_both e)
-  by_classes good MemoryClass IoClass r q e in_c in_d same = absurd (not_both (sym e))
-  by_classes good MemoryClass MemoryClass r q e in_c in_d same = same refl
-  by_classes good MemoryClass PrefetchClass r q e in_c in_d same = apart_by_pools r q pools.memory pools.prefetch in_c in_d (pools_apart good)
-  by_classes good PrefetchClass IoClass r q e in_c in_d same = absurd (not_both (sym e))
-  by_classes good PrefetchClass MemoryClass r q e in_c in_d same = apart_by_pools r q pools.prefetch pools.memory in_c in_d (flip pools.memory pools.prefetch (pools_apart good))
-  by_classes good PrefetchClass PrefetchClass r q e in_c in_d same = same refl
+  by_classes : are_bad pools ≡ false → (c d : WindowKind) (r q : Range) → window_space c ≡ window_space d → IsInside r (pool_of pools c) → IsInside q (pool_of pools d) → (c ≡ d → LieApart r q) → LieApart r q
+  by_classes good IoWindow IoWindow r q e in_c in_d same = same refl
+  by_classes good IoWindow MemoryWindow r q e in_c in_d same = absurd (not_both e)
+  by_classes good IoWindow PrefetchWindow r q e in_c in_d same = absurd (not_both e)
+  by_classes good MemoryWindow IoWindow r q e in_c in_d same = absurd (not_both (sym e))
+  by_classes good MemoryWindow MemoryWindow r q e in_c in_d same = same refl
+  by_classes good MemoryWindow PrefetchWindow r q e in_c in_d same = apart_by_pools r q pools.memory pools.prefetch in_c in_d (pools_apart good)
+  by_classes good PrefetchWindow IoWindow r q e in_c in_d same = absurd (not_both (sym e))
+  by_classes good PrefetchWindow MemoryWindow r q e in_c in_d same = apart_by_pools r q pools.prefetch pools.memory in_c in_d (flip pools.memory pools.prefetch (pools_apart good))
+  by_classes good PrefetchWindow PrefetchWindow r q e in_c in_d same = same refl
 
   abbrev ranges : Ranges
   ranges = record { first = λ f p space. (range_of f p).first; last = λ f p space. (range_of f p).last }
@@ -256,9 +245,9 @@ module _ (roots : List ℕ) (t : System) (pools : Pools) (nested : IsNested root
   module _ (on : IsSwitchedOn t) where
     -- what has a place is passed by the bridge that leads to it
     claims_above : (f c : Function) (p : Part) (a : ℕ) → Contains t f → is_item f p ≡ true → InRange (range_of f p) a → LeadsTo t c f.slot.bus
-        → window_claims c (window_of (class_of t pools f p)) a ≡ true
+        → window_claims c (class_of t pools f p) a ≡ true
     claims_above f c p a listed item inside leads =
-        let kind = window_of (class_of t pools f p) in
+        let kind = (class_of t pools f p) in
         let through = laid.window f c p listed item leads in
         let low = inside.0 in
         let high = inside.1 in
@@ -277,12 +266,11 @@ module _ (roots : List ℕ) (t : System) (pools : Pools) (nested : IsNested root
         (claims_above f c p a listed at.item at.range leads))
         (λ b c space prefetchable a listed bridge passed leads.
         let by = passed_by space prefetchable a b passed in
-        let kind = window_of by.class in
+        let kind = by.class in
         let held_there = (and_parts (is_space_on b (window_space kind)) (holds kind b.image b.probe a) by.claims).1 in
         let item = open_by_holds b kind a bridge held_there in
         let above = claims_above b c (Window kind) a listed item (range_of_held b kind a held_there) leads in
-        passes_by by.class space prefetchable a c by.same by.prefetch
-        (ap (λ k. window_claims c (window_of k) a) (sym (class_of_window by.class)) ∙ above))
+        passes_by kind space prefetchable a c by.same by.prefetch above)
 
     pub laid_safe : are_bad pools ≡ false → IsSafe roots t
     laid_safe good = record { single = laid_single good; home = laid_home }

@@ -7,9 +7,10 @@ use Rattle.std.proofs.lemmas.Nat.{pow_pos}
 use Rattle.std.proofs.lemmas.List.Sums.{get_or-le-sum_by}
 use Rattle.pci_spec.specs.Number.{lowest_one}
 use Rattle.pci_spec.specs.Header.{layout, bar_count}
+use Rattle.pci_spec.specs.Window.{WindowKind}
 use Rattle.pci_spec.specs.System.{System, Function, IsSystem, Part, Bar, Rom, Window, is_bridge, is_implemented, bars_and_rom}
 use Rattle.pci_spec.specs.Bus.{secondary, IsNested}
-use Rattle.pci_spec.specs.Plan.{Pools, Class, class_of, same_class, window_class, window_size, size_of, sizes_in, items_on, limited}
+use Rattle.pci_spec.specs.Plan.{Pools, class_of, same_class, window_size, size_of, sizes_in, items_on, limited}
 use Rattle.std.proofs.lemmas.List.Elements.{Contains-append_left, Contains-append_right}
 use Rattle.pci_spec.specs.Bar.{bar_at, is_io, whole_bar}
 use Rattle.pci_spec.specs.Rom.{rom_at}
@@ -24,7 +25,7 @@ use Rattle.pci_spec.proofs.Planning.Safe.{slots_of, order_of}
 pub contained_le_sum : (xs : List ℕ) (x : ℕ) → Contains xs x → x ≤ sum xs
 contained_le_sum xs x (k, less, is) = let h = get_or-le-sum_by (λ n. n) xs k x less in omega (arith, h, is)
 
-module _ (s : System) (pools : Pools) (c : Class) where
+module _ (s : System) (pools : Pools) (c : WindowKind) where
   in_sizes : (f : Function) (p : Part) → Contains (bars_and_rom f) p → same_class c (class_of s pools f p) ≡ true → Contains (sizes_in s pools c f) (size_of f p)
   in_sizes f p listed same =
       in_map_from (size_of f) (filter (λ part. same_class c (class_of s pools f part)) (bars_and_rom f)) p
@@ -84,8 +85,8 @@ module _ (s : System) (pools : Pools) (c : Class) where
         let parts = and_parts (is_item f Rom) _ placed in
         own_needed f Rom listed (rom_listed f parts.0) parts.1 (pow_pos (lowest_one 0 (rom_at f.image f.probe)))
     needed f (Window kind) listed placed small =
-        let outer = and_parts (is_bridge f && same_class c (window_class kind)) (nat_lt 0 (need_behind s pools c f)) placed in
-        let inner = and_parts (is_bridge f) (same_class c (window_class kind)) outer.0 in
+        let outer = and_parts (is_bridge f && same_class c kind) (nat_lt 0 (need_behind s pools c f)) placed in
+        let inner = and_parts (is_bridge f) (same_class c kind) outer.0 in
         window_needed f listed inner.0 (ltb-true 0 (need_behind s pools c f) outer.1)
 
   -- sizes are powers of two

@@ -5,22 +5,22 @@ use Rattle.std.specs.List.{Contains, list_any, list_all}
 use Rattle.std.proofs.lemmas.Bool.{not_from_false, and_parts, and_from, and_left, cases_Bool, both_ways, eqb-true, ne_eqb, lt-ltb}
 use Rattle.pci_spec.specs.Slot.{Slot}
 use Rattle.pci_spec.specs.Bar.{bar_at, is_io, is_wide, is_prefetchable}
-use Rattle.pci_spec.specs.Window.{WindowKind, IoWindow, PrefetchWindow, bounds_at, has_window, is_wide_window, is_zero, breaks_window_rule}
+use Rattle.pci_spec.specs.Window.{WindowKind, IoWindow, MemoryWindow, PrefetchWindow, bounds_at, has_window, is_wide_window, is_zero, breaks_window_rule}
 use Rattle.pci_spec.specs.System.{System, Function, IsSystem, Part, Bar, Rom, Window, is_bridge, bars_and_rom}
 use Rattle.pci_spec.specs.Bus.{is_behind, IsNested}
-use Rattle.pci_spec.specs.Plan.{Pools, Class, IoClass, MemoryClass, PrefetchClass, class_of, same_class, bridges_above, is_served, is_io_part, has_behind, LacksWindow, window_of}
+use Rattle.pci_spec.specs.Plan.{Pools, class_of, same_class, bridges_above, is_served, is_io_part, has_behind, LacksWindow}
 use Rattle.pci_spec.proofs.Members.{in_filter_from}
 use Rattle.pci_spec.proofs.Records.{memory_window_there}
 use Rattle.pci_spec.specs.Planning.Table.{need_behind}
 use Rattle.pci_spec.proofs.Planning.Behind.{Passes, any_gives, any_from, all_gives, behind_is_need, listed_plain}
 
-io_by_class : (io pref served : Bool) → same_class IoClass (if io then IoClass else if pref && served then PrefetchClass else MemoryClass) ≡ true → io ≡ true
+io_by_class : (io pref served : Bool) → same_class IoWindow (if io then IoWindow else if pref && served then PrefetchWindow else MemoryWindow) ≡ true → io ≡ true
 io_by_class true pref served h = refl
 io_by_class false true true h = absurd (both_ways false refl h)
 io_by_class false true false h = absurd (both_ways false refl h)
 io_by_class false false served h = absurd (both_ways false refl h)
 
-pub served_by_class : (io pref served : Bool) → same_class PrefetchClass (if io then IoClass else if pref && served then PrefetchClass else MemoryClass) ≡ true → served ≡ true
+pub served_by_class : (io pref served : Bool) → same_class PrefetchWindow (if io then IoWindow else if pref && served then PrefetchWindow else MemoryWindow) ≡ true → served ≡ true
 served_by_class true pref served h = absurd (both_ways false refl h)
 served_by_class false true true h = refl
 served_by_class false true false h = absurd (both_ways false refl h)
@@ -49,9 +49,9 @@ is_wide_served s pools f n b above served = elim (cases_Bool (nat_le pools.prefe
 ]
 
 module _ (roots : List ℕ) (s : System) (pools : Pools) (system : IsSystem s) (nested : IsNested roots s) (windows : (slot : Slot) → LacksWindow s slot → ⊥) where
-  by_part : (c : Class) (b f : Function) (part : Part) → Contains s f → Contains (bars_and_rom f) part → Contains (bridges_above s f.slot.bus) b → breaks_window_rule (window_of c) b.image b.probe ≡ false
-      → same_class c (class_of s pools f part) ≡ true → has_window (window_of c) b.probe ≡ true
-  by_part IoClass b f (Bar n) in_f listed above rule same = elim (cases_Bool (has_window IoWindow b.probe)) [
+  by_part : (c : WindowKind) (b f : Function) (part : Part) → Contains s f → Contains (bars_and_rom f) part → Contains (bridges_above s f.slot.bus) b → breaks_window_rule c b.image b.probe ≡ false
+      → same_class c (class_of s pools f part) ≡ true → has_window c b.probe ≡ true
+  by_part IoWindow b f (Bar n) in_f listed above rule same = elim (cases_Bool (has_window IoWindow b.probe)) [
     | inl there ↦ there
     | inr none ↦
         let io = io_by_class (is_io (bar_at f.probe n)) (is_prefetchable (bar_at f.probe n)) (is_served s pools f n) same in
@@ -63,16 +63,16 @@ module _ (roots : List ℕ) (s : System) (pools : Pools) (system : IsSystem s) (
           any_from (λ (d : Function). not (has_window IoWindow d.probe)) (bridges_above s f.slot.bus) b above (not_from_false (has_window IoWindow b.probe) none),
         ))
   ]
-  by_part IoClass b f Rom in_f listed above rule same = absurd (both_ways false refl same)
-  by_part IoClass b f (Window kind) in_f listed above rule same = absurd (both_ways true (listed_plain f (Window kind) listed) refl)
-  by_part MemoryClass b f part in_f listed above rule same = memory_window_there b.image b.probe rule
-  by_part PrefetchClass b f (Bar n) in_f listed above rule same =
+  by_part IoWindow b f Rom in_f listed above rule same = absurd (both_ways false refl same)
+  by_part IoWindow b f (Window kind) in_f listed above rule same = absurd (both_ways true (listed_plain f (Window kind) listed) refl)
+  by_part MemoryWindow b f part in_f listed above rule same = memory_window_there b.image b.probe rule
+  by_part PrefetchWindow b f (Bar n) in_f listed above rule same =
       is_wide_served s pools f n b above (served_by_class (is_io (bar_at f.probe n)) (is_prefetchable (bar_at f.probe n)) (is_served s pools f n) same)
-  by_part PrefetchClass b f Rom in_f listed above rule same = absurd (both_ways false refl same)
-  by_part PrefetchClass b f (Window kind) in_f listed above rule same = absurd (both_ways true (listed_plain f (Window kind) listed) refl)
+  by_part PrefetchWindow b f Rom in_f listed above rule same = absurd (both_ways false refl same)
+  by_part PrefetchWindow b f (Window kind) in_f listed above rule same = absurd (both_ways true (listed_plain f (Window kind) listed) refl)
 
-  pub needed_window : (c : Class) → ((b : Function) → Contains s b → is_bridge b ≡ true → need_behind s pools c b ≤ 2 ^ 65) → (b : Function) → Contains s b → is_bridge b ≡ true
-      → breaks_window_rule (window_of c) b.image b.probe ≡ false → 0 < need_behind s pools c b → has_window (window_of c) b.probe ≡ true
+  pub needed_window : (c : WindowKind) → ((b : Function) → Contains s b → is_bridge b ≡ true → need_behind s pools c b ≤ 2 ^ 65) → (b : Function) → Contains s b → is_bridge b ≡ true
+      → breaks_window_rule c b.image b.probe ≡ false → 0 < need_behind s pools c b → has_window c b.probe ≡ true
   needed_window c small b listed bridge rule need =
       let has : has_behind s pools c b ≡ true = behind_is_need roots s pools c system nested small b listed bridge ∙ lt-ltb 0 (need_behind s pools c b) need in
       let found : Passes (λ g. is_behind b g.slot.bus && list_any (λ part. same_class c (class_of s pools g part)) (bars_and_rom g)) s =

@@ -5,7 +5,7 @@ use Rattle.pci_spec.specs.Header.{layout, bar_count, bar_register, rom_register}
 use Rattle.pci_spec.specs.Window.{WindowKind, IoWindow, MemoryWindow, PrefetchWindow, Bounds}
 use Rattle.pci_spec.specs.System.{System, Function, Bar, Rom, Window, is_bridge}
 use Rattle.pci_spec.specs.Bus.{secondary}
-use Rattle.pci_spec.specs.Plan.{Pools, window_class, window_size, need_of, has_behind}
+use Rattle.pci_spec.specs.Plan.{Pools, window_size, need_of, has_behind}
 use Rattle.pci_spec.specs.Planning.Numbers.{place_at, bar_number, device_number, bridge_number, new_number}
 use Rattle.pci_spec.proofs.Planning.BarNumbers.{bar_by}
 use Rattle.pci_spec.proofs.Planning.RomFits.{rom_by}
@@ -16,7 +16,7 @@ module _ (roots : List ℕ) (s : System) (pools : Pools) (f : Function) where
   bar_place n = place_at roots s pools f (Bar n)
 
   abbrev pub bounds : WindowKind → Bounds
-  bounds kind = bounds_by f kind (has_behind s pools (window_class kind) f) (place_at roots s pools f (Window kind)) (window_size (window_class kind) (need_of s pools (window_class kind) (secondary f)))
+  bounds kind = bounds_by f kind (has_behind s pools kind f) (place_at roots s pools f (Window kind)) (window_size kind (need_of s pools kind (secondary f)))
 
   same_bar : (n : ℕ) → bar_number roots s pools f n ≡ bar_by f bar_place n
   same_bar zero = refl

@@ -12,7 +12,7 @@ use Rattle.pci_spec.specs.Window.{WindowKind, IoWindow, MemoryWindow, PrefetchWi
 use Rattle.pci_spec.specs.Decoded.{IsDecodable, bar_size, rom_size, has_bar}
 use Rattle.pci_spec.specs.System.{System, Function, IsFunction, Bar, Rom, Window, is_bridge}
 use Rattle.pci_spec.specs.Bus.{secondary}
-use Rattle.pci_spec.specs.Plan.{Pools, Class, window_class, window_size, need_of, has_behind}
+use Rattle.pci_spec.specs.Plan.{Pools, window_size, need_of, has_behind}
 use Rattle.pci_spec.specs.Place.{nibble_of}
 use Rattle.pci_spec.specs.Planning.Building.{AreFitting}
 use Rattle.pci_spec.specs.Planning.Numbers.{place_at, new_number, needs_io, needs_memory, new_command}
@@ -35,7 +35,7 @@ two_bytes a b low high = omega (arith, low, high)
 four_bytes : (a b : ℕ) → a < 2 ^ 16 → b < 2 ^ 16 → a + 2 ^ 16 * b < 256 ^ 4
 four_bytes a b low high = omega (arith, low, high)
 
-module _ (roots : List ℕ) (s : System) (pools : Pools) (p : IsPlannable roots s pools) (tables : (c : Class) → IsTable roots s pools c (place_at roots s pools)) (f : Function) (listed : Contains s f) where
+module _ (roots : List ℕ) (s : System) (pools : Pools) (p : IsPlannable roots s pools) (tables : (c : WindowKind) → IsTable roots s pools c (place_at roots s pools)) (f : Function) (listed : Contains s f) where
   pub is_function : IsFunction f
   is_function = All-contains IsFunction s f p.system.each listed
 
@@ -52,13 +52,13 @@ module _ (roots : List ℕ) (s : System) (pools : Pools) (p : IsPlannable roots 
   rom_room there = reach.rom_place roots s pools p (place_at roots s pools) tables f listed there
 
   -- no need is cut
-  pub need_same : (c : Class) → is_bridge f ≡ true → need_of s pools c (secondary f) ≡ need_behind s pools c f
+  pub need_same : (c : WindowKind) → is_bridge f ≡ true → need_of s pools c (secondary f) ≡ need_behind s pools c f
   need_same c bridge = let small = (tables c).small f listed bridge in omega (arith, small)
 
-  pub window_room : (kind : WindowKind) → is_bridge f ≡ true → has_behind s pools (window_class kind) f ≡ true
-      → IsWindowPlace kind (nibble_of kind f) (place_at roots s pools f (Window kind)) (window_size (window_class kind) (need_of s pools (window_class kind) (secondary f)))
+  pub window_room : (kind : WindowKind) → is_bridge f ≡ true → has_behind s pools kind f ≡ true
+      → IsWindowPlace kind (nibble_of kind f) (place_at roots s pools f (Window kind)) (window_size kind (need_of s pools kind (secondary f)))
   window_room kind bridge has =
-      subst (λ need. IsWindowPlace kind (nibble_of kind f) (place_at roots s pools f (Window kind)) (window_size (window_class kind) need)) (sym (need_same (window_class kind) bridge))
+      subst (λ need. IsWindowPlace kind (nibble_of kind f) (place_at roots s pools f (Window kind)) (window_size kind need)) (sym (need_same kind bridge))
       (window_place roots s pools p (place_at roots s pools) tables f kind listed bridge has)
 
   -- ---- register by register
@@ -93,8 +93,8 @@ module _ (roots : List ℕ) (s : System) (pools : Pools) (p : IsPlannable roots 
 
   pub parts_fit : is_bridge f ≡ true → (kind : WindowKind) → PartsFit f kind (bounds roots s pools f kind)
   parts_fit bridge kind =
-      window_fits f bridge is_function.image kind (has_behind s pools (window_class kind) f) (place_at roots s pools f (Window kind))
-      (window_size (window_class kind) (need_of s pools (window_class kind) (secondary f))) (is_decodable.windows kind (eqb-true (layout f.image) 1 bridge)) (window_room kind bridge)
+      window_fits f bridge is_function.image kind (has_behind s pools kind f) (place_at roots s pools f (Window kind))
+      (window_size kind (need_of s pools kind (secondary f))) (is_decodable.windows kind (eqb-true (layout f.image) 1 bridge)) (window_room kind bridge)
 
   io_fit : is_bridge f ≡ true → IsFit (0x1c, 2)
   io_fit bridge =

@@ -5,8 +5,9 @@ use Rattle.std.specs.List.{Contains, filter, range_with_len}
 use Rattle.std.proofs.lemmas.Bool.{and_parts, and_from}
 use Rattle.std.proofs.lemmas.List.Elements.{Contains-append_cases, Contains-append_left, Contains-append_right}
 use Rattle.pci_spec.specs.Header.{layout, bar_count}
+use Rattle.pci_spec.specs.Window.{WindowKind}
 use Rattle.pci_spec.specs.System.{System, Function, Part, Bar, Rom, is_bridge, is_implemented}
-use Rattle.pci_spec.specs.Plan.{Pools, Class, class_of, same_class, has_behind}
+use Rattle.pci_spec.specs.Plan.{Pools, class_of, same_class, has_behind}
 use Rattle.pci_spec.specs.Place.{Item, part_item, window_item, items_among, own_items}
 use Rattle.pci_spec.specs.Planning.Sorted.{all_items}
 use Rattle.pci_spec.proofs.Members.{IsMade, IsInPiece, in_nil, in_head, in_cons_cases, in_map_to, in_map_from, in_filter_to, in_filter_from, in_range_to, in_range_from, in_flat_map_to}
@@ -18,43 +19,43 @@ in_cond false xs y has = absurd (in_nil y has)
 pub in_cond_from : {X : Type 0} (b : Bool) (xs : List X) (y : X) → b ≡ true → Contains xs y → Contains (cond b xs []) y
 in_cond_from b xs y is listed = subst (λ t. Contains (cond t xs []) y) (sym is) listed
 
-abbrev pub window_items : System → Pools → Class → Function → List Item
+abbrev pub window_items : System → Pools → WindowKind → Function → List Item
 window_items s pools c f = if is_bridge f && has_behind s pools c f then window_item s pools c f ∷ [] else []
 
 abbrev pub bar_parts : Function → List Part
 bar_parts f = map Bar (range_with_len 0 (bar_count (layout f.image)))
 
 -- an item of one of some parts
-pub record IsAmong (s : System) (pools : Pools) (c : Class) (f : Function) (parts : List Part) (i : Item) : Type 0 where
+pub record IsAmong (s : System) (pools : Pools) (c : WindowKind) (f : Function) (parts : List Part) (i : Item) : Type 0 where
   pub part : Part
   pub listed : Contains parts part
   pub there : is_implemented f part ≡ true
   pub same : same_class c (class_of s pools f part) ≡ true
   pub is : part_item f part ≡ i
 
-pub record IsBarItem (s : System) (pools : Pools) (c : Class) (f : Function) (i : Item) : Type 0 where
+pub record IsBarItem (s : System) (pools : Pools) (c : WindowKind) (f : Function) (i : Item) : Type 0 where
   pub n : ℕ
   pub within : n < bar_count (layout f.image)
   pub there : is_implemented f (Bar n) ≡ true
   pub same : same_class c (class_of s pools f (Bar n)) ≡ true
   pub is : part_item f (Bar n) ≡ i
 
-pub record IsRomItem (s : System) (pools : Pools) (c : Class) (f : Function) (i : Item) : Type 0 where
+pub record IsRomItem (s : System) (pools : Pools) (c : WindowKind) (f : Function) (i : Item) : Type 0 where
   pub there : is_implemented f Rom ≡ true
   pub same : same_class c (class_of s pools f Rom) ≡ true
   pub is : part_item f Rom ≡ i
 
-pub record IsWindowItem (s : System) (pools : Pools) (c : Class) (f : Function) (i : Item) : Type 0 where
+pub record IsWindowItem (s : System) (pools : Pools) (c : WindowKind) (f : Function) (i : Item) : Type 0 where
   pub bridge : is_bridge f ≡ true
   pub behind : has_behind s pools c f ≡ true
   pub is : window_item s pools c f ≡ i
 
-pub data OwnCases (s : System) (pools : Pools) (c : Class) (f : Function) (i : Item) : Type 0 where
+pub data OwnCases (s : System) (pools : Pools) (c : WindowKind) (f : Function) (i : Item) : Type 0 where
   of_bar : IsBarItem s pools c f i → OwnCases s pools c f i
   of_window : IsWindowItem s pools c f i → OwnCases s pools c f i
   of_rom : IsRomItem s pools c f i → OwnCases s pools c f i
 
-module _ (s : System) (pools : Pools) (c : Class) (f : Function) where
+module _ (s : System) (pools : Pools) (c : WindowKind) (f : Function) where
   abbrev in_class : Part → Bool
   in_class part = same_class c (class_of s pools f part)
 
@@ -134,7 +135,7 @@ module _ (s : System) (pools : Pools) (c : Class) (f : Function) where
       (in_cond_from (is_bridge f && has_behind s pools c f) (window_item s pools c f ∷ []) (window_item s pools c f)
       (and_from (is_bridge f) (has_behind s pools c f) bridge behind) (in_head (window_item s pools c f) [])))
 
-pub item_function : (s : System) (pools : Pools) (c : Class) (i : Item) → Contains (all_items s pools c) i → Contains s i.function
+pub item_function : (s : System) (pools : Pools) (c : WindowKind) (i : Item) → Contains (all_items s pools c) i → Contains s i.function
 item_function s pools c i listed =
     let piece : IsInPiece (own_items s pools c) s i = in_flat_map_to (own_items s pools c) s i listed in
     subst (Contains s) (sym (own_function s pools c piece.of i piece.piece)) piece.has

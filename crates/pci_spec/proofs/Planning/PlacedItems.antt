@@ -13,7 +13,7 @@ use Rattle.pci_spec.specs.Decoded.{has_bar}
 use Rattle.pci_spec.specs.Window.{WindowKind, IoWindow, MemoryWindow, PrefetchWindow}
 use Rattle.pci_spec.specs.System.{System, Function, IsSystem, Part, Bar, Rom, Window, is_bridge}
 use Rattle.pci_spec.specs.Bus.{is_root, are_siblings, IsNested}
-use Rattle.pci_spec.specs.Plan.{Pools, Class, IoClass, MemoryClass, PrefetchClass, class_of, window_class, window_of, same_class, window_size, limited}
+use Rattle.pci_spec.specs.Plan.{Pools, class_of, same_class, window_size, limited}
 use Rattle.pci_spec.specs.Place.{Item, window_item, own_items, items_beside, place_from, start_of, place_of}
 use Rattle.pci_spec.specs.Planning.Placing.{IsPower, IsFalling, starts}
 use Rattle.pci_spec.specs.Planning.Layout.{is_item}
@@ -33,26 +33,16 @@ use Rattle.pci_spec.proofs.Planning.Insertion.{ordered, ordered_permutes, ordere
 
 -- ---- classes
 
-pub same_class_is : (c d : Class) → same_class c d ≡ true → d ≡ c
-same_class_is IoClass IoClass h = refl
-same_class_is IoClass MemoryClass h = absurd (both_ways false refl h)
-same_class_is IoClass PrefetchClass h = absurd (both_ways false refl h)
-same_class_is MemoryClass IoClass h = absurd (both_ways false refl h)
-same_class_is MemoryClass MemoryClass h = refl
-same_class_is MemoryClass PrefetchClass h = absurd (both_ways false refl h)
-same_class_is PrefetchClass IoClass h = absurd (both_ways false refl h)
-same_class_is PrefetchClass MemoryClass h = absurd (both_ways false refl h)
-same_class_is PrefetchClass PrefetchClass h = refl
-
-pub class_through : (c : Class) → window_class (window_of c) ≡ c
-class_through IoClass = refl
-class_through MemoryClass = refl
-class_through PrefetchClass = refl
-
-window_through : (kind : WindowKind) → window_of (window_class kind) ≡ kind
-window_through IoWindow = refl
-window_through MemoryWindow = refl
-window_through PrefetchWindow = refl
+pub same_class_is : (c d : WindowKind) → same_class c d ≡ true → d ≡ c
+same_class_is IoWindow IoWindow h = refl
+same_class_is IoWindow MemoryWindow h = absurd (both_ways false refl h)
+same_class_is IoWindow PrefetchWindow h = absurd (both_ways false refl h)
+same_class_is MemoryWindow IoWindow h = absurd (both_ways false refl h)
+same_class_is MemoryWindow MemoryWindow h = refl
+same_class_is MemoryWindow PrefetchWindow h = absurd (both_ways false refl h)
+same_class_is PrefetchWindow IoWindow h = absurd (both_ways false refl h)
+same_class_is PrefetchWindow MemoryWindow h = absurd (both_ways false refl h)
+same_class_is PrefetchWindow PrefetchWindow h = refl
 
 -- ---- one item
 
@@ -60,7 +50,7 @@ abbrev pub placed_part : Item → PlacedPart
 placed_part i = record { function = i.function; part = i.part }
 
 -- an item is that of its part, with the size that the part has in the class
-pub record IsOfPart (s : System) (pools : Pools) (c : Class) (i : Item) : Type 0 where
+pub record IsOfPart (s : System) (pools : Pools) (c : WindowKind) (i : Item) : Type 0 where
   pub class : class_of s pools i.function i.part ≡ c
   pub whole : item_of s pools i.function i.part ≡ i
   pub size : size_in s pools c i.function i.part ≡ i.size
@@ -70,9 +60,9 @@ pub record IsOfPart (s : System) (pools : Pools) (c : Class) (i : Item) : Type 0
 pub part_placed : (s : System) (pools : Pools) (f : Function) (p : Part) → placed_part (item_of s pools f p) ≡ record { function = f; part = p }
 part_placed s pools f (Bar n) = refl
 part_placed s pools f Rom = refl
-part_placed s pools f (Window kind) = ap (λ k. placed_part (record { function = f; part = Window k; size = 0 })) (window_through kind)
+part_placed s pools f (Window kind) = refl
 
-module _ (roots : List ℕ) (s : System) (pools : Pools) (c : Class) (system : IsSystem s) (nested : IsNested roots s)
+module _ (roots : List ℕ) (s : System) (pools : Pools) (c : WindowKind) (system : IsSystem s) (nested : IsNested roots s)
     (small : (b : Function) → Contains s b → is_bridge b ≡ true → need_behind s pools c b ≤ 2 ^ 65) where
   -- an item of a function is that of one of its parts that are to be placed
   pub own_part : (f : Function) (i : Item) → Contains s f → Contains (own_items s pools c f) i → IsOfPart s pools c i
@@ -91,10 +81,10 @@ module _ (roots : List ℕ) (s : System) (pools : Pools) (c : Class) (system : I
         let low = small f listed window.bridge in
         let whole : n ≡ limited n = omega (arith, low) in
         subst (IsOfPart s pools c) window.is record {
-          class = class_through c;
-          whole = ap (λ d. window_item s pools d f) (class_through c);
+          class = refl;
+          whole = refl;
           size = ap (window_size c) whole;
-          placed = and_from (is_bridge f && same_class c (window_class (window_of c))) (nat_lt 0 n) (and_from (is_bridge f) (same_class c (window_class (window_of c))) window.bridge (class_itself c))
+          placed = and_from (is_bridge f && same_class c c) (nat_lt 0 n) (and_from (is_bridge f) (same_class c c) window.bridge (class_itself c))
               (sym (behind_by_test roots s pools c system nested f listed window.bridge) ∙ window.behind);
           power = (window_least c (limited n) (omega arith)).power;
         }
@@ -110,9 +100,9 @@ module _ (roots : List ℕ) (s : System) (pools : Pools) (c : Class) (system : I
       let parts = and_parts (is_item f Rom) (same_class c (class_of s pools f Rom)) placed in
       rom_owned s pools c f parts.0 parts.1
   part_owned f (Window kind) listed placed =
-      let outer = and_parts (is_bridge f && same_class c (window_class kind)) (nat_lt 0 (need_behind s pools c f)) placed in
-      let inner = and_parts (is_bridge f) (same_class c (window_class kind)) outer.0 in
-      subst (λ d. Contains (own_items s pools c f) (window_item s pools d f)) (sym (same_class_is c (window_class kind) inner.1))
+      let outer = and_parts (is_bridge f && same_class c kind) (nat_lt 0 (need_behind s pools c f)) placed in
+      let inner = and_parts (is_bridge f) (same_class c kind) outer.0 in
+      subst (λ d. Contains (own_items s pools c f) (window_item s pools d f)) (sym (same_class_is c kind inner.1))
       (window_owned s pools c f inner.0 (behind_by_test roots s pools c system nested f listed inner.0 ∙ outer.1))
 
   -- ---- one bus

@@ -6,8 +6,9 @@ use Rattle.std.proofs.lemmas.Bool.{cases_lt, le-leb, lt-leb}
 use Rattle.std.proofs.lemmas.Nat.{pow-add, pow_pos, pow_below, div-add-mod', mod_below}
 use Rattle.std.proofs.Math.Nat.{mul-mod_left, mul_assoc, pow-succ', pow-le-pow_right, mul-le-mul_right}
 use Rattle.std.proofs.lemmas.List.Sums.{sum_by-cons, get_or-le-sum_by}
+use Rattle.pci_spec.specs.Window.{WindowKind, IoWindow, MemoryWindow, PrefetchWindow, page_size}
 use Rattle.pci_spec.specs.Planning.Placing.{IsPower, IsFalling, starts, IsPlacedFrom, IsLeastPower, IsHeld}
-use Rattle.pci_spec.specs.Plan.{Class, IoClass, MemoryClass, PrefetchClass, step_of, doubled_to, window_size}
+use Rattle.pci_spec.specs.Plan.{doubled_to, window_size}
 
 -- ---- multiples
 
@@ -232,20 +233,20 @@ held step need window base sizes power size falling fits aligned =
     }
 
 -- of the planner's definition
-pub step_power : (c : Class) → IsPower (step_of c)
-step_power IoClass = (12, refl)
-step_power MemoryClass = (20, refl)
-step_power PrefetchClass = (20, refl)
+pub step_power : (c : WindowKind) → IsPower (page_size c)
+step_power IoWindow = (12, refl)
+step_power MemoryWindow = (20, refl)
+step_power PrefetchWindow = (20, refl)
 
-enough_times : (c : Class) (need : ℕ) → need ≤ 2 ^ 65 → need ≤ step_of c * 2 ^ 66
-enough_times IoClass need h = omega (arith, h)
-enough_times MemoryClass need h = omega (arith, h)
-enough_times PrefetchClass need h = omega (arith, h)
+enough_times : (c : WindowKind) (need : ℕ) → need ≤ 2 ^ 65 → need ≤ page_size c * 2 ^ 66
+enough_times IoWindow need h = omega (arith, h)
+enough_times MemoryWindow need h = omega (arith, h)
+enough_times PrefetchWindow need h = omega (arith, h)
 
-pub window_least : (c : Class) (need : ℕ) → need ≤ 2 ^ 65 → IsLeastPower need (step_of c) (window_size c need)
-window_least c need h = doubled need 66 (step_of c) (step_power c) (enough_times c need h)
+pub window_least : (c : WindowKind) (need : ℕ) → need ≤ 2 ^ 65 → IsLeastPower need (page_size c) (window_size c need)
+window_least c need h = doubled need 66 (page_size c) (step_power c) (enough_times c need h)
 
-pub window_holds : (c : Class) (base : ℕ) (sizes : List ℕ) → IsFalling sizes → sum sizes ≤ 2 ^ 65 → base % window_size c (sum sizes) ≡ 0
-    → IsHeld (step_of c) (window_size c (sum sizes)) base sizes (starts base sizes)
+pub window_holds : (c : WindowKind) (base : ℕ) (sizes : List ℕ) → IsFalling sizes → sum sizes ≤ 2 ^ 65 → base % window_size c (sum sizes) ≡ 0
+    → IsHeld (page_size c) (window_size c (sum sizes)) base sizes (starts base sizes)
 window_holds c base sizes falling limited aligned =
-    held (step_of c) (sum sizes) (window_size c (sum sizes)) base sizes (step_power c) (window_least c (sum sizes) limited) falling (omega arith) aligned
+    held (page_size c) (sum sizes) (window_size c (sum sizes)) base sizes (step_power c) (window_least c (sum sizes) limited) falling (omega arith) aligned

@@ -8,9 +8,10 @@ use Rattle.std.proofs.lemmas.List.{get_or_default}
 use Rattle.std.proofs.lemmas.List.Elements.{filter_agree, filter-append, Contains-get_or}
 use Rattle.std.proofs.lemmas.List.Sums.{sum_by-cons, sum_by_more, sum-map}
 use Rattle.std.proofs.lemmas.List.Sorted.{sum_by-IsPermutation, IsPermutation-sym, Contains-permutation}
+use Rattle.pci_spec.specs.Window.{WindowKind}
 use Rattle.pci_spec.specs.System.{System, Function}
 use Rattle.pci_spec.specs.Bus.{is_root, are_siblings, IsNested}
-use Rattle.pci_spec.specs.Plan.{Pools, Class, pool_of, greatest, raised_to}
+use Rattle.pci_spec.specs.Plan.{Pools, pool_of, greatest, raised_to}
 use Rattle.pci_spec.specs.Place.{Item, own_items, items_beside, comes_before, place_from, start_of, place_of}
 use Rattle.pci_spec.specs.Planning.Sorted.{all_items, group_of, item_group, Precedes, IsInOrder, group_sum}
 use Rattle.pci_spec.proofs.Members.{in_head, in_tail}
@@ -46,7 +47,7 @@ filter_pieces test p f (x ∷ xs) same =
     ∙ ap (λ ys. filter p (f x) ++ ys) (filter_pieces test p f xs same)
     ∙ sym (filter-append p (f x) (flat_map f xs))
 
-pub beside_filter : (roots : List ℕ) (s : System) (pools : Pools) (c : Class) (bus : ℕ)
+pub beside_filter : (roots : List ℕ) (s : System) (pools : Pools) (c : WindowKind) (bus : ℕ)
     → items_beside roots s pools c bus ≡ filter (λ i. are_siblings roots bus i.function.slot.bus) (all_items s pools c)
 beside_filter roots s pools c bus =
     filter_pieces (λ f. are_siblings roots bus f.slot.bus) (λ i. are_siblings roots bus i.function.slot.bus) (own_items s pools c) s
@@ -82,18 +83,18 @@ root_test a b false root_b same root = absurd (both_ways false refl root)
 pub beside_root : (roots : List ℕ) (bus other : ℕ) → is_root roots bus ≡ true → are_siblings roots bus other ≡ is_root roots other
 beside_root roots bus other root = root_test bus other (is_root roots bus) (is_root roots other) (λ e. ap (is_root roots) e) root
 
-pub items_on_roots : (roots : List ℕ) (s : System) (pools : Pools) (c : Class) (bus : ℕ) → is_root roots bus ≡ true
+pub items_on_roots : (roots : List ℕ) (s : System) (pools : Pools) (c : WindowKind) (bus : ℕ) → is_root roots bus ≡ true
     → items_beside roots s pools c bus ≡ filter (λ i. is_root roots i.function.slot.bus) (all_items s pools c)
 items_on_roots roots s pools c bus root =
     beside_filter roots s pools c bus
     ∙ filter_agree (λ i. are_siblings roots bus i.function.slot.bus) (λ i. is_root roots i.function.slot.bus) (λ i. beside_root roots bus i.function.slot.bus root) (all_items s pools c)
 
 -- all roots start at one place, and have the same items
-pub same_on_roots : (roots : List ℕ) (s : System) (pools : Pools) (c : Class) (a b : ℕ) → is_root roots a ≡ true → is_root roots b ≡ true
+pub same_on_roots : (roots : List ℕ) (s : System) (pools : Pools) (c : WindowKind) (a b : ℕ) → is_root roots a ≡ true → is_root roots b ≡ true
     → items_beside roots s pools c a ≡ items_beside roots s pools c b
 same_on_roots roots s pools c a b root_a root_b = items_on_roots roots s pools c a root_a ∙ sym (items_on_roots roots s pools c b root_b)
 
-pub same_start : (roots : List ℕ) (s : System) (pools : Pools) (c : Class) (a b : ℕ) → is_root roots a ≡ true → is_root roots b ≡ true
+pub same_start : (roots : List ℕ) (s : System) (pools : Pools) (c : WindowKind) (a b : ℕ) → is_root roots a ≡ true → is_root roots b ≡ true
     → start_of roots s pools c a ≡ start_of roots s pools c b
 same_start roots s pools c a b root_a root_b =
     start_of_root roots s pools c a root_a
@@ -139,7 +140,7 @@ module _ (roots : List ℕ) (s : System) (nested : IsNested roots s) where
 
   -- ---- places by all items in order
 
-  module _ (pools : Pools) (c : Class) (sorted : List Item) (same : IsPermutation (all_items s pools c) sorted) (ordered : IsInOrder roots sorted) where
+  module _ (pools : Pools) (c : WindowKind) (sorted : List Item) (same : IsPermutation (all_items s pools c) sorted) (ordered : IsInOrder roots sorted) where
     pub sorted_function : (k : ℕ) (d : Item) → k < length sorted → Contains s (get_or sorted k d).function
     sorted_function k d l =
         item_function s pools c (get_or sorted k d)

@@ -7,9 +7,10 @@ use Rattle.std.proofs.lemmas.Bool.{cases_Bool, cases_lt, and_from, or_left, eq-e
 use Rattle.std.proofs.lemmas.List.{get_or-map, length-map}
 use Rattle.std.proofs.lemmas.List.Elements.{Contains-get_or}
 use Rattle.std.proofs.lemmas.List.Sorted.{IsPermutation-sym, IsPermutation-map, Contains-permutation}
+use Rattle.pci_spec.specs.Window.{WindowKind}
 use Rattle.pci_spec.specs.System.{System, Function, IsSystem, Part, Window, is_bridge}
 use Rattle.pci_spec.specs.Bus.{secondary, is_root, are_siblings, IsNested}
-use Rattle.pci_spec.specs.Plan.{Pools, Class, same_class, pool_of, window_of, window_class, limited, fits, greatest, raised_to}
+use Rattle.pci_spec.specs.Plan.{Pools, same_class, pool_of, limited, fits, greatest, raised_to}
 use Rattle.pci_spec.specs.Place.{Item, window_item, items_beside, start_of, place_of}
 use Rattle.pci_spec.specs.Planning.Placing.{IsFalling, starts}
 use Rattle.pci_spec.specs.Planning.Room.{root_items}
@@ -28,7 +29,7 @@ use Rattle.pci_spec.proofs.Planning.Sizes.{item_sizes, sum_on_bus, sum_on_roots}
 use Rattle.pci_spec.proofs.Planning.Greatest.{greatest_same, start_by_greatest}
 use Rattle.pci_spec.proofs.Planning.Places.{beside_root}
 use Rattle.pci_spec.proofs.Planning.Insertion.{ordered_permutes}
-use Rattle.pci_spec.proofs.Planning.PlacedItems.{class_through, placed_part, part_placed, sorted_on, sorted_to, sorted_from, place_in_order, sorted_falling, sorted_sum}
+use Rattle.pci_spec.proofs.Planning.PlacedItems.{placed_part, part_placed, sorted_on, sorted_to, sorted_from, place_in_order, sorted_falling, sorted_sum}
 
 map_same : {X Y Z : Type 0} (f : X → Y) (g : Y → Z) (h : X → Z) (xs : List X) → ((x : X) → Contains xs x → g (f x) ≡ h x) → map g (map f xs) ≡ map h xs
 map_same f g h [] same = refl
@@ -37,7 +38,7 @@ map_same f g h (x ∷ xs) same =
     ∙ ap (λ zs. h x ∷ zs) (map_same f g h xs (λ y listed. same y (in_tail x xs y listed)))
 
 -- no need is cut where the class fits
-pub small_needs : (roots : List ℕ) (s : System) (pools : Pools) (c : Class) → IsSystem s → IsNested roots s → fits roots s pools c ≡ true → (pool_of pools c).last < 2 ^ 64
+pub small_needs : (roots : List ℕ) (s : System) (pools : Pools) (c : WindowKind) → IsSystem s → IsNested roots s → fits roots s pools c ≡ true → (pool_of pools c).last < 2 ^ 64
     → (b : Function) → Contains s b → is_bridge b ≡ true → need_behind s pools c b ≤ 2 ^ 65
 small_needs roots s pools c system nested fit low b listed bridge =
     let chain = need_le roots s pools c system nested (suc b.slot.bus) b (omega arith) listed bridge in
@@ -46,7 +47,7 @@ small_needs roots s pools c system nested fit low b listed bridge =
       | inr none ↦ omega (arith, chain, none)
     ]
 
-module _ (roots : List ℕ) (s : System) (pools : Pools) (c : Class) (system : IsSystem s) (nested : IsNested roots s)
+module _ (roots : List ℕ) (s : System) (pools : Pools) (c : WindowKind) (system : IsSystem s) (nested : IsNested roots s)
     (small : (b : Function) → Contains s b → is_bridge b ≡ true → need_behind s pools c b ≤ 2 ^ 65) where
   abbrev sorted : ℕ → List Item
   sorted bus = sorted_on roots s pools c system nested small bus
@@ -144,11 +145,11 @@ module _ (roots : List ℕ) (s : System) (pools : Pools) (c : Class) (system : I
       let i = window_item s pools c b in
       let least = window_least c (limited n) (omega arith) in
       let enough = least.enough in
-      let there : is_placed s pools c b (Window (window_of c)) ≡ true =
-      and_from (is_bridge b && same_class c (window_class (window_of c))) (nat_lt 0 n) (and_from (is_bridge b) (same_class c (window_class (window_of c))) bridge (class_itself c)) (lt-ltb 0 n need) in
+      let there : is_placed s pools c b (Window c) ≡ true =
+      and_from (is_bridge b && same_class c c) (nat_lt 0 n) (and_from (is_bridge b) (same_class c c) bridge (class_itself c)) (lt-ltb 0 n need) in
       let beside : are_siblings roots b.slot.bus b.slot.bus ≡ true = or_left (b.slot.bus == b.slot.bus) (is_root roots b.slot.bus && is_root roots b.slot.bus) (eq-eqb b.slot.bus b.slot.bus refl) in
       let found : Contains (sorted b.slot.bus) i =
-      subst (λ d. Contains (sorted b.slot.bus) (window_item s pools d b)) (class_through c) (sorted_from roots s pools c system nested small b.slot.bus b (Window (window_of c)) listed beside there) in
+      sorted_from roots s pools c system nested small b.slot.bus b (Window c) listed beside there in
       let k = found.0 in
       let l = found.1 in
       let count = length-map (sorted b.slot.bus) (λ (j : Item). j.size) in
@@ -180,11 +181,11 @@ module _ (roots : List ℕ) (s : System) (pools : Pools) (c : Class) (system : I
   -- ---- all buses
 
   placed_behind : (b : Function) → Contains s b → is_bridge b ≡ true
-      → IsPlacedOn s pools c (place_at roots s pools) (λ f. f.slot.bus ≡ secondary b) (need_behind s pools c b) (place_at roots s pools b (Window (window_of c))) (parts (secondary b))
+      → IsPlacedOn s pools c (place_at roots s pools) (λ f. f.slot.bus ≡ secondary b) (need_behind s pools c b) (place_at roots s pools b (Window c)) (parts (secondary b))
   placed_behind b listed bridge =
-      placed_on (secondary b) (λ f. f.slot.bus ≡ secondary b) (need_behind s pools c b) (place_at roots s pools b (Window (window_of c)))
+      placed_on (secondary b) (λ f. f.slot.bus ≡ secondary b) (need_behind s pools c b) (place_at roots s pools b (Window c))
       (λ f in_f at. or_left (secondary b == f.slot.bus) (is_root roots (secondary b) && is_root roots f.slot.bus) (eq-eqb (secondary b) f.slot.bus (sym at)))
-      (start_of_window roots s pools c nested system b listed bridge ∙ sym (ap (λ d. place_of roots s pools d (window_item s pools d b)) (class_through c)))
+      (start_of_window roots s pools c nested system b listed bridge)
       (sum_on_bus s pools c roots system nested (secondary b) (off_root b listed bridge))
       (all_aligned (suc b.slot.bus) b (omega arith) listed bridge)
 
@@ -215,7 +216,7 @@ module _ (roots : List ℕ) (s : System) (pools : Pools) (c : Class) (system : I
       (parts bus, placed_on_root bus ((root_means roots bus).1 (subst (λ xs. Contains xs bus) (sym is) (in_head bus some))) rising)
 
 -- The places of a class that fits are what placing largest first shows.
-pub places_are_placing : (roots : List ℕ) (s : System) (pools : Pools) (c : Class) → IsSystem s → IsNested roots s → IsStrictlyIncreasing roots
+pub places_are_placing : (roots : List ℕ) (s : System) (pools : Pools) (c : WindowKind) → IsSystem s → IsNested roots s → IsStrictlyIncreasing roots
     → fits roots s pools c ≡ true → (pool_of pools c).last < 2 ^ 64 → IsPlacing roots s pools c (place_at roots s pools)
 places_are_placing roots s pools c system nested rising fit low =
     let small = small_needs roots s pools c system nested fit low in
@@ -228,7 +229,7 @@ places_are_placing roots s pools c system nested rising fit low =
     }
 
 -- and so they are a table
-pub table_of_places : (roots : List ℕ) (s : System) (pools : Pools) (c : Class) → IsSystem s → IsNested roots s → IsStrictlyIncreasing roots
+pub table_of_places : (roots : List ℕ) (s : System) (pools : Pools) (c : WindowKind) → IsSystem s → IsNested roots s → IsStrictlyIncreasing roots
     → fits roots s pools c ≡ true → (pool_of pools c).last < 2 ^ 64 → IsTable roots s pools c (place_at roots s pools)
 table_of_places roots s pools c system nested rising fit low =
     table_by_fit roots s pools c system nested (place_at roots s pools) fit low (places_are_placing roots s pools c system nested rising fit low)

@@ -2,17 +2,17 @@
 use Rattle.std.proofs.Common.{◌≡◌, ℕ, suc, ◌<◌, List, [], ◌∷◌, ◌++◌, refl, Bool, true, false, cond, ◌&&◌, ◌||◌, not, arith, sym, ◌∙◌, ap, subst, map}
 use Rattle.std.specs.Bool.{nat_lt, ◌==◌}
 use Rattle.std.specs.List.{All, AllZip, Contains, list_any, filter, range_with_len}
-use Rattle.std.proofs.lemmas.Bool.{and_parts, and_from, both_ways}
+use Rattle.std.proofs.lemmas.Bool.{and_parts, and_from}
 use Rattle.std.proofs.lemmas.List.Elements.{All-contains, All-contains_itself, All-weaker}
 use Rattle.pci_spec.specs.Number.{IsImage}
 use Rattle.pci_spec.specs.Header.{layout, bar_count}
 use Rattle.pci_spec.specs.Slot.{Slot}
-use Rattle.pci_spec.specs.Window.{WindowKind, IoWindow, MemoryWindow, PrefetchWindow, has_window}
-use Rattle.pci_spec.specs.Decoded.{InRange, IsDecodable}
-use Rattle.pci_spec.specs.System.{System, Function, IsSystem, IsFunction, Part, Bar, Rom, Window, is_window, is_bridge, is_implemented, bars_and_rom}
+use Rattle.pci_spec.specs.Window.{WindowKind, has_window}
+use Rattle.pci_spec.specs.Decoded.{IsDecodable}
+use Rattle.pci_spec.specs.System.{System, Function, IsSystem, IsFunction, Part, Bar, Rom, Window, is_bridge, is_implemented, bars_and_rom}
 use Rattle.pci_spec.specs.Bus.{is_behind, IsNested}
 use Rattle.pci_spec.specs.Sound.{IsInProfile, HasChains, IsSound}
-use Rattle.pci_spec.specs.Plan.{Pools, Class, IoClass, MemoryClass, PrefetchClass, pool_of, class_of, same_class, window_class, has_behind, is_open, are_bad, IsMoved, IsPlanned, window_of}
+use Rattle.pci_spec.specs.Plan.{Pools, class_of, same_class, has_behind, is_open, are_bad, IsMoved, IsPlanned}
 use Rattle.pci_spec.specs.Planning.Layout.{IsSwitchedOn}
 use Rattle.pci_spec.specs.Planning.Table.{need_behind, is_placed, IsTable, IsShown}
 use Rattle.pci_spec.proofs.Planning.Moved.{layout_same, bridge_same}
@@ -23,7 +23,7 @@ use Rattle.pci_spec.proofs.Planning.OtherRules.{has_rom_same, rom_rule_same, win
 use Rattle.pci_spec.proofs.Planning.Classes.{above_same, class_stays}
 use Rattle.pci_spec.proofs.Planning.Faults.{moved_profile}
 use Rattle.pci_spec.proofs.Planning.LaidOut.{placed_in_pools, laid_safe}
-use Rattle.pci_spec.proofs.Planning.Tables.{laid_out_by_table}
+use Rattle.pci_spec.proofs.Planning.Tables.{class_itself, laid_out_by_table}
 use Rattle.pci_spec.proofs.Planning.Behind.{behind_is_need}
 
 pub any_same : {X : Type 0} (p q : X → Bool) (xs : List X) → ((x : X) → p x ≡ q x) → list_any p xs ≡ list_any q xs
@@ -75,10 +75,10 @@ moved_decodable s t system pairs all = All-weaker (Contains t) IsDecodable
     decodable_same found.0 g found.2 (function_of s system found.0 found.1) (All-contains IsDecodable s found.0 all found.1))
     t (All-contains_itself t)
 
-abbrev class_test : System → Pools → Class → Function → Bool
+abbrev class_test : System → Pools → WindowKind → Function → Bool
 class_test s pools c f = list_any (λ part. same_class c (class_of s pools f part)) (bars_and_rom f)
 
-class_test_same : (s t : System) → IsSystem s → AllZip IsMoved s t → (pools : Pools) (c : Class) (f g : Function) → IsMoved f g → IsFunction f → class_test t pools c g ≡ class_test s pools c f
+class_test_same : (s t : System) → IsSystem s → AllZip IsMoved s t → (pools : Pools) (c : WindowKind) (f g : Function) → IsMoved f g → IsFunction f → class_test t pools c g ≡ class_test s pools c f
 class_test_same s t system pairs pools c f g m is =
     ap (list_any (λ part. same_class c (class_of t pools g part))) (parts_same f g m is)
     ∙ any_same (λ part. same_class c (class_of t pools g part)) (λ part. same_class c (class_of s pools f part)) (bars_and_rom f) (λ p. ap (same_class c) (class_stays s t system pairs pools f g m p))
@@ -96,7 +96,7 @@ behind_same : (b d : Function) → IsMoved b d → IsImage b.image → is_bridge
 behind_same b d m is bridge bus =
     sym (ap (λ x. x && is_behind d bus) (bridge_same b d m is ∙ bridge)) ∙ above_same b d m is bus ∙ ap (λ x. x && is_behind b bus) bridge
 
-pub has_behind_same : (s t : System) → IsSystem s → AllZip IsMoved s t → (pools : Pools) (c : Class) (b d : Function) → Contains s b → IsMoved b d → is_bridge b ≡ true → has_behind t pools c d ≡ has_behind s pools c b
+pub has_behind_same : (s t : System) → IsSystem s → AllZip IsMoved s t → (pools : Pools) (c : WindowKind) (b d : Function) → Contains s b → IsMoved b d → is_bridge b ≡ true → has_behind t pools c d ≡ has_behind s pools c b
 has_behind_same s t system pairs pools c b d listed m bridge =
     zip_any (λ f. is_behind b f.slot.bus && class_test s pools c f) (λ f. is_behind d f.slot.bus && class_test t pools c f) s t
     (λ f g in_f n.
@@ -106,21 +106,6 @@ has_behind_same s t system pairs pools c b d listed m bridge =
     pairs
 
 -- ---- planned
-
-pub kind_of_class : (kind : WindowKind) → window_of (window_class kind) ≡ kind
-kind_of_class IoWindow = refl
-kind_of_class MemoryWindow = refl
-kind_of_class PrefetchWindow = refl
-
-pub class_same_itself : (c : Class) → same_class c c ≡ true
-class_same_itself IoClass = refl
-class_same_itself MemoryClass = refl
-class_same_itself PrefetchClass = refl
-
-class_of_part : (t : System) (pools : Pools) (f : Function) (p : Part) → is_window p ≡ false → class_of t pools f p ≡ class_of t pools f p
-class_of_part t pools f (Bar n) plain = refl
-class_of_part t pools f Rom plain = refl
-class_of_part t pools f (Window kind) plain = absurd (both_ways true plain refl)
 
 pub same_answer : (b c : Bool) → (b ≡ true → c ≡ true) → (c ≡ true → b ≡ true) → b ≡ c
 same_answer true c to from = sym (to refl)
@@ -134,7 +119,7 @@ moved_of_shown s t pools first (x ∷ xs) [] pairs = absurd pairs
 moved_of_shown s t pools first (x ∷ xs) (y ∷ ys) (h, rest) = (h.moved, moved_of_shown s t pools first xs ys rest)
 
 module _ (roots : List ℕ) (s t : System) (pools : Pools) (system : IsSystem s) (nested : IsNested roots s) (decodable : All IsDecodable s) (first : Function → Part → ℕ)
-    (shown : AllZip (IsShown s t pools first) s t) (tables : (c : Class) → IsTable roots s pools c first) (on : IsSwitchedOn t) where
+    (shown : AllZip (IsShown s t pools first) s t) (tables : (c : WindowKind) → IsTable roots s pools c first) (on : IsSwitchedOn t) where
   pairs : AllZip IsMoved s t
   pairs = moved_of_shown s t pools first s t shown
 
@@ -142,24 +127,22 @@ module _ (roots : List ℕ) (s t : System) (pools : Pools) (system : IsSystem s)
   planned_by_table = record {
     moved = pairs;
     placed = λ f part a listed there plain decodes.
-        subst (λ c. InRange (pool_of pools c) a) (class_of_part t pools f part plain)
-        (placed_in_pools roots t pools (moved_nested roots s t system pairs nested) (moved_decodable s t system pairs decodable)
-        (laid_out_by_table roots s t pools system nested first shown tables) f part a listed there plain decodes);
+        placed_in_pools roots t pools (moved_nested roots s t system pairs nested) (moved_decodable s t system pairs decodable)
+        (laid_out_by_table roots s t pools system nested first shown tables) f part a listed there plain decodes;
     windows = λ d kind listed bridge there.
         let found = member_back (IsShown s t pools first) s t shown d listed in
         let b = found.0 in
         let sh = found.2 in
-        let c = window_class kind in
         let was : is_bridge b ≡ true = sym (bridge_same b d sh.moved (images_of s system b found.1)) ∙ bridge in
-        let small = λ (x : Function) (in_x : Contains s x) (is_x : is_bridge x ≡ true). (tables c).small x in_x is_x in
-        let need : has_behind t pools c d ≡ nat_lt 0 (need_behind s pools c b) =
-        has_behind_same s t system pairs pools c b d found.1 sh.moved was ∙ behind_is_need roots s pools c system nested small b found.1 was in
-        same_answer (is_open d kind) (nat_lt 0 (need_behind s pools c b))
-        (λ opened. (and_parts (is_bridge b && same_class c (window_class kind)) (nat_lt 0 (need_behind s pools c b)) (sh.only (Window kind) opened)).1)
+        let small = λ (x : Function) (in_x : Contains s x) (is_x : is_bridge x ≡ true). (tables kind).small x in_x is_x in
+        let need : has_behind t pools kind d ≡ nat_lt 0 (need_behind s pools kind b) =
+        has_behind_same s t system pairs pools kind b d found.1 sh.moved was ∙ behind_is_need roots s pools kind system nested small b found.1 was in
+        same_answer (is_open d kind) (nat_lt 0 (need_behind s pools kind b))
+        (λ opened. (and_parts (is_bridge b && same_class kind kind) (nat_lt 0 (need_behind s pools kind b)) (sh.only (Window kind) opened)).1)
         (λ some.
-        let place : is_placed s pools c b (Window kind) ≡ true =
-        and_from (is_bridge b && same_class c (window_class kind)) (nat_lt 0 (need_behind s pools c b)) (and_from (is_bridge b) (same_class c (window_class kind)) was (class_same_itself c)) some in
-        ap (is_open d) (sym (kind_of_class kind)) ∙ sh.opens c (ap (λ k. is_placed s pools c b (Window k)) (kind_of_class kind) ∙ place))
+        let place : is_placed s pools kind b (Window kind) ≡ true =
+        and_from (is_bridge b && same_class kind kind) (nat_lt 0 (need_behind s pools kind b)) (and_from (is_bridge b) (same_class kind kind) was (class_itself kind)) some in
+        sh.opens kind place)
         ∙ sym need;
     io = on.io;
     memory = on.memory;

@@ -2,8 +2,9 @@
 use Rattle.std.proofs.Common.{ℕ, List}
 use Rattle.std.specs.List.{AllZip}
 use Rattle.std.specs.List.Sorted.{IsStrictlyIncreasing}
+use Rattle.pci_spec.specs.Window.{WindowKind}
 use Rattle.pci_spec.specs.System.{System}
-use Rattle.pci_spec.specs.Plan.{Pools, Class}
+use Rattle.pci_spec.specs.Plan.{Pools}
 use Rattle.pci_spec.specs.Planning.Numbers.{place_at, IsPlannedFunction}
 use Rattle.pci_spec.specs.Planning.Plannable.{IsPlannable}
 use Rattle.pci_spec.specs.Planning.Promise.{IsFinal}
@@ -13,7 +14,7 @@ use Rattle.pci_spec.proofs.Planning.Placings.{table_of_places}
 use Rattle.pci_spec.proofs.Planning.Final.{planned_is_final}
 
 module _ (roots : List ℕ) (s : System) (pools : Pools) (p : IsPlannable roots s pools) (rising : IsStrictlyIncreasing roots) where
-  pub tables_of_plannable : (c : Class) → IsTable roots s pools c (place_at roots s pools)
+  pub tables_of_plannable : (c : WindowKind) → IsTable roots s pools c (place_at roots s pools)
   tables_of_plannable c = table_of_places roots s pools c p.system p.nested rising (p.can.room c) (pool_below pools (good_pools pools p.can.good) p.addresses c)
 
   -- the system with the planned numbers

@@ -10,7 +10,7 @@ use Rattle.pci_spec.specs.Window.{WindowKind, IoWindow, MemoryWindow, PrefetchWi
 use Rattle.pci_spec.specs.Decoded.{bar_size, rom_size, has_bar}
 use Rattle.pci_spec.specs.System.{System, Function, Part, Bar, Rom, Window, is_bridge, bars_and_rom}
 use Rattle.pci_spec.specs.Bus.{is_behind}
-use Rattle.pci_spec.specs.Plan.{Pools, Class, IoClass, MemoryClass, PrefetchClass, pool_of, class_of, same_class, bridges_above, is_served, is_backward, are_bad, window_class, window_size, step_of, has_behind}
+use Rattle.pci_spec.specs.Plan.{Pools, pool_of, class_of, same_class, bridges_above, is_served, is_backward, are_bad, window_size, has_behind}
 use Rattle.pci_spec.specs.Place.{nibble_of}
 use Rattle.pci_spec.specs.Planning.Showing.{reach_of}
 use Rattle.pci_spec.specs.Planning.Plannable.{IsPlannable}
@@ -20,7 +20,7 @@ use Rattle.pci_spec.proofs.Members.{in_filter_from}
 use Rattle.pci_spec.proofs.Planning.Placement.{window_least, step_power, power_multiple, multiple_of_mod, multiple_trans, mod_of_multiple}
 use Rattle.pci_spec.proofs.Planning.Behind.{Passes, any_gives, all_gives, behind_is_need, listed_plain}
 use Rattle.pci_spec.proofs.Planning.NeededWindows.{served_by_class}
-use Rattle.pci_spec.proofs.Planning.Planned.{class_same_itself}
+use Rattle.pci_spec.proofs.Planning.Tables.{class_itself}
 use Rattle.pci_spec.proofs.Planning.Rooms.{table_by_fit}
 use Rattle.pci_spec.proofs.Planning.InPool.{in_pool}
 
@@ -37,10 +37,10 @@ good_pools pools good =
     let three = or_parts (is_backward pools.io || is_backward pools.memory || is_backward pools.prefetch) (nat_lt 0xffff pools.io.last) four.0 in
     record { io = ltb-false 0xffff pools.io.last three.1; memory = ltb-false 0xffff_ffff pools.memory.last four.1 }
 
-pub pool_below : (pools : Pools) → AreGood pools → pools.prefetch.last < 2 ^ 64 → (c : Class) → (pool_of pools c).last < 2 ^ 64
-pool_below pools good top IoClass = let l = good.io in omega (arith, l)
-pool_below pools good top MemoryClass = let l = good.memory in omega (arith, l)
-pool_below pools good top PrefetchClass = top
+pub pool_below : (pools : Pools) → AreGood pools → pools.prefetch.last < 2 ^ 64 → (c : WindowKind) → (pool_of pools c).last < 2 ^ 64
+pool_below pools good top IoWindow = let l = good.io in omega (arith, l)
+pool_below pools good top MemoryWindow = let l = good.memory in omega (arith, l)
+pool_below pools good top PrefetchWindow = top
 
 -- ---- BARs
 
@@ -60,8 +60,8 @@ served_windows s pools f n served high b above =
     all_gives (λ (d : Function). is_wide_window PrefetchWindow d.probe) (bridges_above s f.slot.bus) b
     (and_parts (is_wide (bar_at f.probe n)) _ (sym (ap (λ t. cond t narrow wide) high) ∙ served)).1 above
 
-abbrev class_by : Bool → Bool → Class
-class_by io pref = if io then IoClass else if pref then PrefetchClass else MemoryClass
+abbrev class_by : Bool → Bool → WindowKind
+class_by io pref = if io then IoWindow else if pref then PrefetchWindow else MemoryWindow
 
 memory_reach : (wide narrow : Bool) → 2 ^ 32 ≤ 2 ^ reach_of (kind_by false wide narrow)
 memory_reach true narrow = omega arith
@@ -102,15 +102,7 @@ pub record IsWindowPlace (kind : WindowKind) (n first size : ℕ) : Type 0 where
   pub whole : size % page_size kind ≡ 0
   pub reached : IsReached kind n (first + size)
 
-page_of_step : (kind : WindowKind) → page_size kind ≡ step_of (window_class kind)
-page_of_step IoWindow = refl
-page_of_step MemoryWindow = refl
-page_of_step PrefetchWindow = refl
-
-page_multiple : (kind : WindowKind) (size : ℕ) → size % step_of (window_class kind) ≡ 0 → size % page_size kind ≡ 0
-page_multiple kind size e = ap (λ page. size % page) (page_of_step kind) ∙ e
-
-high_part : (s : System) (pools : Pools) (f b : Function) (part : Part) → Contains (bars_and_rom f) part → same_class PrefetchClass (class_of s pools f part) ≡ true
+high_part : (s : System) (pools : Pools) (f b : Function) (part : Part) → Contains (bars_and_rom f) part → same_class PrefetchWindow (class_of s pools f part) ≡ true
     → Contains (bridges_above s f.slot.bus) b → nat_le pools.prefetch.last 0xffff_ffff ≡ false → is_wide_window PrefetchWindow b.probe ≡ true
 high_part s pools f b (Bar n) listed same above high =
     served_windows s pools f n (served_by_class (is_io (bar_at f.probe n)) (is_prefetchable (bar_at f.probe n)) (is_served s pools f n) same) high b above
@@ -118,19 +110,19 @@ high_part s pools f b Rom listed same above high = absurd (both_ways false refl 
 high_part s pools f b (Window kind) listed same above high = absurd (both_ways true (listed_plain f (Window kind) listed) refl)
 
 -- the prefetchable windows above something of that class go beyond 4 GB only where they have upper halves
-high_is_wide : (s : System) (pools : Pools) (b : Function) → Contains s b → is_bridge b ≡ true → has_behind s pools PrefetchClass b ≡ true → nat_le pools.prefetch.last 0xffff_ffff ≡ false
+high_is_wide : (s : System) (pools : Pools) (b : Function) → Contains s b → is_bridge b ≡ true → has_behind s pools PrefetchWindow b ≡ true → nat_le pools.prefetch.last 0xffff_ffff ≡ false
     → is_wide_window PrefetchWindow b.probe ≡ true
 high_is_wide s pools b listed bridge has high =
-    let found : Passes (λ g. is_behind b g.slot.bus && list_any (λ part. same_class PrefetchClass (class_of s pools g part)) (bars_and_rom g)) s =
-    any_gives (λ g. is_behind b g.slot.bus && list_any (λ part. same_class PrefetchClass (class_of s pools g part)) (bars_and_rom g)) s has in
+    let found : Passes (λ g. is_behind b g.slot.bus && list_any (λ part. same_class PrefetchWindow (class_of s pools g part)) (bars_and_rom g)) s =
+    any_gives (λ g. is_behind b g.slot.bus && list_any (λ part. same_class PrefetchWindow (class_of s pools g part)) (bars_and_rom g)) s has in
     let f = found.x in
-    let is = and_parts (is_behind b f.slot.bus) (list_any (λ part. same_class PrefetchClass (class_of s pools f part)) (bars_and_rom f)) found.is in
-    let part = any_gives (λ part. same_class PrefetchClass (class_of s pools f part)) (bars_and_rom f) is.1 in
+    let is = and_parts (is_behind b f.slot.bus) (list_any (λ part. same_class PrefetchWindow (class_of s pools f part)) (bars_and_rom f)) found.is in
+    let part = any_gives (λ part. same_class PrefetchWindow (class_of s pools f part)) (bars_and_rom f) is.1 in
     high_part s pools f b part.x part.listed part.is
     (in_filter_from (λ d. is_bridge d && is_behind d f.slot.bus) s b listed (and_from (is_bridge b) (is_behind b f.slot.bus) bridge is.0)) high
 
-reached_by : (s : System) (pools : Pools) → AreGood pools → pools.prefetch.last < 2 ^ 64 → (b : Function) (kind : WindowKind) → Contains s b → is_bridge b ≡ true → has_behind s pools (window_class kind) b ≡ true
-    → (end : ℕ) → end ≤ (pool_of pools (window_class kind)).last + 1 → IsReached kind (nibble_of kind b) end
+reached_by : (s : System) (pools : Pools) → AreGood pools → pools.prefetch.last < 2 ^ 64 → (b : Function) (kind : WindowKind) → Contains s b → is_bridge b ≡ true → has_behind s pools kind b ≡ true
+    → (end : ℕ) → end ≤ (pool_of pools kind).last + 1 → IsReached kind (nibble_of kind b) end
 reached_by s pools good top b IoWindow listed bridge has end below = let l = good.io in omega (arith, l, below)
 reached_by s pools good top b MemoryWindow listed bridge has end below = let l = good.memory in omega (arith, l, below)
 reached_by s pools good top b PrefetchWindow listed bridge has end below = (
@@ -147,14 +139,14 @@ reached_by s pools good top b PrefetchWindow listed bridge has end below = (
 -- ---- tables
 
 -- where the places of each class are found largest first, they are tables
-pub tables_of_placing : (roots : List ℕ) (s : System) (pools : Pools) → IsPlannable roots s pools → (first : Function → Part → ℕ) → ((c : Class) → IsPlacing roots s pools c first)
-    → (c : Class) → IsTable roots s pools c first
+pub tables_of_placing : (roots : List ℕ) (s : System) (pools : Pools) → IsPlannable roots s pools → (first : Function → Part → ℕ) → ((c : WindowKind) → IsPlacing roots s pools c first)
+    → (c : WindowKind) → IsTable roots s pools c first
 tables_of_placing roots s pools p first placing c =
     table_by_fit roots s pools c p.system p.nested first (p.can.room c) (pool_below pools (good_pools pools p.can.good) p.addresses c) (placing c)
 
 -- ---- the places of a table
 
-module _ (roots : List ℕ) (s : System) (pools : Pools) (p : IsPlannable roots s pools) (first : Function → Part → ℕ) (tables : (c : Class) → IsTable roots s pools c first) where
+module _ (roots : List ℕ) (s : System) (pools : Pools) (p : IsPlannable roots s pools) (first : Function → Part → ℕ) (tables : (c : WindowKind) → IsTable roots s pools c first) where
   good : AreGood pools
   good = good_pools pools p.can.good
 
@@ -164,7 +156,7 @@ module _ (roots : List ℕ) (s : System) (pools : Pools) (p : IsPlannable roots 
   bar_place f n listed inside there =
       let c = class_of s pools f (Bar n) in
       let placed : is_placed s pools c f (Bar n) ≡ true =
-      and_from (nat_lt n (bar_count (layout f.image)) && has_bar f.probe n) (same_class c c) (and_from (nat_lt n (bar_count (layout f.image))) (has_bar f.probe n) (lt-ltb n (bar_count (layout f.image)) inside) there) (class_same_itself c) in
+      and_from (nat_lt n (bar_count (layout f.image)) && has_bar f.probe n) (same_class c c) (and_from (nat_lt n (bar_count (layout f.image))) (has_bar f.probe n) (lt-ltb n (bar_count (layout f.image)) inside) there) (class_itself c) in
       let at = in_pool roots s pools p.system p.nested first c (tables c) f (Bar n) listed placed in
       let end = bar_reach s pools good p.addresses f n in
       let high = at.high in
@@ -172,32 +164,31 @@ module _ (roots : List ℕ) (s : System) (pools : Pools) (p : IsPlannable roots 
 
   pub rom_place : (f : Function) → Contains s f → has_rom f.image f.probe ≡ true → (first f Rom % rom_size f.image f.probe ≡ 0) × (first f Rom + rom_size f.image f.probe ≤ 2 ^ 32)
   rom_place f listed there =
-      let placed : is_placed s pools MemoryClass f Rom ≡ true = and_from (has_rom f.image f.probe) true there refl in
-      let at = in_pool roots s pools p.system p.nested first MemoryClass (tables MemoryClass) f Rom listed placed in
+      let placed : is_placed s pools MemoryWindow f Rom ≡ true = and_from (has_rom f.image f.probe) true there refl in
+      let at = in_pool roots s pools p.system p.nested first MemoryWindow (tables MemoryWindow) f Rom listed placed in
       let high = at.high in
       let end = good.memory in
       (at.multiple, omega (arith, high, end))
 
   -- something is behind a bridge where it needs a window
-  pub need_is_behind : (b : Function) (c : Class) → Contains s b → is_bridge b ≡ true → has_behind s pools c b ≡ nat_lt 0 (need_behind s pools c b)
+  pub need_is_behind : (b : Function) (c : WindowKind) → Contains s b → is_bridge b ≡ true → has_behind s pools c b ≡ nat_lt 0 (need_behind s pools c b)
   need_is_behind b c listed bridge = behind_is_need roots s pools c p.system p.nested (tables c).small b listed bridge
 
   -- a window is of whole pages, and ends where its registers can show
-  pub window_place : (b : Function) (kind : WindowKind) → Contains s b → is_bridge b ≡ true → has_behind s pools (window_class kind) b ≡ true
-      → IsWindowPlace kind (nibble_of kind b) (first b (Window kind)) (window_size (window_class kind) (need_behind s pools (window_class kind) b))
+  pub window_place : (b : Function) (kind : WindowKind) → Contains s b → is_bridge b ≡ true → has_behind s pools kind b ≡ true
+      → IsWindowPlace kind (nibble_of kind b) (first b (Window kind)) (window_size kind (need_behind s pools kind b))
   window_place b kind listed bridge has =
-      let c = window_class kind in
-      let need = ltb-true 0 (need_behind s pools c b) (sym (need_is_behind b c listed bridge) ∙ has) in
-      let placed : is_placed s pools c b (Window kind) ≡ true =
-      and_from (is_bridge b && same_class c c) (nat_lt 0 (need_behind s pools c b)) (and_from (is_bridge b) (same_class c c) bridge (class_same_itself c)) (lt-ltb 0 (need_behind s pools c b) need) in
-      let at = in_pool roots s pools p.system p.nested first c (tables c) b (Window kind) listed placed in
-      let size = window_size c (need_behind s pools c b) in
-      let least = window_least c (need_behind s pools c b) ((tables c).small b listed bridge) in
-      let steps = power_multiple size (step_of c) least.power (step_power c) least.steps in
-      let aligned = multiple_trans (first b (Window kind)) size (step_of c) (multiple_of_mod (first b (Window kind)) size at.multiple) steps in
+      let need = ltb-true 0 (need_behind s pools kind b) (sym (need_is_behind b kind listed bridge) ∙ has) in
+      let placed : is_placed s pools kind b (Window kind) ≡ true =
+      and_from (is_bridge b && same_class kind kind) (nat_lt 0 (need_behind s pools kind b)) (and_from (is_bridge b) (same_class kind kind) bridge (class_itself kind)) (lt-ltb 0 (need_behind s pools kind b) need) in
+      let at = in_pool roots s pools p.system p.nested first kind (tables kind) b (Window kind) listed placed in
+      let size = window_size kind (need_behind s pools kind b) in
+      let least = window_least kind (need_behind s pools kind b) ((tables kind).small b listed bridge) in
+      let steps = power_multiple size (page_size kind) least.power (step_power kind) least.steps in
+      let aligned = multiple_trans (first b (Window kind)) size (page_size kind) (multiple_of_mod (first b (Window kind)) size at.multiple) steps in
       record {
         some = at.some;
-        aligned = page_multiple kind (first b (Window kind)) (mod_of_multiple (first b (Window kind)) (step_of c) aligned);
-        whole = page_multiple kind size (mod_of_multiple size (step_of c) steps);
+        aligned = mod_of_multiple (first b (Window kind)) (page_size kind) aligned;
+        whole = mod_of_multiple size (page_size kind) steps;
         reached = reached_by s pools good p.addresses b kind listed bridge has (first b (Window kind) + size) at.high;
       }

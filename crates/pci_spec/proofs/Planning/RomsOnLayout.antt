@@ -14,7 +14,7 @@ use Rattle.pci_spec.specs.Decoded.{IsDecodable, aligned_range, bar_size, has_bar
 use Rattle.pci_spec.specs.System.{System, Function, IsSystem, Space, Io, Memory, Part, Bar, Rom, Window, register_of, is_implemented, bars_and_rom, is_bridge}
 use Rattle.pci_spec.specs.Bus.{is_behind, LeadsTo}
 use Rattle.pci_spec.specs.Sound.{IsSound}
-use Rattle.pci_spec.specs.Plan.{Pools, IoClass, MemoryClass, PrefetchClass, pool_of, bridges_above, is_served, class_of, window_of, is_io_part, is_open, wants, are_bad}
+use Rattle.pci_spec.specs.Plan.{Pools, pool_of, bridges_above, is_served, class_of, is_io_part, is_open, wants, are_bad}
 use Rattle.pci_spec.specs.PlanPromise.{with_rom_on}
 use Rattle.pci_spec.specs.Planning.Layout.{range_of, is_item, IsInside, LieApart, AreTwo, IsLaidOut, IsSwitchedOn}
 use Rattle.pci_spec.specs.Planning.Safety.{IsSafe}
@@ -126,7 +126,7 @@ module _ (roots : List ℕ) (t : System) (pools : Pools) (system : IsSystem t) w
   class_kept : (f g : Function) → IsRomOn f g → (p : Part) → class_of (map with_rom_on t) pools g p ≡ class_of t pools f p
   class_kept f g h (Bar n) =
       let served = served_kept f g h n in
-      λ i. if is_io (bar_at (h.probe i) n) then IoClass else if is_prefetchable (bar_at (h.probe i) n) && served i then PrefetchClass else MemoryClass
+      λ i. if is_io (bar_at (h.probe i) n) then IoWindow else if is_prefetchable (bar_at (h.probe i) n) && served i then PrefetchWindow else MemoryWindow
   class_kept f g h Rom = refl
   class_kept f g h (Window kind) = refl
 
@@ -181,14 +181,14 @@ module _ (roots : List ℕ) (t : System) (pools : Pools) (system : IsSystem t) w
           let up = leads_before c g.slot.bus leads in
           let b = up.0 in
           let on = up.2 in
-          let kind = window_of (class_of t pools o.f p) in
+          let kind = (class_of t pools o.f p) in
           let to = up.1 in
           let through = laid.window o.f b p o.listed o.item (to.0, to.1, to.2 ∙ ap (λ (s : Slot). s.bus) o.on.slot) in
           let window = range_kept b c on (All-contains IsDecodable t b decodable to.0) (Window kind) through.0 in
           let opened : is_open c kind ≡ true = open_kept b c on kind ∙ through.0 in
           let inner : IsInside (range_of g p) (range_of b (Window kind)) = subst (λ r. IsInside r (range_of b (Window kind))) (sym o.range) through.1 in
           let inside : IsInside (range_of g p) (range_of c (Window kind)) = subst (IsInside (range_of g p)) (sym window) inner in
-          subst (λ k. IsTrue (is_open c (window_of k)) × IsInside (range_of g p) (range_of c (Window (window_of k)))) (sym o.class) (opened, inside);
+          subst (λ k. IsTrue (is_open c k) × IsInside (range_of g p) (range_of c (Window k))) (sym o.class) (opened, inside);
       apart = λ x y p q in_x in_y item_x item_y beside same two.
           let o = old_item x p in_x item_x in
           let u = old_item y q in_y item_y in

@@ -6,8 +6,9 @@ use Rattle.std.proofs.lemmas.Bool.{cases_lt, or_cases, leb-true, eqb-true}
 use Rattle.std.proofs.lemmas.Nat.{div-add-mod', mod_below}
 use Rattle.std.proofs.Math.Nat.{mul-le-mul_right, mul-mod_left}
 use Rattle.std.proofs.lemmas.List.Sums.{sum_by-append}
+use Rattle.pci_spec.specs.Window.{WindowKind}
 use Rattle.pci_spec.specs.System.{System}
-use Rattle.pci_spec.specs.Plan.{Pools, Class, pool_of, items_on, need_of, need_of_roots, greatest_of_roots, raised_to, greatest, fits}
+use Rattle.pci_spec.specs.Plan.{Pools, pool_of, items_on, need_of, need_of_roots, greatest_of_roots, raised_to, greatest, fits}
 use Rattle.pci_spec.specs.Planning.Placing.{IsFalling}
 use Rattle.pci_spec.specs.Planning.Room.{IsRaised, root_items}
 use Rattle.pci_spec.proofs.Planning.Placement.{multiple_of_mod, sum_cons}
@@ -58,7 +59,7 @@ greatest_is_first (x ∷ xs) falling =
     ap (λ n. fold max n xs) e ∙ max_stays x xs (λ k l. falling.falling 0 (suc k) (omega arith) (omega (arith, l)))
 
 -- where no pool holds 2 ^ 65 addresses, a need that fits isn't cut
-limited_sum : (roots : List ℕ) (s : System) (pools : Pools) (c : Class) (most : ℕ) → need_of_roots roots s pools c ≤ most → most < 2 ^ 65
+limited_sum : (roots : List ℕ) (s : System) (pools : Pools) (c : WindowKind) (most : ℕ) → need_of_roots roots s pools c ≤ most → most < 2 ^ 65
     → sum (root_items roots s pools c) ≡ need_of_roots roots s pools c
 limited_sum [] s pools c most h low = refl
 limited_sum (root ∷ roots) s pools c most h low =
@@ -70,7 +71,7 @@ limited_sum (root ∷ roots) s pools c most h low =
     a ∙ omega (arith, e, rest, first, low)
 
 -- what fits has room from the raised start on, and its need isn't cut
-pub room_of_fit : (roots : List ℕ) (s : System) (pools : Pools) (c : Class) → fits roots s pools c ≡ true → (pool_of pools c).last < 2 ^ 64 → 0 < sum (root_items roots s pools c)
+pub room_of_fit : (roots : List ℕ) (s : System) (pools : Pools) (c : WindowKind) → fits roots s pools c ≡ true → (pool_of pools c).last < 2 ^ 64 → 0 < sum (root_items roots s pools c)
     → raised_to (greatest (root_items roots s pools c)) (pool_of pools c).first + sum (root_items roots s pools c) ≤ (pool_of pools c).last + 1
 room_of_fit roots s pools c fit low some =
     let n = need_of_roots roots s pools c in

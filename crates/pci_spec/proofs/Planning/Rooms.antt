@@ -6,9 +6,10 @@ use Rattle.std.proofs.lemmas.Bool.{and_from, cases_Bool, cases_lt, eq-eqb, lt-lt
 use Rattle.std.proofs.lemmas.List.{length-map}
 use Rattle.std.proofs.lemmas.List.Sums.{sum_by-append}
 use Rattle.std.proofs.lemmas.List.Elements.{Contains-append_right, Contains-get_or}
+use Rattle.pci_spec.specs.Window.{WindowKind}
 use Rattle.pci_spec.specs.System.{System, Function, IsSystem, Part, is_bridge}
 use Rattle.pci_spec.specs.Bus.{secondary, is_root, IsNested}
-use Rattle.pci_spec.specs.Plan.{Pools, Class, pool_of, window_size, limited, items_on, fits, raised_to, greatest}
+use Rattle.pci_spec.specs.Plan.{Pools, pool_of, window_size, limited, items_on, fits, raised_to, greatest}
 use Rattle.pci_spec.proofs.Members.{in_nil, in_cons_cases, in_head, in_flat_map_from}
 use Rattle.pci_spec.proofs.BusRanges.{root_means}
 use Rattle.pci_spec.specs.Planning.Room.{root_items}
@@ -40,7 +41,7 @@ greatest_some m (x ∷ xs) some = elim (cases_lt 0 (max m x)) [
   | inr none ↦ greatest_some (max m x) xs (let e = sum_cons x xs in omega (arith, e, some, none))
 ]
 
-module _ (roots : List ℕ) (s : System) (pools : Pools) (c : Class) (system : IsSystem s) (nested : IsNested roots s) where
+module _ (roots : List ℕ) (s : System) (pools : Pools) (c : WindowKind) (system : IsSystem s) (nested : IsNested roots s) where
   -- a bridge's window is among the items of its bus
   window_le : (b : Function) → Contains s b → is_bridge b ≡ true → limited (need_behind s pools c b) ≤ sum (items_on s pools c b.slot.bus)
   window_le b listed bridge = elim (cases_lt 0 (need_behind s pools c b)) [

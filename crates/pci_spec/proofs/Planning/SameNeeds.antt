@@ -7,10 +7,11 @@ use Rattle.std.proofs.lemmas.List.Elements.{All-contains}
 use Rattle.pci_spec.specs.Number.{number_at, lowest_one}
 use Rattle.pci_spec.specs.Slot.{Slot}
 use Rattle.pci_spec.specs.Header.{rom_register}
+use Rattle.pci_spec.specs.Window.{WindowKind}
 use Rattle.pci_spec.specs.Decoded.{bar_size, rom_size}
 use Rattle.pci_spec.specs.System.{System, Function, IsSystem, IsFunction, Part, Bar, Rom, Window, is_bridge, bars_and_rom}
 use Rattle.pci_spec.specs.Bus.{secondary}
-use Rattle.pci_spec.specs.Plan.{Pools, Class, IsMoved, class_of, same_class, size_of, sizes_in, window_size, limited, items_within, need_of}
+use Rattle.pci_spec.specs.Plan.{Pools, IsMoved, class_of, same_class, size_of, sizes_in, window_size, limited, items_within, need_of}
 use Rattle.pci_spec.proofs.Members.{in_head, in_tail}
 use Rattle.pci_spec.proofs.Planning.Moved.{layout_same, bridge_same, secondary_same}
 use Rattle.pci_spec.proofs.Planning.Classes.{class_stays}
@@ -29,7 +30,7 @@ zip_pieces R F G (x ∷ xs) [] same pairs = absurd pairs
 zip_pieces R F G (x ∷ xs) (y ∷ ys) same (first, rest) =
     ap (λ zs. zs ++ flat_map G ys) (same x y (in_head x xs) first) ∙ ap (λ zs. F x ++ zs) (zip_pieces R F G xs ys (λ f g listed. same f g (in_tail x xs f listed)) rest)
 
-module _ (s t : System) (system : IsSystem s) (pairs : AllZip IsMoved s t) (pools : Pools) (c : Class) where
+module _ (s t : System) (system : IsSystem s) (pairs : AllZip IsMoved s t) (pools : Pools) (c : WindowKind) where
   function_is : (f : Function) → Contains s f → IsFunction f
   function_is f listed = All-contains IsFunction s f system.each listed
 

@@ -6,9 +6,10 @@ use Rattle.pci_spec.specs.Header.{layout, bar_count}
 use Rattle.std.proofs.lemmas.Bool.{and_parts, cases_Bool, both_ways}
 use Rattle.std.proofs.lemmas.List.Elements.{All-contains}
 use Rattle.pci_spec.specs.Slot.{Slot, slot_number}
+use Rattle.pci_spec.specs.Window.{WindowKind}
 use Rattle.pci_spec.specs.System.{System, Function, IsSystem, IsFunction, Part, Bar, Rom, register_of, is_bridge, is_implemented}
 use Rattle.pci_spec.specs.Bus.{secondary, is_root, are_siblings}
-use Rattle.pci_spec.specs.Plan.{Pools, Class, IsMoved, pool_of, class_of, same_class, window_size, need_of, greatest, raised_to, has_behind}
+use Rattle.pci_spec.specs.Plan.{Pools, IsMoved, pool_of, class_of, same_class, window_size, need_of, greatest, raised_to, has_behind}
 use Rattle.pci_spec.specs.Place.{Item, part_item, window_item, items_among, own_items, items_beside, comes_before, place_from, start_of_roots, behind_window, start_within, start_of, place_of}
 use Rattle.pci_spec.proofs.Members.{in_head, in_tail}
 use Rattle.pci_spec.proofs.Planning.Moved.{layout_same, bridge_same, secondary_same}
@@ -105,7 +106,7 @@ zip_find P Q F G start (x ∷ xs) (y ∷ ys) test place (first, rest) =
 
 -- ---- a system
 
-module _ (s t : System) (system : IsSystem s) (pairs : AllZip IsMoved s t) (pools : Pools) (c : Class) where
+module _ (s t : System) (system : IsSystem s) (pairs : AllZip IsMoved s t) (pools : Pools) (c : WindowKind) where
   function_is : (f : Function) → Contains s f → IsFunction f
   function_is f listed = All-contains IsFunction s f system.each listed
 

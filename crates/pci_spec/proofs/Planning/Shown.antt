@@ -10,7 +10,7 @@ use Rattle.pci_spec.specs.Window.{WindowKind, IoWindow, MemoryWindow, PrefetchWi
 use Rattle.pci_spec.specs.Decoded.{aligned_range, bar_size, rom_size, has_bar}
 use Rattle.pci_spec.specs.System.{System, Function, Bar, Rom, Window, is_bridge}
 use Rattle.pci_spec.specs.Bus.{secondary}
-use Rattle.pci_spec.specs.Plan.{Pools, Class, window_class, window_size, need_of, has_behind, is_open, IsMoved}
+use Rattle.pci_spec.specs.Plan.{Pools, window_size, need_of, has_behind, is_open, IsMoved}
 use Rattle.pci_spec.specs.Place.{nibble_of, closed_bounds}
 use Rattle.pci_spec.specs.Planning.Layout.{range_of}
 use Rattle.pci_spec.specs.Planning.Numbers.{place_at, new_number, new_command, IsPlannedFunction}
@@ -53,7 +53,7 @@ closed_shows kind image n few shown =
     let pages = closed_pages kind n few in
     ap not (lt-leb (base_page kind image) (limit_page kind image) (omega (arith, base, limit, pages)))
 
-module _ (roots : List ℕ) (s : System) (pools : Pools) (p : IsPlannable roots s pools) (tables : (c : Class) → IsTable roots s pools c (place_at roots s pools))
+module _ (roots : List ℕ) (s : System) (pools : Pools) (p : IsPlannable roots s pools) (tables : (c : WindowKind) → IsTable roots s pools c (place_at roots s pools))
     (f g : Function) (listed : Contains s f) (filled : IsPlannedFunction roots s pools f g) where
   image_is : IsImage f.image
   image_is = (is_function roots s pools p tables f listed).image
@@ -130,40 +130,40 @@ module _ (roots : List ℕ) (s : System) (pools : Pools) (p : IsPlannable roots 
 
     -- the size of the window that what is behind the bridge needs
     abbrev size : WindowKind → ℕ
-    size kind = window_size (window_class kind) (need_of s pools (window_class kind) (secondary f))
+    size kind = window_size kind (need_of s pools kind (secondary f))
 
-    pub opened_window : (kind : WindowKind) → has_window kind f.probe ≡ true → has_behind s pools (window_class kind) f ≡ true
+    pub opened_window : (kind : WindowKind) → has_window kind f.probe ≡ true → has_behind s pools kind f ≡ true
         → (range_of g (Window kind) ≡ record { first = place_at roots s pools f (Window kind); last = place_at roots s pools f (Window kind) + (size kind - 1) }) × (is_closed kind g.image ≡ false)
     opened_window kind there has =
         let room = window_room roots s pools p tables f listed kind bridge has in
         let place = place_at roots s pools f (Window kind) in
         window_shows g kind (nibble_of kind f) place (size kind) (few_nibbles f bridge kind) room.some room.aligned room.whole
-        (bounds_are kind ∙ by_open f bridge kind (has_behind s pools (window_class kind) f) place (size kind) there has)
+        (bounds_are kind ∙ by_open f bridge kind (has_behind s pools kind f) place (size kind) there has)
 
-    pub closed_window : (kind : WindowKind) → has_window kind f.probe ≡ true → has_behind s pools (window_class kind) f ≡ false → bounds_at kind g.image ≡ closed_bounds kind (nibble_of kind f)
+    pub closed_window : (kind : WindowKind) → has_window kind f.probe ≡ true → has_behind s pools kind f ≡ false → bounds_at kind g.image ≡ closed_bounds kind (nibble_of kind f)
     closed_window kind there none =
-        bounds_are kind ∙ by_closed f bridge kind (has_behind s pools (window_class kind) f) (place_at roots s pools f (Window kind)) (size kind) there none
+        bounds_are kind ∙ by_closed f bridge kind (has_behind s pools kind f) (place_at roots s pools f (Window kind)) (size kind) there none
 
-    closed_is : (kind : WindowKind) → has_window kind f.probe ≡ true → not (is_closed kind g.image) ≡ has_behind s pools (window_class kind) f
-    closed_is kind there = elim (cases_Bool (has_behind s pools (window_class kind) f)) [
+    closed_is : (kind : WindowKind) → has_window kind f.probe ≡ true → not (is_closed kind g.image) ≡ has_behind s pools kind f
+    closed_is kind there = elim (cases_Bool (has_behind s pools kind f)) [
       | inl has ↦ ap not (opened_window kind there has).1 ∙ sym has
       | inr none ↦ ap not (closed_shows kind g.image (nibble_of kind f) (few_nibbles f bridge kind) (closed_window kind there none)) ∙ sym none
     ]
 
-    open_on_bridge : (kind : WindowKind) → is_open g kind ≡ (has_window kind f.probe && has_behind s pools (window_class kind) f)
+    open_on_bridge : (kind : WindowKind) → is_open g kind ≡ (has_window kind f.probe && has_behind s pools kind f)
     open_on_bridge kind =
         ap (λ b. b && has_window kind g.probe && not (is_closed kind g.image)) (bridge_same f g planned_is_moved image_is ∙ bridge)
         ∙ ap (λ probe. has_window kind probe && not (is_closed kind g.image)) filled.probe
         ∙ elim (cases_Bool (has_window kind f.probe)) [
           | inl there ↦ ap (λ b. has_window kind f.probe && b) (closed_is kind there)
-          | inr none ↦ ap (λ b. b && not (is_closed kind g.image)) none ∙ sym (ap (λ b. b && has_behind s pools (window_class kind) f) none)
+          | inr none ↦ ap (λ b. b && not (is_closed kind g.image)) none ∙ sym (ap (λ b. b && has_behind s pools kind f) none)
         ]
 
   -- a window is open exactly where it is there and something is behind it
-  pub open_is : (kind : WindowKind) → is_open g kind ≡ (is_bridge f && has_window kind f.probe && has_behind s pools (window_class kind) f)
+  pub open_is : (kind : WindowKind) → is_open g kind ≡ (is_bridge f && has_window kind f.probe && has_behind s pools kind f)
   open_is kind = elim (cases_Bool (is_bridge f)) [
-    | inl bridge ↦ open_on_bridge bridge kind ∙ sym (ap (λ b. b && has_window kind f.probe && has_behind s pools (window_class kind) f) bridge)
+    | inl bridge ↦ open_on_bridge bridge kind ∙ sym (ap (λ b. b && has_window kind f.probe && has_behind s pools kind f) bridge)
     | inr device ↦
         ap (λ b. b && has_window kind g.probe && not (is_closed kind g.image)) (bridge_same f g planned_is_moved image_is ∙ device)
-        ∙ sym (ap (λ b. b && has_window kind f.probe && has_behind s pools (window_class kind) f) device)
+        ∙ sym (ap (λ b. b && has_window kind f.probe && has_behind s pools kind f) device)
   ]

@@ -1,15 +1,15 @@
 -- A system with the planned numbers shows the places of its table, and Command enables what there is to decode.
-use Rattle.std.proofs.Common.{◌≡◌, ℕ, ◌+◌, ◌-◌, List, [], ◌∷◌, refl, true, false, ◌&&◌, ◌||◌, not, sym, ◌∙◌, ap, subst}
+use Rattle.std.proofs.Common.{◌≡◌, ℕ, ◌+◌, ◌-◌, List, [], ◌∷◌, refl, true, ◌&&◌, ◌||◌, not, sym, ◌∙◌, ap, subst}
 use Rattle.std.specs.Bool.{nat_lt}
 use Rattle.std.specs.List.{Contains, AllZip, list_any}
-use Rattle.std.proofs.lemmas.Bool.{and_parts, and_from, both_ways, ltb-true, eqb-true}
+use Rattle.std.proofs.lemmas.Bool.{and_parts, and_from, ltb-true, eqb-true}
 use Rattle.pci_spec.specs.Number.{has_bit}
 use Rattle.pci_spec.specs.Header.{command, layout, bar_count}
 use Rattle.pci_spec.specs.Rom.{has_rom}
 use Rattle.pci_spec.specs.Window.{WindowKind, IoWindow, MemoryWindow, PrefetchWindow, has_window}
 use Rattle.pci_spec.specs.Decoded.{has_bar}
 use Rattle.pci_spec.specs.System.{System, Function, Io, Memory, Part, Bar, Rom, Window, is_bridge, bars_and_rom}
-use Rattle.pci_spec.specs.Plan.{Pools, Class, IoClass, MemoryClass, PrefetchClass, class_of, same_class, window_class, window_of, window_size, has_behind, is_open, is_io_part, wants, IsMoved}
+use Rattle.pci_spec.specs.Plan.{Pools, class_of, same_class, window_size, has_behind, is_open, is_io_part, wants, IsMoved}
 use Rattle.pci_spec.specs.Planning.Layout.{range_of, is_item, IsSwitchedOn}
 use Rattle.pci_spec.specs.Planning.Numbers.{place_at, needs_io, needs_memory, IsPlannedFunction}
 use Rattle.pci_spec.specs.Planning.Plannable.{IsPlannable}
@@ -20,7 +20,9 @@ use Rattle.pci_spec.proofs.Planning.Kept.{member_back}
 use Rattle.pci_spec.proofs.Planning.OtherRules.{has_rom_same}
 use Rattle.pci_spec.proofs.Planning.Classes.{class_stays}
 use Rattle.pci_spec.proofs.Planning.NeededWindows.{needed_window}
-use Rattle.pci_spec.proofs.Planning.Planned.{any_same, parts_same, kind_of_class, class_same_itself}
+use Rattle.pci_spec.proofs.Planning.Planned.{any_same, parts_same}
+use Rattle.pci_spec.proofs.Planning.Tables.{class_itself}
+use Rattle.pci_spec.proofs.Planning.PlacedItems.{same_class_is}
 use Rattle.pci_spec.proofs.Planning.CommandFits.{enables_io, enables_memory}
 use Rattle.pci_spec.proofs.Planning.Reach.{need_is_behind}
 use Rattle.pci_spec.proofs.Planning.NumbersFit.{is_function, is_decodable, need_same}
@@ -33,75 +35,61 @@ zip_by R Q [] (y ∷ ys) step pairs = absurd pairs
 zip_by R Q (x ∷ xs) [] step pairs = absurd pairs
 zip_by R Q (x ∷ xs) (y ∷ ys) step (first, rest) = (step x y (in_head x xs) first, zip_by R Q xs ys (λ f g listed. step f g (in_tail x xs f listed)) rest)
 
--- the class of a window is that of its kind
-class_is : (c : Class) (kind : WindowKind) → same_class c (window_class kind) ≡ true → c ≡ window_class kind
-class_is IoClass IoWindow h = refl
-class_is IoClass MemoryWindow h = absurd (both_ways false refl h)
-class_is IoClass PrefetchWindow h = absurd (both_ways false refl h)
-class_is MemoryClass IoWindow h = absurd (both_ways false refl h)
-class_is MemoryClass MemoryWindow h = refl
-class_is MemoryClass PrefetchWindow h = absurd (both_ways false refl h)
-class_is PrefetchClass IoWindow h = absurd (both_ways false refl h)
-class_is PrefetchClass MemoryWindow h = absurd (both_ways false refl h)
-class_is PrefetchClass PrefetchWindow h = refl
-
 io_part_same : (f g : Function) → g.probe ≡ f.probe → (part : Part) → is_io_part g part ≡ is_io_part f part
 io_part_same f g e (Bar n) = ap (λ probe. is_io_part record f { probe = probe } (Bar n)) e
 io_part_same f g e Rom = refl
 io_part_same f g e (Window kind) = refl
 
-module _ (roots : List ℕ) (s t : System) (pools : Pools) (p : IsPlannable roots s pools) (tables : (c : Class) → IsTable roots s pools c (place_at roots s pools))
+module _ (roots : List ℕ) (s t : System) (pools : Pools) (p : IsPlannable roots s pools) (tables : (c : WindowKind) → IsTable roots s pools c (place_at roots s pools))
     (planned : AllZip (IsPlannedFunction roots s pools) s t) where
   pub planned_pairs : AllZip IsMoved s t
   planned_pairs = zip_by (IsPlannedFunction roots s pools) IsMoved s t (planned_is_moved roots s pools p tables) planned
 
   -- ---- the window that is needed is there
 
-  window_there : (b : Function) (kind : WindowKind) → Contains s b → is_bridge b ≡ true → has_behind s pools (window_class kind) b ≡ true → has_window kind b.probe ≡ true
+  window_there : (b : Function) (kind : WindowKind) → Contains s b → is_bridge b ≡ true → has_behind s pools kind b ≡ true → has_window kind b.probe ≡ true
   window_there b kind listed bridge has =
-      let c = window_class kind in
       let d = is_decodable roots s pools p tables b listed in
-      let need = ltb-true 0 (need_behind s pools c b) (sym (need_is_behind roots s pools p (place_at roots s pools) tables b c listed bridge) ∙ has) in
-      ap (λ k. has_window k b.probe) (sym (kind_of_class kind))
-      ∙ needed_window roots s pools p.system p.nested p.can.windows c (tables c).small b listed bridge (d.windows (window_of c) (eqb-true (layout b.image) 1 bridge)) need
+      let need = ltb-true 0 (need_behind s pools kind b) (sym (need_is_behind roots s pools p (place_at roots s pools) tables b kind listed bridge) ∙ has) in
+      needed_window roots s pools p.system p.nested p.can.windows kind (tables kind).small b listed bridge (d.windows kind (eqb-true (layout b.image) 1 bridge)) need
 
-  record PlacedWindow (f : Function) (c : Class) (kind : WindowKind) : Type 0 where
+  record PlacedWindow (f : Function) (c : WindowKind) (kind : WindowKind) : Type 0 where
     bridge : is_bridge f ≡ true
-    class : c ≡ window_class kind
-    has : has_behind s pools (window_class kind) f ≡ true
+    class : c ≡ kind
+    has : has_behind s pools kind f ≡ true
 
-  placed_window : (f : Function) → Contains s f → (c : Class) (kind : WindowKind) → is_placed s pools c f (Window kind) ≡ true → PlacedWindow f c kind
+  placed_window : (f : Function) → Contains s f → (c : WindowKind) (kind : WindowKind) → is_placed s pools c f (Window kind) ≡ true → PlacedWindow f c kind
   placed_window f listed c kind placed =
-      let outer = and_parts (is_bridge f && same_class c (window_class kind)) (nat_lt 0 (need_behind s pools c f)) placed in
-      let inner = and_parts (is_bridge f) (same_class c (window_class kind)) outer.0 in
-      let class = class_is c kind inner.1 in
-      let need : nat_lt 0 (need_behind s pools (window_class kind) f) ≡ true = subst (λ d. nat_lt 0 (need_behind s pools d f) ≡ true) class outer.1 in
-      record { bridge = inner.0; class = class; has = need_is_behind roots s pools p (place_at roots s pools) tables f (window_class kind) listed inner.0 ∙ need }
+      let outer = and_parts (is_bridge f && same_class c kind) (nat_lt 0 (need_behind s pools c f)) placed in
+      let inner = and_parts (is_bridge f) (same_class c kind) outer.0 in
+      let class = sym (same_class_is c kind inner.1) in
+      let need : nat_lt 0 (need_behind s pools kind f) ≡ true = subst (λ d. nat_lt 0 (need_behind s pools d f) ≡ true) class outer.1 in
+      record { bridge = inner.0; class = class; has = need_is_behind roots s pools p (place_at roots s pools) tables f kind listed inner.0 ∙ need }
 
   -- ---- one function
 
   -- a part that is placed shows its place
-  shows : (f g : Function) → Contains s f → IsPlannedFunction roots s pools f g → (c : Class) (part : Part) → is_placed s pools c f part ≡ true
+  shows : (f g : Function) → Contains s f → IsPlannedFunction roots s pools f g → (c : WindowKind) (part : Part) → is_placed s pools c f part ≡ true
       → range_of g part ≡ record { first = place_at roots s pools f part; last = place_at roots s pools f part + (size_in s pools c f part - 1) }
   shows f g listed filled c (Bar n) placed =
       let item = (and_parts (nat_lt n (bar_count (layout f.image)) && has_bar f.probe n) (same_class c (class_of s pools f (Bar n))) placed).0 in
       let parts = and_parts (nat_lt n (bar_count (layout f.image))) (has_bar f.probe n) item in
       bar_range roots s pools p tables f g listed filled n (ltb-true n (bar_count (layout f.image)) parts.0) parts.1
-  shows f g listed filled c Rom placed = rom_range roots s pools p tables f g listed filled (and_parts (has_rom f.image f.probe) (same_class c MemoryClass) placed).0
+  shows f g listed filled c Rom placed = rom_range roots s pools p tables f g listed filled (and_parts (has_rom f.image f.probe) (same_class c MemoryWindow) placed).0
   shows f g listed filled c (Window kind) placed =
       let found = placed_window f listed c kind placed in
       let place = place_at roots s pools f (Window kind) in
       (opened_window roots s pools p tables f g listed filled found.bridge kind (window_there f kind listed found.bridge found.has) found.has).0
-      ∙ ap (λ need. record { first = place; last = place + (window_size (window_class kind) need - 1) }) (need_same roots s pools p tables f listed (window_class kind) found.bridge)
+      ∙ ap (λ need. record { first = place; last = place + (window_size kind need - 1) }) (need_same roots s pools p tables f listed kind found.bridge)
       ∙ ap (λ d. record { first = place; last = place + (window_size d (need_behind s pools d f) - 1) }) (sym found.class)
 
-  open_by : (f g : Function) → Contains s f → IsPlannedFunction roots s pools f g → (kind : WindowKind) → is_bridge f ≡ true → has_behind s pools (window_class kind) f ≡ true → is_open g kind ≡ true
+  open_by : (f g : Function) → Contains s f → IsPlannedFunction roots s pools f g → (kind : WindowKind) → is_bridge f ≡ true → has_behind s pools kind f ≡ true → is_open g kind ≡ true
   open_by f g listed filled kind bridge has =
       open_is roots s pools p tables f g listed filled kind
-      ∙ and_from (is_bridge f && has_window kind f.probe) (has_behind s pools (window_class kind) f) (and_from (is_bridge f) (has_window kind f.probe) bridge (window_there f kind listed bridge has)) has
+      ∙ and_from (is_bridge f && has_window kind f.probe) (has_behind s pools kind f) (and_from (is_bridge f) (has_window kind f.probe) bridge (window_there f kind listed bridge has)) has
 
-  opens : (f g : Function) → Contains s f → IsPlannedFunction roots s pools f g → (c : Class) → is_placed s pools c f (Window (window_of c)) ≡ true → is_open g (window_of c) ≡ true
-  opens f g listed filled c placed = let found = placed_window f listed c (window_of c) placed in open_by f g listed filled (window_of c) found.bridge found.has
+  opens : (f g : Function) → Contains s f → IsPlannedFunction roots s pools f g → (c : WindowKind) → is_placed s pools c f (Window c) ≡ true → is_open g c ≡ true
+  opens f g listed filled c placed = let found = placed_window f listed c c placed in open_by f g listed filled c found.bridge found.has
 
   -- and nothing else has a place
   only : (f g : Function) → Contains s f → IsPlannedFunction roots s pools f g → (part : Part) → is_item g part ≡ true → is_placed s pools (class_of t pools g part) f part ≡ true
@@ -112,17 +100,16 @@ module _ (roots : List ℕ) (s t : System) (pools : Pools) (p : IsPlannable root
       let was : (nat_lt n (bar_count (layout f.image)) && has_bar f.probe n) ≡ true =
       ap (λ k. nat_lt n (bar_count k) && has_bar f.probe n) (sym (layout_same f g m is.image)) ∙ ap (λ probe. nat_lt n (bar_count (layout g.image)) && has_bar probe n) (sym m.probe) ∙ item in
       ap (λ d. is_placed s pools d f (Bar n)) (class_stays s t p.system planned_pairs pools f g m (Bar n))
-      ∙ and_from (nat_lt n (bar_count (layout f.image)) && has_bar f.probe n) (same_class c c) was (class_same_itself c)
+      ∙ and_from (nat_lt n (bar_count (layout f.image)) && has_bar f.probe n) (same_class c c) was (class_itself c)
   only f g listed filled Rom item =
       let is = is_function roots s pools p tables f listed in
       let m = planned_is_moved roots s pools p tables f g listed filled in
       and_from (has_rom f.image f.probe) true (sym (has_rom_same f g m is.image) ∙ item) refl
   only f g listed filled (Window kind) item =
-      let c = window_class kind in
-      let outer = and_parts (is_bridge f && has_window kind f.probe) (has_behind s pools c f) (sym (open_is roots s pools p tables f g listed filled kind) ∙ item) in
+      let outer = and_parts (is_bridge f && has_window kind f.probe) (has_behind s pools kind f) (sym (open_is roots s pools p tables f g listed filled kind) ∙ item) in
       let inner = and_parts (is_bridge f) (has_window kind f.probe) outer.0 in
-      let need : nat_lt 0 (need_behind s pools c f) ≡ true = sym (need_is_behind roots s pools p (place_at roots s pools) tables f c listed inner.0) ∙ outer.1 in
-      and_from (is_bridge f && same_class c c) (nat_lt 0 (need_behind s pools c f)) (and_from (is_bridge f) (same_class c c) inner.0 (class_same_itself c)) need
+      let need : nat_lt 0 (need_behind s pools kind f) ≡ true = sym (need_is_behind roots s pools p (place_at roots s pools) tables f kind listed inner.0) ∙ outer.1 in
+      and_from (is_bridge f && same_class kind kind) (nat_lt 0 (need_behind s pools kind f)) (and_from (is_bridge f) (same_class kind kind) inner.0 (class_itself kind)) need
 
   pub shown_one : (f g : Function) → Contains s f → IsPlannedFunction roots s pools f g → IsShown s t pools (place_at roots s pools) f g
   shown_one f g listed filled = record {
@@ -154,7 +141,7 @@ module _ (roots : List ℕ) (s t : System) (pools : Pools) (p : IsPlannable root
       ap (λ parts. list_any (λ part. not (is_io_part g part)) parts || memory || prefetch) (parts_kept f g listed filled)
       ∙ ap (λ b. b || memory || prefetch) (any_same (λ part. not (is_io_part g part)) (λ part. not (is_io_part f part)) (bars_and_rom f) (λ part. ap not (io_part_same f g filled.probe part)))
       ∙ ap (λ b. own || b || prefetch) (open_is roots s pools p tables f g listed filled MemoryWindow)
-      ∙ ap (λ b. own || (is_bridge f && has_window MemoryWindow f.probe && has_behind s pools MemoryClass f) || b) (open_is roots s pools p tables f g listed filled PrefetchWindow)
+      ∙ ap (λ b. own || (is_bridge f && has_window MemoryWindow f.probe && has_behind s pools MemoryWindow f) || b) (open_is roots s pools p tables f g listed filled PrefetchWindow)
 
   pub switched_on : IsSwitchedOn t
   switched_on = record {

@@ -8,9 +8,10 @@ use Rattle.std.proofs.lemmas.List.{map-append}
 use Rattle.std.proofs.lemmas.List.Elements.{filter-append}
 use Rattle.std.proofs.lemmas.List.Sums.{sum_by-cons, sum_by-append, sum-map}
 use Rattle.std.proofs.lemmas.List.Sorted.{sum_by-IsPermutation, IsPermutation-append_comm, IsPermutation-append_right}
+use Rattle.pci_spec.specs.Window.{WindowKind}
 use Rattle.pci_spec.specs.System.{System, Function, IsSystem, Part, Rom, is_bridge, is_implemented}
 use Rattle.pci_spec.specs.Bus.{is_root, are_siblings, IsNested}
-use Rattle.pci_spec.specs.Plan.{Pools, Class, class_of, same_class, size_of, sizes_in, window_size, limited, items_on, has_behind}
+use Rattle.pci_spec.specs.Plan.{Pools, class_of, same_class, size_of, sizes_in, window_size, limited, items_on, has_behind}
 use Rattle.pci_spec.specs.Place.{Item, part_item, window_item, items_among, own_items, items_beside}
 use Rattle.pci_spec.specs.Planning.Room.{root_items}
 use Rattle.pci_spec.specs.Planning.Table.{need_behind}
@@ -53,10 +54,10 @@ sum_split h f g (x ∷ xs) each =
 abbrev pub item_sizes : List Item → List ℕ
 item_sizes items = map (λ (i : Item). i.size) items
 
-abbrev pub window_sizes : System → Pools → Class → Function → List ℕ
+abbrev pub window_sizes : System → Pools → WindowKind → Function → List ℕ
 window_sizes s pools c f = if is_bridge f && nat_lt 0 (need_behind s pools c f) then window_size c (limited (need_behind s pools c f)) ∷ [] else []
 
-module _ (s : System) (pools : Pools) (c : Class) where
+module _ (s : System) (pools : Pools) (c : WindowKind) where
   among_sizes : (f : Function) (parts : List Part) → item_sizes (items_among s pools c f parts) ≡ map (size_of f) (filter (λ part. same_class c (class_of s pools f part)) (filter (is_implemented f) parts))
   among_sizes f parts = map_map (part_item f) (λ (i : Item). i.size) (filter (λ part. same_class c (class_of s pools f part)) (filter (is_implemented f) parts))
 

@@ -4,9 +4,10 @@ use Rattle.std.specs.Bool.{◌==◌, if◌then◌else◌}
 use Rattle.std.specs.List.{Contains, find}
 use Rattle.std.proofs.lemmas.Bool.{cases_Bool, cases_eq, both_ways, and_parts, and_from, eqb-true, eq-eqb, false_from_ne_true}
 use Rattle.pci_spec.specs.Slot.{slot_number}
+use Rattle.pci_spec.specs.Window.{WindowKind}
 use Rattle.pci_spec.specs.System.{System, Function, IsSystem, is_bridge}
 use Rattle.pci_spec.specs.Bus.{secondary, is_behind, is_root, IsNested}
-use Rattle.pci_spec.specs.Plan.{Pools, Class}
+use Rattle.pci_spec.specs.Plan.{Pools}
 use Rattle.pci_spec.specs.Place.{window_item, items_beside, place_from, start_of, start_of_roots, start_within, behind_window, place_of}
 use Rattle.pci_spec.proofs.Members.{in_nil, in_head, in_tail, in_cons_cases}
 use Rattle.pci_spec.proofs.BusRanges.{IsWithin, ordered, within_of_behind, apart_shares_none, behind_is_no_root}
@@ -37,7 +38,7 @@ find_cases p (x ∷ xs) = elim (cases_Bool (p x)) [
 abbrev leads_to : ℕ → Function → Bool
 leads_to bus b = is_bridge b && secondary b == bus
 
-module _ (roots : List ℕ) (s : System) (pools : Pools) (c : Class) where
+module _ (roots : List ℕ) (s : System) (pools : Pools) (c : WindowKind) where
   -- where the window of a bridge stands, by where its bus starts
   abbrev window_at : ℕ → Function → ℕ
   window_at depth b = place_from (start_within roots s pools c depth b.slot.bus) (items_beside roots s pools c b.slot.bus) (window_item s pools c b)

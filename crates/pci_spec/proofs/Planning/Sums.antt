@@ -3,9 +3,10 @@ use Rattle.std.proofs.Common.{◌≡◌, ℕ, ◌+◌, List, [], ◌∷◌, ◌+
 use Rattle.std.specs.Bool.{nat_lt, ◌==◌, if◌then◌else◌}
 use Rattle.std.specs.List.{flat_map, sum, sum_by}
 use Rattle.std.proofs.lemmas.List.Sums.{sum_by-append, sum_by-cons}
+use Rattle.pci_spec.specs.Window.{WindowKind}
 use Rattle.pci_spec.specs.System.{System, Function, IsSystem, is_bridge}
 use Rattle.pci_spec.specs.Bus.{secondary, IsNested}
-use Rattle.pci_spec.specs.Plan.{Pools, Class, sizes_in, window_size, limited, items_on}
+use Rattle.pci_spec.specs.Plan.{Pools, sizes_in, window_size, limited, items_on}
 use Rattle.pci_spec.specs.Planning.Table.{need_behind}
 use Rattle.pci_spec.specs.Planning.BusNeeds.{added, added_on}
 use Rattle.pci_spec.proofs.Planning.Needs.{own_sizes, window_over, items_by_behind}
@@ -18,7 +19,7 @@ by_test true false need sizes size = refl
 by_test false true need sizes size = refl
 by_test false false need sizes size = refl
 
-module _ (s : System) (pools : Pools) (c : Class) (bus : ℕ) where
+module _ (s : System) (pools : Pools) (c : WindowKind) (bus : ℕ) where
   abbrev window_sizes : Function → List ℕ
   window_sizes b = window_over c bus b (items_on s pools c (secondary b))
 

@@ -7,12 +7,13 @@ use Rattle.std.proofs.lemmas.List.{get_or-map, length-map}
 use Rattle.std.proofs.lemmas.Nat.{pow_pos}
 use Rattle.pci_spec.specs.Number.{lowest_one}
 use Rattle.pci_spec.specs.Bar.{bar_at, is_io, whole_bar}
+use Rattle.pci_spec.specs.Window.{WindowKind, IoWindow, MemoryWindow, PrefetchWindow}
 use Rattle.pci_spec.specs.Rom.{rom_at}
 use Rattle.pci_spec.specs.Slot.{Slot, same_slot}
 use Rattle.pci_spec.specs.Header.{layout, rom_register}
 use Rattle.pci_spec.specs.System.{System, Function, IsSystem, Part, Bar, Rom, Window, is_bridge, register_of}
 use Rattle.pci_spec.specs.Bus.{secondary, LeadsTo, IsNested, is_root}
-use Rattle.pci_spec.specs.Plan.{Pools, Class, IoClass, MemoryClass, PrefetchClass, pool_of, same_class, window_class, items_on, class_of, window_of}
+use Rattle.pci_spec.specs.Plan.{Pools, pool_of, same_class, items_on, class_of}
 use Rattle.pci_spec.proofs.BusRanges.{root_means}
 use Rattle.pci_spec.specs.Planning.Layout.{range_of, is_item, IsInside, LieApart, AreBeside, AreTwo, IsLaidOut}
 use Rattle.pci_spec.specs.Planning.Placing.{starts, IsPlacedFrom}
@@ -27,10 +28,10 @@ same_slot_itself : (s : Slot) → same_slot s s ≡ true
 same_slot_itself s = and_from (s.bus == s.bus && s.device == s.device) (s.function == s.function)
     (and_from (s.bus == s.bus) (s.device == s.device) (eq-eqb s.bus s.bus refl) (eq-eqb s.device s.device refl)) (eq-eqb s.function s.function refl)
 
-pub class_itself : (c : Class) → same_class c (window_class (window_of c)) ≡ true
-class_itself IoClass = refl
-class_itself MemoryClass = refl
-class_itself PrefetchClass = refl
+pub class_itself : (c : WindowKind) → same_class c c ≡ true
+class_itself IoWindow = refl
+class_itself MemoryWindow = refl
+class_itself PrefetchWindow = refl
 
 pub register_same : (f g : Function) (p : Part) → layout g.image ≡ layout f.image → register_of g p ≡ register_of f p
 register_same f g (Bar n) e = refl
@@ -44,7 +45,7 @@ pub record IsAt (start size first total : ℕ) : Type 0 where
   pub high : first + size ≤ start + total
   pub multiple : first % size ≡ 0
 
-module _ (s : System) (pools : Pools) (c : Class) (first : Function → Part → ℕ) (Side : Function → Type 0) (total start : ℕ) (items : List Item)
+module _ (s : System) (pools : Pools) (c : WindowKind) (first : Function → Part → ℕ) (Side : Function → Type 0) (total start : ℕ) (items : List Item)
     (on : IsPlacedOn s pools c first Side total start items) where
   abbrev sizes : List ℕ
   sizes = map (size_at s pools c) items
@@ -119,7 +120,7 @@ module _ (s : System) (pools : Pools) (c : Class) (first : Function → Part →
 -- ---- the whole
 
 module _ (roots : List ℕ) (s t : System) (pools : Pools) (system : IsSystem s) (nested : IsNested roots s) (first : Function → Part → ℕ)
-    (shown : AllZip (IsShown s t pools first) s t) (tables : (c : Class) → IsTable roots s pools c first) where
+    (shown : AllZip (IsShown s t pools first) s t) (tables : (c : WindowKind) → IsTable roots s pools c first) where
   record Old (g : Function) : Type 0 where
     f : Function
     listed : Contains s f
@@ -131,15 +132,15 @@ module _ (roots : List ℕ) (s t : System) (pools : Pools) (system : IsSystem s)
   bus_of : (g : Function) (o : Old g) → g.slot.bus ≡ o.f.slot.bus
   bus_of g o = ap (λ (x : Slot). x.bus) o.shows.moved.slot
 
-  small_all : (c : Class) (b : Function) → Contains s b → is_bridge b ≡ true → need_behind s pools c b ≤ 2 ^ 65
+  small_all : (c : WindowKind) (b : Function) → Contains s b → is_bridge b ≡ true → need_behind s pools c b ≤ 2 ^ 65
   small_all c b listed bridge = (tables c).small b listed bridge
 
-  size_some : (c : Class) (f : Function) (p : Part) → Contains s f → is_placed s pools c f p ≡ true → 0 < size_in s pools c f p
+  size_some : (c : WindowKind) (f : Function) (p : Part) → Contains s f → is_placed s pools c f p ≡ true → 0 < size_in s pools c f p
   size_some c f (Bar n) listed there = pow_pos (lowest_one (if is_io (bar_at f.probe n) then 2 else 4) (whole_bar f.probe f.probe n))
   size_some c f Rom listed there = pow_pos (lowest_one 0 (rom_at f.image f.probe))
   size_some c f (Window kind) listed there =
-      let outer = and_parts (is_bridge f && same_class c (window_class kind)) (nat_lt 0 (need_behind s pools c f)) there in
-      let inner = and_parts (is_bridge f) (same_class c (window_class kind)) outer.0 in
+      let outer = and_parts (is_bridge f && same_class c kind) (nat_lt 0 (need_behind s pools c f)) there in
+      let inner = and_parts (is_bridge f) (same_class c kind) outer.0 in
       power_pos (size_in s pools c f (Window kind)) (size_power s pools c f (Window kind) (small_all c f listed inner.0))
 
   -- in the pool of its class
@@ -161,16 +162,16 @@ module _ (roots : List ℕ) (s t : System) (pools : Pools) (system : IsSystem s)
 
   -- ---- the bridge that leads to a bus
 
-  need_above : (c : Class) (f : Function) (p : Part) → Contains s f → is_placed s pools c f p ≡ true → (b : Function) → secondary b ≡ f.slot.bus → 0 < need_behind s pools c b
+  need_above : (c : WindowKind) (f : Function) (p : Part) → Contains s f → is_placed s pools c f p ≡ true → (b : Function) → secondary b ≡ f.slot.bus → 0 < need_behind s pools c b
   need_above c f p listed there b to = subst (λ bus. 0 < sum (items_on s pools c bus)) (sym to) (needed s pools c roots system nested f p listed there (small_all c))
 
-  window_placed : (c : Class) (b : Function) → is_bridge b ≡ true → 0 < need_behind s pools c b → is_placed s pools c b (Window (window_of c)) ≡ true
+  window_placed : (c : WindowKind) (b : Function) → is_bridge b ≡ true → 0 < need_behind s pools c b → is_placed s pools c b (Window c) ≡ true
   window_placed c b bridge need =
-      and_from (is_bridge b && same_class c (window_class (window_of c))) (nat_lt 0 (need_behind s pools c b))
-      (and_from (is_bridge b) (same_class c (window_class (window_of c))) bridge (class_itself c)) (lt-ltb 0 (need_behind s pools c b) need)
+      and_from (is_bridge b && same_class c c) (nat_lt 0 (need_behind s pools c b))
+      (and_from (is_bridge b) (same_class c c) bridge (class_itself c)) (lt-ltb 0 (need_behind s pools c b) need)
 
   window_there : (g d : Function) (p : Part) → Contains t g → is_item g p ≡ true → LeadsTo t d g.slot.bus
-      → (is_item d (Window (window_of (class_of t pools g p))) ≡ true) × IsInside (range_of g p) (range_of d (Window (window_of (class_of t pools g p))))
+      → (is_item d (Window (class_of t pools g p)) ≡ true) × IsInside (range_of g p) (range_of d (Window (class_of t pools g p)))
   window_there g d p in_g item (in_d, bridge, to) =
       let o = old g in_g in
       let u = old d in_d in
@@ -183,7 +184,7 @@ module _ (roots : List ℕ) (s t : System) (pools : Pools) (system : IsSystem s)
       let need = need_above c f p o.listed there b leads in
       let table = tables c in
       let on = table.behind b u.listed was_bridge need in
-      let a = is_at s pools c first (λ h. h.slot.bus ≡ secondary b) (need_behind s pools c b) (first b (Window (window_of c))) (table.behind_items b) on f p o.listed (sym leads) there in
+      let a = is_at s pools c first (λ h. h.slot.bus ≡ secondary b) (need_behind s pools c b) (first b (Window c)) (table.behind_items b) on f p o.listed (sym leads) there in
       let window = window_placed c b was_bridge need in
       let least = window_least c (need_behind s pools c b) (small_all c b u.listed was_bridge) in
       let some = size_some c f p o.listed there in
@@ -191,8 +192,8 @@ module _ (roots : List ℕ) (s t : System) (pools : Pools) (system : IsSystem s)
       let high = a.high in
       let enough = least.enough in (
         u.shows.opens c window,
-        subst (λ r. IsInside r (range_of d (Window (window_of c)))) (sym (o.shows.shows c p there))
-            (subst (λ r. IsInside record { first = first f p; last = first f p + (size_in s pools c f p - 1) } r) (sym (u.shows.shows c (Window (window_of c)) window))
+        subst (λ r. IsInside r (range_of d (Window c))) (sym (o.shows.shows c p there))
+            (subst (λ r. IsInside record { first = first f p; last = first f p + (size_in s pools c f p - 1) } r) (sym (u.shows.shows c (Window c) window))
             (omega (arith, low), omega (arith, high, some, enough))),
       )
 
@@ -240,7 +241,7 @@ module _ (roots : List ℕ) (s t : System) (pools : Pools) (system : IsSystem s)
                   let leads = one.1 in
                   let need = need_above c f p o.listed there_f b leads.2 in
                   let on = table.behind b leads.0 leads.1 need in
-                  gap (two_places s pools c first (λ x. x.slot.bus ≡ secondary b) (need_behind s pools c b) (first b (Window (window_of c))) (table.behind_items b) on f e p q o.listed u.listed
+                  gap (two_places s pools c first (λ x. x.slot.bus ≡ secondary b) (need_behind s pools c b) (first b (Window c)) (table.behind_items b) on f e p q o.listed u.listed
                   (sym leads.2) (sym bus ∙ sym leads.2) there_f there_e was_two)
             ]
       ]

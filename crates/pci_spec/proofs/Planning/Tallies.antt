@@ -10,10 +10,11 @@ use Rattle.std.proofs.lemmas.List.Sums.{fold-append, sum_by-append, sum_by-cons,
 use Rattle.pci_spec.specs.Slot.{slot_number}
 use Rattle.pci_spec.specs.Number.{has_bit, lowest_one}
 use Rattle.pci_spec.specs.Bar.{bar_at, is_io, whole_bar}
+use Rattle.pci_spec.specs.Window.{WindowKind, IoWindow, MemoryWindow, PrefetchWindow, page_size}
 use Rattle.pci_spec.specs.Rom.{rom_at}
 use Rattle.pci_spec.specs.System.{System, Function, IsSystem, Part, Bar, Rom, Window, bars_and_rom, is_bridge}
 use Rattle.pci_spec.specs.Bus.{secondary, is_root, IsNested}
-use Rattle.pci_spec.specs.Plan.{Pools, Class, IoClass, MemoryClass, PrefetchClass, class_of, same_class, size_of, step_of, sizes_in, window_size, limited, greatest, items_on, need_of, need_of_roots, greatest_of_roots}
+use Rattle.pci_spec.specs.Plan.{Pools, class_of, same_class, size_of, sizes_in, window_size, limited, greatest, items_on, need_of, need_of_roots, greatest_of_roots}
 use Rattle.pci_spec.specs.Planning.Table.{need_behind}
 use Rattle.pci_spec.specs.Planning.BusNeeds.{added, added_on}
 use Rattle.pci_spec.proofs.Members.{in_nil, in_cons_cases, in_head, in_tail, in_flat_map_to, in_flat_map_from, IsInPiece, in_map_to, IsMade}
@@ -85,26 +86,26 @@ sum_of_none (x ∷ xs) none =
 -- ---- what a function adds to its bus
 
 -- the window of a bridge with something behind it
-abbrev pub behind_sizes : System → Pools → Class → Function → List ℕ
+abbrev pub behind_sizes : System → Pools → WindowKind → Function → List ℕ
 behind_sizes s pools c f =
     if is_bridge f && nat_lt 0 (need_behind s pools c f) then window_size c (limited (need_behind s pools c f)) ∷ [] else []
 
 -- a function's own BARs and ROM, and that window
-abbrev pub function_sizes : System → Pools → Class → Function → List ℕ
+abbrev pub function_sizes : System → Pools → WindowKind → Function → List ℕ
 function_sizes s pools c f = sizes_in s pools c f ++ behind_sizes s pools c f
 
 one_or_none : (b : Bool) (size : ℕ) → sum (cond b (size ∷ []) []) ≡ cond b size 0
 one_or_none true size = let e : 0 + size ≡ size = omega arith in e
 one_or_none false size = refl
 
-pub sum_of_function : (s : System) (pools : Pools) (c : Class) (f : Function) → sum (function_sizes s pools c f) ≡ added s pools c f (need_behind s pools c f)
+pub sum_of_function : (s : System) (pools : Pools) (c : WindowKind) (f : Function) → sum (function_sizes s pools c f) ≡ added s pools c f (need_behind s pools c f)
 sum_of_function s pools c f =
     let n = need_behind s pools c f in
     sum_append (sizes_in s pools c f) (behind_sizes s pools c f)
     ∙ ap (λ x. sum (sizes_in s pools c f) + x) (one_or_none (is_bridge f && nat_lt 0 n) (window_size c (limited n)))
 
 -- what a function adds to a bus
-abbrev pub part_of : System → Pools → Class → ℕ → Function → ℕ
+abbrev pub part_of : System → Pools → WindowKind → ℕ → Function → ℕ
 part_of s pools c bus f = if f.slot.bus == bus then added s pools c f (need_behind s pools c f) else 0
 
 no_sum : {X : Type 0} (f : X → ℕ) (xs : List X) → ((x : X) → Contains xs x → f x ≡ 0) → sum_by f xs ≡ 0
@@ -116,16 +117,16 @@ no_sum f xs none =
 -- ---- the pass from the highest slot down
 
 -- where the function that comes next is passed too, a bus has what it adds
-pub added_more : (s : System) (pools : Pools) (c : Class) (bus k : ℕ) (f : Function) (rest : List Function) → drop k s ≡ f ∷ rest
+pub added_more : (s : System) (pools : Pools) (c : WindowKind) (bus k : ℕ) (f : Function) (rest : List Function) → drop k s ≡ f ∷ rest
     → added_on s pools c bus (drop k s) ≡ part_of s pools c bus f + added_on s pools c bus rest
 added_more s pools c bus k f rest e = ap (λ xs. added_on s pools c bus xs) e ∙ sum_by-cons (part_of s pools c bus) f rest
 
 -- what a function adds to the roots
-abbrev pub root_sizes : List ℕ → System → Pools → Class → Function → List ℕ
+abbrev pub root_sizes : List ℕ → System → Pools → WindowKind → Function → List ℕ
 root_sizes roots s pools c f = if is_root roots f.slot.bus then function_sizes s pools c f else []
 
 -- a size on a bus is one of a function that stands there
-pub record IsSizeOn (s : System) (pools : Pools) (c : Class) (bus x : ℕ) : Type 0 where
+pub record IsSizeOn (s : System) (pools : Pools) (c : WindowKind) (bus x : ℕ) : Type 0 where
   pub f : Function
   pub listed : Contains s f
   pub on_bus : f.slot.bus ≡ bus
@@ -157,15 +158,15 @@ one_small : (b : Bool) (size x : ℕ) → size ≤ 2 ^ 65 → Contains (cond b (
 one_small true size x small has = elim (in_cons_cases size [] x has) [ inl here ↦ subst (λ n. n ≤ 2 ^ 65) here small | inr none ↦ absurd (in_nil x none) ]
 one_small false size x small has = absurd (in_nil x has)
 
-step_small : (c : Class) → step_of c ≤ 2 ^ 65
-step_small IoClass = lit≤ tt
-step_small MemoryClass = lit≤ tt
-step_small PrefetchClass = lit≤ tt
+step_small : (c : WindowKind) → page_size c ≤ 2 ^ 65
+step_small IoWindow = lit≤ tt
+step_small MemoryWindow = lit≤ tt
+step_small PrefetchWindow = lit≤ tt
 
-pub window_small : (c : Class) (need : ℕ) → need ≤ 2 ^ 65 → window_size c need ≤ 2 ^ 65
+pub window_small : (c : WindowKind) (need : ℕ) → need ≤ 2 ^ 65 → window_size c need ≤ 2 ^ 65
 window_small c need h = (window_least c need h).least (2 ^ 65) (65, refl) h (step_small c)
 
-pub function_small : (s : System) (pools : Pools) (c : Class) (f : Function) (x : ℕ) → Contains (function_sizes s pools c f) x → x ≤ 2 ^ 65
+pub function_small : (s : System) (pools : Pools) (c : WindowKind) (f : Function) (x : ℕ) → Contains (function_sizes s pools c f) x → x ≤ 2 ^ 65
 function_small s pools c f x has = elim (Contains-append_cases (sizes_in s pools c f) (behind_sizes s pools c f) x has) [
   | inl own ↦
       let kept = filter (λ part. same_class c (class_of s pools f part)) (bars_and_rom f) in
@@ -175,7 +176,7 @@ function_small s pools c f x has = elim (Contains-append_cases (sizes_in s pools
       (window_small c (limited (need_behind s pools c f)) (omega arith)) window
 ]
 
-module _ (roots : List ℕ) (s : System) (pools : Pools) (c : Class) (system : IsSystem s) (nested : IsNested roots s) where
+module _ (roots : List ℕ) (s : System) (pools : Pools) (c : WindowKind) (system : IsSystem s) (nested : IsNested roots s) where
   -- The need behind a bridge is whole when the bridge is met: what is behind it has higher slots.
   pub whole_behind : (k : ℕ) (b : Function) → slice_get s k ≡ Some b → is_bridge b ≡ true → added_on s pools c (secondary b) (drop (k + 1) s) ≡ need_behind s pools c b
   whole_behind k b at bridge =
@@ -286,7 +287,7 @@ module _ (roots : List ℕ) (s : System) (pools : Pools) (c : Class) (system : I
       function_small s pools c is.f x is.has)
 
 -- where nothing has a size, nothing is needed
-pub none_needed : (buses : List ℕ) (s : System) (pools : Pools) (c : Class) → greatest_of_roots buses s pools c ≡ 0 → need_of_roots buses s pools c ≡ 0
+pub none_needed : (buses : List ℕ) (s : System) (pools : Pools) (c : WindowKind) → greatest_of_roots buses s pools c ≡ 0 → need_of_roots buses s pools c ≡ 0
 none_needed [] s pools c none = refl
 none_needed (bus ∷ buses) s pools c none =
     let e = greatest_append (items_on s pools c bus) (flat_map (items_on s pools c) buses) in

@@ -7,7 +7,7 @@ use Rattle.pci_spec.specs.Sound.{IsSingle, IsHome}
 use Rattle.pci_spec.specs.Number.{IsImage}
 use Rattle.pci_spec.specs.Fault.{Fault, fault_number, IsIn}
 use Rattle.pci_spec.specs.Machine.{Write, target_of, after_writes, write_system, system_after}
-use Rattle.pci_spec.specs.Plan.{IsMoved, Pools, Class, pool_of, step_of, window_size, limited, sizes_in, items_on, fits, raised_to, greatest, are_bad, has_behind, IsPlanned}
+use Rattle.pci_spec.specs.Plan.{IsMoved, Pools, pool_of, window_size, limited, sizes_in, items_on, fits, raised_to, greatest, are_bad, has_behind, IsPlanned}
 use Rattle.pci_spec.specs.Planning.Placing.{IsFalling, IsHeld, starts}
 use Rattle.pci_spec.specs.Planning.Safety.{is_on, IsCutAt, IsSafe}
 use Rattle.pci_spec.specs.Sound.{HasChains, IsInProfile, IsSound, is_profile_number}
@@ -62,8 +62,8 @@ OffClaimsNothing =
 -- a window of the size that its need asks for, aligned to itself, holds what is behind it, to the page
 abbrev pub WindowHolds : Type 0
 WindowHolds =
-    (c : Class) (base : ℕ) (sizes : List ℕ) → IsFalling sizes → sum sizes ≤ 2 ^ 65 → base % window_size c (sum sizes) ≡ 0
-    → IsHeld (step_of c) (window_size c (sum sizes)) base sizes (starts base sizes)
+    (c : WindowKind) (base : ℕ) (sizes : List ℕ) → IsFalling sizes → sum sizes ≤ 2 ^ 65 → base % window_size c (sum sizes) ≡ 0
+    → IsHeld (page_size c) (window_size c (sum sizes)) base sizes (starts base sizes)
 
 -- From a lawful start, where each write fits, every state on the way is safe and keeps what isn't about regions.
 abbrev pub StaysLawful : Type 0
@@ -101,7 +101,7 @@ SingleByRanges = (roots : List ℕ) (s : System) (r : Ranges) → HoldsClaims s 
 -- the items of a bus, by the items of the buses behind its bridges
 abbrev pub ItemsByBehind : Type 0
 ItemsByBehind =
-    (roots : List ℕ) (s : System) (pools : Pools) (c : Class) → IsSystem s → IsNested roots s → (bus : ℕ)
+    (roots : List ℕ) (s : System) (pools : Pools) (c : WindowKind) → IsSystem s → IsNested roots s → (bus : ℕ)
     → items_on s pools c bus
     ≡ flat_map (λ f. if f.slot.bus == bus then sizes_in s pools c f else []) s
     ++ flat_map (λ b. if is_bridge b && b.slot.bus == bus && nat_lt 0 (sum (items_on s pools c (secondary b)))
@@ -113,7 +113,7 @@ RaisedIsLeast = (size n : ℕ) → 0 < size → IsRaised size n (raised_to size 
 -- what fits stays in the pool
 abbrev pub FitHasRoom : Type 0
 FitHasRoom =
-    (roots : List ℕ) (s : System) (pools : Pools) (c : Class) → IsTrue (fits roots s pools c) → (pool_of pools c).last < 2 ^ 64 → 0 < sum (root_items roots s pools c)
+    (roots : List ℕ) (s : System) (pools : Pools) (c : WindowKind) → IsTrue (fits roots s pools c) → (pool_of pools c).last < 2 ^ 64 → 0 < sum (root_items roots s pools c)
     → raised_to (greatest (root_items roots s pools c)) (pool_of pools c).first + sum (root_items roots s pools c) ≤ (pool_of pools c).last + 1
 
 -- moving brings no fault of a BAR, nor of what has no address bits
@@ -131,24 +131,24 @@ LaidOutIsSafe =
 abbrev pub TablePlans : Type 0
 TablePlans =
     (roots : List ℕ) (s t : System) (pools : Pools) (first : Function → Part → ℕ) → IsSystem s → IsNested roots s → All IsDecodable s
-    → AllZip (IsShown s t pools first) s t → ((c : Class) → IsTable roots s pools c first) → IsSwitchedOn t → IsPlanned s t pools
+    → AllZip (IsShown s t pools first) s t → ((c : WindowKind) → IsTable roots s pools c first) → IsSwitchedOn t → IsPlanned s t pools
 
 -- which is sound, so that the judgement at the end of planning never refuses.
 abbrev pub TableIsSound : Type 0
 TableIsSound =
     (roots : List ℕ) (s t : System) (pools : Pools) (first : Function → Part → ℕ) → IsSystem s → IsNested roots s → IsInProfile roots s → HasChains s → All IsDecodable s
-    → AllZip (IsShown s t pools first) s t → ((c : Class) → IsTable roots s pools c first) → IsSwitchedOn t → IsFalse (are_bad pools) → IsSound roots t
+    → AllZip (IsShown s t pools first) s t → ((c : WindowKind) → IsTable roots s pools c first) → IsSwitchedOn t → IsFalse (are_bad pools) → IsSound roots t
 
 -- What is placed largest first is a table where it fits.
 abbrev pub FitMakesTable : Type 0
 FitMakesTable =
-    (roots : List ℕ) (s : System) (pools : Pools) (c : Class) (first : Function → Part → ℕ) → IsSystem s → IsNested roots s
+    (roots : List ℕ) (s : System) (pools : Pools) (c : WindowKind) (first : Function → Part → ℕ) → IsSystem s → IsNested roots s
     → IsTrue (fits roots s pools c) → (pool_of pools c).last < 2 ^ 64 → IsPlacing roots s pools c first → IsTable roots s pools c first
 
 -- something of a class is behind a bridge exactly where the bus behind it has need
 abbrev pub BehindIsNeed : Type 0
 BehindIsNeed =
-    (roots : List ℕ) (s : System) (pools : Pools) (c : Class) → IsSystem s → IsNested roots s
+    (roots : List ℕ) (s : System) (pools : Pools) (c : WindowKind) → IsSystem s → IsNested roots s
     → ((b : Function) → Contains s b → IsTrue (is_bridge b) → need_behind s pools c b ≤ 2 ^ 65)
     → (b : Function) → Contains s b → IsTrue (is_bridge b) → has_behind s pools c b ≡ nat_lt 0 (need_behind s pools c b)
 
@@ -195,7 +195,7 @@ StopsOnItsMachine =
 
 -- the need of a bus is what its functions add, in any order
 abbrev pub NeedBySlots : Type 0
-NeedBySlots = (roots : List ℕ) (s : System) (pools : Pools) (c : Class) (bus : ℕ) → IsSystem s → IsNested roots s → sum (items_on s pools c bus) ≡ added_on s pools c bus s
+NeedBySlots = (roots : List ℕ) (s : System) (pools : Pools) (c : WindowKind) (bus : ℕ) → IsSystem s → IsNested roots s → sum (items_on s pools c bus) ≡ added_on s pools c bus s
 
 -- what is built of a function with numbers that fit is moved, and shows them
 abbrev pub BuildShows : Type 0

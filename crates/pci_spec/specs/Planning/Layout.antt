@@ -8,9 +8,9 @@ use Rattle.pci_spec.specs.Bar.{whole_bar}
 use Rattle.pci_spec.specs.Rom.{rom_at, has_rom}
 use Rattle.pci_spec.specs.Window.{base_page, limit_page, page_size}
 use Rattle.pci_spec.specs.Decoded.{Range, aligned_range, bar_size, rom_size, has_bar}
-use Rattle.pci_spec.specs.System.{System, Function, Space, Io, Memory, Part, Bar, Rom, Window, register_of}
+use Rattle.pci_spec.specs.System.{System, Function, Io, Memory, Part, Bar, Rom, Window, register_of}
 use Rattle.pci_spec.specs.Bus.{LeadsTo}
-use Rattle.pci_spec.specs.Plan.{Pools, Class, IoClass, MemoryClass, PrefetchClass, pool_of, class_of, window_of, is_open, wants}
+use Rattle.pci_spec.specs.Plan.{Pools, pool_of, class_of, is_open, wants}
 
 -- the addresses of a BAR, a ROM or an open window
 abbrev pub range_of : Function → Part → Range
@@ -23,11 +23,6 @@ abbrev pub is_item : Function → Part → Bool
 is_item f (Bar n) = nat_lt n (bar_count (layout f.image)) && has_bar f.probe n
 is_item f Rom = has_rom f.image f.probe
 is_item f (Window kind) = is_open f kind
-
-abbrev pub class_space : Class → Space
-class_space IoClass = Io
-class_space MemoryClass = Memory
-class_space PrefetchClass = Memory
 
 abbrev pub IsInside : Range → Range → Type 0
 IsInside inner outer = (outer.first ≤ inner.first) × (inner.last ≤ outer.last)
@@ -47,7 +42,7 @@ AreTwo f p g q = IsFalse (same_slot f.slot g.slot) ⊎ (register_of f p ≡ regi
 pub record IsLaidOut (roots : List ℕ) (t : System) (pools : Pools) : Type 0 where
   pub pool : (f : Function) (p : Part) → Contains t f → IsTrue (is_item f p) → Contains roots f.slot.bus → IsInside (range_of f p) (pool_of pools (class_of t pools f p))
   pub window : (f c : Function) (p : Part) → Contains t f → IsTrue (is_item f p) → LeadsTo t c f.slot.bus
-      → IsTrue (is_open c (window_of (class_of t pools f p))) × IsInside (range_of f p) (range_of c (Window (window_of (class_of t pools f p))))
+      → IsTrue (is_open c (class_of t pools f p)) × IsInside (range_of f p) (range_of c (Window (class_of t pools f p)))
   pub apart : (f g : Function) (p q : Part) → Contains t f → Contains t g → IsTrue (is_item f p) → IsTrue (is_item g q) → AreBeside roots f g
       → class_of t pools f p ≡ class_of t pools g q → AreTwo f p g q → LieApart (range_of f p) (range_of g q)
 

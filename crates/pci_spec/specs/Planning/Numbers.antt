@@ -11,14 +11,14 @@ use Rattle.pci_spec.specs.Fault.{is_in_address_register}
 use Rattle.pci_spec.specs.Decoded.{has_bar}
 use Rattle.pci_spec.specs.System.{System, Function, Part, Bar, Rom, Window, bars_and_rom, is_bridge}
 use Rattle.pci_spec.specs.Machine.{without_low}
-use Rattle.pci_spec.specs.Plan.{Pools, IoClass, MemoryClass, PrefetchClass, class_of, window_class, is_io_part, has_behind}
+use Rattle.pci_spec.specs.Plan.{Pools, class_of, is_io_part, has_behind}
 use Rattle.pci_spec.specs.Place.{Item, part_item, window_item, place_of, nibble_of, closed_bounds}
 use Rattle.pci_spec.specs.Planning.Showing.{bounds_for, bar_value, rom_value}
 
 abbrev pub item_of : System → Pools → Function → Part → Item
 item_of s pools f (Bar n) = part_item f (Bar n)
 item_of s pools f Rom = part_item f Rom
-item_of s pools f (Window kind) = window_item s pools (window_class kind) f
+item_of s pools f (Window kind) = window_item s pools kind f
 
 -- the place of a part
 abbrev pub place_at : List ℕ → System → Pools → Function → Part → ℕ
@@ -47,7 +47,7 @@ rom_number roots s pools f = if has_rom f.image f.probe then rom_value f.image (
 abbrev pub new_bounds : List ℕ → System → Pools → Function → WindowKind → Bounds
 new_bounds roots s pools b kind =
     if not (has_window kind b.probe) then bounds_at kind b.image
-    else if has_behind s pools (window_class kind) b
+    else if has_behind s pools kind b
     then bounds_for kind (nibble_of kind b) (place_at roots s pools b (Window kind)) (place_at roots s pools b (Window kind) + ((item_of s pools b (Window kind)).size - 1))
     else closed_bounds kind (nibble_of kind b)
 
@@ -74,13 +74,13 @@ new_number roots s pools f r = if is_bridge f then bridge_number roots s pools f
 
 -- there is something to decode in I/O space, and in memory space
 abbrev pub needs_io : System → Pools → Function → Bool
-needs_io s pools f = list_any (is_io_part f) (bars_and_rom f) || (is_bridge f && has_window IoWindow f.probe && has_behind s pools IoClass f)
+needs_io s pools f = list_any (is_io_part f) (bars_and_rom f) || (is_bridge f && has_window IoWindow f.probe && has_behind s pools IoWindow f)
 
 abbrev pub needs_memory : System → Pools → Function → Bool
 needs_memory s pools f =
     list_any (λ part. not (is_io_part f part)) (bars_and_rom f)
-    || (is_bridge f && has_window MemoryWindow f.probe && has_behind s pools MemoryClass f)
-    || (is_bridge f && has_window PrefetchWindow f.probe && has_behind s pools PrefetchClass f)
+    || (is_bridge f && has_window MemoryWindow f.probe && has_behind s pools MemoryWindow f)
+    || (is_bridge f && has_window PrefetchWindow f.probe && has_behind s pools PrefetchWindow f)
 
 -- Command with its bits 0 and 1 as there is something to decode
 abbrev pub new_command : System → Pools → Function → ℕ

@@ -2,13 +2,14 @@
 use Rattle.std.specs.Prelude.{◌≡◌, ℕ, ◌<◌, ◌⊎◌, ◌==◌, if◌then◌else◌, IsTrue, List}
 use Rattle.std.specs.List.{AllPairs, flat_map, sum_by}
 use Rattle.pci_spec.specs.Slot.{slot_number}
+use Rattle.pci_spec.specs.Window.{WindowKind}
 use Rattle.pci_spec.specs.System.{System, register_of}
 use Rattle.pci_spec.specs.Bus.{is_root}
-use Rattle.pci_spec.specs.Plan.{Pools, Class}
+use Rattle.pci_spec.specs.Plan.{Pools}
 use Rattle.pci_spec.specs.Place.{Item, own_items, comes_before}
 
 -- the items of a class, in the order of slots and registers
-abbrev pub all_items : System → Pools → Class → List Item
+abbrev pub all_items : System → Pools → WindowKind → List Item
 all_items s pools c = flat_map (own_items s pools c) s
 
 -- of a lower slot, or of a lower register of the same slot

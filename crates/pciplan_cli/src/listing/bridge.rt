@@ -1,13 +1,14 @@
 //! The lines of a bridge: its bus numbers and its windows.
-ghost use Rattle.std.specs.Prelude.{Option, ◌≡◌, ◌++◌, [], ◌∷◌, codes, OnOk};
+ghost use Rattle.std.specs.Prelude.{◌≡◌, ◌++◌, OnOk};
 ghost use Rattle.std.specs.String.{string_bytes};
-ghost use Rattle.pci_spec.specs.Text.{hex_byte};
-ghost use Rattle.pciplan_cli.specs.BridgeLines.{held_text};
+ghost use Rattle.pci_spec.specs.Listing.{window_text, window_line};
+ghost use Rattle.pci_image.specs.WindowKinds.{kind_value};
+ghost use Rattle.pci_function.specs.Space.{space_of};
 
 use super::span::Span;
 use crate::hex_text::{end_line, push_byte};
-use pci_image::offset::{IO_BASE, MEMORY_BASE, PREFETCHABLE_BASE};
 use pci_image::window::Window;
+use pci_image::window_kind::WindowKind;
 use pci_function::space::Space;
 use std::alloc::{AllocError, Allocator};
 
@@ -36,89 +37,39 @@ impl BusLine {
     }
 }
 
-/// Which window of a bridge it is.
-#[derive(Clone, Copy)]
-pub enum WindowKind {
-    Io,
-    Memory,
-    Prefetch,
-}
-
-/// What a window holds: `none` where it isn't implemented, `closed`, or its range.
-#[derive(Clone, Copy)]
-struct Held {
+/// Appends what a window holds: `none` where it isn't implemented, `closed`, or its range.
+fn push_held<A: Allocator>(
+    text: &mut String<A>,
     space: Space,
     window: Option<Window>,
-}
-
-impl Held {
-    ghost use Rattle.pciplan_cli.specs.BridgeLines.{held_text};
-
-    /// Appends what the window holds.
-    fn push_to<A: Allocator>(self, text: &mut String<A>) -> Result<(), AllocError>
-        ensures { OnOk result (string_bytes text.new ≡ string_bytes text.old ++ held_text self) }
-    {
-        match self.window {
-            None => text.push_str("none"),
-            Some(window) => match window.range() {
-                None => text.push_str("closed"),
-                Some(range) => {
-                    let span = Span {
-                        space: self.space,
-                        range,
-                    };
-                    span.push_to(text)
-                }
-            },
-        }
-    }
-}
-
-/// The line of a window, as `window 20 mem closed`.
-#[derive(Clone, Copy)]
-pub struct WindowLine {
-    pub kind: WindowKind,
-    pub window: Option<Window>,
-}
-
-impl WindowLine {
-    ghost use Rattle.pciplan_cli.specs.BridgeLines.{window_line_text};
-
-    /// Appends the line.
-    pub fn push_to<A: Allocator>(self, text: &mut String<A>) -> Result<(), AllocError>
-        ensures { OnOk result (string_bytes text.new ≡ string_bytes text.old ++ window_line_text self) }
-    {
-        let window = self.window;
-        match self.kind {
-            WindowKind::Io => {
-                let space = Space::Io;
-                push_window(text, IO_BASE, " io ", Held { space, window })
-            }
-            WindowKind::Memory => {
-                let space = Space::Mem;
-                push_window(text, MEMORY_BASE, " mem ", Held { space, window })
-            }
-            WindowKind::Prefetch => {
-                let space = Space::Mem;
-                push_window(text, PREFETCHABLE_BASE, " pref ", Held { space, window })
-            }
-        }
-    }
-}
-
-/// Appends the line of the window at a register.
-fn push_window<A: Allocator>(
-    text: &mut String<A>,
-    register: u8,
-    kind: &'static str,
-    held: Held,
 ) -> Result<(), AllocError>
-    ensures { OnOk result (string_bytes text.new
-        ≡ string_bytes text.old ++ (codes "  window " ++ (hex_byte register ++ (kind.now ++ (held_text held ++ 10 ∷ []))))) }
+    ensures { OnOk result (string_bytes text.new ≡ string_bytes text.old ++ window_text (space_of space) window) }
+{
+    match window {
+        None => text.push_str("none"),
+        Some(window) => match window.range() {
+            None => text.push_str("closed"),
+            Some(range) => {
+                let span = Span { space, range };
+                span.push_to(text)
+            }
+        },
+    }
+}
+
+/// Appends the line of a window, as `window 20 mem closed`.
+pub fn push_window<A: Allocator>(
+    text: &mut String<A>,
+    kind: WindowKind,
+    window: Option<Window>,
+) -> Result<(), AllocError>
+    ensures { OnOk result (string_bytes text.new ≡ string_bytes text.old ++ window_line (kind_value kind) window) }
 {
     text.push_str("  window ")?;
-    push_byte(text, register)?;
-    text.push_str(kind)?;
-    held.push_to(text)?;
+    push_byte(text, kind.register())?;
+    text.push_str(" ")?;
+    text.push_str(kind.name())?;
+    text.push_str(" ")?;
+    push_held(text, Space::of(kind), window)?;
     end_line(text)
 }

@@ -1,31 +1,31 @@
 //! The lines of one function, appended to a text.
-ghost use Rattle.std.specs.Prelude.{◌≡◌, ℕ, List, ◌++◌, map, if◌then◌else◌, IfOk, OnOk, IfErr, option_map, Option, Some};
+ghost use Rattle.std.specs.Prelude.{◌≡◌, ◌++◌, map, OnOk, IfErr, option_map};
 ghost use Rattle.std.specs.List.{flat_map, All};
 ghost use Rattle.std.specs.String.{string_bytes};
-ghost use Rattle.pci_spec.specs.Header.{layout};
 ghost use Rattle.pci_spec.specs.Listing.{bar_line, rom_lines, bridge_lines, capability_line, function_listing};
 ghost use Rattle.pci_image.specs.Bars.{decoded_bar_of};
 ghost use Rattle.pci_image.specs.Caps.{place_of};
-ghost use Rattle.pci_image.specs.Faults.{IsImageFaultIn};
 ghost use Rattle.pci_image.specs.Roms.{decoded_rom_of};
+ghost use Rattle.pci_function.specs.Values.{bridge_value, record_value};
 ghost use Rattle.pciplan_cli.specs.CapabilityLines.{IsListed};
-ghost use Rattle.pciplan_cli.specs.Stops.{IsStopIn, registers_listing, bridge_with};
+ghost use Rattle.pciplan_cli.specs.FunctionLines.{record_lines};
+ghost use Rattle.pciplan_cli.specs.Shows.{IsRefusedFor};
 
-use super::bridge::{BusLine, WindowKind, WindowLine};
+use super::bridge::{BusLine, push_window};
 use super::capability::CapabilityLine;
 use super::header::HeaderLine;
 use super::region::{BarLine, RomLine};
-use super::stop::Stop;
-use pci_image::bar::{Bar, bars};
+use pci_dump::memory::Refused;
+use pci_function::decode::decode;
+use pci_function::fault::Fault;
+use pci_function::record::{Bridge, Record};
+use pci_image::bar::Bar;
 use pci_image::capability::{Cap, chain};
-use pci_image::fault::ImageFault;
-use pci_image::header::Header;
+use pci_image::header::layout;
 use pci_image::image::Image;
-use pci_image::offset::{PRIMARY_BUS, SECONDARY_BUS, SUBORDINATE_BUS};
 use pci_image::rom::Rom;
-use pci_image::rom::register::rom;
 use pci_image::slot::Slot;
-use pci_image::window::Windows;
+use pci_image::window_kind::WindowKind;
 use std::alloc::{AllocError, Allocator};
 
 /// Appends a line for each BAR.
@@ -49,34 +49,24 @@ fn push_rom<A: Allocator>(text: &mut String<A>, rom: Option<Rom>) -> Result<(), 
 }
 
 /// Appends the lines of a bridge: its bus numbers and its windows.
-fn push_bridge<A: Allocator>(
-    text: &mut String<A>,
-    image: &Image,
-    windows: Windows,
-) -> Result<(), AllocError>
-    ensures { OnOk result (string_bytes text.new ≡ string_bytes text.old ++ bridge_lines (bridge_with image.now.0 windows)) }
+fn push_bridge<A: Allocator>(text: &mut String<A>, bridge: Bridge) -> Result<(), AllocError>
+    ensures { OnOk result (string_bytes text.new ≡ string_bytes text.old ++ bridge_lines (bridge_value bridge)) }
 {
+    let Bridge {
+        primary,
+        secondary,
+        subordinate,
+        windows,
+    } = bridge;
     let buses = BusLine {
-        primary: image.u8(PRIMARY_BUS),
-        secondary: image.u8(SECONDARY_BUS),
-        subordinate: image.u8(SUBORDINATE_BUS),
+        primary,
+        secondary,
+        subordinate,
     };
     buses.push_to(text)?;
-    let io = WindowLine {
-        kind: WindowKind::Io,
-        window: windows.io,
-    };
-    io.push_to(text)?;
-    let memory = WindowLine {
-        kind: WindowKind::Memory,
-        window: Some(windows.mem),
-    };
-    memory.push_to(text)?;
-    let prefetch = WindowLine {
-        kind: WindowKind::Prefetch,
-        window: windows.pref,
-    };
-    prefetch.push_to(text)
+    push_window(text, WindowKind::Io, windows.io)?;
+    push_window(text, WindowKind::Memory, Some(windows.mem))?;
+    push_window(text, WindowKind::Prefetchable, windows.pref)
 }
 
 /// Appends a line for each capability of an image's list.
@@ -94,39 +84,16 @@ fn push_capabilities<A: Allocator>(
     Ok(())
 }
 
-/// Whether a function is a bridge.
-fn is_bridge(image: &Image) -> Result<bool, ImageFault>
-    ensures ok { IfOk result (λ bridge. layout image.now.0 ≡ (if bridge then 1 else 0)) }
-    ensures fault { IfErr result (λ f. (probe : List ℕ) → IsImageFaultIn image.now.0 probe f) }
+/// Appends the lines of a record: its BARs, its ROM, and its bus numbers and windows.
+fn push_record<A: Allocator>(text: &mut String<A>, decoded: &Record) -> Result<(), AllocError>
+    ensures { OnOk result (string_bytes text.new ≡ string_bytes text.old ++ record_lines (record_value decoded.now)) }
 {
-    match Header::of(image)? {
-        Header::Type0(_) => Ok(false),
-        Header::Type1(_) => Ok(true),
+    push_bars(text, decoded.bars.as_slice())?;
+    push_rom(text, decoded.rom)?;
+    match decoded.bridge {
+        None => Ok(()),
+        Some(bridge) => push_bridge(text, bridge),
     }
-}
-
-/// Appends the lines of a function's header and address registers.
-fn push_registers<A: Allocator>(
-    text: &mut String<A>,
-    slot: Slot,
-    image: &Image,
-    probe: &Image,
-) -> Result<(), Stop>
-    ensures ok { OnOk result (string_bytes text.new ≡ string_bytes text.old ++ registers_listing slot image.now.0 probe.now.0) }
-    ensures stop { IfErr result (IsStopIn image.now.0 probe.now.0) }
-{
-    let bridge = is_bridge(image)?;
-    let first = HeaderLine::of(slot, u8::from(bridge), image);
-    first.push_to(text)?;
-    let bars = bars(image, probe)?;
-    push_bars(text, bars.as_slice())?;
-    let rom = rom(image, probe)?;
-    push_rom(text, rom)?;
-    if bridge {
-        let windows = Windows::of(image, probe)?;
-        push_bridge(text, image, windows)?;
-    }
-    Ok(())
 }
 
 /// Appends the lines of a function.
@@ -138,13 +105,22 @@ pub fn push_function<A: Allocator>(
     slot: Slot,
     image: &Image,
     probe: &Image,
-) -> Result<(), Stop>
+) -> Result<(), Refused<Fault>>
     ensures ok { OnOk result (string_bytes text.new ≡ string_bytes text.old
         ++ function_listing record { slot = slot; image = image.now.0; probe = probe.now.0 }) }
-    ensures stop { IfErr result (IsStopIn image.now.0 probe.now.0) }
+    ensures refused { IfErr result (IsRefusedFor record { slot = slot; image = image.now.0; probe = probe.now.0 }) }
 {
-    push_registers(text, slot, image, probe)?;
-    let caps = chain(image)?;
+    let record = match decode(slot, image, probe) {
+        Ok(record) => record,
+        Err(fault) => return Err(Refused::Fault(Fault::of_image(slot, fault))),
+    };
+    let first = HeaderLine::of(slot, layout(image), image);
+    first.push_to(text)?;
+    push_record(text, &record)?;
+    let caps = match chain(image) {
+        Ok(caps) => caps,
+        Err(fault) => return Err(Refused::Fault(Fault::of_image(slot, fault))),
+    };
     push_capabilities(text, image, caps.as_slice())?;
     Ok(())
 }

@@ -1,5 +1,8 @@
-use Rattle.pci_function.proofs.Pairs.{AreFine}
+use Rattle.std.specs.Prelude.{take}
+use Rattle.std.specs.List.{All}
+use Rattle.pci_spec.specs.System.{system_of}
+use Rattle.pci_function.specs.Profile.{IsAnswering}
 use Rattle.pci_function.proofs.pair.pair.Given as goal
 
 abbrev pub invariant-loop-i : goal.invariant-loop-i
-invariant-loop-i g l = AreFine l.i l.blocks l.probes
+invariant-loop-i g l = All IsAnswering (take l.i (system_of l.blocks l.probes))

@@ -1,7 +1,8 @@
-use Rattle.pci_plan.specs.Pools.{class_value, pools_value}
+use Rattle.pci_image.specs.WindowKinds.{kind_value}
+use Rattle.pci_plan.specs.Pools.{pools_value}
 use Rattle.pci_plan.specs.Above.{system_in}
 use Rattle.pci_plan.proofs.ItemValues.{AreItemsTo}
 use Rattle.pci_plan.proofs.item.items_of.Given as goal
 
 abbrev pub invariant-loop-function : goal.invariant-loop-function
-invariant-loop-function g l = AreItemsTo l.admitted.roots (system_in l.admitted) (pools_value l.pools) (class_value l.class) l.function l.items.items
+invariant-loop-function g l = AreItemsTo l.admitted.roots (system_in l.admitted) (pools_value l.pools) (kind_value l.class) l.function l.items.items

@@ -5,9 +5,10 @@ use Rattle.pci_spec.specs.Bus.{is_root}
 use Rattle.pci_spec.specs.Decoded.{HasRecords}
 use Rattle.pci_spec.proofs.BusRanges.{root_means}
 use Rattle.pci_spec.proofs.Records.{same_truth}
+use Rattle.pci_image.specs.WindowKinds.{kind_value}
 use Rattle.pci_function.specs.Values.{record_value}
 use Rattle.pci_plan.specs.declared.above.Above.{Above}
-use Rattle.pci_plan.specs.Pools.{class_value, pools_value}
+use Rattle.pci_plan.specs.Pools.{pools_value}
 use Rattle.pci_plan.specs.Above.{system_in}
 use Rattle.pci_plan.proofs.Records.{same_count}
 use Rattle.pci_plan.proofs.NeedTables.{AreNeedsFrom, needs_none, needs_step, whole_needs, whole_greatest}
@@ -17,7 +18,7 @@ use Rattle.pci_plan.proofs.need.needs_of.Goals.{then-has+then-greatest-tally, el
 pub loop-done-init : goal.loop-done-init
 loop-done-init g c =
     let s = system_in c.args.admitted.now in
-    needs_none c.args.admitted.now.roots s (pools_value c.args.pools.now) (class_value c.args.class) (length s - 0) (omega arith)
+    needs_none c.args.admitted.now.roots s (pools_value c.args.pools.now) (kind_value c.args.class) (length s - 0) (omega arith)
 
 pub loop-done-preserved : goal.loop-done-preserved
 loop-done-preserved g c =
@@ -49,7 +50,7 @@ loop-done-preserved g c =
       | then-has+then-greatest-tally w ↦ absurd (both_ways c.has.result (sym is ∙ off) w.if-has.true)
       | else-has w ↦ w.greatest-is
     ]) in
-    needs_step roots s admitted.system admitted.nested c.args.pools.now (class_value c.args.class) records has c.args.aboves.now c.requires
+    needs_step roots s admitted.system admitted.nested c.args.pools.now (kind_value c.args.class) records has c.args.aboves.now c.requires
     c.loop-done.done r c.loop-done-test.true c.index-records-records.is c.loop-done.of_bus most c.loop-done.invariant bus d c.bus-bus.ensures t c.tally_of-tally.ensures c.min.result next c.min.ensures root other
 
 at_start : (n done : ℕ) → n ≤ done → n - done ≡ 0
@@ -64,8 +65,8 @@ returns-clause-need g c =
     let has : HasRecords s (map record_value records) = subst (λ rs. HasRecords s rs) (sym c.records-records.ensures.value) c.outline-outline.ensures.records in
     let count = same_count s records has in
     let start = at_start (length s) c.loop-done.done (omega (arith, count)) in
-    whole_needs roots s admitted.system admitted.nested c.args.pools.now (class_value c.args.class) c.loop-done.of_bus c.loop-done.greatest
-    (subst (λ n. AreNeedsFrom roots s (pools_value c.args.pools.now) (class_value c.args.class) n c.loop-done.of_bus c.loop-done.greatest) start c.loop-done.invariant)
+    whole_needs roots s admitted.system admitted.nested c.args.pools.now (kind_value c.args.class) c.loop-done.of_bus c.loop-done.greatest
+    (subst (λ n. AreNeedsFrom roots s (pools_value c.args.pools.now) (kind_value c.args.class) n c.loop-done.of_bus c.loop-done.greatest) start c.loop-done.invariant)
 
 pub returns-clause-greatest : goal.returns-clause-greatest
 returns-clause-greatest g c =
@@ -76,5 +77,5 @@ returns-clause-greatest g c =
     let has : HasRecords s (map record_value records) = subst (λ rs. HasRecords s rs) (sym c.records-records.ensures.value) c.outline-outline.ensures.records in
     let count = same_count s records has in
     let start = at_start (length s) c.loop-done.done (omega (arith, count)) in
-    whole_greatest roots s admitted.system admitted.nested c.args.pools.now (class_value c.args.class) c.loop-done.of_bus c.loop-done.greatest
-    (subst (λ n. AreNeedsFrom roots s (pools_value c.args.pools.now) (class_value c.args.class) n c.loop-done.of_bus c.loop-done.greatest) start c.loop-done.invariant)
+    whole_greatest roots s admitted.system admitted.nested c.args.pools.now (kind_value c.args.class) c.loop-done.of_bus c.loop-done.greatest
+    (subst (λ n. AreNeedsFrom roots s (pools_value c.args.pools.now) (kind_value c.args.class) n c.loop-done.of_bus c.loop-done.greatest) start c.loop-done.invariant)

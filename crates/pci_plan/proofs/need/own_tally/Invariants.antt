@@ -1,7 +1,7 @@
 use Rattle.std.proofs.Common.{take}
-use Rattle.pci_plan.specs.Pools.{class_value}
+use Rattle.pci_image.specs.WindowKinds.{kind_value}
 use Rattle.pci_plan.specs.Sizes.{bar_sizes, IsTallyOf}
 use Rattle.pci_plan.proofs.need.own_tally.Given as goal
 
 abbrev pub invariant-loop-bar : goal.invariant-loop-bar
-invariant-loop-bar l = IsTallyOf (bar_sizes (class_value l.class) l.above l.pools (take l.bar-index l.bar-items)) l.tally
+invariant-loop-bar l = IsTallyOf (bar_sizes (kind_value l.class) l.above l.pools (take l.bar-index l.bar-items)) l.tally

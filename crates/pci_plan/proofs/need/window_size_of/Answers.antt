@@ -4,7 +4,7 @@ use Rattle.pci_spec.proofs.Planning.Placement.{doubled_same, doubled_next, doubl
 use Rattle.pci_plan.proofs.need.window_size_of.Goals as goal
 
 pub loop-init : goal.loop-init
-loop-init c = ap (λ z. doubled_to c.args.need 66 z) c.step_of-size.ensures
+loop-init c = ap (λ z. doubled_to c.args.need 66 z) (c.from-size.ensures ∙ c.page_size.ensures)
 
 pub loop-preserved : goal.loop-preserved
 loop-preserved c =

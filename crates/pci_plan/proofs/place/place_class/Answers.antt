@@ -1,8 +1,9 @@
 use Rattle.std.proofs.Common.{◌≡◌, List, Bool, length, sym, ◌∙◌, ap, subst, get_or}
 use Rattle.std.specs.Bool.{◌==◌}
 use Rattle.std.specs.List.{Contains}
+use Rattle.pci_image.specs.WindowKinds.{kind_value}
 use Rattle.pci_plan.specs.declared.item.Item.{Item}
-use Rattle.pci_plan.specs.Pools.{class_value, pools_value}
+use Rattle.pci_plan.specs.Pools.{pools_value}
 use Rattle.pci_plan.specs.Above.{system_in}
 use Rattle.pci_plan.specs.Places.{first_in, HasPlaces}
 use Rattle.pci_plan.proofs.ClassPlaces.{ready, some_size, small_size, walk_of, walk_of_place, placed_class, placed_none, kept_class}
@@ -14,19 +15,19 @@ empty_of items slice empty same is = ap (λ xs. length xs == 0) (sym same) ∙ s
 
 pub raised-start-requires-clause-some : goal.raised-start-requires-clause-some
 raised-start-requires-clause-some g c =
-    let is = ready c.args.admitted.now.roots (system_in c.args.admitted.now) (pools_value c.args.pools.now) (class_value c.args.class) c.of-pool.result c.in_ok-items.ensures.rooted c.requires.plannable
+    let is = ready c.args.admitted.now.roots (system_in c.args.admitted.now) (pools_value c.args.pools.now) (kind_value c.args.class) c.of-pool.result c.in_ok-items.ensures.rooted c.requires.plannable
     c.of-pool.ensures c.of-pool.type_inv.1.1.1.0.1 c.in_ok-items.items.items c.sort_items.new.items.items c.in_ok-items.ensures.items c.sort_items.ensures.permutation c.in_ok-sort_items.ensures.sorted in
     some_size _ _ _ _ _ is c.args.needs.now.greatest c.requires.needs.greatest (empty_of _ _ _ c.as_slice-sorted.ensures.value c.is_empty.ensures ∙ c.if-not-is_empty.true)
 
 pub raised-start-requires-clause-limited : goal.raised-start-requires-clause-limited
 raised-start-requires-clause-limited g c =
-    let is = ready c.args.admitted.now.roots (system_in c.args.admitted.now) (pools_value c.args.pools.now) (class_value c.args.class) c.of-pool.result c.in_ok-items.ensures.rooted c.requires.plannable
+    let is = ready c.args.admitted.now.roots (system_in c.args.admitted.now) (pools_value c.args.pools.now) (kind_value c.args.class) c.of-pool.result c.in_ok-items.ensures.rooted c.requires.plannable
     c.of-pool.ensures c.of-pool.type_inv.1.1.1.0.1 c.in_ok-items.items.items c.sort_items.new.items.items c.in_ok-items.ensures.items c.sort_items.ensures.permutation c.in_ok-sort_items.ensures.sorted in
     small_size _ _ _ _ _ is c.args.needs.now.greatest c.requires.needs.greatest
 
 pub place_sorted-requires : goal.place_sorted-requires
 place_sorted-requires g c =
-    let is = ready c.args.admitted.now.roots (system_in c.args.admitted.now) (pools_value c.args.pools.now) (class_value c.args.class) c.of-pool.result c.in_ok-items.ensures.rooted c.requires.plannable
+    let is = ready c.args.admitted.now.roots (system_in c.args.admitted.now) (pools_value c.args.pools.now) (kind_value c.args.class) c.of-pool.result c.in_ok-items.ensures.rooted c.requires.plannable
     c.of-pool.ensures c.of-pool.type_inv.1.1.1.0.1 c.in_ok-items.items.items c.sort_items.new.items.items c.in_ok-items.ensures.items c.sort_items.ensures.permutation c.in_ok-sort_items.ensures.sorted in
     walk_of _ _ _ _ _ is _ _ _ c.of-pool.result _ c.requires.count c.raised-start.ensures.raised c.requires.needs.greatest c.of-pool.ensures c.as_slice-sorted.ensures.value
 
@@ -35,7 +36,7 @@ returns-clause-placed g c =
     let roots = c.args.admitted.now.roots in
     let s = system_in c.args.admitted.now in
     let pools = pools_value c.args.pools.now in
-    let class = class_value c.args.class in
+    let class = kind_value c.args.class in
     let is = ready roots s pools class c.of-pool.result c.in_ok-items.ensures.rooted c.requires.plannable
     c.of-pool.ensures c.of-pool.type_inv.1.1.1.0.1 c.in_ok-items.items.items c.sort_items.new.items.items c.in_ok-items.ensures.items c.sort_items.ensures.permutation c.in_ok-sort_items.ensures.sorted in
     elim c.if-not-is_empty.branch [
@@ -54,7 +55,7 @@ returns-clause-others g c =
     let roots = c.args.admitted.now.roots in
     let s = system_in c.args.admitted.now in
     let pools = pools_value c.args.pools.now in
-    let class = class_value c.args.class in
+    let class = kind_value c.args.class in
     let is = ready roots s pools class c.of-pool.result c.in_ok-items.ensures.rooted c.requires.plannable
     c.of-pool.ensures c.of-pool.type_inv.1.1.1.0.1 c.in_ok-items.items.items c.sort_items.new.items.items c.in_ok-items.ensures.items c.sort_items.ensures.permutation c.in_ok-sort_items.ensures.sorted in
     kept_class roots s pools class c.sort_items.new.items.items is c.args.places.now c.if-not-is_empty.places c.if-not-is_empty.auto.places

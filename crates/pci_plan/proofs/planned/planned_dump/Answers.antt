@@ -5,6 +5,7 @@ use Rattle.std.proofs.lemmas.List.{get_or_default}
 use Rattle.pci_spec.specs.Text.{Block, IsDump, slots_of}
 use Rattle.pci_spec.specs.Slot.{Slot}
 use Rattle.pci_spec.specs.Stops.{IsAboveLast, last_slot}
+use Rattle.pci_spec.specs.Window.{WindowKind}
 use Rattle.pci_spec.specs.System.{system_of}
 use Rattle.pci_spec.specs.Decoded as decoded
 use Rattle.pci_spec.specs.Decoded.{HasRecords}
@@ -45,7 +46,7 @@ module _ (g : Over) (c : After-empty-dump g) where
   rising : IsStrictlyIncreasing c.args.admitted.now.roots
   rising = subst (λ (roots : List ℕ). IsStrictlyIncreasing roots) (c.roots-roots.ensures ∙ c.outline.ensures.roots) (λ k l. set_rises c.roots-roots.result.flags k (k + 1) 0 (omega arith) l)
 
-  tables : (k : plan.Class) → IsTable c.args.admitted.now.roots (system_in c.args.admitted.now) (pools_value c.args.pools.now) k (place_at c.args.admitted.now.roots (system_in c.args.admitted.now) (pools_value c.args.pools.now))
+  tables : (k : WindowKind) → IsTable c.args.admitted.now.roots (system_in c.args.admitted.now) (pools_value c.args.pools.now) k (place_at c.args.admitted.now.roots (system_in c.args.admitted.now) (pools_value c.args.pools.now))
   tables = tables_of c.args.admitted.now.roots (system_in c.args.admitted.now) (pools_value c.args.pools.now) plannable rising
 
   -- how many blocks, functions, records and places there are

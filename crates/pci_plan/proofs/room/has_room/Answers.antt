@@ -2,7 +2,8 @@ use Rattle.std.proofs.Common.{◌≡◌, arith, ◌∙◌, ap}
 use Rattle.pci_spec.specs.Decoded.{Range}
 use Rattle.pci_spec.specs.Plan.{need_of_roots}
 use Rattle.pci_spec.proofs.Planning.Tallies.{greatest_small}
-use Rattle.pci_plan.specs.Pools.{class_value, pools_value}
+use Rattle.pci_image.specs.WindowKinds.{kind_value}
+use Rattle.pci_plan.specs.Pools.{pools_value}
 use Rattle.pci_plan.specs.Above.{system_in}
 use Rattle.pci_plan.proofs.RootNeeds.{need_is, some_greatest, fits_none, fits_some}
 use Rattle.pci_plan.proofs.room.has_room.Goals as goal
@@ -12,7 +13,7 @@ raised-requires-clause-some g c =
     let roots = c.args.admitted.now.roots in
     let s = system_in c.args.admitted.now in
     let pools = pools_value c.args.pools.now in
-    let class = class_value c.args.class in
+    let class = kind_value c.args.class in
     let need : c.need_of_roots-need.result ≡ need_of_roots roots s pools class =
     c.need_of_roots-need.ensures.sum ∙ need_is roots s pools class c.roots.result.flags c.args.needs.now.of_bus (c.roots.ensures ∙ c.outline.ensures.roots) c.requires.need in
     some_greatest roots s pools class c.need_of_roots-need.result c.args.needs.now.greatest need c.if-need-eq0.false c.requires.greatest
@@ -20,7 +21,7 @@ raised-requires-clause-some g c =
 pub raised-requires-clause-limited : goal.raised-requires-clause-limited
 raised-requires-clause-limited g c =
     let admitted = c.outline.ensures.admitted in
-    let small = greatest_small c.args.admitted.now.roots (system_in c.args.admitted.now) (pools_value c.args.pools.now) (class_value c.args.class) admitted.system admitted.nested in
+    let small = greatest_small c.args.admitted.now.roots (system_in c.args.admitted.now) (pools_value c.args.pools.now) (kind_value c.args.class) admitted.system admitted.nested in
     let is = c.requires.greatest in
     omega (arith, small, is)
 
@@ -29,7 +30,7 @@ returns-then-need-eq0 g c =
     let roots = c.args.admitted.now.roots in
     let s = system_in c.args.admitted.now in
     let pools = pools_value c.args.pools.now in
-    let class = class_value c.args.class in
+    let class = kind_value c.args.class in
     let need : c.need_of_roots-need.result ≡ need_of_roots roots s pools class =
     c.need_of_roots-need.ensures.sum ∙ need_is roots s pools class c.roots.result.flags c.args.needs.now.of_bus (c.roots.ensures ∙ c.outline.ensures.roots) c.requires.need in
     fits_none roots s pools class c.need_of_roots-need.result need c.if-need-eq0.true
@@ -39,7 +40,7 @@ returns-else-need-eq0 g c =
     let roots = c.args.admitted.now.roots in
     let s = system_in c.args.admitted.now in
     let pools = pools_value c.args.pools.now in
-    let class = class_value c.args.class in
+    let class = kind_value c.args.class in
     let need : c.need_of_roots-need.result ≡ need_of_roots roots s pools class =
     c.need_of_roots-need.ensures.sum ∙ need_is roots s pools class c.roots.result.flags c.args.needs.now.of_bus (c.roots.ensures ∙ c.outline.ensures.roots) c.requires.need in
     fits_some roots s pools class c.need_of_roots-need.result c.args.needs.now.greatest c.of-pool.result.first c.from.result c.raised.result need c.if-need-eq0.false c.requires.greatest

@@ -2,7 +2,7 @@ use Rattle.std.proofs.Common.{◌+◌, length, subst, sym, arith, ap, ◌∙◌,
 use Rattle.std.specs.List.{All}
 use Rattle.std.proofs.lemmas.Bool.{both_ways}
 use Rattle.std.proofs.lemmas.List.{length_push}
-use Rattle.pci_function.specs.Space.{space_of}
+use Rattle.pci_image.specs.WindowKinds.{kind_value}
 use Rattle.pci_tree.specs.Ranges.{IsCanonical}
 use Rattle.pci_tree.specs.Roots.{buses_of}
 use Rattle.pci_tree.specs.Reaches.{IsReachOf, IsStep}
@@ -21,11 +21,11 @@ reach_of_bus-requires-clause-canonical g c =
 pub loop-bus-preserved : goal.loop-bus-preserved
 loop-bus-preserved g c = record {
   size = ap length c.in_ok-push.ensures.items ∙ length_push c.loop-bus.out.items _ ∙ ap (λ n. n + 1) c.loop-bus.invariant.size;
-  exact = more_at (λ k r. IsReachOf c.args.records.now (buses_of c.args.roots.now) (space_of c.args.space) c.args.prefetch k r) c.loop-bus.out.items _ _ c.loop-bus.bus
+  exact = more_at (λ k r. IsReachOf c.args.records.now (buses_of c.args.roots.now) (kind_value c.args.kind) k r) c.loop-bus.out.items _ _ c.loop-bus.bus
       c.in_ok-push.ensures.items c.loop-bus.invariant.size c.loop-bus.invariant.exact
-      (step_reach c.args.records.now (buses_of c.args.roots.now) (space_of c.args.space) c.args.prefetch c.loop-bus.bus c.loop-bus.out.items (get_or c.args.bridge_to_bus.now c.loop-bus.bus None)
+      (step_reach c.args.records.now (buses_of c.args.roots.now) (kind_value c.args.kind) c.loop-bus.bus c.loop-bus.out.items (get_or c.args.bridge_to_bus.now c.loop-bus.bus None)
       c.has.result c.in_ok-ranges.ranges.items c.requires.forest (c.requires.bridge_to_bus c.loop-bus.bus (omega arith)) (λ is. c.has.ensures.0 is)
       (λ is root. both_ways _ is (c.has.ensures.1 root)) c.loop-bus.invariant.exact
-      (subst (λ xs. IsStep xs c.args.records.now (get_or c.args.bridge_to_bus.now c.loop-bus.bus None) (space_of c.args.space) c.args.prefetch c.has.result c.in_ok-ranges.ranges.items)
+      (subst (λ xs. IsStep xs c.args.records.now (get_or c.args.bridge_to_bus.now c.loop-bus.bus None) (kind_value c.args.kind) c.has.result c.in_ok-ranges.ranges.items)
       c.deref.ensures.value c.in_ok-ranges.ensures));
 }

@@ -1,5 +1,6 @@
 use Rattle.std.proofs.Common.{◌≡◌, length, sym, ap, arith}
 use Rattle.std.proofs.lemmas.Bool.{eqb-true}
+use Rattle.std.proofs.lemmas.Option.{none-some}
 use Rattle.pciplan_cli.proofs.PoolWords.{below_most, length_address, other_byte}
 use Rattle.pciplan_cli.proofs.pool_word.address_of.Goals as goal
 use Rattle.pciplan_cli.proofs.pool_word.address_of.Goals.{then-is_empty-via-then-is_empty, then-is_empty-via-else-is_empty+then-bytes-gt-DIGITS_MAX}
@@ -31,4 +32,5 @@ returns-then-is_empty c = λ address is.
 
 pub returns-in_err-digit_value : goal.returns-in_err-digit_value
 returns-in_err-digit_value c =
-    rw c.from_residual.ensures (other_byte c.args.word.now c.as_bytes-bytes.result.now c.loop-byte.byte-index c.as_bytes-bytes.ensures.value (omega arith) c.in_err-digit_value.ensures)
+    rw c.from_residual.ensures (other_byte c.args.word.now c.as_bytes-bytes.result.now c.loop-byte.byte-index c.as_bytes-bytes.ensures.value (omega arith)
+    (λ d small e. none-some d (c.in_err-digit_value.ensures.found d small (sym e))))

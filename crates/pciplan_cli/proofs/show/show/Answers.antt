@@ -1,16 +1,13 @@
 use Rattle.std.proofs.Common.{◌≡◌, ◌++◌, [], ◌∷◌, length, take, get_or, suc, ◌+◌, sym, ◌∙◌, ap, subst, arith}
 use Rattle.std.proofs.lemmas.List.{take_all}
 use Rattle.pci_spec.specs.System.{system_of}
-use Rattle.pci_spec.specs.Fault as faults
 use Rattle.pci_spec.specs.Listing.{listing, function_listing}
 use Rattle.pciplan_cli.specs.Shows.{function_of}
 use Rattle.pciplan_cli.proofs.Shows.{same_count, listing_more, refused_at}
 use Rattle.pciplan_cli.proofs.show.show.Goals as goal
 
 pub returns-in-Err-clause-refused : goal.returns-in-Err-clause-refused
-returns-in-Err-clause-refused g c =
-    let P : faults.Fault → Type 0 = faults.IsThere (0 ∷ []) c.args.dump.now c.args.probe.now in
-    subst P (sym c.fault_of_pair.ensures) (c.in-Err.ensures.there (0 ∷ []))
+returns-in-Err-clause-refused g c = c.in-Err.ensures.there (0 ∷ [])
 
 pub bounds-probes-i : goal.bounds-probes-i
 bounds-probes-i g c =

@@ -5,23 +5,22 @@ use Rattle.pci_spec.specs.Text.{Block, IsDump}
 use Rattle.pci_spec.specs.Stops.{IsAboveLast, last_slot}
 use Rattle.pci_spec.specs.System.{system_of}
 use Rattle.pci_spec.specs.Machine.{Target, sized}
-use Rattle.pci_spec.specs.Fault as faults
 use Rattle.pci_dump.specs.declared.memory.Refused.{Refused}
-use Rattle.pci_function.specs.declared.pair_fault.PairFault.{PairFault}
-use Rattle.pci_function.specs.PairFault.{pair_fault}
+use Rattle.pci_dump.specs.declared.memory.Refused.TheVariants as refusals
+use Rattle.pci_function.specs.declared.fault.Fault.{Fault}
 use Rattle.pci_machine.specs.Made.{IsRefusedFor}
+use Rattle.pciplan_cli.specs.Shows.{IsRefusedIn}
 use Rattle.pci_spec.specs.Sizing.{function_at, IsSizable}
 use Rattle.pciplan_cli.proofs.Shows.{same_count}
 use Rattle.pciplan_cli.proofs.Sizes.{above_last, function_at_block}
 use Rattle.pciplan_cli.proofs.sizing.size_all.Goals as goal
 
-pub returns-in-Err-Fault-clause-refused : goal.returns-in-Err-Fault-clause-refused
-returns-in-Err-Fault-clause-refused g c =
-    let P : faults.Fault → Type 0 = faults.IsThere (0 ∷ []) c.args.dump.now c.args.probe.now in
-    let Q : Refused PairFault → Type 0 = IsRefusedFor c.args.dump.now c.args.probe.now in
-    let there = subst Q c.in-Err-Fault.field-0-is c.in-Err-Fault.ensures.fault in
-    let R : PairFault → Type 0 = λ fault. faults.IsThere (0 ∷ []) c.args.dump.now c.args.probe.now (pair_fault fault) in
-    subst P (sym c.fault_of_pair.ensures) (subst R (sym c.in-Err-Fault.fault-is) (there (0 ∷ [])))
+refused_in : (dump probe : List Block) (r : Refused Fault) → IsRefusedFor dump probe r → IsRefusedIn (0 ∷ []) dump probe r
+refused_in dump probe (refusals.Fault fault) is = is (0 ∷ [])
+refused_in dump probe refusals.Memory is = tt
+
+pub returns-in-Err-clause-refused : goal.returns-in-Err-clause-refused
+returns-in-Err-clause-refused g c = refused_in c.args.dump.now c.args.probe.now c.in-Err.refused c.in-Err.ensures.fault
 
 pub bounds-probes-i : goal.bounds-probes-i
 bounds-probes-i g c =

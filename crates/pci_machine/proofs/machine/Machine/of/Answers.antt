@@ -1,20 +1,22 @@
-use Rattle.std.proofs.Common.{◌≡◌, ℕ, List, [], map, get_or, arith, sym, ◌∙◌, ap, subst}
+use Rattle.std.proofs.Common.{◌≡◌, ℕ, ◌≤◌, List, [], map, get_or, IsTrue, IsFalse, arith, sym, ◌∙◌, ap, subst}
 use Rattle.std.specs.List.{All}
 use Rattle.std.proofs.lemmas.List.{take_all}
 use Rattle.pci_spec.specs.Text.{Block, IsDump, slots_of}
 use Rattle.pci_spec.specs.System.{system_of}
 use Rattle.pci_spec.specs.Machine.{target_of, sized}
 use Rattle.pci_spec.specs.Fault.{IsThere}
+use Rattle.pci_spec.specs.Fault as faults
 use Rattle.pci_spec.specs.Decoded.{IsDecodable}
 use Rattle.pci_spec.proofs.Pairing.{same_length, length-system_of}
-use Rattle.pci_dump.specs.declared.memory.Refused.TheVariants as refusals
-use Rattle.pci_function.specs.PairFault.{pair_fault}
+use Rattle.pci_spec.specs.Order.{phase_of, is_before, image_at}
+use Rattle.pci_function.specs.Fault.{fault_of, image_fault_at}
 use Rattle.pci_function.specs.Pair.{IsPair}
+use Rattle.pci_function.proofs.Pairs.{holds_of_more}
 use Rattle.pci_machine.specs.Memory.{IsMachine}
 use Rattle.pci_spec.specs.Sizing.{function_at, IsSizable}
-use Rattle.pci_machine.specs.Made.{name_fault, IsFirstFor}
-use Rattle.pci_machine.proofs.MadeOrder.{refused_first}
-use Rattle.pci_machine.proofs.MadeOf.{made_more, decodable_more, fault_there, machine-of, function-of, sizable-of, read_backs-of}
+use Rattle.pci_machine.specs.Made.{is_of_list}
+use Rattle.pci_machine.proofs.MadeOrder.{early_is_not_of_list, register_is_not_of_list, refused_phase, refused_there, refused_first}
+use Rattle.pci_machine.proofs.MadeOf.{made_more, machine-of, function-of, sizable-of, read_backs-of}
 use Rattle.pci_machine.proofs.machine.Machine.of.Goals as goal
 
 pub bounds-probes-i : goal.bounds-probes-i
@@ -23,20 +25,42 @@ bounds-probes-i g c =
     let long = same_length c.blocks-blocks.result.now c.blocks-probes.result.now same in
     omega (arith, long)
 
-pub returns-in-Err-registers_of-clause-fault : goal.returns-in-Err-registers_of-clause-fault
-returns-in-Err-registers_of-clause-fault g c roots =
+pub returns-in-Err-clause-kind : goal.returns-in-Err-clause-kind
+returns-in-Err-clause-kind g c = let early = c.in-Err.ensures.kind in (omega (arith, early), early_is_not_of_list (fault_of c.in-Err.fault) early)
+
+pub returns-in-Err-registers_of-clause-kind : goal.returns-in-Err-registers_of-clause-kind
+returns-in-Err-registers_of-clause-kind g c =
     let dump = c.blocks-blocks.result.now in
     let probe = c.blocks-probes.result.now in
-    let same = ap slots_of c.blocks-blocks.ensures.value ∙ (c.in-Ok.ensures.ok []).same ∙ sym (ap slots_of c.blocks-probes.ensures.value) in
+    let e = image_fault_at c.block.inside.slot c.in-Err-registers_of.fault in
     let b : Block = record { slot = c.block.inside.slot; title = c.block.inside.title; image = c.block.inside.image.0 } in
     let p : Block = record { slot = c.read_backs.inside.slot; title = c.read_backs.inside.title; image = c.read_backs.inside.image.0 } in
     let b_is = subst (λ x. x ≡ get_or dump c.loop-i.i x) (sym c.block.view_is) c.index-blocks-i.is in
     let p_is = subst (λ x. x ≡ get_or probe c.loop-i.i x) (sym c.read_backs.view_is) c.index-probes-i.is in
-    let there = fault_there dump probe same roots c.loop-i.i b p c.in-Err-registers_of.fault c.loop-i-test.true b_is p_is
-    c.in-Err-registers_of.ensures.fault c.in-Err-registers_of.ensures.number in
-    subst (λ f. IsThere roots c.args.dump.now c.args.probe.now (pair_fault f)) (sym c.named.ensures)
-    (subst (λ xs. IsThere roots xs c.args.probe.now (pair_fault (name_fault c.block.inside.slot c.in-Err-registers_of.fault))) c.blocks-blocks.ensures.value
-    (subst (λ xs. IsThere roots dump xs (pair_fault (name_fault c.block.inside.slot c.in-Err-registers_of.fault))) c.blocks-probes.ensures.value there))
+    let hd : IsDump dump = subst IsDump (sym c.blocks-blocks.ensures.value) c.blocks-blocks.ensures.dump in
+    let hp : IsDump probe = subst IsDump (sym c.blocks-probes.ensures.value) c.blocks-probes.ensures.dump in
+    let pair : (roots : List ℕ) → IsPair roots dump probe = λ roots.
+    subst (λ xs. IsPair roots xs probe) (sym c.blocks-blocks.ensures.value) (subst (λ xs. IsPair roots c.args.dump.now xs) (sym c.blocks-probes.ensures.value) (c.in-Ok.ensures.ok roots)) in
+    let phase = refused_phase dump probe hd hp pair c.loop-i.i b p c.loop-i-test.true b_is p_is c.in-Err-registers_of.fault c.in-Err-registers_of.ensures.fault in
+    let low : phase_of e ≤ 2 = omega (arith, phase) in
+    subst (λ x. (phase_of x ≤ 2) × IsFalse (is_of_list x)) (sym c.of_image.ensures) (low, register_is_not_of_list c.block.inside.slot c.in-Err-registers_of.fault c.in-Err-registers_of.ensures.number)
+
+pub returns-in-Err-registers_of-clause-fault : goal.returns-in-Err-registers_of-clause-fault
+returns-in-Err-registers_of-clause-fault g c roots =
+    let dump = c.blocks-blocks.result.now in
+    let probe = c.blocks-probes.result.now in
+    let e = image_fault_at c.block.inside.slot c.in-Err-registers_of.fault in
+    let b : Block = record { slot = c.block.inside.slot; title = c.block.inside.title; image = c.block.inside.image.0 } in
+    let p : Block = record { slot = c.read_backs.inside.slot; title = c.read_backs.inside.title; image = c.read_backs.inside.image.0 } in
+    let b_is = subst (λ x. x ≡ get_or dump c.loop-i.i x) (sym c.block.view_is) c.index-blocks-i.is in
+    let p_is = subst (λ x. x ≡ get_or probe c.loop-i.i x) (sym c.read_backs.view_is) c.index-probes-i.is in
+    let hd : IsDump dump = subst IsDump (sym c.blocks-blocks.ensures.value) c.blocks-blocks.ensures.dump in
+    let hp : IsDump probe = subst IsDump (sym c.blocks-probes.ensures.value) c.blocks-probes.ensures.dump in
+    let pair : (roots : List ℕ) → IsPair roots dump probe = λ roots.
+    subst (λ xs. IsPair roots xs probe) (sym c.blocks-blocks.ensures.value) (subst (λ xs. IsPair roots c.args.dump.now xs) (sym c.blocks-probes.ensures.value) (c.in-Ok.ensures.ok roots)) in
+    let there = refused_there dump probe hd hp pair c.loop-i.i b p c.loop-i-test.true b_is p_is c.in-Err-registers_of.fault c.in-Err-registers_of.ensures.fault roots in
+    subst (λ x. IsThere roots c.args.dump.now c.args.probe.now x) (sym c.of_image.ensures)
+    (subst (λ xs. IsThere roots xs c.args.probe.now e) c.blocks-blocks.ensures.value (subst (λ xs. IsThere roots dump xs e) c.blocks-probes.ensures.value there))
 
 -- none before a fault of `pair`
 pub returns-in-Err-clause-first : goal.returns-in-Err-clause-first
@@ -46,6 +70,7 @@ pub returns-in-Err-registers_of-clause-first : goal.returns-in-Err-registers_of-
 returns-in-Err-registers_of-clause-first g c =
     let dump = c.blocks-blocks.result.now in
     let probe = c.blocks-probes.result.now in
+    let e = image_fault_at c.block.inside.slot c.in-Err-registers_of.fault in
     let b : Block = record { slot = c.block.inside.slot; title = c.block.inside.title; image = c.block.inside.image.0 } in
     let p : Block = record { slot = c.read_backs.inside.slot; title = c.read_backs.inside.title; image = c.read_backs.inside.image.0 } in
     let b_is = subst (λ x. x ≡ get_or dump c.loop-i.i x) (sym c.block.view_is) c.index-blocks-i.is in
@@ -54,12 +79,11 @@ returns-in-Err-registers_of-clause-first g c =
     let hp : IsDump probe = subst IsDump (sym c.blocks-probes.ensures.value) c.blocks-probes.ensures.dump in
     let pair : (roots : List ℕ) → IsPair roots dump probe = λ roots.
     subst (λ xs. IsPair roots xs probe) (sym c.blocks-blocks.ensures.value) (subst (λ xs. IsPair roots c.args.dump.now xs) (sym c.blocks-probes.ensures.value) (c.in-Ok.ensures.ok roots)) in
-    let fault = name_fault c.block.inside.slot c.in-Err-registers_of.fault in
-    let first = refused_first dump probe hd hp pair c.loop-i.i b p c.loop-i-test.true b_is p_is c.loop-i.invariant.decodable c.in-Err-registers_of.fault
-    c.in-Err-registers_of.ensures.fault c.in-Err-registers_of.ensures.number c.in-Err-registers_of.ensures.first in
-    subst (λ f. IsFirstFor c.args.dump.now c.args.probe.now (refusals.Fault f)) (sym c.named.ensures)
-    (subst (λ xs. IsFirstFor xs c.args.probe.now (refusals.Fault fault)) c.blocks-blocks.ensures.value
-    (subst (λ xs. IsFirstFor dump xs (refusals.Fault fault)) c.blocks-probes.ensures.value first))
+    let Is : List Block → List Block → faults.Fault → Type 0 = λ xs ys x. (roots : List ℕ) (other : faults.Fault) → IsTrue (is_before (image_at (system_of xs ys)) other x) → IsFalse (is_of_list other) → IsThere roots xs ys other → ⊥ in
+    let first : Is dump probe e = refused_first dump probe hd hp pair c.loop-i.i b p c.loop-i-test.true b_is p_is c.in-Err-registers_of.fault c.in-Err-registers_of.ensures.fault
+    c.loop-i.invariant.decodable c.in-Err-registers_of.ensures.first in
+    subst (Is c.args.dump.now c.args.probe.now) (sym c.of_image.ensures)
+    (subst (λ xs. Is xs c.args.probe.now e) c.blocks-blocks.ensures.value (subst (λ xs. Is dump xs e) c.blocks-probes.ensures.value first))
 
 pub loop-i-preserved : goal.loop-i-preserved
 loop-i-preserved g c =
@@ -73,7 +97,7 @@ loop-i-preserved g c =
     record {
       made = made_more dump probe same c.loop-i.i b p c.loop-i.functions.items c.push.new.self.items c.in-Ok-registers_of.registers c.loop-i-test.true b_is p_is
           c.loop-i.invariant.made c.in_ok-push-in-Ok-registers_of.ensures.items c.in-Ok-registers_of.ensures.made;
-      decodable = decodable_more dump probe same c.loop-i.i b p c.loop-i-test.true b_is p_is c.loop-i.invariant.decodable c.in-Ok-registers_of.ensures.decodable;
+      decodable = holds_of_more dump probe same c.loop-i.i b p c.loop-i-test.true b_is p_is IsDecodable c.loop-i.invariant.decodable c.in-Ok-registers_of.ensures.decodable;
     }
 
 pub returns-clause-machine : goal.returns-clause-machine

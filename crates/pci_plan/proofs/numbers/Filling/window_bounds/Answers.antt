@@ -4,9 +4,9 @@ use Rattle.pci_spec.specs.System.{Window}
 use Rattle.pci_spec.specs.Bus.{secondary}
 use Rattle.pci_spec.specs.Place.{closed_bounds, nibble_of}
 use Rattle.pci_spec.specs.Planning.Showing.{bounds_for}
-use Rattle.pci_plan.specs.Pools.{class_value}
+use Rattle.pci_image.specs.WindowKinds.{kind_value}
 use Rattle.pci_plan.specs.Places.{first_in}
-use Rattle.pci_plan.specs.Fillings.{address_bits, window_kind}
+use Rattle.pci_plan.specs.Fillings.{address_bits}
 use Rattle.pci_plan.proofs.FilledWindows.{nibble_few, closed_is, open_at, IsOpenAt, need_is, size, address_bits_few}
 use Rattle.pci_plan.proofs.numbers.Filling.window_bounds.Goals as goal
 use Rattle.pci_plan.proofs.numbers.Filling.window_bounds.Goals.{After-need-need, After-window_size_of}
@@ -23,7 +23,7 @@ closed-requires c = small_nibble (goal.at.closed-requires c).After-need-need
 
 pub returns-then-need-eq0 : goal.returns-then-need-eq0
 returns-then-need-eq0 c of =
-    let kind = window_kind c.args.class in
+    let kind = kind_value c.args.class in
     c.closed.ensures ∙ ap (λ n. closed_bounds kind n) (c.requires.nibble of)
     ∙ sym (closed_is c.args.self.now of c.args.bridge.now c.requires.bridge c.args.class (c.requires.there of) (sym c.need-need.ensures ∙ c.if-need-eq0.true))
 
@@ -42,13 +42,13 @@ opened c =
     open_at c.args.self.now c.requires.of c.args.bridge.now c.requires.bridge c.args.class (c.requires.there c.requires.of) (omega (arith, e, some))
 
 -- its size and its last address
-size_is : (c : After-window_size_of) → c.window_size_of.result ≡ window_size (class_value c.args.class) (need_of c.requires.of.system c.requires.of.pools (class_value c.args.class) (secondary c.requires.of.function))
+size_is : (c : After-window_size_of) → c.window_size_of.result ≡ window_size (kind_value c.args.class) (need_of c.requires.of.system c.requires.of.pools (kind_value c.args.class) (secondary c.requires.of.function))
 size_is c =
     c.window_size_of.ensures
-    ∙ ap (λ n. window_size (class_value c.args.class) n) (c.need-need.ensures ∙ need_is c.args.self.now c.requires.of c.args.bridge.now c.requires.bridge c.args.class)
+    ∙ ap (λ n. window_size (kind_value c.args.class) n) (c.need-need.ensures ∙ need_is c.args.self.now c.requires.of c.args.bridge.now c.requires.bridge c.args.class)
 
 last_is : (c : After-window_size_of)
-    → c.from.result + (c.window_size_of.result - 1) ≡ first_in c.args.self.now.places.now (Window (window_kind c.args.class)) + (size c.args.self.now c.requires.of c.args.bridge.now c.requires.bridge c.args.class - 1)
+    → c.from.result + (c.window_size_of.result - 1) ≡ first_in c.args.self.now.places.now (Window (kind_value c.args.class)) + (size c.args.self.now c.requires.of c.args.bridge.now c.requires.bridge c.args.class - 1)
 last_is c =
     let e = size_is c in
     let f = c.from.ensures ∙ c.window_place-first.ensures in
@@ -96,13 +96,13 @@ open-requires-clause-last c = below c
 
 pub returns : goal.returns
 returns c of =
-    let kind = window_kind c.args.class in
+    let kind = kind_value c.args.class in
     let e = c.need-need.ensures in
     let need = c.if-need-eq0.false in
     let at = open_at c.args.self.now of c.args.bridge.now c.requires.bridge c.args.class (c.requires.there of) (omega (arith, e, need)) in
     let first = c.window_place-first.ensures in
     let count : c.window_size_of.result ≡ size c.args.self.now of c.args.bridge.now c.requires.bridge c.args.class =
-    c.window_size_of.ensures ∙ ap (λ n. window_size (class_value c.args.class) n) (e ∙ need_is c.args.self.now of c.args.bridge.now c.requires.bridge c.args.class) in
+    c.window_size_of.ensures ∙ ap (λ n. window_size (kind_value c.args.class) n) (e ∙ need_is c.args.self.now of c.args.bridge.now c.requires.bridge c.args.class) in
     c.open.ensures ∙ ap (λ n. bounds_for kind n c.window_place-first.result (c.from.result + (c.window_size_of.result - 1))) (c.requires.nibble of)
     ∙ ap (λ last. bounds_for kind (nibble_of kind of.function) c.window_place-first.result last) (ap (λ n. n + (c.window_size_of.result - 1)) (c.from.ensures ∙ first) ∙ ap (λ n. first_in c.args.self.now.places.now (Window kind) + (n - 1)) count)
     ∙ ap (λ low. bounds_for kind (nibble_of kind of.function) low (first_in c.args.self.now.places.now (Window kind) + (size c.args.self.now of c.args.bridge.now c.requires.bridge c.args.class - 1))) first

@@ -4,7 +4,9 @@ use Rattle.std.specs.List.{All}
 use Rattle.std.proofs.lemmas.Result.{IfOk-weaker}
 use Rattle.pci_spec.specs.Bus.{IsNested}
 use Rattle.pci_spec.specs.Decoded.{HasRecords}
-use Rattle.pci_function.specs.Space.{space_of}
+use Rattle.pci_spec.specs.System.{window_space}
+use Rattle.pci_image.specs.WindowKinds.{kind_value}
+use Rattle.pci_function.specs.Space.{is_prefetch}
 use Rattle.pci_tree.specs.Roots.{buses_of}
 use Rattle.pci_tree.specs.Ranges.{IsCanonical}
 use Rattle.pci_tree.specs.Reaches.{HasSpans, IsReachOf}
@@ -20,9 +22,9 @@ pub returns-clause-exact : goal.returns-clause-exact
 returns-clause-exact g c = IfOk-weaker c.reaches.result _ _
     (λ v exact s bus d has small. (
     let here : Has s c.self.inside.records.items = subst (λ (t : Tree). HasRecords s t.records) (sym c.self.view_is) has in
-    subst (λ (t : Tree). IsReachTo t.roots s (space_of c.args.space) c.args.prefetch bus (slice_index_or v.items bus d)) c.self.view_is
-    (reach_to (buses_of c.self.inside.roots) s c.self.inside.records.items (space_of c.args.space) c.args.prefetch bus (slice_index_or v.items bus d) here
-    (subst (λ rs. IsReachOf rs (buses_of c.self.inside.roots) (space_of c.args.space) c.args.prefetch bus (slice_index_or v.items bus d)) c.deref.ensures.value (exact bus d small)))))
+    subst (λ (t : Tree). IsReachTo t.roots s (window_space (kind_value c.args.kind)) (is_prefetch (kind_value c.args.kind)) bus (slice_index_or v.items bus d)) c.self.view_is
+    (reach_to (buses_of c.self.inside.roots) s c.self.inside.records.items (kind_value c.args.kind) bus (slice_index_or v.items bus d) here
+    (subst (λ rs. IsReachOf rs (buses_of c.self.inside.roots) (kind_value c.args.kind) bus (slice_index_or v.items bus d)) c.deref.ensures.value (exact bus d small)))))
     c.reaches.ensures.exact
 
 -- what follows from two clauses

@@ -2,32 +2,46 @@ use Rattle.std.proofs.Common.{◌≡◌, ◌≤◌, ◌++◌, List, map, length,
 use Rattle.std.proofs.lemmas.List.{append_assoc, length-map}
 use Rattle.std.specs.List.{flat_map, All}
 use Rattle.std.specs.String.{string_bytes}
-use Rattle.pci_spec.specs.Listing.{capability_line, places_of}
+use Rattle.pci_spec.specs.System.{Function}
+use Rattle.pci_spec.specs.Decoded.{record_of}
+use Rattle.pci_spec.specs.Listing.{header_line, capability_line, places_of}
 use Rattle.pci_image.specs.declared.capability.Cap.{Cap}
 use Rattle.pci_image.specs.Caps.{place_of}
+use Rattle.pci_function.specs.Profile.{IsHere}
+use Rattle.pci_function.proofs.Examined.{image_here, chain_fault}
 use Rattle.pciplan_cli.specs.CapabilityLines.{IsListed}
-use Rattle.pciplan_cli.specs.Stops.{registers_listing}
+use Rattle.pciplan_cli.specs.FunctionLines.{record_lines}
 use Rattle.pciplan_cli.proofs.Chains.{listed, places_of-chain}
-use Rattle.pciplan_cli.proofs.Functions.{function_listing-parts}
+use Rattle.pciplan_cli.proofs.Functions.{three_more, function_listing-parts}
 use Rattle.pciplan_cli.proofs.listing.function.push_function.Goals as goal
 
 pub push_capabilities-requires : goal.push_capabilities-requires
 push_capabilities-requires g c =
-    let each = listed c.args.image.now.0 c.in_ok-caps.caps.items c.in_ok-caps.ensures.places c.in_ok-caps.ensures.bodies in
+    let each = listed c.args.image.now.0 c.in-Ok-chain.caps.items c.in-Ok-chain.ensures.places c.in-Ok-chain.ensures.bodies in
     let P : List Cap → Type 0 = All (IsListed c.args.image.now.0) in
     subst P (sym c.as_slice.ensures.value) each
 
+pub returns-in-Err-clause-refused : goal.returns-in-Err-clause-refused
+returns-in-Err-clause-refused g c =
+    let f : Function = record { slot = c.args.slot; image = c.args.image.now.0; probe = c.args.probe.now.0 } in
+    subst (IsHere f) (sym c.of_image.ensures) (image_here f c.in-Err.fault c.in-Err.ensures.decoded)
+
+pub returns-in-Err-chain-clause-refused : goal.returns-in-Err-chain-clause-refused
+returns-in-Err-chain-clause-refused g c =
+    let f : Function = record { slot = c.args.slot; image = c.args.image.now.0; probe = c.args.probe.now.0 } in
+    subst (IsHere f) (sym c.of_image-in-Err-chain.ensures) (image_here f c.in-Err-chain.fault (chain_fault f c.in-Err-chain.fault c.in-Err-chain.ensures.fault))
+
 pub returns-clause-ok : goal.returns-clause-ok
 returns-clause-ok g c =
+    let f : Function = record { slot = c.args.slot; image = c.args.image.now.0; probe = c.args.probe.now.0 } in
     let image = c.args.image.now.0 in
-    let caps = c.in_ok-caps.caps.items in
+    let caps = c.in-Ok-chain.caps.items in
     let start = string_bytes c.args.text.now in
-    let middle = string_bytes c.push_registers.new.text in
-    let registers = registers_listing c.args.slot image c.args.probe.now.0 in
     let few : length (map place_of caps) ≤ 48 = omega (arith, length-map caps place_of, ap length c.as_slice.ensures.value, c.as_slice.ensures.fits) in
-    let places = places_of-chain image (map place_of caps) c.in_ok-caps.ensures.places few in
+    let places = places_of-chain image (map place_of caps) c.in-Ok-chain.ensures.places few in
     let same : map place_of c.as_slice.result.now ≡ places_of image = ap (λ xs. map place_of xs) c.as_slice.ensures.value ∙ sym places in
-    c.in_ok-push_capabilities.ensures ∙ ap (λ ps. middle ++ flat_map (capability_line image) ps) same
-    ∙ ap (λ t. t ++ flat_map (capability_line image) (places_of image)) c.in_ok-push_registers.ensures.ok
-    ∙ append_assoc start registers (flat_map (capability_line image) (places_of image))
-    ∙ ap (λ l. start ++ l) (function_listing-parts c.args.slot image c.args.probe.now.0)
+    three_more start (header_line c.args.slot image) (record_lines (record_of f)) (flat_map (capability_line image) (places_of image))
+    (c.in_ok-push_to.ensures ∙ ap (λ x. start ++ x) c.of-first.ensures)
+    (c.in_ok-push_record.ensures ∙ ap (λ r. string_bytes c.push_to.new.text ++ record_lines r) c.in-Ok.ensures.decoded.same)
+    (c.in_ok-push_capabilities.ensures ∙ ap (λ ps. string_bytes c.push_record.new.text ++ flat_map (capability_line image) ps) same)
+    ∙ ap (λ l. start ++ l) (function_listing-parts f)

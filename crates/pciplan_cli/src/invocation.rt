@@ -1,0 +1,74 @@
+//! A command line that has been read.
+ghost use Rattle.std.specs.Prelude.{◌≡◌, ◌⊎◌, IfErr, IfOk, MatchResult, map};
+ghost use Rattle.pciplan_cli.specs.Invocations.{IsInvocationOf, IsRefusedFor};
+ghost use Rattle.pciplan_cli.specs.Statuses.{status_of};
+ghost use Rattle.pciplan_cli.specs.declared.failure.Failure.{Failure};
+
+use crate::asked::task_of;
+use crate::failure::{Failure, report};
+use pci_dump::streams::Sink;
+use pci_plan::pools::Pools;
+use pci_tree::roots::Roots;
+use pciplan_words::words::words_given;
+use std::alloc::Global;
+
+/// What is to be done with a dump and its probe.
+#[derive(Clone, Copy, Debug, PartialEq, Eq)]
+pub enum Task {
+    /// Lists what the functions decode to.
+    Show,
+    /// Judges them as a system with these root buses.
+    Check {
+        roots: Roots,
+    },
+    /// Sizes every function of a machine of the two texts.
+    Size,
+    /// Plans them in these pools, with these root buses: the planned dump, or the writes that lead there.
+    Plan {
+        pools: Pools,
+        writes: bool,
+        roots: Roots,
+    },
+    /// Derives the probe from the dump and the sizes that Linux tells, which are the second text. Where it has to be
+    /// exact, nothing is assumed.
+    Probe {
+        exact: bool,
+    },
+}
+
+/// A task, and the paths of its two texts: the dump, and the probe or the sizes.
+#[derive(Drop)]
+pub struct Invocation {
+    pub task: Task,
+    pub dump: String,
+    pub probe: String,
+}
+
+/// A command line.
+pub type Line = Invocation;
+
+/// The invocation that the words make.
+fn invocation_of(alloc: Global, words: &[&str]) -> Result<Invocation, Failure>
+    ensures { MatchResult result (IsInvocationOf (map (λ w. w.now) words.now)) (IsRefusedFor (map (λ w. w.now) words.now)) }
+{
+    let given = words_given(alloc, words)?;
+    Ok(Invocation {
+        task: task_of(&given.asked)?,
+        dump: String::from_str(alloc, given.dump)?,
+        probe: String::from_str(alloc, given.probe)?,
+    })
+}
+
+/// Reads the words after the program's name. Where they make no command line it writes the message to `err`
+/// and answers the status: 2 for a fault of usage, then of the root list, and then of a pool's word, 3 at want of memory.
+pub fn start<E: Sink>(alloc: Global, words: &[&str], err: &mut E) -> Result<Invocation, u8>
+    ensures line { IfOk result (IsInvocationOf (map (λ w. w.now) words.now)) }
+    ensures refused { IfErr result (λ status. (failure : Failure) × IsRefusedFor (map (λ w. w.now) words.now) failure × (status ≡ status_of failure)) }
+    ensures status { IfErr result (λ status. (status ≡ 2) ⊎ (status ≡ 3)) }
+    ensures silent { IfOk result (λ _. err.new ≡ err.old) }
+{
+    match invocation_of(alloc, words) {
+        Ok(invocation) => Ok(invocation),
+        Err(failure) => Err(report(err, failure)),
+    }
+}

@@ -1,0 +1,2 @@
+mod CommandWords
+mod CommandLines

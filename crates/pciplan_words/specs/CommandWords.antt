@@ -1,0 +1,39 @@
+-- What the words of a subcommand say, by the rows in which clap keeps the words of its options and paths.
+use Rattle.std.specs.Prelude.{◌≡◌, Bool, true, false, List, Option, None, Some, codes, option_map}
+use Rattle.std.specs.Borrow.{Bor}
+use Rattle.clap.specs.Words.{Row, Text, first_of, one_of}
+use Rattle.pciplan_words.specs.declared.asked.Asked.{Asked}
+use Rattle.pciplan_words.specs.declared.asked.Asked.TheVariants.{Show, Check, Size, Plan, Probe}
+use Rattle.pciplan_words.specs.declared.asked.PlanWords.{PlanWords}
+
+-- the word of an option or a path, where it has one
+abbrev pub word_of : Option (Bor Text) → Option Text
+word_of = option_map (λ word. word.now)
+
+-- whether an option without a word is there, by the text that clap keeps for it
+pub record IsFlag (text : Option Text) (flag : Bool) : Type 0 where
+  pub none : text ≡ None → flag ≡ false
+  pub yes : text ≡ Some (codes "true") → flag ≡ true
+  pub no : text ≡ Some (codes "false") → flag ≡ false
+
+-- the words of the options of `plan`
+pub record HasPlanWords (rows : List Row) (words : PlanWords) : Type 0 where
+  pub root : first_of (codes "root") rows ≡ word_of words.root
+  pub io : first_of (codes "io") rows ≡ Some words.io.now
+  pub mem : first_of (codes "mem") rows ≡ Some words.mem.now
+  pub pref : first_of (codes "pref") rows ≡ Some words.pref.now
+  pub writes : IsFlag (one_of (codes "writes") rows) words.writes
+
+-- the task of this name, with the words of its options
+abbrev pub IsAsked : Text → List Row → Asked → Type 0
+IsAsked name rows Show = name ≡ codes "show"
+IsAsked name rows (Check root) = (name ≡ codes "check") × (first_of (codes "root") rows ≡ word_of root)
+IsAsked name rows Size = name ≡ codes "size"
+IsAsked name rows (Plan words) = (name ≡ codes "plan") × HasPlanWords rows words
+IsAsked name rows (Probe exact) = (name ≡ codes "probe") × IsFlag (one_of (codes "exact") rows) exact
+
+-- what the words of a subcommand say: what is asked for, and the paths of the dump and of the second text
+pub record IsSaid (name : Text) (rows : List Row) (asked : Asked) (dump probe : Text) : Type 0 where
+  pub task : IsAsked name rows asked
+  pub dump_is : first_of (codes "DUMP") rows ≡ Some dump
+  pub probe_is : first_of (codes "PROBE") rows ≡ Some probe

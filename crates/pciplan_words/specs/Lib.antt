@@ -1,0 +1,2 @@
+pub mod CommandWords
+pub mod CommandLines

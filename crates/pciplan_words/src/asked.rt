@@ -1,0 +1,46 @@
+//! What a command line asks for, in its own words.
+
+/// The words of `plan`'s options.
+#[derive(Clone, Copy)]
+pub struct PlanWords<'a> {
+    /// The list of root buses, where there is one.
+    pub root: Option<&'a str>,
+    /// The pools of I/O, of memory and of prefetchable memory.
+    pub io: &'a str,
+    pub mem: &'a str,
+    pub pref: &'a str,
+    /// Whether the writes are asked for, and not the planned dump.
+    pub writes: bool,
+}
+
+/// The task that is asked for, with the words of its options.
+#[derive(Clone, Copy)]
+pub enum Asked<'a> {
+    /// The listing.
+    Show,
+    /// The verdict, with the list of root buses where there is one.
+    Check { root: Option<&'a str> },
+    /// The sizing run.
+    Size,
+    /// The plan.
+    Plan(PlanWords<'a>),
+    /// The derived probe, and whether it has to be exact.
+    Probe { exact: bool },
+}
+
+/// What the words of a command line say: the task with the words of its options, and the paths of the two texts.
+#[derive(Clone, Copy)]
+pub struct Given<'a> {
+    pub asked: Asked<'a>,
+    pub dump: &'a str,
+    pub probe: &'a str,
+}
+
+/// Why words say nothing.
+#[derive(Clone, Copy, Debug, PartialEq, Eq)]
+pub enum WordsFault {
+    /// They are no command line.
+    Usage,
+    /// 2: a growth was refused.
+    Memory,
+}

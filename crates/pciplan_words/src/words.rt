@@ -1,0 +1,176 @@
+//! The words of the command line.
+ghost use Rattle.std.specs.Prelude.{◌≡◌, ◌≢◌, ◌⊎◌, List, ℕ, false, map, IfErr, IfOk, MatchOption, MatchResult};
+ghost use Rattle.clap.specs.Words.{app_of, found_of, kind_of, rows_of, rule_of};
+ghost use Rattle.clap.specs.declared.error.kind.ErrorKind.{ErrorKind};
+ghost use Rattle.clap.specs.declared.builder.command.Command.TheViews.{out-Command};
+ghost use Rattle.pciplan_words.specs.CommandLines.{pool_rule, with_paths, planning, probing, commands, IsGiven, HasNoLine};
+ghost use Rattle.pciplan_words.specs.CommandWords.{HasPlanWords, IsAsked, IsSaid};
+ghost use Rattle.pciplan_words.specs.declared.asked.Asked.{Asked};
+ghost use Rattle.pciplan_words.specs.declared.asked.PlanWords.{PlanWords};
+ghost use Rattle.pciplan_words.specs.declared.asked.WordsFault.{WordsFault};
+
+use crate::asked::{Asked, Given, PlanWords, WordsFault};
+use clap::{Arg, ArgAction, ArgMatches, Command};
+use std::alloc::{AllocError, Global};
+
+/// The names of the two texts among the words.
+const DUMP: &str = "DUMP";
+
+const PROBE: &str = "PROBE";
+
+/// The name of the option that lists the root buses.
+const ROOT: &str = "root";
+
+/// The name of the option that asks for the writes of a plan.
+const WRITES: &str = "writes";
+
+/// The names of the options that name the pools.
+const IO: &str = "io";
+
+const MEM: &str = "mem";
+
+const PREF: &str = "pref";
+
+/// The name of the option that lets nothing be assumed.
+const EXACT: &str = "exact";
+
+impl From<AllocError> for WordsFault {
+    ghost from_gives = { λ _ fault. fault ≡ WordsFault.Memory };
+
+    fn from(_error: AllocError) -> WordsFault {
+        WordsFault::Memory
+    }
+}
+
+/// A line that is refused, or that asks for help, is a fault of usage.
+impl From<clap::Error> for WordsFault {
+    ghost from_gives = { λ error fault. ((kind_of error ≡ ErrorKind.OutOfMemory) × (fault ≡ WordsFault.Memory))
+        ⊎ ((kind_of error ≢ ErrorKind.OutOfMemory) × (fault ≡ WordsFault.Usage)) };
+
+    fn from(error: clap::Error) -> WordsFault {
+        if error.kind() == clap::error::ErrorKind::OutOfMemory {
+            WordsFault::Memory
+        } else {
+            WordsFault::Usage
+        }
+    }
+}
+
+/// A subcommand that takes the two texts.
+fn of_texts<'a>(alloc: Global, name: &'a str) -> Result<Command<'a>, AllocError>
+    ensures app { IfOk result (λ command. app_of command ≡ with_paths name.now) }
+    ensures local { IfOk result (λ command. (out-Command command).has_globals ≡ false) }
+{
+    let dump = Arg::new(alloc, DUMP).required(true);
+    let probe = Arg::new(alloc, PROBE).required(true);
+    Command::new(alloc, name).arg(dump)?.arg(probe)
+}
+
+/// The required option of this name, of a pool.
+fn pool_arg<'a>(alloc: Global, name: &'a str) -> Arg<'a>
+    ensures rule { rule_of result ≡ pool_rule name.now }
+    ensures local { result.global ≡ false }
+{
+    Arg::new(alloc, name).long(name).required(true)
+}
+
+/// `pciplan plan DUMP PROBE --io A-B --mem A-B --pref A-B [--writes] [--root LIST]`.
+fn plan_command<'a>(alloc: Global) -> Result<Command<'a>, AllocError>
+    ensures app { IfOk result (λ command. app_of command ≡ planning) }
+    ensures local { IfOk result (λ command. (out-Command command).has_globals ≡ false) }
+{
+    let writes = Arg::new(alloc, WRITES)
+        .long(WRITES)
+        .action(ArgAction::SetTrue);
+    of_texts(alloc, "plan")?
+        .arg(pool_arg(alloc, IO))?
+        .arg(pool_arg(alloc, MEM))?
+        .arg(pool_arg(alloc, PREF))?
+        .arg(writes)?
+        .arg(Arg::new(alloc, ROOT).long(ROOT))
+}
+
+/// `pciplan probe DUMP SIZES [--exact]`.
+fn probe_command<'a>(alloc: Global) -> Result<Command<'a>, AllocError>
+    ensures app { IfOk result (λ command. app_of command ≡ probing) }
+    ensures local { IfOk result (λ command. (out-Command command).has_globals ≡ false) }
+{
+    let exact = Arg::new(alloc, EXACT)
+        .long(EXACT)
+        .action(ArgAction::SetTrue);
+    of_texts(alloc, "probe")?.arg(exact)
+}
+
+/// `pciplan show DUMP PROBE`, `pciplan check [--root LIST] DUMP PROBE`, `pciplan size DUMP PROBE`, and `pciplan plan` and
+/// `pciplan probe`.
+fn command<'a>(alloc: Global) -> Result<Command<'a>, AllocError>
+    ensures { IfOk result (λ command. app_of command ≡ commands) }
+{
+    Command::new(alloc, "pciplan")
+        .no_binary_name(true)
+        .subcommand_required(true)
+        .subcommand(of_texts(alloc, "show")?)?
+        .subcommand(of_texts(alloc, "check")?.arg(Arg::new(alloc, ROOT).long(ROOT))?)?
+        .subcommand(of_texts(alloc, "size")?)?
+        .subcommand(plan_command(alloc)?)?
+        .subcommand(probe_command(alloc)?)
+}
+
+/// The words of the options of `plan`.
+fn plan_words<'a>(found: &ArgMatches<'a>) -> Option<PlanWords<'a>>
+    ensures { MatchOption result ((words : PlanWords) → HasPlanWords (rows_of (found_of found.now)) words → ⊥)
+        (HasPlanWords (rows_of (found_of found.now))) }
+{
+    Some(PlanWords {
+        root: found.get_str(ROOT),
+        io: found.get_str(IO)?,
+        mem: found.get_str(MEM)?,
+        pref: found.get_str(PREF)?,
+        writes: found.get_flag(WRITES),
+    })
+}
+
+/// The task of this name, with the words of its options.
+fn asked_of<'a>(name: &str, found: &ArgMatches<'a>) -> Option<Asked<'a>>
+    ensures { MatchOption result ((asked : Asked) → IsAsked name.now (rows_of (found_of found.now)) asked → ⊥)
+        (IsAsked name.now (rows_of (found_of found.now))) }
+{
+    match name {
+        "show" => Some(Asked::Show),
+        "check" => Some(Asked::Check {
+            root: found.get_str(ROOT),
+        }),
+        "size" => Some(Asked::Size),
+        "plan" => Some(Asked::Plan(plan_words(found)?)),
+        "probe" => Some(Asked::Probe {
+            exact: found.get_flag(EXACT),
+        }),
+        _ => None,
+    }
+}
+
+/// What the words of a subcommand say.
+fn given_of<'a>(name: &str, found: &ArgMatches<'a>) -> Option<Given<'a>>
+    ensures { MatchOption result ((asked : Asked) (dump probe : List ℕ) → IsSaid name.now (rows_of (found_of found.now)) asked dump probe → ⊥)
+        (λ given. IsSaid name.now (rows_of (found_of found.now)) given.asked given.dump.now given.probe.now) }
+{
+    Some(Given {
+        asked: asked_of(name, found)?,
+        dump: found.get_str(DUMP)?,
+        probe: found.get_str(PROBE)?,
+    })
+}
+
+/// What the words after the program's name say.
+///
+/// # Errors
+///
+/// `Usage` where they are no command line, `Memory` where a growth was refused.
+pub fn words_given<'a>(alloc: Global, words: &'a [&'a str]) -> Result<Given<'a>, WordsFault>
+    ensures { MatchResult result (λ given. IsGiven (map (λ w. w.now) words.now) given.asked given.dump.now given.probe.now)
+        (λ fault. (fault ≡ WordsFault.Memory) ⊎ ((fault ≡ WordsFault.Usage) × HasNoLine (map (λ w. w.now) words.now))) }
+{
+    let matches = command(alloc)?.try_get_matches_from(words)?;
+    let (name, found) = matches.subcommand().ok_or(WordsFault::Usage)?;
+    given_of(name, found).ok_or(WordsFault::Usage)
+}
