@@ -20,20 +20,6 @@ use Rattle.pci_plan.specs.Needs.{AreAllNeeds}
 use Rattle.pci_plan.specs.Places.{first_in}
 use Rattle.pci_plan.specs.Records.{IsRecordOf}
 
--- ---- windows
-
--- how many bits the addresses of a pool have at most
-abbrev pub address_bits : CodeKind → ℕ
-address_bits Io = 16
-address_bits Memory = 32
-address_bits Prefetchable = 64
-
--- the registers of a window as the definitions have them
-abbrev pub bounds_value : Bounds → SpecBounds
-bounds_value b = record { base = b.base.lower; limit = b.limit.lower; base_upper = b.base.upper; limit_upper = b.limit.upper }
-
--- ---- functions
-
 -- A filling is that of a function of a system that can be planned: it has the function's record, its image, and the place of
 -- each part that has one.
 pub record FillingOf (filling : Filling) : Type 0 where
