@@ -2,6 +2,8 @@
 use Rattle.std.specs.Prelude.{ℕ, ◌+◌, ◌-◌, ◌*◌, ◌/◌, ◌%◌, nat_le, ◌==◌, Bool, ◌&&◌, ◌||◌, Option, None, Some, if◌then◌else◌}
 use Rattle.pci_spec.specs.Window.{WindowKind, Bounds as SpecBounds, lower_pages, page_bits, page_size, upper_bits, is_lawful_window, is_optional}
 use Rattle.pci_spec.specs.Decoded.{Range}
+use Rattle.pci_image.specs.declared.window_kind.WindowKind.{WindowKind as CodeKind}
+use Rattle.pci_image.specs.declared.window_kind.WindowKind.TheVariants.{Io, Memory, Prefetchable}
 use Rattle.pci_image.specs.declared.window.bounds.Bounds.{Bounds}
 
 -- its registers as the definitions have them
@@ -33,3 +35,9 @@ range_between kind base limit =
     if nat_le base limit
     then Some record { first = base * page_size kind; last = limit * page_size kind + (page_size kind - 1) }
     else None
+
+-- how many bits the addresses that a plan gives a window have at most
+abbrev pub address_bits : CodeKind → ℕ
+address_bits Io = 16
+address_bits Memory = 32
+address_bits Prefetchable = 64

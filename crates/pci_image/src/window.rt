@@ -1,7 +1,7 @@
 //! The address windows of a bridge (Bridge 1.2, 3.2.5).
 ghost use Rattle.std.specs.Prelude.{◌≡◌, ◌↔◌, IsOk, IfOk};
 
-mod bounds;
+pub mod bounds;
 
 use super::fault::ImageFault;
 use super::header::Header;

@@ -8,6 +8,7 @@ use Rattle.std.proofs.lemmas.Bool.{both_ways}
 use Rattle.std.proofs.lemmas.Option.{slice_get-get_or}
 use Rattle.pci_spec.specs.Number.{byte_at, has_bit}
 use Rattle.pci_spec.specs.Header.{layout}
+use Rattle.pci_spec.proofs.Planning.Writes.{enables_are_fields}
 use Rattle.pci_spec.proofs.WritableBits.{has_bit-writable_bits}
 use Rattle.pci_spec.specs.Slot.{IsRising}
 use Rattle.pci_spec.specs.Text.{Block, IsDump, slots_of}
@@ -30,20 +31,11 @@ use Rattle.pci_machine.proofs.TargetOf.{IsTarget-target_of, no_write_of_header}
 
 -- ---- the decode bits
 
--- the decode bits of Command are writable in both layouts
-decode_bits_writable : (bridge : Bool) (probe : List ℕ) (i : ℕ) → i < 2 → in_fields (writable_by bridge probe) 0x04 i ≡ true
-decode_bits_writable true probe zero h = refl
-decode_bits_writable true probe (suc zero) h = refl
-decode_bits_writable true probe (suc (suc i)) h = absurd (let no : ⊥ = omega (arith, h) in no)
-decode_bits_writable false probe zero h = refl
-decode_bits_writable false probe (suc zero) h = refl
-decode_bits_writable false probe (suc (suc i)) h = absurd (let no : ⊥ = omega (arith, h) in no)
-
 -- so none of a function that was just made is stuck
 can_clear : (f : Function) → IsStuck (target_of f) → ⊥
 can_clear f (i, below, set, cannot) =
     both_ways (has_bit (byte_at (writable_bits f.image f.probe) 0x04) i) cannot
-    (has_bit-writable_bits f.image f.probe 0x04 i (lit< tt) (omega (arith, below)) ∙ decode_bits_writable (layout f.image == 1) f.probe i below)
+    (has_bit-writable_bits f.image f.probe 0x04 i (lit< tt) (omega (arith, below)) ∙ enables_are_fields (layout f.image == 1) f.probe i below)
 
 -- ---- functions by their places
 

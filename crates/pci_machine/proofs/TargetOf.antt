@@ -1,18 +1,19 @@
 -- The bits of a function that is made of its image and its probe.
 use Rattle.std.proofs.Common.{◌≡◌, ℕ, ◌+◌, ◌-◌, ◌*◌, ◌<◌, ◌==◌, ◌&&◌, ◌||◌, nat_lt, nat_le, refl, Bool, true, false, List, inl, inr, arith, sym, ◌∙◌, ap, lit<}
 use Rattle.std.specs.Int.{bit_at}
-use Rattle.std.proofs.lemmas.Bool.{cases_lt, cases_eq, cases_Bool, and_parts, and_left, and_right, or_parts, or_from, leb-true, ltb-true, eqb-false, ne_eqb, false_from_ne_true}
+use Rattle.std.proofs.lemmas.Bool.{cases_lt, cases_Bool, and_left, and_right, both_ways, ne_eqb, false_from_ne_true}
 use Rattle.std.proofs.lemmas.List.{get_or_past}
 use Rattle.std.proofs.lemmas.List.FromFn.{length-map-range_with_len}
 use Rattle.std.proofs.lemmas.Nat.Bits.{bit_at_above}
 use Rattle.pci_spec.specs.Number.{byte_at, has_bit, IsImage}
+use Rattle.pci_spec.specs.Registers.{STATUS, SECONDARY_STATUS}
 use Rattle.pci_spec.specs.Header.{layout}
 use Rattle.pci_spec.specs.System.{Function}
-use Rattle.pci_spec.specs.Machine.{field_has, in_fields, plain_field, writable_fields, clearing_fields, writable_bits, clearing_bits, byte_of_bits, bytes_of_bits, target_of}
+use Rattle.pci_spec.specs.Machine.{in_fields, writable_by, clearing_by, writable_fields, clearing_fields, writable_bits, clearing_bits, byte_of_bits, bytes_of_bits, target_of}
 use Rattle.pci_spec.proofs.WrittenBits.{byte_at-bytes_of_bits}
+use Rattle.pci_spec.proofs.KeptBits.{are_within, field_passes}
 use Rattle.pci_spec.proofs.WritableBits.{no_bit_is_both}
 use Rattle.pci_spec.specs.Port.{IsTarget, is_status_byte}
-use Rattle.pci_spec.specs.Machine.{writable_by, clearing_by}
 use Rattle.pci_machine.proofs.Bytes.{byte_by_bits, byte_of_bits-lt, has_bit-zero}
 
 -- bytes that are made of bits are bytes
@@ -52,29 +53,17 @@ pub no_write_of_header : (image probe : List ℕ) → byte_at (writable_bits ima
 unfolding writable_bits
 no_write_of_header image probe = no_byte (in_fields (writable_fields image probe)) 0x0e (lit< tt) (λ i. header_fixed (layout image == 1) probe i)
 
--- a field of two bytes has no bit elsewhere
-elsewhere : (offset bits place i : ℕ) → (place == offset) ≡ false → (place == offset + 1) ≡ false → field_has place i (plain_field offset 2 bits) ≡ false
-elsewhere offset bits place i first second = false_from_ne_true _ (λ h.
-    let outer = and_parts (nat_le offset place && nat_lt place (offset + 2)) (has_bit bits (8 * (place - offset) + i)) h in
-    let inner = and_parts (nat_le offset place) (nat_lt place (offset + 2)) outer.0 in
-    let from = leb-true offset place inner.0 in
-    let upto = ltb-true place (offset + 2) inner.1 in
-    let not_first = eqb-false place offset first in
-    let not_second = eqb-false place (offset + 1) second in
-    not_second (elim (cases_eq place offset) [ inl same ↦ absurd (not_first same) | inr other ↦ omega (arith, from, upto, other) ]))
-
 -- the fields that a one clears lie in status bytes
-clears_status : (bridge : Bool) (place i : ℕ) → (place == 0x06 || place == 0x07 || (bridge && (place == 0x1e || place == 0x1f))) ≡ false → in_fields (clearing_by bridge) place i ≡ false
-clears_status false place i h =
-    let outer = or_parts (place == 0x06 || place == 0x07) false h in
-    let status = or_parts (place == 0x06) (place == 0x07) outer.0 in
-    or_from (field_has place i (plain_field 0x06 2 0xf900)) false (elsewhere 0x06 0xf900 place i status.0 status.1) refl
-clears_status true place i h =
-    let outer = or_parts (place == 0x06 || place == 0x07) (place == 0x1e || place == 0x1f) h in
-    let status = or_parts (place == 0x06) (place == 0x07) outer.0 in
-    let second = or_parts (place == 0x1e) (place == 0x1f) outer.1 in
-    or_from (field_has place i (plain_field 0x06 2 0xf900)) (field_has place i (plain_field 0x1e 2 0xf900) || false) (elsewhere 0x06 0xf900 place i status.0 status.1)
-    (or_from (field_has place i (plain_field 0x1e 2 0xf900)) false (elsewhere 0x1e 0xf900 place i second.0 second.1) refl)
+abbrev is_status : Bool → ℕ → Bool
+is_status bridge place = place == STATUS || place == STATUS + 1 || (bridge && (place == SECONDARY_STATUS || place == SECONDARY_STATUS + 1))
+
+cleared_within : (bridge : Bool) → are_within (is_status bridge) (clearing_by bridge) ≡ true
+cleared_within true = refl
+cleared_within false = refl
+
+clears_status : (bridge : Bool) (place i : ℕ) → is_status bridge place ≡ false → in_fields (clearing_by bridge) place i ≡ false
+clears_status bridge place i h =
+    false_from_ne_true _ (λ cleared. both_ways (is_status bridge place) h (field_passes (is_status bridge) (clearing_by bridge) place i (cleared_within bridge) cleared))
 
 -- so no other byte has such bits
 status_alone : (image : List ℕ) (place : ℕ) → is_status_byte image place ≡ false → byte_at (clearing_bits image) place ≡ 0

@@ -35,7 +35,8 @@ use Rattle.pci_plan.specs.declared.need.Needs.{Needs}
 use Rattle.pci_plan.specs.declared.numbers.Filling.{Filling}
 use Rattle.pci_plan.specs.Needs.{AreNeeds, AreAllNeeds}
 use Rattle.pci_plan.specs.Places.{first_in}
-use Rattle.pci_plan.specs.Fillings.{FillingOf, address_bits}
+use Rattle.pci_image.specs.Bounds.{address_bits}
+use Rattle.pci_plan.specs.Fillings.{FillingOf}
 
 -- ---- kinds
 

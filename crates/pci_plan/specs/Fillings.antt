@@ -2,7 +2,7 @@
 use Rattle.std.specs.Prelude.{◌≡◌, ℕ, List, IsTrue, Option, Some, if◌then◌else◌}
 use Rattle.std.specs.List.{Contains}
 use Rattle.std.specs.Option.{is_some}
-use Rattle.pci_spec.specs.Window.{WindowKind, Bounds as SpecBounds}
+use Rattle.pci_spec.specs.Window.{WindowKind}
 use Rattle.pci_spec.specs.Header.{address_registers}
 use Rattle.pci_spec.specs.System.{System, Function, Part}
 use Rattle.pci_spec.specs.Plan.{Pools, class_of}
@@ -12,27 +12,10 @@ use Rattle.pci_spec.specs.Planning.Table.{is_placed, IsTable}
 use Rattle.pci_spec.specs.Planning.Numbers.{place_at}
 use Rattle.pci_image.specs.declared.register.Register.{Register}
 use Rattle.pci_function.specs.declared.record.Record.{Record}
-use Rattle.pci_image.specs.declared.window_kind.WindowKind.{WindowKind as CodeKind}
-use Rattle.pci_image.specs.declared.window_kind.WindowKind.TheVariants.{Io, Memory, Prefetchable}
-use Rattle.pci_plan.specs.declared.numbers.Bounds.{Bounds}
 use Rattle.pci_plan.specs.declared.numbers.Filling.{Filling}
 use Rattle.pci_plan.specs.Needs.{AreAllNeeds}
 use Rattle.pci_plan.specs.Places.{first_in}
 use Rattle.pci_plan.specs.Records.{IsRecordOf}
-
--- ---- windows
-
--- how many bits the addresses of a pool have at most
-abbrev pub address_bits : CodeKind → ℕ
-address_bits Io = 16
-address_bits Memory = 32
-address_bits Prefetchable = 64
-
--- the registers of a window as the definitions have them
-abbrev pub bounds_value : Bounds → SpecBounds
-bounds_value b = record { base = b.base.lower; limit = b.limit.lower; base_upper = b.base.upper; limit_upper = b.limit.upper }
-
--- ---- functions
 
 -- A filling is that of a function of a system that can be planned: it has the function's record, its image, and the place of
 -- each part that has one.

@@ -13,13 +13,13 @@ ghost use Rattle.pci_spec.specs.Planning.Numbers as numbers;
 ghost use Rattle.pci_plan.specs.Classes.{is_io_kind};
 ghost use Rattle.pci_image.specs.WindowKinds.{kind_value, by_kind};
 ghost use Rattle.pci_plan.specs.Places.{first_in};
-ghost use Rattle.pci_plan.specs.Fillings.{address_bits, bounds_value, FillingOf, IsListed};
+ghost use Rattle.pci_image.specs.Bounds.{spec_bounds_of};
+ghost use Rattle.pci_plan.specs.Fillings.{FillingOf, IsListed};
 
-use pci_image::window_kind::ByKind;
 use super::lacking::has_io_bar;
 use super::need::{Needs, window_size_of};
 use super::place::Places;
-use pci_image::window_kind::WindowKind;
+use pci_function::record::{Bridge, Record};
 use pci_image::bar::{Bar, BarKind};
 use pci_image::image::Image;
 use pci_image::offset::{
@@ -27,7 +27,8 @@ use pci_image::offset::{
     MEMORY_BASE, PREFETCHABLE_BASE, PREFETCHABLE_BASE_UPPER, PREFETCHABLE_LIMIT_UPPER,
 };
 use pci_image::register::Register;
-use pci_function::record::{Bridge, Record};
+use pci_image::window::bounds::Bounds;
+use pci_image::window_kind::{ByKind, WindowKind};
 
 /// A function with the places of its parts.
 #[derive(Clone, Copy)]
@@ -36,104 +37,6 @@ pub struct Filling<'a> {
     pub image: &'a Image,
     pub places: &'a Places,
     pub needs: &'a ByKind<Needs>,
-}
-
-/// One end of a window: base or limit, and its upper half, 0 where there is none.
-#[derive(Clone, Copy, Debug, PartialEq, Eq)]
-struct Bound {
-    lower: u16,
-    upper: u32,
-}
-
-/// The registers of a window.
-#[derive(Clone, Copy, Debug, PartialEq, Eq)]
-struct Bounds {
-    base: Bound,
-    limit: Bound,
-}
-
-impl Bound {
-    /// Where there is no window.
-    const ABSENT: Bound = Bound { lower: 0, upper: 0 };
-
-    /// At the page of an address, over the low nibble that shows whether the window has upper halves. Base and limit hold
-    /// bits 15:12 of an I/O address in their bits 7:4, and bits 31:20 of a memory address in their bits 15:4; the upper half
-    /// holds all higher bits (Bridge 1.2, 3.2.5).
-    fn at(class: WindowKind, nibble: u16, address: u64) -> Bound
-        requires nibble { nibble < 16 }
-        requires address { address < 2 ^ address_bits class }
-        ensures lower { result.lower ≡ (bounds_for (kind_value class) nibble address address).base }
-        ensures upper { result.upper ≡ (bounds_for (kind_value class) nibble address address).base_upper }
-    {
-        match class {
-            WindowKind::Io => Bound {
-                lower: (address >> 12 & 0xf) as u16 * 16 + nibble,
-                upper: (address >> 16) as u32,
-            },
-            WindowKind::Memory | WindowKind::Prefetchable => Bound {
-                lower: (address >> 20 & 0xfff) as u16 * 16 + nibble,
-                upper: (address >> 32) as u32,
-            },
-        }
-    }
-}
-
-impl Bounds {
-    /// Where there is no window.
-    const ABSENT: Bounds = Bounds {
-        base: Bound::ABSENT,
-        limit: Bound::ABSENT,
-    };
-
-    /// Of a window from first to last.
-    fn open(class: WindowKind, nibble: u16, first: u64, last: u64) -> Bounds
-        requires nibble { nibble < 16 }
-        requires first { first < 2 ^ address_bits class }
-        requires last { last < 2 ^ address_bits class }
-        ensures { bounds_value result ≡ bounds_for (kind_value class) nibble first last }
-    {
-        Bounds {
-            base: Bound::at(class, nibble, first),
-            limit: Bound::at(class, nibble, last),
-        }
-    }
-
-    /// Of a window that is closed: its base at the last page below 64 KB of I/O or 4 GB of memory, its limit at page 0.
-    fn closed(class: WindowKind, nibble: u16) -> Bounds
-        requires { nibble < 16 }
-        ensures { bounds_value result ≡ closed_bounds (kind_value class) nibble }
-    {
-        let last_page = match class {
-            WindowKind::Io => 0xf000,
-            WindowKind::Memory | WindowKind::Prefetchable => 0xfff0_0000,
-        };
-        Bounds::open(class, nibble, last_page, 0)
-    }
-
-    /// Base and limit in one register, the limit from a bit on.
-    fn lower(self, bit: u32) -> u32
-        requires { bit ≤ 16 }
-        ensures { result ≡ self.base.lower + 2 ^ bit * self.limit.lower }
-    {
-        joined(self.base.lower, self.limit.lower, bit)
-    }
-
-    /// The upper halves of base and limit in one register, of 16 bits each.
-    fn upper(self) -> u32
-        requires base { self.base.upper < 2 ^ 16 }
-        requires limit { self.limit.upper < 2 ^ 16 }
-        ensures { result ≡ self.base.upper + 2 ^ 16 * self.limit.upper }
-    {
-        joined(self.base.upper as u16, self.limit.upper as u16, 16)
-    }
-}
-
-/// Two numbers in one, the second from a bit on.
-fn joined(first: u16, second: u16, bit: u32) -> u32
-    requires { bit ≤ 16 }
-    ensures { result ≡ first + 2 ^ bit * second }
-{
-    u32::from(first) + (u32::from(second) << bit)
 }
 
 /// Whether a function has a memory BAR or a ROM.
@@ -234,7 +137,7 @@ impl Filling<'_> {
         requires bridge { self.now.record.now.bridge ≡ Some bridge.now }
         requires nibble { (of : FillingOf self.now) → nibble ≡ nibble_of (kind_value class) of.function }
         requires there { (of : FillingOf self.now) → IsTrue (has_window (kind_value class) of.function.probe) }
-        ensures { (of : FillingOf self.now) → bounds_value result ≡ numbers.new_bounds of.roots of.system of.pools of.function (kind_value class) }
+        ensures { (of : FillingOf self.now) → spec_bounds_of result ≡ numbers.new_bounds of.roots of.system of.pools of.function (kind_value class) }
     {
         let need = self.need(bridge, class);
         if need == 0 {
@@ -249,7 +152,7 @@ impl Filling<'_> {
     fn bounds(&self, bridge: &Bridge, class: WindowKind) -> Bounds
         requires of { FillingOf self.now }
         requires bridge { self.now.record.now.bridge ≡ Some bridge.now }
-        ensures { (of : FillingOf self.now) → bounds_value result ≡ numbers.new_bounds of.roots of.system of.pools of.function (kind_value class) }
+        ensures { (of : FillingOf self.now) → spec_bounds_of result ≡ numbers.new_bounds of.roots of.system of.pools of.function (kind_value class) }
     {
         match bridge.windows.get(class) {
             None => Bounds::ABSENT,
@@ -268,8 +171,8 @@ impl Filling<'_> {
             IO_BASE => self.bounds(bridge, WindowKind::Io).lower(8),
             MEMORY_BASE => self.bounds(bridge, WindowKind::Memory).lower(16),
             PREFETCHABLE_BASE => self.bounds(bridge, WindowKind::Prefetchable).lower(16),
-            PREFETCHABLE_BASE_UPPER => self.bounds(bridge, WindowKind::Prefetchable).base.upper,
-            PREFETCHABLE_LIMIT_UPPER => self.bounds(bridge, WindowKind::Prefetchable).limit.upper,
+            PREFETCHABLE_BASE_UPPER => self.bounds(bridge, WindowKind::Prefetchable).base_upper,
+            PREFETCHABLE_LIMIT_UPPER => self.bounds(bridge, WindowKind::Prefetchable).limit_upper,
             IO_BASE_UPPER => self.bounds(bridge, WindowKind::Io).upper(),
             BRIDGE_EXPANSION_ROM => self.rom_number(offset),
             _ => self.bar_number(offset),

@@ -1,46 +1,29 @@
 //! What is derived for the windows of a bridge (Bridge 1.2, 3.2.5).
-ghost use Rattle.std.specs.Prelude.{◌≡◌, ◌<◌, ◌==◌, true, false, if◌then◌else◌, MatchOption};
-ghost use Rattle.pci_spec.specs.Window.{IoWindow, PrefetchWindow};
+ghost use Rattle.std.specs.Prelude.{◌≡◌, IsTrue, ◌<◌, ◌==◌, true, false, if◌then◌else◌, MatchOption};
+ghost use Rattle.pci_spec.specs.Window.{is_optional};
+ghost use Rattle.pci_image.specs.WindowKinds.{kind_value};
 ghost use Rattle.pci_spec.specs.Derived as spec;
 ghost use Rattle.pci_probe.specs.Derived.{derived_of, IsNarrow};
 
 use super::derived::Derived;
 use pci_image::image::Image;
 use pci_image::offset::{
-    COMMAND, IO_BASE, IO_BASE_UPPER, IO_LIMIT, IO_LIMIT_UPPER, MEMORY_BASE, PREFETCHABLE_BASE,
-    PREFETCHABLE_BASE_UPPER, PREFETCHABLE_LIMIT, PREFETCHABLE_LIMIT_UPPER,
+    COMMAND, IO_BASE, MEMORY_BASE, PREFETCHABLE_BASE, PREFETCHABLE_BASE_UPPER,
+    PREFETCHABLE_LIMIT_UPPER,
 };
+use pci_image::window_kind::WindowKind;
 
-/// The low nibble of an I/O window's base, unless all its registers show 0.
-fn io_nibble(image: &Image) -> Option<u64>
-    ensures { MatchOption result (spec.shows_none IoWindow image.now.0 ≡ true)
-        (λ n. (spec.shows_none IoWindow image.now.0 ≡ false) × (n ≡ spec.window_nibble IoWindow image.now.0) × (n < 16)) }
+/// The low nibble of a window's base, unless all its registers show 0.
+fn nibble(kind: WindowKind, image: &Image) -> Option<u64>
+    requires { IsTrue (is_optional (kind_value kind)) }
+    ensures { MatchOption result (spec.shows_none (kind_value kind) image.now.0 ≡ true)
+        (λ n. (spec.shows_none (kind_value kind) image.now.0 ≡ false) × (n ≡ spec.window_nibble (kind_value kind) image.now.0) × (n < 16)) }
 {
-    let base = image.u8(IO_BASE);
-    if base == 0
-        && image.u8(IO_LIMIT) == 0
-        && image.u16(IO_BASE_UPPER) == 0
-        && image.u16(IO_LIMIT_UPPER) == 0
-    {
+    let bounds = kind.bounds(image);
+    if bounds.is_zero() {
         return None;
     }
-    Some(u64::from(base % 16))
-}
-
-/// The low nibble of a prefetchable window's base, unless all its registers show 0.
-fn prefetchable_nibble(image: &Image) -> Option<u64>
-    ensures { MatchOption result (spec.shows_none PrefetchWindow image.now.0 ≡ true)
-        (λ n. (spec.shows_none PrefetchWindow image.now.0 ≡ false) × (n ≡ spec.window_nibble PrefetchWindow image.now.0) × (n < 16)) }
-{
-    let base = image.u16(PREFETCHABLE_BASE);
-    if base == 0
-        && image.u16(PREFETCHABLE_LIMIT) == 0
-        && image.u32(PREFETCHABLE_BASE_UPPER) == 0
-        && image.u32(PREFETCHABLE_LIMIT_UPPER) == 0
-    {
-        return None;
-    }
-    Some(u64::from(base % 16))
+    Some(u64::from(bounds.base % 16))
 }
 
 /// A window that is taken as absent: where its space is enabled, that is assumed.
@@ -72,20 +55,20 @@ pub fn window(image: &Image, offset: u8) -> Derived
 {
     let command = image.u16(COMMAND);
     if offset == IO_BASE {
-        match io_nibble(image) {
+        match nibble(WindowKind::Io, image) {
             None => absent(command % 2 == 1),
             Some(nibble) => Derived::Known(0xf0f0 + 0x101 * nibble),
         }
     } else if offset == MEMORY_BASE {
         Derived::Known(0xfff0_fff0)
     } else if offset == PREFETCHABLE_BASE {
-        match prefetchable_nibble(image) {
+        match nibble(WindowKind::Prefetchable, image) {
             None => absent(command / 2 % 2 == 1),
             Some(nibble) => Derived::Known(0xfff0_fff0 + 0x1_0001 * nibble),
         }
     } else if offset == PREFETCHABLE_BASE_UPPER || offset == PREFETCHABLE_LIMIT_UPPER {
-        upper(prefetchable_nibble(image))
+        upper(nibble(WindowKind::Prefetchable, image))
     } else {
-        upper(io_nibble(image))
+        upper(nibble(WindowKind::Io, image))
     }
 }

@@ -2,11 +2,13 @@
 //!
 //! Which read backs are decoded is this project's own choice: a window is there whole or not at all,
 //! and a bridge always has a memory window.
-ghost use Rattle.std.specs.Prelude.{◌≡◌, ◌≢◌, ◌^◌, ◌%◌, ◌<◌, ◌==◌, IsTrue, IsFalse, MatchOption};
+ghost use Rattle.std.specs.Prelude.{◌≡◌, ◌+◌, ◌*◌, ◌≤◌, ◌≢◌, ◌^◌, ◌%◌, ◌<◌, ◌==◌, IsTrue, IsFalse, MatchOption};
 ghost use Rattle.std.specs.Option.{option_map};
 ghost use Rattle.pci_spec.specs.Window.{bounds_at, is_optional, is_zero, lower_pages, page_bits, upper_bits};
+ghost use Rattle.pci_spec.specs.Place.{closed_bounds};
+ghost use Rattle.pci_spec.specs.Planning.Showing.{bounds_for};
 ghost use Rattle.pci_image.specs.WindowKinds.{kind_value};
-ghost use Rattle.pci_image.specs.Bounds.{spec_bounds_of, page_of, range_between, is_implemented, is_read_back, is_value};
+ghost use Rattle.pci_image.specs.Bounds.{address_bits, spec_bounds_of, page_of, range_between, is_implemented, is_read_back, is_value};
 ghost use Rattle.pci_image.specs.Ranges.{decoded_range_of};
 
 use crate::image::Image;
@@ -173,4 +175,98 @@ impl Bounds {
         let has_no_upper = self.base_upper == 0 && self.limit_upper == 0;
         self.base % 16 == nibble && self.limit % 16 == nibble && (nibble == WIDE || has_no_upper)
     }
+}
+
+/// One end of a window: base or limit, and its upper half, 0 where there is none.
+#[derive(Clone, Copy, Debug, PartialEq, Eq)]
+struct Bound {
+    lower: u16,
+    upper: u32,
+}
+
+impl Bound {
+    /// At the page of an address, over the low nibble that shows whether the window has upper halves. Base and limit hold
+    /// bits 15:12 of an I/O address in their bits 7:4, and bits 31:20 of a memory address in their bits 15:4; the upper half
+    /// holds all higher bits (Bridge 1.2, 3.2.5).
+    fn at(kind: WindowKind, nibble: u16, address: u64) -> Bound
+        requires nibble { nibble < 16 }
+        requires address { address < 2 ^ address_bits kind }
+        ensures lower { result.lower ≡ (bounds_for (kind_value kind) nibble address address).base }
+        ensures upper { result.upper ≡ (bounds_for (kind_value kind) nibble address address).base_upper }
+    {
+        match kind {
+            WindowKind::Io => Bound {
+                lower: (address >> 12 & 0xf) as u16 * 16 + nibble,
+                upper: (address >> 16) as u32,
+            },
+            WindowKind::Memory | WindowKind::Prefetchable => Bound {
+                lower: (address >> 20 & 0xfff) as u16 * 16 + nibble,
+                upper: (address >> 32) as u32,
+            },
+        }
+    }
+}
+
+impl Bounds {
+    /// Where there is no window.
+    pub const ABSENT: Bounds = Bounds {
+        base: 0,
+        limit: 0,
+        base_upper: 0,
+        limit_upper: 0,
+    };
+
+    /// Of a window from first to last.
+    pub fn open(kind: WindowKind, nibble: u16, first: u64, last: u64) -> Bounds
+        requires nibble { nibble < 16 }
+        requires first { first < 2 ^ address_bits kind }
+        requires last { last < 2 ^ address_bits kind }
+        ensures { spec_bounds_of result ≡ bounds_for (kind_value kind) nibble first last }
+    {
+        let base = Bound::at(kind, nibble, first);
+        let limit = Bound::at(kind, nibble, last);
+        Bounds {
+            base: base.lower,
+            limit: limit.lower,
+            base_upper: base.upper,
+            limit_upper: limit.upper,
+        }
+    }
+
+    /// Of a window that is closed: its base at the last page below 64 KB of I/O or 4 GB of memory, its limit at page 0.
+    pub fn closed(kind: WindowKind, nibble: u16) -> Bounds
+        requires { nibble < 16 }
+        ensures { spec_bounds_of result ≡ closed_bounds (kind_value kind) nibble }
+    {
+        let last_page = match kind {
+            WindowKind::Io => 0xf000,
+            WindowKind::Memory | WindowKind::Prefetchable => 0xfff0_0000,
+        };
+        Bounds::open(kind, nibble, last_page, 0)
+    }
+
+    /// Base and limit in one register, the limit from a bit on.
+    pub fn lower(self, bit: u32) -> u32
+        requires { bit ≤ 16 }
+        ensures { result ≡ self.base + 2 ^ bit * self.limit }
+    {
+        joined(self.base, self.limit, bit)
+    }
+
+    /// The upper halves of base and limit in one register, of 16 bits each.
+    pub fn upper(self) -> u32
+        requires base { self.base_upper < 2 ^ 16 }
+        requires limit { self.limit_upper < 2 ^ 16 }
+        ensures { result ≡ self.base_upper + 2 ^ 16 * self.limit_upper }
+    {
+        joined(self.base_upper as u16, self.limit_upper as u16, 16)
+    }
+}
+
+/// Two numbers in one, the second from a bit on.
+fn joined(first: u16, second: u16, bit: u32) -> u32
+    requires { bit ≤ 16 }
+    ensures { result ≡ first + 2 ^ bit * second }
+{
+    u32::from(first) + (u32::from(second) << bit)
 }

@@ -1,6 +1,6 @@
 use Rattle.std.proofs.Common.{arith, ◌≡◌, ◌<◌, ◌+◌, ◌*◌, ◌%◌, ◌^◌, ◌∙◌, ap}
 use Rattle.std.proofs.lemmas.Nat.{shl_whole}
-use Rattle.pci_plan.proofs.numbers.joined.Goals as goal
+use Rattle.pci_image.proofs.window.bounds.joined.Goals as goal
 
 pub returns : goal.returns
 returns c =
