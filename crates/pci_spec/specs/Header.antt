@@ -19,7 +19,7 @@ command image = number_at image COMMAND 2
 abbrev pub status : List ℕ → ℕ
 status image = number_at image STATUS 2
 
--- WindowKind Code: interface, sub-class and base class, as one number of 24 bits (6.2.1)
+-- Class Code: interface, sub-class and base class, as one number of 24 bits (6.2.1)
 abbrev pub class_code : List ℕ → ℕ
 class_code image = number_at image INTERFACE 3
 
