@@ -1,6 +1,6 @@
 -- The places of all classes, one class after another.
 use Rattle.std.proofs.Common.{◌≡◌, ℕ, List, true, false, ◌&&◌, ◌++◌, length, take, drop, arith, refl, sym, ◌∙◌, subst}
-use Rattle.std.proofs.lemmas.Bool.{and_parts, and_left, and_right, both_ways}
+use Rattle.std.proofs.lemmas.Bool.{and_parts, and_left, and_right}
 use Rattle.std.proofs.lemmas.List.{take_all, take-append-le}
 use Rattle.pci_spec.specs.Window.{WindowKind, IoWindow, MemoryWindow, PrefetchWindow}
 use Rattle.pci_spec.specs.System.{System, Function, Part, Bar, Rom, Window, is_bridge}

@@ -1,11 +1,9 @@
 -- Numbers that are put into an image, one after another.
-use Rattle.std.proofs.Common.{◌≡◌, ℕ, zero, suc, ◌+◌, ◌*◌, ◌/◌, ◌%◌, ◌^◌, ◌<◌, ◌≤◌, ◌⊎◌, inl, inr, List, [], ◌∷◌, ◌++◌, length, get_or, set, take, Bool, true, false, ◌||◌, arith, sym, ◌∙◌, ap, subst, refl}
+use Rattle.std.proofs.Common.{◌≡◌, ℕ, zero, suc, ◌+◌, ◌*◌, ◌^◌, ◌<◌, ◌≤◌, ◌⊎◌, inl, inr, List, [], ◌∷◌, ◌++◌, length, get_or, take, Bool, true, false, ◌||◌, arith, sym, ◌∙◌, ap, subst, refl}
 use Rattle.std.specs.List.{AllPairs, Contains, list_any}
 use Rattle.std.specs.Bool.{nat_le, nat_lt, ◌==◌, if◌then◌else◌}
-use Rattle.std.proofs.lemmas.Bool.{and_from, both_ways, cases_eq, cases_lt, eqb-false, le-leb, lt-ltb, or_parts}
-use Rattle.std.proofs.lemmas.Nat.{div-add-mod', pow-add}
-use Rattle.std.proofs.Math.Nat.{le-mul_of_pos_right}
-use Rattle.std.proofs.lemmas.List.{get_or_default, get_or-set_same, get_or-set_other, get_or-take, length-set, length-take-le}
+use Rattle.std.proofs.lemmas.Bool.{and_from, both_ways, cases_lt, eqb-false, le-leb, lt-ltb, or_parts}
+use Rattle.std.proofs.lemmas.List.{get_or_default, get_or-take, length-take-le}
 use Rattle.std.proofs.lemmas.List.Elements.{Contains-push_cases}
 use Rattle.std.proofs.lemmas.List.Folds.{list_any-append}
 use Rattle.pci_spec.specs.Number.{byte_at, number_at, IsImage}

@@ -3,7 +3,6 @@ use Rattle.std.proofs.Common.{◌≡◌, refl, sym, ◌∙◌, ap, subst, Result
 use Rattle.std.specs.Prelude.{◌↔◌}
 use Rattle.pci_spec.specs.Window.{WindowKind, IoWindow, MemoryWindow, PrefetchWindow}
 use Rattle.pci_spec.specs.System.{IsSystem}
-use Rattle.pci_spec.specs.Plan as plan
 use Rattle.pci_spec.specs.PlanPromise.{CanBePlanned}
 use Rattle.pci_dump.specs.declared.memory.Refused.{Refused}
 use Rattle.pci_dump.specs.declared.memory.Refused.TheVariants as refusals

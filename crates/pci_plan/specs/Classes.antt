@@ -1,7 +1,6 @@
 -- The class of a BAR, by what is decoded of it.
 use Rattle.std.specs.Prelude.{Bool, true, false, ◌&&◌, nat_le, if◌then◌else◌}
 use Rattle.pci_spec.specs.Window.{WindowKind, IoWindow, MemoryWindow, PrefetchWindow}
-use Rattle.pci_spec.specs.Plan as plan
 use Rattle.pci_image.specs.declared.bar.Bar.{Bar}
 use Rattle.pci_image.specs.declared.bar.BarKind.{BarKind}
 use Rattle.pci_image.specs.declared.bar.BarKind.TheVariants.{Io, Mem32, Mem64}

@@ -1,12 +1,11 @@
 -- What a function is filled with.
-use Rattle.std.specs.Prelude.{◌≡◌, ℕ, List, IsTrue, Option, Some, if◌then◌else◌}
+use Rattle.std.specs.Prelude.{◌≡◌, ℕ, List, IsTrue, if◌then◌else◌}
 use Rattle.std.specs.List.{Contains}
 use Rattle.std.specs.Option.{is_some}
 use Rattle.pci_spec.specs.Window.{WindowKind}
 use Rattle.pci_spec.specs.Header.{address_registers}
 use Rattle.pci_spec.specs.System.{System, Function, Part}
 use Rattle.pci_spec.specs.Plan.{Pools, class_of}
-use Rattle.pci_spec.specs.Plan as plan
 use Rattle.pci_spec.specs.Planning.Plannable.{IsPlannable}
 use Rattle.pci_spec.specs.Planning.Table.{is_placed, IsTable}
 use Rattle.pci_spec.specs.Planning.Numbers.{place_at}

@@ -28,7 +28,7 @@ use Rattle.pci_function.specs.Values.{record_value}
 use Rattle.pci_tree.specs.Ways.{slots_of}
 use Rattle.pci_tree.specs.Outline.{RiseBySlot, Tree}
 use Rattle.pci_tree.specs.BusNumbers.{IsInPlace, first_function}
-use Rattle.pci_function.specs.Profile.{IsAnswering, IsPlain, IsHere, IsClearBefore, controls_bridge, is_subtractive_bridge}
+use Rattle.pci_function.specs.Profile.{IsAnswering, IsPlain, IsClearBefore, controls_bridge, is_subtractive_bridge}
 use Rattle.pci_tree.specs.Survey.{Surveyed, phase_noted, IsSurveyOf, IsOutlineOf, IsRefusedBy}
 use Rattle.pci_tree.proofs.Lifting.{Has}
 use Rattle.pci_tree.proofs.Faces.{SameFace, HaveFaces, faces_of}

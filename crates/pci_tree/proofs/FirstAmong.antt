@@ -1,20 +1,15 @@
 -- The fault that is noted of a survey, among all faults of the functions that it took.
-use Rattle.std.proofs.Common.{◌≡◌, ℕ, ◌+◌, ◌<◌, List, [], ◌∷◌, ◌++◌, get_or, true, inl, inr, arith, sym, ◌∙◌, subst, ap, Option, Some, None}
+use Rattle.std.proofs.Common.{◌≡◌, ℕ, ◌+◌, ◌<◌, List, [], ◌∷◌, ◌++◌, get_or, true, inl, inr, arith, sym, subst, ap}
 use Rattle.std.specs.List.{Contains, AllPairs}
-use Rattle.std.proofs.lemmas.Bool.{both_ways, eqb-true}
 use Rattle.std.proofs.lemmas.List.{get_or_default}
 use Rattle.std.proofs.lemmas.List.Elements.{Contains-append_cases}
 use Rattle.pci_spec.specs.Slot.{slot_number}
-use Rattle.pci_spec.specs.Bar.{BarFault}
 use Rattle.pci_spec.specs.System.{System, Function, IsSystem}
-use Rattle.pci_spec.specs.Fault.{Fault, NoVendor, HeaderKind, BarType, BarMask, BarPair, RomMask, WindowMask, CapRange, CapLoop, CapCut, SlotsDiffer, StrayProbe, LoneFunction, PaletteSnoop, VgaEnable, IsaEnable, Subtractive, InReset, PowerState, BusRange, Orphan, Unreached, Clash, Split, IsIn}
-use Rattle.pci_spec.specs.Order.{precedes, slot_key, looking_key, phase_of, is_before, image_at}
-use Rattle.pci_spec.proofs.Firsts.{slot_of}
-use Rattle.pci_spec.proofs.Looking.{key_cases, phase_le, image_at_is}
+use Rattle.pci_spec.specs.Fault.{Fault, IsIn}
+use Rattle.pci_spec.specs.Order.{phase_of, is_before, image_at}
 use Rattle.pci_spec.proofs.Members.{in_head, in_tail, in_cons_cases, pairs_head, pairs_tail}
-use Rattle.pci_spec.proofs.Nesting.{earlier_is_lower, one_function}
-use Rattle.pci_spec.proofs.Walks.{chain-no_low_place, chain-no_loop, chain-no_cut_body}
-use Rattle.pci_function.specs.Profile.{IsHere, IsClearBefore}
+use Rattle.pci_spec.proofs.Nesting.{earlier_is_lower}
+use Rattle.pci_function.specs.Profile.{IsClearBefore}
 use Rattle.pci_tree.specs.Survey.{IsFirstAmong}
 use Rattle.pci_function.proofs.FirstIn.{here_not_clear, none_before}
 

@@ -8,7 +8,7 @@ use Rattle.pci_spec.specs.Header.{address_registers, layout, registers_by}
 use Rattle.pci_spec.specs.System.{is_bridge}
 use Rattle.pci_spec.specs.Planning.Numbers.{new_number, new_command}
 use Rattle.pci_spec.proofs.Members.{in_map_from}
-use Rattle.pci_spec.proofs.Planning.Staging.{Follows, is_register, registers_in_order, pairs_in_order}
+use Rattle.pci_spec.proofs.Planning.Staging.{Follows, registers_in_order, pairs_in_order}
 use Rattle.pci_spec.proofs.Planning.NumbersFit.{numbers_fit}
 use Rattle.pci_image.specs.declared.register.Register.{Register}
 use Rattle.pci_image.specs.declared.register.Role.TheVariants as roles
