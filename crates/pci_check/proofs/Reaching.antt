@@ -1,7 +1,7 @@
 -- What gets to each bus, by a list for each kind of access.
-use Rattle.std.proofs.Common.{ℕ, ◌<◌, List, [], get_or, Bool, true, false}
+use Rattle.std.proofs.Common.{ℕ, ◌<◌, List, [], get_or, true, false}
 use Rattle.pci_spec.specs.Window.{WindowKind, IoWindow, MemoryWindow, PrefetchWindow}
-use Rattle.pci_spec.specs.System.{System, Space, Io, Memory, window_space}
+use Rattle.pci_spec.specs.System.{System, Io, Memory, window_space}
 use Rattle.pci_image.specs.declared.range.Range.{Range}
 use Rattle.pci_function.specs.Space.{is_prefetch}
 use Rattle.pci_tree.specs.Outline.{Tree, IsReachTo}
