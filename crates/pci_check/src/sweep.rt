@@ -76,7 +76,7 @@ pub fn is_before(one: &Region, other: &Region) -> bool
     comes_first(one.slot, one.reg, other.slot, other.reg)
 }
 
-/// Whether a region claims the address, and stands after the one at a place, where one is given.
+/// Whether a region claims the address, and stands after the one at an index, where one is given.
 fn claims_after(regions: &[Region], region: &Region, a: u64, after: Option<usize>) -> bool
     requires { IfSome after (λ k. k < length regions.now) }
     ensures { IsTrue result ↔ (Spans region.now a × Follows regions.now after region.now) }
@@ -104,7 +104,7 @@ fn lesser(regions: &[Region], best: Option<usize>, i: usize) -> usize
     }
 }
 
-/// The place of the least region that claims the address and stands after the one at a place, where one is
+/// The index of the least region that claims the address and stands after the one at an index, where one is
 /// given.
 fn least_claimant(regions: &[Region], a: u64, after: Option<usize>) -> Option<usize>
     requires { IfSome after (λ k. k < length regions.now) }
@@ -119,7 +119,7 @@ fn least_claimant(regions: &[Region], a: u64, after: Option<usize>) -> Option<us
     best
 }
 
-/// The places of the two least regions that claim the address.
+/// The indices of the two least regions that claim the address.
 fn two_least(regions: &[Region], a: u64) -> Option<(usize, usize)>
     ensures { MatchOption result (AreDistinct regions.now → IsTwice regions.now a → ⊥) (λ p. AreTwoLeast regions.now a p.0 p.1) }
 {

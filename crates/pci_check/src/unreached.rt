@@ -64,7 +64,7 @@ fn is_lost<A: Allocator + Copy>(
     }
 }
 
-/// The place of the first BAR or ROM of a list with an address that doesn't get to the bus.
+/// The index of the first BAR or ROM of a list with an address that doesn't get to the bus.
 fn first_outside<A: Allocator + Copy>(
     regions: &[Region],
     reached: &Reached<A>,
@@ -81,7 +81,7 @@ fn first_outside<A: Allocator + Copy>(
     None
 }
 
-/// Which of two lists has the region that stands first, by slot and register, and its place there.
+/// Which of two lists has the region that stands first, by slot and register, and its index there.
 #[derive(Clone, Copy, Debug, PartialEq, Eq)]
 enum Foremost {
     Neither,
@@ -89,7 +89,7 @@ enum Foremost {
     Memory(usize),
 }
 
-/// Of a place in each of two lists that of the region which stands first.
+/// Of an index in each of two lists that of the region which stands first.
 fn earlier(
     io: &[Region],
     in_io: Option<usize>,
@@ -116,7 +116,7 @@ fn earlier(
     }
 }
 
-/// The bus that the bridge at a place of a path leads to, the path ending at a bus.
+/// The bus that the bridge at an index of a path leads to, the path ending at a bus.
 fn bus_behind(path: &[Slot], i: usize, end: u8) -> u8
     requires { i < length path.now }
     ensures { IsBusBehind path.now end i result }
@@ -128,7 +128,7 @@ fn bus_behind(path: &[Slot], i: usize, end: u8) -> u8
     }
 }
 
-/// The place of a bridge on a path, and an address that it doesn't pass.
+/// The index of a bridge on a path, and an address that it doesn't pass.
 #[derive(Clone, Copy, Debug, PartialEq, Eq)]
 struct MissedAt {
     index: usize,
