@@ -8,10 +8,10 @@ ghost use Rattle.pci_plan.specs.Above.{AreAboves, system_in};
 ghost use Rattle.pci_plan.specs.Classes.{is_io_kind};
 
 use super::above::Above;
+use pci_function::record::Record;
 use pci_image::bar::BarKind;
 use pci_image::slot::Slot;
 use pci_tree::admitted::Admitted;
-use pci_function::record::Record;
 use std::alloc::Allocator;
 
 /// Whether a function has an I/O BAR.

@@ -12,11 +12,11 @@ ghost use Rattle.pci_plan.specs.Sizes.{span, own_sizes, window_sizes, IsTallyOf}
 use super::above::Above;
 use super::class::class_of_bar;
 use super::pools::Pools;
-use pci_image::window_kind::WindowKind;
+use pci_function::record::Record;
 use pci_image::bar::Bar;
 use pci_image::rom::Rom;
+use pci_image::window_kind::WindowKind;
 use pci_tree::admitted::Admitted;
-use pci_function::record::Record;
 use std::alloc::Allocator;
 
 /// No pool holds so much.

@@ -15,11 +15,10 @@ ghost use Rattle.pci_image.specs.WindowKinds.{kind_value, by_kind};
 ghost use Rattle.pci_plan.specs.Places.{first_in};
 ghost use Rattle.pci_plan.specs.Fillings.{address_bits, bounds_value, FillingOf, IsListed};
 
-use pci_image::window_kind::ByKind;
 use super::lacking::has_io_bar;
 use super::need::{Needs, window_size_of};
 use super::place::Places;
-use pci_image::window_kind::WindowKind;
+use pci_function::record::{Bridge, Record};
 use pci_image::bar::{Bar, BarKind};
 use pci_image::image::Image;
 use pci_image::offset::{
@@ -27,7 +26,7 @@ use pci_image::offset::{
     MEMORY_BASE, PREFETCHABLE_BASE, PREFETCHABLE_BASE_UPPER, PREFETCHABLE_LIMIT_UPPER,
 };
 use pci_image::register::Register;
-use pci_function::record::{Bridge, Record};
+use pci_image::window_kind::{ByKind, WindowKind};
 
 /// A function with the places of its parts.
 #[derive(Clone, Copy)]

@@ -15,9 +15,9 @@ use super::above::Above;
 use super::item::{Item, Part, items_of, sort_items};
 use super::need::Needs;
 use super::pools::Pools;
-use pci_image::window_kind::WindowKind;
 use super::room::raised;
 use pci_dump::memory::OutOfMemory;
+use pci_image::window_kind::WindowKind;
 use pci_tree::admitted::Admitted;
 use std::alloc::Allocator;
 

@@ -3,9 +3,9 @@ ghost use Rattle.std.specs.Prelude.{◌≡◌, Some};
 ghost use Rattle.pci_spec.specs.Plan.{plan_fault_number};
 ghost use Rattle.pci_spec.specs.Line.{plan_fault_text};
 
-use pci_image::window_kind::WindowKind;
-use pci_image::slot::Slot;
 use pci_function::fault::Fault;
+use pci_image::slot::Slot;
+use pci_image::window_kind::WindowKind;
 use std::fmt;
 
 /// Why nothing is planned.

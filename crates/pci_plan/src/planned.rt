@@ -14,7 +14,6 @@ ghost use Rattle.pci_plan.specs.Needs.{AreAllNeeds};
 ghost use Rattle.pci_plan.specs.Places.{HasPlaces};
 ghost use Rattle.pci_plan.specs.Fillings.{FillingOf};
 
-use pci_image::window_kind::ByKind;
 use super::need::Needs;
 use super::numbers::Filling;
 use super::place::Places;
@@ -25,6 +24,7 @@ use pci_dump::memory::{OutOfMemory, Refused};
 use pci_image::image::{Image, put};
 use pci_image::offset::COMMAND;
 use pci_image::register::address_registers;
+use pci_image::window_kind::ByKind;
 use pci_tree::admitted::Admitted;
 use std::alloc::Allocator;
 

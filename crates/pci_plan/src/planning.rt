@@ -20,7 +20,6 @@ ghost use Rattle.pci_plan.specs.Writes.{is_image_on};
 ghost use Rattle.pci_plan.specs.Plans.{IsPlanIn, IsFaultOf, IsUnsoundIf};
 
 use super::above::{Above, aboves};
-use pci_image::window_kind::ByKind;
 use super::lacking::first_lacking;
 use super::need::{Needs, needs_of};
 use super::place::{Places, place_class};
@@ -28,7 +27,6 @@ use super::plan::Plan;
 use super::plan_fault::PlanFault;
 use super::planned::planned_dump;
 use super::pools::Pools;
-use pci_image::window_kind::WindowKind;
 use super::room::has_room;
 use super::writes::{closings, writes_between};
 use pci_check::check::check;
@@ -36,9 +34,10 @@ use pci_check::judge::judge;
 use pci_check::verdict::Verdict;
 use pci_dump::dump::Dump;
 use pci_dump::memory::{OutOfMemory, Refused};
+use pci_function::fault::Fault;
+use pci_image::window_kind::{ByKind, WindowKind};
 use pci_tree::admit::outline_of;
 use pci_tree::admitted::Admitted;
-use pci_function::fault::Fault;
 use pci_tree::roots::Roots;
 use std::alloc::Allocator;
 
@@ -74,7 +73,12 @@ fn first_too_large<A: Allocator>(
     if !has_room(admitted, pools, WindowKind::Memory, &needs.memory) {
         return Some(WindowKind::Memory);
     }
-    if !has_room(admitted, pools, WindowKind::Prefetchable, &needs.prefetchable) {
+    if !has_room(
+        admitted,
+        pools,
+        WindowKind::Prefetchable,
+        &needs.prefetchable,
+    ) {
         return Some(WindowKind::Prefetchable);
     }
     None
@@ -111,7 +115,15 @@ fn all_places<A: Allocator + Copy, B: Allocator>(
 {
     let mut places = no_places(alloc, admitted)?;
     let all = places.as_mut_slice();
-    place_class(alloc, admitted, pools, WindowKind::Io, aboves, &needs.io, all)?;
+    place_class(
+        alloc,
+        admitted,
+        pools,
+        WindowKind::Io,
+        aboves,
+        &needs.io,
+        all,
+    )?;
     place_class(
         alloc,
         admitted,

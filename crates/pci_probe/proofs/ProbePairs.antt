@@ -64,11 +64,11 @@ pair_of dump sizes same headers =
     let probe : List Block = probe_of dump sizes in
     let slots : slots_of dump ≡ slots_of probe = sym (slots-probe_of dump sizes same) in
     answering_pair dump probe slots (λ k f within.
-      let long = same_length dump probe slots in
-      let all = length-system_of dump probe long in
-      let none : Block = record { slot = f.slot; title = None; image = f.image } in
-      let in_dump : k < length dump = omega (arith, within, all) in
-      let in_probe : k < length probe = omega (arith, in_dump, long) in
-      subst IsAnswering (sym (function-at dump probe k none none f in_dump in_probe))
-      (answers dump sizes k (get_or dump k none) (get_or probe k none) same headers in_dump
-      (get_or_default dump k none (get_or dump k none) in_dump) (get_or_default probe k none (get_or probe k none) in_probe)))
+    let long = same_length dump probe slots in
+    let all = length-system_of dump probe long in
+    let none : Block = record { slot = f.slot; title = None; image = f.image } in
+    let in_dump : k < length dump = omega (arith, within, all) in
+    let in_probe : k < length probe = omega (arith, in_dump, long) in
+    subst IsAnswering (sym (function-at dump probe k none none f in_dump in_probe))
+    (answers dump sizes k (get_or dump k none) (get_or probe k none) same headers in_dump
+    (get_or_default dump k none (get_or dump k none) in_dump) (get_or_default probe k none (get_or probe k none) in_probe)))

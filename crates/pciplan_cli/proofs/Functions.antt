@@ -37,4 +37,4 @@ function_listing-parts f =
     regroup (header_line f.slot f.image) (flat_map bar_line (decoded_bars f.image f.probe)) (rom_lines (decoded_rom f.image f.probe))
     (lines_of_bridge (record_of f).bridge) (flat_map (capability_line f.image) (places_of f.image))
     ∙ ap (λ b. header_line f.slot f.image ++ (flat_map bar_line (decoded_bars f.image f.probe) ++ (rom_lines (decoded_rom f.image f.probe)
-      ++ (b ++ flat_map (capability_line f.image) (places_of f.image))))) (bridge_part f)
+    ++ (b ++ flat_map (capability_line f.image) (places_of f.image))))) (bridge_part f)

@@ -8,11 +8,11 @@ ghost use Rattle.pciplan_cli.specs.Shows.{IsRefusedIn};
 use pci_dump::block::Block;
 use pci_dump::dump::Dump;
 use pci_dump::memory::{OutOfMemory, Refused};
+use pci_function::fault::Fault;
 use pci_image::image::Image;
 use pci_image::slot::Slot;
 use pci_machine::machine::Machine;
 use pci_machine::size::size;
-use pci_function::fault::Fault;
 use std::alloc::Allocator;
 
 /// What sizing the function at a slot finds.

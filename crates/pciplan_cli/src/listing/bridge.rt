@@ -7,9 +7,9 @@ ghost use Rattle.pci_function.specs.Space.{space_of};
 
 use super::span::Span;
 use crate::hex_text::{end_line, push_byte};
+use pci_function::space::Space;
 use pci_image::window::Window;
 use pci_image::window_kind::WindowKind;
-use pci_function::space::Space;
 use std::alloc::{AllocError, Allocator};
 
 /// The line of a bridge's primary, secondary and subordinate bus, as `bus 00 01 01`.

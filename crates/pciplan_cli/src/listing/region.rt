@@ -7,10 +7,10 @@ ghost use Rattle.pci_image.specs.Roms.{decoded_rom_of};
 
 use super::span::Span;
 use crate::hex_text::push_byte;
+use pci_function::space::Space;
 use pci_image::bar::{Bar, BarKind};
 use pci_image::range::Range;
 use pci_image::rom::Rom;
-use pci_function::space::Space;
 use std::alloc::{AllocError, Allocator};
 
 /// What a BAR maps: `io`, `mem32` or `mem64`, and `pref` where it is prefetchable.

@@ -17,7 +17,7 @@ returns-in-Some g c =
     let start = string_bytes c.args.text.now in
     on_ok_weaker c.push_bridge.result
     (λ last. three_more start (flat_map bar_line (map decoded_bar_of r.bars.items)) (rom_lines (option_map decoded_rom_of r.rom)) (lines_of_bridge (option_map bridge_value r.bridge))
-      (c.in_ok-push_bars.ensures ∙ ap (λ xs. start ++ flat_map bar_line (map decoded_bar_of xs)) c.as_slice.ensures.value)
-      c.in_ok-push_rom.ensures
-      (last ∙ ap (λ o. string_bytes c.push_rom.new.text ++ lines_of_bridge (option_map bridge_value o)) (sym c.in-Some.is)))
+    (c.in_ok-push_bars.ensures ∙ ap (λ xs. start ++ flat_map bar_line (map decoded_bar_of xs)) c.as_slice.ensures.value)
+    c.in_ok-push_rom.ensures
+    (last ∙ ap (λ o. string_bytes c.push_rom.new.text ++ lines_of_bridge (option_map bridge_value o)) (sym c.in-Some.is)))
     c.push_bridge.ensures
