@@ -2,8 +2,8 @@
 ghost use Rattle.std.specs.Prelude.{◌≡◌, Some};
 
 use crate::refusal::Refusal;
-use pci_plan::plan_fault::PlanFault;
 use pci_function::fault::Fault;
+use pci_plan::plan_fault::PlanFault;
 use std::fmt;
 
 /// Why there is no plan.
