@@ -2,11 +2,12 @@
 use Rattle.std.proofs.Common.{refl, ◌≡◌, ℕ, zero, suc, ◌+◌, ◌-◌, ◌*◌, ◌/◌, ◌%◌, ◌^◌, ◌<◌, ◌++◌, ◌∷◌, [], List, Bool, true, arith, sym, ◌∙◌, ap, get_or, nat_lt}
 use Rattle.std.specs.Prelude.{◌==◌, ◌&&◌}
 use Rattle.std.proofs.Math.Nat.{div-div-eq-div-mul, pow-suc}
-use Rattle.std.proofs.lemmas.Bool.{eqb-true, ltb-true, and_parts}
+use Rattle.std.proofs.lemmas.Bool.{eqb-true, lt-ltb, ltb-true, and_parts}
 use Rattle.std.proofs.lemmas.List.{append_assoc}
 use Rattle.pci_spec.specs.Number.{each_from}
 use Rattle.pci_spec.specs.Text.{hex_digit, hex_byte}
 use Rattle.pci_spec.specs.Line.{hex_number}
+use Rattle.pci_spec.specs.Listing.{decimal_text}
 use Rattle.pci_spec.proofs.Bits.{each_from-at}
 use Rattle.pciplan_cli.specs.declared.hex_text.TheConstants.{HEX}
 
@@ -57,6 +58,12 @@ digit_more start old new number digits done digit more before is pushed =
     pushed ∙ (λ i. before i ++ hex_digit (low i) ∷ []) ∙ ap (λ m. (start ++ hex_number done m) ++ hex_digit (next % 16) ∷ []) high
     ∙ append_assoc start (hex_number done (next / 16)) (hex_digit (next % 16) ∷ [])
     ∙ ap (λ m. start ++ hex_number m next) (sym n) ∙ ap (λ m. start ++ hex_number (done + 1) (number / 16 ^ m)) (sym e)
+
+-- a number below 10 in hex and in decimal
+pub decimal_small : (n : ℕ) → n < 10 → hex_digit n ∷ [] ≡ decimal_text n
+decimal_small n small =
+    let test : nat_lt n 10 ≡ true = lt-ltb n 10 small in
+    rw test refl
 
 -- a byte in two digits
 pub two_of_byte : (byte : ℕ) → byte < 256 → hex_number 2 byte ≡ hex_byte byte

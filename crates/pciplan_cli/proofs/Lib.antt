@@ -1,4 +1,3 @@
-mod Digits
 mod Headers
 mod Messages
 mod Functions

@@ -10,7 +10,8 @@ use Rattle.pci_spec.specs.Listing.{listing, function_listing}
 use Rattle.pci_dump.specs.declared.memory.Refused.{Refused}
 use Rattle.pci_dump.specs.declared.memory.Refused.TheVariants as refusals
 use Rattle.pci_function.specs.declared.fault.Fault.{Fault}
-use Rattle.pci_function.specs.Fault.{fault_of}
+use Rattle.pci_function.specs.Fault.{image_fault_at}
+use Rattle.pci_function.proofs.Examined.{image_here}
 use Rattle.pci_function.proofs.FirstIn.{here_in}
 use Rattle.pci_function.proofs.Pairs.{placed}
 use Rattle.pci_spec.proofs.Pairing.{there-of_in}
@@ -38,7 +39,9 @@ listing_more (d ∷ dump) (q ∷ probe) (suc k) b p wd wp eb ep =
 refused_there : (roots : List ℕ) (dump probe : List Block) (f : Function) (r : Refused Fault) → slots_of dump ≡ slots_of probe → Contains (system_of dump probe) f
     → IsRefusedFor f r → IsRefusedIn roots dump probe r
 refused_there roots dump probe f (refusals.Fault fault) same at is =
-    there-of_in roots dump probe (fault_of fault) same (here_in roots (system_of dump probe) f (fault_of fault) at is)
+    let P : faults.Fault → Type 0 = faults.IsThere roots dump probe in
+    subst P (sym is.1) (there-of_in roots dump probe (image_fault_at f.slot is.0) same
+    (here_in roots (system_of dump probe) f (image_fault_at f.slot is.0) at (image_here f is.0 is.2)))
 refused_there roots dump probe f refusals.Memory same at is = tt
 
 -- why the lines of a function's blocks aren't made is why those of the whole aren't

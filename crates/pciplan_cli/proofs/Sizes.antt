@@ -10,9 +10,9 @@ use Rattle.pci_spec.specs.System.{Function, system_of}
 use Rattle.pci_spec.specs.Machine.{Target, target_of, sized}
 use Rattle.pci_spec.specs.Decoded.{IsDecodable}
 use Rattle.pci_spec.proofs.Pairing.{function_of, length-system_of, same_length}
-use Rattle.pci_function.proofs.Pairs.{slot_at}
+use Rattle.pci_function.proofs.Pairs.{at_place, slot_at}
 use Rattle.pci_spec.specs.Sizing.{function_at, IsSizable}
-use Rattle.pci_machine.proofs.MadeOf.{at_place, function-of, sizable-of}
+use Rattle.pci_machine.proofs.MadeOf.{function-of, sizable-of}
 
 -- a block of a dump stands above the last of those before it
 pub above_last : (blocks : List Block) (k : ℕ) (b : Block) → IsRising (slots_of blocks) → k < length blocks → b ≡ get_or blocks k b

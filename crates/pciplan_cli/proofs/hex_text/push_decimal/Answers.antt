@@ -2,7 +2,7 @@ use Rattle.std.proofs.Common.{◌++◌, ◌∷◌, [], ◌∙◌, ap}
 use Rattle.std.specs.String.{string_bytes}
 use Rattle.std.proofs.lemmas.Result.{on_ok_weaker}
 use Rattle.pci_spec.specs.Text.{hex_digit}
-use Rattle.pciplan_cli.proofs.Digits.{decimal_small}
+use Rattle.pciplan_cli.proofs.HexPushes.{decimal_small}
 use Rattle.pciplan_cli.proofs.hex_text.push_decimal.Goals as goal
 
 pub returns : goal.returns

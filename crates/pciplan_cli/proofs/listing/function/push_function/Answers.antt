@@ -1,5 +1,6 @@
-use Rattle.std.proofs.Common.{◌≡◌, ◌≤◌, ◌++◌, List, map, length, sym, ◌∙◌, ap, subst, arith}
-use Rattle.std.proofs.lemmas.List.{append_assoc, length-map}
+use Rattle.std.proofs.Common.{◌≡◌, ◌<◌, ◌≤◌, ◌==◌, ◌||◌, not, false, refl, inl, inr, ℕ, ◌++◌, List, map, length, sym, ◌∙◌, ap, subst, arith}
+use Rattle.std.proofs.lemmas.Bool.{both_ways, cases_lt, ne_eqb}
+use Rattle.std.proofs.lemmas.List.{length-map}
 use Rattle.std.specs.List.{flat_map, All}
 use Rattle.std.specs.String.{string_bytes}
 use Rattle.pci_spec.specs.System.{Function}
@@ -7,13 +8,25 @@ use Rattle.pci_spec.specs.Decoded.{record_of}
 use Rattle.pci_spec.specs.Listing.{header_line, capability_line, places_of}
 use Rattle.pci_image.specs.declared.capability.Cap.{Cap}
 use Rattle.pci_image.specs.Caps.{place_of}
-use Rattle.pci_function.specs.Profile.{IsHere}
-use Rattle.pci_function.proofs.Examined.{image_here, chain_fault}
+use Rattle.pci_function.proofs.Examined.{chain_fault}
 use Rattle.pciplan_cli.specs.CapabilityLines.{IsListed}
 use Rattle.pciplan_cli.specs.FunctionLines.{record_lines}
 use Rattle.pciplan_cli.proofs.Chains.{listed, places_of-chain}
 use Rattle.pciplan_cli.proofs.Functions.{three_more, function_listing-parts}
 use Rattle.pciplan_cli.proofs.listing.function.push_function.Goals as goal
+
+-- the layout of a header that is decoded
+known : (n : ℕ) → not (n == 0 || n == 1) ≡ false → n < 2
+known n e = elim (cases_lt n 2) [
+  | inl low ↦ low
+  | inr past ↦
+      let device : (n == 0) ≡ false = ne_eqb n 0 (λ z. omega (arith, z, past)) in
+      let bridge : (n == 1) ≡ false = ne_eqb n 1 (λ z. omega (arith, z, past)) in
+      absurd (both_ways _ e (rw (device, bridge) refl))
+]
+
+pub of-first-requires-clause-known : goal.of-first-requires-clause-known
+of-first-requires-clause-known g c = subst (λ n. n < 2) (sym c.layout.ensures) (known _ c.in-Ok.ensures.decoded.decodable.header)
 
 pub push_capabilities-requires : goal.push_capabilities-requires
 push_capabilities-requires g c =
@@ -22,14 +35,12 @@ push_capabilities-requires g c =
     subst P (sym c.as_slice.ensures.value) each
 
 pub returns-in-Err-clause-refused : goal.returns-in-Err-clause-refused
-returns-in-Err-clause-refused g c =
-    let f : Function = record { slot = c.args.slot; image = c.args.image.now.0; probe = c.args.probe.now.0 } in
-    subst (IsHere f) (sym c.of_image.ensures) (image_here f c.in-Err.fault c.in-Err.ensures.decoded)
+returns-in-Err-clause-refused g c = (c.in-Err.fault, c.of_image.ensures, c.in-Err.ensures.decoded)
 
 pub returns-in-Err-chain-clause-refused : goal.returns-in-Err-chain-clause-refused
 returns-in-Err-chain-clause-refused g c =
     let f : Function = record { slot = c.args.slot; image = c.args.image.now.0; probe = c.args.probe.now.0 } in
-    subst (IsHere f) (sym c.of_image-in-Err-chain.ensures) (image_here f c.in-Err-chain.fault (chain_fault f c.in-Err-chain.fault c.in-Err-chain.ensures.fault))
+    (c.in-Err-chain.fault, c.of_image-in-Err-chain.ensures, chain_fault f c.in-Err-chain.fault c.in-Err-chain.ensures.fault)
 
 pub returns-clause-ok : goal.returns-clause-ok
 returns-clause-ok g c =
