@@ -1,5 +1,5 @@
 -- The first fault of a function by itself, among all faults of a system.
-use Rattle.std.proofs.Common.{◌≡◌, ℕ, ◌+◌, ◌<◌, ◌⊎◌, List, [], ◌∷◌, ◌++◌, take, length, get_or, true, inl, inr, arith, sym, ◌∙◌, subst, ap, Option, Some, None}
+use Rattle.std.proofs.Common.{◌≡◌, ℕ, ◌<◌, ◌⊎◌, List, ◌∷◌, ◌++◌, take, length, get_or, true, inl, inr, arith, sym, ◌∙◌, subst, ap, Option, Some, None}
 use Rattle.std.specs.List.{Contains}
 use Rattle.std.proofs.lemmas.Bool.{both_ways, cases_order, eqb-true}
 use Rattle.std.proofs.lemmas.List.{get_or_default, get_or-take, length-take-le}

@@ -3,7 +3,6 @@ use Rattle.std.specs.Prelude.{◌≡◌, ◌==◌, ℕ, IsFalse, List, Option, N
 use Rattle.std.specs.Option.{option_map}
 use Rattle.pci_spec.specs.Header.{layout}
 use Rattle.pci_spec.specs.Window.{WindowKind, breaks_window_rule}
-use Rattle.pci_spec.specs.Capability.{HasChain}
 use Rattle.pci_spec.specs.System.{Function}
 use Rattle.pci_spec.specs.Decoded.{IsDecodable, record_of, bridge_of}
 use Rattle.pci_function.specs.declared.record.Bridge.{Bridge}

@@ -1,9 +1,9 @@
 -- What a dump and its probe must be, before their registers are decoded.
-use Rattle.std.specs.Prelude.{◌≡◌, ℕ, ◌<◌, IsFalse, ◌==◌, nat_lt, Bool, false, ◌&&◌, not, IsTrue, List}
+use Rattle.std.specs.Prelude.{◌≡◌, ℕ, ◌<◌, ◌==◌, nat_lt, Bool, ◌&&◌, not, List}
 use Rattle.pci_spec.specs.Number.{byte_at}
 use Rattle.pci_spec.specs.Slot.{Slot, slot_number}
 use Rattle.pci_spec.specs.Text.{Block, slots_of}
-use Rattle.pci_spec.specs.Fault.{NoVendor, HeaderKind, SlotsDiffer, StrayProbe, IsInOne, IsThere, has_no_vendor, has_other_layout, is_in_address_register, is_stray}
+use Rattle.pci_spec.specs.Fault.{NoVendor, HeaderKind, SlotsDiffer, StrayProbe, IsInOne, IsThere, is_in_address_register}
 
 -- whether a probe of a header with this layout has a byte where there is no address register
 abbrev pub stray_at : ℕ → List ℕ → ℕ → Bool

@@ -1,9 +1,9 @@
 -- A machine of a dump and its probe: what holds of each function.
-use Rattle.std.proofs.Common.{◌≡◌, ℕ, zero, suc, ◌+◌, ◌<◌, ◌≤◌, refl, Bool, true, false, List, [], ◌∷◌, ◌++◌, map, take, length, get_or, Some, ◌==◌, lit<, arith, sym, ◌∙◌, ap, subst}
-use Rattle.std.specs.List.{All, Contains}
+use Rattle.std.proofs.Common.{◌≡◌, ℕ, ◌+◌, ◌<◌, refl, false, List, [], ◌∷◌, ◌++◌, map, take, length, get_or, Some, ◌==◌, lit<, arith, sym, ◌∙◌, ap, subst}
+use Rattle.std.specs.List.{All}
 use Rattle.std.proofs.lemmas.Bool.{false_from_ne_true}
 use Rattle.std.proofs.lemmas.List.{map_more, length-map, get_or-map, get_or_default}
-use Rattle.std.proofs.lemmas.List.Elements.{All-map, All-more}
+use Rattle.std.proofs.lemmas.List.Elements.{All-map}
 use Rattle.std.proofs.lemmas.Bool.{both_ways}
 use Rattle.std.proofs.lemmas.Option.{slice_get-get_or}
 use Rattle.pci_spec.specs.Number.{byte_at, has_bit}
@@ -13,17 +13,16 @@ use Rattle.pci_spec.proofs.WritableBits.{has_bit-writable_bits}
 use Rattle.pci_spec.specs.Slot.{IsRising}
 use Rattle.pci_spec.specs.Text.{Block, IsDump, slots_of}
 use Rattle.pci_spec.specs.System.{Function, IsFunction, system_of}
-use Rattle.pci_spec.specs.Machine.{Target, target_of, sized, in_fields, writable_bits}
-use Rattle.pci_spec.specs.Fault.{IsThere, has_no_vendor, has_other_layout}
+use Rattle.pci_spec.specs.Machine.{Target, target_of, sized, writable_bits}
+use Rattle.pci_spec.specs.Fault.{has_no_vendor, has_other_layout}
 use Rattle.pci_spec.specs.Decoded.{IsDecodable}
-use Rattle.pci_spec.proofs.Pairing.{function_of, function-at, same_length, length-system_of, slots-system_of, IsSystem-of_dumps}
+use Rattle.pci_spec.proofs.Pairing.{function_of, same_length, length-system_of, slots-system_of, IsSystem-of_dumps}
 use Rattle.pci_spec.proofs.Sizing.{sizing_finds_probe}
 use Rattle.pci_function.specs.Pair.{IsPair}
 use Rattle.pci_function.proofs.Pairs.{at_place}
 use Rattle.pci_spec.specs.Port.{IsTarget}
 use Rattle.pci_machine.specs.Memory.{IsMachine}
 use Rattle.pci_spec.specs.Sizing.{function_at, IsSizable, IsStuck}
-use Rattle.pci_spec.specs.Machine.{writable_by}
 use Rattle.pci_machine.proofs.Targets.{found, map-map, some_at}
 use Rattle.pci_machine.proofs.Memory.{lawful_from_rising}
 use Rattle.pci_machine.proofs.Sizing.{function_at-is}

@@ -15,7 +15,7 @@ use Rattle.pci_image.specs.Faults.{IsImageFaultIn, image_fault_number}
 use Rattle.pci_image.specs.declared.fault.ImageFault.{ImageFault}
 use Rattle.pci_image.specs.declared.fault.ImageFault.TheVariants as images
 use Rattle.pci_function.specs.Fault.{image_fault_at}
-use Rattle.pci_function.specs.Profile.{IsAnswering, IsHere, IsFirstOf}
+use Rattle.pci_function.specs.Profile.{IsHere, IsFirstOf}
 use Rattle.pci_function.specs.Pair.{IsPair}
 use Rattle.pci_function.proofs.Examined.{clear_2, image_here, image_phase}
 use Rattle.pci_function.proofs.FirstIn.{here_in, here_not_clear, lower_is_taken, none_before}

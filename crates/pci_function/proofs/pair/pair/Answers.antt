@@ -1,8 +1,7 @@
-use Rattle.std.proofs.Common.{◌≡◌, arith, ap, sym, subst, length, get_or, List, ℕ}
+use Rattle.std.proofs.Common.{◌≡◌, arith, sym, subst, get_or, List}
 use Rattle.std.specs.List.{All}
 use Rattle.std.proofs.lemmas.List.{take_all}
 use Rattle.pci_spec.specs.Text.{Block, IsDump}
-use Rattle.pci_spec.specs.Fault.{IsThere}
 use Rattle.pci_spec.specs.System.{system_of}
 use Rattle.pci_spec.specs.Order.{IsFirstThere}
 use Rattle.pci_spec.proofs.Pairing.{same_length, length-system_of}
