@@ -36,15 +36,25 @@ pub enum Fault {
     SlotsDiffer(Slot),
     /// 31: the probe has a byte other than 00 where there is no address register.
     StrayProbe(Slot, u8),
+    /// 50: the function is not function 0 of its device, and that one isn't listed.
     LoneFunction(Slot),
+    /// 51: Command enables VGA palette snooping (PCI 3.0, 6.2.2).
     PaletteSnoop(Slot),
+    /// 52: a bridge forwards VGA addresses besides its windows (Bridge 1.2, 3.2.5).
     VgaEnable(Slot),
+    /// 53: a bridge leaves ISA addresses out of its I/O window (Bridge 1.2, 3.2.5).
     IsaEnable(Slot),
+    /// 54: a bridge that takes what nothing else claims.
     Subtractive(Slot),
+    /// 55: a bridge holds its secondary bus in reset (Bridge 1.2, 3.2.5).
     InReset(Slot),
+    /// 56: the function is in another power state than D0 (Power Management 1.2, 3.2.4).
     PowerState(Slot),
+    /// 57: a bridge whose bus numbers don't nest with the others' and the roots.
     BusRange(Slot),
+    /// 58: the function's bus is no root, and no bridge leads to it.
     Orphan(Slot),
+    /// 60: an address of an enabled BAR or ROM that a bridge on the way to it doesn't pass.
     Unreached {
         slot: Slot,
         reg: u8,
@@ -52,6 +62,7 @@ pub enum Fault {
         address: u64,
         bridge: Slot,
     },
+    /// 61: an address that gets to a bus and is claimed by two regions there.
     Clash {
         bus: u8,
         space: Space,
@@ -61,6 +72,7 @@ pub enum Fault {
         second: Slot,
         second_reg: u8,
     },
+    /// 62: an address that two regions on root buses claim.
     Split {
         space: Space,
         address: u64,

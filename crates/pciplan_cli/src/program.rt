@@ -119,9 +119,9 @@ pub fn carry_out<A: Allocator + Copy, D: Opening, P: Opening, O: Sink, E: Sink>(
 }
 
 /// Does what the words ask for: writes the answer to `out` or a message to `err`, and answers the status. 0 or 1
-/// where the answer was written, and the remarks on a derived probe to `err`; 2 where the words or a text are refused; 3 at want of memory; 4 where a text
-/// couldn't be opened, or a read or a write failed. At 2 and 3 nothing was written to `out`, at 4 a beginning of
-/// the answer at most.
+/// where the answer was written, and the remarks on a derived probe to `err`; 2 where the words or a text are refused;
+/// 3 at want of memory; 4 where a text couldn't be opened, or a read or a write failed. At 2 and 3 nothing was written
+/// to `out`, at 4 a beginning of the answer at most.
 pub fn program<D: Opening, P: Opening, O: Sink, E: Sink>(
     alloc: Global,
     words: io::Result<Vec<String>>,
