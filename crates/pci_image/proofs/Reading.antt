@@ -8,8 +8,8 @@ use Rattle.std.proofs.lemmas.List.{map-append}
 use Rattle.std.proofs.lemmas.List.Elements.{filter-append, All-nil, All-cons}
 use denote.Enum.Bare.{sameb}
 use Rattle.pci_spec.specs.Header.{bar_count, bar_register, layout}
-use Rattle.pci_spec.specs.Bar.{bar_at, bar_kind, is_wide, starts_bar, bar_fault, bar_reading, first_broken}
-use Rattle.pci_spec.specs.Decoded.{DecodedBar, decoded_bar, has_bar}
+use Rattle.pci_spec.specs.Bar.{bar_at, bar_kind, is_wide, starts_bar, bar_fault, bar_reading, first_broken, has_bar}
+use Rattle.pci_spec.specs.Decoded.{DecodedBar, decoded_bar}
 use Rattle.pci_spec.proofs.Ranges.{decoded_bar-decodes}
 use Rattle.pci_image.specs.declared.bar.Bar.{Bar}
 use Rattle.pci_image.specs.declared.bar.BarKind.{BarKind}

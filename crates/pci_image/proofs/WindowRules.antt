@@ -2,14 +2,13 @@
 use Rattle.std.proofs.Common.{◌≡◌, ◌↔◌, ℕ, ◌≤◌, List, refl, Bool, true, false, ◌&&◌, ◌||◌, inl, inr, arith, sym, ◌∙◌, subst, Option, Some, None, IsTrue}
 use Rattle.std.specs.Bool.{nat_eq}
 use Rattle.std.proofs.lemmas.Bool.{cases_Bool, and_left, not_from_false, ne_eqb, eqb-true, both_ways}
-use Rattle.pci_spec.specs.Window.{WindowKind, IoWindow, MemoryWindow, PrefetchWindow, has_window, holds, bounds_at, breaks_window_rule, is_lawful_window}
+use Rattle.pci_spec.specs.Window.{WindowKind, IoWindow, MemoryWindow, PrefetchWindow, has_window, holds, bounds_at, breaks_window_rule, is_lawful_window, shows_window}
 use Rattle.pci_spec.specs.Decoded.{DecodedWindow, decoded_window, optional_window}
 use Rattle.pci_spec.proofs.Ranges.{window_range-holds, absent_window}
 use Rattle.pci_image.specs.declared.fault.ImageFault.{ImageFault}
 use Rattle.pci_image.specs.declared.fault.ImageFault.TheVariants.{NoVendor, HeaderKind, WindowMask}
 use Rattle.pci_image.specs.Faults.{image_fault_number}
 use Rattle.pci_image.specs.Windows.{IsInWindow, IsLowestWindowFault}
-use Rattle.pci_image.specs.Bounds.{is_implemented}
 
 -- a window that is there holds its range
 pub in_window-holds : (kind : WindowKind) (image probe : List ℕ) → has_window kind probe ≡ true
@@ -37,7 +36,7 @@ first_test true b c d e f g h = refl
 first_test false b c d e f g h = cc
 
 -- a memory window that is lawful is there
-pub has_memory_window : (image probe : List ℕ) → IsTrue (is_implemented MemoryWindow (bounds_at MemoryWindow image) (bounds_at MemoryWindow probe))
+pub has_memory_window : (image probe : List ℕ) → IsTrue (shows_window MemoryWindow (bounds_at MemoryWindow image) (bounds_at MemoryWindow probe))
     → has_window MemoryWindow probe ≡ true
 has_memory_window image probe h =
     let base = (bounds_at MemoryWindow probe).base in
@@ -58,7 +57,7 @@ memory_window-lowest image probe io MemoryWindow less = absurd (let no : ⊥ = o
 memory_window-lowest image probe io PrefetchWindow less = absurd (let no : ⊥ = omega (arith, less) in no)
 
 pub prefetch_window-lowest : (image probe : List ℕ) → breaks_window_rule IoWindow image probe ≡ false
-    → is_implemented MemoryWindow (bounds_at MemoryWindow image) (bounds_at MemoryWindow probe) ≡ true → IsLowestWindowFault image probe (WindowMask 0x24)
+    → shows_window MemoryWindow (bounds_at MemoryWindow image) (bounds_at MemoryWindow probe) ≡ true → IsLowestWindowFault image probe (WindowMask 0x24)
 prefetch_window-lowest image probe io memory IoWindow less = io
 prefetch_window-lowest image probe io memory MemoryWindow less = elim (cases_Bool (is_lawful_window MemoryWindow 0 (bounds_at MemoryWindow image) (bounds_at MemoryWindow probe))) [
   | inl lawful ↦ rw lawful refl

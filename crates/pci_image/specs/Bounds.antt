@@ -21,10 +21,6 @@ abbrev pub is_value : ℕ → SpecBounds → Bool
 is_value n value =
     value.base % 16 == n && value.limit % 16 == n && (n == 1 || (value.base_upper == 0 && value.limit_upper == 0))
 
--- values and read backs of a window that is implemented
-abbrev pub is_implemented : WindowKind → SpecBounds → SpecBounds → Bool
-is_implemented kind value mask = is_lawful_window kind 0 value mask || (is_optional kind && is_lawful_window kind 1 value mask)
-
 -- the number of a page, by its upper and lower part
 abbrev pub page_of : WindowKind → ℕ → ℕ → ℕ
 page_of kind upper lower = upper * lower_pages kind + lower / 16

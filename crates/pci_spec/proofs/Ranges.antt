@@ -8,10 +8,10 @@ use Rattle.std.proofs.lemmas.Bool.{and_parts, and_from, and_left, or_cases, le-l
 use Rattle.std.proofs.lemmas.Nat.{pow_pos, pow_below, pow-add, shr_below, mul-le, mod_below, le-div, div_below, div-add-mod'}
 use Rattle.pci_spec.specs.Number.{number_at, has_bit, lowest_one, some_from, AgreeFrom, IsImage}
 use Rattle.pci_spec.specs.Header.{bar_count, layout, bar_register, rom_register}
-use Rattle.pci_spec.specs.Bar.{BarKind, IoBar, Memory32, Memory64, Reserved, BarFault, BarMask, BarType, BarPair, bar_at, bar_kind, is_io, is_wide, type_bits, starts_bar, whole_bar, is_run, is_lawful, has_lawful_size, is_within, encodings, BarReading, bar_reading, first_broken, bar_fault, Answers, BarDecodes}
+use Rattle.pci_spec.specs.Bar.{BarKind, IoBar, Memory32, Memory64, Reserved, BarFault, BarMask, BarType, BarPair, bar_at, bar_kind, is_io, is_wide, type_bits, starts_bar, whole_bar, is_run, is_lawful, has_lawful_size, is_within, encodings, BarReading, bar_reading, first_broken, bar_fault, Answers, BarDecodes, has_bar}
 use Rattle.pci_spec.specs.Rom.{rom_at, has_rom, is_rom_size, breaks_rom_rule, RomDecodes}
 use Rattle.pci_spec.specs.Window.{WindowKind, IoWindow, MemoryWindow, PrefetchWindow, has_window, base_page, limit_page, page_size, holds}
-use Rattle.pci_spec.specs.Decoded.{InRange, aligned_range, bar_size, decoded_bar, has_bar, rom_size, window_range}
+use Rattle.pci_spec.specs.Decoded.{InRange, aligned_range, bar_size, decoded_bar, rom_size, window_range}
 use Rattle.pci_spec.proofs.Absent.{not_lawful, no_rom}
 use Rattle.pci_spec.proofs.Bits.{each_from-at, some_from-at, some_from-gives, agree-interval, interval-agrees}
 

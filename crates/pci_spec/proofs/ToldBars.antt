@@ -5,10 +5,10 @@ use Rattle.std.specs.Bool.{nat_lt, ◌==◌, if◌then◌else◌, IsTrue}
 use Rattle.std.proofs.lemmas.Bool.{and_parts, and_from, or_cases, both_ways, cases_Bool, eqb-true, eqb-false, eq-eqb, ne_eqb, lt-ltb, ltb-true, not-true, not-false, not_from_false}
 use Rattle.pci_spec.specs.Number.{has_bit, lowest_one, IsImage}
 use Rattle.pci_spec.specs.Header.{layout, command, bar_count, bar_register}
-use Rattle.pci_spec.specs.Bar.{BarKind, bar_at, bar_kind, bar_fault, bar_reading, first_broken, is_io, is_wide, starts_bar, whole_bar, encodings, is_lawful, has_lawful_size, is_within}
+use Rattle.pci_spec.specs.Bar.{BarKind, bar_at, bar_kind, bar_fault, bar_reading, first_broken, is_io, is_wide, starts_bar, whole_bar, encodings, is_lawful, has_lawful_size, is_within, has_bar}
 use Rattle.pci_spec.specs.System.{Function}
 use Rattle.pci_spec.specs.Machine.{without_low}
-use Rattle.pci_spec.specs.Decoded.{IsDecodable, has_bar, bar_size}
+use Rattle.pci_spec.specs.Decoded.{IsDecodable, bar_size}
 use Rattle.pci_spec.specs.Resource.{ResourceLine, line_at, address_count, tells_bar}
 use Rattle.pci_spec.specs.Derived.{Known, is_pair, shown_bar, bar_width, is_enabled, bar_of_size, bar_derived, lower_half, read_back_of, bar_register_derived, derived_probe}
 use Rattle.pci_spec.specs.NoProbe.{register_fault, no_probe}

@@ -19,10 +19,10 @@ use Rattle.pci_spec.specs.Planning.Table.{need_behind, IsPlacing, IsTable, IsSho
 use Rattle.pci_spec.specs.Planning.PlanWrites.{Change, olds, news, closing_writes, plan_writes, most_writes}
 use Rattle.std.specs.Int.{bit_at}
 use Rattle.pci_spec.specs.Number.{has_bit}
-use Rattle.pci_spec.specs.Bar.{bar_at, bar_kind, bar_fault, whole_bar}
+use Rattle.pci_spec.specs.Bar.{bar_at, bar_kind, bar_fault, whole_bar, has_bar}
 use Rattle.pci_spec.specs.Rom.{rom_at, has_rom, breaks_rom_rule}
 use Rattle.pci_spec.specs.Window.{WindowKind, bounds_at, page_size, is_closed}
-use Rattle.pci_spec.specs.Decoded.{aligned_range, bar_size, rom_size, has_bar}
+use Rattle.pci_spec.specs.Decoded.{aligned_range, bar_size, rom_size}
 use Rattle.pci_spec.specs.Planning.Layout.{range_of}
 use Rattle.pci_spec.specs.Planning.BusNeeds.{added_on}
 use Rattle.pci_spec.specs.Planning.Building.{AreFitting, IsBuilt, built}
