@@ -31,16 +31,16 @@ in_optional-holds kind image probe w is a = elim (cases_Bool (has_window kind pr
 ]
 
 -- the first of the tests of a read back
-first_test : (a b c d e f g : Bool) → (a && b && c && d && e && f && g || false) ≡ true → a ≡ true
-first_test true b c d e f g h = refl
-first_test false b c d e f g h = cc
+first_test : (a b c d e : Bool) → (a && b && c && d && e || false) ≡ true → a ≡ true
+first_test true b c d e h = refl
+first_test false b c d e h = cc
 
 -- a memory window that is lawful is there
 pub has_memory_window : (image probe : List ℕ) → IsTrue (shows_window MemoryWindow (bounds_at MemoryWindow image) (bounds_at MemoryWindow probe))
     → has_window MemoryWindow probe ≡ true
 has_memory_window image probe h =
     let base = (bounds_at MemoryWindow probe).base in
-    let is : base ≡ 0xfff0 = eqb-true _ _ (first_test (nat_eq base 0xfff0) _ _ _ _ _ _ h) in
+    let is : base ≡ 0xfff0 = eqb-true _ _ (first_test (nat_eq base 0xfff0) _ _ _ _ h) in
     not_from_false _ (and_left _ _ (and_left _ _ (and_left _ _ (ne_eqb base 0 (λ none. omega (arith, is, none))))))
 
 -- ---- the lowest window that breaks its rule

@@ -9,7 +9,7 @@ use Rattle.pci_spec.specs.Number.{IsImage, some_from}
 use Rattle.pci_spec.specs.Header.{layout, bar_count}
 use Rattle.pci_spec.specs.Bar.{bar_at, is_io, is_wide, encodings, starts_bar, whole_bar, is_within, BarReading, bar_reading, first_broken, bar_fault}
 use Rattle.pci_spec.specs.Rom.{rom_at, is_rom_size, breaks_rom_rule}
-use Rattle.pci_spec.specs.Window.{WindowKind, IoWindow, MemoryWindow, PrefetchWindow, Bounds, bounds_at, page_bits, upper_bits, is_zero, is_lawful_window, is_optional, breaks_window_rule}
+use Rattle.pci_spec.specs.Window.{WindowKind, IoWindow, MemoryWindow, PrefetchWindow, Bounds, bounds_at, page_bits, upper_bits, is_zero, is_window_read_back, is_window_value, is_lawful_window, is_optional, breaks_window_rule}
 use Rattle.pci_spec.proofs.Bits.{each_from-at, some_from-gives, bit_at-without_low, bit_of_true, bit_of_false}
 use Rattle.pci_spec.proofs.BarLaws.{number_at-small, rom_run, bit_of_run}
 use Rattle.pci_spec.proofs.Ranges.{absent_shows_0, obeys_rules}
@@ -203,24 +203,20 @@ lawful_parts kind n value mask h =
     let a = mask.base == page_bits kind + n in
     let b = mask.limit == page_bits kind + n in
     let c = mask.base_upper == n * upper_bits kind in
-    let d = mask.limit_upper == n * upper_bits kind in
-    let e = value.base % 16 == n in
-    let f = value.limit % 16 == n in
-    let g = n == 1 || (value.base_upper == 0 && value.limit_upper == 0) in
-    let six = and_parts (a && b && c && d && e && f) g h in
-    let five = and_parts (a && b && c && d && e) f six.0 in
-    let four = and_parts (a && b && c && d) e five.0 in
-    let three = and_parts (a && b && c) d four.0 in
+    let both = and_parts (is_window_read_back kind n mask) (is_window_value n value) h in
+    let three = and_parts (a && b && c) (mask.limit_upper == n * upper_bits kind) both.0 in
     let two = and_parts (a && b) c three.0 in
     let one = and_parts a b two.0 in
+    let values = and_parts (value.base % 16 == n && value.limit % 16 == n) (n == 1 || (value.base_upper == 0 && value.limit_upper == 0)) both.1 in
+    let nibbles = and_parts (value.base % 16 == n) (value.limit % 16 == n) values.0 in
     record {
       base = eqb-true _ _ one.0;
       limit = eqb-true _ _ one.1;
       base_upper = eqb-true _ _ two.1;
       limit_upper = eqb-true _ _ three.1;
-      base_nibble = eqb-true _ _ four.1;
-      limit_nibble = eqb-true _ _ five.1;
-      uppers = six.1;
+      base_nibble = eqb-true _ _ nibbles.0;
+      limit_nibble = eqb-true _ _ nibbles.1;
+      uppers = values.1;
     }
 
 lawful_page : (kind : WindowKind) (n value mask : ℕ) → n ≤ 1 → mask ≡ page_bits kind + n → value % 16 ≡ n → Agrees 4 (page_width kind) value mask
