@@ -10,21 +10,6 @@ use Rattle.pci_image.specs.declared.window.bounds.Bounds.{Bounds}
 abbrev pub spec_bounds_of : Bounds → SpecBounds
 spec_bounds_of b = record { base = b.base; limit = b.limit; base_upper = b.base_upper; limit_upper = b.limit_upper }
 
--- read backs of a window with this low nibble
-abbrev pub is_read_back : WindowKind → ℕ → SpecBounds → Bool
-is_read_back kind n mask =
-    mask.base == page_bits kind + n && mask.limit == page_bits kind + n
-    && mask.base_upper == n * upper_bits kind && mask.limit_upper == n * upper_bits kind
-
--- values that go with it
-abbrev pub is_value : ℕ → SpecBounds → Bool
-is_value n value =
-    value.base % 16 == n && value.limit % 16 == n && (n == 1 || (value.base_upper == 0 && value.limit_upper == 0))
-
--- values and read backs of a window that is implemented
-abbrev pub is_implemented : WindowKind → SpecBounds → SpecBounds → Bool
-is_implemented kind value mask = is_lawful_window kind 0 value mask || (is_optional kind && is_lawful_window kind 1 value mask)
-
 -- the number of a page, by its upper and lower part
 abbrev pub page_of : WindowKind → ℕ → ℕ → ℕ
 page_of kind upper lower = upper * lower_pages kind + lower / 16
