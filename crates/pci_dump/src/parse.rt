@@ -1,6 +1,5 @@
 //! A block at the front of some bytes.
-ghost use Rattle.std.specs.Prelude.{◌≡◌, ◌<◌, ◌≤◌, length, ◌≢◌, [], IfOk, IfErr, IsTrue, ◌↔◌};
-ghost use Rattle.pci_spec.specs.Stops.{IsAboveLast};
+ghost use Rattle.std.specs.Prelude.{◌≡◌, ◌<◌, ◌≤◌, length, ◌≢◌, [], IfOk, IfErr};
 ghost use Rattle.pci_dump.specs.BlockFault.{BlockStops, TitleStops, SlotStops, IsBlockAt, IsHead, head_long, title_at};
 ghost use Rattle.pci_dump.specs.TitleRun.{IsTitleFront};
 
