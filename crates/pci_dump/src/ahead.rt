@@ -163,10 +163,7 @@ impl ReadAhead {
         self.at = 0;
         self.end = held;
         self.drained = false;
-        let read = match source.read(&mut self.buf[held..]) {
-            Err(failed) => return Err(failed),
-            Ok(read) => read,
-        };
+        let read = source.read(&mut self.buf[held..])?;
         self.end = held + read;
         self.drained = read == 0;
         Ok(())

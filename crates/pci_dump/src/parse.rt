@@ -1,6 +1,5 @@
 //! A block at the front of some bytes.
-ghost use Rattle.std.specs.Prelude.{◌≡◌, ◌<◌, ◌≤◌, length, ◌≢◌, [], IfOk, IfErr, IsTrue, ◌↔◌};
-ghost use Rattle.pci_spec.specs.Stops.{IsAboveLast};
+ghost use Rattle.std.specs.Prelude.{◌≡◌, ◌<◌, ◌≤◌, length, ◌≢◌, [], IfOk, IfErr};
 ghost use Rattle.pci_dump.specs.BlockFault.{BlockStops, TitleStops, SlotStops, IsBlockAt, IsHead, head_long, title_at};
 ghost use Rattle.pci_dump.specs.TitleRun.{IsTitleFront};
 
@@ -118,16 +117,10 @@ pub(crate) fn block_into(
     if !slot.may_follow(last) {
         return Err(BlockFault::Order);
     }
-    let title_len = match title_in(after) {
-        Err(stop) => return Err(stop),
-        Ok(title_len) => title_len,
-    };
+    let title_len = title_in(after)?;
     let head = head_len(title_len);
     let (_line, rest) = after.split_at(head);
-    match image_into(rest, &mut block.image.0) {
-        Err(stop) => return Err(stop),
-        Ok(()) => {}
-    }
+    image_into(rest, &mut block.image.0)?;
     block.slot = slot;
     title_into(after, title_len, &mut block.title);
     Ok(SLOT_LEN + head + LINES_LEN)
