@@ -3,9 +3,9 @@ ghost use Rattle.std.specs.Prelude.{◌≡◌, ◌+◌, ◌≤◌, ◌↔◌, �
 ghost use Rattle.pci_spec.specs.Number.{has_bit};
 ghost use Rattle.pci_spec.specs.Header.{class_code, command};
 ghost use Rattle.pci_spec.specs.Capability.{body_length, IsChain};
-ghost use Rattle.pci_spec.specs.Fault.{IsNotInD0};
+ghost use Rattle.pci_spec.specs.Fault.{IsNotInD0, IsNotInD0At};
 ghost use Rattle.pci_function.specs.Fault.{fault_of};
-ghost use Rattle.pci_function.specs.Profile.{IsAnswering, IsPlainBridge, IsPlain, IsNotInD0At, IsHereIn, IsFirstOf};
+ghost use Rattle.pci_function.specs.Profile.{IsAnswering, IsPlainBridge, IsPlain, IsHereIn, IsFirstOf};
 
 use super::fault::Fault;
 use super::stray::stray_byte;
