@@ -1,5 +1,5 @@
 -- What is looked for in one function: its identity and its probe, its registers and capabilities list, and its profile.
-use Rattle.std.specs.Prelude.{◌≡◌, ◌≢◌, ℕ, ◌<◌, IsTrue, IsFalse, List}
+use Rattle.std.specs.Prelude.{◌≡◌, ℕ, ◌<◌, IsTrue, IsFalse, List}
 use Rattle.pci_spec.specs.Number.{has_bit}
 use Rattle.pci_spec.specs.Registers.{PALETTE_SNOOP, ISA_ENABLE, VGA_ENABLE, SECONDARY_BUS_RESET}
 use Rattle.pci_spec.specs.Header.{command}

@@ -1,6 +1,6 @@
 -- The registers of windows as those of the definitions.
-use Rattle.std.specs.Prelude.{ℕ, ◌+◌, ◌-◌, ◌*◌, ◌/◌, ◌%◌, nat_le, ◌==◌, Bool, ◌&&◌, ◌||◌, Option, None, Some, if◌then◌else◌}
-use Rattle.pci_spec.specs.Window.{WindowKind, Bounds as SpecBounds, lower_pages, page_bits, page_size, upper_bits, is_lawful_window, is_optional}
+use Rattle.std.specs.Prelude.{ℕ, ◌+◌, ◌-◌, ◌*◌, ◌/◌, nat_le, Option, None, Some, if◌then◌else◌}
+use Rattle.pci_spec.specs.Window.{WindowKind, Bounds as SpecBounds, lower_pages, page_size}
 use Rattle.pci_spec.specs.Decoded.{Range}
 use Rattle.pci_image.specs.declared.window_kind.WindowKind.{WindowKind as CodeKind}
 use Rattle.pci_image.specs.declared.window_kind.WindowKind.TheVariants.{Io, Memory, Prefetchable}
