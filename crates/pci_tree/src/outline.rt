@@ -41,7 +41,7 @@ use std::marker::Model;
 pub struct Outline<A: Allocator = Global> {
     records: Vec<Record, A>,
     roots: Roots,
-    /// At each bus the place of the bridge that leads there.
+    /// At each bus the index of the bridge that leads there.
     bridge_to_bus: [Option<usize>; BUSES],
 }
 

@@ -9,14 +9,14 @@ use arrayvec::ArrayVec;
 use pci_function::record::Record;
 use pci_image::slot::{BUSES, Slot};
 
-/// At each bus the place of the bridge that leads there.
+/// At each bus the index of the bridge that leads there.
 pub fn bridge_to_bus(records: &[Record]) -> [Option<usize>; BUSES]
     ensures { IsBridgeToBus records.now result }
 {
     let mut bridge_to_bus = [None; BUSES];
-    for (place, function) in records.iter().enumerate() {
+    for (index, function) in records.iter().enumerate() {
         if let Some(bridge) = function.bridge {
-            bridge_to_bus[bridge.secondary as usize] = Some(place);
+            bridge_to_bus[bridge.secondary as usize] = Some(index);
         }
     }
     bridge_to_bus
@@ -44,11 +44,11 @@ pub fn path(
     let mut up = ArrayVec::new();
     let mut at = bus;
     while !roots.has(at) {
-        let place = match bridge_to_bus[at as usize] {
+        let index = match bridge_to_bus[at as usize] {
             None => return None,
-            Some(place) => place,
+            Some(index) => index,
         };
-        let slot = records[place].slot;
+        let slot = records[index].slot;
         up.push(slot);
         at = slot.bus();
     }

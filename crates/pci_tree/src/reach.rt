@@ -63,27 +63,27 @@ fn all_of<A: Allocator>(alloc: A, space: Space) -> Result<Vec<Range, A>, OutOfMe
     Ok(ranges)
 }
 
-/// The addresses that get to a bus, from those of the lower buses and the place of the bridge that leads there.
+/// The addresses that get to a bus, from those of the lower buses and the index of the bridge that leads there.
 fn reach_of_bus<A: Allocator>(
     alloc: A,
     above: &[Reach<A>],
     records: &[Record],
-    place: Option<usize>,
+    index: Option<usize>,
     kind: WindowKind,
     is_root: bool,
 ) -> Result<Vec<Range, A>, OutOfMemory>
-    requires lower { IfSome place (StandsBelow records.now (length above.now)) }
+    requires lower { IfSome index (StandsBelow records.now (length above.now)) }
     requires canonical { All IsCanonical above.now }
     requires spans { All HasSpans records.now }
-    ensures { IfOk result (λ v. IsStep above.now records.now place (kind_value kind) is_root v.items) }
+    ensures { IfOk result (λ v. IsStep above.now records.now index (kind_value kind) is_root v.items) }
 {
     if is_root {
         return all_of(alloc, Space::of(kind));
     }
-    match place {
+    match index {
         None => Ok(Vec::new(alloc)),
-        Some(place) => {
-            let bridge = &records[place];
+        Some(index) => {
+            let bridge = &records[index];
             let parent = &above[bridge.slot.bus() as usize];
             passed_on(alloc, parent.ranges(), forwarded(bridge, kind))
         }
