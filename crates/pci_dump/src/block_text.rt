@@ -28,12 +28,11 @@ fn put_slot(text: &mut Text, slot: Slot)
     ensures text { text.new.items ≡ text.old.items ++ slot_text slot }
     ensures len { array_vec_len text.new ≡ array_vec_len text.old + 7 }
 {
-    let function = (slot.number() % 8) as u8;
     put_byte(text, slot.bus());
     text.push(b':');
     put_byte(text, slot.dev());
     text.push(b'.');
-    text.push(digit_of(function));
+    text.push(digit_of(slot.fun()));
 }
 
 /// Bytes as they are.

@@ -62,7 +62,8 @@ impl Slot {
 
     /// The function number, 0 to 7.
     pub fn fun(self) -> u8
-        ensures { result ≡ self.function }
+        ensures number { result ≡ self.function }
+        ensures below { result < 8 }
     {
         self.function
     }
