@@ -3,7 +3,7 @@ ghost use Rattle.std.specs.Prelude.{◌≡◌, ◌<◌, slice_index_or, ℕ, fal
 ghost use Rattle.pci_spec.specs.Fault.{is_in_address_register};
 ghost use Rattle.pci_function.specs.Pair.{stray_at};
 
-use pci_image::image::Image;
+use pci_image::image::{IMAGE_LEN, Image};
 use pci_image::register::{HEADER_LEN, address_bytes};
 
 /// Whether an offset lies in an address register of a header.
@@ -31,7 +31,7 @@ fn has_stray(layout: u8, probe: &Image) -> bool
     for offset in 0..HEADER_LEN {
         found |= (probe.0[offset] != 0) & !is_address[offset];
     }
-    for offset in HEADER_LEN..256 {
+    for offset in HEADER_LEN..IMAGE_LEN {
         found |= probe.0[offset] != 0;
     }
     found
@@ -47,7 +47,7 @@ pub fn stray_byte(layout: u8, probe: &Image) -> Option<u8>
     if !has_stray(layout, probe) {
         return None;
     }
-    for offset in 0..256 {
+    for offset in 0..IMAGE_LEN {
         if is_stray(layout, probe, offset) {
             return Some(offset as u8);
         }
