@@ -124,11 +124,7 @@ impl Filling<'_> {
     fn window_place(&self, class: WindowKind) -> u64
         ensures { result ≡ first_in self.now.places.now (WindowPart (kind_value class)) }
     {
-        match class {
-            WindowKind::Io => self.places.io,
-            WindowKind::Memory => self.places.mem,
-            WindowKind::Prefetchable => self.places.pref,
-        }
+        *self.places.windows.get(class)
     }
 
     /// Of a window that is there, with its low nibble.
