@@ -40,15 +40,15 @@ pub struct Filling<'a> {
 }
 
 /// Whether a function has a memory BAR or a ROM.
-fn has_memory_part(record: &Record) -> bool
-    ensures { result ≡ (list_any (λ bar. not (is_io_kind bar.kind)) «record».now.bars.items || is_some «record».now.rom) }
+fn has_memory_part(function: &Record) -> bool
+    ensures { result ≡ (list_any (λ bar. not (is_io_kind bar.kind)) function.now.bars.items || is_some function.now.rom) }
 {
-    for bar in record.bars.as_slice() {
+    for bar in function.bars.as_slice() {
         if bar.kind != BarKind::Io {
             return true;
         }
     }
-    record.rom.is_some()
+    function.rom.is_some()
 }
 
 /// The lower half of a number.
