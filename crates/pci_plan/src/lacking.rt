@@ -15,10 +15,10 @@ use pci_tree::admitted::Admitted;
 use std::alloc::Allocator;
 
 /// Whether a function has an I/O BAR.
-pub fn has_io_bar(record: &Record) -> bool
-    ensures { result ≡ list_any (λ bar. is_io_kind bar.kind) «record».now.bars.items }
+pub fn has_io_bar(function: &Record) -> bool
+    ensures { result ≡ list_any (λ bar. is_io_kind bar.kind) function.now.bars.items }
 {
-    for bar in record.bars.as_slice() {
+    for bar in function.bars.as_slice() {
         if bar.kind == BarKind::Io {
             return true;
         }

@@ -18,28 +18,28 @@ use super::pools::Pools;
 use super::room::raised;
 use pci_dump::memory::OutOfMemory;
 use pci_image::slot::BUSES;
-use pci_image::window_kind::WindowKind;
+use pci_image::window_kind::{ByKind, WindowKind};
 use pci_tree::admitted::Admitted;
 use std::alloc::Allocator;
 
 /// The first addresses of a function's parts, where they are placed.
-#[derive(Clone, Copy, Debug)]
+#[derive(Debug, Drop)]
 pub struct Places {
     /// By Base Address register.
     pub bars: [u64; 6],
     pub rom: u64,
-    pub io: u64,
-    pub mem: u64,
-    pub pref: u64,
+    pub windows: ByKind<u64>,
 }
 
 impl Places {
     pub const NONE: Places = Places {
         bars: [0; 6],
         rom: 0,
-        io: 0,
-        mem: 0,
-        pref: 0,
+        windows: ByKind {
+            io: 0,
+            memory: 0,
+            prefetchable: 0,
+        },
     };
 
     /// Sets the first address of a part.
@@ -52,9 +52,9 @@ impl Places {
             Part::Bar(n) => self.bars[usize::from(n)] = first,
             Part::Rom => self.rom = first,
             Part::Window { .. } => match class {
-                WindowKind::Io => self.io = first,
-                WindowKind::Memory => self.mem = first,
-                WindowKind::Prefetchable => self.pref = first,
+                WindowKind::Io => self.windows.io = first,
+                WindowKind::Memory => self.windows.memory = first,
+                WindowKind::Prefetchable => self.windows.prefetchable = first,
             },
         }
     }
