@@ -37,10 +37,8 @@ pub fn read_backs<P: ConfigPort>(
     let mut bytes = [0; IMAGE_LEN];
     for register in address_registers(bridge) {
         let ones = sizing_ones(bridge, *register);
-        match read_back(port, slot, register.offset, register.width, ones) {
-            Ok(value) => put(&mut bytes, register.offset, register.width, value),
-            Err(stop) => return Err(stop),
-        }
+        let value = read_back(port, slot, register.offset, register.width, ones)?;
+        put(&mut bytes, register.offset, register.width, value);
     }
     Ok(Image(bytes))
 }

@@ -46,10 +46,7 @@ pub fn size<P: ConfigPort>(port: &mut P, slot: Slot) -> Result<Image, SizeFault>
         → result ≡ Err (SizeFault.Port table.VENDOR_ID PortError.NoFunction None) }
     ensures counted { P.failures port.new ≡ P.failures port.old + failures_of_size result }
 {
-    let bridge = match is_bridge(port, slot) {
-        Ok(bridge) => bridge,
-        Err(fault) => return Err(fault),
-    };
+    let bridge = is_bridge(port, slot)?;
     let quiet = match Quiet::begin(port, slot) {
         Ok(quiet) => quiet,
         Err(stop) => return Err(stopped(stop, None)),
@@ -136,15 +133,10 @@ fn read_when_quiet<P: ConfigPort>(
     ensures there { IsTrue (ports.has_function (P.targets port.new) slot) }
     ensures lawful { ports.IsLawful (P.targets port.new) }
 {
-    let command = match read_at(port, slot, COMMAND, COMMAND_WIDTH) {
-        Ok(command) => command,
-        Err(stop) => return Err(stop),
-    };
+    let command = read_at(port, slot, COMMAND, COMMAND_WIDTH)?;
     if command & u32::from(DECODE_BITS) != 0 {
         return Ok(None);
     }
-    match read_backs(port, slot, bridge) {
-        Ok(image) => Ok(Some(image)),
-        Err(stop) => Err(stop),
-    }
+    let image = read_backs(port, slot, bridge)?;
+    Ok(Some(image))
 }

@@ -80,10 +80,7 @@ pub fn derive(
     probe.0 = [0; IMAGE_LEN];
     for place in address_registers(bridge) {
         let derived = register(image, lines, bridge, place.offset);
-        let (read_back, is_assumed) = match taken(derived, exact, place.offset) {
-            Ok(taken) => taken,
-            Err(fault) => return Err(fault),
-        };
+        let (read_back, is_assumed) = taken(derived, exact, place.offset)?;
         put(&mut probe.0, place.offset, place.width, read_back);
         if is_assumed {
             assumed.push(place.offset);

@@ -131,10 +131,7 @@ pub fn probe_of<A: Allocator + Copy, B: Allocator, C: Allocator>(
         assumed: Vec::new(alloc),
     };
     for i in 0..blocks.len() {
-        match add(&mut derivation, &blocks[i], &told[i], exact) {
-            Ok(()) => {}
-            Err(refused) => return Err(refused),
-        }
+        add(&mut derivation, &blocks[i], &told[i], exact)?;
     }
     Ok(derivation)
 }
