@@ -1,5 +1,6 @@
 //! What the registers of one function decode to: its record, from its image and its read backs.
 ghost use Rattle.std.specs.Prelude.{◌≤◌, IfErr, MatchResult};
+ghost use Rattle.pci_spec.specs.Order.{phase_key, Decoding};
 ghost use Rattle.pci_image.specs.Faults.{IsImageFaultIn, image_fault_number};
 ghost use Rattle.pci_image.specs.Windows.{IsLowestWindowFault};
 ghost use Rattle.pci_function.specs.Fault.{image_fault_at};
@@ -44,7 +45,7 @@ fn bridge_at(image: &Image, probe: &Image) -> Result<Option<Bridge>, ImageFault>
 pub fn decode(slot: Slot, image: &Image, probe: &Image) -> Result<Record, ImageFault>
     ensures decoded { MatchResult result (IsRecordOf record { slot = slot; image = image.now.0; probe = probe.now.0 }) (IsImageFaultIn image.now.0 probe.now.0) }
     ensures number { IfErr result (λ e. image_fault_number e ≤ 26) }
-    ensures first { IfErr result (λ e. IsFirstOf 2 record { slot = slot; image = image.now.0; probe = probe.now.0 } (image_fault_at slot e)) }
+    ensures first { IfErr result (λ e. IsFirstOf (phase_key Decoding) record { slot = slot; image = image.now.0; probe = probe.now.0 } (image_fault_at slot e)) }
 {
     let bars = bars(image, probe)?;
     let rom = rom(image, probe)?;

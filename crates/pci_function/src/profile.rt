@@ -4,6 +4,7 @@ ghost use Rattle.pci_spec.specs.Number.{has_bit};
 ghost use Rattle.pci_spec.specs.Header.{command};
 ghost use Rattle.pci_spec.specs.Capability.{body_length, IsChain};
 ghost use Rattle.pci_spec.specs.Fault.{IsNotInD0, IsNotInD0At};
+ghost use Rattle.pci_spec.specs.Order.{phase_key, Identity, Profile};
 ghost use Rattle.pci_function.specs.Fault.{fault_of};
 ghost use Rattle.pci_function.specs.Profile.{IsAnswering, IsPlainBridge, IsPlain, IsHereIn, IsFirstOf};
 
@@ -38,8 +39,8 @@ fn has_bit(register: u16, bit: u8) -> bool
 /// first byte offset outside the address registers where the probe isn't 00.
 pub fn identity_fault(slot: Slot, image: &Image, probe: &Image) -> Option<Fault>
     ensures fault { MatchOption result (IsAnswering record { slot = slot; image = image.now.0; probe = probe.now.0 })
-        (λ e. IsHereIn 1 record { slot = slot; image = image.now.0; probe = probe.now.0 } (fault_of e)) }
-    ensures first { IfSome result (λ e. IsFirstOf 1 record { slot = slot; image = image.now.0; probe = probe.now.0 } (fault_of e)) }
+        (λ e. IsHereIn (phase_key Identity) record { slot = slot; image = image.now.0; probe = probe.now.0 } (fault_of e)) }
+    ensures first { IfSome result (λ e. IsFirstOf (phase_key Identity) record { slot = slot; image = image.now.0; probe = probe.now.0 } (fault_of e)) }
 {
     if image.u16(VENDOR_ID) == NO_VENDOR {
         return Some(Fault::NoVendor(slot));
@@ -57,8 +58,8 @@ pub fn identity_fault(slot: Slot, image: &Image, probe: &Image) -> Option<Fault>
 /// The fault of a bridge's profile: 52 `VgaEnable`, else 53 `IsaEnable`, else 54 `Subtractive`, else 55 `InReset`.
 fn bridge_fault(slot: Slot, image: &Image, probe: &Image) -> Option<Fault>
     ensures fault { MatchOption result (IsPlainBridge image.now.0)
-        (λ e. IsHereIn 3 record { slot = slot; image = image.now.0; probe = probe.now.0 } (fault_of e)) }
-    ensures first { IfSome result (λ e. IsFalse (has_bit (command image.now.0) 5) → IsFirstOf 3 record { slot = slot; image = image.now.0; probe = probe.now.0 } (fault_of e)) }
+        (λ e. IsHereIn (phase_key Profile) record { slot = slot; image = image.now.0; probe = probe.now.0 } (fault_of e)) }
+    ensures first { IfSome result (λ e. IsFalse (has_bit (command image.now.0) PALETTE_SNOOP) → IsFirstOf (phase_key Profile) record { slot = slot; image = image.now.0; probe = probe.now.0 } (fault_of e)) }
 {
     if layout(image) != 1 {
         return None;
@@ -105,8 +106,8 @@ fn is_not_in_d0(image: &Image, places: &[u8]) -> bool
 pub fn profile_fault(slot: Slot, image: &Image, probe: &Image, places: &[u8]) -> Option<Fault>
     requires { IsChain image.now.0 places.now }
     ensures fault { MatchOption result (IsPlain image.now.0)
-        (λ e. IsHereIn 3 record { slot = slot; image = image.now.0; probe = probe.now.0 } (fault_of e)) }
-    ensures first { IfSome result (λ e. IsFirstOf 3 record { slot = slot; image = image.now.0; probe = probe.now.0 } (fault_of e)) }
+        (λ e. IsHereIn (phase_key Profile) record { slot = slot; image = image.now.0; probe = probe.now.0 } (fault_of e)) }
+    ensures first { IfSome result (λ e. IsFirstOf (phase_key Profile) record { slot = slot; image = image.now.0; probe = probe.now.0 } (fault_of e)) }
 {
     if has_bit(image.u16(COMMAND), PALETTE_SNOOP) {
         return Some(Fault::PaletteSnoop(slot));

@@ -4,6 +4,7 @@ ghost use Rattle.pci_spec.specs.Number.{byte_at, IsImage};
 ghost use Rattle.pci_spec.specs.Registers as table;
 ghost use Rattle.pci_spec.specs.Machine.{target_of};
 ghost use Rattle.pci_spec.specs.Decoded.{IsDecodable};
+ghost use Rattle.pci_spec.specs.Order.{phase_key, Decoding};
 ghost use Rattle.pci_image.specs.Faults.{IsImageFaultIn, image_fault_number};
 ghost use Rattle.pci_spec.specs.Port.{IsTarget};
 ghost use Rattle.pci_function.specs.Fault.{image_fault_at};
@@ -27,7 +28,7 @@ pub fn registers_of(slot: Slot, image: &Image, probe: &Image) -> Result<ConfigSp
     ensures header { IfOk result (λ registers. byte_at registers.writable table.HEADER_TYPE ≡ 0) }
     ensures fault { IfErr result (IsImageFaultIn image.now.0 probe.now.0) }
     ensures number { IfErr result (λ fault. image_fault_number fault ≤ 26) }
-    ensures first { IfErr result (λ e. IsFirstOf 2 record { slot = slot; image = image.now.0; probe = probe.now.0 } (image_fault_at slot e)) }
+    ensures first { IfErr result (λ e. IsFirstOf (phase_key Decoding) record { slot = slot; image = image.now.0; probe = probe.now.0 } (image_fault_at slot e)) }
 {
     let _record = decode(slot, image, probe)?;
     let bridge = layout(image) == 1;

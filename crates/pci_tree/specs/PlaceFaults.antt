@@ -5,7 +5,7 @@ use Rattle.pci_spec.specs.Slot.{slot_number}
 use Rattle.pci_spec.specs.System.{System, IsSystem}
 use Rattle.pci_spec.specs.Fault.{IsIn, fault_number}
 use Rattle.pci_spec.specs.Fault as faults
-use Rattle.pci_spec.specs.Order.{phase_of, is_before, image_at}
+use Rattle.pci_spec.specs.Order.{phase_of, phase_key, Place, is_before, image_at}
 use Rattle.pci_spec.specs.Decoded.{HasRecords}
 use Rattle.pci_spec.specs.Decoded as decoded
 use Rattle.pci_function.specs.declared.fault.Fault.{Fault}
@@ -32,6 +32,6 @@ pub record IsSomePlaceFault (roots : List ℕ) (records : List Record) (fault : 
 -- in each system with these records the fault is one of places, and none of places that is looked for before it is there
 pub record IsPlaceRefusal (roots : List ℕ) (records : List decoded.Record) (e : faults.Fault) : Type 0 where
   pub there : (s : System) → HasRecords s records → IsIn roots s e
-  pub phase : phase_of e ≡ 4
+  pub phase : phase_of e ≡ phase_key Place
   pub early : fault_number e < 60
-  pub first : (s : System) → IsSystem s → HasRecords s records → (other : faults.Fault) → phase_of other ≡ 4 → IsTrue (is_before (image_at s) other e) → IsIn roots s other → ⊥
+  pub first : (s : System) → IsSystem s → HasRecords s records → (other : faults.Fault) → phase_of other ≡ phase_key Place → IsTrue (is_before (image_at s) other e) → IsIn roots s other → ⊥

@@ -11,7 +11,7 @@ use Rattle.pci_spec.specs.Decoded as decoded
 use Rattle.pci_function.specs.declared.record.Record.{Record}
 use Rattle.pci_tree.specs.Regions.{IsLawful}
 use Rattle.pci_tree.specs.Outline.{RiseBySlot, Tree}
-use Rattle.pci_spec.specs.Order.{phase_of, is_before, image_at}
+use Rattle.pci_spec.specs.Order.{phase_of, phase_key, Slots, is_before, image_at}
 use Rattle.pci_function.specs.Profile.{IsHere, IsClearBefore, IsFirstOf, IsFirstFault}
 
 -- a survey: its root buses, the records, the fault that is noted, and the slot last added
@@ -55,7 +55,7 @@ pub record IsFirstAmong (s : System) (e : Fault) : Type 0 where
 
 -- the fault is such a one, or that of two lists of slots
 abbrev pub IsNoted : System → Fault → Type 0
-IsNoted s e = (phase_of e ≡ 0) ⊎ IsFirstAmong s e
+IsNoted s e = (phase_of e ≡ phase_key Slots) ⊎ IsFirstAmong s e
 
 -- A survey has taken these functions: a fault that is noted is there, and in none of them is one of an earlier phase. Where none is
 -- noted the records are theirs.
@@ -94,6 +94,6 @@ pub record IsOutlineOf (v : Surveyed) (o : Tree) : Type 0 where
 -- isn't that of two lists of slots
 pub record IsRefusedBy (v : Surveyed) (e : Fault) : Type 0 where
   pub noted : (n : Fault) → v.fault ≡ Some n → e ≡ n
-  pub there : (s : System) → IsSurveyOf v s → ((phase_of e ≡ 0) × (v.fault ≡ Some e)) ⊎ IsIn v.roots s e
+  pub there : (s : System) → IsSurveyOf v s → ((phase_of e ≡ phase_key Slots) × (v.fault ≡ Some e)) ⊎ IsIn v.roots s e
   pub early : (s : System) → IsSurveyOf v s → fault_number e < 60
   pub first : (s : System) → IsSystem s → IsSurveyOf v s → phase_of e ≢ 0 → (other : Fault) → IsTrue (is_before (image_at s) other e) → IsIn v.roots s other → ⊥
