@@ -1,14 +1,12 @@
 //! What the registers of a function hold when everything is placed.
-ghost use Rattle.std.specs.Prelude.{◌≡◌, ◌+◌, ◌*◌, ◌/◌, ◌%◌, ◌^◌, ◌<◌, ◌≤◌, ℕ, ◌&&◌, ◌||◌, not, IsTrue, slice_index};
+ghost use Rattle.std.specs.Prelude.{◌≡◌, ◌+◌, ◌*◌, ◌/◌, ◌%◌, ◌^◌, ◌<◌, ℕ, ◌&&◌, ◌||◌, not, IsTrue, slice_index};
 ghost use Rattle.std.specs.List.{Contains, list_any};
 ghost use Rattle.std.specs.Option.{is_some};
 ghost use Rattle.pci_spec.specs.Header.{address_registers, bar_count, bar_register, layout, rom_register};
 ghost use Rattle.pci_spec.specs.System.{Bar as BarPart, Window as WindowPart, is_bridge};
 ghost use Rattle.pci_spec.specs.Window.{has_window};
-ghost use Rattle.pci_spec.specs.Place.{closed_bounds, nibble_of};
+ghost use Rattle.pci_spec.specs.Place.{nibble_of};
 ghost use Rattle.pci_spec.specs.Plan.{has_behind};
-ghost use Rattle.pci_spec.specs.Planning.Showing.{bounds_for, first_bit};
-ghost use Rattle.pci_image.specs.Bars.{decoded_kind_of};
 ghost use Rattle.pci_spec.specs.Planning.Numbers as numbers;
 ghost use Rattle.pci_plan.specs.Classes.{is_io_kind};
 ghost use Rattle.pci_image.specs.WindowKinds.{kind_value, by_kind};
@@ -40,15 +38,15 @@ pub struct Filling<'a> {
 }
 
 /// Whether a function has a memory BAR or a ROM.
-fn has_memory_part(record: &Record) -> bool
-    ensures { result ≡ (list_any (λ bar. not (is_io_kind bar.kind)) «record».now.bars.items || is_some «record».now.rom) }
+fn has_memory_part(function: &Record) -> bool
+    ensures { result ≡ (list_any (λ bar. not (is_io_kind bar.kind)) function.now.bars.items || is_some function.now.rom) }
 {
-    for bar in record.bars.as_slice() {
+    for bar in function.bars.as_slice() {
         if bar.kind != BarKind::Io {
             return true;
         }
     }
-    record.rom.is_some()
+    function.rom.is_some()
 }
 
 /// The lower half of a number.
@@ -124,11 +122,7 @@ impl Filling<'_> {
     fn window_place(&self, class: WindowKind) -> u64
         ensures { result ≡ first_in self.now.places.now (WindowPart (kind_value class)) }
     {
-        match class {
-            WindowKind::Io => self.places.io,
-            WindowKind::Memory => self.places.mem,
-            WindowKind::Prefetchable => self.places.pref,
-        }
+        *self.places.windows.get(class)
     }
 
     /// Of a window that is there, with its low nibble.

@@ -92,9 +92,13 @@ HasWindowFault image probe register =
 abbrev pub is_in_address_register : ℕ → ℕ → Bool
 is_in_address_register kind offset = list_any (is_in_register offset) (address_registers kind)
 
--- whether the probe has a byte where there is no address register
+-- whether the probe of a header of this layout has a byte where there is no address register
+abbrev pub is_stray_by : ℕ → List ℕ → ℕ → Bool
+is_stray_by kind probe offset = nat_lt offset 256 && not (byte_at probe offset == 0) && not (is_in_address_register kind offset)
+
+-- the same, of a function
 abbrev pub is_stray : List ℕ → List ℕ → ℕ → Bool
-is_stray image probe offset = nat_lt offset 256 && not (byte_at probe offset == 0) && not (is_in_address_register (layout image) offset)
+is_stray image = is_stray_by (layout image)
 
 -- whether it is that of a bridge whose Bridge Control has this bit
 abbrev pub controls_bridge : List ℕ → ℕ → Bool
