@@ -12,14 +12,14 @@ use Rattle.pciplan_cli.specs.declared.invocation.Invocation.{Invocation}
 -- the command line of the words
 pub record IsInvocationOf (words : List (List ℕ)) (line : Invocation) : Type 0 where
   pub asked : Asked
-  pub given : IsGiven words asked (string_bytes line.dump) (string_bytes line.probe)
+  pub given : IsGiven words asked (string_bytes line.dump) (string_bytes line.second)
   pub task : IsTaskOf asked line.task
 
 -- why words make none: no command line, or a word of one that is none; a want of memory can come at any words
 abbrev pub IsRefusedFor : List (List ℕ) → Failure → Type 0
 IsRefusedFor words Memory = ⊤
 IsRefusedFor words Usage = HasNoLine words
-IsRefusedFor words failure = (asked : Asked) × (dump : List ℕ) × (probe : List ℕ) × IsGiven words asked dump probe × IsWordRefused asked failure
+IsRefusedFor words failure = (asked : Asked) × (dump : List ℕ) × (second : List ℕ) × IsGiven words asked dump second × IsWordRefused asked failure
 
 -- the words are refused: they are no command line, or a word of one is no root list or no pool
 abbrev pub HasBadWords : List (List ℕ) → Type 0

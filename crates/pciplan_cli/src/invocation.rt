@@ -41,7 +41,7 @@ pub enum Task {
 pub struct Invocation {
     pub task: Task,
     pub dump: String,
-    pub probe: String,
+    pub second: String,
 }
 
 /// A command line.
@@ -55,7 +55,7 @@ fn invocation_of(alloc: Global, words: &[&str]) -> Result<Invocation, Failure>
     Ok(Invocation {
         task: task_of(&given.asked)?,
         dump: String::from_str(alloc, given.dump)?,
-        probe: String::from_str(alloc, given.probe)?,
+        second: String::from_str(alloc, given.second)?,
     })
 }
 

@@ -104,7 +104,7 @@ pub fn carry_out<A: Allocator + Copy, D: Opening, P: Opening, O: Sink, E: Sink>(
     ensures begun { result ≡ 4 → (out.new ≡ out.old)
         ⊎ IsCarriedOutBegun line.now (D.bytes_at dump.old) (P.bytes_at probe.old) (O.taken out.old) (O.taken out.new) }
     ensures refused { result ≡ 2 → IsTaskRefused line.now.task (D.bytes_at dump.old (string_bytes line.now.dump))
-        (P.bytes_at probe.old (string_bytes line.now.probe)) }
+        (P.bytes_at probe.old (string_bytes line.now.second)) }
     ensures failed { result ≡ 4 → HasFailed (D.failures dump.old) (D.failures dump.new)
         (P.failures probe.old) (P.failures probe.new) (O.failures out.old) (O.failures out.new) }
     ensures known { result ≤ 4 }
@@ -112,7 +112,7 @@ pub fn carry_out<A: Allocator + Copy, D: Opening, P: Opening, O: Sink, E: Sink>(
     if dump.open(line.dump.as_str()).is_err() {
         return report(err, Failure::Dump(ReadFault::Io));
     }
-    if probe.open(line.probe.as_str()).is_err() {
+    if probe.open(line.second.as_str()).is_err() {
         return report(err, without_second(alloc, line.task, dump));
     }
     run(alloc, line, dump, probe, out, err)
@@ -140,7 +140,7 @@ pub fn program<D: Opening, P: Opening, O: Sink, E: Sink>(
         × IsCarriedOutBegun line (D.bytes_at dump.old) (P.bytes_at probe.old) (O.taken out.old) (O.taken out.new)) (λ _. ⊥) }
     ensures refused { result ≡ 2 → IfOk words (λ words. HasBadWords (map string_bytes words.items)
         ⊎ ((line : Invocation) × IsInvocationOf (map string_bytes words.items) line × IsTaskRefused line.task (D.bytes_at dump.old (string_bytes line.dump))
-        (P.bytes_at probe.old (string_bytes line.probe)))) }
+        (P.bytes_at probe.old (string_bytes line.second)))) }
     ensures failed { result ≡ 4 → HasFailed (D.failures dump.old) (D.failures dump.new)
         (P.failures probe.old) (P.failures probe.new) (O.failures out.old) (O.failures out.new) }
     ensures known { result ≤ 4 }

@@ -86,16 +86,16 @@ subcommand_is m name rows left right =
 
 -- words that a fault refuses, that name no subcommand, and of whose subcommand nothing can be said
 pub no_line_by_fault : (words : List Text) (kinds : Kinds) (k : ErrorKind) → kinds ≡ fault_of commands words → IsAmong k kinds → HasNoLine words
-no_line_by_fault words kinds k same among asked dump probe given = no_kind kinds k (same ∙ given.taken) among
+no_line_by_fault words kinds k same among asked dump second given = no_kind kinds k (same ∙ given.taken) among
 
 pub no_line_by_none : (words : List Text) → subcommand_of commands words ≡ None → HasNoLine words
-no_line_by_none words none asked dump probe given = none-some (given.name, given.rows) (sym none ∙ given.entered)
+no_line_by_none words none asked dump second given = none-some (given.name, given.rows) (sym none ∙ given.entered)
 
 pub no_line_by_said : (words : List Text) (name : Text) (rows : List Row) → subcommand_of commands words ≡ Some (name, rows)
-    → ((asked : Asked) (dump probe : Text) → IsSaid name rows asked dump probe → ⊥) → HasNoLine words
-no_line_by_said words name rows entered none asked dump probe given =
+    → ((asked : Asked) (dump second : Text) → IsSaid name rows asked dump second → ⊥) → HasNoLine words
+no_line_by_said words name rows entered none asked dump second given =
     let same = same_Some (given.name, given.rows) (name, rows) (sym given.entered ∙ entered) in
-    none asked dump probe (subst (λ (p : Text × List Row). IsSaid p.0 p.1 asked dump probe) same given.said)
+    none asked dump second (subst (λ (p : Text × List Row). IsSaid p.0 p.1 asked dump second) same given.said)
 
 -- what clap's error makes of the words
 pub refused_words : (words : List Text) (kinds : Kinds) (error : Error) (fault : WordsFault) → kinds ≡ fault_of commands words → HasKind kinds error
@@ -108,9 +108,9 @@ refused_words words kinds error fault same (inr among) (inr gives) = inr (gives.
 -- what the subcommand's words give
 pub given_is : (words : List Text) (name : Text) (rows : List Row) (given : Option Given) → fault_of commands words ≡ []
     → subcommand_of commands words ≡ Some (name, rows)
-    → MatchOption given ((asked : Asked) (dump probe : Text) → IsSaid name rows asked dump probe → ⊥)
-    (λ g. IsSaid name rows g.asked g.dump.now g.probe.now)
-    → MatchResult (ok_or given Usage) (λ g. IsGiven words g.asked g.dump.now g.probe.now)
+    → MatchOption given ((asked : Asked) (dump second : Text) → IsSaid name rows asked dump second → ⊥)
+    (λ g. IsSaid name rows g.asked g.dump.now g.second.now)
+    → MatchResult (ok_or given Usage) (λ g. IsGiven words g.asked g.dump.now g.second.now)
     (λ fault. (fault ≡ Memory) ⊎ ((fault ≡ Usage) × HasNoLine words))
 given_is words name rows None taken entered none = inr (refl, no_line_by_said words name rows entered none)
 given_is words name rows (Some g) taken entered said = record { taken = taken; name = name; rows = rows; entered = entered; said = said }

@@ -43,13 +43,13 @@ commands = with_subcommand (with_subcommand (with_subcommand (with_subcommand (w
     checking.top) (with_paths (codes "size")).top) planning.top) probing.top
 
 -- what the words of a command line say, which no fault of usage refuses
-pub record IsGiven (words : List Text) (asked : Asked) (dump probe : Text) : Type 0 where
+pub record IsGiven (words : List Text) (asked : Asked) (dump second : Text) : Type 0 where
   pub taken : fault_of commands words ≡ []
   pub name : Text
   pub rows : List Row
   pub entered : subcommand_of commands words ≡ Some (name, rows)
-  pub said : IsSaid name rows asked dump probe
+  pub said : IsSaid name rows asked dump second
 
 -- the words are no command line
 abbrev pub HasNoLine : List Text → Type 0
-HasNoLine words = (asked : Asked) (dump probe : Text) → IsGiven words asked dump probe → ⊥
+HasNoLine words = (asked : Asked) (dump second : Text) → IsGiven words asked dump second → ⊥

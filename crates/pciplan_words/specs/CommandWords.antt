@@ -33,7 +33,7 @@ IsAsked name rows (Plan words) = (name ≡ codes "plan") × HasPlanWords rows wo
 IsAsked name rows (Probe exact) = (name ≡ codes "probe") × IsFlag (one_of (codes "exact") rows) exact
 
 -- what the words of a subcommand say: what is asked for, and the paths of the dump and of the second text
-pub record IsSaid (name : Text) (rows : List Row) (asked : Asked) (dump probe : Text) : Type 0 where
+pub record IsSaid (name : Text) (rows : List Row) (asked : Asked) (dump second : Text) : Type 0 where
   pub task : IsAsked name rows asked
   pub dump_is : first_of (codes "DUMP") rows ≡ Some dump
-  pub probe_is : first_of (codes "PROBE") rows ≡ Some probe
+  pub second_is : first_of (codes "PROBE") rows ≡ Some second

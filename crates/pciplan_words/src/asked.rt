@@ -33,7 +33,7 @@ pub enum Asked<'a> {
 pub struct Given<'a> {
     pub asked: Asked<'a>,
     pub dump: &'a str,
-    pub probe: &'a str,
+    pub second: &'a str,
 }
 
 /// Why words say nothing.

@@ -151,13 +151,13 @@ fn asked_of<'a>(name: &str, found: &ArgMatches<'a>) -> Option<Asked<'a>>
 
 /// What the words of a subcommand say.
 fn given_of<'a>(name: &str, found: &ArgMatches<'a>) -> Option<Given<'a>>
-    ensures { MatchOption result ((asked : Asked) (dump probe : List ℕ) → IsSaid name.now (rows_of (found_of found.now)) asked dump probe → ⊥)
-        (λ given. IsSaid name.now (rows_of (found_of found.now)) given.asked given.dump.now given.probe.now) }
+    ensures { MatchOption result ((asked : Asked) (dump second : List ℕ) → IsSaid name.now (rows_of (found_of found.now)) asked dump second → ⊥)
+        (λ given. IsSaid name.now (rows_of (found_of found.now)) given.asked given.dump.now given.second.now) }
 {
     Some(Given {
         asked: asked_of(name, found)?,
         dump: found.get_str(DUMP)?,
-        probe: found.get_str(PROBE)?,
+        second: found.get_str(PROBE)?,
     })
 }
 
@@ -167,7 +167,7 @@ fn given_of<'a>(name: &str, found: &ArgMatches<'a>) -> Option<Given<'a>>
 ///
 /// `Usage` where they are no command line, `Memory` where a growth was refused.
 pub fn words_given<'a>(alloc: Global, words: &'a [&'a str]) -> Result<Given<'a>, WordsFault>
-    ensures { MatchResult result (λ given. IsGiven (map (λ w. w.now) words.now) given.asked given.dump.now given.probe.now)
+    ensures { MatchResult result (λ given. IsGiven (map (λ w. w.now) words.now) given.asked given.dump.now given.second.now)
         (λ fault. (fault ≡ WordsFault.Memory) ⊎ ((fault ≡ WordsFault.Usage) × HasNoLine (map (λ w. w.now) words.now))) }
 {
     let matches = command(alloc)?.try_get_matches_from(words)?;
