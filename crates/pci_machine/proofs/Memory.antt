@@ -15,11 +15,11 @@ use Rattle.pci_machine.proofs.Targets.{none_at, target_at-slot, write-with_image
 use Rattle.pci_machine.proofs.Bytes.{IsImage-written, IsTarget-with_layout, written_byte-kept, header_unclear, IsTarget-pinned, header-pinned}
 use Rattle.pci_machine.proofs.Writes.{byte_at-written}
 
--- what is read at a place is what stands there
-pub at_place : (targets : List Target) (k : ℕ) (t r : Target) → slice_get targets k ≡ Some t → r ≡ get_or targets k r → r ≡ t
-at_place targets k t r at is = is ∙ get_or_from_slice_get targets k t r at
+-- what is read at an index is what stands there
+pub at_index : (targets : List Target) (k : ℕ) (t r : Target) → slice_get targets k ≡ Some t → r ≡ get_or targets k r → r ≡ t
+at_index targets k t r at is = is ∙ get_or_from_slice_get targets k t r at
 
--- what holds of each function holds of the one at a place
+-- what holds of each function holds of the one at an index
 each_at : {X : Type 0} (P : X → Type 0) (xs : List X) (k : ℕ) (x : X) → All P xs → slice_get xs k ≡ Some x → P x
 each_at P xs k x all at = subst P (get_or_from_slice_get xs k x x at) (all k x (slice_get_within xs k x at))
 
@@ -40,9 +40,9 @@ later xs up i (suc gap) below =
     let e : i + suc gap + 1 ≡ i + suc (suc gap) = omega arith in
     subst (λ j. slice_index xs i < slice_index xs j) e (omega (arith, before, step))
 
--- the number of the slot at a place
-number_at_place : (targets : List Target) (k : ℕ) (t : Target) → slice_get targets k ≡ Some t → slice_index (map slot_number (map (λ u. u.slot) targets)) k ≡ slot_number t.slot
-number_at_place targets k t at =
+-- the number of the slot at an index
+number_at_index : (targets : List Target) (k : ℕ) (t : Target) → slice_get targets k ≡ Some t → slice_index (map slot_number (map (λ u. u.slot) targets)) k ≡ slot_number t.slot
+number_at_index targets k t at =
     let within = slice_get_within targets k t at in
     let inside : k < length (map (λ (u : Target). u.slot) targets) = omega (arith, length-map targets (λ u. u.slot)) in
     get_or-map slot_number (map (λ (u : Target). u.slot) targets) k t.slot 0 inside
@@ -57,8 +57,8 @@ later_number targets rising i k t u at_i at_k below =
     let full : length (map slot_number (map (λ (v : Target). v.slot) targets)) ≡ length targets =
     length-map (map (λ (v : Target). v.slot) targets) slot_number ∙ length-map targets (λ v. v.slot) in
     let above = later (map slot_number (map (λ (v : Target). v.slot) targets)) rising i (k - i - 1) (omega (arith, full, split)) in
-    let first = number_at_place targets i t at_i in
-    let second = ap (slice_index (map slot_number (map (λ (v : Target). v.slot) targets))) split ∙ number_at_place targets k u at_k in
+    let first = number_at_index targets i t at_i in
+    let second = ap (slice_index (map slot_number (map (λ (v : Target). v.slot) targets))) split ∙ number_at_index targets k u at_k in
     omega (arith, above, first, second)
 
 -- rising slots are distinct
@@ -94,7 +94,7 @@ below_in_front targets machine n i j d order within test = elim (cases_lt i j) [
       ap (λ k. is_below n (get_or targets k d)) same ∙ test
 ]
 
--- no function is at a slot if none is at the place that the slot would have
+-- no function is at a slot if none is at the index that the slot would have
 pub not_at_point : (targets : List Target) → IsMachine targets → (slot : Slot) (i : ℕ)
     → IsPartitionPoint (λ t. nat_lt (slot_number t.slot) (slot_number slot) ≡ true) (λ t. nat_lt (slot_number t.slot) (slot_number slot) ≡ false) targets i
     → ((t : Target) → slice_get targets i ≡ Some t → t.slot ≡ slot → ⊥) → has_function targets slot ≡ false
@@ -116,7 +116,7 @@ not_at_point targets machine slot i point none = none_at targets slot (λ k t wi
       ]
     ])
 
--- a machine whose function at a place is another one of the same slot
+-- a machine whose function at an index is another one of the same slot
 pub IsMachine-set : (targets : List Target) (k : ℕ) (t n : Target) → IsMachine targets → slice_get targets k ≡ Some t → n.slot ≡ t.slot → IsTarget n
     → byte_at n.writable 0x0e ≡ 0 → IsMachine (slice_set targets k n)
 IsMachine-set targets k t n machine at same target header = record {
@@ -132,13 +132,13 @@ IsMachine-set targets k t n machine at same target header = record {
   header = All-set (λ u. byte_at u.writable 0x0e ≡ 0) targets k n header machine.header;
 }
 
--- a machine after a write to the function at a place
+-- a machine after a write to the function at an index
 module _ (targets : List Target) (slot : Slot) (k : ℕ) (t r n : Target) (offset width value : ℕ) (machine : IsMachine targets)
     (at : slice_get targets k ≡ Some t) (found : target_at targets slot ≡ Some t) (is : r ≡ get_or targets k r)
     (new : n ≡ record r { image = written r offset width value }) where
-  -- what stands at the place is the function there, written
+  -- what stands at the index is the function there, written
   same : n ≡ record t { image = written t offset width value }
-  same = new ∙ ap (λ (u : Target). let v : Target = record u { image = written u offset width value } in v) (at_place targets k t r at is)
+  same = new ∙ ap (λ (u : Target). let v : Target = record u { image = written u offset width value } in v) (at_index targets k t r at is)
 
   -- the functions are those after the write
   pub machine-written : slice_set targets k n ≡ write_targets targets record { slot = slot; offset = offset; width = width; value = value }
@@ -159,13 +159,13 @@ module _ (targets : List Target) (slot : Slot) (k : ℕ) (t r n : Target) (offse
   pub lawful-written : IsLawful (slice_set targets k n)
   lawful-written = lawful_from_rising (slice_set targets k n) IsMachine-written
 
--- a machine after bits of a byte of the function at a place were pinned
+-- a machine after bits of a byte of the function at an index were pinned
 module _ (targets : List Target) (slot : Slot) (k : ℕ) (t r n : Target) (place mask : ℕ) (machine : IsMachine targets)
     (at : slice_get targets k ≡ Some t) (found : target_at targets slot ≡ Some t) (is : r ≡ get_or targets k r)
     (new : n ≡ pinned r place mask) where
-  -- what stands at the place is the function there, with the bits pinned
+  -- what stands at the index is the function there, with the bits pinned
   pinned_here : n ≡ pinned t place mask
-  pinned_here = new ∙ ap (λ (u : Target). pinned u place mask) (at_place targets k t r at is)
+  pinned_here = new ∙ ap (λ (u : Target). pinned u place mask) (at_index targets k t r at is)
 
   -- the functions are those with the bits pinned
   pub machine-pinned : slice_set targets k n ≡ pin_targets targets slot place mask

@@ -12,7 +12,7 @@ use Rattle.pci_spec.specs.Machine.{Target, write_targets, written, written_byte,
 use Rattle.pci_spec.specs.Port.{IsLawful, IsTarget, target_at, has_function, with_image, is_access, fits}
 use Rattle.pci_spec.specs.Sizing.{function_at, no_target, DiffersWithin, IsPlain}
 use Rattle.pci_image.proofs.Accesses.{width_cases}
-use Rattle.pci_machine.proofs.Targets.{find-place, found_at, has_found, target_at-with_image, write-with_image, with_image-same, with_image-with_image}
+use Rattle.pci_machine.proofs.Targets.{find-index, found_at, has_found, target_at-with_image, write-with_image, with_image-same, with_image-with_image}
 use Rattle.pci_machine.proofs.Writes.{written_byte-inside, written_byte-below, written_byte-above, byte_at-written, length-written}
 use Rattle.pci_machine.proofs.Bytes.{byte-put_back}
 
@@ -115,10 +115,10 @@ number-fits image offset width good access =
 -- the function at the slot is lawful
 pub target-there : (targets : List Target) (slot : Slot) → IsLawful targets → has_function targets slot ≡ true → IsTarget (function_at targets slot)
 target-there targets slot lawful h =
-    let place = find-place (λ t. same_slot t.slot slot) targets (function_at targets slot) (function_found targets slot h) in
+    let index = find-index (λ t. same_slot t.slot slot) targets (function_at targets slot) (function_found targets slot h) in
     let k = position_or_len (λ t. same_slot t.slot slot) targets in
-    subst IsTarget (get_or_from_slice_get targets k (function_at targets slot) (function_at targets slot) place)
-    (lawful.each k (function_at targets slot) (slice_get_within targets k (function_at targets slot) place))
+    subst IsTarget (get_or_from_slice_get targets k (function_at targets slot) (function_at targets slot) index)
+    (lawful.each k (function_at targets slot) (slice_get_within targets k (function_at targets slot) index))
 
 -- ---- a value written and the old one put back
 

@@ -120,19 +120,19 @@ pub with_image-with_image : (targets : List Target) (slot : Slot) (first second 
 with_image-with_image targets slot first second =
     map-map (put_image slot second) (put_image slot first) (put_image slot second) (put_twice slot first second) targets
 
--- the place of what is found
-pub find-place : {X : Type 0} (p : X → Bool) (xs : List X) (x : X) → find p xs ≡ Some x → slice_get xs (position_or_len p xs) ≡ Some x
-find-place p xs x h = sym (find_at p xs) ∙ h
+-- the index of what is found
+pub find-index : {X : Type 0} (p : X → Bool) (xs : List X) (x : X) → find p xs ≡ Some x → slice_get xs (position_or_len p xs) ≡ Some x
+find-index p xs x h = sym (find_at p xs) ∙ h
 
 -- a listed function is the one that is found at its slot
 pub found : (targets : List Target) (slot : Slot) (k : ℕ) (u : Target) → IsLawful targets → slice_get targets k ≡ Some u → u.slot ≡ slot → target_at targets slot ≡ Some u
 found targets slot k u lawful at is =
     let test : (λ (v : Target). same_slot v.slot slot) u ≡ true = ap (λ s. same_slot s slot) is ∙ same_slot-same slot in
     let some = any-find (λ v. same_slot v.slot slot) targets (any-at (λ v. same_slot v.slot slot) targets k u at test) in
-    let place = find-place (λ v. same_slot v.slot slot) targets some.0 some.1 in
+    let index = find-index (λ v. same_slot v.slot slot) targets some.0 some.1 in
     let e : position_or_len (λ v. same_slot v.slot slot) targets ≡ k =
-    lawful.one (position_or_len (λ v. same_slot v.slot slot) targets) k some.0 u place at (target_at-slot targets slot some.0 some.1 ∙ sym is) in
-    some.1 ∙ sym place ∙ ap (slice_get targets) e ∙ at
+    lawful.one (position_or_len (λ v. same_slot v.slot slot) targets) k some.0 u index at (target_at-slot targets slot some.0 some.1 ∙ sym is) in
+    some.1 ∙ sym index ∙ ap (slice_get targets) e ∙ at
 
 -- a listed function that stands at the slot is the one that is found there
 listed : (targets : List Target) (slot : Slot) (t u : Target) → IsLawful targets → target_at targets slot ≡ Some t → Contains targets u → same_slot u.slot slot ≡ true → u ≡ t
@@ -170,7 +170,7 @@ write-with_image targets t w lawful h =
           ∙ sym (cond-false (same_slot u.slot w.slot) (record u { image = written t w.offset w.width w.value }) u miss)
     ])
 
--- a change of the function at a slot alone, made at its place
+-- a change of the function at a slot alone, made at its index
 pub set-map : (change : Target → Target) (targets : List Target) (slot : Slot) (k : ℕ) (t : Target) → IsLawful targets → slice_get targets k ≡ Some t → t.slot ≡ slot
     → ((u : Target) → same_slot u.slot slot ≡ false → change u ≡ u) → slice_set targets k (change t) ≡ map change targets
 set-map change targets slot k t lawful at is others =
@@ -190,7 +190,7 @@ set-map change targets slot k t lawful at is others =
           get_or-set_other targets k i (change t) t other ∙ sym (mapped ∙ others u miss)
     ])
 
--- the function at one place is written over by itself with another image
+-- the function at one index is written over by itself with another image
 pub set-with_image : (targets : List Target) (slot : Slot) (k : ℕ) (t : Target) (image : List ℕ) → IsLawful targets → slice_get targets k ≡ Some t → t.slot ≡ slot
     → slice_set targets k (record t { image = image }) ≡ with_image targets slot image
 set-with_image targets slot k t image lawful at is =
@@ -203,9 +203,9 @@ pub none_at : (targets : List Target) (slot : Slot) → ((k : ℕ) (t : Target) 
     → has_function targets slot ≡ false
 none_at targets slot h = false_from_ne_true _ (λ hit.
     let some = any-find (λ t. same_slot t.slot slot) targets hit in
-    let place = find-place (λ t. same_slot t.slot slot) targets some.0 some.1 in
+    let index = find-index (λ t. same_slot t.slot slot) targets some.0 some.1 in
     h (position_or_len (λ t. same_slot t.slot slot) targets) some.0
-    (slice_get_within targets (position_or_len (λ t. same_slot t.slot slot) targets) some.0 place) place (target_at-slot targets slot some.0 some.1))
+    (slice_get_within targets (position_or_len (λ t. same_slot t.slot slot) targets) some.0 index) index (target_at-slot targets slot some.0 some.1))
 
 -- a function is at a slot where one of the list is
 pub some_at : (targets : List Target) (slot : Slot) (k : ℕ) (t : Target) → slice_get targets k ≡ Some t → t.slot ≡ slot → has_function targets slot ≡ true

@@ -27,7 +27,7 @@ use std::marker::Model;
 #[derive(Drop)]
 pub struct Machine<A: Allocator = Global> {
     functions: Vec<ConfigSpace, A>,
-    // Where the function of the last access stands: mostly the next access is to it too.
+    // The index of the function of the last access: mostly the next access is to it too.
     last: usize,
 }
 
@@ -89,8 +89,8 @@ impl<A: Allocator> Machine<A> {
     pub fn image(&self, slot: Slot) -> Option<&Image>
         ensures { option_map (λ image. image.now.0) result ≡ option_map (λ t. t.image) (target_at self.now slot) }
     {
-        match self.place(slot) {
-            Some(place) => Some(&self.functions[place].image),
+        match self.index_of(slot) {
+            Some(index) => Some(&self.functions[index].image),
             None => None,
         }
     }
@@ -101,9 +101,9 @@ impl<A: Allocator> Machine<A> {
         ensures there { result ≡ has_function self.old slot }
         ensures pinned { self.new ≡ pin_targets self.old slot off mask }
     {
-        match self.place(slot) {
-            Some(place) => {
-                let registers = &mut self.functions[place];
+        match self.index_of(slot) {
+            Some(index) => {
+                let registers = &mut self.functions[index];
                 registers.pin(off, mask);
                 true
             }
@@ -111,8 +111,8 @@ impl<A: Allocator> Machine<A> {
         }
     }
 
-    /// Where the slot's function stands in the list.
-    fn place(&self, slot: Slot) -> Option<usize>
+    /// The index of the function at a slot.
+    fn index_of(&self, slot: Slot) -> Option<usize>
         ensures there { MatchOption result (IsFalse (has_function self.now slot)) (λ _. IsTrue (has_function self.now slot)) }
         ensures within { IfSome result (λ i. i < length self.now) }
         ensures lawful { IsLawful self.now }
@@ -123,11 +123,11 @@ impl<A: Allocator> Machine<A> {
             return Some(last);
         }
         let number = slot.number();
-        let place = self
+        let index = self
             .functions
             .partition_point(|function| function.is_below(number));
-        if place < self.functions.len() && self.functions[place].is_at(slot) {
-            Some(place)
+        if index < self.functions.len() && self.functions[index].is_at(slot) {
+            Some(index)
         } else {
             None
         }
@@ -144,26 +144,26 @@ impl<A: Allocator> ConfigPort for Machine<A> {
     ghost writes = { λ before write answer after. MatchResult answer (λ _. after ≡ write_targets before write) (λ _. after ≡ before) };
 
     fn read(&mut self, slot: Slot, off: u8, width: u8) -> Result<u32, PortError> {
-        let Some(place) = self.place(slot) else {
+        let Some(index) = self.index_of(slot) else {
             return Err(PortError::NoFunction);
         };
         if !is_access(off, width) {
             return Err(PortError::BadAccess);
         }
-        self.last = place;
-        let registers = &self.functions[place];
+        self.last = index;
+        let registers = &self.functions[index];
         Ok(registers.number(off, width))
     }
 
     fn write(&mut self, slot: Slot, off: u8, width: u8, value: u32) -> Result<(), PortError> {
-        let Some(place) = self.place(slot) else {
+        let Some(index) = self.index_of(slot) else {
             return Err(PortError::NoFunction);
         };
         if !is_access(off, width) || !fits(width, value) {
             return Err(PortError::BadAccess);
         }
-        self.last = place;
-        let registers = &mut self.functions[place];
+        self.last = index;
+        let registers = &mut self.functions[index];
         registers.write(off, width, value);
         Ok(())
     }

@@ -11,9 +11,9 @@ use Rattle.pci_plan.specs.declared.place.Places.{Places}
 abbrev pub first_in : Places → Part → ℕ
 first_in p (Bar n) = slice_index p.bars n
 first_in p Rom = p.rom
-first_in p (Window IoWindow) = p.io
-first_in p (Window MemoryWindow) = p.mem
-first_in p (Window PrefetchWindow) = p.pref
+first_in p (Window IoWindow) = p.windows.io
+first_in p (Window MemoryWindow) = p.windows.memory
+first_in p (Window PrefetchWindow) = p.windows.prefetchable
 
 -- everything of a class stands at its place
 abbrev pub HasPlaces : List ℕ → System → Pools → WindowKind → List Places → Type 0

@@ -10,15 +10,15 @@ ghost use Rattle.pci_plan.specs.Classes.{is_io_kind};
 use super::above::Above;
 use pci_function::record::Record;
 use pci_image::bar::BarKind;
-use pci_image::slot::Slot;
+use pci_image::slot::{BUSES, Slot};
 use pci_tree::admitted::Admitted;
 use std::alloc::Allocator;
 
 /// Whether a function has an I/O BAR.
-pub fn has_io_bar(record: &Record) -> bool
-    ensures { result ≡ list_any (λ bar. is_io_kind bar.kind) «record».now.bars.items }
+pub fn has_io_bar(function: &Record) -> bool
+    ensures { result ≡ list_any (λ bar. is_io_kind bar.kind) function.now.bars.items }
 {
-    for bar in record.bars.as_slice() {
+    for bar in function.bars.as_slice() {
         if bar.kind == BarKind::Io {
             return true;
         }
@@ -27,7 +27,7 @@ pub fn has_io_bar(record: &Record) -> bool
 }
 
 /// The first function, by slot, that has an I/O BAR behind a bridge without an I/O window.
-pub fn first_lacking<A: Allocator>(admitted: &Admitted<A>, aboves: &[Above; 256]) -> Option<Slot>
+pub fn first_lacking<A: Allocator>(admitted: &Admitted<A>, aboves: &[Above; BUSES]) -> Option<Slot>
     requires { AreAboves (system_in admitted.now) aboves.now }
     ensures { MatchOption result ((slot : SlotValue) → LacksWindow (system_in admitted.now) slot → ⊥) (IsFirstLacking (system_in admitted.now)) }
 {

@@ -38,15 +38,15 @@ pub struct Filling<'a> {
 }
 
 /// Whether a function has a memory BAR or a ROM.
-fn has_memory_part(record: &Record) -> bool
-    ensures { result ≡ (list_any (λ bar. not (is_io_kind bar.kind)) «record».now.bars.items || is_some «record».now.rom) }
+fn has_memory_part(function: &Record) -> bool
+    ensures { result ≡ (list_any (λ bar. not (is_io_kind bar.kind)) function.now.bars.items || is_some function.now.rom) }
 {
-    for bar in record.bars.as_slice() {
+    for bar in function.bars.as_slice() {
         if bar.kind != BarKind::Io {
             return true;
         }
     }
-    record.rom.is_some()
+    function.rom.is_some()
 }
 
 /// The lower half of a number.
@@ -122,11 +122,7 @@ impl Filling<'_> {
     fn window_place(&self, class: WindowKind) -> u64
         ensures { result ≡ first_in self.now.places.now (WindowPart (kind_value class)) }
     {
-        match class {
-            WindowKind::Io => self.places.io,
-            WindowKind::Memory => self.places.mem,
-            WindowKind::Prefetchable => self.places.pref,
-        }
+        *self.places.windows.get(class)
     }
 
     /// Of a window that is there, with its low nibble.

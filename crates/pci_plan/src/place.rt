@@ -17,28 +17,29 @@ use super::need::Needs;
 use super::pools::Pools;
 use super::room::raised;
 use pci_dump::memory::OutOfMemory;
-use pci_image::window_kind::WindowKind;
+use pci_image::slot::BUSES;
+use pci_image::window_kind::{ByKind, WindowKind};
 use pci_tree::admitted::Admitted;
 use std::alloc::Allocator;
 
 /// The first addresses of a function's parts, where they are placed.
-#[derive(Clone, Copy, Debug)]
+#[derive(Debug, Drop)]
 pub struct Places {
     /// By Base Address register.
     pub bars: [u64; 6],
     pub rom: u64,
-    pub io: u64,
-    pub mem: u64,
-    pub pref: u64,
+    pub windows: ByKind<u64>,
 }
 
 impl Places {
     pub const NONE: Places = Places {
         bars: [0; 6],
         rom: 0,
-        io: 0,
-        mem: 0,
-        pref: 0,
+        windows: ByKind {
+            io: 0,
+            memory: 0,
+            prefetchable: 0,
+        },
     };
 
     /// Sets the first address of a part.
@@ -51,9 +52,9 @@ impl Places {
             Part::Bar(n) => self.bars[usize::from(n)] = first,
             Part::Rom => self.rom = first,
             Part::Window { .. } => match class {
-                WindowKind::Io => self.io = first,
-                WindowKind::Memory => self.mem = first,
-                WindowKind::Prefetchable => self.pref = first,
+                WindowKind::Io => self.windows.io = first,
+                WindowKind::Memory => self.windows.memory = first,
+                WindowKind::Prefetchable => self.windows.prefetchable = first,
             },
         }
     }
@@ -68,7 +69,7 @@ fn place_sorted(items: &[Item], class: WindowKind, start: u128, places: &mut [Pl
     ensures others { (k : ℕ) (d : Places) (part : PartValue) → ((i : Item) → Contains items.now i → i.function ≡ k → part_value (kind_value class) i.part ≡ part → ⊥)
         → first_in (slice_index_or places.new k d) part ≡ first_in (slice_index_or places.old k d) part }
 {
-    let mut starts = [0u128; 256];
+    let mut starts = [0u128; BUSES];
     let mut group = 0;
     let mut next = start;
     for item in items {
@@ -90,7 +91,7 @@ pub fn place_class<A: Allocator + Copy, B: Allocator>(
     admitted: &Admitted<B>,
     pools: &Pools,
     class: WindowKind,
-    aboves: &[Above; 256],
+    aboves: &[Above; BUSES],
     needs: &Needs,
     places: &mut [Places],
 ) -> Result<(), OutOfMemory>

@@ -17,10 +17,10 @@ use std::alloc::Allocator;
 const CHUNK_LEN: usize = 20 * BLOCK_LEN;
 
 /// The line after 4,096 blocks of nine lines.
-const LINE_AFTER_ALL: u64 = 36_865;
+const LINE_AFTER_ALL: u64 = 9 * BLOCKS_MAX as u64 + 1;
 
 /// Reads until `chunk` is full or the source has told its end, and answers how many bytes were read.
-fn fill<S: Source>(source: &mut S, chunk: &mut [u8; 8160]) -> Result<usize, Failed>
+fn fill<S: Source>(source: &mut S, chunk: &mut [u8; CHUNK_LEN]) -> Result<usize, Failed>
     ensures few { IfOk result (λ n. n ≤ 8160) }
     ensures bytes { IfOk result (λ n. Consumes (S.left source.old) (S.left source.new) (take n chunk.new)) }
     ensures end { IfOk result (λ n. n < 8160 → IsAtEnd (S.left source.new)) }

@@ -53,7 +53,7 @@ begins_before (r ∷ records) bus next i j e bound below from = elim (cases_lt j
   | inr le ↦ le
 ]
 
--- of records that rise, those from one place to another are those of a bus
+-- of records that rise, those from one index to another are those of a bus
 pub part_between : (records : List Record) (bus next i j : ℕ) → next ≡ bus + 1 → RiseBySlot records → i ≤ j → j ≤ length records
     → AllWithin (λ r. r.slot.bus < bus) records 0 i → AllWithin (λ r. bus ≤ r.slot.bus) records i (length records)
     → AllWithin (λ r. r.slot.bus < next) records 0 j → AllWithin (λ r. next ≤ r.slot.bus) records j (length records)

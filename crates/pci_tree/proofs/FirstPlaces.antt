@@ -8,10 +8,10 @@ use Rattle.pci_spec.specs.Slot.{slot_number}
 use Rattle.pci_function.specs.declared.record.Record.{Record}
 use Rattle.pci_tree.specs.Outline.{RiseBySlot}
 
--- what holds of all records before a place holds of each with a lower slot than the record there
-pub before_place : (P : Record → Type 0) (rs : List Record) (i : ℕ) (r : Record) → RiseBySlot rs → i < length rs → r ≡ get_or rs i r → All P (take i rs)
+-- what holds of all records before an index holds of each with a lower slot than the record there
+pub before_index : (P : Record → Type 0) (rs : List Record) (i : ℕ) (r : Record) → RiseBySlot rs → i < length rs → r ≡ get_or rs i r → All P (take i rs)
     → (q : Record) → Contains rs q → slot_number q.slot < slot_number r.slot → P q
-before_place P rs i r rising within at all q has lower = elim (cases_lt has.0 i) [
+before_index P rs i r rising within at all q has lower = elim (cases_lt has.0 i) [
   | inl before ↦
       let long = length-take-le i rs (omega (arith, within)) in
       All-contains P (take i rs) q all (has.0, omega (arith, long, before), get_or-take i rs has.0 q before ∙ has.2)

@@ -8,9 +8,9 @@ use Rattle.std.proofs.lemmas.List.Kept.{AllPairs-from_increasing}
 use Rattle.pci_spec.specs.Slot.{Slot, IsRising, slot_number}
 use Rattle.pci_spec.specs.Stops.{IsAboveLast}
 use Rattle.pci_spec.specs.Text.{Block, IsDump, slots_of}
-use Rattle.pci_spec.specs.System.{System, Function, system_of}
+use Rattle.pci_spec.specs.System.{System, Function, function_of, system_of}
 use Rattle.pci_spec.specs.Fault.{Fault, NoVendor, HeaderKind, BarType, BarMask, BarPair, RomMask, WindowMask, CapRange, CapLoop, CapCut, SlotsDiffer, StrayProbe, LoneFunction, PaletteSnoop, VgaEnable, IsaEnable, Subtractive, InReset, PowerState, BusRange, Orphan, Unreached, Clash, Split, IsIn, IsThere}
-use Rattle.pci_spec.proofs.Pairing.{function_of, same_length, slots-system_of, IsSystem-of_dumps, there-of_in, in-of_there}
+use Rattle.pci_spec.proofs.Pairing.{same_length, slots-system_of, IsSystem-of_dumps, there-of_in, in-of_there}
 use Rattle.pci_spec.specs.Order.{phase_of, IsFirstThere}
 use Rattle.pci_function.specs.Profile.{IsHere}
 use Rattle.pci_tree.specs.Survey.{Surveyed, earlier, IsSurveyOf, IsAdded, IsRefusedBy, IsOutlineOf}
@@ -87,7 +87,7 @@ open_more v w f added was = elim added.noted [
   | inr (e, first, same) ↦ subst (λ o. IfSome o (λ x. phase_of x ≢ 0)) (sym same) (earlier_open v.fault e was (here_is_of_a_function f e first.here))
 ]
 
--- ---- a survey of the blocks before a place
+-- ---- a survey of the blocks before an index
 
 pub record IsAdding (v : Surveyed) (roots : List ℕ) (dump probe : List Block) (i : ℕ) : Type 0 where
   pub is : IsSurveyOf v (system_of (take i dump) (take i probe))
@@ -103,7 +103,7 @@ adding_none v dump probe is last fault = record {
   above = λ k d from within. subst (λ (o : Option Slot). IsAboveLast o (get_or (slots_of dump) k d)) (sym last) (tt {0});
 }
 
--- the slot at a block's place
+-- the slot at a block's index
 pub slot_here : (dump : List Block) (i : ℕ) (b : Block) (d : Slot) → i < length dump → b ≡ get_or dump i b → get_or (slots_of dump) i d ≡ b.slot
 slot_here dump i b d within e = get_or-map (λ (x : Block). x.slot) dump i b d within ∙ ap (λ (x : Block). x.slot) (sym e)
 

@@ -68,7 +68,7 @@ push_two rs mid out r v w one two = record {
   );
 }
 
--- what lies before a place is below the range there
+-- what lies before an index is below the range there
 pub below_next : (rs : List Range) (i a : ℕ) (z : Range) → IsCanonical rs → i < length rs → Covers (take i rs) a → a + 1 < (get_or rs i z).first
 below_next rs i a z can within (k, r, inside, at, held) =
     let n : length (take i rs) ≡ i = length-take-le i rs (omega arith) in

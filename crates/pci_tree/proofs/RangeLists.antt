@@ -15,7 +15,7 @@ found_at rs a j r z inside at held =
     let f : (get_or rs j z).first ≡ r.first = ap (λ x. x.first) e in
     let l : (get_or rs j z).last ≡ r.last = ap (λ x. x.last) e in (omega arith, omega arith)
 
--- the range at a place covers what it holds
+-- the range at an index covers what it holds
 pub covers_at : (rs : List Range) (k a : ℕ) (z : Range) → k < length rs → Holds (get_or rs k z) a → Covers rs a
 covers_at rs k a z within h = (k, get_or rs k z, within, get_or_default rs k (get_or rs k z) z within, h)
 

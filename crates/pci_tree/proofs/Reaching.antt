@@ -13,7 +13,7 @@ use Rattle.pci_tree.specs.Passes.{record_passes}
 use Rattle.pci_tree.specs.Ranges.{Holds, Covers, IsCanonical}
 use Rattle.pci_tree.specs.Passing.{Passes, IsReach}
 use Rattle.pci_tree.specs.declared.forwarded.Forwarded.{Forwarded}
-use Rattle.pci_tree.specs.Ways.{Leads, IsForest, IsBridgeIn, bus_behind, IsPlaceAbove}
+use Rattle.pci_tree.specs.Ways.{Leads, IsForest, IsBridgeIn, bus_behind, IsBridgeAbove}
 use Rattle.pci_tree.specs.Reaches.{PassAll, GetsTo, IsReachOf, IsWhole, IsPassedOn, IsStep, StandsBelow}
 use Rattle.pci_tree.proofs.Passing.{covers_push, canonical_push}
 use Rattle.pci_tree.proofs.Ways.{way_ends, bridge_at}
@@ -138,9 +138,9 @@ one_of : (records : List Record) (k : ℕ) → k < length records → Record
 one_of [] k within = absurd (omega arith)
 one_of (r ∷ records) k within = r
 
-pub step_reach : (records : List Record) (roots : List ℕ) (kind : WindowKind) (bus : ℕ) (above : List (List Range)) (place : Option ℕ) (is_root : Bool)
-    (out : List Range) → IsForest records → IsPlaceAbove records bus place → (is_root ≡ true → Contains roots bus) → (is_root ≡ false → Contains roots bus → ⊥)
-    → ((k : ℕ) (e : List Range) → k < bus → IsReachOf records roots kind k (get_or above k e)) → IsStep above records place kind is_root out
+pub step_reach : (records : List Record) (roots : List ℕ) (kind : WindowKind) (bus : ℕ) (above : List (List Range)) (index : Option ℕ) (is_root : Bool)
+    (out : List Range) → IsForest records → IsBridgeAbove records bus index → (is_root ≡ true → Contains roots bus) → (is_root ≡ false → Contains roots bus → ⊥)
+    → ((k : ℕ) (e : List Range) → k < bus → IsReachOf records roots kind k (get_or above k e)) → IsStep above records index kind is_root out
     → IsReachOf records roots kind bus out
 step_reach records roots kind bus above None true out forest at is off so step = root_reach records roots kind bus out (is refl) step
 step_reach records roots kind bus above (Some k) true out forest at is off so step = root_reach records roots kind bus out (is refl) step
@@ -163,32 +163,32 @@ more_at P out new r n e size h here k d lt = elim (cases_lt k n) [
       subst (λ m. P m (get_or new m d)) same (subst (P n) (sym (ap (λ xs. get_or xs n d) e ∙ get_or_push out r d n size)) here))
 ]
 
--- the step to a bus that a bridge leads to, from what its place and its bus are read as
-pub step_of : (above : List (List Range)) (records : List Record) (k bus : ℕ) (bridge : Record) (parent ranges : List Range) (place : Option ℕ) (kind : WindowKind)
-    (is_root : Bool) (forwarded : Forwarded) (out : List Range) → place ≡ Some k → is_root ≡ false → k < length records → bridge ≡ get_or records k bridge
+-- the step to a bus that a bridge leads to, from what its index and its bus are read as
+pub step_of : (above : List (List Range)) (records : List Record) (k bus : ℕ) (bridge : Record) (parent ranges : List Range) (index : Option ℕ) (kind : WindowKind)
+    (is_root : Bool) (forwarded : Forwarded) (out : List Range) → index ≡ Some k → is_root ≡ false → k < length records → bridge ≡ get_or records k bridge
     → bus ≡ bridge.slot.bus → bus < length above → parent ≡ get_or above bus parent → ranges ≡ parent
     → ((a : ℕ) → Passes forwarded a ↔ IsTrue (record_passes kind a (record_value bridge))) → IsReach ranges forwarded out
-    → IsStep above records place kind is_root out
-step_of above records k bus bridge parent ranges place kind is_root forwarded out some off within here on low there lent exact step =
+    → IsStep above records index kind is_root out
+step_of above records k bus bridge parent ranges index kind is_root forwarded out some off within here on low there lent exact step =
     let got : IsPassedOn ranges kind (record_value bridge) out = passed_on_of ranges kind bridge forwarded out exact step in
     let each : IsStep above records (Some k) kind false out = λ d r. (
     let same : bridge ≡ get_or records k r = here ∙ get_or_default records k bridge r within in
     let at : ranges ≡ get_or above bridge.slot.bus d = lent ∙ there ∙ get_or_default above bus parent d low ∙ ap (λ n. get_or above n d) on in
     subst (λ (x : Record). IsPassedOn (get_or above x.slot.bus d) kind (record_value x) out) same
     (subst (λ xs. IsPassedOn xs kind (record_value bridge) out) at got)) in
-    subst (λ b. IsStep above records place kind b out) (sym off) (subst (λ o. IsStep above records o kind false out) (sym some) each)
+    subst (λ b. IsStep above records index kind b out) (sym off) (subst (λ o. IsStep above records o kind false out) (sym some) each)
 
--- the bus of the bridge at a place is lower
-pub stands_below : (records : List Record) (n k bus : ℕ) (bridge : Record) (place : Option ℕ) → place ≡ Some k → bridge ≡ get_or records k bridge → bus ≡ bridge.slot.bus
-    → IfSome place (StandsBelow records n)
+-- the bus of the bridge at an index is lower
+pub stands_below : (records : List Record) (n k bus : ℕ) (bridge : Record) (index : Option ℕ) → index ≡ Some k → bridge ≡ get_or records k bridge → bus ≡ bridge.slot.bus
+    → IfSome index (StandsBelow records n)
     → (k < length records) × (bus < n)
-stands_below records n k bus bridge place some here on lower =
+stands_below records n k bus bridge index some here on lower =
     let at : StandsBelow records n k = subst (λ o. IfSome o (StandsBelow records n)) some lower in
     let low : bridge.slot.bus < n = subst (λ (r : Record). r.slot.bus < n) (sym here) (at.1 bridge) in
     (at.0, omega arith)
 
 -- the bridge above a bus stands on a lower one
-pub above_below : (records : List Record) (bus n : ℕ) (place : Option ℕ) → IsForest records → n ≡ bus → IsPlaceAbove records bus place → IfSome place (StandsBelow records n)
+pub above_below : (records : List Record) (bus n : ℕ) (index : Option ℕ) → IsForest records → n ≡ bus → IsBridgeAbove records bus index → IfSome index (StandsBelow records n)
 above_below records bus n None forest e at = tt {0}
 above_below records bus n (Some k) forest e at = (
   at.within,

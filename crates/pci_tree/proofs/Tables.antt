@@ -6,21 +6,21 @@ use Rattle.std.proofs.lemmas.Bool.{cases_eq, false≢true}
 use Rattle.std.proofs.lemmas.List.{get_or_default, get_or-replicate, get_or-set_same, get_or-set_other}
 use Rattle.pci_function.specs.declared.record.Bridge.{Bridge}
 use Rattle.pci_function.specs.declared.record.Record.{Record}
-use Rattle.pci_tree.specs.Ways.{secondary_in, bus_behind, LeadsAt, IsPlaceAbove, IsBridgeToBus}
+use Rattle.pci_tree.specs.Ways.{secondary_in, bus_behind, LeadsAt, IsBridgeAbove, IsBridgeToBus}
 
--- the place of a bridge that leads to a bus, if one of those below a place does
-abbrev IsPlaceBelow : ℕ → List Record → ℕ → Option ℕ → Type 0
-IsPlaceBelow n records bus o = MatchOption o ((k : ℕ) → k < n → LeadsAt records bus k → ⊥) (λ k. LeadsAt records bus k)
+-- the index of a bridge that leads to a bus, if one below an index does
+abbrev IsBridgeBelow : ℕ → List Record → ℕ → Option ℕ → Type 0
+IsBridgeBelow n records bus o = MatchOption o ((k : ℕ) → k < n → LeadsAt records bus k → ⊥) (λ k. LeadsAt records bus k)
 
--- the table of the bridges below a place
+-- the table of the bridges below an index
 abbrev pub IsTableBelow : ℕ → List Record → List (Option ℕ) → Type 0
-IsTableBelow n records table = (bus : ℕ) → bus < 256 → IsPlaceBelow n records bus (get_or table bus None)
+IsTableBelow n records table = (bus : ℕ) → bus < 256 → IsBridgeBelow n records bus (get_or table bus None)
 
 pub table_none : (records : List Record) → IsTableBelow 0 records (replicate 256 None)
 table_none records bus small =
-    subst (λ o. IsPlaceBelow 0 records bus o) (sym (get_or-replicate 256 bus None None small)) (λ k lt leads. absurd (omega arith))
+    subst (λ o. IsBridgeBelow 0 records bus o) (sym (get_or-replicate 256 bus None None small)) (λ k lt leads. absurd (omega arith))
 
--- what is known of the record at a place, at each default
+-- what is known of the record at an index, at each default
 pub leads_at : (records : List Record) (bus k : ℕ) (r : Record) → k < length records → r ≡ get_or records k r → is_some r.bridge ≡ true → bus_behind r ≡ bus
     → LeadsAt records bus k
 leads_at records bus k r within at is there = record {
@@ -29,13 +29,13 @@ leads_at records bus k r within at is there = record {
   there = λ d. ap (λ (x : Record). bus_behind x) (get_or_default records k d r within ∙ sym at) ∙ there;
 }
 
-same_place : (records : List Record) (bus i k : ℕ) → i ≡ k → LeadsAt records bus k → LeadsAt records bus i
-same_place records bus i k e leads = subst (λ n. LeadsAt records bus n) (sym e) leads
+same_index : (records : List Record) (bus i k : ℕ) → i ≡ k → LeadsAt records bus k → LeadsAt records bus i
+same_index records bus i k e leads = subst (λ n. LeadsAt records bus n) (sym e) leads
 
--- a place whose record leads elsewhere changes nothing for a bus
-other_more : (n : ℕ) (records : List Record) (bus : ℕ) (o : Option ℕ) → (LeadsAt records bus n → ⊥) → IsPlaceBelow n records bus o → IsPlaceBelow (n + 1) records bus o
+-- an index whose record leads elsewhere changes nothing for a bus
+other_more : (n : ℕ) (records : List Record) (bus : ℕ) (o : Option ℕ) → (LeadsAt records bus n → ⊥) → IsBridgeBelow n records bus o → IsBridgeBelow (n + 1) records bus o
 other_more n records bus None off was = λ k lt leads. elim (cases_eq k n) [
-  | inl e ↦ off (same_place records bus n k (sym e) leads)
+  | inl e ↦ off (same_index records bus n k (sym e) leads)
   | inr ne ↦ was k (omega arith) leads
 ]
 other_more n records bus (Some k) off was = was
@@ -54,17 +54,17 @@ table_more n records r b table within at is size was bus small =
     elim (cases_eq bus b.secondary) [
       | inl e ↦ (let here : get_or (set table b.secondary (Some n)) bus None ≡ Some n =
           ap (λ k. get_or (set table b.secondary (Some n)) k None) e ∙ get_or-set_same table b.secondary (Some n) None (omega arith) in
-          subst (λ o. IsPlaceBelow (n + 1) records bus o) (sym here) (leads_at records bus n r within at (ap is_some is) (behind ∙ sym e)))
+          subst (λ o. IsBridgeBelow (n + 1) records bus o) (sym here) (leads_at records bus n r within at (ap is_some is) (behind ∙ sym e)))
       | inr ne ↦ (let there : get_or (set table b.secondary (Some n)) bus None ≡ get_or table bus None = get_or-set_other table b.secondary bus (Some n) None ne in
-          subst (λ o. IsPlaceBelow (n + 1) records bus o) (sym there)
+          subst (λ o. IsBridgeBelow (n + 1) records bus o) (sym there)
           (other_more n records bus (get_or table bus None)
           (λ leads. ne (sym (leads.there r) ∙ sym (ap (λ (x : Record). bus_behind x) at) ∙ behind)) (was bus small)))
     ]
 
-whole_place : (records : List Record) (bus : ℕ) (o : Option ℕ) → IsPlaceBelow (length records) records bus o → IsPlaceAbove records bus o
-whole_place records bus None was = λ b here there. (let (k, within, at) = here.has in was k within (leads_at records bus k b within (sym at) here.is there))
-whole_place records bus (Some k) was = was
+whole_index : (records : List Record) (bus : ℕ) (o : Option ℕ) → IsBridgeBelow (length records) records bus o → IsBridgeAbove records bus o
+whole_index records bus None was = λ b here there. (let (k, within, at) = here.has in was k within (leads_at records bus k b within (sym at) here.is there))
+whole_index records bus (Some k) was = was
 
 pub whole_table : (n : ℕ) (records : List Record) (table : List (Option ℕ)) → n ≡ length records → IsTableBelow n records table → IsBridgeToBus records table
 whole_table n records table e was bus small =
-    whole_place records bus (get_or table bus None) (subst (λ m. IsPlaceBelow m records bus (get_or table bus None)) e (was bus small))
+    whole_index records bus (get_or table bus None) (subst (λ m. IsBridgeBelow m records bus (get_or table bus None)) e (was bus small))

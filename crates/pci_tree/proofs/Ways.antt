@@ -6,9 +6,9 @@ use Rattle.std.proofs.lemmas.List.{reverse-append, append_assoc, append-nil, len
 use Rattle.std.proofs.lemmas.List.Elements.{Contains-get_or}
 use Rattle.pci_spec.specs.Slot.{Slot}
 use Rattle.pci_function.specs.declared.record.Record.{Record}
-use Rattle.pci_tree.specs.Ways.{bus_behind, IsBridgeIn, Leads, IsForest, AreClear, LeadsAt, IsPlaceAbove, slots_of, AreSlotsOfWay, IsUnled}
+use Rattle.pci_tree.specs.Ways.{bus_behind, IsBridgeIn, Leads, IsForest, AreClear, LeadsAt, IsBridgeAbove, slots_of, AreSlotsOfWay, IsUnled}
 
--- the record at a place is of a bridge
+-- the record at an index is of a bridge
 pub bridge_at : (records : List Record) (bus k : ℕ) (d : Record) → LeadsAt records bus k → IsBridgeIn records (get_or records k d) × (bus_behind (get_or records k d) ≡ bus)
 bridge_at records bus k d leads = (record { has = Contains-get_or records k d leads.within; is = leads.bridge d }, leads.there d)
 
@@ -109,12 +109,12 @@ at_root records roots at up bus clear starts so = record {
   };
 }
 
-pub no_place : (records : List Record) (at : ℕ) (o : Option ℕ) → o ≡ None → IsPlaceAbove records at o → (b : Record) → IsBridgeIn records b → bus_behind b ≡ at → ⊥
-no_place records at o e h = subst (λ p. IsPlaceAbove records at p) e h
+pub no_bridge : (records : List Record) (at : ℕ) (o : Option ℕ) → o ≡ None → IsBridgeAbove records at o → (b : Record) → IsBridgeIn records b → bus_behind b ≡ at → ⊥
+no_bridge records at o e h = subst (λ p. IsBridgeAbove records at p) e h
 
-pub no_place_off : (records : List Record) (at : ℕ) (o : Option ℕ) → is_some o ≡ false → IsPlaceAbove records at o → (b : Record) → IsBridgeIn records b → bus_behind b ≡ at → ⊥
-no_place_off records at None e h = h
-no_place_off records at (Some k) e h = absurd (let no : ⊥ = cc in no)
+pub no_bridge_off : (records : List Record) (at : ℕ) (o : Option ℕ) → is_some o ≡ false → IsBridgeAbove records at o → (b : Record) → IsBridgeIn records b → bus_behind b ≡ at → ⊥
+no_bridge_off records at None e h = h
+no_bridge_off records at (Some k) e h = absurd (let no : ⊥ = cc in no)
 
-pub some_place : (records : List Record) (at : ℕ) (o : Option ℕ) (k : ℕ) → o ≡ Some k → IsPlaceAbove records at o → LeadsAt records at k
-some_place records at o k e h = subst (λ p. IsPlaceAbove records at p) e h
+pub some_bridge : (records : List Record) (at : ℕ) (o : Option ℕ) (k : ℕ) → o ≡ Some k → IsBridgeAbove records at o → LeadsAt records at k
+some_bridge records at o k e h = subst (λ p. IsBridgeAbove records at p) e h

@@ -45,11 +45,11 @@ pub record IsPassedOn (above : List Range) (kind : WindowKind) (bridge : decoded
 
 -- what gets to a bus, by what gets to the lower buses
 abbrev pub IsStep : List (List Range) → List Record → Option ℕ → WindowKind → Bool → List Range → Type 0
-IsStep above records place kind true out = IsWhole (window_space kind) out
+IsStep above records index kind true out = IsWhole (window_space kind) out
 IsStep above records None kind false out = out ≡ []
 IsStep above records (Some k) kind false out =
     (d : List Range) (r : Record) → IsPassedOn (slice_index_or above (slice_index_or records k r).slot.bus d) kind (record_value (slice_index_or records k r)) out
 
--- the bridge at a place stands on a bus below a number
+-- the bridge at an index stands on a bus below a number
 abbrev pub StandsBelow : List Record → ℕ → ℕ → Type 0
 StandsBelow records n k = (k < length records) × HoldsAt (λ r. r.slot.bus < n) records k

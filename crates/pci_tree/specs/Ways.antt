@@ -37,19 +37,19 @@ pub record IsForest (records : List Record) : Type 0 where
 abbrev pub AreClear : List ℕ → List Record → Type 0
 AreClear roots records = (b : Record) → IsBridgeIn records b → Contains roots (bus_behind b) → ⊥
 
--- the record at a place is of a bridge that leads to the bus
+-- the record at an index is of a bridge that leads to the bus
 pub record LeadsAt (records : List Record) (bus k : ℕ) : Type 0 where
   pub within : k < length records
   pub bridge : HoldsAt (λ r. IsTrue (is_some r.bridge)) records k
   pub there : HoldsAt (λ r. bus_behind r ≡ bus) records k
 
--- the place of the bridge that leads to a bus, if one does
-abbrev pub IsPlaceAbove : List Record → ℕ → Option ℕ → Type 0
-IsPlaceAbove records bus o = MatchOption o ((b : Record) → IsBridgeIn records b → bus_behind b ≡ bus → ⊥) (λ k. LeadsAt records bus k)
+-- the index of the bridge that leads to a bus, if one does
+abbrev pub IsBridgeAbove : List Record → ℕ → Option ℕ → Type 0
+IsBridgeAbove records bus o = MatchOption o ((b : Record) → IsBridgeIn records b → bus_behind b ≡ bus → ⊥) (λ k. LeadsAt records bus k)
 
--- at each bus the place of the bridge that leads there
+-- at each bus the index of the bridge that leads there
 abbrev pub IsBridgeToBus : List Record → List (Option ℕ) → Type 0
-IsBridgeToBus records bridge_to_bus = (bus : ℕ) → bus < 256 → IsPlaceAbove records bus (slice_index_or bridge_to_bus bus None)
+IsBridgeToBus records bridge_to_bus = (bus : ℕ) → bus < 256 → IsBridgeAbove records bus (slice_index_or bridge_to_bus bus None)
 
 -- the one list of bridges that leads to a bus from a root
 pub record IsTheWay (records : List Record) (roots : List ℕ) (way : List Record) (to : ℕ) : Type 0 where

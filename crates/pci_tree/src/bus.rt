@@ -8,7 +8,7 @@ ghost use Rattle.pci_tree.specs.Outline.{RiseBySlot, IsBusPart};
 use pci_function::record::Record;
 use pci_image::slot::Slot;
 
-/// The place of the first record on this bus or a higher one.
+/// The index of the first record on this bus or a higher one.
 fn first_from(records: &[Record], bus: u16) -> usize
     requires rising { RiseBySlot records.now }
     requires slots { All (λ r. IsSlot r.slot) records.now }

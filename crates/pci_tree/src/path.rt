@@ -7,23 +7,23 @@ ghost use Rattle.pci_tree.specs.Ways.{IsForest, IsBridgeToBus, AreClear, AreSlot
 use super::roots::Roots;
 use arrayvec::ArrayVec;
 use pci_function::record::Record;
-use pci_image::slot::Slot;
+use pci_image::slot::{BUSES, Slot};
 
-/// At each bus the place of the bridge that leads there.
-pub fn bridge_to_bus(records: &[Record]) -> [Option<usize>; 256]
+/// At each bus the index of the bridge that leads there.
+pub fn bridge_to_bus(records: &[Record]) -> [Option<usize>; BUSES]
     ensures { IsBridgeToBus records.now result }
 {
-    let mut bridge_to_bus = [None; 256];
-    for (place, function) in records.iter().enumerate() {
+    let mut bridge_to_bus = [None; BUSES];
+    for (index, function) in records.iter().enumerate() {
         if let Some(bridge) = function.bridge {
-            bridge_to_bus[bridge.secondary as usize] = Some(place);
+            bridge_to_bus[bridge.secondary as usize] = Some(index);
         }
     }
     bridge_to_bus
 }
 
 /// Whether a bus is a root or a bridge leads to it.
-pub fn is_led_to(bridge_to_bus: &[Option<usize>; 256], roots: &Roots, bus: u8) -> bool
+pub fn is_led_to(bridge_to_bus: &[Option<usize>; BUSES], roots: &Roots, bus: u8) -> bool
     ensures { result ≡ false → (records : List RecordValue) → IsBridgeToBus records bridge_to_bus.now → IsUnled records (buses_of roots.now) bus }
 {
     roots.has(bus) || bridge_to_bus[bus as usize].is_some()
@@ -32,7 +32,7 @@ pub fn is_led_to(bridge_to_bus: &[Option<usize>; 256], roots: &Roots, bus: u8) -
 /// The bridges from a root to a bus, or None where none leads there from a root.
 pub fn path(
     records: &[Record],
-    bridge_to_bus: &[Option<usize>; 256],
+    bridge_to_bus: &[Option<usize>; BUSES],
     roots: &Roots,
     bus: u8,
 ) -> Option<ArrayVec<Slot, 255>>
@@ -44,11 +44,11 @@ pub fn path(
     let mut up = ArrayVec::new();
     let mut at = bus;
     while !roots.has(at) {
-        let place = match bridge_to_bus[at as usize] {
+        let index = match bridge_to_bus[at as usize] {
             None => return None,
-            Some(place) => place,
+            Some(index) => index,
         };
-        let slot = records[place].slot;
+        let slot = records[index].slot;
         up.push(slot);
         at = slot.bus();
     }

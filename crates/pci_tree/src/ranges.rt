@@ -18,8 +18,8 @@ pub fn meet(r: Range, s: Range) -> Option<Range>
     }
 }
 
-/// The place of the first range that doesn't end before the address.
-fn place(rs: &[Range], a: u64) -> usize
+/// The index of the first range that doesn't end before the address.
+fn first_not_before(rs: &[Range], a: u64) -> usize
     requires { IsCanonical rs.now }
     ensures bound { result ≤ length rs.now }
     ensures before { AllWithin (λ r. r.last < a) rs.now 0 result }
@@ -34,7 +34,7 @@ pub fn least_outside(r: Range, rs: &[Range]) -> Option<u64>
     requires canonical { IsCanonical rs.now }
     ensures { MatchOption result ((a : ℕ) → Holds r a → Covers rs.now a) (λ a. IsLeastOutside r rs.now a) }
 {
-    let k = place(rs, r.first);
+    let k = first_not_before(rs, r.first);
     if k == rs.len() {
         return Some(r.first);
     }
@@ -53,7 +53,7 @@ pub fn least_from(rs: &[Range], from: u64) -> Option<u64>
     requires { IsCanonical rs.now }
     ensures { MatchOption result ((a : ℕ) → from ≤ a → Covers rs.now a → ⊥) (λ a. IsLeastFrom rs.now from a) }
 {
-    let k = place(rs, from);
+    let k = first_not_before(rs, from);
     if k == rs.len() {
         return None;
     }

@@ -17,6 +17,7 @@ use pci_dump::memory::OutOfMemory;
 use pci_function::record::Record;
 use pci_function::space::Space;
 use pci_image::range::Range;
+use pci_image::slot::BUSES;
 use pci_image::window_kind::WindowKind;
 use std::alloc::{Allocator, Global};
 use std::marker::Model;
@@ -62,27 +63,27 @@ fn all_of<A: Allocator>(alloc: A, space: Space) -> Result<Vec<Range, A>, OutOfMe
     Ok(ranges)
 }
 
-/// The addresses that get to a bus, from those of the lower buses and the place of the bridge that leads there.
+/// The addresses that get to a bus, from those of the lower buses and the index of the bridge that leads there.
 fn reach_of_bus<A: Allocator>(
     alloc: A,
     above: &[Reach<A>],
     records: &[Record],
-    place: Option<usize>,
+    index: Option<usize>,
     kind: WindowKind,
     is_root: bool,
 ) -> Result<Vec<Range, A>, OutOfMemory>
-    requires lower { IfSome place (StandsBelow records.now (length above.now)) }
+    requires lower { IfSome index (StandsBelow records.now (length above.now)) }
     requires canonical { All IsCanonical above.now }
     requires spans { All HasSpans records.now }
-    ensures { IfOk result (λ v. IsStep above.now records.now place (kind_value kind) is_root v.items) }
+    ensures { IfOk result (λ v. IsStep above.now records.now index (kind_value kind) is_root v.items) }
 {
     if is_root {
         return all_of(alloc, Space::of(kind));
     }
-    match place {
+    match index {
         None => Ok(Vec::new(alloc)),
-        Some(place) => {
-            let bridge = &records[place];
+        Some(index) => {
+            let bridge = &records[index];
             let parent = &above[bridge.slot.bus() as usize];
             passed_on(alloc, parent.ranges(), forwarded(bridge, kind))
         }
@@ -93,7 +94,7 @@ fn reach_of_bus<A: Allocator>(
 pub fn reaches<A: Allocator + Copy>(
     alloc: A,
     records: &[Record],
-    bridge_to_bus: &[Option<usize>; 256],
+    bridge_to_bus: &[Option<usize>; BUSES],
     roots: &Roots,
     kind: WindowKind,
 ) -> Result<Vec<Reach<A>, A>, OutOfMemory>
@@ -104,7 +105,7 @@ pub fn reaches<A: Allocator + Copy>(
     ensures exact { IfOk result (λ v. (bus : ℕ) (d : List Range) → bus < 256 → IsReachOf records.now (buses_of roots.now) (kind_value kind) bus (slice_index_or v.items bus d)) }
 {
     let mut out = Vec::new(alloc);
-    for bus in 0..256usize {
+    for bus in 0..BUSES {
         let ranges = reach_of_bus(
             alloc,
             &out,

@@ -6,13 +6,13 @@ use Rattle.pci_spec.specs.Text.{Block, IsDump, slots_of}
 use Rattle.pci_spec.specs.Slot.{Slot}
 use Rattle.pci_spec.specs.Stops.{IsAboveLast, last_slot}
 use Rattle.pci_spec.specs.Window.{WindowKind}
-use Rattle.pci_spec.specs.System.{system_of}
+use Rattle.pci_spec.specs.System.{function_of, system_of}
 use Rattle.pci_spec.specs.Decoded as decoded
 use Rattle.pci_spec.specs.Decoded.{HasRecords}
 use Rattle.pci_spec.specs.Planning.Plannable.{IsPlannable}
 use Rattle.pci_spec.specs.Planning.Table.{IsTable}
 use Rattle.pci_spec.specs.Planning.Numbers.{IsPlannedFunction, place_at}
-use Rattle.pci_spec.proofs.Pairing.{function_of, same_length, length-system_of}
+use Rattle.pci_spec.proofs.Pairing.{same_length, length-system_of}
 use Rattle.pci_tree.specs.Admission.{IsAdmitted}
 use Rattle.pci_function.specs.Values.{record_value}
 use Rattle.pci_function.specs.declared.record.Record.{Record}
@@ -99,7 +99,7 @@ filled-image-requires g c =
     let at = here g start c.loop-i.i c.index-blocks-i.result c.index-records-i.result c.loop-i-test.true c.index-blocks-i.is c.index-records-i.is in
     filling_at a.roots a.dump a.probe (pools_value c.args.pools.now) c.args.needs.now c.args.places.now (plannable g start) (tables g start) c.requires.needs c.requires.places
     _ c.loop-i.i (function_of c.index-blocks-i.result (probe_block g start c.loop-i.i c.index-blocks-i.result c.index-records-i.result c.loop-i-test.true c.index-blocks-i.is c.index-records-i.is))
-    record { bars = []; rom = 0; io = 0; mem = 0; pref = 0 } at.0 at.1 (ap (λ (b : Block). b.image) c.block.view_is) refl refl
+    record { bars = []; rom = 0; windows = record { io = 0; memory = 0; prefetchable = 0 } } at.0 at.1 (ap (λ (b : Block). b.image) c.block.view_is) refl refl
 
 pub loop-i-preserved : goal.loop-i-preserved
 loop-i-preserved g c =
@@ -119,7 +119,7 @@ loop-i-preserved g c =
     let planned : P (function_of old p) record { slot = old.slot; image = c.filled-image.result.0; probe = p.image } =
     c.filled-image.ensures
     (filling_at a.roots a.dump a.probe pools c.args.needs.now c.args.places.now (plannable g start) (tables g start) c.requires.needs c.requires.places
-    _ i (function_of old p) record { bars = []; rom = 0; io = 0; mem = 0; pref = 0 } at.0 at.1 (ap (λ (b : Block). b.image) c.block.view_is) refl refl) in
+    _ i (function_of old p) record { bars = []; rom = 0; windows = record { io = 0; memory = 0; prefetchable = 0 } } at.0 at.1 (ap (λ (b : Block). b.image) c.block.view_is) refl refl) in
     let planned_block : P (function_of old p) (function_of new p) = subst (λ (s : Slot). P (function_of old p) record { slot = s; image = c.filled-image.result.0; probe = p.image }) (sym slot) planned in
     subst (λ (found : List Block). ArePlanned P a.dump a.probe (i + 1) found) (sym c.in_ok-push_next.ensures)
     (next_planned P a.dump a.probe (admitted_is g start).slots i c.loop-i.dump c.loop-i.invariant new old p less

@@ -4,7 +4,7 @@ use Rattle.std.proofs.lemmas.List.{take_all}
 use Rattle.std.proofs.lemmas.List.Elements.{All-more}
 use Rattle.pci_tree.specs.Roots.{buses_of}
 use Rattle.pci_tree.specs.BusNumbers.{IsInPlace}
-use Rattle.pci_tree.proofs.FirstPlaces.{before_place}
+use Rattle.pci_tree.proofs.FirstPlaces.{before_index}
 use Rattle.pci_tree.proofs.buses.first_place_fault.Goals as goal
 
 pub loop-function-preserved : goal.loop-function-preserved
@@ -18,7 +18,7 @@ returns-in-Some c = record {
   has = (c.loop-function.function-index, c.loop-function-test.true, sym c.function-item.is);
   is = c.in-Some.ensures;
   before =
-      before_place (IsInPlace (buses_of c.args.roots.now) c.args.records.now) c.args.records.now c.loop-function.function-index c.function-item.result c.requires.rising c.loop-function-test.true c.function-item.is
+      before_index (IsInPlace (buses_of c.args.roots.now) c.args.records.now) c.args.records.now c.loop-function.function-index c.function-item.result c.requires.rising c.loop-function-test.true c.function-item.is
       c.loop-function.invariant;
 }
 

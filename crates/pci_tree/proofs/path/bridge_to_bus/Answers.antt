@@ -4,24 +4,24 @@ use Rattle.pci_tree.proofs.Tables.{IsTableBelow, table_none, table_same, table_m
 use Rattle.pci_tree.proofs.path.bridge_to_bus.Goals as goal
 use Rattle.pci_tree.proofs.path.bridge_to_bus.Goals.{in-Some, in_default}
 
-pub loop-place-init : goal.loop-place-init
-loop-place-init c = record { size = search rules; filled = λ bus small. table_none c.args.records.now bus small }
+pub loop-index-init : goal.loop-index-init
+loop-index-init c = record { size = search rules; filled = λ bus small. table_none c.args.records.now bus small }
 
-pub loop-place-preserved : goal.loop-place-preserved
-loop-place-preserved c = elim c.match-function.branch [
+pub loop-index-preserved : goal.loop-index-preserved
+loop-index-preserved c = elim c.match-function.branch [
   | in-Some w ↦ record {
-    size = ap length w.bridge_to_bus-is ∙ length-set c.loop-place.bridge_to_bus _ _ ∙ c.loop-place.invariant.size;
-    filled = subst (λ t. IsTableBelow (c.loop-place.place + 1) c.args.records.now t) (sym w.bridge_to_bus-is)
-        (table_more c.loop-place.place c.args.records.now c.index-records-place.result w.in-Some.bridge c.loop-place.bridge_to_bus c.loop-place-test.true c.index-records-place.is w.in-Some.is
-        c.loop-place.invariant.size c.loop-place.invariant.filled);
+    size = ap length w.bridge_to_bus-is ∙ length-set c.loop-index.bridge_to_bus _ _ ∙ c.loop-index.invariant.size;
+    filled = subst (λ t. IsTableBelow (c.loop-index.index + 1) c.args.records.now t) (sym w.bridge_to_bus-is)
+        (table_more c.loop-index.index c.args.records.now c.index-records-index.result w.in-Some.bridge c.loop-index.bridge_to_bus c.loop-index-test.true c.index-records-index.is w.in-Some.is
+        c.loop-index.invariant.size c.loop-index.invariant.filled);
   }
   | in_default w ↦ record {
-    size = ap length w.bridge_to_bus-is ∙ c.loop-place.invariant.size;
-    filled = subst (λ t. IsTableBelow (c.loop-place.place + 1) c.args.records.now t) (sym w.bridge_to_bus-is)
-        (table_same c.loop-place.place c.args.records.now c.index-records-place.result c.loop-place.bridge_to_bus c.loop-place-test.true c.index-records-place.is w.in_default.is
-        c.loop-place.invariant.filled);
+    size = ap length w.bridge_to_bus-is ∙ c.loop-index.invariant.size;
+    filled = subst (λ t. IsTableBelow (c.loop-index.index + 1) c.args.records.now t) (sym w.bridge_to_bus-is)
+        (table_same c.loop-index.index c.args.records.now c.index-records-index.result c.loop-index.bridge_to_bus c.loop-index-test.true c.index-records-index.is w.in_default.is
+        c.loop-index.invariant.filled);
   }
 ]
 
 pub returns : goal.returns
-returns c = whole_table c.loop-place.place c.args.records.now c.loop-place.bridge_to_bus (omega arith) c.loop-place.invariant.filled
+returns c = whole_table c.loop-index.index c.args.records.now c.loop-index.bridge_to_bus (omega arith) c.loop-index.invariant.filled

@@ -4,7 +4,7 @@ use Rattle.std.proofs.lemmas.List.{take_at}
 use Rattle.pci_function.specs.declared.record.Record.{Record}
 use Rattle.pci_tree.specs.Roots.{buses_of}
 use Rattle.pci_tree.specs.Ways.{bus_behind, IsBridgeIn, LeadsAt, AreSlotsOfWay}
-use Rattle.pci_tree.proofs.Ways.{GoesUp, bridge_at, at_bus, up_more, none_above, at_root, no_place, some_place}
+use Rattle.pci_tree.proofs.Ways.{GoesUp, bridge_at, at_bus, up_more, none_above, at_root, no_bridge, some_bridge}
 use Rattle.pci_tree.proofs.path.path.Goals as goal
 
 pub loop-up-init : goal.loop-up-init
@@ -15,13 +15,13 @@ loop-up-init c =
 pub returns-in-None : goal.returns-in-None
 returns-in-None c =
     none_above _ _ _ _ _ (λ root. both_ways _ (search rules) (c.has.ensures.1 root))
-    (no_place c.args.records.now c.loop-up.at _ c.in-None.is (c.requires.bridge_to_bus c.loop-up.at (omega arith))) c.loop-up.invariant
+    (no_bridge c.args.records.now c.loop-up.at _ c.in-None.is (c.requires.bridge_to_bus c.loop-up.at (omega arith))) c.loop-up.invariant
 
 pub loop-up-preserved : goal.loop-up-preserved
 loop-up-preserved c =
-    let leads : LeadsAt c.args.records.now c.loop-up.at c.in-Some.place = some_place c.args.records.now c.loop-up.at _ c.in-Some.place c.in-Some.is (c.requires.bridge_to_bus c.loop-up.at (omega arith)) in
-    let b : Record = get_or c.args.records.now c.in-Some.place c.index-records-place.result in
-    let bridge : IsBridgeIn c.args.records.now b × (bus_behind b ≡ c.loop-up.at) = bridge_at c.args.records.now c.loop-up.at c.in-Some.place c.index-records-place.result leads in
+    let leads : LeadsAt c.args.records.now c.loop-up.at c.in-Some.index = some_bridge c.args.records.now c.loop-up.at _ c.in-Some.index c.in-Some.is (c.requires.bridge_to_bus c.loop-up.at (omega arith)) in
+    let b : Record = get_or c.args.records.now c.in-Some.index c.index-records-index.result in
+    let bridge : IsBridgeIn c.args.records.now b × (bus_behind b ≡ c.loop-up.at) = bridge_at c.args.records.now c.loop-up.at c.in-Some.index c.index-records-index.result leads in
     subst (λ n. GoesUp c.args.records.now (buses_of c.args.roots.now) n c.push.new.self.items c.args.bus) (sym c.bus-at.ensures)
     (up_more c.args.records.now (buses_of c.args.roots.now) b c.loop-up.at c.loop-up.up.items c.push.new.self.items c.args.bus c.requires.forest bridge.0 bridge.1
     (λ root. both_ways _ (search rules) (c.has.ensures.1 root)) c.push.ensures.items c.loop-up.invariant)

@@ -10,15 +10,15 @@ use Rattle.pci_machine.proofs.machine.Machine.pin.Goals as goal
 pub invariant_of-self : goal.invariant_of-self
 invariant_of-self g c =
     let found = c.in-Some.ensures.found in
-    IsMachine-pinned c.self.inside.functions.items c.args.slot c.in-Some.place found.0 c.index_mut-registers.result.now c.pin.new.self
-    c.args.off c.args.mask c.self.invariant (ap (λ xs. slice_get xs c.in-Some.place) c.self.view_is ∙ found.1)
+    IsMachine-pinned c.self.inside.functions.items c.args.slot c.in-Some.index found.0 c.index_mut-registers.result.now c.pin.new.self
+    c.args.off c.args.mask c.self.invariant (ap (λ xs. slice_get xs c.in-Some.index) c.self.view_is ∙ found.1)
     (ap (λ xs. target_at xs c.args.slot) c.self.view_is ∙ found.2) c.index_mut-registers.ensures.value c.pin.ensures
 
 pub returns-in-Some-clause-pinned : goal.returns-in-Some-clause-pinned
 returns-in-Some-clause-pinned g c =
     let found = c.in-Some.ensures.found in
-    machine-pinned c.self.inside.functions.items c.args.slot c.in-Some.place found.0 c.index_mut-registers.result.now c.pin.new.self
-    c.args.off c.args.mask c.self.invariant (ap (λ xs. slice_get xs c.in-Some.place) c.self.view_is ∙ found.1)
+    machine-pinned c.self.inside.functions.items c.args.slot c.in-Some.index found.0 c.index_mut-registers.result.now c.pin.new.self
+    c.args.off c.args.mask c.self.invariant (ap (λ xs. slice_get xs c.in-Some.index) c.self.view_is ∙ found.1)
     (ap (λ xs. target_at xs c.args.slot) c.self.view_is ∙ found.2) c.index_mut-registers.ensures.value c.pin.ensures
     ∙ ap (λ xs. pin_targets xs c.args.slot c.args.off c.args.mask) c.self.view_is
 

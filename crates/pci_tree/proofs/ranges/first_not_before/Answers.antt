@@ -2,7 +2,7 @@ use Rattle.std.proofs.Common.{rules, ltb}
 use Rattle.std.proofs.lemmas.Bool.{ltb-true, ltb-false}
 use Rattle.std.proofs.lemmas.List.Sorted.{IsPartitionPoint-from_clause}
 use Rattle.pci_tree.proofs.RangeLists.{parted}
-use Rattle.pci_tree.proofs.ranges.place.Goals as goal
+use Rattle.pci_tree.proofs.ranges.first_not_before.Goals as goal
 
 pub returns-clause-before : goal.returns-clause-before
 returns-clause-before c k d low high =
