@@ -1,5 +1,5 @@
 //! Sources and writers over memory.
-ghost use Rattle.std.specs.Prelude.{◌≡◌, ◌≤◌, Some, None};
+ghost use Rattle.std.specs.Prelude.{Some};
 
 use pci_dump::failures::Failures;
 use pci_dump::streams::{Failed, Source};

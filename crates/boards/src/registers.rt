@@ -1,6 +1,6 @@
 //! Functions made of registers, each with its value and its read back.
 
-use pci_image::image::Image;
+use pci_image::image::{IMAGE_LEN, Image};
 
 /// The image of a function and what its registers read back; all other bytes are 0.
 #[derive(Clone, Copy)]
@@ -12,8 +12,8 @@ pub struct Registers {
 /// Nothing but zeros.
 pub fn zeros() -> Registers {
     Registers {
-        image: Image([0; 256]),
-        probe: Image([0; 256]),
+        image: Image([0; IMAGE_LEN]),
+        probe: Image([0; IMAGE_LEN]),
     }
 }
 
@@ -63,7 +63,7 @@ impl Registers {
 }
 
 /// Puts bytes into an image, from an offset on.
-fn put(image: &mut [u8; 256], off: u8, bytes: &[u8]) {
+fn put(image: &mut [u8; IMAGE_LEN], off: u8, bytes: &[u8]) {
     for (place, byte) in image.iter_mut().skip(usize::from(off)).zip(bytes) {
         *place = *byte;
     }

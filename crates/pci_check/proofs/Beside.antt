@@ -6,7 +6,7 @@ use Rattle.std.proofs.lemmas.List.{length-append}
 use Rattle.std.proofs.lemmas.List.Elements.{All-nil}
 use Rattle.pci_spec.specs.Slot.{Slot}
 use Rattle.pci_spec.specs.Text.{Block, IsBlock, slots_of}
-use Rattle.pci_spec.specs.System.{System, system_of}
+use Rattle.pci_spec.specs.System.{System, function_of, system_of}
 use Rattle.pci_spec.specs.Fault.{SlotsDiffer}
 use Rattle.pci_dump.specs.declared.read_fault.ReadFault.{ReadFault}
 use Rattle.pci_dump.specs.declared.ahead.Progress.{Progress}
@@ -20,7 +20,7 @@ use Rattle.pci_tree.proofs.Surveys.{map_last, survey_more}
 use Rattle.pci_spec.proofs.Pairing.{same_length}
 use Rattle.pci_tree.proofs.Pairings.{open_more}
 use Rattle.pci_check.specs.Audits.{IsDumpOf, IsReadFaultOf}
-use Rattle.pci_check.specs.SideBySide.{Texts, IsTaken, IsRest, IsOpen, IsSurveyOfBoth, IsSurveyOfTexts, IsBeside, IsDecided, IsBesideOrDecided, IsTakenBySurvey, function_of}
+use Rattle.pci_check.specs.SideBySide.{Texts, IsTaken, IsRest, IsOpen, IsSurveyOfBoth, IsSurveyOfTexts, IsBeside, IsDecided, IsBesideOrDecided, IsTakenBySurvey}
 
 -- ---- one text
 

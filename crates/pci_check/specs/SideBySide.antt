@@ -2,7 +2,7 @@
 use Rattle.std.specs.Prelude.{◌≡◌, ◌≢◌, ◌⊎◌, ℕ, List, [], ◌++◌, Option, Some, IfSome, Bool, true, false, ◌<◌}
 use Rattle.pci_spec.specs.Slot.{Slot, slot_number}
 use Rattle.pci_spec.specs.Text.{Block, IsDump, slots_of}
-use Rattle.pci_spec.specs.System.{Function, system_of}
+use Rattle.pci_spec.specs.System.{function_of, system_of}
 use Rattle.pci_spec.specs.Fault.{SlotsDiffer, IsInOne}
 use Rattle.pci_dump.specs.declared.read_fault.ReadFault.{ReadFault}
 use Rattle.pci_dump.specs.declared.ahead.Progress.TheVariants as stages
@@ -11,10 +11,6 @@ use Rattle.pci_function.specs.Pair.{IsNoneBelow}
 use Rattle.pci_spec.specs.Order.{phase_of}
 use Rattle.pci_tree.specs.Survey.{Surveyed, IsSurveyOf, IsAdded}
 use Rattle.pci_check.specs.Audits.{IsDumpOf, IsReadFaultOf}
-
--- the function of two blocks
-abbrev pub function_of : Block → Block → Function
-function_of b p = record { slot = b.slot; image = b.image; probe = p.image }
 
 -- two texts before they were read: what their sources had left, and how often each had failed
 pub record Texts : Type 0 where

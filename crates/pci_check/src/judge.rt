@@ -5,12 +5,13 @@ ghost use Rattle.pci_check.specs.Clashes.{NoneClash};
 ghost use Rattle.pci_check.specs.Judgement.{AreHome, IsFirstInEach, IsJudgement};
 
 use super::clash::first_clash;
-use super::reached::{BUSES, Reached};
+use super::reached::Reached;
 use super::split::first_split;
 use super::unreached::first_unreached;
 use pci_dump::memory::OutOfMemory;
 use pci_function::fault::Fault;
 use pci_function::space::Space;
+use pci_image::slot::BUSES;
 use pci_tree::outline::Outline;
 use std::alloc::Allocator;
 

@@ -13,9 +13,6 @@ use pci_tree::reach::Reach;
 use std::alloc::{Allocator, Global};
 use std::marker::Model;
 
-/// Bus numbers have 8 bits.
-pub const BUSES: u16 = 256;
-
 /// For each bus the addresses that get there.
 #[derive(Drop)]
 pub struct Reached<A: Allocator = Global> {

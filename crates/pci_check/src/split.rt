@@ -4,11 +4,11 @@ ghost use Rattle.pci_tree.specs.Roots.{buses_of};
 ghost use Rattle.pci_function.specs.Space.{space_of};
 ghost use Rattle.pci_check.specs.Clashes.{AreRootsListed, NoneSplitIn, IsSplitFaultIn, NoneSplit, IsSplitFault};
 
-use super::reached::BUSES;
 use super::sweep::{Overlap, first_overlap};
 use pci_dump::memory::OutOfMemory;
 use pci_function::fault::Fault;
 use pci_function::space::Space;
+use pci_image::slot::BUSES;
 use pci_tree::outline::Outline;
 use pci_tree::region::Region;
 use pci_tree::roots::Roots;

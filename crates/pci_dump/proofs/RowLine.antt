@@ -9,7 +9,7 @@ use Rattle.pci_spec.specs.Number.{each_from}
 use Rattle.pci_spec.specs.Text.{hex_digit}
 use Rattle.pci_spec.specs.Form.{row_text}
 use Rattle.pci_spec.proofs.Bits.{each_from-at}
-use Rattle.pci_dump.specs.declared.block_text.TheConstants.{ROW_OF_ZEROS}
+use Rattle.pci_dump.specs.declared.row.TheConstants.{ROW_OF_ZEROS}
 use Rattle.pci_dump.specs.Value.{AreSmall}
 use Rattle.pci_dump.proofs.Values.{read_row}
 

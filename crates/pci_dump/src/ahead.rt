@@ -3,6 +3,8 @@ ghost use Rattle.std.specs.Prelude.{◌≡◌, ◌≢◌, ◌<◌, ◌≤◌, �
 ghost use Rattle.pci_dump.specs.FaultAt.{fault_at};
 
 use super::block::Block;
+use super::block_text::BLOCK_MAX;
+use super::dump::BLOCKS_MAX;
 use super::parse::{BlockFault, block_into};
 use super::read_fault::ReadFault;
 use super::streams::{Failed, Source};
@@ -20,11 +22,11 @@ pub enum Progress {
     Failed(ReadFault),
 }
 
-/// The most bytes of a block: 841, a space and a title of 200.
-const BLOCK_MAX: usize = 1042;
+/// How many bytes are held at most.
+const BUFFER_LEN: usize = 8192;
 
 /// The most blocks of a text.
-const COUNT_MAX: u64 = 4096;
+const COUNT_MAX: u64 = BLOCKS_MAX as u64;
 
 /// The line after so many blocks of eighteen lines.
 const LINE_AFTER_ALL: u64 = 18 * COUNT_MAX + 1;
@@ -33,7 +35,7 @@ const LINE_AFTER_ALL: u64 = 18 * COUNT_MAX + 1;
 /// read. Whoever has one keeps it with one source.
 #[derive(Drop)]
 pub struct ReadAhead {
-    buf: [u8; 8192],
+    buf: [u8; BUFFER_LEN],
     at: usize,
     end: usize,
     drained: bool,
@@ -73,7 +75,7 @@ impl ReadAhead {
         ensures { result ≡ record { held = []; drained = false; count = 0; last = None; progress = Progress.Open } }
     {
         ReadAhead {
-            buf: [0; 8192],
+            buf: [0; BUFFER_LEN],
             at: 0,
             end: 0,
             drained: false,
@@ -161,10 +163,7 @@ impl ReadAhead {
         self.at = 0;
         self.end = held;
         self.drained = false;
-        let read = match source.read(&mut self.buf[held..]) {
-            Err(failed) => return Err(failed),
-            Ok(read) => read,
-        };
+        let read = source.read(&mut self.buf[held..])?;
         self.end = held + read;
         self.drained = read == 0;
         Ok(())
@@ -240,7 +239,7 @@ impl ReadAhead {
 }
 
 /// Moves the bytes from `at` up to `end` to the front.
-fn shift(buf: &mut [u8; 8192], at: usize, end: usize)
+fn shift(buf: &mut [u8; BUFFER_LEN], at: usize, end: usize)
     requires order { at ≤ end }
     requires within { end ≤ 8192 }
     ensures { slice_range buf.new 0 (end - at) ≡ slice_range buf.old at end }

@@ -5,14 +5,17 @@ ghost use Rattle.pci_spec.specs.Stops.{IsAboveLast};
 ghost use Rattle.pci_spec.specs.Number.{IsImage};
 
 use arrayvec::ArrayVec;
-use pci_image::image::Image;
+use pci_image::image::{IMAGE_LEN, Image};
 use pci_image::slot::Slot;
 use std::marker::Model;
+
+/// The most bytes of a title.
+pub(crate) const TITLE_MAX: usize = 200;
 
 /// A title of 1 to 200 bytes, each printable ASCII (20h to 7Eh) or above ASCII (80h to FFh).
 #[derive(Debug, Drop, PartialEq, Eq)]
 pub struct Title {
-    bytes: ArrayVec<u8, 200>,
+    bytes: ArrayVec<u8, TITLE_MAX>,
 }
 
 impl Model for Title {
@@ -111,7 +114,7 @@ impl Block {
         Block {
             slot: Slot::default(),
             title: None,
-            image: Image([0; 256]),
+            image: Image([0; IMAGE_LEN]),
         }
     }
 
@@ -154,7 +157,7 @@ impl Block {
 }
 
 /// The bytes of an image.
-fn image_bytes(image: &[u8; 256]) -> &[u8]
+fn image_bytes(image: &[u8; IMAGE_LEN]) -> &[u8]
     ensures { IsImage image.entry.now }
 {
     image.as_slice()

@@ -4,17 +4,23 @@ ghost use Rattle.arrayvec.specs.ArrayVec.{array_vec_len};
 ghost use Rattle.pci_spec.specs.Text.{hex_digit, hex_byte, slot_text, title_text, byte_line, block_text};
 ghost use Rattle.pci_spec.specs.Form.{row_text};
 
-use super::block::{Block, Title};
+use super::block::{Block, TITLE_MAX, Title};
 use super::digit::digit_of;
+use super::parse::{LINES_LEN, SLOT_LEN};
+use super::row::{ROW_LEN, ROW_OF_ZEROS};
 use arrayvec::ArrayVec;
+use pci_image::image::IMAGE_LEN;
 use pci_image::slot::Slot;
 
-/// Room for the text of a block: at most 841 bytes, a space and a title of 200.
-pub(crate) type Text = ArrayVec<u8, 1042>;
+/// The most bytes of a block's text: 841, a space and a title of 200.
+pub(crate) const BLOCK_MAX: usize = SLOT_LEN + 1 + TITLE_MAX + 1 + LINES_LEN;
+
+/// Room for the text of a block.
+pub(crate) type Text = ArrayVec<u8, BLOCK_MAX>;
 
 /// Two hex digits.
 fn put_byte(text: &mut Text, byte: u8)
-    requires { array_vec_len text.old + 2 ≤ 1042 }
+    requires { array_vec_len text.old + 2 ≤ BLOCK_MAX }
     ensures text { text.new.items ≡ text.old.items ++ hex_byte byte }
     ensures len { array_vec_len text.new ≡ array_vec_len text.old + 2 }
 {
@@ -24,21 +30,20 @@ fn put_byte(text: &mut Text, byte: u8)
 
 /// `bb:dd.f`
 fn put_slot(text: &mut Text, slot: Slot)
-    requires { array_vec_len text.old + 7 ≤ 1042 }
+    requires { array_vec_len text.old + 7 ≤ BLOCK_MAX }
     ensures text { text.new.items ≡ text.old.items ++ slot_text slot }
     ensures len { array_vec_len text.new ≡ array_vec_len text.old + 7 }
 {
-    let function = (slot.number() % 8) as u8;
     put_byte(text, slot.bus());
     text.push(b':');
     put_byte(text, slot.dev());
     text.push(b'.');
-    text.push(digit_of(function));
+    text.push(digit_of(slot.fun()));
 }
 
 /// Bytes as they are.
 fn put_bytes(text: &mut Text, bytes: &[u8])
-    requires { array_vec_len text.old + length bytes.now ≤ 1042 }
+    requires { array_vec_len text.old + length bytes.now ≤ BLOCK_MAX }
     ensures text { text.new.items ≡ text.old.items ++ bytes.now }
     ensures len { array_vec_len text.new ≡ array_vec_len text.old + length bytes.now }
 {
@@ -47,7 +52,7 @@ fn put_bytes(text: &mut Text, bytes: &[u8])
 
 /// A space and a title, where there is one.
 fn put_title(text: &mut Text, title: &Option<Title>)
-    requires { array_vec_len text.old + 201 ≤ 1042 }
+    requires { array_vec_len text.old + 201 ≤ BLOCK_MAX }
     ensures text { text.new.items ≡ text.old.items ++ title_text title.now }
     ensures len { array_vec_len text.new ≤ array_vec_len text.old + 201 }
 {
@@ -56,9 +61,6 @@ fn put_title(text: &mut Text, title: &Option<Title>)
         put_bytes(text, title.bytes());
     }
 }
-
-/// A row's line where all its bytes are 0, but for the first digit of its offset.
-const ROW_OF_ZEROS: [u8; 52] = *b"00: 00 00 00 00 00 00 00 00 00 00 00 00 00 00 00 00\n";
 
 /// Whether all bytes are 0.
 fn are_zero(bytes: &[u8]) -> bool
@@ -72,7 +74,7 @@ fn are_zero(bytes: &[u8]) -> bool
 }
 
 /// Puts a byte's two digits at a place of a line.
-fn set_digits(line: &mut [u8; 52], at: usize, byte: u8)
+fn set_digits(line: &mut [u8; ROW_LEN], at: usize, byte: u8)
     requires { at < 51 }
     ensures high { slice_index line.new at ≡ hex_digit (byte / 16) }
     ensures low { slice_index line.new (at + 1) ≡ hex_digit (byte % 16) }
@@ -83,7 +85,7 @@ fn set_digits(line: &mut [u8; 52], at: usize, byte: u8)
 }
 
 /// The line of a row: its offset, sixteen values and the line's end.
-fn row_line(values: &[u8], row: u8) -> [u8; 52]
+fn row_line(values: &[u8], row: u8) -> [u8; ROW_LEN]
     requires whole { length values.now ≡ 16 }
     requires within { row < 16 }
     ensures { result ≡ row_text row values.now }
@@ -98,21 +100,21 @@ fn row_line(values: &[u8], row: u8) -> [u8; 52]
 
 /// The line of a row whose bytes are all 0.
 fn put_zeros(text: &mut Text, row: u8)
-    requires room { array_vec_len text.old + 52 ≤ 1042 }
+    requires room { array_vec_len text.old + ROW_LEN ≤ BLOCK_MAX }
     requires row { row < 16 }
     ensures text { text.new.items ≡ text.old.items ++ row_text row (replicate 16 0) }
-    ensures len { array_vec_len text.new ≡ array_vec_len text.old + 52 }
+    ensures len { array_vec_len text.new ≡ array_vec_len text.old + ROW_LEN }
 {
     text.push(digit_of(row));
     put_bytes(text, &ROW_OF_ZEROS[1..]);
 }
 
 /// The line of a row of an image.
-fn put_row(text: &mut Text, image: &[u8; 256], row: u8)
-    requires room { array_vec_len text.old + 52 ≤ 1042 }
+fn put_row(text: &mut Text, image: &[u8; IMAGE_LEN], row: u8)
+    requires room { array_vec_len text.old + ROW_LEN ≤ BLOCK_MAX }
     requires row { row < 16 }
     ensures text { text.new.items ≡ text.old.items ++ byte_line image.now row }
-    ensures len { array_vec_len text.new ≡ array_vec_len text.old + 52 }
+    ensures len { array_vec_len text.new ≡ array_vec_len text.old + ROW_LEN }
 {
     let at = usize::from(row) * 16;
     let values = &image[at..at + 16];

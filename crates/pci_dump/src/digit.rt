@@ -39,7 +39,7 @@ pub fn digit_value(byte: u8) -> Option<u8>
 static HEX: [u8; 16] = *b"0123456789abcdef";
 
 /// The hex digit of a number below 16.
-pub(crate) fn digit_of(number: u8) -> u8
+pub fn digit_of(number: u8) -> u8
     requires { number < 16 }
     ensures { result ≡ hex_digit number }
 {

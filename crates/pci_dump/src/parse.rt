@@ -1,20 +1,20 @@
 //! A block at the front of some bytes.
-ghost use Rattle.std.specs.Prelude.{◌≡◌, ◌<◌, ◌≤◌, length, ◌≢◌, [], IfOk, IfErr, IsTrue, ◌↔◌};
-ghost use Rattle.pci_spec.specs.Stops.{IsAboveLast};
+ghost use Rattle.std.specs.Prelude.{◌≡◌, ◌<◌, ◌≤◌, length, ◌≢◌, [], IfOk, IfErr};
 ghost use Rattle.pci_dump.specs.BlockFault.{BlockStops, TitleStops, SlotStops, IsBlockAt, IsHead, head_long, title_at};
 ghost use Rattle.pci_dump.specs.TitleRun.{IsTitleFront};
 
-use super::block::{Block, Title, is_title};
+use super::block::{Block, TITLE_MAX, Title, is_title};
 use super::lanes::title_run;
+use super::row::ROW_LEN;
 use super::rows::image_into;
 use super::slot_text::slot_of;
 use pci_image::slot::Slot;
 
 /// How many bytes `bb:dd.f` has.
-const SLOT_LEN: usize = 7;
+pub(crate) const SLOT_LEN: usize = 7;
 
-/// How many bytes follow the slot line: sixteen lines of 52 and the empty line.
-const LINES_LEN: usize = 833;
+/// How many bytes follow the slot line: sixteen rows and the empty line.
+pub(crate) const LINES_LEN: usize = 16 * ROW_LEN + 1;
 
 /// Where a block stops.
 #[derive(Clone, Copy, Debug, PartialEq, Eq)]
@@ -41,22 +41,22 @@ fn title_len(bytes: &[u8]) -> usize
     for part in 0..13 {
         let run = title_run(bytes, 16 * part);
         if run < 16 {
-            return usize::min(16 * part + run, 200);
+            return usize::min(16 * part + run, TITLE_MAX);
         }
     }
-    200
+    TITLE_MAX
 }
 
 /// The same near the input's end.
 fn last_title_len(bytes: &[u8]) -> usize
     ensures { IsTitleFront bytes.now result }
 {
-    for i in 0..200 {
+    for i in 0..TITLE_MAX {
         if i == bytes.len() || !is_title(bytes[i]) {
             return i;
         }
     }
-    200
+    TITLE_MAX
 }
 
 /// What a slot that the input ends in stops at.
@@ -117,16 +117,10 @@ pub(crate) fn block_into(
     if !slot.may_follow(last) {
         return Err(BlockFault::Order);
     }
-    let title_len = match title_in(after) {
-        Err(stop) => return Err(stop),
-        Ok(title_len) => title_len,
-    };
+    let title_len = title_in(after)?;
     let head = head_len(title_len);
     let (_line, rest) = after.split_at(head);
-    match image_into(rest, &mut block.image.0) {
-        Err(stop) => return Err(stop),
-        Ok(()) => {}
-    }
+    image_into(rest, &mut block.image.0)?;
     block.slot = slot;
     title_into(after, title_len, &mut block.title);
     Ok(SLOT_LEN + head + LINES_LEN)

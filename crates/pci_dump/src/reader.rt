@@ -94,10 +94,9 @@ pub fn read_dump<S: Source, A: Allocator>(alloc: A, source: &mut S) -> Result<Du
     let mut dump = Dump::empty(alloc);
     loop {
         let mut block = Block::blank();
-        match ahead.next_into(source, &mut block) {
-            Err(fault) => return Err(fault),
-            Ok(false) => return Ok(dump),
-            Ok(true) => {}
+        let taken = ahead.next_into(source, &mut block)?;
+        if !taken {
+            return Ok(dump);
         }
         match dump.append(block) {
             Ok(()) => {}

@@ -8,6 +8,13 @@ use super::digit::digit_of;
 use super::lanes::{are_digits, are_spaces, bytes_of, numbers_of};
 use std::simd::prelude::*;
 
+/// How many bytes the line of a row has: its offset, sixteen bytes, and its end.
+pub(crate) const ROW_LEN: usize = 52;
+
+/// A row's line where all its bytes are 0, but for the first digit of its offset.
+pub(crate) const ROW_OF_ZEROS: [u8; ROW_LEN] =
+    *b"00: 00 00 00 00 00 00 00 00 00 00 00 00 00 00 00 00\n";
+
 /// A line's cells where all values are 0.
 static ZEROS: [u8; 48] = *b" 00 00 00 00 00 00 00 00 00 00 00 00 00 00 00 00";
 

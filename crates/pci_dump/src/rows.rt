@@ -7,11 +7,12 @@ ghost use Rattle.pci_dump.specs.BlockFault.{RowStops, RestStops};
 
 use super::digit::digit_of;
 use super::parse::BlockFault;
-use super::row::row_into;
+use super::row::{ROW_LEN, ROW_OF_ZEROS, row_into};
+use pci_image::image::IMAGE_LEN;
 
 /// The line of a row goes into its sixteen places of an image. False where that isn't such a line.
 #[inline(always)]
-fn read_row(line: &[u8], row: u8, image: &mut [u8; 256]) -> bool
+fn read_row(line: &[u8], row: u8, image: &mut [u8; IMAGE_LEN]) -> bool
     requires line { length line.now ≡ 52 }
     requires row { row < 16 }
     ensures yes { IsTrue result → IsRowRead row line.now image.old image.new }
@@ -27,7 +28,7 @@ fn part_of_row(part: &[u8], row: u8) -> BlockFault
     requires within { row < 16 }
     ensures { RowStops row part.now result }
 {
-    let mut line = *b"00: 00 00 00 00 00 00 00 00 00 00 00 00 00 00 00 00\n";
+    let mut line = ROW_OF_ZEROS;
     line[0] = digit_of(row);
     line[..part.len()].copy_from_slice(part);
     let mut values = [0u8; 16];
@@ -39,17 +40,17 @@ fn part_of_row(part: &[u8], row: u8) -> BlockFault
 }
 
 /// The sixteen lines of bytes and the empty line. At a stop the image may hold some of them.
-pub(crate) fn image_into(bytes: &[u8], image: &mut [u8; 256]) -> Result<(), BlockFault>
+pub(crate) fn image_into(bytes: &[u8], image: &mut [u8; IMAGE_LEN]) -> Result<(), BlockFault>
     ensures ok { OnOk result (bytes.now ≡ (rows_text 0 16 image.new ++ 10 ∷ []) ++ drop 833 bytes.now) }
     ensures image { OnOk result ((length image.new ≡ 256) × AreSmall image.new) }
     ensures err { IfErr result (λ stop. RestStops bytes.now stop) }
 {
     let mut rest = bytes;
     for row in 0..16u8 {
-        if rest.len() < 52 {
+        if rest.len() < ROW_LEN {
             return Err(part_of_row(rest, row));
         }
-        let (line, next) = rest.split_at(52);
+        let (line, next) = rest.split_at(ROW_LEN);
         if !read_row(line, row, image) {
             return Err(BlockFault::BadLine(row));
         }

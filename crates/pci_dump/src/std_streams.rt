@@ -1,5 +1,5 @@
 //! Sources and sinks of std's readers and writers.
-ghost use Rattle.std.specs.Prelude.{◌≡◌, ◌≤◌, ◌<◌, ◌+◌, ℕ, List, length, Some, None, IfOk, MatchResult};
+ghost use Rattle.std.specs.Prelude.{◌≡◌, ◌<◌};
 
 use super::failures::Failures;
 use super::streams::{Failed, Sink, Source};

@@ -6,7 +6,7 @@ use Rattle.pci_spec.specs.Slot.{Slot}
 use Rattle.pci_spec.specs.Header.{command, layout, primary_bus, secondary_bus, subordinate_bus}
 use Rattle.pci_spec.specs.Window.{WindowKind, IoWindow, MemoryWindow, PrefetchWindow, breaks_window_rule}
 use Rattle.pci_spec.specs.System.{Function}
-use Rattle.pci_spec.specs.Decoded.{IsDecodable, record_of, bridge_of, decoded_bar, decoded_bars, decoded_rom, DecodedBar, decoded_windows, window_range, optional_window, aligned_range, rom_size}
+use Rattle.pci_spec.specs.Decoded.{record_of, bridge_of, decoded_bar, decoded_bars, decoded_rom, DecodedBar, decoded_windows}
 use Rattle.pci_spec.specs.Decoded as decoded
 use Rattle.pci_image.specs.Bars.{decoded_bar_of}
 use Rattle.pci_image.specs.Roms.{decoded_rom_of}

@@ -5,12 +5,12 @@ use Rattle.std.proofs.lemmas.Bool.{both_ways}
 use Rattle.std.proofs.lemmas.List.Elements.{All-contains}
 use Rattle.pci_spec.specs.Slot.{Slot, IsSlot}
 use Rattle.pci_spec.specs.Text.{Block, IsBlock, IsDump, slots_of}
-use Rattle.pci_spec.specs.System.{IsSystem, system_of}
+use Rattle.pci_spec.specs.System.{IsSystem, function_of, system_of}
 use Rattle.pci_spec.specs.Fault.{Fault, SlotsDiffer, IsInOne, IsThere}
 use Rattle.pci_spec.specs.Order.{phase_of, is_before, image_at, IsFirstThere}
 use Rattle.pci_spec.proofs.Looking.{key_cases, phase_le}
 use Rattle.pci_spec.proofs.Members.{IsMade, in_map_to}
-use Rattle.pci_spec.proofs.Pairing.{function_of, same_length, length-system_of, IsSystem-of_dumps, there-of_in, in-of_there}
+use Rattle.pci_spec.proofs.Pairing.{same_length, length-system_of, IsSystem-of_dumps, there-of_in, in-of_there}
 use Rattle.pci_function.specs.Profile.{IsAnswering, IsHereIn, IsFirstOf}
 use Rattle.pci_function.specs.Pair.{IsNoneBelow}
 use Rattle.pci_function.proofs.FirstIn.{here_in, here_not_clear, lower_is_taken, none_before}

@@ -8,8 +8,8 @@ use Rattle.std.proofs.lemmas.List.Elements.{All-contains, All-more}
 use Rattle.pci_spec.specs.Slot.{Slot, IsSlot, IsRising, slot_number}
 use Rattle.pci_spec.specs.Text.{Block, slots_of}
 use Rattle.pci_spec.specs.Fault.{IsInOne}
-use Rattle.pci_spec.specs.System.{Function, system_of}
-use Rattle.pci_spec.proofs.Pairing.{function_of, function-at, same_length, length-system_of}
+use Rattle.pci_spec.specs.System.{Function, function_of, system_of}
+use Rattle.pci_spec.proofs.Pairing.{function-at, same_length, length-system_of}
 use Rattle.pci_function.specs.Profile.{IsAnswering}
 use Rattle.pci_function.specs.Pair.{IsNoneBelow, IsPair}
 

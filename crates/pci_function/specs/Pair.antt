@@ -1,13 +1,8 @@
 -- What a dump and its probe must be, before their registers are decoded.
-use Rattle.std.specs.Prelude.{◌≡◌, ℕ, ◌<◌, ◌==◌, nat_lt, Bool, ◌&&◌, not, List}
-use Rattle.pci_spec.specs.Number.{byte_at}
+use Rattle.std.specs.Prelude.{◌≡◌, ℕ, ◌<◌, List}
 use Rattle.pci_spec.specs.Slot.{Slot, slot_number}
 use Rattle.pci_spec.specs.Text.{Block, slots_of}
-use Rattle.pci_spec.specs.Fault.{NoVendor, HeaderKind, SlotsDiffer, StrayProbe, IsInOne, IsThere, is_in_address_register}
-
--- whether a probe of a header with this layout has a byte where there is no address register
-abbrev pub stray_at : ℕ → List ℕ → ℕ → Bool
-stray_at kind probe offset = nat_lt offset 256 && not (byte_at probe offset == 0) && not (is_in_address_register kind offset)
+use Rattle.pci_spec.specs.Fault.{NoVendor, HeaderKind, SlotsDiffer, StrayProbe, IsInOne, IsThere}
 
 -- no slot below is listed by one of two dumps alone
 abbrev pub IsNoneBelow : List Block → List Block → Slot → Type 0

@@ -1,13 +1,14 @@
 -- What is looked for in one function: its identity and its probe, its registers and capabilities list, and its profile.
-use Rattle.std.specs.Prelude.{◌≡◌, ◌≢◌, ℕ, ◌<◌, ◌==◌, Bool, ◌&&◌, IsTrue, IsFalse, List}
+use Rattle.std.specs.Prelude.{◌≡◌, ℕ, ◌<◌, IsTrue, IsFalse, List}
 use Rattle.pci_spec.specs.Number.{has_bit}
-use Rattle.pci_spec.specs.Header.{command, class_code, layout, bridge_control}
+use Rattle.pci_spec.specs.Registers.{PALETTE_SNOOP, ISA_ENABLE, VGA_ENABLE, SECONDARY_BUS_RESET}
+use Rattle.pci_spec.specs.Header.{command}
 use Rattle.pci_spec.specs.Bar as bars
-use Rattle.pci_spec.specs.Capability.{ComesTwiceTo, HasLowPlace, HasCutBody, HasChain, capability_id, power_state}
+use Rattle.pci_spec.specs.Capability.{ComesTwiceTo, HasLowPlace, HasCutBody, HasChain}
 use Rattle.pci_spec.specs.System.{Function}
 use Rattle.pci_spec.specs.Decoded.{IsDecodable}
 use Rattle.pci_spec.specs.Order.{is_before, phase_of}
-use Rattle.pci_spec.specs.Fault.{Fault, NoVendor, HeaderKind, BarType, BarMask, BarPair, RomMask, WindowMask, CapRange, CapLoop, CapCut, SlotsDiffer, StrayProbe, LoneFunction, PaletteSnoop, VgaEnable, IsaEnable, Subtractive, InReset, PowerState, BusRange, Orphan, Unreached, Clash, Split, has_no_vendor, has_other_layout, is_stray, HasBarFault, HasRomFault, HasWindowFault, IsNotInD0}
+use Rattle.pci_spec.specs.Fault.{Fault, NoVendor, HeaderKind, BarType, BarMask, BarPair, RomMask, WindowMask, CapRange, CapLoop, CapCut, SlotsDiffer, StrayProbe, LoneFunction, PaletteSnoop, VgaEnable, IsaEnable, Subtractive, InReset, PowerState, BusRange, Orphan, Unreached, Clash, Split, has_no_vendor, has_other_layout, is_stray, HasBarFault, HasRomFault, HasWindowFault, controls_bridge, is_subtractive_bridge, IsNotInD0}
 use Rattle.pci_function.specs.declared.record.Record.{Record}
 use Rattle.pci_function.specs.Decoding.{IsRecordOf}
 
@@ -17,30 +18,18 @@ pub record IsAnswering (f : Function) : Type 0 where
   pub header : IsFalse (has_other_layout f.image)
   pub probe : (offset : ℕ) → IsFalse (is_stray f.image f.probe offset)
 
--- an image is that of a bridge whose Bridge Control has this bit
-abbrev pub controls_bridge : List ℕ → ℕ → Bool
-controls_bridge image i = layout image == 1 && has_bit (bridge_control image) i
-
--- an image is that of a bridge that decodes what no other function takes
-abbrev pub is_subtractive_bridge : List ℕ → Bool
-is_subtractive_bridge image = layout image == 1 && class_code image == 0x060401
-
 -- a bridge, where the image is one, passes no VGA or ISA accesses of its own, decodes its windows alone, and isn't in reset
 pub record IsPlainBridge (image : List ℕ) : Type 0 where
-  pub vga : IsFalse (controls_bridge image 3)
-  pub isa : IsFalse (controls_bridge image 2)
+  pub vga : IsFalse (controls_bridge image VGA_ENABLE)
+  pub isa : IsFalse (controls_bridge image ISA_ENABLE)
   pub subtractive : IsFalse (is_subtractive_bridge image)
-  pub reset : IsFalse (controls_bridge image 6)
+  pub reset : IsFalse (controls_bridge image SECONDARY_BUS_RESET)
 
 -- the profile of a function
 pub record IsPlain (image : List ℕ) : Type 0 where
-  pub palette : IsFalse (has_bit (command image) 5)
+  pub palette : IsFalse (has_bit (command image) PALETTE_SNOOP)
   pub bridge : IsPlainBridge image
   pub awake : IsNotInD0 image → ⊥
-
--- a capability at a place shows another power state than D0
-abbrev pub IsNotInD0At : List ℕ → ℕ → Type 0
-IsNotInD0At image place = (capability_id image place ≡ 1) × (power_state image place ≢ 0)
 
 -- the fault is one of the function by itself
 abbrev pub IsHere : Function → Fault → Type 0
@@ -57,11 +46,11 @@ IsHere f (CapCut slot place) = (slot ≡ f.slot) × HasCutBody f.image place
 IsHere f (SlotsDiffer slot) = ⊥
 IsHere f (StrayProbe slot offset) = (slot ≡ f.slot) × IsTrue (is_stray f.image f.probe offset)
 IsHere f (LoneFunction slot) = ⊥
-IsHere f (PaletteSnoop slot) = (slot ≡ f.slot) × IsTrue (has_bit (command f.image) 5)
-IsHere f (VgaEnable slot) = (slot ≡ f.slot) × IsTrue (controls_bridge f.image 3)
-IsHere f (IsaEnable slot) = (slot ≡ f.slot) × IsTrue (controls_bridge f.image 2)
+IsHere f (PaletteSnoop slot) = (slot ≡ f.slot) × IsTrue (has_bit (command f.image) PALETTE_SNOOP)
+IsHere f (VgaEnable slot) = (slot ≡ f.slot) × IsTrue (controls_bridge f.image VGA_ENABLE)
+IsHere f (IsaEnable slot) = (slot ≡ f.slot) × IsTrue (controls_bridge f.image ISA_ENABLE)
 IsHere f (Subtractive slot) = (slot ≡ f.slot) × IsTrue (is_subtractive_bridge f.image)
-IsHere f (InReset slot) = (slot ≡ f.slot) × IsTrue (controls_bridge f.image 6)
+IsHere f (InReset slot) = (slot ≡ f.slot) × IsTrue (controls_bridge f.image SECONDARY_BUS_RESET)
 IsHere f (PowerState slot) = (slot ≡ f.slot) × IsNotInD0 f.image
 IsHere f (BusRange slot) = ⊥
 IsHere f (Orphan slot) = ⊥

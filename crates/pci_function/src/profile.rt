@@ -1,20 +1,18 @@
 //! What one function may not do: the standard lets it, but no system that is judged here may have it.
 ghost use Rattle.std.specs.Prelude.{◌≡◌, ◌+◌, ◌≤◌, ◌↔◌, ◌==◌, IsTrue, IsFalse, IfSome, MatchOption};
 ghost use Rattle.pci_spec.specs.Number.{has_bit};
-ghost use Rattle.pci_spec.specs.Header.{class_code, command};
+ghost use Rattle.pci_spec.specs.Header.{command};
 ghost use Rattle.pci_spec.specs.Capability.{body_length, IsChain};
-ghost use Rattle.pci_spec.specs.Fault.{IsNotInD0};
+ghost use Rattle.pci_spec.specs.Fault.{IsNotInD0, IsNotInD0At};
 ghost use Rattle.pci_function.specs.Fault.{fault_of};
-ghost use Rattle.pci_function.specs.Profile.{IsAnswering, IsPlainBridge, IsPlain, IsNotInD0At, IsHereIn, IsFirstOf};
+ghost use Rattle.pci_function.specs.Profile.{IsAnswering, IsPlainBridge, IsPlain, IsHereIn, IsFirstOf};
 
 use super::fault::Fault;
 use super::stray::stray_byte;
 use pci_image::capability::POWER_MANAGEMENT;
-use pci_image::header::{NO_VENDOR, layout};
+use pci_image::header::{NO_VENDOR, class_code, layout};
 use pci_image::image::Image;
-use pci_image::offset::{
-    BASE_CLASS, BRIDGE_CONTROL, COMMAND, INTERFACE, POWER_CONTROL, SUB_CLASS, VENDOR_ID,
-};
+use pci_image::offset::{BRIDGE_CONTROL, COMMAND, POWER_CONTROL, VENDOR_ID};
 use pci_image::slot::Slot;
 
 /// The bit number of VGA palette snooping in Command (PCI 3.0, 6.2.2).
@@ -34,16 +32,6 @@ fn has_bit(register: u16, bit: u8) -> bool
     ensures { result ≡ has_bit register bit }
 {
     register >> bit & 1 == 1
-}
-
-/// Base class, sub-class and programming interface, as one number of 24 bits.
-fn class_code(image: &Image) -> u32
-    ensures { result ≡ class_code image.now.0 }
-{
-    let interface = u32::from(image.u8(INTERFACE));
-    let sub_class = u32::from(image.u8(SUB_CLASS));
-    let base_class = u32::from(image.u8(BASE_CLASS));
-    interface + sub_class * 0x100 + base_class * 0x1_0000
 }
 
 /// The fault of a function's identity or probe: 20 `NoVendor`, else 21 `HeaderKind`, else 31 `StrayProbe` with the

@@ -1,9 +1,8 @@
 //! Bytes of a probe outside the address registers. Only these registers are written and read back.
 ghost use Rattle.std.specs.Prelude.{◌≡◌, ◌<◌, slice_index_or, ℕ, false, true, IfSome, IfNone};
-ghost use Rattle.pci_spec.specs.Fault.{is_in_address_register};
-ghost use Rattle.pci_function.specs.Pair.{stray_at};
+ghost use Rattle.pci_spec.specs.Fault.{is_in_address_register, is_stray_by};
 
-use pci_image::image::Image;
+use pci_image::image::{IMAGE_LEN, Image};
 use pci_image::register::{HEADER_LEN, address_bytes};
 
 /// Whether an offset lies in an address register of a header.
@@ -16,7 +15,7 @@ fn is_address(layout: u8, offset: usize) -> bool
 /// Whether a probe's byte isn't 00 and lies in no address register.
 fn is_stray(layout: u8, probe: &Image, offset: usize) -> bool
     requires { offset < 256 }
-    ensures { result ≡ stray_at layout probe.now.0 offset }
+    ensures { result ≡ is_stray_by layout probe.now.0 offset }
 {
     probe.0[offset] != 0 && !is_address(layout, offset)
 }
@@ -24,14 +23,14 @@ fn is_stray(layout: u8, probe: &Image, offset: usize) -> bool
 /// Whether a probe has a byte other than 00 outside the address registers. It looks at all bytes in
 /// any case, so that many of them can be looked at together.
 fn has_stray(layout: u8, probe: &Image) -> bool
-    ensures { result ≡ false → (offset : ℕ) → stray_at layout probe.now.0 offset ≡ false }
+    ensures { result ≡ false → (offset : ℕ) → is_stray_by layout probe.now.0 offset ≡ false }
 {
     let is_address = address_bytes(layout == 1);
     let mut found = false;
     for offset in 0..HEADER_LEN {
         found |= (probe.0[offset] != 0) & !is_address[offset];
     }
-    for offset in HEADER_LEN..256 {
+    for offset in HEADER_LEN..IMAGE_LEN {
         found |= probe.0[offset] != 0;
     }
     found
@@ -40,14 +39,14 @@ fn has_stray(layout: u8, probe: &Image) -> bool
 /// The offset of the first byte of a probe that isn't 00 and lies in no address register of a header
 /// with this layout, the Header Type without its bit 7: 1 is a bridge's, any other one is taken for 0.
 pub fn stray_byte(layout: u8, probe: &Image) -> Option<u8>
-    ensures none { IfNone result ((offset : ℕ) → stray_at layout probe.now.0 offset ≡ false) }
-    ensures some { IfSome result (λ offset. stray_at layout probe.now.0 offset ≡ true) }
-    ensures first { IfSome result (λ offset. (k : ℕ) → k < offset → stray_at layout probe.now.0 k ≡ false) }
+    ensures none { IfNone result ((offset : ℕ) → is_stray_by layout probe.now.0 offset ≡ false) }
+    ensures some { IfSome result (λ offset. is_stray_by layout probe.now.0 offset ≡ true) }
+    ensures first { IfSome result (λ offset. (k : ℕ) → k < offset → is_stray_by layout probe.now.0 k ≡ false) }
 {
     if !has_stray(layout, probe) {
         return None;
     }
-    for offset in 0..256 {
+    for offset in 0..IMAGE_LEN {
         if is_stray(layout, probe, offset) {
             return Some(offset as u8);
         }

@@ -4,13 +4,13 @@ use Rattle.std.specs.Bool.{nat_eq}
 use Rattle.std.proofs.lemmas.Bool.{ne_eqb, cases_Bool}
 use Rattle.pci_spec.specs.Number.{has_bit, lowest_one}
 use Rattle.pci_spec.specs.Header.{bar_register}
-use Rattle.pci_spec.specs.Bar.{BarKind, Memory64, BarFault, BarMask, BarType, BarPair, bar_at, whole_bar, bar_kind, is_io, is_wide, type_bits, is_prefetchable, encodings, is_lawful, is_within, first_broken}
+use Rattle.pci_spec.specs.Bar.{BarKind, Memory64, BarFault, BarMask, BarType, BarPair, bar_at, whole_bar, bar_kind, is_io, is_wide, type_bits, is_prefetchable, encodings, is_lawful, is_within, BarReading, bar_reading, first_broken}
 use Rattle.pci_spec.specs.Decoded.{decoded_bar}
 use Rattle.pci_spec.proofs.Ranges.{first_bit, first_bit-of_register, lowest_one-of_lawful, has_lawful_size-of_lawful}
 use Rattle.pci_image.specs.declared.bar.Bar.{Bar}
 use Rattle.pci_image.specs.declared.bar.BarKind.{BarKind as CodeKind}
 use Rattle.pci_image.specs.declared.bar.BarKind.TheVariants.{Io, Mem32, Mem64}
-use Rattle.pci_image.specs.Bars.{decoded_kind_of, decoded_bar_of, broken_encoding, broken_size, broken_register, IsPlaced}
+use Rattle.pci_image.specs.Bars.{decoded_kind_of, decoded_bar_of, broken_encoding, broken_size, IsPlaced}
 
 -- ---- sizes and places
 
@@ -31,21 +31,21 @@ passes false true third rest h = cc
 passes false false true rest h = cc
 passes false false false rest h = refl
 
-module _ (last : Bool) (value mask whole_value whole_mask : ℕ) (nonzero : mask ≢ 0) where
+module _ (bar : BarReading) (nonzero : bar.mask ≢ 0) (encoding : broken_encoding bar.value bar.mask ≡ None) where
   -- what is left of the rules after the encoding
-  after_encoding : broken_encoding value mask ≡ None
-      → first_broken last value mask whole_value whole_mask ≡ (if is_wide mask && last then Some BarPair else broken_size (bar_kind mask) whole_value whole_mask)
-  after_encoding h =
-      rw (ne_eqb mask 0 nonzero) (passes (not (nat_eq (value % encodings mask) (mask % encodings mask))) (is_io mask && has_bit mask 1) (not (is_io mask) && has_bit mask 1)
-      (if is_wide mask && last then Some BarPair else broken_size (bar_kind mask) whole_value whole_mask) h)
+  after_encoding : first_broken bar ≡ (if is_wide bar.mask && bar.last then Some BarPair else broken_size (bar_kind bar.mask) bar.whole_value bar.whole_mask)
+  after_encoding =
+      rw (ne_eqb bar.mask 0 nonzero)
+      (passes (not (nat_eq (bar.value % encodings bar.mask) (bar.mask % encodings bar.mask))) (is_io bar.mask && has_bit bar.mask 1) (not (is_io bar.mask) && has_bit bar.mask 1)
+      (if is_wide bar.mask && bar.last then Some BarPair else broken_size (bar_kind bar.mask) bar.whole_value bar.whole_mask) encoding)
 
   -- of a register of one half
-  pub after_narrow : broken_encoding value mask ≡ None → is_wide mask ≡ false → first_broken last value mask whole_value whole_mask ≡ broken_size (bar_kind mask) whole_value whole_mask
-  after_narrow h narrow = after_encoding h ∙ rw narrow refl
+  pub after_narrow : is_wide bar.mask ≡ false → first_broken bar ≡ broken_size (bar_kind bar.mask) bar.whole_value bar.whole_mask
+  after_narrow narrow = after_encoding ∙ rw narrow refl
 
   -- of two registers
-  pub after_pair : broken_encoding value mask ≡ None → is_wide mask ≡ true → last ≡ false → first_broken last value mask whole_value whole_mask ≡ broken_size (bar_kind mask) whole_value whole_mask
-  after_pair h wide more = after_encoding h ∙ rw (wide, more) refl
+  pub after_pair : is_wide bar.mask ≡ true → bar.last ≡ false → first_broken bar ≡ broken_size (bar_kind bar.mask) bar.whole_value bar.whole_mask
+  after_pair wide more = after_encoding ∙ rw (wide, more) refl
 
 -- whether a register is the lower half of a 64-bit BAR, by its kind
 pub wide-of_kind : (mask : ℕ) → bar_kind mask ≡ Memory64 → is_wide mask ≡ true
@@ -103,14 +103,14 @@ module _ (last : Bool) (image probe : List ℕ) (n value mask whole_value whole_
   -- what a register of one half decodes to
   pub narrow-decoded : (kind : BarKind) → kind ≡ bar_kind mask → (kind ≡ Memory64 → ⊥) → whole_value ≡ value → whole_mask ≡ mask
       → broken_size kind whole_value whole_mask ≡ None → IsPlaced (bar_register n) kind prefetchable whole_value whole_mask bar
-      → (broken_register last image probe n ≡ None) × ((bar_at probe n ≢ 0) × (decoded_bar_of bar ≡ decoded_bar image probe n))
+      → (first_broken (bar_reading last image probe n) ≡ None) × ((bar_at probe n ≢ 0) × (decoded_bar_of bar ≡ decoded_bar image probe n))
   narrow-decoded kind is_kind narrow is_whole is_whole_mask size is_placed =
       let kind' : kind ≡ bar_kind (bar_at probe n) = rw is_mask at is_kind in
       let half : is_wide (bar_at probe n) ≡ false = narrow-of_kind (bar_at probe n) (λ e. narrow (kind' ∙ e)) in
       let value' : whole_value ≡ whole_bar probe image n = is_whole ∙ is_value ∙ rw half refl in
       let mask' : whole_mask ≡ whole_bar probe probe n = is_whole_mask ∙ is_mask ∙ rw half refl in
       let size' : broken_size (bar_kind (bar_at probe n)) (whole_bar probe image n) (whole_bar probe probe n) ≡ None = rw (kind', value', mask') at size in (
-        after_narrow last (bar_at image n) (bar_at probe n) (whole_bar probe image n) (whole_bar probe probe n) nonzero' encoding' half ∙ size',
+        after_narrow (bar_reading last image probe n) nonzero' encoding' half ∙ size',
         (nonzero', placed-decodes image probe n whole_value whole_mask kind prefetchable bar kind' (is_prefetch ∙ ap is_prefetchable is_mask) value' mask' is_placed),
       )
 
@@ -118,13 +118,13 @@ module _ (last : Bool) (image probe : List ℕ) (n value mask whole_value whole_
   pub pair-decoded : (kind : BarKind) → kind ≡ bar_kind mask → kind ≡ Memory64 → last ≡ false
       → whole_value ≡ bar_at image n + 2 ^ 32 * bar_at image (n + 1) → whole_mask ≡ bar_at probe n + 2 ^ 32 * bar_at probe (n + 1)
       → broken_size kind whole_value whole_mask ≡ None → IsPlaced (bar_register n) kind prefetchable whole_value whole_mask bar
-      → (broken_register last image probe n ≡ None) × ((bar_at probe n ≢ 0) × (decoded_bar_of bar ≡ decoded_bar image probe n))
+      → (first_broken (bar_reading last image probe n) ≡ None) × ((bar_at probe n ≢ 0) × (decoded_bar_of bar ≡ decoded_bar image probe n))
   pair-decoded kind is_kind pair more is_whole is_whole_mask size is_placed =
       let kind' : kind ≡ bar_kind (bar_at probe n) = rw is_mask at is_kind in
       let wide : is_wide (bar_at probe n) ≡ true = wide-of_kind (bar_at probe n) (sym kind' ∙ pair) in
       let value' : whole_value ≡ whole_bar probe image n = rw wide is_whole in
       let mask' : whole_mask ≡ whole_bar probe probe n = rw wide is_whole_mask in
       let size' : broken_size (bar_kind (bar_at probe n)) (whole_bar probe image n) (whole_bar probe probe n) ≡ None = rw (kind', value', mask') at size in (
-        after_pair last (bar_at image n) (bar_at probe n) (whole_bar probe image n) (whole_bar probe probe n) nonzero' encoding' wide more ∙ size',
+        after_pair (bar_reading last image probe n) nonzero' encoding' wide more ∙ size',
         (nonzero', placed-decodes image probe n whole_value whole_mask kind prefetchable bar kind' (is_prefetch ∙ ap is_prefetchable is_mask) value' mask' is_placed),
       )

@@ -8,14 +8,14 @@ use Rattle.std.proofs.lemmas.List.{map-append}
 use Rattle.std.proofs.lemmas.List.Elements.{filter-append, All-nil, All-cons}
 use denote.Enum.Bare.{sameb}
 use Rattle.pci_spec.specs.Header.{bar_count, bar_register, layout}
-use Rattle.pci_spec.specs.Bar.{bar_at, bar_kind, is_wide, starts_bar, bar_fault}
-use Rattle.pci_spec.specs.Decoded.{DecodedBar, decoded_bar, has_bar}
+use Rattle.pci_spec.specs.Bar.{bar_at, bar_kind, is_wide, starts_bar, bar_fault, bar_reading, first_broken, has_bar}
+use Rattle.pci_spec.specs.Decoded.{DecodedBar, decoded_bar}
 use Rattle.pci_spec.proofs.Ranges.{decoded_bar-decodes}
 use Rattle.pci_image.specs.declared.bar.Bar.{Bar}
 use Rattle.pci_image.specs.declared.bar.BarKind.{BarKind}
 use Rattle.pci_image.specs.declared.bar.BarKind.TheVariants.{Io, Mem32, Mem64}
 use Rattle.pci_image.specs.contracts.bar.BarKind.{the_type}
-use Rattle.pci_image.specs.Bars.{decoded_kind_of, decoded_bar_of, broken_register, IsComparedBar}
+use Rattle.pci_image.specs.Bars.{decoded_kind_of, decoded_bar_of, IsComparedBar}
 use Rattle.pci_image.proofs.Decoding.{wide-of_kind, narrow-of_kind}
 
 -- the registers below n were read: none is faulty, the BARs found are theirs, and the flag says that
@@ -90,7 +90,7 @@ module _ (image probe : List ℕ) (n : ℕ) (upper : Bool) (found : List Bar) (b
   on = not-false _ (sym before.flag ∙ is)
 
   -- a register that starts a BAR has the fault that its rules say
-  pub fault_is : broken_register (nat_eq (n + 1) (bar_count (layout image))) image probe n ≡ bar_fault image probe n
+  pub fault_is : first_broken (bar_reading (nat_eq (n + 1) (bar_count (layout image))) image probe n) ≡ bar_fault image probe n
   fault_is = rw on refl
 
   -- past a register that isn't implemented

@@ -2,14 +2,13 @@
 use Rattle.std.proofs.Common.{◌≡◌, ◌↔◌, ℕ, ◌≤◌, List, refl, Bool, true, false, ◌&&◌, ◌||◌, inl, inr, arith, sym, ◌∙◌, subst, Option, Some, None, IsTrue}
 use Rattle.std.specs.Bool.{nat_eq}
 use Rattle.std.proofs.lemmas.Bool.{cases_Bool, and_left, not_from_false, ne_eqb, eqb-true, both_ways}
-use Rattle.pci_spec.specs.Window.{WindowKind, IoWindow, MemoryWindow, PrefetchWindow, has_window, holds, bounds_at, breaks_window_rule, is_lawful_window}
+use Rattle.pci_spec.specs.Window.{WindowKind, IoWindow, MemoryWindow, PrefetchWindow, has_window, holds, bounds_at, breaks_window_rule, is_lawful_window, shows_window}
 use Rattle.pci_spec.specs.Decoded.{DecodedWindow, decoded_window, optional_window}
 use Rattle.pci_spec.proofs.Ranges.{window_range-holds, absent_window}
 use Rattle.pci_image.specs.declared.fault.ImageFault.{ImageFault}
 use Rattle.pci_image.specs.declared.fault.ImageFault.TheVariants.{NoVendor, HeaderKind, WindowMask}
 use Rattle.pci_image.specs.Faults.{image_fault_number}
 use Rattle.pci_image.specs.Windows.{IsInWindow, IsLowestWindowFault}
-use Rattle.pci_image.specs.Bounds.{is_implemented}
 
 -- a window that is there holds its range
 pub in_window-holds : (kind : WindowKind) (image probe : List ℕ) → has_window kind probe ≡ true
@@ -32,16 +31,16 @@ in_optional-holds kind image probe w is a = elim (cases_Bool (has_window kind pr
 ]
 
 -- the first of the tests of a read back
-first_test : (a b c d e f g : Bool) → (a && b && c && d && e && f && g || false) ≡ true → a ≡ true
-first_test true b c d e f g h = refl
-first_test false b c d e f g h = cc
+first_test : (a b c d e : Bool) → (a && b && c && d && e || false) ≡ true → a ≡ true
+first_test true b c d e h = refl
+first_test false b c d e h = cc
 
 -- a memory window that is lawful is there
-pub has_memory_window : (image probe : List ℕ) → IsTrue (is_implemented MemoryWindow (bounds_at MemoryWindow image) (bounds_at MemoryWindow probe))
+pub has_memory_window : (image probe : List ℕ) → IsTrue (shows_window MemoryWindow (bounds_at MemoryWindow image) (bounds_at MemoryWindow probe))
     → has_window MemoryWindow probe ≡ true
 has_memory_window image probe h =
     let base = (bounds_at MemoryWindow probe).base in
-    let is : base ≡ 0xfff0 = eqb-true _ _ (first_test (nat_eq base 0xfff0) _ _ _ _ _ _ h) in
+    let is : base ≡ 0xfff0 = eqb-true _ _ (first_test (nat_eq base 0xfff0) _ _ _ _ h) in
     not_from_false _ (and_left _ _ (and_left _ _ (and_left _ _ (ne_eqb base 0 (λ none. omega (arith, is, none))))))
 
 -- ---- the lowest window that breaks its rule
@@ -58,7 +57,7 @@ memory_window-lowest image probe io MemoryWindow less = absurd (let no : ⊥ = o
 memory_window-lowest image probe io PrefetchWindow less = absurd (let no : ⊥ = omega (arith, less) in no)
 
 pub prefetch_window-lowest : (image probe : List ℕ) → breaks_window_rule IoWindow image probe ≡ false
-    → is_implemented MemoryWindow (bounds_at MemoryWindow image) (bounds_at MemoryWindow probe) ≡ true → IsLowestWindowFault image probe (WindowMask 0x24)
+    → shows_window MemoryWindow (bounds_at MemoryWindow image) (bounds_at MemoryWindow probe) ≡ true → IsLowestWindowFault image probe (WindowMask 0x24)
 prefetch_window-lowest image probe io memory IoWindow less = io
 prefetch_window-lowest image probe io memory MemoryWindow less = elim (cases_Bool (is_lawful_window MemoryWindow 0 (bounds_at MemoryWindow image) (bounds_at MemoryWindow probe))) [
   | inl lawful ↦ rw lawful refl

@@ -2,7 +2,7 @@
 use Rattle.std.specs.Prelude.{◌≡◌, ◌≢◌, ℕ, ◌%◌, ◌^◌, ◌<◌, ◌≤◌, ◌==◌, ◌↔◌, Bool, ◌&&◌, not, IsTrue, IsFalse, List, Option, None, Some, if◌then◌else◌}
 use Rattle.pci_spec.specs.Number.{has_bit}
 use Rattle.pci_spec.specs.Header.{bar_count, bar_register, layout}
-use Rattle.pci_spec.specs.Bar.{BarKind as SpecKind, IoBar, Memory32, Memory64, BarFault, bar_at, whole_bar, is_io, encodings, is_lawful, has_lawful_size, is_within, first_broken, bar_fault, BarDecodes}
+use Rattle.pci_spec.specs.Bar.{BarKind as SpecKind, IoBar, Memory32, Memory64, BarFault, bar_at, is_io, encodings, is_lawful, has_lawful_size, is_within, bar_fault, BarDecodes}
 use Rattle.pci_spec.specs.Bar as rules
 use Rattle.pci_spec.specs.Decoded.{DecodedBar, aligned_range, decoded_bar}
 use Rattle.pci_spec.specs.Fault.{has_no_vendor, has_other_layout}
@@ -54,10 +54,6 @@ abbrev pub IsPlaced : ℕ → SpecKind → Bool → ℕ → ℕ → Bar → Type
 IsPlaced register kind prefetchable value mask bar =
     (k : ℕ) × IsTrue (is_lawful kind mask k)
     × (decoded_bar_of bar ≡ record { register = register; kind = kind; prefetchable = prefetchable; range = aligned_range value (2 ^ k) })
-
--- the rule that register n breaks, where it starts a BAR
-abbrev pub broken_register : Bool → List ℕ → List ℕ → ℕ → Option BarFault
-broken_register last image probe n = first_broken last (bar_at image n) (bar_at probe n) (whole_bar probe image n) (whole_bar probe probe n)
 
 -- what register n decodes to, where it starts a BAR: none where it isn't implemented
 abbrev pub IsDecodedAt : List ℕ → List ℕ → ℕ → Option Bar → Type 0

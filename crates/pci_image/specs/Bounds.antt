@@ -1,6 +1,6 @@
 -- The registers of windows as those of the definitions.
-use Rattle.std.specs.Prelude.{ℕ, ◌+◌, ◌-◌, ◌*◌, ◌/◌, ◌%◌, nat_le, ◌==◌, Bool, ◌&&◌, ◌||◌, Option, None, Some, if◌then◌else◌}
-use Rattle.pci_spec.specs.Window.{WindowKind, Bounds as SpecBounds, lower_pages, page_bits, page_size, upper_bits, is_lawful_window, is_optional}
+use Rattle.std.specs.Prelude.{ℕ, ◌+◌, ◌-◌, ◌*◌, ◌/◌, nat_le, Option, None, Some, if◌then◌else◌}
+use Rattle.pci_spec.specs.Window.{WindowKind, Bounds as SpecBounds, lower_pages, page_size}
 use Rattle.pci_spec.specs.Decoded.{Range}
 use Rattle.pci_image.specs.declared.window_kind.WindowKind.{WindowKind as CodeKind}
 use Rattle.pci_image.specs.declared.window_kind.WindowKind.TheVariants.{Io, Memory, Prefetchable}
@@ -9,21 +9,6 @@ use Rattle.pci_image.specs.declared.window.bounds.Bounds.{Bounds}
 -- its registers as the definitions have them
 abbrev pub spec_bounds_of : Bounds → SpecBounds
 spec_bounds_of b = record { base = b.base; limit = b.limit; base_upper = b.base_upper; limit_upper = b.limit_upper }
-
--- read backs of a window with this low nibble
-abbrev pub is_read_back : WindowKind → ℕ → SpecBounds → Bool
-is_read_back kind n mask =
-    mask.base == page_bits kind + n && mask.limit == page_bits kind + n
-    && mask.base_upper == n * upper_bits kind && mask.limit_upper == n * upper_bits kind
-
--- values that go with it
-abbrev pub is_value : ℕ → SpecBounds → Bool
-is_value n value =
-    value.base % 16 == n && value.limit % 16 == n && (n == 1 || (value.base_upper == 0 && value.limit_upper == 0))
-
--- values and read backs of a window that is implemented
-abbrev pub is_implemented : WindowKind → SpecBounds → SpecBounds → Bool
-is_implemented kind value mask = is_lawful_window kind 0 value mask || (is_optional kind && is_lawful_window kind 1 value mask)
 
 -- the number of a page, by its upper and lower part
 abbrev pub page_of : WindowKind → ℕ → ℕ → ℕ

@@ -1,6 +1,6 @@
 -- Capabilities of the code, and where they stand in an image.
 use Rattle.std.specs.Prelude.{◌≡◌, ◌≢◌, ℕ, ◌+◌, ◌<◌, ◌≤◌, List, length, slice_range}
-use Rattle.pci_spec.specs.Capability.{capability_id, body_length, pointer, HasLowPlace, ComesTwiceTo, HasCutBody}
+use Rattle.pci_spec.specs.Capability.{POWER_MANAGEMENT, MSI, capability_id, body_length, pointer, HasLowPlace, ComesTwiceTo, HasCutBody}
 use Rattle.pci_image.specs.declared.capability.Cap.{Cap}
 use Rattle.pci_image.specs.declared.capability.Cap.TheVariants.{Power, Msi, Raw}
 use Rattle.pci_image.specs.declared.fault.ImageFault.{ImageFault}
@@ -20,9 +20,9 @@ body_of (Raw place body) = body.now
 
 -- an ID is that of the capability's kind
 abbrev pub IsKindOf : ℕ → Cap → Type 0
-IsKindOf id (Power place body) = id ≡ 1
-IsKindOf id (Msi place body) = id ≡ 5
-IsKindOf id (Raw place body) = (id ≢ 1) × (id ≢ 5)
+IsKindOf id (Power place body) = id ≡ POWER_MANAGEMENT
+IsKindOf id (Msi place body) = id ≡ MSI
+IsKindOf id (Raw place body) = (id ≢ POWER_MANAGEMENT) × (id ≢ MSI)
 
 -- the capability is of the kind that its ID says, and its body is the image's own bytes from its place
 pub record IsCapIn (image : List ℕ) (cap : Cap) : Type 0 where

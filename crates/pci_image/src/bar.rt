@@ -3,10 +3,10 @@ ghost use Rattle.std.specs.Prelude.{◌≡◌, ◌+◌, ◌*◌, ◌%◌, ◌^�
 ghost use Rattle.pci_spec.specs.Decoded.{decoded_bars};
 ghost use Rattle.pci_spec.specs.Number.{number_at};
 ghost use Rattle.pci_spec.specs.Bar as bar;
-ghost use Rattle.pci_spec.specs.Bar.{bar_kind, is_prefetchable, has_lawful_size, is_lawful};
+ghost use Rattle.pci_spec.specs.Bar.{bar_kind, bar_reading, first_broken, is_prefetchable, has_lawful_size, is_lawful};
 ghost use Rattle.pci_spec.specs.Header.{bar_register};
 ghost use Rattle.pci_spec.specs.Planning.Showing.{first_bit};
-ghost use Rattle.pci_image.specs.Bars.{decoded_kind_of, decoded_bar_of, HasLawfulBars, IsBarFault, IsLowestBarFault, IsComparedBar, IsDecodedAt, IsPlaced, broken_encoding, broken_register, broken_size};
+ghost use Rattle.pci_image.specs.Bars.{decoded_kind_of, decoded_bar_of, HasLawfulBars, IsBarFault, IsLowestBarFault, IsComparedBar, IsDecodedAt, IsPlaced, broken_encoding, broken_size};
 ghost use Rattle.pci_image.specs.Faults.{IsImageFaultIn, image_fault_number};
 
 use super::comparator::{aligned, fits_within, run_start};
@@ -214,8 +214,8 @@ fn decode_register(
 ) -> Result<Option<Bar>, ImageFault>
     requires { n < 6 }
     ensures { MatchResult result
-        (λ found. (broken_register last image.now.0 probe.now.0 n ≡ None) × IsDecodedAt image.now.0 probe.now.0 n found)
-        (IsBarFault (bar_register n) (broken_register last image.now.0 probe.now.0 n)) }
+        (λ found. (first_broken (bar_reading last image.now.0 probe.now.0 n) ≡ None) × IsDecodedAt image.now.0 probe.now.0 n found)
+        (IsBarFault (bar_register n) (first_broken (bar_reading last image.now.0 probe.now.0 n))) }
 {
     let reg = BASE_ADDRESS + 4 * n;
     let value = image.u32(reg);

@@ -1,10 +1,10 @@
 //! The two layouts of a configuration header (PCI 3.0, 6.1; Bridge 1.2, 3.2).
 ghost use Rattle.std.specs.Prelude.{◌≡◌};
-ghost use Rattle.pci_spec.specs.Header.{layout};
+ghost use Rattle.pci_spec.specs.Header.{class_code, layout};
 
 use super::fault::ImageFault;
 use super::image::Image;
-use super::offset::{HEADER_TYPE, VENDOR_ID};
+use super::offset::{BASE_CLASS, HEADER_TYPE, INTERFACE, SUB_CLASS, VENDOR_ID};
 use super::register::rom_register;
 
 /// An image with a type 0 header: a device.
@@ -30,13 +30,23 @@ pub enum Header<'a> {
 pub const NO_VENDOR: u16 = 0xffff;
 
 /// The bits of Header Type that give the layout; the other one says multi-function (6.2.1).
-const LAYOUT_BITS: u8 = 0x7f;
+pub const LAYOUT_BITS: u8 = 0x7f;
 
 /// The layout of an image's header: 0 for a device, 1 for a bridge, and others that aren't decoded (6.2.1).
 pub fn layout(image: &Image) -> u8
     ensures { result ≡ layout image.now.0 }
 {
     image.u8(HEADER_TYPE) & LAYOUT_BITS
+}
+
+/// Base class, sub-class and programming interface, as one number of 24 bits (6.2.1).
+pub fn class_code(image: &Image) -> u32
+    ensures { result ≡ class_code image.now.0 }
+{
+    let interface = u32::from(image.u8(INTERFACE));
+    let sub_class = u32::from(image.u8(SUB_CLASS));
+    let base_class = u32::from(image.u8(BASE_CLASS));
+    interface + sub_class * 0x100 + base_class * 0x1_0000
 }
 
 impl<'a> Header<'a> {

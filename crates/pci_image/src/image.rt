@@ -5,9 +5,12 @@ ghost use Rattle.pci_spec.specs.Port as port;
 
 use byteorder::{ByteOrder, LittleEndian};
 
+/// The bytes of a function's configuration space (PCI 3.0, 6.1).
+pub const IMAGE_LEN: usize = 256;
+
 /// The 256 bytes of a function's configuration space, or of what its registers read back.
 #[derive(Clone, Copy, Debug, PartialEq, Eq)]
-pub struct Image(pub [u8; 256]);
+pub struct Image(pub [u8; IMAGE_LEN]);
 
 impl Image {
     /// The byte at an offset.
@@ -46,17 +49,23 @@ impl Image {
     }
 }
 
+/// One of the four bytes of a number, the low byte first.
+pub fn byte_of(value: u32, j: u8) -> u8
+    requires { j < 4 }
+    ensures { result ≡ value / 256 ^ j % 256 }
+{
+    value.to_le_bytes()[usize::from(j)]
+}
+
 /// Puts the bytes of a number at an offset, the low byte first.
-pub fn put(bytes: &mut [u8; 256], off: u8, width: u8, value: u32)
+pub fn put(bytes: &mut [u8; IMAGE_LEN], off: u8, width: u8, value: u32)
     requires { IsTrue (port.is_access off width) }
     ensures inside { (j : ℕ) → j < width → slice_index bytes.new (off + j) ≡ value / 256 ^ j % 256 }
     ensures outside { (place : ℕ) → (place < off) ⊎ (off + width ≤ place) → slice_index bytes.new place ≡ slice_index bytes.old place }
     ensures number { value < 256 ^ width → number_at bytes.new off width ≡ value }
     ensures image { IsImage bytes.old → IsImage bytes.new }
 {
-    let mut rest = value;
     for j in 0..width {
-        bytes[usize::from(off + j)] = (rest % 256) as u8;
-        rest /= 256;
+        bytes[usize::from(off + j)] = byte_of(value, j);
     }
 }

@@ -8,6 +8,9 @@ ghost use Rattle.std.specs.Ordering.{nat_cmp, on, then_cmp};
 use std::fmt;
 use std::marker::Model;
 
+/// How many buses there are: their numbers have 8 bits (PCI 3.0, 3.2.2.3).
+pub const BUSES: usize = 256;
+
 /// Bus, device and function number. Slots are ordered by bus, then device, then function.
 #[derive(Clone, Copy, Debug, Default, PartialEq, Eq, PartialOrd, Ord)]
 pub struct Slot {
@@ -62,7 +65,8 @@ impl Slot {
 
     /// The function number, 0 to 7.
     pub fn fun(self) -> u8
-        ensures { result ≡ self.function }
+        ensures number { result ≡ self.function }
+        ensures below { result < 8 }
     {
         self.function
     }

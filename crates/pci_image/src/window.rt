@@ -40,10 +40,9 @@ pub struct Windows {
 impl Window {
     ghost use Rattle.std.specs.Prelude.{MatchResult, IsTrue, IsFalse};
     ghost use Rattle.std.specs.Option.{option_map};
-    ghost use Rattle.pci_spec.specs.Window.{bounds_at, breaks_window_rule, is_optional, window_register};
+    ghost use Rattle.pci_spec.specs.Window.{bounds_at, breaks_window_rule, is_optional, window_register, shows_window};
     ghost use Rattle.pci_spec.specs.Decoded.{decoded_window, optional_window};
     ghost use Rattle.pci_image.specs.WindowKinds.{kind_value};
-    ghost use Rattle.pci_image.specs.Bounds.{is_implemented};
     ghost use Rattle.pci_image.specs.Ranges.{decoded_range_of};
 
     /// The addresses that the window holds; none where it is closed, its base above its limit.
@@ -63,9 +62,9 @@ impl Window {
     /// A window that is implemented.
     fn implemented(kind: WindowKind, image: &Image, probe: &Image) -> Result<Window, ImageFault>
         ensures { MatchResult result
-            (λ w. IsTrue (is_implemented (kind_value kind) (bounds_at (kind_value kind) image.now.0) (bounds_at (kind_value kind) probe.now.0))
+            (λ w. IsTrue (shows_window (kind_value kind) (bounds_at (kind_value kind) image.now.0) (bounds_at (kind_value kind) probe.now.0))
             × (w ≡ decoded_window (kind_value kind) image.now.0 probe.now.0))
-            (λ f. IsFalse (is_implemented (kind_value kind) (bounds_at (kind_value kind) image.now.0) (bounds_at (kind_value kind) probe.now.0))
+            (λ f. IsFalse (shows_window (kind_value kind) (bounds_at (kind_value kind) image.now.0) (bounds_at (kind_value kind) probe.now.0))
             × (f ≡ ImageFault.WindowMask (window_register (kind_value kind)))) }
     {
         let value = kind.bounds(image);

@@ -12,11 +12,11 @@ use Rattle.pci_spec.proofs.Planning.Writes.{enables_are_fields}
 use Rattle.pci_spec.proofs.WritableBits.{has_bit-writable_bits}
 use Rattle.pci_spec.specs.Slot.{IsRising}
 use Rattle.pci_spec.specs.Text.{Block, IsDump, slots_of}
-use Rattle.pci_spec.specs.System.{Function, IsFunction, system_of}
+use Rattle.pci_spec.specs.System.{Function, IsFunction, function_of, system_of}
 use Rattle.pci_spec.specs.Machine.{Target, target_of, sized, writable_bits}
 use Rattle.pci_spec.specs.Fault.{has_no_vendor, has_other_layout}
 use Rattle.pci_spec.specs.Decoded.{IsDecodable}
-use Rattle.pci_spec.proofs.Pairing.{function_of, same_length, length-system_of, slots-system_of, IsSystem-of_dumps}
+use Rattle.pci_spec.proofs.Pairing.{same_length, length-system_of, slots-system_of, IsSystem-of_dumps}
 use Rattle.pci_spec.proofs.Sizing.{sizing_finds_probe}
 use Rattle.pci_function.specs.Pair.{IsPair}
 use Rattle.pci_function.proofs.Pairs.{at_place}

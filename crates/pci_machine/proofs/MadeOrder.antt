@@ -6,11 +6,11 @@ use Rattle.std.proofs.lemmas.List.Elements.{All-contains}
 use Rattle.pci_spec.specs.Slot.{Slot}
 use Rattle.pci_spec.specs.Bar.{BarFault}
 use Rattle.pci_spec.specs.Text.{Block, IsDump, slots_of}
-use Rattle.pci_spec.specs.System.{System, Function, IsSystem, system_of}
+use Rattle.pci_spec.specs.System.{System, Function, IsSystem, function_of, system_of}
 use Rattle.pci_spec.specs.Decoded.{IsDecodable}
 use Rattle.pci_spec.specs.Fault.{Fault, BarType, BarMask, BarPair, RomMask, WindowMask, CapRange, CapLoop, CapCut, IsThere}
 use Rattle.pci_spec.specs.Order.{phase_of, is_before, image_at}
-use Rattle.pci_spec.proofs.Pairing.{function_of, same_length, length-system_of, IsSystem-of_dumps, there-of_in, in-of_there}
+use Rattle.pci_spec.proofs.Pairing.{same_length, length-system_of, IsSystem-of_dumps, there-of_in, in-of_there}
 use Rattle.pci_image.specs.Faults.{IsImageFaultIn, image_fault_number}
 use Rattle.pci_image.specs.declared.fault.ImageFault.{ImageFault}
 use Rattle.pci_image.specs.declared.fault.ImageFault.TheVariants as images

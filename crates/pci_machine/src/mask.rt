@@ -8,17 +8,17 @@ ghost use Rattle.pci_image.specs.Registers.{is_readable, role_value};
 ghost use Rattle.pci_machine.specs.Masks.{HasBits, AddsField, AddsFields};
 
 use pci_image::bar::starts_bar;
-use pci_image::image::Image;
+use pci_image::image::{IMAGE_LEN, Image, byte_of};
 use pci_image::offset::BASE_ADDRESS;
 use pci_image::register::{Register, Role, registers};
 
 /// The bits of each byte that a write sets, by what the registers of a device or a bridge read
 /// back.
-pub fn writable_bytes(bridge: bool, probe: &Image) -> [u8; 256]
+pub fn writable_bytes(bridge: bool, probe: &Image) -> [u8; IMAGE_LEN]
     ensures bits { HasBits result (in_fields (writable_by bridge probe.now.0)) }
     ensures image { IsImage result }
 {
-    let mut bytes = [0; 256];
+    let mut bytes = [0; IMAGE_LEN];
     for register in registers(bridge) {
         add_register(&mut bytes, *register, probe);
     }
@@ -26,11 +26,11 @@ pub fn writable_bytes(bridge: bool, probe: &Image) -> [u8; 256]
 }
 
 /// The bits of each byte that a written one clears, in a device or a bridge.
-pub fn clearing_bytes(bridge: bool) -> [u8; 256]
+pub fn clearing_bytes(bridge: bool) -> [u8; IMAGE_LEN]
     ensures bits { HasBits result (in_fields (clearing_by bridge)) }
     ensures image { IsImage result }
 {
-    let mut bytes = [0; 256];
+    let mut bytes = [0; IMAGE_LEN];
     for register in registers(bridge) {
         add_cleared(&mut bytes, *register);
     }
@@ -38,7 +38,7 @@ pub fn clearing_bytes(bridge: bool) -> [u8; 256]
 }
 
 /// Adds the bits of a register that a write sets.
-fn add_register(bytes: &mut [u8; 256], register: Register, probe: &Image)
+fn add_register(bytes: &mut [u8; IMAGE_LEN], register: Register, probe: &Image)
     requires readable { IsTrue (is_readable register) }
     requires image { IsImage bytes.old }
     ensures added { AddsFields bytes.old bytes.new (fields_of probe.now.0 register.offset register.width (role_value register.role)) }
@@ -68,7 +68,7 @@ fn add_register(bytes: &mut [u8; 256], register: Register, probe: &Image)
 }
 
 /// Adds the bits of a register that a written one clears.
-fn add_cleared(bytes: &mut [u8; 256], register: Register)
+fn add_cleared(bytes: &mut [u8; IMAGE_LEN], register: Register)
     requires readable { IsTrue (is_readable register) }
     requires image { IsImage bytes.old }
     ensures added { AddsFields bytes.old bytes.new (cleared_fields register.offset register.width (role_value register.role)) }
@@ -81,7 +81,7 @@ fn add_cleared(bytes: &mut [u8; 256], register: Register)
 }
 
 /// Adds the bits that a register reads back, but for what is below the step.
-fn add_from(bytes: &mut [u8; 256], probe: &Image, off: u8, width: u8, step: u32)
+fn add_from(bytes: &mut [u8; IMAGE_LEN], probe: &Image, off: u8, width: u8, step: u32)
     requires access { IsTrue (port.is_access off width) }
     requires step { 0 < step }
     requires image { IsImage bytes.old }
@@ -92,16 +92,14 @@ fn add_from(bytes: &mut [u8; 256], probe: &Image, off: u8, width: u8, step: u32)
 }
 
 /// Adds bits of a register.
-fn add(bytes: &mut [u8; 256], off: u8, width: u8, bits: u32)
+fn add(bytes: &mut [u8; IMAGE_LEN], off: u8, width: u8, bits: u32)
     requires access { IsTrue (port.is_access off width) }
     requires image { IsImage bytes.old }
     ensures added { AddsField bytes.old bytes.new record { offset = off; width = width; bits = bits } }
     ensures image { IsImage bytes.new }
 {
-    let mut rest = bits;
     for j in 0..width {
-        bytes[usize::from(off + j)] |= (rest % 256) as u8;
-        rest /= 256;
+        bytes[usize::from(off + j)] |= byte_of(bits, j);
     }
 }
 

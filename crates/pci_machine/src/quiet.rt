@@ -48,20 +48,15 @@ impl Quiet {
         ensures there { IsTrue (ports.has_function (P.targets port.new) slot) }
         ensures lawful { ports.IsLawful (P.targets port.new) }
     {
-        let command = match read_at(port, slot, COMMAND, COMMAND_WIDTH) {
-            Ok(command) => command as u16,
-            Err(stop) => return Err(stop),
-        };
-        match write_at(
+        let command = read_at(port, slot, COMMAND, COMMAND_WIDTH)? as u16;
+        write_at(
             port,
             slot,
             COMMAND,
             COMMAND_WIDTH,
             u32::from(command & !DECODE_BITS),
-        ) {
-            Ok(()) => Ok(Quiet { command }),
-            Err(stop) => Err(stop),
-        }
+        )?;
+        Ok(Quiet { command })
     }
 
     /// Puts the old Command back. Where that fails, the error has it.

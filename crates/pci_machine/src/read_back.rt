@@ -32,20 +32,9 @@ pub fn read_back<P: ConfigPort>(
     ensures there { IsTrue (ports.has_function (P.targets port.new) slot) }
     ensures lawful { ports.IsLawful (P.targets port.new) }
 {
-    let value = match read_at(port, slot, off, width) {
-        Ok(value) => value,
-        Err(stop) => return Err(stop),
-    };
-    match write_at(port, slot, off, width, ones) {
-        Ok(()) => {}
-        Err(stop) => return Err(stop),
-    }
-    let found = match read_at(port, slot, off, width) {
-        Ok(found) => found,
-        Err(stop) => return Err(stop),
-    };
-    match write_at(port, slot, off, width, value) {
-        Ok(()) => Ok(found),
-        Err(stop) => Err(stop),
-    }
+    let value = read_at(port, slot, off, width)?;
+    write_at(port, slot, off, width, ones)?;
+    let found = read_at(port, slot, off, width)?;
+    write_at(port, slot, off, width, value)?;
+    Ok(found)
 }

@@ -10,7 +10,7 @@ ghost use Rattle.pci_machine.specs.Outcome.{failures_of_stop};
 use crate::access_at::AccessFault;
 use crate::port::{ConfigPort, PortError};
 use crate::read_back::read_back;
-use pci_image::image::{Image, put};
+use pci_image::image::{IMAGE_LEN, Image, put};
 use pci_image::offset::IO_BASE;
 use pci_image::register::{Register, address_registers, rom_register};
 use pci_image::slot::Slot;
@@ -34,13 +34,11 @@ pub fn read_backs<P: ConfigPort>(
     ensures there { IsTrue (ports.has_function (P.targets port.new) slot) }
     ensures lawful { ports.IsLawful (P.targets port.new) }
 {
-    let mut bytes = [0; 256];
+    let mut bytes = [0; IMAGE_LEN];
     for register in address_registers(bridge) {
         let ones = sizing_ones(bridge, *register);
-        match read_back(port, slot, register.offset, register.width, ones) {
-            Ok(value) => put(&mut bytes, register.offset, register.width, value),
-            Err(stop) => return Err(stop),
-        }
+        let value = read_back(port, slot, register.offset, register.width, ones)?;
+        put(&mut bytes, register.offset, register.width, value);
     }
     Ok(Image(bytes))
 }

@@ -6,7 +6,7 @@ ghost use Rattle.pci_spec.specs.Machine.{byte_of_bits, written, written_bit};
 ghost use Rattle.pci_spec.specs.Port as port;
 ghost use Rattle.pci_machine.specs.Memory.{pinned};
 
-use pci_image::image::Image;
+use pci_image::image::{IMAGE_LEN, Image, byte_of};
 use pci_image::slot::Slot;
 use std::marker::Model;
 
@@ -16,8 +16,8 @@ use std::marker::Model;
 pub struct ConfigSpace {
     pub slot: Slot,
     pub image: Image,
-    pub writable: [u8; 256],
-    pub clearing: [u8; 256],
+    pub writable: [u8; IMAGE_LEN],
+    pub clearing: [u8; IMAGE_LEN],
 }
 
 impl Model for ConfigSpace {
@@ -82,9 +82,9 @@ impl ConfigSpace {
 /// Writes to `width` bytes at an offset of a configuration space, with these writable and clearing
 /// bits.
 fn write_bytes(
-    bytes: &mut [u8; 256],
-    writable: &[u8; 256],
-    clearing: &[u8; 256],
+    bytes: &mut [u8; IMAGE_LEN],
+    writable: &[u8; IMAGE_LEN],
+    clearing: &[u8; IMAGE_LEN],
     off: u8,
     width: u8,
     value: u32,
@@ -93,12 +93,10 @@ fn write_bytes(
     ensures { (slot : place.Slot) → bytes.new
         ≡ written record { slot = slot; image = bytes.old; writable = writable.now; clearing = clearing.now } off width value }
 {
-    let mut rest = value;
     for j in 0..width {
         let place = usize::from(off + j);
-        let datum = (rest % 256) as u8;
+        let datum = byte_of(value, j);
         bytes[place] = written_byte(bytes[place], writable[place], clearing[place], datum);
-        rest /= 256;
     }
 }
 

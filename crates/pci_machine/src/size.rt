@@ -19,15 +19,10 @@ use crate::quiet::{COMMAND_WIDTH, DECODE_BITS, Quiet};
 use crate::read_backs::read_backs;
 use crate::size_fault::SizeFault;
 use pci_image::fault::ImageFault;
+use pci_image::header::{LAYOUT_BITS, NO_VENDOR};
 use pci_image::image::Image;
 use pci_image::offset::{COMMAND, HEADER_TYPE, VENDOR_ID};
 use pci_image::slot::Slot;
-
-/// The Vendor ID of a function that doesn't answer (PCI 3.0, 6.2.1).
-const NO_VENDOR: u32 = 0xffff;
-
-/// The bits of Header Type that give the layout (PCI 3.0, 6.2.1).
-const LAYOUT_BITS: u32 = 0x7f;
 
 /// What the address registers of the function at a slot read back, in an image that has 0
 /// elsewhere. No memory is taken, and all functions are as they were.
@@ -51,10 +46,7 @@ pub fn size<P: ConfigPort>(port: &mut P, slot: Slot) -> Result<Image, SizeFault>
         → result ≡ Err (SizeFault.Port table.VENDOR_ID PortError.NoFunction None) }
     ensures counted { P.failures port.new ≡ P.failures port.old + failures_of_size result }
 {
-    let bridge = match is_bridge(port, slot) {
-        Ok(bridge) => bridge,
-        Err(fault) => return Err(fault),
-    };
+    let bridge = is_bridge(port, slot)?;
     let quiet = match Quiet::begin(port, slot) {
         Ok(quiet) => quiet,
         Err(stop) => return Err(stopped(stop, None)),
@@ -95,14 +87,14 @@ fn is_bridge<P: ConfigPort>(port: &mut P, slot: Slot) -> Result<bool, SizeFault>
             });
         }
     };
-    if vendor == NO_VENDOR {
+    if vendor == u32::from(NO_VENDOR) {
         return Err(SizeFault::Header(ImageFault::NoVendor));
     }
     let header = match read_at(port, slot, HEADER_TYPE, 1) {
         Ok(header) => header,
         Err(stop) => return Err(stopped(stop, None)),
     };
-    match header & LAYOUT_BITS {
+    match header & u32::from(LAYOUT_BITS) {
         0 => Ok(false),
         1 => Ok(true),
         _ => Err(SizeFault::Header(ImageFault::HeaderKind)),
@@ -141,15 +133,10 @@ fn read_when_quiet<P: ConfigPort>(
     ensures there { IsTrue (ports.has_function (P.targets port.new) slot) }
     ensures lawful { ports.IsLawful (P.targets port.new) }
 {
-    let command = match read_at(port, slot, COMMAND, COMMAND_WIDTH) {
-        Ok(command) => command,
-        Err(stop) => return Err(stop),
-    };
+    let command = read_at(port, slot, COMMAND, COMMAND_WIDTH)?;
     if command & u32::from(DECODE_BITS) != 0 {
         return Ok(None);
     }
-    match read_backs(port, slot, bridge) {
-        Ok(image) => Ok(Some(image)),
-        Err(stop) => Err(stop),
-    }
+    let image = read_backs(port, slot, bridge)?;
+    Ok(Some(image))
 }

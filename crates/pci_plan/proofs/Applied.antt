@@ -12,7 +12,7 @@ use Rattle.pci_spec.specs.Number.{number_at, IsImage}
 use Rattle.pci_spec.specs.Slot.{Slot, same_slot, slot_number}
 use Rattle.pci_spec.specs.Header.{command, layout, address_registers}
 use Rattle.pci_spec.specs.Text.{Block, slots_of}
-use Rattle.pci_spec.specs.System.{System, Function, IsSystem, system_of}
+use Rattle.pci_spec.specs.System.{System, Function, IsSystem, function_of, system_of}
 use Rattle.pci_spec.specs.Sound.{IsSound}
 use Rattle.pci_spec.specs.Machine.{Target, Write, target_of, after_writes, write_function, write_system, system_after}
 use Rattle.pci_spec.specs.Plan.{IsMoved}
@@ -57,15 +57,15 @@ block_of (b ∷ dump) (q ∷ probe) f listed = elim (in_cons_cases _ (system_of 
 ]
 
 -- the function of a block
-function_of : (dump probe : List Block) → slots_of dump ≡ slots_of probe → (b : Block) → Contains dump b → (f : Function) × Contains (system_of dump probe) f × (f.slot ≡ b.slot) × (f.image ≡ b.image)
-function_of [] probe slots b listed = absurd (in_nil b listed)
-function_of (c ∷ dump) [] slots b listed = absurd (let impossible : ⊥ = cc in impossible)
-function_of (c ∷ dump) (q ∷ probe) slots b listed =
+function_of_block : (dump probe : List Block) → slots_of dump ≡ slots_of probe → (b : Block) → Contains dump b → (f : Function) × Contains (system_of dump probe) f × (f.slot ≡ b.slot) × (f.image ≡ b.image)
+function_of_block [] probe slots b listed = absurd (in_nil b listed)
+function_of_block (c ∷ dump) [] slots b listed = absurd (let impossible : ⊥ = cc in impossible)
+function_of_block (c ∷ dump) (q ∷ probe) slots b listed =
     let rest : slots_of dump ≡ slots_of probe = cc in
-    let g : Function = record { slot = c.slot; image = c.image; probe = q.image } in
+    let g = function_of c q in
     elim (in_cons_cases c dump b listed) [
       | inl is ↦ (g, in_head g (system_of dump probe), ap (λ (d : Block). d.slot) is, ap (λ (d : Block). d.image) is)
-      | inr later ↦ let found = function_of dump probe rest b later in (found.0, in_tail g (system_of dump probe) found.0 found.1, found.2, found.3)
+      | inr later ↦ let found = function_of_block dump probe rest b later in (found.0, in_tail g (system_of dump probe) found.0 found.1, found.2, found.3)
     ]
 
 -- ---- the writes of a plan
@@ -199,7 +199,7 @@ module _ (p : PlanValue) (is : IsPlanValue p) where
   pub start_fault : (before : List Target) (failures : ℕ) (after : List Target) (failures_after : ℕ) (fault : ApplyFault)
       → IsStartFault before failures p.start.dump failures_after fault → IsApplyFault before failures s p.writes after failures_after fault
   start_fault before failures after failures_after (Changed at offset) (b, listed, (here, changed)) =
-      let found = function_of p.start.dump p.start.probe is.admitted.slots b listed in
+      let found = function_of_block p.start.dump p.start.probe is.admitted.slots b listed in
       let f = found.0 in
       record {
         f = f;
@@ -208,7 +208,7 @@ module _ (p : PlanValue) (is : IsPlanValue p) where
         changed = subst (λ slot. IsChangedAt before slot f.image offset) (sym found.2) (subst (λ image. IsChangedAt before b.slot image offset) (sym found.3) changed);
       }
   start_fault before failures after failures_after (Port done) (b, listed, (none_made, refused)) =
-      let found = function_of p.start.dump p.start.probe is.admitted.slots b listed in
+      let found = function_of_block p.start.dump p.start.probe is.admitted.slots b listed in
       let f = found.0 in
       record {
         within = omega (arith, none_made);

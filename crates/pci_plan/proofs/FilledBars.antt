@@ -8,8 +8,8 @@ use Rattle.std.proofs.Math.Nat.{pow-le-pow_right}
 use denote.Enum.Bare.{sameb}
 use Rattle.pci_spec.specs.Number.{number_at}
 use Rattle.pci_spec.specs.Header.{layout, bar_count, bar_register}
-use Rattle.pci_spec.specs.Bar.{BarKind, IoBar, Memory32, Memory64, Reserved, bar_at, bar_kind, is_io, is_wide, type_bits, starts_bar, whole_bar}
-use Rattle.pci_spec.specs.Decoded.{decoded_bar, decoded_bars, has_bar, bar_size}
+use Rattle.pci_spec.specs.Bar.{BarKind, IoBar, Memory32, Memory64, Reserved, bar_at, bar_kind, is_io, is_wide, type_bits, starts_bar, whole_bar, has_bar}
+use Rattle.pci_spec.specs.Decoded.{decoded_bar, decoded_bars}
 use Rattle.pci_spec.specs.Decoded as decoded
 use Rattle.pci_spec.specs.System.{Function, IsFunction, Bar}
 use Rattle.pci_spec.specs.Plan.{class_of, same_class}

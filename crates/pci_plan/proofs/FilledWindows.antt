@@ -11,7 +11,7 @@ use Rattle.pci_spec.specs.Decoded.{DecodedWindow, optional_window, decoded_windo
 use Rattle.pci_spec.specs.Decoded as decoded
 use Rattle.pci_spec.specs.System.{Function, IsFunction, Window, is_bridge}
 use Rattle.pci_spec.specs.Bus.{secondary}
-use Rattle.pci_spec.specs.Plan.{same_class, class_of, items_on, limited, need_of, has_behind, window_size}
+use Rattle.pci_spec.specs.Plan.{same_class, limited, need_of, has_behind, window_size}
 use Rattle.pci_spec.specs.Plan as plan
 use Rattle.pci_spec.specs.Place.{nibble_of, closed_bounds}
 use Rattle.pci_spec.specs.Planning.Showing.{bounds_for}

@@ -14,7 +14,7 @@ use Rattle.pci_spec.specs.Rom.{has_rom}
 use Rattle.pci_spec.specs.Window.{WindowKind, MemoryWindow}
 use Rattle.pci_spec.specs.System.{System, Function, IsFunction, IsSystem, Part, Bar, Rom, Window, is_bridge, is_implemented}
 use Rattle.pci_spec.specs.Bus.{secondary, IsNested}
-use Rattle.pci_spec.specs.Decoded.{HasRecords, DecodedBar, DecodedRom, decoded_bar, decoded_rom}
+use Rattle.pci_spec.specs.Decoded.{HasRecords, DecodedBar, decoded_bar, decoded_rom}
 use Rattle.pci_spec.specs.Decoded as decoded
 use Rattle.pci_spec.specs.Plan.{same_class, class_of, window_size, limited, need_of, has_behind}
 use Rattle.pci_spec.specs.Plan as plan

@@ -6,7 +6,7 @@ use Rattle.std.specs.List.{All, AllZip, filter}
 use Rattle.std.specs.List.Sorted.{IsStrictlyIncreasing}
 use Rattle.std.proofs.lemmas.List.Sums.{length-filter}
 use Rattle.pci_spec.specs.Text.{Block, slots_of}
-use Rattle.pci_spec.specs.System.{System, Function, IsSystem, system_of}
+use Rattle.pci_spec.specs.System.{System, Function, IsSystem, function_of, system_of}
 use Rattle.pci_spec.specs.Sound.{IsSound}
 use Rattle.pci_spec.specs.Fault.{IsThere}
 use Rattle.pci_spec.specs.Decoded.{IsDecodable}
@@ -64,7 +64,7 @@ on_by_blocks : (dump probe : List Block) → length dump ≡ length probe → le
 on_by_blocks [] probe same = refl
 on_by_blocks (b ∷ dump) [] same = absurd (let impossible : ⊥ = omega (arith, same) in impossible)
 on_by_blocks (b ∷ dump) (p ∷ probe) same =
-    kept_count (is_image_on b.image) b record { slot = b.slot; image = b.image; probe = p.image } (filter (λ (x : Block). is_image_on x.image) dump) (filter is_on (system_of dump probe))
+    kept_count (is_image_on b.image) b (function_of b p) (filter (λ (x : Block). is_image_on x.image) dump) (filter is_on (system_of dump probe))
     (on_by_blocks dump probe (omega (arith, same)))
 
 module _ (a : Admission) (admitted : IsAdmitted a) (decodable : All IsDecodable (system_in a)) (rising : IsStrictlyIncreasing a.roots) (pools : Pools) (addresses : pools.prefetch.last < 2 ^ 64)

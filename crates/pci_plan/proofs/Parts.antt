@@ -7,9 +7,9 @@ use Rattle.std.proofs.lemmas.Nat.{pow_pos}
 use Rattle.std.proofs.lemmas.List.Elements.{filter-append}
 use Rattle.pci_spec.specs.Number.{lowest_one}
 use Rattle.pci_spec.specs.Header.{layout, bar_count}
-use Rattle.pci_spec.specs.Bar.{bar_at, is_io, whole_bar}
+use Rattle.pci_spec.specs.Bar.{bar_at, is_io, whole_bar, has_bar}
 use Rattle.pci_spec.specs.Rom.{rom_at, has_rom}
-use Rattle.pci_spec.specs.Decoded.{DecodedBar, DecodedRom, decoded_bar, decoded_rom, has_bar, bar_size, rom_size}
+use Rattle.pci_spec.specs.Decoded.{DecodedBar, DecodedRom, decoded_bar, decoded_rom, bar_size, rom_size}
 use Rattle.pci_spec.specs.Decoded as decoded
 use Rattle.pci_spec.specs.System.{System, Function, Part, Bar, Rom, is_implemented, bars_and_rom}
 use Rattle.pci_spec.specs.Plan.{size_of}

@@ -9,7 +9,7 @@ use Rattle.pci_spec.specs.Slot.{Slot, slot_number}
 use Rattle.pci_spec.specs.Text.{Block, IsDump, slots_of}
 use Rattle.pci_spec.specs.Stops.{IsAboveLast, last_slot}
 use Rattle.pci_spec.specs.Window.{WindowKind, IoWindow, MemoryWindow, PrefetchWindow}
-use Rattle.pci_spec.specs.System.{System, Function, system_of}
+use Rattle.pci_spec.specs.System.{System, Function, function_of, system_of}
 use Rattle.pci_spec.specs.Decoded.{HasRecords}
 use Rattle.pci_spec.specs.Decoded as decoded
 use Rattle.pci_spec.specs.PlanPromise.{CanBePlanned}
@@ -18,7 +18,7 @@ use Rattle.pci_spec.specs.Planning.Plannable.{IsPlannable}
 use Rattle.pci_spec.specs.Planning.Table.{IsTable}
 use Rattle.pci_spec.specs.Planning.Numbers.{place_at}
 use Rattle.pci_spec.proofs.Members.{in_head, in_tail}
-use Rattle.pci_spec.proofs.Pairing.{function_of, function-at, length-system_of, same_length}
+use Rattle.pci_spec.proofs.Pairing.{function-at, length-system_of, same_length}
 use Rattle.pci_spec.proofs.Planning.Placings.{table_of_places}
 use Rattle.pci_spec.proofs.Planning.Reach.{AreGood, good_pools}
 use Rattle.pci_tree.specs.Admission.{Admission, IsAdmitted}

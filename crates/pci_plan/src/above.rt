@@ -3,6 +3,7 @@ ghost use Rattle.std.specs.Prelude.{◌≡◌, ◌&&◌};
 ghost use Rattle.std.specs.Option.{is_some};
 ghost use Rattle.pci_plan.specs.Above.{AreAboves, is_wide_in, system_in};
 
+use pci_image::slot::BUSES;
 use pci_image::window::{Window, Windows};
 use pci_tree::admitted::Admitted;
 use std::alloc::Allocator;
@@ -52,10 +53,10 @@ impl Above {
 
 /// What is above each bus that has a function on it. A bridge has a lower slot than each function behind it, so one
 /// pass in slot order finds what is above a bridge before what is above the bus behind it.
-pub fn aboves<A: Allocator>(admitted: &Admitted<A>) -> [Above; 256]
+pub fn aboves<A: Allocator>(admitted: &Admitted<A>) -> [Above; BUSES]
     ensures { AreAboves (system_in admitted.now) result }
 {
-    let mut aboves = [Above::NONE; 256];
+    let mut aboves = [Above::NONE; BUSES];
     for record in admitted.outline().records() {
         if let Some(bridge) = record.bridge {
             let secondary = bridge.secondary as usize;

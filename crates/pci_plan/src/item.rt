@@ -20,6 +20,7 @@ use pci_function::record::{Bridge, Record};
 use pci_image::bar::Bar;
 use pci_image::offset::BASE_ADDRESS;
 use pci_image::rom::Rom;
+use pci_image::slot::BUSES;
 use pci_image::window_kind::WindowKind;
 use pci_tree::admitted::Admitted;
 use pci_tree::roots::Roots;
@@ -163,7 +164,7 @@ pub fn items_of<A: Allocator, B: Allocator>(
     admitted: &Admitted<B>,
     pools: &Pools,
     class: WindowKind,
-    aboves: &[Above; 256],
+    aboves: &[Above; BUSES],
     needs: &Needs,
 ) -> Result<Vec<Item, A>, OutOfMemory>
     requires aboves { AreAboves (system_in admitted.now) aboves.now }

@@ -10,7 +10,7 @@ ghost use Rattle.pci_plan.specs.Classes.{is_io_kind};
 use super::above::Above;
 use pci_function::record::Record;
 use pci_image::bar::BarKind;
-use pci_image::slot::Slot;
+use pci_image::slot::{BUSES, Slot};
 use pci_tree::admitted::Admitted;
 use std::alloc::Allocator;
 
@@ -27,7 +27,7 @@ pub fn has_io_bar(function: &Record) -> bool
 }
 
 /// The first function, by slot, that has an I/O BAR behind a bridge without an I/O window.
-pub fn first_lacking<A: Allocator>(admitted: &Admitted<A>, aboves: &[Above; 256]) -> Option<Slot>
+pub fn first_lacking<A: Allocator>(admitted: &Admitted<A>, aboves: &[Above; BUSES]) -> Option<Slot>
     requires { AreAboves (system_in admitted.now) aboves.now }
     ensures { MatchOption result ((slot : SlotValue) → LacksWindow (system_in admitted.now) slot → ⊥) (IsFirstLacking (system_in admitted.now)) }
 {

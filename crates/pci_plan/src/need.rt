@@ -15,6 +15,7 @@ use super::pools::Pools;
 use pci_function::record::Record;
 use pci_image::bar::Bar;
 use pci_image::rom::Rom;
+use pci_image::slot::BUSES;
 use pci_image::window_kind::WindowKind;
 use pci_tree::admitted::Admitted;
 use std::alloc::Allocator;
@@ -26,7 +27,7 @@ const MOST: u128 = 1 << 65;
 #[derive(Clone, Copy, Debug)]
 pub struct Needs {
     /// How many addresses each bus needs, 2^65 standing for all that is more.
-    pub of_bus: [u128; 256],
+    pub of_bus: [u128; BUSES],
     /// The greatest size of what stands on the root buses, 0 where nothing does.
     pub greatest: u128,
 }
@@ -114,7 +115,7 @@ fn tally_of(
     class: WindowKind,
     above: Above,
     pools: &Pools,
-    of_bus: &[u128; 256],
+    of_bus: &[u128; BUSES],
 ) -> Tally
     requires lawful { IsLawful «record».now }
     requires limited { All (λ need. need ≤ 2 ^ 65) of_bus.now }
@@ -136,7 +137,7 @@ pub fn needs_of<A: Allocator>(
     admitted: &Admitted<A>,
     pools: &Pools,
     class: WindowKind,
-    aboves: &[Above; 256],
+    aboves: &[Above; BUSES],
 ) -> Needs
     requires { AreAboves (system_in admitted.now) aboves.now }
     ensures need { (bus : ℕ) → bus < 256 → slice_index result.of_bus bus ≡ need_of (system_in admitted.now) (pools_value pools.now) (kind_value class) bus }
@@ -145,7 +146,7 @@ pub fn needs_of<A: Allocator>(
     let outline = admitted.outline();
     let records = outline.records();
     let roots = outline.roots();
-    let mut of_bus = [0; 256];
+    let mut of_bus = [0; BUSES];
     let mut greatest = 0;
     for done in 0..records.len() {
         let record = &records[records.len() - 1 - done];

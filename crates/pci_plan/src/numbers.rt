@@ -1,14 +1,12 @@
 //! What the registers of a function hold when everything is placed.
-ghost use Rattle.std.specs.Prelude.{◌≡◌, ◌+◌, ◌*◌, ◌/◌, ◌%◌, ◌^◌, ◌<◌, ◌≤◌, ℕ, ◌&&◌, ◌||◌, not, IsTrue, slice_index};
+ghost use Rattle.std.specs.Prelude.{◌≡◌, ◌+◌, ◌*◌, ◌/◌, ◌%◌, ◌^◌, ◌<◌, ℕ, ◌&&◌, ◌||◌, not, IsTrue, slice_index};
 ghost use Rattle.std.specs.List.{Contains, list_any};
 ghost use Rattle.std.specs.Option.{is_some};
 ghost use Rattle.pci_spec.specs.Header.{address_registers, bar_count, bar_register, layout, rom_register};
 ghost use Rattle.pci_spec.specs.System.{Bar as BarPart, Window as WindowPart, is_bridge};
 ghost use Rattle.pci_spec.specs.Window.{has_window};
-ghost use Rattle.pci_spec.specs.Place.{closed_bounds, nibble_of};
+ghost use Rattle.pci_spec.specs.Place.{nibble_of};
 ghost use Rattle.pci_spec.specs.Plan.{has_behind};
-ghost use Rattle.pci_spec.specs.Planning.Showing.{bounds_for, first_bit};
-ghost use Rattle.pci_image.specs.Bars.{decoded_kind_of};
 ghost use Rattle.pci_spec.specs.Planning.Numbers as numbers;
 ghost use Rattle.pci_plan.specs.Classes.{is_io_kind};
 ghost use Rattle.pci_image.specs.WindowKinds.{kind_value, by_kind};

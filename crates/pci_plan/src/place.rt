@@ -17,6 +17,7 @@ use super::need::Needs;
 use super::pools::Pools;
 use super::room::raised;
 use pci_dump::memory::OutOfMemory;
+use pci_image::slot::BUSES;
 use pci_image::window_kind::{ByKind, WindowKind};
 use pci_tree::admitted::Admitted;
 use std::alloc::Allocator;
@@ -68,7 +69,7 @@ fn place_sorted(items: &[Item], class: WindowKind, start: u128, places: &mut [Pl
     ensures others { (k : ℕ) (d : Places) (part : PartValue) → ((i : Item) → Contains items.now i → i.function ≡ k → part_value (kind_value class) i.part ≡ part → ⊥)
         → first_in (slice_index_or places.new k d) part ≡ first_in (slice_index_or places.old k d) part }
 {
-    let mut starts = [0u128; 256];
+    let mut starts = [0u128; BUSES];
     let mut group = 0;
     let mut next = start;
     for item in items {
@@ -90,7 +91,7 @@ pub fn place_class<A: Allocator + Copy, B: Allocator>(
     admitted: &Admitted<B>,
     pools: &Pools,
     class: WindowKind,
-    aboves: &[Above; 256],
+    aboves: &[Above; BUSES],
     needs: &Needs,
     places: &mut [Places],
 ) -> Result<(), OutOfMemory>

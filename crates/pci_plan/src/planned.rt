@@ -1,7 +1,6 @@
 //! The planned dump: the start with the new numbers put in.
-ghost use Rattle.std.specs.Prelude.{◌≡◌, ◌+◌, ◌++◌, ◌^◌, ◌<◌, ◌≤◌, ◌⊎◌, ℕ, IfOk, OnOk, [], ◌∷◌, map, length};
+ghost use Rattle.std.specs.Prelude.{◌≡◌, ◌+◌, ◌++◌, ◌<◌, IfOk, OnOk, [], ◌∷◌, map, length};
 ghost use Rattle.std.specs.List.{AllZip};
-ghost use Rattle.pci_spec.specs.Number.{byte_at, number_at, IsImage};
 ghost use Rattle.pci_spec.specs.Text.{slots_of};
 ghost use Rattle.pci_spec.specs.Stops.{IsAboveLast, last_slot};
 ghost use Rattle.pci_spec.specs.System.{system_of};

@@ -35,6 +35,7 @@ use pci_check::verdict::Verdict;
 use pci_dump::dump::Dump;
 use pci_dump::memory::{OutOfMemory, Refused};
 use pci_function::fault::Fault;
+use pci_image::slot::BUSES;
 use pci_image::window_kind::{ByKind, WindowKind};
 use pci_tree::admit::outline_of;
 use pci_tree::admitted::Admitted;
@@ -45,7 +46,7 @@ use std::alloc::Allocator;
 fn all_needs<A: Allocator>(
     admitted: &Admitted<A>,
     pools: &Pools,
-    aboves: &[Above; 256],
+    aboves: &[Above; BUSES],
 ) -> ByKind<Needs>
     requires { AreAboves (system_in admitted.now) aboves.now }
     ensures { AreAllNeeds admitted.now.roots (system_in admitted.now) (pools_value pools.now) result }
@@ -104,7 +105,7 @@ fn all_places<A: Allocator + Copy, B: Allocator>(
     alloc: A,
     admitted: &Admitted<B>,
     pools: &Pools,
-    aboves: &[Above; 256],
+    aboves: &[Above; BUSES],
     needs: &ByKind<Needs>,
 ) -> Result<Vec<Places, A>, OutOfMemory>
     requires plannable { CanBePlanned admitted.now.roots (system_in admitted.now) (pools_value pools.now) }
@@ -190,7 +191,7 @@ fn made<'a, A: Allocator + Copy>(
     alloc: A,
     admitted: &'a Admitted<A>,
     pools: &Pools,
-    aboves: &[Above; 256],
+    aboves: &[Above; BUSES],
     needs: &ByKind<Needs>,
 ) -> Result<Plan<'a, A>, OutOfMemory>
     requires plannable { CanBePlanned admitted.now.roots (system_in admitted.now) (pools_value pools.now) }

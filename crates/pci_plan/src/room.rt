@@ -10,6 +10,7 @@ ghost use Rattle.pci_plan.specs.Needs.{AreNeeds};
 
 use super::need::Needs;
 use super::pools::Pools;
+use pci_image::slot::BUSES;
 use pci_image::window_kind::WindowKind;
 use pci_tree::admitted::Admitted;
 use pci_tree::roots::Roots;
@@ -22,7 +23,7 @@ fn need_of_roots(roots: &Roots, needs: &Needs) -> u128
     ensures bound { result ≤ 2 ^ 73 }
 {
     let mut sum = 0;
-    for bus in 0..256usize {
+    for bus in 0..BUSES {
         if roots.has(bus as u8) {
             sum += needs.of_bus[bus];
         }

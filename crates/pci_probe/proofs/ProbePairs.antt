@@ -13,7 +13,8 @@ use Rattle.pci_spec.specs.Resource.{ResourceLine}
 use Rattle.pci_spec.specs.Derived.{derived_byte, derived_probe}
 use Rattle.pci_spec.specs.SizesText.{SizesBlock, sized_slots}
 use Rattle.pci_spec.specs.ProbeOf.{told_of, probe_block, probe_of, identity_fault, first_of}
-use Rattle.pci_spec.proofs.Pairing.{function_of, function-at, same_length, length-system_of}
+use Rattle.pci_spec.specs.System.{function_of}
+use Rattle.pci_spec.proofs.Pairing.{function-at, same_length, length-system_of}
 use Rattle.pci_function.specs.Profile.{IsAnswering}
 use Rattle.pci_function.specs.Pair.{IsPair}
 use Rattle.pci_function.proofs.Pairs.{answering_pair}

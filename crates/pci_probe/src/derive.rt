@@ -14,7 +14,7 @@ use super::register::register;
 use arrayvec::ArrayVec;
 use pci_image::fault::ImageFault;
 use pci_image::header::Header;
-use pci_image::image::{Image, put};
+use pci_image::image::{IMAGE_LEN, Image, put};
 use pci_image::register::address_registers;
 
 /// Whether a function is a bridge, by its header, and not a device.
@@ -77,13 +77,10 @@ pub fn derive(
         Err(fault) => return Err(DeriveFault::Header(fault)),
     };
     let mut assumed = ArrayVec::new();
-    probe.0 = [0; 256];
+    probe.0 = [0; IMAGE_LEN];
     for place in address_registers(bridge) {
         let derived = register(image, lines, bridge, place.offset);
-        let (read_back, is_assumed) = match taken(derived, exact, place.offset) {
-            Ok(taken) => taken,
-            Err(fault) => return Err(fault),
-        };
+        let (read_back, is_assumed) = taken(derived, exact, place.offset)?;
         put(&mut probe.0, place.offset, place.width, read_back);
         if is_assumed {
             assumed.push(place.offset);

@@ -18,7 +18,7 @@ use super::sizes::{Sizes, SizesBlock};
 use pci_dump::block::Block;
 use pci_dump::dump::Dump;
 use pci_dump::memory::{OutOfMemory, Refused};
-use pci_image::image::Image;
+use pci_image::image::{IMAGE_LEN, Image};
 use pci_image::slot::Slot;
 use std::alloc::{Allocator, Global};
 
@@ -75,7 +75,7 @@ fn add<A: Allocator>(
     ensures assumed { OnOk result (derivation.new.assumed.items ≡ derivation.old.assumed.items ++ assumed_in (told block.now sizes.now)) }
     ensures fault { IfErr result (IsFaultOfFunction exact (told block.now sizes.now)) }
 {
-    let mut image = Image([0; 256]);
+    let mut image = Image([0; IMAGE_LEN]);
     let registers = match derive(&block.image, &sizes.lines, exact, &mut image) {
         Ok(registers) => registers,
         Err(fault) => return Err(Refused::Fault(ProbeFault::at(block.slot, fault))),
@@ -131,10 +131,7 @@ pub fn probe_of<A: Allocator + Copy, B: Allocator, C: Allocator>(
         assumed: Vec::new(alloc),
     };
     for i in 0..blocks.len() {
-        match add(&mut derivation, &blocks[i], &told[i], exact) {
-            Ok(()) => {}
-            Err(refused) => return Err(refused),
-        }
+        add(&mut derivation, &blocks[i], &told[i], exact)?;
     }
     Ok(derivation)
 }

@@ -8,13 +8,13 @@ ghost use Rattle.pci_spec.specs.SizesStops.{cell_at, ends_before, SlotFollows, S
 ghost use Rattle.pci_probe.specs.SizesFault.{IsFaultAfter, IsNoBlockAfter};
 
 use super::sizes::SizesBlock;
-use super::sizes_block::may_follow;
+use super::sizes_block::{BLOCK_LEN, may_follow};
 use pci_dump::digit::digit_value;
 use pci_dump::read_fault::ReadFault;
 use pci_dump::slot_text::slot_of;
 
 /// The text of the greatest block: where it has a digit `f`, `7` or `1`, each block has one of at most that, and elsewhere the same byte.
-static GREATEST: [u8; 408] = *b"ff:1f.7\n\
+static GREATEST: [u8; BLOCK_LEN] = *b"ff:1f.7\n\
 0xffffffffffffffff 0xffffffffffffffff 0xffffffffffffffff\n\
 0xffffffffffffffff 0xffffffffffffffff 0xffffffffffffffff\n\
 0xffffffffffffffff 0xffffffffffffffff 0xffffffffffffffff\n\

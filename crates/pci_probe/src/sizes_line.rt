@@ -44,7 +44,7 @@ fn number_of(text: &[u8]) -> Option<u64>
 }
 
 /// The line of a register of which nothing is told.
-static NO_LINE: [u8; 57] = *b"0x0000000000000000 0x0000000000000000 0x0000000000000000\n";
+static NO_LINE: [u8; LINE_LEN] = *b"0x0000000000000000 0x0000000000000000 0x0000000000000000\n";
 
 /// What a line tells: three numbers with a space between, and the line's end.
 pub(crate) fn line_of(text: &[u8]) -> Option<ResourceLine>

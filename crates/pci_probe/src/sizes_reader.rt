@@ -17,10 +17,10 @@ use std::alloc::Allocator;
 const CHUNK_LEN: usize = 20 * BLOCK_LEN;
 
 /// The line after 4,096 blocks of nine lines.
-const LINE_AFTER_ALL: u64 = 36_865;
+const LINE_AFTER_ALL: u64 = 9 * BLOCKS_MAX as u64 + 1;
 
 /// Reads until `chunk` is full or the source has told its end, and answers how many bytes were read.
-fn fill<S: Source>(source: &mut S, chunk: &mut [u8; 8160]) -> Result<usize, Failed>
+fn fill<S: Source>(source: &mut S, chunk: &mut [u8; CHUNK_LEN]) -> Result<usize, Failed>
     ensures few { IfOk result (λ n. n ≤ 8160) }
     ensures bytes { IfOk result (λ n. Consumes (S.left source.old) (S.left source.new) (take n chunk.new)) }
     ensures end { IfOk result (λ n. n < 8160 → IsAtEnd (S.left source.new)) }
@@ -31,10 +31,7 @@ fn fill<S: Source>(source: &mut S, chunk: &mut [u8; 8160]) -> Result<usize, Fail
     // A full chunk ends it as well: there is room for nothing then, and nothing is read.
     let mut drained = false;
     while !drained {
-        let read = match source.read(&mut chunk[len..]) {
-            Err(failed) => return Err(failed),
-            Ok(read) => read,
-        };
+        let read = source.read(&mut chunk[len..])?;
         drained = read == 0;
         len += read;
     }
@@ -75,10 +72,7 @@ fn take_blocks<A: Allocator>(bytes: &[u8], sizes: &mut Sizes<A>) -> Result<(), R
     let mut rest = bytes;
     while !rest.is_empty() {
         let (block, more) = rest.split_at(BLOCK_LEN.min(rest.len()));
-        match take_block(block, sizes) {
-            Err(fault) => return Err(fault),
-            Ok(()) => {}
-        }
+        take_block(block, sizes)?;
         rest = more;
     }
     Ok(())
@@ -105,10 +99,7 @@ pub fn read_sizes<S: Source, A: Allocator>(alloc: A, source: &mut S) -> Result<S
             Err(Failed) => return Err(ReadFault::Io),
             Ok(len) => len,
         };
-        match take_blocks(&chunk[..len], &mut sizes) {
-            Err(fault) => return Err(fault),
-            Ok(()) => {}
-        }
+        take_blocks(&chunk[..len], &mut sizes)?;
         if len < CHUNK_LEN {
             return Ok(sizes);
         }

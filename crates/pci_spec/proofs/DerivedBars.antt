@@ -5,7 +5,7 @@ use Rattle.std.specs.Bool.{nat_eq, ◌==◌, if◌then◌else◌}
 use Rattle.std.specs.Int.{bit_at}
 use Rattle.std.proofs.lemmas.Bool.{and_parts, both_ways, eqb-true, eq-eqb, ne_eqb}
 use Rattle.pci_spec.specs.Number.{has_bit}
-use Rattle.pci_spec.specs.Bar.{BarMask, BarType, BarPair, bar_kind, first_broken, is_io, is_wide, type_bits, encodings, has_lawful_size, is_within}
+use Rattle.pci_spec.specs.Bar.{BarMask, BarType, BarPair, bar_kind, BarReading, first_broken, is_io, is_wide, type_bits, encodings, has_lawful_size, is_within}
 use Rattle.pci_spec.specs.Machine.{without_low}
 use Rattle.pci_spec.specs.Resource.{ResourceLine, is_of_register, address_count, tells_bar}
 use Rattle.pci_spec.specs.Derived.{Derived, Known, Assumed, NoSize, OtherSize, bar_of_size, derived_bar, lower_half, read_back_of}
@@ -52,18 +52,18 @@ width_of_register mask = width_of_tests (is_io mask) (type_bits mask == 2) (type
 
 -- ---- registers that keep the rules have no fault
 
-pub keeps_rules : (last : Bool) (value mask whole_value whole_mask : ℕ) → mask ≢ 0 → ObeysRules last value mask whole_value whole_mask
-    → first_broken last value mask whole_value whole_mask ≡ None
-keeps_rules last value mask whole_value whole_mask some r =
-    let z : nat_eq mask 0 ≡ false = ne_eqb mask 0 some in
-    let e : (value % encodings mask == mask % encodings mask) ≡ true = eq-eqb _ _ r.encoding in
+pub keeps_rules : (bar : BarReading) → bar.mask ≢ 0 → ObeysRules bar → first_broken bar ≡ None
+keeps_rules bar some r =
+    let z : nat_eq bar.mask 0 ≡ false = ne_eqb bar.mask 0 some in
+    let e : (bar.value % encodings bar.mask == bar.mask % encodings bar.mask) ≡ true = eq-eqb _ _ r.encoding in
     let io = r.io in
     let memory = r.memory in
     let pair = r.pair in
     let sized = r.sized in
     let within = r.within in
-    rules_kept (mask == 0) (value == 0) (value % encodings mask == mask % encodings mask) (is_io mask && has_bit mask 1) (not (is_io mask) && has_bit mask 1)
-    (is_wide mask && last) (has_lawful_size (bar_kind mask) whole_mask) (is_within 0 whole_value whole_mask) z e io memory pair sized within where
+    rules_kept (bar.mask == 0) (bar.value == 0) (bar.value % encodings bar.mask == bar.mask % encodings bar.mask) (is_io bar.mask && has_bit bar.mask 1)
+    (not (is_io bar.mask) && has_bit bar.mask 1) (is_wide bar.mask && bar.last) (has_lawful_size (bar_kind bar.mask) bar.whole_mask)
+    (is_within 0 bar.whole_value bar.whole_mask) z e io memory pair sized within where
       rules_kept : (none clear same io memory pair size within : Bool) → none ≡ false → same ≡ true → io ≡ false → memory ≡ false → pair ≡ false → size ≡ true → within ≡ true
           → (if none then (if clear then None else Some BarMask)
           else if not same then Some BarMask
@@ -83,10 +83,10 @@ keeps_rules last value mask whole_value whole_mask some r =
           else if not (g i) then Some BarMask
           else None
 
-pub absent_is_fine : (last : Bool) (value mask whole_value whole_mask : ℕ) → value ≡ 0 → mask ≡ 0 → first_broken last value mask whole_value whole_mask ≡ None
-absent_is_fine last value mask whole_value whole_mask v m =
-    let z : nat_eq mask 0 ≡ true = eq-eqb mask 0 m in
-    let w : nat_eq value 0 ≡ true = eq-eqb value 0 v in
+pub absent_is_fine : (bar : BarReading) → bar.value ≡ 0 → bar.mask ≡ 0 → first_broken bar ≡ None
+absent_is_fine bar v m =
+    let z : nat_eq bar.mask 0 ≡ true = eq-eqb bar.mask 0 m in
+    let w : nat_eq bar.value 0 ≡ true = eq-eqb bar.value 0 v in
     rw (z, w) refl
 
 -- ---- the cases of a derived BAR

@@ -4,12 +4,8 @@ use Rattle.std.specs.List.{All, Contains}
 use Rattle.std.proofs.lemmas.List.{length-map}
 use Rattle.pci_spec.specs.Slot.{Slot, IsRising}
 use Rattle.pci_spec.specs.Text.{Block, IsBlock, IsDump, slots_of}
-use Rattle.pci_spec.specs.System.{Function, IsFunction, IsSystem, system_of}
+use Rattle.pci_spec.specs.System.{Function, IsFunction, IsSystem, function_of, system_of}
 use Rattle.pci_spec.specs.Fault.{Fault, IsIn, IsThere, SlotsDiffer}
-
--- the function of a block and its read backs
-abbrev pub function_of : Block → Block → Function
-function_of b p = record { slot = b.slot; image = b.image; probe = p.image }
 
 -- both have as many blocks
 pub same_length : (dump probe : List Block) → slots_of dump ≡ slots_of probe → length dump ≡ length probe

@@ -1,17 +1,17 @@
 -- What registers decode to is what their comparators answer.
 use Rattle.std.proofs.Common.{◌≡◌, ◌≢◌, ◌↔◌, ℕ, zero, suc, ◌+◌, ◌-◌, ◌*◌, ◌/◌, ◌%◌, ◌^◌, ◌<◌, ◌≤◌, refl, Bool, true, false, not, ◌&&◌, inl, inr, arith, sym, ◌∙◌, ap, subst, lit<, lit≤, List, Option, Some, None, if◌then◌else◌}
 use Rattle.std.specs.Prelude.{IsTrue, IsFalse, MatchOption}
-use Rattle.std.specs.Bool.{beq, nat_le, nat_eq}
+use Rattle.std.specs.Bool.{beq, nat_le, nat_eq, ◌==◌}
 use Rattle.std.specs.List.{find, range_with_len}
 use Rattle.std.proofs.Math.Dec.{eqb}
 use Rattle.std.proofs.lemmas.Bool.{and_parts, and_from, and_left, or_cases, le-leb, leb-true, leb-false, cases_lt, cases_Bool, both_ways, eqb-true, eqb-false, ne_eqb, not-true, not-false, not_from_false, false_from_ne_true}
 use Rattle.std.proofs.lemmas.Nat.{pow_pos, pow_below, pow-add, shr_below, mul-le, mod_below, le-div, div_below, div-add-mod'}
 use Rattle.pci_spec.specs.Number.{number_at, has_bit, lowest_one, some_from, AgreeFrom, IsImage}
 use Rattle.pci_spec.specs.Header.{bar_count, layout, bar_register, rom_register}
-use Rattle.pci_spec.specs.Bar.{BarKind, IoBar, Memory32, Memory64, Reserved, BarFault, BarMask, BarType, BarPair, bar_at, bar_kind, is_io, is_wide, type_bits, starts_bar, whole_bar, is_run, is_lawful, has_lawful_size, is_within, encodings, first_broken, bar_fault, Answers, BarDecodes}
+use Rattle.pci_spec.specs.Bar.{BarKind, IoBar, Memory32, Memory64, Reserved, BarFault, BarMask, BarType, BarPair, bar_at, bar_kind, is_io, is_wide, type_bits, starts_bar, whole_bar, is_run, is_lawful, has_lawful_size, is_within, encodings, BarReading, bar_reading, first_broken, bar_fault, Answers, BarDecodes, has_bar}
 use Rattle.pci_spec.specs.Rom.{rom_at, has_rom, is_rom_size, breaks_rom_rule, RomDecodes}
 use Rattle.pci_spec.specs.Window.{WindowKind, IoWindow, MemoryWindow, PrefetchWindow, has_window, base_page, limit_page, page_size, holds}
-use Rattle.pci_spec.specs.Decoded.{InRange, aligned_range, bar_size, decoded_bar, has_bar, rom_size, window_range}
+use Rattle.pci_spec.specs.Decoded.{InRange, aligned_range, bar_size, decoded_bar, rom_size, window_range}
 use Rattle.pci_spec.proofs.Absent.{not_lawful, no_rom}
 use Rattle.pci_spec.proofs.Bits.{each_from-at, some_from-at, some_from-gives, agree-interval, interval-agrees}
 
@@ -160,26 +160,32 @@ none_past true fault rest h = cc
 none_past false fault rest h = (refl, h)
 
 -- what an implemented BAR's registers keep where none of the rules is broken
-pub record ObeysRules (last : Bool) (value mask whole_value whole_mask : ℕ) : Type 0 where
-  pub encoding : value % encodings mask ≡ mask % encodings mask
-  pub io : (is_io mask && has_bit mask 1) ≡ false
-  pub memory : (not (is_io mask) && has_bit mask 1) ≡ false
-  pub pair : (is_wide mask && last) ≡ false
-  pub sized : has_lawful_size (bar_kind mask) whole_mask ≡ true
-  pub within : is_within 0 whole_value whole_mask ≡ true
+pub record ObeysRules (bar : BarReading) : Type 0 where
+  pub encoding : bar.value % encodings bar.mask ≡ bar.mask % encodings bar.mask
+  pub io : (is_io bar.mask && has_bit bar.mask 1) ≡ false
+  pub memory : (not (is_io bar.mask) && has_bit bar.mask 1) ≡ false
+  pub pair : (is_wide bar.mask && bar.last) ≡ false
+  pub sized : has_lawful_size (bar_kind bar.mask) bar.whole_mask ≡ true
+  pub within : is_within 0 bar.whole_value bar.whole_mask ≡ true
+
+-- a BAR that isn't there shows 0
+pub absent_shows_0 : (bar : BarReading) → (bar.mask == 0) ≡ true → first_broken bar ≡ None → bar.value ≡ 0
+absent_shows_0 bar no_ones none = elim (cases_Bool (bar.value == 0)) [
+  | inl zeros ↦ eqb-true bar.value 0 zeros
+  | inr ones ↦ let broken = rw (no_ones, ones) at none in cc
+]
 
 -- where nothing is found, all rules are kept
-pub obeys_rules : (last : Bool) (value mask whole_value whole_mask : ℕ) → mask ≢ 0 → first_broken last value mask whole_value whole_mask ≡ None
-    → ObeysRules last value mask whole_value whole_mask
-obeys_rules last value mask whole_value whole_mask nonzero h =
-    let z : nat_eq mask 0 ≡ false = ne_eqb mask 0 nonzero in
+pub obeys_rules : (bar : BarReading) → bar.mask ≢ 0 → first_broken bar ≡ None → ObeysRules bar
+obeys_rules bar nonzero h =
+    let z : nat_eq bar.mask 0 ≡ false = ne_eqb bar.mask 0 nonzero in
     let r1 = rw z at h in
     let s1 = none_past _ BarMask _ r1 in
-    let s2 = none_past (is_io mask && has_bit mask 1) BarMask _ s1.1 in
-    let s3 = none_past (not (is_io mask) && has_bit mask 1) BarType _ s2.1 in
-    let s4 = none_past (is_wide mask && last) BarPair _ s3.1 in
-    let s5 = none_past (not (has_lawful_size (bar_kind mask) whole_mask)) BarMask _ s4.1 in
-    let s6 = none_past (not (is_within 0 whole_value whole_mask)) BarMask None s5.1 in
+    let s2 = none_past (is_io bar.mask && has_bit bar.mask 1) BarMask _ s1.1 in
+    let s3 = none_past (not (is_io bar.mask) && has_bit bar.mask 1) BarType _ s2.1 in
+    let s4 = none_past (is_wide bar.mask && bar.last) BarPair _ s3.1 in
+    let s5 = none_past (not (has_lawful_size (bar_kind bar.mask) bar.whole_mask)) BarMask _ s4.1 in
+    let s6 = none_past (not (is_within 0 bar.whole_value bar.whole_mask)) BarMask None s5.1 in
     record {
       encoding = eqb-true _ _ (not-false _ s1.0);
       io = s2.0;
@@ -210,10 +216,10 @@ bar_mask-nonzero probe n h =
 
 -- the registers of an implemented BAR that has no fault keep the rules
 pub lawful_bar : (image probe : List ℕ) (n : ℕ) → IsTrue (has_bar probe n) → bar_fault image probe n ≡ None
-    → ObeysRules (nat_eq (n + 1) (bar_count (layout image))) (bar_at image n) (bar_at probe n) (whole_bar probe image n) (whole_bar probe probe n)
+    → ObeysRules (bar_reading (n + 1 == bar_count (layout image)) image probe n)
 lawful_bar image probe n there none =
     let some = bar_mask-nonzero probe n there in
-    obeys_rules _ (bar_at image n) (bar_at probe n) (whole_bar probe image n) (whole_bar probe probe n) some.1 (rw some.0 at none)
+    obeys_rules (bar_reading (n + 1 == bar_count (layout image)) image probe n) some.1 (rw some.0 at none)
 
 -- the range of an implemented BAR that has no fault is what its comparator answers
 pub decoded_bar-decodes : (image probe : List ℕ) (n : ℕ) → IsTrue (has_bar probe n) → bar_fault image probe n ≡ None

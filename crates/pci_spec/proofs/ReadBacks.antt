@@ -1,17 +1,18 @@
 -- What the rules of decoding say of a register's value and its read back, bit by bit.
-use Rattle.std.proofs.Common.{◌≡◌, ◌⊎◌, ℕ, suc, ◌+◌, ◌-◌, ◌*◌, ◌/◌, ◌%◌, ◌^◌, ◌<◌, ◌≤◌, inl, inr, List, refl, Bool, true, false, ◌&&◌, ◌||◌, not, None, Some, arith, sym, ◌∙◌, ap}
+use Rattle.std.proofs.Common.{◌≡◌, ◌⊎◌, ℕ, suc, ◌+◌, ◌-◌, ◌*◌, ◌/◌, ◌%◌, ◌^◌, ◌<◌, ◌≤◌, inl, inr, List, refl, Bool, true, false, ◌&&◌, ◌||◌, not, None, arith, sym, ◌∙◌, ap}
 use Rattle.std.specs.Prelude.{◌==◌, if◌then◌else◌}
 use Rattle.std.specs.Bool.{nat_le}
 use Rattle.std.specs.Int.{bit_at}
-use Rattle.std.proofs.lemmas.Bool.{and_parts, and_from, and_left, le-leb, lt-leb, or_cases, both_ways, leb-true, eqb-true, not-false}
+use Rattle.std.proofs.lemmas.Bool.{and_parts, and_from, and_left, cases_Bool, le-leb, lt-leb, or_cases, both_ways, leb-true, eqb-true, eqb-false, not-false}
 use Rattle.std.proofs.lemmas.Nat.Bits.{bit_at-lt, bit_at-zero, bit_at_cat_low, bit_at_cat_high, bit_at_mask_inside, bit_at_ones}
-use Rattle.pci_spec.specs.Number.{has_bit, IsImage, some_from}
+use Rattle.pci_spec.specs.Number.{IsImage, some_from}
 use Rattle.pci_spec.specs.Header.{layout, bar_count}
-use Rattle.pci_spec.specs.Bar.{bar_at, is_io, is_wide, encodings, starts_bar, whole_bar, has_lawful_size, bar_kind, is_within, BarMask, BarType, BarPair, first_broken, bar_fault}
+use Rattle.pci_spec.specs.Bar.{bar_at, is_io, is_wide, encodings, starts_bar, whole_bar, is_within, BarReading, bar_reading, first_broken, bar_fault}
 use Rattle.pci_spec.specs.Rom.{rom_at, is_rom_size, breaks_rom_rule}
-use Rattle.pci_spec.specs.Window.{WindowKind, IoWindow, MemoryWindow, PrefetchWindow, Bounds, bounds_at, page_bits, upper_bits, is_zero, is_lawful_window, is_optional, breaks_window_rule}
+use Rattle.pci_spec.specs.Window.{WindowKind, IoWindow, MemoryWindow, PrefetchWindow, Bounds, bounds_at, page_bits, upper_bits, is_zero, is_window_read_back, is_window_value, is_lawful_window, is_optional, breaks_window_rule}
 use Rattle.pci_spec.proofs.Bits.{each_from-at, some_from-gives, bit_at-without_low, bit_of_true, bit_of_false}
 use Rattle.pci_spec.proofs.BarLaws.{number_at-small, rom_run, bit_of_run}
+use Rattle.pci_spec.proofs.Ranges.{absent_shows_0, obeys_rules}
 
 -- Below bit `low` value and read back agree, and from there on the value has ones only where the read back has.
 pub record Agrees (low bits value mask : ℕ) : Type 0 where
@@ -54,42 +55,18 @@ upper_half low high b h =
     ap (λ n. bit_at n (32 + b)) (swap_halves low high) ∙ bit_at_cat_high high 32 low (32 + b) h (omega arith) ∙ ap (λ k. bit_at high k) e
 
 -- what stands where no rule is broken: both are 0, or the encodings agree and the value is within the read back
-abbrev pub Unbroken : ℕ → ℕ → ℕ → ℕ → Type 0
-Unbroken value mask whole_value whole_mask =
-    ((mask ≡ 0) × (value ≡ 0)) ⊎ ((value % encodings mask ≡ mask % encodings mask) × (is_within 0 whole_value whole_mask ≡ true))
+abbrev pub Unbroken : BarReading → Type 0
+Unbroken bar =
+    ((bar.mask ≡ 0) × (bar.value ≡ 0)) ⊎ ((bar.value % encodings bar.mask ≡ bar.mask % encodings bar.mask) × (is_within 0 bar.whole_value bar.whole_mask ≡ true))
 
-no_rule_left : (none clear same io memory pair size within : Bool)
-    → (if none then (if clear then None else Some BarMask)
-    else if not same then Some BarMask
-    else if io then Some BarMask
-    else if memory then Some BarType
-    else if pair then Some BarPair
-    else if not size then Some BarMask
-    else if not within then Some BarMask
-    else None) ≡ None
-    → ((none ≡ true) × (clear ≡ true)) ⊎ ((same ≡ true) × (within ≡ true))
-no_rule_left true true same io memory pair size within h = inl (refl, refl)
-no_rule_left true false same io memory pair size within h = absurd (cc)
-no_rule_left false clear false io memory pair size within h = absurd (cc)
-no_rule_left false clear true true memory pair size within h = absurd (cc)
-no_rule_left false clear true false true pair size within h = absurd (cc)
-no_rule_left false clear true false false true size within h = absurd (cc)
-no_rule_left false clear true false false false false within h = absurd (cc)
-no_rule_left false clear true false false false true false h = absurd (cc)
-no_rule_left false clear true false false false true true h = inr (refl, refl)
+unbroken : (bar : BarReading) → first_broken bar ≡ None → Unbroken bar
+unbroken bar none = elim (cases_Bool (bar.mask == 0)) [
+  | inl zeros ↦ inl (eqb-true bar.mask 0 zeros, absent_shows_0 bar zeros none)
+  | inr ones ↦ let kept = obeys_rules bar (eqb-false bar.mask 0 ones) none in inr (kept.encoding, kept.within)
+]
 
-unbroken : (last : Bool) (value mask whole_value whole_mask : ℕ) → first_broken last value mask whole_value whole_mask ≡ None → Unbroken value mask whole_value whole_mask
-unbroken last value mask whole_value whole_mask h =
-    elim (no_rule_left (mask == 0) (value == 0) (value % encodings mask == mask % encodings mask) (is_io mask && has_bit mask 1) (not (is_io mask) && has_bit mask 1) (is_wide mask && last)
-    (has_lawful_size (bar_kind mask) whole_mask) (is_within 0 whole_value whole_mask) h) [
-      | inl zeros ↦ inl (eqb-true mask 0 zeros.0, eqb-true value 0 zeros.1)
-      | inr rest ↦ inr (eqb-true (value % encodings mask) (mask % encodings mask) rest.0, rest.1)
-    ]
-
-pub bar_rules : (image probe : List ℕ) (n : ℕ) → starts_bar probe n ≡ true → bar_fault image probe n ≡ None → Unbroken (bar_at image n) (bar_at probe n) (whole_bar probe image n) (whole_bar probe probe n)
-bar_rules image probe n starts none =
-    unbroken (n + 1 == bar_count (layout image)) (bar_at image n) (bar_at probe n) (whole_bar probe image n) (whole_bar probe probe n)
-    (ap (λ b. if b then first_broken (n + 1 == bar_count (layout image)) (bar_at image n) (bar_at probe n) (whole_bar probe image n) (whole_bar probe probe n) else None) (sym starts) ∙ none)
+pub bar_rules : (image probe : List ℕ) (n : ℕ) → starts_bar probe n ≡ true → bar_fault image probe n ≡ None → Unbroken (bar_reading (n + 1 == bar_count (layout image)) image probe n)
+bar_rules image probe n starts none = unbroken (bar_reading (n + 1 == bar_count (layout image)) image probe n) (rw starts at none)
 
 -- the encoding bits are bits 1:0 or bits 3:0
 abbrev pub encoding_width : ℕ → ℕ
@@ -226,24 +203,20 @@ lawful_parts kind n value mask h =
     let a = mask.base == page_bits kind + n in
     let b = mask.limit == page_bits kind + n in
     let c = mask.base_upper == n * upper_bits kind in
-    let d = mask.limit_upper == n * upper_bits kind in
-    let e = value.base % 16 == n in
-    let f = value.limit % 16 == n in
-    let g = n == 1 || (value.base_upper == 0 && value.limit_upper == 0) in
-    let six = and_parts (a && b && c && d && e && f) g h in
-    let five = and_parts (a && b && c && d && e) f six.0 in
-    let four = and_parts (a && b && c && d) e five.0 in
-    let three = and_parts (a && b && c) d four.0 in
+    let both = and_parts (is_window_read_back kind n mask) (is_window_value n value) h in
+    let three = and_parts (a && b && c) (mask.limit_upper == n * upper_bits kind) both.0 in
     let two = and_parts (a && b) c three.0 in
     let one = and_parts a b two.0 in
+    let values = and_parts (value.base % 16 == n && value.limit % 16 == n) (n == 1 || (value.base_upper == 0 && value.limit_upper == 0)) both.1 in
+    let nibbles = and_parts (value.base % 16 == n) (value.limit % 16 == n) values.0 in
     record {
       base = eqb-true _ _ one.0;
       limit = eqb-true _ _ one.1;
       base_upper = eqb-true _ _ two.1;
       limit_upper = eqb-true _ _ three.1;
-      base_nibble = eqb-true _ _ four.1;
-      limit_nibble = eqb-true _ _ five.1;
-      uppers = six.1;
+      base_nibble = eqb-true _ _ nibbles.0;
+      limit_nibble = eqb-true _ _ nibbles.1;
+      uppers = values.1;
     }
 
 lawful_page : (kind : WindowKind) (n value mask : ℕ) → n ≤ 1 → mask ≡ page_bits kind + n → value % 16 ≡ n → Agrees 4 (page_width kind) value mask

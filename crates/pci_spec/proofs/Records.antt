@@ -26,8 +26,6 @@ memory_window_there image probe none =
     let one = and_parts _ _ lawful in
     let two = and_parts _ _ one.0 in
     let three = and_parts _ _ two.0 in
-    let four = and_parts _ _ three.0 in
-    let five = and_parts _ _ four.0 in
-    let six = and_parts (nat_eq mask.base (page_bits MemoryWindow + 0)) _ five.0 in
-    let base : mask.base ≡ 65520 + 0 = eqb-true _ _ six.0 in
+    let four = and_parts (nat_eq mask.base (page_bits MemoryWindow + 0)) _ three.0 in
+    let base : mask.base ≡ 65520 + 0 = eqb-true _ _ four.0 in
     not_from_false _ (and_left _ _ (and_left _ _ (and_left _ _ (ne_eqb mask.base 0 (λ z. omega arith)))))

@@ -7,12 +7,12 @@ use Rattle.std.proofs.lemmas.Bool.{and_parts, and_from, both_ways, cases_Bool, e
 use Rattle.std.proofs.lemmas.List.Elements.{All-contains}
 use Rattle.pci_spec.specs.Number.{has_bit}
 use Rattle.pci_spec.specs.Header.{command, layout, bar_count, bar_register, rom_register}
-use Rattle.pci_spec.specs.Bar.{BarKind, IoBar, Memory32, Memory64, Reserved, bar_at, bar_kind, is_io, type_bits}
+use Rattle.pci_spec.specs.Bar.{BarKind, IoBar, Memory32, Memory64, Reserved, bar_at, bar_kind, is_io, type_bits, has_bar}
 use Rattle.pci_spec.specs.Rom.{rom_at, has_rom, rom_is_on}
 use Rattle.pci_spec.specs.Window.{WindowKind, IoWindow, MemoryWindow, PrefetchWindow, has_window, holds}
 use Rattle.pci_spec.specs.System.{Function, Space, Io, Memory, is_space_on, Part, Bar, Rom, Window, register_of, space_of, Claims, window_space}
 use Rattle.pci_spec.specs.Fault.{has_other_layout}
-use Rattle.pci_spec.specs.Decoded.{InRange, DecodedBar, DecodedRom, DecodedWindow, Bridge, Record, decoded_bar, decoded_bars, has_bar, decoded_rom, aligned_range, rom_size, window_range, decoded_window, optional_window, bridge_of, record_of, IsDecodable}
+use Rattle.pci_spec.specs.Decoded.{InRange, DecodedBar, DecodedRom, DecodedWindow, Bridge, Record, decoded_bar, decoded_bars, decoded_rom, aligned_range, rom_size, window_range, decoded_window, optional_window, bridge_of, record_of, IsDecodable}
 use Rattle.pci_spec.specs.RecordLaws.{RecordsSettleClaims}
 use Rattle.pci_spec.proofs.Members.{in_map_to, in_map_from, in_filter_to, in_filter_from, in_range_from}
 use Rattle.pci_spec.proofs.Ranges.{decoded_bar-decodes, has_bar-of_decodes, rom_range-decodes, absent_rom, window_range-holds, absent_window}

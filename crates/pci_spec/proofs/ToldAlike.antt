@@ -1,11 +1,11 @@
 -- Two probes of which the same is told: what a function claims and what a bridge passes is the same with both.
-use Rattle.std.proofs.Common.{◌≡◌, ℕ, zero, suc, ◌+◌, ◌*◌, ◌/◌, ◌%◌, ◌^◌, ◌<◌, List, inl, inr, refl, Bool, true, false, ◌&&◌, ◌||◌, not, None, Some, arith, sym, ◌∙◌, ap, subst, is_some}
+use Rattle.std.proofs.Common.{◌≡◌, ℕ, zero, suc, ◌+◌, ◌*◌, ◌/◌, ◌%◌, ◌^◌, ◌<◌, List, inl, inr, refl, Bool, true, false, ◌&&◌, ◌||◌, not, None, arith, sym, ◌∙◌, ap, subst}
 use Rattle.std.specs.Bool.{IsTrue, nat_le, ◌==◌, if◌then◌else◌}
 use Rattle.std.specs.Int.{bit_at}
-use Rattle.std.proofs.lemmas.Bool.{and_parts, and_from, and_left, both_ways, cases_Bool, eqb-true, eqb-false, eq-eqb, ne_eqb, ltb-true, lt-ltb, not_from_false}
+use Rattle.std.proofs.lemmas.Bool.{and_parts, and_from, and_left, cases_Bool, eqb-true, eq-eqb, ne_eqb, ltb-true, lt-ltb, not_from_false}
 use Rattle.pci_spec.specs.Number.{has_bit}
 use Rattle.pci_spec.specs.Header.{command, layout, bar_count, rom_register}
-use Rattle.pci_spec.specs.Bar.{BarMask, bar_at, bar_fault, encodings, is_io, is_wide, is_prefetchable, type_bits, starts_bar, whole_bar}
+use Rattle.pci_spec.specs.Bar.{bar_at, bar_fault, encodings, is_io, is_wide, is_prefetchable, type_bits, starts_bar, whole_bar}
 use Rattle.pci_spec.specs.Rom.{rom_at, has_rom, rom_is_on}
 use Rattle.pci_spec.specs.Window.{WindowKind, IoWindow, MemoryWindow, PrefetchWindow, base_page, limit_page, page_size, holds}
 use Rattle.pci_spec.specs.System.{Function, Space, Io, Memory, is_space_on, Part, Bar, Rom, Window, register_of, Claims, window_space, window_claims, forwards, passes, is_prefetchable_part, is_bridge}
@@ -13,7 +13,8 @@ use Rattle.pci_spec.specs.Decoded.{InRange, Range, IsDecodable, aligned_range}
 use Rattle.pci_spec.specs.Derived.{window_enable}
 use Rattle.pci_spec.specs.ToldAlike.{enables_bar, enables_rom, enables_window, IsToldAlike}
 use Rattle.pci_spec.specs.ProbeLaws.{AlikeClaimTheSame}
-use Rattle.pci_spec.proofs.Ranges.{obeys_rules, decoded_bar-decodes, has_bar-of_decodes, rom_range-decodes}
+use Rattle.pci_spec.proofs.Ranges.{decoded_bar-decodes, has_bar-of_decodes, rom_range-decodes}
+use Rattle.pci_spec.proofs.ReadBacks.{bar_rules}
 
 -- ---- what a register shows of its encoding
 
@@ -50,25 +51,13 @@ same_encoding value mask same = elim (cases_Bool (is_io mask)) [
   | inr memory ↦ memory_encoding value mask (subst (λ b. value % (if b then 4 else 16) ≡ mask % (if b then 4 else 16)) memory same)
 ]
 
--- a BAR that isn't there shows 0
-pub absent_shows_0 : (value : ℕ) → (if value == 0 then None else Some BarMask) ≡ None → value ≡ 0
-absent_shows_0 value none = elim (cases_Bool (value == 0)) [
-  | inl zeros ↦ eqb-true value 0 zeros
-  | inr ones ↦ absurd (let broken : true ≡ false = sym (ap (λ b. is_some (if b then None else Some BarMask)) ones) ∙ ap is_some none in both_ways true broken refl)
-]
-
 pub shows_encoding : (image probe : List ℕ) (n : ℕ) → starts_bar probe n ≡ true → bar_fault image probe n ≡ None → IsOfEncoding (bar_at image n) (bar_at probe n)
-shows_encoding image probe n starts none =
-    let kept = rw starts at none in
-    elim (cases_Bool (bar_at probe n == 0)) [
-      | inl zeros ↦
-          let value = absent_shows_0 (bar_at image n) (rw zeros at kept) in
-          let same : bar_at image n ≡ bar_at probe n = value ∙ sym (eqb-true (bar_at probe n) 0 zeros) in
-          record { io = ap is_io same; wide = ap is_wide same; prefetchable = ap is_prefetchable same }
-      | inr ones ↦
-          same_encoding (bar_at image n) (bar_at probe n)
-          (obeys_rules (n + 1 == bar_count (layout image)) (bar_at image n) (bar_at probe n) (whole_bar probe image n) (whole_bar probe probe n) (eqb-false (bar_at probe n) 0 ones) kept).encoding
-    ]
+shows_encoding image probe n starts none = elim (bar_rules image probe n starts none) [
+  | inl zeros ↦
+      let same : bar_at image n ≡ bar_at probe n = zeros.1 ∙ sym zeros.0 in
+      record { io = ap is_io same; wide = ap is_wide same; prefetchable = ap is_prefetchable same }
+  | inr kept ↦ same_encoding (bar_at image n) (bar_at probe n) kept.0
+]
 
 -- an image shows which registers start BARs
 pub starts_shown : (image probe : List ℕ) → ((n : ℕ) → n < bar_count (layout image) → bar_fault image probe n ≡ None)

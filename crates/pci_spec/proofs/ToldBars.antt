@@ -5,18 +5,18 @@ use Rattle.std.specs.Bool.{nat_lt, ◌==◌, if◌then◌else◌, IsTrue}
 use Rattle.std.proofs.lemmas.Bool.{and_parts, and_from, or_cases, both_ways, cases_Bool, eqb-true, eqb-false, eq-eqb, ne_eqb, lt-ltb, ltb-true, not-true, not-false, not_from_false}
 use Rattle.pci_spec.specs.Number.{has_bit, lowest_one, IsImage}
 use Rattle.pci_spec.specs.Header.{layout, command, bar_count, bar_register}
-use Rattle.pci_spec.specs.Bar.{BarKind, bar_at, bar_kind, bar_fault, first_broken, is_io, is_wide, starts_bar, whole_bar, encodings, is_lawful, has_lawful_size, is_within}
+use Rattle.pci_spec.specs.Bar.{BarKind, bar_at, bar_kind, bar_fault, bar_reading, first_broken, is_io, is_wide, starts_bar, whole_bar, encodings, is_lawful, has_lawful_size, is_within, has_bar}
 use Rattle.pci_spec.specs.System.{Function}
 use Rattle.pci_spec.specs.Machine.{without_low}
-use Rattle.pci_spec.specs.Decoded.{IsDecodable, has_bar, bar_size}
+use Rattle.pci_spec.specs.Decoded.{IsDecodable, bar_size}
 use Rattle.pci_spec.specs.Resource.{ResourceLine, line_at, address_count, tells_bar}
 use Rattle.pci_spec.specs.Derived.{Known, is_pair, shown_bar, bar_width, is_enabled, bar_of_size, bar_derived, lower_half, read_back_of, bar_register_derived, derived_probe}
 use Rattle.pci_spec.specs.NoProbe.{register_fault, no_probe}
 use Rattle.pci_spec.specs.ToldAlike.{enables_bar}
 use Rattle.pci_spec.specs.TrueLines.{IsTrueOf}
 use Rattle.pci_spec.proofs.ReadBacks.{encodings-power}
-use Rattle.pci_spec.proofs.Ranges.{first_bit, width_of, lowest_one-of_lawful, has_lawful_size-of_lawful, lawful-lowest_one, lawful_bar, ObeysRules, first_bit-of_register, whole_bar-fits}
-use Rattle.pci_spec.proofs.ToldAlike.{IsOfEncoding, shows_encoding, starts_shown, absent_shows_0}
+use Rattle.pci_spec.proofs.Ranges.{absent_shows_0, first_bit, width_of, lowest_one-of_lawful, has_lawful_size-of_lawful, lawful-lowest_one, lawful_bar, ObeysRules, first_bit-of_register, whole_bar-fits}
+use Rattle.pci_spec.proofs.ToldAlike.{IsOfEncoding, shows_encoding, starts_shown}
 use Rattle.pci_spec.proofs.DerivedBits.{sized_mask, IsSized, is_sized, IsBound, lawful_bound, sized_lawful, least_lawful, sized_within}
 use Rattle.pci_spec.proofs.DerivedBytes.{IsLayout, bar_number, bar_no_fault}
 use Rattle.pci_spec.proofs.DerivedBars.{IsSameKind, same_kind, width_of_register, keeps_rules, absent_is_fine, bar_cases, lower_read_back, aligned_told, aligned_by, low_encoding, wide_some, io_of_whole, zero_of_whole}
@@ -86,7 +86,7 @@ module _ (f : Function) (lines : List ResourceLine) (is : IsImage f.image) (good
     own_has : bar_at own n ≢ 0 → has_bar own n ≡ true
     own_has some = and_from (starts_bar own n) (not (bar_at own n == 0)) own_starts (not_from_false (bar_at own n == 0) (ne_eqb (bar_at own n) 0 some))
 
-    rules : bar_at own n ≢ 0 → ObeysRules (n + 1 == count) (bar_at image n) (bar_at own n) (whole_bar own image n) (whole_bar own own n)
+    rules : bar_at own n ≢ 0 → ObeysRules (bar_reading (n + 1 == count) image own n)
     rules some = lawful_bar image own n (own_has some) (good.bars n less)
 
     narrow_pair : is_wide (bar_at image n) ≡ false → is_pair image n ≡ is_wide (bar_at image n)
@@ -148,9 +148,7 @@ module _ (f : Function) (lines : List ResourceLine) (is : IsImage f.image) (good
     shows_some some zeros =
         let fine : bar_fault image own n ≡ None = good.bars n less in
         let begins = own_starts in
-        let kept = rw begins at fine in
-        let no_ones = eq-eqb (bar_at own n) 0 zeros in
-        let value = absent_shows_0 (bar_at image n) (rw no_ones at kept) in
+        let value = absent_shows_0 (bar_reading (n + 1 == count) image own n) (eq-eqb (bar_at own n) 0 zeros) (rw begins at fine) in
         let whole : whole_bar own image n ≡ bar_at image n =
         ap (λ m. if is_wide m then bar_at image n + 2 ^ 32 * bar_at image (n + 1) else bar_at image n) zeros in
         eqb-false (shown n) 0 some (shown_is ∙ whole ∙ value)
@@ -282,7 +280,7 @@ module _ (f : Function) (lines : List ResourceLine) (is : IsImage f.image) (good
     lawful_new : is_lawful (kind_at n) (back n) b.k ≡ true
     lawful_new = sized_lawful (kind_at n) (shown n) b.k b.some (back n) b.lawful (sized n less s b)
 
-    keeps : ObeysRules (n + 1 == count) (bar_at image n) (bar_at new n) (whole_bar new image n) (whole_bar new new n)
+    keeps : ObeysRules (bar_reading (n + 1 == count) image new n)
     keeps =
         let r = rules n less s b.there in
         let alike = same n less s b in
@@ -317,12 +315,12 @@ module _ (f : Function) (lines : List ResourceLine) (is : IsImage f.image) (good
 
   pub derived_bars_fine : (n : ℕ) → n < count → bar_fault image new n ≡ None
   derived_bars_fine n less = elim (cases_Bool (starts_bar image n)) [
-    | inr upper ↦ ap (λ b. if b then first_broken (n + 1 == count) (bar_at image n) (bar_at new n) (whole_bar new image n) (whole_bar new new n) else None) (starts_too n less ∙ upper)
+    | inr upper ↦ ap (λ b. if b then first_broken (bar_reading (n + 1 == count) image new n) else None) (starts_too n less ∙ upper)
     | inl s ↦
-        ap (λ b. if b then first_broken (n + 1 == count) (bar_at image n) (bar_at new n) (whole_bar new image n) (whole_bar new new n) else None) (starts_too n less ∙ s)
+        ap (λ b. if b then first_broken (bar_reading (n + 1 == count) image new n) else None) (starts_too n less ∙ s)
         ∙ elim (choice n less s) [
-          | inl b ↦ absent_is_fine (n + 1 == count) (bar_at image n) (bar_at new n) (whole_bar new image n) (whole_bar new new n) (absent_value n less s b) (absent_low n less s b)
-          | inr b ↦ keeps_rules (n + 1 == count) (bar_at image n) (bar_at new n) (whole_bar new image n) (whole_bar new new n) (low_some n less s b) (keeps n less s b)
+          | inl b ↦ absent_is_fine (bar_reading (n + 1 == count) image new n) (absent_value n less s b) (absent_low n less s b)
+          | inr b ↦ keeps_rules (bar_reading (n + 1 == count) image new n) (low_some n less s b) (keeps n less s b)
         ]
   ]
 

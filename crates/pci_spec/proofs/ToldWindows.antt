@@ -5,7 +5,7 @@ use Rattle.std.specs.Bool.{◌==◌, if◌then◌else◌, IsTrue}
 use Rattle.std.proofs.lemmas.Bool.{and_from, and_left, or_left, or_right, both_ways, cases_Bool, eq-eqb, ne_eqb, not_from_true, not_from_false}
 use Rattle.pci_spec.specs.Number.{byte_at, number_at, each_from, has_bit}
 use Rattle.pci_spec.specs.Header.{layout, command}
-use Rattle.pci_spec.specs.Window.{WindowKind, IoWindow, MemoryWindow, PrefetchWindow, Bounds, bounds_at, page_bits, upper_bits, is_zero, has_window, is_lawful_window, is_optional, breaks_window_rule}
+use Rattle.pci_spec.specs.Window.{WindowKind, IoWindow, MemoryWindow, PrefetchWindow, Bounds, bounds_at, page_bits, upper_bits, is_zero, has_window, is_window_read_back, is_window_value, is_lawful_window, is_optional, breaks_window_rule}
 use Rattle.pci_spec.specs.System.{Function}
 use Rattle.pci_spec.specs.Machine.{register_at}
 use Rattle.pci_spec.specs.Decoded.{IsDecodable}
@@ -192,8 +192,10 @@ record IsNibble (kind : WindowKind) (n : ℕ) (b : Bounds) : Type 0 where
 
 lawful_again : (kind : WindowKind) (n : ℕ) (value own mask : Bounds) → IsLawful kind n value own → IsNibble kind n mask → is_lawful_window kind n value mask ≡ true
 lawful_again kind n value own mask h m =
-    and_from _ _ (and_from _ _ (and_from _ _ (and_from _ _ (and_from _ _ (and_from (mask.base == page_bits kind + n) (mask.limit == page_bits kind + n) (eq-eqb _ _ m.base) (eq-eqb _ _ m.limit))
-    (eq-eqb mask.base_upper (n * upper_bits kind) m.base_upper)) (eq-eqb mask.limit_upper (n * upper_bits kind) m.limit_upper)) (eq-eqb (value.base % 16) n h.base_nibble)) (eq-eqb (value.limit % 16) n h.limit_nibble)) h.uppers
+    and_from (is_window_read_back kind n mask) (is_window_value n value)
+    (and_from _ _ (and_from _ _ (and_from (mask.base == page_bits kind + n) (mask.limit == page_bits kind + n) (eq-eqb _ _ m.base) (eq-eqb _ _ m.limit))
+    (eq-eqb mask.base_upper (n * upper_bits kind) m.base_upper)) (eq-eqb mask.limit_upper (n * upper_bits kind) m.limit_upper))
+    (and_from _ _ (and_from (value.base % 16 == n) (value.limit % 16 == n) (eq-eqb _ _ h.base_nibble) (eq-eqb _ _ h.limit_nibble)) h.uppers)
 
 no_nibble : (optional : Bool) (n : ℕ) → n ≡ 0 → (if optional then n else 0) ≡ 0
 no_nibble true n e = e

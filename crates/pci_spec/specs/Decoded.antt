@@ -1,10 +1,10 @@
 -- What the registers of a function decode to: ranges of addresses, and the numbers that placing and judging read.
-use Rattle.std.specs.Prelude.{◌≡◌, ℕ, ◌+◌, ◌*◌, ◌/◌, ◌-◌, ◌^◌, ◌<◌, ◌≤◌, ◌==◌, Bool, ◌&&◌, not, if◌then◌else◌, IsFalse, List, map, Option, None, Some}
+use Rattle.std.specs.Prelude.{◌≡◌, ℕ, ◌+◌, ◌*◌, ◌/◌, ◌-◌, ◌^◌, ◌<◌, ◌≤◌, ◌==◌, Bool, if◌then◌else◌, IsFalse, List, map, Option, None, Some}
 use Rattle.std.specs.List.{All, filter, range_with_len}
 use Rattle.pci_spec.specs.Number.{lowest_one}
 use Rattle.pci_spec.specs.Slot.{Slot}
 use Rattle.pci_spec.specs.Header.{command, layout, primary_bus, secondary_bus, subordinate_bus, bar_count, bar_register, rom_register}
-use Rattle.pci_spec.specs.Bar.{BarKind, bar_at, bar_kind, bar_fault, is_io, is_prefetchable, starts_bar, whole_bar}
+use Rattle.pci_spec.specs.Bar.{BarKind, bar_at, bar_kind, bar_fault, is_io, is_prefetchable, has_bar, whole_bar}
 use Rattle.pci_spec.specs.Rom.{rom_at, has_rom, rom_is_on, breaks_rom_rule}
 use Rattle.pci_spec.specs.Window.{WindowKind, IoWindow, MemoryWindow, PrefetchWindow, has_window, is_wide_window, is_closed, base_page, limit_page, page_size, breaks_window_rule}
 use Rattle.pci_spec.specs.System.{Function, System}
@@ -41,10 +41,6 @@ decoded_bar image probe n = record {
   prefetchable = is_prefetchable (bar_at probe n);
   range = aligned_range (whole_bar probe image n) (bar_size probe n);
 }
-
--- whether register n starts a BAR that is implemented
-abbrev pub has_bar : List ℕ → ℕ → Bool
-has_bar probe n = starts_bar probe n && not (bar_at probe n == 0)
 
 -- the implemented BARs, in the order of their registers
 abbrev pub decoded_bars : List ℕ → List ℕ → List DecodedBar

@@ -3,12 +3,13 @@ use Rattle.std.specs.Prelude.{◌≡◌, ◌≢◌, ◌⊎◌, ℕ, ◌<◌, ◌
 use Rattle.std.specs.List.{list_any, Contains}
 use Rattle.pci_spec.specs.Number.{byte_at, has_bit}
 use Rattle.pci_spec.specs.Slot.{Slot}
+use Rattle.pci_spec.specs.Registers.{PALETTE_SNOOP, ISA_ENABLE, VGA_ENABLE, SECONDARY_BUS_RESET}
 use Rattle.pci_spec.specs.Header.{vendor_id, command, class_code, layout, bridge_control, bar_register, bar_count, rom_register, address_registers, is_in_register}
 use Rattle.pci_spec.specs.Bar.{BarFault, bar_fault}
 use Rattle.pci_spec.specs.Bar as bars
 use Rattle.pci_spec.specs.Rom.{breaks_rom_rule}
 use Rattle.pci_spec.specs.Window.{WindowKind, window_register, breaks_window_rule}
-use Rattle.pci_spec.specs.Capability.{ComesTo, ComesTwiceTo, HasLowPlace, HasCutBody, capability_id, power_state}
+use Rattle.pci_spec.specs.Capability.{ComesTo, ComesTwiceTo, HasLowPlace, HasCutBody, POWER_MANAGEMENT, capability_id, power_state}
 use Rattle.pci_spec.specs.Text.{Block, slots_of}
 use Rattle.pci_spec.specs.System.{System, Function, system_of, Space, Part, Claims, register_of, is_window, is_prefetchable_part, is_bridge, Leads, Gets, passes}
 use Rattle.pci_spec.specs.Bus.{has_lawful_buses, is_led_to}
@@ -91,13 +92,29 @@ HasWindowFault image probe register =
 abbrev pub is_in_address_register : ℕ → ℕ → Bool
 is_in_address_register kind offset = list_any (is_in_register offset) (address_registers kind)
 
--- whether the probe has a byte where there is no address register
-abbrev pub is_stray : List ℕ → List ℕ → ℕ → Bool
-is_stray image probe offset = nat_lt offset 256 && not (byte_at probe offset == 0) && not (is_in_address_register (layout image) offset)
+-- whether the probe of a header of this layout has a byte where there is no address register
+abbrev pub is_stray_by : ℕ → List ℕ → ℕ → Bool
+is_stray_by kind probe offset = nat_lt offset 256 && not (byte_at probe offset == 0) && not (is_in_address_register kind offset)
 
--- a power management capability shows another state than D0
+-- the same, of a function
+abbrev pub is_stray : List ℕ → List ℕ → ℕ → Bool
+is_stray image = is_stray_by (layout image)
+
+-- whether it is that of a bridge whose Bridge Control has this bit
+abbrev pub controls_bridge : List ℕ → ℕ → Bool
+controls_bridge image i = layout image == 1 && has_bit (bridge_control image) i
+
+-- whether it is that of a bridge that decodes what no other function takes, by its Class Code
+abbrev pub is_subtractive_bridge : List ℕ → Bool
+is_subtractive_bridge image = layout image == 1 && class_code image == 0x060401
+
+-- a capability at a place shows another power state than D0
+abbrev pub IsNotInD0At : List ℕ → ℕ → Type 0
+IsNotInD0At image place = (capability_id image place ≡ POWER_MANAGEMENT) × (power_state image place ≢ 0)
+
+-- and one that the walk comes to does
 abbrev pub IsNotInD0 : List ℕ → Type 0
-IsNotInD0 image = (place : ℕ) × ComesTo image place × (capability_id image place ≡ 1) × (power_state image place ≢ 0)
+IsNotInD0 image = (place : ℕ) × ComesTo image place × IsNotInD0At image place
 
 -- ---- of a system
 
@@ -162,11 +179,11 @@ IsIn roots s (CapCut slot place) = SomeAt s slot (λ f. HasCutBody f.image place
 IsIn roots s (SlotsDiffer slot) = ⊥
 IsIn roots s (StrayProbe slot offset) = SomeAt s slot (λ f. IsTrue (is_stray f.image f.probe offset))
 IsIn roots s (LoneFunction slot) = SomeAt s slot (λ f. (0 < slot.function) × IsTrue (not (has_function_zero s slot)))
-IsIn roots s (PaletteSnoop slot) = SomeAt s slot (λ f. IsTrue (has_bit (command f.image) 5))
-IsIn roots s (VgaEnable slot) = SomeAt s slot (λ f. IsTrue (is_bridge f && has_bit (bridge_control f.image) 3))
-IsIn roots s (IsaEnable slot) = SomeAt s slot (λ f. IsTrue (is_bridge f && has_bit (bridge_control f.image) 2))
-IsIn roots s (Subtractive slot) = SomeAt s slot (λ f. IsTrue (is_bridge f && class_code f.image == 0x060401))
-IsIn roots s (InReset slot) = SomeAt s slot (λ f. IsTrue (is_bridge f && has_bit (bridge_control f.image) 6))
+IsIn roots s (PaletteSnoop slot) = SomeAt s slot (λ f. IsTrue (has_bit (command f.image) PALETTE_SNOOP))
+IsIn roots s (VgaEnable slot) = SomeAt s slot (λ f. IsTrue (controls_bridge f.image VGA_ENABLE))
+IsIn roots s (IsaEnable slot) = SomeAt s slot (λ f. IsTrue (controls_bridge f.image ISA_ENABLE))
+IsIn roots s (Subtractive slot) = SomeAt s slot (λ f. IsTrue (is_subtractive_bridge f.image))
+IsIn roots s (InReset slot) = SomeAt s slot (λ f. IsTrue (controls_bridge f.image SECONDARY_BUS_RESET))
 IsIn roots s (PowerState slot) = SomeAt s slot (λ f. IsNotInD0 f.image)
 IsIn roots s (BusRange slot) = SomeAt s slot (λ f. IsTrue (is_bridge f && not (has_lawful_buses roots s f)))
 IsIn roots s (Orphan slot) = SomeAt s slot (λ f. IsTrue (not (is_led_to roots s slot.bus)))

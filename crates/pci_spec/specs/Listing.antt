@@ -6,7 +6,7 @@ use Rattle.pci_spec.specs.Slot.{Slot}
 use Rattle.pci_spec.specs.Header.{vendor_id, device_id, class_code, command, status, layout}
 use Rattle.pci_spec.specs.Bar.{BarKind, IoBar, Memory32, Memory64, Reserved}
 use Rattle.pci_spec.specs.Window.{WindowKind, IoWindow, MemoryWindow, PrefetchWindow, window_register}
-use Rattle.pci_spec.specs.Capability.{pointer, capability_id, message_control}
+use Rattle.pci_spec.specs.Capability.{pointer, POWER_MANAGEMENT, MSI, capability_id, message_control}
 use Rattle.pci_spec.specs.Text.{hex_byte, slot_text}
 use Rattle.pci_spec.specs.System.{Space, Io, Memory, Function, System, window_space}
 use Rattle.pci_spec.specs.Line.{hex_number, address_text, window_name}
@@ -131,8 +131,8 @@ message_value image place = number_at image (place + (if has_bit (message_contro
 
 abbrev pub capability_line : List ℕ → ℕ → List ℕ
 capability_line image place =
-    if capability_id image place == 1 then power_line place (number_at image (place + 2) 2) (number_at image (place + 4) 2)
-    else if capability_id image place == 5 then message_line place (message_control image place) (message_address image place) (message_value image place)
+    if capability_id image place == POWER_MANAGEMENT then power_line place (number_at image (place + 2) 2) (number_at image (place + 4) 2)
+    else if capability_id image place == MSI then message_line place (message_control image place) (message_address image place) (message_value image place)
     else raw_line place (capability_id image place)
 
 -- the places of a list that ends: there are 48 at most

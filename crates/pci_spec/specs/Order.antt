@@ -43,6 +43,45 @@ phase_key Profile = 3
 phase_key Place = 4
 phase_key Judging = 5
 
+-- what is looked at in each phase, in this order
+pub data Check : Type 0 where
+  -- of Identity
+  VendorId HeaderType ReadBacks : Check
+  -- of Decoding
+  Bars ExpansionRom Windows Capabilities : Check
+  -- of a place of the capabilities list
+  PlaceRange PlaceVisits PlaceBody : Check
+  -- of Profile
+  PaletteSnoopBit VgaEnableBit IsaEnableBit ClassCode BusResetBit PowerStateBits : Check
+  -- of Place
+  FunctionZero WayToBus BusNumbers : Check
+  -- of Judging
+  Reach Clashes Splits : Check
+
+abbrev pub check_key : Check → ℕ
+check_key VendorId = 0
+check_key HeaderType = 1
+check_key ReadBacks = 2
+check_key Bars = 0
+check_key ExpansionRom = 1
+check_key Windows = 2
+check_key Capabilities = 3
+check_key PlaceRange = 0
+check_key PlaceVisits = 1
+check_key PlaceBody = 2
+check_key PaletteSnoopBit = 0
+check_key VgaEnableBit = 1
+check_key IsaEnableBit = 2
+check_key ClassCode = 3
+check_key BusResetBit = 4
+check_key PowerStateBits = 5
+check_key FunctionZero = 0
+check_key WayToBus = 1
+check_key BusNumbers = 2
+check_key Reach = 0
+check_key Clashes = 1
+check_key Splits = 2
+
 -- there are 64 pointers: a walk comes to a place within so many steps or never, and again within as many more or never
 abbrev pub longest_walk : ℕ
 longest_walk = 128
@@ -59,42 +98,42 @@ step_after times image place = slice_index_or (steps_at image place) times (long
 -- (the buses of bridges rise on the way) and address; clashes by bus, space, address and the two regions; splits likewise
 abbrev pub judging_key : Fault → List ℕ
 judging_key (Unreached slot register space address bridge) =
-    0 ∷ slot_key slot ++ (register ∷ slot_key bridge) ++ (address ∷ [])
+    check_key Reach ∷ slot_key slot ++ (register ∷ slot_key bridge) ++ (address ∷ [])
 judging_key (Clash bus space address first first_register second second_register) =
-    1 ∷ bus ∷ space_key space ∷ address ∷ slot_key first ++ (first_register ∷ slot_key second) ++ (second_register ∷ [])
+    check_key Clashes ∷ bus ∷ space_key space ∷ address ∷ slot_key first ++ (first_register ∷ slot_key second) ++ (second_register ∷ [])
 judging_key (Split space address first first_register second second_register) =
-    2 ∷ space_key space ∷ address ∷ slot_key first ++ (first_register ∷ slot_key second) ++ (second_register ∷ [])
+    check_key Splits ∷ space_key space ∷ address ∷ slot_key first ++ (first_register ∷ slot_key second) ++ (second_register ∷ [])
 judging_key fault = []
 
--- within a phase: functions by slot, then what stands here for each of them
-abbrev pub in_phase : Phase → Slot → List ℕ → List ℕ
-in_phase phase slot rest = phase_key phase ∷ slot_key slot ++ rest
+-- within a phase: functions by slot, each function's checks, then what stands here for each of them
+abbrev pub in_phase : Phase → Slot → Check → List ℕ → List ℕ
+in_phase phase slot check rest = phase_key phase ∷ slot_key slot ++ check_key check ∷ rest
 
 -- The whole order; the image of a slot's function tells in which order its capabilities are met.
 abbrev pub looking_key : (Slot → List ℕ) → Fault → List ℕ
-looking_key image_of (SlotsDiffer slot) = in_phase Slots slot []
-looking_key image_of (NoVendor slot) = in_phase Identity slot (0 ∷ [])
-looking_key image_of (HeaderKind slot) = in_phase Identity slot (1 ∷ [])
-looking_key image_of (StrayProbe slot offset) = in_phase Identity slot (2 ∷ offset ∷ [])
+looking_key image_of (SlotsDiffer slot) = phase_key Slots ∷ slot_key slot
+looking_key image_of (NoVendor slot) = in_phase Identity slot VendorId []
+looking_key image_of (HeaderKind slot) = in_phase Identity slot HeaderType []
+looking_key image_of (StrayProbe slot offset) = in_phase Identity slot ReadBacks (offset ∷ [])
 -- BARs by register, each with the first of its rules that it breaks
-looking_key image_of (BarType slot register) = in_phase Decoding slot (0 ∷ register ∷ [])
-looking_key image_of (BarMask slot register) = in_phase Decoding slot (0 ∷ register ∷ [])
-looking_key image_of (BarPair slot register) = in_phase Decoding slot (0 ∷ register ∷ [])
-looking_key image_of (RomMask slot register) = in_phase Decoding slot (1 ∷ [])
-looking_key image_of (WindowMask slot register) = in_phase Decoding slot (2 ∷ register ∷ [])
--- places in the order of the walk, each with its range, then whether it was met before, then its body
-looking_key image_of (CapRange slot place) = in_phase Decoding slot (3 ∷ step_after 0 (image_of slot) place ∷ 0 ∷ [])
-looking_key image_of (CapLoop slot place) = in_phase Decoding slot (3 ∷ step_after 1 (image_of slot) place ∷ 1 ∷ [])
-looking_key image_of (CapCut slot place) = in_phase Decoding slot (3 ∷ step_after 0 (image_of slot) place ∷ 2 ∷ [])
-looking_key image_of (PaletteSnoop slot) = in_phase Profile slot (0 ∷ [])
-looking_key image_of (VgaEnable slot) = in_phase Profile slot (1 ∷ [])
-looking_key image_of (IsaEnable slot) = in_phase Profile slot (2 ∷ [])
-looking_key image_of (Subtractive slot) = in_phase Profile slot (3 ∷ [])
-looking_key image_of (InReset slot) = in_phase Profile slot (4 ∷ [])
-looking_key image_of (PowerState slot) = in_phase Profile slot (5 ∷ [])
-looking_key image_of (LoneFunction slot) = in_phase Place slot (0 ∷ [])
-looking_key image_of (Orphan slot) = in_phase Place slot (1 ∷ [])
-looking_key image_of (BusRange slot) = in_phase Place slot (2 ∷ [])
+looking_key image_of (BarType slot register) = in_phase Decoding slot Bars (register ∷ [])
+looking_key image_of (BarMask slot register) = in_phase Decoding slot Bars (register ∷ [])
+looking_key image_of (BarPair slot register) = in_phase Decoding slot Bars (register ∷ [])
+looking_key image_of (RomMask slot register) = in_phase Decoding slot ExpansionRom []
+looking_key image_of (WindowMask slot register) = in_phase Decoding slot Windows (register ∷ [])
+-- places in the order of the walk
+looking_key image_of (CapRange slot place) = in_phase Decoding slot Capabilities (step_after 0 (image_of slot) place ∷ check_key PlaceRange ∷ [])
+looking_key image_of (CapLoop slot place) = in_phase Decoding slot Capabilities (step_after 1 (image_of slot) place ∷ check_key PlaceVisits ∷ [])
+looking_key image_of (CapCut slot place) = in_phase Decoding slot Capabilities (step_after 0 (image_of slot) place ∷ check_key PlaceBody ∷ [])
+looking_key image_of (PaletteSnoop slot) = in_phase Profile slot PaletteSnoopBit []
+looking_key image_of (VgaEnable slot) = in_phase Profile slot VgaEnableBit []
+looking_key image_of (IsaEnable slot) = in_phase Profile slot IsaEnableBit []
+looking_key image_of (Subtractive slot) = in_phase Profile slot ClassCode []
+looking_key image_of (InReset slot) = in_phase Profile slot BusResetBit []
+looking_key image_of (PowerState slot) = in_phase Profile slot PowerStateBits []
+looking_key image_of (LoneFunction slot) = in_phase Place slot FunctionZero []
+looking_key image_of (Orphan slot) = in_phase Place slot WayToBus []
+looking_key image_of (BusRange slot) = in_phase Place slot BusNumbers []
 looking_key image_of (Unreached slot register space address bridge) =
     phase_key Judging ∷ judging_key (Unreached slot register space address bridge)
 looking_key image_of (Clash bus space address first first_register second second_register) =

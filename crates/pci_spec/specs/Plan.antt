@@ -84,14 +84,20 @@ window_size c need = doubled_to need 66 (page_size c)
 abbrev pub limited : ℕ → ℕ
 limited n = min (2 ^ 65) n
 
+-- the sizes of the BARs and ROM of a function, where it stands on a bus
+abbrev pub own_sizes : System → Pools → WindowKind → ℕ → Function → List ℕ
+own_sizes s pools c bus f = if f.slot.bus == bus then sizes_in s pools c f else []
+
+-- the size of the window of a bridge with so much need behind it, where it stands on a bus: none without need
+abbrev pub window_over : WindowKind → ℕ → Function → ℕ → List ℕ
+window_over c bus b need = if is_bridge b && b.slot.bus == bus && nat_lt 0 need then window_size c (limited need) ∷ [] else []
+
 -- The sizes of what stands on a bus: BARs and ROMs, and a window for each bridge with something behind it,
 -- where at most `depth` buses are below one another.
 unfoldable pub items_within : System → Pools → WindowKind → ℕ → ℕ → List ℕ
 items_within s pools c zero bus = []
 items_within s pools c (suc depth) bus =
-    flat_map (λ f. if f.slot.bus == bus then sizes_in s pools c f else []) s
-    ++ flat_map (λ b. if is_bridge b && b.slot.bus == bus && nat_lt 0 (sum (items_within s pools c depth (secondary b)))
-    then window_size c (limited (sum (items_within s pools c depth (secondary b)))) ∷ [] else []) s
+    flat_map (own_sizes s pools c bus) s ++ flat_map (λ b. window_over c bus b (sum (items_within s pools c depth (secondary b)))) s
 
 -- buses rise on the way down, so 256 of them are all
 abbrev pub items_on : System → Pools → WindowKind → ℕ → List ℕ

@@ -88,6 +88,22 @@ BRIDGE_EXPANSION_ROM = 0x38
 abbrev pub BRIDGE_CONTROL : ℕ
 BRIDGE_CONTROL = 0x3e
 
+-- ---- bits
+
+-- of Command (PCI 3.0, 6.2.2)
+abbrev pub PALETTE_SNOOP : ℕ
+PALETTE_SNOOP = 5
+
+-- of Bridge Control (Bridge 1.2, 3.2.5)
+abbrev pub ISA_ENABLE : ℕ
+ISA_ENABLE = 2
+
+abbrev pub VGA_ENABLE : ℕ
+VGA_ENABLE = 3
+
+abbrev pub SECONDARY_BUS_RESET : ℕ
+SECONDARY_BUS_RESET = 6
+
 -- ---- the tables
 
 -- what a register is for

@@ -3,12 +3,12 @@
 use Rattle.std.specs.Prelude.{◌≡◌, ℕ, ◌==◌, nat_lt, Bool, ◌&&◌, IsTrue, IsFalse, List}
 use Rattle.pci_spec.specs.Number.{has_bit}
 use Rattle.pci_spec.specs.Header.{command, layout, bar_count}
-use Rattle.pci_spec.specs.Bar.{bar_at, starts_bar}
+use Rattle.pci_spec.specs.Bar.{bar_at, starts_bar, has_bar}
 use Rattle.pci_spec.specs.Rom.{rom_is_on}
 use Rattle.pci_spec.specs.Window.{WindowKind, has_window}
 use Rattle.pci_spec.specs.System.{Function}
 use Rattle.pci_spec.specs.Fault.{is_stray}
-use Rattle.pci_spec.specs.Decoded.{IsDecodable, has_bar, bar_size, rom_size}
+use Rattle.pci_spec.specs.Decoded.{IsDecodable, bar_size, rom_size}
 use Rattle.pci_spec.specs.Derived.{is_enabled, window_enable}
 
 -- by what an image shows, register n starts a BAR, and Command enables the space that it maps into

@@ -1,10 +1,10 @@
 -- What Linux tells of a function is true of what its registers really read back.
 use Rattle.std.specs.Prelude.{◌≡◌, ℕ, nat_lt, ◌==◌, Bool, ◌&&◌, not, IsTrue, IsFalse, List}
 use Rattle.pci_spec.specs.Header.{layout, bar_count}
-use Rattle.pci_spec.specs.Bar.{starts_bar}
+use Rattle.pci_spec.specs.Bar.{starts_bar, has_bar}
 use Rattle.pci_spec.specs.Rom.{rom_at, has_rom}
 use Rattle.pci_spec.specs.Window.{WindowKind, has_window}
-use Rattle.pci_spec.specs.Decoded.{has_bar, bar_size, rom_size}
+use Rattle.pci_spec.specs.Decoded.{bar_size, rom_size}
 use Rattle.pci_spec.specs.Resource.{ResourceLine, line_at, rom_line, is_of_register, address_count, tells_bar, tells_rom}
 use Rattle.pci_spec.specs.Derived.{shown_bar, bar_width, shows_none}
 use Rattle.pci_spec.specs.ToldAlike.{enables_bar, enables_window}

@@ -6,7 +6,7 @@ use Rattle.std.proofs.lemmas.Bool.{both_ways, cases_lt, and_from, not-true, eqb-
 use Rattle.std.proofs.lemmas.List.Elements.{All-contains, Contains-get_or}
 use Rattle.pci_spec.specs.Slot.{Slot}
 use Rattle.pci_spec.specs.System.{System, Function}
-use Rattle.pci_spec.specs.Fault.{Fault, NoVendor, HeaderKind, BarType, BarMask, BarPair, RomMask, WindowMask, CapRange, CapLoop, CapCut, SlotsDiffer, StrayProbe, LoneFunction, PaletteSnoop, VgaEnable, IsaEnable, Subtractive, InReset, PowerState, BusRange, Orphan, Unreached, Clash, Split, IsIn, has_no_vendor, has_other_layout, is_stray, has_function_zero}
+use Rattle.pci_spec.specs.Fault.{Fault, NoVendor, HeaderKind, BarType, BarMask, BarPair, RomMask, WindowMask, CapRange, CapLoop, CapCut, SlotsDiffer, StrayProbe, LoneFunction, PaletteSnoop, VgaEnable, IsaEnable, Subtractive, InReset, PowerState, BusRange, Orphan, Unreached, Clash, Split, IsIn, has_no_vendor, has_other_layout, is_stray, has_function_zero, controls_bridge, is_subtractive_bridge}
 use Rattle.pci_spec.specs.Bar as bars
 use Rattle.pci_spec.specs.Bar.{BarFault}
 use Rattle.pci_spec.specs.Window.{breaks_window_rule}
@@ -28,7 +28,7 @@ use Rattle.pci_function.specs.Values.{record_value}
 use Rattle.pci_tree.specs.Ways.{slots_of}
 use Rattle.pci_tree.specs.Outline.{RiseBySlot, Tree}
 use Rattle.pci_tree.specs.BusNumbers.{IsInPlace, first_function}
-use Rattle.pci_function.specs.Profile.{IsAnswering, IsPlain, IsClearBefore, controls_bridge, is_subtractive_bridge}
+use Rattle.pci_function.specs.Profile.{IsAnswering, IsPlain, IsClearBefore}
 use Rattle.pci_tree.specs.Survey.{Surveyed, phase_noted, IsSurveyOf, IsOutlineOf, IsRefusedBy}
 use Rattle.pci_tree.proofs.Lifting.{Has}
 use Rattle.pci_tree.proofs.Faces.{SameFace, HaveFaces, faces_of}

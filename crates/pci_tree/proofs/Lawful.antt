@@ -8,7 +8,7 @@ use Rattle.pci_spec.specs.Number.{IsImage}
 use Rattle.pci_spec.specs.Rom.{has_rom, rom_at}
 use Rattle.pci_spec.specs.Window.{WindowKind, IoWindow, MemoryWindow, PrefetchWindow, has_window}
 use Rattle.pci_spec.specs.System.{Function, Io, Memory, IsAddress, window_space}
-use Rattle.pci_spec.specs.Decoded.{IsDecodable, record_of, bridge_of, decoded_bar, decoded_bars, decoded_rom, DecodedBar, decoded_windows, window_range, optional_window, aligned_range, rom_size}
+use Rattle.pci_spec.specs.Decoded.{IsDecodable, record_of, bridge_of, decoded_bar, decoded_rom, DecodedBar, window_range, optional_window, aligned_range, rom_size}
 use Rattle.pci_spec.specs.Decoded as decoded
 use Rattle.pci_spec.proofs.Ranges.{width_of, decoded_bar-order, decoded_bar-fits, rom_range-order, rom_range-fits, window_range-order, window_range-fits, window_width}
 use Rattle.pci_image.specs.declared.bar.Bar.{Bar}

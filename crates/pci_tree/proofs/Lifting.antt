@@ -10,7 +10,7 @@ use Rattle.std.proofs.lemmas.List.Elements.{All-contains}
 use Rattle.pci_spec.specs.Slot.{Slot, slot_number}
 use Rattle.pci_spec.specs.Header.{layout, secondary_bus}
 use Rattle.pci_spec.specs.Window.{WindowKind}
-use Rattle.pci_spec.specs.System.{System, Function, Io, Memory, IsAddress, is_bridge, passes, window_space, IsPassedTo, Gets}
+use Rattle.pci_spec.specs.System.{System, Function, is_bridge, passes, window_space, IsPassedTo, Gets}
 use Rattle.pci_spec.specs.System as system
 use Rattle.pci_spec.specs.Decoded.{HasRecords, IsDecodable, record_of, bridge_of}
 use Rattle.pci_spec.specs.Decoded as decoded

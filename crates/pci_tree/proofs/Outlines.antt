@@ -7,7 +7,7 @@ use Rattle.std.proofs.lemmas.List.{map_more}
 use Rattle.std.proofs.lemmas.List.Elements.{All-weaker, Contains-push_cases, Contains-get_or}
 use Rattle.pci_spec.specs.Slot.{Slot}
 use Rattle.pci_spec.specs.System.{System, Function, Space, Io, Memory, IsAddress, is_bridge, IsPassedTo, window_space}
-use Rattle.pci_spec.specs.Decoded.{HasRecords, record_of}
+use Rattle.pci_spec.specs.Decoded.{record_of}
 use Rattle.pci_spec.specs.Decoded as decoded
 use Rattle.pci_spec.specs.Window.{WindowKind, IoWindow, MemoryWindow, PrefetchWindow}
 use Rattle.pci_spec.proofs.Members.{IsMade, in_map_to, in_map_from}

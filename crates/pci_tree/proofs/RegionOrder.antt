@@ -8,7 +8,8 @@ use Rattle.pci_spec.specs.Slot.{Slot}
 use Rattle.pci_spec.specs.Header.{layout, bar_count, bar_register, rom_register}
 use Rattle.pci_spec.specs.Window.{WindowKind, IoWindow, MemoryWindow, PrefetchWindow, window_register}
 use Rattle.pci_spec.specs.System.{Function, Space, Io, Memory, is_bridge}
-use Rattle.pci_spec.specs.Decoded.{record_of, has_bar, decoded_bar, decoded_bars, DecodedBar}
+use Rattle.pci_spec.specs.Bar.{has_bar}
+use Rattle.pci_spec.specs.Decoded.{record_of, decoded_bar, decoded_bars, DecodedBar}
 use Rattle.pci_spec.specs.Decoded as decoded
 use Rattle.pci_spec.proofs.Members.{IsMade, IsInPiece, in_nil, in_cons_cases, in_map_to, in_filter_to, pairs_nil, pairs_cons, pairs_append, pairs_map, pairs_filter, pairs_range, pairs_flat_map}
 use Rattle.pci_image.specs.declared.bar.Bar.{Bar}

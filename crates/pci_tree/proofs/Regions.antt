@@ -7,10 +7,10 @@ use Rattle.std.proofs.lemmas.Bool.{cases_Bool, lt-ltb, ltb-true}
 use Rattle.std.proofs.lemmas.List.Elements.{All-contains}
 use Rattle.pci_spec.specs.Slot.{Slot}
 use Rattle.pci_spec.specs.Header.{command, layout, bar_count}
-use Rattle.pci_spec.specs.Bar.{IoBar, Memory32, Memory64, Reserved, bar_at, bar_kind, is_io, type_bits, BarDecodes}
-use Rattle.pci_spec.specs.System.{Function, Space, Io, Memory, IsAddress, is_bridge, is_space_on, Claims, window_space}
+use Rattle.pci_spec.specs.Bar.{IoBar, Memory32, Memory64, Reserved, bar_at, bar_kind, is_io, type_bits, BarDecodes, has_bar}
+use Rattle.pci_spec.specs.System.{Function, Space, Io, Memory, IsAddress, is_space_on, Claims}
 use Rattle.pci_spec.specs.System as system
-use Rattle.pci_spec.specs.Decoded.{IsDecodable, record_of, bridge_of, has_bar, decoded_bar, decoded_bars, decoded_rom, decoded_windows, DecodedBar, InRange}
+use Rattle.pci_spec.specs.Decoded.{IsDecodable, record_of, decoded_bar, decoded_bars, DecodedBar, InRange}
 use Rattle.pci_spec.specs.Decoded as decoded
 use Rattle.pci_spec.proofs.Members.{IsMade, in_map_to, in_map_from, in_filter_to, in_filter_from, in_range_to, in_range_from}
 use Rattle.pci_spec.proofs.Ranges.{decoded_bar-decodes, has_bar-of_decodes}

@@ -13,7 +13,7 @@ use super::bus::{has_slot, on_bus};
 use super::roots::Roots;
 use pci_function::fault::Fault;
 use pci_function::record::{Bridge, Record};
-use pci_image::slot::Slot;
+use pci_image::slot::{BUSES, Slot};
 
 /// Whether a bridge knows its own bus, and leads to higher ones.
 fn has_order(bus: u8, bridge: &Bridge) -> bool
@@ -69,7 +69,7 @@ fn is_apart_from_earlier(records: &[Record], roots: &Roots, slot: Slot, bridge: 
     if !roots.has(own) {
         return is_apart_from_lower(on_bus(records, own), slot, bridge);
     }
-    for bus in 0..256usize {
+    for bus in 0..BUSES {
         if are_siblings(roots, bus as u8, own) {
             let part = on_bus(records, bus as u8);
             if !is_apart_from_lower(part, slot, bridge) {
@@ -93,10 +93,10 @@ fn has_no_root_behind(roots: &Roots, bridge: &Bridge) -> bool
 }
 
 /// At each bus the least subordinate bus of the bridges that lead there.
-fn least_subordinates(records: &[Record]) -> [Option<u8>; 256]
+fn least_subordinates(records: &[Record]) -> [Option<u8>; BUSES]
     ensures { AreLeastEnds records.now result }
 {
-    let mut table = [None; 256];
+    let mut table = [None; BUSES];
     for function in records {
         if let Some(bridge) = function.bridge {
             let bus = bridge.secondary as usize;
@@ -137,7 +137,7 @@ fn has_upstream_bridge(end: Option<u8>) -> bool
 fn has_lawful_buses(
     records: &[Record],
     roots: &Roots,
-    ends: &[Option<u8>; 256],
+    ends: &[Option<u8>; BUSES],
     slot: Slot,
     bridge: &Bridge,
 ) -> bool
@@ -178,7 +178,7 @@ fn is_not_lone(records: &[Record], slot: Slot) -> bool
 fn place_fault(
     records: &[Record],
     roots: &Roots,
-    ends: &[Option<u8>; 256],
+    ends: &[Option<u8>; BUSES],
     function: &Record,
 ) -> Option<Fault>
     requires rising { RiseBySlot records.now }

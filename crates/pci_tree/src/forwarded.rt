@@ -1,5 +1,5 @@
 //! The addresses that a bridge passes, and what it leaves of a list of ranges.
-ghost use Rattle.std.specs.Prelude.{◌+◌, ◌<◌, ◌≤◌, ◌↔◌, ◌⊎◌, ℕ, IfOk, OnOk, IfSome, MatchOption};
+ghost use Rattle.std.specs.Prelude.{◌+◌, ◌<◌, ◌≤◌, ◌↔◌, ◌⊎◌, ℕ, IfOk, OnOk, IfSome};
 ghost use Rattle.pci_tree.specs.Ranges.{Holds, Covers, IsCanonical};
 ghost use Rattle.pci_tree.specs.Passing.{Passes, IsPassed, HoldsSome, IsPush, IsReach};
 

@@ -31,7 +31,7 @@ use pci_function::fault::Fault;
 use pci_function::record::Record;
 use pci_function::space::Space;
 use pci_image::range::Range;
-use pci_image::slot::Slot;
+use pci_image::slot::{BUSES, Slot};
 use pci_image::window_kind::WindowKind;
 use std::alloc::{Allocator, Global};
 use std::marker::Model;
@@ -42,7 +42,7 @@ pub struct Outline<A: Allocator = Global> {
     records: Vec<Record, A>,
     roots: Roots,
     /// At each bus the index of the bridge that leads there.
-    bridge_to_bus: [Option<usize>; 256],
+    bridge_to_bus: [Option<usize>; BUSES],
 }
 
 impl<A: Allocator> Model for Outline<A> {

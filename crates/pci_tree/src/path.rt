@@ -7,13 +7,13 @@ ghost use Rattle.pci_tree.specs.Ways.{IsForest, IsBridgeToBus, AreClear, AreSlot
 use super::roots::Roots;
 use arrayvec::ArrayVec;
 use pci_function::record::Record;
-use pci_image::slot::Slot;
+use pci_image::slot::{BUSES, Slot};
 
 /// At each bus the index of the bridge that leads there.
-pub fn bridge_to_bus(records: &[Record]) -> [Option<usize>; 256]
+pub fn bridge_to_bus(records: &[Record]) -> [Option<usize>; BUSES]
     ensures { IsBridgeToBus records.now result }
 {
-    let mut bridge_to_bus = [None; 256];
+    let mut bridge_to_bus = [None; BUSES];
     for (index, function) in records.iter().enumerate() {
         if let Some(bridge) = function.bridge {
             bridge_to_bus[bridge.secondary as usize] = Some(index);
@@ -23,7 +23,7 @@ pub fn bridge_to_bus(records: &[Record]) -> [Option<usize>; 256]
 }
 
 /// Whether a bus is a root or a bridge leads to it.
-pub fn is_led_to(bridge_to_bus: &[Option<usize>; 256], roots: &Roots, bus: u8) -> bool
+pub fn is_led_to(bridge_to_bus: &[Option<usize>; BUSES], roots: &Roots, bus: u8) -> bool
     ensures { result ≡ false → (records : List RecordValue) → IsBridgeToBus records bridge_to_bus.now → IsUnled records (buses_of roots.now) bus }
 {
     roots.has(bus) || bridge_to_bus[bus as usize].is_some()
@@ -32,7 +32,7 @@ pub fn is_led_to(bridge_to_bus: &[Option<usize>; 256], roots: &Roots, bus: u8) -
 /// The bridges from a root to a bus, or None where none leads there from a root.
 pub fn path(
     records: &[Record],
-    bridge_to_bus: &[Option<usize>; 256],
+    bridge_to_bus: &[Option<usize>; BUSES],
     roots: &Roots,
     bus: u8,
 ) -> Option<ArrayVec<Slot, 255>>

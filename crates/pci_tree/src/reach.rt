@@ -17,6 +17,7 @@ use pci_dump::memory::OutOfMemory;
 use pci_function::record::Record;
 use pci_function::space::Space;
 use pci_image::range::Range;
+use pci_image::slot::BUSES;
 use pci_image::window_kind::WindowKind;
 use std::alloc::{Allocator, Global};
 use std::marker::Model;
@@ -93,7 +94,7 @@ fn reach_of_bus<A: Allocator>(
 pub fn reaches<A: Allocator + Copy>(
     alloc: A,
     records: &[Record],
-    bridge_to_bus: &[Option<usize>; 256],
+    bridge_to_bus: &[Option<usize>; BUSES],
     roots: &Roots,
     kind: WindowKind,
 ) -> Result<Vec<Reach<A>, A>, OutOfMemory>
@@ -104,7 +105,7 @@ pub fn reaches<A: Allocator + Copy>(
     ensures exact { IfOk result (λ v. (bus : ℕ) (d : List Range) → bus < 256 → IsReachOf records.now (buses_of roots.now) (kind_value kind) bus (slice_index_or v.items bus d)) }
 {
     let mut out = Vec::new(alloc);
-    for bus in 0..256usize {
+    for bus in 0..BUSES {
         let ranges = reach_of_bus(
             alloc,
             &out,

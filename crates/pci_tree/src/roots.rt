@@ -4,10 +4,12 @@ ghost use Rattle.std.specs.List.{Contains};
 ghost use Rattle.std.specs.List.Sorted.{IsStrictlyIncreasing};
 ghost use Rattle.pci_tree.specs.Roots.{buses_of, IsRootList};
 
+use pci_image::slot::BUSES;
+
 /// A set of root buses, which isn't empty where `of` made it. The host shows each access to all of them at once.
 #[derive(Clone, Copy, Debug, PartialEq, Eq)]
 pub struct Roots {
-    flags: [bool; 256],
+    flags: [bool; BUSES],
 }
 
 /// Whether each bus is above the one before it.
@@ -31,7 +33,7 @@ impl Roots {
         if buses.is_empty() || !is_rising(buses) {
             return None;
         }
-        let mut flags = [false; 256];
+        let mut flags = [false; BUSES];
         for bus in buses {
             flags[*bus as usize] = true;
         }
@@ -42,7 +44,7 @@ impl Roots {
     pub fn host() -> Roots
         ensures { buses_of result ≡ 0 ∷ [] }
     {
-        let mut flags = [false; 256];
+        let mut flags = [false; BUSES];
         flags[0] = true;
         Roots { flags }
     }

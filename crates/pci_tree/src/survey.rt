@@ -17,6 +17,7 @@ use pci_dump::memory::{OutOfMemory, Refused};
 use pci_function::examine::examine;
 use pci_function::fault::Fault;
 use pci_function::record::Record;
+use pci_image::image::IMAGE_LEN;
 use pci_image::slot::Slot;
 use std::alloc::{Allocator, Global};
 use std::marker::Model;
@@ -38,7 +39,7 @@ fn earlier(noted: Option<Fault>, fault: Fault) -> Fault
 }
 
 /// The bytes of an image.
-fn bytes_of(bytes: &[u8; 256]) -> &[u8]
+fn bytes_of(bytes: &[u8; IMAGE_LEN]) -> &[u8]
     ensures { IsImage bytes.entry.now }
 {
     bytes.as_slice()

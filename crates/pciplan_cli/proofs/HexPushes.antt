@@ -1,33 +1,24 @@
 -- Hex digits that are appended one after the other.
-use Rattle.std.proofs.Common.{refl, ◌≡◌, ℕ, zero, suc, ◌+◌, ◌-◌, ◌*◌, ◌/◌, ◌%◌, ◌^◌, ◌<◌, ◌++◌, ◌∷◌, [], List, Bool, true, arith, sym, ◌∙◌, ap, get_or, nat_lt}
-use Rattle.std.specs.Prelude.{◌==◌, ◌&&◌}
+use Rattle.std.proofs.Common.{refl, ◌≡◌, ℕ, zero, suc, ◌+◌, ◌-◌, ◌*◌, ◌/◌, ◌%◌, ◌^◌, ◌<◌, ◌++◌, ◌∷◌, [], List, Bool, true, arith, sym, ◌∙◌, ap, nat_lt}
 use Rattle.std.proofs.Math.Nat.{div-div-eq-div-mul, pow-suc}
-use Rattle.std.proofs.lemmas.Bool.{eqb-true, lt-ltb, ltb-true, and_parts}
+use Rattle.std.proofs.lemmas.Bool.{lt-ltb, ltb-true}
 use Rattle.std.proofs.lemmas.List.{append_assoc}
 use Rattle.pci_spec.specs.Number.{each_from}
 use Rattle.pci_spec.specs.Text.{hex_digit, hex_byte}
 use Rattle.pci_spec.specs.Line.{hex_number}
 use Rattle.pci_spec.specs.Listing.{decimal_text}
 use Rattle.pci_spec.proofs.Bits.{each_from-at}
-use Rattle.pciplan_cli.specs.declared.hex_text.TheConstants.{HEX}
 
--- the table has the digits, and they are ASCII
-abbrev is_digit_of : ℕ → Bool
-is_digit_of number = (get_or HEX number 0 == hex_digit number) && nat_lt (get_or HEX number 0) 128
+-- a digit is ASCII
+abbrev is_ascii : ℕ → Bool
+is_ascii number = nat_lt (hex_digit number) 128
 
-all_digits : each_from 0 16 is_digit_of ≡ true
+all_ascii : each_from 0 16 is_ascii ≡ true
 unfolding each_from
-all_digits = refl
+all_ascii = refl
 
-both : (number : ℕ) → number < 16 → ((get_or HEX number 0 == hex_digit number) ≡ true) × (nat_lt (get_or HEX number 0) 128 ≡ true)
-both number small =
-    and_parts (get_or HEX number 0 == hex_digit number) (nat_lt (get_or HEX number 0) 128) (each_from-at 0 16 is_digit_of all_digits number (omega arith) (omega (arith, small)))
-
-pub digit_there : (number : ℕ) → number < 16 → get_or HEX number 0 ≡ hex_digit number
-digit_there number small = eqb-true _ _ (both number small).0
-
-pub digit_ascii : (number : ℕ) → number < 16 → get_or HEX number 0 < 128
-digit_ascii number small = ltb-true _ 128 (both number small).1
+pub digit_ascii : (number : ℕ) → number < 16 → hex_digit number < 128
+digit_ascii number small = ltb-true (hex_digit number) 128 (each_from-at 0 16 is_ascii all_ascii number (omega arith) (omega (arith, small)))
 
 -- four bits are a digit
 pow_four : (k : ℕ) → 2 ^ (4 * k) ≡ 16 ^ k

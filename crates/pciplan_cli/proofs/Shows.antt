@@ -4,7 +4,7 @@ use Rattle.std.proofs.lemmas.List.{append_assoc, append-nil, length-map}
 use Rattle.std.specs.List.{Contains}
 use Rattle.std.specs.Result.{IsErrAnd, IfErr}
 use Rattle.pci_spec.specs.Text.{Block, slots_of}
-use Rattle.pci_spec.specs.System.{Function, system_of}
+use Rattle.pci_spec.specs.System.{Function, function_of, system_of}
 use Rattle.pci_spec.specs.Fault as faults
 use Rattle.pci_spec.specs.Listing.{listing, function_listing}
 use Rattle.pci_dump.specs.declared.memory.Refused.{Refused}
@@ -15,7 +15,7 @@ use Rattle.pci_function.proofs.Examined.{image_here}
 use Rattle.pci_function.proofs.FirstIn.{here_in}
 use Rattle.pci_function.proofs.Pairs.{placed}
 use Rattle.pci_spec.proofs.Pairing.{there-of_in}
-use Rattle.pciplan_cli.specs.Shows.{function_of, IsRefusedFor, IsRefusedIn}
+use Rattle.pciplan_cli.specs.Shows.{IsRefusedFor, IsRefusedIn}
 
 -- two dumps of the same slots have as many blocks
 pub same_count : (dump probe : List Block) → slots_of dump ≡ slots_of probe → length dump ≡ length probe

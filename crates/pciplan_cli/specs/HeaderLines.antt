@@ -1,5 +1,5 @@
 -- The first line of a function, by the fields of its value.
-use Rattle.std.specs.Prelude.{ℕ, ◌+◌, ◌*◌, List, [], ◌∷◌, ◌++◌, codes}
+use Rattle.std.specs.Prelude.{ℕ, List, [], ◌∷◌, ◌++◌, codes}
 use Rattle.pci_spec.specs.Slot.{Slot}
 use Rattle.pci_spec.specs.Text.{slot_text}
 use Rattle.pci_spec.specs.Line.{hex_number}
@@ -12,11 +12,8 @@ abbrev pub identity_words : ℕ → ℕ → ℕ → List ℕ
 identity_words vendor device class =
     codes "vendor " ++ (hex_number 4 vendor ++ (codes " device " ++ (hex_number 4 device ++ (codes " class " ++ hex_number 6 class))))
 
-abbrev pub class_of : Identity → ℕ
-class_of i = i.interface + i.sub_class * 256 + i.base_class * 65536
-
 abbrev pub identity_text : Identity → List ℕ
-identity_text i = identity_words i.vendor i.device (class_of i)
+identity_text i = identity_words i.vendor i.device i.class
 
 -- the line of these numbers
 abbrev pub header_text : Slot → ℕ → ℕ → ℕ → ℕ → ℕ → ℕ → List ℕ
@@ -25,4 +22,4 @@ header_text slot kind vendor device class command status =
     ++ words (codes "command" ∷ hex_number 4 command ∷ codes "status" ∷ hex_number 4 status ∷ [])))))
 
 abbrev pub header_line_text : HeaderLine → List ℕ
-header_line_text l = header_text l.slot l.kind l.identity.vendor l.identity.device (class_of l.identity) l.command l.status
+header_line_text l = header_text l.slot l.kind l.identity.vendor l.identity.device l.identity.class l.command l.status

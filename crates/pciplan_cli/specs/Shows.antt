@@ -10,10 +10,6 @@ use Rattle.pci_image.specs.declared.fault.ImageFault.{ImageFault}
 use Rattle.pci_function.specs.declared.fault.Fault.{Fault}
 use Rattle.pci_function.specs.Fault.{fault_of, image_fault_at}
 
--- the function of a block and of its probe
-abbrev pub function_of : Block → Block → Function
-function_of block probe = record { slot = block.slot; image = block.image; probe = probe.image }
-
 -- a fault that is named is one of this function
 abbrev pub IsRefusedFor : Function → Refused Fault → Type 0
 IsRefusedFor f (refusals.Fault fault) = (g : ImageFault) × (fault_of fault ≡ image_fault_at f.slot g) × IsImageFaultIn f.image f.probe g

@@ -5,21 +5,16 @@ ghost use Rattle.pci_spec.specs.Text.{hex_byte, hex_digit, slot_text};
 ghost use Rattle.pci_spec.specs.Line.{hex_number};
 ghost use Rattle.pci_spec.specs.Listing.{decimal_text};
 
+use pci_dump::digit::digit_of;
 use pci_image::slot::Slot;
 use std::alloc::{AllocError, Allocator};
 
-/// The hex digits in lower case.
-static HEX: [char; 16] = [
-    '0', '1', '2', '3', '4', '5', '6', '7', '8', '9', 'a', 'b', 'c', 'd', 'e', 'f',
-];
-
-/// The hex digit of a number below 16.
-fn digit_of(number: u64) -> char
+/// Appends the hex digit of a number below 16.
+fn push_digit<A: Allocator>(text: &mut String<A>, number: u8) -> Result<(), AllocError>
     requires { number < 16 }
-    ensures digit { result ≡ hex_digit number }
-    ensures ascii { result < 128 }
+    ensures { OnOk result (string_bytes text.new ≡ string_bytes text.old ++ hex_digit number ∷ []) }
 {
-    HEX[number as usize]
+    text.push(char::from(digit_of(number)))
 }
 
 /// Appends a number in so many hex digits.
@@ -33,7 +28,7 @@ pub(crate) fn push_hex<A: Allocator>(
 {
     for done in 0..digits {
         let digit = (number >> (4 * (digits - 1 - done))) % 16;
-        text.push(digit_of(digit))?;
+        push_digit(text, digit as u8)?;
     }
     Ok(())
 }
@@ -52,20 +47,12 @@ pub(crate) fn push_word<A: Allocator>(text: &mut String<A>, word: u16) -> Result
     push_hex(text, u64::from(word), 4)
 }
 
-/// Appends the hex digit of a number below 16.
-fn push_digit<A: Allocator>(text: &mut String<A>, number: u64) -> Result<(), AllocError>
-    requires { number < 16 }
-    ensures { OnOk result (string_bytes text.new ≡ string_bytes text.old ++ hex_digit number ∷ []) }
-{
-    text.push(digit_of(number))
-}
-
 /// Appends a number below 10.
 pub(crate) fn push_decimal<A: Allocator>(text: &mut String<A>, number: u8) -> Result<(), AllocError>
     requires { number < 10 }
     ensures { OnOk result (string_bytes text.new ≡ string_bytes text.old ++ decimal_text number) }
 {
-    push_digit(text, u64::from(number))
+    push_digit(text, number)
 }
 
 /// Ends a line.
@@ -79,10 +66,9 @@ pub(crate) fn end_line<A: Allocator>(text: &mut String<A>) -> Result<(), AllocEr
 pub(crate) fn push_slot<A: Allocator>(text: &mut String<A>, slot: Slot) -> Result<(), AllocError>
     ensures { OnOk result (string_bytes text.new ≡ string_bytes text.old ++ slot_text slot) }
 {
-    let function = u64::from(slot.number() % 8);
     push_byte(text, slot.bus())?;
     text.push(':')?;
     push_byte(text, slot.dev())?;
     text.push('.')?;
-    push_digit(text, function)
+    push_digit(text, slot.fun())
 }

@@ -6,10 +6,8 @@ ghost use Rattle.pciplan_cli.specs.RootWords.{IsRootWord};
 
 use arrayvec::ArrayVec;
 use pci_dump::digit::digit_value;
+use pci_image::slot::BUSES;
 use pci_tree::roots::Roots;
-
-/// The most buses of a list: there are so many.
-const BUSES: usize = 256;
 
 /// The bytes from a bus to the next: two digits and a comma.
 const STEP: usize = 3;

@@ -1,9 +1,9 @@
 //! The listing of a dump and its probe, or the first fault that decoding them meets.
 ghost use Rattle.std.specs.Prelude.{◌≡◌, ◌++◌, [], ◌∷◌, OnOk, IfOk, IfErr};
 ghost use Rattle.std.specs.String.{string_bytes};
-ghost use Rattle.pci_spec.specs.System.{system_of};
+ghost use Rattle.pci_spec.specs.System.{function_of, system_of};
 ghost use Rattle.pci_spec.specs.Listing.{listing, function_listing};
-ghost use Rattle.pciplan_cli.specs.Shows.{function_of, IsRefusedFor, IsRefusedIn};
+ghost use Rattle.pciplan_cli.specs.Shows.{IsRefusedFor, IsRefusedIn};
 
 use crate::listing::function::push_function;
 use pci_dump::block::Block;

@@ -4,11 +4,11 @@
 //! and a bridge always has a memory window.
 ghost use Rattle.std.specs.Prelude.{◌≡◌, ◌+◌, ◌*◌, ◌≤◌, ◌≢◌, ◌^◌, ◌%◌, ◌<◌, ◌==◌, IsTrue, IsFalse, MatchOption};
 ghost use Rattle.std.specs.Option.{option_map};
-ghost use Rattle.pci_spec.specs.Window.{bounds_at, is_optional, is_zero, lower_pages, page_bits, upper_bits};
+ghost use Rattle.pci_spec.specs.Window.{bounds_at, is_optional, is_zero, lower_pages, page_bits, upper_bits, shows_window, is_window_read_back, is_window_value};
 ghost use Rattle.pci_spec.specs.Place.{closed_bounds};
 ghost use Rattle.pci_spec.specs.Planning.Showing.{bounds_for};
 ghost use Rattle.pci_image.specs.WindowKinds.{kind_value};
-ghost use Rattle.pci_image.specs.Bounds.{address_bits, spec_bounds_of, page_of, range_between, is_implemented, is_read_back, is_value};
+ghost use Rattle.pci_image.specs.Bounds.{address_bits, spec_bounds_of, page_of, range_between};
 ghost use Rattle.pci_image.specs.Ranges.{decoded_range_of};
 
 use crate::image::Image;
@@ -133,8 +133,8 @@ impl WindowKind {
     /// they are those of no window.
     pub fn has_upper(self, value: Bounds, mask: Bounds) -> Option<bool>
         ensures { MatchOption result
-            (IsFalse (is_implemented (kind_value self) (spec_bounds_of value) (spec_bounds_of mask)))
-            (λ wide. IsTrue (is_implemented (kind_value self) (spec_bounds_of value) (spec_bounds_of mask)) × (wide ≡ (mask.base % 16 == 1)) × (mask.base ≢ 0)) }
+            (IsFalse (shows_window (kind_value self) (spec_bounds_of value) (spec_bounds_of mask)))
+            (λ wide. IsTrue (shows_window (kind_value self) (spec_bounds_of value) (spec_bounds_of mask)) × (wide ≡ (mask.base % 16 == 1)) × (mask.base ≢ 0)) }
     {
         if self.is_read_back(NARROW, mask) && value.is_value(NARROW) {
             Some(false)
@@ -148,7 +148,7 @@ impl WindowKind {
     /// Whether these read backs are those of a window with this low nibble.
     fn is_read_back(self, nibble: u16, mask: Bounds) -> bool
         requires { nibble < 2 }
-        ensures { result ≡ is_read_back (kind_value self) nibble (spec_bounds_of mask) }
+        ensures { result ≡ is_window_read_back (kind_value self) nibble (spec_bounds_of mask) }
     {
         let page = self.page_bits() + nibble;
         let upper = self.upper_bits() * u32::from(nibble);
@@ -170,7 +170,7 @@ impl Bounds {
     /// Whether these values go with this low nibble.
     fn is_value(self, nibble: u16) -> bool
         requires { nibble < 2 }
-        ensures { result ≡ is_value nibble (spec_bounds_of self) }
+        ensures { result ≡ is_window_value nibble (spec_bounds_of self) }
     {
         let has_no_upper = self.base_upper == 0 && self.limit_upper == 0;
         self.base % 16 == nibble && self.limit % 16 == nibble && (nibble == WIDE || has_no_upper)

@@ -60,7 +60,7 @@ power_state_is_in_bits_1_and_0 : power_state (with_list ((0x40, 1) ∷ (0x42, 0x
 power_state_is_in_bits_1_and_0 = refl
 
 second_power_management_asleep : IsNotInD0 (with_list ((0x34, 0x40) ∷ (0x40, 1) ∷ (0x41, 0x48) ∷ (0x48, 1) ∷ (0x4c, 1) ∷ []))
-second_power_management_asleep = (0x48, (1, refl, λ e. omega (arith, e)), refl, λ e. let no : 1 ≡ 0 = e in omega (arith, no))
+second_power_management_asleep = (0x48, (1, refl, λ e. omega (arith, e)), (refl, λ e. let no : 1 ≡ 0 = e in omega (arith, no)))
 
 -- ---- lists
 

@@ -92,7 +92,7 @@ abbrev sleeper : ℕ → Function
 sleeper state = device (slot 0 1 0) 0 ((0x04, 0x00100000) ∷ (0x34, 0x40) ∷ (0x40, 0x4801) ∷ (0x48, 1) ∷ (0x4c, state) ∷ []) []
 
 asleep : IsIn host (sleeper 0x8103 ∷ []) (PowerState (slot 0 1 0))
-asleep = (sleeper 0x8103, there _, refl, (0x48, (1, refl, λ e. omega (arith, e)), refl, λ e. let three : 3 ≡ 0 = e in omega (arith, three)))
+asleep = (sleeper 0x8103, there _, refl, (0x48, (1, refl, λ e. omega (arith, e)), (refl, λ e. let three : 3 ≡ 0 = e in omega (arith, three))))
 
 no_function_on_a_bus_that_nothing_leads_to : IsIn host (device (slot 5 0 0) 0 [] [] ∷ []) (Orphan (slot 5 0 0))
 no_function_on_a_bus_that_nothing_leads_to = (device (slot 5 0 0) 0 [] [], there _, refl, refl)

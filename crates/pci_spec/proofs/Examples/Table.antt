@@ -7,7 +7,7 @@ use Rattle.pci_spec.specs.Header.{layout, bar_count}
 use Rattle.pci_spec.specs.Window.{WindowKind, IoWindow, MemoryWindow, PrefetchWindow}
 use Rattle.pci_spec.specs.System.{Function, Part, Bar, Rom, Window, is_bridge}
 use Rattle.pci_spec.specs.Bus.{secondary}
-use Rattle.pci_spec.specs.Decoded.{has_bar}
+use Rattle.pci_spec.specs.Bar.{has_bar}
 use Rattle.pci_spec.specs.Plan.{items_within, doubled_to}
 use Rattle.pci_spec.specs.Place.{start_within}
 use Rattle.pci_spec.specs.Planning.Numbers.{place_at}

@@ -6,7 +6,7 @@ use Rattle.std.proofs.lemmas.Bool.{and_parts, both_ways, false_from_ne_true, ltb
 use Rattle.pci_spec.specs.Number.{each_from, some_from, has_bit}
 use Rattle.pci_spec.specs.Slot.{Slot}
 use Rattle.pci_spec.specs.Header.{command, layout, bar_count}
-use Rattle.pci_spec.specs.Bar.{Memory32, bar_fault, starts_bar}
+use Rattle.pci_spec.specs.Bar.{Memory32, bar_fault, starts_bar, has_bar}
 use Rattle.pci_spec.specs.Rom.{breaks_rom_rule}
 use Rattle.pci_spec.specs.Window.{WindowKind, IoWindow, MemoryWindow, PrefetchWindow, breaks_window_rule}
 use Rattle.pci_spec.specs.Capability.{HasChain, pointer}
@@ -14,7 +14,7 @@ use Rattle.pci_spec.specs.System.{Function, IsFunction, IsSystem, Space, Io, Mem
 use Rattle.pci_spec.specs.Bus.{IsNested, is_root}
 use Rattle.pci_spec.specs.Fault.{IsIn, NoVendor, HeaderKind, BarType, BarMask, BarPair, RomMask, WindowMask, CapRange, CapLoop, CapCut, SlotsDiffer, StrayProbe, LoneFunction, PaletteSnoop, VgaEnable, IsaEnable, Subtractive, InReset, PowerState, BusRange, Orphan, Unreached, Clash, Split, has_no_vendor, is_stray}
 use Rattle.pci_spec.specs.Sound.{IsSound, IsSameRegion, IsInProfile}
-use Rattle.pci_spec.specs.Decoded.{has_bar, bar_size}
+use Rattle.pci_spec.specs.Decoded.{bar_size}
 use Rattle.pci_spec.specs.ToldAlike.{IsToldAlike, IsReadable, enables_bar}
 use Rattle.pci_spec.proofs.Absent.{not_lawful, no_rom}
 use Rattle.pci_spec.proofs.Bits.{interval-agrees}

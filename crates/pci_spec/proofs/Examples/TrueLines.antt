@@ -3,12 +3,12 @@ use Rattle.std.proofs.Common.{◌≡◌, ◌↔◌, ℕ, zero, suc, ◌<◌, Lis
 use Rattle.std.specs.Bool.{nat_lt}
 use Rattle.std.proofs.lemmas.Bool.{and_parts, both_ways, ltb-true}
 use Rattle.pci_spec.specs.Number.{each_from, some_from}
-use Rattle.pci_spec.specs.Bar.{bar_fault}
+use Rattle.pci_spec.specs.Bar.{bar_fault, has_bar}
 use Rattle.pci_spec.specs.Window.{WindowKind, IoWindow, has_window}
 use Rattle.pci_spec.specs.Rom.{rom_at, has_rom}
 use Rattle.pci_spec.specs.Text.{Block}
 use Rattle.pci_spec.specs.System.{Function, IsFunction, system_of}
-use Rattle.pci_spec.specs.Decoded.{has_bar, bar_size, rom_size}
+use Rattle.pci_spec.specs.Decoded.{bar_size, rom_size}
 use Rattle.pci_spec.specs.Resource.{ResourceLine, no_line, line_at, rom_line, address_count, has_size, tells_bar, tells_rom}
 use Rattle.pci_spec.specs.Derived.{bar_of_size, derived_bar, derived_rom, window_read_back, bar_register_derived, window_register_derived, register_derived, derived_probe}
 use Rattle.pci_spec.specs.NoProbe.{first_at, no_probe}

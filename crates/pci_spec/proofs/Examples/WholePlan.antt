@@ -6,7 +6,8 @@ use Rattle.std.proofs.lemmas.Bool.{and_parts, ltb-true, eqb-true}
 use Rattle.pci_spec.specs.Number.{has_bit}
 use Rattle.pci_spec.specs.Header.{command, layout, bar_count}
 use Rattle.pci_spec.specs.Window.{WindowKind, IoWindow, MemoryWindow, PrefetchWindow}
-use Rattle.pci_spec.specs.Decoded.{Range, has_bar}
+use Rattle.pci_spec.specs.Bar.{has_bar}
+use Rattle.pci_spec.specs.Decoded.{Range}
 use Rattle.pci_spec.specs.System.{Function, Part, Bar, Rom, Window, Io, Memory}
 use Rattle.pci_spec.specs.Sound.{IsSound}
 use Rattle.pci_spec.specs.Machine.{system_after}

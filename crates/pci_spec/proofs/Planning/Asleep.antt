@@ -18,7 +18,7 @@ stays_ended image m e (suc n) past = elim (cases_lt n m) [
 ]
 
 pub asleep_before : (f g : Function) → IsMoved f g → IsImage f.image → HasChain f.image → IsNotInD0 g.image → IsNotInD0 f.image
-asleep_before f g m is (places, chain) (place, (n, at, some), id, state) =
+asleep_before f g m is (places, chain) (place, (n, at, some), (id, state)) =
     let count = length places in
     let ended : pointer g.image count ≡ 0 = pointer_same f g m is places chain count (omega arith) ∙ chain.end in
     elim (cases_lt n count) [
@@ -36,5 +36,5 @@ asleep_before f g m is (places, chain) (place, (n, at, some), id, state) =
           let five = rest_same f g m is (place + 4 + 1) (omega (arith, low, was)) (omega (arith, body, eight, was)) in
           let states : power_state g.image place ≡ power_state f.image place =
           ap (λ a. (0 + a * 256 ^ 0 + byte_at g.image (place + 4 + 1) * 256 ^ 1) % 4) four ∙ ap (λ b. (0 + byte_at f.image (place + 4 + 0) * 256 ^ 0 + b * 256 ^ 1) % 4) five in
-          (place, (n, was, some), id_was, λ e. state (states ∙ e))
+          (place, (n, was, some), (id_was, λ e. state (states ∙ e)))
     ]

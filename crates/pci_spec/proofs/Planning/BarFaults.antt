@@ -7,7 +7,7 @@ use Rattle.std.proofs.lemmas.Nat.{mod_below, pow_pos}
 use Rattle.std.proofs.lemmas.Nat.Bits.{same_from_bits_below, bit_at-lt, bit_at_above, bit_at_cat_low, bit_at_cat_high}
 use Rattle.pci_spec.specs.Number.{has_bit, each_from, IsImage}
 use Rattle.pci_spec.specs.Header.{layout, bar_count, bar_register}
-use Rattle.pci_spec.specs.Bar.{BarFault, BarType, BarMask, BarPair, bar_at, is_io, is_wide, bar_kind, starts_bar, whole_bar, is_within, has_lawful_size, encodings, first_broken, bar_fault}
+use Rattle.pci_spec.specs.Bar.{BarFault, BarType, BarMask, BarPair, bar_at, is_io, is_wide, bar_kind, starts_bar, whole_bar, is_within, has_lawful_size, encodings, bar_reading, first_broken, bar_fault}
 use Rattle.pci_spec.specs.System.{Function}
 use Rattle.pci_spec.specs.Machine.{bar_field, without_low}
 use Rattle.pci_spec.specs.Plan.{IsMoved}
@@ -157,11 +157,11 @@ module _ (f g : Function) (m : IsMoved f g) (is : IsImage f.image) (probe_is : I
 pub bar_fault_same : (f g : Function) → IsMoved f g → IsImage f.image → IsImage f.probe → (n : ℕ) → n < bar_count (layout f.image) → bar_fault g.image g.probe n ≡ bar_fault f.image f.probe n
 bar_fault_same f g m is probe_is n inside =
     ap (λ p. bar_fault g.image p n) m.probe
-    ∙ ap (λ k. if starts_bar f.probe n then first_broken (n + 1 == bar_count k) (bar_at g.image n) (bar_at f.probe n) (whole_bar f.probe g.image n) (whole_bar f.probe f.probe n) else None) (layout_same f g m is)
+    ∙ ap (λ k. if starts_bar f.probe n then first_broken (bar_reading (n + 1 == bar_count k) g.image f.probe n) else None) (layout_same f g m is)
     ∙ elim (cases_Bool (starts_bar f.probe n)) [
       | inr other ↦
-          ap (λ t. if t then first_broken (n + 1 == bar_count (layout f.image)) (bar_at g.image n) (bar_at f.probe n) (whole_bar f.probe g.image n) (whole_bar f.probe f.probe n) else None) other
-          ∙ sym (ap (λ t. if t then first_broken (n + 1 == bar_count (layout f.image)) (bar_at f.image n) (bar_at f.probe n) (whole_bar f.probe f.image n) (whole_bar f.probe f.probe n) else None) other)
+          ap (λ t. if t then first_broken (bar_reading (n + 1 == bar_count (layout f.image)) g.image f.probe n) else None) other
+          ∙ sym (ap (λ t. if t then first_broken (bar_reading (n + 1 == bar_count (layout f.image)) f.image f.probe n) else None) other)
       | inl starts ↦
           let mask = bar_at f.probe n in
           let last = n + 1 == bar_count (layout f.image) in

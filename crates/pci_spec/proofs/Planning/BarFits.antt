@@ -8,9 +8,9 @@ use Rattle.std.proofs.lemmas.List.Folds.{list_any-append}
 use Rattle.std.proofs.lemmas.Nat.{shr-shr}
 use Rattle.pci_spec.specs.Number.{has_bit, IsImage}
 use Rattle.pci_spec.specs.Header.{layout, bar_count, bar_register}
-use Rattle.pci_spec.specs.Bar.{bar_at, is_wide, bar_kind, starts_bar, bar_fault, encodings}
+use Rattle.pci_spec.specs.Bar.{bar_at, is_wide, bar_kind, starts_bar, bar_fault, encodings, has_bar}
 use Rattle.pci_spec.specs.Rom.{rom_at}
-use Rattle.pci_spec.specs.Decoded.{bar_size, has_bar}
+use Rattle.pci_spec.specs.Decoded.{bar_size}
 use Rattle.pci_spec.specs.System.{Function, is_bridge}
 use Rattle.pci_spec.specs.Machine.{field_has, in_fields, address_fields, bar_field, window_fields, without_low}
 use Rattle.pci_spec.proofs.Bits.{bit_at-mod, bit_at-without_low}

@@ -7,8 +7,8 @@ use Rattle.std.proofs.lemmas.Nat.{mod_below, pow_pos, shr_split}
 use Rattle.std.proofs.Math.Nat.{pow-le-pow_right}
 use Rattle.pci_spec.specs.Number.{has_bit, lowest_one, IsImage}
 use Rattle.pci_spec.specs.Header.{layout, bar_count, bar_register}
-use Rattle.pci_spec.specs.Bar.{BarKind, IoBar, Memory32, Memory64, Reserved, bar_at, bar_kind, is_io, is_wide, type_bits, starts_bar, whole_bar, bar_fault, encodings}
-use Rattle.pci_spec.specs.Decoded.{bar_size, has_bar}
+use Rattle.pci_spec.specs.Bar.{BarKind, IoBar, Memory32, Memory64, Reserved, bar_at, bar_kind, is_io, is_wide, type_bits, starts_bar, whole_bar, bar_fault, encodings, has_bar}
+use Rattle.pci_spec.specs.Decoded.{bar_size}
 use Rattle.pci_spec.specs.System.{Function}
 use Rattle.pci_spec.specs.Machine.{bar_field}
 use Rattle.pci_spec.proofs.BarLaws.{kind_by}

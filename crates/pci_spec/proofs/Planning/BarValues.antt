@@ -6,9 +6,9 @@ use Rattle.std.proofs.lemmas.Bool.{and_parts, or_cases, both_ways, leb-true}
 use Rattle.std.proofs.lemmas.Nat.{mod_below, pow_pos, pow_below}
 use Rattle.std.proofs.Math.Nat.{pow-le-pow_right}
 use Rattle.pci_spec.specs.Number.{has_bit, each_from, lowest_one}
-use Rattle.pci_spec.specs.Bar.{BarKind, IoBar, Memory32, Memory64, Reserved, bar_at, bar_kind, is_run, is_lawful, is_within, whole_bar, bar_fault}
+use Rattle.pci_spec.specs.Bar.{BarKind, IoBar, Memory32, Memory64, Reserved, bar_at, bar_kind, is_run, is_lawful, is_within, whole_bar, bar_fault, has_bar}
 use Rattle.pci_spec.specs.Rom.{rom_at, has_rom, breaks_rom_rule}
-use Rattle.pci_spec.specs.Decoded.{aligned_range, bar_size, rom_size, has_bar}
+use Rattle.pci_spec.specs.Decoded.{aligned_range, bar_size, rom_size}
 use Rattle.pci_spec.proofs.Bits.{each_from-at, bit_of_false}
 use Rattle.pci_spec.proofs.Ranges.{lawful-lowest_one, lawful_bar, first_bit-of_register, lawful_rom}
 use Rattle.pci_spec.proofs.Ranges as ranges

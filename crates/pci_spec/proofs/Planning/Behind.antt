@@ -12,13 +12,13 @@ use Rattle.pci_spec.specs.Number.{lowest_one}
 use Rattle.pci_spec.specs.Bar.{bar_at, is_io, whole_bar}
 use Rattle.pci_spec.specs.Rom.{rom_at}
 use Rattle.pci_spec.specs.Header.{primary_bus, layout, bar_count}
-use Rattle.pci_spec.specs.Plan.{Pools, class_of, same_class, size_of, sizes_in, items_on, has_behind, window_size, limited}
+use Rattle.pci_spec.specs.Plan.{Pools, class_of, same_class, size_of, sizes_in, items_on, has_behind, window_size, limited, own_sizes, window_over}
 use Rattle.pci_spec.proofs.Members.{in_nil, in_cons_cases, in_head, in_tail, in_flat_map_to, IsInPiece, in_map_to, IsMade, in_filter_to}
 use Rattle.pci_spec.proofs.Nesting.{one_function}
 use Rattle.pci_spec.proofs.BusRanges.{root_means}
 use Rattle.std.proofs.lemmas.List.Elements.{Contains-append_cases}
 use Rattle.pci_spec.specs.Planning.Table.{need_behind}
-use Rattle.pci_spec.proofs.Planning.Needs.{own_sizes, window_over, items_by_behind}
+use Rattle.pci_spec.proofs.Planning.Needs.{items_by_behind}
 use Rattle.pci_spec.proofs.Planning.Needed.{own_needed, window_needed}
 use Rattle.pci_spec.proofs.Planning.Safe.{slots_of, order_of}
 
@@ -115,7 +115,7 @@ module _ (roots : List ℕ) (s : System) (pools : Pools) (c : WindowKind) (syste
       let bus = secondary b in
       let end = own_end b listed bridge in
       let own = flat_map (own_sizes s pools c bus) s in
-      let windows = flat_map (λ d. window_over c bus d (items_on s pools c (secondary d))) s in
+      let windows = flat_map (λ d. window_over c bus d (sum (items_on s pools c (secondary d)))) s in
       let term = some_term (items_on s pools c bus) some in
       let listed_term = term.1 in
       let there : Contains (own ++ windows) term.0 =
@@ -132,7 +132,7 @@ module _ (roots : List ℕ) (s : System) (pools : Pools) (c : WindowKind) (syste
             has_by b f piece.has (is_behind_by b f.slot.bus (omega (arith, at)) (omega (arith, at, end)))
             (any_from (λ part. same_class c (class_of s pools f part)) (bars_and_rom f) made.from kept.0 kept.1)
         | inr later ↦
-            let piece : IsInPiece (λ d. window_over c bus d (items_on s pools c (secondary d))) s term.0 = in_flat_map_to (λ d. window_over c bus d (items_on s pools c (secondary d))) s term.0 later in
+            let piece : IsInPiece (λ d. window_over c bus d (sum (items_on s pools c (secondary d)))) s term.0 = in_flat_map_to (λ d. window_over c bus d (sum (items_on s pools c (secondary d)))) s term.0 later in
             let d = piece.of in
             let need = sum (items_on s pools c (secondary d)) in
             let split = in_cond (is_bridge d && d.slot.bus == bus && nat_lt 0 need) (window_size c (limited need) ∷ []) term.0 piece.piece in

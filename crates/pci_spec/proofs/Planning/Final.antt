@@ -6,7 +6,8 @@ use Rattle.std.proofs.lemmas.Bool.{both_ways}
 use Rattle.std.proofs.lemmas.List.Elements.{Contains-append_cases}
 use Rattle.pci_spec.specs.Header.{layout, bar_count}
 use Rattle.pci_spec.specs.Window.{WindowKind, has_window, is_wide_window, bounds_at, is_closed}
-use Rattle.pci_spec.specs.Decoded.{Range, has_bar, window_range}
+use Rattle.pci_spec.specs.Bar.{has_bar}
+use Rattle.pci_spec.specs.Decoded.{Range, window_range}
 use Rattle.pci_spec.specs.System.{System, Function, Part, Bar, Rom, Window, is_bridge, is_implemented, bars_and_rom}
 use Rattle.pci_spec.specs.Sound.{IsSound}
 use Rattle.pci_spec.specs.Plan.{Pools, class_of, has_behind, IsMoved, IsPlanned}

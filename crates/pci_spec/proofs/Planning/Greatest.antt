@@ -7,14 +7,14 @@ use Rattle.std.proofs.lemmas.List.Elements.{Contains-append_cases, Contains-appe
 use Rattle.std.proofs.lemmas.List.Sorted.{IsPermutation-sym, Contains-permutation}
 use Rattle.pci_spec.specs.Window.{WindowKind}
 use Rattle.pci_spec.specs.System.{System, Function, IsSystem, is_bridge}
-use Rattle.pci_spec.specs.Bus.{secondary, is_root, are_siblings, IsNested}
-use Rattle.pci_spec.specs.Plan.{Pools, pool_of, sizes_in, window_size, limited, items_on, greatest, greatest_of_roots, raised_to}
+use Rattle.pci_spec.specs.Bus.{is_root, are_siblings, IsNested}
+use Rattle.pci_spec.specs.Plan.{Pools, pool_of, sizes_in, window_size, limited, items_on, greatest, greatest_of_roots, raised_to, own_sizes, window_over}
 use Rattle.pci_spec.specs.Place.{Item, own_items, items_beside, start_of}
 use Rattle.pci_spec.specs.Planning.Room.{root_items}
 use Rattle.pci_spec.specs.Planning.Table.{need_behind}
 use Rattle.pci_spec.proofs.Members.{IsMade, IsInPiece, in_nil, in_head, in_tail, in_cons_cases, in_map_to, in_map_from, in_flat_map_to, in_flat_map_from}
 use Rattle.pci_spec.proofs.BusRanges.{root_means}
-use Rattle.pci_spec.proofs.Planning.Needs.{own_sizes, window_over, items_by_behind}
+use Rattle.pci_spec.proofs.Planning.Needs.{items_by_behind}
 use Rattle.pci_spec.proofs.Planning.Safe.{slots_of, order_of}
 use Rattle.pci_spec.proofs.Planning.Starts.{start_of_root}
 use Rattle.pci_spec.proofs.Planning.OwnItems.{in_cond}
@@ -60,7 +60,7 @@ in_cond_from b xs n is listed = subst (λ t. Contains (cond t xs []) n) (sym is)
 
 module _ (roots : List ℕ) (s : System) (pools : Pools) (c : WindowKind) (system : IsSystem s) (nested : IsNested roots s) where
   abbrev windows_over : ℕ → Function → List ℕ
-  windows_over bus b = window_over c bus b (items_on s pools c (secondary b))
+  windows_over bus b = window_over c bus b (need_behind s pools c b)
 
   by_behind : (bus : ℕ) → items_on s pools c bus ≡ flat_map (own_sizes s pools c bus) s ++ flat_map (windows_over bus) s
   by_behind bus = items_by_behind s pools c (slots_of s system) (order_of roots s nested) bus

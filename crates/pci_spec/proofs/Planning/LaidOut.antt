@@ -5,10 +5,10 @@ use Rattle.std.specs.List.{All, Contains, list_any}
 use Rattle.std.proofs.lemmas.Bool.{not-true, not_from_false, and_parts, and_from, or_cases, cases_Bool, both_ways, ltb-true, leb-false}
 use Rattle.std.proofs.lemmas.List.Elements.{All-contains}
 use Rattle.pci_spec.specs.Header.{layout, bar_count}
-use Rattle.pci_spec.specs.Bar.{bar_at, is_io, is_prefetchable}
+use Rattle.pci_spec.specs.Bar.{bar_at, is_io, is_prefetchable, has_bar}
 use Rattle.pci_spec.specs.Rom.{has_rom}
 use Rattle.pci_spec.specs.Window.{WindowKind, IoWindow, MemoryWindow, PrefetchWindow, has_window, is_closed, holds}
-use Rattle.pci_spec.specs.Decoded.{Range, InRange, has_bar, IsDecodable}
+use Rattle.pci_spec.specs.Decoded.{Range, InRange, IsDecodable}
 use Rattle.pci_spec.specs.System.{System, Function, Space, Io, Memory, Part, Bar, Rom, Window, Claims, Decodes, has_part, is_bridge, is_window, is_prefetchable_part, is_space_on, space_of, window_space, window_claims, passes, bars_and_rom}
 use Rattle.pci_spec.specs.Bus.{LeadsTo, IsNested, is_root}
 use Rattle.pci_spec.specs.Sound.{IsSingle, IsHome}

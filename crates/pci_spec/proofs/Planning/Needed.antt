@@ -10,7 +10,7 @@ use Rattle.pci_spec.specs.Header.{layout, bar_count}
 use Rattle.pci_spec.specs.Window.{WindowKind}
 use Rattle.pci_spec.specs.System.{System, Function, IsSystem, Part, Bar, Rom, Window, is_bridge, is_implemented, bars_and_rom}
 use Rattle.pci_spec.specs.Bus.{secondary, IsNested}
-use Rattle.pci_spec.specs.Plan.{Pools, class_of, same_class, window_size, size_of, sizes_in, items_on, limited}
+use Rattle.pci_spec.specs.Plan.{Pools, class_of, same_class, window_size, size_of, sizes_in, items_on, limited, own_sizes, window_over}
 use Rattle.std.proofs.lemmas.List.Elements.{Contains-append_left, Contains-append_right}
 use Rattle.pci_spec.specs.Bar.{bar_at, is_io, whole_bar}
 use Rattle.pci_spec.specs.Rom.{rom_at}
@@ -19,7 +19,7 @@ use Rattle.pci_spec.specs.Planning.Placing.{IsPower}
 use Rattle.pci_spec.specs.Planning.Layout.{is_item}
 use Rattle.pci_spec.specs.Planning.Table.{need_behind, is_placed, size_in}
 use Rattle.pci_spec.proofs.Planning.Placement.{window_least, power_pos}
-use Rattle.pci_spec.proofs.Planning.Needs.{own_sizes, window_over, items_by_behind}
+use Rattle.pci_spec.proofs.Planning.Needs.{items_by_behind}
 use Rattle.pci_spec.proofs.Planning.Safe.{slots_of, order_of}
 
 pub contained_le_sum : (xs : List ℕ) (x : ℕ) → Contains xs x → x ≤ sum xs
@@ -49,7 +49,7 @@ module _ (s : System) (pools : Pools) (c : WindowKind) where
     pub own_needed : (f : Function) (p : Part) → Contains s f → Contains (bars_and_rom f) p → same_class c (class_of s pools f p) ≡ true → 0 < size_of f p → 0 < sum (items_on s pools c f.slot.bus)
     own_needed f p listed there same some =
         let own = flat_map (own_sizes s pools c f.slot.bus) s in
-        let windows = flat_map (λ b. window_over c f.slot.bus b (items_on s pools c (secondary b))) s in
+        let windows = flat_map (λ b. window_over c f.slot.bus b (sum (items_on s pools c (secondary b)))) s in
         let here : own_sizes s pools c f.slot.bus f ≡ sizes_in s pools c f = ap (λ t. cond t (sizes_in s pools c f) []) (eq-eqb f.slot.bus f.slot.bus refl) in
         let in_own : Contains own (size_of f p) = in_flat_map_from (own_sizes s pools c f.slot.bus) s f (size_of f p) listed
         (subst (λ xs. Contains xs (size_of f p)) (sym here) (in_sizes f p there same)) in
@@ -65,12 +65,12 @@ module _ (s : System) (pools : Pools) (c : WindowKind) where
         let own = flat_map (own_sizes s pools c b.slot.bus) s in
         let test : (is_bridge b && b.slot.bus == b.slot.bus && nat_lt 0 n) ≡ true =
         and_from (is_bridge b && b.slot.bus == b.slot.bus) (nat_lt 0 n) (and_from (is_bridge b) (b.slot.bus == b.slot.bus) bridge (eq-eqb b.slot.bus b.slot.bus refl)) (lt-ltb 0 n some) in
-        let here : window_over c b.slot.bus b (items_on s pools c (secondary b)) ≡ size ∷ [] = ap (λ t. cond t (size ∷ []) []) test in
-        let in_windows = in_flat_map_from (λ g. window_over c b.slot.bus g (items_on s pools c (secondary g))) s b size listed
+        let here : window_over c b.slot.bus b (sum (items_on s pools c (secondary b))) ≡ size ∷ [] = ap (λ t. cond t (size ∷ []) []) test in
+        let in_windows = in_flat_map_from (λ g. window_over c b.slot.bus g (sum (items_on s pools c (secondary g)))) s b size listed
         (subst (λ xs. Contains xs size) (sym here) (in_head size [])) in
         let all : Contains (items_on s pools c b.slot.bus) size =
         subst (λ xs. Contains xs size) (sym (items_by_behind s pools c (slots_of s system) (order_of roots s nested) b.slot.bus))
-        (Contains-append_right own (flat_map (λ g. window_over c b.slot.bus g (items_on s pools c (secondary g))) s) size in_windows) in
+        (Contains-append_right own (flat_map (λ g. window_over c b.slot.bus g (sum (items_on s pools c (secondary g)))) s) size in_windows) in
         let below = contained_le_sum (items_on s pools c b.slot.bus) size all in
         let least = window_least c (limited n) (omega arith) in
         let pos = power_pos size least.power in

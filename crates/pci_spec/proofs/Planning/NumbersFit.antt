@@ -6,10 +6,10 @@ use Rattle.std.specs.Int.{bit_at}
 use Rattle.std.proofs.lemmas.Bool.{cases_Bool, and_left, eqb-true, ne_eqb}
 use Rattle.std.proofs.lemmas.List.Elements.{All-contains, All-from_recursion}
 use Rattle.pci_spec.specs.Header.{layout, bar_count, bar_register, rom_register, address_registers, registers_by}
-use Rattle.pci_spec.specs.Bar.{bar_at, bar_kind}
+use Rattle.pci_spec.specs.Bar.{bar_at, bar_kind, has_bar}
 use Rattle.pci_spec.specs.Rom.{has_rom}
 use Rattle.pci_spec.specs.Window.{WindowKind, IoWindow, MemoryWindow, PrefetchWindow}
-use Rattle.pci_spec.specs.Decoded.{IsDecodable, bar_size, rom_size, has_bar}
+use Rattle.pci_spec.specs.Decoded.{IsDecodable, bar_size, rom_size}
 use Rattle.pci_spec.specs.System.{System, Function, IsFunction, Bar, Rom, Window, is_bridge}
 use Rattle.pci_spec.specs.Bus.{secondary}
 use Rattle.pci_spec.specs.Plan.{Pools, window_size, need_of, has_behind}

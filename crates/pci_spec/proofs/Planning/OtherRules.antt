@@ -8,7 +8,7 @@ use Rattle.pci_spec.specs.Number.{byte_at, number_at, has_bit, some_from, IsImag
 use Rattle.pci_spec.specs.Header.{layout, rom_register}
 use Rattle.pci_spec.specs.Bar.{is_within}
 use Rattle.pci_spec.specs.Rom.{rom_at, has_rom, is_rom_size, breaks_rom_rule}
-use Rattle.pci_spec.specs.Window.{WindowKind, IoWindow, MemoryWindow, PrefetchWindow, Bounds, bounds_at, page_bits, upper_bits, is_zero, is_lawful_window, is_optional, breaks_window_rule}
+use Rattle.pci_spec.specs.Window.{WindowKind, IoWindow, MemoryWindow, PrefetchWindow, Bounds, bounds_at, page_bits, upper_bits, is_zero, is_window_read_back, is_window_value, is_lawful_window, shows_window, is_optional, breaks_window_rule}
 use Rattle.pci_spec.specs.System.{Function, is_bridge}
 use Rattle.pci_spec.specs.Machine.{without_low}
 use Rattle.pci_spec.specs.Plan.{IsMoved}
@@ -85,17 +85,7 @@ pub record IsSameFrame (old new mask : Bounds) : Type 0 where
   pub limit_upper : mask.limit_upper ≡ 0 → new.limit_upper ≡ old.limit_upper
 
 abbrev pub window_breaks : WindowKind → Bounds → Bounds → Bool
-window_breaks kind v m = not (is_lawful_window kind 0 v m || (is_optional kind && is_lawful_window kind 1 v m) || (is_optional kind && is_zero v && is_zero m))
-
-abbrev lawful_by : Bool → Bool → Bool → Bool → Bool → Bool → Bool → Bool
-lawful_by mb ml mbu mlu vb vl up = mb && ml && mbu && mlu && vb && vl && up
-
-last_same : (mb ml mbu mlu vb vl x y : Bool) → (mbu ≡ true → mlu ≡ true → x ≡ y) → lawful_by mb ml mbu mlu vb vl x ≡ lawful_by mb ml mbu mlu vb vl y
-last_same false ml mbu mlu vb vl x y h = refl
-last_same true false mbu mlu vb vl x y h = refl
-last_same true true false mlu vb vl x y h = refl
-last_same true true true false vb vl x y h = refl
-last_same true true true true vb vl x y h = ap (λ b. vb && vl && b) (h refl refl)
+window_breaks kind v m = not (shows_window kind v m || (is_optional kind && is_zero v && is_zero m))
 
 -- the uppers matter without upper halves alone
 uppers_same : (n : ℕ) (kind : WindowKind) (v w m : Bounds) → n ≤ 1 → IsSameFrame v w m → (m.base_upper == n * upper_bits kind) ≡ true → (m.limit_upper == n * upper_bits kind) ≡ true
@@ -107,11 +97,18 @@ uppers_same (suc zero) kind v w m small h base limit = refl
 uppers_same (suc (suc n)) kind v w m small h base limit = absurd (let impossible : ⊥ = omega (arith, small) in impossible)
 
 lawful_same : (n : ℕ) (kind : WindowKind) (v w m : Bounds) → n ≤ 1 → IsSameFrame v w m → is_lawful_window kind n w m ≡ is_lawful_window kind n v m
-lawful_same n kind v w m small h =
-    ap (λ b. lawful_by (m.base == page_bits kind + n) (m.limit == page_bits kind + n) (m.base_upper == n * upper_bits kind) (m.limit_upper == n * upper_bits kind) (b == n) (w.limit % 16 == n) (n == 1 || (w.base_upper == 0 && w.limit_upper == 0))) h.base_low
-    ∙ ap (λ b. lawful_by (m.base == page_bits kind + n) (m.limit == page_bits kind + n) (m.base_upper == n * upper_bits kind) (m.limit_upper == n * upper_bits kind) (v.base % 16 == n) (b == n) (n == 1 || (w.base_upper == 0 && w.limit_upper == 0))) h.limit_low
-    ∙ last_same (m.base == page_bits kind + n) (m.limit == page_bits kind + n) (m.base_upper == n * upper_bits kind) (m.limit_upper == n * upper_bits kind) (v.base % 16 == n) (v.limit % 16 == n)
-    (n == 1 || (w.base_upper == 0 && w.limit_upper == 0)) (n == 1 || (v.base_upper == 0 && v.limit_upper == 0)) (uppers_same n kind v w m small h)
+lawful_same n kind v w m small h = elim (cases_Bool (is_window_read_back kind n m)) [
+  | inr other ↦ ap (λ b. b && is_window_value n w) other ∙ sym (ap (λ b. b && is_window_value n v) other)
+  | inl is ↦
+      let base = m.base_upper == n * upper_bits kind in
+      let limit = m.limit_upper == n * upper_bits kind in
+      let three = and_parts (m.base == page_bits kind + n && m.limit == page_bits kind + n && base) limit is in
+      let two = and_parts (m.base == page_bits kind + n && m.limit == page_bits kind + n) base three.0 in
+      let low = h.base_low in
+      let high = h.limit_low in
+      let uppers = uppers_same n kind v w m small h two.1 three.1 in
+      λ i. is_window_read_back kind n m && (low i == n && high i == n && uppers i)
+]
 
 zero_same : (v w m : Bounds) → IsSameFrame v w m → is_zero m ≡ true → is_zero w ≡ is_zero v
 zero_same v w m h z =

@@ -7,9 +7,8 @@ use Rattle.std.proofs.lemmas.List.Elements.{Contains-get_or}
 use Rattle.std.proofs.lemmas.List.Sorted.{IsPermutation-sym, IsPermutation-map, Contains-permutation, sum_by-IsPermutation}
 use Rattle.pci_spec.specs.Number.{lowest_one}
 use Rattle.pci_spec.specs.Header.{layout, bar_count}
-use Rattle.pci_spec.specs.Bar.{bar_at, is_io, whole_bar}
+use Rattle.pci_spec.specs.Bar.{bar_at, is_io, whole_bar, has_bar}
 use Rattle.pci_spec.specs.Rom.{rom_at}
-use Rattle.pci_spec.specs.Decoded.{has_bar}
 use Rattle.pci_spec.specs.Window.{WindowKind, IoWindow, MemoryWindow, PrefetchWindow}
 use Rattle.pci_spec.specs.System.{System, Function, IsSystem, Part, Bar, Rom, Window, is_bridge}
 use Rattle.pci_spec.specs.Bus.{is_root, are_siblings, IsNested}

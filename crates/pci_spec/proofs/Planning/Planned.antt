@@ -65,14 +65,14 @@ module _ (f g : Function) (m : IsMoved f g) (is : IsFunction f) where
 
 -- ---- the system
 
-function_of : (s : System) → IsSystem s → (f : Function) → Contains s f → IsFunction f
-function_of s system f listed = All-contains IsFunction s f system.each listed
+listed_is_function : (s : System) → IsSystem s → (f : Function) → Contains s f → IsFunction f
+listed_is_function s system f listed = All-contains IsFunction s f system.each listed
 
 pub moved_decodable : (s t : System) → IsSystem s → AllZip IsMoved s t → All IsDecodable s → All IsDecodable t
 moved_decodable s t system pairs all = All-weaker (Contains t) IsDecodable
     (λ g listed.
     let found = member_back IsMoved s t pairs g listed in
-    decodable_same found.0 g found.2 (function_of s system found.0 found.1) (All-contains IsDecodable s found.0 all found.1))
+    decodable_same found.0 g found.2 (listed_is_function s system found.0 found.1) (All-contains IsDecodable s found.0 all found.1))
     t (All-contains_itself t)
 
 abbrev class_test : System → Pools → WindowKind → Function → Bool
@@ -102,7 +102,7 @@ has_behind_same s t system pairs pools c b d listed m bridge =
     (λ f g in_f n.
     ap (λ (x : Slot). is_behind d x.bus && class_test t pools c g) n.slot
     ∙ ap (λ x. x && class_test t pools c g) (behind_same b d m (images_of s system b listed) bridge f.slot.bus)
-    ∙ ap (λ x. is_behind b f.slot.bus && x) (class_test_same s t system pairs pools c f g n (function_of s system f in_f)))
+    ∙ ap (λ x. is_behind b f.slot.bus && x) (class_test_same s t system pairs pools c f g n (listed_is_function s system f in_f)))
     pairs
 
 -- ---- planned

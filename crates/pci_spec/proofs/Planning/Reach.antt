@@ -4,10 +4,10 @@ use Rattle.std.specs.Bool.{nat_lt, nat_le, ◌==◌, if◌then◌else◌}
 use Rattle.std.specs.List.{Contains, list_all, list_any}
 use Rattle.std.proofs.lemmas.Bool.{and_parts, and_from, or_parts, cases_Bool, both_ways, lt-ltb, ltb-true, ltb-false, leb-true}
 use Rattle.pci_spec.specs.Header.{layout, bar_count}
-use Rattle.pci_spec.specs.Bar.{bar_at, bar_kind, is_io, is_wide, is_prefetchable, type_bits}
+use Rattle.pci_spec.specs.Bar.{bar_at, bar_kind, is_io, is_wide, is_prefetchable, type_bits, has_bar}
 use Rattle.pci_spec.specs.Rom.{has_rom}
 use Rattle.pci_spec.specs.Window.{WindowKind, IoWindow, MemoryWindow, PrefetchWindow, has_window, is_wide_window, page_size}
-use Rattle.pci_spec.specs.Decoded.{bar_size, rom_size, has_bar}
+use Rattle.pci_spec.specs.Decoded.{bar_size, rom_size}
 use Rattle.pci_spec.specs.System.{System, Function, Part, Bar, Rom, Window, is_bridge, bars_and_rom}
 use Rattle.pci_spec.specs.Bus.{is_behind}
 use Rattle.pci_spec.specs.Plan.{Pools, pool_of, class_of, same_class, bridges_above, is_served, is_backward, are_bad, window_size, has_behind}

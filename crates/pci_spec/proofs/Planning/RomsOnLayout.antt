@@ -7,10 +7,10 @@ use Rattle.std.proofs.lemmas.List.Elements.{All-contains}
 use Rattle.pci_spec.specs.Number.{has_bit, lowest_one, IsImage}
 use Rattle.pci_spec.specs.Slot.{Slot, same_slot}
 use Rattle.pci_spec.specs.Header.{layout, bar_count, rom_register}
-use Rattle.pci_spec.specs.Bar.{bar_at, is_io, is_wide, is_prefetchable, is_run}
+use Rattle.pci_spec.specs.Bar.{bar_at, is_io, is_wide, is_prefetchable, is_run, has_bar}
 use Rattle.pci_spec.specs.Rom.{rom_at}
 use Rattle.pci_spec.specs.Window.{WindowKind, IoWindow, MemoryWindow, PrefetchWindow, has_window, is_wide_window, is_closed, lower_pages, page_size}
-use Rattle.pci_spec.specs.Decoded.{IsDecodable, aligned_range, bar_size, has_bar}
+use Rattle.pci_spec.specs.Decoded.{IsDecodable, aligned_range, bar_size}
 use Rattle.pci_spec.specs.System.{System, Function, IsSystem, Space, Io, Memory, Part, Bar, Rom, Window, register_of, is_implemented, bars_and_rom, is_bridge}
 use Rattle.pci_spec.specs.Bus.{is_behind, LeadsTo}
 use Rattle.pci_spec.specs.Sound.{IsSound}

@@ -81,7 +81,13 @@ module _ (f g : Function) (h : IsRomOn f g) where
       let few = few_bars (layout f.image) in
       let low = bar_kept n (omega (arith, inside, few)) in
       let whole = whole_kept n inside in
-      λ i. if starts_bar (h.probe i) n then first_broken (n + 1 == bar_count (layout_kept i)) (low i) (bar_at (h.probe i) n) (whole i) (whole_bar (h.probe i) (h.probe i) n) else None
+      λ i. if starts_bar (h.probe i) n then first_broken (record {
+        last = n + 1 == bar_count (layout_kept i);
+        value = low i;
+        mask = bar_at (h.probe i) n;
+        whole_value = whole i;
+        whole_mask = whole_bar (h.probe i) (h.probe i) n;
+      }) else None
 
   -- ---- the ROM
 

@@ -9,12 +9,12 @@ use Rattle.std.proofs.lemmas.List.Elements.{Contains-append_right, Contains-get_
 use Rattle.pci_spec.specs.Window.{WindowKind}
 use Rattle.pci_spec.specs.System.{System, Function, IsSystem, Part, is_bridge}
 use Rattle.pci_spec.specs.Bus.{secondary, is_root, IsNested}
-use Rattle.pci_spec.specs.Plan.{Pools, pool_of, window_size, limited, items_on, fits, raised_to, greatest}
+use Rattle.pci_spec.specs.Plan.{Pools, pool_of, window_size, limited, items_on, fits, raised_to, greatest, own_sizes, window_over}
 use Rattle.pci_spec.proofs.Members.{in_nil, in_cons_cases, in_head, in_flat_map_from}
 use Rattle.pci_spec.proofs.BusRanges.{root_means}
 use Rattle.pci_spec.specs.Planning.Room.{root_items}
 use Rattle.pci_spec.specs.Planning.Table.{need_behind, size_at, IsPlacing, IsTable}
-use Rattle.pci_spec.proofs.Planning.Needs.{own_sizes, window_over, items_by_behind}
+use Rattle.pci_spec.proofs.Planning.Needs.{items_by_behind}
 use Rattle.pci_spec.proofs.Planning.Needed.{contained_le_sum}
 use Rattle.pci_spec.proofs.Planning.Placement.{window_least, power_pos, sum_cons}
 use Rattle.pci_spec.proofs.Planning.Room.{raised, room_of_fit}
@@ -52,12 +52,12 @@ module _ (roots : List ℕ) (s : System) (pools : Pools) (c : WindowKind) (syste
         let own = flat_map (own_sizes s pools c b.slot.bus) s in
         let test : (is_bridge b && b.slot.bus == b.slot.bus && nat_lt 0 n) ≡ true =
         and_from (is_bridge b && b.slot.bus == b.slot.bus) (nat_lt 0 n) (and_from (is_bridge b) (b.slot.bus == b.slot.bus) bridge (eq-eqb b.slot.bus b.slot.bus refl)) (lt-ltb 0 n some) in
-        let here : window_over c b.slot.bus b (items_on s pools c (secondary b)) ≡ size ∷ [] = ap (λ t. cond t (size ∷ []) []) test in
-        let in_windows = in_flat_map_from (λ g. window_over c b.slot.bus g (items_on s pools c (secondary g))) s b size listed
+        let here : window_over c b.slot.bus b (sum (items_on s pools c (secondary b))) ≡ size ∷ [] = ap (λ t. cond t (size ∷ []) []) test in
+        let in_windows = in_flat_map_from (λ g. window_over c b.slot.bus g (sum (items_on s pools c (secondary g)))) s b size listed
         (subst (λ xs. Contains xs size) (sym here) (in_head size [])) in
         let all : Contains (items_on s pools c b.slot.bus) size =
         subst (λ xs. Contains xs size) (sym (items_by_behind s pools c (slots_of s system) (order_of roots s nested) b.slot.bus))
-        (Contains-append_right own (flat_map (λ g. window_over c b.slot.bus g (items_on s pools c (secondary g))) s) size in_windows) in
+        (Contains-append_right own (flat_map (λ g. window_over c b.slot.bus g (sum (items_on s pools c (secondary g)))) s) size in_windows) in
         let below = contained_le_sum (items_on s pools c b.slot.bus) size all in
         let least = window_least c (limited n) (omega arith) in
         let enough = least.enough in

@@ -11,11 +11,11 @@ use Rattle.pci_spec.specs.Window.{WindowKind}
 use Rattle.pci_spec.specs.Decoded.{bar_size, rom_size}
 use Rattle.pci_spec.specs.System.{System, Function, IsSystem, IsFunction, Part, Bar, Rom, Window, is_bridge, bars_and_rom}
 use Rattle.pci_spec.specs.Bus.{secondary}
-use Rattle.pci_spec.specs.Plan.{Pools, IsMoved, class_of, same_class, size_of, sizes_in, window_size, limited, items_within, need_of}
+use Rattle.pci_spec.specs.Plan.{Pools, IsMoved, class_of, same_class, size_of, sizes_in, window_size, limited, own_sizes, window_over, items_within, need_of}
 use Rattle.pci_spec.proofs.Members.{in_head, in_tail}
 use Rattle.pci_spec.proofs.Planning.Moved.{layout_same, bridge_same, secondary_same}
 use Rattle.pci_spec.proofs.Planning.Classes.{class_stays}
-use Rattle.pci_spec.proofs.Planning.Needs.{own_sizes, window_over, items_step, items_none}
+use Rattle.pci_spec.proofs.Planning.Needs.{items_step, items_none}
 use Rattle.pci_spec.proofs.Planning.Planned.{filter_same, parts_same}
 
 map_same : {X Y : Type 0} (f g : X → Y) (xs : List X) → ((x : X) → f x ≡ g x) → map f xs ≡ map g xs
@@ -56,7 +56,7 @@ module _ (s t : System) (system : IsSystem s) (pairs : AllZip IsMoved s t) (pool
   own_stay bus f g listed m =
       ap (λ (x : Slot). if x.bus == bus then sizes_in t pools c g else []) m.slot ∙ ap (λ sizes. if f.slot.bus == bus then sizes else []) (sizes_stay f g listed m)
 
-  window_stays : (bus : ℕ) (old new : ℕ → List ℕ) → ((k : ℕ) → new k ≡ old k) → (f g : Function) → Contains s f → IsMoved f g → window_over c bus g (new (secondary g)) ≡ window_over c bus f (old (secondary f))
+  window_stays : (bus : ℕ) (old new : ℕ → List ℕ) → ((k : ℕ) → new k ≡ old k) → (f g : Function) → Contains s f → IsMoved f g → window_over c bus g (sum (new (secondary g))) ≡ window_over c bus f (sum (old (secondary f)))
   window_stays bus old new same f g listed m =
       let is = (function_is f listed).image in
       ap (λ b. if b && g.slot.bus == bus && nat_lt 0 (sum (new (secondary g))) then window_size c (limited (sum (new (secondary g)))) ∷ [] else []) (bridge_same f g m is)
@@ -74,9 +74,9 @@ module _ (s t : System) (system : IsSystem s) (pairs : AllZip IsMoved s t) (pool
   items_stay zero bus = items_none t pools c bus ∙ sym (items_none s pools c bus)
   items_stay (suc depth) bus =
       items_step t pools c depth bus
-      ∙ ap (λ xs. xs ++ flat_map (λ b. window_over c bus b (items_within t pools c depth (secondary b))) t) (zip_pieces IsMoved (own_sizes s pools c bus) (own_sizes t pools c bus) s t (own_stay bus) pairs)
+      ∙ ap (λ xs. xs ++ flat_map (λ b. window_over c bus b (sum (items_within t pools c depth (secondary b)))) t) (zip_pieces IsMoved (own_sizes s pools c bus) (own_sizes t pools c bus) s t (own_stay bus) pairs)
       ∙ ap (λ xs. flat_map (own_sizes s pools c bus) s ++ xs)
-      (zip_pieces IsMoved (λ b. window_over c bus b (items_within s pools c depth (secondary b))) (λ b. window_over c bus b (items_within t pools c depth (secondary b))) s t
+      (zip_pieces IsMoved (λ b. window_over c bus b (sum (items_within s pools c depth (secondary b)))) (λ b. window_over c bus b (sum (items_within t pools c depth (secondary b)))) s t
       (window_stays bus (items_within s pools c depth) (items_within t pools c depth) (items_stay depth)) pairs)
       ∙ sym (items_step s pools c depth bus)
 

@@ -4,10 +4,10 @@ use Rattle.std.specs.List.{Contains}
 use Rattle.std.proofs.lemmas.Bool.{cases_Bool, lt-leb}
 use Rattle.pci_spec.specs.Number.{number_at, lowest_one, IsImage}
 use Rattle.pci_spec.specs.Header.{layout, bar_count, bar_register, rom_register}
-use Rattle.pci_spec.specs.Bar.{whole_bar}
+use Rattle.pci_spec.specs.Bar.{whole_bar, has_bar}
 use Rattle.pci_spec.specs.Rom.{rom_at, has_rom}
 use Rattle.pci_spec.specs.Window.{WindowKind, IoWindow, MemoryWindow, PrefetchWindow, Bounds, bounds_at, lower_pages, has_window, base_page, limit_page, is_closed}
-use Rattle.pci_spec.specs.Decoded.{aligned_range, bar_size, rom_size, has_bar}
+use Rattle.pci_spec.specs.Decoded.{aligned_range, bar_size, rom_size}
 use Rattle.pci_spec.specs.System.{System, Function, Bar, Rom, Window, is_bridge}
 use Rattle.pci_spec.specs.Bus.{secondary}
 use Rattle.pci_spec.specs.Plan.{Pools, window_size, need_of, has_behind, is_open, IsMoved}

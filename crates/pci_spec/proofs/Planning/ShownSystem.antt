@@ -7,7 +7,7 @@ use Rattle.pci_spec.specs.Number.{has_bit}
 use Rattle.pci_spec.specs.Header.{command, layout, bar_count}
 use Rattle.pci_spec.specs.Rom.{has_rom}
 use Rattle.pci_spec.specs.Window.{WindowKind, IoWindow, MemoryWindow, PrefetchWindow, has_window}
-use Rattle.pci_spec.specs.Decoded.{has_bar}
+use Rattle.pci_spec.specs.Bar.{has_bar}
 use Rattle.pci_spec.specs.System.{System, Function, Io, Memory, Part, Bar, Rom, Window, is_bridge, bars_and_rom}
 use Rattle.pci_spec.specs.Plan.{Pools, class_of, same_class, window_size, has_behind, is_open, is_io_part, wants, IsMoved}
 use Rattle.pci_spec.specs.Planning.Layout.{range_of, is_item, IsSwitchedOn}

@@ -6,10 +6,10 @@ use Rattle.std.proofs.lemmas.List.Sums.{sum_by-append, sum_by-cons}
 use Rattle.pci_spec.specs.Window.{WindowKind}
 use Rattle.pci_spec.specs.System.{System, Function, IsSystem, is_bridge}
 use Rattle.pci_spec.specs.Bus.{secondary, IsNested}
-use Rattle.pci_spec.specs.Plan.{Pools, sizes_in, window_size, limited, items_on}
+use Rattle.pci_spec.specs.Plan.{Pools, sizes_in, window_size, limited, items_on, own_sizes, window_over}
 use Rattle.pci_spec.specs.Planning.Table.{need_behind}
 use Rattle.pci_spec.specs.Planning.BusNeeds.{added, added_on}
-use Rattle.pci_spec.proofs.Planning.Needs.{own_sizes, window_over, items_by_behind}
+use Rattle.pci_spec.proofs.Planning.Needs.{items_by_behind}
 use Rattle.pci_spec.proofs.Planning.Safe.{slots_of, order_of}
 
 by_test : (bridge here need : Bool) (sizes : List ℕ) (size : ℕ) → sum (if here then sizes else []) + cond (bridge && here && need) size 0 ≡ (if here then sum sizes + (if bridge && need then size else 0) else 0)
@@ -21,7 +21,7 @@ by_test false false need sizes size = refl
 
 module _ (s : System) (pools : Pools) (c : WindowKind) (bus : ℕ) where
   abbrev window_sizes : Function → List ℕ
-  window_sizes b = window_over c bus b (items_on s pools c (secondary b))
+  window_sizes b = window_over c bus b (sum (items_on s pools c (secondary b)))
 
   abbrev term : Function → ℕ
   term f = if f.slot.bus == bus then added s pools c f (need_behind s pools c f) else 0

@@ -14,14 +14,14 @@ use Rattle.pci_spec.specs.Window.{WindowKind, IoWindow, MemoryWindow, PrefetchWi
 use Rattle.pci_spec.specs.Rom.{rom_at}
 use Rattle.pci_spec.specs.System.{System, Function, IsSystem, Part, Bar, Rom, Window, bars_and_rom, is_bridge}
 use Rattle.pci_spec.specs.Bus.{secondary, is_root, IsNested}
-use Rattle.pci_spec.specs.Plan.{Pools, class_of, same_class, size_of, sizes_in, window_size, limited, greatest, items_on, need_of, need_of_roots, greatest_of_roots}
+use Rattle.pci_spec.specs.Plan.{Pools, class_of, same_class, size_of, sizes_in, window_size, limited, greatest, items_on, need_of, need_of_roots, greatest_of_roots, own_sizes, window_over}
 use Rattle.pci_spec.specs.Planning.Table.{need_behind}
 use Rattle.pci_spec.specs.Planning.BusNeeds.{added, added_on}
 use Rattle.pci_spec.proofs.Members.{in_nil, in_cons_cases, in_head, in_tail, in_flat_map_to, in_flat_map_from, IsInPiece, in_map_to, IsMade}
 use Rattle.pci_spec.proofs.BusRanges.{root_means}
 use Rattle.std.proofs.Math.Nat.{pow-le-pow_right}
 use Rattle.pci_spec.proofs.Planning.Placement.{window_least}
-use Rattle.pci_spec.proofs.Planning.Needs.{own_sizes, window_over, items_by_behind}
+use Rattle.pci_spec.proofs.Planning.Needs.{items_by_behind}
 use Rattle.pci_spec.proofs.Planning.Sums.{need_added}
 use Rattle.pci_spec.proofs.Planning.Safe.{slots_of, order_of}
 use Rattle.pci_spec.proofs.Planning.Passed.{IsBefore, in_front_to, at_place}
@@ -215,7 +215,7 @@ module _ (roots : List ℕ) (s : System) (pools : Pools) (c : WindowKind) (syste
   in_kept b xs x kept has = subst (λ t. Contains (cond t xs []) x) (sym kept) has
 
   abbrev windows_on : ℕ → Function → List ℕ
-  windows_on bus b = window_over c bus b (items_on s pools c (secondary b))
+  windows_on bus b = window_over c bus b (sum (items_on s pools c (secondary b)))
 
   parts_on : (bus : ℕ) → items_on s pools c bus ≡ flat_map (own_sizes s pools c bus) s ++ flat_map (windows_on bus) s
   parts_on bus = items_by_behind s pools c (slots_of s system) (order_of roots s nested) bus

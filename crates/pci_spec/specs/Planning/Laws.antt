@@ -1,13 +1,13 @@
 -- The laws, as the contracts name them.
-use Rattle.std.specs.Prelude.{◌≡◌, ℕ, suc, ◌⊎◌, map, None, ◌-◌, ◌+◌, ◌%◌, ◌^◌, ◌<◌, ◌≤◌, ◌==◌, nat_lt, ◌&&◌, if◌then◌else◌, Bool, false, IsTrue, IsFalse, List, [], ◌∷◌, ◌++◌, length, take}
+use Rattle.std.specs.Prelude.{◌≡◌, ℕ, suc, ◌⊎◌, map, None, ◌-◌, ◌+◌, ◌%◌, ◌^◌, ◌<◌, ◌≤◌, nat_lt, Bool, false, IsTrue, IsFalse, List, ◌++◌, length, take}
 use Rattle.std.specs.List.{Contains, All, AllZip, flat_map, sum}
 use Rattle.pci_spec.specs.System.{System, Function, IsSystem, Part, Space, Claims, is_bridge, is_window, is_prefetchable_part, passes, Window}
-use Rattle.pci_spec.specs.Bus.{IsNested, LeadsTo, secondary}
+use Rattle.pci_spec.specs.Bus.{IsNested, LeadsTo}
 use Rattle.pci_spec.specs.Sound.{IsSingle, IsHome}
 use Rattle.pci_spec.specs.Number.{IsImage}
 use Rattle.pci_spec.specs.Fault.{Fault, fault_number, IsIn}
 use Rattle.pci_spec.specs.Machine.{Write, target_of, after_writes, write_system, system_after}
-use Rattle.pci_spec.specs.Plan.{IsMoved, Pools, pool_of, window_size, limited, sizes_in, items_on, fits, raised_to, greatest, are_bad, has_behind, IsPlanned}
+use Rattle.pci_spec.specs.Plan.{IsMoved, Pools, pool_of, window_size, own_sizes, window_over, items_on, fits, raised_to, greatest, are_bad, has_behind, IsPlanned}
 use Rattle.pci_spec.specs.Planning.Placing.{IsFalling, IsHeld, starts}
 use Rattle.pci_spec.specs.Planning.Safety.{is_on, IsCutAt, IsSafe}
 use Rattle.pci_spec.specs.Sound.{HasChains, IsInProfile, IsSound, is_profile_number}
@@ -19,10 +19,10 @@ use Rattle.pci_spec.specs.Planning.Table.{need_behind, IsPlacing, IsTable, IsSho
 use Rattle.pci_spec.specs.Planning.PlanWrites.{Change, olds, news, closing_writes, plan_writes, most_writes}
 use Rattle.std.specs.Int.{bit_at}
 use Rattle.pci_spec.specs.Number.{has_bit}
-use Rattle.pci_spec.specs.Bar.{bar_at, bar_kind, bar_fault, whole_bar}
+use Rattle.pci_spec.specs.Bar.{bar_at, bar_kind, bar_fault, whole_bar, has_bar}
 use Rattle.pci_spec.specs.Rom.{rom_at, has_rom, breaks_rom_rule}
 use Rattle.pci_spec.specs.Window.{WindowKind, bounds_at, page_size, is_closed}
-use Rattle.pci_spec.specs.Decoded.{aligned_range, bar_size, rom_size, has_bar}
+use Rattle.pci_spec.specs.Decoded.{aligned_range, bar_size, rom_size}
 use Rattle.pci_spec.specs.Planning.Layout.{range_of}
 use Rattle.pci_spec.specs.Planning.BusNeeds.{added_on}
 use Rattle.pci_spec.specs.Planning.Building.{AreFitting, IsBuilt, built}
@@ -102,10 +102,7 @@ SingleByRanges = (roots : List ℕ) (s : System) (r : Ranges) → HoldsClaims s 
 abbrev pub ItemsByBehind : Type 0
 ItemsByBehind =
     (roots : List ℕ) (s : System) (pools : Pools) (c : WindowKind) → IsSystem s → IsNested roots s → (bus : ℕ)
-    → items_on s pools c bus
-    ≡ flat_map (λ f. if f.slot.bus == bus then sizes_in s pools c f else []) s
-    ++ flat_map (λ b. if is_bridge b && b.slot.bus == bus && nat_lt 0 (sum (items_on s pools c (secondary b)))
-    then window_size c (limited (sum (items_on s pools c (secondary b)))) ∷ [] else []) s
+    → items_on s pools c bus ≡ flat_map (own_sizes s pools c bus) s ++ flat_map (λ b. window_over c bus b (need_behind s pools c b)) s
 
 abbrev pub RaisedIsLeast : Type 0
 RaisedIsLeast = (size n : ℕ) → 0 < size → IsRaised size n (raised_to size n)

@@ -4,10 +4,10 @@ use Rattle.std.specs.List.{Contains}
 use Rattle.pci_spec.specs.Number.{has_bit}
 use Rattle.pci_spec.specs.Slot.{same_slot}
 use Rattle.pci_spec.specs.Header.{command, layout, bar_count}
-use Rattle.pci_spec.specs.Bar.{whole_bar}
+use Rattle.pci_spec.specs.Bar.{whole_bar, has_bar}
 use Rattle.pci_spec.specs.Rom.{rom_at, has_rom}
 use Rattle.pci_spec.specs.Window.{base_page, limit_page, page_size}
-use Rattle.pci_spec.specs.Decoded.{Range, aligned_range, bar_size, rom_size, has_bar}
+use Rattle.pci_spec.specs.Decoded.{Range, aligned_range, bar_size, rom_size}
 use Rattle.pci_spec.specs.System.{System, Function, Io, Memory, Part, Bar, Rom, Window, register_of}
 use Rattle.pci_spec.specs.Bus.{LeadsTo}
 use Rattle.pci_spec.specs.Plan.{Pools, pool_of, class_of, is_open, wants}

@@ -4,11 +4,10 @@ use Rattle.std.specs.List.{list_any, Contains}
 use Rattle.pci_spec.specs.Number.{byte_at, number_at, IsImage}
 use Rattle.pci_spec.specs.Registers.{COMMAND, BASE_ADDRESS, EXPANSION_ROM, IO_BASE, MEMORY_BASE, PREFETCHABLE_BASE, PREFETCHABLE_BASE_UPPER, PREFETCHABLE_LIMIT_UPPER, IO_BASE_UPPER}
 use Rattle.pci_spec.specs.Header.{command, layout, address_registers}
-use Rattle.pci_spec.specs.Bar.{bar_at, starts_bar}
+use Rattle.pci_spec.specs.Bar.{bar_at, starts_bar, has_bar}
 use Rattle.pci_spec.specs.Rom.{rom_at, has_rom}
 use Rattle.pci_spec.specs.Window.{WindowKind, IoWindow, MemoryWindow, PrefetchWindow, Bounds, bounds_at, has_window}
 use Rattle.pci_spec.specs.Fault.{is_in_address_register}
-use Rattle.pci_spec.specs.Decoded.{has_bar}
 use Rattle.pci_spec.specs.System.{System, Function, Part, Bar, Rom, Window, bars_and_rom, is_bridge}
 use Rattle.pci_spec.specs.Machine.{without_low}
 use Rattle.pci_spec.specs.Plan.{Pools, class_of, is_io_part, has_behind}

@@ -5,8 +5,9 @@ ghost use Rattle.pci_spec.specs.Header.{layout};
 ghost use Rattle.pci_spec.specs.Listing.{header_line};
 
 use crate::hex_text::{end_line, push_decimal, push_hex, push_slot, push_word};
+use pci_image::header::class_code;
 use pci_image::image::Image;
-use pci_image::offset::{BASE_CLASS, COMMAND, DEVICE_ID, INTERFACE, STATUS, SUB_CLASS, VENDOR_ID};
+use pci_image::offset::{COMMAND, DEVICE_ID, STATUS, VENDOR_ID};
 use pci_image::slot::Slot;
 use std::alloc::{AllocError, Allocator};
 
@@ -15,22 +16,11 @@ use std::alloc::{AllocError, Allocator};
 struct Identity {
     vendor: u16,
     device: u16,
-    interface: u8,
-    sub_class: u8,
-    base_class: u8,
+    class: u32,
 }
 
 impl Identity {
-    ghost use Rattle.pciplan_cli.specs.HeaderLines.{identity_text, class_of};
-
-    /// The class code.
-    fn class(self) -> u64
-        ensures { result ≡ class_of self }
-    {
-        u64::from(self.interface)
-            + u64::from(self.sub_class) * 256
-            + u64::from(self.base_class) * 65536
-    }
+    ghost use Rattle.pciplan_cli.specs.HeaderLines.{identity_text};
 
     /// Appends the identity, as `vendor 1234 device 5678 class 000000`.
     fn push_to<A: Allocator>(self, text: &mut String<A>) -> Result<(), AllocError>
@@ -41,7 +31,7 @@ impl Identity {
         text.push_str(" device ")?;
         push_word(text, self.device)?;
         text.push_str(" class ")?;
-        push_hex(text, self.class(), 6)
+        push_hex(text, u64::from(self.class), 6)
     }
 }
 
@@ -73,9 +63,7 @@ impl HeaderLine {
             identity: Identity {
                 vendor: image.u16(VENDOR_ID),
                 device: image.u16(DEVICE_ID),
-                interface: image.u8(INTERFACE),
-                sub_class: image.u8(SUB_CLASS),
-                base_class: image.u8(BASE_CLASS),
+                class: class_code(image),
             },
             command: image.u16(COMMAND),
             status: image.u16(STATUS),

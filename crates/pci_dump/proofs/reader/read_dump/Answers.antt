@@ -1,14 +1,17 @@
+use Rattle.std.proofs.lemmas.Result.{err_from_is_err_and}
 use Rattle.pci_dump.proofs.Texts.{read_all_one, read_more_text, read_fault}
 use Rattle.pci_dump.proofs.reader.read_dump.Goals as goal
 
-pub returns-in-Err-clause-fault : goal.returns-in-Err-clause-fault
-returns-in-Err-clause-fault g c = λ bytes known no_io no_memory. read_fault _ _ _ _ _ bytes _ c.loop-fault.invariant.read c.in-Err.ensures.err known no_io
+pub returns-in_err-taken-clause-fault : goal.returns-in_err-taken-clause-fault
+returns-in_err-taken-clause-fault g c =
+    let p = err_from_is_err_and c.from_residual.result c.from_residual.ensures.1 in
+    rw (p.1, p.2) (λ bytes known no_io no_memory. read_fault _ _ _ _ _ bytes _ c.loop-dump.invariant.read c.in_err-taken.ensures.err known no_io)
 
-pub returns-in-Ok-false-clause-only : goal.returns-in-Ok-false-clause-only
-returns-in-Ok-false-clause-only g c = λ bytes known others text. read_all_one _ _ _ _ _ others bytes c.loop-fault.invariant.read (rw c.in-Ok-false.field-0-test at c.in-Ok-false.ensures.ok) known text
+pub returns-then-not-taken-clause-only : goal.returns-then-not-taken-clause-only
+returns-then-not-taken-clause-only g c = λ bytes known others text. read_all_one _ _ _ _ _ others bytes c.loop-dump.invariant.read (rw c.if-not-taken.true at c.in_ok-taken.ensures.ok) known text
 
-pub loop-fault-preserved : goal.loop-fault-preserved
-loop-fault-preserved g c = record {
-  read = read_more_text _ _ _ _ _ _ _ c.loop-fault.invariant.read (rw c.in-Ok-true.field-0-test at c.in-Ok-true.ensures.ok) c.in-Ok.ensures.ok;
-  over = c.in-Ok-true.ensures.over;
+pub loop-dump-preserved : goal.loop-dump-preserved
+loop-dump-preserved g c = record {
+  read = read_more_text _ _ _ _ _ _ _ c.loop-dump.invariant.read (rw c.if-not-taken.false at c.in_ok-taken.ensures.ok) c.in-Ok.ensures.ok;
+  over = c.in_ok-taken.ensures.over;
 }

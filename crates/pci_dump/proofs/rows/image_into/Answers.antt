@@ -6,8 +6,8 @@ use Rattle.pci_dump.proofs.rows.image_into.Goals as goal
 pub loop-row-init : goal.loop-row-init
 loop-row-init c = record { long = c.told-image; small = (λ k. omega arith); so_far = rows_start c.args.bytes.now [] }
 
-pub returns-then-rest-lt52-clause-err : goal.returns-then-rest-lt52-clause-err
-returns-then-rest-lt52-clause-err c = part_stops _ _ _ _ _ (omega arith) c.loop-row.invariant.long c.loop-row.invariant.small c.loop-row.invariant.so_far c.part_of_row.ensures
+pub returns-then-rest-lt-ROW_LEN-clause-err : goal.returns-then-rest-lt-ROW_LEN-clause-err
+returns-then-rest-lt-ROW_LEN-clause-err c = part_stops _ _ _ _ _ (omega arith) c.loop-row.invariant.long c.loop-row.invariant.small c.loop-row.invariant.so_far c.part_of_row.ensures
 
 pub returns-then-not-read_row-clause-err : goal.returns-then-not-read_row-clause-err
 returns-then-not-read_row-clause-err c = (

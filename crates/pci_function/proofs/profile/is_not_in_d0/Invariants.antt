@@ -1,5 +1,5 @@
 use Rattle.std.proofs.Common.{ℕ, ◌<◌, get_or}
-use Rattle.pci_function.specs.Profile.{IsNotInD0At}
+use Rattle.pci_spec.specs.Fault.{IsNotInD0At}
 use Rattle.pci_function.proofs.profile.is_not_in_d0.Given as goal
 
 abbrev pub invariant-loop-place : goal.invariant-loop-place

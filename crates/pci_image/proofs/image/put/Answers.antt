@@ -1,5 +1,4 @@
-use Rattle.std.proofs.Common.{◌≡◌, ◌≢◌, ◌+◌, ◌^◌, ◌/◌, ◌%◌, slice_index, set, arith, inl, inr, ap, ◌∙◌, sym, below_more, rules, get_or-set_same, get_or-set_other, length-set}
-use Rattle.std.proofs.Math.Nat.{div-div-eq-div-mul, pow-suc}
+use Rattle.std.proofs.Common.{◌≡◌, ◌≢◌, ◌+◌, slice_index, set, arith, inl, inr, ap, ◌∙◌, sym, below_more, rules, get_or-set_same, get_or-set_other, length-set}
 use Rattle.pci_image.proofs.Accesses.{access-end}
 use Rattle.pci_image.proofs.Puts.{number_put, image_put}
 use Rattle.pci_image.proofs.image.put.Goals as goal
@@ -8,19 +7,16 @@ pub loop-j-preserved : goal.loop-j-preserved
 loop-j-preserved c =
     let spot = c.from.result in
     let same : spot ≡ c.args.off + c.loop-j.j = c.from.ensures in
-    let datum = c.loop-j.rest % 256 in
+    let datum = c.byte_of.result in
     let full = c.loop-j.invariant.full in
     let ends = access-end c.args.off c.args.width c.requires (search rules) in
     record {
       full = length-set c.loop-j.bytes spot datum ∙ full;
-      rest =
-          ap (λ n. n / 256) c.loop-j.invariant.rest ∙ div-div-eq-div-mul c.args.value (256 ^ c.loop-j.j) 256
-          ∙ ap (λ n. c.args.value / n) (sym (pow-suc 256 c.loop-j.j)) ∙ ap (λ n. c.args.value / 256 ^ n) (omega arith);
       inside = below_more _ _
           (λ k h. let ne : c.args.off + k ≢ spot = omega (arith, same, h) in
           get_or-set_other c.loop-j.bytes spot (c.args.off + k) datum 0 ne ∙ c.loop-j.invariant.inside k h)
           (ap (slice_index (set c.loop-j.bytes spot datum)) (sym same) ∙ get_or-set_same c.loop-j.bytes spot datum 0 (omega (arith, full, same, ends))
-          ∙ ap (λ n. n % 256) c.loop-j.invariant.rest);
+          ∙ c.byte_of.ensures);
       outside = λ place h. elim h [
         | inl low ↦
             (let ne : place ≢ spot = omega (arith, same, low) in get_or-set_other c.loop-j.bytes spot place datum 0 ne ∙ c.loop-j.invariant.outside place (inl low))

@@ -1,4 +1,3 @@
-use Rattle.std.proofs.Common.{◌≡◌, ◌/◌, ◌^◌}
 use Rattle.pci_spec.specs.Number.{IsImage}
 use Rattle.pci_machine.specs.Masks.{AddsField}
 use Rattle.pci_machine.proofs.mask.add.Given as goal
@@ -6,6 +5,5 @@ use Rattle.pci_machine.proofs.mask.add.Given as goal
 abbrev pub invariant-loop-j : goal.invariant-loop-j
 invariant-loop-j l = record {
   image : IsImage l.bytes;
-  rest : l.rest ≡ l.bits / 256 ^ l.j;
   added : AddsField l.initial.bytes l.bytes record { offset = l.off; width = l.j; bits = l.bits };
 }

@@ -1,5 +1,6 @@
 use Rattle.std.proofs.Common.{◌≡◌, ◌<◌, ◌+◌, ℕ, rules, Bool, true, List, length, map, take, get_or, arith, refl, sym, ◌∙◌, ap, subst}
 use Rattle.std.proofs.lemmas.Bool.{and_from}
+use Rattle.std.proofs.lemmas.Result.{err_from_is_err_and}
 use Rattle.std.proofs.lemmas.List.{get_or-map, get_or-replicate, length-map}
 use Rattle.pci_spec.specs.Header.{layout, address_registers}
 use Rattle.pci_spec.specs.Machine.{read_back, written}
@@ -65,28 +66,31 @@ pub put-requires : goal.put-requires
 put-requires g c =
     (sound c.address_registers-register-items.result.now c.args.bridge c.address_registers-register-items.ensures c.loop-register.register-index c.loop-register-test.true none).access
 
-pub returns-in-Err-clause-stop : goal.returns-in-Err-clause-stop
-returns-in-Err-clause-stop g c =
+pub returns-in_err-value-clause-stop : goal.returns-in_err-value-clause-stop
+returns-in_err-value-clause-stop g c =
     let items = c.address_registers-register-items.result.now in
     let table = c.address_registers-register-items.ensures in
     let k = c.loop-register.register-index in
     let within = c.loop-register-test.true in
     let register = get_or items k none in
-    let kind = layout (function_at (g.P.ConfigPort.targets c.args.port.now) c.args.slot).image in (
-      ap (λ (s : AccessFault). s.fault) c.in-Err.ensures.stop,
-      ap (λ (s : AccessFault). is_address_register kind s.offset) c.in-Err.ensures.stop ∙ ap (λ n. is_address_register n register.offset) c.requires.header
+    let kind = layout (function_at (g.P.ConfigPort.targets c.args.port.now) c.args.slot).image in
+    let p = err_from_is_err_and c.from_residual.result c.from_residual.ensures.1 in
+    rw (p.1, p.2) (
+      ap (λ (s : AccessFault). s.fault) c.in_err-value.ensures.stop,
+      ap (λ (s : AccessFault). is_address_register kind s.offset) c.in_err-value.ensures.stop ∙ ap (λ n. is_address_register n register.offset) c.requires.header
           ∙ register_begins c.args.bridge k (here items c.args.bridge table k within none) (in_table items c.args.bridge table k within none) (at_place items c.args.bridge table k within none),
     )
 
-pub returns-in-Err-clause-left : goal.returns-in-Err-clause-left
-returns-in-Err-clause-left g c =
+pub returns-in_err-value-clause-left : goal.returns-in_err-value-clause-left
+returns-in_err-value-clause-left g c =
     let items = c.address_registers-register-items.result.now in
     let table = c.address_registers-register-items.ensures in
     let k = c.loop-register.register-index in
     let within = c.loop-register-test.true in
     let slot = c.args.slot in
     let same = c.loop-register.invariant.same in
-    let left = c.in-Err.ensures.left in (
+    let left = c.in_err-value.ensures.left in
+    rw (err_from_is_err_and c.from_residual.result c.from_residual.ensures.1).1 (
       left.0,
       left.1 ∙ ap (λ xs. with_image xs slot left.0) same,
       within_registers c.args.bridge k (here items c.args.bridge table k within none) (function_at (g.P.ConfigPort.targets c.args.port.now) slot).image left.0
@@ -105,17 +109,17 @@ loop-register-preserved g c =
     let before = g.P.ConfigPort.targets c.args.port.now in
     let register = get_or items k none in
     record {
-      same = c.in-Ok.ensures.kept ∙ same;
-      counted = omega (arith, c.in-Ok.ensures.counted, c.loop-register.invariant.counted);
-      there = c.in-Ok.ensures.there;
-      lawful = c.in-Ok.ensures.lawful;
+      same = c.in_ok-value.ensures.kept ∙ same;
+      counted = omega (arith, c.in_ok-value.ensures.counted, c.loop-register.invariant.counted);
+      there = c.in_ok-value.ensures.there;
+      lawful = c.in_ok-value.ensures.lawful;
       full = search rules;
       found = λ place below.
           let so_far = c.loop-register.invariant.found place below ∙ ap (λ rs. read_back (function_at before slot) place (found_in (take k rs) place)) table in
-          found_more (function_at before slot) c.args.bridge k (here items c.args.bridge table k within none) c.loop-register.bytes c.put.new.bytes c.sizing_ones-ones.result c.in-Ok.value
+          found_more (function_at before slot) c.args.bridge k (here items c.args.bridge table k within none) c.loop-register.bytes c.put.new.bytes c.sizing_ones-ones.result c.in_ok-value.value
           (target-there before slot c.requires.lawful c.requires.there) c.requires.header (in_table items c.args.bridge table k within none)
           (at_place items c.args.bridge table k within none) (sound_test items c.args.bridge table k within none) c.sizing_ones-ones.ensures
-          (c.in-Ok.ensures.value ∙ ap (λ xs. number_at (written (function_at xs slot) register.offset register.width c.sizing_ones-ones.result) register.offset register.width) same)
+          (c.in_ok-value.ensures.value ∙ ap (λ xs. number_at (written (function_at xs slot) register.offset register.width c.sizing_ones-ones.result) register.offset register.width) same)
           c.put.ensures.inside c.put.ensures.outside place so_far
           ∙ ap (λ rs. read_back (function_at before slot) place (found_in (take (k + 1) rs) place)) (sym table);
     }

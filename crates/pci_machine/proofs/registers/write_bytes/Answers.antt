@@ -1,5 +1,4 @@
-use Rattle.std.proofs.Common.{ℕ, List, refl, ◌≡◌, ◌+◌, ◌<◌, ◌^◌, ◌/◌, ◌%◌, length, arith, slice_index, set, ap, sym, ◌∙◌, inl, inr, rules, get_or-set_same, get_or-set_other, length-set}
-use Rattle.std.proofs.Math.Nat.{div-div-eq-div-mul, pow-suc}
+use Rattle.std.proofs.Common.{ℕ, List, refl, ◌≡◌, ◌+◌, ◌<◌, length, arith, slice_index, set, ap, sym, ◌∙◌, inl, inr, rules, get_or-set_same, get_or-set_other, length-set}
 use Rattle.std.proofs.lemmas.Bool.{cases_eq}
 use Rattle.std.proofs.lemmas.List.FromFn.{fill_by_all}
 use Rattle.pci_spec.specs.Number.{byte_at}
@@ -15,7 +14,6 @@ at slot image writable clearing = record { slot = slot; image = image; writable 
 pub loop-j-init : goal.loop-j-init
 loop-j-init c = record {
   full = search rules;
-  rest = omega arith;
   so_far = λ slot place h. sym (written_byte-none (at slot c.args.bytes.now c.args.writable.now c.args.clearing.now) c.args.off c.args.value place);
 }
 
@@ -24,9 +22,6 @@ loop-j-preserved c =
     let same : c.from-place.result ≡ c.args.off + c.loop-j.j = c.from-place.ensures in
     record {
       full = search (rules, length-set);
-      rest =
-          ap (λ n. n / 256) c.loop-j.invariant.rest ∙ div-div-eq-div-mul c.args.value (256 ^ c.loop-j.j) 256
-          ∙ ap (λ n. c.args.value / n) (sym (pow-suc 256 c.loop-j.j)) ∙ ap (λ n. c.args.value / 256 ^ n) (omega arith);
       so_far = λ slot place h.
           let t = at slot c.args.bytes.now c.args.writable.now c.args.clearing.now in
           elim (cases_eq place c.from-place.result) [
@@ -38,7 +33,7 @@ loop-j-preserved c =
                 ap (λ k. slice_index (set c.loop-j.bytes spot c.written_byte.result) k) here
                 ∙ get_or-set_same c.loop-j.bytes spot c.written_byte.result 0 within
                 ∙ written_byte-made t c.args.off c.loop-j.j c.args.value spot _ _ _ _ _ same refl refl before
-                (ap (λ n. n % 256) c.loop-j.invariant.rest) c.written_byte.ensures
+                c.byte_of-datum.ensures c.written_byte.ensures
                 ∙ ap (λ k. written_byte t c.args.off (c.loop-j.j + 1) c.args.value k) (sym here)
             | inr other ↦ get_or-set_other c.loop-j.bytes c.from-place.result place c.written_byte.result 0 other ∙ c.loop-j.invariant.so_far slot place h
                 ∙ sym (written_byte-more t c.args.off c.loop-j.j c.args.value place (λ e. other (e ∙ sym same)))

@@ -6,13 +6,13 @@ use Rattle.pci_spec.specs.Text.{Block, IsDump, slots_of}
 use Rattle.pci_spec.specs.Slot.{Slot}
 use Rattle.pci_spec.specs.Stops.{IsAboveLast, last_slot}
 use Rattle.pci_spec.specs.Window.{WindowKind}
-use Rattle.pci_spec.specs.System.{system_of}
+use Rattle.pci_spec.specs.System.{function_of, system_of}
 use Rattle.pci_spec.specs.Decoded as decoded
 use Rattle.pci_spec.specs.Decoded.{HasRecords}
 use Rattle.pci_spec.specs.Planning.Plannable.{IsPlannable}
 use Rattle.pci_spec.specs.Planning.Table.{IsTable}
 use Rattle.pci_spec.specs.Planning.Numbers.{IsPlannedFunction, place_at}
-use Rattle.pci_spec.proofs.Pairing.{function_of, same_length, length-system_of}
+use Rattle.pci_spec.proofs.Pairing.{same_length, length-system_of}
 use Rattle.pci_tree.specs.Admission.{IsAdmitted}
 use Rattle.pci_function.specs.Values.{record_value}
 use Rattle.pci_function.specs.declared.record.Record.{Record}

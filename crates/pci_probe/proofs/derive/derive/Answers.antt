@@ -1,6 +1,7 @@
 use Rattle.std.proofs.Common.{◌≡◌, ◌++◌, ◌∷◌, [], Bool, List, Option, Some, ℕ, arith, sym, ◌∙◌, ap}
 use Rattle.std.proofs.lemmas.Bool.{cond-true, cond-false}
 use Rattle.std.proofs.lemmas.List.{append-nil}
+use Rattle.std.proofs.lemmas.Result.{err_from_is_err_and}
 use Rattle.pci_spec.specs.Derived.{register_derived, read_back_of, is_assumed}
 use Rattle.pci_spec.specs.NoProbe.{NoProbe, register_fault, no_probe}
 use Rattle.pci_spec.specs.NoProbe as spec
@@ -37,8 +38,8 @@ register-derived-requires-clause-begins c =
     let within = c.loop-place-test.true in
     register_begins c.in-Ok.bridge k (here items c.in-Ok.bridge table k within none) (in_table items c.in-Ok.bridge table k within none) (at_place items c.in-Ok.bridge table k within none)
 
-pub returns-in-Err-taken-clause-fault : goal.returns-in-Err-taken-clause-fault
-returns-in-Err-taken-clause-fault c =
+pub returns-in_err-read_back-clause-fault : goal.returns-in_err-read_back-clause-fault
+returns-in_err-read_back-clause-fault c =
     let bridge = c.in-Ok.bridge in
     let items = c.address_registers-place-items.result.now in
     let table = c.address_registers-place-items.ensures in
@@ -46,10 +47,11 @@ returns-in-Err-taken-clause-fault c =
     let within = c.loop-place-test.true in
     let register = here items bridge table k within none in
     let derived = c.register-derived.ensures.derived in
-    fault_of c.args.exact c.args.image.now.0 c.args.lines.now c.in-Err-taken.fault (register_fault c.args.exact register.0 (derived_of c.register-derived.result))
-    c.in-Err-taken.ensures.fault c.in-Ok.ensures.header (λ found is.
+    let p = err_from_is_err_and c.from_residual.result c.from_residual.ensures.1 in
+    rw (p.1, p.2) (fault_of c.args.exact c.args.image.now.0 c.args.lines.now c.in_err-read_back.field-0.0 (register_fault c.args.exact register.0 (derived_of c.register-derived.result))
+    c.in_err-read_back.ensures.fault c.in-Ok.ensures.header (λ found is.
     derived_fault c.args.exact c.args.image.now.0 c.args.lines.now bridge k register (in_table items bridge table k within none) (at_place items bridge table k within none)
-    c.loop-place.probe.0 c.loop-place.assumed.items found c.loop-place.invariant c.in-Ok.ensures.layout (sym (ap (register_fault c.args.exact register.0) derived) ∙ is))
+    c.loop-place.probe.0 c.loop-place.assumed.items found c.loop-place.invariant c.in-Ok.ensures.layout (sym (ap (register_fault c.args.exact register.0) derived) ∙ is)))
 
 pub put-requires : goal.put-requires
 put-requires c =
@@ -72,11 +74,11 @@ loop-place-preserved c =
     let within = c.loop-place-test.true in
     let register = here items bridge table k within none in
     let derived = c.register-derived.ensures.derived in
-    let taken = c.in-Ok-taken.ensures in
-    let assumes : c.in-Ok-taken.taken.1 ≡ is_assumed (register_derived image lines register.0) = taken.read_back.1 ∙ ap is_assumed derived in
+    let taken = c.in_ok-read_back.ensures in
+    let assumes : c.in_ok-read_back.is_assumed ≡ is_assumed (register_derived image lines register.0) = taken.read_back.1 ∙ ap is_assumed derived in
     let so_far = c.loop-place.assumed.items in
     derived_more c.args.exact image lines bridge k register (in_table items bridge table k within none) (at_place items bridge table k within none)
-    c.loop-place.probe.0 c.put.new.bytes c.loop-place.assumed.items c.if-is_assumed.assumed.items c.in-Ok-taken.taken.0 c.loop-place.invariant
+    c.loop-place.probe.0 c.put.new.bytes c.loop-place.assumed.items c.if-is_assumed.assumed.items c.in_ok-read_back.read_back c.loop-place.invariant
     (sym (ap (register_fault c.args.exact register.0) derived) ∙ taken.told) c.put.array_long (taken.read_back.0 ∙ ap read_back_of derived) c.put.ensures.inside c.put.ensures.outside
     (elim c.if-is_assumed.branch [
       | then-is_assumed w ↦ rw w.assumed-is

@@ -1,6 +1,7 @@
 use Rattle.std.proofs.Common.{◌≡◌, ◌<◌, ◌++◌, ◌∷◌, [], List, refl, sym, ◌∙◌, ap, subst, arith, length, map, None, Some}
 use Rattle.std.specs.List.{flat_map}
 use Rattle.std.specs.Option.{option_map}
+use Rattle.std.proofs.lemmas.Result.{err_from_is_err_and}
 use Rattle.pci_spec.specs.Text.{Block, IsDump}
 use Rattle.pci_spec.specs.Stops.{IsAboveLast, last_slot}
 use Rattle.pci_spec.specs.SizesText.{SizesBlock}
@@ -50,14 +51,15 @@ add-requires-clause-above g c =
     subst (λ (found : List Block). IsAboveLast (last_slot found) c.index-blocks-i.result.slot) (sym c.loop-i.invariant.probe)
     (next_above blocks c.blocks-told.result.now c.in-None.ensures.same c.loop-i.i c.index-blocks-i.result dump c.loop-i-test.true c.index-blocks-i.is)
 
-pub returns-in-Err-clause-fault : goal.returns-in-Err-clause-fault
-returns-in-Err-clause-fault g c =
+pub returns-in_err-add-clause-fault : goal.returns-in_err-add-clause-fault
+returns-in_err-add-clause-fault g c =
     let dump = c.blocks-blocks.ensures.value in
     let sizes = c.blocks-told.ensures.value in
-    subst (λ (bs : List Block). IsFirstFault c.args.exact bs c.args.sizes.now c.in-Err.refused) dump
-    (subst (λ (ss : List SizesBlock). IsFirstFault c.args.exact c.blocks-blocks.result.now ss c.in-Err.refused) sizes
-    (register_fault_by c.args.exact c.blocks-blocks.result.now c.blocks-told.result.now c.in-Err.refused c.loop-i.i c.index-blocks-i.result c.index-told-i.result
-    c.in-None.ensures.least c.in-None.ensures.same c.in-None-header_fault.ensures.none c.loop-i-test.true c.index-blocks-i.is c.index-told-i.is c.loop-i.invariant.fine c.in-Err.ensures.fault))
+    let p = err_from_is_err_and c.from_residual.result c.from_residual.ensures.1 in
+    rw (p.1, p.2) (subst (λ (bs : List Block). IsFirstFault c.args.exact bs c.args.sizes.now c.in_err-add.field-0.0) dump
+    (subst (λ (ss : List SizesBlock). IsFirstFault c.args.exact c.blocks-blocks.result.now ss c.in_err-add.field-0.0) sizes
+    (register_fault_by c.args.exact c.blocks-blocks.result.now c.blocks-told.result.now c.in_err-add.field-0.0 c.loop-i.i c.index-blocks-i.result c.index-told-i.result
+    c.in-None.ensures.least c.in-None.ensures.same c.in-None-header_fault.ensures.none c.loop-i-test.true c.index-blocks-i.is c.index-told-i.is c.loop-i.invariant.fine c.in_err-add.ensures.fault)))
 
 pub loop-i-preserved : goal.loop-i-preserved
 loop-i-preserved g c =
@@ -72,9 +74,9 @@ loop-i-preserved g c =
     let inside : c.loop-i.i < length (told_of blocks sizes) = omega (arith, long, within) in
     let at = told_at blocks sizes c.loop-i.i b s within (omega (arith, count, within)) c.index-blocks-i.is c.index-told-i.is in
     record {
-      fine = first_of-more (read_back_fault c.args.exact) (told_of blocks sizes) c.loop-i.i (told b s) inside at c.loop-i.invariant.fine ∙ ap (option_map (at_slot b.slot)) c.in-Ok.ensures.told;
-      probe = c.in-Ok.ensures.probe ∙ ap (λ bs. bs ++ probe_block (told b s) ∷ []) c.loop-i.invariant.probe ∙ sym (blocks_more blocks sizes same c.loop-i.i (told b s) inside at);
-      assumed = c.in-Ok.ensures.assumed ∙ ap (λ xs. xs ++ assumed_in (told b s)) c.loop-i.invariant.assumed ∙ sym (assumed_more blocks sizes same c.loop-i.i (told b s) inside at);
+      fine = first_of-more (read_back_fault c.args.exact) (told_of blocks sizes) c.loop-i.i (told b s) inside at c.loop-i.invariant.fine ∙ ap (option_map (at_slot b.slot)) c.in_ok-add.ensures.told;
+      probe = c.in_ok-add.ensures.probe ∙ ap (λ bs. bs ++ probe_block (told b s) ∷ []) c.loop-i.invariant.probe ∙ sym (blocks_more blocks sizes same c.loop-i.i (told b s) inside at);
+      assumed = c.in_ok-add.ensures.assumed ∙ ap (λ xs. xs ++ assumed_in (told b s)) c.loop-i.invariant.assumed ∙ sym (assumed_more blocks sizes same c.loop-i.i (told b s) inside at);
     }
 
 -- all functions

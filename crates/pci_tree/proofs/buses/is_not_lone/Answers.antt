@@ -17,5 +17,5 @@ returns-in-Some c =
     c.in-Some.ensures.numbers ∙ slot_of c.bus.result c.args.slot.bus c.dev.result c.args.slot.device c.bus.ensures c.dev.ensures in (
       λ h other. first_to c.args.records.now c.on_bus.result.now c.args.slot c.in-Some.first c.bus-in-Some.result c.on_bus.ensures first (c.has_slot.ensures.0 h),
       λ h. c.has_slot.ensures.1 (first_from_all c.args.records.now c.on_bus.result.now c.args.slot c.in-Some.first c.bus-in-Some.result c.on_bus.ensures c.bus-in-Some.ensures first
-          (h (let some = c.if-fun-eq0.false in let same = c.fun.ensures in omega arith))),
+          (h (let some = c.if-fun-eq0.false in let same = c.fun.ensures.number in omega arith))),
     )

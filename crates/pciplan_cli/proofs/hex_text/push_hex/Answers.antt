@@ -1,10 +1,10 @@
-use Rattle.std.proofs.Common.{◌-◌, ◌*◌, ◌/◌, ◌%◌, ◌^◌, ◌++◌, ◌∷◌, [], ◌∙◌, ap, refl}
+use Rattle.std.proofs.Common.{◌-◌, ◌*◌, ◌/◌, ◌%◌, ◌^◌, refl}
 use Rattle.std.specs.String.{string_bytes}
 use Rattle.pciplan_cli.proofs.HexPushes.{digit_more}
 use Rattle.pciplan_cli.proofs.hex_text.push_hex.Goals as goal
 
 pub loop-done-preserved : goal.loop-done-preserved
 loop-done-preserved g c =
-    digit_more (string_bytes c.args.text.now) (string_bytes c.loop-done.text) (string_bytes c.push.new.self) c.args.number c.args.digits c.loop-done.done
+    digit_more (string_bytes c.args.text.now) (string_bytes c.loop-done.text) (string_bytes c.push_digit.new.text) c.args.number c.args.digits c.loop-done.done
     (c.args.number / 2 ^ (4 * (c.args.digits - 1 - c.loop-done.done)) % 16) c.loop-done-test.true c.loop-done.invariant refl
-    (c.in_ok-push.ensures.bytes ∙ ap (λ t. string_bytes c.loop-done.text ++ t) (c.in_ok-push.ensures.ascii c.digit_of.ensures.ascii ∙ ap (λ d. d ∷ []) c.digit_of.ensures.digit))
+    c.in_ok-push_digit.ensures

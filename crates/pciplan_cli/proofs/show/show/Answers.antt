@@ -1,8 +1,7 @@
 use Rattle.std.proofs.Common.{◌≡◌, ◌++◌, [], ◌∷◌, length, take, get_or, suc, ◌+◌, sym, ◌∙◌, ap, arith}
 use Rattle.std.proofs.lemmas.List.{take_all}
-use Rattle.pci_spec.specs.System.{system_of}
+use Rattle.pci_spec.specs.System.{function_of, system_of}
 use Rattle.pci_spec.specs.Listing.{listing, function_listing}
-use Rattle.pciplan_cli.specs.Shows.{function_of}
 use Rattle.pciplan_cli.proofs.Shows.{same_count, listing_more, refused_at}
 use Rattle.pciplan_cli.proofs.show.show.Goals as goal
 

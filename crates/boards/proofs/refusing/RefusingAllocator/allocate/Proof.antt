@@ -30,7 +30,7 @@ use denote.Triple.Spec.{triple_of}
 use denote.Triple.Statement.{Triple, Contract}
 use denote.Triple.Table.{entered, cited}
 use denote.Triple.Walked.{Stays, stay_dropped, walk_of, ends_at, walked, Goes-dropped, walk_Meets}
-use types.Kit.{‵, raw, ◌⊛◌, at_ret, some, pick, later, given, learn, ◌$◌, ◌∵◌, !, qed, move, keep, drop, use0, use1, use2, split, split3, join, fsplit, fjoin, suffices, await, done, feq_i, feq_l, check, show, updating, now as at_once}
+use types.Kit.{‵, raw, ◌⊛◌, at_ret, some, pick, later, given, learn, ◌$◌, ◌∵◌, !, qed, move, keep, drop, use0, use1, use2, split, join, fsplit, fjoin, suffices, await, done, feq_i, feq_l, check, show, updating, now as at_once}
 use types.ByLocal.{alloc_all, pass_all, free_all, look_at, get, through, sets, lands_as, env}
 use denote.RawPtr.{block_ptr}
 use denote.Builtin.{usize, RefOf, u64, bool}

@@ -2,7 +2,7 @@ use Rattle.std.proofs.Common.{◌≡◌, List, [], ◌∷◌, ◌++◌, sym, ◌
 use Rattle.pci_spec.specs.Stops.{IsAboveLast}
 use Rattle.pci_spec.specs.Text.{Block}
 use Rattle.pci_spec.specs.Decoded as decoded
-use Rattle.pci_spec.proofs.Pairing.{function_of}
+use Rattle.pci_spec.specs.System.{function_of}
 use Rattle.pci_function.specs.declared.record.Record.{Record}
 use Rattle.pci_tree.specs.Survey.{Surveyed, AreKept, IsAdded}
 use Rattle.pci_tree.proofs.Lawful.{lawful_record}
