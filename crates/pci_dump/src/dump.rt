@@ -87,7 +87,7 @@ impl<A: Allocator> Dump<A> {
         ensures ok { OnOk result (self.new ≡ self.old ++ block ∷ []) }
         ensures not_above { IsErrOf result (Refused.Fault PushFault.NotAbove) ↔ (IsAboveLast (last_slot self.old) block.slot → ⊥) }
         ensures full { IsErrOf result (Refused.Fault PushFault.Full)
-            ↔ (IsAboveLast (last_slot self.old) block.slot × (length self.old ≡ 4096)) }
+            ↔ (IsAboveLast (last_slot self.old) block.slot × (length self.old ≡ BLOCKS_MAX)) }
         ensures err { OnErr result (self.new ≡ self.old) }
     {
         if !block.may_follow(self.last_slot()) {
@@ -104,7 +104,7 @@ impl<A: Allocator> Dump<A> {
     pub(crate) fn append(&mut self, block: Block) -> Result<(), OutOfMemory>
         requires block { IsBlock block }
         requires above { IsAboveLast (last_slot self.old) block.slot }
-        requires room { length self.old < 4096 }
+        requires room { length self.old < BLOCKS_MAX }
         ensures ok { OnOk result (self.new ≡ self.old ++ block ∷ []) }
         ensures err { OnErr result (self.new ≡ self.old) }
     {

@@ -1,5 +1,5 @@
 //! Bytes of a probe outside the address registers. Only these registers are written and read back.
-ghost use Rattle.std.specs.Prelude.{◌≡◌, ◌<◌, slice_index_or, ℕ, false, true, IfSome, IfNone};
+ghost use Rattle.std.specs.Prelude.{◌≡◌, ◌<◌, ℕ, false, true, IfSome, IfNone};
 ghost use Rattle.pci_spec.specs.Fault.{is_in_address_register, is_stray_by};
 
 use pci_image::image::{IMAGE_LEN, Image};

@@ -1,5 +1,5 @@
 //! Texts that lie in memory: one that is read, and one that grows.
-ghost use Rattle.std.specs.Prelude.{◌≡◌, ◌≤◌, ◌<◌, ◌+◌, ℕ, List, [], length, Option, Some, IfOk, MatchResult};
+ghost use Rattle.std.specs.Prelude.{◌≡◌, ◌<◌, [], Some};
 
 use pci_dump::failures::Failures;
 use pci_dump::streams::{Failed, Sink, Source};

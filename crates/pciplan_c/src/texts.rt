@@ -1,5 +1,5 @@
 //! Texts of machines under emulation, for tests: `old` and `desk` with one host bus, `roots` with the host buses 00 and 40.
-use std::alloc::{AllocError, Allocator, Global};
+use std::alloc::{AllocError, Global};
 
 /// A dump and its probe.
 #[derive(Drop)]

@@ -1,5 +1,5 @@
 //! Texts that are opened by their paths.
-ghost use Rattle.std.specs.Prelude.{◌≡◌, ◌≤◌, ◌+◌, ℕ, List, length, Option, None, IfOk, OnOk, MatchResult};
+ghost use Rattle.std.specs.Prelude.{◌≡◌, ◌+◌, ℕ, List, Option, None, OnOk, MatchResult};
 
 use pci_dump::failures::Failures;
 use pci_dump::streams::{Failed, Source};

@@ -1,5 +1,5 @@
 //! The program on texts that may not be there, and on words that can't be had.
-ghost use Rattle.std.specs.Prelude.{ℕ, List, None};
+ghost use Rattle.std.specs.Prelude.{None};
 
 use crate::program::Answer;
 use boards::example::{DUMP, LISTING, PROBE};
