@@ -36,7 +36,8 @@ impl<P: ConfigPort> ConfigPort for Counting<P> {
 
     ghost failures = { λ s. P.failures s.port };
 
-    ghost reads = { λ before slot offset width answer after. P.reads before.port slot offset width answer after.port };
+    ghost reads = { λ before slot offset width answer after.
+        P.reads before.port slot offset width answer after.port };
 
     ghost writes = { λ before write answer after. P.writes before.port write answer after.port };
 

@@ -42,7 +42,8 @@ pub trait Hardware {
         requires there { IsTrue (has_function (functions self.old) slot) }
         requires access { IsTrue (is_lawful_access off width && has_room width value) }
         ensures taken { functions self.new ≡ (if result
-            then write_targets (functions self.old) record { slot = slot; offset = off; width = width; value = value }
+            then write_targets (functions self.old) record
+            { slot = slot; offset = off; width = width; value = value }
             else functions self.old) }
         ensures lawful { IsLawful (functions self.new) };
 }

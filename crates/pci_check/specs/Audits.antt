@@ -24,7 +24,8 @@ AreSound roots dump probe = (slots_of dump ≡ slots_of probe) × IsSound roots 
 -- the fault is there, and none that is looked for before it, the two aren't sound, and it is the first of its kind where it is one of judging
 pub record IsRefused (roots : List ℕ) (dump probe : List Block) (fault : Fault) : Type 0 where
   pub there : IsThere roots dump probe (fault_of fault)
-  pub first : (fault_number (fault_of fault) < 60) ⊎ IsFirst roots (system_of dump probe) (fault_of fault)
+  pub first : (fault_number (fault_of fault) < 60)
+      ⊎ IsFirst roots (system_of dump probe) (fault_of fault)
   pub unsound : AreSound roots dump probe → ⊥
   pub order : IsFirstThere roots dump probe (fault_of fault)
 
@@ -41,10 +42,12 @@ outcome_line (No fault) = verdict_line (Some (fault_of fault))
 -- the dump whose text was left, where the bytes are told; no other blocks have it
 pub record IsDumpOf (left : Option (List ℕ)) (dump : List Block) : Type 0 where
   pub text : (bytes : List ℕ) → left ≡ Some bytes → IsTextOf bytes dump
-  pub only : (bytes : List ℕ) → left ≡ Some bytes → (others : List Block) → IsTextOf bytes others → others ≡ dump
+  pub only : (bytes : List ℕ) → left ≡ Some bytes → (others : List Block) → IsTextOf bytes others
+      → others ≡ dump
 
 -- the outcome of the two texts that were left
-pub record IsAudited (roots : List ℕ) (dump_left probe_left : Option (List ℕ)) (outcome : Outcome) : Type 0 where
+pub record IsAudited (roots : List ℕ) (dump_left probe_left : Option (List ℕ))
+    (outcome : Outcome) : Type 0 where
   pub dump : List Block
   pub probe : List Block
   pub dump_text : IsDumpOf dump_left dump
@@ -52,7 +55,8 @@ pub record IsAudited (roots : List ℕ) (dump_left probe_left : Option (List ℕ
   pub verdict : IsOutcomeOf roots dump probe outcome
 
 -- why a text was refused: a read failed, or it has this fault
-pub record IsReadFaultOf (left : Option (List ℕ)) (before after : ℕ) (fault : ReadFault) : Type 0 where
+pub record IsReadFaultOf (left : Option (List ℕ)) (before after : ℕ)
+    (fault : ReadFault) : Type 0 where
   pub io : fault ≡ faults.Io → after ≡ before + 1
   pub whole : fault ≢ faults.Io → after ≡ before
   pub told : fault ≢ faults.Io → (bytes : List ℕ) → left ≡ Some bytes → IsTextFault bytes fault
@@ -66,14 +70,16 @@ pub record IsRead (left : Option (List ℕ)) (before after : ℕ) : Type 0 where
 
 -- why there is no verdict: the dump's text, or the probe's where the dump's is one
 abbrev pub IsTextRefusal : Option (List ℕ) → ℕ → ℕ → Option (List ℕ) → ℕ → ℕ → AuditFault → Type 0
-IsTextRefusal dump_left before after probe_left probe_before probe_after (Dump fault) = IsReadFaultOf dump_left before after fault
+IsTextRefusal dump_left before after probe_left probe_before probe_after (Dump fault) =
+    IsReadFaultOf dump_left before after fault
 IsTextRefusal dump_left before after probe_left probe_before probe_after (Probe fault) =
     IsRead dump_left before after × IsReadFaultOf probe_left probe_before probe_after fault
 IsTextRefusal dump_left before after probe_left probe_before probe_after Memory = Unit {0}
 IsTextRefusal dump_left before after probe_left probe_before probe_after Write = Unit {0}
 
 -- a beginning of the line of the two texts' outcome was written
-pub record HasBegun (roots : List ℕ) (dump_left probe_left : Option (List ℕ)) (before after : Option (List ℕ)) : Type 0 where
+pub record HasBegun (roots : List ℕ) (dump_left probe_left : Option (List ℕ))
+    (before after : Option (List ℕ)) : Type 0 where
   pub outcome : Outcome
   pub audited : IsAudited roots dump_left probe_left outcome
   pub begun : AppendsBeginning before after (outcome_line outcome)

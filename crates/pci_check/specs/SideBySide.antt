@@ -20,11 +20,13 @@ pub record Texts : Type 0 where
   pub probe_failures : ℕ
 
 -- These blocks were read of a text. Up to its end they are its dump; at a fault it has that one.
-pub record IsTaken (left : Option (List ℕ)) (failures : ℕ) (state : State) (blocks : List Block) : Type 0 where
+pub record IsTaken (left : Option (List ℕ)) (failures : ℕ) (state : State)
+    (blocks : List Block) : Type 0 where
   pub dump : IsDump blocks
   pub going : state.progress ≡ stages.Open → IsRead left failures state blocks
   pub whole : state.progress ≡ stages.Done → IsDumpOf left blocks × (state.failures ≡ failures)
-  pub stopped : (fault : ReadFault) → state.progress ≡ stages.Failed fault → IsReadFaultOf left failures state.failures fault
+  pub stopped : (fault : ReadFault) → state.progress ≡ stages.Failed fault
+      → IsReadFaultOf left failures state.failures fault
 
 -- these blocks may be all that is left of a text of which those were read
 pub record IsRest (state : State) (blocks more : List Block) : Type 0 where
@@ -40,7 +42,8 @@ IsOpen v = IfSome v.fault (λ e. phase_of e ≢ 0)
 abbrev pub IsSurveyOfBoth : Surveyed → List Block → List Block → Type 0
 IsSurveyOfBoth v dump probe =
     ((slots_of dump ≡ slots_of probe) × IsSurveyOf v (system_of dump probe) × IsOpen v)
-    ⊎ ((slot : Slot) × (v.fault ≡ Some (SlotsDiffer slot)) × IsInOne dump probe slot × IsNoneBelow dump probe slot)
+    ⊎ ((slot : Slot) × (v.fault ≡ Some (SlotsDiffer slot)) × IsInOne dump probe slot
+    × IsNoneBelow dump probe slot)
 
 -- so far both texts list the same slots, and the survey took their functions
 pub record IsBeside (texts : Texts) (buses : List ℕ) (d p : State) (v : Surveyed) : Type 0 where
@@ -61,11 +64,13 @@ pub record IsDecided (texts : Texts) (buses : List ℕ) (d p : State) (v : Surve
   pub dump_taken : IsTaken texts.dump_left texts.dump_failures d dump
   pub probe_taken : IsTaken texts.probe_left texts.probe_failures p probe
   pub roots : v.roots ≡ buses
-  pub decided : (more_dump more_probe : List Block) → IsRest d dump more_dump → IsRest p probe more_probe
+  pub decided : (more_dump more_probe : List Block) → IsRest d dump more_dump
+      → IsRest p probe more_probe
       → IsSurveyOfBoth v (dump ++ more_dump) (probe ++ more_probe)
 
 -- a survey of two texts that were read to their ends
-pub record IsSurveyOfTexts (buses : List ℕ) (dump_left probe_left : Option (List ℕ)) (v : Surveyed) : Type 0 where
+pub record IsSurveyOfTexts (buses : List ℕ) (dump_left probe_left : Option (List ℕ))
+    (v : Surveyed) : Type 0 where
   pub dump : List Block
   pub probe : List Block
   pub dump_is : IsDump dump
@@ -88,5 +93,6 @@ IsBesideOrDecided false texts buses d p v = IsDecided texts buses d p v
 abbrev pub IsTakenBySurvey : Surveyed → Surveyed → Block → Block → Bool → Type 0
 IsTakenBySurvey v w b p true = (p.slot ≡ b.slot) × IsAdded v w (function_of b p)
 IsTakenBySurvey v w b p false =
-    (w.roots ≡ v.roots) × (((slot_number b.slot < slot_number p.slot) × (w.fault ≡ Some (SlotsDiffer b.slot)))
+    (w.roots ≡ v.roots)
+    × (((slot_number b.slot < slot_number p.slot) × (w.fault ≡ Some (SlotsDiffer b.slot)))
     ⊎ ((slot_number p.slot < slot_number b.slot) × (w.fault ≡ Some (SlotsDiffer p.slot))))

@@ -40,12 +40,14 @@ pub record AreWholeReaches (r : Reaches) : Type 0 where
   pub canonical : (kind : WindowKind) → All IsCanonical (reaches_by r kind)
 
 abbrev pub ranges_at : Reaches → Space → Bool → ℕ → List Range
-ranges_at reaches space prefetchable bus = slice_index_or (reaches_by reaches (kind_in space prefetchable)) bus []
+ranges_at reaches space prefetchable bus =
+    slice_index_or (reaches_by reaches (kind_in space prefetchable)) bus []
 
 -- they are those of each system with this tree
 abbrev pub AreReachesOf : Tree → Reaches → Type 0
 AreReachesOf t reaches =
-    (s : System) → HasTree t s → (space : Space) (prefetchable : Bool) (bus : ℕ) → bus < 256 → IsReachTo t.roots s space prefetchable bus (ranges_at reaches space prefetchable bus)
+    (s : System) → HasTree t s → (space : Space) (prefetchable : Bool) (bus : ℕ) → bus < 256
+    → IsReachTo t.roots s space prefetchable bus (ranges_at reaches space prefetchable bus)
 
 -- whether a region is a window
 abbrev pub is_of_window : parts.Part → Bool
@@ -55,14 +57,16 @@ is_of_window part.Window = true
 
 -- each address of the region gets to the bus
 abbrev pub IsWholeAt : Reaches → Space → ℕ → Region → Type 0
-IsWholeAt reaches space bus r = (a : ℕ) → Spans r a → Covers (ranges_at reaches space r.prefetch bus) a
+IsWholeAt reaches space bus r =
+    (a : ℕ) → Spans r a → Covers (ranges_at reaches space r.prefetch bus) a
 
 -- the same of a BAR or a ROM
 abbrev pub IsReachedAt : Reaches → Space → ℕ → Region → Type 0
 IsReachedAt reaches space bus r = is_of_window r.part ≡ false → IsWholeAt reaches space bus r
 
 -- the first region of a list that is a BAR or a ROM with an address that doesn't get to the bus
-pub record IsFirstOutside (reaches : Reaches) (space : Space) (bus : ℕ) (regions : List Region) (k : ℕ) : Type 0 where
+pub record IsFirstOutside (reaches : Reaches) (space : Space) (bus : ℕ) (regions : List Region)
+    (k : ℕ) : Type 0 where
   pub within : k < length regions
   pub before : AllWithin (IsReachedAt reaches space bus) regions 0 k
   pub no_window : HoldsAt (λ r. is_of_window r.part ≡ false) regions k
@@ -75,16 +79,19 @@ pub record IsBusBehind (path : List Slot) (end k bus : ℕ) : Type 0 where
 
 -- the bridge at a place passes the whole region, as those before it do
 abbrev pub IsWholeBehind : Reaches → Space → List Slot → ℕ → Region → ℕ → Type 0
-IsWholeBehind reaches space path end r k = (bus : ℕ) → IsBusBehind path end k bus → IsWholeAt reaches space bus r
+IsWholeBehind reaches space path end r k =
+    (bus : ℕ) → IsBusBehind path end k bus → IsWholeAt reaches space bus r
 
 -- the least address of a region that doesn't get to a bus
-pub record IsLeastLost (reaches : Reaches) (space : Space) (bus : ℕ) (r : Region) (a : ℕ) : Type 0 where
+pub record IsLeastLost (reaches : Reaches) (space : Space) (bus : ℕ) (r : Region)
+    (a : ℕ) : Type 0 where
   pub held : Spans r a
   pub outside : Covers (ranges_at reaches space r.prefetch bus) a → ⊥
   pub least : (b : ℕ) → b < a → Spans r b → Covers (ranges_at reaches space r.prefetch bus) b
 
 -- the first bridge of a path that stops a region, and the least address that it stops
-pub record IsFirstStop (reaches : Reaches) (space : Space) (path : List Slot) (end : ℕ) (r : Region) (k a : ℕ) : Type 0 where
+pub record IsFirstStop (reaches : Reaches) (space : Space) (path : List Slot) (end : ℕ) (r : Region)
+    (k a : ℕ) : Type 0 where
   pub within : k < length path
   pub bus : ℕ
   pub small : bus < 256
@@ -94,26 +101,34 @@ pub record IsFirstStop (reaches : Reaches) (space : Space) (path : List Slot) (e
 
 -- what the search for such a region answers
 abbrev pub IsOutsideAnswer : Reaches → Space → ℕ → List Region → Option ℕ → Type 0
-IsOutsideAnswer reaches space bus regions o = MatchOption o (All (IsReachedAt reaches space bus) regions) (λ k. IsFirstOutside reaches space bus regions k)
+IsOutsideAnswer reaches space bus regions o =
+    MatchOption o (All (IsReachedAt reaches space bus) regions)
+    (λ k. IsFirstOutside reaches space bus regions k)
 
 -- of two such answers that of the region which stands first
 abbrev pub IsEarlier : List Region → Option ℕ → List Region → Option ℕ → Foremost → Type 0
 IsEarlier io i memory m foremost.Neither = (i ≡ None) × (m ≡ None)
 IsEarlier io i memory m (foremost.Io k) =
-    (i ≡ Some k) × MatchOption m (Unit {0}) (λ n. (d : Region) → number_of (slice_index_or io k d) ≤ number_of (slice_index_or memory n d))
+    (i ≡ Some k)
+    × MatchOption m (Unit {0}) (λ n. (d : Region)
+    → number_of (slice_index_or io k d) ≤ number_of (slice_index_or memory n d))
 IsEarlier io i memory m (foremost.Memory k) =
-    (m ≡ Some k) × MatchOption i (Unit {0}) (λ n. (d : Region) → number_of (slice_index_or memory k d) ≤ number_of (slice_index_or io n d))
+    (m ≡ Some k)
+    × MatchOption i (Unit {0}) (λ n. (d : Region)
+    → number_of (slice_index_or memory k d) ≤ number_of (slice_index_or io n d))
 
 -- the fault of a region whose addresses aren't all passed on to its bus
 abbrev pub IsUnreachedFault : Tree → Space → Region → Fault → Type 0
 IsUnreachedFault t space r fault =
-    (s : System) → HasTree t s → (bus : ℕ) → IsRegionOn s bus space r → is_of_window r.part ≡ false → AreHomeBelow t.roots s (number_of r)
+    (s : System) → HasTree t s → (bus : ℕ) → IsRegionOn s bus space r → is_of_window r.part ≡ false
+    → AreHomeBelow t.roots s (number_of r)
     → IsFirst t.roots s (fault_of fault)
 
 -- the first fault, where it is on this bus
 abbrev pub IsUnreachedFaultOn : Tree → ℕ → Fault → Type 0
 IsUnreachedFaultOn t bus fault =
-    (s : System) → HasTree t s → ((b : ℕ) → b < bus → (space : Space) → IsHomeOn t.roots s b space) → IsFirst t.roots s (fault_of fault)
+    (s : System) → HasTree t s → ((b : ℕ) → b < bus → (space : Space) → IsHomeOn t.roots s b space)
+    → IsFirst t.roots s (fault_of fault)
 
 -- the buses of each system with the tree nest
 abbrev pub AlwaysNested : Tree → Type 0
@@ -122,7 +137,8 @@ AlwaysNested t = (s : System) → HasTree t s → IsNested t.roots s
 -- in each system with the tree that has the region, all of it gets to its bus
 abbrev pub IsWholeInEach : Tree → Reaches → Space → Region → Type 0
 IsWholeInEach t reaches space r =
-    (s : System) → HasTree t s → (bus : ℕ) → IsRegionOn s bus space r → IsWholeAt reaches space r.slot.bus r
+    (s : System) → HasTree t s → (bus : ℕ) → IsRegionOn s bus space r
+    → IsWholeAt reaches space r.slot.bus r
 
 -- in each system with the tree the BARs and ROMs of the bus are passed on to it
 abbrev pub AreHomeInEach : Tree → ℕ → Type 0
@@ -130,4 +146,5 @@ AreHomeInEach t bus = (s : System) → HasTree t s → (space : Space) → IsHom
 
 -- the regions of a bus and space in each system with the tree
 abbrev pub AreListed : Tree → ℕ → Space → List Region → Type 0
-AreListed t bus space regions = (s : System) → HasRecords s t.records → AreRegionsOf s bus space regions
+AreListed t bus space regions =
+    (s : System) → HasRecords s t.records → AreRegionsOf s bus space regions

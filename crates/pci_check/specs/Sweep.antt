@@ -17,7 +17,8 @@ Reaches None a = ⊥
 Reaches (Some last) a = a ≤ last
 
 -- the least address of a list of ranges that a region claims, up to what is reached
-pub record IsLeastMet (allowed : List Range) (region : Region) (reached : Option ℕ) (a : ℕ) : Type 0 where
+pub record IsLeastMet (allowed : List Range) (region : Region) (reached : Option ℕ)
+    (a : ℕ) : Type 0 where
   pub claims : Spans region a
   pub met : Reaches reached a
   pub covered : Covers allowed a
@@ -59,7 +60,10 @@ Follows regions (Some k) r = HoldsAt (λ x. number_of x < number_of r) regions k
 abbrev pub IsLesser : List Region → Option ℕ → ℕ → ℕ → Type 0
 IsLesser regions None i n = n ≡ i
 IsLesser regions (Some k) i n =
-    ((n ≡ k) ⊎ (n ≡ i)) × ((d : Region) → (number_of (slice_index_or regions n d) ≤ number_of (slice_index_or regions k d)) × (number_of (slice_index_or regions n d) ≤ number_of (slice_index_or regions i d)))
+    ((n ≡ k) ⊎ (n ≡ i))
+    × ((d : Region)
+    → (number_of (slice_index_or regions n d) ≤ number_of (slice_index_or regions k d))
+    × (number_of (slice_index_or regions n d) ≤ number_of (slice_index_or regions i d)))
 
 -- the region at a place claims the address, and stands after the one at another place, where one is given
 pub record IsClaimant (regions : List Region) (a : ℕ) (after : Option ℕ) (k : ℕ) : Type 0 where
@@ -67,21 +71,27 @@ pub record IsClaimant (regions : List Region) (a : ℕ) (after : Option ℕ) (k 
   pub follows : HoldsAt (Follows regions after) regions k
 
 -- of the first so many regions, the place of the least such
-pub record IsLeastClaimant (n : ℕ) (regions : List Region) (a : ℕ) (after : Option ℕ) (k : ℕ) : Type 0 where
+pub record IsLeastClaimant (n : ℕ) (regions : List Region) (a : ℕ) (after : Option ℕ)
+    (k : ℕ) : Type 0 where
   pub below : k < n
   pub claimant : IsClaimant regions a after k
-  pub least : (i : ℕ) → i < n → IsClaimant regions a after i → (d : Region) → number_of (slice_index_or regions k d) ≤ number_of (slice_index_or regions i d)
+  pub least : (i : ℕ) → i < n → IsClaimant regions a after i → (d : Region)
+      → number_of (slice_index_or regions k d) ≤ number_of (slice_index_or regions i d)
 
 -- the places of the two least regions that claim the address
 pub record AreTwoLeast (regions : List Region) (a i j : ℕ) : Type 0 where
   pub within : (i < length regions) × (j < length regions)
   pub first : HoldsAt (λ r. Spans r a) regions i
   pub second : HoldsAt (λ r. Spans r a) regions j
-  pub rise : (d : Region) → number_of (slice_index_or regions i d) < number_of (slice_index_or regions j d)
+  pub rise : (d : Region)
+      → number_of (slice_index_or regions i d) < number_of (slice_index_or regions j d)
   pub least : (k : ℕ) → k < length regions → HoldsAt (λ r. Spans r a) regions k
-      → (d : Region) → number_of (slice_index_or regions i d) ≤ number_of (slice_index_or regions k d)
+      → (d : Region)
+      → number_of (slice_index_or regions i d) ≤ number_of (slice_index_or regions k d)
   pub next_least : (k : ℕ) → k < length regions → HoldsAt (λ r. Spans r a) regions k
-      → (d : Region) → (number_of (slice_index_or regions k d) ≡ number_of (slice_index_or regions i d) → ⊥) → number_of (slice_index_or regions j d) ≤ number_of (slice_index_or regions k d)
+      → (d : Region)
+      → (number_of (slice_index_or regions k d) ≡ number_of (slice_index_or regions i d) → ⊥)
+      → number_of (slice_index_or regions j d) ≤ number_of (slice_index_or regions k d)
 
 -- ---- the same of the members of a list, in any order
 
@@ -92,14 +102,18 @@ pub record IsClaimantIn (regions : List Region) (a : ℕ) (r : Region) : Type 0 
 
 -- no two regions claim the address, where it is of the ranges
 abbrev pub IsUnshared : List Region → List Range → ℕ → Type 0
-IsUnshared regions allowed a = Covers allowed a → (r q : Region) → IsClaimantIn regions a r → IsClaimantIn regions a q → number_of r ≡ number_of q
+IsUnshared regions allowed a =
+    Covers allowed a → (r q : Region) → IsClaimantIn regions a r → IsClaimantIn regions a q
+    → number_of r ≡ number_of q
 
 -- the least address of the ranges that two regions claim, and the two least that do
-pub record IsFirstOverlap (regions : List Region) (allowed : List Range) (a : ℕ) (first second : Region) : Type 0 where
+pub record IsFirstOverlap (regions : List Region) (allowed : List Range) (a : ℕ)
+    (first second : Region) : Type 0 where
   pub covered : Covers allowed a
   pub claims_first : IsClaimantIn regions a first
   pub claims_second : IsClaimantIn regions a second
   pub rise : number_of first < number_of second
   pub lower_addresses : (b : ℕ) → b < a → IsUnshared regions allowed b
   pub least : (r : Region) → IsClaimantIn regions a r → number_of first ≤ number_of r
-  pub next_least : (r : Region) → IsClaimantIn regions a r → (number_of r ≡ number_of first → ⊥) → number_of second ≤ number_of r
+  pub next_least : (r : Region) → IsClaimantIn regions a r → (number_of r ≡ number_of first → ⊥)
+      → number_of second ≤ number_of r

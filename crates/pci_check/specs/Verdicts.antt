@@ -12,4 +12,6 @@ use Rattle.pci_check.specs.declared.verdict.Verdict.TheVariants.{Yes, No}
 abbrev pub IsVerdictOf : {A : Type 0} → Admission → Verdict A → Type 0
 IsVerdictOf a (Yes sound) = (sound ≡ a) × IsSound a.roots (system_of a.dump a.probe)
 IsVerdictOf a (No fault) =
-    IsFirst a.roots (system_of a.dump a.probe) (fault_of fault) × (IsSound a.roots (system_of a.dump a.probe) → ⊥) × IsFirstThere a.roots a.dump a.probe (fault_of fault)
+    IsFirst a.roots (system_of a.dump a.probe) (fault_of fault)
+    × (IsSound a.roots (system_of a.dump a.probe) → ⊥)
+    × IsFirstThere a.roots a.dump a.probe (fault_of fault)

@@ -19,7 +19,8 @@ use std::alloc::Allocator;
 /// The verdict on two texts whose functions were surveyed.
 fn outcome_of<A: Allocator + Copy>(alloc: A, survey: Survey<A>) -> Result<Outcome, OutOfMemory>
     ensures { IfOk result (λ outcome. (buses : List ℕ) (dump_left probe_left : Option (List ℕ))
-        → IsSurveyOfTexts buses dump_left probe_left survey → IsAudited buses dump_left probe_left outcome) }
+        → IsSurveyOfTexts buses dump_left probe_left survey
+        → IsAudited buses dump_left probe_left outcome) }
 {
     let outline = match survey.finish() {
         Ok(outline) => outline,
@@ -43,8 +44,10 @@ pub fn judge_texts<A: Allocator + Copy, D: Source, P: Source>(
     probe: &mut P,
     roots: Roots,
 ) -> Result<Outcome, AuditFault>
-    ensures outcome { IfOk result (IsAudited (buses_of roots) (D.left dump.old) (P.left probe.old)) }
-    ensures fault { IfErr result (IsTextRefusal (D.left dump.old) (D.failures dump.old) (D.failures dump.new) (P.left probe.old) (P.failures probe.old) (P.failures probe.new)) }
+    ensures outcome { IfOk result
+        (IsAudited (buses_of roots) (D.left dump.old) (P.left probe.old)) }
+    ensures fault { IfErr result (IsTextRefusal (D.left dump.old) (D.failures dump.old)
+        (D.failures dump.new) (P.left probe.old) (P.failures probe.old) (P.failures probe.new)) }
     ensures read { IfErr result (λ fault. fault ≢ AuditFault.Write) }
 {
     let survey = survey_texts(alloc, dump, probe, roots)?;
@@ -75,13 +78,18 @@ pub fn audit_with<A: Allocator + Copy, D: Source, P: Source, O: Sink>(
     out: &mut O,
     roots: Roots,
 ) -> Result<Outcome, AuditFault>
-    ensures outcome { IfOk result (IsAudited (buses_of roots) (D.left dump.old) (P.left probe.old)) }
-    ensures line { IfOk result (λ outcome. Appends (O.taken out.old) (O.taken out.new) (outcome_line outcome)) }
-    ensures fault { IfErr result (IsTextRefusal (D.left dump.old) (D.failures dump.old) (D.failures dump.new) (P.left probe.old) (P.failures probe.old) (P.failures probe.new)) }
+    ensures outcome { IfOk result
+        (IsAudited (buses_of roots) (D.left dump.old) (P.left probe.old)) }
+    ensures line { IfOk result
+        (λ outcome. Appends (O.taken out.old) (O.taken out.new) (outcome_line outcome)) }
+    ensures fault { IfErr result (IsTextRefusal (D.left dump.old) (D.failures dump.old)
+        (D.failures dump.new) (P.left probe.old) (P.failures probe.old) (P.failures probe.new)) }
     ensures quiet { IfErr result (λ fault. fault ≢ AuditFault.Write → out.new ≡ out.old) }
     ensures begun { IfErr result (λ fault. fault ≡ AuditFault.Write
-        → HasBegun (buses_of roots) (D.left dump.old) (P.left probe.old) (O.taken out.old) (O.taken out.new)) }
-    ensures failed { IfErr result (λ fault. fault ≡ AuditFault.Write → O.failures out.new ≡ O.failures out.old + 1) }
+        → HasBegun (buses_of roots) (D.left dump.old) (P.left probe.old) (O.taken out.old)
+        (O.taken out.new)) }
+    ensures failed { IfErr result
+        (λ fault. fault ≡ AuditFault.Write → O.failures out.new ≡ O.failures out.old + 1) }
 {
     let outcome = judge_texts(alloc, dump, probe, roots)?;
     let line = outcome_text(alloc, &outcome)?;
@@ -99,12 +107,16 @@ pub fn audit<A: Allocator + Copy, D: Source, P: Source, O: Sink>(
     out: &mut O,
 ) -> Result<Outcome, AuditFault>
     ensures outcome { IfOk result (IsAudited (0 ∷ []) (D.left dump.old) (P.left probe.old)) }
-    ensures line { IfOk result (λ outcome. Appends (O.taken out.old) (O.taken out.new) (outcome_line outcome)) }
-    ensures fault { IfErr result (IsTextRefusal (D.left dump.old) (D.failures dump.old) (D.failures dump.new) (P.left probe.old) (P.failures probe.old) (P.failures probe.new)) }
+    ensures line { IfOk result
+        (λ outcome. Appends (O.taken out.old) (O.taken out.new) (outcome_line outcome)) }
+    ensures fault { IfErr result (IsTextRefusal (D.left dump.old) (D.failures dump.old)
+        (D.failures dump.new) (P.left probe.old) (P.failures probe.old) (P.failures probe.new)) }
     ensures quiet { IfErr result (λ fault. fault ≢ AuditFault.Write → out.new ≡ out.old) }
     ensures begun { IfErr result (λ fault. fault ≡ AuditFault.Write
-        → HasBegun (0 ∷ []) (D.left dump.old) (P.left probe.old) (O.taken out.old) (O.taken out.new)) }
-    ensures failed { IfErr result (λ fault. fault ≡ AuditFault.Write → O.failures out.new ≡ O.failures out.old + 1) }
+        → HasBegun (0 ∷ []) (D.left dump.old) (P.left probe.old) (O.taken out.old)
+        (O.taken out.new)) }
+    ensures failed { IfErr result
+        (λ fault. fault ≡ AuditFault.Write → O.failures out.new ≡ O.failures out.old + 1) }
 {
     audit_with(alloc, dump, probe, out, Roots::host())
 }

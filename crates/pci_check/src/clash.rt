@@ -21,8 +21,10 @@ fn clash_in<A: Allocator + Copy>(
     space: Space,
     regions: &mut Vec<Region, A>,
 ) -> Result<Option<Fault>, OutOfMemory>
-    ensures { IfOk result (λ o. (t : Tree) → AreReachesOf t reached.now → AreListed t bus (space_of space) regions.old.items
-        → MatchOption o (NoneClashOn t bus (space_of space)) (λ fault. IsClashFaultOn t bus (space_of space) fault)) }
+    ensures { IfOk result (λ o. (t : Tree) → AreReachesOf t reached.now
+        → AreListed t bus (space_of space) regions.old.items
+        → MatchOption o (NoneClashOn t bus (space_of space))
+        (λ fault. IsClashFaultOn t bus (space_of space) fault)) }
 {
     // Two regions meet where any access gets, so what gets furthest decides.
     let allowed = reached.ranges(bus, space.furthest());
@@ -53,8 +55,10 @@ pub fn first_clash<A: Allocator + Copy>(
     io: &mut Vec<Region, A>,
     memory: &mut Vec<Region, A>,
 ) -> Result<Option<Fault>, OutOfMemory>
-    ensures { IfOk result (λ o. (t : Tree) → AreReachesOf t reached.now → AreListed t bus Io io.old.items → AreListed t bus Memory memory.old.items
-        → MatchOption o ((space : SpaceValue) → NoneClashOn t bus space) (λ fault. IsClashFaultOnBus t bus fault)) }
+    ensures { IfOk result (λ o. (t : Tree) → AreReachesOf t reached.now
+        → AreListed t bus Io io.old.items → AreListed t bus Memory memory.old.items
+        → MatchOption o ((space : SpaceValue) → NoneClashOn t bus space)
+        (λ fault. IsClashFaultOnBus t bus fault)) }
 {
     if let Some(fault) = clash_in(reached, bus, Space::Io, io)? {
         return Ok(Some(fault));

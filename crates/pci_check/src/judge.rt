@@ -24,7 +24,8 @@ fn first_on_buses<A: Allocator + Copy>(
 ) -> Result<Option<Fault>, OutOfMemory>
     requires reached { AreReachesOf outline.now reached.now }
     requires nested { AlwaysNested outline.now }
-    ensures { IfOk result (λ o. MatchOption o (AreHome outline.now × NoneClash outline.now) (λ fault. IsFirstInEach outline.now fault)) }
+    ensures { IfOk result (λ o. MatchOption o (AreHome outline.now × NoneClash outline.now)
+        (λ fault. IsFirstInEach outline.now fault)) }
 {
     let mut clash = None;
     for bus in 0..BUSES {

@@ -11,7 +11,8 @@ use std::fmt::Display;
 
 /// `no`, the text of a fault of any kind, and a line end.
 pub fn no_line<A: Allocator, F: Display>(alloc: A, fault: &F) -> Result<String<A>, OutOfMemory>
-    ensures { IfOk result (λ line. IfSome (F.output fault.now) (λ text. string_bytes line ≡ codes "no" ++ field text ++ 10 ∷ [])) }
+    ensures { IfOk result (λ line. IfSome (F.output fault.now)
+        (λ text. string_bytes line ≡ codes "no" ++ field text ++ 10 ∷ [])) }
 {
     match format!(in alloc; "no {fault}\n") {
         Ok(line) => Ok(line),

@@ -24,9 +24,17 @@ impl<A: Allocator> Model for Reached<A> {
 
     ghost Value = { Reaches };
 
-    ghost view = { λ r. record { io = r.reaches.io.items; memory = r.reaches.memory.items; prefetch = r.reaches.prefetchable.items } };
+    ghost view = { λ r. record {
+      io = r.reaches.io.items;
+      memory = r.reaches.memory.items;
+      prefetch = r.reaches.prefetchable.items;
+    } };
 
-    ghost invariant = { λ r. AreWholeReaches record { io = r.reaches.io.items; memory = r.reaches.memory.items; prefetch = r.reaches.prefetchable.items } };
+    ghost invariant = { λ r. AreWholeReaches record {
+      io = r.reaches.io.items;
+      memory = r.reaches.memory.items;
+      prefetch = r.reaches.prefetchable.items;
+    } };
 }
 
 impl<A: Allocator + Copy> Reached<A> {

@@ -21,11 +21,15 @@ use std::alloc::Allocator;
 fn read_out<S: Source>(ahead: &mut ReadAhead, source: &mut S) -> Result<(), ReadFault>
     requires { IsOver ahead.old (S.left source.old) }
     ensures rest { OnOk result ((left : Option (List ℕ)) (failures : ℕ) (blocks : List BlockValue)
-        → IsTaken left failures (state_of ahead.old (S.left source.old) (S.failures source.old)) blocks
-        → (more : List BlockValue) × IsRest (state_of ahead.old (S.left source.old) (S.failures source.old)) blocks more
+        → IsTaken left failures
+        (state_of ahead.old (S.left source.old) (S.failures source.old)) blocks
+        → (more : List BlockValue)
+        × IsRest (state_of ahead.old (S.left source.old) (S.failures source.old)) blocks more
         × IsDumpOf left (blocks ++ more) × (S.failures source.new ≡ failures)) }
-    ensures fault { IfErr result (λ fault. (left : Option (List ℕ)) (failures : ℕ) (blocks : List BlockValue)
-        → IsTaken left failures (state_of ahead.old (S.left source.old) (S.failures source.old)) blocks
+    ensures fault { IfErr result
+        (λ fault. (left : Option (List ℕ)) (failures : ℕ) (blocks : List BlockValue)
+        → IsTaken left failures
+        (state_of ahead.old (S.left source.old) (S.failures source.old)) blocks
         → IsReadFaultOf left failures (S.failures source.new) fault) }
 {
     let mut block = Block::blank();
@@ -49,7 +53,9 @@ struct SideBySide<A: Allocator> {
 impl<A: Allocator> SideBySide<A> {
     /// Nothing of a dump and a probe was read.
     fn new(alloc: A, roots: Roots) -> SideBySide<A>
-        ensures beside { (texts : Texts) → IsBeside texts (buses_of roots) (state_of result.listed texts.dump_left texts.dump_failures)
+        ensures beside { (texts : Texts)
+            → IsBeside texts (buses_of roots)
+            (state_of result.listed texts.dump_left texts.dump_failures)
             (state_of result.read_back texts.probe_left texts.probe_failures) result.survey }
         ensures dump { result.listed.drained ≡ false }
         ensures probe { result.read_back.drained ≡ false }
@@ -65,7 +71,8 @@ impl<A: Allocator> SideBySide<A> {
     fn add(&mut self, block: &Block, other: &Block) -> Result<bool, OutOfMemory>
         requires open { IsOpen self.old.survey }
         requires above { IsAboveLast self.old.survey.last block.now.slot }
-        ensures ok { IfOk result (λ same. IsTakenBySurvey self.old.survey self.new.survey block.now other.now same) }
+        ensures ok { IfOk result
+            (λ same. IsTakenBySurvey self.old.survey self.new.survey block.now other.now same) }
         ensures listed { self.new.listed ≡ self.old.listed }
         ensures read_back { self.new.read_back ≡ self.old.read_back }
     {
@@ -94,16 +101,23 @@ impl<A: Allocator> SideBySide<A> {
     ) -> Result<bool, OutOfMemory>
         requires dump { IsOver self.old.listed (D.left dump.old) }
         requires probe { IsOver self.old.read_back (P.left probe.old) }
-        requires beside { AreBeside (state_of self.old.listed (D.left dump.old) (D.failures dump.old))
-            (state_of self.old.read_back (P.left probe.old) (P.failures probe.old)) self.old.survey }
+        requires beside { AreBeside
+            (state_of self.old.listed (D.left dump.old) (D.failures dump.old))
+            (state_of self.old.read_back (P.left probe.old) (P.failures probe.old))
+            self.old.survey }
         ensures dump { IsOver self.new.listed (D.left dump.new) }
         ensures probe { IsOver self.new.read_back (P.left probe.new) }
         ensures pair { IfOk result (λ taken. (texts : Texts) (buses : List ℕ)
-            → IsBeside texts buses (state_of self.old.listed (D.left dump.old) (D.failures dump.old))
+            → IsBeside texts buses
+            (state_of self.old.listed (D.left dump.old) (D.failures dump.old))
             (state_of self.old.read_back (P.left probe.old) (P.failures probe.old)) self.old.survey
-            → IsBesideOrDecided taken texts buses (state_of self.new.listed (D.left dump.new) (D.failures dump.new))
-            (state_of self.new.read_back (P.left probe.new) (P.failures probe.new)) self.new.survey) }
-        ensures fewer { IfOk result (λ taken. taken ≡ true → (self.old.listed.count < 4096) × (self.new.listed.count ≡ self.old.listed.count + 1)) }
+            → IsBesideOrDecided taken texts buses
+            (state_of self.new.listed (D.left dump.new) (D.failures dump.new))
+            (state_of self.new.read_back (P.left probe.new) (P.failures probe.new))
+            self.new.survey) }
+        ensures fewer { IfOk result (λ taken. taken ≡ true
+            → (self.old.listed.count < 4096)
+            × (self.new.listed.count ≡ self.old.listed.count + 1)) }
     {
         let listed = match self.listed.next_into(dump, block) {
             Err(_) => return Ok(false),
@@ -135,15 +149,20 @@ impl<A: Allocator> SideBySide<A> {
     ) -> Result<(), OutOfMemory>
         requires dump { IsOver self.old.listed (D.left dump.old) }
         requires probe { IsOver self.old.read_back (P.left probe.old) }
-        requires beside { AreBeside (state_of self.old.listed (D.left dump.old) (D.failures dump.old))
-            (state_of self.old.read_back (P.left probe.old) (P.failures probe.old)) self.old.survey }
+        requires beside { AreBeside
+            (state_of self.old.listed (D.left dump.old) (D.failures dump.old))
+            (state_of self.old.read_back (P.left probe.old) (P.failures probe.old))
+            self.old.survey }
         ensures dump { IsOver self.new.listed (D.left dump.new) }
         ensures probe { IsOver self.new.read_back (P.left probe.new) }
         ensures pairs { OnOk result ((texts : Texts) (buses : List ℕ)
-            → IsBeside texts buses (state_of self.old.listed (D.left dump.old) (D.failures dump.old))
+            → IsBeside texts buses
+            (state_of self.old.listed (D.left dump.old) (D.failures dump.old))
             (state_of self.old.read_back (P.left probe.old) (P.failures probe.old)) self.old.survey
-            → IsDecided texts buses (state_of self.new.listed (D.left dump.new) (D.failures dump.new))
-            (state_of self.new.read_back (P.left probe.new) (P.failures probe.new)) self.new.survey) }
+            → IsDecided texts buses
+            (state_of self.new.listed (D.left dump.new) (D.failures dump.new))
+            (state_of self.new.read_back (P.left probe.new) (P.failures probe.new))
+            self.new.survey) }
     {
         let mut block = Block::blank();
         let mut other = Block::blank();
@@ -163,8 +182,10 @@ pub(crate) fn survey_texts<A: Allocator, D: Source, P: Source>(
     probe: &mut P,
     roots: Roots,
 ) -> Result<Survey<A>, AuditFault>
-    ensures survey { IfOk result (λ v. IsSurveyOfTexts (buses_of roots) (D.left dump.old) (P.left probe.old) v) }
-    ensures fault { IfErr result (IsTextRefusal (D.left dump.old) (D.failures dump.old) (D.failures dump.new) (P.left probe.old) (P.failures probe.old) (P.failures probe.new)) }
+    ensures survey { IfOk result
+        (λ v. IsSurveyOfTexts (buses_of roots) (D.left dump.old) (P.left probe.old) v) }
+    ensures fault { IfErr result (IsTextRefusal (D.left dump.old) (D.failures dump.old)
+        (D.failures dump.new) (P.left probe.old) (P.failures probe.old) (P.failures probe.new)) }
     ensures read { IfErr result (λ fault. fault ≢ AuditFault.Write) }
 {
     let mut both = SideBySide::new(alloc, roots);

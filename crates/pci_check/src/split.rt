@@ -45,7 +45,8 @@ fn split_in<A: Allocator + Copy>(
     space: Space,
 ) -> Result<Option<Fault>, OutOfMemory>
     requires { buses_of roots.now ≡ outline.now.roots }
-    ensures { IfOk result (λ o. MatchOption o (NoneSplitIn outline.now (space_of space)) (λ fault. IsSplitFaultIn outline.now (space_of space) fault)) }
+    ensures { IfOk result (λ o. MatchOption o (NoneSplitIn outline.now (space_of space))
+        (λ fault. IsSplitFaultIn outline.now (space_of space) fault)) }
 {
     let mut regions = of_roots(alloc, outline, roots, space)?;
     let whole = [space.whole()];
@@ -75,7 +76,8 @@ pub fn first_split<A: Allocator + Copy>(
     roots: &Roots,
 ) -> Result<Option<Fault>, OutOfMemory>
     requires { buses_of roots.now ≡ outline.now.roots }
-    ensures { IfOk result (λ o. MatchOption o (NoneSplit outline.now) (λ fault. IsSplitFault outline.now fault)) }
+    ensures { IfOk result
+        (λ o. MatchOption o (NoneSplit outline.now) (λ fault. IsSplitFault outline.now fault)) }
 {
     if let Some(fault) = split_in(alloc, outline, roots, Space::Io)? {
         return Ok(Some(fault));

@@ -17,7 +17,9 @@ use std::alloc::Allocator;
 /// The least address of `allowed` that the region claims, up to what is reached.
 fn least_met(allowed: &[Range], region: &Region, reached: Option<u64>) -> Option<u64>
     requires { IsCanonical allowed.now }
-    ensures { MatchOption result ((a : ℕ) → Spans region.now a → Reaches reached a → Covers allowed.now a → ⊥) (λ a. IsLeastMet allowed.now region.now reached a) }
+    ensures { MatchOption result
+        ((a : ℕ) → Spans region.now a → Reaches reached a → Covers allowed.now a → ⊥)
+        (λ a. IsLeastMet allowed.now region.now reached a) }
 {
     let Some(most) = reached else {
         return None;
@@ -50,7 +52,8 @@ fn extended(reached: Option<u64>, last: u64) -> Option<u64>
 /// address has the least of all.
 fn first_shared_address(regions: &[Region], allowed: &[Range]) -> Option<u64>
     requires { IsCanonical allowed.now }
-    ensures { MatchOption result ((a : ℕ) → Covers allowed.now a → IsTwice regions.now a → ⊥) (λ a. StandByFirst regions.now → IsLeastTwice regions.now allowed.now a) }
+    ensures { MatchOption result ((a : ℕ) → Covers allowed.now a → IsTwice regions.now a → ⊥)
+        (λ a. StandByFirst regions.now → IsLeastTwice regions.now allowed.now a) }
 {
     let mut reached = None;
     for (i, region) in regions.iter().enumerate() {
@@ -108,7 +111,9 @@ fn lesser(regions: &[Region], best: Option<usize>, i: usize) -> usize
 /// given.
 fn least_claimant(regions: &[Region], a: u64, after: Option<usize>) -> Option<usize>
     requires { IfSome after (λ k. k < length regions.now) }
-    ensures { MatchOption result ((k : ℕ) → k < length regions.now → IsClaimant regions.now a after k → ⊥) (λ k. IsLeastClaimant (length regions.now) regions.now a after k) }
+    ensures { MatchOption result
+        ((k : ℕ) → k < length regions.now → IsClaimant regions.now a after k → ⊥)
+        (λ k. IsLeastClaimant (length regions.now) regions.now a after k) }
 {
     let mut best = None;
     for (i, region) in regions.iter().enumerate() {
@@ -121,7 +126,8 @@ fn least_claimant(regions: &[Region], a: u64, after: Option<usize>) -> Option<us
 
 /// The indices of the two least regions that claim the address.
 fn two_least(regions: &[Region], a: u64) -> Option<(usize, usize)>
-    ensures { MatchOption result (AreDistinct regions.now → IsTwice regions.now a → ⊥) (λ p. AreTwoLeast regions.now a p.0 p.1) }
+    ensures { MatchOption result (AreDistinct regions.now → IsTwice regions.now a → ⊥)
+        (λ p. AreTwoLeast regions.now a p.0 p.1) }
 {
     match least_claimant(regions, a, None) {
         None => None,
@@ -158,7 +164,8 @@ pub fn first_overlap<A: Allocator>(
     allowed: &[Range],
 ) -> Result<Option<Overlap>, OutOfMemory>
     requires { IsCanonical allowed.now }
-    ensures { IfOk result (λ o. MatchOption o (AreDistinct regions.old.items → (a : ℕ) → IsUnshared regions.old.items allowed.now a)
+    ensures { IfOk result (λ o. MatchOption o
+        (AreDistinct regions.old.items → (a : ℕ) → IsUnshared regions.old.items allowed.now a)
         (λ v. IsFirstOverlap regions.old.items allowed.now v.address v.first v.second)) }
 {
     if regions.len() < 2 {

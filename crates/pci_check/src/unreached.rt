@@ -24,7 +24,8 @@ fn least_lost<A: Allocator + Copy>(
     space: Space,
     bus: u8,
 ) -> Option<u64>
-    ensures { MatchOption result (IsWholeAt reached.now (space_of space) bus region.now) (λ a. IsLeastLost reached.now (space_of space) bus region.now a) }
+    ensures { MatchOption result (IsWholeAt reached.now (space_of space) bus region.now)
+        (λ a. IsLeastLost reached.now (space_of space) bus region.now a) }
 {
     let range = Range {
         first: region.first,
@@ -53,7 +54,9 @@ fn is_lost<A: Allocator + Copy>(
     space: Space,
     bus: u8,
 ) -> bool
-    ensures { MatchBool result ((is_of_window region.now.part ≡ false) × (IsWholeAt reached.now (space_of space) bus region.now → ⊥)) (IsReachedAt reached.now (space_of space) bus region.now) }
+    ensures { MatchBool result ((is_of_window region.now.part ≡ false)
+        × (IsWholeAt reached.now (space_of space) bus region.now → ⊥))
+        (IsReachedAt reached.now (space_of space) bus region.now) }
 {
     if is_window(region.part) {
         return false;
@@ -142,7 +145,10 @@ fn first_stop<A: Allocator + Copy>(
     reached: &Reached<A>,
     space: Space,
 ) -> Option<MissedAt>
-    ensures { MatchOption result ((k : ℕ) → k < length path.now → IsWholeBehind reached.now (space_of space) path.now region.now.slot.bus region.now k) (λ s. IsFirstStop reached.now (space_of space) path.now region.now.slot.bus region.now s.index s.address) }
+    ensures { MatchOption result ((k : ℕ) → k < length path.now
+        → IsWholeBehind reached.now (space_of space) path.now region.now.slot.bus region.now k)
+        (λ s. IsFirstStop reached.now
+        (space_of space) path.now region.now.slot.bus region.now s.index s.address) }
 {
     let end = region.slot.bus();
     for i in 0..path.len() {
@@ -162,7 +168,8 @@ fn unreached_at<A: Allocator + Copy>(
 ) -> Option<Fault>
     requires reached { AreReachesOf outline.now reached.now }
     requires nested { AlwaysNested outline.now }
-    ensures { MatchOption result (IsWholeInEach outline.now reached.now (space_of space) region.now) (λ fault. IsUnreachedFault outline.now (space_of space) region.now fault) }
+    ensures { MatchOption result (IsWholeInEach outline.now reached.now (space_of space) region.now)
+        (λ fault. IsUnreachedFault outline.now (space_of space) region.now fault) }
 {
     match outline.path(region.slot) {
         None => None,
@@ -195,7 +202,8 @@ pub fn first_unreached<A: Allocator + Copy>(
     requires nested { AlwaysNested outline.now }
     requires io { AreListed outline.now bus Io io.now }
     requires memory { AreListed outline.now bus Memory memory.now }
-    ensures { MatchOption result (AreHomeInEach outline.now bus) (λ fault. IsUnreachedFaultOn outline.now bus fault) }
+    ensures { MatchOption result (AreHomeInEach outline.now bus)
+        (λ fault. IsUnreachedFaultOn outline.now bus fault) }
 {
     let in_io = first_outside(io, reached, Space::Io, bus);
     let in_memory = first_outside(memory, reached, Space::Mem, bus);

@@ -22,7 +22,8 @@ impl<'a, A: Allocator> Model for Sound<'a, A> {
 
     ghost view = { λ s. s.admitted.now };
 
-    ghost invariant = { λ s. IsSound s.admitted.now.roots (system_of s.admitted.now.dump s.admitted.now.probe) };
+    ghost invariant = { λ s. IsSound s.admitted.now.roots
+        (system_of s.admitted.now.dump s.admitted.now.probe) };
 }
 
 impl<'a, A: Allocator> Sound<'a, A> {

@@ -72,7 +72,8 @@ pub record TitleLeaves (begun : List ℕ) : Type 0 where
 abbrev pub TitleStops : List ℕ → BlockFault → Type 0
 TitleStops bytes BadSlot = (c : ℕ) × (bytes ≡ c ∷ drop 1 bytes) × (c ≢ 10) × (c ≢ 32)
 TitleStops bytes BadTitle = TitleBreaks bytes
-TitleStops bytes EndedFirst = (bytes ≡ []) ⊎ ((begun : List ℕ) × (bytes ≡ 32 ∷ begun) × TitleLeaves begun)
+TitleStops bytes EndedFirst =
+    (bytes ≡ []) ⊎ ((begun : List ℕ) × (bytes ≡ 32 ∷ begun) × TitleLeaves begun)
 TitleStops bytes (BadLine r) = ⊥
 TitleStops bytes NoBlank = ⊥
 TitleStops bytes Order = ⊥

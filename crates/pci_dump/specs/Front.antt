@@ -27,7 +27,8 @@ HoldsBlockOrNone false old new b = HoldsNone old new
 
 -- Bytes at which the text has this fault, where they are as long as a block or all that is left.
 pub record HoldsFault (old new : Ahead) (fault : ReadFault) : Type 0 where
-  pub text : (more : List ℕ) → (1042 ≤ length old.held) ⊎ (more ≡ []) → IsFaultAfter old.count old.last (old.held ++ more) fault
+  pub text : (more : List ℕ) → (1042 ≤ length old.held) ⊎ (more ≡ [])
+      → IsFaultAfter old.count old.last (old.held ++ more) fault
   pub state : new ≡ record old { progress = stages.Failed fault }
   pub no_io : fault ≢ faults.Io
   pub no_memory : fault ≢ faults.Memory

@@ -44,7 +44,9 @@ IsOver ahead left = ahead.drained ≡ true → IsAtEnd left
 
 -- It is the fault of each text of so many blocks, the last at this slot, followed by these bytes.
 abbrev pub IsFaultAfter : ℕ → Option Slot → List ℕ → ReadFault → Type 0
-IsFaultAfter count last bytes fault = (blocks : List Block) → IsDump blocks → length blocks ≡ count → last_slot blocks ≡ last → IsTextFault (text_of blocks ++ bytes) fault
+IsFaultAfter count last bytes fault =
+    (blocks : List Block) → IsDump blocks → length blocks ≡ count → last_slot blocks ≡ last
+    → IsTextFault (text_of blocks ++ bytes) fault
 
 -- the same number of blocks, and the same last slot
 abbrev pub HasSameBlocks : State → State → Type 0
@@ -81,13 +83,15 @@ pub record TakesFault (old new : State) (fault : ReadFault) : Type 0 where
   pub blocks : HasSameBlocks old new
   pub progress : new.progress ≡ stages.Failed fault
   -- where it first comes, it is the fault of the text
-  pub text : (bytes : List ℕ) → old.progress ≡ stages.Open → old.left ≡ Some bytes → fault ≢ faults.Io → IsFaultAfter old.count old.last bytes fault
+  pub text : (bytes : List ℕ) → old.progress ≡ stages.Open → old.left ≡ Some bytes
+      → fault ≢ faults.Io → IsFaultAfter old.count old.last bytes fault
   pub io : fault ≡ faults.Io → old.progress ≡ stages.Open → new.failures ≡ old.failures + 1
   pub fine : fault ≢ faults.Io → new.failures ≡ old.failures
   pub no_memory : fault ≢ faults.Memory
 
 -- Of a text, which had these bytes and failures before, just the text of these blocks was read.
-pub record IsRead (before : Option (List ℕ)) (failures : ℕ) (state : State) (blocks : List Block) : Type 0 where
+pub record IsRead (before : Option (List ℕ)) (failures : ℕ) (state : State)
+    (blocks : List Block) : Type 0 where
   pub dump : IsDump blocks
   pub text : Consumes before state.left (text_of blocks)
   pub count : state.count ≡ length blocks

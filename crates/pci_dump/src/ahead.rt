@@ -61,7 +61,8 @@ impl Model for ReadAhead {
     } };
 
     ghost invariant = { λ r. (r.at ≤ r.end) × (r.end ≤ 8192) × (r.count ≤ 4096)
-        × (r.progress ≡ Done → (r.at ≡ r.end) × (r.drained ≡ true)) × (r.progress ≢ Failed Memory) };
+        × (r.progress ≡ Done → (r.at ≡ r.end) × (r.drained ≡ true))
+        × (r.progress ≢ Failed Memory) };
 }
 
 impl ReadAhead {
@@ -72,7 +73,13 @@ impl ReadAhead {
 
     /// Nothing is held, and no block was read.
     pub fn new() -> ReadAhead
-        ensures { result ≡ record { held = []; drained = false; count = 0; last = None; progress = Progress.Open } }
+        ensures { result ≡ record {
+          held = [];
+          drained = false;
+          count = 0;
+          last = None;
+          progress = Progress.Open;
+        } }
     {
         ReadAhead {
             buf: [0; BUFFER_LEN],
@@ -100,12 +107,17 @@ impl ReadAhead {
         requires { IsOver self.old (S.left source.old) }
         ensures over { IsOver self.new (S.left source.new) }
         ensures ok { IfOk result (λ found. MatchOption found
-            (TakesNone (state_of self.old (S.left source.old) (S.failures source.old)) (state_of self.new (S.left source.new) (S.failures source.new)))
-            (TakesBlock (state_of self.old (S.left source.old) (S.failures source.old)) (state_of self.new (S.left source.new) (S.failures source.new)))) }
+            (TakesNone (state_of self.old (S.left source.old) (S.failures source.old))
+            (state_of self.new (S.left source.new) (S.failures source.new)))
+            (TakesBlock (state_of self.old (S.left source.old) (S.failures source.old))
+            (state_of self.new (S.left source.new) (S.failures source.new)))) }
         ensures err { IfErr result
-            (TakesFault (state_of self.old (S.left source.old) (S.failures source.old)) (state_of self.new (S.left source.new) (S.failures source.new))) }
-        ensures done { self.old.progress ≡ Progress.Done → (result ≡ Ok None) × (self.new ≡ self.old) }
-        ensures again { (fault : ReadFault) → self.old.progress ≡ Progress.Failed fault → (result ≡ Err fault) × (self.new ≡ self.old) }
+            (TakesFault (state_of self.old (S.left source.old) (S.failures source.old))
+            (state_of self.new (S.left source.new) (S.failures source.new))) }
+        ensures done { self.old.progress ≡ Progress.Done
+            → (result ≡ Ok None) × (self.new ≡ self.old) }
+        ensures again { (fault : ReadFault) → self.old.progress ≡ Progress.Failed fault
+            → (result ≡ Err fault) × (self.new ≡ self.old) }
         ensures untouched { self.old.progress ≢ Progress.Open → source.new ≡ source.old }
     {
         let mut block = Block::blank();
@@ -128,12 +140,16 @@ impl ReadAhead {
     ) -> Result<bool, ReadFault>
         requires { IsOver self.old (S.left source.old) }
         ensures over { IsOver self.new (S.left source.new) }
-        ensures ok { IfOk result (λ taken. TakesBlockOrNone taken (state_of self.old (S.left source.old) (S.failures source.old))
+        ensures ok { IfOk result (λ taken. TakesBlockOrNone taken
+            (state_of self.old (S.left source.old) (S.failures source.old))
             (state_of self.new (S.left source.new) (S.failures source.new)) block.new) }
         ensures err { IfErr result
-            (TakesFault (state_of self.old (S.left source.old) (S.failures source.old)) (state_of self.new (S.left source.new) (S.failures source.new))) }
-        ensures done { self.old.progress ≡ Progress.Done → (result ≡ Ok false) × (self.new ≡ self.old) }
-        ensures again { (fault : ReadFault) → self.old.progress ≡ Progress.Failed fault → (result ≡ Err fault) × (self.new ≡ self.old) }
+            (TakesFault (state_of self.old (S.left source.old) (S.failures source.old))
+            (state_of self.new (S.left source.new) (S.failures source.new))) }
+        ensures done { self.old.progress ≡ Progress.Done
+            → (result ≡ Ok false) × (self.new ≡ self.old) }
+        ensures again { (fault : ReadFault) → self.old.progress ≡ Progress.Failed fault
+            → (result ≡ Err fault) × (self.new ≡ self.old) }
         ensures untouched { self.old.progress ≢ Progress.Open → source.new ≡ source.old }
     {
         match self.progress {
@@ -151,8 +167,10 @@ impl ReadAhead {
     fn read_more<S: Source>(&mut self, source: &mut S) -> Result<(), Failed>
         requires room { length self.old.held < 1042 }
         requires going { self.old.progress ≡ Progress.Open }
-        ensures read { OnOk result (HoldsMore self.old self.new (S.left source.old) (S.left source.new)) }
-        ensures failed { OnErr result (Moves self.old self.new (S.left source.old) (S.left source.new)) }
+        ensures read { OnOk result
+            (HoldsMore self.old self.new (S.left source.old) (S.left source.new)) }
+        ensures failed { OnErr result
+            (Moves self.old self.new (S.left source.old) (S.left source.new)) }
         ensures counted { MatchResult result (λ _. S.failures source.new ≡ S.failures source.old)
             (λ _. S.failures source.new ≡ S.failures source.old + 1) }
     {
@@ -189,7 +207,11 @@ impl ReadAhead {
         requires held { used ≤ length self.old.held }
         requires few { self.old.count < 4096 }
         requires going { self.old.progress ≡ Progress.Open }
-        ensures { self.new ≡ record self.old { held = drop used self.old.held; count = self.old.count + 1; last = Some slot } }
+        ensures { self.new ≡ record self.old {
+          held = drop used self.old.held;
+          count = self.old.count + 1;
+          last = Some slot;
+        } }
     {
         self.at += used;
         self.count += 1;

@@ -109,7 +109,11 @@ impl Model for Block {
 impl Block {
     /// A block at 00:00.0 that has no title and 256 zeros: a place to read blocks into.
     pub fn blank() -> Block
-        ensures { result ≡ record { slot = record { bus = 0; device = 0; function = 0 }; title = None; image = replicate 256 0 } }
+        ensures { result ≡ record {
+          slot = record { bus = 0; device = 0; function = 0 };
+          title = None;
+          image = replicate 256 0;
+        } }
     {
         Block {
             slot: Slot::default(),

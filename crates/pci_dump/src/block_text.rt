@@ -78,7 +78,8 @@ fn set_digits(line: &mut [u8; ROW_LEN], at: usize, byte: u8)
     requires { at < 51 }
     ensures high { slice_index line.new at ≡ hex_digit (byte / 16) }
     ensures low { slice_index line.new (at + 1) ≡ hex_digit (byte % 16) }
-    ensures kept { (k : ℕ) → (k < at) ⊎ (at + 1 < k) → slice_index line.new k ≡ slice_index line.old k }
+    ensures kept { (k : ℕ) → (k < at) ⊎ (at + 1 < k)
+        → slice_index line.new k ≡ slice_index line.old k }
 {
     line[at] = digit_of(byte / 16);
     line[at + 1] = digit_of(byte % 16);

@@ -85,7 +85,8 @@ impl<A: Allocator> Dump<A> {
     /// 4,096 blocks, else `Memory` where the growth was refused. The dump is then as it was.
     pub fn push(&mut self, block: Block) -> Result<(), Refused<PushFault>>
         ensures ok { OnOk result (self.new ≡ self.old ++ block ∷ []) }
-        ensures not_above { IsErrOf result (Refused.Fault PushFault.NotAbove) ↔ (IsAboveLast (last_slot self.old) block.slot → ⊥) }
+        ensures not_above { IsErrOf result (Refused.Fault PushFault.NotAbove)
+            ↔ (IsAboveLast (last_slot self.old) block.slot → ⊥) }
         ensures full { IsErrOf result (Refused.Fault PushFault.Full)
             ↔ (IsAboveLast (last_slot self.old) block.slot × (length self.old ≡ BLOCKS_MAX)) }
         ensures err { OnErr result (self.new ≡ self.old) }

@@ -30,7 +30,8 @@ pub(crate) fn are_digits(cells: u8x16) -> bool
 #[inline(always)]
 pub(crate) fn numbers_of(digits: u8x16) -> u8x16
     ensures long { length result ≡ 16 }
-    ensures each { (k d : ℕ) → k < 16 → d < 16 → slice_index digits k ≡ hex_digit d → slice_index result k ≡ d }
+    ensures each { (k d : ℕ) → k < 16 → d < 16 → slice_index digits k ≡ hex_digit d
+        → slice_index result k ≡ d }
 {
     let number = digits - u8x16::splat(48);
     number
@@ -42,7 +43,8 @@ pub(crate) fn numbers_of(digits: u8x16) -> u8x16
 #[inline(always)]
 pub(crate) fn bytes_of(high: u8x16, low: u8x16) -> u8x16
     ensures long { length result ≡ 16 }
-    ensures each { (k v : ℕ) → k < 16 → v < 256 → slice_index high k ≡ v / 16 → slice_index low k ≡ v % 16 → slice_index result k ≡ v }
+    ensures each { (k v : ℕ) → k < 16 → v < 256 → slice_index high k ≡ v / 16
+        → slice_index low k ≡ v % 16 → slice_index result k ≡ v }
 {
     (high << u8x16::splat(4)) | low
 }

@@ -53,10 +53,13 @@ impl<S: Source> Reader<S> {
     /// Errors: 3 to 9 where the text has that fault, 1 `Io` where a read failed in this call or an
     /// earlier one. After a fault it answers that fault, after None it answers None.
     pub fn next_block(&mut self) -> Result<Option<Block>, ReadFault>
-        ensures ok { IfOk result (λ found. MatchOption found (TakesNone self.old self.new) (TakesBlock self.old self.new)) }
+        ensures ok { IfOk result (λ found. MatchOption found (TakesNone self.old self.new)
+            (TakesBlock self.old self.new)) }
         ensures err { IfErr result (TakesFault self.old self.new) }
-        ensures done { self.old.progress ≡ Progress.Done → (result ≡ Ok None) × (self.new ≡ self.old) }
-        ensures again { (fault : ReadFault) → self.old.progress ≡ Progress.Failed fault → (result ≡ Err fault) × (self.new ≡ self.old) }
+        ensures done { self.old.progress ≡ Progress.Done
+            → (result ≡ Ok None) × (self.new ≡ self.old) }
+        ensures again { (fault : ReadFault) → self.old.progress ≡ Progress.Failed fault
+            → (result ≡ Err fault) × (self.new ≡ self.old) }
     {
         self.ahead.next_block(&mut self.source)
     }
@@ -69,8 +72,10 @@ impl<S: Source> Reader<S> {
     pub fn next_into(&mut self, block: &mut Block) -> Result<bool, ReadFault>
         ensures ok { IfOk result (λ taken. TakesBlockOrNone taken self.old self.new block.new) }
         ensures err { IfErr result (TakesFault self.old self.new) }
-        ensures done { self.old.progress ≡ Progress.Done → (result ≡ Ok false) × (self.new ≡ self.old) }
-        ensures again { (fault : ReadFault) → self.old.progress ≡ Progress.Failed fault → (result ≡ Err fault) × (self.new ≡ self.old) }
+        ensures done { self.old.progress ≡ Progress.Done
+            → (result ≡ Ok false) × (self.new ≡ self.old) }
+        ensures again { (fault : ReadFault) → self.old.progress ≡ Progress.Failed fault
+            → (result ≡ Err fault) × (self.new ≡ self.old) }
     {
         self.ahead.next_into(&mut self.source, block)
     }
@@ -81,14 +86,17 @@ impl<S: Source> Reader<S> {
 /// Errors: 3 to 9 where that is no text, 1 `Io` where a read failed, 2 `Memory` where a growth was
 /// refused.
 pub fn read_dump<S: Source, A: Allocator>(alloc: A, source: &mut S) -> Result<Dump<A>, ReadFault>
-    ensures ok { IfOk result (λ dump. (bytes : List ℕ) → S.left source.old ≡ Some bytes → IsTextOf bytes dump) }
+    ensures ok { IfOk result
+        (λ dump. (bytes : List ℕ) → S.left source.old ≡ Some bytes → IsTextOf bytes dump) }
     ensures only { IfOk result (λ dump. (bytes : List ℕ) → S.left source.old ≡ Some bytes
         → (others : List BlockValue) → IsTextOf bytes others → others ≡ dump) }
     ensures fine { OnOk result (S.failures source.new ≡ S.failures source.old) }
     ensures fault { IfErr result (λ fault. (bytes : List ℕ) → S.left source.old ≡ Some bytes
         → fault ≢ ReadFault.Io → fault ≢ ReadFault.Memory → IsTextFault bytes fault) }
-    ensures io { IfErr result (λ fault. fault ≡ ReadFault.Io → S.failures source.new ≡ S.failures source.old + 1) }
-    ensures no_io { IfErr result (λ fault. fault ≢ ReadFault.Io → S.failures source.new ≡ S.failures source.old) }
+    ensures io { IfErr result
+        (λ fault. fault ≡ ReadFault.Io → S.failures source.new ≡ S.failures source.old + 1) }
+    ensures no_io { IfErr result
+        (λ fault. fault ≢ ReadFault.Io → S.failures source.new ≡ S.failures source.old) }
 {
     let mut ahead = ReadAhead::new();
     let mut dump = Dump::empty(alloc);

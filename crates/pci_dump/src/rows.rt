@@ -41,7 +41,8 @@ fn part_of_row(part: &[u8], row: u8) -> BlockFault
 
 /// The sixteen lines of bytes and the empty line. At a stop the image may hold some of them.
 pub(crate) fn image_into(bytes: &[u8], image: &mut [u8; IMAGE_LEN]) -> Result<(), BlockFault>
-    ensures ok { OnOk result (bytes.now ≡ (rows_text 0 16 image.new ++ 10 ∷ []) ++ drop 833 bytes.now) }
+    ensures ok { OnOk result
+        (bytes.now ≡ (rows_text 0 16 image.new ++ 10 ∷ []) ++ drop 833 bytes.now) }
     ensures image { OnOk result ((length image.new ≡ 256) × AreSmall image.new) }
     ensures err { IfErr result (λ stop. RestStops bytes.now stop) }
 {

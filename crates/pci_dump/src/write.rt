@@ -14,7 +14,8 @@ use std::alloc::Allocator;
 pub fn write_all<K: Sink>(sink: &mut K, bytes: &[u8]) -> Result<(), Failed>
     ensures ok { OnOk result (Appends (K.taken sink.old) (K.taken sink.new) bytes.now) }
     ensures fine { OnOk result (K.failures sink.new ≡ K.failures sink.old) }
-    ensures begun { OnErr result (AppendsBeginning (K.taken sink.old) (K.taken sink.new) bytes.now) }
+    ensures begun { OnErr result
+        (AppendsBeginning (K.taken sink.old) (K.taken sink.new) bytes.now) }
     ensures failed { OnErr result (K.failures sink.new ≡ K.failures sink.old + 1) }
 {
     let mut rest = bytes;
@@ -32,7 +33,8 @@ pub fn write_dump<K: Sink, A: Allocator>(sink: &mut K, dump: &Dump<A>) -> Result
     ensures ok { OnOk result (Appends (K.taken sink.old) (K.taken sink.new) (text_of dump.now)) }
     ensures text { IsTextOf (text_of dump.now) dump.now }
     ensures fine { OnOk result (K.failures sink.new ≡ K.failures sink.old) }
-    ensures begun { OnErr result (AppendsBeginning (K.taken sink.old) (K.taken sink.new) (text_of dump.now)) }
+    ensures begun { OnErr result
+        (AppendsBeginning (K.taken sink.old) (K.taken sink.new) (text_of dump.now)) }
     ensures failed { OnErr result (K.failures sink.new ≡ K.failures sink.old + 1) }
 {
     let mut text = Text::new();

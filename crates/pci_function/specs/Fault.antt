@@ -29,9 +29,12 @@ fault_of (InReset slot) = faults.InReset slot
 fault_of (PowerState slot) = faults.PowerState slot
 fault_of (BusRange slot) = faults.BusRange slot
 fault_of (Orphan slot) = faults.Orphan slot
-fault_of (Unreached slot reg space address bridge) = faults.Unreached slot reg (space_of space) address bridge
-fault_of (Clash bus space address first first_reg second second_reg) = faults.Clash bus (space_of space) address first first_reg second second_reg
-fault_of (Split space address first first_reg second second_reg) = faults.Split (space_of space) address first first_reg second second_reg
+fault_of (Unreached slot reg space address bridge) =
+    faults.Unreached slot reg (space_of space) address bridge
+fault_of (Clash bus space address first first_reg second second_reg) =
+    faults.Clash bus (space_of space) address first first_reg second second_reg
+fault_of (Split space address first first_reg second second_reg) =
+    faults.Split (space_of space) address first first_reg second second_reg
 
 -- the fault of an image, of the function at a slot
 abbrev pub image_fault_at : Slot → ImageFault → faults.Fault

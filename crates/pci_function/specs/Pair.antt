@@ -6,7 +6,8 @@ use Rattle.pci_spec.specs.Fault.{NoVendor, HeaderKind, SlotsDiffer, StrayProbe, 
 
 -- no slot below is listed by one of two dumps alone
 abbrev pub IsNoneBelow : List Block → List Block → Slot → Type 0
-IsNoneBelow dump probe slot = (other : Slot) → slot_number other < slot_number slot → IsInOne dump probe other → ⊥
+IsNoneBelow dump probe slot =
+    (other : Slot) → slot_number other < slot_number slot → IsInOne dump probe other → ⊥
 
 -- none of the faults 20, 21, 30 and 31 is there, and so both list the same slots
 pub record IsPair (roots : List ℕ) (dump probe : List Block) : Type 0 where

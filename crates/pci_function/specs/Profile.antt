@@ -35,9 +35,12 @@ pub record IsPlain (image : List ℕ) : Type 0 where
 abbrev pub IsHere : Function → Fault → Type 0
 IsHere f (NoVendor slot) = (slot ≡ f.slot) × IsTrue (has_no_vendor f.image)
 IsHere f (HeaderKind slot) = (slot ≡ f.slot) × IsTrue (has_other_layout f.image)
-IsHere f (BarType slot register) = (slot ≡ f.slot) × HasBarFault f.image f.probe register bars.BarType
-IsHere f (BarMask slot register) = (slot ≡ f.slot) × HasBarFault f.image f.probe register bars.BarMask
-IsHere f (BarPair slot register) = (slot ≡ f.slot) × HasBarFault f.image f.probe register bars.BarPair
+IsHere f (BarType slot register) =
+    (slot ≡ f.slot) × HasBarFault f.image f.probe register bars.BarType
+IsHere f (BarMask slot register) =
+    (slot ≡ f.slot) × HasBarFault f.image f.probe register bars.BarMask
+IsHere f (BarPair slot register) =
+    (slot ≡ f.slot) × HasBarFault f.image f.probe register bars.BarPair
 IsHere f (RomMask slot register) = (slot ≡ f.slot) × HasRomFault f.image f.probe register
 IsHere f (WindowMask slot register) = (slot ≡ f.slot) × HasWindowFault f.image f.probe register
 IsHere f (CapRange slot place) = (slot ≡ f.slot) × HasLowPlace f.image place
@@ -65,7 +68,9 @@ pub record IsHereIn (phase : ℕ) (f : Function) (fault : Fault) : Type 0 where
 
 -- none of this phase that is looked for before it is one of the function
 abbrev pub IsFirstOf : ℕ → Function → Fault → Type 0
-IsFirstOf phase f fault = (other : Fault) → phase_of other ≡ phase → IsTrue (is_before (λ slot. f.image) other fault) → IsHere f other → ⊥
+IsFirstOf phase f fault =
+    (other : Fault) → phase_of other ≡ phase → IsTrue (is_before (λ slot. f.image) other fault)
+    → IsHere f other → ⊥
 
 -- nothing of an earlier phase is wrong with the function by itself
 pub record IsClearBefore (phase : ℕ) (f : Function) : Type 0 where

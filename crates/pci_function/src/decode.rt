@@ -19,7 +19,8 @@ use pci_image::window::Windows;
 
 /// The bus numbers and windows of a function, where it is a bridge.
 fn bridge_at(image: &Image, probe: &Image) -> Result<Option<Bridge>, ImageFault>
-    ensures bridge { MatchResult result (IsBridgeAt image.now.0 probe.now.0) (IsImageFaultIn image.now.0 probe.now.0) }
+    ensures bridge { MatchResult result (IsBridgeAt image.now.0 probe.now.0)
+        (IsImageFaultIn image.now.0 probe.now.0) }
     ensures lowest { IfErr result (IsLowestWindowFault image.now.0 probe.now.0) }
 {
     match Header::of(image)? {
@@ -43,9 +44,17 @@ fn bridge_at(image: &Image, probe: &Image) -> Result<Option<Bridge>, ImageFault>
 /// 20 `NoVendor` and 21 `HeaderKind` where it isn't a function that decodes; else the first fault of its registers, in
 /// the order of BARs (22 to 24), ROM (25) and windows (26).
 pub fn decode(slot: Slot, image: &Image, probe: &Image) -> Result<Record, ImageFault>
-    ensures decoded { MatchResult result (IsRecordOf record { slot = slot; image = image.now.0; probe = probe.now.0 }) (IsImageFaultIn image.now.0 probe.now.0) }
+    ensures decoded { MatchResult result (IsRecordOf record {
+      slot = slot;
+      image = image.now.0;
+      probe = probe.now.0;
+    }) (IsImageFaultIn image.now.0 probe.now.0) }
     ensures number { IfErr result (λ e. image_fault_number e ≤ 26) }
-    ensures first { IfErr result (λ e. IsFirstOf (phase_key Decoding) record { slot = slot; image = image.now.0; probe = probe.now.0 } (image_fault_at slot e)) }
+    ensures first { IfErr result (λ e. IsFirstOf (phase_key Decoding) record {
+      slot = slot;
+      image = image.now.0;
+      probe = probe.now.0;
+    } (image_fault_at slot e)) }
 {
     let bars = bars(image, probe)?;
     let rom = rom(image, probe)?;

@@ -20,8 +20,13 @@ use pci_image::slot::Slot;
 /// Its first fault: 20 `NoVendor`, 21 `HeaderKind`, 31 `StrayProbe`; then 22 to 26 of its registers and 27 to 29 of its
 /// capabilities list; then 51 to 56 of its profile.
 pub fn examine(slot: Slot, image: &Image, probe: &Image) -> Result<Record, Fault>
-    ensures { MatchResult result (IsExamined record { slot = slot; image = image.now.0; probe = probe.now.0 })
-        (λ e. IsFirstFault record { slot = slot; image = image.now.0; probe = probe.now.0 } (fault_of e)) }
+    ensures { MatchResult result (IsExamined record {
+      slot = slot;
+      image = image.now.0;
+      probe = probe.now.0;
+    })
+        (λ e. IsFirstFault record { slot = slot; image = image.now.0; probe = probe.now.0 }
+        (fault_of e)) }
 {
     match identity_fault(slot, image, probe) {
         Some(fault) => return Err(fault),

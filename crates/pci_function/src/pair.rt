@@ -54,8 +54,10 @@ pub fn first_difference(dump: &[Block], probe: &[Block]) -> Option<Slot>
 pub fn pair<A: Allocator, B: Allocator>(dump: &Dump<A>, probe: &Dump<B>) -> Result<(), PairFault>
     ensures ok { OnOk result ((roots : List ℕ) → IsPair roots dump.now probe.now) }
     ensures kind { IfErr result (λ fault. phase_of (fault_of fault) ≤ 1) }
-    ensures there { IfErr result (λ fault. (roots : List ℕ) → IsThere roots dump.now probe.now (fault_of fault)) }
-    ensures first { IfErr result (λ fault. (roots : List ℕ) → IsFirstThere roots dump.now probe.now (fault_of fault)) }
+    ensures there { IfErr result
+        (λ fault. (roots : List ℕ) → IsThere roots dump.now probe.now (fault_of fault)) }
+    ensures first { IfErr result
+        (λ fault. (roots : List ℕ) → IsFirstThere roots dump.now probe.now (fault_of fault)) }
 {
     let blocks = dump.blocks();
     let probes = probe.blocks();

@@ -38,9 +38,18 @@ fn has_bit(register: u16, bit: u8) -> bool
 /// The fault of a function's identity or probe: 20 `NoVendor`, else 21 `HeaderKind`, else 31 `StrayProbe` with the
 /// first byte offset outside the address registers where the probe isn't 00.
 pub fn identity_fault(slot: Slot, image: &Image, probe: &Image) -> Option<Fault>
-    ensures fault { MatchOption result (IsAnswering record { slot = slot; image = image.now.0; probe = probe.now.0 })
-        (λ e. IsHereIn (phase_key Identity) record { slot = slot; image = image.now.0; probe = probe.now.0 } (fault_of e)) }
-    ensures first { IfSome result (λ e. IsFirstOf (phase_key Identity) record { slot = slot; image = image.now.0; probe = probe.now.0 } (fault_of e)) }
+    ensures fault { MatchOption result (IsAnswering record {
+      slot = slot;
+      image = image.now.0;
+      probe = probe.now.0;
+    })
+        (λ e. IsHereIn (phase_key Identity) record
+        { slot = slot; image = image.now.0; probe = probe.now.0 } (fault_of e)) }
+    ensures first { IfSome result (λ e. IsFirstOf (phase_key Identity) record {
+      slot = slot;
+      image = image.now.0;
+      probe = probe.now.0;
+    } (fault_of e)) }
 {
     if image.u16(VENDOR_ID) == NO_VENDOR {
         return Some(Fault::NoVendor(slot));
@@ -58,8 +67,14 @@ pub fn identity_fault(slot: Slot, image: &Image, probe: &Image) -> Option<Fault>
 /// The fault of a bridge's profile: 52 `VgaEnable`, else 53 `IsaEnable`, else 54 `Subtractive`, else 55 `InReset`.
 fn bridge_fault(slot: Slot, image: &Image, probe: &Image) -> Option<Fault>
     ensures fault { MatchOption result (IsPlainBridge image.now.0)
-        (λ e. IsHereIn (phase_key Profile) record { slot = slot; image = image.now.0; probe = probe.now.0 } (fault_of e)) }
-    ensures first { IfSome result (λ e. IsFalse (has_bit (command image.now.0) PALETTE_SNOOP) → IsFirstOf (phase_key Profile) record { slot = slot; image = image.now.0; probe = probe.now.0 } (fault_of e)) }
+        (λ e. IsHereIn (phase_key Profile) record
+        { slot = slot; image = image.now.0; probe = probe.now.0 } (fault_of e)) }
+    ensures first { IfSome result (λ e. IsFalse (has_bit (command image.now.0) PALETTE_SNOOP)
+        → IsFirstOf (phase_key Profile) record {
+          slot = slot;
+          image = image.now.0;
+          probe = probe.now.0;
+        } (fault_of e)) }
 {
     if layout(image) != 1 {
         return None;
@@ -106,8 +121,13 @@ fn is_not_in_d0(image: &Image, places: &[u8]) -> bool
 pub fn profile_fault(slot: Slot, image: &Image, probe: &Image, places: &[u8]) -> Option<Fault>
     requires { IsChain image.now.0 places.now }
     ensures fault { MatchOption result (IsPlain image.now.0)
-        (λ e. IsHereIn (phase_key Profile) record { slot = slot; image = image.now.0; probe = probe.now.0 } (fault_of e)) }
-    ensures first { IfSome result (λ e. IsFirstOf (phase_key Profile) record { slot = slot; image = image.now.0; probe = probe.now.0 } (fault_of e)) }
+        (λ e. IsHereIn (phase_key Profile) record
+        { slot = slot; image = image.now.0; probe = probe.now.0 } (fault_of e)) }
+    ensures first { IfSome result (λ e. IsFirstOf (phase_key Profile) record {
+      slot = slot;
+      image = image.now.0;
+      probe = probe.now.0;
+    } (fault_of e)) }
 {
     if has_bit(image.u16(COMMAND), PALETTE_SNOOP) {
         return Some(Fault::PaletteSnoop(slot));

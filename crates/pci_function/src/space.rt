@@ -71,7 +71,8 @@ impl Space {
     /// All its addresses.
     pub fn whole(self) -> Range
         ensures lawful { result.first ≤ result.last }
-        ensures exact { (a : ℕ) → ((result.first ≤ a) × (a ≤ result.last)) ↔ IsAddress (space_of self) a }
+        ensures exact { (a : ℕ) → ((result.first ≤ a) × (a ≤ result.last))
+            ↔ IsAddress (space_of self) a }
     {
         let last = match self {
             Space::Io => 0xffff_ffff,

@@ -41,7 +41,8 @@ fn has_stray(layout: u8, probe: &Image) -> bool
 pub fn stray_byte(layout: u8, probe: &Image) -> Option<u8>
     ensures none { IfNone result ((offset : ℕ) → is_stray_by layout probe.now.0 offset ≡ false) }
     ensures some { IfSome result (λ offset. is_stray_by layout probe.now.0 offset ≡ true) }
-    ensures first { IfSome result (λ offset. (k : ℕ) → k < offset → is_stray_by layout probe.now.0 k ≡ false) }
+    ensures first { IfSome result
+        (λ offset. (k : ℕ) → k < offset → is_stray_by layout probe.now.0 k ≡ false) }
 {
     if !has_stray(layout, probe) {
         return None;

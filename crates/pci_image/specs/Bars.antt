@@ -53,16 +53,24 @@ broken_size kind value mask =
 abbrev pub IsPlaced : ℕ → SpecKind → Bool → ℕ → ℕ → Bar → Type 0
 IsPlaced register kind prefetchable value mask bar =
     (k : ℕ) × IsTrue (is_lawful kind mask k)
-    × (decoded_bar_of bar ≡ record { register = register; kind = kind; prefetchable = prefetchable; range = aligned_range value (2 ^ k) })
+    × (decoded_bar_of bar
+    ≡ record {
+      register = register;
+      kind = kind;
+      prefetchable = prefetchable;
+      range = aligned_range value (2 ^ k);
+    })
 
 -- what register n decodes to, where it starts a BAR: none where it isn't implemented
 abbrev pub IsDecodedAt : List ℕ → List ℕ → ℕ → Option Bar → Type 0
 IsDecodedAt image probe n None = bar_at probe n ≡ 0
-IsDecodedAt image probe n (Some bar) = (bar_at probe n ≢ 0) × (decoded_bar_of bar ≡ decoded_bar image probe n)
+IsDecodedAt image probe n (Some bar) =
+    (bar_at probe n ≢ 0) × (decoded_bar_of bar ≡ decoded_bar image probe n)
 
 -- no register below this one has a fault
 abbrev pub HasNoBarFaultBelow : List ℕ → List ℕ → ℕ → Type 0
-HasNoBarFaultBelow image probe register = (n : ℕ) → bar_register n < register → bar_fault image probe n ≡ None
+HasNoBarFaultBelow image probe register =
+    (n : ℕ) → bar_register n < register → bar_fault image probe n ≡ None
 
 -- the fault is of the header, or no register below the one that it names has one
 abbrev pub IsLowestBarFault : List ℕ → List ℕ → ImageFault → Type 0
@@ -81,4 +89,6 @@ pub record HasLawfulBars (image probe : List ℕ) : Type 0 where
 
 -- the addresses from first to last are those that the comparator of the BAR's register answers
 abbrev pub IsComparedBar : List ℕ → List ℕ → Bar → Type 0
-IsComparedBar image probe bar = (n a : ℕ) → bar.reg ≡ bar_register n → ((bar.first ≤ a) × (a ≤ bar.last)) ↔ BarDecodes image probe n a
+IsComparedBar image probe bar =
+    (n a : ℕ) → bar.reg ≡ bar_register n → ((bar.first ≤ a) × (a ≤ bar.last))
+    ↔ BarDecodes image probe n a

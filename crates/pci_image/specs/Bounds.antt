@@ -8,7 +8,9 @@ use Rattle.pci_image.specs.declared.window.bounds.Bounds.{Bounds}
 
 -- its registers as the definitions have them
 abbrev pub spec_bounds_of : Bounds → SpecBounds
-spec_bounds_of b = record { base = b.base; limit = b.limit; base_upper = b.base_upper; limit_upper = b.limit_upper }
+spec_bounds_of b =
+    record
+    { base = b.base; limit = b.limit; base_upper = b.base_upper; limit_upper = b.limit_upper }
 
 -- the number of a page, by its upper and lower part
 abbrev pub page_of : WindowKind → ℕ → ℕ → ℕ
@@ -18,7 +20,8 @@ page_of kind upper lower = upper * lower_pages kind + lower / 16
 abbrev pub range_between : WindowKind → ℕ → ℕ → Option Range
 range_between kind base limit =
     if nat_le base limit
-    then Some record { first = base * page_size kind; last = limit * page_size kind + (page_size kind - 1) }
+    then Some record
+    { first = base * page_size kind; last = limit * page_size kind + (page_size kind - 1) }
     else None
 
 -- how many bits the addresses that a plan gives a window have at most

@@ -27,7 +27,8 @@ IsKindOf id (Raw place body) = (id ≢ POWER_MANAGEMENT) × (id ≢ MSI)
 -- the capability is of the kind that its ID says, and its body is the image's own bytes from its place
 pub record IsCapIn (image : List ℕ) (cap : Cap) : Type 0 where
   pub kind : IsKindOf (capability_id image (place_of cap)) cap
-  pub body : body_of cap ≡ slice_range image (place_of cap) (place_of cap + body_length image (place_of cap))
+  pub body : body_of cap
+      ≡ slice_range image (place_of cap) (place_of cap + body_length image (place_of cap))
   pub size : length (body_of cap) ≡ body_length image (place_of cap)
 
 -- the fault of a list is there
@@ -46,6 +47,10 @@ pub record IsChainUpTo (image : List ℕ) (n : ℕ) : Type 0 where
 -- the walk comes to the place at such a step, where nothing is wrong with it that is looked for before
 abbrev pub IsFirstAlong : List ℕ → ImageFault → Type 0
 IsFirstAlong image (CapRange place) = (n : ℕ) × IsChainUpTo image n × (pointer image n ≡ place)
-IsFirstAlong image (CapLoop place) = (m n : ℕ) × (m < n) × IsChainUpTo image n × (pointer image m ≡ place) × (pointer image n ≡ place) × (0x40 ≤ place)
-IsFirstAlong image (CapCut place) = (n : ℕ) × IsChainUpTo image n × (pointer image n ≡ place) × (0x40 ≤ place) × ((k : ℕ) → k < n → pointer image k ≢ place)
+IsFirstAlong image (CapLoop place) =
+    (m n : ℕ) × (m < n) × IsChainUpTo image n × (pointer image m ≡ place)
+    × (pointer image n ≡ place) × (0x40 ≤ place)
+IsFirstAlong image (CapCut place) =
+    (n : ℕ) × IsChainUpTo image n × (pointer image n ≡ place) × (0x40 ≤ place)
+    × ((k : ℕ) → k < n → pointer image k ≢ place)
 IsFirstAlong image _ = ⊥

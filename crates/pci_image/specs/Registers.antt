@@ -22,7 +22,9 @@ register_value r = record { offset = r.offset; width = r.width; role = role_valu
 
 -- the halves of a register can be read
 abbrev pub has_halves : ℕ → ℕ → Bool
-has_halves offset width = is_access offset (width / 2) && is_access (offset + width / 2) (width / 2) && nat_lt (offset + width / 2) 256
+has_halves offset width =
+    is_access offset (width / 2) && is_access (offset + width / 2) (width / 2)
+    && nat_lt (offset + width / 2) 256
 
 -- what the code reads of a register by its role can be read
 abbrev pub is_readable_as : ℕ → ℕ → Role → Bool

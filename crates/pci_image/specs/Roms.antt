@@ -30,7 +30,8 @@ pub record HasLawfulRom (image probe : List ℕ) : Type 0 where
 -- the addresses from first to last are those that the ROM's comparator answers; without a ROM there is none
 abbrev pub IsComparedRom : List ℕ → List ℕ → Option Rom → Type 0
 IsComparedRom image probe None = (a : ℕ) → RomDecodes image probe a → ⊥
-IsComparedRom image probe (Some rom) = (a : ℕ) → ((rom.first ≤ a) × (a ≤ rom.last)) ↔ RomDecodes image probe a
+IsComparedRom image probe (Some rom) =
+    (a : ℕ) → ((rom.first ≤ a) × (a ≤ rom.last)) ↔ RomDecodes image probe a
 
 -- whether a fault is one that the ROM is refused for
 abbrev pub is_rom_fault : ImageFault → Bool

@@ -48,5 +48,7 @@ IsWindowsFaultIn image probe _ = ⊥
 abbrev pub IsLowestWindowFault : List ℕ → List ℕ → ImageFault → Type 0
 IsLowestWindowFault image probe NoVendor = Unit {0}
 IsLowestWindowFault image probe HeaderKind = Unit {0}
-IsLowestWindowFault image probe (WindowMask register) = (kind : WindowKind) → window_register kind < register → IsFalse (breaks_window_rule kind image probe)
+IsLowestWindowFault image probe (WindowMask register) =
+    (kind : WindowKind) → window_register kind < register
+    → IsFalse (breaks_window_rule kind image probe)
 IsLowestWindowFault image probe _ = ⊥

@@ -107,7 +107,9 @@ const IO_LARGEST: u32 = 8;
 
 /// The kind of an implemented BAR, by its value and its read back.
 fn kind_of(reg: u8, value: u32, mask: u32) -> Result<BarKind, ImageFault>
-    ensures { MatchResult result (λ kind. (broken_encoding value mask ≡ None) × (decoded_kind_of kind ≡ bar_kind mask)) (IsBarFault reg (broken_encoding value mask)) }
+    ensures { MatchResult result
+        (λ kind. (broken_encoding value mask ≡ None) × (decoded_kind_of kind ≡ bar_kind mask))
+        (IsBarFault reg (broken_encoding value mask)) }
 {
     if mask & IO_SPACE != 0 {
         return if value & IO_ENCODING == mask & IO_ENCODING && mask & IO_RESERVED == 0 {
@@ -158,7 +160,8 @@ fn is_prefetchable(mask: u32) -> bool
 ///
 /// An I/O BAR may leave bits 31:16 out (6.2.5.1).
 fn size_log2(kind: BarKind, mask: u64) -> Option<u32>
-    ensures { MatchOption result (has_lawful_size (decoded_kind_of kind) mask ≡ false) (λ k. IsTrue (is_lawful (decoded_kind_of kind) mask k)) }
+    ensures { MatchOption result (has_lawful_size (decoded_kind_of kind) mask ≡ false)
+        (λ k. IsTrue (is_lawful (decoded_kind_of kind) mask k)) }
 {
     match kind {
         BarKind::Io => {
@@ -186,7 +189,8 @@ fn pair_at(image: &Image, reg: u8) -> u64
 /// The BAR with this value and read back, both halves of a 64-bit one.
 fn placed(reg: u8, kind: BarKind, prefetch: bool, value: u64, mask: u64) -> Result<Bar, ImageFault>
     ensures { MatchResult result
-        (λ bar. (broken_size (decoded_kind_of kind) value mask ≡ None) × IsPlaced reg (decoded_kind_of kind) prefetch value mask bar)
+        (λ bar. (broken_size (decoded_kind_of kind) value mask ≡ None)
+        × IsPlaced reg (decoded_kind_of kind) prefetch value mask bar)
         (IsBarFault reg (broken_size (decoded_kind_of kind) value mask)) }
 {
     let Some(log2) = size_log2(kind, mask) else {
@@ -214,7 +218,8 @@ fn decode_register(
 ) -> Result<Option<Bar>, ImageFault>
     requires { n < 6 }
     ensures { MatchResult result
-        (λ found. (first_broken (bar_reading last image.now.0 probe.now.0 n) ≡ None) × IsDecodedAt image.now.0 probe.now.0 n found)
+        (λ found. (first_broken (bar_reading last image.now.0 probe.now.0 n) ≡ None)
+        × IsDecodedAt image.now.0 probe.now.0 n found)
         (IsBarFault (bar_register n) (first_broken (bar_reading last image.now.0 probe.now.0 n))) }
 {
     let reg = BASE_ADDRESS + 4 * n;
@@ -254,9 +259,11 @@ fn decode_register(
 /// register breaks: 22 `BarType`, 23 `BarMask` or 24 `BarPair`.
 pub fn bars(image: &Image, probe: &Image) -> Result<ArrayVec<Bar, 6>, ImageFault>
     ensures lawful { IsOk result ↔ HasLawfulBars image.now.0 probe.now.0 }
-    ensures decoded { IfOk result (λ v. map decoded_bar_of v.items ≡ decoded_bars image.now.0 probe.now.0) }
+    ensures decoded { IfOk result
+        (λ v. map decoded_bar_of v.items ≡ decoded_bars image.now.0 probe.now.0) }
     ensures compared { IfOk result (λ v. All (IsComparedBar image.now.0 probe.now.0) v.items) }
-    ensures fault { IfErr result (λ f. IsImageFaultIn image.now.0 probe.now.0 f × (image_fault_number f ≤ 24)) }
+    ensures fault { IfErr result
+        (λ f. IsImageFaultIn image.now.0 probe.now.0 f × (image_fault_number f ≤ 24)) }
     ensures lowest { IfErr result (IsLowestBarFault image.now.0 probe.now.0) }
 {
     let count = Header::of(image)?.bar_count();

@@ -14,7 +14,8 @@ use super::range::Range;
 pub fn run_start(mask: u64, from: u32, top: u32) -> Option<u32>
     requires order { from ≤ top }
     requires width { top < 64 }
-    ensures { (k : ℕ) → (result ≡ Some k) ↔ ((from ≤ k) × (k ≤ top) × IsTrue (is_run from mask k top)) }
+    ensures { (k : ℕ) → (result ≡ Some k)
+        ↔ ((from ≤ k) × (k ≤ top) × IsTrue (is_run from mask k top)) }
 {
     let ones = mask >> from << from;
     if ones == 0 {

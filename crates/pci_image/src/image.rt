@@ -61,7 +61,8 @@ pub fn byte_of(value: u32, j: u8) -> u8
 pub fn put(bytes: &mut [u8; IMAGE_LEN], off: u8, width: u8, value: u32)
     requires { IsTrue (port.is_access off width) }
     ensures inside { (j : ℕ) → j < width → slice_index bytes.new (off + j) ≡ value / 256 ^ j % 256 }
-    ensures outside { (place : ℕ) → (place < off) ⊎ (off + width ≤ place) → slice_index bytes.new place ≡ slice_index bytes.old place }
+    ensures outside { (place : ℕ) → (place < off) ⊎ (off + width ≤ place)
+        → slice_index bytes.new place ≡ slice_index bytes.old place }
     ensures number { value < 256 ^ width → number_at bytes.new off width ≡ value }
     ensures image { IsImage bytes.old → IsImage bytes.new }
 {

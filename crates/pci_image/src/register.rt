@@ -116,7 +116,8 @@ static BRIDGE_BYTES: [bool; HEADER_LEN] = [
 
 /// The registers of a device's or a bridge's header that a write can change.
 pub fn registers(bridge: bool) -> &'static [Register]
-    ensures table { map register_value result.now ≡ (if bridge then bridge_header else device_header) }
+    ensures table { map register_value result.now
+        ≡ (if bridge then bridge_header else device_header) }
     ensures readable { IsTrue (list_all is_readable result.now) }
 {
     if bridge { &BRIDGE } else { &DEVICE }
@@ -124,14 +125,17 @@ pub fn registers(bridge: bool) -> &'static [Register]
 
 /// Those that address decoding is set by, by rising offset.
 pub fn address_registers(bridge: bool) -> &'static [Register]
-    ensures { map (λ r. (r.offset, r.width)) result.now ≡ header.address_registers (if bridge then 1 else 0) }
+    ensures { map (λ r. (r.offset, r.width)) result.now
+        ≡ header.address_registers (if bridge then 1 else 0) }
 {
     if bridge { &BRIDGE[..9] } else { &DEVICE[..7] }
 }
 
 /// Which bytes of a header lie in one of those.
 pub fn address_bytes(bridge: bool) -> &'static [bool; HEADER_LEN]
-    ensures { (offset : ℕ) → offset < 64 → slice_index_or result.now offset false ≡ list_any (header.is_in_register offset) (header.registers_by bridge) }
+    ensures { (offset : ℕ) → offset < 64
+        → slice_index_or result.now offset false
+        ≡ list_any (header.is_in_register offset) (header.registers_by bridge) }
 {
     if bridge { &BRIDGE_BYTES } else { &DEVICE_BYTES }
 }

@@ -107,6 +107,7 @@ impl fmt::Display for Slot {
 /// all three are the same.
 pub fn slot_laws()
     ensures order { (s t : SlotValue) → ⟦<Slot as Ord>⟧.cmp s t
-        ≡ then_cmp (on (λ x. x.bus) nat_cmp) (then_cmp (on (λ x. x.device) nat_cmp) (on (λ x. x.function) nat_cmp)) s t }
+        ≡ then_cmp (on (λ x. x.bus) nat_cmp)
+        (then_cmp (on (λ x. x.device) nat_cmp) (on (λ x. x.function) nat_cmp)) s t }
     ensures equal { (s t : SlotValue) → IsTrue (⟦<Slot as PartialEq>⟧.eq s t) ↔ (s ≡ t) }
 {}

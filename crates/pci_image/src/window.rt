@@ -62,9 +62,11 @@ impl Window {
     /// A window that is implemented.
     fn implemented(kind: WindowKind, image: &Image, probe: &Image) -> Result<Window, ImageFault>
         ensures { MatchResult result
-            (λ w. IsTrue (shows_window (kind_value kind) (bounds_at (kind_value kind) image.now.0) (bounds_at (kind_value kind) probe.now.0))
+            (λ w. IsTrue (shows_window (kind_value kind) (bounds_at (kind_value kind) image.now.0)
+            (bounds_at (kind_value kind) probe.now.0))
             × (w ≡ decoded_window (kind_value kind) image.now.0 probe.now.0))
-            (λ f. IsFalse (shows_window (kind_value kind) (bounds_at (kind_value kind) image.now.0) (bounds_at (kind_value kind) probe.now.0))
+            (λ f. IsFalse (shows_window (kind_value kind) (bounds_at (kind_value kind) image.now.0)
+            (bounds_at (kind_value kind) probe.now.0))
             × (f ≡ ImageFault.WindowMask (window_register (kind_value kind)))) }
     {
         let value = kind.bounds(image);
@@ -85,8 +87,10 @@ impl Window {
     ) -> Result<Option<Window>, ImageFault>
         requires { IsTrue (is_optional (kind_value kind)) }
         ensures { MatchResult result
-            (λ w. IsFalse (breaks_window_rule (kind_value kind) image.now.0 probe.now.0) × (w ≡ optional_window (kind_value kind) image.now.0 probe.now.0))
-            (λ f. IsTrue (breaks_window_rule (kind_value kind) image.now.0 probe.now.0) × (f ≡ ImageFault.WindowMask (window_register (kind_value kind)))) }
+            (λ w. IsFalse (breaks_window_rule (kind_value kind) image.now.0 probe.now.0)
+            × (w ≡ optional_window (kind_value kind) image.now.0 probe.now.0))
+            (λ f. IsTrue (breaks_window_rule (kind_value kind) image.now.0 probe.now.0)
+            × (f ≡ ImageFault.WindowMask (window_register (kind_value kind)))) }
     {
         if kind.bounds(image).is_zero() && kind.bounds(probe).is_zero() {
             return Ok(None);
@@ -112,7 +116,8 @@ impl Windows {
     /// values are none that are decoded.
     pub fn of(image: &Image, probe: &Image) -> Result<Windows, ImageFault>
         ensures lawful { IsOk result ↔ HasLawfulWindows image.now.0 probe.now.0 }
-        ensures decoded { IfOk result (λ w. decoded_windows_of w ≡ decoded_windows image.now.0 probe.now.0) }
+        ensures decoded { IfOk result
+            (λ w. decoded_windows_of w ≡ decoded_windows image.now.0 probe.now.0) }
         ensures compared { IfOk result (HoldsAsComparators image.now.0 probe.now.0) }
         ensures fault { IfErr result (IsWindowsFaultIn image.now.0 probe.now.0) }
         ensures lowest { IfErr result (IsLowestWindowFault image.now.0 probe.now.0) }

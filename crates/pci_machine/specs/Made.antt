@@ -30,5 +30,7 @@ IsRefusedFor dump probe Memory = Unit {0}
 -- none that is looked for before it is there, but for those of capabilities lists
 abbrev pub IsFirstFor : List Block → List Block → Refused FaultOfCode → Type 0
 IsFirstFor dump probe (Fault fault) =
-    (roots : List ℕ) (other : faults.Fault) → IsTrue (is_before (image_at (system_of dump probe)) other (fault_of fault)) → IsFalse (is_of_list other) → IsThere roots dump probe other → ⊥
+    (roots : List ℕ) (other : faults.Fault)
+    → IsTrue (is_before (image_at (system_of dump probe)) other (fault_of fault))
+    → IsFalse (is_of_list other) → IsThere roots dump probe other → ⊥
 IsFirstFor dump probe Memory = Unit {0}

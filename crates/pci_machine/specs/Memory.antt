@@ -19,7 +19,9 @@ without_bits byte mask = byte_of_bits (λ i. has_bit byte i && not (has_bit mask
 
 -- the function, when those bits of a byte can no longer be written
 abbrev pub pinned : Target → ℕ → ℕ → Target
-pinned t place mask = record t { writable = slice_set t.writable place (without_bits (byte_at t.writable place) mask) }
+pinned t place mask =
+    record t
+    { writable = slice_set t.writable place (without_bits (byte_at t.writable place) mask) }
 
 -- the same, of the function at a slot alone
 abbrev pub pin_target : Slot → ℕ → ℕ → Target → Target

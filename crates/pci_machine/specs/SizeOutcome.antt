@@ -41,12 +41,16 @@ StopLeaves before slot after offset None = (after ≡ before) × IsTrue (is_look
 StopLeaves before slot after offset (Some old) =
     (old ≡ command (function_at before slot).image)
     × IsTrue (is_written_to (layout (function_at before slot).image) offset)
-    × ((image : List ℕ) × (after ≡ with_image before slot image) × IsPartlySized (function_at before slot) image)
+    × ((image : List ℕ) × (after ≡ with_image before slot image)
+    × IsPartlySized (function_at before slot) image)
 
 -- the functions before and after, by the fault
 abbrev pub SizingLeaves : List Target → Slot → List Target → SizeFault → Type 0
 SizingLeaves before slot after (Header fault) =
     (after ≡ before) × IsTrue (has_function before slot)
-    × IsImageFaultIn (function_at before slot).image (function_at before slot).image fault × (image_fault_number fault ≤ 21)
-SizingLeaves before slot after Stuck = (after ≡ before) × IsTrue (has_function before slot) × IsStuck (function_at before slot)
-SizingLeaves before slot after (Port offset fault old) = IsCause fault (has_function before slot) × StopLeaves before slot after offset old
+    × IsImageFaultIn (function_at before slot).image (function_at before slot).image fault
+    × (image_fault_number fault ≤ 21)
+SizingLeaves before slot after Stuck =
+    (after ≡ before) × IsTrue (has_function before slot) × IsStuck (function_at before slot)
+SizingLeaves before slot after (Port offset fault old) =
+    IsCause fault (has_function before slot) × StopLeaves before slot after offset old

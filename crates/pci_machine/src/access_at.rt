@@ -25,7 +25,8 @@ pub fn read_at<P: ConfigPort>(
 ) -> Result<u32, AccessFault>
     requires there { IsTrue (ports.has_function (P.targets port.old) slot) }
     requires lawful { IsTrue (ports.is_access off width) }
-    ensures value { IfOk result (λ value. value ≡ number_at (function_at (P.targets port.old) slot).image off width) }
+    ensures value { IfOk result
+        (λ value. value ≡ number_at (function_at (P.targets port.old) slot).image off width) }
     ensures fits { IfOk result (λ value. IsTrue (ports.fits width value)) }
     ensures stop { IfErr result (λ stop. stop ≡ record { offset = off; fault = PortError.Failed }) }
     ensures counted { P.failures port.new ≡ P.failures port.old + failures_of_stop result }
@@ -51,9 +52,11 @@ pub fn write_at<P: ConfigPort>(
     requires lawful { IsTrue (ports.is_access off width && ports.fits width value) }
     requires targets { ports.IsLawful (P.targets port.old) }
     ensures written { OnOk result (P.targets port.new
-        ≡ ports.with_image (P.targets port.old) slot (written (function_at (P.targets port.old) slot) off width value)) }
+        ≡ ports.with_image (P.targets port.old) slot
+        (written (function_at (P.targets port.old) slot) off width value)) }
     ensures function { OnOk result (function_at (P.targets port.new) slot
-        ≡ record (function_at (P.targets port.old) slot) { image = written (function_at (P.targets port.old) slot) off width value }) }
+        ≡ record (function_at (P.targets port.old) slot)
+        { image = written (function_at (P.targets port.old) slot) off width value }) }
     ensures kept { OnErr result (P.targets port.new ≡ P.targets port.old) }
     ensures stop { IfErr result (λ stop. stop ≡ record { offset = off; fault = PortError.Failed }) }
     ensures counted { P.failures port.new ≡ P.failures port.old + failures_of_stop result }

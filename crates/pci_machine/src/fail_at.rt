@@ -57,7 +57,8 @@ impl<P: ConfigPort> FailAt<P> {
     /// What a lawful access that fails is answered: 42, or 40 where no function is at the slot. It isn't done.
     fn failing(&mut self, slot: Slot) -> PortError
         requires due { self.old.due ≡ 1 }
-        ensures no_function { result ≡ PortError.NoFunction ↔ IsFalse (port.has_function (P.targets self.old.port) slot) }
+        ensures no_function { result ≡ PortError.NoFunction
+            ↔ IsFalse (port.has_function (P.targets self.old.port) slot) }
         ensures good_access { result ≢ PortError.BadAccess }
         ensures counted { self.new.failed.count ≡ self.old.failed.count + failures_of_error result }
         ensures untouched { self.new.port ≡ self.old.port }
@@ -82,16 +83,20 @@ impl<P: ConfigPort> ConfigPort for FailAt<P> {
     ghost failures = { λ s. P.failures s.port + s.failed.count };
 
     ghost reads = { λ before slot offset width answer after.
-        (before.due ≡ 1 → after.port ≡ before.port) × (before.due ≢ 1 → P.reads before.port slot offset width answer after.port) };
+        (before.due ≡ 1 → after.port ≡ before.port)
+        × (before.due ≢ 1 → P.reads before.port slot offset width answer after.port) };
 
     ghost writes = { λ before write answer after.
-        (before.due ≡ 1 → after.port ≡ before.port) × (before.due ≢ 1 → P.writes before.port write answer after.port) };
+        (before.due ≡ 1 → after.port ≡ before.port)
+        × (before.due ≢ 1 → P.writes before.port write answer after.port) };
 
     fn read(&mut self, slot: Slot, off: u8, width: u8) -> Result<u32, PortError>
         ensures value { IfOk result (port.ShowsNumber (P.targets self.old.port) slot off width) }
-        ensures no_function { result ≡ Err PortError.NoFunction ↔ IsFalse (port.has_function (P.targets self.old.port) slot) }
+        ensures no_function { result ≡ Err PortError.NoFunction
+            ↔ IsFalse (port.has_function (P.targets self.old.port) slot) }
         ensures bad_access { result ≡ Err PortError.BadAccess
-            ↔ IsTrue (port.has_function (P.targets self.old.port) slot) × IsFalse (port.is_access off width) }
+            ↔ IsTrue (port.has_function (P.targets self.old.port) slot)
+            × IsFalse (port.is_access off width) }
         ensures counted { P.failures self.new.port + self.new.failed.count
             ≡ P.failures self.old.port + self.old.failed.count + failures_of result }
         ensures same { P.targets self.new.port ≡ P.targets self.old.port }
@@ -114,18 +119,27 @@ impl<P: ConfigPort> ConfigPort for FailAt<P> {
     }
 
     fn write(&mut self, slot: Slot, off: u8, width: u8, value: u32) -> Result<(), PortError>
-        ensures written { OnOk result (P.targets self.new.port ≡ write_targets (P.targets self.old.port)
+        ensures written { OnOk result
+            (P.targets self.new.port ≡ write_targets (P.targets self.old.port)
             record { slot = slot; offset = off; width = width; value = value }) }
         ensures kept { OnErr result (P.targets self.new.port ≡ P.targets self.old.port) }
-        ensures no_function { result ≡ Err PortError.NoFunction ↔ IsFalse (port.has_function (P.targets self.old.port) slot) }
+        ensures no_function { result ≡ Err PortError.NoFunction
+            ↔ IsFalse (port.has_function (P.targets self.old.port) slot) }
         ensures bad_access { result ≡ Err PortError.BadAccess
-            ↔ IsTrue (port.has_function (P.targets self.old.port) slot) × IsFalse (port.is_access off width && port.fits width value) }
+            ↔ IsTrue (port.has_function (P.targets self.old.port) slot)
+            × IsFalse (port.is_access off width && port.fits width value) }
         ensures counted { P.failures self.new.port + self.new.failed.count
             ≡ P.failures self.old.port + self.old.failed.count + failures_of result }
         ensures lawful { port.IsLawful (P.targets self.new.port) }
         ensures refused { IsFalse (is_counted result) → self.new ≡ self.old }
         ensures once { (self.old.due ≡ 1 → self.new.port ≡ self.old.port)
-            × (self.old.due ≢ 1 → P.writes self.old.port record { slot = slot; offset = off; width = width; value = value } result self.new.port) }
+            × (self.old.due ≢ 1
+            → P.writes self.old.port record {
+              slot = slot;
+              offset = off;
+              width = width;
+              value = value;
+            } result self.new.port) }
         ensures due { self.new.due ≡ due_after self.old.due result }
         ensures fails { self.old.due ≡ 1 → IsErr result }
         ensures passes_on { self.old.due ≢ 1 → self.new.failed.count ≡ self.old.failed.count }

@@ -22,13 +22,25 @@ use pci_image::slot::Slot;
 /// to 26: of BARs the lowest, else that of the ROM, else of windows the lowest.
 pub fn registers_of(slot: Slot, image: &Image, probe: &Image) -> Result<ConfigSpace, ImageFault>
     requires { IsImage image.now.0 }
-    ensures made { IfOk result (λ registers. registers ≡ target_of record { slot = slot; image = image.now.0; probe = probe.now.0 }) }
-    ensures decodable { OnOk result (IsDecodable record { slot = slot; image = image.now.0; probe = probe.now.0 }) }
+    ensures made { IfOk result (λ registers. registers ≡ target_of record {
+      slot = slot;
+      image = image.now.0;
+      probe = probe.now.0;
+    }) }
+    ensures decodable { OnOk result (IsDecodable record {
+      slot = slot;
+      image = image.now.0;
+      probe = probe.now.0;
+    }) }
     ensures lawful { IfOk result IsTarget }
     ensures header { IfOk result (λ registers. byte_at registers.writable table.HEADER_TYPE ≡ 0) }
     ensures fault { IfErr result (IsImageFaultIn image.now.0 probe.now.0) }
     ensures number { IfErr result (λ fault. image_fault_number fault ≤ 26) }
-    ensures first { IfErr result (λ e. IsFirstOf (phase_key Decoding) record { slot = slot; image = image.now.0; probe = probe.now.0 } (image_fault_at slot e)) }
+    ensures first { IfErr result (λ e. IsFirstOf (phase_key Decoding) record {
+      slot = slot;
+      image = image.now.0;
+      probe = probe.now.0;
+    } (image_fault_at slot e)) }
 {
     let _record = decode(slot, image, probe)?;
     let bridge = layout(image) == 1;

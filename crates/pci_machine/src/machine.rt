@@ -56,11 +56,14 @@ impl<A: Allocator> Machine<A> {
         dump: &Dump<B>,
         probe: &Dump<C>,
     ) -> Result<Machine<A>, Refused<PairFault>>
-        ensures machine { IfOk result (λ machine. machine ≡ map target_of (system_of dump.now probe.now)) }
+        ensures machine { IfOk result
+            (λ machine. machine ≡ map target_of (system_of dump.now probe.now)) }
         ensures pair { OnOk result ((roots : List ℕ) → IsPair roots dump.now probe.now) }
         ensures decodable { OnOk result (All IsDecodable (system_of dump.now probe.now)) }
-        ensures read_backs { IfOk result (λ machine. All (λ f. sized (function_at machine f.slot) ≡ f.probe) (system_of dump.now probe.now)) }
-        ensures sizable { IfOk result (λ machine. All (λ f. IsSizable machine f.slot) (system_of dump.now probe.now)) }
+        ensures read_backs { IfOk result (λ machine. All
+            (λ f. sized (function_at machine f.slot) ≡ f.probe) (system_of dump.now probe.now)) }
+        ensures sizable { IfOk result
+            (λ machine. All (λ f. IsSizable machine f.slot) (system_of dump.now probe.now)) }
         ensures kind { IfErr result IsOfMachine }
         ensures fault { IfErr result (IsRefusedFor dump.now probe.now) }
         ensures first { IfErr result (IsFirstFor dump.now probe.now) }
@@ -87,7 +90,8 @@ impl<A: Allocator> Machine<A> {
 
     /// The configuration space of the function at a slot, as it is now.
     pub fn image(&self, slot: Slot) -> Option<&Image>
-        ensures { option_map (λ image. image.now.0) result ≡ option_map (λ t. t.image) (target_at self.now slot) }
+        ensures { option_map (λ image. image.now.0) result
+            ≡ option_map (λ t. t.image) (target_at self.now slot) }
     {
         match self.index_of(slot) {
             Some(index) => Some(&self.functions[index].image),
@@ -113,10 +117,12 @@ impl<A: Allocator> Machine<A> {
 
     /// The index of the function at a slot.
     fn index_of(&self, slot: Slot) -> Option<usize>
-        ensures there { MatchOption result (IsFalse (has_function self.now slot)) (λ _. IsTrue (has_function self.now slot)) }
+        ensures there { MatchOption result (IsFalse (has_function self.now slot))
+            (λ _. IsTrue (has_function self.now slot)) }
         ensures within { IfSome result (λ i. i < length self.now) }
         ensures lawful { IsLawful self.now }
-        ensures found { IfSome result (λ i. (t : Target) × (slice_get self.now i ≡ Some t) × (target_at self.now slot ≡ Some t)) }
+        ensures found { IfSome result (λ i. (t : Target) × (slice_get self.now i ≡ Some t)
+            × (target_at self.now slot ≡ Some t)) }
     {
         let last = self.last;
         if last < self.functions.len() && self.functions[last].is_at(slot) {
@@ -141,7 +147,8 @@ impl<A: Allocator> ConfigPort for Machine<A> {
 
     ghost reads = { λ before _ _ _ _ after. after ≡ before };
 
-    ghost writes = { λ before write answer after. MatchResult answer (λ _. after ≡ write_targets before write) (λ _. after ≡ before) };
+    ghost writes = { λ before write answer after. MatchResult answer
+        (λ _. after ≡ write_targets before write) (λ _. after ≡ before) };
 
     fn read(&mut self, slot: Slot, off: u8, width: u8) -> Result<u32, PortError> {
         let Some(index) = self.index_of(slot) else {

@@ -41,7 +41,8 @@ pub fn clearing_bytes(bridge: bool) -> [u8; IMAGE_LEN]
 fn add_register(bytes: &mut [u8; IMAGE_LEN], register: Register, probe: &Image)
     requires readable { IsTrue (is_readable register) }
     requires image { IsImage bytes.old }
-    ensures added { AddsFields bytes.old bytes.new (fields_of probe.now.0 register.offset register.width (role_value register.role)) }
+    ensures added { AddsFields bytes.old bytes.new
+        (fields_of probe.now.0 register.offset register.width (role_value register.role)) }
     ensures image { IsImage bytes.new }
 {
     let Register {
@@ -71,7 +72,8 @@ fn add_register(bytes: &mut [u8; IMAGE_LEN], register: Register, probe: &Image)
 fn add_cleared(bytes: &mut [u8; IMAGE_LEN], register: Register)
     requires readable { IsTrue (is_readable register) }
     requires image { IsImage bytes.old }
-    ensures added { AddsFields bytes.old bytes.new (cleared_fields register.offset register.width (role_value register.role)) }
+    ensures added { AddsFields bytes.old bytes.new
+        (cleared_fields register.offset register.width (role_value register.role)) }
     ensures image { IsImage bytes.new }
 {
     match register.role {
@@ -85,7 +87,11 @@ fn add_from(bytes: &mut [u8; IMAGE_LEN], probe: &Image, off: u8, width: u8, step
     requires access { IsTrue (port.is_access off width) }
     requires step { 0 < step }
     requires image { IsImage bytes.old }
-    ensures added { AddsField bytes.old bytes.new record { offset = off; width = width; bits = without_low step (number_at probe.now.0 off width) } }
+    ensures added { AddsField bytes.old bytes.new record {
+      offset = off;
+      width = width;
+      bits = without_low step (number_at probe.now.0 off width);
+    } }
     ensures image { IsImage bytes.new }
 {
     add(bytes, off, width, probe.number(off, width) / step * step);

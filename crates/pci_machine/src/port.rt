@@ -57,8 +57,10 @@ pub trait ConfigPort {
     /// The little-endian number of `width` bytes at an offset of the function at a slot.
     fn read(&mut self, slot: Slot, off: u8, width: u8) -> Result<u32, PortError>
         ensures value { IfOk result (ShowsNumber (targets self.old) slot off width) }
-        ensures no_function { result ≡ Err PortError.NoFunction ↔ IsFalse (has_function (targets self.old) slot) }
-        ensures bad_access { result ≡ Err PortError.BadAccess ↔ IsTrue (has_function (targets self.old) slot) × IsFalse (is_access off width) }
+        ensures no_function { result ≡ Err PortError.NoFunction
+            ↔ IsFalse (has_function (targets self.old) slot) }
+        ensures bad_access { result ≡ Err PortError.BadAccess
+            ↔ IsTrue (has_function (targets self.old) slot) × IsFalse (is_access off width) }
         ensures counted { failures self.new ≡ failures self.old + failures_of result }
         ensures same { targets self.new ≡ targets self.old }
         ensures lawful { IsLawful (targets self.new) }
@@ -71,11 +73,18 @@ pub trait ConfigPort {
         ensures written { OnOk result (targets self.new ≡ write_targets (targets self.old)
             record { slot = slot; offset = off; width = width; value = value }) }
         ensures kept { OnErr result (targets self.new ≡ targets self.old) }
-        ensures no_function { result ≡ Err PortError.NoFunction ↔ IsFalse (has_function (targets self.old) slot) }
+        ensures no_function { result ≡ Err PortError.NoFunction
+            ↔ IsFalse (has_function (targets self.old) slot) }
         ensures bad_access { result ≡ Err PortError.BadAccess
-            ↔ IsTrue (has_function (targets self.old) slot) × IsFalse (is_access off width && fits width value) }
+            ↔ IsTrue (has_function (targets self.old) slot)
+            × IsFalse (is_access off width && fits width value) }
         ensures counted { failures self.new ≡ failures self.old + failures_of result }
         ensures lawful { IsLawful (targets self.new) }
         ensures refused { IsFalse (is_counted result) → self.new ≡ self.old }
-        ensures once { writes self.old record { slot = slot; offset = off; width = width; value = value } result self.new };
+        ensures once { writes self.old record {
+          slot = slot;
+          offset = off;
+          width = width;
+          value = value;
+        } result self.new };
 }

@@ -38,12 +38,19 @@ impl Quiet {
     pub fn begin<P: ConfigPort>(port: &mut P, slot: Slot) -> Result<Quiet, AccessFault>
         requires there { IsTrue (ports.has_function (P.targets port.old) slot) }
         requires lawful { ports.IsLawful (P.targets port.old) }
-        ensures command { IfOk result (λ quiet. quiet ≡ command (function_at (P.targets port.old) slot).image) }
-        ensures quieted { OnOk result (P.targets port.new ≡ ports.with_image (P.targets port.old) slot (quieted (function_at (P.targets port.old) slot))) }
+        ensures command { IfOk result
+            (λ quiet. quiet ≡ command (function_at (P.targets port.old) slot).image) }
+        ensures quieted { OnOk result (P.targets port.new
+            ≡ ports.with_image (P.targets port.old) slot
+            (quieted (function_at (P.targets port.old) slot))) }
         ensures function { OnOk result (function_at (P.targets port.new) slot
-            ≡ record (function_at (P.targets port.old) slot) { image = quieted (function_at (P.targets port.old) slot) }) }
+            ≡ record (function_at (P.targets port.old) slot)
+            { image = quieted (function_at (P.targets port.old) slot) }) }
         ensures kept { OnErr result (P.targets port.new ≡ P.targets port.old) }
-        ensures stop { IfErr result (λ stop. stop ≡ record { offset = table.COMMAND; fault = PortError.Failed }) }
+        ensures stop { IfErr result (λ stop. stop ≡ record {
+          offset = table.COMMAND;
+          fault = PortError.Failed;
+        }) }
         ensures counted { P.failures port.new ≡ P.failures port.old + failures_of_stop result }
         ensures there { IsTrue (ports.has_function (P.targets port.new) slot) }
         ensures lawful { ports.IsLawful (P.targets port.new) }
@@ -64,9 +71,13 @@ impl Quiet {
         requires there { IsTrue (ports.has_function (P.targets port.old) slot) }
         requires lawful { ports.IsLawful (P.targets port.old) }
         ensures written { OnOk result (P.targets port.new
-            ≡ ports.with_image (P.targets port.old) slot (written (function_at (P.targets port.old) slot) table.COMMAND 2 self)) }
+            ≡ ports.with_image (P.targets port.old) slot
+            (written (function_at (P.targets port.old) slot) table.COMMAND 2 self)) }
         ensures kept { OnErr result (P.targets port.new ≡ P.targets port.old) }
-        ensures stop { IfErr result (λ e. (e.0 ≡ record { offset = table.COMMAND; fault = PortError.Failed }) × (e.1 ≡ self)) }
+        ensures stop { IfErr result (λ e. (e.0 ≡ record {
+          offset = table.COMMAND;
+          fault = PortError.Failed;
+        }) × (e.1 ≡ self)) }
         ensures counted { P.failures port.new ≡ P.failures port.old + failures_of_stop result }
         ensures lawful { ports.IsLawful (P.targets port.new) }
     {

@@ -23,12 +23,16 @@ pub fn read_backs<P: ConfigPort>(
 ) -> Result<Image, AccessFault>
     requires there { IsTrue (ports.has_function (P.targets port.old) slot) }
     requires lawful { ports.IsLawful (P.targets port.old) }
-    requires header { layout (function_at (P.targets port.old) slot).image ≡ (if bridge then 1 else 0) }
-    ensures read_backs { IfOk result (λ image. image.0 ≡ sized (function_at (P.targets port.old) slot)) }
+    requires header { layout (function_at (P.targets port.old) slot).image
+        ≡ (if bridge then 1 else 0) }
+    ensures read_backs { IfOk result
+        (λ image. image.0 ≡ sized (function_at (P.targets port.old) slot)) }
     ensures kept { OnOk result (P.targets port.new ≡ P.targets port.old) }
     ensures stop { IfErr result (λ stop. (stop.fault ≡ PortError.Failed)
-        × IsTrue (is_address_register (layout (function_at (P.targets port.old) slot).image) stop.offset)) }
-    ensures left { OnErr result ((image : List ℕ) × (P.targets port.new ≡ ports.with_image (P.targets port.old) slot image)
+        × IsTrue (is_address_register
+        (layout (function_at (P.targets port.old) slot).image) stop.offset)) }
+    ensures left { OnErr result
+        ((image : List ℕ) × (P.targets port.new ≡ ports.with_image (P.targets port.old) slot image)
         × DiffersInRegisters (function_at (P.targets port.old) slot).image image) }
     ensures counted { P.failures port.new ≡ P.failures port.old + failures_of_stop result }
     ensures there { IsTrue (ports.has_function (P.targets port.new) slot) }

@@ -91,7 +91,12 @@ fn write_bytes(
 )
     requires { IsTrue (port.is_access off width) }
     ensures { (slot : place.Slot) → bytes.new
-        ≡ written record { slot = slot; image = bytes.old; writable = writable.now; clearing = clearing.now } off width value }
+        ≡ written record {
+          slot = slot;
+          image = bytes.old;
+          writable = writable.now;
+          clearing = clearing.now;
+        } off width value }
 {
     for j in 0..width {
         let place = usize::from(off + j);

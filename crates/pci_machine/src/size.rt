@@ -34,13 +34,17 @@ use pci_image::slot::Slot;
 /// failed, or there is no function; without a `command` it was to Vendor ID, Header Type or Command
 /// and nothing was written, with one to Command or an address register.
 pub fn size<P: ConfigPort>(port: &mut P, slot: Slot) -> Result<Image, SizeFault>
-    ensures read_backs { IfOk result (λ image. image.0 ≡ sized (function_at (P.targets port.old) slot)) }
+    ensures read_backs { IfOk result
+        (λ image. image.0 ≡ sized (function_at (P.targets port.old) slot)) }
     ensures unchanged { OnOk result (P.targets port.new ≡ P.targets port.old) }
     ensures there { OnOk result (IsTrue (ports.has_function (P.targets port.old) slot)) }
-    ensures vendor { OnOk result (IsFalse (has_no_vendor (function_at (P.targets port.old) slot).image)) }
-    ensures header { OnOk result (IsFalse (has_other_layout (function_at (P.targets port.old) slot).image)) }
+    ensures vendor { OnOk result
+        (IsFalse (has_no_vendor (function_at (P.targets port.old) slot).image)) }
+    ensures header { OnOk result
+        (IsFalse (has_other_layout (function_at (P.targets port.old) slot).image)) }
     ensures not_stuck { OnOk result (IsStuck (function_at (P.targets port.old) slot) → ⊥) }
-    ensures succeeds { IsSizable (P.targets port.old) slot → P.failures port.new ≡ P.failures port.old → IsOk result }
+    ensures succeeds { IsSizable (P.targets port.old) slot
+        → P.failures port.new ≡ P.failures port.old → IsOk result }
     ensures fault { IfErr result (SizingLeaves (P.targets port.old) slot (P.targets port.new)) }
     ensures missing { IsFalse (ports.has_function (P.targets port.old) slot)
         → result ≡ Err (SizeFault.Port table.VENDOR_ID PortError.NoFunction None) }
@@ -67,9 +71,12 @@ pub fn size<P: ConfigPort>(port: &mut P, slot: Slot) -> Result<Image, SizeFault>
 /// Whether a function is a bridge, by its header, and not a device.
 fn is_bridge<P: ConfigPort>(port: &mut P, slot: Slot) -> Result<bool, SizeFault>
     ensures there { OnOk result (IsTrue (ports.has_function (P.targets port.old) slot)) }
-    ensures vendor { OnOk result (IsFalse (has_no_vendor (function_at (P.targets port.old) slot).image)) }
-    ensures header { OnOk result (IsFalse (has_other_layout (function_at (P.targets port.old) slot).image)) }
-    ensures bridge { IfOk result (λ bridge. layout (function_at (P.targets port.old) slot).image ≡ (if bridge then 1 else 0)) }
+    ensures vendor { OnOk result
+        (IsFalse (has_no_vendor (function_at (P.targets port.old) slot).image)) }
+    ensures header { OnOk result
+        (IsFalse (has_other_layout (function_at (P.targets port.old) slot).image)) }
+    ensures bridge { IfOk result (λ bridge. layout (function_at (P.targets port.old) slot).image
+        ≡ (if bridge then 1 else 0)) }
     ensures fault { IfErr result (SizingLeaves (P.targets port.old) slot (P.targets port.new)) }
     ensures missing { IsFalse (ports.has_function (P.targets port.old) slot)
         → result ≡ Err (SizeFault.Port table.VENDOR_ID PortError.NoFunction None) }
@@ -120,14 +127,19 @@ fn read_when_quiet<P: ConfigPort>(
 ) -> Result<Option<Image>, AccessFault>
     requires there { IsTrue (ports.has_function (P.targets port.old) slot) }
     requires lawful { ports.IsLawful (P.targets port.old) }
-    requires header { layout (function_at (P.targets port.old) slot).image ≡ (if bridge then 1 else 0) }
-    ensures read_backs { IfOk result (λ found. IfSome found (λ image. image.0 ≡ sized (function_at (P.targets port.old) slot))) }
-    ensures quiet { IfOk result (λ found. MatchOption found (command (function_at (P.targets port.old) slot).image % 4 ≢ 0)
+    requires header { layout (function_at (P.targets port.old) slot).image
+        ≡ (if bridge then 1 else 0) }
+    ensures read_backs { IfOk result
+        (λ found. IfSome found (λ image. image.0 ≡ sized (function_at (P.targets port.old) slot))) }
+    ensures quiet { IfOk result
+        (λ found. MatchOption found (command (function_at (P.targets port.old) slot).image % 4 ≢ 0)
         (λ _. command (function_at (P.targets port.old) slot).image % 4 ≡ 0)) }
     ensures kept { OnOk result (P.targets port.new ≡ P.targets port.old) }
     ensures stop { IfErr result (λ stop. (stop.fault ≡ PortError.Failed)
-        × IsTrue (is_written_to (layout (function_at (P.targets port.old) slot).image) stop.offset)) }
-    ensures left { OnErr result ((image : List ℕ) × (P.targets port.new ≡ ports.with_image (P.targets port.old) slot image)
+        × IsTrue
+        (is_written_to (layout (function_at (P.targets port.old) slot).image) stop.offset)) }
+    ensures left { OnErr result
+        ((image : List ℕ) × (P.targets port.new ≡ ports.with_image (P.targets port.old) slot image)
         × DiffersInRegisters (function_at (P.targets port.old) slot).image image) }
     ensures counted { P.failures port.new ≡ P.failures port.old + failures_of_stop result }
     ensures there { IsTrue (ports.has_function (P.targets port.new) slot) }

@@ -21,8 +21,11 @@ is_wide_in (Some window) = window.wide
 pub record IsAbove (s : System) (bus : ℕ) (above : Above) : Type 0 where
   pub io : above.io ≡ list_all (λ b. has_window IoWindow b.probe) (bridges_above s bus)
   pub pref : above.pref ≡ list_all (λ b. has_window PrefetchWindow b.probe) (bridges_above s bus)
-  pub wide : above.wide ≡ list_all (λ b. is_wide_window PrefetchWindow b.probe) (bridges_above s bus)
+  pub wide : above.wide
+      ≡ list_all (λ b. is_wide_window PrefetchWindow b.probe) (bridges_above s bus)
 
 -- the table has it for each bus with a function on it
 abbrev pub AreAboves : System → List Above → Type 0
-AreAboves s aboves = (f : Function) (d : Above) → Contains s f → IsAbove s f.slot.bus (slice_index_or aboves f.slot.bus d)
+AreAboves s aboves =
+    (f : Function) (d : Above) → Contains s f
+    → IsAbove s f.slot.bus (slice_index_or aboves f.slot.bus d)

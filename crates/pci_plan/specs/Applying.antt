@@ -32,7 +32,8 @@ writes_made writes (Err fault) = writes_before fault
 -- ---- why not all were
 
 -- the register of a function of the start shows another number
-pub record IsChangedFrom (before : List Target) (start : System) (slot : Slot) (offset : ℕ) : Type 0 where
+pub record IsChangedFrom (before : List Target) (start : System) (slot : Slot)
+    (offset : ℕ) : Type 0 where
   pub f : Function
   pub listed : Contains start f
   pub at : f.slot ≡ slot
@@ -40,16 +41,19 @@ pub record IsChangedFrom (before : List Target) (start : System) (slot : Slot) (
 
 -- a function of the start isn't there
 abbrev pub LacksFunction : List Target → System → Type 0
-LacksFunction before start = (f : Function) × Contains start f × IsFalse (has_function before f.slot)
+LacksFunction before start =
+    (f : Function) × Contains start f × IsFalse (has_function before f.slot)
 
 -- an access failed or a function isn't there, while functions were compared or after some writes
-pub record IsCutShort (before : List Target) (failures : ℕ) (start : System) (writes : List Write) (failures_after done : ℕ) : Type 0 where
+pub record IsCutShort (before : List Target) (failures : ℕ) (start : System) (writes : List Write)
+    (failures_after done : ℕ) : Type 0 where
   pub within : done ≤ length writes
   pub started : 0 < done → ShowsSystem before start
   pub cause : (failures < failures_after) ⊎ LacksFunction before start
 
 -- the last write that was made reads back otherwise
-pub record IsReadOtherwise (before : List Target) (start : System) (writes : List Write) (after : List Target) (done : ℕ) : Type 0 where
+pub record IsReadOtherwise (before : List Target) (start : System) (writes : List Write)
+    (after : List Target) (done : ℕ) : Type 0 where
   pub started : ShowsSystem before start
   pub last : ℕ
   pub is_last : done ≡ last + 1
@@ -57,7 +61,11 @@ pub record IsReadOtherwise (before : List Target) (start : System) (writes : Lis
   pub listed : slice_get writes last ≡ Some write
   pub otherwise : IsShownOtherwise after write
 
-abbrev pub IsApplyFault : List Target → ℕ → System → List Write → List Target → ℕ → ApplyFault → Type 0
-IsApplyFault before failures start writes after failures_after (Changed slot offset) = IsChangedFrom before start slot offset
-IsApplyFault before failures start writes after failures_after (Port done) = IsCutShort before failures start writes failures_after done
-IsApplyFault before failures start writes after failures_after (Stuck done) = IsReadOtherwise before start writes after done
+abbrev pub IsApplyFault : List Target → ℕ → System → List Write → List Target → ℕ → ApplyFault
+    → Type 0
+IsApplyFault before failures start writes after failures_after (Changed slot offset) =
+    IsChangedFrom before start slot offset
+IsApplyFault before failures start writes after failures_after (Port done) =
+    IsCutShort before failures start writes failures_after done
+IsApplyFault before failures start writes after failures_after (Stuck done) =
+    IsReadOtherwise before start writes after done

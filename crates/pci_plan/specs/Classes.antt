@@ -18,7 +18,8 @@ is_wide_kind Mem32 = false
 is_wide_kind Mem64 = true
 
 abbrev pub is_served_by : Bar → Above → Pools → Bool
-is_served_by bar above pools = if nat_le pools.pref.last 0xffff_ffff then above.pref else is_wide_kind bar.kind && above.wide
+is_served_by bar above pools =
+    if nat_le pools.pref.last 0xffff_ffff then above.pref else is_wide_kind bar.kind && above.wide
 
 abbrev pub bar_class : Bar → Above → Pools → WindowKind
 bar_class bar above pools =

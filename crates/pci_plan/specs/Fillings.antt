@@ -27,10 +27,13 @@ pub record FillingOf (filling : Filling) : Type 0 where
   pub tables : (c : WindowKind) → IsTable roots system pools c (place_at roots system pools)
   pub recorded : IsRecordOf system function filling.record.now
   pub image : filling.image.now.0 ≡ function.image
-  pub places : (part : Part) → IsTrue (is_placed system pools (class_of system pools function part) function part)
+  pub places : (part : Part)
+      → IsTrue (is_placed system pools (class_of system pools function part) function part)
       → first_in filling.places.now part ≡ place_at roots system pools function part
   pub needs : AreAllNeeds roots system pools filling.needs.now
 
 -- a register is one of those that address decoding is set by
 abbrev pub IsListed : Record → Register → Type 0
-IsListed r register = Contains (address_registers (if is_some r.bridge then 1 else 0)) (register.offset, register.width)
+IsListed r register =
+    Contains (address_registers (if is_some r.bridge then 1 else 0))
+    (register.offset, register.width)

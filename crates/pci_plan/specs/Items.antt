@@ -47,7 +47,8 @@ bar_item o bar = owned o (parts.Bar ((bar.reg - BASE_ADDRESS) / 4)) (span bar.fi
 
 -- the BARs of a class
 abbrev pub bar_items : Owner → WindowKind → Above → CodePools → List CodeBar → List CodeItem
-bar_items o c above pools bars = map (bar_item o) (filter (λ bar. same_class c (bar_class bar above pools)) bars)
+bar_items o c above pools bars =
+    map (bar_item o) (filter (λ bar. same_class c (bar_class bar above pools)) bars)
 
 -- the window of a bridge with something behind it, by what the buses need
 abbrev pub window_items : Owner → WindowKind → List ℕ → Option Bridge → List CodeItem
@@ -60,11 +61,14 @@ window_items o c needs (Some b) =
 -- a ROM, which is memory
 abbrev pub rom_items : Owner → WindowKind → Option CodeRom → List CodeItem
 rom_items o c None = []
-rom_items o c (Some rom) = if same_class c MemoryWindow then owned o parts.Rom (span rom.first rom.last) ∷ [] else []
+rom_items o c (Some rom) =
+    if same_class c MemoryWindow then owned o parts.Rom (span rom.first rom.last) ∷ [] else []
 
 -- in the order of their registers
 abbrev pub record_items : Owner → WindowKind → Above → CodePools → List ℕ → Record → List CodeItem
-record_items o c above pools needs r = bar_items o c above pools r.bars.items ++ (window_items o c needs r.bridge ++ rom_items o c r.rom)
+record_items o c above pools needs r =
+    bar_items o c above pools r.bars.items
+    ++ (window_items o c needs r.bridge ++ rom_items o c r.rom)
 
 -- ---- their values
 
@@ -76,7 +80,8 @@ abbrev pub function_in : System → ℕ → Function
 function_in s k = slice_index_or s k no_function
 
 abbrev pub item_value : System → WindowKind → CodeItem → Item
-item_value s c i = record { function = function_in s i.function; part = part_value c i.part; size = i.size }
+item_value s c i =
+    record { function = function_in s i.function; part = part_value c i.part; size = i.size }
 
 -- a window is that around what is behind its bridge
 abbrev pub IsPartOf : Function → CodePart → Type 0
@@ -96,6 +101,7 @@ pub record IsRooted (roots : List ℕ) (s : System) : Type 0 where
   pub rising : IsStrictlyIncreasing roots
 
 -- the items of a class, in the order of slots and registers
-pub record AreItems (roots : List ℕ) (s : System) (pools : Pools) (c : WindowKind) (items : List CodeItem) : Type 0 where
+pub record AreItems (roots : List ℕ) (s : System) (pools : Pools) (c : WindowKind)
+    (items : List CodeItem) : Type 0 where
   pub all : map (item_value s c) items ≡ all_items s pools c
   pub each : All (IsItemIn roots s) items

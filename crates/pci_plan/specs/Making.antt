@@ -16,7 +16,8 @@ IsAccessible w = IsTrue (is_access w.off w.width && fits w.width w.value)
 
 -- it wasn't made, or it was
 abbrev pub IsLeftBy : List Target → Write → ℕ → List Target → ℕ → Type 0
-IsLeftBy before w done after n = ((n ≡ done) × (after ≡ before)) ⊎ ((n ≡ done + 1) × (after ≡ write_targets before w))
+IsLeftBy before w done after n =
+    ((n ≡ done) × (after ≡ before)) ⊎ ((n ≡ done + 1) × (after ≡ write_targets before w))
 
 -- it reads back otherwise
 pub record IsShownOtherwise (targets : List Target) (w : Write) : Type 0 where
@@ -27,28 +28,36 @@ pub record IsShownOtherwise (targets : List Target) (w : Write) : Type 0 where
 -- why it is the last, after `done` others: an access failed or the function isn't there, or it reads back otherwise
 abbrev pub IsLastWrite : List Target → ℕ → Write → ℕ → List Target → ℕ → ApplyFault → Type 0
 IsLastWrite before failures w done after failures_after (Changed slot offset) = ⊥
-IsLastWrite before failures w done after failures_after (Port n) = IsLeftBy before w done after n × IsRefusedAt after failures w.slot failures_after
-IsLastWrite before failures w done after failures_after (Stuck n) = (n ≡ done + 1) × (after ≡ write_targets before w) × IsShownOtherwise after w
+IsLastWrite before failures w done after failures_after (Port n) =
+    IsLeftBy before w done after n × IsRefusedAt after failures w.slot failures_after
+IsLastWrite before failures w done after failures_after (Stuck n) =
+    (n ≡ done + 1) × (after ≡ write_targets before w) × IsShownOtherwise after w
 
 -- ---- all writes
 
 -- the first writes were made, and each was read back
-pub record AreMade (before : List Target) (writes : List Write) (count : ℕ) (after : List Target) : Type 0 where
+pub record AreMade (before : List Target) (writes : List Write) (count : ℕ)
+    (after : List Target) : Type 0 where
   pub within : count ≤ length writes
   pub made : after ≡ after_writes before (take count writes)
-  pub shown : (k : ℕ) (w : Write) → k < count → slice_get writes k ≡ Some w → ShowsNumber (after_writes before (take (suc k) writes)) w.slot w.offset w.width w.value
+  pub shown : (k : ℕ) (w : Write) → k < count → slice_get writes k ≡ Some w
+      → ShowsNumber (after_writes before (take (suc k) writes)) w.slot w.offset w.width w.value
 
 -- an access failed, or the function of a write isn't there
 abbrev pub IsPortCause : List Target → ℕ → List Write → ℕ → Type 0
-IsPortCause before failures writes failures_after = (failures < failures_after) ⊎ ((w : Write) × Contains writes w × IsFalse (has_function before w.slot))
+IsPortCause before failures writes failures_after =
+    (failures < failures_after)
+    ⊎ ((w : Write) × Contains writes w × IsFalse (has_function before w.slot))
 
-pub record IsPortStop (before : List Target) (failures : ℕ) (writes : List Write) (after : List Target) (failures_after done : ℕ) : Type 0 where
+pub record IsPortStop (before : List Target) (failures : ℕ) (writes : List Write)
+    (after : List Target) (failures_after done : ℕ) : Type 0 where
   pub within : done ≤ length writes
   pub made : after ≡ after_writes before (take done writes)
   pub cause : IsPortCause before failures writes failures_after
 
 -- the last write that was made reads back otherwise
-pub record IsStuckStop (before : List Target) (writes : List Write) (after : List Target) (done : ℕ) : Type 0 where
+pub record IsStuckStop (before : List Target) (writes : List Write) (after : List Target)
+    (done : ℕ) : Type 0 where
   pub last : ℕ
   pub is_last : done ≡ last + 1
   pub write : Write
@@ -58,5 +67,7 @@ pub record IsStuckStop (before : List Target) (writes : List Write) (after : Lis
 
 abbrev pub IsStop : List Target → ℕ → List Write → List Target → ℕ → ApplyFault → Type 0
 IsStop before failures writes after failures_after (Changed slot offset) = ⊥
-IsStop before failures writes after failures_after (Port done) = IsPortStop before failures writes after failures_after done
-IsStop before failures writes after failures_after (Stuck done) = IsStuckStop before writes after done
+IsStop before failures writes after failures_after (Port done) =
+    IsPortStop before failures writes after failures_after done
+IsStop before failures writes after failures_after (Stuck done) =
+    IsStuckStop before writes after done

@@ -18,11 +18,14 @@ first_in p (Window PrefetchWindow) = p.windows.prefetchable
 -- everything of a class stands at its place
 abbrev pub HasPlaces : List ℕ → System → Pools → WindowKind → List Places → Type 0
 HasPlaces roots s pools c places =
-    (k : ℕ) (f : Function) (d : Places) (part : Part) → slice_get s k ≡ Some f → IsTrue (is_placed s pools c f part)
+    (k : ℕ) (f : Function) (d : Places) (part : Part) → slice_get s k ≡ Some f
+    → IsTrue (is_placed s pools c f part)
     → first_in (slice_index_or places k d) part ≡ place_at roots s pools f part
 
 -- everything of another class stands where it stood
-pub record KeepsOthers (s : System) (pools : Pools) (c : WindowKind) (old new : List Places) : Type 0 where
+pub record KeepsOthers (s : System) (pools : Pools) (c : WindowKind)
+    (old new : List Places) : Type 0 where
   pub count : length new ≡ length old
-  pub others : (k : ℕ) (f : Function) (d : Places) (part : Part) → slice_get s k ≡ Some f → IsFalse (is_placed s pools c f part)
+  pub others : (k : ℕ) (f : Function) (d : Places) (part : Part) → slice_get s k ≡ Some f
+      → IsFalse (is_placed s pools c f part)
       → first_in (slice_index_or new k d) part ≡ first_in (slice_index_or old k d) part

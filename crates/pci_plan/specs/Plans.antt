@@ -41,8 +41,10 @@ pub record IsPlanValue (p : PlanValue) : Type 0 where
   pub writes : p.writes ≡ plan_writes (changes_between (system_in p.start) (final_of p))
   pub reached : system_after (system_in p.start) p.writes ≡ final_of p
   pub changes : EachWriteChanges (system_in p.start) p.writes
-  pub few : length p.writes ≤ sum (map most_writes (changes_between (system_in p.start) (final_of p)))
-  pub safe : IsSafeFrom p.start.roots (system_in p.start) (length (closing_writes (changes_between (system_in p.start) (final_of p)))) p.safe_from
+  pub few : length p.writes
+      ≤ sum (map most_writes (changes_between (system_in p.start) (final_of p)))
+  pub safe : IsSafeFrom p.start.roots (system_in p.start)
+      (length (closing_writes (changes_between (system_in p.start) (final_of p)))) p.safe_from
   pub stops : StopsSafely p.start.roots (system_in p.start) p.writes p.safe_from
 
 -- it is a plan of an admission in these pools, which could be planned
@@ -62,7 +64,8 @@ plan_fault_of (NotAccepted fault) = plan.NotAccepted (fault_of fault)
 
 -- the fault stands, and none that is looked for before it
 abbrev pub IsFaultOf : Admission → Pools → PlanFault → Type 0
-IsFaultOf a pools fault = IsPlanFaultOf a.roots (system_in a) (pools_value pools) (plan_fault_of fault)
+IsFaultOf a pools fault =
+    IsPlanFaultOf a.roots (system_in a) (pools_value pools) (plan_fault_of fault)
 
 -- a fault that is named means that the system isn't sound
 abbrev pub IsUnsoundIf : Option Fault → List ℕ → System → Type 0

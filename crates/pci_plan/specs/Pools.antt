@@ -4,4 +4,9 @@ use Rattle.pci_image.specs.Ranges.{decoded_range_of}
 use Rattle.pci_plan.specs.declared.pools.Pools.{Pools}
 
 abbrev pub pools_value : Pools → plan.Pools
-pools_value p = record { io = decoded_range_of p.io; memory = decoded_range_of p.mem; prefetch = decoded_range_of p.pref }
+pools_value p =
+    record {
+      io = decoded_range_of p.io;
+      memory = decoded_range_of p.mem;
+      prefetch = decoded_range_of p.pref;
+    }

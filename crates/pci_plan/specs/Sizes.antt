@@ -19,7 +19,9 @@ span first last = last - first + 1
 
 -- the sizes of the BARs of a class
 abbrev pub bar_sizes : WindowKind → Above → Pools → List Bar → List ℕ
-bar_sizes c above pools bars = map (λ (b : Bar). span b.first b.last) (filter (λ b. same_class c (bar_class b above pools)) bars)
+bar_sizes c above pools bars =
+    map (λ (b : Bar). span b.first b.last)
+    (filter (λ b. same_class c (bar_class b above pools)) bars)
 
 -- the size of a ROM, which is memory
 abbrev pub rom_sizes : WindowKind → Option Rom → List ℕ
@@ -34,7 +36,8 @@ own_sizes c above pools r = bar_sizes c above pools r.bars.items ++ rom_sizes c 
 abbrev pub window_sizes : WindowKind → List ℕ → Option Bridge → List ℕ
 window_sizes c needs None = []
 window_sizes c needs (Some b) =
-    if nat_lt 0 (slice_index needs b.secondary) then window_size c (slice_index needs b.secondary) ∷ [] else []
+    if nat_lt 0 (slice_index needs b.secondary)
+    then window_size c (slice_index needs b.secondary) ∷ [] else []
 
 -- the sum of some sizes, as far as it is told apart, and the greatest of them
 pub record IsTallyOf (sizes : List ℕ) (t : Tally) : Type 0 where

@@ -18,7 +18,9 @@ is_plain w = w.width == 2 || w.width == 4
 
 -- the text of a write: its line without the end
 abbrev pub write_text : Write → List ℕ
-write_text w = slot_text w.slot ++ byte_field w.offset ++ (46 ∷ hex_digit w.width ∷ field (hex_number (w.width + w.width) w.value))
+write_text w =
+    slot_text w.slot ++ byte_field w.offset
+    ++ (46 ∷ hex_digit w.width ∷ field (hex_number (w.width + w.width) w.value))
 
 abbrev pub printed : CodeWrite → Option (List ℕ)
 printed w = if is_plain w then Some (write_text (write_value w)) else None

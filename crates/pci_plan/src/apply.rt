@@ -31,14 +31,19 @@ pub fn apply<P: ConfigPort, A: Allocator>(
     port: &mut P,
     plan: &Plan<'_, A>,
 ) -> Result<(), ApplyFault>
-    ensures made { P.targets port.new ≡ after_writes (P.targets port.old) (take (writes_made plan.now.writes result) plan.now.writes) }
+    ensures made { P.targets port.new
+        ≡ after_writes (P.targets port.old)
+        (take (writes_made plan.now.writes result) plan.now.writes) }
     ensures started { OnOk result (ShowsSystem (P.targets port.old) (system_in plan.now.start)) }
     ensures ended { OnOk result (ShowsSystem (P.targets port.new) (final_of plan.now)) }
     ensures counted { OnOk result (P.failures port.new ≡ P.failures port.old) }
-    ensures fault { IfErr result (IsApplyFault (P.targets port.old) (P.failures port.old) (system_in plan.now.start) plan.now.writes (P.targets port.new) (P.failures port.new)) }
-    ensures own_machine { P.targets port.old ≡ map target_of (system_in plan.now.start) → P.failures port.new ≡ P.failures port.old → IsOk result }
+    ensures fault { IfErr result (IsApplyFault (P.targets port.old) (P.failures port.old)
+        (system_in plan.now.start) plan.now.writes (P.targets port.new) (P.failures port.new)) }
+    ensures own_machine { P.targets port.old ≡ map target_of (system_in plan.now.start)
+        → P.failures port.new ≡ P.failures port.old → IsOk result }
     ensures sound { P.targets port.old ≡ map target_of (system_in plan.now.start)
-        → IsSound plan.now.start.roots (system_in plan.now.start) ⊎ (plan.now.safe_from ≤ writes_made plan.now.writes result)
+        → IsSound plan.now.start.roots (system_in plan.now.start)
+        ⊎ (plan.now.safe_from ≤ writes_made plan.now.writes result)
         → AreSound plan.now.start.roots (P.targets port.new) }
 {
     compare(port, plan.start().dump().blocks())?;

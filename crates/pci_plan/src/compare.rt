@@ -23,9 +23,11 @@ fn compare_register<P: ConfigPort>(
 ) -> Result<(), ApplyFault>
     requires { IsTrue (is_access offset width) }
     ensures same { P.targets port.new ≡ P.targets port.old }
-    ensures shown { OnOk result (ShowsNumber (P.targets port.old) slot offset width (number_at image.now.0 offset width)) }
+    ensures shown { OnOk result
+        (ShowsNumber (P.targets port.old) slot offset width (number_at image.now.0 offset width)) }
     ensures counted { OnOk result (P.failures port.new ≡ P.failures port.old) }
-    ensures fault { IfErr result (IsRegisterFault (P.targets port.old) (P.failures port.old) slot image.now.0 offset width (P.failures port.new)) }
+    ensures fault { IfErr result (IsRegisterFault (P.targets port.old)
+        (P.failures port.old) slot image.now.0 offset width (P.failures port.new)) }
 {
     match port.read(slot, offset, width) {
         Ok(value) => {
@@ -48,7 +50,8 @@ fn compare_function<P: ConfigPort>(
     ensures same { P.targets port.new ≡ P.targets port.old }
     ensures shown { OnOk result (ShowsAll (P.targets port.old) slot image.now.0) }
     ensures counted { OnOk result (P.failures port.new ≡ P.failures port.old) }
-    ensures fault { IfErr result (IsFunctionFault (P.targets port.old) (P.failures port.old) slot image.now.0 (P.failures port.new)) }
+    ensures fault { IfErr result (IsFunctionFault (P.targets port.old)
+        (P.failures port.old) slot image.now.0 (P.failures port.new)) }
 {
     compare_register(port, slot, image, COMMAND, 2)?;
     for register in address_registers(layout(image) == 1) {
@@ -62,7 +65,8 @@ pub fn compare<P: ConfigPort>(port: &mut P, blocks: &[Block]) -> Result<(), Appl
     ensures same { P.targets port.new ≡ P.targets port.old }
     ensures started { OnOk result (StartsAs (P.targets port.old) blocks.now) }
     ensures counted { OnOk result (P.failures port.new ≡ P.failures port.old) }
-    ensures fault { IfErr result (IsStartFault (P.targets port.old) (P.failures port.old) blocks.now (P.failures port.new)) }
+    ensures fault { IfErr result
+        (IsStartFault (P.targets port.old) (P.failures port.old) blocks.now (P.failures port.new)) }
 {
     for block in blocks {
         compare_function(port, block.slot, &block.image)?;

@@ -81,7 +81,8 @@ fn add_bars<A: Allocator>(
     pools: &Pools,
 ) -> Result<(), OutOfMemory>
     requires { All IsBar bars.now }
-    ensures { OnOk result (items.new.items ≡ items.old.items ++ bar_items owner (kind_value class) above pools.now bars.now) }
+    ensures { OnOk result (items.new.items
+        ≡ items.old.items ++ bar_items owner (kind_value class) above pools.now bars.now) }
 {
     for bar in bars {
         if class_of_bar(bar, above, pools) == class {
@@ -101,7 +102,8 @@ fn add_window<A: Allocator>(
     needs: &Needs,
 ) -> Result<(), OutOfMemory>
     requires { (bus : ℕ) → bus < 256 → slice_index needs.now.of_bus bus ≤ 2 ^ 65 }
-    ensures { OnOk result (items.new.items ≡ items.old.items ++ window_items owner (kind_value class) needs.now.of_bus bridge) }
+    ensures { OnOk result (items.new.items
+        ≡ items.old.items ++ window_items owner (kind_value class) needs.now.of_bus bridge) }
 {
     if let Some(bridge) = bridge {
         let secondary = bridge.secondary;
@@ -121,7 +123,8 @@ fn add_rom<A: Allocator>(
     class: WindowKind,
 ) -> Result<(), OutOfMemory>
     requires { IfSome rom (λ rom. rom.first ≤ rom.last) }
-    ensures { OnOk result (items.new.items ≡ items.old.items ++ rom_items owner (kind_value class) rom) }
+    ensures { OnOk result
+        (items.new.items ≡ items.old.items ++ rom_items owner (kind_value class) rom) }
 {
     if let Some(rom) = rom {
         if class == WindowKind::Memory {
@@ -144,7 +147,9 @@ fn add_items<A: Allocator>(
     requires bars { All IsBar «record».now.bars.items }
     requires rom { IfSome «record».now.rom (λ rom. rom.first ≤ rom.last) }
     requires needs { (bus : ℕ) → bus < 256 → slice_index needs.now.of_bus bus ≤ 2 ^ 65 }
-    ensures { OnOk result (items.new.items ≡ items.old.items ++ record_items owner (kind_value class) above pools.now needs.now.of_bus «record».now) }
+    ensures { OnOk result (items.new.items
+        ≡ items.old.items
+        ++ record_items owner (kind_value class) above pools.now needs.now.of_bus «record».now) }
 {
     add_bars(items, owner, record.bars.as_slice(), class, above, pools)?;
     add_window(items, owner, record.bridge, class, needs)?;
@@ -168,8 +173,10 @@ pub fn items_of<A: Allocator, B: Allocator>(
     needs: &Needs,
 ) -> Result<Vec<Item, A>, OutOfMemory>
     requires aboves { AreAboves (system_in admitted.now) aboves.now }
-    requires needs { AreNeeds admitted.now.roots (system_in admitted.now) (pools_value pools.now) (kind_value class) needs.now }
-    ensures items { IfOk result (λ items. AreItems admitted.now.roots (system_in admitted.now) (pools_value pools.now) (kind_value class) items.items) }
+    requires needs { AreNeeds admitted.now.roots (system_in admitted.now) (pools_value pools.now)
+        (kind_value class) needs.now }
+    ensures items { IfOk result (λ items. AreItems admitted.now.roots (system_in admitted.now)
+        (pools_value pools.now) (kind_value class) items.items) }
     ensures rooted { OnOk result (IsRooted admitted.now.roots (system_in admitted.now)) }
 {
     let outline = admitted.outline();
@@ -190,7 +197,9 @@ pub fn items_of<A: Allocator, B: Allocator>(
 /// Sorts items by falling size; those of one size stay in their order.
 fn sort_by_size<A: Allocator + Copy>(items: &mut Vec<Item, A>) -> Result<(), OutOfMemory>
     ensures permutation { IsPermutation items.old.items items.new.items }
-    ensures sorted { OnOk result ((number : Item → ℕ) → AllPairs (λ i j. number i < number j) items.old.items → AllPairs (IsLarger number) items.new.items) }
+    ensures sorted { OnOk result ((number : Item → ℕ)
+        → AllPairs (λ i j. number i < number j) items.old.items
+        → AllPairs (IsLarger number) items.new.items) }
 {
     match items.sort_by_key(|item| Reverse(item.size)) {
         Ok(()) => Ok(()),
@@ -201,7 +210,8 @@ fn sort_by_size<A: Allocator + Copy>(items: &mut Vec<Item, A>) -> Result<(), Out
 /// Sorts items by their group; those of one group stay in their order.
 fn sort_by_group<A: Allocator + Copy>(items: &mut Vec<Item, A>) -> Result<(), OutOfMemory>
     ensures permutation { IsPermutation items.old.items items.new.items }
-    ensures sorted { OnOk result ((number : Item → ℕ) → AllPairs (IsLarger number) items.old.items → AllPairs (IsPlacedBefore number) items.new.items) }
+    ensures sorted { OnOk result ((number : Item → ℕ) → AllPairs (IsLarger number) items.old.items
+        → AllPairs (IsPlacedBefore number) items.new.items) }
 {
     match items.sort_by_key(|item| item.group) {
         Ok(()) => Ok(()),
@@ -212,7 +222,9 @@ fn sort_by_group<A: Allocator + Copy>(items: &mut Vec<Item, A>) -> Result<(), Ou
 /// Sorts items that stand in slot and register order into groups, and each group by falling size.
 pub fn sort_items<A: Allocator + Copy>(items: &mut Vec<Item, A>) -> Result<(), OutOfMemory>
     ensures permutation { IsPermutation items.old.items items.new.items }
-    ensures sorted { OnOk result ((number : Item → ℕ) → AllPairs (λ i j. number i < number j) items.old.items → AllPairs (IsPlacedBefore number) items.new.items) }
+    ensures sorted { OnOk result ((number : Item → ℕ)
+        → AllPairs (λ i j. number i < number j) items.old.items
+        → AllPairs (IsPlacedBefore number) items.new.items) }
 {
     sort_by_size(items)?;
     sort_by_group(items)

@@ -29,7 +29,9 @@ pub fn has_io_bar(function: &Record) -> bool
 /// The first function, by slot, that has an I/O BAR behind a bridge without an I/O window.
 pub fn first_lacking<A: Allocator>(admitted: &Admitted<A>, aboves: &[Above; BUSES]) -> Option<Slot>
     requires { AreAboves (system_in admitted.now) aboves.now }
-    ensures { MatchOption result ((slot : SlotValue) → LacksWindow (system_in admitted.now) slot → ⊥) (IsFirstLacking (system_in admitted.now)) }
+    ensures { MatchOption result
+        ((slot : SlotValue) → LacksWindow (system_in admitted.now) slot → ⊥)
+        (IsFirstLacking (system_in admitted.now)) }
 {
     for record in admitted.outline().records() {
         let above = aboves[record.slot.bus() as usize];

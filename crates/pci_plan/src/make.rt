@@ -14,10 +14,13 @@ use pci_machine::port::ConfigPort;
 fn make_one<P: ConfigPort>(port: &mut P, write: Write, done: usize) -> Result<(), ApplyFault>
     requires access { IsAccessible write }
     requires few { done < 2 ^ 63 }
-    ensures made { OnOk result (P.targets port.new ≡ write_targets (P.targets port.old) (write_value write)) }
-    ensures shown { OnOk result (ShowsNumber (P.targets port.new) write.slot write.off write.width write.value) }
+    ensures made { OnOk result
+        (P.targets port.new ≡ write_targets (P.targets port.old) (write_value write)) }
+    ensures shown { OnOk result
+        (ShowsNumber (P.targets port.new) write.slot write.off write.width write.value) }
     ensures counted { OnOk result (P.failures port.new ≡ P.failures port.old) }
-    ensures stop { IfErr result (IsLastWrite (P.targets port.old) (P.failures port.old) (write_value write) done (P.targets port.new) (P.failures port.new)) }
+    ensures stop { IfErr result (IsLastWrite (P.targets port.old) (P.failures port.old)
+        (write_value write) done (P.targets port.new) (P.failures port.new)) }
 {
     match port.write(write.slot, write.off, write.width, write.value) {
         Ok(()) => {}
@@ -38,9 +41,11 @@ fn make_one<P: ConfigPort>(port: &mut P, write: Write, done: usize) -> Result<()
 /// Makes each write and reads it back, until one fails or reads back otherwise.
 pub fn make<P: ConfigPort>(port: &mut P, writes: &[Write]) -> Result<(), ApplyFault>
     requires { All IsAccessible writes.now }
-    ensures made { OnOk result (AreMade (P.targets port.old) (map write_value writes.now) (length writes.now) (P.targets port.new)) }
+    ensures made { OnOk result (AreMade (P.targets port.old) (map write_value writes.now)
+        (length writes.now) (P.targets port.new)) }
     ensures counted { OnOk result (P.failures port.new ≡ P.failures port.old) }
-    ensures stop { IfErr result (IsStop (P.targets port.old) (P.failures port.old) (map write_value writes.now) (P.targets port.new) (P.failures port.new)) }
+    ensures stop { IfErr result (IsStop (P.targets port.old) (P.failures port.old)
+        (map write_value writes.now) (P.targets port.new) (P.failures port.new)) }
 {
     for (done, write) in writes.iter().enumerate() {
         make_one(port, *write, done)?;

@@ -119,7 +119,8 @@ fn tally_of(
 ) -> Tally
     requires lawful { IsLawful «record».now }
     requires limited { All (λ need. need ≤ 2 ^ 65) of_bus.now }
-    ensures { IsTallyOf (own_sizes (kind_value class) above pools.now «record».now ++ window_sizes (kind_value class) of_bus.now «record».now.bridge) result }
+    ensures { IsTallyOf (own_sizes (kind_value class) above pools.now «record».now
+        ++ window_sizes (kind_value class) of_bus.now «record».now.bridge) result }
 {
     let tally = own_tally(record, class, above, pools);
     if let Some(bridge) = record.bridge {
@@ -140,8 +141,12 @@ pub fn needs_of<A: Allocator>(
     aboves: &[Above; BUSES],
 ) -> Needs
     requires { AreAboves (system_in admitted.now) aboves.now }
-    ensures need { (bus : ℕ) → bus < 256 → slice_index result.of_bus bus ≡ need_of (system_in admitted.now) (pools_value pools.now) (kind_value class) bus }
-    ensures greatest { result.greatest ≡ greatest_of_roots admitted.now.roots (system_in admitted.now) (pools_value pools.now) (kind_value class) }
+    ensures need { (bus : ℕ) → bus < 256
+        → slice_index result.of_bus bus
+        ≡ need_of (system_in admitted.now) (pools_value pools.now) (kind_value class) bus }
+    ensures greatest { result.greatest
+        ≡ greatest_of_roots admitted.now.roots (system_in admitted.now) (pools_value pools.now)
+        (kind_value class) }
 {
     let outline = admitted.outline();
     let records = outline.records();

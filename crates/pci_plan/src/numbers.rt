@@ -39,7 +39,9 @@ pub struct Filling<'a> {
 
 /// Whether a function has a memory BAR or a ROM.
 fn has_memory_part(function: &Record) -> bool
-    ensures { result ≡ (list_any (λ bar. not (is_io_kind bar.kind)) function.now.bars.items || is_some function.now.rom) }
+    ensures { result
+        ≡ (list_any (λ bar. not (is_io_kind bar.kind)) function.now.bars.items
+        || is_some function.now.rom) }
 {
     for bar in function.bars.as_slice() {
         if bar.kind != BarKind::Io {
@@ -67,7 +69,8 @@ impl Filling<'_> {
     /// The first address of a BAR's place.
     fn place_of(&self, bar: &Bar) -> u64
         requires { (n : ℕ) × (n < 6) × (bar.now.reg ≡ bar_register n) }
-        ensures { (n : ℕ) → bar.now.reg ≡ bar_register n → result ≡ first_in self.now.places.now (BarPart n) }
+        ensures { (n : ℕ) → bar.now.reg ≡ bar_register n
+            → result ≡ first_in self.now.places.now (BarPart n) }
     {
         self.places.bars[usize::from((bar.reg - BASE_ADDRESS) / 4)]
     }
@@ -76,7 +79,8 @@ impl Filling<'_> {
     fn bar_value(&self, bar: &Bar) -> u64
         requires of { FillingOf self.now }
         requires listed { Contains self.now.record.now.bars.items bar.now }
-        ensures { (of : FillingOf self.now) (n : ℕ) → bar.now.reg ≡ bar_register n → result ≡ numbers.new_bar of.roots of.system of.pools of.function n }
+        ensures { (of : FillingOf self.now) (n : ℕ) → bar.now.reg ≡ bar_register n
+            → result ≡ numbers.new_bar of.roots of.system of.pools of.function n }
     {
         bar.value_from(self.image.u32(bar.reg), self.place_of(bar))
     }
@@ -85,7 +89,8 @@ impl Filling<'_> {
     fn bar_number(&self, offset: u8) -> u32
         requires of { FillingOf self.now }
         requires aligned { offset % 4 ≡ 0 }
-        ensures { (of : FillingOf self.now) (n : ℕ) → n < bar_count (layout of.function.image) → offset ≡ bar_register n
+        ensures { (of : FillingOf self.now) (n : ℕ) → n < bar_count (layout of.function.image)
+            → offset ≡ bar_register n
             → result ≡ numbers.bar_number of.roots of.system of.pools of.function n }
     {
         for bar in self.record.bars.as_slice() {
@@ -102,8 +107,10 @@ impl Filling<'_> {
     /// Of the Expansion ROM register: the first address, with the enable bit that stands there.
     fn rom_number(&self, offset: u8) -> u32
         requires of { FillingOf self.now }
-        requires register { (of : FillingOf self.now) → offset ≡ rom_register (layout of.function.image) }
-        ensures { (of : FillingOf self.now) → result ≡ numbers.rom_number of.roots of.system of.pools of.function }
+        requires register { (of : FillingOf self.now)
+            → offset ≡ rom_register (layout of.function.image) }
+        ensures { (of : FillingOf self.now)
+            → result ≡ numbers.rom_number of.roots of.system of.pools of.function }
     {
         match &self.record.rom {
             None => self.image.u32(offset),
@@ -113,7 +120,8 @@ impl Filling<'_> {
 
     /// What the bus behind a bridge needs.
     fn need(&self, bridge: &Bridge, class: WindowKind) -> u128
-        ensures { result ≡ slice_index (by_kind self.now.needs.now class).of_bus bridge.now.secondary }
+        ensures { result
+            ≡ slice_index (by_kind self.now.needs.now class).of_bus bridge.now.secondary }
     {
         self.needs.get(class).of_bus[usize::from(bridge.secondary)]
     }
@@ -129,9 +137,13 @@ impl Filling<'_> {
     fn window_bounds(&self, bridge: &Bridge, class: WindowKind, nibble: u16) -> Bounds
         requires of { FillingOf self.now }
         requires bridge { self.now.record.now.bridge ≡ Some bridge.now }
-        requires nibble { (of : FillingOf self.now) → nibble ≡ nibble_of (kind_value class) of.function }
-        requires there { (of : FillingOf self.now) → IsTrue (has_window (kind_value class) of.function.probe) }
-        ensures { (of : FillingOf self.now) → spec_bounds_of result ≡ numbers.new_bounds of.roots of.system of.pools of.function (kind_value class) }
+        requires nibble { (of : FillingOf self.now)
+            → nibble ≡ nibble_of (kind_value class) of.function }
+        requires there { (of : FillingOf self.now)
+            → IsTrue (has_window (kind_value class) of.function.probe) }
+        ensures { (of : FillingOf self.now)
+            → spec_bounds_of result
+            ≡ numbers.new_bounds of.roots of.system of.pools of.function (kind_value class) }
     {
         let need = self.need(bridge, class);
         if need == 0 {
@@ -146,7 +158,9 @@ impl Filling<'_> {
     fn bounds(&self, bridge: &Bridge, class: WindowKind) -> Bounds
         requires of { FillingOf self.now }
         requires bridge { self.now.record.now.bridge ≡ Some bridge.now }
-        ensures { (of : FillingOf self.now) → spec_bounds_of result ≡ numbers.new_bounds of.roots of.system of.pools of.function (kind_value class) }
+        ensures { (of : FillingOf self.now)
+            → spec_bounds_of result
+            ≡ numbers.new_bounds of.roots of.system of.pools of.function (kind_value class) }
     {
         match bridge.windows.get(class) {
             None => Bounds::ABSENT,
@@ -159,7 +173,8 @@ impl Filling<'_> {
         requires of { FillingOf self.now }
         requires bridge { self.now.record.now.bridge ≡ Some bridge.now }
         requires listed { (width : ℕ) × Contains (address_registers 1) (offset, width) }
-        ensures { (of : FillingOf self.now) → result ≡ numbers.bridge_number of.roots of.system of.pools of.function offset }
+        ensures { (of : FillingOf self.now)
+            → result ≡ numbers.bridge_number of.roots of.system of.pools of.function offset }
     {
         match offset {
             IO_BASE => self.bounds(bridge, WindowKind::Io).lower(8),
@@ -177,7 +192,10 @@ impl Filling<'_> {
     pub fn number(&self, register: Register) -> u32
         requires of { FillingOf self.now }
         requires listed { IsListed self.now.record.now register }
-        ensures { (of : FillingOf self.now) → result ≡ numbers.new_number of.roots of.system of.pools of.function (register.offset, register.width) }
+        ensures { (of : FillingOf self.now)
+            → result
+            ≡ numbers.new_number of.roots of.system of.pools of.function
+            (register.offset, register.width) }
     {
         let offset = register.offset;
         match &self.record.bridge {
@@ -190,7 +208,10 @@ impl Filling<'_> {
     /// Whether the function is a bridge with a window of a class, and something of the class is behind it.
     fn is_open(&self, class: WindowKind) -> bool
         requires { FillingOf self.now }
-        ensures { (of : FillingOf self.now) → result ≡ (is_bridge of.function && has_window (kind_value class) of.function.probe && has_behind of.system of.pools (kind_value class) of.function) }
+        ensures { (of : FillingOf self.now)
+            → result
+            ≡ (is_bridge of.function && has_window (kind_value class) of.function.probe
+            && has_behind of.system of.pools (kind_value class) of.function) }
     {
         match &self.record.bridge {
             None => false,
@@ -201,7 +222,8 @@ impl Filling<'_> {
     /// Whether there is something to decode in I/O space.
     fn needs_io(&self) -> bool
         requires { FillingOf self.now }
-        ensures { (of : FillingOf self.now) → result ≡ numbers.needs_io of.system of.pools of.function }
+        ensures { (of : FillingOf self.now)
+            → result ≡ numbers.needs_io of.system of.pools of.function }
     {
         has_io_bar(self.record) || self.is_open(WindowKind::Io)
     }
@@ -209,7 +231,8 @@ impl Filling<'_> {
     /// Whether there is something to decode in memory space.
     fn needs_memory(&self) -> bool
         requires { FillingOf self.now }
-        ensures { (of : FillingOf self.now) → result ≡ numbers.needs_memory of.system of.pools of.function }
+        ensures { (of : FillingOf self.now)
+            → result ≡ numbers.needs_memory of.system of.pools of.function }
     {
         has_memory_part(self.record)
             || self.is_open(WindowKind::Memory)
@@ -219,7 +242,8 @@ impl Filling<'_> {
     /// What Command holds: bits 0 and 1 as there is something to decode, all others as they stand (PCI 3.0, 6.2.2).
     pub fn command(&self) -> u16
         requires { FillingOf self.now }
-        ensures { (of : FillingOf self.now) → result ≡ numbers.new_command of.system of.pools of.function }
+        ensures { (of : FillingOf self.now)
+            → result ≡ numbers.new_command of.system of.pools of.function }
     {
         let rest = self.image.u16(COMMAND) / 4 * 4;
         rest + u16::from(self.needs_io()) + 2 * u16::from(self.needs_memory())

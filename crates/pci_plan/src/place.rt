@@ -46,7 +46,8 @@ impl Places {
     fn set(&mut self, class: WindowKind, part: Part, first: u64)
         requires { IsPart part }
         ensures set { first_in self.new (part_value (kind_value class) part) ≡ first }
-        ensures others { (other : PartValue) → (other ≡ part_value (kind_value class) part → ⊥) → first_in self.new other ≡ first_in self.old other }
+        ensures others { (other : PartValue) → (other ≡ part_value (kind_value class) part → ⊥)
+            → first_in self.new other ≡ first_in self.old other }
     {
         match part {
             Part::Bar(n) => self.bars[usize::from(n)] = first,
@@ -64,10 +65,15 @@ impl Places {
 /// it, or on a root, so the first address of its window is known when that group begins.
 fn place_sorted(items: &[Item], class: WindowKind, start: u128, places: &mut [Places])
     requires { Walk (kind_value class) (length places.old) start items.now }
-    ensures placed { (w : Walk (kind_value class) (length places.old) start items.now) (i : Item) (d : Places) → Contains items.now i
-        → first_in (slice_index_or places.new i.function d) (part_value (kind_value class) i.part) ≡ w.place i }
-    ensures others { (k : ℕ) (d : Places) (part : PartValue) → ((i : Item) → Contains items.now i → i.function ≡ k → part_value (kind_value class) i.part ≡ part → ⊥)
-        → first_in (slice_index_or places.new k d) part ≡ first_in (slice_index_or places.old k d) part }
+    ensures placed { (w : Walk (kind_value class) (length places.old) start items.now) (i : Item)
+        (d : Places) → Contains items.now i
+        → first_in (slice_index_or places.new i.function d) (part_value (kind_value class) i.part)
+        ≡ w.place i }
+    ensures others { (k : ℕ) (d : Places) (part : PartValue)
+        → ((i : Item) → Contains items.now i → i.function ≡ k
+        → part_value (kind_value class) i.part ≡ part → ⊥)
+        → first_in (slice_index_or places.new k d) part
+        ≡ first_in (slice_index_or places.old k d) part }
 {
     let mut starts = [0u128; BUSES];
     let mut group = 0;
@@ -95,12 +101,16 @@ pub fn place_class<A: Allocator + Copy, B: Allocator>(
     needs: &Needs,
     places: &mut [Places],
 ) -> Result<(), OutOfMemory>
-    requires plannable { CanBePlanned admitted.now.roots (system_in admitted.now) (pools_value pools.now) }
+    requires plannable { CanBePlanned admitted.now.roots (system_in admitted.now)
+        (pools_value pools.now) }
     requires aboves { AreAboves (system_in admitted.now) aboves.now }
-    requires needs { AreNeeds admitted.now.roots (system_in admitted.now) (pools_value pools.now) (kind_value class) needs.now }
+    requires needs { AreNeeds admitted.now.roots (system_in admitted.now) (pools_value pools.now)
+        (kind_value class) needs.now }
     requires count { length places.old ≡ length (system_in admitted.now) }
-    ensures placed { OnOk result (HasPlaces admitted.now.roots (system_in admitted.now) (pools_value pools.now) (kind_value class) places.new) }
-    ensures others { OnOk result (KeepsOthers (system_in admitted.now) (pools_value pools.now) (kind_value class) places.old places.new) }
+    ensures placed { OnOk result (HasPlaces admitted.now.roots (system_in admitted.now)
+        (pools_value pools.now) (kind_value class) places.new) }
+    ensures others { OnOk result (KeepsOthers (system_in admitted.now) (pools_value pools.now)
+        (kind_value class) places.old places.new) }
 {
     let pool = pools.of(class);
     let mut items = items_of(alloc, admitted, pools, class, aboves, needs)?;

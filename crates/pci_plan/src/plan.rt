@@ -24,9 +24,19 @@ impl<'a, A: Allocator> Model for Plan<'a, A> {
 
     ghost Value = { PlanValue };
 
-    ghost view = { λ p. record { start = p.start.now; dump = p.dump; writes = map write_value p.writes.items; safe_from = p.safe_from } };
+    ghost view = { λ p. record {
+      start = p.start.now;
+      dump = p.dump;
+      writes = map write_value p.writes.items;
+      safe_from = p.safe_from;
+    } };
 
-    ghost invariant = { λ p. IsPlanValue record { start = p.start.now; dump = p.dump; writes = map write_value p.writes.items; safe_from = p.safe_from } };
+    ghost invariant = { λ p. IsPlanValue record {
+      start = p.start.now;
+      dump = p.dump;
+      writes = map write_value p.writes.items;
+      safe_from = p.safe_from;
+    } };
 }
 
 impl<'a, A: Allocator> Plan<'a, A> {
@@ -48,8 +58,18 @@ impl<'a, A: Allocator> Plan<'a, A> {
         writes: Vec<Write, A>,
         safe_from: usize,
     ) -> Plan<'a, A>
-        requires { IsPlanValue record { start = start.now; dump = dump; writes = map write_value writes.items; safe_from = safe_from } }
-        ensures { result ≡ record { start = start.entry.now; dump = dump; writes = map write_value writes.items; safe_from = safe_from } }
+        requires { IsPlanValue record {
+          start = start.now;
+          dump = dump;
+          writes = map write_value writes.items;
+          safe_from = safe_from;
+        } }
+        ensures { result ≡ record {
+          start = start.entry.now;
+          dump = dump;
+          writes = map write_value writes.items;
+          safe_from = safe_from;
+        } }
     {
         Plan {
             start,
@@ -89,11 +109,16 @@ impl<'a, A: Allocator> Plan<'a, A> {
     /// then functions are opened from the lowest slot up. They may stop anywhere from `safe_from` on.
     pub fn writes(&self) -> &[Write]
         ensures value { map write_value result.now ≡ self.now.writes }
-        ensures exact { self.now.writes ≡ plan_writes (changes_between (system_in self.now.start) (final_of self.now)) }
-        ensures stops { StopsSafely self.now.start.roots (system_in self.now.start) self.now.writes self.now.safe_from }
-        ensures reached { system_after (system_in self.now.start) self.now.writes ≡ final_of self.now }
+        ensures exact { self.now.writes
+            ≡ plan_writes (changes_between (system_in self.now.start) (final_of self.now)) }
+        ensures stops { StopsSafely self.now.start.roots
+            (system_in self.now.start) self.now.writes self.now.safe_from }
+        ensures reached { system_after (system_in self.now.start) self.now.writes
+            ≡ final_of self.now }
         ensures changes { EachWriteChanges (system_in self.now.start) self.now.writes }
-        ensures few { length self.now.writes ≤ sum (map most_writes (changes_between (system_in self.now.start) (final_of self.now))) }
+        ensures few { length self.now.writes
+            ≤ sum
+            (map most_writes (changes_between (system_in self.now.start) (final_of self.now))) }
     {
         self.writes.as_slice()
     }
@@ -102,7 +127,9 @@ impl<'a, A: Allocator> Plan<'a, A> {
     /// closing writes.
     pub fn safe_from(&self) -> usize
         ensures value { result ≡ self.now.safe_from }
-        ensures safe { IsSafeFrom self.now.start.roots (system_in self.now.start) (length (closing_writes (changes_between (system_in self.now.start) (final_of self.now)))) self.now.safe_from }
+        ensures safe { IsSafeFrom self.now.start.roots (system_in self.now.start) (length
+            (closing_writes (changes_between (system_in self.now.start) (final_of self.now))))
+            self.now.safe_from }
     {
         self.safe_from
     }

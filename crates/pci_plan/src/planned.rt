@@ -30,7 +30,9 @@ use std::alloc::Allocator;
 /// The image of a function with its new numbers.
 fn filled(filling: &Filling<'_>) -> Image
     requires { FillingOf filling.now }
-    ensures { (of : FillingOf filling.now) → IsPlannedFunction of.roots of.system of.pools of.function record of.function { image = result.0 } }
+    ensures { (of : FillingOf filling.now)
+        → IsPlannedFunction of.roots of.system of.pools of.function record of.function
+        { image = result.0 } }
 {
     let mut image = *filling.image;
     for register in address_registers(filling.record.bridge.is_some()) {
@@ -66,13 +68,20 @@ pub fn planned_dump<A: Allocator, B: Allocator>(
     needs: &ByKind<Needs>,
     places: &[Places],
 ) -> Result<Dump<A>, OutOfMemory>
-    requires plannable { CanBePlanned admitted.now.roots (system_in admitted.now) (pools_value pools.now) }
-    requires needs { AreAllNeeds admitted.now.roots (system_in admitted.now) (pools_value pools.now) needs.now }
+    requires plannable { CanBePlanned admitted.now.roots (system_in admitted.now)
+        (pools_value pools.now) }
+    requires needs { AreAllNeeds admitted.now.roots (system_in admitted.now)
+        (pools_value pools.now) needs.now }
     requires count { length places.now ≡ length (system_in admitted.now) }
-    requires places { (c : KindValue) → HasPlaces admitted.now.roots (system_in admitted.now) (pools_value pools.now) c places.now }
+    requires places { (c : KindValue)
+        → HasPlaces admitted.now.roots (system_in admitted.now)
+        (pools_value pools.now) c places.now }
     ensures slots { IfOk result (λ dump. slots_of dump ≡ slots_of admitted.now.dump) }
-    ensures titles { IfOk result (λ dump. map (λ b. b.title) dump ≡ map (λ b. b.title) admitted.now.dump) }
-    ensures planned { IfOk result (λ dump. AllZip (IsPlannedFunction admitted.now.roots (system_in admitted.now) (pools_value pools.now)) (system_in admitted.now) (system_of dump admitted.now.probe)) }
+    ensures titles { IfOk result
+        (λ dump. map (λ b. b.title) dump ≡ map (λ b. b.title) admitted.now.dump) }
+    ensures planned { IfOk result (λ dump. AllZip
+        (IsPlannedFunction admitted.now.roots (system_in admitted.now) (pools_value pools.now))
+        (system_in admitted.now) (system_of dump admitted.now.probe)) }
 {
     // What the places were found by: the contract speaks of these alone.
     let _roots = admitted.outline().roots();

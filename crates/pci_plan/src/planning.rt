@@ -49,7 +49,8 @@ fn all_needs<A: Allocator>(
     aboves: &[Above; BUSES],
 ) -> ByKind<Needs>
     requires { AreAboves (system_in admitted.now) aboves.now }
-    ensures { AreAllNeeds admitted.now.roots (system_in admitted.now) (pools_value pools.now) result }
+    ensures { AreAllNeeds admitted.now.roots (system_in admitted.now)
+        (pools_value pools.now) result }
 {
     ByKind {
         io: needs_of(admitted, pools, WindowKind::Io, aboves),
@@ -64,9 +65,12 @@ fn first_too_large<A: Allocator>(
     pools: &Pools,
     needs: &ByKind<Needs>,
 ) -> Option<WindowKind>
-    requires { AreAllNeeds admitted.now.roots (system_in admitted.now) (pools_value pools.now) needs.now }
-    ensures { MatchOption result ((c : KindValue) → IsTrue (fits admitted.now.roots (system_in admitted.now) (pools_value pools.now) c))
-        (λ class. IsFirstTooLarge admitted.now.roots (system_in admitted.now) (pools_value pools.now) (kind_value class)) }
+    requires { AreAllNeeds admitted.now.roots (system_in admitted.now)
+        (pools_value pools.now) needs.now }
+    ensures { MatchOption result ((c : KindValue)
+        → IsTrue (fits admitted.now.roots (system_in admitted.now) (pools_value pools.now) c))
+        (λ class. IsFirstTooLarge admitted.now.roots (system_in admitted.now)
+        (pools_value pools.now) (kind_value class)) }
 {
     if !has_room(admitted, pools, WindowKind::Io, &needs.io) {
         return Some(WindowKind::Io);
@@ -108,11 +112,14 @@ fn all_places<A: Allocator + Copy, B: Allocator>(
     aboves: &[Above; BUSES],
     needs: &ByKind<Needs>,
 ) -> Result<Vec<Places, A>, OutOfMemory>
-    requires plannable { CanBePlanned admitted.now.roots (system_in admitted.now) (pools_value pools.now) }
+    requires plannable { CanBePlanned admitted.now.roots (system_in admitted.now)
+        (pools_value pools.now) }
     requires aboves { AreAboves (system_in admitted.now) aboves.now }
-    requires needs { AreAllNeeds admitted.now.roots (system_in admitted.now) (pools_value pools.now) needs.now }
+    requires needs { AreAllNeeds admitted.now.roots (system_in admitted.now)
+        (pools_value pools.now) needs.now }
     ensures count { IfOk result (λ v. length v.items ≡ length (system_in admitted.now)) }
-    ensures places { IfOk result (λ v. (c : KindValue) → HasPlaces admitted.now.roots (system_in admitted.now) (pools_value pools.now) c v.items) }
+    ensures places { IfOk result (λ v. (c : KindValue)
+        → HasPlaces admitted.now.roots (system_in admitted.now) (pools_value pools.now) c v.items) }
 {
     let mut places = no_places(alloc, admitted)?;
     let all = places.as_mut_slice();
@@ -166,7 +173,8 @@ fn judged<A: Allocator + Copy>(
     requires system { IsSystem (system_of dump.now admitted.now.probe) }
     requires slots { slots_of dump.now ≡ slots_of admitted.now.probe }
     requires roots { buses_of roots ≡ admitted.now.roots }
-    ensures { IfOk result (λ o. IsUnsoundIf o admitted.now.roots (system_of dump.now admitted.now.probe)) }
+    ensures { IfOk result
+        (λ o. IsUnsoundIf o admitted.now.roots (system_of dump.now admitted.now.probe)) }
 {
     match outline_of(alloc, dump, admitted.probe(), roots) {
         Ok(outline) => judge(alloc, &outline),
@@ -178,7 +186,8 @@ fn judged<A: Allocator + Copy>(
 /// From how many writes on a stop leaves a sound system.
 fn safe_from<A: Allocator + Copy>(alloc: A, admitted: &Admitted<A>) -> Result<usize, OutOfMemory>
     ensures { IfOk result (λ n. (IsSound admitted.now.roots (system_in admitted.now) × (n ≡ 0))
-        ⊎ ((IsSound admitted.now.roots (system_in admitted.now) → ⊥) × (n ≡ count_by (λ b. is_image_on b.image) admitted.now.dump))) }
+        ⊎ ((IsSound admitted.now.roots (system_in admitted.now) → ⊥)
+        × (n ≡ count_by (λ b. is_image_on b.image) admitted.now.dump))) }
 {
     match check(alloc, admitted)? {
         Verdict::Yes(_) => Ok(0),
@@ -194,9 +203,11 @@ fn made<'a, A: Allocator + Copy>(
     aboves: &[Above; BUSES],
     needs: &ByKind<Needs>,
 ) -> Result<Plan<'a, A>, OutOfMemory>
-    requires plannable { CanBePlanned admitted.now.roots (system_in admitted.now) (pools_value pools.now) }
+    requires plannable { CanBePlanned admitted.now.roots (system_in admitted.now)
+        (pools_value pools.now) }
     requires aboves { AreAboves (system_in admitted.now) aboves.now }
-    requires needs { AreAllNeeds admitted.now.roots (system_in admitted.now) (pools_value pools.now) needs.now }
+    requires needs { AreAllNeeds admitted.now.roots (system_in admitted.now)
+        (pools_value pools.now) needs.now }
     ensures { IfOk result (IsPlanIn admitted.entry.now (pools_value pools.now)) }
 {
     // Read for what it says of the system and the roots.
@@ -223,7 +234,8 @@ pub fn plan<'a, A: Allocator + Copy>(
     pools: &Pools,
 ) -> Result<Plan<'a, A>, Refused<PlanFault>>
     ensures planned { IfOk result (IsPlanIn admitted.entry.now (pools_value pools.now)) }
-    ensures fault { (f : PlanFault) → (result ≡ Err (Refused.Fault f)) ↔ IsFaultOf admitted.entry.now pools.now f }
+    ensures fault { (f : PlanFault) → (result ≡ Err (Refused.Fault f))
+        ↔ IsFaultOf admitted.entry.now pools.now f }
 {
     if pools.are_bad() {
         return Err(Refused::Fault(PlanFault::BadPools));

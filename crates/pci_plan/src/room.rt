@@ -48,8 +48,11 @@ pub fn has_room<A: Allocator>(
     class: WindowKind,
     needs: &Needs,
 ) -> bool
-    requires { AreNeeds admitted.now.roots (system_in admitted.now) (pools_value pools.now) (kind_value class) needs.now }
-    ensures { result ≡ fits admitted.now.roots (system_in admitted.now) (pools_value pools.now) (kind_value class) }
+    requires { AreNeeds admitted.now.roots (system_in admitted.now) (pools_value pools.now)
+        (kind_value class) needs.now }
+    ensures { result
+        ≡ fits admitted.now.roots (system_in admitted.now) (pools_value pools.now)
+        (kind_value class) }
 {
     let need = need_of_roots(&admitted.outline().roots(), needs);
     let pool = pools.of(class);

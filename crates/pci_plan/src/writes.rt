@@ -32,7 +32,12 @@ fn is_on(image: &Image) -> bool
 
 /// A write to Command.
 fn command_write(slot: Slot, command: u16) -> Write
-    ensures { write_value result ≡ record { slot = slot; offset = table.COMMAND; width = 2; value = command } }
+    ensures { write_value result ≡ record {
+      slot = slot;
+      offset = table.COMMAND;
+      width = 2;
+      value = command;
+    } }
 {
     Write {
         slot,
@@ -44,7 +49,8 @@ fn command_write(slot: Slot, command: u16) -> Write
 
 /// Closes what is on, the highest slot first.
 fn add_closing<A: Allocator>(writes: &mut Vec<Write, A>, start: &[Block]) -> Result<(), OutOfMemory>
-    ensures { OnOk result (map write_value writes.new.items ≡ map write_value writes.old.items ++ closing_writes (block_changes start.now start.now)) }
+    ensures { OnOk result (map write_value writes.new.items
+        ≡ map write_value writes.old.items ++ closing_writes (block_changes start.now start.now)) }
 {
     for done in 0..start.len() {
         let block = &start[start.len() - 1 - done];
@@ -61,7 +67,8 @@ fn add_registers<A: Allocator>(
     old: &Block,
     new: &Block,
 ) -> Result<(), OutOfMemory>
-    ensures { OnOk result (map write_value writes.new.items ≡ map write_value writes.old.items ++ registers_of (block_change old.now new.now)) }
+    ensures { OnOk result (map write_value writes.new.items
+        ≡ map write_value writes.old.items ++ registers_of (block_change old.now new.now)) }
 {
     for register in address_registers(layout(&old.image) == 1) {
         let value = new.image.number(register.offset, register.width);
@@ -83,7 +90,8 @@ fn add_opening<A: Allocator>(
     old: &Block,
     new: &Block,
 ) -> Result<(), OutOfMemory>
-    ensures { OnOk result (map write_value writes.new.items ≡ map write_value writes.old.items ++ opening_of (block_change old.now new.now)) }
+    ensures { OnOk result (map write_value writes.new.items
+        ≡ map write_value writes.old.items ++ opening_of (block_change old.now new.now)) }
 {
     let command = new.image.u16(COMMAND);
     if command != closed_command(&old.image) {
@@ -101,7 +109,8 @@ pub fn writes_between<A: Allocator>(
     planned: &[Block],
 ) -> Result<Vec<Write, A>, OutOfMemory>
     requires { length planned.now ≡ length start.now }
-    ensures { IfOk result (λ v. map write_value v.items ≡ plan_writes (block_changes start.now planned.now)) }
+    ensures { IfOk result
+        (λ v. map write_value v.items ≡ plan_writes (block_changes start.now planned.now)) }
 {
     let mut writes = Vec::new(alloc);
     add_closing(&mut writes, start)?;

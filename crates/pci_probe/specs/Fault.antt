@@ -25,7 +25,8 @@ pub record IsHeaderFault (image : List ℕ) (fault : ImageFault) : Type 0 where
 
 -- the function has a header, and its first register without a read back is this
 abbrev pub IsRegisterFault : Bool → List ℕ → List ResourceLine → NoProbe → Type 0
-IsRegisterFault exact image lines fault = HasHeader image × (no_probe exact image lines ≡ Some fault)
+IsRegisterFault exact image lines fault =
+    HasHeader image × (no_probe exact image lines ≡ Some fault)
 
 -- the fault is that of a register
 abbrev pub IsFaultOf : DeriveFault → Option NoProbe → Type 0
@@ -36,5 +37,7 @@ IsFaultOf (OtherSize register) found = found ≡ Some (spec.OtherSize register)
 -- why the function has no probe
 abbrev pub IsDeriveFault : Bool → List ℕ → List ResourceLine → DeriveFault → Type 0
 IsDeriveFault exact image lines (Header fault) = IsHeaderFault image fault
-IsDeriveFault exact image lines (NoSize register) = IsRegisterFault exact image lines (spec.NoSize register)
-IsDeriveFault exact image lines (OtherSize register) = IsRegisterFault exact image lines (spec.OtherSize register)
+IsDeriveFault exact image lines (NoSize register) =
+    IsRegisterFault exact image lines (spec.NoSize register)
+IsDeriveFault exact image lines (OtherSize register) =
+    IsRegisterFault exact image lines (spec.OtherSize register)

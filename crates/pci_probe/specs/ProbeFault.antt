@@ -29,5 +29,6 @@ fault_at slot (of_function.OtherSize register) = spec.OtherSize slot register
 
 -- what is named is the first that there is
 abbrev pub IsFirstFault : Bool → List Block → List SizesBlock → Refused ProbeFault → Type 0
-IsFirstFault exact dump sizes (Fault fault) = probe_fault exact dump sizes ≡ Some (fault_value fault)
+IsFirstFault exact dump sizes (Fault fault) =
+    probe_fault exact dump sizes ≡ Some (fault_value fault)
 IsFirstFault exact dump sizes Memory = Unit {0}

@@ -10,5 +10,7 @@ use Rattle.pci_dump.specs.declared.memory.Refused.TheVariants.{Fault, Memory}
 -- its slot isn't above the last one; it is, and there is no room; there is room, and a growth was refused
 abbrev pub IsNotPushed : List SizesBlock → SizesBlock → Refused PushFault → Type 0
 IsNotPushed blocks block (Fault NotAbove) = IsRising (sized_slots (blocks ++ block ∷ [])) → ⊥
-IsNotPushed blocks block (Fault Full) = IsRising (sized_slots (blocks ++ block ∷ [])) × (length blocks ≡ 4096)
-IsNotPushed blocks block Memory = IsRising (sized_slots (blocks ++ block ∷ [])) × (length blocks < 4096)
+IsNotPushed blocks block (Fault Full) =
+    IsRising (sized_slots (blocks ++ block ∷ [])) × (length blocks ≡ 4096)
+IsNotPushed blocks block Memory =
+    IsRising (sized_slots (blocks ++ block ∷ [])) × (length blocks < 4096)

@@ -20,8 +20,12 @@ IsSizesTextFault bytes (faults.Ended n) = IsSizesFaultOf bytes (Ended n)
 
 -- It is the fault of each text of these blocks and bytes that goes on so; it ends after bytes that are no whole blocks.
 abbrev pub IsFaultAfter : List SizesBlock → List ℕ → ReadFault → Type 0
-IsFaultAfter blocks bytes fault = (more : List ℕ) → (length bytes % 408 ≡ 0) ⊎ (more ≡ []) → IsSizesTextFault (sizes_text_of blocks ++ (bytes ++ more)) fault
+IsFaultAfter blocks bytes fault =
+    (more : List ℕ) → (length bytes % 408 ≡ 0) ⊎ (more ≡ [])
+    → IsSizesTextFault (sizes_text_of blocks ++ (bytes ++ more)) fault
 
 -- the bytes are no block that may stand after these
 abbrev pub IsNoBlockAfter : List SizesBlock → List ℕ → Type 0
-IsNoBlockAfter blocks bytes = (b : SizesBlock) → IsSizesBlock b → bytes ≡ sizes_block_text b → IsRising (sized_slots (blocks ++ b ∷ [])) → ⊥
+IsNoBlockAfter blocks bytes =
+    (b : SizesBlock) → IsSizesBlock b → bytes ≡ sizes_block_text b
+    → IsRising (sized_slots (blocks ++ b ∷ [])) → ⊥

@@ -59,8 +59,10 @@ fn address(value: u64) -> u64
 #[tactic(auto, unfolding(pci_spec::specs::Resource::tells_bar))]
 fn told_size(line: ResourceLine, wide: bool, value: u64) -> Option<u64>
     ensures told { MatchOption result (tells_bar line (if wide then 64 else 32) value ≡ false)
-        (λ size. (tells_bar line (if wide then 64 else 32) value ≡ true) × (size ≡ address_count line)) }
-    ensures bounds { MatchOption result ⊤ (λ size. (1 ≤ size) × (size ≤ 2 ^ 63) × (wide ≡ false → size ≤ 2 ^ 31)) }
+        (λ size. (tells_bar line (if wide then 64 else 32) value ≡ true)
+        × (size ≡ address_count line)) }
+    ensures bounds { MatchOption result ⊤
+        (λ size. (1 ≤ size) × (size ≤ 2 ^ 63) × (wide ≡ false → size ≤ 2 ^ 31)) }
 {
     let step = encodings(value);
     if !line.is_of_register()
@@ -114,7 +116,9 @@ pub fn bar(image: &Image, line: ResourceLine, bridge: bool, n: u8) -> Derived
     requires header { layout image.now.0 ≡ (if bridge then 1 else 0) }
     requires few { n < 6 }
     ensures { derived_of result
-        ≡ spec.derived_bar line (spec.bar_width image.now.0 n) (spec.is_enabled image.now.0 (spec.shown_bar image.now.0 n)) (spec.shown_bar image.now.0 n) }
+        ≡ spec.derived_bar line (spec.bar_width image.now.0 n)
+        (spec.is_enabled image.now.0 (spec.shown_bar image.now.0 n))
+        (spec.shown_bar image.now.0 n) }
 {
     let count = if bridge { 2 } else { 6 };
     let register = BASE_ADDRESS + 4 * n;

@@ -34,8 +34,10 @@ pub(crate) fn is_bridge(image: &Image) -> Result<bool, ImageFault>
 fn taken(derived: Derived, exact: bool, offset: u8) -> Result<(u32, bool), DeriveFault>
     requires narrow { IsNarrow derived }
     ensures told { OnOk result (register_fault exact offset (derived_of derived) ≡ None) }
-    ensures read_back { IfOk result (λ taken. (taken.0 ≡ read_back_of (derived_of derived)) × (taken.1 ≡ is_assumed (derived_of derived))) }
-    ensures fault { IfErr result (λ fault. IsFaultOf fault (register_fault exact offset (derived_of derived))) }
+    ensures read_back { IfOk result (λ taken. (taken.0 ≡ read_back_of (derived_of derived))
+        × (taken.1 ≡ is_assumed (derived_of derived))) }
+    ensures fault { IfErr result
+        (λ fault. IsFaultOf fault (register_fault exact offset (derived_of derived))) }
 {
     match derived {
         Derived::Known(read_back) => Ok((read_back as u32, false)),
@@ -69,7 +71,8 @@ pub fn derive(
     ensures header { OnOk result (HasHeader image.now.0) }
     ensures told { OnOk result (no_probe exact image.now.0 lines.now ≡ None) }
     ensures probe { OnOk result (probe.new.0 ≡ derived_probe image.now.0 lines.now) }
-    ensures assumed { IfOk result (λ registers. registers.items ≡ assumed_registers image.now.0 lines.now) }
+    ensures assumed { IfOk result
+        (λ registers. registers.items ≡ assumed_registers image.now.0 lines.now) }
     ensures fault { IfErr result (IsDeriveFault exact image.now.0 lines.now) }
 {
     let bridge = match is_bridge(image) {

@@ -74,7 +74,8 @@ impl ResourceLine {
     /// most 2 to the power of `most`.
     pub fn size(self, most: u32) -> Option<u64>
         requires { most < 64 }
-        ensures told { MatchOption result (has_size most self ≡ false) (λ size. (has_size most self ≡ true) × (size ≡ address_count self)) }
+        ensures told { MatchOption result (has_size most self ≡ false)
+            (λ size. (has_size most self ≡ true) × (size ≡ address_count self)) }
         ensures bounds { MatchOption result ⊤ (λ size. (1 ≤ size) × (size ≤ 2 ^ most)) }
     {
         if self.last < self.first || self.last - self.first == u64::MAX {

@@ -32,7 +32,8 @@ pub struct Derivation<A: Allocator = Global> {
 /// The fault of the first function whose header isn't decoded.
 fn header_fault(dump: &[Block]) -> Option<ProbeFault>
     ensures none { IfNone result (first_of identity_fault dump.now ≡ None) }
-    ensures some { IfSome result (λ fault. first_of identity_fault dump.now ≡ Some (fault_value fault)) }
+    ensures some { IfSome result
+        (λ fault. first_of identity_fault dump.now ≡ Some (fault_value fault)) }
 {
     for block in dump {
         match is_bridge(&block.image) {
@@ -49,7 +50,8 @@ fn add_assumed<A: Allocator>(
     slot: Slot,
     registers: &[u8],
 ) -> Result<(), OutOfMemory>
-    ensures { OnOk result (assumed.new.items ≡ assumed.old.items ++ map (assumed_at slot) registers.now) }
+    ensures { OnOk result
+        (assumed.new.items ≡ assumed.old.items ++ map (assumed_at slot) registers.now) }
 {
     for register in registers {
         assumed.push(AssumedRegister {
@@ -71,8 +73,10 @@ fn add<A: Allocator>(
     requires above { IsAboveLast (last_slot derivation.old.probe) block.now.slot }
     requires room { length derivation.old.probe < 4096 }
     ensures told { OnOk result (no_probe exact block.now.image sizes.now.lines ≡ None) }
-    ensures probe { OnOk result (derivation.new.probe ≡ derivation.old.probe ++ probe_block (told block.now sizes.now) ∷ []) }
-    ensures assumed { OnOk result (derivation.new.assumed.items ≡ derivation.old.assumed.items ++ assumed_in (told block.now sizes.now)) }
+    ensures probe { OnOk result (derivation.new.probe
+        ≡ derivation.old.probe ++ probe_block (told block.now sizes.now) ∷ []) }
+    ensures assumed { OnOk result (derivation.new.assumed.items
+        ≡ derivation.old.assumed.items ++ assumed_in (told block.now sizes.now)) }
     ensures fault { IfErr result (IsFaultOfFunction exact (told block.now sizes.now)) }
 {
     let mut image = Image([0; IMAGE_LEN]);
@@ -111,9 +115,12 @@ pub fn probe_of<A: Allocator + Copy, B: Allocator, C: Allocator>(
     exact: bool,
 ) -> Result<Derivation<A>, Refused<ProbeFault>>
     ensures told { OnOk result (probe_fault exact dump.now sizes.now ≡ None) }
-    ensures probe { IfOk result (λ derivation. derivation.probe ≡ spec.probe_of dump.now sizes.now) }
-    ensures assumed { IfOk result (λ derivation. derivation.assumed.items ≡ assumed_of dump.now sizes.now) }
-    ensures pair { IfOk result (λ derivation. (roots : List ℕ) → IsPair roots dump.now derivation.probe) }
+    ensures probe { IfOk result
+        (λ derivation. derivation.probe ≡ spec.probe_of dump.now sizes.now) }
+    ensures assumed { IfOk result
+        (λ derivation. derivation.assumed.items ≡ assumed_of dump.now sizes.now) }
+    ensures pair { IfOk result
+        (λ derivation. (roots : List ℕ) → IsPair roots dump.now derivation.probe) }
     ensures fault { IfErr result (IsFirstFault exact dump.now sizes.now) }
 {
     let blocks = dump.blocks();

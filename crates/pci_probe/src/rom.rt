@@ -13,7 +13,8 @@ const LEAST: u64 = 2048;
 /// The size that a line tells of a ROM whose register shows a value.
 #[tactic(auto, unfolding(pci_spec::specs::Resource::tells_rom))]
 fn told_size(line: ResourceLine, value: u64) -> Option<u64>
-    ensures told { MatchOption result (tells_rom line value ≡ false) (λ size. (tells_rom line value ≡ true) × (size ≡ address_count line)) }
+    ensures told { MatchOption result (tells_rom line value ≡ false)
+        (λ size. (tells_rom line value ≡ true) × (size ≡ address_count line)) }
     ensures bounds { MatchOption result ⊤ (λ size. (1 ≤ size) × (size ≤ 2 ^ 31)) }
 {
     if !line.is_of_memory() || line.is_shadow() {

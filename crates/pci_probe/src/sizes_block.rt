@@ -45,7 +45,9 @@ pub(crate) fn may_follow(blocks: &[SizesBlock], slot: Slot) -> bool
 /// they are none.
 pub(crate) fn block_after(blocks: &[SizesBlock], bytes: &[u8], block: &mut SizesBlock) -> bool
     requires { IsRising (sized_slots blocks.now) }
-    ensures yes { IsTrue result → IsSizesBlock block.new × (bytes.now ≡ sizes_block_text block.new) × IsRising (sized_slots (blocks.now ++ block.new ∷ [])) }
+    ensures yes { IsTrue result
+        → IsSizesBlock block.new × (bytes.now ≡ sizes_block_text block.new)
+        × IsRising (sized_slots (blocks.now ++ block.new ∷ [])) }
     ensures no { result ≡ false → IsNoBlockAfter blocks.now bytes.now }
 {
     if bytes.len() != BLOCK_LEN {

@@ -58,7 +58,8 @@ fn first_misfit(bytes: &[u8]) -> usize
     requires { length bytes.now ≤ 408 }
     ensures within { result ≤ length bytes.now }
     ensures fits { Fits (take result sizes_cells) (take result bytes.now) }
-    ensures wrong { result < length bytes.now → Takes (cell_at result) (slice_index bytes.now result) → ⊥ }
+    ensures wrong { result < length bytes.now
+        → Takes (cell_at result) (slice_index bytes.now result) → ⊥ }
 {
     for place in 0..bytes.len() {
         if !goes_in(place, bytes[place]) {

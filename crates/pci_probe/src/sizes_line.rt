@@ -73,7 +73,8 @@ pub(crate) fn line_of(text: &[u8]) -> Option<ResourceLine>
 pub(crate) fn lines_into(text: &[u8], lines: &mut [ResourceLine; 7]) -> bool
     requires { length text.now ≡ 399 }
     ensures seven { length lines.new ≡ 7 }
-    ensures yes { IsTrue result → All IsResourceLine lines.new × (text.now ≡ flat_map resource_text lines.new) }
+    ensures yes { IsTrue result
+        → All IsResourceLine lines.new × (text.now ≡ flat_map resource_text lines.new) }
     ensures no { result ≡ false → Fits (lines_cells 7) text.now → ⊥ }
 {
     for n in 0..7 {

@@ -22,7 +22,8 @@ const LINE_AFTER_ALL: u64 = 9 * BLOCKS_MAX as u64 + 1;
 /// Reads until `chunk` is full or the source has told its end, and answers how many bytes were read.
 fn fill<S: Source>(source: &mut S, chunk: &mut [u8; CHUNK_LEN]) -> Result<usize, Failed>
     ensures few { IfOk result (λ n. n ≤ 8160) }
-    ensures bytes { IfOk result (λ n. Consumes (S.left source.old) (S.left source.new) (take n chunk.new)) }
+    ensures bytes { IfOk result
+        (λ n. Consumes (S.left source.old) (S.left source.new) (take n chunk.new)) }
     ensures end { IfOk result (λ n. n < 8160 → IsAtEnd (S.left source.new)) }
     ensures counted { MatchResult result (λ _. S.failures source.new ≡ S.failures source.old)
         (λ _. S.failures source.new ≡ S.failures source.old + 1) }
@@ -44,7 +45,8 @@ fn take_block<A: Allocator>(bytes: &[u8], sizes: &mut Sizes<A>) -> Result<(), Re
     requires few { length bytes.now ≤ 408 }
     ensures text { OnOk result (sizes_text_of sizes.new ≡ sizes_text_of sizes.old ++ bytes.now) }
     ensures sizes { OnOk result (IsSizes sizes.new) }
-    ensures fault { IfErr result (λ fault. fault ≢ ReadFault.Memory → IsFaultAfter sizes.old bytes.now fault) }
+    ensures fault { IfErr result
+        (λ fault. fault ≢ ReadFault.Memory → IsFaultAfter sizes.old bytes.now fault) }
     ensures no_io { IfErr result (λ fault. fault ≢ ReadFault.Io) }
 {
     let blocks = sizes.blocks();
@@ -66,7 +68,8 @@ fn take_blocks<A: Allocator>(bytes: &[u8], sizes: &mut Sizes<A>) -> Result<(), R
     requires { IsSizes sizes.old }
     ensures text { OnOk result (sizes_text_of sizes.new ≡ sizes_text_of sizes.old ++ bytes.now) }
     ensures sizes { OnOk result (IsSizes sizes.new) }
-    ensures fault { IfErr result (λ fault. fault ≢ ReadFault.Memory → IsFaultAfter sizes.old bytes.now fault) }
+    ensures fault { IfErr result
+        (λ fault. fault ≢ ReadFault.Memory → IsFaultAfter sizes.old bytes.now fault) }
     ensures no_io { IfErr result (λ fault. fault ≢ ReadFault.Io) }
 {
     let mut rest = bytes;
@@ -83,14 +86,17 @@ fn take_blocks<A: Allocator>(bytes: &[u8], sizes: &mut Sizes<A>) -> Result<(), R
 /// Errors: 3 and 5 to 9 where that is no such text, 1 `Io` where a read failed, 2 `Memory` where a
 /// growth was refused.
 pub fn read_sizes<S: Source, A: Allocator>(alloc: A, source: &mut S) -> Result<Sizes<A>, ReadFault>
-    ensures ok { IfOk result (λ sizes. (bytes : List ℕ) → S.left source.old ≡ Some bytes → IsSizesTextOf bytes sizes) }
+    ensures ok { IfOk result
+        (λ sizes. (bytes : List ℕ) → S.left source.old ≡ Some bytes → IsSizesTextOf bytes sizes) }
     ensures only { IfOk result (λ sizes. (bytes : List ℕ) → S.left source.old ≡ Some bytes
         → (others : List BlockValue) → IsSizesTextOf bytes others → others ≡ sizes) }
     ensures fine { OnOk result (S.failures source.new ≡ S.failures source.old) }
     ensures fault { IfErr result (λ fault. (bytes : List ℕ) → S.left source.old ≡ Some bytes
         → fault ≢ ReadFault.Io → fault ≢ ReadFault.Memory → IsSizesTextFault bytes fault) }
-    ensures io { IfErr result (λ fault. fault ≡ ReadFault.Io → S.failures source.new ≡ S.failures source.old + 1) }
-    ensures no_io { IfErr result (λ fault. fault ≢ ReadFault.Io → S.failures source.new ≡ S.failures source.old) }
+    ensures io { IfErr result
+        (λ fault. fault ≡ ReadFault.Io → S.failures source.new ≡ S.failures source.old + 1) }
+    ensures no_io { IfErr result
+        (λ fault. fault ≢ ReadFault.Io → S.failures source.new ≡ S.failures source.old) }
 {
     let mut chunk = [0; CHUNK_LEN];
     let mut sizes = Sizes::empty(alloc);

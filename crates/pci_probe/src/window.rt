@@ -17,7 +17,8 @@ use pci_image::window_kind::WindowKind;
 fn nibble(kind: WindowKind, image: &Image) -> Option<u64>
     requires { IsTrue (is_optional (kind_value kind)) }
     ensures { MatchOption result (spec.shows_none (kind_value kind) image.now.0 ≡ true)
-        (λ n. (spec.shows_none (kind_value kind) image.now.0 ≡ false) × (n ≡ spec.window_nibble (kind_value kind) image.now.0) × (n < 16)) }
+        (λ n. (spec.shows_none (kind_value kind) image.now.0 ≡ false)
+        × (n ≡ spec.window_nibble (kind_value kind) image.now.0) × (n < 16)) }
 {
     let bounds = kind.bounds(image);
     if bounds.is_zero() {
@@ -39,7 +40,8 @@ fn absent(enabled: bool) -> Derived
 
 /// The read back of upper halves of 32 bits, which are there where the nibble isn't 0.
 fn upper(nibble: Option<u64>) -> Derived
-    ensures { MatchOption nibble (derived_of result ≡ spec.Known 0) (λ n. derived_of result ≡ spec.Known (if n == 0 then 0 else 0xffff_ffff)) }
+    ensures { MatchOption nibble (derived_of result ≡ spec.Known 0)
+        (λ n. derived_of result ≡ spec.Known (if n == 0 then 0 else 0xffff_ffff)) }
 {
     match nibble {
         None | Some(0) => Derived::Known(0),

@@ -20,13 +20,15 @@ InRange r a = (r.first ≤ a) × (a ≤ r.last)
 
 -- the addresses whose bits agree with a value from the lowest bit of a size upward, the size being a power of two
 abbrev pub aligned_range : ℕ → ℕ → Range
-aligned_range value size = record { first = value / size * size; last = value / size * size + (size - 1) }
+aligned_range value size =
+    record { first = value / size * size; last = value / size * size + (size - 1) }
 
 -- ---- BARs
 
 -- how many addresses the BAR at register n has, by its read back
 abbrev pub bar_size : List ℕ → ℕ → ℕ
-bar_size probe n = 2 ^ lowest_one (if is_io (bar_at probe n) then 2 else 4) (whole_bar probe probe n)
+bar_size probe n =
+    2 ^ lowest_one (if is_io (bar_at probe n) then 2 else 4) (whole_bar probe probe n)
 
 pub record DecodedBar : Type 0 where
   pub register : ℕ
@@ -44,7 +46,9 @@ decoded_bar image probe n = record {
 
 -- the implemented BARs, in the order of their registers
 abbrev pub decoded_bars : List ℕ → List ℕ → List DecodedBar
-decoded_bars image probe = map (decoded_bar image probe) (filter (has_bar probe) (range_with_len 0 (bar_count (layout image))))
+decoded_bars image probe =
+    map (decoded_bar image probe)
+    (filter (has_bar probe) (range_with_len 0 (bar_count (layout image))))
 
 -- ---- the ROM
 
@@ -60,7 +64,11 @@ pub record DecodedRom : Type 0 where
 abbrev pub decoded_rom : List ℕ → List ℕ → Option DecodedRom
 decoded_rom image probe =
     if has_rom image probe
-    then Some record { register = rom_register (layout image); on = rom_is_on image; range = aligned_range (rom_at image image) (rom_size image probe) }
+    then Some record {
+      register = rom_register (layout image);
+      on = rom_is_on image;
+      range = aligned_range (rom_at image image) (rom_size image probe);
+    }
     else None
 
 -- ---- windows of a bridge
@@ -75,13 +83,18 @@ pub record DecodedWindow : Type 0 where
 abbrev pub window_range : WindowKind → List ℕ → Option Range
 window_range kind image =
     if is_closed kind image then None
-    else Some record { first = base_page kind image * page_size kind; last = limit_page kind image * page_size kind + (page_size kind - 1) }
+    else Some record {
+      first = base_page kind image * page_size kind;
+      last = limit_page kind image * page_size kind + (page_size kind - 1);
+    }
 
 abbrev pub decoded_window : WindowKind → List ℕ → List ℕ → DecodedWindow
-decoded_window kind image probe = record { wide = is_wide_window kind probe; range = window_range kind image }
+decoded_window kind image probe =
+    record { wide = is_wide_window kind probe; range = window_range kind image }
 
 abbrev pub optional_window : WindowKind → List ℕ → List ℕ → Option DecodedWindow
-optional_window kind image probe = if has_window kind probe then Some (decoded_window kind image probe) else None
+optional_window kind image probe =
+    if has_window kind probe then Some (decoded_window kind image probe) else None
 
 pub record DecodedWindows : Type 0 where
   pub io : Option DecodedWindow
@@ -133,7 +146,8 @@ pub record IsDecodable (f : Function) : Type 0 where
   pub header : IsFalse (has_other_layout f.image)
   pub bars : (n : ℕ) → n < bar_count (layout f.image) → bar_fault f.image f.probe n ≡ None
   pub rom : IsFalse (breaks_rom_rule f.image f.probe)
-  pub windows : (kind : WindowKind) → layout f.image ≡ 1 → IsFalse (breaks_window_rule kind f.image f.probe)
+  pub windows : (kind : WindowKind) → layout f.image ≡ 1
+      → IsFalse (breaks_window_rule kind f.image f.probe)
 
 -- a system whose functions decode to these records
 pub record HasRecords (s : System) (records : List Record) : Type 0 where

@@ -29,7 +29,8 @@ is_pair image n = is_wide (bar_at image n) && nat_lt (n + 1) (bar_count (layout 
 
 -- what the BAR at register n shows, and in how many bits
 abbrev pub shown_bar : List ℕ → ℕ → ℕ
-shown_bar image n = if is_pair image n then bar_at image n + 2 ^ 32 * bar_at image (n + 1) else bar_at image n
+shown_bar image n =
+    if is_pair image n then bar_at image n + 2 ^ 32 * bar_at image (n + 1) else bar_at image n
 
 abbrev pub bar_width : List ℕ → ℕ → ℕ
 bar_width image n = if is_pair image n then 64 else 32
@@ -40,7 +41,8 @@ is_enabled image value = has_bit (command image) (if is_io value then 0 else 1)
 
 -- the read back of a BAR of so many addresses: ones from there upward, with the encoding that it shows
 unfoldable pub bar_of_size : ℕ → ℕ → ℕ → ℕ
-bar_of_size width value size = without_low (encodings value) (2 ^ width - size) + value % encodings value
+bar_of_size width value size =
+    without_low (encodings value) (2 ^ width - size) + value % encodings value
 
 -- Of a BAR, by its line, how many bits it has, whether it is enabled and what it shows; its least size is 16 addresses, and 4 of I/O.
 unfoldable pub derived_bar : ResourceLine → ℕ → Bool → ℕ → Derived
@@ -52,7 +54,9 @@ derived_bar line width enabled value =
 
 -- of the BAR at register n
 abbrev pub bar_derived : List ℕ → List ResourceLine → ℕ → Derived
-bar_derived image lines n = derived_bar (line_at lines n) (bar_width image n) (is_enabled image (shown_bar image n)) (shown_bar image n)
+bar_derived image lines n =
+    derived_bar (line_at lines n) (bar_width image n) (is_enabled image (shown_bar image n))
+    (shown_bar image n)
 
 -- ---- the ROM
 
@@ -69,7 +73,8 @@ derived_rom line enabled value =
     else Assumed (rom_of_size rom_step)
 
 abbrev pub rom_derived : List ℕ → List ResourceLine → Derived
-rom_derived image lines = derived_rom (rom_line lines) (has_bit (command image) 1) (rom_at image image)
+rom_derived image lines =
+    derived_rom (rom_line lines) (has_bit (command image) 1) (rom_at image image)
 
 -- ---- windows
 
@@ -106,7 +111,8 @@ window_read_back kind image =
 -- of a window's base and limit: taking it as absent is a habit where its space is enabled
 abbrev pub window_derived : WindowKind → List ℕ → ℕ → Derived
 window_derived kind image read_back =
-    if shows_none kind image && has_bit (command image) (window_enable kind) then Assumed read_back else Known read_back
+    if shows_none kind image && has_bit (command image) (window_enable kind) then Assumed read_back
+    else Known read_back
 
 -- ---- the registers of a function, by their offsets
 
@@ -139,17 +145,27 @@ bar_register_derived image lines n =
 -- of the register of a bridge's windows at an offset
 unfoldable pub window_register_derived : List ℕ → ℕ → Derived
 window_register_derived image offset =
-    if offset == IO_BASE then window_derived IoWindow image ((window_read_back IoWindow image).base + 2 ^ 8 * (window_read_back IoWindow image).limit)
-    else if offset == MEMORY_BASE then Known ((window_read_back MemoryWindow image).base + 2 ^ 16 * (window_read_back MemoryWindow image).limit)
-    else if offset == PREFETCHABLE_BASE then window_derived PrefetchWindow image ((window_read_back PrefetchWindow image).base + 2 ^ 16 * (window_read_back PrefetchWindow image).limit)
-    else if offset == PREFETCHABLE_BASE_UPPER then Known (window_read_back PrefetchWindow image).base_upper
-    else if offset == PREFETCHABLE_LIMIT_UPPER then Known (window_read_back PrefetchWindow image).limit_upper
-    else Known ((window_read_back IoWindow image).base_upper + 2 ^ 16 * (window_read_back IoWindow image).limit_upper)
+    if offset == IO_BASE
+    then window_derived IoWindow image
+    ((window_read_back IoWindow image).base + 2 ^ 8 * (window_read_back IoWindow image).limit)
+    else if offset == MEMORY_BASE
+    then Known ((window_read_back MemoryWindow image).base + 2 ^ 16
+    * (window_read_back MemoryWindow image).limit)
+    else if offset == PREFETCHABLE_BASE
+    then window_derived PrefetchWindow image ((window_read_back PrefetchWindow image).base + 2 ^ 16
+    * (window_read_back PrefetchWindow image).limit)
+    else if offset == PREFETCHABLE_BASE_UPPER
+    then Known (window_read_back PrefetchWindow image).base_upper
+    else if offset == PREFETCHABLE_LIMIT_UPPER
+    then Known (window_read_back PrefetchWindow image).limit_upper
+    else Known ((window_read_back IoWindow image).base_upper + 2 ^ 16
+    * (window_read_back IoWindow image).limit_upper)
 
 -- of the address register at an offset
 unfoldable pub register_derived : List ℕ → List ResourceLine → ℕ → Derived
 register_derived image lines offset =
-    if nat_lt offset (bar_register (bar_count (layout image))) then bar_register_derived image lines ((offset - bar_register 0) / 4)
+    if nat_lt offset (bar_register (bar_count (layout image)))
+    then bar_register_derived image lines ((offset - bar_register 0) / 4)
     else if offset == rom_register (layout image) then rom_derived image lines
     else window_register_derived image offset
 
@@ -162,11 +178,15 @@ register_offsets image = map (λ r. r.0) (address_registers (layout image))
 -- the byte at an offset: one of the register that it lies in, or 0 outside the address registers
 abbrev pub derived_byte : List ℕ → List ResourceLine → ℕ → Option (ℕ × ℕ) → ℕ
 derived_byte image lines place None = 0
-derived_byte image lines place (Some (register, width)) = read_back_of (register_derived image lines register) / 256 ^ (place - register) % 256
+derived_byte image lines place (Some (register, width)) =
+    read_back_of (register_derived image lines register) / 256 ^ (place - register) % 256
 
 unfoldable pub derived_probe : List ℕ → List ResourceLine → List ℕ
-derived_probe image lines = map (λ place. derived_byte image lines place (register_at (layout image) place)) (range_with_len 0 256)
+derived_probe image lines =
+    map (λ place. derived_byte image lines place (register_at (layout image) place))
+    (range_with_len 0 256)
 
 -- the registers whose read backs are assumed, by rising offset
 unfoldable pub assumed_registers : List ℕ → List ResourceLine → List ℕ
-assumed_registers image lines = filter (λ offset. is_assumed (register_derived image lines offset)) (register_offsets image)
+assumed_registers image lines =
+    filter (λ offset. is_assumed (register_derived image lines offset)) (register_offsets image)

@@ -27,7 +27,9 @@ pub record IsDerivedOf (f g : Function) : Type 0 where
 
 -- A readable function stays readable with the derived probe, and the same is told of both.
 abbrev pub DerivedIsToldAlike : Type 0
-DerivedIsToldAlike = (f g : Function) → IsFunction f → IsReadable f → IsDerivedOf f g → IsReadable g × IsToldAlike f g
+DerivedIsToldAlike =
+    (f g : Function) → IsFunction f → IsReadable f → IsDerivedOf f g
+    → IsReadable g × IsToldAlike f g
 
 -- A system with derived probes has the faults that it has with its own,
 abbrev pub DerivedHasTheSameFaults : Type 0
@@ -52,8 +54,11 @@ DerivedIsSoundWithOwn =
 abbrev pub DumpHasTheSameVerdict : Type 0
 DumpHasTheSameVerdict =
     (roots : List ℕ) (exact : Bool) (dump own : List Block) (sizes : List SizesBlock)
-    → slots_of dump ≡ slots_of own → IsSystem (system_of dump own) → All IsReadable (system_of dump own)
-    → AllZip (λ (f : Function) (told : SizesBlock). IsTrueOf told.lines f.image f.probe) (system_of dump own) sizes
+    → slots_of dump ≡ slots_of own → IsSystem (system_of dump own)
+    → All IsReadable (system_of dump own)
+    → AllZip (λ (f : Function) (told : SizesBlock). IsTrueOf told.lines f.image f.probe)
+    (system_of dump own) sizes
     → probe_fault exact dump sizes ≡ None
-    → ((fault : Fault) → IsFirstIn roots (system_of dump own) fault ↔ IsFirstIn roots (system_of dump (probe_of dump sizes)) fault)
+    → ((fault : Fault) → IsFirstIn roots (system_of dump own) fault
+    ↔ IsFirstIn roots (system_of dump (probe_of dump sizes)) fault)
     × (IsSound roots (system_of dump own) ↔ IsSound roots (system_of dump (probe_of dump sizes)))

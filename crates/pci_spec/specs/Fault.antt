@@ -38,8 +38,10 @@ pub data Fault : Type 0 where
   BusRange : (slot : Slot) → Fault
   Orphan : (slot : Slot) → Fault
   Unreached : (slot : Slot) (register : ℕ) (space : Space) (address : ℕ) (bridge : Slot) → Fault
-  Clash : (bus : ℕ) (space : Space) (address : ℕ) (first : Slot) (first_register : ℕ) (second : Slot) (second_register : ℕ) → Fault
-  Split : (space : Space) (address : ℕ) (first : Slot) (first_register : ℕ) (second : Slot) (second_register : ℕ) → Fault
+  Clash : (bus : ℕ) (space : Space) (address : ℕ) (first : Slot) (first_register : ℕ)
+      (second : Slot) (second_register : ℕ) → Fault
+  Split : (space : Space) (address : ℕ) (first : Slot) (first_register : ℕ) (second : Slot)
+      (second_register : ℕ) → Fault
 
 abbrev pub fault_number : Fault → ℕ
 fault_number (NoVendor slot) = 20
@@ -78,15 +80,18 @@ has_other_layout image = not (layout image == 0 || layout image == 1)
 -- a BAR register with this offset has this fault
 abbrev pub HasBarFault : List ℕ → List ℕ → ℕ → BarFault → Type 0
 HasBarFault image probe register fault =
-    (n : ℕ) × (n < bar_count (layout image)) × (register ≡ bar_register n) × (bar_fault image probe n ≡ Some fault)
+    (n : ℕ) × (n < bar_count (layout image)) × (register ≡ bar_register n)
+    × (bar_fault image probe n ≡ Some fault)
 
 abbrev pub HasRomFault : List ℕ → List ℕ → ℕ → Type 0
-HasRomFault image probe register = (register ≡ rom_register (layout image)) × IsTrue (breaks_rom_rule image probe)
+HasRomFault image probe register =
+    (register ≡ rom_register (layout image)) × IsTrue (breaks_rom_rule image probe)
 
 -- the window of a bridge with this offset breaks its rule
 abbrev pub HasWindowFault : List ℕ → List ℕ → ℕ → Type 0
 HasWindowFault image probe register =
-    (kind : WindowKind) × IsTrue (layout image == 1) × (register ≡ window_register kind) × IsTrue (breaks_window_rule kind image probe)
+    (kind : WindowKind) × IsTrue (layout image == 1) × (register ≡ window_register kind)
+    × IsTrue (breaks_window_rule kind image probe)
 
 -- whether an offset lies in an address register
 abbrev pub is_in_address_register : ℕ → ℕ → Bool
@@ -94,7 +99,8 @@ is_in_address_register kind offset = list_any (is_in_register offset) (address_r
 
 -- whether the probe of a header of this layout has a byte where there is no address register
 abbrev pub is_stray_by : ℕ → List ℕ → ℕ → Bool
-is_stray_by kind probe offset = nat_lt offset 256 && not (byte_at probe offset == 0) && not (is_in_address_register kind offset)
+is_stray_by kind probe offset =
+    nat_lt offset 256 && not (byte_at probe offset == 0) && not (is_in_address_register kind offset)
 
 -- the same, of a function
 abbrev pub is_stray : List ℕ → List ℕ → ℕ → Bool
@@ -110,7 +116,8 @@ is_subtractive_bridge image = layout image == 1 && class_code image == 0x060401
 
 -- a capability at a place shows another power state than D0
 abbrev pub IsNotInD0At : List ℕ → ℕ → Type 0
-IsNotInD0At image place = (capability_id image place ≡ POWER_MANAGEMENT) × (power_state image place ≢ 0)
+IsNotInD0At image place =
+    (capability_id image place ≡ POWER_MANAGEMENT) × (power_state image place ≢ 0)
 
 -- and one that the walk comes to does
 abbrev pub IsNotInD0 : List ℕ → Type 0
@@ -124,10 +131,12 @@ SomeAt s slot P = (f : Function) × Contains s f × (f.slot ≡ slot) × P f
 
 -- whether function 0 of the same device is listed
 abbrev pub has_function_zero : System → Slot → Bool
-has_function_zero s slot = list_any (λ f. f.slot.bus == slot.bus && f.slot.device == slot.device && f.slot.function == 0) s
+has_function_zero s slot =
+    list_any (λ f. f.slot.bus == slot.bus && f.slot.device == slot.device && f.slot.function == 0) s
 
 -- An enabled BAR or ROM claims the address, and a bridge on the way from a root to it doesn't pass it.
-pub record IsUnreached (roots : List ℕ) (s : System) (slot : Slot) (register : ℕ) (space : Space) (address : ℕ) (bridge : Slot) : Type 0 where
+pub record IsUnreached (roots : List ℕ) (s : System) (slot : Slot) (register : ℕ) (space : Space)
+    (address : ℕ) (bridge : Slot) : Type 0 where
   pub f : Function
   pub part : Part
   pub listed : Contains s f
@@ -146,17 +155,20 @@ pub record IsUnreached (roots : List ℕ) (s : System) (slot : Slot) (register :
 -- a region of the bus, named by its slot and register, claims the address
 abbrev pub ClaimsOnBus : System → ℕ → Space → ℕ → Slot → ℕ → Type 0
 ClaimsOnBus s bus space address slot register =
-    (f : Function) × (part : Part) × Contains s f × (f.slot ≡ slot) × (slot.bus ≡ bus) × (register_of f part ≡ register) × Claims f part space address
+    (f : Function) × (part : Part) × Contains s f × (f.slot ≡ slot) × (slot.bus ≡ bus)
+    × (register_of f part ≡ register) × Claims f part space address
 
 -- an access to the address gets to the bus, and two regions of the bus claim it
-pub record IsClash (roots : List ℕ) (s : System) (bus : ℕ) (space : Space) (address : ℕ) (first : Slot) (first_register : ℕ) (second : Slot) (second_register : ℕ) : Type 0 where
+pub record IsClash (roots : List ℕ) (s : System) (bus : ℕ) (space : Space) (address : ℕ)
+    (first : Slot) (first_register : ℕ) (second : Slot) (second_register : ℕ) : Type 0 where
   pub gets : Gets roots s space address bus
   pub claims_first : ClaimsOnBus s bus space address first first_register
   pub claims_second : ClaimsOnBus s bus space address second second_register
   pub differ : (first ≡ second) × (first_register ≡ second_register) → ⊥
 
 -- two regions on two root buses claim the address
-pub record IsSplit (roots : List ℕ) (s : System) (space : Space) (address : ℕ) (first : Slot) (first_register : ℕ) (second : Slot) (second_register : ℕ) : Type 0 where
+pub record IsSplit (roots : List ℕ) (s : System) (space : Space) (address : ℕ) (first : Slot)
+    (first_register : ℕ) (second : Slot) (second_register : ℕ) : Type 0 where
   pub root_first : Contains roots first.bus
   pub root_second : Contains roots second.bus
   pub buses : first.bus ≢ second.bus
@@ -167,36 +179,50 @@ pub record IsSplit (roots : List ℕ) (s : System) (space : Space) (address : �
 abbrev pub IsIn : List ℕ → System → Fault → Type 0
 IsIn roots s (NoVendor slot) = SomeAt s slot (λ f. IsTrue (has_no_vendor f.image))
 IsIn roots s (HeaderKind slot) = SomeAt s slot (λ f. IsTrue (has_other_layout f.image))
-IsIn roots s (BarType slot register) = SomeAt s slot (λ f. HasBarFault f.image f.probe register bars.BarType)
-IsIn roots s (BarMask slot register) = SomeAt s slot (λ f. HasBarFault f.image f.probe register bars.BarMask)
-IsIn roots s (BarPair slot register) = SomeAt s slot (λ f. HasBarFault f.image f.probe register bars.BarPair)
+IsIn roots s (BarType slot register) =
+    SomeAt s slot (λ f. HasBarFault f.image f.probe register bars.BarType)
+IsIn roots s (BarMask slot register) =
+    SomeAt s slot (λ f. HasBarFault f.image f.probe register bars.BarMask)
+IsIn roots s (BarPair slot register) =
+    SomeAt s slot (λ f. HasBarFault f.image f.probe register bars.BarPair)
 IsIn roots s (RomMask slot register) = SomeAt s slot (λ f. HasRomFault f.image f.probe register)
-IsIn roots s (WindowMask slot register) = SomeAt s slot (λ f. HasWindowFault f.image f.probe register)
+IsIn roots s (WindowMask slot register) =
+    SomeAt s slot (λ f. HasWindowFault f.image f.probe register)
 IsIn roots s (CapRange slot place) = SomeAt s slot (λ f. HasLowPlace f.image place)
 IsIn roots s (CapLoop slot place) = SomeAt s slot (λ f. ComesTwiceTo f.image place)
 IsIn roots s (CapCut slot place) = SomeAt s slot (λ f. HasCutBody f.image place)
 -- a system has each function's two images
 IsIn roots s (SlotsDiffer slot) = ⊥
-IsIn roots s (StrayProbe slot offset) = SomeAt s slot (λ f. IsTrue (is_stray f.image f.probe offset))
-IsIn roots s (LoneFunction slot) = SomeAt s slot (λ f. (0 < slot.function) × IsTrue (not (has_function_zero s slot)))
-IsIn roots s (PaletteSnoop slot) = SomeAt s slot (λ f. IsTrue (has_bit (command f.image) PALETTE_SNOOP))
+IsIn roots s (StrayProbe slot offset) =
+    SomeAt s slot (λ f. IsTrue (is_stray f.image f.probe offset))
+IsIn roots s (LoneFunction slot) =
+    SomeAt s slot (λ f. (0 < slot.function) × IsTrue (not (has_function_zero s slot)))
+IsIn roots s (PaletteSnoop slot) =
+    SomeAt s slot (λ f. IsTrue (has_bit (command f.image) PALETTE_SNOOP))
 IsIn roots s (VgaEnable slot) = SomeAt s slot (λ f. IsTrue (controls_bridge f.image VGA_ENABLE))
 IsIn roots s (IsaEnable slot) = SomeAt s slot (λ f. IsTrue (controls_bridge f.image ISA_ENABLE))
 IsIn roots s (Subtractive slot) = SomeAt s slot (λ f. IsTrue (is_subtractive_bridge f.image))
-IsIn roots s (InReset slot) = SomeAt s slot (λ f. IsTrue (controls_bridge f.image SECONDARY_BUS_RESET))
+IsIn roots s (InReset slot) =
+    SomeAt s slot (λ f. IsTrue (controls_bridge f.image SECONDARY_BUS_RESET))
 IsIn roots s (PowerState slot) = SomeAt s slot (λ f. IsNotInD0 f.image)
-IsIn roots s (BusRange slot) = SomeAt s slot (λ f. IsTrue (is_bridge f && not (has_lawful_buses roots s f)))
+IsIn roots s (BusRange slot) =
+    SomeAt s slot (λ f. IsTrue (is_bridge f && not (has_lawful_buses roots s f)))
 IsIn roots s (Orphan slot) = SomeAt s slot (λ f. IsTrue (not (is_led_to roots s slot.bus)))
-IsIn roots s (Unreached slot register space address bridge) = IsUnreached roots s slot register space address bridge
-IsIn roots s (Clash bus space address first first_register second second_register) = IsClash roots s bus space address first first_register second second_register
-IsIn roots s (Split space address first first_register second second_register) = IsSplit roots s space address first first_register second second_register
+IsIn roots s (Unreached slot register space address bridge) =
+    IsUnreached roots s slot register space address bridge
+IsIn roots s (Clash bus space address first first_register second second_register) =
+    IsClash roots s bus space address first first_register second second_register
+IsIn roots s (Split space address first first_register second second_register) =
+    IsSplit roots s space address first first_register second second_register
 
 -- exactly one of two dumps lists the slot
 abbrev pub IsInOne : List Block → List Block → Slot → Type 0
 IsInOne dump probe slot =
-    (Contains (slots_of dump) slot × (Contains (slots_of probe) slot → ⊥)) ⊎ ((Contains (slots_of dump) slot → ⊥) × Contains (slots_of probe) slot)
+    (Contains (slots_of dump) slot × (Contains (slots_of probe) slot → ⊥))
+    ⊎ ((Contains (slots_of dump) slot → ⊥) × Contains (slots_of probe) slot)
 
 -- the fault is there, in a dump and its probe; where their slots are the same, they make a system
 abbrev pub IsThere : List ℕ → List Block → List Block → Fault → Type 0
 IsThere roots dump probe (SlotsDiffer slot) = IsInOne dump probe slot
-IsThere roots dump probe fault = (slots_of dump ≡ slots_of probe) × IsIn roots (system_of dump probe) fault
+IsThere roots dump probe fault =
+    (slots_of dump ≡ slots_of probe) × IsIn roots (system_of dump probe) fault

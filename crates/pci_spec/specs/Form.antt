@@ -62,7 +62,9 @@ value_cells (suc n) = Fixed 32 ∷ Digit 15 ∷ Digit 15 ∷ value_cells n
 
 -- an offset, sixteen bytes and the line's end
 abbrev pub row_cells : ℕ → List Cell
-row_cells row = Fixed (hex_digit (16 * row / 16)) ∷ Fixed (hex_digit (16 * row % 16)) ∷ Fixed 58 ∷ (value_cells 16 ++ Fixed 10 ∷ [])
+row_cells row =
+    Fixed (hex_digit (16 * row / 16)) ∷ Fixed (hex_digit (16 * row % 16)) ∷ Fixed 58
+    ∷ (value_cells 16 ++ Fixed 10 ∷ [])
 
 -- so many lines of bytes, from a row on
 unfoldable pub rows_cells : ℕ → ℕ → List Cell
@@ -75,12 +77,14 @@ rest_cells = rows_cells 0 16 ++ Fixed 10 ∷ []
 
 -- a line of sixteen values
 abbrev pub row_text : ℕ → List ℕ → List ℕ
-row_text row values = hex_byte (16 * row) ++ (58 ∷ flat_map (λ byte. 32 ∷ hex_byte byte) values) ++ (10 ∷ [])
+row_text row values =
+    hex_byte (16 * row) ++ (58 ∷ flat_map (λ byte. 32 ∷ hex_byte byte) values) ++ (10 ∷ [])
 
 -- so many lines of the values, from a row on
 unfoldable pub rows_text : ℕ → ℕ → List ℕ → List ℕ
 rows_text row zero values = []
-rows_text row (suc n) values = row_text row (take 16 values) ++ rows_text (row + 1) n (drop 16 values)
+rows_text row (suc n) values =
+    row_text row (take 16 values) ++ rows_text (row + 1) n (drop 16 values)
 
 -- the number of line ends in cells
 abbrev pub ends_in : List Cell → ℕ

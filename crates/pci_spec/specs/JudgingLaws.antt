@@ -9,7 +9,9 @@ use Rattle.pci_spec.specs.Order.{IsFirst}
 use Rattle.pci_spec.specs.Sound.{IsSingle, IsHome}
 
 abbrev pub HasNoUnreached : List ℕ → System → Type 0
-HasNoUnreached roots s = (slot : Slot) (register : ℕ) (space : Space) (address : ℕ) (bridge : Slot) → IsIn roots s (Unreached slot register space address bridge) → ⊥
+HasNoUnreached roots s =
+    (slot : Slot) (register : ℕ) (space : Space) (address : ℕ) (bridge : Slot)
+    → IsIn roots s (Unreached slot register space address bridge) → ⊥
 
 -- no two regions of a bus clash at an address
 abbrev pub HasNoClashAt : List ℕ → System → ℕ → Space → ℕ → Type 0
@@ -18,7 +20,8 @@ HasNoClashAt roots s bus space address =
     → IsIn roots s (Clash bus space address first first_register second second_register) → ⊥
 
 abbrev pub HasNoClash : List ℕ → System → Type 0
-HasNoClash roots s = (bus : ℕ) (space : Space) (address : ℕ) → HasNoClashAt roots s bus space address
+HasNoClash roots s =
+    (bus : ℕ) (space : Space) (address : ℕ) → HasNoClashAt roots s bus space address
 
 -- no two regions of two root buses claim an address
 abbrev pub HasNoSplitAt : List ℕ → System → Space → ℕ → Type 0
@@ -31,11 +34,14 @@ HasNoSplit roots s = (space : Space) (address : ℕ) → HasNoSplitAt roots s sp
 
 -- At most one region claims an access exactly where no two clash and none are split between roots.
 abbrev pub SingleWithoutClashes : Type 0
-SingleWithoutClashes = (roots : List ℕ) (s : System) → IsSingle roots s ↔ (HasNoClash roots s × HasNoSplit roots s)
+SingleWithoutClashes =
+    (roots : List ℕ) (s : System) → IsSingle roots s ↔ (HasNoClash roots s × HasNoSplit roots s)
 
 -- Every region is reached exactly where none is unreached.
 abbrev pub HomeWithoutUnreached : Type 0
-HomeWithoutUnreached = (roots : List ℕ) (s : System) → IsSystem s → IsNested roots s → IsHome roots s ↔ HasNoUnreached roots s
+HomeWithoutUnreached =
+    (roots : List ℕ) (s : System) → IsSystem s → IsNested roots s → IsHome roots s
+    ↔ HasNoUnreached roots s
 
 -- ---- the first of them
 
@@ -45,7 +51,8 @@ region_number slot register = slot_number slot * 256 + register
 
 -- Of the BARs and ROMs with an address that isn't passed all the way the least, with the first bridge on its way that
 -- doesn't pass all of it, and the least address that this bridge doesn't pass.
-pub record IsLeastUnreached (roots : List ℕ) (s : System) (slot : Slot) (register : ℕ) (space : Space) (address : ℕ) (bridge : Slot) : Type 0 where
+pub record IsLeastUnreached (roots : List ℕ) (s : System) (slot : Slot) (register : ℕ)
+    (space : Space) (address : ℕ) (bridge : Slot) : Type 0 where
   pub f : Function
   pub part : Part
   pub listed : Contains s f
@@ -63,53 +70,67 @@ pub record IsLeastUnreached (roots : List ℕ) (s : System) (slot : Slot) (regis
   pub named_bridge : b.slot ≡ bridge
   pub stops : passes space (is_prefetchable_part f part) address b ≡ false
   -- lesser regions are passed all the way
-  pub lesser_regions : (g : Function) (q : Part) (sp : Space) (a : ℕ) → Contains s g → is_window q ≡ false
-      → region_number g.slot (register_of g q) < region_number slot register → Claims g q sp a → IsPassedTo roots s sp (is_prefetchable_part g q) a g.slot.bus
+  pub lesser_regions : (g : Function) (q : Part) (sp : Space) (a : ℕ) → Contains s g
+      → is_window q ≡ false
+      → region_number g.slot (register_of g q) < region_number slot register → Claims g q sp a
+      → IsPassedTo roots s sp (is_prefetchable_part g q) a g.slot.bus
   -- the bridges before it pass the whole region
-  pub earlier_bridges : (c : Function) → Contains (take place bridges) c → (a : ℕ) → Claims f part space a → passes space (is_prefetchable_part f part) a c ≡ true
+  pub earlier_bridges : (c : Function) → Contains (take place bridges) c → (a : ℕ)
+      → Claims f part space a → passes space (is_prefetchable_part f part) a c ≡ true
   -- it passes the region's lower addresses
-  pub lower_addresses : (a : ℕ) → a < address → Claims f part space a → passes space (is_prefetchable_part f part) a b ≡ true
+  pub lower_addresses : (a : ℕ) → a < address → Claims f part space a
+      → passes space (is_prefetchable_part f part) a b ≡ true
 
 -- Where every region is reached: on the lowest bus with a clash, in I/O before memory, at the least address, the two least regions.
-pub record IsLeastClash (roots : List ℕ) (s : System) (bus : ℕ) (space : Space) (address : ℕ) (first : Slot) (first_register : ℕ) (second : Slot) (second_register : ℕ) : Type 0 where
+pub record IsLeastClash (roots : List ℕ) (s : System) (bus : ℕ) (space : Space) (address : ℕ)
+    (first : Slot) (first_register : ℕ) (second : Slot) (second_register : ℕ) : Type 0 where
   pub reached : HasNoUnreached roots s
   pub there : IsClash roots s bus space address first first_register second second_register
   pub lower_buses : (b : ℕ) → b < bus → (sp : Space) (a : ℕ) → HasNoClashAt roots s b sp a
   pub io_before_memory : space ≡ Memory → (a : ℕ) → HasNoClashAt roots s bus Io a
   pub lower_addresses : (a : ℕ) → a < address → HasNoClashAt roots s bus space a
-  pub least : (slot : Slot) (register : ℕ) → ClaimsOnBus s bus space address slot register → region_number first first_register ≤ region_number slot register
-  pub next_least : (slot : Slot) (register : ℕ) → ClaimsOnBus s bus space address slot register → ((slot ≡ first) × (register ≡ first_register) → ⊥)
+  pub least : (slot : Slot) (register : ℕ) → ClaimsOnBus s bus space address slot register
+      → region_number first first_register ≤ region_number slot register
+  pub next_least : (slot : Slot) (register : ℕ) → ClaimsOnBus s bus space address slot register
+      → ((slot ≡ first) × (register ≡ first_register) → ⊥)
       → region_number second second_register ≤ region_number slot register
 
 -- Where every region is reached and none clash: in I/O before memory, at the least address, the two least regions on root buses.
-pub record IsLeastSplit (roots : List ℕ) (s : System) (space : Space) (address : ℕ) (first : Slot) (first_register : ℕ) (second : Slot) (second_register : ℕ) : Type 0 where
+pub record IsLeastSplit (roots : List ℕ) (s : System) (space : Space) (address : ℕ) (first : Slot)
+    (first_register : ℕ) (second : Slot) (second_register : ℕ) : Type 0 where
   pub reached : HasNoUnreached roots s
   pub apart : HasNoClash roots s
   pub there : IsSplit roots s space address first first_register second second_register
   pub io_before_memory : space ≡ Memory → (a : ℕ) → HasNoSplitAt roots s Io a
   pub lower_addresses : (a : ℕ) → a < address → HasNoSplitAt roots s space a
-  pub least : (slot : Slot) (register : ℕ) → Contains roots slot.bus → ClaimsOnBus s slot.bus space address slot register
+  pub least : (slot : Slot) (register : ℕ) → Contains roots slot.bus
+      → ClaimsOnBus s slot.bus space address slot register
       → region_number first first_register ≤ region_number slot register
-  pub next_least : (slot : Slot) (register : ℕ) → Contains roots slot.bus → ClaimsOnBus s slot.bus space address slot register
-      → ((slot ≡ first) × (register ≡ first_register) → ⊥) → region_number second second_register ≤ region_number slot register
+  pub next_least : (slot : Slot) (register : ℕ) → Contains roots slot.bus
+      → ClaimsOnBus s slot.bus space address slot register
+      → ((slot ≡ first) × (register ≡ first_register) → ⊥)
+      → region_number second second_register ≤ region_number slot register
 
 -- The least of each kind is the first fault of judging.
 abbrev pub LeastUnreachedIsFirst : Type 0
 LeastUnreachedIsFirst =
     (roots : List ℕ) (s : System) → IsSystem s → IsNested roots s
     → (slot : Slot) (register : ℕ) (space : Space) (address : ℕ) (bridge : Slot)
-    → IsLeastUnreached roots s slot register space address bridge → IsFirst roots s (Unreached slot register space address bridge)
+    → IsLeastUnreached roots s slot register space address bridge
+    → IsFirst roots s (Unreached slot register space address bridge)
 
 abbrev pub LeastClashIsFirst : Type 0
 LeastClashIsFirst =
     (roots : List ℕ) (s : System) → IsSystem s
-    → (bus : ℕ) (space : Space) (address : ℕ) (first : Slot) (first_register : ℕ) (second : Slot) (second_register : ℕ)
+    → (bus : ℕ) (space : Space) (address : ℕ) (first : Slot) (first_register : ℕ) (second : Slot)
+    (second_register : ℕ)
     → IsLeastClash roots s bus space address first first_register second second_register
     → IsFirst roots s (Clash bus space address first first_register second second_register)
 
 abbrev pub LeastSplitIsFirst : Type 0
 LeastSplitIsFirst =
     (roots : List ℕ) (s : System) → IsSystem s
-    → (space : Space) (address : ℕ) (first : Slot) (first_register : ℕ) (second : Slot) (second_register : ℕ)
+    → (space : Space) (address : ℕ) (first : Slot) (first_register : ℕ) (second : Slot)
+    (second_register : ℕ)
     → IsLeastSplit roots s space address first first_register second second_register
     → IsFirst roots s (Split space address first first_register second second_register)

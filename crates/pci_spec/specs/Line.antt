@@ -36,7 +36,8 @@ region_field slot register = field (region_text slot register)
 
 -- two regions
 abbrev pub regions_text : Slot → ℕ → Slot → ℕ → List ℕ
-regions_text first first_register second second_register = region_text first first_register ++ region_field second second_register
+regions_text first first_register second second_register =
+    region_text first first_register ++ region_field second second_register
 
 abbrev pub space_text : Space → List ℕ
 space_text Io = codes "io"
@@ -105,7 +106,8 @@ fault_fields (PowerState slot) = slot_field slot
 fault_fields (BusRange slot) = slot_field slot
 fault_fields (Orphan slot) = slot_field slot
 fault_fields (Unreached slot register space address bridge) =
-    region_field slot register ++ place_field space address ++ field (codes "bridge") ++ slot_field bridge
+    region_field slot register ++ place_field space address ++ field (codes "bridge")
+    ++ slot_field bridge
 fault_fields (Clash bus space address first first_register second second_register) =
     field (codes "bus") ++ byte_field bus ++ place_field space address
     ++ field (regions_text first first_register second second_register)
@@ -139,4 +141,6 @@ verdict_line (Some fault) = codes "no" ++ field (fault_text fault) ++ 10 ∷ []
 
 -- the line of a write: slot, offset, width and value
 abbrev pub write_line : Write → List ℕ
-write_line w = slot_text w.slot ++ byte_field w.offset ++ (46 ∷ hex_digit w.width ∷ field (hex_number (w.width + w.width) w.value)) ++ 10 ∷ []
+write_line w =
+    slot_text w.slot ++ byte_field w.offset
+    ++ (46 ∷ hex_digit w.width ∷ field (hex_number (w.width + w.width) w.value)) ++ 10 ∷ []

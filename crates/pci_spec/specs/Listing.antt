@@ -39,9 +39,11 @@ abbrev pub header_line : Slot → List ℕ → List ℕ
 header_line slot image =
     slot_text slot ++ words (
     codes "type" ∷ decimal_text (layout image)
-    ∷ codes "vendor" ∷ hex_number 4 (vendor_id image) ∷ codes "device" ∷ hex_number 4 (device_id image)
+    ∷ codes "vendor" ∷ hex_number 4 (vendor_id image) ∷ codes "device"
+    ∷ hex_number 4 (device_id image)
     ∷ codes "class" ∷ hex_number 6 (class_code image)
-    ∷ codes "command" ∷ hex_number 4 (command image) ∷ codes "status" ∷ hex_number 4 (status image) ∷ [])
+    ∷ codes "command" ∷ hex_number 4 (command image) ∷ codes "status" ∷ hex_number 4 (status image)
+    ∷ [])
 
 -- ---- BARs and ROM
 
@@ -62,14 +64,18 @@ kind_space Memory64 = Memory
 kind_space Reserved = Memory
 
 abbrev pub bar_line : DecodedBar → List ℕ
-bar_line b = inner_line (codes "bar" ∷ hex_byte b.register ∷ kind_text b.kind b.prefetchable ∷ range_text (kind_space b.kind) b.range ∷ [])
+bar_line b =
+    inner_line (codes "bar" ∷ hex_byte b.register ∷ kind_text b.kind b.prefetchable
+    ∷ range_text (kind_space b.kind) b.range ∷ [])
 
 abbrev pub on_text : Bool → List ℕ
 on_text true = codes "on"
 on_text false = codes "off"
 
 abbrev pub rom_line : DecodedRom → List ℕ
-rom_line rom = inner_line (codes "rom" ∷ hex_byte rom.register ∷ on_text rom.on ∷ range_text Memory rom.range ∷ [])
+rom_line rom =
+    inner_line
+    (codes "rom" ∷ hex_byte rom.register ∷ on_text rom.on ∷ range_text Memory rom.range ∷ [])
 
 abbrev pub rom_lines : Option DecodedRom → List ℕ
 rom_lines None = []
@@ -78,7 +84,9 @@ rom_lines (Some rom) = rom_line rom
 -- ---- a bridge
 
 abbrev pub bus_line : Bridge → List ℕ
-bus_line b = inner_line (codes "bus" ∷ hex_byte b.primary ∷ hex_byte b.secondary ∷ hex_byte b.subordinate ∷ [])
+bus_line b =
+    inner_line
+    (codes "bus" ∷ hex_byte b.primary ∷ hex_byte b.secondary ∷ hex_byte b.subordinate ∷ [])
 
 abbrev pub open_text : Space → Option Range → List ℕ
 open_text space None = codes "closed"
@@ -90,21 +98,26 @@ window_text space (Some window) = open_text space window.range
 
 abbrev pub window_line : WindowKind → Option DecodedWindow → List ℕ
 window_line kind window =
-    inner_line (codes "window" ∷ hex_byte (window_register kind) ∷ window_name kind ∷ window_text (window_space kind) window ∷ [])
+    inner_line (codes "window" ∷ hex_byte (window_register kind) ∷ window_name kind
+    ∷ window_text (window_space kind) window ∷ [])
 
 abbrev pub bridge_lines : Bridge → List ℕ
 bridge_lines b =
     bus_line b ++ (window_line IoWindow b.windows.io
-    ++ (window_line MemoryWindow (Some b.windows.memory) ++ window_line PrefetchWindow b.windows.prefetch))
+    ++ (window_line MemoryWindow (Some b.windows.memory)
+    ++ window_line PrefetchWindow b.windows.prefetch))
 
 -- ---- capabilities
 
 -- Power Management 1.2, 3.2.3 and 3.2.4: by PMC, two bytes behind the ID, and PMCSR, four bytes behind it
 abbrev pub power_line : ℕ → ℕ → ℕ → List ℕ
 power_line place capabilities control =
-    inner_line (codes "cap" ∷ hex_byte place ∷ codes "power" ∷ codes "version" ∷ decimal_text (capabilities % 8)
-    ∷ codes "d1" ∷ flag_text capabilities 9 ∷ codes "d2" ∷ flag_text capabilities 10 ∷ codes "pme" ∷ hex_byte (capabilities / 2 ^ 11)
-    ∷ codes "state" ∷ decimal_text (control % 4) ∷ codes "enable" ∷ flag_text control 8 ∷ codes "status" ∷ flag_text control 15 ∷ [])
+    inner_line (codes "cap" ∷ hex_byte place ∷ codes "power" ∷ codes "version"
+    ∷ decimal_text (capabilities % 8)
+    ∷ codes "d1" ∷ flag_text capabilities 9 ∷ codes "d2" ∷ flag_text capabilities 10 ∷ codes "pme"
+    ∷ hex_byte (capabilities / 2 ^ 11)
+    ∷ codes "state" ∷ decimal_text (control % 4) ∷ codes "enable" ∷ flag_text control 8
+    ∷ codes "status" ∷ flag_text control 15 ∷ [])
 
 -- how many vectors a code of three bits means; 6 and 7 are reserved
 abbrev pub vectors_text : ℕ → List ℕ
@@ -114,7 +127,8 @@ vectors_text code = if nat_lt code 6 then decimal_text (2 ^ code) else codes "re
 abbrev pub message_line : ℕ → ℕ → ℕ → ℕ → List ℕ
 message_line place control address value =
     inner_line (codes "cap" ∷ hex_byte place ∷ codes "msi" ∷ codes "on" ∷ flag_text control 0
-    ∷ codes "capable" ∷ vectors_text (control / 2 % 8) ∷ codes "enabled" ∷ vectors_text (control / 16 % 8)
+    ∷ codes "capable" ∷ vectors_text (control / 2 % 8) ∷ codes "enabled"
+    ∷ vectors_text (control / 16 % 8)
     ∷ codes "wide" ∷ flag_text control 7 ∷ codes "mask" ∷ flag_text control 8
     ∷ codes "address" ∷ hex_number 16 address ∷ codes "data" ∷ hex_number 4 value ∷ [])
 
@@ -124,15 +138,21 @@ raw_line place id = inner_line (codes "cap" ∷ hex_byte place ∷ codes "raw" �
 -- Message Address has an upper half where bit 7 of Message Control is set, and Message Data stands behind it
 abbrev pub message_address : List ℕ → ℕ → ℕ
 message_address image place =
-    number_at image (place + 4) 4 + (if has_bit (message_control image place) 7 then 2 ^ 32 * number_at image (place + 8) 4 else 0)
+    number_at image (place + 4) 4
+    + (if has_bit (message_control image place) 7 then 2 ^ 32 * number_at image (place + 8) 4
+    else 0)
 
 abbrev pub message_value : List ℕ → ℕ → ℕ
-message_value image place = number_at image (place + (if has_bit (message_control image place) 7 then 12 else 8)) 2
+message_value image place =
+    number_at image (place + (if has_bit (message_control image place) 7 then 12 else 8)) 2
 
 abbrev pub capability_line : List ℕ → ℕ → List ℕ
 capability_line image place =
-    if capability_id image place == POWER_MANAGEMENT then power_line place (number_at image (place + 2) 2) (number_at image (place + 4) 2)
-    else if capability_id image place == MSI then message_line place (message_control image place) (message_address image place) (message_value image place)
+    if capability_id image place == POWER_MANAGEMENT
+    then power_line place (number_at image (place + 2) 2) (number_at image (place + 4) 2)
+    else if capability_id image place == MSI
+    then message_line place (message_control image place) (message_address image place)
+    (message_value image place)
     else raw_line place (capability_id image place)
 
 -- the places of a list that ends: there are 48 at most
@@ -144,7 +164,8 @@ places_of image = take_while (λ place. not (place == 0)) (map (pointer image) (
 -- the lines of a function; what its Command enables makes no difference
 unfoldable pub function_listing : Function → List ℕ
 function_listing f =
-    header_line f.slot f.image ++ (flat_map bar_line (decoded_bars f.image f.probe) ++ (rom_lines (decoded_rom f.image f.probe)
+    header_line f.slot f.image
+    ++ (flat_map bar_line (decoded_bars f.image f.probe) ++ (rom_lines (decoded_rom f.image f.probe)
     ++ ((if layout f.image == 1 then bridge_lines (bridge_of f.image f.probe) else [])
     ++ flat_map (capability_line f.image) (places_of f.image))))
 

@@ -19,7 +19,8 @@ no_probe_number (OtherSize register) = 33
 -- the fault of a register; an exact probe has nothing assumed
 abbrev pub register_fault : Bool → ℕ → Derived → Option NoProbe
 register_fault exact register (derived.Known read_back) = None
-register_fault exact register (derived.Assumed read_back) = if exact then Some (NoSize register) else None
+register_fault exact register (derived.Assumed read_back) =
+    if exact then Some (NoSize register) else None
 register_fault exact register derived.NoSize = Some (NoSize register)
 register_fault exact register derived.OtherSize = Some (OtherSize register)
 
@@ -30,4 +31,6 @@ first_at fault (register ∷ registers) = option_or (fault register) (first_at f
 
 -- the fault of a function: that of its lowest faulty register
 unfoldable pub no_probe : Bool → List ℕ → List ResourceLine → Option NoProbe
-no_probe exact image lines = first_at (λ register. register_fault exact register (register_derived image lines register)) (register_offsets image)
+no_probe exact image lines =
+    first_at (λ register. register_fault exact register (register_derived image lines register))
+    (register_offsets image)

@@ -16,7 +16,8 @@ pub record IsImage (image : List ℕ) : Type 0 where
 -- `width` bytes from an offset on, the low byte first (PCI 3.0, 6.1)
 abbrev pub number_at : List ℕ → ℕ → ℕ → ℕ
 number_at image offset zero = 0
-number_at image offset (suc width) = number_at image offset width + byte_at image (offset + width) * 256 ^ width
+number_at image offset (suc width) =
+    number_at image offset width + byte_at image (offset + width) * 256 ^ width
 
 -- whether bit i of a number is 1, bit 0 being the lowest
 abbrev pub has_bit : ℕ → ℕ → Bool

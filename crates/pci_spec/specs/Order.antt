@@ -100,9 +100,11 @@ abbrev pub judging_key : Fault → List ℕ
 judging_key (Unreached slot register space address bridge) =
     check_key Reach ∷ slot_key slot ++ (register ∷ slot_key bridge) ++ (address ∷ [])
 judging_key (Clash bus space address first first_register second second_register) =
-    check_key Clashes ∷ bus ∷ space_key space ∷ address ∷ slot_key first ++ (first_register ∷ slot_key second) ++ (second_register ∷ [])
+    check_key Clashes ∷ bus ∷ space_key space ∷ address ∷ slot_key first
+    ++ (first_register ∷ slot_key second) ++ (second_register ∷ [])
 judging_key (Split space address first first_register second second_register) =
-    check_key Splits ∷ space_key space ∷ address ∷ slot_key first ++ (first_register ∷ slot_key second) ++ (second_register ∷ [])
+    check_key Splits ∷ space_key space ∷ address ∷ slot_key first
+    ++ (first_register ∷ slot_key second) ++ (second_register ∷ [])
 judging_key fault = []
 
 -- within a phase: functions by slot, each function's checks, then what stands here for each of them
@@ -122,9 +124,15 @@ looking_key image_of (BarPair slot register) = in_phase Decoding slot Bars (regi
 looking_key image_of (RomMask slot register) = in_phase Decoding slot ExpansionRom []
 looking_key image_of (WindowMask slot register) = in_phase Decoding slot Windows (register ∷ [])
 -- places in the order of the walk
-looking_key image_of (CapRange slot place) = in_phase Decoding slot Capabilities (step_after 0 (image_of slot) place ∷ check_key PlaceRange ∷ [])
-looking_key image_of (CapLoop slot place) = in_phase Decoding slot Capabilities (step_after 1 (image_of slot) place ∷ check_key PlaceVisits ∷ [])
-looking_key image_of (CapCut slot place) = in_phase Decoding slot Capabilities (step_after 0 (image_of slot) place ∷ check_key PlaceBody ∷ [])
+looking_key image_of (CapRange slot place) =
+    in_phase Decoding slot Capabilities
+    (step_after 0 (image_of slot) place ∷ check_key PlaceRange ∷ [])
+looking_key image_of (CapLoop slot place) =
+    in_phase Decoding slot Capabilities
+    (step_after 1 (image_of slot) place ∷ check_key PlaceVisits ∷ [])
+looking_key image_of (CapCut slot place) =
+    in_phase Decoding slot Capabilities
+    (step_after 0 (image_of slot) place ∷ check_key PlaceBody ∷ [])
 looking_key image_of (PaletteSnoop slot) = in_phase Profile slot PaletteSnoopBit []
 looking_key image_of (VgaEnable slot) = in_phase Profile slot VgaEnableBit []
 looking_key image_of (IsaEnable slot) = in_phase Profile slot IsaEnableBit []
@@ -137,9 +145,11 @@ looking_key image_of (BusRange slot) = in_phase Place slot BusNumbers []
 looking_key image_of (Unreached slot register space address bridge) =
     phase_key Judging ∷ judging_key (Unreached slot register space address bridge)
 looking_key image_of (Clash bus space address first first_register second second_register) =
-    phase_key Judging ∷ judging_key (Clash bus space address first first_register second second_register)
+    phase_key Judging
+    ∷ judging_key (Clash bus space address first first_register second second_register)
 looking_key image_of (Split space address first first_register second second_register) =
-    phase_key Judging ∷ judging_key (Split space address first first_register second second_register)
+    phase_key Judging
+    ∷ judging_key (Split space address first first_register second second_register)
 
 -- whether a fault is looked for before another
 abbrev pub is_before : (Slot → List ℕ) → Fault → Fault → Bool
@@ -157,14 +167,18 @@ image_at (f ∷ s) slot = if same_slot f.slot slot then f.image else image_at s 
 -- the fault is there, in a system with these root buses, and none that is looked for before it
 pub record IsFirstIn (roots : List ℕ) (s : System) (fault : Fault) : Type 0 where
   pub there : IsIn roots s fault
-  pub none_before : (other : Fault) → IsTrue (is_before (image_at s) other fault) → IsIn roots s other → ⊥
+  pub none_before : (other : Fault) → IsTrue (is_before (image_at s) other fault)
+      → IsIn roots s other → ⊥
 
 -- the same, in a dump and its probe
 pub record IsFirstThere (roots : List ℕ) (dump probe : List Block) (fault : Fault) : Type 0 where
   pub there : IsThere roots dump probe fault
-  pub none_before : (other : Fault) → IsTrue (is_before (image_at (system_of dump probe)) other fault) → IsThere roots dump probe other → ⊥
+  pub none_before : (other : Fault)
+      → IsTrue (is_before (image_at (system_of dump probe)) other fault)
+      → IsThere roots dump probe other → ⊥
 
 -- the fault of judging is there, and none of judging that is looked for before it
 pub record IsFirst (roots : List ℕ) (s : System) (fault : Fault) : Type 0 where
   pub there : IsIn roots s fault
-  pub first : (other : Fault) → IsTrue (precedes (judging_key other) (judging_key fault)) → IsIn roots s other → ⊥
+  pub first : (other : Fault) → IsTrue (precedes (judging_key other) (judging_key fault))
+      → IsIn roots s other → ⊥

@@ -33,7 +33,8 @@ abbrev pub are_bad : Pools → Bool
 are_bad pools =
     is_backward pools.io || is_backward pools.memory || is_backward pools.prefetch
     || nat_lt 0xffff pools.io.last || nat_lt 0xffff_ffff pools.memory.last
-    || (nat_le pools.memory.first pools.prefetch.last && nat_le pools.prefetch.first pools.memory.last)
+    || (nat_le pools.memory.first pools.prefetch.last
+    && nat_le pools.prefetch.first pools.memory.last)
 
 -- the bridges between a root and a bus
 abbrev pub bridges_above : System → ℕ → List Function
@@ -44,7 +45,8 @@ abbrev pub is_served : System → Pools → Function → ℕ → Bool
 is_served s pools f n =
     if nat_le pools.prefetch.last 0xffff_ffff
     then list_all (λ b. has_window PrefetchWindow b.probe) (bridges_above s f.slot.bus)
-    else is_wide (bar_at f.probe n) && list_all (λ b. is_wide_window PrefetchWindow b.probe) (bridges_above s f.slot.bus)
+    else is_wide (bar_at f.probe n)
+    && list_all (λ b. is_wide_window PrefetchWindow b.probe) (bridges_above s f.slot.bus)
 
 -- the class that a part is placed in: that of the windows that lead to it
 abbrev pub class_of : System → Pools → Function → Part → WindowKind
@@ -69,7 +71,8 @@ size_of f (Window kind) = 0
 
 -- the sizes of a function's BARs and ROM of a class
 abbrev pub sizes_in : System → Pools → WindowKind → Function → List ℕ
-sizes_in s pools c f = map (size_of f) (filter (λ part. same_class c (class_of s pools f part)) (bars_and_rom f))
+sizes_in s pools c f =
+    map (size_of f) (filter (λ part. same_class c (class_of s pools f part)) (bars_and_rom f))
 
 -- twice as much, as often as it takes to reach n
 unfoldable pub doubled_to : ℕ → ℕ → ℕ → ℕ
@@ -90,14 +93,17 @@ own_sizes s pools c bus f = if f.slot.bus == bus then sizes_in s pools c f else 
 
 -- the size of the window of a bridge with so much need behind it, where it stands on a bus: none without need
 abbrev pub window_over : WindowKind → ℕ → Function → ℕ → List ℕ
-window_over c bus b need = if is_bridge b && b.slot.bus == bus && nat_lt 0 need then window_size c (limited need) ∷ [] else []
+window_over c bus b need =
+    if is_bridge b && b.slot.bus == bus && nat_lt 0 need then window_size c (limited need) ∷ []
+    else []
 
 -- The sizes of what stands on a bus: BARs and ROMs, and a window for each bridge with something behind it,
 -- where at most `depth` buses are below one another.
 unfoldable pub items_within : System → Pools → WindowKind → ℕ → ℕ → List ℕ
 items_within s pools c zero bus = []
 items_within s pools c (suc depth) bus =
-    flat_map (own_sizes s pools c bus) s ++ flat_map (λ b. window_over c bus b (sum (items_within s pools c depth (secondary b)))) s
+    flat_map (own_sizes s pools c bus) s
+    ++ flat_map (λ b. window_over c bus b (sum (items_within s pools c depth (secondary b)))) s
 
 -- buses rise on the way down, so 256 of them are all
 abbrev pub items_on : System → Pools → WindowKind → ℕ → List ℕ
@@ -124,7 +130,9 @@ greatest_of_roots roots s pools c = greatest (flat_map (items_on s pools c) root
 abbrev pub fits : List ℕ → System → Pools → WindowKind → Bool
 fits roots s pools c =
     need_of_roots roots s pools c == 0
-    || nat_le (raised_to (greatest_of_roots roots s pools c) (pool_of pools c).first + need_of_roots roots s pools c) ((pool_of pools c).last + 1)
+    || nat_le (raised_to (greatest_of_roots roots s pools c) (pool_of pools c).first
+    + need_of_roots roots s pools c)
+    ((pool_of pools c).last + 1)
 
 -- whether a part is an I/O BAR
 abbrev pub is_io_part : Function → Part → Bool
@@ -142,7 +150,8 @@ LacksWindow s slot =
 -- a BAR or ROM of a class is behind a bridge
 abbrev pub has_behind : System → Pools → WindowKind → Function → Bool
 has_behind s pools c b =
-    list_any (λ f. is_behind b f.slot.bus && list_any (λ part. same_class c (class_of s pools f part)) (bars_and_rom f)) s
+    list_any (λ f. is_behind b f.slot.bus
+    && list_any (λ part. same_class c (class_of s pools f part)) (bars_and_rom f)) s
 
 -- a window of the bridge is open
 abbrev pub is_open : Function → WindowKind → Bool
@@ -151,15 +160,19 @@ is_open b kind = is_bridge b && has_window kind b.probe && not (is_closed kind b
 -- whether a function has something to decode in a space
 abbrev pub wants : Function → Space → Bool
 wants f Io = list_any (λ part. is_io_part f part) (bars_and_rom f) || is_open f IoWindow
-wants f Memory = list_any (λ part. not (is_io_part f part)) (bars_and_rom f) || is_open f MemoryWindow || is_open f PrefetchWindow
+wants f Memory =
+    list_any (λ part. not (is_io_part f part)) (bars_and_rom f) || is_open f MemoryWindow
+    || is_open f PrefetchWindow
 
 -- two images of a function differ at most in address bits and in the Command bits that enable a space
 pub record IsMoved (old new : Function) : Type 0 where
   pub slot : new.slot ≡ old.slot
   pub probe : new.probe ≡ old.probe
   pub image : IsImage new.image
-  pub same : (offset i : ℕ) → offset < 256 → i < 8 → IsFalse (in_fields (address_fields old.image old.probe) offset i)
-      → IsFalse (offset == COMMAND && nat_lt i 2) → bit_at (byte_at new.image offset) i ≡ bit_at (byte_at old.image offset) i
+  pub same : (offset i : ℕ) → offset < 256 → i < 8
+      → IsFalse (in_fields (address_fields old.image old.probe) offset i)
+      → IsFalse (offset == COMMAND && nat_lt i 2)
+      → bit_at (byte_at new.image offset) i ≡ bit_at (byte_at old.image offset) i
 
 -- why nothing is planned
 pub data PlanFault : Type 0 where
@@ -181,10 +194,12 @@ plan_fault_number (NotAccepted fault) = 73
 pub record IsPlanned (old new : System) (pools : Pools) : Type 0 where
   pub moved : AllZip IsMoved old new
   -- each BAR and ROM is whole in the pool of its class
-  pub placed : (f : Function) (part : Part) (a : ℕ) → Contains new f → IsTrue (has_part f part) → IsFalse (is_window part) → Decodes f part a
+  pub placed : (f : Function) (part : Part) (a : ℕ) → Contains new f → IsTrue (has_part f part)
+      → IsFalse (is_window part) → Decodes f part a
       → InRange (pool_of pools (class_of new pools f part)) a
   -- a window is open exactly where something of its class is behind it
-  pub windows : (b : Function) (kind : WindowKind) → Contains new b → IsTrue (is_bridge b) → IsTrue (has_window kind b.probe)
+  pub windows : (b : Function) (kind : WindowKind) → Contains new b → IsTrue (is_bridge b)
+      → IsTrue (has_window kind b.probe)
       → is_open b kind ≡ has_behind new pools kind b
   -- Command enables exactly the spaces in which there is something to decode
   pub io : (f : Function) → Contains new f → has_bit (command f.image) 0 ≡ wants f Io

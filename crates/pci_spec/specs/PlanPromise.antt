@@ -30,17 +30,22 @@ StopsSafely roots s ws n = (k : ℕ) → n ≤ k → IsSound roots (system_after
 
 -- each write changes the system
 abbrev pub EachWriteChanges : System → List Write → Type 0
-EachWriteChanges s ws = (k : ℕ) → k < length ws → system_after s (take (k + 1) ws) ≢ system_after s (take k ws)
+EachWriteChanges s ws =
+    (k : ℕ) → k < length ws → system_after s (take (k + 1) ws) ≢ system_after s (take k ws)
 
 -- a function with the enable bit of its ROM set, where it has one
 abbrev pub with_rom_on : Function → Function
 with_rom_on f =
     if has_rom f.image f.probe && not (has_bit (byte_at f.image (rom_register (layout f.image))) 0)
-    then record f { image = slice_set f.image (rom_register (layout f.image)) (byte_at f.image (rom_register (layout f.image)) + 1) }
+    then record f {
+      image = slice_set f.image (rom_register (layout f.image))
+          (byte_at f.image (rom_register (layout f.image)) + 1);
+    }
     else f
 
 -- the final system, the writes and the safe start of a plan
-pub record IsPlanOf (roots : List ℕ) (start final : System) (pools : Pools) (ws : List Write) (safe_from : ℕ) : Type 0 where
+pub record IsPlanOf (roots : List ℕ) (start final : System) (pools : Pools) (ws : List Write)
+    (safe_from : ℕ) : Type 0 where
   pub planned : IsPlanned start final pools
   pub placed : IsPlaced roots final pools
   pub sound : IsSound roots final
@@ -51,7 +56,8 @@ pub record IsPlanOf (roots : List ℕ) (start final : System) (pools : Pools) (w
   pub changes : EachWriteChanges start ws
   -- 9 for each device, 11 for each bridge
   pub few : length ws ≤ sum (map most_writes (changes_between start final))
-  pub safe : IsSafeFrom roots start (length (closing_writes (changes_between start final))) safe_from
+  pub safe : IsSafeFrom roots start
+      (length (closing_writes (changes_between start final))) safe_from
   pub stops : StopsSafely roots start ws safe_from
 
 -- ---- why none is made
@@ -64,14 +70,19 @@ pub record IsFirstLacking (s : System) (slot : Slot) : Type 0 where
 -- a class that doesn't fit its pool, while those that are looked at before it do
 abbrev pub IsFirstTooLarge : List ℕ → System → Pools → WindowKind → Type 0
 IsFirstTooLarge roots s pools IoWindow = IsFalse (fits roots s pools IoWindow)
-IsFirstTooLarge roots s pools MemoryWindow = IsFalse (fits roots s pools MemoryWindow) × IsTrue (fits roots s pools IoWindow)
-IsFirstTooLarge roots s pools PrefetchWindow = IsFalse (fits roots s pools PrefetchWindow) × IsTrue (fits roots s pools IoWindow) × IsTrue (fits roots s pools MemoryWindow)
+IsFirstTooLarge roots s pools MemoryWindow =
+    IsFalse (fits roots s pools MemoryWindow) × IsTrue (fits roots s pools IoWindow)
+IsFirstTooLarge roots s pools PrefetchWindow =
+    IsFalse (fits roots s pools PrefetchWindow) × IsTrue (fits roots s pools IoWindow)
+    × IsTrue (fits roots s pools MemoryWindow)
 
 -- the fault is there, and none that is looked for before it
 abbrev pub IsPlanFaultOf : List ℕ → System → Pools → PlanFault → Type 0
 IsPlanFaultOf roots s pools BadPools = IsTrue (are_bad pools)
 IsPlanFaultOf roots s pools (NoWindow slot) = IsFalse (are_bad pools) × IsFirstLacking s slot
-IsPlanFaultOf roots s pools (NoRoom c) = IsFalse (are_bad pools) × ((slot : Slot) → LacksWindow s slot → ⊥) × IsFirstTooLarge roots s pools c
+IsPlanFaultOf roots s pools (NoRoom c) =
+    IsFalse (are_bad pools) × ((slot : Slot) → LacksWindow s slot → ⊥)
+    × IsFirstTooLarge roots s pools c
 IsPlanFaultOf roots s pools (NotAccepted fault) = ⊥
 
 -- nothing stands against a plan

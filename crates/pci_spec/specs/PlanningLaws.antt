@@ -25,11 +25,15 @@ use Rattle.pci_spec.specs.Planning.Table.{IsTable}
 
 -- What is left of a sound system when every function from a slot on is switched off is sound, whatever the addresses of these are moved to.
 abbrev pub CutIsSound : Type 0
-CutIsSound = (roots : List ℕ) (n : ℕ) (part whole : System) → IsSystem whole → IsSound roots whole → AllZip IsMoved whole part → IsCutAt n part whole → IsSound roots part
+CutIsSound =
+    (roots : List ℕ) (n : ℕ) (part whole : System) → IsSystem whole → IsSound roots whole
+    → AllZip IsMoved whole part → IsCutAt n part whole → IsSound roots part
 
 -- Where everything is off, no region can clash or be out of reach.
 abbrev pub OffIsSound : Type 0
-OffIsSound = (roots : List ℕ) (s : System) → IsOffFrom 0 s → IsNested roots s → IsInProfile roots s → HasChains s → IsSound roots s
+OffIsSound =
+    (roots : List ℕ) (s : System) → IsOffFrom 0 s → IsNested roots s → IsInProfile roots s
+    → HasChains s → IsSound roots s
 
 -- ---- what moving keeps
 
@@ -39,11 +43,15 @@ MovedIsSystem = (s t : System) → AllZip IsMoved s t → IsSystem s → IsSyste
 
 -- its bus ranges nest,
 abbrev pub MovedIsNested : Type 0
-MovedIsNested = (roots : List ℕ) (s t : System) → AllZip IsMoved s t → IsSystem s → IsNested roots s → IsNested roots t
+MovedIsNested =
+    (roots : List ℕ) (s t : System) → AllZip IsMoved s t → IsSystem s → IsNested roots s
+    → IsNested roots t
 
 -- it stays in the profile,
 abbrev pub MovedIsInProfile : Type 0
-MovedIsInProfile = (roots : List ℕ) (s t : System) → AllZip IsMoved s t → IsSystem s → HasChains s → IsInProfile roots s → IsInProfile roots t
+MovedIsInProfile =
+    (roots : List ℕ) (s t : System) → AllZip IsMoved s t → IsSystem s → HasChains s
+    → IsInProfile roots s → IsInProfile roots t
 
 -- and its capability lists end.
 abbrev pub MovedHasChains : Type 0
@@ -57,7 +65,10 @@ ProfileDecodes = (roots : List ℕ) (s : System) → IsInProfile roots s → All
 
 -- Powers of two that are placed one after another, none above one before it, from a multiple of the first on: each stands at a multiple of itself.
 abbrev pub LargestFirstIsAligned : Type 0
-LargestFirstIsAligned = (start : ℕ) (sizes : List ℕ) → IsFalling sizes → (0 < length sizes → start % slice_index sizes 0 ≡ 0) → IsPlacedFrom start sizes (starts start sizes)
+LargestFirstIsAligned =
+    (start : ℕ) (sizes : List ℕ) → IsFalling sizes
+    → (0 < length sizes → start % slice_index sizes 0 ≡ 0)
+    → IsPlacedFrom start sizes (starts start sizes)
 
 -- the size at this index, placed from a start on, takes the address
 pub record TakesAddress (start : ℕ) (sizes : List ℕ) (a k : ℕ) : Type 0 where
@@ -67,43 +78,57 @@ pub record TakesAddress (start : ℕ) (sizes : List ℕ) (a k : ℕ) : Type 0 wh
 
 -- Sizes that are placed one after another take each address from the start to their sum, and no other:
 abbrev pub PlacedFillsItsRange : Type 0
-PlacedFillsItsRange = (start : ℕ) (sizes : List ℕ) (a : ℕ) → ((k : ℕ) × TakesAddress start sizes a k) ↔ ((start ≤ a) × (a < start + sum sizes))
+PlacedFillsItsRange =
+    (start : ℕ) (sizes : List ℕ) (a : ℕ) → ((k : ℕ) × TakesAddress start sizes a k)
+    ↔ ((start ≤ a) × (a < start + sum sizes))
 
 -- each of them once.
 abbrev pub PlacedTakesOnce : Type 0
-PlacedTakesOnce = (start : ℕ) (sizes : List ℕ) (a j k : ℕ) → TakesAddress start sizes a j → TakesAddress start sizes a k → j ≡ k
+PlacedTakesOnce =
+    (start : ℕ) (sizes : List ℕ) (a j k : ℕ) → TakesAddress start sizes a j
+    → TakesAddress start sizes a k → j ≡ k
 
 -- ---- writes
 
 -- To a device at most 9 writes of a plan are made, and to a bridge 11.
 abbrev pub FewWritesEach : Type 0
-FewWritesEach = (changes : List Change) → AreChanges changes → (c : Change) → Contains changes c → count_by (λ w. same_slot w.slot c.old.slot) (plan_writes changes) ≤ most_writes c
+FewWritesEach =
+    (changes : List Change) → AreChanges changes → (c : Change) → Contains changes c
+    → count_by (λ w. same_slot w.slot c.old.slot) (plan_writes changes) ≤ most_writes c
 
 -- ---- windows
 
 -- a window is the least power of two that its need goes into, and no smaller than a page
 abbrev pub WindowIsLeastPower : Type 0
-WindowIsLeastPower = (c : WindowKind) (need : ℕ) → need ≤ 2 ^ 65 → IsLeastPower need (page_size c) (window_size c need)
+WindowIsLeastPower =
+    (c : WindowKind) (need : ℕ) → need ≤ 2 ^ 65
+    → IsLeastPower need (page_size c) (window_size c need)
 
 -- ---- everything at its place
 
 -- A system in the profile is sound where everything lies in the pool or in the windows above it, apart from what is beside it, and Command enables what there is to decode.
 abbrev pub LaidOutIsSound : Type 0
 LaidOutIsSound =
-    (roots : List ℕ) (t : System) (pools : Pools) → IsNested roots t → IsInProfile roots t → HasChains t
+    (roots : List ℕ) (t : System) (pools : Pools) → IsNested roots t → IsInProfile roots t
+    → HasChains t
     → IsLaidOut roots t pools → IsSwitchedOn t → IsFalse (are_bad pools) → IsSound roots t
 
 -- and it stays sound where every ROM is switched on
 abbrev pub RomsCanBeOn : Type 0
 RomsCanBeOn =
     (roots : List ℕ) (t : System) (pools : Pools) → IsSystem t → IsSound roots t
-    → IsLaidOut roots t pools → IsSwitchedOn t → IsFalse (are_bad pools) → IsSound roots (map with_rom_on t)
+    → IsLaidOut roots t pools → IsSwitchedOn t → IsFalse (are_bad pools)
+    → IsSound roots (map with_rom_on t)
 
 -- The places of what can be planned are those of items placed largest first, in the pool on the roots and in the windows behind bridges.
 abbrev pub PlacesAreATable : Type 0
-PlacesAreATable = (roots : List ℕ) (s : System) (pools : Pools) (c : WindowKind) → IsPlannable roots s pools → IsStrictlyIncreasing roots → IsTable roots s pools c (place_at roots s pools)
+PlacesAreATable =
+    (roots : List ℕ) (s : System) (pools : Pools) (c : WindowKind) → IsPlannable roots s pools
+    → IsStrictlyIncreasing roots → IsTable roots s pools c (place_at roots s pools)
 
 -- The registers that show these places make a system that is planned, sound and at its place.
 abbrev pub PlannedNumbersAreFinal : Type 0
 PlannedNumbersAreFinal =
-    (roots : List ℕ) (s t : System) (pools : Pools) → IsPlannable roots s pools → IsStrictlyIncreasing roots → AllZip (IsPlannedFunction roots s pools) s t → IsFinal roots s t pools
+    (roots : List ℕ) (s t : System) (pools : Pools) → IsPlannable roots s pools
+    → IsStrictlyIncreasing roots → AllZip (IsPlannedFunction roots s pools) s t
+    → IsFinal roots s t pools

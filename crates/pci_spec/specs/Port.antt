@@ -30,20 +30,24 @@ ShowsNumber targets slot offset width value =
 
 -- the bytes that can have bits which a one clears: Status, and Secondary Status of a bridge
 abbrev pub is_status_byte : List ℕ → ℕ → Bool
-is_status_byte image place = place == STATUS || place == STATUS + 1 || (layout image == 1 && (place == SECONDARY_STATUS || place == SECONDARY_STATUS + 1))
+is_status_byte image place =
+    place == STATUS || place == STATUS + 1
+    || (layout image == 1 && (place == SECONDARY_STATUS || place == SECONDARY_STATUS + 1))
 
 pub record IsTarget (t : Target) : Type 0 where
   pub image : IsImage t.image
   pub writable : IsImage t.writable
   pub clearing : IsImage t.clearing
   -- no bit is both
-  pub apart : (place i : ℕ) → (has_bit (byte_at t.writable place) i && has_bit (byte_at t.clearing place) i) ≡ false
+  pub apart : (place i : ℕ)
+      → (has_bit (byte_at t.writable place) i && has_bit (byte_at t.clearing place) i) ≡ false
   pub status : (place : ℕ) → IsFalse (is_status_byte t.image place) → byte_at t.clearing place ≡ 0
 
 -- the functions behind a port: each is lawful, and no two are at one slot
 pub record IsLawful (targets : List Target) : Type 0 where
   pub each : All IsTarget targets
-  pub one : (i k : ℕ) (t u : Target) → slice_get targets i ≡ Some t → slice_get targets k ≡ Some u → t.slot ≡ u.slot → i ≡ k
+  pub one : (i k : ℕ) (t u : Target) → slice_get targets i ≡ Some t → slice_get targets k ≡ Some u
+      → t.slot ≡ u.slot → i ≡ k
 
 -- the function, with another image if it is at the slot
 abbrev pub put_image : Slot → List ℕ → Target → Target

@@ -16,7 +16,8 @@ is_reading_number n = (nat_le 20 n && nat_le n 26) || n == 31
 abbrev pub ReadableWithoutFaults : Type 0
 ReadableWithoutFaults =
     (roots : List ℕ) (s : System)
-    → All IsReadable s ↔ ((fault : Fault) → IsTrue (is_reading_number (fault_number fault)) → IsIn roots s fault → ⊥)
+    → All IsReadable s
+    ↔ ((fault : Fault) → IsTrue (is_reading_number (fault_number fault)) → IsIn roots s fault → ⊥)
 
 -- Two functions of which the same is told claim the same addresses, part by part.
 abbrev pub AlikeClaimTheSame : Type 0
@@ -39,5 +40,6 @@ AlikeHaveTheSameFirstFault =
 -- and both are sound or neither is.
 abbrev pub AlikeAreSoundTogether : Type 0
 AlikeAreSoundTogether =
-    (roots : List ℕ) (s t : System) → IsSystem s → IsSystem t → All IsReadable s → All IsReadable t → AllZip IsToldAlike s t
+    (roots : List ℕ) (s t : System) → IsSystem s → IsSystem t → All IsReadable s → All IsReadable t
+    → AllZip IsToldAlike s t
     → IsSound roots s ↔ IsSound roots t

@@ -22,7 +22,8 @@ pub record Told : Type 0 where
 abbrev pub told_of : List Block → List SizesBlock → List Told
 told_of [] sizes = []
 told_of (b ∷ blocks) [] = []
-told_of (b ∷ blocks) (s ∷ sizes) = record { slot = b.slot; image = b.image; lines = s.lines } ∷ told_of blocks sizes
+told_of (b ∷ blocks) (s ∷ sizes) =
+    record { slot = b.slot; image = b.image; lines = s.lines } ∷ told_of blocks sizes
 
 -- ---- the probe
 
@@ -64,7 +65,9 @@ pub data ProbeFault : Type 0 where
 
 -- the slots that only one of two lists has
 abbrev pub lone_slots : List Slot → List Slot → List Slot
-lone_slots slots others = filter (λ s. not (list_any (same_slot s) others)) slots ++ filter (λ s. not (list_any (same_slot s) slots)) others
+lone_slots slots others =
+    filter (λ s. not (list_any (same_slot s) others)) slots
+    ++ filter (λ s. not (list_any (same_slot s) slots)) others
 
 -- the least of some slots
 abbrev pub least_slot : List Slot → Option Slot
@@ -97,7 +100,8 @@ first_of fault (f ∷ functions) = option_or (fault f) (first_of fault functions
 unfoldable pub probe_fault : Bool → List Block → List SizesBlock → Option ProbeFault
 probe_fault exact dump sizes =
     option_or (slots_fault (slots_of dump) (sized_slots sizes))
-    (option_or (first_of identity_fault dump) (first_of (read_back_fault exact) (told_of dump sizes)))
+    (option_or (first_of identity_fault dump)
+    (first_of (read_back_fault exact) (told_of dump sizes)))
 
 -- ---- how it is printed
 

@@ -5,7 +5,8 @@ use Rattle.pci_spec.specs.System.{System, Function, Space, Part, Claims, registe
 use Rattle.pci_spec.specs.Decoded.{Record, HasRecords}
 
 -- the same region of another system claims the address too
-pub record ClaimsToo (t : System) (f : Function) (part : Part) (space : Space) (a : ℕ) : Type 0 where
+pub record ClaimsToo (t : System) (f : Function) (part : Part) (space : Space)
+    (a : ℕ) : Type 0 where
   pub g : Function
   pub listed : Contains t g
   pub slot : g.slot ≡ f.slot
@@ -16,4 +17,5 @@ pub record ClaimsToo (t : System) (f : Function) (part : Part) (space : Space) (
 abbrev pub RecordsSettleClaims : Type 0
 RecordsSettleClaims =
     (s t : System) (records : List Record) → HasRecords s records → HasRecords t records
-    → (f : Function) (part : Part) (space : Space) (a : ℕ) → Contains s f → Claims f part space a → ClaimsToo t f part space a
+    → (f : Function) (part : Part) (space : Space) (a : ℕ) → Contains s f → Claims f part space a
+    → ClaimsToo t f part space a

@@ -52,7 +52,8 @@ address_count line = line.last + 1 - line.first
 
 -- whether their number is a power of two, of at most 2 ^ most
 unfoldable pub has_size : ℕ → ResourceLine → Bool
-has_size most line = nat_le line.first line.last && some_from 0 (most + 1) (λ k. address_count line == 2 ^ k)
+has_size most line =
+    nat_le line.first line.last && some_from 0 (most + 1) (λ k. address_count line == 2 ^ k)
 
 -- whether the line tells the size of a BAR of so many bits that shows a value
 unfoldable pub tells_bar : ResourceLine → ℕ → ℕ → Bool
@@ -70,4 +71,5 @@ rom_step = 2 ^ 11
 -- whether the line tells the size of a ROM whose register shows a value
 unfoldable pub tells_rom : ResourceLine → ℕ → Bool
 tells_rom line value =
-    is_of_memory line && not (is_shadow line) && has_size 31 line && without_low rom_step value % address_count line == 0
+    is_of_memory line && not (is_shadow line) && has_size 31 line
+    && without_low rom_step value % address_count line == 0

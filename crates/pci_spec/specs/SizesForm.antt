@@ -7,7 +7,8 @@ abbrev pub number_cells : List Cell
 number_cells = Fixed 48 ∷ Fixed 120 ∷ replicate 16 (Digit 15)
 
 abbrev pub resource_cells : List Cell
-resource_cells = number_cells ++ (Fixed 32 ∷ number_cells) ++ (Fixed 32 ∷ number_cells) ++ (Fixed 10 ∷ [])
+resource_cells =
+    number_cells ++ (Fixed 32 ∷ number_cells) ++ (Fixed 32 ∷ number_cells) ++ (Fixed 10 ∷ [])
 
 -- so many lines
 unfoldable pub lines_cells : ℕ → List Cell

@@ -17,7 +17,8 @@ ends_before place = if nat_lt place 8 then 0 else 1 + (place - 8) / 57
 
 -- the slot, once all its seven bytes are among the first so many, may stand after these blocks
 abbrev pub SlotFollows : List SizesBlock → List ℕ → ℕ → Type 0
-SlotFollows blocks bytes place = 7 ≤ place → (s : Slot) × (take 7 bytes ≡ slot_text s) × IsRising (sized_slots blocks ++ s ∷ [])
+SlotFollows blocks bytes place =
+    7 ≤ place → (s : Slot) × (take 7 bytes ≡ slot_text s) × IsRising (sized_slots blocks ++ s ∷ [])
 
 -- they have the whole slot, and it may not stand there
 pub record SlotIsLow (blocks : List SizesBlock) (bytes : List ℕ) (place : ℕ) : Type 0 where

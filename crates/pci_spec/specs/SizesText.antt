@@ -39,7 +39,9 @@ number_text n = 48 ∷ 120 ∷ hex_number 16 n
 
 -- the first address, the last address and flags
 abbrev pub resource_text : ResourceLine → List ℕ
-resource_text line = number_text line.first ++ (32 ∷ number_text line.last) ++ (32 ∷ number_text line.flags) ++ (10 ∷ [])
+resource_text line =
+    number_text line.first ++ (32 ∷ number_text line.last) ++ (32 ∷ number_text line.flags)
+    ++ (10 ∷ [])
 
 -- the nine lines of a block
 unfoldable pub sizes_block_text : SizesBlock → List ℕ
@@ -71,7 +73,8 @@ pub record IsSizesFront (bytes : List ℕ) (blocks : List SizesBlock) (part : Li
   pub split : bytes ≡ sizes_text_of blocks ++ part
   pub each : All IsSizesBlock blocks
   pub rising : IsRising (sized_slots blocks)
-  pub next : (b : SizesBlock) × IsPartOfSizes part b × (7 ≤ length part → IsRising (sized_slots (blocks ++ b ∷ [])))
+  pub next : (b : SizesBlock) × IsPartOfSizes part b
+      × (7 ≤ length part → IsRising (sized_slots (blocks ++ b ∷ [])))
   pub room : length blocks ≤ 4096
   pub begun : part ≢ [] → length blocks < 4096
 
@@ -82,7 +85,8 @@ IsGoodSizes bytes = (blocks : List SizesBlock) × (part : List ℕ) × IsSizesFr
 
 -- A good beginning, and the byte in this line with which it isn't good any more; P holds of the blocks and the part before
 -- the byte, and of the byte.
-pub record SizesStopWhere (bytes : List ℕ) (line : ℕ) (P : List SizesBlock → List ℕ → ℕ → Type 0) : Type 0 where
+pub record SizesStopWhere (bytes : List ℕ) (line : ℕ)
+    (P : List SizesBlock → List ℕ → ℕ → Type 0) : Type 0 where
   pub front : List ℕ
   pub byte : ℕ
   pub more : List ℕ
@@ -97,16 +101,24 @@ pub record SizesStopWhere (bytes : List ℕ) (line : ℕ) (P : List SizesBlock �
 -- the first fault of a text that is none
 abbrev pub IsSizesFaultOf : List ℕ → TextFault → Type 0
 -- one of the first eight bytes of a block is not of any
-IsSizesFaultOf bytes (BadSlot line) = SizesStopWhere bytes line (λ blocks part c. (length blocks < 4096) × (length part < 8) × (BeginsSizes (part ++ c ∷ []) → ⊥))
+IsSizesFaultOf bytes (BadSlot line) =
+    SizesStopWhere bytes line (λ blocks part c. (length blocks < 4096) × (length part < 8)
+    × (BeginsSizes (part ++ c ∷ []) → ⊥))
 -- there are no titles
 IsSizesFaultOf bytes (BadTitle line) = ⊥
 -- a byte of the seven lines
-IsSizesFaultOf bytes (BadLine line) = SizesStopWhere bytes line (λ blocks part c. (1 ≤ line_ends part) × (line_ends part ≤ 7))
+IsSizesFaultOf bytes (BadLine line) =
+    SizesStopWhere bytes line (λ blocks part c. (1 ≤ line_ends part) × (line_ends part ≤ 7))
 -- the byte in the place of the empty line's end
-IsSizesFaultOf bytes (NoBlank line) = SizesStopWhere bytes line (λ blocks part c. line_ends part ≡ 8)
+IsSizesFaultOf bytes (NoBlank line) =
+    SizesStopWhere bytes line (λ blocks part c. line_ends part ≡ 8)
 -- the byte that completes a slot that isn't above the one before it
-IsSizesFaultOf bytes (Order line) = SizesStopWhere bytes line (λ blocks part c. (length part ≡ 6) × BeginsSizes (part ++ c ∷ []))
+IsSizesFaultOf bytes (Order line) =
+    SizesStopWhere bytes line (λ blocks part c. (length part ≡ 6) × BeginsSizes (part ++ c ∷ []))
 -- the first byte after all the blocks that there is room for
-IsSizesFaultOf bytes (TooMany line) = SizesStopWhere bytes line (λ blocks part c. length blocks ≡ 4096)
+IsSizesFaultOf bytes (TooMany line) =
+    SizesStopWhere bytes line (λ blocks part c. length blocks ≡ 4096)
 -- the whole input begins a text, and is none
-IsSizesFaultOf bytes (Ended line) = IsGoodSizes bytes × ((blocks : List SizesBlock) → IsSizesTextOf bytes blocks → ⊥) × (line ≡ line_after bytes)
+IsSizesFaultOf bytes (Ended line) =
+    IsGoodSizes bytes × ((blocks : List SizesBlock) → IsSizesTextOf bytes blocks → ⊥)
+    × (line ≡ line_after bytes)

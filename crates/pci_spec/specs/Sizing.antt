@@ -12,7 +12,13 @@ use Rattle.pci_spec.specs.Port.{target_at, has_function}
 
 -- what stands for a function where there is none
 abbrev pub no_target : Target
-no_target = record { slot = record { bus = 0; device = 0; function = 0 }; image = []; writable = []; clearing = [] }
+no_target =
+    record {
+      slot = record { bus = 0; device = 0; function = 0 };
+      image = [];
+      writable = [];
+      clearing = [];
+    }
 
 -- the function at a slot, where there is one
 abbrev pub function_at : List Target → Slot → Target
@@ -21,11 +27,13 @@ function_at targets slot = unwrap_or (target_at targets slot) no_target
 -- two images differ at most in `width` bytes from an offset on
 pub record DiffersWithin (offset width : ℕ) (image other : List ℕ) : Type 0 where
   pub full : length other ≡ length image
-  pub outside : (place : ℕ) → (place < offset) ⊎ (offset + width ≤ place) → byte_at other place ≡ byte_at image place
+  pub outside : (place : ℕ) → (place < offset) ⊎ (offset + width ≤ place)
+      → byte_at other place ≡ byte_at image place
 
 -- a one in these bytes clears no bit
 abbrev pub IsPlain : Target → ℕ → ℕ → Type 0
-IsPlain t offset width = (place : ℕ) → offset ≤ place → place < offset + width → byte_at t.clearing place ≡ 0
+IsPlain t offset width =
+    (place : ℕ) → offset ≤ place → place < offset + width → byte_at t.clearing place ≡ 0
 
 -- the image after Command's decode bits were written with zeros, and all its other bits with what they were
 abbrev pub quieted : Target → List ℕ
@@ -34,23 +42,29 @@ quieted t = written t COMMAND 2 (command t.image / 4 * 4)
 -- two images of a function differ at most in its address registers
 pub record DiffersInRegisters (image other : List ℕ) : Type 0 where
   pub full : length other ≡ length image
-  pub outside : (place : ℕ) → IsFalse (is_in_address_register (layout image) place) → byte_at other place ≡ byte_at image place
+  pub outside : (place : ℕ) → IsFalse (is_in_address_register (layout image) place)
+      → byte_at other place ≡ byte_at image place
 
 -- the bytes that sizing writes: Command and the address registers
 abbrev pub is_sizing_byte : ℕ → ℕ → Bool
-is_sizing_byte kind place = place == COMMAND || place == COMMAND + 1 || is_in_address_register kind place
+is_sizing_byte kind place =
+    place == COMMAND || place == COMMAND + 1 || is_in_address_register kind place
 
 -- What an access that failed leaves of a function: its decode bits are clear where they can be written, and the address
 -- registers are open; all else is as it was.
 pub record IsPartlySized (t : Target) (image : List ℕ) : Type 0 where
   pub full : length image ≡ 256
   pub rest_of_command : AgreeFrom 2 (command image) (command t.image)
-  pub quiet : (i : ℕ) → i < 2 → IsTrue (has_bit (byte_at t.writable COMMAND) i) → IsFalse (has_bit (command image) i)
-  pub others : (place : ℕ) → IsFalse (is_sizing_byte (layout t.image) place) → byte_at image place ≡ byte_at t.image place
+  pub quiet : (i : ℕ) → i < 2 → IsTrue (has_bit (byte_at t.writable COMMAND) i)
+      → IsFalse (has_bit (command image) i)
+  pub others : (place : ℕ) → IsFalse (is_sizing_byte (layout t.image) place)
+      → byte_at image place ≡ byte_at t.image place
 
 -- a decode bit of Command is set and can't be written
 abbrev pub IsStuck : Target → Type 0
-IsStuck t = (i : ℕ) × (i < 2) × IsTrue (has_bit (command t.image) i) × IsFalse (has_bit (byte_at t.writable COMMAND) i)
+IsStuck t =
+    (i : ℕ) × (i < 2) × IsTrue (has_bit (command t.image) i)
+    × IsFalse (has_bit (byte_at t.writable COMMAND) i)
 
 -- there is a function at the slot, of a known layout, whose decode bits can be cleared
 pub record IsSizable (targets : List Target) (slot : Slot) : Type 0 where

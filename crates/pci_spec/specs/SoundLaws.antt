@@ -18,4 +18,6 @@ ChainWithoutFaults = (image : List ℕ) → IsImage image → HasChain image ↔
 
 -- A system is sound exactly where no fault is there.
 abbrev pub SoundWithoutFaults : Type 0
-SoundWithoutFaults = (roots : List ℕ) (s : System) → IsSystem s → IsSound roots s ↔ ((fault : Fault) → IsIn roots s fault → ⊥)
+SoundWithoutFaults =
+    (roots : List ℕ) (s : System) → IsSystem s → IsSound roots s
+    ↔ ((fault : Fault) → IsIn roots s fault → ⊥)

@@ -10,17 +10,22 @@ DumpHasText = (blocks : List Block) → IsDump blocks → (bytes : List ℕ) × 
 
 -- and only one
 abbrev pub DumpHasOneText : Type 0
-DumpHasOneText = (bytes others : List ℕ) (blocks : List Block) → IsTextOf bytes blocks → IsTextOf others blocks → bytes ≡ others
+DumpHasOneText =
+    (bytes others : List ℕ) (blocks : List Block) → IsTextOf bytes blocks → IsTextOf others blocks
+    → bytes ≡ others
 
 -- no text is two dumps'
 abbrev pub TextIsOfOneDump : Type 0
-TextIsOfOneDump = (bytes : List ℕ) (blocks others : List Block) → IsTextOf bytes blocks → IsTextOf bytes others → blocks ≡ others
+TextIsOfOneDump =
+    (bytes : List ℕ) (blocks others : List Block) → IsTextOf bytes blocks → IsTextOf bytes others
+    → blocks ≡ others
 
 -- a dump lists each function once, in the order of their slots
 abbrev pub DumpListsSlotsInOrder : Type 0
 DumpListsSlotsInOrder =
     (blocks : List Block) (j k : ℕ) → IsDump blocks → j < k → k < length blocks
-    → slice_index (map slot_number (slots_of blocks)) j < slice_index (map slot_number (slots_of blocks)) k
+    → slice_index (map slot_number (slots_of blocks)) j
+    < slice_index (map slot_number (slots_of blocks)) k
 
 -- what an input begins with is good where the input is
 abbrev pub BeginningsAreGood : Type 0
@@ -32,15 +37,20 @@ TextIsGood = (bytes : List ℕ) (blocks : List Block) → IsTextOf bytes blocks 
 
 -- an input has at most one fault
 abbrev pub InputHasOneFault : Type 0
-InputHasOneFault = (bytes : List ℕ) (f g : TextFault) → IsFaultOf bytes f → IsFaultOf bytes g → f ≡ g
+InputHasOneFault =
+    (bytes : List ℕ) (f g : TextFault) → IsFaultOf bytes f → IsFaultOf bytes g → f ≡ g
 
 -- and each input is a text or has one
 abbrev pub InputIsTextOrHasFault : Type 0
-InputIsTextOrHasFault = (bytes : List ℕ) → ((blocks : List Block) × IsTextOf bytes blocks) ⊎ ((f : TextFault) × IsFaultOf bytes f)
+InputIsTextOrHasFault =
+    (bytes : List ℕ)
+    → ((blocks : List Block) × IsTextOf bytes blocks) ⊎ ((f : TextFault) × IsFaultOf bytes f)
 
 -- A text has none.
 abbrev pub TextHasNoFault : Type 0
-TextHasNoFault = (bytes : List ℕ) (blocks : List Block) (f : TextFault) → IsTextOf bytes blocks → IsFaultOf bytes f → ⊥
+TextHasNoFault =
+    (bytes : List ℕ) (blocks : List Block) (f : TextFault) → IsTextOf bytes blocks
+    → IsFaultOf bytes f → ⊥
 
 -- a block's text has 841 bytes without a title
 abbrev pub BlockWithoutTitleHasLength : Type 0
@@ -56,10 +66,13 @@ LongestBlockIsThere = (b : Block) × IsBlock b × (length (block_text b) ≡ 104
 
 -- Without a title it is made of small hex digits, spaces, colons, a full stop and line ends.
 abbrev pub is_plain : ℕ → Bool
-is_plain c = c == 10 || c == 32 || c == 46 || c == 58 || (nat_le 48 c && nat_le c 57) || (nat_le 97 c && nat_le c 102)
+is_plain c =
+    c == 10 || c == 32 || c == 46 || c == 58 || (nat_le 48 c && nat_le c 57)
+    || (nat_le 97 c && nat_le c 102)
 
 abbrev pub BlockWithoutTitleIsPlain : Type 0
-BlockWithoutTitleIsPlain = (b : Block) → IsBlock b → b.title ≡ None → All (λ c. IsTrue (is_plain c)) (block_text b)
+BlockWithoutTitleIsPlain =
+    (b : Block) → IsBlock b → b.title ≡ None → All (λ c. IsTrue (is_plain c)) (block_text b)
 
 -- a dump has room for 4096 blocks, and for no more
 abbrev pub DumpHasRoom : Type 0

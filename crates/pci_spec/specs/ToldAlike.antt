@@ -13,7 +13,8 @@ use Rattle.pci_spec.specs.Derived.{is_enabled, window_enable}
 
 -- by what an image shows, register n starts a BAR, and Command enables the space that it maps into
 abbrev pub enables_bar : List ℕ → ℕ → Bool
-enables_bar image n = nat_lt n (bar_count (layout image)) && starts_bar image n && is_enabled image (bar_at image n)
+enables_bar image n =
+    nat_lt n (bar_count (layout image)) && starts_bar image n && is_enabled image (bar_at image n)
 
 -- Command enables memory, and the ROM's own bit enables the ROM
 abbrev pub enables_rom : List ℕ → Bool
@@ -30,10 +31,12 @@ pub record IsToldAlike (f g : Function) : Type 0 where
   -- both have an enabled BAR or neither has it,
   pub bars : (n : ℕ) → IsTrue (enables_bar f.image n) → has_bar f.probe n ≡ has_bar g.probe n
   -- of the same size
-  pub bar_sizes : (n : ℕ) → IsTrue (enables_bar f.image n) → IsTrue (has_bar f.probe n) → bar_size f.probe n ≡ bar_size g.probe n
+  pub bar_sizes : (n : ℕ) → IsTrue (enables_bar f.image n) → IsTrue (has_bar f.probe n)
+      → bar_size f.probe n ≡ bar_size g.probe n
   pub rom : IsTrue (enables_rom f.image) → rom_size f.image f.probe ≡ rom_size g.image g.probe
   -- both have a window whose space is enabled, or neither has it
-  pub windows : (kind : WindowKind) → IsTrue (enables_window kind f.image) → has_window kind f.probe ≡ has_window kind g.probe
+  pub windows : (kind : WindowKind) → IsTrue (enables_window kind f.image)
+      → has_window kind f.probe ≡ has_window kind g.probe
 
 -- image and probe of a function go together, and the probe shows address registers alone
 pub record IsReadable (f : Function) : Type 0 where

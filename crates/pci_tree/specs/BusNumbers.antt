@@ -29,7 +29,8 @@ AreSiblings roots m n = (m ≡ n) ⊎ (Contains roots m × Contains roots n)
 
 -- the range is apart from that of a function which is a bridge with a lower slot
 abbrev pub IsApartFrom : Record → Slot → Bridge → Type 0
-IsApartFrom c slot b = (d : Bridge) → c.bridge ≡ Some d → slot_number c.slot < slot_number slot → AreApart b d
+IsApartFrom c slot b =
+    (d : Bridge) → c.bridge ≡ Some d → slot_number c.slot < slot_number slot → AreApart b d
 
 -- and from those of such functions among some records
 abbrev pub IsApartFromLower : List Record → Slot → Bridge → Type 0
@@ -38,19 +39,22 @@ IsApartFromLower part slot b = All (λ c. IsApartFrom c slot b) part
 -- and from those that stand on its bus, or on any root where its bus is one
 abbrev pub IsApartFromEarlier : List ℕ → List Record → Slot → Bridge → Type 0
 IsApartFromEarlier roots records slot b =
-    (c : Record) (d : Bridge) → IsBridgeWith records c d → AreSiblings roots c.slot.bus slot.bus → slot_number c.slot < slot_number slot → AreApart b d
+    (c : Record) (d : Bridge) → IsBridgeWith records c d → AreSiblings roots c.slot.bus slot.bus
+    → slot_number c.slot < slot_number slot → AreApart b d
 
 -- the range ends where that of each bridge that leads to its bus does, or before; a root has no such
 abbrev pub IsInsideParents : List ℕ → List Record → Slot → Bridge → Type 0
 IsInsideParents roots records slot b =
-    (Contains roots slot.bus → ⊥) → (c : Record) (d : Bridge) → IsBridgeWith records c d → d.secondary ≡ slot.bus → b.subordinate ≤ d.subordinate
+    (Contains roots slot.bus → ⊥) → (c : Record) (d : Bridge) → IsBridgeWith records c d
+    → d.secondary ≡ slot.bus → b.subordinate ≤ d.subordinate
 
 -- no root is behind the bridge
 abbrev pub HasNoRootBehind : List ℕ → Bridge → Type 0
 HasNoRootBehind roots b = (root : ℕ) → Contains roots root → IsBehind b root → ⊥
 
 -- the bus numbers of the bridge at a slot fit those of the others, and the roots
-pub record HasLawfulBuses (roots : List ℕ) (records : List Record) (slot : Slot) (b : Bridge) : Type 0 where
+pub record HasLawfulBuses (roots : List ℕ) (records : List Record) (slot : Slot)
+    (b : Bridge) : Type 0 where
   pub order : HasBusOrder slot.bus b
   pub apart : IsApartFromEarlier roots records slot b
   pub inside : IsInsideParents roots records slot b
@@ -93,15 +97,19 @@ pub record IsLeastOf (records : List Record) (bus m : ℕ) : Type 0 where
   pub bridge : IsBridgeWith records c d
   pub there : d.secondary ≡ bus
   pub end : d.subordinate ≡ m
-  pub least : (x : Record) (y : Bridge) → IsBridgeWith records x y → y.secondary ≡ bus → m ≤ y.subordinate
+  pub least : (x : Record) (y : Bridge) → IsBridgeWith records x y → y.secondary ≡ bus
+      → m ≤ y.subordinate
 
 -- the least subordinate bus of the bridges that lead to a bus
 abbrev pub IsLeastEnd : List Record → ℕ → Option ℕ → Type 0
-IsLeastEnd records bus o = MatchOption o ((c : Record) (d : Bridge) → IsBridgeWith records c d → d.secondary ≡ bus → ⊥) (λ m. IsLeastOf records bus m)
+IsLeastEnd records bus o =
+    MatchOption o ((c : Record) (d : Bridge) → IsBridgeWith records c d → d.secondary ≡ bus → ⊥)
+    (λ m. IsLeastOf records bus m)
 
 -- at each bus that number
 abbrev pub AreLeastEnds : List Record → List (Option ℕ) → Type 0
-AreLeastEnds records table = (bus : ℕ) → bus < 256 → IsLeastEnd records bus (slice_index_or table bus None)
+AreLeastEnds records table =
+    (bus : ℕ) → bus < 256 → IsLeastEnd records bus (slice_index_or table bus None)
 
 -- a bus is at most a number, where there is one
 abbrev pub EndsWithin : Option ℕ → ℕ → Type 0

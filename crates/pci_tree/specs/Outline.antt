@@ -47,10 +47,12 @@ pub record IsPathTo (roots : List ℕ) (s : System) (slots : List Slot) (bus : �
   pub starts : Contains roots root
   pub leads : Leads s root bridges bus
   pub named : map (λ f. f.slot) bridges ≡ slots
-  pub only : (other_root : ℕ) (others : List Function) → Contains roots other_root → Leads s other_root others bus → (other_root ≡ root) × (others ≡ bridges)
+  pub only : (other_root : ℕ) (others : List Function) → Contains roots other_root
+      → Leads s other_root others bus → (other_root ≡ root) × (others ≡ bridges)
 
 -- ranges that rise with a gap between two, and have just the addresses of a space that are passed on from a root to a bus
-pub record IsReachTo (roots : List ℕ) (s : System) (space : Space) (prefetch : Bool) (bus : ℕ) (out : List Range) : Type 0 where
+pub record IsReachTo (roots : List ℕ) (s : System) (space : Space) (prefetch : Bool) (bus : ℕ)
+    (out : List Range) : Type 0 where
   pub canonical : IsCanonical out
   pub exact : (a : ℕ) → Covers out a ↔ (IsAddress space a × IsPassedTo roots s space prefetch a bus)
 
@@ -59,7 +61,8 @@ abbrev pub IsBefore : Region → Region → Type 0
 IsBefore p q = (p.first < q.first) ⊎ ((p.first ≡ q.first) × (region_number p < region_number q))
 
 -- the regions of a bus and space, by first address, slot and register
-pub record AreSortedRegionsOf (s : System) (bus : ℕ) (space : Space) (qs : List Region) : Type 0 where
+pub record AreSortedRegionsOf (s : System) (bus : ℕ) (space : Space)
+    (qs : List Region) : Type 0 where
   pub each : (q : Region) → Contains qs q → IsRegionOn s bus space q
   pub complete : HasEachRegion s bus space qs
   pub sorted : AllPairs IsBefore qs

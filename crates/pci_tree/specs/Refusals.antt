@@ -16,5 +16,6 @@ IsRefusalOf v Memory = ⊥
 
 -- a dump and its probe are refused by the first fault that is there, which is one that is looked for before judging, or for want of memory
 abbrev pub IsPairRefusal : List ℕ → List Block → List Block → Refused FaultOfCode → Type 0
-IsPairRefusal roots dump probe (Fault e) = IsFirstThere roots dump probe (fault_of e) × (fault_number (fault_of e) < 60)
+IsPairRefusal roots dump probe (Fault e) =
+    IsFirstThere roots dump probe (fault_of e) × (fault_number (fault_of e) < 60)
 IsPairRefusal roots dump probe Memory = Unit {0}

@@ -31,7 +31,15 @@ same_space system.Memory system.Io = false
 same_space system.Memory system.Memory = true
 
 abbrev pub bar_region : Slot → Bar → Region
-bar_region slot b = record { slot = slot; reg = b.reg; part = parts.Bar; prefetch = b.prefetch; first = b.first; last = b.last }
+bar_region slot b =
+    record {
+      slot = slot;
+      reg = b.reg;
+      part = parts.Bar;
+      prefetch = b.prefetch;
+      first = b.first;
+      last = b.last;
+    }
 
 abbrev pub is_bar_of : system.Space → Bar → Bool
 is_bar_of space b = same_space (space_in b.kind) space
@@ -40,7 +48,15 @@ abbrev pub bar_regions : Slot → system.Space → List Bar → List Region
 bar_regions slot space bars = map (bar_region slot) (filter (is_bar_of space) bars)
 
 abbrev pub window_region : Slot → ℕ → DecodedRange → Region
-window_region slot reg range = record { slot = slot; reg = reg; part = parts.Window; prefetch = false; first = range.first; last = range.last }
+window_region slot reg range =
+    record {
+      slot = slot;
+      reg = reg;
+      part = parts.Window;
+      prefetch = false;
+      first = range.first;
+      last = range.last;
+    }
 
 -- the region of a window, where it is open
 abbrev pub window_regions : Slot → ℕ → Option DecodedRange → List Region
@@ -65,7 +81,9 @@ bridge_regions slot space None = []
 bridge_regions slot space (Some b) = flat_map (kind_regions slot b.windows) (kinds_in space)
 
 abbrev pub rom_region : Slot → Rom → Region
-rom_region slot r = record { slot = slot; reg = r.reg; part = parts.Rom; prefetch = false; first = r.first; last = r.last }
+rom_region slot r =
+    record
+    { slot = slot; reg = r.reg; part = parts.Rom; prefetch = false; first = r.first; last = r.last }
 
 -- the region of a ROM, which lies in memory space and has to be enabled by its own bit
 abbrev pub rom_regions : Slot → system.Space → Option Rom → List Region
@@ -76,7 +94,8 @@ rom_regions slot system.Memory (Some r) = if r.on then rom_region slot r ∷ [] 
 abbrev pub regions_of : Record → system.Space → List Region
 regions_of r space =
     if is_on r.command space
-    then bar_regions r.slot space r.bars.items ++ bridge_regions r.slot space r.bridge ++ rom_regions r.slot space r.rom
+    then bar_regions r.slot space r.bars.items ++ bridge_regions r.slot space r.bridge
+    ++ rom_regions r.slot space r.rom
     else []
 
 -- ---- what a region is of
@@ -87,7 +106,8 @@ name_of system.Rom = parts.Rom
 name_of (system.Window kind) = parts.Window
 
 -- the region is that of the function's part, and has the addresses that the part claims
-pub record IsRegionOf (f : system.Function) (part : system.Part) (space : system.Space) (q : Region) : Type 0 where
+pub record IsRegionOf (f : system.Function) (part : system.Part) (space : system.Space)
+    (q : Region) : Type 0 where
   pub slot : q.slot ≡ f.slot
   pub register : q.reg ≡ system.register_of f part
   pub named : q.part ≡ name_of part
@@ -100,7 +120,8 @@ abbrev pub region_number : Region → ℕ
 region_number q = slot_number q.slot * 256 + q.reg
 
 -- a region of a bus of the system
-pub record IsRegionOn (s : system.System) (bus : ℕ) (space : system.Space) (q : Region) : Type 0 where
+pub record IsRegionOn (s : system.System) (bus : ℕ) (space : system.Space)
+    (q : Region) : Type 0 where
   pub f : system.Function
   pub part : system.Part
   pub listed : Contains s f
@@ -108,7 +129,8 @@ pub record IsRegionOn (s : system.System) (bus : ℕ) (space : system.Space) (q 
   pub is : IsRegionOf f part space q
 
 -- the list has the region of a function's part
-pub record HasRegionOf (qs : List Region) (f : system.Function) (part : system.Part) (space : system.Space) : Type 0 where
+pub record HasRegionOf (qs : List Region) (f : system.Function) (part : system.Part)
+    (space : system.Space) : Type 0 where
   pub q : Region
   pub has : Contains qs q
   pub is : IsRegionOf f part space q
@@ -116,10 +138,12 @@ pub record HasRegionOf (qs : List Region) (f : system.Function) (part : system.P
 -- each part of the functions of a bus that claims some address of the space is in the list
 abbrev pub HasEachRegion : system.System → ℕ → system.Space → List Region → Type 0
 HasEachRegion s bus space qs =
-    (f : system.Function) (part : system.Part) (a : ℕ) → Contains s f → f.slot.bus ≡ bus → system.Claims f part space a → HasRegionOf qs f part space
+    (f : system.Function) (part : system.Part) (a : ℕ) → Contains s f → f.slot.bus ≡ bus
+    → system.Claims f part space a → HasRegionOf qs f part space
 
 -- the regions of a bus and space, in the order of slots and registers
-pub record AreRegionsOf (s : system.System) (bus : ℕ) (space : system.Space) (qs : List Region) : Type 0 where
+pub record AreRegionsOf (s : system.System) (bus : ℕ) (space : system.Space)
+    (qs : List Region) : Type 0 where
   pub each : (q : Region) → Contains qs q → IsRegionOn s bus space q
   pub complete : HasEachRegion s bus space qs
   pub rising : AllPairs (λ p q. region_number p < region_number q) qs
@@ -132,5 +156,6 @@ IsSpanIn space first last = (first ≤ last) × system.IsAddress space last
 
 pub record IsLawful (r : Record) : Type 0 where
   pub bars : All (λ b. IsSpanIn (space_in b.kind) b.first b.last) r.bars.items
-  pub windows : IfSome r.bridge (λ b. (kind : WindowKind) → IfSome (window_in kind b.windows) (λ w. IsSpanIn (system.window_space kind) w.first w.last))
+  pub windows : IfSome r.bridge (λ b. (kind : WindowKind)
+      → IfSome (window_in kind b.windows) (λ w. IsSpanIn (system.window_space kind) w.first w.last))
   pub rom : IfSome r.rom (λ x. IsSpanIn system.Memory x.first x.last)

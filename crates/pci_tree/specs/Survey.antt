@@ -66,7 +66,9 @@ pub record IsSurveyOf (v : Surveyed) (s : System) : Type 0 where
 
 -- one more function leaves what is noted, having no fault by itself, or its first fault is noted where it is the earlier
 abbrev pub IsNotedWith : Function → Option Fault → Option Fault → Type 0
-IsNotedWith f old new = (IsClearBefore 4 f × (new ≡ old)) ⊎ ((e : Fault) × IsFirstFault f e × (new ≡ Some (earlier old e)))
+IsNotedWith f old new =
+    (IsClearBefore 4 f × (new ≡ old))
+    ⊎ ((e : Fault) × IsFirstFault f e × (new ≡ Some (earlier old e)))
 
 -- the lesser of two slots
 abbrev pub lesser_slot : Slot → Slot → Slot
@@ -94,6 +96,8 @@ pub record IsOutlineOf (v : Surveyed) (o : Tree) : Type 0 where
 -- isn't that of two lists of slots
 pub record IsRefusedBy (v : Surveyed) (e : Fault) : Type 0 where
   pub noted : (n : Fault) → v.fault ≡ Some n → e ≡ n
-  pub there : (s : System) → IsSurveyOf v s → ((phase_of e ≡ phase_key Slots) × (v.fault ≡ Some e)) ⊎ IsIn v.roots s e
+  pub there : (s : System) → IsSurveyOf v s
+      → ((phase_of e ≡ phase_key Slots) × (v.fault ≡ Some e)) ⊎ IsIn v.roots s e
   pub early : (s : System) → IsSurveyOf v s → fault_number e < 60
-  pub first : (s : System) → IsSystem s → IsSurveyOf v s → phase_of e ≢ 0 → (other : Fault) → IsTrue (is_before (image_at s) other e) → IsIn v.roots s other → ⊥
+  pub first : (s : System) → IsSystem s → IsSurveyOf v s → phase_of e ≢ 0 → (other : Fault)
+      → IsTrue (is_before (image_at s) other e) → IsIn v.roots s other → ⊥

@@ -52,7 +52,11 @@ pub fn outline_of<A: Allocator, B: Allocator, C: Allocator>(
     probe: &Dump<C>,
     roots: Roots,
 ) -> Result<Outline<A>, Refused<Fault>>
-    ensures { MatchResult result (IsOutlineFor record { roots = buses_of roots; dump = dump.now; probe = probe.now }) (IsPairRefusal (buses_of roots) dump.now probe.now) }
+    ensures { MatchResult result (IsOutlineFor record {
+      roots = buses_of roots;
+      dump = dump.now;
+      probe = probe.now;
+    }) (IsPairRefusal (buses_of roots) dump.now probe.now) }
 {
     match first_difference(dump.blocks(), probe.blocks()) {
         Some(slot) => return Err(Refused::Fault(Fault::SlotsDiffer(slot))),
@@ -73,7 +77,8 @@ pub fn admit<A: Allocator>(
     dump: Dump<A>,
     probe: Dump<A>,
 ) -> Result<Admitted<A>, Refused<Fault>>
-    ensures { MatchResult result (λ a. (a.roots ≡ 0 ∷ []) × (a.dump ≡ dump) × (a.probe ≡ probe)) (IsPairRefusal (0 ∷ []) dump probe) }
+    ensures { MatchResult result (λ a. (a.roots ≡ 0 ∷ []) × (a.dump ≡ dump) × (a.probe ≡ probe))
+        (IsPairRefusal (0 ∷ []) dump probe) }
 {
     admit_with(alloc, dump, probe, Roots::host())
 }
@@ -90,7 +95,9 @@ pub fn admit_with<A: Allocator>(
     probe: Dump<A>,
     roots: Roots,
 ) -> Result<Admitted<A>, Refused<Fault>>
-    ensures { MatchResult result (λ a. (a.roots ≡ buses_of roots) × (a.dump ≡ dump) × (a.probe ≡ probe)) (IsPairRefusal (buses_of roots) dump probe) }
+    ensures { MatchResult result
+        (λ a. (a.roots ≡ buses_of roots) × (a.dump ≡ dump) × (a.probe ≡ probe))
+        (IsPairRefusal (buses_of roots) dump probe) }
 {
     match outline_of(alloc, &dump, &probe, roots) {
         Err(refused) => Err(refused),

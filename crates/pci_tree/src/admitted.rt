@@ -37,7 +37,11 @@ impl<A: Allocator> Model for Admitted<A> {
 
     ghost view = { λ a. record { roots = a.outline.roots; dump = a.dump; probe = a.probe } };
 
-    ghost invariant = { λ a. IsAdmitted record { roots = a.outline.roots; dump = a.dump; probe = a.probe } × HasRecords (system_of a.dump a.probe) a.outline.records };
+    ghost invariant = { λ a. IsAdmitted record {
+      roots = a.outline.roots;
+      dump = a.dump;
+      probe = a.probe;
+    } × HasRecords (system_of a.dump a.probe) a.outline.records };
 }
 
 impl<A: Allocator> Admitted<A> {
@@ -81,21 +85,24 @@ impl<A: Allocator> Admitted<A> {
 impl<A: Allocator + Copy> Admitted<A> {
     /// The bridges, in slot order.
     pub fn bridges(&self) -> Result<Vec<Slot, A>, OutOfMemory>
-        ensures { IfOk result (λ v. v.items ≡ map (λ f. f.slot) (filter is_bridge (system_of self.now.dump self.now.probe))) }
+        ensures { IfOk result (λ v. v.items
+            ≡ map (λ f. f.slot) (filter is_bridge (system_of self.now.dump self.now.probe))) }
     {
         self.outline().bridges()
     }
 
     /// The enabled regions of a bus and space that claim an address, by slot and register. A closed window isn't one.
     pub fn regions(&self, bus: u8, space: Space) -> Result<Vec<Region, A>, OutOfMemory>
-        ensures { IfOk result (λ v. AreRegionsOf (system_of self.now.dump self.now.probe) bus (space_of space) v.items) }
+        ensures { IfOk result (λ v. AreRegionsOf (system_of self.now.dump self.now.probe) bus
+            (space_of space) v.items) }
     {
         self.outline().regions(bus, space)
     }
 
     /// The regions of a bus and space, each once, by first address, then by slot and register.
     pub fn sorted(&self, bus: u8, space: Space) -> Result<Vec<Region, A>, OutOfMemory>
-        ensures { IfOk result (λ v. AreSortedRegionsOf (system_of self.now.dump self.now.probe) bus (space_of space) v.items) }
+        ensures { IfOk result (λ v. AreSortedRegionsOf (system_of self.now.dump self.now.probe) bus
+            (space_of space) v.items) }
     {
         self.outline().sorted(bus, space)
     }
@@ -103,7 +110,8 @@ impl<A: Allocator + Copy> Admitted<A> {
     /// The bridges between a root and a function, from the root on, or None where no function has the slot.
     pub fn path(&self, slot: Slot) -> Option<ArrayVec<Slot, 255>>
         ensures { MatchOption result (Contains (slots_of self.now.dump) slot → ⊥)
-            (λ v. IsPathTo self.now.roots (system_of self.now.dump self.now.probe) v.items slot.bus) }
+            (λ v. IsPathTo self.now.roots
+            (system_of self.now.dump self.now.probe) v.items slot.bus) }
     {
         self.outline().path(slot)
     }
@@ -111,7 +119,8 @@ impl<A: Allocator + Copy> Admitted<A> {
     /// The addresses of a space that get to a bus from a root, `prefetch` saying that they are a prefetchable BAR's: ranges
     /// that rise, with an address between each two. To a root gets the whole space, to a bus that no bridge leads to none.
     pub fn reach(&self, bus: u8, space: Space, prefetch: bool) -> Result<Vec<Range, A>, OutOfMemory>
-        ensures { IfOk result (λ v. IsReachTo self.now.roots (system_of self.now.dump self.now.probe) (space_of space) prefetch bus v.items) }
+        ensures { IfOk result (λ v. IsReachTo self.now.roots
+            (system_of self.now.dump self.now.probe) (space_of space) prefetch bus v.items) }
     {
         self.outline().reach(bus, space, prefetch)
     }

@@ -184,7 +184,8 @@ fn place_fault(
     requires rising { RiseBySlot records.now }
     requires slots { All (λ r. IsSlot r.slot) records.now }
     requires ends { AreLeastEnds records.now ends.now }
-    ensures { MatchOption result (IsInPlace (buses_of roots.now) records.now function.now) (IsPlaceFault (buses_of roots.now) records.now function.now) }
+    ensures { MatchOption result (IsInPlace (buses_of roots.now) records.now function.now)
+        (IsPlaceFault (buses_of roots.now) records.now function.now) }
 {
     let slot = function.slot;
     let bus = slot.bus();
@@ -210,7 +211,8 @@ fn place_fault(
 pub fn first_place_fault(records: &[Record], roots: &Roots) -> Option<Fault>
     requires rising { RiseBySlot records.now }
     requires slots { All (λ r. IsSlot r.slot) records.now }
-    ensures { MatchOption result (All (IsInPlace (buses_of roots.now) records.now) records.now) (IsSomePlaceFault (buses_of roots.now) records.now) }
+    ensures { MatchOption result (All (IsInPlace (buses_of roots.now) records.now) records.now)
+        (IsSomePlaceFault (buses_of roots.now) records.now) }
 {
     let ends = least_subordinates(records);
     for function in records {

@@ -74,7 +74,8 @@ fn add_passed<A: Allocator>(
     requires canonical { IsCanonical out.old.items }
     requires below { (a : ℕ) → Covers out.old.items a → a + 1 < r.first }
     requires lawful { IsPassed forwarded }
-    ensures { OnOk result (IsPush out.old.items out.new.items (λ a. Holds r a × Passes forwarded a)) }
+    ensures { OnOk result
+        (IsPush out.old.items out.new.items (λ a. Holds r a × Passes forwarded a)) }
 {
     match forwarded {
         Forwarded::Nothing => {}

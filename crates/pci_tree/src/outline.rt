@@ -54,9 +54,13 @@ impl<A: Allocator> Model for Outline<A> {
 
     ghost Value = { Tree };
 
-    ghost view = { λ o. record { roots = buses_of o.roots; records = map record_value o.records.items } };
+    ghost view = { λ o. record {
+      roots = buses_of o.roots;
+      records = map record_value o.records.items;
+    } };
 
-    ghost invariant = { λ o. IsOutline (buses_of o.roots) o.records.items × IsBridgeToBus o.records.items o.bridge_to_bus };
+    ghost invariant = { λ o. IsOutline (buses_of o.roots) o.records.items
+        × IsBridgeToBus o.records.items o.bridge_to_bus };
 }
 
 impl<A: Allocator> Outline<A> {
@@ -80,7 +84,9 @@ impl<A: Allocator> Outline<A> {
         requires slots { All (λ r. IsSlot r.slot) records.items }
         requires rising { RiseBySlot records.items }
         requires lawful { All IsLawful records.items }
-        ensures { MatchResult result (λ o. (o.roots ≡ buses_of roots) × (o.records ≡ map record_value records.items) × All (IsInPlace (buses_of roots) records.items) records.items)
+        ensures { MatchResult result (λ o. (o.roots ≡ buses_of roots)
+            × (o.records ≡ map record_value records.items)
+            × All (IsInPlace (buses_of roots) records.items) records.items)
             (λ e. IsPlaceRefusal (buses_of roots) (map record_value records.items) (fault_of e)) }
     {
         match first_place_fault(&records, &roots) {
@@ -110,14 +116,16 @@ impl<A: Allocator> Outline<A> {
 impl<A: Allocator + Copy> Outline<A> {
     /// The bridges, in slot order.
     pub fn bridges(&self) -> Result<Vec<Slot, A>, OutOfMemory>
-        ensures { IfOk result (λ v. (s : System) → HasRecords s self.now.records → v.items ≡ map (λ f. f.slot) (filter is_bridge s)) }
+        ensures { IfOk result (λ v. (s : System) → HasRecords s self.now.records
+            → v.items ≡ map (λ f. f.slot) (filter is_bridge s)) }
     {
         bridges_among(*self.records.allocator(), &self.records)
     }
 
     /// The enabled regions of a bus and space that claim an address, by slot and register. A closed window isn't one.
     pub fn regions(&self, bus: u8, space: Space) -> Result<Vec<Region, A>, OutOfMemory>
-        ensures { IfOk result (λ v. (s : System) → HasRecords s self.now.records → AreRegionsOf s bus (space_of space) v.items) }
+        ensures { IfOk result (λ v. (s : System) → HasRecords s self.now.records
+            → AreRegionsOf s bus (space_of space) v.items) }
     {
         if !is_led_to(&self.bridge_to_bus, &self.roots, bus) {
             return Ok(Vec::new(*self.records.allocator()));
@@ -128,7 +136,8 @@ impl<A: Allocator + Copy> Outline<A> {
 
     /// The regions of a bus and space, each once, by first address, then by slot and register.
     pub fn sorted(&self, bus: u8, space: Space) -> Result<Vec<Region, A>, OutOfMemory>
-        ensures { IfOk result (λ v. (s : System) → HasRecords s self.now.records → AreSortedRegionsOf s bus (space_of space) v.items) }
+        ensures { IfOk result (λ v. (s : System) → HasRecords s self.now.records
+            → AreSortedRegionsOf s bus (space_of space) v.items) }
     {
         let mut regions = self.regions(bus, space)?;
         sort_by_first(&mut regions)?;
@@ -137,7 +146,9 @@ impl<A: Allocator + Copy> Outline<A> {
 
     /// The bridges between a root and a function, from the root on, or None where no function has the slot.
     pub fn path(&self, slot: Slot) -> Option<ArrayVec<Slot, 255>>
-        ensures { MatchOption result (Contains (map (λ r. r.slot) self.now.records) slot → ⊥) (λ v. (s : System) → HasRecords s self.now.records → IsPathTo self.now.roots s v.items slot.bus) }
+        ensures { MatchOption result (Contains (map (λ r. r.slot) self.now.records) slot → ⊥)
+            (λ v. (s : System)
+            → HasRecords s self.now.records → IsPathTo self.now.roots s v.items slot.bus) }
     {
         if !has_slot(&self.records, slot) {
             return None;
@@ -150,8 +161,10 @@ impl<A: Allocator + Copy> Outline<A> {
         ensures size { IfOk result (λ v. length v.items ≡ 256) }
         ensures canonical { IfOk result (λ v. All IsCanonical v.items) }
         ensures nested { (s : System) → HasRecords s self.now.records → IsNested self.now.roots s }
-        ensures exact { IfOk result (λ v. (s : System) (bus : ℕ) (d : List RangeValue) → HasRecords s self.now.records → bus < 256
-            → IsReachTo self.now.roots s (window_space (kind_value kind)) (is_prefetch (kind_value kind)) bus (slice_index_or v.items bus d)) }
+        ensures exact { IfOk result (λ v. (s : System) (bus : ℕ) (d : List RangeValue)
+            → HasRecords s self.now.records → bus < 256
+            → IsReachTo self.now.roots s (window_space (kind_value kind))
+            (is_prefetch (kind_value kind)) bus (slice_index_or v.items bus d)) }
     {
         reaches(
             *self.records.allocator(),
@@ -165,7 +178,8 @@ impl<A: Allocator + Copy> Outline<A> {
     /// The addresses of a space that get to a bus from a root, `prefetch` saying that they are a prefetchable BAR's: ranges
     /// that rise, with an address between each two. To a root gets the whole space, to a bus that no bridge leads to none.
     pub fn reach(&self, bus: u8, space: Space, prefetch: bool) -> Result<Vec<Range, A>, OutOfMemory>
-        ensures { IfOk result (λ v. (s : System) → HasRecords s self.now.records → IsReachTo self.now.roots s (space_of space) prefetch bus v.items) }
+        ensures { IfOk result (λ v. (s : System) → HasRecords s self.now.records
+            → IsReachTo self.now.roots s (space_of space) prefetch bus v.items) }
     {
         let mut all = self.reaches(space.kind(prefetch))?;
         let reach = all.swap_remove(bus as usize);
@@ -176,7 +190,9 @@ impl<A: Allocator + Copy> Outline<A> {
 /// Sorts regions that stand by slot and register by first address; those with one first address stay in their order.
 fn sort_by_first<A: Allocator + Copy>(regions: &mut Vec<Region, A>) -> Result<(), OutOfMemory>
     ensures permutation { IsPermutation regions.old.items regions.new.items }
-    ensures sorted { OnOk result (AllPairs (λ p q. region_number p < region_number q) regions.old.items → AllPairs IsBefore regions.new.items) }
+    ensures sorted { OnOk result (AllPairs
+        (λ p q. region_number p < region_number q) regions.old.items
+        → AllPairs IsBefore regions.new.items) }
 {
     match regions.sort_by_key(|region| region.first) {
         Ok(()) => Ok(()),
@@ -203,7 +219,8 @@ fn regions_among<A: Allocator>(
     records: &[Record],
     space: Space,
 ) -> Result<Vec<Region, A>, OutOfMemory>
-    ensures { IfOk result (λ v. v.items ≡ flat_map (λ r. regions_of r (space_of space)) records.now) }
+    ensures { IfOk result
+        (λ v. v.items ≡ flat_map (λ r. regions_of r (space_of space)) records.now) }
 {
     let Ok(mut regions) = Vec::with_capacity(alloc, records.len()) else {
         return Err(OutOfMemory);

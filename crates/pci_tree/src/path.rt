@@ -24,7 +24,8 @@ pub fn bridge_to_bus(records: &[Record]) -> [Option<usize>; BUSES]
 
 /// Whether a bus is a root or a bridge leads to it.
 pub fn is_led_to(bridge_to_bus: &[Option<usize>; BUSES], roots: &Roots, bus: u8) -> bool
-    ensures { result ≡ false → (records : List RecordValue) → IsBridgeToBus records bridge_to_bus.now → IsUnled records (buses_of roots.now) bus }
+    ensures { result ≡ false → (records : List RecordValue)
+        → IsBridgeToBus records bridge_to_bus.now → IsUnled records (buses_of roots.now) bus }
 {
     roots.has(bus) || bridge_to_bus[bus as usize].is_some()
 }
@@ -39,7 +40,8 @@ pub fn path(
     requires forest { IsForest records.now }
     requires bridge_to_bus { IsBridgeToBus records.now bridge_to_bus.now }
     requires clear { AreClear (buses_of roots.now) records.now }
-    ensures { MatchOption result (IsUnled records.now (buses_of roots.now) bus) (λ v. AreSlotsOfWay records.now (buses_of roots.now) v.items bus) }
+    ensures { MatchOption result (IsUnled records.now (buses_of roots.now) bus)
+        (λ v. AreSlotsOfWay records.now (buses_of roots.now) v.items bus) }
 {
     let mut up = ArrayVec::new();
     let mut at = bus;

@@ -7,7 +7,8 @@ use pci_image::range::Range;
 
 /// The addresses that two ranges have in common.
 pub fn meet(r: Range, s: Range) -> Option<Range>
-    ensures { MatchOption result ((a : ℕ) → Holds r a → Holds s a → ⊥) (λ m. (m.first ≤ m.last) × ((a : ℕ) → Holds m a ↔ (Holds r a × Holds s a))) }
+    ensures { MatchOption result ((a : ℕ) → Holds r a → Holds s a → ⊥)
+        (λ m. (m.first ≤ m.last) × ((a : ℕ) → Holds m a ↔ (Holds r a × Holds s a))) }
 {
     let first = if r.first < s.first { s.first } else { r.first };
     let last = if r.last < s.last { r.last } else { s.last };
@@ -32,7 +33,8 @@ fn first_not_before(rs: &[Range], a: u64) -> usize
 pub fn least_outside(r: Range, rs: &[Range]) -> Option<u64>
     requires lawful { r.first ≤ r.last }
     requires canonical { IsCanonical rs.now }
-    ensures { MatchOption result ((a : ℕ) → Holds r a → Covers rs.now a) (λ a. IsLeastOutside r rs.now a) }
+    ensures { MatchOption result ((a : ℕ) → Holds r a → Covers rs.now a)
+        (λ a. IsLeastOutside r rs.now a) }
 {
     let k = first_not_before(rs, r.first);
     if k == rs.len() {
@@ -51,7 +53,8 @@ pub fn least_outside(r: Range, rs: &[Range]) -> Option<u64>
 /// The least address from `from` on that a range of `rs` has.
 pub fn least_from(rs: &[Range], from: u64) -> Option<u64>
     requires { IsCanonical rs.now }
-    ensures { MatchOption result ((a : ℕ) → from ≤ a → Covers rs.now a → ⊥) (λ a. IsLeastFrom rs.now from a) }
+    ensures { MatchOption result ((a : ℕ) → from ≤ a → Covers rs.now a → ⊥)
+        (λ a. IsLeastFrom rs.now from a) }
 {
     let k = first_not_before(rs, from);
     if k == rs.len() {

@@ -75,7 +75,8 @@ fn reach_of_bus<A: Allocator>(
     requires lower { IfSome index (StandsBelow records.now (length above.now)) }
     requires canonical { All IsCanonical above.now }
     requires spans { All HasSpans records.now }
-    ensures { IfOk result (λ v. IsStep above.now records.now index (kind_value kind) is_root v.items) }
+    ensures { IfOk result
+        (λ v. IsStep above.now records.now index (kind_value kind) is_root v.items) }
 {
     if is_root {
         return all_of(alloc, Space::of(kind));
@@ -102,7 +103,9 @@ pub fn reaches<A: Allocator + Copy>(
     requires bridge_to_bus { IsBridgeToBus records.now bridge_to_bus.now }
     requires spans { All HasSpans records.now }
     ensures size { IfOk result (λ v. length v.items ≡ 256) }
-    ensures exact { IfOk result (λ v. (bus : ℕ) (d : List Range) → bus < 256 → IsReachOf records.now (buses_of roots.now) (kind_value kind) bus (slice_index_or v.items bus d)) }
+    ensures exact { IfOk result (λ v. (bus : ℕ) (d : List Range) → bus < 256
+        → IsReachOf records.now (buses_of roots.now) (kind_value kind) bus
+        (slice_index_or v.items bus d)) }
 {
     let mut out = Vec::new(alloc);
     for bus in 0..BUSES {

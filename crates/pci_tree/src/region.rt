@@ -54,7 +54,8 @@ fn add_bars<A: Allocator>(
     bars: &[Bar],
     space: Space,
 ) -> Result<(), OutOfMemory>
-    ensures { OnOk result (out.new.items ≡ out.old.items ++ bar_regions slot (space_of space) bars.now) }
+    ensures { OnOk result
+        (out.new.items ≡ out.old.items ++ bar_regions slot (space_of space) bars.now) }
 {
     for bar in bars {
         if maps_into(bar.kind, space) {
@@ -78,7 +79,8 @@ fn add_window<A: Allocator>(
     windows: &Windows,
     kind: WindowKind,
 ) -> Result<(), OutOfMemory>
-    ensures { OnOk result (out.new.items ≡ out.old.items ++ kind_regions slot windows.now (kind_value kind)) }
+    ensures { OnOk result
+        (out.new.items ≡ out.old.items ++ kind_regions slot windows.now (kind_value kind)) }
 {
     if let Some(range) = range_of(windows.get(kind)) {
         out.push(Region {
@@ -100,7 +102,8 @@ fn add_windows<A: Allocator>(
     bridge: Option<Bridge>,
     space: Space,
 ) -> Result<(), OutOfMemory>
-    ensures { OnOk result (out.new.items ≡ out.old.items ++ bridge_regions slot (space_of space) bridge) }
+    ensures { OnOk result
+        (out.new.items ≡ out.old.items ++ bridge_regions slot (space_of space) bridge) }
 {
     if let Some(bridge) = bridge {
         let windows = &bridge.windows;
@@ -146,7 +149,8 @@ pub fn add_regions<A: Allocator>(
     function: &Record,
     space: Space,
 ) -> Result<(), OutOfMemory>
-    ensures { OnOk result (out.new.items ≡ out.old.items ++ regions_of function.now (space_of space)) }
+    ensures { OnOk result
+        (out.new.items ≡ out.old.items ++ regions_of function.now (space_of space)) }
 {
     if space.is_on(function.command) {
         add_bars(out, function.slot, &function.bars, space)?;

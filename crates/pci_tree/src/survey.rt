@@ -64,7 +64,12 @@ impl<A: Allocator> Model for Survey<A> {
 
     ghost Value = { Surveyed };
 
-    ghost view = { λ s. record { roots = buses_of s.roots; records = map record_value s.records.items; fault = option_map fault_of s.noted; last = s.last } };
+    ghost view = { λ s. record {
+      roots = buses_of s.roots;
+      records = map record_value s.records.items;
+      fault = option_map fault_of s.noted;
+      last = s.last;
+    } };
 
     ghost invariant = { λ s. AreKept s.records.items s.last };
 }
@@ -82,7 +87,12 @@ impl<A: Allocator> Survey<A> {
 
     /// The survey of no functions, with these root buses.
     pub fn with(alloc: A, roots: Roots) -> Survey<A>
-        ensures value { result ≡ record { roots = buses_of roots; records = []; fault = None; last = None } }
+        ensures value { result ≡ record {
+          roots = buses_of roots;
+          records = [];
+          fault = None;
+          last = None;
+        } }
         ensures none { IsSurveyOf result [] }
     {
         Survey {
@@ -105,9 +115,14 @@ impl<A: Allocator> Survey<A> {
         requires probe_above { IsAboveLast self.old.last probe.now.slot }
         requires open { IfSome self.old.fault (λ e. phase_of e ≢ 0) }
         ensures added { OnOk result (probe.now.slot ≡ block.now.slot
-            → IsAdded self.old self.new record { slot = block.now.slot; image = block.now.image; probe = probe.now.image }) }
-        ensures taken { OnOk result (probe.now.slot ≡ block.now.slot → (s : System) → IsSurveyOf self.old s
-            → IsSurveyOf self.new (s ++ record { slot = block.now.slot; image = block.now.image; probe = probe.now.image } ∷ [])) }
+            → IsAdded self.old self.new record
+            { slot = block.now.slot; image = block.now.image; probe = probe.now.image }) }
+        ensures taken { OnOk result
+            (probe.now.slot ≡ block.now.slot → (s : System) → IsSurveyOf self.old s
+            → IsSurveyOf self.new (s
+            ++ record
+            { slot = block.now.slot; image = block.now.image; probe = probe.now.image }
+            ∷ [])) }
         ensures differ { OnOk result (probe.now.slot ≢ block.now.slot → self.new ≡ record {
           roots = self.old.roots;
           records = self.old.records;
@@ -134,9 +149,16 @@ impl<A: Allocator> Survey<A> {
         requires slots { probe.now.slot ≡ block.now.slot }
         requires above { IsAboveLast self.old.last block.now.slot }
         requires open { IfSome self.old.fault (λ e. phase_of e ≢ 0) }
-        ensures added { OnOk result (IsAdded self.old self.new record { slot = block.now.slot; image = block.now.image; probe = probe.now.image }) }
+        ensures added { OnOk result (IsAdded self.old self.new record {
+          slot = block.now.slot;
+          image = block.now.image;
+          probe = probe.now.image;
+        }) }
         ensures taken { OnOk result ((s : System) → IsSurveyOf self.old s
-            → IsSurveyOf self.new (s ++ record { slot = block.now.slot; image = block.now.image; probe = probe.now.image } ∷ [])) }
+            → IsSurveyOf self.new (s
+            ++ record
+            { slot = block.now.slot; image = block.now.image; probe = probe.now.image }
+            ∷ [])) }
         ensures err { OnErr result (self.new ≡ self.old) }
     {
         let slot = block.slot;
@@ -164,7 +186,12 @@ impl<A: Allocator> Survey<A> {
     /// Notes 30 `SlotsDiffer` for a slot that one side alone has. No other fault comes before it.
     pub fn only(&mut self, slot: Slot)
         requires { IfSome self.old.fault (λ e. phase_of e ≢ 0) }
-        ensures { self.new ≡ record { roots = self.old.roots; records = self.old.records; fault = Some (SlotsDiffer slot); last = self.old.last } }
+        ensures { self.new ≡ record {
+          roots = self.old.roots;
+          records = self.old.records;
+          fault = Some (SlotsDiffer slot);
+          last = self.old.last;
+        } }
     {
         self.noted = Some(Fault::SlotsDiffer(slot));
     }

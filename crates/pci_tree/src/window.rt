@@ -28,7 +28,8 @@ pub(crate) fn range_of(window: Option<Window>) -> Option<Range>
 fn windows_passed(bridge: Bridge, kind: WindowKind) -> Forwarded
     requires { HaveSpans (bridge_value bridge).windows }
     ensures lawful { IsPassed result }
-    ensures exact { (a : ℕ) → Passes result a ↔ IsTrue (windows_pass (kind_value kind) a (bridge_value bridge).windows) }
+    ensures exact { (a : ℕ) → Passes result a
+        ↔ IsTrue (windows_pass (kind_value kind) a (bridge_value bridge).windows) }
 {
     let windows = bridge.windows;
     match kind {
@@ -42,7 +43,8 @@ fn windows_passed(bridge: Bridge, kind: WindowKind) -> Forwarded
 pub fn forwarded(function: &Record, kind: WindowKind) -> Forwarded
     requires { IfSome function.now.bridge (λ b. HaveSpans (bridge_value b).windows) }
     ensures lawful { IsPassed result }
-    ensures exact { (a : ℕ) → Passes result a ↔ IsTrue (record_passes (kind_value kind) a (record_value function.now)) }
+    ensures exact { (a : ℕ) → Passes result a
+        ↔ IsTrue (record_passes (kind_value kind) a (record_value function.now)) }
 {
     if !Space::of(kind).is_on(function.command) {
         return Forwarded::Nothing;

@@ -13,7 +13,8 @@ answer_text (Refused refusal) = refusal_text refusal
 
 -- the verdict on the two texts, or why there is none
 abbrev pub IsAnswerOf : List ℕ → List ℕ → List ℕ → Answer → Type 0
-IsAnswerOf roots dump probe (Verdict outcome) = IsRootList roots × IsAudited roots (Some dump) (Some probe) outcome
+IsAnswerOf roots dump probe (Verdict outcome) =
+    IsRootList roots × IsAudited roots (Some dump) (Some probe) outcome
 IsAnswerOf roots dump probe (Refused refusal) = IsRefusalOf roots dump probe refusal
 
 -- the items stand at the front, and the rest is as it was
@@ -21,7 +22,8 @@ abbrev pub IsPutInto : {T : Type 0} → List T → List T → List T → Type 0
 IsPutInto old new items = new ≡ items ++ drop (length items) old
 
 -- the answer to the two texts, with its text at the front of the bytes
-pub record IsTold (roots dump probe : List ℕ) (answer : Answer) (old new : List ℕ) (used : ℕ) : Type 0 where
+pub record IsTold (roots dump probe : List ℕ) (answer : Answer) (old new : List ℕ)
+    (used : ℕ) : Type 0 where
   pub answered : IsAnswerOf roots dump probe answer
   pub text : IsPutInto old new (answer_text answer)
   pub count : used ≡ length (answer_text answer)

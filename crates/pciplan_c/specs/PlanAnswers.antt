@@ -21,7 +21,13 @@ use Rattle.pciplan_c.specs.declared.register_write.PoolsOfC.{PoolsOfC}
 
 -- a write as C has it, and pools as C has them
 abbrev pub value_of : RegisterWrite → Write
-value_of w = record { slot = record { bus = w.bus; device = w.device; function = w.function }; offset = w.offset; width = w.width; value = w.value }
+value_of w =
+    record {
+      slot = record { bus = w.bus; device = w.device; function = w.function };
+      offset = w.offset;
+      width = w.width;
+      value = w.value;
+    }
 
 abbrev pub pools_of : PoolsOfC → plan.Pools
 pools_of p = record {
@@ -34,7 +40,8 @@ pools_of p = record {
 abbrev pub no_plan_text : NoPlan → List ℕ
 no_plan_text (Refused refusal) = refusal_text refusal
 no_plan_text (NotAdmitted fault) = verdict_line (Some (fault_of fault))
-no_plan_text (NotPlanned fault) = codes "no" ++ field (plan_fault_text (plan_fault_of fault)) ++ 10 ∷ []
+no_plan_text (NotPlanned fault) =
+    codes "no" ++ field (plan_fault_text (plan_fault_of fault)) ++ 10 ∷ []
 
 abbrev pub no_plan_status : NoPlan → ℕ
 no_plan_status (Refused refusal) = 2
@@ -59,7 +66,8 @@ pub record IsNotAdmitted (roots dump probe : List ℕ) (fault : Fault) : Type 0 
   pub early : fault_number (fault_of fault) < 60
 
 -- they have none, and a fault of planning
-pub record IsNotPlanned (roots dump probe : List ℕ) (pools : plan.Pools) (fault : PlanFault) : Type 0 where
+pub record IsNotPlanned (roots dump probe : List ℕ) (pools : plan.Pools)
+    (fault : PlanFault) : Type 0 where
   pub start : Admission
   pub texts : AreTexts roots dump probe start
   pub admitted : IsAdmitted start
@@ -72,7 +80,8 @@ IsNoPlanOf roots dump probe pools (NotAdmitted fault) = IsNotAdmitted roots dump
 IsNoPlanOf roots dump probe pools (NotPlanned fault) = IsNotPlanned roots dump probe pools fault
 
 -- these are the writes of a plan of the two texts
-pub record ArePlanned (roots dump probe : List ℕ) (pools : plan.Pools) (writes : List RegisterWrite) (safe_from : ℕ) : Type 0 where
+pub record ArePlanned (roots dump probe : List ℕ) (pools : plan.Pools) (writes : List RegisterWrite)
+    (safe_from : ℕ) : Type 0 where
   pub start : Admission
   pub texts : AreTexts roots dump probe start
   pub plan : PlanValue

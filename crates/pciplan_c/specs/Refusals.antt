@@ -31,4 +31,5 @@ refusal_text (Probe fault) = codes "probe: " ++ read_fault_text fault
 abbrev pub IsRefusalOf : List ℕ → List ℕ → List ℕ → Refusal → Type 0
 IsRefusalOf roots dump probe Root = IsRootList roots → ⊥
 IsRefusalOf roots dump probe (Dump fault) = IsRootList roots × IsTextFault dump fault
-IsRefusalOf roots dump probe (Probe fault) = IsRootList roots × ((blocks : List Block) × IsTextOf dump blocks) × IsTextFault probe fault
+IsRefusalOf roots dump probe (Probe fault) =
+    IsRootList roots × ((blocks : List Block) × IsTextOf dump blocks) × IsTextFault probe fault

@@ -35,12 +35,21 @@ pub extern "C" fn pciplan_check(
     line: &mut [u8],
     line_used: &mut usize,
 ) -> u8
-    ensures yes { result ≡ 0 → IsTold roots.now dump.now probe.now (Verdict Yes) line.old line.new line_used.new }
-    ensures no { result ≡ 1 → (fault : Fault) × IsTold roots.now dump.now probe.now (Verdict (No fault)) line.old line.new line_used.new }
-    ensures refused { result ≡ 2 → (refusal : Refusal) × IsTold roots.now dump.now probe.now (Refused refusal) line.old line.new line_used.new }
+    ensures yes { result ≡ 0
+        → IsTold roots.now dump.now probe.now (Verdict Yes) line.old line.new line_used.new }
+    ensures no { result ≡ 1
+        → (fault : Fault)
+        × IsTold roots.now dump.now probe.now
+        (Verdict (No fault)) line.old line.new line_used.new }
+    ensures refused { result ≡ 2
+        → (refusal : Refusal)
+        × IsTold roots.now dump.now probe.now
+        (Refused refusal) line.old line.new line_used.new }
     ensures memory { result ≡ 3 → (line.new ≡ line.old) × (line_used.new ≡ line_used.old) }
-    ensures room { result ≡ 4 → (line.new ≡ line.old) × IsTooLong roots.now dump.now probe.now line.old line_used.new }
-    ensures enough { result ≡ 4 → 96 ≤ length line.old → (refusal : Refusal) × IsRefusalOf roots.now dump.now probe.now refusal }
+    ensures room { result ≡ 4
+        → (line.new ≡ line.old) × IsTooLong roots.now dump.now probe.now line.old line_used.new }
+    ensures enough { result ≡ 4 → 96 ≤ length line.old
+        → (refusal : Refusal) × IsRefusalOf roots.now dump.now probe.now refusal }
     ensures known { result ≤ 4 }
 {
     match check_into(alloc, dump, probe, roots, line) {
@@ -81,10 +90,18 @@ pub extern "C" fn pciplan_plan(
     line: &mut [u8],
     line_used: &mut usize,
 ) -> u8
-    ensures plan { result ≡ 0 → ArePut roots.now dump.now probe.now (pools_of pools.now) writes.old writes.new writes_used.new safe_from.new × (line.new ≡ line.old) }
-    ensures told { (result ≡ 1) ⊎ (result ≡ 2) → IsNoPlanTold roots.now dump.now probe.now (pools_of pools.now) result line.old line.new line_used.new × (writes.new ≡ writes.old) }
-    ensures quiet { (result ≡ 3) ⊎ (result ≡ 4) → (writes.new ≡ writes.old) × (line.new ≡ line.old) }
-    ensures room { result ≡ 4 → AreTooMany roots.now dump.now probe.now (pools_of pools.now) writes.old writes_used.new
+    ensures plan { result ≡ 0
+        → ArePut roots.now dump.now probe.now
+        (pools_of pools.now) writes.old writes.new writes_used.new safe_from.new
+        × (line.new ≡ line.old) }
+    ensures told { (result ≡ 1) ⊎ (result ≡ 2)
+        → IsNoPlanTold roots.now dump.now probe.now
+        (pools_of pools.now) result line.old line.new line_used.new
+        × (writes.new ≡ writes.old) }
+    ensures quiet { (result ≡ 3) ⊎ (result ≡ 4)
+        → (writes.new ≡ writes.old) × (line.new ≡ line.old) }
+    ensures room { result ≡ 4
+        → AreTooMany roots.now dump.now probe.now (pools_of pools.now) writes.old writes_used.new
         ⊎ IsNoPlanTooLong roots.now dump.now probe.now (pools_of pools.now) line.old line_used.new }
     ensures known { result ≤ 4 }
 {

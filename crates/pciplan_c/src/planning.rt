@@ -25,7 +25,8 @@ use std::alloc::Allocator;
 /// The dump of a text.
 fn read<A: Allocator>(alloc: A, text: &[u8]) -> Result<Dump<A>, Refused<ReadFault>>
     ensures ok { IfOk result (IsTextOf text.now) }
-    ensures fault { IfErr result (λ why. (fault : ReadFault) → why ≡ Refused.Fault fault → IsTextFault text.now fault) }
+    ensures fault { IfErr result
+        (λ why. (fault : ReadFault) → why ≡ Refused.Fault fault → IsTextFault text.now fault) }
 {
     match read_dump(alloc, &mut Bytes::of(text)) {
         Ok(dump) => Ok(dump),
@@ -42,7 +43,8 @@ fn admit_texts<A: Allocator + Copy>(
     roots: &[u8],
 ) -> Result<Admitted<A>, Refused<NoPlan>>
     ensures texts { IfOk result (AreTexts roots.now dump.now probe.now) }
-    ensures why { IfErr result (λ why. (no : NoPlan) (pools : PoolsValue) → why ≡ Refused.Fault no → IsNoPlanOf roots.now dump.now probe.now pools no) }
+    ensures why { IfErr result (λ why. (no : NoPlan) (pools : PoolsValue) → why ≡ Refused.Fault no
+        → IsNoPlanOf roots.now dump.now probe.now pools no) }
 {
     let Some(roots) = Roots::of(roots) else {
         return Err(Refused::Fault(NoPlan::Refused(Refusal::Root)));
@@ -83,8 +85,10 @@ fn plan_texts<A: Allocator + Copy>(
     roots: &[u8],
     pools: &PoolsOfC,
 ) -> Result<Steps<A>, Refused<NoPlan>>
-    ensures planned { IfOk result (λ s. ArePlanned roots.now dump.now probe.now (pools_of pools.now) s.writes.items s.safe_from) }
-    ensures why { IfErr result (λ why. (no : NoPlan) → why ≡ Refused.Fault no → IsNoPlanOf roots.now dump.now probe.now (pools_of pools.now) no) }
+    ensures planned { IfOk result (λ s. ArePlanned roots.now dump.now probe.now
+        (pools_of pools.now) s.writes.items s.safe_from) }
+    ensures why { IfErr result (λ why. (no : NoPlan) → why ≡ Refused.Fault no
+        → IsNoPlanOf roots.now dump.now probe.now (pools_of pools.now) no) }
 {
     let admitted = match admit_texts(alloc, dump, probe, roots) {
         Ok(admitted) => admitted,
@@ -155,10 +159,12 @@ pub fn plan_into<A: Allocator + Copy>(
     writes: &mut [RegisterWrite],
     line: &mut [u8],
 ) -> Result<Ending, HeldBack>
-    ensures ending { IfOk result (IsEnding roots.now dump.now probe.now (pools_of pools.now) writes.old writes.new line.old line.new) }
+    ensures ending { IfOk result (IsEnding roots.now dump.now probe.now
+        (pools_of pools.now) writes.old writes.new line.old line.new) }
     ensures writes { IfErr result (λ _. writes.new ≡ writes.old) }
     ensures line { IfErr result (λ _. line.new ≡ line.old) }
-    ensures room { IfErr result (IsHeldBack roots.now dump.now probe.now (pools_of pools.now) writes.old line.old) }
+    ensures room { IfErr result
+        (IsHeldBack roots.now dump.now probe.now (pools_of pools.now) writes.old line.old) }
 {
     let steps = match plan_texts(alloc, dump, probe, roots, pools) {
         Ok(steps) => steps,

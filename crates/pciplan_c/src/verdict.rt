@@ -82,9 +82,11 @@ pub fn check_into<A: Allocator + Copy>(
     roots: &[u8],
     line: &mut [u8],
 ) -> Result<Line, Withheld>
-    ensures told { IfOk result (λ l. IsTold roots.now dump.now probe.now l.answer line.old line.new l.used) }
+    ensures told { IfOk result
+        (λ l. IsTold roots.now dump.now probe.now l.answer line.old line.new l.used) }
     ensures quiet { IfErr result (λ _. line.new ≡ line.old) }
-    ensures room { IfErr result (λ why. (needed : ℕ) → why ≡ Withheld.NoRoom needed → IsTooLong roots.now dump.now probe.now line.old needed) }
+    ensures room { IfErr result (λ why. (needed : ℕ) → why ≡ Withheld.NoRoom needed
+        → IsTooLong roots.now dump.now probe.now line.old needed) }
 {
     let told = match answer_to(alloc, dump, probe, roots) {
         Ok(told) => told,

@@ -45,7 +45,8 @@ no_line text = codes "no" ++ field text ++ 10 ∷ []
 
 -- all of a text went out, or a write of it failed after a beginning
 abbrev pub IsTold : Option (List ℕ) → Option (List ℕ) → Type 0 → List ℕ → Type 0
-IsTold before after failed text = Appends before after text ⊎ (failed × AppendsBeginning before after text)
+IsTold before after failed text =
+    Appends before after text ⊎ (failed × AppendsBeginning before after text)
 
 -- the line of a fault that is there
 pub record IsRefusal (dump probe : List Block) (answer : Answer) : Type 0 where
@@ -55,7 +56,8 @@ pub record IsRefusal (dump probe : List Block) (answer : Answer) : Type 0 where
 
 -- `show`: the listing, or the line of a fault that is there
 abbrev pub IsShown : List Block → List Block → Answer → Type 0
-IsShown dump probe answer = (answer ≡ done (listing (system_of dump probe))) ⊎ IsRefusal dump probe answer
+IsShown dump probe answer =
+    (answer ≡ done (listing (system_of dump probe))) ⊎ IsRefusal dump probe answer
 
 -- `size`: the probe again, or the line of a fault that is there
 abbrev pub IsSized : List Block → List Block → Answer → Type 0

@@ -5,4 +5,6 @@ use Rattle.pci_spec.specs.Listing.{inner_line}
 use Rattle.pciplan_cli.specs.declared.listing.bridge.BusLine.{BusLine}
 
 abbrev pub bus_line_text : BusLine → List ℕ
-bus_line_text l = inner_line (codes "bus" ∷ hex_byte l.primary ∷ hex_byte l.secondary ∷ hex_byte l.subordinate ∷ [])
+bus_line_text l =
+    inner_line
+    (codes "bus" ∷ hex_byte l.primary ∷ hex_byte l.secondary ∷ hex_byte l.subordinate ∷ [])

@@ -11,12 +11,16 @@ use Rattle.pciplan_cli.specs.declared.listing.capability.CapabilityLine.TheVaria
 -- what Power Management Capabilities say
 abbrev pub power_support_text : ℕ → List ℕ
 power_support_text capabilities =
-    codes "version " ++ (decimal_text (capabilities % 8) ++ (codes " d1 " ++ (flag_text capabilities 9
-    ++ (codes " d2 " ++ (flag_text capabilities 10 ++ (codes " pme " ++ hex_byte (capabilities / 2 ^ 11)))))))
+    codes "version "
+    ++ (decimal_text (capabilities % 8) ++ (codes " d1 " ++ (flag_text capabilities 9
+    ++ (codes " d2 "
+    ++ (flag_text capabilities 10 ++ (codes " pme " ++ hex_byte (capabilities / 2 ^ 11)))))))
 
 abbrev pub power_state_text : ℕ → List ℕ
 power_state_text control =
-    codes "state " ++ (decimal_text (control % 4) ++ (codes " enable " ++ (flag_text control 8 ++ (codes " status " ++ flag_text control 15))))
+    codes "state "
+    ++ (decimal_text (control % 4)
+    ++ (codes " enable " ++ (flag_text control 8 ++ (codes " status " ++ flag_text control 15))))
 
 abbrev pub message_control_text : ℕ → List ℕ
 message_control_text control =
@@ -26,7 +30,8 @@ message_control_text control =
 
 abbrev pub capability_line_text : CapabilityLine → List ℕ
 capability_line_text (Power place capabilities control) = power_line place capabilities control
-capability_line_text (Message place control address value) = message_line place control address value
+capability_line_text (Message place control address value) =
+    message_line place control address value
 capability_line_text (Raw place id) = raw_line place id
 
 -- it stands in the image, with all of its body, and its ID tells its kind

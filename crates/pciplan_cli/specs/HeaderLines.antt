@@ -10,7 +10,9 @@ use Rattle.pciplan_cli.specs.declared.listing.header.Identity.{Identity}
 -- vendor, device and class
 abbrev pub identity_words : ℕ → ℕ → ℕ → List ℕ
 identity_words vendor device class =
-    codes "vendor " ++ (hex_number 4 vendor ++ (codes " device " ++ (hex_number 4 device ++ (codes " class " ++ hex_number 6 class))))
+    codes "vendor "
+    ++ (hex_number 4 vendor
+    ++ (codes " device " ++ (hex_number 4 device ++ (codes " class " ++ hex_number 6 class))))
 
 abbrev pub identity_text : Identity → List ℕ
 identity_text i = identity_words i.vendor i.device i.class
@@ -18,8 +20,11 @@ identity_text i = identity_words i.vendor i.device i.class
 -- the line of these numbers
 abbrev pub header_text : Slot → ℕ → ℕ → ℕ → ℕ → ℕ → ℕ → List ℕ
 header_text slot kind vendor device class command status =
-    slot_text slot ++ (codes " type " ++ (decimal_text kind ++ (32 ∷ (identity_words vendor device class
-    ++ words (codes "command" ∷ hex_number 4 command ∷ codes "status" ∷ hex_number 4 status ∷ [])))))
+    slot_text slot
+    ++ (codes " type " ++ (decimal_text kind ++ (32 ∷ (identity_words vendor device class
+    ++ words
+    (codes "command" ∷ hex_number 4 command ∷ codes "status" ∷ hex_number 4 status ∷ [])))))
 
 abbrev pub header_line_text : HeaderLine → List ℕ
-header_line_text l = header_text l.slot l.kind l.identity.vendor l.identity.device l.identity.class l.command l.status
+header_line_text l =
+    header_text l.slot l.kind l.identity.vendor l.identity.device l.identity.class l.command l.status

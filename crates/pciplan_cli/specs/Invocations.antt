@@ -19,7 +19,9 @@ pub record IsInvocationOf (words : List (List ℕ)) (line : Invocation) : Type 0
 abbrev pub IsRefusedFor : List (List ℕ) → Failure → Type 0
 IsRefusedFor words Memory = ⊤
 IsRefusedFor words Usage = HasNoLine words
-IsRefusedFor words failure = (asked : Asked) × (dump : List ℕ) × (second : List ℕ) × IsGiven words asked dump second × IsWordRefused asked failure
+IsRefusedFor words failure =
+    (asked : Asked) × (dump : List ℕ) × (second : List ℕ) × IsGiven words asked dump second
+    × IsWordRefused asked failure
 
 -- the words are refused: they are no command line, or a word of one is no root list or no pool
 abbrev pub HasBadWords : List (List ℕ) → Type 0

@@ -42,10 +42,12 @@ pub record IsRefusedText (roots : List ℕ) (dump probe : List Block) (answer : 
 pub record IsNoPlanText (asked : Asked) (dump probe : List Block) (answer : Answer) : Type 0 where
   pub fault : plan.PlanFault
   pub admitted : IsAdmitted (admission_of asked dump probe)
-  pub stands : IsPlanFaultOf asked.roots (system_in (admission_of asked dump probe)) asked.pools fault
+  pub stands : IsPlanFaultOf asked.roots
+      (system_in (admission_of asked dump probe)) asked.pools fault
   pub line : answer ≡ refused (no_line (plan_fault_text fault))
 
 -- `plan`: the text of a plan, or the line of a fault
 abbrev pub IsPlanned : Asked → List Block → List Block → Answer → Type 0
 IsPlanned asked dump probe answer =
-    IsPlanText asked dump probe answer ⊎ IsRefusedText asked.roots dump probe answer ⊎ IsNoPlanText asked dump probe answer
+    IsPlanText asked dump probe answer ⊎ IsRefusedText asked.roots dump probe answer
+    ⊎ IsNoPlanText asked dump probe answer

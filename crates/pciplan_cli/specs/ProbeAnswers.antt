@@ -12,7 +12,12 @@ remark a = codes "pciplan: " ++ (assumed_text a ++ 10 ∷ [])
 
 -- `probe`: the probe's text and its remarks, or the line of the first fault
 abbrev pub answer_of_fault : List Block → List SizesBlock → Option ProbeFault → Answer
-answer_of_fault dump sizes None = record { status = 0; text = text_of (probe_of dump sizes); remarks = flat_map remark (assumed_of dump sizes) }
+answer_of_fault dump sizes None =
+    record {
+      status = 0;
+      text = text_of (probe_of dump sizes);
+      remarks = flat_map remark (assumed_of dump sizes);
+    }
 answer_of_fault dump sizes (Some fault) = refused (no_line (probe_fault_text fault))
 
 abbrev pub probe_answer : Bool → List Block → List SizesBlock → Answer

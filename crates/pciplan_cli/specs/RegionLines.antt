@@ -8,7 +8,9 @@ use Rattle.pciplan_cli.specs.declared.listing.region.BarLine.{BarLine}
 use Rattle.pciplan_cli.specs.declared.listing.region.RomLine.{RomLine}
 
 abbrev pub bar_line_text : BarLine → List ℕ
-bar_line_text l = inner_line (codes "bar" ∷ hex_byte l.reg ∷ kind_text (decoded_kind_of l.mapping.kind) l.mapping.prefetch ∷ span_text l.span ∷ [])
+bar_line_text l =
+    inner_line (codes "bar" ∷ hex_byte l.reg
+    ∷ kind_text (decoded_kind_of l.mapping.kind) l.mapping.prefetch ∷ span_text l.span ∷ [])
 
 abbrev pub rom_line_text : RomLine → List ℕ
 rom_line_text l = inner_line (codes "rom" ∷ hex_byte l.reg ∷ on_text l.on ∷ span_text l.span ∷ [])

@@ -27,7 +27,8 @@ abbrev pub AreSizesOf : Option (List ℕ) → List SizesBlock → Type 0
 AreSizesOf left sizes = (bytes : List ℕ) → left ≡ Some bytes → IsSizesTextOf bytes sizes
 
 -- what is answered to the dump and to the blocks of the second text that were left
-pub record IsAnswerTo {B : Type 0} (IsSecond : Option (List ℕ) → List B → Type 0) (Means : List Block → List B → Answer → Type 0)
+pub record IsAnswerTo {B : Type 0} (IsSecond : Option (List ℕ) → List B → Type 0)
+    (Means : List Block → List B → Answer → Type 0)
     (dump_left second_left : Option (List ℕ)) (answer : Answer) : Type 0 where
   pub dump : List Block
   pub second : List B
@@ -41,8 +42,10 @@ IsAnswerOf task.Show = IsAnswerTo IsDumpOf IsShown
 IsAnswerOf (task.Check roots) = IsAnswerTo IsDumpOf (IsChecked (buses_of roots))
 IsAnswerOf task.Size = IsAnswerTo IsDumpOf IsSized
 IsAnswerOf (task.Plan pools writes roots) =
-    IsAnswerTo IsDumpOf (IsPlanned record { pools = pools_value pools; writes = writes; roots = buses_of roots })
-IsAnswerOf (task.Probe exact) = IsAnswerTo AreSizesOf (λ dump sizes answer. answer ≡ probe_answer exact dump sizes)
+    IsAnswerTo IsDumpOf
+    (IsPlanned record { pools = pools_value pools; writes = writes; roots = buses_of roots })
+IsAnswerOf (task.Probe exact) =
+    IsAnswerTo AreSizesOf (λ dump sizes answer. answer ≡ probe_answer exact dump sizes)
 
 -- the answer was written, and the remarks, if standard error takes them; without remarks it is as before
 pub record IsAnswered (task : Task) (dump_left second_left : Option (List ℕ)) (status : ℕ)
@@ -55,7 +58,8 @@ pub record IsAnswered (task : Task) (dump_left second_left : Option (List ℕ)) 
   pub silent : answer.remarks ≡ [] → same
 
 -- a beginning of the answer was written
-pub record IsBegun (task : Task) (dump_left second_left before after : Option (List ℕ)) : Type 0 where
+pub record IsBegun (task : Task)
+    (dump_left second_left before after : Option (List ℕ)) : Type 0 where
   pub answer : Answer
   pub is : IsAnswerOf task dump_left second_left answer
   pub begun : AppendsBeginning before after answer.text
@@ -67,7 +71,9 @@ takes_sizes _ = false
 
 -- the fault of the text that was left, where the bytes are told and none was met in reading
 abbrev pub IsFaultOfLeft : (List ℕ → ReadFault → Type 0) → Option (List ℕ) → ReadFault → Type 0
-IsFaultOfLeft IsFault left fault = (bytes : List ℕ) → left ≡ Some bytes → fault ≢ faults.Io → fault ≢ faults.Memory → IsFault bytes fault
+IsFaultOfLeft IsFault left fault =
+    (bytes : List ℕ) → left ≡ Some bytes → fault ≢ faults.Io → fault ≢ faults.Memory
+    → IsFault bytes fault
 
 abbrev pub HasDump : Option (List ℕ) → Type 0
 HasDump left = (dump : List Block) × ((bytes : List ℕ) → left ≡ Some bytes → IsTextOf bytes dump)
@@ -75,14 +81,17 @@ HasDump left = (dump : List Block) × ((bytes : List ℕ) → left ≡ Some byte
 -- why the two texts aren't read: the second one's fault is told only where the dump's text is one
 abbrev pub IsFailureOf : Task → Option (List ℕ) → Option (List ℕ) → Failure → Type 0
 IsFailureOf task dump_left second_left (Dump fault) = IsFaultOfLeft IsTextFault dump_left fault
-IsFailureOf task dump_left second_left (Probe fault) = (takes_sizes task ≡ false) × HasDump dump_left × IsFaultOfLeft IsTextFault second_left fault
-IsFailureOf task dump_left second_left (Sizes fault) = (takes_sizes task ≡ true) × HasDump dump_left × IsFaultOfLeft IsSizesTextFault second_left fault
+IsFailureOf task dump_left second_left (Probe fault) =
+    (takes_sizes task ≡ false) × HasDump dump_left × IsFaultOfLeft IsTextFault second_left fault
+IsFailureOf task dump_left second_left (Sizes fault) =
+    (takes_sizes task ≡ true) × HasDump dump_left × IsFaultOfLeft IsSizesTextFault second_left fault
 IsFailureOf task dump_left second_left Memory = Unit {0}
 IsFailureOf task dump_left second_left _ = ⊥
 
 -- one of the two isn't read, by a fault of its text
 abbrev pub IsTaskRefused : Task → Option (List ℕ) → Option (List ℕ) → Type 0
-IsTaskRefused task dump_left second_left = (failure : Failure) × (status_of failure ≡ 2) × IsFailureOf task dump_left second_left failure
+IsTaskRefused task dump_left second_left =
+    (failure : Failure) × (status_of failure ≡ 2) × IsFailureOf task dump_left second_left failure
 
 -- a read of the dump or of the second text failed, or a write
 abbrev pub HasFailed : ℕ → ℕ → ℕ → ℕ → ℕ → ℕ → Type 0
@@ -90,13 +99,18 @@ HasFailed dump_before dump_after second_before second_after before after =
     (dump_after ≡ dump_before + 1) ⊎ (second_after ≡ second_before + 1) ⊎ (after ≡ before + 1)
 
 -- a command line was carried out on the two texts at its paths, and its answer was written
-pub record IsCarriedOut (line : Invocation) (dump_stands second_stands : List ℕ → Type 0) (dump_at second_at : List ℕ → Option (List ℕ))
-    (status : ℕ) (before after err_before err_after : Option (List ℕ)) (err_failed same : Type 0) : Type 0 where
+pub record IsCarriedOut (line : Invocation) (dump_stands second_stands : List ℕ → Type 0)
+    (dump_at second_at : List ℕ → Option (List ℕ))
+    (status : ℕ) (before after err_before err_after : Option (List ℕ))
+    (err_failed same : Type 0) : Type 0 where
   pub dump : dump_stands (string_bytes line.dump)
   pub second : second_stands (string_bytes line.second)
-  pub answered : IsAnswered line.task (dump_at (string_bytes line.dump)) (second_at (string_bytes line.second)) status before after err_before err_after err_failed same
+  pub answered : IsAnswered line.task (dump_at (string_bytes line.dump)) (second_at
+      (string_bytes line.second)) status before after err_before err_after err_failed same
 
 -- a beginning of that answer was written
-abbrev pub IsCarriedOutBegun : Invocation → (List ℕ → Option (List ℕ)) → (List ℕ → Option (List ℕ)) → Option (List ℕ) → Option (List ℕ) → Type 0
+abbrev pub IsCarriedOutBegun : Invocation → (List ℕ → Option (List ℕ)) → (List ℕ → Option (List ℕ))
+    → Option (List ℕ) → Option (List ℕ) → Type 0
 IsCarriedOutBegun line dump_at second_at before after =
-    IsBegun line.task (dump_at (string_bytes line.dump)) (second_at (string_bytes line.second)) before after
+    IsBegun line.task (dump_at (string_bytes line.dump))
+    (second_at (string_bytes line.second)) before after

@@ -26,14 +26,16 @@ fn roots_of(root: Option<&str>) -> Option<Roots>
 
 /// The pool of the word of an option.
 fn pool_of(word: &str, option: PoolOption) -> Result<Range, Failure>
-    ensures { MatchResult result (IsPoolWord word.now) (λ failure. (failure ≡ Failure.Pool option) × HasNoPool word.now) }
+    ensures { MatchResult result (IsPoolWord word.now)
+        (λ failure. (failure ≡ Failure.Pool option) × HasNoPool word.now) }
 {
     pool_of_word(word).ok_or(Failure::Pool(option))
 }
 
 /// The planning that is asked for.
 fn planning_of(words: &PlanWords<'_>) -> Result<Task, Failure>
-    ensures { MatchResult result (IsTaskOf (Asked.Plan words.now)) (IsRefusedFor (Asked.Plan words.now)) }
+    ensures { MatchResult result (IsTaskOf (Asked.Plan words.now))
+        (IsRefusedFor (Asked.Plan words.now)) }
 {
     let roots = roots_of(words.root).ok_or(Failure::Root)?;
     let io = pool_of(words.io, PoolOption::Io)?;

@@ -24,7 +24,8 @@ pub(crate) fn push_hex<A: Allocator>(
     digits: u32,
 ) -> Result<(), AllocError>
     requires { digits ≤ 16 }
-    ensures { OnOk result (string_bytes text.new ≡ string_bytes text.old ++ hex_number digits number) }
+    ensures { OnOk result
+        (string_bytes text.new ≡ string_bytes text.old ++ hex_number digits number) }
 {
     for done in 0..digits {
         let digit = (number >> (4 * (digits - 1 - done))) % 16;

@@ -49,7 +49,8 @@ pub type Line = Invocation;
 
 /// The invocation that the words make.
 fn invocation_of(alloc: Global, words: &[&str]) -> Result<Invocation, Failure>
-    ensures { MatchResult result (IsInvocationOf (map (λ w. w.now) words.now)) (IsRefusedFor (map (λ w. w.now) words.now)) }
+    ensures { MatchResult result (IsInvocationOf (map (λ w. w.now) words.now))
+        (IsRefusedFor (map (λ w. w.now) words.now)) }
 {
     let given = words_given(alloc, words)?;
     Ok(Invocation {
@@ -63,7 +64,8 @@ fn invocation_of(alloc: Global, words: &[&str]) -> Result<Invocation, Failure>
 /// and answers the status: 2 for a fault of usage, then of the root list, and then of a pool's word, 3 at want of memory.
 pub fn start<E: Sink>(alloc: Global, words: &[&str], err: &mut E) -> Result<Invocation, u8>
     ensures line { IfOk result (IsInvocationOf (map (λ w. w.now) words.now)) }
-    ensures refused { IfErr result (λ status. (failure : Failure) × IsRefusedFor (map (λ w. w.now) words.now) failure × (status ≡ status_of failure)) }
+    ensures refused { IfErr result (λ status. (failure : Failure)
+        × IsRefusedFor (map (λ w. w.now) words.now) failure × (status ≡ status_of failure)) }
     ensures status { IfErr result (λ status. (status ≡ 2) ⊎ (status ≡ 3)) }
     ensures silent { IfOk result (λ _. err.new ≡ err.old) }
 {

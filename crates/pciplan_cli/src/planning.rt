@@ -23,7 +23,8 @@ use std::alloc::{AllocError, Allocator};
 /// Appends the line of a write.
 fn push_write<A: Allocator>(text: &mut String<A>, write: &RegisterWrite) -> Result<(), AllocError>
     requires { IsTrue (is_plain write.now) }
-    ensures { OnOk result (string_bytes text.new ≡ string_bytes text.old ++ write_line (write_value write.now)) }
+    ensures { OnOk result
+        (string_bytes text.new ≡ string_bytes text.old ++ write_line (write_value write.now)) }
 {
     push_slot(text, write.slot)?;
     text.push(' ')?;
@@ -38,7 +39,8 @@ fn push_write<A: Allocator>(text: &mut String<A>, write: &RegisterWrite) -> Resu
 /// A line for each write.
 fn lines_of<A: Allocator>(alloc: A, writes: &[RegisterWrite]) -> Result<String<A>, OutOfMemory>
     requires { All (λ w. IsTrue (is_plain w)) writes.now }
-    ensures { IfOk result (λ text. string_bytes text ≡ flat_map write_line (map write_value writes.now)) }
+    ensures { IfOk result
+        (λ text. string_bytes text ≡ flat_map write_line (map write_value writes.now)) }
 {
     let mut text = String::new(alloc);
     for write in writes {
@@ -59,7 +61,11 @@ pub fn plan_pair<A: Allocator + Copy>(
     writes: bool,
     roots: Roots,
 ) -> Result<Reply<A>, OutOfMemory>
-    ensures { IfOk result (λ reply. IsPlanned record { pools = pools_value pools.now; writes = writes; roots = buses_of roots } dump probe (answer_of reply)) }
+    ensures { IfOk result (λ reply. IsPlanned record {
+      pools = pools_value pools.now;
+      writes = writes;
+      roots = buses_of roots;
+    } dump probe (answer_of reply)) }
 {
     let admitted = match admit_with(alloc, dump, probe, roots) {
         Ok(admitted) => admitted,

@@ -11,7 +11,8 @@ const DIGITS_MAX: usize = 16;
 
 /// An address of 1 to 16 lower-case hex digits.
 fn address_of(word: &str) -> Option<u64>
-    ensures { MatchOption result ((address : ℕ) → IsAddressWord word.now address → ⊥) (λ address. IsAddressWord word.now address) }
+    ensures { MatchOption result ((address : ℕ) → IsAddressWord word.now address → ⊥)
+        (λ address. IsAddressWord word.now address) }
 {
     let bytes = word.as_bytes();
     if bytes.is_empty() || DIGITS_MAX < bytes.len() {
@@ -26,7 +27,8 @@ fn address_of(word: &str) -> Option<u64>
 
 /// The addresses of a word `A-B`, from A to B, each of 1 to 16 lower-case hex digits. There are none of any other word.
 pub fn pool_of_word(word: &str) -> Option<Range>
-    ensures word { MatchOption result ((pool : Range) → IsPoolWord word.now pool → ⊥) (λ pool. IsPoolWord word.now pool) }
+    ensures word { MatchOption result ((pool : Range) → IsPoolWord word.now pool → ⊥)
+        (λ pool. IsPoolWord word.now pool) }
     ensures only { (pool : Range) → IsPoolWord word.now pool → result ≡ Some pool }
 {
     let (first, last) = word.split_once('-')?;

@@ -47,12 +47,16 @@ fn line_of<E: Sink>(
     words: io::Result<Vec<String>>,
     err: &mut E,
 ) -> Result<Invocation, u8>
-    ensures line { IfOk result (λ line. MatchResult words (λ words. IsInvocationOf (map string_bytes words.items) line) (λ _. ⊥)) }
-    ensures refused { result ≡ Err 2 → IfOk words (λ words. HasBadWords (map string_bytes words.items)) }
+    ensures line { IfOk result (λ line. MatchResult words
+        (λ words. IsInvocationOf (map string_bytes words.items) line) (λ _. ⊥)) }
+    ensures refused { result ≡ Err 2
+        → IfOk words (λ words. HasBadWords (map string_bytes words.items)) }
     ensures status { IfErr result (λ status. (status ≡ 2) ⊎ (status ≡ 3)) }
     ensures silent { IfOk result (λ _. err.new ≡ err.old) }
-    ensures memory { IfErr words (λ error. error_kind error ≡ ErrorKind.OutOfMemory → result ≡ Err 3) }
-    ensures unread { IfErr words (λ error. error_kind error ≢ ErrorKind.OutOfMemory → result ≡ Err 2) }
+    ensures memory { IfErr words
+        (λ error. error_kind error ≡ ErrorKind.OutOfMemory → result ≡ Err 3) }
+    ensures unread { IfErr words
+        (λ error. error_kind error ≢ ErrorKind.OutOfMemory → result ≡ Err 2) }
 {
     match words {
         Ok(words) => match lent(alloc, words.as_slice()) {
@@ -66,7 +70,8 @@ fn line_of<E: Sink>(
 
 /// The second text of a task can't be read.
 fn unread(task: Task) -> Failure
-    ensures { (dump_left probe_left : Option (List ℕ)) → HasDump dump_left → IsFailureOf task dump_left probe_left result }
+    ensures { (dump_left probe_left : Option (List ℕ)) → HasDump dump_left
+        → IsFailureOf task dump_left probe_left result }
 {
     match task {
         Task::Probe { .. } => Failure::Sizes(ReadFault::Io),
@@ -78,7 +83,8 @@ fn unread(task: Task) -> Failure
 
 /// Why there is no answer where the second text couldn't be opened: that, unless the dump has a failure.
 fn without_second<A: Allocator, D: Source>(alloc: A, task: Task, dump: &mut D) -> Failure
-    ensures { (probe_left : Option (List ℕ)) → IsFailureOf task (D.left dump.old) probe_left result }
+    ensures { (probe_left : Option (List ℕ))
+        → IsFailureOf task (D.left dump.old) probe_left result }
 {
     match read_dump(alloc, dump) {
         Ok(_) => unread(task),
@@ -99,11 +105,14 @@ pub fn carry_out<A: Allocator + Copy, D: Opening, P: Opening, O: Sink, E: Sink>(
 ) -> u8
     ensures done { result < 2 → IsCarriedOut line.now (D.stands dump.old) (P.stands probe.old)
         (D.bytes_at dump.old) (P.bytes_at probe.old) result (O.taken out.old) (O.taken out.new)
-        (E.taken err.old) (E.taken err.new) (E.failures err.new ≡ E.failures err.old + 1) (err.new ≡ err.old) }
+        (E.taken err.old) (E.taken err.new) (E.failures err.new ≡ E.failures err.old + 1)
+        (err.new ≡ err.old) }
     ensures quiet { (result ≡ 2) ⊎ (result ≡ 3) → out.new ≡ out.old }
     ensures begun { result ≡ 4 → (out.new ≡ out.old)
-        ⊎ IsCarriedOutBegun line.now (D.bytes_at dump.old) (P.bytes_at probe.old) (O.taken out.old) (O.taken out.new) }
-    ensures refused { result ≡ 2 → IsTaskRefused line.now.task (D.bytes_at dump.old (string_bytes line.now.dump))
+        ⊎ IsCarriedOutBegun line.now (D.bytes_at dump.old) (P.bytes_at probe.old) (O.taken out.old)
+        (O.taken out.new) }
+    ensures refused { result ≡ 2
+        → IsTaskRefused line.now.task (D.bytes_at dump.old (string_bytes line.now.dump))
         (P.bytes_at probe.old (string_bytes line.now.second)) }
     ensures failed { result ≡ 4 → HasFailed (D.failures dump.old) (D.failures dump.new)
         (P.failures probe.old) (P.failures probe.new) (O.failures out.old) (O.failures out.new) }
@@ -132,14 +141,25 @@ pub fn program<D: Opening, P: Opening, O: Sink, E: Sink>(
 ) -> u8
     ensures memory { IfErr words (λ error. error_kind error ≡ ErrorKind.OutOfMemory → result ≡ 3) }
     ensures unread { IfErr words (λ error. error_kind error ≢ ErrorKind.OutOfMemory → result ≡ 2) }
-    ensures done { result < 2 → MatchResult words (λ words. (line : Invocation) × IsInvocationOf (map string_bytes words.items) line
-        × IsCarriedOut line (D.stands dump.old) (P.stands probe.old) (D.bytes_at dump.old) (P.bytes_at probe.old) result
-        (O.taken out.old) (O.taken out.new) (E.taken err.old) (E.taken err.new) (E.failures err.new ≡ E.failures err.old + 1) (err.new ≡ err.old)) (λ _. ⊥) }
+    ensures done { result < 2
+        → MatchResult words
+        (λ words. (line : Invocation) × IsInvocationOf (map string_bytes words.items) line
+        × IsCarriedOut line (D.stands dump.old) (P.stands probe.old) (D.bytes_at dump.old)
+        (P.bytes_at probe.old) result
+        (O.taken out.old) (O.taken out.new) (E.taken err.old) (E.taken err.new)
+        (E.failures err.new ≡ E.failures err.old + 1) (err.new ≡ err.old))
+        (λ _. ⊥) }
     ensures quiet { (result ≡ 2) ⊎ (result ≡ 3) → out.new ≡ out.old }
-    ensures begun { result ≡ 4 → (out.new ≡ out.old) ⊎ MatchResult words (λ words. (line : Invocation) × IsInvocationOf (map string_bytes words.items) line
-        × IsCarriedOutBegun line (D.bytes_at dump.old) (P.bytes_at probe.old) (O.taken out.old) (O.taken out.new)) (λ _. ⊥) }
+    ensures begun { result ≡ 4
+        → (out.new ≡ out.old)
+        ⊎ MatchResult words
+        (λ words. (line : Invocation) × IsInvocationOf (map string_bytes words.items) line
+        × IsCarriedOutBegun line (D.bytes_at dump.old) (P.bytes_at probe.old)
+        (O.taken out.old) (O.taken out.new))
+        (λ _. ⊥) }
     ensures refused { result ≡ 2 → IfOk words (λ words. HasBadWords (map string_bytes words.items)
-        ⊎ ((line : Invocation) × IsInvocationOf (map string_bytes words.items) line × IsTaskRefused line.task (D.bytes_at dump.old (string_bytes line.dump))
+        ⊎ ((line : Invocation) × IsInvocationOf (map string_bytes words.items) line
+        × IsTaskRefused line.task (D.bytes_at dump.old (string_bytes line.dump))
         (P.bytes_at probe.old (string_bytes line.second)))) }
     ensures failed { result ≡ 4 → HasFailed (D.failures dump.old) (D.failures dump.new)
         (P.failures probe.old) (P.failures probe.new) (O.failures out.old) (O.failures out.new) }

@@ -61,7 +61,8 @@ pub fn refused<A: Allocator + Copy, F: Display>(
     alloc: A,
     fault: &F,
 ) -> Result<Reply<A>, OutOfMemory>
-    ensures { IfOk result (λ reply. IfSome (F.output fault.now) (λ text. answer_of reply ≡ refused (no_line text))) }
+    ensures { IfOk result
+        (λ reply. IfSome (F.output fault.now) (λ text. answer_of reply ≡ refused (no_line text))) }
 {
     let line = no_line(alloc, fault)?;
     Ok(Reply {
@@ -73,8 +74,10 @@ pub fn refused<A: Allocator + Copy, F: Display>(
 
 /// Writes a text to standard output.
 fn write_text<A: Allocator, O: Sink>(out: &mut O, text: &Text<A>) -> Result<(), Failed>
-    ensures written { OnOk result (Appends (O.taken out.old) (O.taken out.new) (text_bytes text.now)) }
-    ensures begun { OnErr result (AppendsBeginning (O.taken out.old) (O.taken out.new) (text_bytes text.now)) }
+    ensures written { OnOk result
+        (Appends (O.taken out.old) (O.taken out.new) (text_bytes text.now)) }
+    ensures begun { OnErr result
+        (AppendsBeginning (O.taken out.old) (O.taken out.new) (text_bytes text.now)) }
     ensures failed { OnErr result (O.failures out.new ≡ O.failures out.old + 1) }
 {
     match text {
@@ -92,11 +95,13 @@ pub fn send<A: Allocator, O: Sink, E: Sink>(
     err: &mut E,
     reply: &Reply<A>,
 ) -> Result<(), Failed>
-    ensures written { OnOk result (Appends (O.taken out.old) (O.taken out.new) (answer_of reply.now).text) }
+    ensures written { OnOk result
+        (Appends (O.taken out.old) (O.taken out.new) (answer_of reply.now).text) }
     ensures remarked { OnOk result (IsTold (E.taken err.old) (E.taken err.new)
         (E.failures err.new ≡ E.failures err.old + 1) (answer_of reply.now).remarks) }
     ensures silent { OnOk result ((answer_of reply.now).remarks ≡ [] → err.new ≡ err.old) }
-    ensures begun { OnErr result (AppendsBeginning (O.taken out.old) (O.taken out.new) (answer_of reply.now).text) }
+    ensures begun { OnErr result
+        (AppendsBeginning (O.taken out.old) (O.taken out.new) (answer_of reply.now).text) }
     ensures failed { OnErr result (O.failures out.new ≡ O.failures out.old + 1) }
 {
     write_text(out, &reply.text)?;

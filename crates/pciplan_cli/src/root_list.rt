@@ -14,7 +14,8 @@ const STEP: usize = 3;
 
 /// A bus of two lower-case hex digits.
 fn bus_of(high: u8, low: u8) -> Option<u8>
-    ensures { MatchOption result ((bus : ℕ) → bus < 256 → hex_byte bus ≢ high ∷ low ∷ []) (λ bus. (bus < 256) × (hex_byte bus ≡ high ∷ low ∷ [])) }
+    ensures { MatchOption result ((bus : ℕ) → bus < 256 → hex_byte bus ≢ high ∷ low ∷ [])
+        (λ bus. (bus < 256) × (hex_byte bus ≡ high ∷ low ∷ [])) }
 {
     Some(16 * digit_value(high)? + digit_value(low)?)
 }
@@ -22,8 +23,10 @@ fn bus_of(high: u8, low: u8) -> Option<u8>
 /// The roots of a list such as `00,40`: buses joined by commas, each above the one before it. There are none of any
 /// other word.
 pub fn roots_of_list(list: &str) -> Option<Roots>
-    ensures word { MatchOption result ((buses : List ℕ) → IsRootWord list.now buses → ⊥) (λ roots. IsRootWord list.now (buses_of roots)) }
-    ensures only { (buses : List ℕ) → IsRootWord list.now buses → IsSomeAnd result (λ roots. buses_of roots ≡ buses) }
+    ensures word { MatchOption result ((buses : List ℕ) → IsRootWord list.now buses → ⊥)
+        (λ roots. IsRootWord list.now (buses_of roots)) }
+    ensures only { (buses : List ℕ) → IsRootWord list.now buses
+        → IsSomeAnd result (λ roots. buses_of roots ≡ buses) }
 {
     let bytes = list.as_bytes();
     let count = bytes.len() / STEP + 1;

@@ -69,10 +69,13 @@ fn check_texts<A: Allocator + Copy, D: Source, P: Source>(
     dump: &mut D,
     probe: &mut P,
 ) -> Result<Reply<A>, Failure>
-    ensures reply { IfOk result (λ reply. IsAnswerOf (Task.Check roots) (D.left dump.old) (P.left probe.old) (answer_of reply)) }
-    ensures failure { IfErr result (IsFailureOf (Task.Check roots) (D.left dump.old) (P.left probe.old)) }
+    ensures reply { IfOk result (λ reply. IsAnswerOf (Task.Check roots) (D.left dump.old)
+        (P.left probe.old) (answer_of reply)) }
+    ensures failure { IfErr result
+        (IsFailureOf (Task.Check roots) (D.left dump.old) (P.left probe.old)) }
     ensures failed { IfErr result (λ failure. status_of failure ≡ 4
-        → (D.failures dump.new ≡ D.failures dump.old + 1) ⊎ (P.failures probe.new ≡ P.failures probe.old + 1)) }
+        → (D.failures dump.new ≡ D.failures dump.old + 1)
+        ⊎ (P.failures probe.new ≡ P.failures probe.old + 1)) }
 {
     match judge_texts(alloc, dump, probe, roots) {
         Ok(outcome) => Ok(verdict(alloc, outcome)?),
@@ -90,10 +93,12 @@ fn reply_to<A: Allocator + Copy, D: Source, S: Source>(
     dump: &mut D,
     second: &mut S,
 ) -> Result<Reply<A>, Failure>
-    ensures reply { IfOk result (λ reply. IsAnswerOf task (D.left dump.old) (S.left second.old) (answer_of reply)) }
+    ensures reply { IfOk result
+        (λ reply. IsAnswerOf task (D.left dump.old) (S.left second.old) (answer_of reply)) }
     ensures failure { IfErr result (IsFailureOf task (D.left dump.old) (S.left second.old)) }
     ensures failed { IfErr result (λ failure. status_of failure ≡ 4
-        → (D.failures dump.new ≡ D.failures dump.old + 1) ⊎ (S.failures second.new ≡ S.failures second.old + 1)) }
+        → (D.failures dump.new ≡ D.failures dump.old + 1)
+        ⊎ (S.failures second.new ≡ S.failures second.old + 1)) }
 {
     if let Task::Check { roots } = task {
         return check_texts(alloc, roots, dump, second);
@@ -128,13 +133,16 @@ pub fn run<A: Allocator + Copy, D: Source, P: Source, O: Sink, E: Sink>(
     out: &mut O,
     err: &mut E,
 ) -> u8
-    ensures answered { result < 2 → IsAnswered line.now.task (D.left dump.old) (P.left probe.old) result
+    ensures answered { result < 2
+        → IsAnswered line.now.task (D.left dump.old) (P.left probe.old) result
         (O.taken out.old) (O.taken out.new) (E.taken err.old) (E.taken err.new)
         (E.failures err.new ≡ E.failures err.old + 1) (err.new ≡ err.old) }
     ensures quiet { (result ≡ 2) ⊎ (result ≡ 3) → out.new ≡ out.old }
     ensures begun { result ≡ 4 → (out.new ≡ out.old)
-        ⊎ IsBegun line.now.task (D.left dump.old) (P.left probe.old) (O.taken out.old) (O.taken out.new) }
-    ensures refused { result ≡ 2 → IsTaskRefused line.now.task (D.left dump.old) (P.left probe.old) }
+        ⊎ IsBegun line.now.task (D.left dump.old) (P.left probe.old) (O.taken out.old)
+        (O.taken out.new) }
+    ensures refused { result ≡ 2
+        → IsTaskRefused line.now.task (D.left dump.old) (P.left probe.old) }
     ensures failed { result ≡ 4 → HasFailed (D.failures dump.old) (D.failures dump.new)
         (P.failures probe.old) (P.failures probe.new) (O.failures out.old) (O.failures out.new) }
     ensures known { result ≤ 4 }

@@ -19,7 +19,8 @@ fn push_block<A: Allocator>(
     block: &Block,
     probe: &Block,
 ) -> Result<(), Refused<Fault>>
-    ensures ok { OnOk result (string_bytes text.new ≡ string_bytes text.old ++ function_listing (function_of block.now probe.now)) }
+    ensures ok { OnOk result (string_bytes text.new
+        ≡ string_bytes text.old ++ function_listing (function_of block.now probe.now)) }
     ensures refused { IfErr result (IsRefusedFor (function_of block.now probe.now)) }
 {
     push_function(text, block.slot, &block.image, &probe.image)
@@ -35,7 +36,8 @@ pub fn show<A: Allocator, D: Allocator, P: Allocator>(
     dump: &Dump<D>,
     probe: &Dump<P>,
 ) -> Result<String<A>, Refused<Fault>>
-    ensures listing { IfOk result (λ text. string_bytes text ≡ listing (system_of dump.now probe.now)) }
+    ensures listing { IfOk result
+        (λ text. string_bytes text ≡ listing (system_of dump.now probe.now)) }
     ensures refused { IfErr result (IsRefusedIn (0 ∷ []) dump.now probe.now) }
 {
     if let Err(fault) = pair(dump, probe) {

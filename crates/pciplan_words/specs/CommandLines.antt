@@ -20,14 +20,16 @@ flag_rule id = record (option_rule id) { action = Some SetTrue }
 
 -- the subcommands, each with the paths of the two texts
 abbrev pub with_paths : Text → App
-with_paths name = with_rule (with_rule (new_app name) (path_rule (codes "DUMP"))) (path_rule (codes "PROBE"))
+with_paths name =
+    with_rule (with_rule (new_app name) (path_rule (codes "DUMP"))) (path_rule (codes "PROBE"))
 
 abbrev pub checking : App
 checking = with_rule (with_paths (codes "check")) (option_rule (codes "root"))
 
 abbrev pub planning : App
 planning = with_rule (with_rule (with_rule (with_rule (with_rule (with_paths (codes "plan"))
-    (pool_rule (codes "io"))) (pool_rule (codes "mem"))) (pool_rule (codes "pref"))) (flag_rule (codes "writes"))) (option_rule (codes "root"))
+    (pool_rule (codes "io"))) (pool_rule (codes "mem"))) (pool_rule (codes "pref"))) (flag_rule (codes "writes")))
+    (option_rule (codes "root"))
 
 abbrev pub probing : App
 probing = with_rule (with_paths (codes "probe")) (flag_rule (codes "exact"))
@@ -35,11 +37,14 @@ probing = with_rule (with_paths (codes "probe")) (flag_rule (codes "exact"))
 -- the program: its words come without its name, and one of them has to name a subcommand
 abbrev pub program : App
 program = record (new_app (codes "pciplan")) {
-  top = record (new_app (codes "pciplan")).top { no_binary_name = true; subcommand_required = true };
+  top = record (new_app (codes "pciplan")).top
+      { no_binary_name = true; subcommand_required = true };
 }
 
 abbrev pub commands : App
-commands = with_subcommand (with_subcommand (with_subcommand (with_subcommand (with_subcommand program (with_paths (codes "show")).top)
+commands =
+    with_subcommand (with_subcommand
+    (with_subcommand (with_subcommand (with_subcommand program (with_paths (codes "show")).top)
     checking.top) (with_paths (codes "size")).top) planning.top) probing.top
 
 -- what the words of a command line say, which no fault of usage refuses

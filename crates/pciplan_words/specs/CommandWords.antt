@@ -27,13 +27,16 @@ pub record HasPlanWords (rows : List Row) (words : PlanWords) : Type 0 where
 -- the task of this name, with the words of its options
 abbrev pub IsAsked : Text → List Row → Asked → Type 0
 IsAsked name rows Show = name ≡ codes "show"
-IsAsked name rows (Check root) = (name ≡ codes "check") × (first_of (codes "root") rows ≡ word_of root)
+IsAsked name rows (Check root) =
+    (name ≡ codes "check") × (first_of (codes "root") rows ≡ word_of root)
 IsAsked name rows Size = name ≡ codes "size"
 IsAsked name rows (Plan words) = (name ≡ codes "plan") × HasPlanWords rows words
-IsAsked name rows (Probe exact) = (name ≡ codes "probe") × IsFlag (one_of (codes "exact") rows) exact
+IsAsked name rows (Probe exact) =
+    (name ≡ codes "probe") × IsFlag (one_of (codes "exact") rows) exact
 
 -- what the words of a subcommand say: what is asked for, and the paths of the dump and of the second text
-pub record IsSaid (name : Text) (rows : List Row) (asked : Asked) (dump second : Text) : Type 0 where
+pub record IsSaid (name : Text) (rows : List Row) (asked : Asked)
+    (dump second : Text) : Type 0 where
   pub task : IsAsked name rows asked
   pub dump_is : first_of (codes "DUMP") rows ≡ Some dump
   pub second_is : first_of (codes "PROBE") rows ≡ Some second

@@ -44,7 +44,8 @@ impl From<AllocError> for WordsFault {
 
 /// A line that is refused, or that asks for help, is a fault of usage.
 impl From<clap::Error> for WordsFault {
-    ghost from_gives = { λ error fault. ((kind_of error ≡ ErrorKind.OutOfMemory) × (fault ≡ WordsFault.Memory))
+    ghost from_gives = { λ error fault. ((kind_of error ≡ ErrorKind.OutOfMemory)
+        × (fault ≡ WordsFault.Memory))
         ⊎ ((kind_of error ≢ ErrorKind.OutOfMemory) × (fault ≡ WordsFault.Usage)) };
 
     fn from(error: clap::Error) -> WordsFault {
@@ -118,7 +119,8 @@ fn command<'a>(alloc: Global) -> Result<Command<'a>, AllocError>
 
 /// The words of the options of `plan`.
 fn plan_words<'a>(found: &ArgMatches<'a>) -> Option<PlanWords<'a>>
-    ensures { MatchOption result ((words : PlanWords) → HasPlanWords (rows_of (found_of found.now)) words → ⊥)
+    ensures { MatchOption result
+        ((words : PlanWords) → HasPlanWords (rows_of (found_of found.now)) words → ⊥)
         (HasPlanWords (rows_of (found_of found.now))) }
 {
     Some(PlanWords {
@@ -132,7 +134,8 @@ fn plan_words<'a>(found: &ArgMatches<'a>) -> Option<PlanWords<'a>>
 
 /// The task of this name, with the words of its options.
 fn asked_of<'a>(name: &str, found: &ArgMatches<'a>) -> Option<Asked<'a>>
-    ensures { MatchOption result ((asked : Asked) → IsAsked name.now (rows_of (found_of found.now)) asked → ⊥)
+    ensures { MatchOption result
+        ((asked : Asked) → IsAsked name.now (rows_of (found_of found.now)) asked → ⊥)
         (IsAsked name.now (rows_of (found_of found.now))) }
 {
     match name {
@@ -151,8 +154,10 @@ fn asked_of<'a>(name: &str, found: &ArgMatches<'a>) -> Option<Asked<'a>>
 
 /// What the words of a subcommand say.
 fn given_of<'a>(name: &str, found: &ArgMatches<'a>) -> Option<Given<'a>>
-    ensures { MatchOption result ((asked : Asked) (dump second : List ℕ) → IsSaid name.now (rows_of (found_of found.now)) asked dump second → ⊥)
-        (λ given. IsSaid name.now (rows_of (found_of found.now)) given.asked given.dump.now given.second.now) }
+    ensures { MatchOption result ((asked : Asked) (dump second : List ℕ)
+        → IsSaid name.now (rows_of (found_of found.now)) asked dump second → ⊥)
+        (λ given. IsSaid name.now
+        (rows_of (found_of found.now)) given.asked given.dump.now given.second.now) }
 {
     Some(Given {
         asked: asked_of(name, found)?,
@@ -167,8 +172,10 @@ fn given_of<'a>(name: &str, found: &ArgMatches<'a>) -> Option<Given<'a>>
 ///
 /// `Usage` where they are no command line, `Memory` where a growth was refused.
 pub fn words_given<'a>(alloc: Global, words: &'a [&'a str]) -> Result<Given<'a>, WordsFault>
-    ensures { MatchResult result (λ given. IsGiven (map (λ w. w.now) words.now) given.asked given.dump.now given.second.now)
-        (λ fault. (fault ≡ WordsFault.Memory) ⊎ ((fault ≡ WordsFault.Usage) × HasNoLine (map (λ w. w.now) words.now))) }
+    ensures { MatchResult result
+        (λ given. IsGiven (map (λ w. w.now) words.now) given.asked given.dump.now given.second.now)
+        (λ fault. (fault ≡ WordsFault.Memory)
+        ⊎ ((fault ≡ WordsFault.Usage) × HasNoLine (map (λ w. w.now) words.now))) }
 {
     let matches = command(alloc)?.try_get_matches_from(words)?;
     let (name, found) = matches.subcommand().ok_or(WordsFault::Usage)?;

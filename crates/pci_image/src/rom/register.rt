@@ -26,7 +26,8 @@ const LARGEST: u32 = 24;
 
 /// The binary logarithm k of a ROM's size, by its read back: it has 2 ^ k addresses.
 fn size_log2(mask: u64) -> Option<u32>
-    ensures { MatchOption result (some_from 0 64 (is_rom_size mask) ≡ false) (λ k. IsTrue (is_rom_size mask k)) }
+    ensures { MatchOption result (some_from 0 64 (is_rom_size mask) ≡ false)
+        (λ k. IsTrue (is_rom_size mask k)) }
 {
     let start = run_start(mask, 0, 31)?;
     if start < SMALLEST || LARGEST < start {
@@ -39,7 +40,8 @@ fn size_log2(mask: u64) -> Option<u32>
 /// The addresses that a ROM with this value and read back answers, where they are lawful.
 fn placed(value: u64, mask: u64) -> Option<Range>
     ensures { MatchOption result (is_lawful_rom value mask ≡ false)
-        (λ range. IsTrue (is_lawful_rom value mask) × (decoded_range_of range ≡ aligned_range value (2 ^ lowest_one 0 mask))) }
+        (λ range. IsTrue (is_lawful_rom value mask)
+        × (decoded_range_of range ≡ aligned_range value (2 ^ lowest_one 0 mask))) }
 {
     let log2 = size_log2(mask)?;
     if fits_within(value & !ENABLE, mask) {
@@ -59,9 +61,11 @@ fn placed(value: u64, mask: u64) -> Option<Range>
 /// size, or the value has a one outside it other than the enable bit.
 pub fn rom(image: &Image, probe: &Image) -> Result<Option<Rom>, ImageFault>
     ensures lawful { IsOk result ↔ HasLawfulRom image.now.0 probe.now.0 }
-    ensures decoded { IfOk result (λ found. option_map decoded_rom_of found ≡ decoded_rom image.now.0 probe.now.0) }
+    ensures decoded { IfOk result
+        (λ found. option_map decoded_rom_of found ≡ decoded_rom image.now.0 probe.now.0) }
     ensures compared { IfOk result (IsComparedRom image.now.0 probe.now.0) }
-    ensures fault { IfErr result (λ f. IsImageFaultIn image.now.0 probe.now.0 f × IsTrue (is_rom_fault f)) }
+    ensures fault { IfErr result
+        (λ f. IsImageFaultIn image.now.0 probe.now.0 f × IsTrue (is_rom_fault f)) }
 {
     let reg = Header::of(image)?.rom_register();
     let value = u64::from(image.u32(reg));

@@ -115,7 +115,9 @@ impl WindowKind {
     /// The addresses from the base's page to the limit's; none where the base stands above the limit.
     pub fn range(self, bounds: Bounds) -> Option<Range>
         ensures { option_map decoded_range_of result ≡
-            range_between (kind_value self) (page_of (kind_value self) bounds.base_upper bounds.base) (page_of (kind_value self) bounds.limit_upper bounds.limit) }
+            range_between (kind_value self)
+            (page_of (kind_value self) bounds.base_upper bounds.base)
+            (page_of (kind_value self) bounds.limit_upper bounds.limit) }
     {
         let first_page = self.page(bounds.base_upper, bounds.base);
         let last_page = self.page(bounds.limit_upper, bounds.limit);
@@ -134,7 +136,9 @@ impl WindowKind {
     pub fn has_upper(self, value: Bounds, mask: Bounds) -> Option<bool>
         ensures { MatchOption result
             (IsFalse (shows_window (kind_value self) (spec_bounds_of value) (spec_bounds_of mask)))
-            (λ wide. IsTrue (shows_window (kind_value self) (spec_bounds_of value) (spec_bounds_of mask)) × (wide ≡ (mask.base % 16 == 1)) × (mask.base ≢ 0)) }
+            (λ wide. IsTrue
+            (shows_window (kind_value self) (spec_bounds_of value) (spec_bounds_of mask))
+            × (wide ≡ (mask.base % 16 == 1)) × (mask.base ≢ 0)) }
     {
         if self.is_read_back(NARROW, mask) && value.is_value(NARROW) {
             Some(false)
@@ -192,7 +196,8 @@ impl Bound {
         requires nibble { nibble < 16 }
         requires address { address < 2 ^ address_bits kind }
         ensures lower { result.lower ≡ (bounds_for (kind_value kind) nibble address address).base }
-        ensures upper { result.upper ≡ (bounds_for (kind_value kind) nibble address address).base_upper }
+        ensures upper { result.upper
+            ≡ (bounds_for (kind_value kind) nibble address address).base_upper }
     {
         match kind {
             WindowKind::Io => Bound {

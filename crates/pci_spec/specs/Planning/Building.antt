@@ -17,11 +17,13 @@ command_write f value = record { slot = f.slot; offset = COMMAND; width = 2; val
 
 abbrev pub built : Function → (ℕ × ℕ → ℕ) → ℕ → Function
 built f value new_command =
-    fold (λ g w. write_function w g) f (map (write_of f value) (address_registers (layout f.image)) ++ command_write f new_command ∷ [])
+    fold (λ g w. write_function w g) f (map (write_of f value) (address_registers (layout f.image))
+    ++ command_write f new_command ∷ [])
 
 -- each number fits its register, and only address bits and enables differ from what is there
 pub record AreFitting (f : Function) (value : ℕ × ℕ → ℕ) (new_command : ℕ) : Type 0 where
-  pub registers : (r : ℕ × ℕ) → Contains (address_registers (layout f.image)) r → FitsByNumber (write_of f value r) f
+  pub registers : (r : ℕ × ℕ) → Contains (address_registers (layout f.image)) r
+      → FitsByNumber (write_of f value r) f
   pub small : (r : ℕ × ℕ) → Contains (address_registers (layout f.image)) r → value r < 256 ^ r.1
   pub command : FitsByNumber (command_write f new_command) f
   pub command_small : new_command < 256 ^ 2
@@ -29,5 +31,6 @@ pub record AreFitting (f : Function) (value : ℕ × ℕ → ℕ) (new_command :
 -- then the function is moved, and shows them
 pub record IsBuilt (f g : Function) (value : ℕ × ℕ → ℕ) (new_command : ℕ) : Type 0 where
   pub moved : IsMoved f g
-  pub registers : (r : ℕ × ℕ) → Contains (address_registers (layout f.image)) r → number_at g.image r.0 r.1 ≡ value r
+  pub registers : (r : ℕ × ℕ) → Contains (address_registers (layout f.image)) r
+      → number_at g.image r.0 r.1 ≡ value r
   pub command_is : command g.image ≡ new_command

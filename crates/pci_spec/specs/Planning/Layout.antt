@@ -16,7 +16,11 @@ use Rattle.pci_spec.specs.Plan.{Pools, pool_of, class_of, is_open, wants}
 abbrev pub range_of : Function → Part → Range
 range_of f (Bar n) = aligned_range (whole_bar f.probe f.image n) (bar_size f.probe n)
 range_of f Rom = aligned_range (rom_at f.image f.image) (rom_size f.image f.probe)
-range_of f (Window kind) = record { first = base_page kind f.image * page_size kind; last = limit_page kind f.image * page_size kind + (page_size kind - 1) }
+range_of f (Window kind) =
+    record {
+      first = base_page kind f.image * page_size kind;
+      last = limit_page kind f.image * page_size kind + (page_size kind - 1);
+    }
 
 -- whether a part has a place: an implemented BAR or ROM, or an open window
 abbrev pub is_item : Function → Part → Bool
@@ -32,7 +36,8 @@ LieApart r q = (r.last < q.first) ⊎ (q.last < r.first)
 
 -- on one bus, or both on roots
 abbrev pub AreBeside : List ℕ → Function → Function → Type 0
-AreBeside roots f g = (f.slot.bus ≡ g.slot.bus) ⊎ (Contains roots f.slot.bus × Contains roots g.slot.bus)
+AreBeside roots f g =
+    (f.slot.bus ≡ g.slot.bus) ⊎ (Contains roots f.slot.bus × Contains roots g.slot.bus)
 
 -- two regions, not one
 abbrev pub AreTwo : Function → Part → Function → Part → Type 0
@@ -40,11 +45,16 @@ AreTwo f p g q = IsFalse (same_slot f.slot g.slot) ⊎ (register_of f p ≡ regi
 
 -- Everything has its place: in the pool on a root, in the window of its class behind a bridge, and apart from what is beside it.
 pub record IsLaidOut (roots : List ℕ) (t : System) (pools : Pools) : Type 0 where
-  pub pool : (f : Function) (p : Part) → Contains t f → IsTrue (is_item f p) → Contains roots f.slot.bus → IsInside (range_of f p) (pool_of pools (class_of t pools f p))
-  pub window : (f c : Function) (p : Part) → Contains t f → IsTrue (is_item f p) → LeadsTo t c f.slot.bus
-      → IsTrue (is_open c (class_of t pools f p)) × IsInside (range_of f p) (range_of c (Window (class_of t pools f p)))
-  pub apart : (f g : Function) (p q : Part) → Contains t f → Contains t g → IsTrue (is_item f p) → IsTrue (is_item g q) → AreBeside roots f g
-      → class_of t pools f p ≡ class_of t pools g q → AreTwo f p g q → LieApart (range_of f p) (range_of g q)
+  pub pool : (f : Function) (p : Part) → Contains t f → IsTrue (is_item f p)
+      → Contains roots f.slot.bus → IsInside (range_of f p) (pool_of pools (class_of t pools f p))
+  pub window : (f c : Function) (p : Part) → Contains t f → IsTrue (is_item f p)
+      → LeadsTo t c f.slot.bus
+      → IsTrue (is_open c (class_of t pools f p))
+      × IsInside (range_of f p) (range_of c (Window (class_of t pools f p)))
+  pub apart : (f g : Function) (p q : Part) → Contains t f → Contains t g → IsTrue (is_item f p)
+      → IsTrue (is_item g q) → AreBeside roots f g
+      → class_of t pools f p ≡ class_of t pools g q → AreTwo f p g q
+      → LieApart (range_of f p) (range_of g q)
 
 -- Command enables exactly the spaces in which there is something to decode
 pub record IsSwitchedOn (t : System) : Type 0 where

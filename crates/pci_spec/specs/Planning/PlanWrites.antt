@@ -24,13 +24,17 @@ abbrev pub closed_command : Function → ℕ
 closed_command f = without_low 4 (command f.image)
 
 abbrev pub closing_of : Change → List Write
-closing_of c = if is_on c.old then record { slot = c.old.slot; offset = COMMAND; width = 2; value = closed_command c.old } ∷ [] else []
+closing_of c =
+    if is_on c.old
+    then record { slot = c.old.slot; offset = COMMAND; width = 2; value = closed_command c.old }
+    ∷ [] else []
 
 -- the write of a register that is to change
 abbrev pub register_write : Change → (ℕ × ℕ) → List Write
 register_write c r =
     if number_at c.new.image r.0 r.1 == number_at c.old.image r.0 r.1 then []
-    else record { slot = c.old.slot; offset = r.0; width = r.1; value = number_at c.new.image r.0 r.1 } ∷ []
+    else record
+    { slot = c.old.slot; offset = r.0; width = r.1; value = number_at c.new.image r.0 r.1 } ∷ []
 
 abbrev pub registers_of : Change → List Write
 registers_of c = flat_map (register_write c) (address_registers (layout c.old.image))

@@ -16,7 +16,8 @@ all_items s pools c = flat_map (own_items s pools c) s
 abbrev pub StandsBefore : Item → Item → Type 0
 StandsBefore i j =
     (slot_number i.function.slot < slot_number j.function.slot)
-    ⊎ ((slot_number i.function.slot ≡ slot_number j.function.slot) × (register_of i.function i.part < register_of j.function j.part))
+    ⊎ ((slot_number i.function.slot ≡ slot_number j.function.slot)
+    × (register_of i.function i.part < register_of j.function j.part))
 
 -- What is side by side is one group: the roots together, and each other bus. No function stands on bus 0 unless it is a root.
 abbrev pub group_of : List ℕ → ℕ → ℕ
@@ -27,7 +28,9 @@ item_group roots i = group_of roots i.function.slot.bus
 
 -- lower groups come first, and in a group what is placed first
 abbrev pub Precedes : List ℕ → Item → Item → Type 0
-Precedes roots i j = (item_group roots i < item_group roots j) ⊎ ((item_group roots i ≡ item_group roots j) × IsTrue (comes_before i j))
+Precedes roots i j =
+    (item_group roots i < item_group roots j)
+    ⊎ ((item_group roots i ≡ item_group roots j) × IsTrue (comes_before i j))
 
 abbrev pub IsInOrder : List ℕ → List Item → Type 0
 IsInOrder roots sorted = AllPairs (Precedes roots) sorted

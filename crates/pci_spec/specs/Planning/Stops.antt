@@ -24,7 +24,8 @@ abbrev pub Closes : System → ℕ → List Write → Type 0
 Closes s n [] = (f : Function) → Contains s f → slot_number f.slot < n → IsFalse (is_on f)
 Closes s n (w ∷ writes) =
     IsClosing w × (slot_number w.slot < n)
-    × ((f : Function) → Contains s f → slot_number w.slot < slot_number f.slot → slot_number f.slot < n → IsFalse (is_on f))
+    × ((f : Function) → Contains s f → slot_number w.slot < slot_number f.slot
+    → slot_number f.slot < n → IsFalse (is_on f))
     × Closes s (slot_number w.slot) writes
 
 -- each write is at a higher slot than the one before it, and none is below n
@@ -40,9 +41,15 @@ IsOffFrom n s = (f : Function) → Contains s f → n ≤ slot_number f.slot →
 pub record IsStaged (s : System) (closing registers opening : List Write) : Type 0 where
   -- each function that is on is closed, the highest slot first
   pub closes : All IsClosing closing
-  pub falling : (j k : ℕ) (d : Write) → j < k → k < length closing → slot_number (slice_index_or closing k d).slot < slot_number (slice_index_or closing j d).slot
-  pub all : (f : Function) → Contains s f → IsTrue (is_on f) → (k : ℕ) × (k < length closing) × ((d : Write) → slot_number (slice_index_or closing k d).slot ≡ slot_number f.slot)
+  pub falling : (j k : ℕ) (d : Write) → j < k → k < length closing
+      → slot_number (slice_index_or closing k d).slot
+      < slot_number (slice_index_or closing j d).slot
+  pub all : (f : Function) → Contains s f → IsTrue (is_on f)
+      → (k : ℕ) × (k < length closing)
+      × ((d : Write) → slot_number (slice_index_or closing k d).slot ≡ slot_number f.slot)
   -- no register write touches Command
   pub aside : All IsAside registers
   -- the lowest slot is opened first, and each once
-  pub rising : (j k : ℕ) (d : Write) → j < k → k < length opening → slot_number (slice_index_or opening j d).slot < slot_number (slice_index_or opening k d).slot
+  pub rising : (j k : ℕ) (d : Write) → j < k → k < length opening
+      → slot_number (slice_index_or opening j d).slot
+      < slot_number (slice_index_or opening k d).slot

@@ -25,7 +25,8 @@ impl BusLine {
 
     /// Appends the line.
     pub fn push_to<A: Allocator>(self, text: &mut String<A>) -> Result<(), AllocError>
-        ensures { OnOk result (string_bytes text.new ≡ string_bytes text.old ++ bus_line_text self) }
+        ensures { OnOk result
+            (string_bytes text.new ≡ string_bytes text.old ++ bus_line_text self) }
     {
         text.push_str("  bus ")?;
         push_byte(text, self.primary)?;
@@ -43,7 +44,8 @@ fn push_held<A: Allocator>(
     space: Space,
     window: Option<Window>,
 ) -> Result<(), AllocError>
-    ensures { OnOk result (string_bytes text.new ≡ string_bytes text.old ++ window_text (space_of space) window) }
+    ensures { OnOk result
+        (string_bytes text.new ≡ string_bytes text.old ++ window_text (space_of space) window) }
 {
     match window {
         None => text.push_str("none"),
@@ -63,7 +65,8 @@ pub fn push_window<A: Allocator>(
     kind: WindowKind,
     window: Option<Window>,
 ) -> Result<(), AllocError>
-    ensures { OnOk result (string_bytes text.new ≡ string_bytes text.old ++ window_line (kind_value kind) window) }
+    ensures { OnOk result
+        (string_bytes text.new ≡ string_bytes text.old ++ window_line (kind_value kind) window) }
 {
     text.push_str("  window ")?;
     push_byte(text, kind.register())?;

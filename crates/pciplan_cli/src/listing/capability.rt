@@ -53,7 +53,8 @@ fn flag(register: u16, bit: u32) -> u16
 /// Appends a bit of a register as a digit.
 fn push_flag<A: Allocator>(text: &mut String<A>, register: u16, bit: u32) -> Result<(), AllocError>
     requires { bit < 16 }
-    ensures { OnOk result (string_bytes text.new ≡ string_bytes text.old ++ flag_text register bit) }
+    ensures { OnOk result
+        (string_bytes text.new ≡ string_bytes text.old ++ flag_text register bit) }
 {
     text.push_str(if flag(register, bit) == 1 { "1" } else { "0" })
 }
@@ -75,7 +76,8 @@ fn vectors_text(code: u16) -> &'static str
 
 /// Appends which power states a function supports.
 fn push_support<A: Allocator>(text: &mut String<A>, capabilities: u16) -> Result<(), AllocError>
-    ensures { OnOk result (string_bytes text.new ≡ string_bytes text.old ++ power_support_text capabilities) }
+    ensures { OnOk result
+        (string_bytes text.new ≡ string_bytes text.old ++ power_support_text capabilities) }
 {
     let version = (capabilities % VERSIONS) as u8;
     let pme = (capabilities >> PME_SUPPORT) as u8;
@@ -91,7 +93,8 @@ fn push_support<A: Allocator>(text: &mut String<A>, capabilities: u16) -> Result
 
 /// Appends the power state that a function is in.
 fn push_state<A: Allocator>(text: &mut String<A>, control: u16) -> Result<(), AllocError>
-    ensures { OnOk result (string_bytes text.new ≡ string_bytes text.old ++ (power_state_text control ++ 10 ∷ [])) }
+    ensures { OnOk result
+        (string_bytes text.new ≡ string_bytes text.old ++ (power_state_text control ++ 10 ∷ [])) }
 {
     let state = (control % POWER_STATES) as u8;
     text.push_str("state ")?;
@@ -105,7 +108,8 @@ fn push_state<A: Allocator>(text: &mut String<A>, control: u16) -> Result<(), Al
 
 /// Appends what Message Control says.
 fn push_control<A: Allocator>(text: &mut String<A>, control: u16) -> Result<(), AllocError>
-    ensures { OnOk result (string_bytes text.new ≡ string_bytes text.old ++ message_control_text control) }
+    ensures { OnOk result
+        (string_bytes text.new ≡ string_bytes text.old ++ message_control_text control) }
 {
     let capable = vectors_text((control >> CAPABLE_CODE) % VECTOR_CODES);
     let enabled = vectors_text((control >> ENABLED_CODE) % VECTOR_CODES);
@@ -127,7 +131,8 @@ fn push_place<A: Allocator>(
     place: u8,
     kind: &'static str,
 ) -> Result<(), AllocError>
-    ensures { OnOk result (string_bytes text.new ≡ string_bytes text.old ++ (codes "  cap " ++ (hex_byte place ++ kind.now))) }
+    ensures { OnOk result (string_bytes text.new
+        ≡ string_bytes text.old ++ (codes "  cap " ++ (hex_byte place ++ kind.now))) }
 {
     text.push_str("  cap ")?;
     push_byte(text, place)?;
@@ -194,7 +199,8 @@ impl CapabilityLine {
         requires aligned { place % 4 ≡ 0 }
         requires fits { place + msi_length (message_control image.now.0 place) ≤ 256 }
         ensures { capability_line_text result
-            ≡ message_line place (message_control image.now.0 place) (message_address image.now.0 place) (message_value image.now.0 place) }
+            ≡ message_line place (message_control image.now.0 place)
+            (message_address image.now.0 place) (message_value image.now.0 place) }
     {
         let control = image.u16(place + MESSAGE_CONTROL);
         let lower = u64::from(image.u32(place + MESSAGE_ADDRESS));
@@ -217,7 +223,8 @@ impl CapabilityLine {
 
     /// Appends the line.
     pub fn push_to<A: Allocator>(self, text: &mut String<A>) -> Result<(), AllocError>
-        ensures { OnOk result (string_bytes text.new ≡ string_bytes text.old ++ capability_line_text self) }
+        ensures { OnOk result
+            (string_bytes text.new ≡ string_bytes text.old ++ capability_line_text self) }
     {
         match self {
             CapabilityLine::Power {

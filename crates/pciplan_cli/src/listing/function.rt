@@ -30,7 +30,8 @@ use std::alloc::{AllocError, Allocator};
 
 /// Appends a line for each BAR.
 fn push_bars<A: Allocator>(text: &mut String<A>, bars: &[Bar]) -> Result<(), AllocError>
-    ensures { OnOk result (string_bytes text.new ≡ string_bytes text.old ++ flat_map bar_line (map decoded_bar_of bars.now)) }
+    ensures { OnOk result (string_bytes text.new
+        ≡ string_bytes text.old ++ flat_map bar_line (map decoded_bar_of bars.now)) }
 {
     for bar in bars {
         BarLine::of(*bar).push_to(text)?;
@@ -40,7 +41,8 @@ fn push_bars<A: Allocator>(text: &mut String<A>, bars: &[Bar]) -> Result<(), All
 
 /// Appends the line of a ROM, where there is one.
 fn push_rom<A: Allocator>(text: &mut String<A>, rom: Option<Rom>) -> Result<(), AllocError>
-    ensures { OnOk result (string_bytes text.new ≡ string_bytes text.old ++ rom_lines (option_map decoded_rom_of rom)) }
+    ensures { OnOk result (string_bytes text.new
+        ≡ string_bytes text.old ++ rom_lines (option_map decoded_rom_of rom)) }
 {
     if let Some(rom) = rom {
         RomLine::of(rom).push_to(text)?;
@@ -50,7 +52,8 @@ fn push_rom<A: Allocator>(text: &mut String<A>, rom: Option<Rom>) -> Result<(), 
 
 /// Appends the lines of a bridge: its bus numbers and its windows.
 fn push_bridge<A: Allocator>(text: &mut String<A>, bridge: Bridge) -> Result<(), AllocError>
-    ensures { OnOk result (string_bytes text.new ≡ string_bytes text.old ++ bridge_lines (bridge_value bridge)) }
+    ensures { OnOk result
+        (string_bytes text.new ≡ string_bytes text.old ++ bridge_lines (bridge_value bridge)) }
 {
     let Bridge {
         primary,
@@ -76,7 +79,8 @@ fn push_capabilities<A: Allocator>(
     caps: &[Cap<'_>],
 ) -> Result<(), AllocError>
     requires { All (IsListed image.now.0) caps.now }
-    ensures { OnOk result (string_bytes text.new ≡ string_bytes text.old ++ flat_map (capability_line image.now.0) (map place_of caps.now)) }
+    ensures { OnOk result (string_bytes text.new
+        ≡ string_bytes text.old ++ flat_map (capability_line image.now.0) (map place_of caps.now)) }
 {
     for cap in caps {
         CapabilityLine::of(image, *cap).push_to(text)?;
@@ -86,7 +90,8 @@ fn push_capabilities<A: Allocator>(
 
 /// Appends the lines of a record: its BARs, its ROM, and its bus numbers and windows.
 fn push_record<A: Allocator>(text: &mut String<A>, decoded: &Record) -> Result<(), AllocError>
-    ensures { OnOk result (string_bytes text.new ≡ string_bytes text.old ++ record_lines (record_value decoded.now)) }
+    ensures { OnOk result
+        (string_bytes text.new ≡ string_bytes text.old ++ record_lines (record_value decoded.now)) }
 {
     push_bars(text, decoded.bars.as_slice())?;
     push_rom(text, decoded.rom)?;
@@ -108,7 +113,11 @@ pub fn push_function<A: Allocator>(
 ) -> Result<(), Refused<Fault>>
     ensures ok { OnOk result (string_bytes text.new ≡ string_bytes text.old
         ++ function_listing record { slot = slot; image = image.now.0; probe = probe.now.0 }) }
-    ensures refused { IfErr result (IsRefusedFor record { slot = slot; image = image.now.0; probe = probe.now.0 }) }
+    ensures refused { IfErr result (IsRefusedFor record {
+      slot = slot;
+      image = image.now.0;
+      probe = probe.now.0;
+    }) }
 {
     let record = match decode(slot, image, probe) {
         Ok(record) => record,

@@ -24,7 +24,8 @@ impl Identity {
 
     /// Appends the identity, as `vendor 1234 device 5678 class 000000`.
     fn push_to<A: Allocator>(self, text: &mut String<A>) -> Result<(), AllocError>
-        ensures { OnOk result (string_bytes text.new ≡ string_bytes text.old ++ identity_text self) }
+        ensures { OnOk result
+            (string_bytes text.new ≡ string_bytes text.old ++ identity_text self) }
     {
         text.push_str("vendor ")?;
         push_word(text, self.vendor)?;
@@ -72,7 +73,8 @@ impl HeaderLine {
 
     /// Appends the line.
     pub fn push_to<A: Allocator>(self, text: &mut String<A>) -> Result<(), AllocError>
-        ensures { OnOk result (string_bytes text.new ≡ string_bytes text.old ++ header_line_text self) }
+        ensures { OnOk result
+            (string_bytes text.new ≡ string_bytes text.old ++ header_line_text self) }
     {
         push_slot(text, self.slot)?;
         text.push_str(" type ")?;

@@ -71,7 +71,8 @@ impl BarLine {
 
     /// Appends the line.
     pub fn push_to<A: Allocator>(self, text: &mut String<A>) -> Result<(), AllocError>
-        ensures { OnOk result (string_bytes text.new ≡ string_bytes text.old ++ bar_line_text self) }
+        ensures { OnOk result
+            (string_bytes text.new ≡ string_bytes text.old ++ bar_line_text self) }
     {
         text.push_str("  bar ")?;
         push_byte(text, self.reg)?;
@@ -114,7 +115,8 @@ impl RomLine {
 
     /// Appends the line.
     pub fn push_to<A: Allocator>(self, text: &mut String<A>) -> Result<(), AllocError>
-        ensures { OnOk result (string_bytes text.new ≡ string_bytes text.old ++ rom_line_text self) }
+        ensures { OnOk result
+            (string_bytes text.new ≡ string_bytes text.old ++ rom_line_text self) }
     {
         text.push_str("  rom ")?;
         push_byte(text, self.reg)?;

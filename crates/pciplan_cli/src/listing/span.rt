@@ -23,7 +23,8 @@ fn push_range<A: Allocator>(
 ) -> Result<(), AllocError>
     requires { digits ≤ 16 }
     ensures { OnOk result (string_bytes text.new
-        ≡ string_bytes text.old ++ (hex_number digits range.first ++ (45 ∷ hex_number digits range.last))) }
+        ≡ string_bytes text.old
+        ++ (hex_number digits range.first ++ (45 ∷ hex_number digits range.last))) }
 {
     push_hex(text, range.first, digits)?;
     text.push('-')?;
