@@ -12,7 +12,7 @@ use Rattle.pciplan_cli.specs.declared.invocation.Invocation.{Invocation}
 -- the command line of the words
 pub record IsInvocationOf (words : List (List ℕ)) (line : Invocation) : Type 0 where
   pub asked : Asked
-  pub given : IsGiven words asked (string_bytes line.dump) (string_bytes line.second)
+  pub given : IsGiven words asked (string_bytes line.dump) (string_bytes line.probe)
   pub task : IsTaskOf asked line.task
 
 -- why words make none: no command line, or a word of one that is none; a want of memory can come at any words

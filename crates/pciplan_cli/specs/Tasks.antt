@@ -104,13 +104,13 @@ pub record IsCarriedOut (line : Invocation) (dump_stands second_stands : List �
     (status : ℕ) (before after err_before err_after : Option (List ℕ))
     (err_failed same : Type 0) : Type 0 where
   pub dump : dump_stands (string_bytes line.dump)
-  pub second : second_stands (string_bytes line.second)
+  pub second : second_stands (string_bytes line.probe)
   pub answered : IsAnswered line.task (dump_at (string_bytes line.dump)) (second_at
-      (string_bytes line.second)) status before after err_before err_after err_failed same
+      (string_bytes line.probe)) status before after err_before err_after err_failed same
 
 -- a beginning of that answer was written
 abbrev pub IsCarriedOutBegun : Invocation → (List ℕ → Option (List ℕ)) → (List ℕ → Option (List ℕ))
     → Option (List ℕ) → Option (List ℕ) → Type 0
 IsCarriedOutBegun line dump_at second_at before after =
     IsBegun line.task (dump_at (string_bytes line.dump))
-    (second_at (string_bytes line.second)) before after
+    (second_at (string_bytes line.probe)) before after

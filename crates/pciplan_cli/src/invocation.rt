@@ -41,7 +41,7 @@ pub enum Task {
 pub struct Invocation {
     pub task: Task,
     pub dump: String,
-    pub second: String,
+    pub probe: String,
 }
 
 /// A command line.
@@ -56,7 +56,7 @@ fn invocation_of(alloc: Global, words: &[&str]) -> Result<Invocation, Failure>
     Ok(Invocation {
         task: task_of(&given.asked)?,
         dump: String::from_str(alloc, given.dump)?,
-        second: String::from_str(alloc, given.second)?,
+        probe: String::from_str(alloc, given.second)?,
     })
 }
 

@@ -113,7 +113,7 @@ pub fn carry_out<A: Allocator + Copy, D: Opening, P: Opening, O: Sink, E: Sink>(
         (O.taken out.new) }
     ensures refused { result ≡ 2
         → IsTaskRefused line.now.task (D.bytes_at dump.old (string_bytes line.now.dump))
-        (P.bytes_at probe.old (string_bytes line.now.second)) }
+        (P.bytes_at probe.old (string_bytes line.now.probe)) }
     ensures failed { result ≡ 4 → HasFailed (D.failures dump.old) (D.failures dump.new)
         (P.failures probe.old) (P.failures probe.new) (O.failures out.old) (O.failures out.new) }
     ensures known { result ≤ 4 }
@@ -121,7 +121,7 @@ pub fn carry_out<A: Allocator + Copy, D: Opening, P: Opening, O: Sink, E: Sink>(
     if dump.open(line.dump.as_str()).is_err() {
         return report(err, Failure::Dump(ReadFault::Io));
     }
-    if probe.open(line.second.as_str()).is_err() {
+    if probe.open(line.probe.as_str()).is_err() {
         return report(err, without_second(alloc, line.task, dump));
     }
     run(alloc, line, dump, probe, out, err)
@@ -160,7 +160,7 @@ pub fn program<D: Opening, P: Opening, O: Sink, E: Sink>(
     ensures refused { result ≡ 2 → IfOk words (λ words. HasBadWords (map string_bytes words.items)
         ⊎ ((line : Invocation) × IsInvocationOf (map string_bytes words.items) line
         × IsTaskRefused line.task (D.bytes_at dump.old (string_bytes line.dump))
-        (P.bytes_at probe.old (string_bytes line.second)))) }
+        (P.bytes_at probe.old (string_bytes line.probe)))) }
     ensures failed { result ≡ 4 → HasFailed (D.failures dump.old) (D.failures dump.new)
         (P.failures probe.old) (P.failures probe.new) (O.failures out.old) (O.failures out.new) }
     ensures known { result ≤ 4 }

@@ -17,7 +17,7 @@ pub fn line_of(rt: &impl AllocGlobal, task: Task) -> Invocation {
     Invocation {
         task,
         dump: String::new(rt.alloc()),
-        second: String::new(rt.alloc()),
+        probe: String::new(rt.alloc()),
     }
 }
 
