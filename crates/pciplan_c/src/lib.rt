@@ -1,7 +1,7 @@
 //! Verdicts and plans for callers in C: two texts and a list of root buses in, a status and a line of text out, or the
 //! register writes of a plan.
 //!
-//! `calls` has what C calls; what C has to uphold is said in capture/pciplan.h. `verdict` and `planning`
+//! `calls` has what C calls; what C has to uphold is said in c/include/pciplan.h. `verdict` and `planning`
 //! do the work over slices: they read the texts where they lie (`held`), and put what is answered into the caller's
 //! memory only once it is whole (`put`).
 #![tactic(auto)]

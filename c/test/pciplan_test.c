@@ -145,8 +145,8 @@ static size_t verdicts(void)
 
 /* ---- plans of a board that was never set up */
 
-#define BARE "../../crates/pciplan/data/bare.txt"
-#define BARE_PROBE "../../crates/pciplan/data/bare_probe.txt"
+#define BARE "../crates/pciplan/data/bare.txt"
+#define BARE_PROBE "../crates/pciplan/data/bare_probe.txt"
 
 static const struct pciplan_pools pools = {0x1000, 0xffff, 0xe0000000, 0xe02fffff, 0x100000000, 0x1ffffffff};
 static const struct pciplan_pools small = {0x1000, 0xffff, 0xe0000000, 0xe01fffff, 0x100000000, 0x1ffffffff};
