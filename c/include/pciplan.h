@@ -2,7 +2,7 @@
 
    The library holds no state, keeps nothing between calls, starts no thread and touches no file. Besides memcpy, memmove,
    memset and the compiler's own __umodti3 (libgcc has it) it needs the three functions of memory at the end;
-   pciplan_memory.c gives them over malloc, pciplan_fixed_memory.c over an array of fixed size.
+   c/memory/pciplan_memory.c gives them over malloc, c/memory/pciplan_fixed_memory.c over an array of fixed size.
 
    What the caller has to uphold, which nothing checks: each pointer is to as many bytes as its length says, and isn't
    null, even where the length is 0; they stay as they are during the call; what is written to (line, line_used,

@@ -1,5 +1,5 @@
 /* Calls the library on texts of emulated machines, and refuses it each growth in turn. Linked with
-   -Wl,--wrap=rattle_alloc,--wrap=rattle_realloc; built and run by test.sh. */
+   -Wl,--wrap=rattle_alloc,--wrap=rattle_realloc; built and run by c/test.sh. */
 #include "pciplan.h"
 
 #include <stdio.h>
