@@ -1,54 +1,58 @@
 #!/usr/bin/env bash
-# What each crate takes of the gate: the table of docs/PERFORMANCE.md. In a clone of the last commit each crate is proved
-# from nothing, lowest first, its library is built for the crates above it, its tests are proved, and its edits are tried.
-# Columns: seconds of wall and of processor for the crate itself, seconds of processor for its tests and for its edits,
-# functions, edits. One crate at a time, so it takes longer than the gate does.
+# Runs the gate on a clone of the last commit, and prints what it took: the table of docs/PERFORMANCE.md, in seconds of
+# processor for each crate's proof, its tests and its edits. The processes of `rt ci` are looked at every two seconds, so
+# what each takes after the last look is missing, some percent in all. Nothing else should run beside it.
 #
-# Usage: gate_times.sh [NAME..], by default all crates; those below a named one are built, and not told of.
+# Usage: gate_times.sh
 set -u
 top=$(cd "$(dirname "$0")" && pwd) || exit 1
 room=$(mktemp -d) || exit 1
 trap 'rm -rf "$room"' EXIT
 git clone -q "$top" "$room/tree" || exit 1
 cd "$room/tree" || exit 1
-TIMEFORMAT='%R %U %S'
+exec 3>&1
+python3 - "$room/told" >&3 <<'PYTHON'
+import collections, glob, os, re, subprocess, sys, time
 
-# timed NAME COMMAND..: runs it in the crate's folder; sets wall and cpu to whole seconds.
-timed() {
-    local folder=$1
-    shift
-    read -r wall user system < <({ time (cd "$folder" && "$@") >>"$room/told" 2>&1; } 2>&1 | tail -n 1)
-    cpu=$(awk -v a="$user" -v b="$system" 'BEGIN {printf "%.0f", a + b}')
-    wall=${wall%.*}
-}
+TICK = os.sysconf("SC_CLK_TCK")
+KINDS = ("proof", "tests", "edits")
 
-echo '| crate | wall s | processor s | tests, processor s | edits, processor s | functions | edits |'
-echo '|---|---|---|---|---|---|---|'
-sum=0
-for name in $(sed -n 's/^\([a-z_0-9]*\)[^:#]*:.*/\1/p' crates.txt); do
-    folder=crates/$name tests=0 edits=0 count=0
-    : >"$room/told"
-    timed "$folder" rt check
-    own_wall=$wall own=$cpu
-    functions=$(sed -n 's/.*functions=\([0-9]*\).*/\1/p' "$room/told" | tail -n 1)
-    if [ -f "$folder/src/lib.rt" ]; then
-        timed "$folder" rt lib
-        own_wall=$((own_wall + wall)) own=$((own + cpu))
-    fi
-    if [ "$#" -gt 0 ] && [[ " $* " != *" $name "* ]]; then
-        continue
-    fi
-    if grep -rq '#\[test\]' "$folder/src"; then
-        timed "$folder" rt check --test
-        tests=$cpu
-    fi
-    if [ -d "$folder/must-fail" ]; then
-        count=$(find "$folder/must-fail" -name '*.edit' | wc -l)
-        timed . rt must-fail "$name"
-        edits=$cpu
-    fi
-    echo "| \`$name\` | $own_wall | $own | $tests | $edits | ${functions:-?} | $count |"
-    sum=$((sum + own + tests + edits))
-done
-echo
-echo "In all $((sum / 60)) minutes of processor."
+
+def look(folder):
+    """The process's crate, what it does for it, when it started, and its seconds so far; None of another process."""
+    try:
+        with open(f"{folder}/cmdline") as it:
+            words = it.read().split("\0")
+        if os.path.basename(words[0]) != "rattle" or "--crate-name" not in words:
+            return None
+        with open(f"{folder}/stat") as it:
+            fields = it.read().rpartition(")")[2].split()
+        kind = "edits" if "rt-edit-" in os.readlink(f"{folder}/cwd") else "tests" if "--test" in words else "proof"
+    except OSError:
+        return None
+    return words[words.index("--crate-name") + 1], kind, fields[19], (int(fields[11]) + int(fields[12])) / TICK
+
+
+start, seen = time.time(), {}
+with open(sys.argv[1], "w") as told:
+    gate = subprocess.Popen(["rt", "ci"], stdout=told, stderr=subprocess.STDOUT)
+    while gate.poll() is None:
+        for folder in glob.glob("/proc/[0-9]*"):
+            found = look(folder)
+            if found:
+                seen[folder, found[2]] = found
+        time.sleep(2)
+
+with open(sys.argv[1]) as it:
+    said = it.read()
+times = collections.Counter()
+for crate, kind, _, seconds in seen.values():
+    times[crate, kind] += seconds
+print("| crate | proof | tests | edits | how many edits |\n|---|---|---|---|---|")
+for crate in re.findall(r"(?m)^(\w+)[^:#\n]*:", open("crates.txt").read()):
+    row = [f"{times[crate, kind]:.0f}" if times[crate, kind] else "" for kind in KINDS]
+    print(f"| `{crate}` | {' | '.join(row)} | {len(glob.glob(f'crates/{crate}/must-fail/*.edit')) or ''} |")
+whole = os.times().children_user + os.times().children_system
+print(f"\n{said.rstrip().rpartition(chr(10))[2]}; {(time.time() - start) / 60:.0f} minutes, {whole / 60:.0f} of processor.")
+sys.exit(gate.returncode)
+PYTHON
