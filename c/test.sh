@@ -1,6 +1,6 @@
 #!/bin/sh
-# Captures the machines of machines/ from their registers; then builds the library and the C test over both memories, and
-# runs it: c/test.sh, from anywhere. `c/test.sh --capture` leaves the library out, which takes a proof to build.
+# Captures the machines of machines/ from their registers; then builds the library and the C test over both memories,
+# and runs it: c/test.sh, from anywhere. `c/test.sh --capture` leaves the library out, which takes a proof to build.
 set -e
 here=$(cd "$(dirname "$0")" && pwd)
 machines=$here/../machines
@@ -26,7 +26,8 @@ library=$here/../crates/pciplan_c/out/libpciplan_c.a
 (cd "$here/../crates/pciplan_c" && rt lib >/dev/null)
 cd "$machines"
 for memory in pciplan_memory pciplan_fixed_memory; do
-    compiled "$memory" -Wl,--wrap=rattle_alloc,--wrap=rattle_realloc "$here/test/pciplan_test.c" "$here/memory/$memory.c" "$library"
+    compiled "$memory" -Wl,--wrap=rattle_alloc,--wrap=rattle_realloc \
+        "$here/test/pciplan_test.c" "$here/memory/$memory.c" "$library"
     printf '%s: ' "$memory"
     "$built/$memory"
 done
