@@ -3,9 +3,8 @@ ghost use Rattle.std.specs.Prelude.{◌≡◌, ◌+◌, ◌*◌, ◌%◌, ◌^�
 ghost use Rattle.pci_spec.specs.Decoded.{decoded_bars};
 ghost use Rattle.pci_spec.specs.Number.{number_at};
 ghost use Rattle.pci_spec.specs.Bar as bar;
-ghost use Rattle.pci_spec.specs.Bar.{bar_kind, bar_reading, first_broken, is_prefetchable, has_lawful_size, is_lawful};
+ghost use Rattle.pci_spec.specs.Bar.{bar_kind, bar_reading, first_broken, is_prefetchable, has_lawful_size, is_lawful, first_bit};
 ghost use Rattle.pci_spec.specs.Header.{bar_register};
-ghost use Rattle.pci_spec.specs.Planning.Showing.{first_bit};
 ghost use Rattle.pci_image.specs.Bars.{decoded_kind_of, decoded_bar_of, HasLawfulBars, IsBarFault, IsLowestBarFault, IsComparedBar, IsDecodedAt, IsPlaced, broken_encoding, broken_size};
 ghost use Rattle.pci_image.specs.Faults.{IsImageFaultIn, image_fault_number};
 

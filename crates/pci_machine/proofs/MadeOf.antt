@@ -1,15 +1,13 @@
 -- A machine of a dump and its probe: what holds of each function.
 use Rattle.std.proofs.Common.{◌≡◌, ℕ, ◌+◌, ◌<◌, refl, false, List, [], ◌∷◌, ◌++◌, map, take, length, get_or, Some, ◌==◌, lit<, arith, sym, ◌∙◌, ap, subst}
 use Rattle.std.specs.List.{All}
-use Rattle.std.proofs.lemmas.Bool.{false_from_ne_true}
+use Rattle.std.proofs.lemmas.Bool.{false_from_ne_true, both_ways}
 use Rattle.std.proofs.lemmas.List.{map_more, length-map, get_or-map, get_or_default}
 use Rattle.std.proofs.lemmas.List.Elements.{All-map}
-use Rattle.std.proofs.lemmas.Bool.{both_ways}
 use Rattle.std.proofs.lemmas.Option.{slice_get-get_or}
 use Rattle.pci_spec.specs.Number.{byte_at, has_bit}
 use Rattle.pci_spec.specs.Header.{layout}
-use Rattle.pci_spec.proofs.Planning.Writes.{enables_are_fields}
-use Rattle.pci_spec.proofs.WritableBits.{has_bit-writable_bits}
+use Rattle.pci_spec.proofs.WritableBits.{enables_are_fields, has_bit-writable_bits}
 use Rattle.pci_spec.specs.Slot.{IsRising}
 use Rattle.pci_spec.specs.Text.{Block, IsDump, slots_of}
 use Rattle.pci_spec.specs.System.{Function, IsFunction, function_of, system_of}

@@ -12,12 +12,12 @@ use Rattle.pci_spec.specs.System.{System, Function, IsFunction, IsSystem, is_bri
 use Rattle.pci_spec.specs.Bus.{secondary, is_behind, IsNested}
 use Rattle.pci_spec.specs.Decoded.{decoded_window, optional_window}
 use Rattle.pci_spec.specs.Decoded as decoded
-use Rattle.pci_spec.specs.Plan.{bridges_above}
+use Rattle.plan_spec.specs.Plan.{bridges_above}
 use Rattle.pci_spec.proofs.Members.{in_nil}
 use Rattle.pci_spec.proofs.BusRanges.{all_gives, ordered, behind_of_within}
-use Rattle.pci_spec.proofs.Planning.Safe.{slots_of}
-use Rattle.pci_spec.proofs.Planning.Passed.{IsBefore, in_front_to, in_front_from, lower_is_passed}
-use Rattle.pci_spec.proofs.Planning.AboveBuses.{all_above, all_above_root, root_or_led}
+use Rattle.plan_spec.proofs.Planning.Safe.{slots_of}
+use Rattle.plan_spec.proofs.Planning.Passed.{IsBefore, in_front_to, in_front_from, lower_is_passed}
+use Rattle.plan_spec.proofs.Planning.AboveBuses.{all_above, all_above_root, root_or_led}
 use Rattle.pci_function.specs.declared.record.Bridge.{Bridge}
 use Rattle.pci_function.specs.declared.record.Record.{Record}
 use Rattle.pci_tree.proofs.Lifting.{same_bridge}

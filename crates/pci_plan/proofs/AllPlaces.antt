@@ -5,10 +5,10 @@ use Rattle.std.proofs.lemmas.List.{take_all, take-append-le}
 use Rattle.pci_spec.specs.Window.{WindowKind, IoWindow, MemoryWindow, PrefetchWindow}
 use Rattle.pci_spec.specs.System.{System, Function, Part, Bar, Rom, Window, is_bridge}
 use Rattle.std.specs.Bool.{nat_lt}
-use Rattle.pci_spec.specs.Plan.{Pools, class_of, same_class}
-use Rattle.pci_spec.specs.Planning.Layout.{is_item}
-use Rattle.pci_spec.specs.Planning.Table.{is_placed, need_behind}
-use Rattle.pci_spec.proofs.Planning.PlacedItems.{same_class_is}
+use Rattle.plan_spec.specs.Plan.{Pools, class_of, same_class}
+use Rattle.plan_spec.specs.Planning.Layout.{is_item}
+use Rattle.plan_spec.specs.Planning.Table.{is_placed, need_behind}
+use Rattle.plan_spec.proofs.Planning.PlacedItems.{same_class_is}
 use Rattle.pci_plan.specs.Places.{HasPlaces, KeepsOthers}
 use Rattle.pci_plan.specs.declared.place.Places.{Places}
 

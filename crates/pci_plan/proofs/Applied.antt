@@ -15,21 +15,22 @@ use Rattle.pci_spec.specs.Text.{Block, slots_of}
 use Rattle.pci_spec.specs.System.{System, Function, IsSystem, function_of, system_of}
 use Rattle.pci_spec.specs.Sound.{IsSound}
 use Rattle.pci_spec.specs.Machine.{Target, Write, target_of, after_writes, write_function, write_system, system_after}
-use Rattle.pci_spec.specs.Plan.{IsMoved}
-use Rattle.pci_spec.specs.PlanPromise.{changes_between}
-use Rattle.pci_spec.specs.Planning.Fitting.{FitsAt, IsFitting}
-use Rattle.pci_spec.specs.Planning.PlanWrites.{Change, olds, closed_command, closing_writes, register_writes, opening_writes, plan_writes}
-use Rattle.pci_spec.specs.Planning.Laws.{AreChanges}
+use Rattle.plan_spec.specs.Plan.{IsMoved}
+use Rattle.plan_spec.specs.PlanPromise.{changes_between}
+use Rattle.plan_spec.specs.Planning.Fitting.{FitsAt, IsFitting}
+use Rattle.plan_spec.specs.Planning.PlanWrites.{Change, olds, closed_command, closing_writes, register_writes, opening_writes, plan_writes}
+use Rattle.plan_spec.specs.Planning.Laws.{AreChanges}
 use Rattle.pci_spec.proofs.Members.{in_nil, in_cons_cases, in_head, in_tail, in_map_to, in_map_from, IsMade}
 use Rattle.pci_spec.proofs.Nesting.{one_function}
-use Rattle.pci_spec.proofs.Planning.Registers.{number_below}
-use Rattle.pci_spec.proofs.Planning.Kept.{member_back, images_of}
-use Rattle.pci_spec.proofs.Planning.Fit.{after_moved, moved_start, fitting_later}
-use Rattle.pci_spec.proofs.Planning.Settled.{write_shows}
-use Rattle.pci_spec.proofs.Planning.Staging.{IsClosingOf, closing_to, IsRegisterOf, register_to, IsOpeningOf, opening_to, fits}
-use Rattle.pci_spec.proofs.Planning.Reached.{moves, image_of, old_listed, slot_itself, closed_le}
-use Rattle.pci_spec.proofs.Planning.OnMachine.{plan_on_its_machine}
-use Rattle.pci_spec.proofs.Planning.PlanStands.{are_changes, olds_of}
+use Rattle.plan_spec.proofs.Planning.Registers.{number_below}
+use Rattle.plan_spec.proofs.Planning.Kept.{images_of}
+use Rattle.pci_spec.proofs.Pairs.{member_back}
+use Rattle.plan_spec.proofs.Planning.Fit.{after_moved, moved_start, fitting_later}
+use Rattle.plan_spec.proofs.Planning.Settled.{write_shows}
+use Rattle.plan_spec.proofs.Planning.Staging.{IsClosingOf, closing_to, IsRegisterOf, register_to, IsOpeningOf, opening_to, fits}
+use Rattle.plan_spec.proofs.Planning.Reached.{moves, image_of, old_listed, slot_itself, closed_le}
+use Rattle.plan_spec.proofs.Planning.OnMachine.{plan_on_its_machine}
+use Rattle.plan_spec.proofs.Planning.PlanStands.{are_changes, olds_of}
 use Rattle.pci_spec.specs.Port as port
 use Rattle.pci_spec.specs.Port.{target_at, has_function, is_access, ShowsNumber}
 use Rattle.pci_machine.proofs.Targets.{slot_of_test}

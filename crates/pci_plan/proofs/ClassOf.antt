@@ -7,7 +7,7 @@ use Rattle.pci_spec.specs.Window.{IoWindow, MemoryWindow, PrefetchWindow, has_wi
 use Rattle.pci_spec.specs.Decoded.{DecodedBar, decoded_bar}
 use Rattle.std.specs.List.{list_all}
 use Rattle.pci_spec.specs.System.{System, Function, Bar}
-use Rattle.pci_spec.specs.Plan.{class_of, bridges_above, is_served}
+use Rattle.plan_spec.specs.Plan.{class_of, bridges_above, is_served}
 use Rattle.pci_image.specs.declared.bar.Bar.{Bar as CodeBar}
 use Rattle.pci_image.specs.declared.bar.BarKind.{BarKind as CodeKind}
 use Rattle.pci_image.specs.declared.bar.BarKind.TheVariants.{Io, Mem32, Mem64}

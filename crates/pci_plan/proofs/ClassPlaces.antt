@@ -12,17 +12,17 @@ use Rattle.pci_spec.specs.Window.{WindowKind}
 use Rattle.pci_spec.specs.System.{System, Function, IsSystem, Part}
 use Rattle.pci_spec.specs.Bus.{IsNested}
 use Rattle.pci_spec.specs.Decoded.{Range}
-use Rattle.pci_spec.specs.Plan.{Pools, pool_of, class_of, raised_to, greatest_of_roots}
-use Rattle.pci_spec.specs.PlanPromise.{CanBePlanned}
-use Rattle.pci_spec.specs.Place.{Item, own_items, place_of}
-use Rattle.pci_spec.specs.Planning.Numbers.{item_of, place_at}
-use Rattle.pci_spec.specs.Planning.Sorted.{all_items}
-use Rattle.pci_spec.specs.Planning.Table.{Item as PlacedPart, is_placed, IsTable}
+use Rattle.plan_spec.specs.Plan.{Pools, pool_of, class_of, raised_to, greatest_of_roots}
+use Rattle.plan_spec.specs.PlanPromise.{CanBePlanned}
+use Rattle.plan_spec.specs.Place.{Item, own_items, place_of}
+use Rattle.plan_spec.specs.Planning.Numbers.{item_of, place_at}
+use Rattle.plan_spec.specs.Planning.Sorted.{all_items}
+use Rattle.plan_spec.specs.Planning.Table.{Item as PlacedPart, is_placed, IsTable}
 use Rattle.pci_spec.proofs.Members.{IsMade, in_map_to, in_flat_map_from}
-use Rattle.pci_spec.proofs.Planning.AllItems.{slots_rise}
-use Rattle.pci_spec.proofs.Planning.PlacedItems.{part_placed, own_part, part_owned}
-use Rattle.pci_spec.proofs.Planning.Placings.{table_of_places}
-use Rattle.pci_spec.proofs.Planning.Tallies.{greatest_small}
+use Rattle.plan_spec.proofs.Planning.AllItems.{slots_rise}
+use Rattle.plan_spec.proofs.Planning.PlacedItems.{part_placed, own_part, part_owned}
+use Rattle.plan_spec.proofs.Planning.Placings.{table_of_places}
+use Rattle.plan_spec.proofs.Planning.Tallies.{greatest_small}
 use Rattle.pci_image.specs.declared.range.Range.{Range as CodeRange}
 use Rattle.pci_image.specs.Ranges.{decoded_range_of}
 use Rattle.pci_plan.specs.declared.item.Item.{Item as CodeItem}

@@ -8,7 +8,7 @@ use Rattle.pci_spec.specs.Slot.{Slot}
 use Rattle.pci_spec.specs.Header.{layout, address_registers, registers_by}
 use Rattle.pci_spec.specs.Machine.{Target}
 use Rattle.pci_spec.proofs.Members.{in_head, in_tail, in_cons_cases}
-use Rattle.pci_spec.proofs.Planning.Behind.{all_gives}
+use Rattle.plan_spec.proofs.Planning.Behind.{all_gives}
 use Rattle.pci_spec.specs.Port.{is_access, ShowsNumber}
 use Rattle.pci_image.specs.declared.register.Register.{Register}
 use Rattle.pci_image.specs.declared.register.Role.TheVariants as roles

@@ -11,17 +11,17 @@ use Rattle.pci_spec.specs.Slot.{Slot, same_slot}
 use Rattle.pci_spec.specs.Header.{command, layout, address_registers}
 use Rattle.pci_spec.specs.System.{System, Function, IsSystem}
 use Rattle.pci_spec.specs.Machine.{Target, Write, write_target, write_targets, after_writes, written}
-use Rattle.pci_spec.specs.Plan.{IsMoved}
-use Rattle.pci_spec.specs.PlanPromise.{changes_between}
-use Rattle.pci_spec.specs.Planning.Safety.{is_on}
-use Rattle.pci_spec.specs.Planning.PlanWrites.{Change, olds, news, closed_command, closing_writes, register_writes, opening_writes, plan_writes}
+use Rattle.plan_spec.specs.Plan.{IsMoved}
+use Rattle.plan_spec.specs.PlanPromise.{changes_between}
+use Rattle.plan_spec.specs.Planning.Safety.{is_on}
+use Rattle.plan_spec.specs.Planning.PlanWrites.{Change, olds, news, closed_command, closing_writes, register_writes, opening_writes, plan_writes}
 use Rattle.pci_spec.proofs.Members.{in_nil, in_cons_cases, in_head, in_tail, in_map_to, IsMade}
-use Rattle.pci_spec.proofs.Planning.Moved.{layout_same}
-use Rattle.pci_spec.proofs.Planning.Writes.{same_fields}
-use Rattle.pci_spec.proofs.Planning.Settled.{IsQuiet, IsSetting, number_outside}
-use Rattle.pci_spec.proofs.Planning.Staging.{is_register, closing_write, number_write, opening_write, closing_from, register_from, opening_from}
-use Rattle.pci_spec.proofs.Planning.Reached.{closing_quiet, opening_quiet, register_quiet, closing_sets, register_sets, opening_sets, slot_itself, off_is_closed, moves, image_of, old_listed}
-use Rattle.pci_spec.proofs.Planning.PlanStands.{are_changes, olds_of, news_of}
+use Rattle.plan_spec.proofs.Planning.Moved.{layout_same}
+use Rattle.plan_spec.proofs.Planning.Writes.{same_fields}
+use Rattle.plan_spec.proofs.Planning.Settled.{IsQuiet, IsSetting, number_outside}
+use Rattle.plan_spec.proofs.Planning.Staging.{is_register, closing_write, number_write, opening_write, closing_from, register_from, opening_from}
+use Rattle.plan_spec.proofs.Planning.Reached.{closing_quiet, opening_quiet, register_quiet, closing_sets, register_sets, opening_sets, slot_itself, off_is_closed, moves, image_of, old_listed}
+use Rattle.plan_spec.proofs.Planning.PlanStands.{are_changes, olds_of, news_of}
 use Rattle.pci_spec.specs.Port.{target_at, ShowsNumber}
 use Rattle.pci_machine.proofs.Targets.{find-map, target_at-slot}
 use Rattle.pci_plan.specs.Comparing.{compared, ShowsAll}

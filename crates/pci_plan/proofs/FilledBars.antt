@@ -8,17 +8,17 @@ use Rattle.std.proofs.Math.Nat.{pow-le-pow_right}
 use denote.Enum.Bare.{sameb}
 use Rattle.pci_spec.specs.Number.{number_at}
 use Rattle.pci_spec.specs.Header.{layout, bar_count, bar_register}
-use Rattle.pci_spec.specs.Bar.{BarKind, IoBar, Memory32, Memory64, Reserved, bar_at, bar_kind, is_io, is_wide, type_bits, starts_bar, whole_bar, has_bar}
+use Rattle.pci_spec.specs.Bar.{BarKind, IoBar, Memory32, Memory64, Reserved, bar_at, bar_kind, is_io, is_wide, type_bits, starts_bar, whole_bar, has_bar, first_bit}
 use Rattle.pci_spec.specs.Decoded.{decoded_bar, decoded_bars}
 use Rattle.pci_spec.specs.Decoded as decoded
 use Rattle.pci_spec.specs.System.{Function, IsFunction, Bar}
-use Rattle.pci_spec.specs.Plan.{class_of, same_class}
-use Rattle.pci_spec.specs.Planning.Showing.{first_bit, reach_of}
-use Rattle.pci_spec.specs.Planning.Numbers.{place_at, new_bar, lower_number, bar_number}
+use Rattle.plan_spec.specs.Plan.{class_of, same_class}
+use Rattle.plan_spec.specs.Planning.Showing.{reach_of}
+use Rattle.plan_spec.specs.Planning.Numbers.{place_at, new_bar, lower_number, bar_number}
 use Rattle.pci_spec.proofs.Members.{IsMade, in_filter_to, in_filter_from, in_map_to, in_map_from, in_range_to, in_range_from}
-use Rattle.pci_spec.proofs.Planning.Reach.{bar_place}
-use Rattle.pci_spec.proofs.Planning.Tables.{class_itself}
-use Rattle.pci_spec.proofs.Planning.BarNumbers.{value_small, upper_of_wide, wide_has_bar}
+use Rattle.plan_spec.proofs.Planning.Reach.{bar_place}
+use Rattle.plan_spec.proofs.Planning.Tables.{class_itself}
+use Rattle.plan_spec.proofs.Planning.BarNumbers.{value_small, upper_of_wide, wide_has_bar}
 use Rattle.pci_image.specs.Bars.{decoded_kind_of, decoded_bar_of}
 use Rattle.pci_image.specs.declared.bar.Bar.{Bar as CodeBar}
 use Rattle.pci_image.specs.declared.bar.BarKind.{BarKind as CodeKind}

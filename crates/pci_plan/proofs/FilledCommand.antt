@@ -9,7 +9,7 @@ use Rattle.pci_spec.specs.Bar.{bar_at, is_io}
 use Rattle.pci_spec.specs.Rom.{has_rom}
 use Rattle.pci_spec.specs.Decoded.{decoded_bar}
 use Rattle.pci_spec.specs.System.{Function, Part, Bar, Rom, bars_and_rom}
-use Rattle.pci_spec.specs.Plan.{is_io_part}
+use Rattle.plan_spec.specs.Plan.{is_io_part}
 use Rattle.pci_image.specs.Bars.{decoded_bar_of}
 use Rattle.pci_plan.specs.declared.numbers.Filling.{Filling}
 use Rattle.pci_plan.specs.Classes.{is_io_kind}

@@ -9,9 +9,9 @@ use Rattle.std.proofs.lemmas.List.Folds.{list_any-append}
 use Rattle.pci_spec.specs.Number.{byte_at, number_at, IsImage}
 use Rattle.pci_spec.specs.Header.{address_registers, is_in_register, layout, registers_by}
 use Rattle.pci_spec.specs.System.{Function}
-use Rattle.pci_spec.specs.Planning.Numbers.{IsFilled}
+use Rattle.plan_spec.specs.Planning.Numbers.{IsFilled}
 use Rattle.pci_spec.proofs.Members.{in_nil}
-use Rattle.pci_spec.proofs.Planning.Staging.{Follows, is_register}
+use Rattle.plan_spec.proofs.Planning.Staging.{Follows, is_register}
 
 -- the same bytes make the same number
 pub same_bytes : (a b : List ℕ) (offset width : ℕ) → ((place : ℕ) → offset ≤ place → place < offset + width → byte_at a place ≡ byte_at b place) → number_at a offset width ≡ number_at b offset width

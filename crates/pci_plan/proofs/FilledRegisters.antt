@@ -3,8 +3,8 @@ use Rattle.std.proofs.Common.{◌≡◌, ℕ, zero, suc, ◌-◌, ◌/◌, ◌%�
 use Rattle.std.specs.List.{Contains}
 use Rattle.pci_spec.specs.Header.{address_registers, bar_register}
 use Rattle.pci_spec.specs.System.{System, Function, is_bridge}
-use Rattle.pci_spec.specs.Plan.{Pools}
-use Rattle.pci_spec.specs.Planning.Numbers.{bar_number, bridge_number, device_number, new_number}
+use Rattle.plan_spec.specs.Plan.{Pools}
+use Rattle.plan_spec.specs.Planning.Numbers.{bar_number, bridge_number, device_number, new_number}
 
 -- the registers of a bridge
 abbrev pub IsOfBridge : ℕ → Type 0

@@ -9,10 +9,10 @@ use Rattle.pci_spec.specs.Rom.{rom_at, rom_is_on, has_rom}
 use Rattle.pci_spec.specs.Decoded.{aligned_range, rom_size}
 use Rattle.pci_spec.specs.Decoded as decoded
 use Rattle.pci_spec.specs.System.{IsFunction, Rom}
-use Rattle.pci_spec.specs.Planning.Showing.{rom_value}
-use Rattle.pci_spec.specs.Planning.Numbers.{place_at, rom_number}
-use Rattle.pci_spec.proofs.Planning.Reach.{rom_place}
-use Rattle.pci_spec.proofs.Planning.RomFits.{rom_number_small}
+use Rattle.plan_spec.specs.Planning.Showing.{rom_value}
+use Rattle.plan_spec.specs.Planning.Numbers.{place_at, rom_number}
+use Rattle.plan_spec.proofs.Planning.Reach.{rom_place}
+use Rattle.plan_spec.proofs.Planning.RomFits.{rom_number_small}
 use Rattle.pci_image.specs.declared.rom.Rom.{Rom as CodeRom}
 use Rattle.pci_image.specs.Roms.{decoded_rom_of}
 use Rattle.pci_plan.specs.declared.numbers.Filling.{Filling}

@@ -6,23 +6,22 @@ use Rattle.std.specs.Option.{is_some}
 use Rattle.std.proofs.lemmas.Bool.{and_from, eqb-true, not-false, lt-ltb}
 use Rattle.std.proofs.lemmas.List.Elements.{All-contains}
 use Rattle.pci_spec.specs.Header.{layout}
-use Rattle.pci_spec.specs.Window.{WindowKind, IoWindow, MemoryWindow, PrefetchWindow, Bounds, bounds_at, page_bits, has_window, is_wide_window, is_zero}
+use Rattle.pci_spec.specs.Window.{WindowKind, IoWindow, MemoryWindow, PrefetchWindow, Bounds, bounds_at, page_bits, has_window, is_wide_window, is_zero, bounds_for, closed_bounds}
 use Rattle.pci_spec.specs.Decoded.{DecodedWindow, optional_window, decoded_window, bridge_of}
 use Rattle.pci_spec.specs.Decoded as decoded
 use Rattle.pci_spec.specs.System.{Function, IsFunction, Window, is_bridge}
 use Rattle.pci_spec.specs.Bus.{secondary}
-use Rattle.pci_spec.specs.Plan.{same_class, limited, need_of, has_behind, window_size}
-use Rattle.pci_spec.specs.Plan as plan
-use Rattle.pci_spec.specs.Place.{nibble_of, closed_bounds}
-use Rattle.pci_spec.specs.Planning.Showing.{bounds_for}
-use Rattle.pci_spec.specs.Planning.Table.{need_behind}
-use Rattle.pci_spec.specs.Planning.Numbers.{place_at, new_bounds}
+use Rattle.plan_spec.specs.Plan.{same_class, limited, need_of, has_behind, window_size}
+use Rattle.plan_spec.specs.Plan as plan
+use Rattle.plan_spec.specs.Place.{nibble_of}
+use Rattle.plan_spec.specs.Planning.Table.{need_behind}
+use Rattle.plan_spec.specs.Planning.Numbers.{place_at, new_bounds}
 use Rattle.pci_spec.proofs.Records.{memory_window_there}
 use Rattle.pci_spec.proofs.ReadBacks.{AreZero, are_zero, window_rules}
-use Rattle.pci_spec.proofs.Planning.Tables.{class_itself}
-use Rattle.pci_spec.proofs.Planning.Reach.{IsReached, need_is_behind}
-use Rattle.pci_spec.proofs.Planning.NumbersFit.{window_room, parts_fit}
-use Rattle.pci_spec.proofs.Planning.WindowFits.{few_nibbles, by_absent, by_open, by_closed}
+use Rattle.plan_spec.proofs.Planning.Tables.{class_itself}
+use Rattle.plan_spec.proofs.Planning.Reach.{IsReached, need_is_behind}
+use Rattle.plan_spec.proofs.Planning.NumbersFit.{window_room, parts_fit}
+use Rattle.plan_spec.proofs.Planning.WindowFits.{few_nibbles, by_absent, by_open, by_closed}
 use Rattle.pci_image.specs.WindowKinds.{kind_value, by_kind}
 use Rattle.pci_image.specs.Windows.{window_of}
 use Rattle.pci_function.specs.declared.record.Bridge.{Bridge}

@@ -16,15 +16,15 @@ use Rattle.pci_spec.specs.System.{System, Function, IsFunction, IsSystem, Part, 
 use Rattle.pci_spec.specs.Bus.{secondary, IsNested}
 use Rattle.pci_spec.specs.Decoded.{HasRecords, DecodedBar, decoded_bar, decoded_rom}
 use Rattle.pci_spec.specs.Decoded as decoded
-use Rattle.pci_spec.specs.Plan.{same_class, class_of, window_size, limited, need_of, has_behind}
-use Rattle.pci_spec.specs.Plan as plan
-use Rattle.pci_spec.specs.Place.{Item, part_item, window_item, items_among, own_items}
-use Rattle.pci_spec.specs.Planning.Sorted.{group_of}
-use Rattle.pci_spec.specs.Planning.Table.{need_behind}
+use Rattle.plan_spec.specs.Plan.{same_class, class_of, window_size, limited, need_of, has_behind}
+use Rattle.plan_spec.specs.Plan as plan
+use Rattle.plan_spec.specs.Place.{Item, part_item, window_item, items_among, own_items}
+use Rattle.plan_spec.specs.Planning.Sorted.{group_of}
+use Rattle.plan_spec.specs.Planning.Table.{need_behind}
 use Rattle.pci_spec.proofs.Members.{IsMade, in_nil, in_cons_cases, in_map_to, in_filter_to}
 use Rattle.pci_spec.proofs.Regions.{bar_count-le}
-use Rattle.pci_spec.proofs.Planning.Behind.{behind_by_test}
-use Rattle.pci_spec.proofs.Planning.OwnItems.{bar_parts}
+use Rattle.plan_spec.proofs.Planning.Behind.{behind_by_test}
+use Rattle.plan_spec.proofs.Planning.OwnItems.{bar_parts}
 use Rattle.pci_image.specs.declared.bar.Bar.{Bar as CodeBar}
 use Rattle.pci_image.specs.declared.rom.Rom.{Rom as CodeRom}
 use Rattle.pci_image.specs.Bars.{decoded_bar_of}

@@ -9,21 +9,21 @@ use Rattle.std.proofs.lemmas.List.Sorted.{IsPermutation-sym, Contains-permutatio
 use Rattle.pci_spec.specs.Window.{WindowKind}
 use Rattle.pci_spec.specs.System.{System, Function, IsSystem, Window}
 use Rattle.pci_spec.specs.Bus.{secondary, is_root, are_siblings, IsNested}
-use Rattle.pci_spec.specs.Plan.{Pools, pool_of, raised_to, greatest_of_roots}
-use Rattle.pci_spec.specs.Place.{Item, window_item, own_items, items_beside, start_of, place_of}
-use Rattle.pci_spec.specs.Planning.Numbers.{item_of, place_at}
-use Rattle.pci_spec.specs.Planning.Sorted.{all_items, group_of, item_group}
-use Rattle.pci_spec.specs.Planning.Table.{IsTable}
+use Rattle.plan_spec.specs.Plan.{Pools, pool_of, raised_to, greatest_of_roots}
+use Rattle.plan_spec.specs.Place.{Item, window_item, own_items, items_beside, start_of, place_of}
+use Rattle.plan_spec.specs.Planning.Numbers.{item_of, place_at}
+use Rattle.plan_spec.specs.Planning.Sorted.{all_items, group_of, item_group}
+use Rattle.plan_spec.specs.Planning.Table.{IsTable}
 use Rattle.pci_spec.proofs.Members.{IsInPiece, in_map_from, in_flat_map_to, in_flat_map_from}
-use Rattle.pci_spec.proofs.Planning.Safe.{order_of}
-use Rattle.pci_spec.proofs.Planning.Starts.{start_of_window}
-use Rattle.pci_spec.proofs.Planning.Greatest.{le_greatest, greatest_on_roots, start_by_greatest}
-use Rattle.pci_spec.proofs.Planning.Sizes.{item_sizes}
-use Rattle.pci_spec.proofs.Planning.OwnItems.{in_cond_from, own_function}
-use Rattle.pci_spec.proofs.Planning.PlacedItems.{IsOfPart, own_part}
-use Rattle.pci_spec.proofs.Planning.Places.{above_zero, groups_rise, place_of_first, place_of_new_group, place_of_next}
-use Rattle.pci_spec.proofs.Planning.Above.{HasWindowBefore, window_before}
-use Rattle.pci_spec.proofs.Planning.InPool.{IsInPool, in_pool}
+use Rattle.plan_spec.proofs.Planning.Safe.{order_of}
+use Rattle.plan_spec.proofs.Planning.Starts.{start_of_window}
+use Rattle.plan_spec.proofs.Planning.Greatest.{le_greatest, greatest_on_roots, start_by_greatest}
+use Rattle.plan_spec.proofs.Planning.Sizes.{item_sizes}
+use Rattle.plan_spec.proofs.Planning.OwnItems.{in_cond_from, own_function}
+use Rattle.plan_spec.proofs.Planning.PlacedItems.{IsOfPart, own_part}
+use Rattle.plan_spec.proofs.Planning.Places.{above_zero, groups_rise, place_of_first, place_of_new_group, place_of_next}
+use Rattle.plan_spec.proofs.Planning.Above.{HasWindowBefore, window_before}
+use Rattle.plan_spec.proofs.Planning.InPool.{IsInPool, in_pool}
 use Rattle.pci_plan.specs.declared.item.Item.{Item as CodeItem}
 use Rattle.pci_plan.specs.declared.item.Part.{Part as CodePart}
 use Rattle.pci_plan.specs.declared.item.Part.TheVariants as parts

@@ -11,21 +11,21 @@ use Rattle.pci_spec.specs.Sound.{IsSound}
 use Rattle.pci_spec.specs.Fault.{IsThere}
 use Rattle.pci_spec.specs.Decoded.{IsDecodable}
 use Rattle.pci_spec.specs.Machine.{Write}
-use Rattle.pci_spec.specs.Plan.{Pools}
-use Rattle.pci_spec.specs.PlanPromise.{CanBePlanned, changes_between, with_rom_on, IsPlanOf, IsSafeFrom}
-use Rattle.pci_spec.specs.Planning.Numbers.{IsPlannedFunction}
-use Rattle.pci_spec.specs.Planning.Plannable.{IsPlannable}
-use Rattle.pci_spec.specs.Planning.Promise.{IsFinal}
-use Rattle.pci_spec.specs.Planning.PlanWrites.{closing_writes, plan_writes}
-use Rattle.pci_spec.specs.Planning.Safety.{is_on}
+use Rattle.plan_spec.specs.Plan.{Pools}
+use Rattle.plan_spec.specs.PlanPromise.{CanBePlanned, changes_between, with_rom_on, IsPlanOf, IsSafeFrom}
+use Rattle.plan_spec.specs.Planning.Numbers.{IsPlannedFunction}
+use Rattle.plan_spec.specs.Planning.Plannable.{IsPlannable}
+use Rattle.plan_spec.specs.Planning.Promise.{IsFinal}
+use Rattle.plan_spec.specs.Planning.PlanWrites.{closing_writes, plan_writes}
+use Rattle.plan_spec.specs.Planning.Safety.{is_on}
 use Rattle.pci_spec.proofs.Pairing.{same_length, in-of_there}
 use Rattle.pci_spec.proofs.Sounding.{sound_without_faults}
-use Rattle.pci_spec.proofs.Planning.Whole.{moved_system}
-use Rattle.pci_spec.proofs.Planning.Planned.{moved_decodable}
-use Rattle.pci_spec.proofs.Planning.PlanStands.{olds_of, count_closing, safe_from_is, plan_stands}
-use Rattle.pci_spec.proofs.Planning.Plannings.{tables_of_plannable, final_by_numbers}
-use Rattle.pci_spec.proofs.Planning.RomsOnLayout.{roms_on_is_sound}
-use Rattle.pci_spec.proofs.Planning.ShownSystem.{switched_on}
+use Rattle.plan_spec.proofs.Planning.Whole.{moved_system}
+use Rattle.plan_spec.proofs.Planning.Planned.{moved_decodable}
+use Rattle.plan_spec.proofs.Planning.PlanStands.{olds_of, count_closing, safe_from_is, plan_stands}
+use Rattle.plan_spec.proofs.Planning.Plannings.{tables_of_plannable, final_by_numbers}
+use Rattle.plan_spec.proofs.Planning.RomsOnLayout.{roms_on_is_sound}
+use Rattle.plan_spec.proofs.Planning.ShownSystem.{switched_on}
 use Rattle.pci_tree.specs.Admission.{Admission, IsAdmitted, IsOutlineFor}
 use Rattle.pci_tree.specs.Outline.{Tree}
 use Rattle.pci_function.specs.Fault.{fault_of}

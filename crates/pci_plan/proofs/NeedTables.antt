@@ -14,12 +14,12 @@ use Rattle.pci_spec.specs.System.{System, Function, IsFunction, IsSystem, is_bri
 use Rattle.pci_spec.specs.Bus.{secondary, is_root, IsNested}
 use Rattle.pci_spec.specs.Decoded.{HasRecords}
 use Rattle.pci_spec.specs.Decoded as decoded
-use Rattle.pci_spec.specs.Plan.{limited, window_size, need_of}
-use Rattle.pci_spec.specs.Plan as plan
-use Rattle.pci_spec.specs.Planning.Table.{need_behind}
-use Rattle.pci_spec.specs.Planning.BusNeeds.{added, added_on}
-use Rattle.pci_spec.proofs.Planning.Sums.{need_added}
-use Rattle.pci_spec.proofs.Planning.Tallies.{limited_add, greatest_append, behind_sizes, function_sizes, root_sizes, sum_of_function, part_of, added_more, whole_behind, greatest_by_slots}
+use Rattle.plan_spec.specs.Plan.{limited, window_size, need_of}
+use Rattle.plan_spec.specs.Plan as plan
+use Rattle.plan_spec.specs.Planning.Table.{need_behind}
+use Rattle.plan_spec.specs.Planning.BusNeeds.{added, added_on}
+use Rattle.plan_spec.proofs.Planning.Sums.{need_added}
+use Rattle.plan_spec.proofs.Planning.Tallies.{limited_add, greatest_append, behind_sizes, function_sizes, root_sizes, sum_of_function, part_of, added_more, whole_behind, greatest_by_slots}
 use Rattle.pci_function.specs.declared.record.Bridge.{Bridge}
 use Rattle.pci_function.specs.declared.record.Record.{Record}
 use Rattle.pci_function.specs.Values.{record_value}

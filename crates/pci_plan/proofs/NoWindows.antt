@@ -6,10 +6,10 @@ use Rattle.std.proofs.lemmas.Bool.{both_ways}
 use Rattle.pci_spec.specs.Slot.{Slot, slot_number}
 use Rattle.pci_spec.specs.Window.{IoWindow, has_window}
 use Rattle.pci_spec.specs.System.{System, Function, IsSystem, bars_and_rom}
-use Rattle.pci_spec.specs.Plan.{bridges_above, is_io_part, LacksWindow}
-use Rattle.pci_spec.specs.PlanPromise.{IsFirstLacking}
+use Rattle.plan_spec.specs.Plan.{bridges_above, is_io_part, LacksWindow}
+use Rattle.plan_spec.specs.PlanPromise.{IsFirstLacking}
 use Rattle.pci_spec.proofs.Nesting.{one_function}
-use Rattle.pci_spec.proofs.Planning.Passed.{in_front_from, passed_or_higher}
+use Rattle.plan_spec.proofs.Planning.Passed.{in_front_from, passed_or_higher}
 use Rattle.pci_function.specs.declared.record.Record.{Record}
 use Rattle.pci_plan.specs.declared.above.Above.{Above}
 use Rattle.pci_plan.specs.Above.{IsAbove}

@@ -11,7 +11,7 @@ use Rattle.pci_spec.specs.Rom.{has_rom}
 use Rattle.pci_spec.specs.Window.{WindowKind, IoWindow, MemoryWindow, has_window}
 use Rattle.pci_spec.specs.Decoded.{DecodedRom, decoded_bar, decoded_rom}
 use Rattle.pci_spec.specs.System.{System, Function, Part, Bar, Rom, bars_and_rom}
-use Rattle.pci_spec.specs.Plan.{class_of, same_class, size_of, sizes_in, bridges_above, is_io_part}
+use Rattle.plan_spec.specs.Plan.{class_of, same_class, size_of, sizes_in, bridges_above, is_io_part}
 use Rattle.pci_image.specs.declared.rom.Rom.{Rom as CodeRom}
 use Rattle.pci_image.specs.Bars.{decoded_bar_of}
 use Rattle.pci_image.specs.Roms.{decoded_rom_of}

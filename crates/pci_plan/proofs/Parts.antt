@@ -12,7 +12,7 @@ use Rattle.pci_spec.specs.Rom.{rom_at, has_rom}
 use Rattle.pci_spec.specs.Decoded.{DecodedBar, DecodedRom, decoded_bar, decoded_rom, bar_size, rom_size}
 use Rattle.pci_spec.specs.Decoded as decoded
 use Rattle.pci_spec.specs.System.{System, Function, Part, Bar, Rom, is_implemented, bars_and_rom}
-use Rattle.pci_spec.specs.Plan.{size_of}
+use Rattle.plan_spec.specs.Plan.{size_of}
 use Rattle.pci_image.specs.declared.bar.Bar.{Bar as CodeBar}
 use Rattle.pci_image.specs.declared.rom.Rom.{Rom as CodeRom}
 use Rattle.pci_image.specs.Bars.{decoded_bar_of}

@@ -3,7 +3,7 @@ use Rattle.std.proofs.Common.{◌≡◌, refl, sym, ◌∙◌, ap, subst, Result
 use Rattle.std.specs.Prelude.{◌↔◌}
 use Rattle.pci_spec.specs.Window.{WindowKind, IoWindow, MemoryWindow, PrefetchWindow}
 use Rattle.pci_spec.specs.System.{IsSystem}
-use Rattle.pci_spec.specs.PlanPromise.{CanBePlanned}
+use Rattle.plan_spec.specs.PlanPromise.{CanBePlanned}
 use Rattle.pci_dump.specs.declared.memory.Refused.{Refused}
 use Rattle.pci_dump.specs.declared.memory.Refused.TheVariants as refusals
 use Rattle.pci_image.specs.WindowKinds.{kind_value}

@@ -12,15 +12,15 @@ use Rattle.pci_spec.specs.Window.{WindowKind, IoWindow, MemoryWindow, PrefetchWi
 use Rattle.pci_spec.specs.System.{System, Function, function_of, system_of}
 use Rattle.pci_spec.specs.Decoded.{HasRecords}
 use Rattle.pci_spec.specs.Decoded as decoded
-use Rattle.pci_spec.specs.PlanPromise.{CanBePlanned}
-use Rattle.pci_spec.specs.Plan.{Pools, class_of, pool_of}
-use Rattle.pci_spec.specs.Planning.Plannable.{IsPlannable}
-use Rattle.pci_spec.specs.Planning.Table.{IsTable}
-use Rattle.pci_spec.specs.Planning.Numbers.{place_at}
+use Rattle.plan_spec.specs.PlanPromise.{CanBePlanned}
+use Rattle.plan_spec.specs.Plan.{Pools, class_of, pool_of}
+use Rattle.plan_spec.specs.Planning.Plannable.{IsPlannable}
+use Rattle.plan_spec.specs.Planning.Table.{IsTable}
+use Rattle.plan_spec.specs.Planning.Numbers.{place_at}
 use Rattle.pci_spec.proofs.Members.{in_head, in_tail}
 use Rattle.pci_spec.proofs.Pairing.{function-at, length-system_of, same_length}
-use Rattle.pci_spec.proofs.Planning.Placings.{table_of_places}
-use Rattle.pci_spec.proofs.Planning.Reach.{AreGood, good_pools}
+use Rattle.plan_spec.proofs.Planning.Placings.{table_of_places}
+use Rattle.plan_spec.proofs.Planning.Reach.{AreGood, good_pools}
 use Rattle.pci_tree.specs.Admission.{Admission, IsAdmitted}
 use Rattle.pci_function.specs.declared.record.Record.{Record}
 use Rattle.pci_function.specs.Values.{record_value}

@@ -4,9 +4,9 @@ use Rattle.std.proofs.lemmas.Bool.{both_ways}
 use Rattle.pci_spec.specs.Slot.{Slot, slot_number}
 use Rattle.pci_spec.specs.Window.{WindowKind, IoWindow, MemoryWindow, PrefetchWindow}
 use Rattle.pci_spec.specs.System.{System, Function, IsSystem}
-use Rattle.pci_spec.specs.Plan.{Pools}
-use Rattle.pci_spec.specs.Plan as plan
-use Rattle.pci_spec.specs.PlanPromise.{IsFirstLacking, IsFirstTooLarge, IsPlanFaultOf, CanBePlanned}
+use Rattle.plan_spec.specs.Plan.{Pools}
+use Rattle.plan_spec.specs.Plan as plan
+use Rattle.plan_spec.specs.PlanPromise.{IsFirstLacking, IsFirstTooLarge, IsPlanFaultOf, CanBePlanned}
 use Rattle.pci_spec.proofs.Nesting.{one_function}
 
 -- nothing that can be planned is refused

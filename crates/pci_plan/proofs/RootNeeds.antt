@@ -9,10 +9,10 @@ use Rattle.std.proofs.lemmas.List.FromFn.{map-range_with_len_more}
 use Rattle.std.proofs.lemmas.List.Sums.{sum_by-append, sum-map}
 use Rattle.pci_spec.specs.Window.{WindowKind}
 use Rattle.pci_spec.specs.System.{System}
-use Rattle.pci_spec.specs.Plan.{Pools, pool_of, need_of, need_of_roots, greatest_of_roots, raised_to, fits}
+use Rattle.plan_spec.specs.Plan.{Pools, pool_of, need_of, need_of_roots, greatest_of_roots, raised_to, fits}
 use Rattle.pci_spec.proofs.Members.{in_head, in_tail}
 use Rattle.pci_spec.proofs.Records.{same_truth}
-use Rattle.pci_spec.proofs.Planning.Tallies.{none_needed}
+use Rattle.plan_spec.proofs.Planning.Tallies.{none_needed}
 use Rattle.pci_tree.specs.Roots.{set_in}
 use Rattle.pci_tree.proofs.RootLists.{in_set_to, in_set_from, set_small}
 

@@ -9,11 +9,11 @@ use Rattle.pci_spec.specs.Slot.{slot_number}
 use Rattle.pci_spec.specs.Header.{layout, rom_register}
 use Rattle.pci_spec.specs.Window.{WindowKind, IoWindow, MemoryWindow, PrefetchWindow, window_register}
 use Rattle.pci_spec.specs.System.{System, Function, IsSystem, register_of}
-use Rattle.pci_spec.specs.Plan.{Pools}
-use Rattle.pci_spec.specs.Planning.Sorted.{all_items, StandsBefore, Precedes, IsInOrder}
+use Rattle.plan_spec.specs.Plan.{Pools}
+use Rattle.plan_spec.specs.Planning.Sorted.{all_items, StandsBefore, Precedes, IsInOrder}
 use Rattle.pci_spec.proofs.Members.{pairs_map}
-use Rattle.pci_spec.proofs.Planning.AllItems.{all_order, pairs_unmap}
-use Rattle.pci_spec.proofs.Planning.Order.{before_larger, before_by}
+use Rattle.plan_spec.proofs.Planning.AllItems.{all_order, pairs_unmap}
+use Rattle.plan_spec.proofs.Planning.Order.{before_larger, before_by}
 use Rattle.pci_plan.specs.declared.item.Item.{Item as CodeItem}
 use Rattle.pci_plan.specs.declared.item.Part.{Part as CodePart}
 use Rattle.pci_plan.specs.declared.item.Part.TheVariants as parts

@@ -8,10 +8,10 @@ use Rattle.std.proofs.Math.Seq.{drop-cons}
 use Rattle.pci_spec.specs.Header.{command, address_registers, registers_by}
 use Rattle.pci_spec.specs.Text.{Block}
 use Rattle.pci_spec.specs.Machine.{Write, without_low}
-use Rattle.pci_spec.specs.Planning.PlanWrites.{Change, closing_of, closing_writes, register_writes, opening_writes, plan_writes, registers_of, opening_of}
+use Rattle.plan_spec.specs.Planning.PlanWrites.{Change, closing_of, closing_writes, register_writes, opening_writes, plan_writes, registers_of, opening_of}
 use Rattle.pci_spec.specs.System.{system_of}
-use Rattle.pci_spec.specs.PlanPromise.{changes_between}
-use Rattle.pci_spec.proofs.Planning.Behind.{all_gives}
+use Rattle.plan_spec.specs.PlanPromise.{changes_between}
+use Rattle.plan_spec.proofs.Planning.Behind.{all_gives}
 use Rattle.pci_spec.specs.Port.{is_access}
 use Rattle.pci_image.specs.declared.register.Register.{Register}
 use Rattle.pci_plan.specs.Writes.{is_image_on, block_change, block_changes}

@@ -4,7 +4,7 @@ use Rattle.std.specs.List.{list_all, Contains}
 use Rattle.pci_spec.specs.Window.{IoWindow, PrefetchWindow, has_window, is_wide_window}
 use Rattle.pci_spec.specs.System.{System, Function, system_of}
 use Rattle.pci_spec.specs.Decoded.{DecodedWindow}
-use Rattle.pci_spec.specs.Plan.{bridges_above}
+use Rattle.plan_spec.specs.Plan.{bridges_above}
 use Rattle.pci_tree.specs.Admission.{Admission}
 use Rattle.pci_plan.specs.declared.above.Above.{Above}
 

@@ -5,10 +5,10 @@ use Rattle.std.specs.Option.{is_some}
 use Rattle.pci_spec.specs.Window.{WindowKind}
 use Rattle.pci_spec.specs.Header.{address_registers}
 use Rattle.pci_spec.specs.System.{System, Function, Part}
-use Rattle.pci_spec.specs.Plan.{Pools, class_of}
-use Rattle.pci_spec.specs.Planning.Plannable.{IsPlannable}
-use Rattle.pci_spec.specs.Planning.Table.{is_placed, IsTable}
-use Rattle.pci_spec.specs.Planning.Numbers.{place_at}
+use Rattle.plan_spec.specs.Plan.{Pools, class_of}
+use Rattle.plan_spec.specs.Planning.Plannable.{IsPlannable}
+use Rattle.plan_spec.specs.Planning.Table.{is_placed, IsTable}
+use Rattle.plan_spec.specs.Planning.Numbers.{place_at}
 use Rattle.pci_image.specs.declared.register.Register.{Register}
 use Rattle.pci_function.specs.declared.record.Record.{Record}
 use Rattle.pci_plan.specs.declared.numbers.Filling.{Filling}

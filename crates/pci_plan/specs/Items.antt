@@ -6,9 +6,9 @@ use Rattle.pci_spec.specs.Registers.{BASE_ADDRESS}
 use Rattle.pci_spec.specs.Window.{WindowKind, MemoryWindow}
 use Rattle.pci_spec.specs.System.{System, Function, IsSystem, Part, Bar, Rom, Window, is_bridge}
 use Rattle.pci_spec.specs.Bus.{secondary, IsNested}
-use Rattle.pci_spec.specs.Plan.{Pools, same_class, window_size}
-use Rattle.pci_spec.specs.Place.{Item}
-use Rattle.pci_spec.specs.Planning.Sorted.{all_items, group_of}
+use Rattle.plan_spec.specs.Plan.{Pools, same_class, window_size}
+use Rattle.plan_spec.specs.Place.{Item}
+use Rattle.plan_spec.specs.Planning.Sorted.{all_items, group_of}
 use Rattle.pci_image.specs.declared.bar.Bar.{Bar as CodeBar}
 use Rattle.pci_image.specs.declared.rom.Rom.{Rom as CodeRom}
 use Rattle.pci_function.specs.declared.record.Bridge.{Bridge}

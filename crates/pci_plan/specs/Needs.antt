@@ -2,7 +2,7 @@
 use Rattle.std.specs.Prelude.{◌≡◌, ℕ, ◌<◌, List, slice_index}
 use Rattle.pci_spec.specs.Window.{WindowKind, IoWindow, MemoryWindow, PrefetchWindow}
 use Rattle.pci_spec.specs.System.{System}
-use Rattle.pci_spec.specs.Plan.{Pools, need_of, greatest_of_roots}
+use Rattle.plan_spec.specs.Plan.{Pools, need_of, greatest_of_roots}
 use Rattle.pci_plan.specs.declared.need.Needs.{Needs}
 use Rattle.pci_image.specs.declared.window_kind.ByKind.{ByKind}
 

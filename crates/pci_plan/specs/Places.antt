@@ -2,9 +2,9 @@
 use Rattle.std.specs.Prelude.{◌≡◌, ℕ, List, length, Some, slice_get, slice_index, slice_index_or, IsTrue, IsFalse}
 use Rattle.pci_spec.specs.Window.{WindowKind, IoWindow, MemoryWindow, PrefetchWindow}
 use Rattle.pci_spec.specs.System.{System, Function, Part, Bar, Rom, Window}
-use Rattle.pci_spec.specs.Plan.{Pools}
-use Rattle.pci_spec.specs.Planning.Table.{is_placed}
-use Rattle.pci_spec.specs.Planning.Numbers.{place_at}
+use Rattle.plan_spec.specs.Plan.{Pools}
+use Rattle.plan_spec.specs.Planning.Table.{is_placed}
+use Rattle.plan_spec.specs.Planning.Numbers.{place_at}
 use Rattle.pci_plan.specs.declared.place.Places.{Places}
 
 -- the first address of a part

@@ -5,10 +5,10 @@ use Rattle.pci_spec.specs.Text.{Block, slots_of}
 use Rattle.pci_spec.specs.System.{System, IsSystem, system_of}
 use Rattle.pci_spec.specs.Sound.{IsSound}
 use Rattle.pci_spec.specs.Machine.{Write, system_after}
-use Rattle.pci_spec.specs.Plan as plan
-use Rattle.pci_spec.specs.Plan.{IsMoved}
-use Rattle.pci_spec.specs.PlanPromise.{changes_between, IsPlanOf, IsSafeFrom, StopsSafely, EachWriteChanges, with_rom_on, CanBePlanned, IsPlanFaultOf}
-use Rattle.pci_spec.specs.Planning.PlanWrites.{closing_writes, plan_writes, most_writes}
+use Rattle.plan_spec.specs.Plan as plan
+use Rattle.plan_spec.specs.Plan.{IsMoved}
+use Rattle.plan_spec.specs.PlanPromise.{changes_between, IsPlanOf, IsSafeFrom, StopsSafely, EachWriteChanges, with_rom_on, CanBePlanned, IsPlanFaultOf}
+use Rattle.plan_spec.specs.Planning.PlanWrites.{closing_writes, plan_writes, most_writes}
 use Rattle.pci_image.specs.WindowKinds.{kind_value}
 use Rattle.pci_tree.specs.Admission.{Admission, IsAdmitted}
 use Rattle.pci_function.specs.Fault.{fault_of}

@@ -1,5 +1,5 @@
 -- Pools of the code as those of the definitions.
-use Rattle.pci_spec.specs.Plan as plan
+use Rattle.plan_spec.specs.Plan as plan
 use Rattle.pci_image.specs.Ranges.{decoded_range_of}
 use Rattle.pci_plan.specs.declared.pools.Pools.{Pools}
 

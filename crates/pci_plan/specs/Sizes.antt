@@ -2,8 +2,8 @@
 use Rattle.std.specs.Prelude.{◌≡◌, ℕ, ◌+◌, ◌-◌, nat_lt, if◌then◌else◌, List, [], ◌∷◌, ◌++◌, map, Option, None, Some, slice_index}
 use Rattle.std.specs.List.{filter, sum}
 use Rattle.pci_spec.specs.Window.{WindowKind, MemoryWindow}
-use Rattle.pci_spec.specs.Plan.{same_class, window_size, limited}
-use Rattle.pci_spec.specs.Plan as plan
+use Rattle.plan_spec.specs.Plan.{same_class, window_size, limited}
+use Rattle.plan_spec.specs.Plan as plan
 use Rattle.pci_image.specs.declared.bar.Bar.{Bar}
 use Rattle.pci_image.specs.declared.rom.Rom.{Rom}
 use Rattle.pci_function.specs.declared.record.Bridge.{Bridge}

@@ -6,7 +6,7 @@ use Rattle.pci_spec.specs.Text.{Block, slot_text, hex_digit}
 use Rattle.pci_spec.specs.Line.{byte_field, field, hex_number}
 use Rattle.pci_spec.specs.System.{Function}
 use Rattle.pci_spec.specs.Machine.{Write}
-use Rattle.pci_spec.specs.Planning.PlanWrites.{Change}
+use Rattle.plan_spec.specs.Planning.PlanWrites.{Change}
 use Rattle.pci_plan.specs.declared.write.Write.{Write as CodeWrite}
 
 abbrev pub write_value : CodeWrite → Write

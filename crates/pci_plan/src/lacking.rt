@@ -2,8 +2,8 @@
 ghost use Rattle.std.specs.Prelude.{◌≡◌, MatchOption};
 ghost use Rattle.std.specs.List.{list_any};
 ghost use Rattle.pci_spec.specs.Slot.{Slot as SlotValue};
-ghost use Rattle.pci_spec.specs.Plan.{LacksWindow};
-ghost use Rattle.pci_spec.specs.PlanPromise.{IsFirstLacking};
+ghost use Rattle.plan_spec.specs.Plan.{LacksWindow};
+ghost use Rattle.plan_spec.specs.PlanPromise.{IsFirstLacking};
 ghost use Rattle.pci_plan.specs.Above.{AreAboves, system_in};
 ghost use Rattle.pci_plan.specs.Classes.{is_io_kind};
 

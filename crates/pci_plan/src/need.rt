@@ -2,7 +2,7 @@
 //! around what the bus behind needs.
 ghost use Rattle.std.specs.Prelude.{◌≡◌, ◌≤◌, ◌^◌, ◌<◌, ◌+◌, ℕ, min, max, slice_index, ◌++◌};
 ghost use Rattle.std.specs.List.{All};
-ghost use Rattle.pci_spec.specs.Plan.{window_size, need_of, greatest_of_roots};
+ghost use Rattle.plan_spec.specs.Plan.{window_size, need_of, greatest_of_roots};
 ghost use Rattle.pci_tree.specs.Regions.{IsLawful};
 ghost use Rattle.pci_image.specs.WindowKinds.{kind_value};
 ghost use Rattle.pci_plan.specs.Pools.{pools_value};

@@ -2,7 +2,7 @@
 ghost use Rattle.std.specs.Prelude.{◌≡◌, ℕ, OnOk, length, slice_index_or};
 ghost use Rattle.std.specs.List.{Contains};
 ghost use Rattle.pci_spec.specs.System.{Part as PartValue};
-ghost use Rattle.pci_spec.specs.PlanPromise.{CanBePlanned};
+ghost use Rattle.plan_spec.specs.PlanPromise.{CanBePlanned};
 ghost use Rattle.pci_image.specs.WindowKinds.{kind_value};
 ghost use Rattle.pci_plan.specs.Pools.{pools_value};
 ghost use Rattle.pci_plan.specs.Above.{AreAboves, system_in};

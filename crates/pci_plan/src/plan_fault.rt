@@ -1,7 +1,7 @@
 //! Why nothing is planned.
 ghost use Rattle.std.specs.Prelude.{◌≡◌, Some};
-ghost use Rattle.pci_spec.specs.Plan.{plan_fault_number};
-ghost use Rattle.pci_spec.specs.Line.{plan_fault_text};
+ghost use Rattle.plan_spec.specs.Plan.{plan_fault_number};
+ghost use Rattle.plan_spec.specs.PlanLine.{plan_fault_text};
 
 use pci_function::fault::Fault;
 use pci_image::slot::Slot;

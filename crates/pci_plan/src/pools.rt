@@ -1,6 +1,6 @@
 //! The pools of addresses that regions are placed in.
 ghost use Rattle.std.specs.Prelude.{◌≡◌};
-ghost use Rattle.pci_spec.specs.Plan.{are_bad, pool_of};
+ghost use Rattle.plan_spec.specs.Plan.{are_bad, pool_of};
 ghost use Rattle.pci_image.specs.Ranges.{decoded_range_of};
 ghost use Rattle.pci_image.specs.WindowKinds.{kind_value};
 ghost use Rattle.pci_plan.specs.Pools.{pools_value};

@@ -1,7 +1,7 @@
 //! Whether what is of a class fits its pool.
 ghost use Rattle.std.specs.Prelude.{◌≡◌, ◌<◌, ◌≤◌, ◌^◌, map, slice_index};
 ghost use Rattle.std.specs.List.{All, sum};
-ghost use Rattle.pci_spec.specs.Plan.{fits, raised_to};
+ghost use Rattle.plan_spec.specs.Plan.{fits, raised_to};
 ghost use Rattle.pci_tree.specs.Roots.{buses_of};
 ghost use Rattle.pci_image.specs.WindowKinds.{kind_value};
 ghost use Rattle.pci_plan.specs.Pools.{pools_value};

@@ -3,7 +3,7 @@ ghost use Rattle.std.specs.Prelude.{◌≡◌, ◌++◌, ◌*◌, map, length, c
 ghost use Rattle.pci_spec.specs.Registers as table;
 ghost use Rattle.pci_spec.specs.Header.{command};
 ghost use Rattle.pci_spec.specs.Machine.{without_low};
-ghost use Rattle.pci_spec.specs.Planning.PlanWrites.{plan_writes, closing_writes, registers_of, opening_of};
+ghost use Rattle.plan_spec.specs.Planning.PlanWrites.{plan_writes, closing_writes, registers_of, opening_of};
 ghost use Rattle.pci_plan.specs.Writes.{write_value, is_image_on, block_change, block_changes};
 
 use super::write::Write;

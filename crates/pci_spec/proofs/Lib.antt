@@ -43,9 +43,7 @@ pub mod Firsts
 pub mod Looking
 pub mod Chains
 pub mod Pairing
-pub mod Planning
 pub mod Readable
-pub mod PlanningLaws
 pub mod ToldAlike
 pub mod ToldSystems
 pub mod DerivedBits
@@ -56,3 +54,4 @@ pub mod ToldRoms
 pub mod ToldWindows
 pub mod DerivedSystems
 pub mod DerivedDumps
+pub mod Pairs

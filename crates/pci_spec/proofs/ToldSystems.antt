@@ -13,7 +13,7 @@ use Rattle.pci_spec.specs.Fault.{Fault, IsIn, NoVendor, HeaderKind, BarType, Bar
 use Rattle.pci_spec.specs.Order.{image_at, is_before, IsFirstIn}
 use Rattle.pci_spec.specs.ToldAlike.{IsToldAlike, IsReadable}
 use Rattle.pci_spec.specs.ProbeLaws.{AlikeHaveTheSameFaults, AlikeHaveTheSameFirstFault, AlikeAreSoundTogether}
-use Rattle.pci_spec.proofs.Planning.Kept.{member_forth}
+use Rattle.pci_spec.proofs.Pairs.{member_forth}
 use Rattle.pci_spec.proofs.Sounding.{sound_without_faults}
 use Rattle.pci_spec.proofs.Readable.{none_of_readable}
 use Rattle.pci_spec.proofs.ToldAlike.{told_back, same_register, same_forwards, same_passes, claims_too, same_prefetchable}

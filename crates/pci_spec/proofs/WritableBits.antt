@@ -1,5 +1,5 @@
 -- Which bits of each byte are writable or cleared by a one, by the kind of header.
-use Rattle.std.proofs.Common.{◌≡◌, ℕ, ◌+◌, ◌-◌, ◌*◌, ◌<◌, ◌≤◌, inl, inr, List, refl, Bool, true, false, ◌&&◌, ◌||◌, arith, sym, ◌∙◌, ap, subst}
+use Rattle.std.proofs.Common.{◌≡◌, ℕ, ◌+◌, ◌-◌, ◌*◌, ◌<◌, ◌≤◌, inl, inr, List, refl, Bool, true, false, ◌&&◌, ◌||◌, arith, sym, ◌∙◌, ap, subst, zero, suc}
 use Rattle.std.specs.Prelude.{◌==◌}
 use Rattle.std.specs.Bool.{nat_le, nat_lt}
 use Rattle.std.proofs.lemmas.Bool.{cases_lt, and_parts, or_cases, both_ways, leb-true, ltb-true, false_from_ne_true}
@@ -57,3 +57,10 @@ no_bit_is_both image probe place i inside small writable = false_from_ne_true _ 
     both_ways (in_fields (writable_by (layout image == 1) probe) place i)
     (not_writable (layout image == 1) probe place i (sym (has_bit-clearing_bits image place i inside small) ∙ clearing))
     (sym (has_bit-writable_bits image probe place i inside small) ∙ writable))
+
+pub enables_are_fields : (bridge : Bool) (probe : List ℕ) (i : ℕ) → i < 2 → in_fields (writable_by bridge probe) 4 i ≡ true
+enables_are_fields true probe zero h = refl
+enables_are_fields true probe (suc zero) h = refl
+enables_are_fields false probe zero h = refl
+enables_are_fields false probe (suc zero) h = refl
+enables_are_fields bridge probe (suc (suc i)) h = absurd (let impossible : ⊥ = omega (arith, h) in impossible)

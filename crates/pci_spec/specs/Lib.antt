@@ -18,8 +18,6 @@ pub mod Sound
 pub mod Machine
 pub mod Port
 pub mod Sizing
-pub mod Plan
-pub mod Place
 pub mod Line
 pub mod Listing
 pub mod Resource
@@ -42,6 +40,3 @@ pub mod SoundLaws
 pub mod RecordLaws
 pub mod ProbeLaws
 pub mod DerivedLaws
-pub mod PlanningLaws
-pub mod Planning
-pub mod PlanPromise

@@ -6,7 +6,6 @@ use Rattle.pci_spec.specs.Window.{WindowKind, IoWindow, MemoryWindow, PrefetchWi
 use Rattle.pci_spec.specs.System.{Space, Io, Memory}
 use Rattle.pci_spec.specs.Fault.{Fault, fault_number, NoVendor, HeaderKind, BarType, BarMask, BarPair, RomMask, WindowMask, CapRange, CapLoop, CapCut, SlotsDiffer, StrayProbe, LoneFunction, PaletteSnoop, VgaEnable, IsaEnable, Subtractive, InReset, PowerState, BusRange, Orphan, Unreached, Clash, Split}
 use Rattle.pci_spec.specs.Machine.{Write}
-use Rattle.pci_spec.specs.Plan.{PlanFault, BadPools, NoWindow, NoRoom, NotAccepted, plan_fault_number}
 
 -- a number in so many hex digits
 abbrev pub hex_number : ℕ → ℕ → List ℕ
@@ -123,16 +122,6 @@ abbrev pub window_name : WindowKind → List ℕ
 window_name IoWindow = codes "io"
 window_name MemoryWindow = codes "mem"
 window_name PrefetchWindow = codes "pref"
-
--- why nothing is planned: a number, a name and its fields
-abbrev pub plan_fault_words : PlanFault → List ℕ
-plan_fault_words BadPools = codes "BadPools"
-plan_fault_words (NoWindow slot) = codes "NoWindow" ++ slot_field slot
-plan_fault_words (NoRoom class) = codes "NoRoom" ++ field (window_name class)
-plan_fault_words (NotAccepted fault) = codes "NotAccepted" ++ field (fault_text fault)
-
-abbrev pub plan_fault_text : PlanFault → List ℕ
-plan_fault_text fault = two_digits (plan_fault_number fault) ++ field (plan_fault_words fault)
 
 -- the line of a verdict: yes, or no with a fault
 abbrev pub verdict_line : Option Fault → List ℕ

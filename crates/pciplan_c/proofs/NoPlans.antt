@@ -1,7 +1,7 @@
 -- Texts that aren't admitted have no plan.
 use Rattle.std.proofs.Common.{◌≡◌, ℕ, List, subst}
 use Rattle.pci_spec.specs.Text.{Block, IsTextOf}
-use Rattle.pci_spec.specs.Plan.{Pools}
+use Rattle.plan_spec.specs.Plan.{Pools}
 use Rattle.pci_dump.specs.declared.memory.Refused.{Refused}
 use Rattle.pci_dump.specs.declared.memory.Refused.TheVariants as refusals
 use Rattle.pci_tree.specs.Roots.{IsRootList}

@@ -1,6 +1,6 @@
 -- Where the answer of planning is put.
 use Rattle.std.specs.Prelude.{◌≡◌, ◌<◌, ℕ, List, length}
-use Rattle.pci_spec.specs.Plan.{Pools}
+use Rattle.plan_spec.specs.Plan.{Pools}
 use Rattle.pciplan_c.specs.Answers.{IsPutInto}
 use Rattle.pciplan_c.specs.PlanAnswers.{no_plan_text, no_plan_status, IsNoPlanOf, ArePlanned}
 use Rattle.pciplan_c.specs.declared.no_plan.NoPlan.{NoPlan}

@@ -2,10 +2,11 @@
 use Rattle.std.specs.Prelude.{◌≡◌, ◌<◌, ℕ, List, ◌∷◌, [], ◌++◌, map, Some, codes}
 use Rattle.pci_spec.specs.Text.{Block, IsTextOf}
 use Rattle.pci_spec.specs.Fault.{IsThere, fault_number}
-use Rattle.pci_spec.specs.Line.{verdict_line, plan_fault_text, field}
+use Rattle.pci_spec.specs.Line.{verdict_line, field}
+use Rattle.plan_spec.specs.PlanLine.{plan_fault_text}
 use Rattle.pci_spec.specs.Machine.{Write}
-use Rattle.pci_spec.specs.Plan as plan
-use Rattle.pci_spec.specs.PlanPromise.{IsPlanFaultOf}
+use Rattle.plan_spec.specs.Plan as plan
+use Rattle.plan_spec.specs.PlanPromise.{IsPlanFaultOf}
 use Rattle.pci_tree.specs.Admission.{Admission, IsAdmitted}
 use Rattle.pci_function.specs.Fault.{fault_of}
 use Rattle.pci_tree.specs.Roots.{IsRootList}

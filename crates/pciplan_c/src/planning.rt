@@ -1,6 +1,6 @@
 //! The plan of two texts that lie in memory.
 ghost use Rattle.std.specs.Prelude.{◌≡◌, IfOk, IfErr};
-ghost use Rattle.pci_spec.specs.Plan.{Pools as PoolsValue};
+ghost use Rattle.plan_spec.specs.Plan.{Pools as PoolsValue};
 ghost use Rattle.pci_spec.specs.Text.{IsTextOf};
 ghost use Rattle.pci_dump.specs.ReadFault.{IsTextFault};
 ghost use Rattle.pciplan_c.specs.PlanAnswers.{AreTexts, IsNoPlanOf, ArePlanned, pools_of};

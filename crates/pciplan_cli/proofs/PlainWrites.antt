@@ -7,8 +7,8 @@ use Rattle.std.proofs.lemmas.List.Folds.{list_all-append}
 use Rattle.pci_spec.specs.Number.{number_at}
 use Rattle.pci_spec.specs.Header.{command, layout, address_registers, registers_by}
 use Rattle.pci_spec.specs.Machine.{Write}
-use Rattle.pci_spec.specs.Planning.PlanWrites.{Change, closed_command, closing_of, closing_writes, register_write, registers_of, register_writes, opening_of, opening_writes, plan_writes}
-use Rattle.pci_spec.specs.Planning.Safety.{is_on}
+use Rattle.plan_spec.specs.Planning.PlanWrites.{Change, closed_command, closing_of, closing_writes, register_write, registers_of, register_writes, opening_of, opening_writes, plan_writes}
+use Rattle.plan_spec.specs.Planning.Safety.{is_on}
 use Rattle.pci_plan.specs.Writes.{is_plain, write_value}
 use Rattle.pci_plan.specs.declared.write.Write.{Write as CodeWrite}
 

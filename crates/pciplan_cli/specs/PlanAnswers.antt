@@ -3,9 +3,10 @@ use Rattle.std.specs.Prelude.{◌≡◌, ◌⊎◌, ◌<◌, ℕ, List, Some, Bo
 use Rattle.std.specs.List.{flat_map}
 use Rattle.pci_spec.specs.Text.{Block, text_of}
 use Rattle.pci_spec.specs.Fault.{Fault, IsThere, fault_number}
-use Rattle.pci_spec.specs.Line.{verdict_line, plan_fault_text, write_line}
-use Rattle.pci_spec.specs.Plan as plan
-use Rattle.pci_spec.specs.PlanPromise.{IsPlanFaultOf}
+use Rattle.pci_spec.specs.Line.{verdict_line, write_line}
+use Rattle.plan_spec.specs.PlanLine.{plan_fault_text}
+use Rattle.plan_spec.specs.Plan as plan
+use Rattle.plan_spec.specs.PlanPromise.{IsPlanFaultOf}
 use Rattle.pci_tree.specs.Admission.{Admission, IsAdmitted}
 use Rattle.pci_plan.specs.Above.{system_in}
 use Rattle.pci_plan.specs.Plans.{PlanValue, IsPlanIn}

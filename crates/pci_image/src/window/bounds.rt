@@ -4,9 +4,7 @@
 //! and a bridge always has a memory window.
 ghost use Rattle.std.specs.Prelude.{◌≡◌, ◌+◌, ◌*◌, ◌≤◌, ◌≢◌, ◌^◌, ◌%◌, ◌<◌, ◌==◌, IsTrue, IsFalse, MatchOption};
 ghost use Rattle.std.specs.Option.{option_map};
-ghost use Rattle.pci_spec.specs.Window.{bounds_at, is_optional, is_zero, lower_pages, page_bits, upper_bits, shows_window, is_window_read_back, is_window_value};
-ghost use Rattle.pci_spec.specs.Place.{closed_bounds};
-ghost use Rattle.pci_spec.specs.Planning.Showing.{bounds_for};
+ghost use Rattle.pci_spec.specs.Window.{bounds_at, is_optional, is_zero, lower_pages, page_bits, upper_bits, shows_window, is_window_read_back, is_window_value, bounds_for, closed_bounds};
 ghost use Rattle.pci_image.specs.WindowKinds.{kind_value};
 ghost use Rattle.pci_image.specs.Bounds.{address_bits, spec_bounds_of, page_of, range_between};
 ghost use Rattle.pci_image.specs.Ranges.{decoded_range_of};

@@ -8,7 +8,7 @@ use Rattle.pci_spec.specs.Sound.{IsSingle, IsSameRegion}
 use Rattle.pci_spec.proofs.Bits.{agree-interval}
 use Rattle.pci_spec.proofs.Absent.{in_pair, not_lawful, no_rom}
 use Rattle.pci_spec.proofs.Examples.Samples.{slot, device, host}
-use Rattle.pci_spec.proofs.Examples.Planned.{answered, size_of_1_mb}
+use Rattle.pci_spec.proofs.Examples.Sized.{answered, size_of_1_mb}
 
 -- 1 MB at an address
 abbrev at_address : ℕ → ℕ → Function

@@ -13,7 +13,7 @@ use Rattle.pci_spec.proofs.Bits.{agree-interval, run_number}
 use Rattle.pci_spec.proofs.Absent.{in_pair, not_lawful, no_rom}
 use Rattle.pci_spec.proofs.Examples.Samples.{slot, host}
 use Rattle.pci_spec.proofs.Examples.Clashes.{large, in_its_upper_half, two_bars_overlap}
-use Rattle.pci_spec.proofs.Examples.Planned.{answered}
+use Rattle.pci_spec.proofs.Examples.Sized.{answered}
 
 abbrev s : System
 s = large ∷ in_its_upper_half ∷ []

@@ -2,11 +2,9 @@
 use Rattle.std.proofs.Common.{◌≡◌, refl, None, Some}
 use Rattle.std.specs.Prelude.{codes}
 use Rattle.pci_spec.specs.Slot.{Slot}
-use Rattle.pci_spec.specs.Window.{IoWindow, MemoryWindow, PrefetchWindow}
 use Rattle.pci_spec.specs.System.{Io, Memory}
 use Rattle.pci_spec.specs.Fault.{NoVendor, HeaderKind, BarType, BarMask, BarPair, RomMask, WindowMask, CapRange, CapLoop, CapCut, SlotsDiffer, StrayProbe, LoneFunction, PaletteSnoop, VgaEnable, IsaEnable, Subtractive, InReset, PowerState, BusRange, Orphan, Unreached, Clash, Split}
-use Rattle.pci_spec.specs.Plan.{BadPools, NoWindow, NoRoom, NotAccepted}
-use Rattle.pci_spec.specs.Line.{plan_fault_text, fault_text, verdict_line, write_line}
+use Rattle.pci_spec.specs.Line.{fault_text, verdict_line, write_line}
 use Rattle.pci_spec.proofs.Examples.Samples.{slot, write}
 
 -- ---- faults
@@ -122,23 +120,3 @@ io_window_in_two_bytes = refl
 
 command_in_two_bytes : write_line (write (slot 0 1 0) 0x04 2 2) ≡ codes "00:01.0 04.2 0002\n"
 command_in_two_bytes = refl
-
--- ---- faults of planning
-
-bad_pools : plan_fault_text BadPools ≡ codes "70 BadPools"
-bad_pools = refl
-
-no_window : plan_fault_text (NoWindow place) ≡ codes "71 NoWindow 0a:1f.3"
-no_window = refl
-
-no_room_for_io : plan_fault_text (NoRoom IoWindow) ≡ codes "72 NoRoom io"
-no_room_for_io = refl
-
-no_room_for_memory : plan_fault_text (NoRoom MemoryWindow) ≡ codes "72 NoRoom mem"
-no_room_for_memory = refl
-
-no_room_for_prefetchable_memory : plan_fault_text (NoRoom PrefetchWindow) ≡ codes "72 NoRoom pref"
-no_room_for_prefetchable_memory = refl
-
-plan_not_accepted : plan_fault_text (NotAccepted (Orphan place)) ≡ codes "73 NotAccepted 58 Orphan 0a:1f.3"
-plan_not_accepted = refl

@@ -1,7 +1,7 @@
 use Rattle.std.proofs.Common.{◌≡◌, ◌+◌, map, arith, sym, ◌∙◌, ap, subst}
 use Rattle.std.specs.List.Sorted.{IsStrictlyIncreasing}
 use Rattle.pci_spec.specs.Decoded.{HasRecords}
-use Rattle.pci_spec.specs.Planning.Sorted.{group_of}
+use Rattle.plan_spec.specs.Planning.Sorted.{group_of}
 use Rattle.pci_image.specs.WindowKinds.{kind_value}
 use Rattle.pci_function.specs.Values.{record_value}
 use Rattle.pci_tree.proofs.RootLists.{set_rises}

@@ -4,7 +4,7 @@ use Rattle.std.proofs.lemmas.Bool.{not-true, not-false}
 use Rattle.std.proofs.lemmas.Option.{slice_get_read}
 use Rattle.pci_spec.specs.Slot.{Slot}
 use Rattle.pci_spec.specs.Decoded.{HasRecords}
-use Rattle.pci_spec.specs.PlanPromise.{IsFirstLacking}
+use Rattle.plan_spec.specs.PlanPromise.{IsFirstLacking}
 use Rattle.pci_function.specs.Values.{record_value}
 use Rattle.pci_tree.proofs.Lifting.{same_slot_of}
 use Rattle.pci_plan.specs.declared.above.Above.{Above}

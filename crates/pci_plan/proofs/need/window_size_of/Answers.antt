@@ -1,6 +1,6 @@
 use Rattle.std.proofs.Common.{◌≡◌, ℕ, ◌+◌, ◌-◌, ◌*◌, ◌≤◌, suc, sym, ◌∙◌, ap, arith}
-use Rattle.pci_spec.specs.Plan.{doubled_to}
-use Rattle.pci_spec.proofs.Planning.Placement.{doubled_same, doubled_next, doubled_none}
+use Rattle.plan_spec.specs.Plan.{doubled_to}
+use Rattle.plan_spec.proofs.Planning.Placement.{doubled_same, doubled_next, doubled_none}
 use Rattle.pci_plan.proofs.need.window_size_of.Goals as goal
 
 pub loop-init : goal.loop-init

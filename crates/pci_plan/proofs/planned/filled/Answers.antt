@@ -6,10 +6,10 @@ use Rattle.std.proofs.lemmas.List.Elements.{Contains-get_or}
 use Rattle.std.proofs.Math.ListN.{get_or-map}
 use Rattle.pci_spec.specs.Header.{address_registers, layout, registers_by}
 use Rattle.pci_spec.specs.System.{is_bridge}
-use Rattle.pci_spec.specs.Planning.Numbers.{new_number, new_command}
+use Rattle.plan_spec.specs.Planning.Numbers.{new_number, new_command}
 use Rattle.pci_spec.proofs.Members.{in_map_from}
-use Rattle.pci_spec.proofs.Planning.Staging.{Follows, registers_in_order, pairs_in_order}
-use Rattle.pci_spec.proofs.Planning.NumbersFit.{numbers_fit}
+use Rattle.plan_spec.proofs.Planning.Staging.{Follows, registers_in_order, pairs_in_order}
+use Rattle.plan_spec.proofs.Planning.NumbersFit.{numbers_fit}
 use Rattle.pci_image.specs.declared.register.Register.{Register}
 use Rattle.pci_image.specs.declared.register.Role.TheVariants as roles
 use Rattle.pci_plan.specs.Fillings.{FillingOf}

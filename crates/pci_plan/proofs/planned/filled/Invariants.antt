@@ -1,5 +1,5 @@
 use Rattle.std.proofs.Common.{map, take}
-use Rattle.pci_spec.specs.Planning.Numbers.{new_number}
+use Rattle.plan_spec.specs.Planning.Numbers.{new_number}
 use Rattle.pci_image.specs.declared.register.Register.{Register}
 use Rattle.pci_plan.specs.Fillings.{FillingOf}
 use Rattle.pci_plan.proofs.FilledImages.{ArePut}

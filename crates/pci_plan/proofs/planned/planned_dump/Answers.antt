@@ -9,9 +9,9 @@ use Rattle.pci_spec.specs.Window.{WindowKind}
 use Rattle.pci_spec.specs.System.{function_of, system_of}
 use Rattle.pci_spec.specs.Decoded as decoded
 use Rattle.pci_spec.specs.Decoded.{HasRecords}
-use Rattle.pci_spec.specs.Planning.Plannable.{IsPlannable}
-use Rattle.pci_spec.specs.Planning.Table.{IsTable}
-use Rattle.pci_spec.specs.Planning.Numbers.{IsPlannedFunction, place_at}
+use Rattle.plan_spec.specs.Planning.Plannable.{IsPlannable}
+use Rattle.plan_spec.specs.Planning.Table.{IsTable}
+use Rattle.plan_spec.specs.Planning.Numbers.{IsPlannedFunction, place_at}
 use Rattle.pci_spec.proofs.Pairing.{same_length, length-system_of}
 use Rattle.pci_tree.specs.Admission.{IsAdmitted}
 use Rattle.pci_function.specs.Values.{record_value}

@@ -1,4 +1,4 @@
-use Rattle.pci_spec.specs.Planning.Numbers.{IsPlannedFunction}
+use Rattle.plan_spec.specs.Planning.Numbers.{IsPlannedFunction}
 use Rattle.pci_plan.specs.Above.{system_in}
 use Rattle.pci_plan.specs.Pools.{pools_value}
 use Rattle.pci_plan.proofs.PlannedDumps.{ArePlanned}

@@ -1,7 +1,7 @@
 use Rattle.std.proofs.Common.{◌≡◌, arith, ◌∙◌, ap}
 use Rattle.pci_spec.specs.Decoded.{Range}
-use Rattle.pci_spec.specs.Plan.{need_of_roots}
-use Rattle.pci_spec.proofs.Planning.Tallies.{greatest_small}
+use Rattle.plan_spec.specs.Plan.{need_of_roots}
+use Rattle.plan_spec.proofs.Planning.Tallies.{greatest_small}
 use Rattle.pci_image.specs.WindowKinds.{kind_value}
 use Rattle.pci_plan.specs.Pools.{pools_value}
 use Rattle.pci_plan.specs.Above.{system_in}

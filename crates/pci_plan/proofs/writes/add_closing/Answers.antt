@@ -2,7 +2,7 @@ use Rattle.std.proofs.Common.{◌≡◌, ℕ, ◌-◌, ◌+◌, ◌<◌, suc, �
 use Rattle.std.proofs.lemmas.List.{append_assoc, append-nil, map-append}
 use Rattle.pci_spec.specs.Text.{Block}
 use Rattle.pci_spec.specs.Machine.{Write}
-use Rattle.pci_spec.specs.Planning.PlanWrites.{closing_of, closing_writes}
+use Rattle.plan_spec.specs.Planning.PlanWrites.{closing_of, closing_writes}
 use Rattle.pci_plan.specs.Writes.{write_value, is_image_on, block_change, block_changes}
 use Rattle.pci_plan.proofs.WriteLists.{closing_more, closing_on, closing_off, closing_write}
 use Rattle.pci_plan.proofs.writes.add_closing.Goals as goal

@@ -1,5 +1,5 @@
 use Rattle.std.proofs.Common.{◌≡◌, ◌++◌, ◌-◌, length, map, drop}
-use Rattle.pci_spec.specs.Planning.PlanWrites.{closing_writes}
+use Rattle.plan_spec.specs.Planning.PlanWrites.{closing_writes}
 use Rattle.pci_plan.specs.Writes.{write_value, block_changes}
 use Rattle.pci_plan.proofs.writes.add_closing.Given as goal
 

@@ -1,6 +1,6 @@
 use Rattle.std.proofs.Common.{◌≡◌, ◌++◌, map, take}
 use Rattle.std.specs.List.{flat_map}
-use Rattle.pci_spec.specs.Planning.PlanWrites.{register_write}
+use Rattle.plan_spec.specs.Planning.PlanWrites.{register_write}
 use Rattle.pci_plan.specs.Writes.{write_value, block_change}
 use Rattle.pci_plan.proofs.writes.add_registers.Given as goal
 

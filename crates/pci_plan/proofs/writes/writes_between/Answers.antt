@@ -3,7 +3,7 @@ use Rattle.std.specs.List.{flat_map}
 use Rattle.std.proofs.lemmas.List.{append_assoc, take_all}
 use Rattle.pci_spec.specs.Text.{Block}
 use Rattle.pci_spec.specs.Machine.{Write}
-use Rattle.pci_spec.specs.Planning.PlanWrites.{Change, closing_writes, registers_of, opening_of, register_writes, opening_writes}
+use Rattle.plan_spec.specs.Planning.PlanWrites.{Change, closing_writes, registers_of, opening_of, register_writes, opening_writes}
 use Rattle.pci_plan.specs.Writes.{write_value, block_change, block_changes}
 use Rattle.pci_plan.proofs.WriteLists.{length_changes, changes_more, flat_map_more, closing_same}
 use Rattle.pci_plan.proofs.writes.writes_between.Goals as goal

@@ -1,6 +1,6 @@
 use Rattle.std.proofs.Common.{◌≡◌, ◌++◌, map, take}
 use Rattle.std.specs.List.{flat_map}
-use Rattle.pci_spec.specs.Planning.PlanWrites.{registers_of, opening_of}
+use Rattle.plan_spec.specs.Planning.PlanWrites.{registers_of, opening_of}
 use Rattle.pci_plan.specs.Writes.{write_value, block_changes}
 use Rattle.pci_plan.proofs.writes.writes_between.Given as goal
 

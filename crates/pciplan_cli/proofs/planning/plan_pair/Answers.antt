@@ -1,4 +1,4 @@
-use Rattle.pci_spec.specs.PlanPromise.{changes_between}
+use Rattle.plan_spec.specs.PlanPromise.{changes_between}
 use Rattle.pci_plan.specs.Above.{system_in}
 use Rattle.pci_plan.specs.Plans.{final_of}
 use Rattle.pciplan_cli.proofs.PlainWrites.{plain_writes}

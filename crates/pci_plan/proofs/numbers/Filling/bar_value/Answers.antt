@@ -1,10 +1,9 @@
 use Rattle.std.proofs.Common.{arith, ◌≡◌, ◌+◌, ◌^◌, ◌%◌, ◌∙◌, ap, ℕ}
 use Rattle.pci_spec.specs.Number.{number_at}
 use Rattle.pci_spec.specs.Header.{bar_register}
-use Rattle.pci_spec.specs.Bar.{bar_at, bar_kind}
+use Rattle.pci_spec.specs.Bar.{bar_at, bar_kind, first_bit}
 use Rattle.pci_spec.specs.System.{Bar}
-use Rattle.pci_spec.specs.Planning.Showing.{first_bit}
-use Rattle.pci_spec.specs.Planning.Numbers.{new_bar}
+use Rattle.plan_spec.specs.Planning.Numbers.{new_bar}
 use Rattle.pci_image.specs.Bars.{decoded_kind_of}
 use Rattle.pci_plan.specs.Places.{first_in}
 use Rattle.pci_plan.specs.Fillings.{FillingOf}

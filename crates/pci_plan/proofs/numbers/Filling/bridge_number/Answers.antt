@@ -2,7 +2,7 @@ use Rattle.std.proofs.Common.{arith, ◌≡◌, ◌+◌, ◌*◌, ◌^◌, ◌�
 use Rattle.std.proofs.lemmas.Bool.{eqb-true}
 use Rattle.pci_spec.specs.Window.{Bounds}
 use Rattle.pci_spec.specs.Header.{layout, rom_register, bar_count}
-use Rattle.pci_spec.specs.Planning.Numbers.{bridge_number}
+use Rattle.plan_spec.specs.Planning.Numbers.{bridge_number}
 use Rattle.pci_plan.proofs.FilledRegisters.{bridge_registers, bridge_aligned, bridge_bar_at, bridge_bar}
 use Rattle.pci_plan.proofs.FilledWindows.{is_a_bridge, io_uppers}
 use Rattle.pci_plan.proofs.numbers.Filling.bridge_number.Goals as goal

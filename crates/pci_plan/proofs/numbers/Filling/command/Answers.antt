@@ -2,7 +2,7 @@ use Rattle.std.proofs.Common.{◌+◌, ◌*◌, ◌/◌, ◌∙◌, ap, cond}
 use mir.Val.{bool_byte}
 use Rattle.pci_spec.specs.Header.{command}
 use Rattle.pci_spec.specs.Machine.{without_low}
-use Rattle.pci_spec.specs.Planning.Numbers.{needs_io, needs_memory}
+use Rattle.plan_spec.specs.Planning.Numbers.{needs_io, needs_memory}
 use Rattle.pci_plan.proofs.FilledCommand.{one_if, two_if}
 use Rattle.pci_plan.proofs.numbers.Filling.command.Goals as goal
 

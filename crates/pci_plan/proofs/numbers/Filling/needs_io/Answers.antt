@@ -2,7 +2,7 @@ use Rattle.std.proofs.Common.{◌∙◌, sym, ◌&&◌}
 use Rattle.std.specs.List.{list_any}
 use Rattle.pci_spec.specs.Window.{IoWindow, has_window}
 use Rattle.pci_spec.specs.System.{bars_and_rom, is_bridge}
-use Rattle.pci_spec.specs.Plan.{is_io_part, has_behind}
+use Rattle.plan_spec.specs.Plan.{is_io_part, has_behind}
 use Rattle.pci_plan.proofs.FilledCommand.{or_first, or_second, io_bar_is}
 use Rattle.pci_plan.proofs.numbers.Filling.needs_io.Goals as goal
 

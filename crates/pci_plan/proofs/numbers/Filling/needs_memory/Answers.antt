@@ -2,7 +2,7 @@ use Rattle.std.proofs.Common.{◌≡◌, ◌∙◌, sym, Bool, not, ◌||◌, �
 use Rattle.std.specs.List.{list_any}
 use Rattle.pci_spec.specs.Window.{MemoryWindow, PrefetchWindow, has_window}
 use Rattle.pci_spec.specs.System.{bars_and_rom, is_bridge}
-use Rattle.pci_spec.specs.Plan.{is_io_part, has_behind}
+use Rattle.plan_spec.specs.Plan.{is_io_part, has_behind}
 use Rattle.pci_plan.proofs.FilledCommand.{or_first, or_second, memory_part_is}
 use Rattle.pci_plan.proofs.numbers.Filling.needs_memory.Goals as goal
 use Rattle.pci_plan.proofs.numbers.Filling.needs_memory.Goals.{then-has_memory_part, else-has_memory_part}

@@ -3,7 +3,7 @@ use Rattle.std.specs.List.{Contains}
 use Rattle.std.specs.Option.{is_some}
 use Rattle.pci_spec.specs.Header.{layout, address_registers, bar_count}
 use Rattle.pci_spec.specs.System.{is_bridge}
-use Rattle.pci_spec.specs.Planning.Numbers.{device_number}
+use Rattle.plan_spec.specs.Planning.Numbers.{device_number}
 use Rattle.pci_plan.specs.Fillings.{FillingOf}
 use Rattle.pci_plan.proofs.FilledWindows.{bridge_is, is_a_bridge}
 use Rattle.pci_plan.proofs.FilledRegisters.{IsOfDevice, device_registers, device_aligned, device_bar_at, device_bar, on_bridge, on_device}

@@ -3,7 +3,7 @@ use Rattle.std.specs.Bool.{◌==◌}
 use Rattle.std.specs.Option.{is_some}
 use Rattle.pci_spec.specs.Number.{number_at}
 use Rattle.pci_spec.specs.Header.{layout}
-use Rattle.pci_spec.specs.Planning.Numbers.{rom_number}
+use Rattle.plan_spec.specs.Planning.Numbers.{rom_number}
 use Rattle.pci_plan.specs.Fillings.{FillingOf}
 use Rattle.pci_plan.proofs.FilledRoms.{rom_number_is, rom_absent_is, rom_small}
 use Rattle.pci_plan.proofs.numbers.Filling.rom_number.Goals as goal

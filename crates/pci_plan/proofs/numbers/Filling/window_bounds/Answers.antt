@@ -1,9 +1,9 @@
 use Rattle.std.proofs.Common.{arith, ◌≡◌, ◌<◌, ◌+◌, ◌-◌, ◌^◌, ◌∙◌, ap, sym}
-use Rattle.pci_spec.specs.Plan.{window_size, need_of}
+use Rattle.plan_spec.specs.Plan.{window_size, need_of}
 use Rattle.pci_spec.specs.System.{Window}
 use Rattle.pci_spec.specs.Bus.{secondary}
-use Rattle.pci_spec.specs.Place.{closed_bounds, nibble_of}
-use Rattle.pci_spec.specs.Planning.Showing.{bounds_for}
+use Rattle.plan_spec.specs.Place.{nibble_of}
+use Rattle.pci_spec.specs.Window.{closed_bounds, bounds_for}
 use Rattle.pci_image.specs.WindowKinds.{kind_value}
 use Rattle.pci_plan.specs.Places.{first_in}
 use Rattle.pci_image.specs.Bounds.{address_bits}
