@@ -1,9 +1,9 @@
 //! Who gets where in a tree of buses.
 use boards::board::{Function, bridge};
+use pci_base::range::Range;
+use pci_base::slot::Slot;
 use pci_dump::block::Block;
 use pci_dump::dump::Dump;
-use pci_image::range::Range;
-use pci_image::slot::Slot;
 use pci_tree::admit::admit;
 use pci_tree::admitted::Admitted;
 use pci_tree::space::Space;

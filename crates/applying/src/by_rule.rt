@@ -5,7 +5,7 @@
 use crate::setting::WIDE_POOLS;
 use crate::trial::{Trial, tried, tried_again};
 use boards::board::{Function, Register, bridge, device};
-use pci_image::range::Range;
+use pci_base::range::Range;
 use pci_plan::pools::Pools;
 use std::alloc::{AllocError, Global};
 use std::test::Fail;

@@ -6,7 +6,7 @@ use crate::setting::{
 use crate::stops::put_onto;
 use crate::trial::{Trial, tried};
 use boards::board::{Function, bridge, device};
-use pci_image::slot::Slot;
+use pci_base::slot::Slot;
 use pci_machine::machine::Machine;
 use pci_plan::apply_fault::ApplyFault;
 use pci_plan::plan::Plan;

@@ -1,6 +1,6 @@
 //! A port that counts accesses.
 
-use pci_image::slot::Slot;
+use pci_base::slot::Slot;
 use pci_machine::port::{ConfigPort, PortError};
 
 /// A port, with how many reads and writes it was asked for that it didn't refuse by 40 or 41.

@@ -5,8 +5,8 @@ ghost use Rattle.pci_spec.specs.Port.{IsLawful, ShowsNumber, has_function, is_ac
 
 use crate::setting::{POOLS, machine_of, pin, slot, three};
 use crate::trial::{Trial, tried};
-use pci_dump::failures::Failures;
-use pci_image::slot::Slot;
+use pci_base::failures::Failures;
+use pci_base::slot::Slot;
 use pci_machine::access::{fits, is_access};
 use pci_machine::fail_at::FailAt;
 use pci_machine::port::{ConfigPort, PortError};

@@ -1,16 +1,16 @@
 //! Boards that are planned, the machines that their plans start from, and what such a machine holds afterwards.
 use boards::board::{Function, bridge, device, texts_of};
+use pci_base::memory::Refused;
+use pci_base::range::Range;
+use pci_base::slot::Slot;
 use pci_check::check::check;
 use pci_check::verdict::Verdict;
 use pci_dump::block::Block;
 use pci_dump::dump::Dump;
-use pci_dump::memory::Refused;
 use pci_dump::read_fault::ReadFault;
 use pci_dump::reader::read_dump;
 use pci_dump::std_streams::Incoming;
 use pci_function::fault::PairFault;
-use pci_image::range::Range;
-use pci_image::slot::Slot;
 use pci_machine::machine::Machine;
 use pci_machine::port::{ConfigPort, PortError};
 use pci_plan::plan::Plan;

@@ -1,6 +1,6 @@
 //! Boards for tests: functions by their registers, as texts of a dump and a probe.
 use crate::registers::Registers;
-use pci_image::image::Image;
+use pci_base::image::Image;
 use std::alloc::{AllocError, Global};
 
 /// A four-byte register: its offset, its value and what it reads back.

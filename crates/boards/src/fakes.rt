@@ -1,7 +1,7 @@
 //! Sources and writers over memory.
 ghost use Rattle.std.specs.Prelude.{Some};
 
-use pci_dump::failures::Failures;
+use pci_base::failures::Failures;
 use pci_dump::streams::{Failed, Source};
 use std::io;
 use std::io::{ErrorKind, Write};

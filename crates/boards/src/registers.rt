@@ -1,6 +1,6 @@
 //! Functions made of registers, each with its value and its read back.
 
-use pci_image::image::{IMAGE_LEN, Image};
+use pci_base::image::{IMAGE_LEN, Image};
 
 /// The image of a function and what its registers read back; all other bytes are 0.
 #[derive(Clone, Copy)]

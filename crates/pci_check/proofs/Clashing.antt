@@ -9,7 +9,7 @@ use Rattle.pci_spec.specs.Fault.{Clash, ClaimsOnBus}
 use Rattle.pci_spec.specs.Order.{IsFirst}
 use Rattle.pci_spec.specs.JudgingLaws.{HasNoUnreached, HasNoClashAt}
 use Rattle.pci_spec.proofs.Firsts.{slot_of, least_clash_is_first}
-use Rattle.pci_image.specs.declared.range.Range.{Range}
+use Rattle.pci_base.specs.declared.range.Range.{Range}
 use Rattle.pci_function.specs.declared.fault.Fault.{Fault}
 use Rattle.pci_tree.specs.declared.region.Region.{Region}
 use Rattle.pci_tree.specs.Regions.{HasEachRegion}

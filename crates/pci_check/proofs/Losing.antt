@@ -6,7 +6,7 @@ use Rattle.std.proofs.lemmas.Bool.{cases_lt, cases_eq}
 use Rattle.std.proofs.lemmas.List.{get_or_default}
 use Rattle.pci_spec.specs.Slot.{Slot}
 use Rattle.pci_spec.specs.System.{Space}
-use Rattle.pci_image.specs.declared.range.Range.{Range}
+use Rattle.pci_base.specs.declared.range.Range.{Range}
 use Rattle.pci_tree.specs.declared.region.Region.{Region}
 use Rattle.pci_tree.specs.Ranges.{Covers, Holds, IsLeastOutside}
 use Rattle.pci_check.specs.Stops.{is_of_window, Reaches, ranges_at, IsWholeAt, IsReachedAt, IsFirstOutside, IsBusBehind, IsWholeBehind, IsLeastLost}

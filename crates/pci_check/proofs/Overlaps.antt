@@ -12,7 +12,7 @@ use Rattle.pci_spec.specs.Fault.{ClaimsOnBus}
 use Rattle.pci_spec.specs.JudgingLaws.{region_number}
 use Rattle.pci_spec.proofs.Regions.{region_number-same}
 use Rattle.pci_spec.proofs.Firsts.{named_slot, named_register}
-use Rattle.pci_image.specs.declared.range.Range.{Range}
+use Rattle.pci_base.specs.declared.range.Range.{Range}
 use Rattle.pci_tree.specs.declared.region.Region.{Region}
 use Rattle.pci_tree.specs.Ranges.{Covers}
 use Rattle.pci_tree.specs.Regions.{region_number as number_of}

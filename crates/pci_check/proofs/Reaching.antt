@@ -2,8 +2,8 @@
 use Rattle.std.proofs.Common.{ℕ, ◌<◌, List, [], get_or, true, false}
 use Rattle.pci_spec.specs.Window.{WindowKind, IoWindow, MemoryWindow, PrefetchWindow}
 use Rattle.pci_spec.specs.System.{System, Io, Memory, window_space}
-use Rattle.pci_image.specs.declared.range.Range.{Range}
-use Rattle.pci_function.specs.Space.{is_prefetch}
+use Rattle.pci_base.specs.declared.range.Range.{Range}
+use Rattle.pci_base.specs.Space.{is_prefetch}
 use Rattle.pci_tree.specs.Outline.{Tree, IsReachTo}
 use Rattle.pci_check.specs.Trees.{HasTree}
 use Rattle.pci_check.specs.Stops.{Reaches, reaches_by, AreReachesOf}

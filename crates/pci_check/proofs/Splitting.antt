@@ -12,7 +12,7 @@ use Rattle.pci_spec.specs.JudgingLaws.{HasNoUnreached, HasNoClash, HasNoSplitAt}
 use Rattle.pci_spec.proofs.Members.{in_nil, pairs_nil, pairs_append}
 use Rattle.pci_spec.proofs.Regions.{register_of-lt}
 use Rattle.pci_spec.proofs.Firsts.{slot_of, least_split_is_first}
-use Rattle.pci_image.specs.declared.range.Range.{Range}
+use Rattle.pci_base.specs.declared.range.Range.{Range}
 use Rattle.pci_function.specs.declared.fault.Fault.{Fault}
 use Rattle.pci_tree.specs.declared.region.Region.{Region}
 use Rattle.pci_tree.specs.Ranges.{Covers, Holds}

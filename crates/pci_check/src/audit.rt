@@ -9,7 +9,7 @@ use super::judge::judge;
 use super::line::line_of;
 use super::outcome::{AuditFault, Outcome};
 use super::side_by_side::survey_texts;
-use pci_dump::memory::{OutOfMemory, Refused};
+use pci_base::memory::{OutOfMemory, Refused};
 use pci_dump::streams::{Sink, Source};
 use pci_dump::write::write_all;
 use pci_tree::roots::Roots;

@@ -4,7 +4,7 @@ ghost use Rattle.pci_check.specs.Verdicts.{IsVerdictOf};
 
 use super::judge::judge;
 use super::verdict::{Sound, Verdict};
-use pci_dump::memory::OutOfMemory;
+use pci_base::memory::OutOfMemory;
 use pci_tree::admitted::Admitted;
 use std::alloc::Allocator;
 

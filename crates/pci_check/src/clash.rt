@@ -2,15 +2,15 @@
 ghost use Rattle.std.specs.Prelude.{IfOk, MatchOption};
 ghost use Rattle.pci_spec.specs.System.{Space as SpaceValue, Io, Memory};
 ghost use Rattle.pci_tree.specs.Outline.{Tree};
-ghost use Rattle.pci_function.specs.Space.{space_of};
+ghost use Rattle.pci_base.specs.Space.{space_of};
 ghost use Rattle.pci_check.specs.Stops.{AreReachesOf, AreListed};
 ghost use Rattle.pci_check.specs.Clashes.{NoneClashOn, IsClashFaultOn, IsClashFaultOnBus};
 
 use super::reached::Reached;
 use super::sweep::{Overlap, first_overlap};
-use pci_dump::memory::OutOfMemory;
+use pci_base::memory::OutOfMemory;
+use pci_base::space::Space;
 use pci_function::fault::Fault;
-use pci_function::space::Space;
 use pci_tree::region::Region;
 use std::alloc::Allocator;
 

@@ -8,10 +8,10 @@ use super::clash::first_clash;
 use super::reached::Reached;
 use super::split::first_split;
 use super::unreached::first_unreached;
-use pci_dump::memory::OutOfMemory;
+use pci_base::memory::OutOfMemory;
+use pci_base::slot::BUSES;
+use pci_base::space::Space;
 use pci_function::fault::Fault;
-use pci_function::space::Space;
-use pci_image::slot::BUSES;
 use pci_tree::outline::Outline;
 use std::alloc::Allocator;
 

@@ -4,7 +4,7 @@ ghost use Rattle.std.specs.Option.{option_map};
 ghost use Rattle.pci_spec.specs.Line.{field, verdict_line};
 ghost use Rattle.pci_function.specs.Fault.{fault_of};
 
-use pci_dump::memory::OutOfMemory;
+use pci_base::memory::OutOfMemory;
 use pci_function::fault::Fault;
 use std::alloc::Allocator;
 use std::fmt::Display;

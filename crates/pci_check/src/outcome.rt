@@ -2,7 +2,7 @@
 ghost use Rattle.std.specs.Prelude.{◌≡◌};
 ghost use Rattle.pci_check.specs.AuditFault.{audit_fault_number};
 
-use pci_dump::memory::{MEMORY_NUMBER, OutOfMemory};
+use pci_base::memory::{MEMORY_NUMBER, OutOfMemory};
 use pci_dump::read_fault::{ReadFault, WriteFault};
 use pci_function::fault::Fault;
 

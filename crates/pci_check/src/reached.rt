@@ -1,13 +1,13 @@
 //! What gets to each bus, by the kind of access.
 ghost use Rattle.std.specs.Prelude.{◌≡◌, IfOk, slice_index_or, []};
-ghost use Rattle.pci_image.specs.WindowKinds.{kind_value};
+ghost use Rattle.pci_base.specs.WindowKinds.{kind_value};
 ghost use Rattle.pci_tree.specs.Ranges.{IsCanonical};
 ghost use Rattle.pci_check.specs.Stops.{AreReachesOf, AlwaysNested, reaches_by};
 
-use pci_dump::memory::OutOfMemory;
-use pci_function::space::Space;
-use pci_image::range::Range;
-use pci_image::window_kind::{ByKind, WindowKind};
+use pci_base::memory::OutOfMemory;
+use pci_base::range::Range;
+use pci_base::space::Space;
+use pci_base::window_kind::{ByKind, WindowKind};
 use pci_tree::outline::Outline;
 use pci_tree::reach::Reach;
 use std::alloc::{Allocator, Global};

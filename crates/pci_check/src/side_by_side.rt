@@ -8,9 +8,9 @@ ghost use Rattle.pci_check.specs.Audits.{IsDumpOf, IsReadFaultOf, IsTextRefusal}
 ghost use Rattle.pci_check.specs.SideBySide.{Texts, IsTaken, IsRest, IsOpen, IsBeside, AreBeside, IsBesideOrDecided, IsTakenBySurvey, IsDecided, IsSurveyOfTexts};
 
 use super::outcome::AuditFault;
+use pci_base::memory::OutOfMemory;
 use pci_dump::ahead::ReadAhead;
 use pci_dump::block::Block;
-use pci_dump::memory::OutOfMemory;
 use pci_dump::read_fault::ReadFault;
 use pci_dump::streams::Source;
 use pci_tree::roots::Roots;

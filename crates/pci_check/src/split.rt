@@ -1,14 +1,14 @@
 //! Splits: two regions on two root buses that claim one address.
 ghost use Rattle.std.specs.Prelude.{◌≡◌, IfOk, MatchOption};
 ghost use Rattle.pci_tree.specs.Roots.{buses_of};
-ghost use Rattle.pci_function.specs.Space.{space_of};
+ghost use Rattle.pci_base.specs.Space.{space_of};
 ghost use Rattle.pci_check.specs.Clashes.{AreRootsListed, NoneSplitIn, IsSplitFaultIn, NoneSplit, IsSplitFault};
 
 use super::sweep::{Overlap, first_overlap};
-use pci_dump::memory::OutOfMemory;
+use pci_base::memory::OutOfMemory;
+use pci_base::slot::BUSES;
+use pci_base::space::Space;
 use pci_function::fault::Fault;
-use pci_function::space::Space;
-use pci_image::slot::BUSES;
 use pci_tree::outline::Outline;
 use pci_tree::region::Region;
 use pci_tree::roots::Roots;

@@ -7,9 +7,9 @@ ghost use Rattle.pci_tree.specs.Ranges.{Covers, IsCanonical};
 ghost use Rattle.pci_tree.specs.Regions.{region_number as number_of};
 ghost use Rattle.pci_check.specs.Sweep.{Spans, Reaches, IsLeastMet, IsTwice, IsLeastTwice, Follows, IsLesser, IsClaimant, IsLeastClaimant, AreTwoLeast, StandByFirst, AreDistinct, IsUnshared, IsFirstOverlap};
 
-use pci_dump::memory::OutOfMemory;
-use pci_image::range::Range;
-use pci_image::slot::Slot;
+use pci_base::memory::OutOfMemory;
+use pci_base::range::Range;
+use pci_base::slot::Slot;
 use pci_tree::ranges::least_from;
 use pci_tree::region::Region;
 use std::alloc::Allocator;

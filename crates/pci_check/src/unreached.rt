@@ -3,15 +3,15 @@
 ghost use Rattle.std.specs.Prelude.{◌≡◌, ◌<◌, ℕ, false, length, Option, IfSome, MatchOption, MatchBool};
 ghost use Rattle.pci_spec.specs.System.{Io, Memory};
 ghost use Rattle.pci_function.specs.declared.fault.Fault.{Fault};
-ghost use Rattle.pci_function.specs.Space.{space_of};
+ghost use Rattle.pci_base.specs.Space.{space_of};
 ghost use Rattle.pci_check.specs.Stops.{is_of_window, AreReachesOf, IsWholeAt, IsReachedAt, IsOutsideAnswer, IsBusBehind, IsWholeBehind, IsLeastLost, IsFirstStop, IsEarlier, IsUnreachedFault, IsUnreachedFaultOn, IsWholeInEach, AreHomeInEach, AlwaysNested, AreListed};
 
 use super::reached::Reached;
 use super::sweep::is_before;
+use pci_base::range::Range;
+use pci_base::slot::Slot;
+use pci_base::space::Space;
 use pci_function::fault::Fault;
-use pci_function::space::Space;
-use pci_image::range::Range;
-use pci_image::slot::Slot;
 use pci_tree::outline::Outline;
 use pci_tree::ranges::least_outside;
 use pci_tree::region::{Part, Region};

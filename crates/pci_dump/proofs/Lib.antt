@@ -10,6 +10,5 @@ pub mod Texts
 pub mod Told
 pub mod Put
 pub mod RowLine
-pub mod Digits
 pub mod SixteenLanes
 pub mod TitleRuns

@@ -17,9 +17,7 @@ use Rattle.std.proofs.lemmas.List.{get_or-map}
 use Rattle.std.proofs.lemmas.Simd.{mask_l-mod, bit_mask_l, pick_l_whole}
 use Rattle.std.specs.List.{range_with_len, slice_range}
 use Rattle.pci_dump.specs.Value.{AreValues}
-use Rattle.pci_dump.specs.declared.digit.TheConstants.{DIGITS}
 use Rattle.pci_dump.specs.Lane.{IsDigit, AreDigits, AreSpaces}
-use Rattle.pci_dump.proofs.Digits.{digit_there}
 
 abbrev pub less : ℕ → ℕ → ℕ
 less = act2 (mask (lt unsigned)) (s_int w8) (s_int w8) (s_int w8)
@@ -108,7 +106,7 @@ joined (h ∷ highs) (l ∷ lows) = ap (λ r. join h l ∷ r) (joined highs lows
 -- ---- each byte
 
 abbrev is_right_digit : ℕ → Bool
-is_right_digit c = cond (digit_test c) (nat_lt (get_or DIGITS c 0) 16) true
+is_right_digit c = cond (digit_test c) (cond (nat_lt (digit_number c) 16) (c == hex_digit (digit_number c)) false) true
 
 all_right_digits : each_from 0 256 is_right_digit ≡ true
 unfolding each_from
@@ -146,8 +144,10 @@ then_true false b e = absurd (false≢true e)
 pub is_digit : (c : ℕ) → c < 256 → digit_test c ≡ true → IsDigit c
 is_digit c small e =
     let test = each_from-at 0 256 is_right_digit all_right_digits c (omega arith) (omega (arith, small)) in
-    let below = ltb-true (get_or DIGITS c 0) 16 (sym (cond-true (digit_test c) (nat_lt (get_or DIGITS c 0) 16) true e) ∙ test) in
-    (get_or DIGITS c 0, below, digit_there c small below)
+    let both = sym (cond-true (digit_test c) (cond (nat_lt (digit_number c) 16) (c == hex_digit (digit_number c)) false) true e) ∙ test in
+    let below = first_true (nat_lt (digit_number c) 16) (c == hex_digit (digit_number c)) both in
+    let same = then_true (nat_lt (digit_number c) 16) (c == hex_digit (digit_number c)) both in
+    (digit_number c, ltb-true (digit_number c) 16 below, eqb-true c (hex_digit (digit_number c)) same)
 
 pub passes_digit : (c : ℕ) → IsDigit c → digit_test c ≡ true
 passes_digit c d =

@@ -8,7 +8,7 @@ use super::dump::BLOCKS_MAX;
 use super::parse::{BlockFault, block_into};
 use super::read_fault::ReadFault;
 use super::streams::{Failed, Source};
-use pci_image::slot::Slot;
+use pci_base::slot::Slot;
 use std::marker::Model;
 
 /// How far a text was read.

@@ -5,8 +5,8 @@ ghost use Rattle.pci_spec.specs.Stops.{IsAboveLast};
 ghost use Rattle.pci_spec.specs.Number.{IsImage};
 
 use arrayvec::ArrayVec;
-use pci_image::image::{IMAGE_LEN, Image};
-use pci_image::slot::Slot;
+use pci_base::image::{IMAGE_LEN, Image};
+use pci_base::slot::Slot;
 use std::marker::Model;
 
 /// The most bytes of a title.

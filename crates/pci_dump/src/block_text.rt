@@ -5,12 +5,12 @@ ghost use Rattle.pci_spec.specs.Text.{hex_digit, hex_byte, slot_text, title_text
 ghost use Rattle.pci_spec.specs.Form.{row_text};
 
 use super::block::{Block, TITLE_MAX, Title};
-use super::digit::digit_of;
 use super::parse::{LINES_LEN, SLOT_LEN};
 use super::row::{ROW_LEN, ROW_OF_ZEROS};
 use arrayvec::ArrayVec;
-use pci_image::image::IMAGE_LEN;
-use pci_image::slot::Slot;
+use pci_base::digit::digit_of;
+use pci_base::image::IMAGE_LEN;
+use pci_base::slot::Slot;
 
 /// The most bytes of a block's text: 841, a space and a title of 200.
 pub(crate) const BLOCK_MAX: usize = SLOT_LEN + 1 + TITLE_MAX + 1 + LINES_LEN;

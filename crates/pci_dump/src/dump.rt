@@ -4,8 +4,8 @@ ghost use Rattle.pci_spec.specs.Text.{Block as BlockValue, IsBlock, IsDump};
 ghost use Rattle.pci_spec.specs.Stops.{IsAboveLast, last_slot};
 
 use super::block::Block;
-use super::memory::{OutOfMemory, Refused};
-use pci_image::slot::Slot;
+use pci_base::memory::{OutOfMemory, Refused};
+use pci_base::slot::Slot;
 use std::alloc::{Allocator, Global};
 use std::marker::Model;
 

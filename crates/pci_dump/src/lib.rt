@@ -19,11 +19,8 @@
 pub mod ahead;
 pub mod block;
 mod block_text;
-pub mod digit;
 pub mod dump;
-pub mod failures;
 mod lanes;
-pub mod memory;
 mod parse;
 pub mod read_fault;
 pub mod reader;
@@ -36,7 +33,7 @@ pub mod write;
 
 pub use block::{Block, Title};
 pub use dump::{Dump, PushFault};
-pub use memory::{OutOfMemory, Refused};
+pub use pci_base::memory::{OutOfMemory, Refused};
 pub use read_fault::{ReadFault, WriteFault};
 pub use reader::{Reader, read_dump};
 pub use std_streams::{Incoming, Outgoing};

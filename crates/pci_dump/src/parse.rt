@@ -8,7 +8,7 @@ use super::lanes::title_run;
 use super::row::ROW_LEN;
 use super::rows::image_into;
 use super::slot_text::slot_of;
-use pci_image::slot::Slot;
+use pci_base::slot::Slot;
 
 /// How many bytes `bb:dd.f` has.
 pub(crate) const SLOT_LEN: usize = 7;

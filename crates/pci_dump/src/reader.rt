@@ -6,9 +6,9 @@ ghost use Rattle.pci_dump.specs.ReadFault.{IsTextFault};
 use super::ahead::{Progress, ReadAhead};
 use super::block::Block;
 use super::dump::Dump;
-use super::memory::OutOfMemory;
 use super::read_fault::ReadFault;
 use super::streams::Source;
+use pci_base::memory::OutOfMemory;
 use std::alloc::Allocator;
 use std::marker::Model;
 

@@ -4,8 +4,8 @@ ghost use Rattle.std.specs.Int.{from_le_bytes, w64};
 ghost use Rattle.pci_spec.specs.Form.{Fits, row_cells, row_text};
 ghost use Rattle.pci_dump.specs.Value.{AreValues, AreSmall};
 
-use super::digit::digit_of;
 use super::lanes::{are_digits, are_spaces, bytes_of, numbers_of};
+use pci_base::digit::digit_of;
 use std::simd::prelude::*;
 
 /// How many bytes the line of a row has: its offset, sixteen bytes, and its end.

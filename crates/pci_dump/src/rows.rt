@@ -5,10 +5,10 @@ ghost use Rattle.pci_dump.specs.Value.{AreSmall};
 ghost use Rattle.pci_dump.specs.Row.{IsRowRead};
 ghost use Rattle.pci_dump.specs.BlockFault.{RowStops, RestStops};
 
-use super::digit::digit_of;
 use super::parse::BlockFault;
 use super::row::{ROW_LEN, ROW_OF_ZEROS, row_into};
-use pci_image::image::IMAGE_LEN;
+use pci_base::digit::digit_of;
+use pci_base::image::IMAGE_LEN;
 
 /// The line of a row goes into its sixteen places of an image. False where that isn't such a line.
 #[inline(always)]

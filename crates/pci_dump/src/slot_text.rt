@@ -4,8 +4,8 @@ ghost use Rattle.pci_spec.specs.Slot.{IsSlot};
 ghost use Rattle.pci_spec.specs.Text.{slot_text};
 ghost use Rattle.pci_spec.specs.Form.{Fits, slot_cells};
 
-use super::digit::digit_value;
-use pci_image::slot::Slot;
+use pci_base::digit::digit_value;
+use pci_base::slot::Slot;
 
 /// The slot that seven bytes spell.
 pub fn slot_of(text: &[u8]) -> Option<Slot>

@@ -1,8 +1,8 @@
 //! Sources and sinks of std's readers and writers.
 ghost use Rattle.std.specs.Prelude.{◌≡◌, ◌<◌};
 
-use super::failures::Failures;
 use super::streams::{Failed, Sink, Source};
+use pci_base::failures::Failures;
 use std::io::{Read, Write};
 
 /// A `Source` of std's `Read`. Each `Err` of the reader, `Interrupted` too, is a failure.

@@ -5,5 +5,3 @@ pub mod FirstDecoded
 pub mod FirstIn
 pub mod Examined
 pub mod Registers
-pub mod Pairs
-pub mod PairOrder

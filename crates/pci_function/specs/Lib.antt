@@ -1,6 +1,4 @@
-pub mod Space
 pub mod Fault
 pub mod Values
 pub mod Decoding
 pub mod Profile
-pub mod Pair

@@ -8,13 +8,13 @@ ghost use Rattle.pci_function.specs.Profile.{IsFirstOf};
 ghost use Rattle.pci_function.specs.Decoding.{IsBridgeAt, IsRecordOf};
 
 use super::record::{Bridge, Record};
+use pci_base::image::Image;
+use pci_base::offset::{COMMAND, PRIMARY_BUS, SECONDARY_BUS, SUBORDINATE_BUS};
+use pci_base::slot::Slot;
 use pci_image::bar::bars;
 use pci_image::fault::ImageFault;
 use pci_image::header::Header;
-use pci_image::image::Image;
-use pci_image::offset::{COMMAND, PRIMARY_BUS, SECONDARY_BUS, SUBORDINATE_BUS};
 use pci_image::rom::register::rom;
-use pci_image::slot::Slot;
 use pci_image::window::Windows;
 
 /// The bus numbers and windows of a function, where it is a bridge.

@@ -9,9 +9,9 @@ use super::fault::Fault;
 use super::profile::{identity_fault, profile_fault};
 use super::record::Record;
 use arrayvec::ArrayVec;
+use pci_base::image::Image;
+use pci_base::slot::Slot;
 use pci_image::capability::add_places;
-use pci_image::image::Image;
-use pci_image::slot::Slot;
 
 /// The record of a function.
 ///

@@ -3,9 +3,9 @@ ghost use Rattle.std.specs.Prelude.{◌≡◌, Some};
 ghost use Rattle.pci_spec.specs.Fault.{fault_number};
 ghost use Rattle.pci_spec.specs.Line.{fault_text, regions_text};
 
-use crate::space::{Address, Space};
+use pci_base::slot::Slot;
+use pci_base::space::{Address, Space};
 use pci_image::fault::ImageFault;
-use pci_image::slot::Slot;
 use std::fmt;
 
 /// A fault, with the function that it names, and the byte offset of the register or the place in its

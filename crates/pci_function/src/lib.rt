@@ -16,12 +16,10 @@
 pub mod decode;
 pub mod examine;
 pub mod fault;
-pub mod pair;
-mod profile;
+pub mod profile;
 pub mod record;
-pub mod space;
 mod stray;
 
 pub use fault::{Fault, PairFault};
+pub use pci_base::space::{Address, Space};
 pub use record::{Bridge, Record};
-pub use space::{Address, Space};

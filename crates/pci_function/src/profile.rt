@@ -10,11 +10,11 @@ ghost use Rattle.pci_function.specs.Profile.{IsAnswering, IsPlainBridge, IsPlain
 
 use super::fault::Fault;
 use super::stray::stray_byte;
+use pci_base::image::Image;
+use pci_base::offset::{BRIDGE_CONTROL, COMMAND, POWER_CONTROL, VENDOR_ID};
+use pci_base::slot::Slot;
 use pci_image::capability::POWER_MANAGEMENT;
 use pci_image::header::{NO_VENDOR, class_code, layout};
-use pci_image::image::Image;
-use pci_image::offset::{BRIDGE_CONTROL, COMMAND, POWER_CONTROL, VENDOR_ID};
-use pci_image::slot::Slot;
 
 /// The bit number of VGA palette snooping in Command (PCI 3.0, 6.2.2).
 const PALETTE_SNOOP: u8 = 5;

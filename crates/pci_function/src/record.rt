@@ -1,8 +1,8 @@
 //! What judging needs of a function: its slot, what Command enables, and the ranges that its registers decode to.
 use arrayvec::ArrayVec;
+use pci_base::slot::Slot;
 use pci_image::bar::Bar;
 use pci_image::rom::Rom;
-use pci_image::slot::Slot;
 use pci_image::window::Windows;
 
 /// The bus numbers and the windows of a bridge (Bridge 1.2, 3.2.5).

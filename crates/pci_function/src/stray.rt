@@ -2,7 +2,7 @@
 ghost use Rattle.std.specs.Prelude.{◌≡◌, ◌<◌, ℕ, false, true, IfSome, IfNone};
 ghost use Rattle.pci_spec.specs.Fault.{is_in_address_register, is_stray_by};
 
-use pci_image::image::{IMAGE_LEN, Image};
+use pci_base::image::{IMAGE_LEN, Image};
 use pci_image::register::{HEADER_LEN, address_bytes};
 
 /// Whether an offset lies in an address register of a header.

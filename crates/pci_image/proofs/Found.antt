@@ -2,7 +2,7 @@
 use Rattle.std.proofs.Common.{◌≡◌, ℕ, ◌<◌, ◌≤◌, List, arith, lit≤, None}
 use Rattle.pci_spec.specs.Header.{bar_count, bar_register, layout}
 use Rattle.pci_spec.specs.Bar.{bar_fault}
-use Rattle.pci_image.specs.declared.image.Image.{Image}
+use Rattle.pci_base.specs.declared.image.Image.{Image}
 use Rattle.pci_image.specs.declared.header.Header.{Header}
 use Rattle.pci_image.specs.declared.header.Header.TheVariants.{Type0, Type1}
 use Rattle.pci_image.specs.declared.fault.ImageFault.{ImageFault}

@@ -1,7 +1,5 @@
-pub mod Accesses
 pub mod AddressBytes
 pub mod Comparators
-pub mod Puts
 pub mod Registers
 pub mod Sizes
 pub mod Decoding
@@ -11,4 +9,3 @@ pub mod Roms
 pub mod WindowRules
 pub mod Walking
 pub mod PlaceSets
-pub mod WindowKinds

@@ -2,7 +2,7 @@
 use Rattle.std.specs.Prelude.{◌≡◌, ℕ, IsFalse, List}
 use Rattle.pci_spec.specs.Header.{layout}
 use Rattle.pci_spec.specs.Fault.{has_no_vendor, has_other_layout}
-use Rattle.pci_image.specs.declared.image.Image.{Image}
+use Rattle.pci_base.specs.declared.image.Image.{Image}
 use Rattle.pci_image.specs.declared.header.Header.{Header}
 use Rattle.pci_image.specs.declared.header.Header.TheVariants.{Type0, Type1}
 

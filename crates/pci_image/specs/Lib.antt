@@ -1,10 +1,7 @@
 pub mod Bars
-pub mod Bounds
 pub mod Caps
 pub mod Faults
 pub mod Header
-pub mod Ranges
 pub mod Registers
 pub mod Roms
 pub mod Windows
-pub mod WindowKinds

@@ -11,10 +11,10 @@ ghost use Rattle.pci_image.specs.Faults.{IsImageFaultIn, image_fault_number};
 use super::comparator::{aligned, fits_within, run_start};
 use super::fault::ImageFault;
 use super::header::Header;
-use super::image::Image;
-use super::offset::BASE_ADDRESS;
-use super::range::Range;
 use arrayvec::ArrayVec;
+use pci_base::image::Image;
+use pci_base::offset::BASE_ADDRESS;
+use pci_base::range::Range;
 
 /// What a BAR maps into, and how wide its register is.
 #[derive(Clone, Copy, Debug, PartialEq, Eq)]

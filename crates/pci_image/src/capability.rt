@@ -4,10 +4,10 @@ ghost use Rattle.pci_spec.specs.Capability.{body_length, msi_length, pointer, po
 ghost use Rattle.pci_image.specs.Caps.{place_of, body_of, IsCapIn, IsChainFaultIn, IsFirstAlong};
 
 use super::fault::ImageFault;
-use super::image::Image;
-use super::offset::{CAPABILITIES_POINTER, MESSAGE_CONTROL, STATUS};
 use super::place_set::PlaceSet;
 use arrayvec::ArrayVec;
+use pci_base::image::Image;
+use pci_base::offset::{CAPABILITIES_POINTER, MESSAGE_CONTROL, STATUS};
 
 /// A capability: its place, which is the byte offset of its ID, and its body, which is the image's
 /// own bytes from there.

@@ -5,9 +5,9 @@
 ghost use Rattle.std.specs.Prelude.{◌≡◌, ◌^◌, ◌<◌, ◌≤◌, ◌↔◌, ℕ, IsTrue, Some};
 ghost use Rattle.pci_spec.specs.Bar.{is_run, is_within};
 ghost use Rattle.pci_spec.specs.Decoded.{aligned_range};
-ghost use Rattle.pci_image.specs.Ranges.{decoded_range_of};
+ghost use Rattle.pci_base.specs.Ranges.{decoded_range_of};
 
-use super::range::Range;
+use pci_base::range::Range;
 
 /// The lowest bit that reads back 1, from bit `from` upward, where the ones there are one run that
 /// ends at bit `top`.

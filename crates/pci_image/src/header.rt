@@ -3,9 +3,9 @@ ghost use Rattle.std.specs.Prelude.{◌≡◌};
 ghost use Rattle.pci_spec.specs.Header.{class_code, layout};
 
 use super::fault::ImageFault;
-use super::image::Image;
-use super::offset::{BASE_CLASS, HEADER_TYPE, INTERFACE, SUB_CLASS, VENDOR_ID};
 use super::register::rom_register;
+use pci_base::image::Image;
+use pci_base::offset::{BASE_CLASS, HEADER_TYPE, INTERFACE, SUB_CLASS, VENDOR_ID};
 
 /// An image with a type 0 header: a device.
 #[derive(Clone, Copy, Debug, PartialEq, Eq)]

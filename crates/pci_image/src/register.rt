@@ -8,7 +8,7 @@ ghost use Rattle.pci_spec.specs.Registers.{device_header, bridge_header};
 ghost use Rattle.pci_spec.specs.Header as header;
 ghost use Rattle.pci_image.specs.Registers.{register_value, is_readable};
 
-use super::offset::{
+use pci_base::offset::{
     BASE_ADDRESS, BRIDGE_EXPANSION_ROM, COMMAND, EXPANSION_ROM, INTERRUPT_LINE, IO_BASE,
     IO_BASE_UPPER, MEMORY_BASE, PREFETCHABLE_BASE, PREFETCHABLE_BASE_UPPER,
     PREFETCHABLE_LIMIT_UPPER, PRIMARY_BUS, SECONDARY_BUS, SECONDARY_STATUS, STATUS,

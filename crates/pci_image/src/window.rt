@@ -1,13 +1,11 @@
 //! The address windows of a bridge (Bridge 1.2, 3.2.5).
 ghost use Rattle.std.specs.Prelude.{◌≡◌, ◌↔◌, IsOk, IfOk};
 
-pub mod bounds;
-
 use super::fault::ImageFault;
 use super::header::Header;
-use super::image::Image;
-use super::range::Range;
-use super::window_kind::WindowKind;
+use pci_base::image::Image;
+use pci_base::range::Range;
+use pci_base::window_kind::WindowKind;
 use std::marker::Model;
 
 /// A window that is implemented: its range, and whether it has upper halves.
@@ -20,7 +18,7 @@ pub struct Window {
 impl Model for Window {
     ghost use Rattle.std.specs.Option.{option_map};
     ghost use Rattle.pci_spec.specs.Decoded.{DecodedWindow};
-    ghost use Rattle.pci_image.specs.Ranges.{decoded_range_of, range_of_decoded};
+    ghost use Rattle.pci_base.specs.Ranges.{decoded_range_of, range_of_decoded};
 
     ghost Value = { DecodedWindow };
 
@@ -42,8 +40,8 @@ impl Window {
     ghost use Rattle.std.specs.Option.{option_map};
     ghost use Rattle.pci_spec.specs.Window.{bounds_at, breaks_window_rule, is_optional, window_register, shows_window};
     ghost use Rattle.pci_spec.specs.Decoded.{decoded_window, optional_window};
-    ghost use Rattle.pci_image.specs.WindowKinds.{kind_value};
-    ghost use Rattle.pci_image.specs.Ranges.{decoded_range_of};
+    ghost use Rattle.pci_base.specs.WindowKinds.{kind_value};
+    ghost use Rattle.pci_base.specs.Ranges.{decoded_range_of};
 
     /// The addresses that the window holds; none where it is closed, its base above its limit.
     pub fn range(&self) -> Option<Range>
@@ -102,7 +100,7 @@ impl Window {
 impl Windows {
     ghost use Rattle.std.specs.Prelude.{IfErr};
     ghost use Rattle.pci_spec.specs.Decoded.{decoded_windows};
-    ghost use Rattle.pci_image.specs.WindowKinds.{kind_value};
+    ghost use Rattle.pci_base.specs.WindowKinds.{kind_value};
     ghost use Rattle.pci_image.specs.Windows.{decoded_windows_of, window_of, HasLawfulWindows, HoldsAsComparators, IsWindowsFaultIn, IsLowestWindowFault};
 
     /// The windows of a bridge.

@@ -11,7 +11,7 @@ use Rattle.pci_spec.specs.Slot.{Slot, same_slot}
 use Rattle.pci_spec.specs.Machine.{Target, write_targets, written, written_byte, byte_of_bits, written_bit}
 use Rattle.pci_spec.specs.Port.{IsLawful, IsTarget, target_at, has_function, with_image, is_access, fits}
 use Rattle.pci_spec.specs.Sizing.{function_at, no_target, DiffersWithin, IsPlain}
-use Rattle.pci_image.proofs.Accesses.{width_cases}
+use Rattle.pci_base.proofs.Accesses.{width_cases}
 use Rattle.pci_machine.proofs.Targets.{find-index, found_at, has_found, target_at-with_image, write-with_image, with_image-same, with_image-with_image}
 use Rattle.pci_machine.proofs.Writes.{written_byte-inside, written_byte-below, written_byte-above, byte_at-written, length-written}
 use Rattle.pci_machine.proofs.Bytes.{byte-put_back}

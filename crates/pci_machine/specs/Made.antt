@@ -7,8 +7,8 @@ use Rattle.pci_spec.specs.Fault.{IsThere}
 use Rattle.pci_spec.specs.Order.{phase_of, is_before, image_at}
 use Rattle.pci_function.specs.declared.fault.Fault.{Fault as FaultOfCode}
 use Rattle.pci_function.specs.Fault.{fault_of}
-use Rattle.pci_dump.specs.declared.memory.Refused.{Refused}
-use Rattle.pci_dump.specs.declared.memory.Refused.TheVariants.{Fault, Memory}
+use Rattle.pci_base.specs.declared.memory.Refused.{Refused}
+use Rattle.pci_base.specs.declared.memory.Refused.TheVariants.{Fault, Memory}
 
 -- whether a fault is one of a capabilities list, which a machine doesn't read
 abbrev pub is_of_list : faults.Fault → Bool

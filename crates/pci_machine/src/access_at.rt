@@ -7,7 +7,7 @@ ghost use Rattle.pci_spec.specs.Sizing.{function_at};
 ghost use Rattle.pci_machine.specs.Outcome.{failures_of_stop};
 
 use crate::port::{ConfigPort, PortError};
-use pci_image::slot::Slot;
+use pci_base::slot::Slot;
 
 /// An access that failed: the offset that it was made at, and why.
 #[derive(Clone, Copy)]

@@ -6,8 +6,8 @@ ghost use Rattle.pci_machine.specs.Outcome as outcome;
 
 use crate::access::{fits, is_access};
 use crate::port::{ConfigPort, PortError};
-use pci_dump::failures::Failures;
-use pci_image::slot::Slot;
+use pci_base::failures::Failures;
+use pci_base::slot::Slot;
 
 /// A port whose n-th access fails. Accesses that are refused by 40 or 41 aren't counted.
 #[derive(Drop)]

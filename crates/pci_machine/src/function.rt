@@ -12,11 +12,11 @@ ghost use Rattle.pci_function.specs.Profile.{IsFirstOf};
 
 use crate::mask::{clearing_bytes, writable_bytes};
 use crate::registers::ConfigSpace;
+use pci_base::image::Image;
+use pci_base::slot::Slot;
 use pci_function::decode::decode;
 use pci_image::fault::ImageFault;
 use pci_image::header::layout;
-use pci_image::image::Image;
-use pci_image::slot::Slot;
 
 /// The registers of the function at a slot, if its address registers decode. The fault is one of 20
 /// to 26: of BARs the lowest, else that of the ROM, else of windows the lowest.

@@ -2,7 +2,7 @@
 ghost use Rattle.std.specs.Prelude.{◌≡◌, ◌<◌, ℕ, List, map, All, IsTrue, IsFalse, IfSome, IfOk, OnOk, IfErr, MatchOption, MatchResult, Some, slice_get, length};
 ghost use Rattle.pci_spec.specs.System.{system_of};
 ghost use Rattle.pci_spec.specs.Decoded.{IsDecodable};
-ghost use Rattle.pci_function.specs.Pair.{IsPair};
+ghost use Rattle.pci_pair.specs.Pair.{IsPair};
 ghost use Rattle.pci_machine.specs.Made.{IsOfMachine, IsRefusedFor, IsFirstFor};
 ghost use Rattle.pci_spec.specs.Sizing.{function_at, IsSizable};
 ghost use Rattle.pci_spec.specs.Machine.{Target, target_of, sized, write_targets};
@@ -14,12 +14,12 @@ use crate::access::{fits, is_access};
 use crate::function::registers_of;
 use crate::port::{ConfigPort, PortError};
 use crate::registers::ConfigSpace;
+use pci_base::image::Image;
+use pci_base::memory::Refused;
+use pci_base::slot::Slot;
 use pci_dump::dump::Dump;
-use pci_dump::memory::Refused;
 use pci_function::fault::{Fault, PairFault};
-use pci_function::pair::pair;
-use pci_image::image::Image;
-use pci_image::slot::Slot;
+use pci_pair::pair::pair;
 use std::alloc::{Allocator, Global};
 use std::marker::Model;
 

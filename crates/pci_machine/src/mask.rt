@@ -7,9 +7,9 @@ ghost use Rattle.pci_spec.specs.Port as port;
 ghost use Rattle.pci_image.specs.Registers.{is_readable, role_value};
 ghost use Rattle.pci_machine.specs.Masks.{HasBits, AddsField, AddsFields};
 
+use pci_base::image::{IMAGE_LEN, Image, byte_of};
+use pci_base::offset::BASE_ADDRESS;
 use pci_image::bar::starts_bar;
-use pci_image::image::{IMAGE_LEN, Image, byte_of};
-use pci_image::offset::BASE_ADDRESS;
 use pci_image::register::{Register, Role, registers};
 
 /// The bits of each byte that a write sets, by what the registers of a device or a bridge read

@@ -3,7 +3,7 @@ ghost use Rattle.std.specs.Prelude.{◌≡◌, ◌↔◌, ◌+◌, ◌&&◌, ℕ
 ghost use Rattle.pci_spec.specs.Machine.{Target, write_targets};
 ghost use Rattle.pci_spec.specs.Port.{IsLawful, ShowsNumber, has_function, is_access, fits};
 
-use pci_image::slot::Slot;
+use pci_base::slot::Slot;
 
 /// Why an access is refused.
 #[derive(Clone, Copy, Debug, PartialEq, Eq)]

@@ -9,8 +9,8 @@ ghost use Rattle.pci_machine.specs.Outcome.{failures_of_stop};
 
 use crate::access_at::{AccessFault, read_at, write_at};
 use crate::port::{ConfigPort, PortError};
-use pci_image::offset::COMMAND;
-use pci_image::slot::Slot;
+use pci_base::offset::COMMAND;
+use pci_base::slot::Slot;
 use std::marker::Model;
 
 /// Command has two bytes. A write of four would clear bits of Status, which stands behind it.

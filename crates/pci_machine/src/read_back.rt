@@ -8,7 +8,7 @@ ghost use Rattle.pci_machine.specs.Outcome.{failures_of_stop};
 
 use crate::access_at::{AccessFault, read_at, write_at};
 use crate::port::{ConfigPort, PortError};
-use pci_image::slot::Slot;
+use pci_base::slot::Slot;
 
 /// Writes ones to a register, reads what they leave and puts the old value back.
 pub fn read_back<P: ConfigPort>(

@@ -10,10 +10,10 @@ ghost use Rattle.pci_machine.specs.Outcome.{failures_of_stop};
 use crate::access_at::AccessFault;
 use crate::port::{ConfigPort, PortError};
 use crate::read_back::read_back;
-use pci_image::image::{IMAGE_LEN, Image, put};
-use pci_image::offset::IO_BASE;
+use pci_base::image::{IMAGE_LEN, Image, put};
+use pci_base::offset::IO_BASE;
+use pci_base::slot::Slot;
 use pci_image::register::{Register, address_registers, rom_register};
-use pci_image::slot::Slot;
 
 /// What the address registers of a function read back, in an image that has 0 elsewhere.
 pub fn read_backs<P: ConfigPort>(

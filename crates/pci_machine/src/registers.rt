@@ -6,8 +6,8 @@ ghost use Rattle.pci_spec.specs.Machine.{byte_of_bits, written, written_bit};
 ghost use Rattle.pci_spec.specs.Port as port;
 ghost use Rattle.pci_machine.specs.Memory.{pinned};
 
-use pci_image::image::{IMAGE_LEN, Image, byte_of};
-use pci_image::slot::Slot;
+use pci_base::image::{IMAGE_LEN, Image, byte_of};
+use pci_base::slot::Slot;
 use std::marker::Model;
 
 /// A function's configuration space, with the bits of each byte that a write sets and those that a

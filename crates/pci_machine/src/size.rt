@@ -18,11 +18,11 @@ use crate::port::{ConfigPort, PortError};
 use crate::quiet::{COMMAND_WIDTH, DECODE_BITS, Quiet};
 use crate::read_backs::read_backs;
 use crate::size_fault::SizeFault;
+use pci_base::image::Image;
+use pci_base::offset::{COMMAND, HEADER_TYPE, VENDOR_ID};
+use pci_base::slot::Slot;
 use pci_image::fault::ImageFault;
 use pci_image::header::{LAYOUT_BITS, NO_VENDOR};
-use pci_image::image::Image;
-use pci_image::offset::{COMMAND, HEADER_TYPE, VENDOR_ID};
-use pci_image::slot::Slot;
 
 /// What the address registers of the function at a slot read back, in an image that has 0
 /// elsewhere. No memory is taken, and all functions are as they were.

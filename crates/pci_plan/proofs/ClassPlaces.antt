@@ -23,8 +23,8 @@ use Rattle.plan_spec.proofs.Planning.AllItems.{slots_rise}
 use Rattle.plan_spec.proofs.Planning.PlacedItems.{part_placed, own_part, part_owned}
 use Rattle.plan_spec.proofs.Planning.Placings.{table_of_places}
 use Rattle.plan_spec.proofs.Planning.Tallies.{greatest_small}
-use Rattle.pci_image.specs.declared.range.Range.{Range as CodeRange}
-use Rattle.pci_image.specs.Ranges.{decoded_range_of}
+use Rattle.pci_base.specs.declared.range.Range.{Range as CodeRange}
+use Rattle.pci_base.specs.Ranges.{decoded_range_of}
 use Rattle.pci_plan.specs.declared.item.Item.{Item as CodeItem}
 use Rattle.pci_plan.specs.declared.place.Places.{Places}
 use Rattle.pci_plan.specs.Items.{part_value, no_function, function_in, item_value, IsItemIn, AreItems, IsRooted}

@@ -22,19 +22,19 @@ use Rattle.plan_spec.proofs.Planning.Tables.{class_itself}
 use Rattle.plan_spec.proofs.Planning.Reach.{IsReached, need_is_behind}
 use Rattle.plan_spec.proofs.Planning.NumbersFit.{window_room, parts_fit}
 use Rattle.plan_spec.proofs.Planning.WindowFits.{few_nibbles, by_absent, by_open, by_closed}
-use Rattle.pci_image.specs.WindowKinds.{kind_value, by_kind}
+use Rattle.pci_base.specs.WindowKinds.{kind_value, by_kind}
 use Rattle.pci_image.specs.Windows.{window_of}
 use Rattle.pci_function.specs.declared.record.Bridge.{Bridge}
 use Rattle.pci_function.specs.Values.{bridge_value}
 use Rattle.pci_tree.proofs.Lifting.{same_bridge}
 use Rattle.pci_tree.proofs.RegionParts.{same_bridge_of}
-use Rattle.pci_image.specs.declared.window_kind.WindowKind.{WindowKind as CodeKind}
-use Rattle.pci_image.specs.declared.window_kind.WindowKind.TheVariants.{Io, Memory, Prefetchable}
+use Rattle.pci_base.specs.declared.window_kind.WindowKind.{WindowKind as CodeKind}
+use Rattle.pci_base.specs.declared.window_kind.WindowKind.TheVariants.{Io, Memory, Prefetchable}
 use Rattle.pci_plan.specs.declared.need.Needs.{Needs}
 use Rattle.pci_plan.specs.declared.numbers.Filling.{Filling}
 use Rattle.pci_plan.specs.Needs.{AreNeeds, AreAllNeeds}
 use Rattle.pci_plan.specs.Places.{first_in}
-use Rattle.pci_image.specs.Bounds.{address_bits}
+use Rattle.pci_base.specs.Bounds.{address_bits}
 use Rattle.pci_plan.specs.Fillings.{FillingOf}
 
 -- ---- kinds
@@ -52,7 +52,7 @@ address_bits_few Prefetchable = omega arith
 
 -- ---- needs
 
-needs_of : (roots : List ℕ) (s : Rattle.pci_spec.specs.System.System) (pools : plan.Pools) (needs : Rattle.pci_image.specs.declared.window_kind.ByKind.ByKind Needs) (class : CodeKind)
+needs_of : (roots : List ℕ) (s : Rattle.pci_spec.specs.System.System) (pools : plan.Pools) (needs : Rattle.pci_base.specs.declared.window_kind.ByKind.ByKind Needs) (class : CodeKind)
     → AreAllNeeds roots s pools needs → AreNeeds roots s pools (kind_value class) (by_kind needs class)
 needs_of roots s pools needs Io all = all.io
 needs_of roots s pools needs Memory all = all.memory

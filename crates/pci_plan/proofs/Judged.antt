@@ -1,7 +1,7 @@
 -- A planned system that is judged, and the plan that is made of it.
 use Rattle.std.proofs.Common.{◌≡◌, ℕ, suc, ◌^◌, ◌<◌, ◌⊎◌, inl, inr, List, [], ◌∷◌, Bool, true, false, cond, Option, None, Some, refl, arith, sym, ◌∙◌, ap, subst, map, length}
 use Rattle.std.specs.Prelude.{count_by, IfOk, Result, Ok, Err}
-use Rattle.pci_dump.specs.declared.memory.OutOfMemory.{OutOfMemory}
+use Rattle.pci_base.specs.declared.memory.OutOfMemory.{OutOfMemory}
 use Rattle.std.specs.List.{All, AllZip, filter}
 use Rattle.std.specs.List.Sorted.{IsStrictlyIncreasing}
 use Rattle.std.proofs.lemmas.List.Sums.{length-filter}

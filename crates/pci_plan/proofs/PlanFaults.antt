@@ -4,16 +4,16 @@ use Rattle.std.specs.Prelude.{◌↔◌}
 use Rattle.pci_spec.specs.Window.{WindowKind, IoWindow, MemoryWindow, PrefetchWindow}
 use Rattle.pci_spec.specs.System.{IsSystem}
 use Rattle.plan_spec.specs.PlanPromise.{CanBePlanned}
-use Rattle.pci_dump.specs.declared.memory.Refused.{Refused}
-use Rattle.pci_dump.specs.declared.memory.Refused.TheVariants as refusals
-use Rattle.pci_image.specs.WindowKinds.{kind_value}
+use Rattle.pci_base.specs.declared.memory.Refused.{Refused}
+use Rattle.pci_base.specs.declared.memory.Refused.TheVariants as refusals
+use Rattle.pci_base.specs.WindowKinds.{kind_value}
 use Rattle.pci_tree.specs.Admission.{Admission}
 use Rattle.pci_plan.specs.Above.{system_in}
 use Rattle.pci_plan.specs.Pools.{pools_value}
 use Rattle.pci_plan.specs.Plans.{plan_fault_of, IsFaultOf}
 use Rattle.pci_plan.specs.declared.pools.Pools.{Pools}
-use Rattle.pci_image.specs.declared.window_kind.WindowKind.{WindowKind as CodeKind}
-use Rattle.pci_image.specs.declared.window_kind.WindowKind.TheVariants as classes
+use Rattle.pci_base.specs.declared.window_kind.WindowKind.{WindowKind as CodeKind}
+use Rattle.pci_base.specs.declared.window_kind.WindowKind.TheVariants as classes
 use Rattle.pci_plan.specs.declared.plan_fault.PlanFault.{PlanFault}
 use Rattle.pci_plan.specs.declared.plan_fault.PlanFault.TheVariants.{BadPools, NoWindow, NoRoom, NotAccepted}
 use Rattle.pci_plan.proofs.Refusing.{none_refused, one_fault}

@@ -27,7 +27,7 @@ use Rattle.pci_function.specs.Values.{record_value}
 use Rattle.pci_tree.proofs.Pairings.{later_is_above}
 use Rattle.pci_check.proofs.Beside.{system_last}
 use Rattle.pci_plan.specs.Above.{system_in}
-use Rattle.pci_image.specs.declared.window_kind.ByKind.{ByKind}
+use Rattle.pci_base.specs.declared.window_kind.ByKind.{ByKind}
 use Rattle.pci_plan.specs.declared.need.Needs.{Needs}
 use Rattle.pci_plan.specs.declared.place.Places.{Places}
 use Rattle.pci_plan.specs.declared.numbers.Filling.{Filling}

@@ -4,7 +4,7 @@ use Rattle.pci_spec.specs.Window.{WindowKind, IoWindow, MemoryWindow, PrefetchWi
 use Rattle.pci_spec.specs.System.{System}
 use Rattle.plan_spec.specs.Plan.{Pools, need_of, greatest_of_roots}
 use Rattle.pci_plan.specs.declared.need.Needs.{Needs}
-use Rattle.pci_image.specs.declared.window_kind.ByKind.{ByKind}
+use Rattle.pci_base.specs.declared.window_kind.ByKind.{ByKind}
 
 pub record AreNeeds (roots : List ℕ) (s : System) (pools : Pools) (c : WindowKind)
     (needs : Needs) : Type 0 where

@@ -9,7 +9,7 @@ use Rattle.plan_spec.specs.Plan as plan
 use Rattle.plan_spec.specs.Plan.{IsMoved}
 use Rattle.plan_spec.specs.PlanPromise.{changes_between, IsPlanOf, IsSafeFrom, StopsSafely, EachWriteChanges, with_rom_on, CanBePlanned, IsPlanFaultOf}
 use Rattle.plan_spec.specs.Planning.PlanWrites.{closing_writes, plan_writes, most_writes}
-use Rattle.pci_image.specs.WindowKinds.{kind_value}
+use Rattle.pci_base.specs.WindowKinds.{kind_value}
 use Rattle.pci_tree.specs.Admission.{Admission, IsAdmitted}
 use Rattle.pci_function.specs.Fault.{fault_of}
 use Rattle.pci_function.specs.declared.fault.Fault.{Fault}

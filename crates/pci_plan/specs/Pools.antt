@@ -1,6 +1,6 @@
 -- Pools of the code as those of the definitions.
 use Rattle.plan_spec.specs.Plan as plan
-use Rattle.pci_image.specs.Ranges.{decoded_range_of}
+use Rattle.pci_base.specs.Ranges.{decoded_range_of}
 use Rattle.pci_plan.specs.declared.pools.Pools.{Pools}
 
 abbrev pub pools_value : Pools → plan.Pools

@@ -3,7 +3,7 @@ ghost use Rattle.std.specs.Prelude.{◌≡◌, ◌&&◌};
 ghost use Rattle.std.specs.Option.{is_some};
 ghost use Rattle.pci_plan.specs.Above.{AreAboves, is_wide_in, system_in};
 
-use pci_image::slot::BUSES;
+use pci_base::slot::BUSES;
 use pci_image::window::{Window, Windows};
 use pci_tree::admitted::Admitted;
 use std::alloc::Allocator;

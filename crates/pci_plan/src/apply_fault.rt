@@ -1,7 +1,7 @@
 //! Why a plan isn't put onto a machine, or not to its end.
 ghost use Rattle.std.specs.Prelude.{◌≡◌, Some};
 
-use pci_image::slot::Slot;
+use pci_base::slot::Slot;
 use std::fmt;
 
 /// Why a plan isn't put onto a machine, or not to its end.

@@ -1,12 +1,12 @@
 //! The class that a BAR is placed in.
 ghost use Rattle.std.specs.Prelude.{◌≡◌};
-ghost use Rattle.pci_image.specs.WindowKinds.{kind_value};
+ghost use Rattle.pci_base.specs.WindowKinds.{kind_value};
 ghost use Rattle.pci_plan.specs.Classes.{bar_class, is_served_by};
 
 use super::above::Above;
 use super::pools::Pools;
+use pci_base::window_kind::WindowKind;
 use pci_image::bar::{Bar, BarKind};
-use pci_image::window_kind::WindowKind;
 
 /// The highest address of 32 bits.
 const NARROW_LAST: u64 = 0xffff_ffff;

@@ -5,12 +5,12 @@ ghost use Rattle.pci_spec.specs.Port.{is_access, ShowsNumber};
 ghost use Rattle.pci_plan.specs.Comparing.{ShowsAll, StartsAs, IsRegisterFault, IsFunctionFault, IsStartFault};
 
 use super::apply_fault::ApplyFault;
+use pci_base::image::Image;
+use pci_base::offset::COMMAND;
+use pci_base::slot::Slot;
 use pci_dump::block::Block;
 use pci_image::header::layout;
-use pci_image::image::Image;
-use pci_image::offset::COMMAND;
 use pci_image::register::address_registers;
-use pci_image::slot::Slot;
 use pci_machine::port::ConfigPort;
 
 /// Whether the register of `width` bytes at an offset shows what an image has there.

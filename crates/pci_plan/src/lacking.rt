@@ -8,9 +8,9 @@ ghost use Rattle.pci_plan.specs.Above.{AreAboves, system_in};
 ghost use Rattle.pci_plan.specs.Classes.{is_io_kind};
 
 use super::above::Above;
+use pci_base::slot::{BUSES, Slot};
 use pci_function::record::Record;
 use pci_image::bar::BarKind;
-use pci_image::slot::{BUSES, Slot};
 use pci_tree::admitted::Admitted;
 use std::alloc::Allocator;
 

@@ -4,7 +4,7 @@ ghost use Rattle.std.specs.Prelude.{◌≡◌, ◌≤◌, ◌^◌, ◌<◌, ◌+
 ghost use Rattle.std.specs.List.{All};
 ghost use Rattle.plan_spec.specs.Plan.{window_size, need_of, greatest_of_roots};
 ghost use Rattle.pci_tree.specs.Regions.{IsLawful};
-ghost use Rattle.pci_image.specs.WindowKinds.{kind_value};
+ghost use Rattle.pci_base.specs.WindowKinds.{kind_value};
 ghost use Rattle.pci_plan.specs.Pools.{pools_value};
 ghost use Rattle.pci_plan.specs.Above.{AreAboves, system_in};
 ghost use Rattle.pci_plan.specs.Sizes.{span, own_sizes, window_sizes, IsTallyOf};
@@ -12,11 +12,11 @@ ghost use Rattle.pci_plan.specs.Sizes.{span, own_sizes, window_sizes, IsTallyOf}
 use super::above::Above;
 use super::class::class_of_bar;
 use super::pools::Pools;
+use pci_base::slot::BUSES;
+use pci_base::window_kind::WindowKind;
 use pci_function::record::Record;
 use pci_image::bar::Bar;
 use pci_image::rom::Rom;
-use pci_image::slot::BUSES;
-use pci_image::window_kind::WindowKind;
 use pci_tree::admitted::Admitted;
 use std::alloc::Allocator;
 

@@ -3,7 +3,7 @@ ghost use Rattle.std.specs.Prelude.{◌≡◌, ℕ, OnOk, length, slice_index_or
 ghost use Rattle.std.specs.List.{Contains};
 ghost use Rattle.pci_spec.specs.System.{Part as PartValue};
 ghost use Rattle.plan_spec.specs.PlanPromise.{CanBePlanned};
-ghost use Rattle.pci_image.specs.WindowKinds.{kind_value};
+ghost use Rattle.pci_base.specs.WindowKinds.{kind_value};
 ghost use Rattle.pci_plan.specs.Pools.{pools_value};
 ghost use Rattle.pci_plan.specs.Above.{AreAboves, system_in};
 ghost use Rattle.pci_plan.specs.Needs.{AreNeeds};
@@ -16,9 +16,9 @@ use super::item::{Item, Part, items_of, sort_items};
 use super::need::Needs;
 use super::pools::Pools;
 use super::room::raised;
-use pci_dump::memory::OutOfMemory;
-use pci_image::slot::BUSES;
-use pci_image::window_kind::{ByKind, WindowKind};
+use pci_base::memory::OutOfMemory;
+use pci_base::slot::BUSES;
+use pci_base::window_kind::{ByKind, WindowKind};
 use pci_tree::admitted::Admitted;
 use std::alloc::Allocator;
 

@@ -3,9 +3,9 @@ ghost use Rattle.std.specs.Prelude.{◌≡◌, Some};
 ghost use Rattle.plan_spec.specs.Plan.{plan_fault_number};
 ghost use Rattle.plan_spec.specs.PlanLine.{plan_fault_text};
 
+use pci_base::slot::Slot;
+use pci_base::window_kind::WindowKind;
 use pci_function::fault::Fault;
-use pci_image::slot::Slot;
-use pci_image::window_kind::WindowKind;
 use std::fmt;
 
 /// Why nothing is planned.

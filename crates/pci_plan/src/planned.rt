@@ -17,13 +17,13 @@ use super::need::Needs;
 use super::numbers::Filling;
 use super::place::Places;
 use super::pools::Pools;
+use pci_base::image::{Image, put};
+use pci_base::memory::{OutOfMemory, Refused};
+use pci_base::offset::COMMAND;
+use pci_base::window_kind::ByKind;
 use pci_dump::block::Block;
 use pci_dump::dump::Dump;
-use pci_dump::memory::{OutOfMemory, Refused};
-use pci_image::image::{Image, put};
-use pci_image::offset::COMMAND;
 use pci_image::register::address_registers;
-use pci_image::window_kind::ByKind;
 use pci_tree::admitted::Admitted;
 use std::alloc::Allocator;
 

@@ -1,16 +1,16 @@
 //! The pools of addresses that regions are placed in.
 ghost use Rattle.std.specs.Prelude.{◌≡◌};
 ghost use Rattle.plan_spec.specs.Plan.{are_bad, pool_of};
-ghost use Rattle.pci_image.specs.Ranges.{decoded_range_of};
-ghost use Rattle.pci_image.specs.WindowKinds.{kind_value};
+ghost use Rattle.pci_base.specs.Ranges.{decoded_range_of};
+ghost use Rattle.pci_base.specs.WindowKinds.{kind_value};
 ghost use Rattle.pci_plan.specs.Pools.{pools_value};
 
-use pci_image::range::Range;
-use pci_image::window_kind::WindowKind;
+use pci_base::range::Range;
+use pci_base::window_kind::WindowKind;
 
 /// The class of a region, which says what pool it is placed in: that of the windows which lead to it. Prefetchable BARs
 /// to which prefetchable windows lead all the way are `Prefetchable`, and all other memory is `Memory`.
-pub use pci_image::window_kind::WindowKind as Class;
+pub use pci_base::window_kind::WindowKind as Class;
 
 /// The highest address of a pool of I/O, and of one of memory.
 const IO_LAST: u64 = 0xffff;

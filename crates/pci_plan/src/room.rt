@@ -3,15 +3,15 @@ ghost use Rattle.std.specs.Prelude.{◌≡◌, ◌<◌, ◌≤◌, ◌^◌, map,
 ghost use Rattle.std.specs.List.{All, sum};
 ghost use Rattle.plan_spec.specs.Plan.{fits, raised_to};
 ghost use Rattle.pci_tree.specs.Roots.{buses_of};
-ghost use Rattle.pci_image.specs.WindowKinds.{kind_value};
+ghost use Rattle.pci_base.specs.WindowKinds.{kind_value};
 ghost use Rattle.pci_plan.specs.Pools.{pools_value};
 ghost use Rattle.pci_plan.specs.Above.{system_in};
 ghost use Rattle.pci_plan.specs.Needs.{AreNeeds};
 
 use super::need::Needs;
 use super::pools::Pools;
-use pci_image::slot::BUSES;
-use pci_image::window_kind::WindowKind;
+use pci_base::slot::BUSES;
+use pci_base::window_kind::WindowKind;
 use pci_tree::admitted::Admitted;
 use pci_tree::roots::Roots;
 use std::alloc::Allocator;

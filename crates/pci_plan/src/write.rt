@@ -1,6 +1,6 @@
 //! A write to a register of a function.
 
-use pci_image::slot::Slot;
+use pci_base::slot::Slot;
 use std::fmt;
 
 /// A write of `width` little-endian bytes, 2 or 4, to a byte offset of the function at a slot.

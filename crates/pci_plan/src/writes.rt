@@ -7,13 +7,13 @@ ghost use Rattle.plan_spec.specs.Planning.PlanWrites.{plan_writes, closing_write
 ghost use Rattle.pci_plan.specs.Writes.{write_value, is_image_on, block_change, block_changes};
 
 use super::write::Write;
+use pci_base::image::Image;
+use pci_base::memory::OutOfMemory;
+use pci_base::offset::COMMAND;
+use pci_base::slot::Slot;
 use pci_dump::block::Block;
-use pci_dump::memory::OutOfMemory;
 use pci_image::header::layout;
-use pci_image::image::Image;
-use pci_image::offset::COMMAND;
 use pci_image::register::address_registers;
-use pci_image::slot::Slot;
 use std::alloc::Allocator;
 
 /// Command with bits 0 and 1, which enable I/O and memory space, clear (PCI 3.0, 6.2.2).

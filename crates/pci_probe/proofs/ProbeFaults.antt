@@ -6,8 +6,8 @@ use Rattle.pci_spec.specs.Text.{Block, slots_of}
 use Rattle.pci_spec.specs.SizesText.{SizesBlock, sized_slots}
 use Rattle.pci_spec.specs.ProbeOf as spec
 use Rattle.pci_spec.specs.ProbeOf.{SlotsDiffer, told_of, lone_slots, least_slot, identity_fault, read_back_fault, first_of, probe_fault}
-use Rattle.pci_dump.specs.declared.memory.Refused.{Refused}
-use Rattle.pci_dump.specs.declared.memory.Refused.TheVariants.{Fault, Memory}
+use Rattle.pci_base.specs.declared.memory.Refused.{Refused}
+use Rattle.pci_base.specs.declared.memory.Refused.TheVariants.{Fault, Memory}
 use Rattle.pci_probe.specs.declared.probe_fault.ProbeFault.{ProbeFault}
 use Rattle.pci_probe.specs.Derivation.{IsFaultOfFunction, told}
 use Rattle.pci_probe.specs.ProbeFault.{IsFirstFault, fault_value}

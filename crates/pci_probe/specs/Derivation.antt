@@ -3,8 +3,8 @@ use Rattle.std.specs.Prelude.{◌≡◌, Bool, Some}
 use Rattle.pci_spec.specs.Text.{Block}
 use Rattle.pci_spec.specs.SizesText.{SizesBlock}
 use Rattle.pci_spec.specs.ProbeOf.{Told, read_back_fault}
-use Rattle.pci_dump.specs.declared.memory.Refused.{Refused}
-use Rattle.pci_dump.specs.declared.memory.Refused.TheVariants.{Fault, Memory}
+use Rattle.pci_base.specs.declared.memory.Refused.{Refused}
+use Rattle.pci_base.specs.declared.memory.Refused.TheVariants.{Fault, Memory}
 use Rattle.pci_probe.specs.declared.probe_fault.ProbeFault.{ProbeFault}
 use Rattle.pci_probe.specs.ProbeFault.{fault_value}
 

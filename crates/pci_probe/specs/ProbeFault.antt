@@ -6,8 +6,8 @@ use Rattle.pci_spec.specs.SizesText.{SizesBlock}
 use Rattle.pci_spec.specs.ProbeOf.{probe_fault}
 use Rattle.pci_spec.specs.ProbeOf as spec
 use Rattle.pci_image.specs.declared.fault.ImageFault.TheVariants as of_image
-use Rattle.pci_dump.specs.declared.memory.Refused.{Refused}
-use Rattle.pci_dump.specs.declared.memory.Refused.TheVariants.{Fault, Memory}
+use Rattle.pci_base.specs.declared.memory.Refused.{Refused}
+use Rattle.pci_base.specs.declared.memory.Refused.TheVariants.{Fault, Memory}
 use Rattle.pci_probe.specs.declared.fault.DeriveFault.{DeriveFault}
 use Rattle.pci_probe.specs.declared.fault.DeriveFault.TheVariants as of_function
 use Rattle.pci_probe.specs.declared.probe_fault.ProbeFault.{ProbeFault}

@@ -2,7 +2,7 @@
 ghost use Rattle.std.specs.Prelude.{Some};
 ghost use Rattle.pci_spec.specs.ProbeOf.{assumed_text};
 
-use pci_image::slot::Slot;
+use pci_base::slot::Slot;
 use std::fmt;
 use std::marker::Model;
 

@@ -9,8 +9,8 @@ ghost use Rattle.pci_probe.specs.Derived.{derived_of};
 
 use super::derived::Derived;
 use super::line::ResourceLine;
-use pci_image::image::Image;
-use pci_image::offset::{BASE_ADDRESS, COMMAND};
+use pci_base::image::Image;
+use pci_base::offset::{BASE_ADDRESS, COMMAND};
 
 /// Whether a BAR maps into I/O space, by what it shows.
 fn is_io(value: u64) -> bool

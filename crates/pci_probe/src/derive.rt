@@ -12,9 +12,9 @@ use super::fault::DeriveFault;
 use super::line::ResourceLine;
 use super::register::register;
 use arrayvec::ArrayVec;
+use pci_base::image::{IMAGE_LEN, Image, put};
 use pci_image::fault::ImageFault;
 use pci_image::header::Header;
-use pci_image::image::{IMAGE_LEN, Image, put};
 use pci_image::register::address_registers;
 
 /// Whether a function is a bridge, by its header, and not a device.

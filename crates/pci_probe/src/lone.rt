@@ -5,8 +5,8 @@ ghost use Rattle.pci_spec.specs.SizesText.{IsSizes, sized_slots};
 ghost use Rattle.pci_spec.specs.ProbeOf.{least_slot, lone_slots};
 
 use super::sizes::SizesBlock;
+use pci_base::slot::Slot;
 use pci_dump::block::Block;
-use pci_image::slot::Slot;
 
 /// The least slot that only one of two lists of blocks has: the smaller of the two slots at the
 /// first place where they differ, or the one that one list alone has there.

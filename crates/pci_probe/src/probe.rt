@@ -5,7 +5,7 @@ ghost use Rattle.pci_spec.specs.NoProbe.{no_probe};
 ghost use Rattle.pci_spec.specs.ProbeOf.{assumed_at, assumed_in, assumed_of, first_of, identity_fault, probe_block, probe_fault};
 ghost use Rattle.pci_spec.specs.ProbeOf as spec;
 ghost use Rattle.pci_image.specs.Header.{HasHeader};
-ghost use Rattle.pci_function.specs.Pair.{IsPair};
+ghost use Rattle.pci_pair.specs.Pair.{IsPair};
 ghost use Rattle.pci_probe.specs.ProbeFault.{IsFirstFault, fault_value};
 ghost use Rattle.pci_probe.specs.Derivation.{IsFaultOfFunction, told};
 
@@ -15,11 +15,11 @@ use super::fault::DeriveFault;
 use super::lone::lone_slot;
 use super::probe_fault::ProbeFault;
 use super::sizes::{Sizes, SizesBlock};
+use pci_base::image::{IMAGE_LEN, Image};
+use pci_base::memory::{OutOfMemory, Refused};
+use pci_base::slot::Slot;
 use pci_dump::block::Block;
 use pci_dump::dump::Dump;
-use pci_dump::memory::{OutOfMemory, Refused};
-use pci_image::image::{IMAGE_LEN, Image};
-use pci_image::slot::Slot;
 use std::alloc::{Allocator, Global};
 
 /// A probe, and the registers in it whose read backs are assumed, by rising slot and offset.
@@ -98,7 +98,7 @@ fn add<A: Allocator>(
 }
 
 /// The probe of a dump, by what Linux tells of its functions' registers. It has the dump's slots and
-/// no titles, and goes with the dump as [`pci_function::pair::pair`] asks. In an `exact` probe nothing is
+/// no titles, and goes with the dump as [`pci_pair::pair::pair`] asks. In an `exact` probe nothing is
 /// assumed.
 ///
 /// # Errors

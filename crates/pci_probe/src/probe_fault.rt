@@ -3,8 +3,8 @@ ghost use Rattle.std.specs.Prelude.{◌≡◌, Some};
 ghost use Rattle.pci_spec.specs.ProbeOf.{probe_fault_number, probe_fault_text};
 
 use super::fault::DeriveFault;
+use pci_base::slot::Slot;
 use pci_image::fault::ImageFault;
-use pci_image::slot::Slot;
 use std::fmt;
 
 /// Why no probe is derived for a dump, with the function and, as a byte offset, the register.

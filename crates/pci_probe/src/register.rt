@@ -10,9 +10,9 @@ use super::derived::Derived;
 use super::line::ResourceLine;
 use super::rom::rom;
 use super::window::window;
+use pci_base::image::Image;
+use pci_base::offset::{BASE_ADDRESS, COMMAND};
 use pci_image::bar::starts_bar;
-use pci_image::image::Image;
-use pci_image::offset::{BASE_ADDRESS, COMMAND};
 use pci_image::register::rom_register;
 
 /// What is derived for BAR register `n`: of a BAR, or the upper half of the one before.

@@ -6,9 +6,9 @@ ghost use Rattle.pci_probe.specs.Sizes.{IsNotPushed};
 
 use super::line::ResourceLine;
 use super::sizes_block::may_follow;
+use pci_base::memory::{OutOfMemory, Refused};
+use pci_base::slot::Slot;
 use pci_dump::dump::{BLOCKS_MAX, PushFault};
-use pci_dump::memory::{OutOfMemory, Refused};
-use pci_image::slot::Slot;
 use std::alloc::{Allocator, Global};
 use std::marker::Model;
 

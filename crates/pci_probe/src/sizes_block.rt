@@ -8,8 +8,8 @@ ghost use Rattle.pci_probe.specs.SizesFault.{IsNoBlockAfter};
 
 use super::sizes::SizesBlock;
 use super::sizes_line::lines_into;
+use pci_base::slot::Slot;
 use pci_dump::slot_text::slot_of;
-use pci_image::slot::Slot;
 
 /// How many bytes a block has.
 pub(crate) const BLOCK_LEN: usize = 408;

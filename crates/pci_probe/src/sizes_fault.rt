@@ -9,7 +9,7 @@ ghost use Rattle.pci_probe.specs.SizesFault.{IsFaultAfter, IsNoBlockAfter};
 
 use super::sizes::SizesBlock;
 use super::sizes_block::{BLOCK_LEN, may_follow};
-use pci_dump::digit::digit_value;
+use pci_base::digit::digit_value;
 use pci_dump::read_fault::ReadFault;
 use pci_dump::slot_text::slot_of;
 

@@ -7,7 +7,7 @@ ghost use Rattle.pci_spec.specs.SizesText.{IsResourceLine, number_text, resource
 ghost use Rattle.pci_spec.specs.SizesForm.{number_cells, resource_cells, lines_cells};
 
 use super::line::ResourceLine;
-use pci_dump::digit::digit_value;
+use pci_base::digit::digit_value;
 
 /// How many bytes a line has with its end.
 const LINE_LEN: usize = 57;

@@ -1,17 +1,17 @@
 //! What is derived for the windows of a bridge (Bridge 1.2, 3.2.5).
 ghost use Rattle.std.specs.Prelude.{◌≡◌, IsTrue, ◌<◌, ◌==◌, true, false, if◌then◌else◌, MatchOption};
 ghost use Rattle.pci_spec.specs.Window.{is_optional};
-ghost use Rattle.pci_image.specs.WindowKinds.{kind_value};
+ghost use Rattle.pci_base.specs.WindowKinds.{kind_value};
 ghost use Rattle.pci_spec.specs.Derived as spec;
 ghost use Rattle.pci_probe.specs.Derived.{derived_of, IsNarrow};
 
 use super::derived::Derived;
-use pci_image::image::Image;
-use pci_image::offset::{
+use pci_base::image::Image;
+use pci_base::offset::{
     COMMAND, IO_BASE, MEMORY_BASE, PREFETCHABLE_BASE, PREFETCHABLE_BASE_UPPER,
     PREFETCHABLE_LIMIT_UPPER,
 };
-use pci_image::window_kind::WindowKind;
+use pci_base::window_kind::WindowKind;
 
 /// The low nibble of a window's base, unless all its registers show 0.
 fn nibble(kind: WindowKind, image: &Image) -> Option<u64>

@@ -18,7 +18,7 @@ use Rattle.pci_spec.proofs.Members.{IsMade, in_map_to, in_map_from, pairs_map}
 use Rattle.pci_function.specs.declared.record.Record.{Record}
 use Rattle.pci_function.specs.declared.record.Bridge.{Bridge}
 use Rattle.pci_function.specs.Values.{record_value, bridge_value}
-use Rattle.pci_function.specs.Space.{is_prefetch}
+use Rattle.pci_base.specs.Space.{is_prefetch}
 use Rattle.pci_tree.specs.Passes.{record_passes}
 use Rattle.pci_tree.specs.Ways.{secondary_in, bus_behind, Leads, IsTheWay, AreSlotsOfWay, slots_of}
 use Rattle.pci_tree.specs.Reaches.{PassAll, GetsTo}

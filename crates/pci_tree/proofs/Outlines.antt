@@ -11,12 +11,12 @@ use Rattle.pci_spec.specs.Decoded.{record_of}
 use Rattle.pci_spec.specs.Decoded as decoded
 use Rattle.pci_spec.specs.Window.{WindowKind, IoWindow, MemoryWindow, PrefetchWindow}
 use Rattle.pci_spec.proofs.Members.{IsMade, in_map_to, in_map_from}
-use Rattle.pci_image.specs.declared.range.Range.{Range}
+use Rattle.pci_base.specs.declared.range.Range.{Range}
 use Rattle.pci_function.specs.declared.record.Bridge.{Bridge}
 use Rattle.pci_function.specs.declared.record.Record.{Record}
 use Rattle.pci_function.specs.Values.{record_value, bridge_value}
 use Rattle.pci_tree.specs.Ranges.{Covers}
-use Rattle.pci_function.specs.Space.{is_prefetch, kind_in}
+use Rattle.pci_base.specs.Space.{is_prefetch, kind_in}
 use Rattle.pci_tree.specs.Passes.{HaveSpans}
 use Rattle.pci_tree.specs.Ways.{is_bridging, slots_of, IsUnled, AreSlotsOfWay}
 use Rattle.pci_tree.specs.Regions.{IsLawful, IsSpanIn, window_in}

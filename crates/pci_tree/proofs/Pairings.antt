@@ -14,8 +14,8 @@ use Rattle.pci_spec.proofs.Pairing.{same_length, slots-system_of, IsSystem-of_du
 use Rattle.pci_spec.specs.Order.{phase_of, IsFirstThere}
 use Rattle.pci_function.specs.Profile.{IsHere}
 use Rattle.pci_tree.specs.Survey.{Surveyed, earlier, IsSurveyOf, IsAdded, IsRefusedBy, IsOutlineOf}
-use Rattle.pci_dump.specs.declared.memory.Refused.{Refused}
-use Rattle.pci_dump.specs.declared.memory.Refused.TheVariants as refusals
+use Rattle.pci_base.specs.declared.memory.Refused.{Refused}
+use Rattle.pci_base.specs.declared.memory.Refused.TheVariants as refusals
 use Rattle.pci_function.specs.declared.fault.Fault.{Fault as FaultOfCode}
 use Rattle.pci_function.specs.Fault.{fault_of}
 use Rattle.pci_tree.specs.Refusals.{IsRefusalOf, IsPairRefusal}

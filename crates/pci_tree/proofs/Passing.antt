@@ -5,7 +5,7 @@ use Rattle.std.specs.List.{Contains}
 use Rattle.std.proofs.lemmas.List.{get_or-take, take_more, length-take-le}
 use Rattle.std.proofs.lemmas.List.Quantifiers.{Any-push, all_pairs_push}
 use Rattle.std.proofs.lemmas.List.Elements.{All-push, Contains-push_cases, Contains-append_left}
-use Rattle.pci_image.specs.declared.range.Range.{Range}
+use Rattle.pci_base.specs.declared.range.Range.{Range}
 use Rattle.pci_tree.specs.declared.forwarded.Forwarded.{Forwarded}
 use Rattle.pci_tree.specs.Ranges.{Holds, Covers, IsCanonical}
 use Rattle.pci_tree.specs.Passing.{Passes, IsPush, IsReach}

@@ -8,7 +8,7 @@ use Rattle.pci_spec.specs.System.{Function, Io, Memory, is_bridge, passes, is_sp
 use Rattle.pci_spec.specs.Decoded.{Range, InRange, window_range, optional_window, bridge_of, record_of, IsDecodable}
 use Rattle.pci_spec.proofs.Ranges.{window_range-holds, absent_window}
 use Rattle.pci_spec.proofs.Records.{same_truth, memory_window_there}
-use Rattle.pci_function.specs.Space.{is_on, is_prefetch}
+use Rattle.pci_base.specs.Space.{is_on, is_prefetch}
 use Rattle.pci_tree.specs.Passes.{is_in, range_in, bridge_passes, record_passes}
 
 -- a test for an address as what it means

@@ -19,7 +19,7 @@ use Rattle.pci_function.specs.declared.record.Bridge.{Bridge}
 use Rattle.pci_function.specs.declared.record.Record.{Record}
 use Rattle.pci_tree.specs.declared.region.Region.{Region}
 use Rattle.pci_function.specs.Values.{record_value}
-use Rattle.pci_function.specs.Space.{is_on}
+use Rattle.pci_base.specs.Space.{is_on}
 use Rattle.pci_tree.specs.Regions.{is_bar_of, bar_region, bar_regions, window_region, window_regions, window_in, kinds_in, kind_regions, bridge_regions, rom_region, rom_regions, regions_of}
 use Rattle.pci_tree.proofs.Lifting.{same_bridge, pairs_unmap}
 use Rattle.pci_tree.proofs.Regions.{IsBarAt, bar_at_register}

@@ -22,7 +22,7 @@ use Rattle.pci_function.specs.declared.record.Record.{Record}
 use Rattle.pci_tree.specs.declared.region.Region.{Region}
 use Rattle.pci_function.specs.Values.{record_value, bridge_value}
 use Rattle.pci_image.specs.Roms.{decoded_rom_of}
-use Rattle.pci_function.specs.Space.{is_on}
+use Rattle.pci_base.specs.Space.{is_on}
 use Rattle.pci_tree.specs.Passes.{is_in, range_in}
 use Rattle.pci_tree.specs.Regions.{bar_regions, window_region, window_regions, window_in, kinds_in, kind_regions, bridge_regions, rom_region, rom_regions, regions_of, IsRegionOf, HasRegionOf, IsSpanIn, IsLawful}
 use Rattle.pci_tree.proofs.Recorded.{is_in-holds, holds-there, holds-optional}

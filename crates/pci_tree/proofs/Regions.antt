@@ -21,7 +21,7 @@ use Rattle.pci_image.specs.Bars.{decoded_kind_of, decoded_bar_of}
 use Rattle.pci_function.specs.declared.record.Record.{Record}
 use Rattle.pci_tree.specs.declared.region.Region.{Region}
 use Rattle.pci_function.specs.Values.{record_value}
-use Rattle.pci_function.specs.Space.{is_on}
+use Rattle.pci_base.specs.Space.{is_on}
 use Rattle.pci_tree.specs.Regions.{space_in, same_space, is_bar_of, bar_region, bar_regions, IsRegionOf, HasRegionOf, IsSpanIn, IsLawful}
 use Rattle.pci_tree.proofs.Lifting.{same_slot_of}
 

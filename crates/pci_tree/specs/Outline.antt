@@ -6,7 +6,7 @@ use Rattle.pci_spec.specs.System.{System, Function, Space, IsAddress, Leads, IsP
 use Rattle.pci_spec.specs.Bus.{IsNested}
 use Rattle.pci_spec.specs.Decoded.{HasRecords}
 use Rattle.pci_spec.specs.Decoded as decoded
-use Rattle.pci_image.specs.declared.range.Range.{Range}
+use Rattle.pci_base.specs.declared.range.Range.{Range}
 use Rattle.pci_function.specs.declared.record.Record.{Record}
 use Rattle.pci_tree.specs.declared.region.Region.{Region}
 use Rattle.pci_function.specs.Values.{record_value}

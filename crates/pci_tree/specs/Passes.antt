@@ -3,7 +3,7 @@ use Rattle.std.specs.Prelude.{ℕ, ◌≤◌, nat_le, Bool, false, ◌&&◌, ◌
 use Rattle.pci_spec.specs.Window.{WindowKind, IoWindow, MemoryWindow, PrefetchWindow}
 use Rattle.pci_spec.specs.System.{window_space}
 use Rattle.pci_spec.specs.Decoded.{Range, DecodedWindow, DecodedWindows, Bridge, Record}
-use Rattle.pci_function.specs.Space.{is_on}
+use Rattle.pci_base.specs.Space.{is_on}
 
 -- whether there is a range, and it has the address
 abbrev pub is_in : Option Range → ℕ → Bool

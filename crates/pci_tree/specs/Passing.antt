@@ -1,6 +1,6 @@
 -- What a bridge passes.
 use Rattle.std.specs.Prelude.{ℕ, ◌+◌, ◌<◌, ◌≤◌, ◌⊎◌, ◌↔◌, List, Option, None, Some}
-use Rattle.pci_image.specs.declared.range.Range.{Range}
+use Rattle.pci_base.specs.declared.range.Range.{Range}
 use Rattle.pci_tree.specs.declared.forwarded.Forwarded.{Forwarded}
 use Rattle.pci_tree.specs.declared.forwarded.Forwarded.TheVariants.{Nothing, One, Two}
 use Rattle.pci_tree.specs.Ranges.{Holds, Covers, IsCanonical}

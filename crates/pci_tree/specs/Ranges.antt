@@ -1,7 +1,7 @@
 -- Ranges of addresses, and lists of them.
 use Rattle.std.specs.Prelude.{ℕ, ◌+◌, ◌<◌, ◌≤◌, List}
 use Rattle.std.specs.List.{All, Any, AllPairs}
-use Rattle.pci_image.specs.declared.range.Range.{Range}
+use Rattle.pci_base.specs.declared.range.Range.{Range}
 
 -- the range has the address
 abbrev pub Holds : Range → ℕ → Type 0

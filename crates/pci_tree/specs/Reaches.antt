@@ -4,7 +4,7 @@ use Rattle.std.specs.List.{Contains, HoldsAt}
 use Rattle.pci_spec.specs.Window.{WindowKind}
 use Rattle.pci_spec.specs.System.{Space, IsAddress, window_space}
 use Rattle.pci_spec.specs.Decoded as decoded
-use Rattle.pci_image.specs.declared.range.Range.{Range}
+use Rattle.pci_base.specs.declared.range.Range.{Range}
 use Rattle.pci_function.specs.declared.record.Record.{Record}
 use Rattle.pci_function.specs.Values.{record_value, bridge_value}
 use Rattle.pci_tree.specs.Passes.{record_passes, HaveSpans}

@@ -3,8 +3,8 @@ use Rattle.std.specs.Prelude.{ℕ, ◌<◌, List}
 use Rattle.pci_spec.specs.Text.{Block}
 use Rattle.pci_spec.specs.Fault.{fault_number}
 use Rattle.pci_spec.specs.Order.{IsFirstThere}
-use Rattle.pci_dump.specs.declared.memory.Refused.{Refused}
-use Rattle.pci_dump.specs.declared.memory.Refused.TheVariants.{Fault, Memory}
+use Rattle.pci_base.specs.declared.memory.Refused.{Refused}
+use Rattle.pci_base.specs.declared.memory.Refused.TheVariants.{Fault, Memory}
 use Rattle.pci_function.specs.declared.fault.Fault.{Fault as FaultOfCode}
 use Rattle.pci_function.specs.Fault.{fault_of}
 use Rattle.pci_tree.specs.Survey.{Surveyed, IsRefusedBy}

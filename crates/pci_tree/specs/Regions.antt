@@ -15,7 +15,7 @@ use Rattle.pci_function.specs.declared.record.Record.{Record}
 use Rattle.pci_tree.specs.declared.region.Region.{Region}
 use Rattle.pci_tree.specs.declared.region.Part.{Part}
 use Rattle.pci_tree.specs.declared.region.Part.TheVariants as parts
-use Rattle.pci_function.specs.Space.{is_on}
+use Rattle.pci_base.specs.Space.{is_on}
 use Rattle.pci_tree.specs.Passes.{range_in}
 
 -- the space that a kind of BAR maps into

@@ -5,8 +5,8 @@ ghost use Rattle.pci_spec.specs.Slot.{IsSlot};
 ghost use Rattle.pci_tree.specs.Ways.{slots_of};
 ghost use Rattle.pci_tree.specs.Outline.{RiseBySlot, IsBusPart};
 
+use pci_base::slot::Slot;
 use pci_function::record::Record;
-use pci_image::slot::Slot;
 
 /// The index of the first record on this bus or a higher one.
 fn first_from(records: &[Record], bus: u16) -> usize

@@ -11,9 +11,9 @@ ghost use Rattle.pci_tree.specs.PlaceFaults.{IsPlaceFault, IsSomePlaceFault};
 
 use super::bus::{has_slot, on_bus};
 use super::roots::Roots;
+use pci_base::slot::{BUSES, Slot};
 use pci_function::fault::Fault;
 use pci_function::record::{Bridge, Record};
-use pci_image::slot::{BUSES, Slot};
 
 /// Whether a bridge knows its own bus, and leads to higher ones.
 fn has_order(bus: u8, bridge: &Bridge) -> bool

@@ -4,8 +4,8 @@ ghost use Rattle.pci_tree.specs.Ranges.{Holds, Covers, IsCanonical};
 ghost use Rattle.pci_tree.specs.Passing.{Passes, IsPassed, HoldsSome, IsPush, IsReach};
 
 use super::ranges::meet;
-use pci_dump::memory::OutOfMemory;
-use pci_image::range::Range;
+use pci_base::memory::OutOfMemory;
+use pci_base::range::Range;
 use std::alloc::Allocator;
 
 /// What a bridge passes: nothing, one range, or two with at least one address between them.

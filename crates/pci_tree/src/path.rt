@@ -6,8 +6,8 @@ ghost use Rattle.pci_tree.specs.Ways.{IsForest, IsBridgeToBus, AreClear, AreSlot
 
 use super::roots::Roots;
 use arrayvec::ArrayVec;
+use pci_base::slot::{BUSES, Slot};
 use pci_function::record::Record;
-use pci_image::slot::{BUSES, Slot};
 
 /// At each bus the index of the bridge that leads there.
 pub fn bridge_to_bus(records: &[Record]) -> [Option<usize>; BUSES]

@@ -3,7 +3,7 @@ ghost use Rattle.std.specs.Prelude.{◌<◌, ◌≤◌, ◌↔◌, ℕ, length, 
 ghost use Rattle.std.specs.List.{AllWithin};
 ghost use Rattle.pci_tree.specs.Ranges.{Holds, Covers, IsCanonical, IsLeastOutside, IsLeastFrom};
 
-use pci_image::range::Range;
+use pci_base::range::Range;
 
 /// The addresses that two ranges have in common.
 pub fn meet(r: Range, s: Range) -> Option<Range>

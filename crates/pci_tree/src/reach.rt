@@ -2,9 +2,9 @@
 //! passes of those of its own bus.
 ghost use Rattle.std.specs.Prelude.{◌≡◌, ◌<◌, ℕ, List, length, IfOk, IfSome, slice_index_or};
 ghost use Rattle.std.specs.List.{All};
-ghost use Rattle.pci_image.specs.declared.range.Range.{Range};
-ghost use Rattle.pci_image.specs.WindowKinds.{kind_value};
-ghost use Rattle.pci_function.specs.Space.{space_of};
+ghost use Rattle.pci_base.specs.declared.range.Range.{Range};
+ghost use Rattle.pci_base.specs.WindowKinds.{kind_value};
+ghost use Rattle.pci_base.specs.Space.{space_of};
 ghost use Rattle.pci_tree.specs.Ranges.{IsCanonical};
 ghost use Rattle.pci_tree.specs.Roots.{buses_of};
 ghost use Rattle.pci_tree.specs.Ways.{IsForest, IsBridgeToBus};
@@ -13,12 +13,12 @@ ghost use Rattle.pci_tree.specs.Reaches.{IsReachOf, IsStep, IsWhole, HasSpans, S
 use super::forwarded::passed_on;
 use super::roots::Roots;
 use super::window::forwarded;
-use pci_dump::memory::OutOfMemory;
+use pci_base::memory::OutOfMemory;
+use pci_base::range::Range;
+use pci_base::slot::BUSES;
+use pci_base::space::Space;
+use pci_base::window_kind::WindowKind;
 use pci_function::record::Record;
-use pci_function::space::Space;
-use pci_image::range::Range;
-use pci_image::slot::BUSES;
-use pci_image::window_kind::WindowKind;
 use std::alloc::{Allocator, Global};
 use std::marker::Model;
 
@@ -30,7 +30,7 @@ pub struct Reach<A: Allocator = Global> {
 
 impl<A: Allocator> Model for Reach<A> {
     ghost use Rattle.std.specs.Prelude.{List};
-    ghost use Rattle.pci_image.specs.declared.range.Range.{Range};
+    ghost use Rattle.pci_base.specs.declared.range.Range.{Range};
 
     ghost Value = { List Range };
 

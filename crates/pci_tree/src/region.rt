@@ -1,18 +1,18 @@
 //! The regions of a function: its enabled BARs, windows and ROM, each with the addresses that it claims.
 ghost use Rattle.std.specs.Prelude.{◌≡◌, ◌++◌, OnOk};
-ghost use Rattle.pci_image.specs.WindowKinds.{kind_value};
-ghost use Rattle.pci_function.specs.Space.{space_of};
+ghost use Rattle.pci_base.specs.WindowKinds.{kind_value};
+ghost use Rattle.pci_base.specs.Space.{space_of};
 ghost use Rattle.pci_tree.specs.Regions.{space_in, same_space, bar_regions, kind_regions, bridge_regions, rom_regions, regions_of};
 
 use super::window::range_of;
-use pci_dump::memory::OutOfMemory;
+use pci_base::memory::OutOfMemory;
+use pci_base::slot::Slot;
+use pci_base::space::Space;
+use pci_base::window_kind::WindowKind;
 use pci_function::record::{Bridge, Record};
-use pci_function::space::Space;
 use pci_image::bar::{Bar, BarKind};
 use pci_image::rom::Rom;
-use pci_image::slot::Slot;
 use pci_image::window::Windows;
-use pci_image::window_kind::WindowKind;
 use std::alloc::Allocator;
 
 /// What a region is of a function.

@@ -4,7 +4,7 @@ ghost use Rattle.std.specs.List.{Contains};
 ghost use Rattle.std.specs.List.Sorted.{IsStrictlyIncreasing};
 ghost use Rattle.pci_tree.specs.Roots.{buses_of, IsRootList};
 
-use pci_image::slot::BUSES;
+use pci_base::slot::BUSES;
 
 /// A set of root buses, which isn't empty where `of` made it. The host shows each access to all of them at once.
 #[derive(Clone, Copy, Debug, PartialEq, Eq)]

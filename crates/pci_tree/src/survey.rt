@@ -12,13 +12,13 @@ ghost use Rattle.pci_tree.specs.Survey.{earlier, lesser_slot, IsSurveyOf, IsAdde
 
 use super::outline::Outline;
 use super::roots::Roots;
+use pci_base::image::IMAGE_LEN;
+use pci_base::memory::{OutOfMemory, Refused};
+use pci_base::slot::Slot;
 use pci_dump::block::Block;
-use pci_dump::memory::{OutOfMemory, Refused};
 use pci_function::examine::examine;
 use pci_function::fault::Fault;
 use pci_function::record::Record;
-use pci_image::image::IMAGE_LEN;
-use pci_image::slot::Slot;
 use std::alloc::{Allocator, Global};
 use std::marker::Model;
 

@@ -1,18 +1,18 @@
 //! What the windows of a bridge pass (Bridge 1.2, chapter 4).
 ghost use Rattle.std.specs.Prelude.{◌≡◌, ◌↔◌, ℕ, IfSome, IsTrue};
 ghost use Rattle.std.specs.Option.{option_map};
-ghost use Rattle.pci_image.specs.Ranges.{decoded_range_of};
-ghost use Rattle.pci_image.specs.WindowKinds.{kind_value};
+ghost use Rattle.pci_base.specs.Ranges.{decoded_range_of};
+ghost use Rattle.pci_base.specs.WindowKinds.{kind_value};
 ghost use Rattle.pci_function.specs.Values.{bridge_value, record_value};
 ghost use Rattle.pci_tree.specs.Passing.{Passes, IsPassed};
 ghost use Rattle.pci_tree.specs.Passes.{range_in, windows_pass, record_passes, HaveSpans};
 
 use super::forwarded::{Forwarded, union};
+use pci_base::range::Range;
+use pci_base::space::Space;
+use pci_base::window_kind::WindowKind;
 use pci_function::record::{Bridge, Record};
-use pci_function::space::Space;
-use pci_image::range::Range;
 use pci_image::window::Window;
-use pci_image::window_kind::WindowKind;
 
 /// The range of a window that is there and open.
 pub(crate) fn range_of(window: Option<Window>) -> Option<Range>

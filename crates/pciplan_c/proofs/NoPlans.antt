@@ -2,8 +2,8 @@
 use Rattle.std.proofs.Common.{◌≡◌, ℕ, List, subst}
 use Rattle.pci_spec.specs.Text.{Block, IsTextOf}
 use Rattle.plan_spec.specs.Plan.{Pools}
-use Rattle.pci_dump.specs.declared.memory.Refused.{Refused}
-use Rattle.pci_dump.specs.declared.memory.Refused.TheVariants as refusals
+use Rattle.pci_base.specs.declared.memory.Refused.{Refused}
+use Rattle.pci_base.specs.declared.memory.Refused.TheVariants as refusals
 use Rattle.pci_tree.specs.Roots.{IsRootList}
 use Rattle.pci_tree.specs.Refusals.{IsPairRefusal}
 use Rattle.pci_function.specs.declared.fault.Fault.{Fault}

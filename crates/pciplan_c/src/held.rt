@@ -1,7 +1,7 @@
 //! Texts that lie in memory: one that is read, and one that grows.
 ghost use Rattle.std.specs.Prelude.{◌≡◌, ◌<◌, [], Some};
 
-use pci_dump::failures::Failures;
+use pci_base::failures::Failures;
 use pci_dump::streams::{Failed, Sink, Source};
 use std::alloc::Allocator;
 

@@ -4,8 +4,8 @@ ghost use Rattle.pci_plan.specs.Pools.{pools_value};
 ghost use Rattle.pci_plan.specs.Writes.{write_value};
 ghost use Rattle.pciplan_c.specs.PlanAnswers.{pools_of, value_of};
 
-use pci_dump::memory::OutOfMemory;
-use pci_image::range::Range;
+use pci_base::memory::OutOfMemory;
+use pci_base::range::Range;
 use pci_plan::pools::Pools;
 use pci_plan::write::Write;
 use std::alloc::Allocator;

@@ -6,9 +6,9 @@ use crate::answer::{Answer, Withheld};
 use crate::held::{Bytes, Written};
 use crate::put::put;
 use crate::refusal::Refusal;
+use pci_base::memory::OutOfMemory;
 use pci_check::audit::audit_with;
 use pci_check::outcome::AuditFault;
-use pci_dump::memory::OutOfMemory;
 use pci_tree::roots::Roots;
 use std::alloc::Allocator;
 

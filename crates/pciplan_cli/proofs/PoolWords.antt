@@ -4,7 +4,7 @@ use Rattle.std.proofs.Math.Nat.{pow-le-pow_right}
 use Rattle.std.proofs.lemmas.Str.Pattern.{IsSplitOnceResult, split_after}
 use Rattle.pci_spec.specs.Text.{hex_digit}
 use Rattle.pci_spec.specs.Line.{hex_number}
-use Rattle.pci_image.specs.declared.range.Range.{Range}
+use Rattle.pci_base.specs.declared.range.Range.{Range}
 use Rattle.pciplan_cli.specs.PoolWords.{IsAddressWord, IsPoolWord}
 use Rattle.pciplan_cli.proofs.HexWords.{IsDigit, no_minus, length_number, digit_at, number_same}
 

@@ -7,13 +7,13 @@ use Rattle.pci_spec.specs.Text.{Block, slots_of}
 use Rattle.pci_spec.specs.System.{Function, function_of, system_of}
 use Rattle.pci_spec.specs.Fault as faults
 use Rattle.pci_spec.specs.Listing.{listing, function_listing}
-use Rattle.pci_dump.specs.declared.memory.Refused.{Refused}
-use Rattle.pci_dump.specs.declared.memory.Refused.TheVariants as refusals
+use Rattle.pci_base.specs.declared.memory.Refused.{Refused}
+use Rattle.pci_base.specs.declared.memory.Refused.TheVariants as refusals
 use Rattle.pci_function.specs.declared.fault.Fault.{Fault}
 use Rattle.pci_function.specs.Fault.{image_fault_at}
 use Rattle.pci_function.proofs.Examined.{image_here}
 use Rattle.pci_function.proofs.FirstIn.{here_in}
-use Rattle.pci_function.proofs.Pairs.{placed}
+use Rattle.pci_pair.proofs.Pairs.{placed}
 use Rattle.pci_spec.proofs.Pairing.{there-of_in}
 use Rattle.pciplan_cli.specs.Shows.{IsRefusedFor, IsRefusedIn}
 

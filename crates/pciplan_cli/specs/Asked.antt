@@ -1,7 +1,7 @@
 -- The task that a command line asks for, and the word that it is refused for.
 use Rattle.std.specs.Prelude.{◌≡◌, ℕ, ◌∷◌, [], List, Option, None, Some}
 use Rattle.std.specs.Borrow.{Bor}
-use Rattle.pci_image.specs.declared.range.Range.{Range}
+use Rattle.pci_base.specs.declared.range.Range.{Range}
 use Rattle.pci_plan.specs.declared.pools.Pools.{Pools}
 use Rattle.pci_tree.specs.Roots.{buses_of}
 use Rattle.pci_tree.specs.declared.roots.Roots.{Roots}

@@ -1,7 +1,7 @@
 -- The addresses of a word of the command line.
 use Rattle.std.specs.Prelude.{◌≡◌, ℕ, ◌^◌, ◌<◌, ◌≤◌, List, ◌∷◌, ◌++◌}
 use Rattle.pci_spec.specs.Line.{hex_number}
-use Rattle.pci_image.specs.declared.range.Range.{Range}
+use Rattle.pci_base.specs.declared.range.Range.{Range}
 
 -- the address in 1 to 16 lower-case hex digits
 pub record IsAddressWord (word : List ℕ) (address : ℕ) : Type 0 where

@@ -3,8 +3,8 @@ use Rattle.std.specs.Prelude.{◌≡◌, ℕ, List}
 use Rattle.pci_spec.specs.Text.{Block}
 use Rattle.pci_spec.specs.System.{Function}
 use Rattle.pci_spec.specs.Fault as faults
-use Rattle.pci_dump.specs.declared.memory.Refused.{Refused}
-use Rattle.pci_dump.specs.declared.memory.Refused.TheVariants as refusals
+use Rattle.pci_base.specs.declared.memory.Refused.{Refused}
+use Rattle.pci_base.specs.declared.memory.Refused.TheVariants as refusals
 use Rattle.pci_image.specs.Faults.{IsImageFaultIn}
 use Rattle.pci_image.specs.declared.fault.ImageFault.{ImageFault}
 use Rattle.pci_function.specs.declared.fault.Fault.{Fault}

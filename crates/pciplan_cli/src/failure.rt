@@ -3,7 +3,7 @@ ghost use Rattle.std.specs.Prelude.{◌≡◌};
 ghost use Rattle.pciplan_cli.specs.Statuses.{status_of, words_failure};
 ghost use Rattle.pciplan_cli.specs.declared.failure.Failure.{Failure};
 
-use pci_dump::memory::OutOfMemory;
+use pci_base::memory::OutOfMemory;
 use pci_dump::read_fault::ReadFault;
 use pci_dump::streams::Sink;
 use pci_dump::write::write_all;

@@ -5,8 +5,8 @@ ghost use Rattle.pci_spec.specs.Text.{hex_byte, hex_digit, slot_text};
 ghost use Rattle.pci_spec.specs.Line.{hex_number};
 ghost use Rattle.pci_spec.specs.Listing.{decimal_text};
 
-use pci_dump::digit::digit_of;
-use pci_image::slot::Slot;
+use pci_base::digit::digit_of;
+use pci_base::slot::Slot;
 use std::alloc::{AllocError, Allocator};
 
 /// Appends the hex digit of a number below 16.

@@ -1,7 +1,7 @@
 //! Texts that are opened by their paths.
 ghost use Rattle.std.specs.Prelude.{◌≡◌, ◌+◌, ℕ, List, Option, None, OnOk, MatchResult};
 
-use pci_dump::failures::Failures;
+use pci_base::failures::Failures;
 use pci_dump::streams::{Failed, Source};
 use std::fs;
 use std::io::Read;

@@ -11,8 +11,8 @@ ghost use Rattle.pciplan_cli.specs.PlanAnswers.{IsPlanned};
 
 use crate::hex_text::{push_byte, push_hex, push_slot};
 use crate::reply::{Reply, Text, done, refused};
+use pci_base::memory::{OutOfMemory, Refused};
 use pci_dump::dump::Dump;
-use pci_dump::memory::{OutOfMemory, Refused};
 use pci_plan::planning::plan;
 use pci_plan::pools::Pools;
 use pci_plan::write::Write as RegisterWrite;

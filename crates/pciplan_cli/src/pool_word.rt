@@ -1,10 +1,10 @@
 //! The pools among the words.
 ghost use Rattle.std.specs.Prelude.{◌≡◌, ℕ, Some, MatchOption};
-ghost use Rattle.pci_image.specs.declared.range.Range.{Range};
+ghost use Rattle.pci_base.specs.declared.range.Range.{Range};
 ghost use Rattle.pciplan_cli.specs.PoolWords.{IsAddressWord, IsPoolWord};
 
-use pci_dump::digit::digit_value;
-use pci_image::range::Range;
+use pci_base::digit::digit_value;
+use pci_base::range::Range;
 
 /// The most digits of an address.
 const DIGITS_MAX: usize = 16;

@@ -6,8 +6,8 @@ ghost use Rattle.pciplan_cli.specs.Answers.{answer_of};
 ghost use Rattle.pciplan_cli.specs.ProbeAnswers.{probe_answer, remark};
 
 use crate::reply::{Reply, Text, refused};
+use pci_base::memory::{OutOfMemory, Refused};
 use pci_dump::dump::Dump;
-use pci_dump::memory::{OutOfMemory, Refused};
 use pci_probe::assumed::AssumedRegister;
 use pci_probe::probe::probe_of;
 use pci_probe::sizes::Sizes;

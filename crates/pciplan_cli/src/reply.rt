@@ -4,9 +4,9 @@ ghost use Rattle.std.specs.Io.KnownBytes.{Appends};
 ghost use Rattle.pci_dump.specs.Begun.{AppendsBeginning};
 ghost use Rattle.pciplan_cli.specs.Answers.{IsTold, answer_of, done, no_line, refused, text_bytes};
 
+use pci_base::memory::OutOfMemory;
 use pci_check::line::no_line;
 use pci_dump::dump::Dump;
-use pci_dump::memory::OutOfMemory;
 use pci_dump::streams::{Failed, Sink};
 use pci_dump::write::{write_all, write_dump};
 use std::alloc::Allocator;

@@ -5,8 +5,8 @@ ghost use Rattle.pci_tree.specs.Roots.{buses_of};
 ghost use Rattle.pciplan_cli.specs.RootWords.{IsRootWord};
 
 use arrayvec::ArrayVec;
-use pci_dump::digit::digit_value;
-use pci_image::slot::BUSES;
+use pci_base::digit::digit_value;
+use pci_base::slot::BUSES;
 use pci_tree::roots::Roots;
 
 /// The bytes from a bus to the next: two digits and a comma.

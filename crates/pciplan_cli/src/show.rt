@@ -6,11 +6,11 @@ ghost use Rattle.pci_spec.specs.Listing.{listing, function_listing};
 ghost use Rattle.pciplan_cli.specs.Shows.{IsRefusedFor, IsRefusedIn};
 
 use crate::listing::function::push_function;
+use pci_base::memory::Refused;
 use pci_dump::block::Block;
 use pci_dump::dump::Dump;
-use pci_dump::memory::Refused;
 use pci_function::fault::Fault;
-use pci_function::pair::pair;
+use pci_pair::pair::pair;
 use std::alloc::Allocator;
 
 /// Appends the lines of a function, with its block and that of its probe.

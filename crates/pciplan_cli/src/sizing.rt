@@ -5,12 +5,12 @@ ghost use Rattle.pci_spec.specs.Stops.{IsAboveLast, last_slot};
 ghost use Rattle.pci_spec.specs.Sizing.{function_at, IsSizable};
 ghost use Rattle.pciplan_cli.specs.Shows.{IsRefusedIn};
 
+use pci_base::image::Image;
+use pci_base::memory::{OutOfMemory, Refused};
+use pci_base::slot::Slot;
 use pci_dump::block::Block;
 use pci_dump::dump::Dump;
-use pci_dump::memory::{OutOfMemory, Refused};
 use pci_function::fault::Fault;
-use pci_image::image::Image;
-use pci_image::slot::Slot;
 use pci_machine::machine::Machine;
 use pci_machine::size::size;
 use std::alloc::Allocator;

@@ -2,12 +2,12 @@
 use crate::made::{Board, Made, Rule};
 use crate::slow;
 use crate::stops::{admitted_with, fault_of, stops_safely};
+use pci_base::image::Image;
+use pci_base::memory::Refused;
+use pci_base::range::Range;
 use pci_dump::block::Block;
 use pci_dump::dump::Dump;
-use pci_dump::memory::Refused;
 use pci_image::bar::bars;
-use pci_image::image::Image;
-use pci_image::range::Range;
 use pci_image::rom::register::rom;
 use pci_image::window::{Window, Windows};
 use pci_plan::plan::Plan;

@@ -1,7 +1,7 @@
 //! Boards that are made by rule: trees of bridges on one or two root buses, with BARs, ROMs and windows of all kinds.
 use boards::board::{Function, bridge, device};
-use pci_image::range::Range;
-use pci_image::slot::Slot;
+use pci_base::range::Range;
+use pci_base::slot::Slot;
 use pci_plan::pools::Pools;
 use pci_tree::roots::Roots;
 use std::alloc::{AllocError, Global};

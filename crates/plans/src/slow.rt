@@ -1,6 +1,6 @@
 //! A slow planner beside the fast one: what a bus needs by going down the tree, and what leads to a bus by going up.
 use crate::made::{Board, Kind, Made, MadeBar, MadeBridge};
-use pci_image::slot::Slot;
+use pci_base::slot::Slot;
 use pci_plan::plan_fault::PlanFault;
 use pci_plan::pools::Class;
 

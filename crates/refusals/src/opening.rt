@@ -3,7 +3,7 @@ ghost use Rattle.std.specs.Prelude.{None};
 
 use crate::program::Answer;
 use boards::example::{DUMP, LISTING, PROBE};
-use pci_dump::failures::Failures;
+use pci_base::failures::Failures;
 use pci_dump::std_streams::Outgoing;
 use pci_dump::streams::{Failed, Source};
 use pciplan_cli::opened::Opening;

@@ -2,9 +2,9 @@
 use boards::board::Texts;
 use boards::refusing::Refusing;
 use boards::samples::samples;
+use pci_base::memory::{OutOfMemory, Refused};
 use pci_dump::block::Block;
 use pci_dump::dump::Dump;
-use pci_dump::memory::{OutOfMemory, Refused};
 use pci_dump::reader::read_dump;
 use pci_dump::std_streams::Incoming;
 use pci_machine::machine::Machine;

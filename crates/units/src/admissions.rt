@@ -1,9 +1,9 @@
 use boards::registers::{Registers, bridge, device, list_at};
+use pci_base::image::Image;
+use pci_base::memory::Refused;
+use pci_base::slot::Slot;
 use pci_dump::block::Block;
 use pci_dump::dump::Dump;
-use pci_dump::memory::Refused;
-use pci_image::image::Image;
-use pci_image::slot::Slot;
 use pci_tree::admit::{admit, admit_with};
 use pci_tree::admitted::Admitted;
 use pci_tree::fault::Fault;

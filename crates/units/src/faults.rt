@@ -1,4 +1,4 @@
-use pci_image::slot::Slot;
+use pci_base::slot::Slot;
 use pci_tree::fault::Fault;
 use pci_tree::space::Space;
 use std::test::Fail;

@@ -5,12 +5,12 @@ use crate::setting::{
 };
 use boards::registers;
 use boards::registers::{Registers, zeros};
+use pci_base::image::Image;
+use pci_base::memory::Refused;
+use pci_base::slot::Slot;
 use pci_dump::dump::Dump;
-use pci_dump::memory::Refused;
 use pci_function::fault::PairFault;
 use pci_image::fault::ImageFault;
-use pci_image::image::Image;
-use pci_image::slot::Slot;
 use pci_machine::fail_at::FailAt;
 use pci_machine::machine::Machine;
 use pci_machine::port::{ConfigPort, PortError};

@@ -1,12 +1,12 @@
 use crate::texts::block;
 use boards::fakes::Pieces;
+use pci_base::image::Image;
+use pci_base::slot::Slot;
 use pci_dump::block::Block;
 use pci_dump::dump::Dump;
 use pci_dump::reader::read_dump;
 use pci_function::fault::PairFault;
-use pci_function::pair::pair;
-use pci_image::image::Image;
-use pci_image::slot::Slot;
+use pci_pair::pair::pair;
 use std::test::Fail;
 
 /// A dump of functions on bus 00, each a device and the bytes that aren't 00.

@@ -1,11 +1,11 @@
 use boards::registers::{Registers, bridge, device, list_at};
+use pci_base::range::Range;
+use pci_base::slot::Slot;
 use pci_function::examine::examine;
 use pci_function::fault::Fault;
 use pci_image::bar::{Bar, BarKind};
 use pci_image::fault::ImageFault;
-use pci_image::range::Range;
 use pci_image::rom::Rom;
-use pci_image::slot::Slot;
 use pci_tree::decode::decode;
 use pci_tree::record::Record;
 use std::test::Fail;

@@ -1,5 +1,5 @@
 use boards::registers::{Registers, bridge, device};
-use pci_image::slot::Slot;
+use pci_base::slot::Slot;
 use pci_tree::decode::decode;
 use pci_tree::region::{Part, Region, add_regions};
 use pci_tree::space::Space;

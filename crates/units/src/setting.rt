@@ -1,12 +1,12 @@
 //! Machines in memory with functions of bus 00, and calls of them.
 use boards::registers;
 use boards::registers::Registers;
+use pci_base::image::Image;
+use pci_base::memory::Refused;
+use pci_base::slot::Slot;
 use pci_dump::block::Block;
 use pci_dump::dump::Dump;
-use pci_dump::memory::Refused;
 use pci_function::fault::PairFault;
-use pci_image::image::Image;
-use pci_image::slot::Slot;
 use pci_machine::machine::Machine;
 use pci_machine::port::{ConfigPort, PortError};
 use pci_machine::size::size;

@@ -1,4 +1,4 @@
-use pci_image::slot::Slot;
+use pci_base::slot::Slot;
 use std::test::Fail;
 
 /// Bus, device and function of a slot, and its text.

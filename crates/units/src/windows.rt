@@ -1,6 +1,6 @@
 use boards::registers::{Registers, bridge, device};
+use pci_base::range::Range;
 use pci_image::fault::ImageFault;
-use pci_image::range::Range;
 use pci_image::window::{Window, Windows};
 
 /// Whether a window has upper halves, and its range.

@@ -1,14 +1,14 @@
 use crate::texts::{STEPS, block, example, joined, reads_as};
 use boards::fakes::{Narrow, Pieces};
+use pci_base::image::Image;
+use pci_base::memory::Refused;
+use pci_base::slot::Slot;
 use pci_dump::block::Block;
 use pci_dump::dump::{Dump, PushFault};
-use pci_dump::memory::Refused;
 use pci_dump::read_fault::{ReadFault, WriteFault};
 use pci_dump::reader::read_dump;
 use pci_dump::std_streams::{Incoming, Outgoing};
 use pci_dump::write::write_dump;
-use pci_image::image::Image;
-use pci_image::slot::Slot;
 use std::test::Fail;
 
 /// What is written of a dump, nothing where a write fails.

@@ -6,14 +6,14 @@ ghost use Rattle.pci_spec.specs.Rom.{is_rom_size};
 ghost use Rattle.pci_spec.specs.Decoded.{aligned_range, decoded_rom};
 ghost use Rattle.pci_image.specs.Faults.{IsImageFaultIn};
 ghost use Rattle.pci_image.specs.Roms.{decoded_rom_of, HasLawfulRom, IsComparedRom, is_lawful_rom, is_rom_fault};
-ghost use Rattle.pci_image.specs.Ranges.{decoded_range_of};
+ghost use Rattle.pci_base.specs.Ranges.{decoded_range_of};
 
 use super::Rom;
 use crate::comparator::{aligned, fits_within, run_start};
 use crate::fault::ImageFault;
 use crate::header::Header;
-use crate::image::Image;
-use crate::range::Range;
+use pci_base::image::Image;
+use pci_base::range::Range;
 
 /// Bit 0 enables the ROM, and is no part of its address.
 const ENABLE: u64 = 0b1;

@@ -4,8 +4,8 @@ use crate::derived::Derived;
 use crate::fault::DeriveFault;
 use crate::line::ResourceLine;
 use crate::register::register;
+use pci_base::image::Image;
 use pci_image::fault::ImageFault;
-use pci_image::image::Image;
 use std::test::Fail;
 
 /// These bytes with registers put in.

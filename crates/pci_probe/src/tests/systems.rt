@@ -3,10 +3,10 @@ use super::rows::{Line, Registers};
 use crate::probe::probe_of;
 use crate::probe_fault::ProbeFault;
 use crate::sizes::{Sizes, SizesBlock};
+use pci_base::memory::Refused;
+use pci_base::slot::Slot;
 use pci_dump::block::{Block, Title};
 use pci_dump::dump::{Dump, PushFault};
-use pci_dump::memory::Refused;
-use pci_image::slot::Slot;
 use std::test::Fail;
 
 /// Functions of bus 00 by their device numbers: what they show, what is told of them, whether the

@@ -2,14 +2,14 @@
 ghost use Rattle.std.specs.Prelude.{◌≡◌, ◌++◌, OnOk};
 ghost use Rattle.std.specs.String.{string_bytes};
 ghost use Rattle.pci_spec.specs.Listing.{window_text, window_line};
-ghost use Rattle.pci_image.specs.WindowKinds.{kind_value};
-ghost use Rattle.pci_function.specs.Space.{space_of};
+ghost use Rattle.pci_base.specs.WindowKinds.{kind_value};
+ghost use Rattle.pci_base.specs.Space.{space_of};
 
 use super::span::Span;
 use crate::hex_text::{end_line, push_byte};
-use pci_function::space::Space;
+use pci_base::space::Space;
+use pci_base::window_kind::WindowKind;
 use pci_image::window::Window;
-use pci_image::window_kind::WindowKind;
 use std::alloc::{AllocError, Allocator};
 
 /// The line of a bridge's primary, secondary and subordinate bus, as `bus 00 01 01`.

@@ -7,12 +7,12 @@ ghost use Rattle.pci_spec.specs.Listing.{flag_text, vectors_text, capability_lin
 ghost use Rattle.pciplan_cli.specs.CapabilityLines.{power_support_text, power_state_text, message_control_text};
 
 use crate::hex_text::{end_line, push_byte, push_decimal, push_hex, push_word};
-use pci_image::capability::{Cap, VECTOR_MASKING_BIT, WIDE_ADDRESS_BIT};
-use pci_image::image::Image;
-use pci_image::offset::{
+use pci_base::image::Image;
+use pci_base::offset::{
     MESSAGE_ADDRESS, MESSAGE_CONTROL, MESSAGE_DATA, MESSAGE_UPPER_ADDRESS, POWER_CAPABILITIES,
     POWER_CONTROL, WIDE_MESSAGE_DATA,
 };
+use pci_image::capability::{Cap, VECTOR_MASKING_BIT, WIDE_ADDRESS_BIT};
 use std::alloc::{AllocError, Allocator};
 
 /// Power Management Capabilities: the version in bits 2:0, D1 and D2 support, and in bits 15:11 the

@@ -15,17 +15,17 @@ use super::bridge::{BusLine, push_window};
 use super::capability::CapabilityLine;
 use super::header::HeaderLine;
 use super::region::{BarLine, RomLine};
-use pci_dump::memory::Refused;
+use pci_base::image::Image;
+use pci_base::memory::Refused;
+use pci_base::slot::Slot;
+use pci_base::window_kind::WindowKind;
 use pci_function::decode::decode;
 use pci_function::fault::Fault;
 use pci_function::record::{Bridge, Record};
 use pci_image::bar::Bar;
 use pci_image::capability::{Cap, chain};
 use pci_image::header::layout;
-use pci_image::image::Image;
 use pci_image::rom::Rom;
-use pci_image::slot::Slot;
-use pci_image::window_kind::WindowKind;
 use std::alloc::{AllocError, Allocator};
 
 /// Appends a line for each BAR.

@@ -5,10 +5,10 @@ ghost use Rattle.pci_spec.specs.Header.{layout};
 ghost use Rattle.pci_spec.specs.Listing.{header_line};
 
 use crate::hex_text::{end_line, push_decimal, push_hex, push_slot, push_word};
+use pci_base::image::Image;
+use pci_base::offset::{COMMAND, DEVICE_ID, STATUS, VENDOR_ID};
+use pci_base::slot::Slot;
 use pci_image::header::class_code;
-use pci_image::image::Image;
-use pci_image::offset::{COMMAND, DEVICE_ID, STATUS, VENDOR_ID};
-use pci_image::slot::Slot;
 use std::alloc::{AllocError, Allocator};
 
 /// Who made the function, and what it is (PCI 3.0, 6.2.1).

@@ -7,9 +7,9 @@ ghost use Rattle.pci_image.specs.Roms.{decoded_rom_of};
 
 use super::span::Span;
 use crate::hex_text::push_byte;
-use pci_function::space::Space;
+use pci_base::range::Range;
+use pci_base::space::Space;
 use pci_image::bar::{Bar, BarKind};
-use pci_image::range::Range;
 use pci_image::rom::Rom;
 use std::alloc::{AllocError, Allocator};
 

@@ -4,8 +4,8 @@ ghost use Rattle.std.specs.String.{string_bytes};
 ghost use Rattle.pci_spec.specs.Line.{hex_number};
 
 use crate::hex_text::push_hex;
-use pci_function::space::Space;
-use pci_image::range::Range;
+use pci_base::range::Range;
+use pci_base::space::Space;
 use std::alloc::{AllocError, Allocator};
 
 /// A range of addresses of a space, as `F-L`: 8 hex digits each in I/O space, 16 in memory space.

@@ -1,5 +1,5 @@
 use Rattle.std.proofs.Common.{[], ap, ◌∙◌, get_or, arith}
-use Rattle.pci_function.specs.Space.{space_of}
+use Rattle.pci_base.specs.Space.{space_of}
 use Rattle.pci_check.specs.Stops.{reaches_by}
 use Rattle.pci_check.proofs.Clashing.{allowed_at, none_clash, clash_fault}
 use Rattle.pci_check.proofs.clash.clash_in.Goals as goal

@@ -2,7 +2,7 @@ use Rattle.std.proofs.Common.{◌≡◌, ◌+◌, List, ℕ, ◌++◌, subst, sy
 use Rattle.std.specs.List.{Contains}
 use Rattle.std.proofs.lemmas.Bool.{iff_false}
 use Rattle.pci_tree.specs.declared.region.Region.{Region}
-use Rattle.pci_function.specs.Space.{space_of}
+use Rattle.pci_base.specs.Space.{space_of}
 use Rattle.pci_check.proofs.Splitting.{AreRootsListedBelow, roots_none, roots_skip, roots_more, roots_listed}
 use Rattle.pci_check.proofs.split.of_roots.Goals.{then-has+in_ok-regions+in-Ok, else-has}
 use Rattle.pci_check.proofs.split.of_roots.Goals as goal

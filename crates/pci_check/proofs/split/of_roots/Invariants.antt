@@ -1,4 +1,4 @@
-use Rattle.pci_function.specs.Space.{space_of}
+use Rattle.pci_base.specs.Space.{space_of}
 use Rattle.pci_check.proofs.Splitting.{AreRootsListedBelow}
 use Rattle.pci_check.proofs.split.of_roots.Given as goal
 

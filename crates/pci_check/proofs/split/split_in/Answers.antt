@@ -1,5 +1,5 @@
 use Rattle.std.proofs.Common.{[], ◌∷◌}
-use Rattle.pci_function.specs.Space.{space_of}
+use Rattle.pci_base.specs.Space.{space_of}
 use Rattle.pci_check.proofs.Splitting.{none_split, split_fault, whole_space}
 use Rattle.pci_check.proofs.split.split_in.Goals as goal
 

@@ -1,5 +1,5 @@
 use Rattle.std.specs.List.{AllWithin}
-use Rattle.pci_function.specs.Space.{space_of}
+use Rattle.pci_base.specs.Space.{space_of}
 use Rattle.pci_check.specs.Stops.{IsReachedAt}
 use Rattle.pci_check.proofs.unreached.first_outside.Given as goal
 

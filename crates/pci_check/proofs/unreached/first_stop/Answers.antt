@@ -1,5 +1,5 @@
 use Rattle.std.proofs.Common.{◌<◌, ℕ, arith, length, subst}
-use Rattle.pci_function.specs.Space.{space_of}
+use Rattle.pci_base.specs.Space.{space_of}
 use Rattle.pci_check.specs.Stops.{IsWholeBehind, IsFirstStop}
 use Rattle.pci_check.proofs.Losing.{whole_more}
 use Rattle.pci_check.proofs.unreached.first_stop.Goals as goal

@@ -1,5 +1,5 @@
 use Rattle.std.proofs.Common.{ℕ, ◌<◌}
-use Rattle.pci_function.specs.Space.{space_of}
+use Rattle.pci_base.specs.Space.{space_of}
 use Rattle.pci_check.specs.Stops.{IsWholeBehind}
 use Rattle.pci_check.proofs.unreached.first_stop.Given as goal
 

@@ -1,7 +1,7 @@
 use Rattle.std.proofs.Common.{List, subst, sym}
 use Rattle.pci_spec.specs.Slot.{Slot}
 use Rattle.pci_tree.specs.Outline.{IsPathTo}
-use Rattle.pci_function.specs.Space.{space_of}
+use Rattle.pci_base.specs.Space.{space_of}
 use Rattle.pci_check.proofs.Homes.{whole_without_path, whole_unstopped, unreached_fault}
 use Rattle.pci_check.proofs.unreached.unreached_at.Goals as goal
 

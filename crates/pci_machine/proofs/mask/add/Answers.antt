@@ -1,5 +1,5 @@
 use Rattle.std.proofs.Common.{◌≡◌, ◌+◌, ◌<◌, arith, rules}
-use Rattle.pci_image.proofs.Accesses.{access-end}
+use Rattle.pci_base.proofs.Accesses.{access-end}
 use Rattle.pci_machine.proofs.MaskBits.{added_more, IsImage-or}
 use Rattle.pci_machine.proofs.mask.add.Goals as goal
 

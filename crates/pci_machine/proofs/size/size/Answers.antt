@@ -3,7 +3,7 @@ use Rattle.std.proofs.Common.{◌≡◌, ◌≢◌, ◌%◌, Some, sym, ◌∙�
 use Rattle.std.proofs.lemmas.Option.{MatchOption-at_some, MatchOption-at_none}
 use Rattle.pci_spec.specs.Header.{command, layout}
 use Rattle.pci_spec.specs.Machine.{sized}
-use Rattle.pci_image.specs.declared.image.Image.{Image}
+use Rattle.pci_base.specs.declared.image.Image.{Image}
 use Rattle.pci_machine.specs.declared.access_at.AccessFault.{AccessFault}
 use Rattle.pci_spec.specs.Port.{has_function}
 use Rattle.pci_spec.specs.Sizing.{function_at, IsStuck}

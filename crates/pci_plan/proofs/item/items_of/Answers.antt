@@ -2,7 +2,7 @@ use Rattle.std.proofs.Common.{◌≡◌, ◌+◌, map, arith, sym, ◌∙◌, ap
 use Rattle.std.specs.List.Sorted.{IsStrictlyIncreasing}
 use Rattle.pci_spec.specs.Decoded.{HasRecords}
 use Rattle.plan_spec.specs.Planning.Sorted.{group_of}
-use Rattle.pci_image.specs.WindowKinds.{kind_value}
+use Rattle.pci_base.specs.WindowKinds.{kind_value}
 use Rattle.pci_function.specs.Values.{record_value}
 use Rattle.pci_tree.proofs.RootLists.{set_rises}
 use Rattle.pci_plan.specs.Above.{system_in}

@@ -5,7 +5,7 @@ use Rattle.pci_spec.specs.Bus.{is_root}
 use Rattle.pci_spec.specs.Decoded.{HasRecords}
 use Rattle.pci_spec.proofs.BusRanges.{root_means}
 use Rattle.pci_spec.proofs.Records.{same_truth}
-use Rattle.pci_image.specs.WindowKinds.{kind_value}
+use Rattle.pci_base.specs.WindowKinds.{kind_value}
 use Rattle.pci_function.specs.Values.{record_value}
 use Rattle.pci_plan.specs.declared.above.Above.{Above}
 use Rattle.pci_plan.specs.Pools.{pools_value}

@@ -1,5 +1,5 @@
 use Rattle.std.proofs.Common.{◌-◌, length}
-use Rattle.pci_image.specs.WindowKinds.{kind_value}
+use Rattle.pci_base.specs.WindowKinds.{kind_value}
 use Rattle.pci_plan.specs.Pools.{pools_value}
 use Rattle.pci_plan.specs.Above.{system_in}
 use Rattle.pci_plan.proofs.NeedTables.{AreNeedsFrom}

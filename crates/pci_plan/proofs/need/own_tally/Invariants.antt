@@ -1,5 +1,5 @@
 use Rattle.std.proofs.Common.{take}
-use Rattle.pci_image.specs.WindowKinds.{kind_value}
+use Rattle.pci_base.specs.WindowKinds.{kind_value}
 use Rattle.pci_plan.specs.Sizes.{bar_sizes, IsTallyOf}
 use Rattle.pci_plan.proofs.need.own_tally.Given as goal
 

@@ -1,6 +1,6 @@
 use Rattle.std.proofs.Common.{get_or, arith}
 use Rattle.plan_spec.proofs.Planning.Tallies.{window_small}
-use Rattle.pci_image.specs.WindowKinds.{kind_value}
+use Rattle.pci_base.specs.WindowKinds.{kind_value}
 use Rattle.pci_plan.proofs.RootNeeds.{limited_at}
 use Rattle.pci_plan.proofs.need.tally_of.Goals as goal
 

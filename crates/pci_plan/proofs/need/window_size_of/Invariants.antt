@@ -1,6 +1,6 @@
 use Rattle.std.proofs.Common.{◌≡◌, ◌-◌}
 use Rattle.plan_spec.specs.Plan.{doubled_to, window_size}
-use Rattle.pci_image.specs.WindowKinds.{kind_value}
+use Rattle.pci_base.specs.WindowKinds.{kind_value}
 use Rattle.pci_plan.proofs.need.window_size_of.Given as goal
 
 abbrev pub invariant-loop : goal.invariant-loop

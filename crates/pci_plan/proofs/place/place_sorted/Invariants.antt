@@ -1,5 +1,5 @@
 use Rattle.std.proofs.Common.{length}
-use Rattle.pci_image.specs.WindowKinds.{kind_value}
+use Rattle.pci_base.specs.WindowKinds.{kind_value}
 use Rattle.pci_plan.specs.Walks.{Walk}
 use Rattle.pci_plan.proofs.Walking.{IsWalked}
 use Rattle.pci_plan.proofs.place.place_sorted.Given as goal

@@ -1,6 +1,6 @@
 use Rattle.std.proofs.Common.{Ok, Err, refl, sym, ◌∙◌}
 use Rattle.plan_spec.specs.PlanPromise.{CanBePlanned}
-use Rattle.pci_dump.specs.declared.memory.Refused.TheVariants as refusals
+use Rattle.pci_base.specs.declared.memory.Refused.TheVariants as refusals
 use Rattle.pci_plan.specs.Above.{system_in}
 use Rattle.pci_plan.specs.Pools.{pools_value}
 use Rattle.pci_plan.specs.declared.plan_fault.PlanFault.TheVariants.{NoWindow, NoRoom}

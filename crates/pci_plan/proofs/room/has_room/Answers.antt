@@ -2,7 +2,7 @@ use Rattle.std.proofs.Common.{◌≡◌, arith, ◌∙◌, ap}
 use Rattle.pci_spec.specs.Decoded.{Range}
 use Rattle.plan_spec.specs.Plan.{need_of_roots}
 use Rattle.plan_spec.proofs.Planning.Tallies.{greatest_small}
-use Rattle.pci_image.specs.WindowKinds.{kind_value}
+use Rattle.pci_base.specs.WindowKinds.{kind_value}
 use Rattle.pci_plan.specs.Pools.{pools_value}
 use Rattle.pci_plan.specs.Above.{system_in}
 use Rattle.pci_plan.proofs.RootNeeds.{need_is, some_greatest, fits_none, fits_some}

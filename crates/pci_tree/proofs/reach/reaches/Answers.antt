@@ -2,7 +2,7 @@ use Rattle.std.proofs.Common.{◌+◌, length, subst, sym, arith, ap, ◌∙◌,
 use Rattle.std.specs.List.{All}
 use Rattle.std.proofs.lemmas.Bool.{both_ways}
 use Rattle.std.proofs.lemmas.List.{length_push}
-use Rattle.pci_image.specs.WindowKinds.{kind_value}
+use Rattle.pci_base.specs.WindowKinds.{kind_value}
 use Rattle.pci_tree.specs.Ranges.{IsCanonical}
 use Rattle.pci_tree.specs.Roots.{buses_of}
 use Rattle.pci_tree.specs.Reaches.{IsReachOf, IsStep}

@@ -1,5 +1,5 @@
 use Rattle.std.proofs.Common.{◌≡◌, ◌++◌, take}
-use Rattle.pci_function.specs.Space.{space_of}
+use Rattle.pci_base.specs.Space.{space_of}
 use Rattle.pci_tree.specs.Regions.{bar_regions}
 use Rattle.pci_tree.proofs.region.add_bars.Given as goal
 

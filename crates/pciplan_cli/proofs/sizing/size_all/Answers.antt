@@ -5,8 +5,8 @@ use Rattle.pci_spec.specs.Text.{Block, IsDump}
 use Rattle.pci_spec.specs.Stops.{IsAboveLast, last_slot}
 use Rattle.pci_spec.specs.System.{system_of}
 use Rattle.pci_spec.specs.Machine.{Target, sized}
-use Rattle.pci_dump.specs.declared.memory.Refused.{Refused}
-use Rattle.pci_dump.specs.declared.memory.Refused.TheVariants as refusals
+use Rattle.pci_base.specs.declared.memory.Refused.{Refused}
+use Rattle.pci_base.specs.declared.memory.Refused.TheVariants as refusals
 use Rattle.pci_function.specs.declared.fault.Fault.{Fault}
 use Rattle.pci_machine.specs.Made.{IsRefusedFor}
 use Rattle.pciplan_cli.specs.Shows.{IsRefusedIn}

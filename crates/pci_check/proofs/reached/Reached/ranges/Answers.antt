@@ -1,11 +1,11 @@
 use Rattle.std.proofs.Common.{◌≡◌, arith, List, ℕ, ◌<◌, length, get_or, subst, sym, ap, ◌∙◌}
 use Rattle.std.specs.List.{All}
 use Rattle.pci_spec.specs.Window.{IoWindow, MemoryWindow, PrefetchWindow}
-use Rattle.pci_image.specs.declared.range.Range.{Range}
-use Rattle.pci_image.specs.declared.window_kind.WindowKind.{WindowKind}
-use Rattle.pci_image.specs.declared.window_kind.ByKind.{ByKind}
-use Rattle.pci_image.specs.WindowKinds.{by_kind}
-use Rattle.pci_image.proofs.WindowKinds.{each_by_kind}
+use Rattle.pci_base.specs.declared.range.Range.{Range}
+use Rattle.pci_base.specs.declared.window_kind.WindowKind.{WindowKind}
+use Rattle.pci_base.specs.declared.window_kind.ByKind.{ByKind}
+use Rattle.pci_base.specs.WindowKinds.{by_kind}
+use Rattle.pci_base.proofs.WindowKinds.{each_by_kind}
 use Rattle.pci_tree.specs.Ranges.{IsCanonical}
 use Rattle.pci_check.specs.Stops.{AreWholeReaches}
 use Rattle.pci_check.proofs.reached.Reached.ranges.Goals as goal

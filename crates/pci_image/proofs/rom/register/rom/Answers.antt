@@ -3,7 +3,7 @@ use Rattle.pci_spec.specs.Number.{number_at}
 use Rattle.pci_spec.specs.Header.{rom_register, layout}
 use Rattle.pci_spec.specs.Rom.{rom_at}
 use Rattle.pci_spec.proofs.Ranges.{absent_rom}
-use Rattle.pci_image.specs.Ranges.{decoded_range_of}
+use Rattle.pci_base.specs.Ranges.{decoded_range_of}
 use Rattle.pci_image.proofs.Found.{layout-of_header}
 use Rattle.pci_image.proofs.Registers.{bit-test}
 use Rattle.pci_image.proofs.Roms.{rom-absent, rom-kept, rom-decoded, rom-compared}

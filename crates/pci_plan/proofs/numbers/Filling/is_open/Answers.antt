@@ -4,7 +4,7 @@ use Rattle.std.specs.Option.{is_some}
 use Rattle.pci_spec.specs.System.{is_bridge}
 use Rattle.pci_spec.specs.Window.{has_window}
 use Rattle.plan_spec.specs.Plan.{has_behind}
-use Rattle.pci_image.specs.WindowKinds.{kind_value}
+use Rattle.pci_base.specs.WindowKinds.{kind_value}
 use Rattle.pci_plan.proofs.FilledWindows.{bridge_is, is_a_bridge, window_there, open_is}
 use Rattle.pci_plan.proofs.numbers.Filling.is_open.Goals as goal
 

@@ -1,7 +1,7 @@
 use Rattle.std.proofs.Common.{subst, sym, ◌∙◌, arith}
 use Rattle.pci_spec.specs.System.{window_space}
-use Rattle.pci_image.specs.WindowKinds.{kind_value}
-use Rattle.pci_function.specs.Space.{space_of, is_prefetch}
+use Rattle.pci_base.specs.WindowKinds.{kind_value}
+use Rattle.pci_base.specs.Space.{space_of, is_prefetch}
 use Rattle.pci_tree.specs.Outline.{IsReachTo}
 use Rattle.pci_tree.proofs.Outlines.{reach_in}
 use Rattle.pci_tree.proofs.outline.Outline.reach.Goals as goal

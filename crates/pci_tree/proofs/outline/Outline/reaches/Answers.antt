@@ -5,8 +5,8 @@ use Rattle.std.proofs.lemmas.Result.{IfOk-weaker}
 use Rattle.pci_spec.specs.Bus.{IsNested}
 use Rattle.pci_spec.specs.Decoded.{HasRecords}
 use Rattle.pci_spec.specs.System.{window_space}
-use Rattle.pci_image.specs.WindowKinds.{kind_value}
-use Rattle.pci_function.specs.Space.{is_prefetch}
+use Rattle.pci_base.specs.WindowKinds.{kind_value}
+use Rattle.pci_base.specs.Space.{is_prefetch}
 use Rattle.pci_tree.specs.Roots.{buses_of}
 use Rattle.pci_tree.specs.Ranges.{IsCanonical}
 use Rattle.pci_tree.specs.Reaches.{HasSpans, IsReachOf}

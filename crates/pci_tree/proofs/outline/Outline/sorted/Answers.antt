@@ -1,4 +1,4 @@
-use Rattle.pci_function.specs.Space.{space_of}
+use Rattle.pci_base.specs.Space.{space_of}
 use Rattle.pci_tree.specs.Regions.{AreRegionsOf}
 use Rattle.pci_tree.proofs.Orders.{sorted_regions}
 use Rattle.pci_tree.proofs.outline.Outline.sorted.Goals as goal

@@ -1,6 +1,6 @@
 use Rattle.std.proofs.Common.{◌≡◌, ◌++◌, OnOk, sym, subst}
 use Rattle.std.specs.String.{string_bytes}
-use Rattle.pci_function.specs.declared.space.Space.{Space}
+use Rattle.pci_base.specs.declared.space.Space.{Space}
 use Rattle.pciplan_cli.specs.Spans.{span_text}
 use Rattle.pciplan_cli.proofs.listing.span.Span.push_to.Goals as goal
 

@@ -1,0 +1,4 @@
+pub mod WindowKinds
+pub mod Puts
+pub mod Accesses
+pub mod Digits

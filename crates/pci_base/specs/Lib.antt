@@ -1,0 +1,4 @@
+pub mod WindowKinds
+pub mod Bounds
+pub mod Ranges
+pub mod Space

@@ -1,0 +1,2 @@
+pub mod PairOrder
+pub mod Pairs
