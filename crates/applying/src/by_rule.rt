@@ -6,7 +6,7 @@ use crate::setting::WIDE_POOLS;
 use crate::trial::{Trial, tried, tried_again};
 use boards::board::{Function, Register, bridge, device};
 use pci_base::range::Range;
-use pci_plan::pools::Pools;
+use pci_place::pools::Pools;
 use std::alloc::{AllocError, Global};
 use std::test::Fail;
 

@@ -9,8 +9,8 @@ use Rattle.plan_spec.specs.Plan.{Pools, class_of, same_class}
 use Rattle.plan_spec.specs.Planning.Layout.{is_item}
 use Rattle.plan_spec.specs.Planning.Table.{is_placed, need_behind}
 use Rattle.plan_spec.proofs.Planning.PlacedItems.{same_class_is}
-use Rattle.pci_plan.specs.Places.{HasPlaces, KeepsOthers}
-use Rattle.pci_plan.specs.declared.place.Places.{Places}
+use Rattle.pci_place.specs.Places.{HasPlaces, KeepsOthers}
+use Rattle.pci_place.specs.declared.place.Places.{Places}
 
 other_class : (c d x : WindowKind) → same_class d c ≡ false → same_class c x ≡ true → same_class d x ≡ false
 other_class c d x other same = subst (λ y. same_class d y ≡ false) (sym (same_class_is c x same)) other

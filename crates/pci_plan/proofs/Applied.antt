@@ -38,7 +38,7 @@ use Rattle.pci_plan.specs.declared.write.Write.{Write as CodeWrite}
 use Rattle.pci_plan.specs.declared.apply_fault.ApplyFault.{ApplyFault}
 use Rattle.pci_plan.specs.declared.apply_fault.ApplyFault.TheVariants.{Changed, Port, Stuck}
 use Rattle.pci_plan.specs.Writes.{write_value}
-use Rattle.pci_plan.specs.Above.{system_in}
+use Rattle.pci_place.specs.Above.{system_in}
 use Rattle.pci_plan.specs.Plans.{PlanValue, IsPlanValue, final_of}
 use Rattle.pci_plan.specs.Comparing.{ShowsAll, IsChangedAt, StartsAs, IsStartFault}
 use Rattle.pci_plan.specs.Making.{IsAccessible, AreMade, IsStop}

@@ -25,10 +25,10 @@ use Rattle.pci_image.specs.declared.bar.BarKind.{BarKind as CodeKind}
 use Rattle.pci_image.specs.declared.bar.BarKind.TheVariants.{Io, Mem32, Mem64}
 use Rattle.pci_image.specs.contracts.bar.BarKind.{the_type as bar_kind_type}
 use Rattle.pci_plan.specs.declared.numbers.Filling.{Filling}
-use Rattle.pci_plan.specs.Classes.{is_wide_kind}
+use Rattle.pci_place.specs.Classes.{is_wide_kind}
 use Rattle.pci_plan.specs.Fillings.{FillingOf}
-use Rattle.pci_plan.specs.Places.{first_in}
-use Rattle.pci_plan.proofs.ClassOf.{kind_wide}
+use Rattle.pci_place.specs.Places.{first_in}
+use Rattle.pci_place.proofs.ClassOf.{kind_wide}
 
 -- the BAR of the record that register n starts
 pub record IsBarAt (f : Function) (n : ℕ) (bar : CodeBar) : Type 0 where

@@ -12,13 +12,13 @@ use Rattle.pci_spec.specs.System.{Function, Part, Bar, Rom, bars_and_rom}
 use Rattle.plan_spec.specs.Plan.{is_io_part}
 use Rattle.pci_image.specs.Bars.{decoded_bar_of}
 use Rattle.pci_plan.specs.declared.numbers.Filling.{Filling}
-use Rattle.pci_plan.specs.Classes.{is_io_kind}
+use Rattle.pci_place.specs.Classes.{is_io_kind}
 use Rattle.pci_plan.specs.Fillings.{FillingOf}
-use Rattle.pci_plan.proofs.ClassOf.{kind_io}
+use Rattle.pci_place.proofs.ClassOf.{kind_io}
 use Rattle.pci_plan.proofs.FilledRoms.{rom_is}
-use Rattle.pci_plan.proofs.Mapped.{list_any-map, any_same}
-use Rattle.pci_plan.proofs.Owned.{any_io}
-use Rattle.pci_plan.proofs.Parts.{bars_in, rom_in, parts_of, bars_of}
+use Rattle.pci_place.proofs.Mapped.{list_any-map, any_same}
+use Rattle.pci_place.proofs.Owned.{any_io}
+use Rattle.pci_place.proofs.Parts.{bars_in, rom_in, parts_of, bars_of}
 
 -- a test as a bit
 pub one_if : (b : Bool) → bool_byte b ≡ cond b 1 0

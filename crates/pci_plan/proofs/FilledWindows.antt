@@ -30,10 +30,10 @@ use Rattle.pci_tree.proofs.Lifting.{same_bridge}
 use Rattle.pci_tree.proofs.RegionParts.{same_bridge_of}
 use Rattle.pci_base.specs.declared.window_kind.WindowKind.{WindowKind as CodeKind}
 use Rattle.pci_base.specs.declared.window_kind.WindowKind.TheVariants.{Io, Memory, Prefetchable}
-use Rattle.pci_plan.specs.declared.need.Needs.{Needs}
+use Rattle.pci_place.specs.declared.need.Needs.{Needs}
 use Rattle.pci_plan.specs.declared.numbers.Filling.{Filling}
-use Rattle.pci_plan.specs.Needs.{AreNeeds, AreAllNeeds}
-use Rattle.pci_plan.specs.Places.{first_in}
+use Rattle.pci_place.specs.Needs.{AreNeeds, AreAllNeeds}
+use Rattle.pci_place.specs.Places.{first_in}
 use Rattle.pci_base.specs.Bounds.{address_bits}
 use Rattle.pci_plan.specs.Fillings.{FillingOf}
 

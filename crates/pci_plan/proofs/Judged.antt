@@ -32,7 +32,7 @@ use Rattle.pci_function.specs.Fault.{fault_of}
 use Rattle.pci_function.specs.declared.fault.Fault.{Fault}
 use Rattle.pci_check.specs.Judgement.{IsJudgement}
 use Rattle.pci_check.proofs.Verdicts.{fault_is_first}
-use Rattle.pci_plan.specs.Above.{system_in}
+use Rattle.pci_place.specs.Above.{system_in}
 use Rattle.pci_plan.specs.Plans.{IsPlanValue, IsPlanIn, IsUnsoundIf}
 use Rattle.pci_plan.specs.Writes.{is_image_on, block_changes}
 use Rattle.pci_plan.proofs.WriteLists.{writes_by_blocks}

@@ -8,10 +8,10 @@ use Rattle.pci_base.specs.declared.memory.Refused.{Refused}
 use Rattle.pci_base.specs.declared.memory.Refused.TheVariants as refusals
 use Rattle.pci_base.specs.WindowKinds.{kind_value}
 use Rattle.pci_tree.specs.Admission.{Admission}
-use Rattle.pci_plan.specs.Above.{system_in}
-use Rattle.pci_plan.specs.Pools.{pools_value}
+use Rattle.pci_place.specs.Above.{system_in}
+use Rattle.pci_place.specs.Pools.{pools_value}
 use Rattle.pci_plan.specs.Plans.{plan_fault_of, IsFaultOf}
-use Rattle.pci_plan.specs.declared.pools.Pools.{Pools}
+use Rattle.pci_place.specs.declared.pools.Pools.{Pools}
 use Rattle.pci_base.specs.declared.window_kind.WindowKind.{WindowKind as CodeKind}
 use Rattle.pci_base.specs.declared.window_kind.WindowKind.TheVariants as classes
 use Rattle.pci_plan.specs.declared.plan_fault.PlanFault.{PlanFault}

@@ -26,16 +26,16 @@ use Rattle.pci_function.specs.declared.record.Record.{Record}
 use Rattle.pci_function.specs.Values.{record_value}
 use Rattle.pci_tree.proofs.Pairings.{later_is_above}
 use Rattle.pci_check.proofs.Beside.{system_last}
-use Rattle.pci_plan.specs.Above.{system_in}
+use Rattle.pci_place.specs.Above.{system_in}
 use Rattle.pci_base.specs.declared.window_kind.ByKind.{ByKind}
-use Rattle.pci_plan.specs.declared.need.Needs.{Needs}
-use Rattle.pci_plan.specs.declared.place.Places.{Places}
+use Rattle.pci_place.specs.declared.need.Needs.{Needs}
+use Rattle.pci_place.specs.declared.place.Places.{Places}
 use Rattle.pci_plan.specs.declared.numbers.Filling.{Filling}
-use Rattle.pci_plan.specs.Needs.{AreAllNeeds}
-use Rattle.pci_plan.specs.Places.{first_in, HasPlaces}
-use Rattle.pci_plan.specs.Records.{IsRecordOf}
+use Rattle.pci_place.specs.Needs.{AreAllNeeds}
+use Rattle.pci_place.specs.Places.{first_in, HasPlaces}
+use Rattle.pci_place.specs.Records.{IsRecordOf}
 use Rattle.pci_plan.specs.Fillings.{FillingOf}
-use Rattle.pci_plan.proofs.Records.{same_count, function_at}
+use Rattle.pci_place.proofs.Records.{same_count, function_at}
 
 -- a slot above all slots of a dump may stand after its last one
 above_all : (found : List Block) (s : Slot) → ((t : Slot) → Contains (slots_of found) t → slot_number t < slot_number s) → IsAboveLast (last_slot found) s

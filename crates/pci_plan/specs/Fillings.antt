@@ -12,9 +12,9 @@ use Rattle.plan_spec.specs.Planning.Numbers.{place_at}
 use Rattle.pci_image.specs.declared.register.Register.{Register}
 use Rattle.pci_function.specs.declared.record.Record.{Record}
 use Rattle.pci_plan.specs.declared.numbers.Filling.{Filling}
-use Rattle.pci_plan.specs.Needs.{AreAllNeeds}
-use Rattle.pci_plan.specs.Places.{first_in}
-use Rattle.pci_plan.specs.Records.{IsRecordOf}
+use Rattle.pci_place.specs.Needs.{AreAllNeeds}
+use Rattle.pci_place.specs.Places.{first_in}
+use Rattle.pci_place.specs.Records.{IsRecordOf}
 
 -- A filling is that of a function of a system that can be planned: it has the function's record, its image, and the place of
 -- each part that has one.

@@ -1,13 +1,3 @@
-pub mod Pools
-pub mod Above
-pub mod Classes
-pub mod Needs
-pub mod Records
-pub mod Sizes
-pub mod Places
-pub mod Sorting
-pub mod Items
-pub mod Walks
 pub mod Fillings
 pub mod Writes
 pub mod Comparing

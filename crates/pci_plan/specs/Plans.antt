@@ -13,9 +13,9 @@ use Rattle.pci_base.specs.WindowKinds.{kind_value}
 use Rattle.pci_tree.specs.Admission.{Admission, IsAdmitted}
 use Rattle.pci_function.specs.Fault.{fault_of}
 use Rattle.pci_function.specs.declared.fault.Fault.{Fault}
-use Rattle.pci_plan.specs.Above.{system_in}
-use Rattle.pci_plan.specs.Pools.{pools_value}
-use Rattle.pci_plan.specs.declared.pools.Pools.{Pools}
+use Rattle.pci_place.specs.Above.{system_in}
+use Rattle.pci_place.specs.Pools.{pools_value}
+use Rattle.pci_place.specs.declared.pools.Pools.{Pools}
 use Rattle.pci_plan.specs.declared.plan_fault.PlanFault.{PlanFault}
 use Rattle.pci_plan.specs.declared.plan_fault.PlanFault.TheVariants.{BadPools, NoWindow, NoRoom, NotAccepted}
 

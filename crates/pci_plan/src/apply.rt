@@ -2,7 +2,7 @@
 ghost use Rattle.std.specs.Prelude.{◌≡◌, ◌≤◌, ◌⊎◌, map, take, OnOk, IfErr, IsOk};
 ghost use Rattle.pci_spec.specs.Sound.{IsSound};
 ghost use Rattle.pci_spec.specs.Machine.{target_of, after_writes};
-ghost use Rattle.pci_plan.specs.Above.{system_in};
+ghost use Rattle.pci_place.specs.Above.{system_in};
 ghost use Rattle.pci_plan.specs.Plans.{final_of};
 ghost use Rattle.pci_plan.specs.Applying.{ShowsSystem, AreSound, writes_made, IsApplyFault};
 

@@ -20,28 +20,20 @@
 //! ```
 #![tactic(auto)]
 
-pub mod above;
 pub mod apply;
 pub mod apply_fault;
-pub mod class;
 mod compare;
-pub mod item;
-pub mod lacking;
 mod make;
-pub mod need;
 pub mod numbers;
-pub mod place;
 pub mod plan;
 pub mod plan_fault;
 pub mod planned;
 pub mod planning;
-pub mod pools;
-pub mod room;
 pub mod write;
 pub mod writes;
 
 pub use apply_fault::ApplyFault;
+pub use pci_place::pools::{Class, Pools};
 pub use plan::Plan;
 pub use plan_fault::PlanFault;
-pub use pools::{Class, Pools};
 pub use write::Write;

@@ -8,15 +8,12 @@ ghost use Rattle.pci_spec.specs.Window.{has_window};
 ghost use Rattle.plan_spec.specs.Place.{nibble_of};
 ghost use Rattle.plan_spec.specs.Plan.{has_behind};
 ghost use Rattle.plan_spec.specs.Planning.Numbers as numbers;
-ghost use Rattle.pci_plan.specs.Classes.{is_io_kind};
+ghost use Rattle.pci_place.specs.Classes.{is_io_kind};
 ghost use Rattle.pci_base.specs.WindowKinds.{kind_value, by_kind};
-ghost use Rattle.pci_plan.specs.Places.{first_in};
+ghost use Rattle.pci_place.specs.Places.{first_in};
 ghost use Rattle.pci_base.specs.Bounds.{spec_bounds_of};
 ghost use Rattle.pci_plan.specs.Fillings.{FillingOf, IsListed};
 
-use super::lacking::has_io_bar;
-use super::need::{Needs, window_size_of};
-use super::place::Places;
 use pci_base::bounds::Bounds;
 use pci_base::image::Image;
 use pci_base::offset::{
@@ -27,6 +24,9 @@ use pci_base::window_kind::{ByKind, WindowKind};
 use pci_function::record::{Bridge, Record};
 use pci_image::bar::{Bar, BarKind};
 use pci_image::register::Register;
+use pci_place::lacking::has_io_bar;
+use pci_place::need::{Needs, window_size_of};
+use pci_place::place::Places;
 
 /// A function with the places of its parts.
 #[derive(Clone, Copy)]

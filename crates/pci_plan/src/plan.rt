@@ -48,7 +48,7 @@ impl<'a, A: Allocator> Plan<'a, A> {
     ghost use Rattle.plan_spec.specs.PlanPromise.{changes_between, IsSafeFrom, StopsSafely, EachWriteChanges, with_rom_on};
     ghost use Rattle.plan_spec.specs.Planning.PlanWrites.{closing_writes, plan_writes, most_writes};
     ghost use Rattle.pci_spec.specs.Text.{slots_of};
-    ghost use Rattle.pci_plan.specs.Above.{system_in};
+    ghost use Rattle.pci_place.specs.Above.{system_in};
     ghost use Rattle.pci_plan.specs.Plans.{PlanValue, IsPlanValue, final_of};
 
     /// The plan of these parts.

@@ -11,7 +11,7 @@ use Rattle.pci_tree.specs.Admission.{Admission, IsAdmitted}
 use Rattle.pci_function.specs.Fault.{fault_of}
 use Rattle.pci_tree.specs.Roots.{IsRootList}
 use Rattle.pci_function.specs.declared.fault.Fault.{Fault}
-use Rattle.pci_plan.specs.Above.{system_in}
+use Rattle.pci_place.specs.Above.{system_in}
 use Rattle.pci_plan.specs.Plans.{PlanValue, IsPlanIn, plan_fault_of}
 use Rattle.pci_plan.specs.declared.plan_fault.PlanFault.{PlanFault}
 use Rattle.pciplan_c.specs.Refusals.{IsRefusalOf, refusal_text}

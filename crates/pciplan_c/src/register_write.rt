@@ -1,12 +1,12 @@
 //! Writes and pools as C has them.
 ghost use Rattle.std.specs.Prelude.{◌≡◌, map, IfOk};
-ghost use Rattle.pci_plan.specs.Pools.{pools_value};
+ghost use Rattle.pci_place.specs.Pools.{pools_value};
 ghost use Rattle.pci_plan.specs.Writes.{write_value};
 ghost use Rattle.pciplan_c.specs.PlanAnswers.{pools_of, value_of};
 
 use pci_base::memory::OutOfMemory;
 use pci_base::range::Range;
-use pci_plan::pools::Pools;
+use pci_place::pools::Pools;
 use pci_plan::write::Write;
 use std::alloc::Allocator;
 

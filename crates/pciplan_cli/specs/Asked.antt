@@ -2,7 +2,7 @@
 use Rattle.std.specs.Prelude.{◌≡◌, ℕ, ◌∷◌, [], List, Option, None, Some}
 use Rattle.std.specs.Borrow.{Bor}
 use Rattle.pci_base.specs.declared.range.Range.{Range}
-use Rattle.pci_plan.specs.declared.pools.Pools.{Pools}
+use Rattle.pci_place.specs.declared.pools.Pools.{Pools}
 use Rattle.pci_tree.specs.Roots.{buses_of}
 use Rattle.pci_tree.specs.declared.roots.Roots.{Roots}
 use Rattle.pciplan_cli.specs.PoolWords.{IsPoolWord, HasNoPool}

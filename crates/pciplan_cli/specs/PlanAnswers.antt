@@ -8,7 +8,7 @@ use Rattle.plan_spec.specs.PlanLine.{plan_fault_text}
 use Rattle.plan_spec.specs.Plan as plan
 use Rattle.plan_spec.specs.PlanPromise.{IsPlanFaultOf}
 use Rattle.pci_tree.specs.Admission.{Admission, IsAdmitted}
-use Rattle.pci_plan.specs.Above.{system_in}
+use Rattle.pci_place.specs.Above.{system_in}
 use Rattle.pci_plan.specs.Plans.{PlanValue, IsPlanIn}
 use Rattle.pciplan_cli.specs.Answers.{Answer, done, no_line, refused}
 

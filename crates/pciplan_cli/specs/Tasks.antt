@@ -10,7 +10,7 @@ use Rattle.pci_dump.specs.declared.read_fault.ReadFault.{ReadFault}
 use Rattle.pci_dump.specs.declared.read_fault.ReadFault.TheVariants as faults
 use Rattle.pci_probe.specs.SizesFault.{IsSizesTextFault}
 use Rattle.pci_tree.specs.Roots.{buses_of}
-use Rattle.pci_plan.specs.Pools.{pools_value}
+use Rattle.pci_place.specs.Pools.{pools_value}
 use Rattle.pci_check.specs.Audits.{IsDumpOf}
 use Rattle.pciplan_cli.specs.Answers.{Answer, IsShown, IsChecked, IsSized, IsTold}
 use Rattle.pciplan_cli.specs.PlanAnswers.{IsPlanned}

@@ -10,7 +10,7 @@ use crate::invocation::Task;
 use crate::pool_word::pool_of_word;
 use crate::root_list::roots_of_list;
 use pci_base::range::Range;
-use pci_plan::pools::Pools;
+use pci_place::pools::Pools;
 use pci_tree::roots::Roots;
 use pciplan_words::asked::{Asked, PlanWords};
 

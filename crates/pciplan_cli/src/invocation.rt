@@ -7,7 +7,7 @@ ghost use Rattle.pciplan_cli.specs.declared.failure.Failure.{Failure};
 use crate::asked::task_of;
 use crate::failure::{Failure, report};
 use pci_dump::streams::Sink;
-use pci_plan::pools::Pools;
+use pci_place::pools::Pools;
 use pci_tree::roots::Roots;
 use pciplan_words::words::words_given;
 use std::alloc::Global;

@@ -2,7 +2,7 @@
 use boards::board::{Function, bridge, device};
 use pci_base::range::Range;
 use pci_base::slot::Slot;
-use pci_plan::pools::Pools;
+use pci_place::pools::Pools;
 use pci_tree::roots::Roots;
 use std::alloc::{AllocError, Global};
 

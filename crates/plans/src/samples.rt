@@ -1,7 +1,7 @@
 //! Boards that are built register by register, with the pools to plan them in.
 use boards::board::{Function, Texts, bridge, device, texts_of};
 use pci_dump::std_streams::Outgoing;
-use pci_plan::pools::Pools;
+use pci_place::pools::Pools;
 use pci_tree::roots::Roots;
 use pciplan_cli::invocation::{Task, start};
 use std::alloc::{AllocError, Global};

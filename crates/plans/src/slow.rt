@@ -1,8 +1,8 @@
 //! A slow planner beside the fast one: what a bus needs by going down the tree, and what leads to a bus by going up.
 use crate::made::{Board, Kind, Made, MadeBar, MadeBridge};
 use pci_base::slot::Slot;
+use pci_place::pools::Class;
 use pci_plan::plan_fault::PlanFault;
-use pci_plan::pools::Class;
 
 /// As much as a bus needs at most.
 const MOST: u128 = 1 << 65;

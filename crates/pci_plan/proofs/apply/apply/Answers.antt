@@ -2,7 +2,7 @@ use Rattle.std.proofs.Common.{◌≡◌, ap, sym, ◌∙◌, subst, take, IfErr}
 use Rattle.std.proofs.lemmas.Result.{err_from_is_err_and, IfErr-weaker, on_ok_weaker}
 use Rattle.pci_spec.specs.Machine.{after_writes}
 use Rattle.pci_tree.specs.Admission.{Admission}
-use Rattle.pci_plan.specs.Above.{system_in}
+use Rattle.pci_place.specs.Above.{system_in}
 use Rattle.pci_plan.specs.Comparing.{StartsAs, IsStartFault}
 use Rattle.pci_plan.specs.Making.{IsStop}
 use Rattle.pci_plan.specs.Applying.{writes_made, IsApplyFault}

@@ -1,6 +1,6 @@
 use Rattle.std.proofs.Common.{◌≡◌, false, not, take}
 use Rattle.std.specs.List.{list_any}
-use Rattle.pci_plan.specs.Classes.{is_io_kind}
+use Rattle.pci_place.specs.Classes.{is_io_kind}
 use Rattle.pci_plan.proofs.numbers.has_memory_part.Given as goal
 
 abbrev pub invariant-loop-bar : goal.invariant-loop-bar

@@ -17,10 +17,10 @@ use Rattle.pci_tree.specs.Admission.{IsAdmitted}
 use Rattle.pci_function.specs.Values.{record_value}
 use Rattle.pci_function.specs.declared.record.Record.{Record}
 use Rattle.pci_tree.proofs.RootLists.{set_rises}
-use Rattle.pci_plan.specs.Above.{system_in}
-use Rattle.pci_plan.specs.Pools.{pools_value}
-use Rattle.pci_plan.specs.Records.{IsRecordOf}
-use Rattle.pci_plan.proofs.Records.{same_count}
+use Rattle.pci_place.specs.Above.{system_in}
+use Rattle.pci_place.specs.Pools.{pools_value}
+use Rattle.pci_place.specs.Records.{IsRecordOf}
+use Rattle.pci_place.proofs.Records.{same_count}
 use Rattle.pci_plan.proofs.PlannedDumps.{ArePlanned, none_planned, found_count, next_above, next_planned, all_planned, filling_at, function_here, tables_of, plannable_of}
 use Rattle.pci_plan.proofs.planned.planned_dump.Goals as goal
 use Rattle.pci_plan.proofs.planned.planned_dump.Goals.{After-empty-dump}

@@ -1,6 +1,6 @@
 use Rattle.plan_spec.specs.Planning.Numbers.{IsPlannedFunction}
-use Rattle.pci_plan.specs.Above.{system_in}
-use Rattle.pci_plan.specs.Pools.{pools_value}
+use Rattle.pci_place.specs.Above.{system_in}
+use Rattle.pci_place.specs.Pools.{pools_value}
 use Rattle.pci_plan.proofs.PlannedDumps.{ArePlanned}
 use Rattle.pci_plan.proofs.planned.planned_dump.Given as goal
 

@@ -1,8 +1,8 @@
 use Rattle.std.proofs.Common.{List, sym, subst, arith}
-use Rattle.pci_plan.specs.Above.{system_in}
-use Rattle.pci_plan.specs.Places.{HasPlaces}
-use Rattle.pci_plan.specs.Pools.{pools_value}
-use Rattle.pci_plan.specs.declared.place.Places.{Places}
+use Rattle.pci_place.specs.Above.{system_in}
+use Rattle.pci_place.specs.Places.{HasPlaces}
+use Rattle.pci_place.specs.Pools.{pools_value}
+use Rattle.pci_place.specs.declared.place.Places.{Places}
 use Rattle.pci_plan.proofs.AllPlaces.{all_placed, written_back}
 use Rattle.pci_plan.proofs.planning.all_places.Goals as goal
 

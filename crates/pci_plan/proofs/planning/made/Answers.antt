@@ -2,7 +2,7 @@ use Rattle.std.proofs.Common.{◌≡◌, ◌^◌, ◌<◌, List, map, sym, ◌�
 use Rattle.pci_spec.specs.Text.{Block}
 use Rattle.pci_spec.specs.Machine.{Write}
 use Rattle.plan_spec.specs.Planning.PlanWrites.{plan_writes}
-use Rattle.pci_plan.specs.Pools.{pools_value}
+use Rattle.pci_place.specs.Pools.{pools_value}
 use Rattle.pci_plan.specs.Plans.{IsPlanIn}
 use Rattle.pci_plan.specs.Writes.{write_value, block_changes}
 use Rattle.pci_plan.proofs.Judged.{plan_kept, plan_made}

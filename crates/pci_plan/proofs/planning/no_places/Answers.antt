@@ -2,8 +2,8 @@ use Rattle.std.proofs.Common.{List, sym, arith, map, subst}
 use Rattle.pci_spec.specs.Decoded.{HasRecords}
 use Rattle.pci_spec.specs.Decoded as decoded
 use Rattle.pci_function.specs.Values.{record_value}
-use Rattle.pci_plan.specs.Above.{system_in}
-use Rattle.pci_plan.proofs.Records.{same_count}
+use Rattle.pci_place.specs.Above.{system_in}
+use Rattle.pci_place.proofs.Records.{same_count}
 use Rattle.pci_plan.proofs.planning.no_places.Goals as goal
 
 pub returns : goal.returns

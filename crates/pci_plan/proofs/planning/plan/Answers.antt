@@ -1,8 +1,8 @@
 use Rattle.std.proofs.Common.{Ok, Err, refl, sym, ◌∙◌}
 use Rattle.plan_spec.specs.PlanPromise.{CanBePlanned}
 use Rattle.pci_base.specs.declared.memory.Refused.TheVariants as refusals
-use Rattle.pci_plan.specs.Above.{system_in}
-use Rattle.pci_plan.specs.Pools.{pools_value}
+use Rattle.pci_place.specs.Above.{system_in}
+use Rattle.pci_place.specs.Pools.{pools_value}
 use Rattle.pci_plan.specs.declared.plan_fault.PlanFault.TheVariants.{NoWindow, NoRoom}
 use Rattle.pci_plan.proofs.PlanFaults.{refused_by, not_refused, memory_is_none, plan_is_none}
 use Rattle.pci_plan.proofs.planning.plan.Goals as goal

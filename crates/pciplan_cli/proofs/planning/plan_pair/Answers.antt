@@ -1,5 +1,5 @@
 use Rattle.plan_spec.specs.PlanPromise.{changes_between}
-use Rattle.pci_plan.specs.Above.{system_in}
+use Rattle.pci_place.specs.Above.{system_in}
 use Rattle.pci_plan.specs.Plans.{final_of}
 use Rattle.pciplan_cli.proofs.PlainWrites.{plain_writes}
 use Rattle.pciplan_cli.proofs.planning.plan_pair.Goals as goal

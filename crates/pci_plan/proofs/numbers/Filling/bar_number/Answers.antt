@@ -6,7 +6,7 @@ use Rattle.std.proofs.lemmas.List.Elements.{Contains-get_or}
 use Rattle.pci_spec.specs.Number.{number_at}
 use Rattle.pci_image.specs.declared.bar.Bar.{Bar}
 use Rattle.pci_image.specs.declared.bar.BarKind.TheVariants.{Io}
-use Rattle.pci_plan.specs.Classes.{is_wide_kind}
+use Rattle.pci_place.specs.Classes.{is_wide_kind}
 use Rattle.pci_plan.proofs.FilledBars.{IsElsewhere, bar_of_record, register_is, few_bars, same_wide, lower_is, upper_is, absent_is}
 use Rattle.pci_plan.proofs.numbers.Filling.bar_number.Goals as goal
 use Rattle.pci_plan.proofs.numbers.Filling.bar_number.Goals.{After-as_slice-bar-items, else-eq-via-then-eq+else-bar-offset-2, else-eq-via-else-eq}

@@ -5,7 +5,7 @@ use Rattle.pci_spec.specs.Bar.{bar_at, bar_kind, first_bit}
 use Rattle.pci_spec.specs.System.{Bar}
 use Rattle.plan_spec.specs.Planning.Numbers.{new_bar}
 use Rattle.pci_image.specs.Bars.{decoded_kind_of}
-use Rattle.pci_plan.specs.Places.{first_in}
+use Rattle.pci_place.specs.Places.{first_in}
 use Rattle.pci_plan.specs.Fillings.{FillingOf}
 use Rattle.pci_plan.proofs.FilledBars.{IsBarAt, bar_of_record, bar_with, register_is, kind_is, few_bars, bar_number_is, bar_number_small}
 use Rattle.pci_plan.proofs.numbers.Filling.bar_value.Goals as goal

@@ -5,7 +5,7 @@ use Rattle.pci_spec.specs.Bus.{secondary}
 use Rattle.plan_spec.specs.Place.{nibble_of}
 use Rattle.pci_spec.specs.Window.{closed_bounds, bounds_for}
 use Rattle.pci_base.specs.WindowKinds.{kind_value}
-use Rattle.pci_plan.specs.Places.{first_in}
+use Rattle.pci_place.specs.Places.{first_in}
 use Rattle.pci_base.specs.Bounds.{address_bits}
 use Rattle.pci_plan.proofs.FilledWindows.{nibble_few, closed_is, open_at, IsOpenAt, need_is, size, address_bits_few}
 use Rattle.pci_plan.proofs.numbers.Filling.window_bounds.Goals as goal

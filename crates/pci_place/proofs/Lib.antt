@@ -1,0 +1,15 @@
+pub mod Aboves
+pub mod ClassOf
+pub mod ClassPlaces
+pub mod ItemValues
+pub mod ItemWalks
+pub mod Mapped
+pub mod NeedTables
+pub mod NoWindows
+pub mod Owned
+pub mod Parts
+pub mod Records
+pub mod RootNeeds
+pub mod SortedItems
+pub mod StableSorts
+pub mod Walking

@@ -1,0 +1,10 @@
+pub mod Above
+pub mod Classes
+pub mod Items
+pub mod Needs
+pub mod Places
+pub mod Pools
+pub mod Records
+pub mod Sizes
+pub mod Sorting
+pub mod Walks

@@ -1,0 +1,231 @@
+//! What is placed: BARs, ROMs, and windows of bridges with something behind them.
+ghost use Rattle.std.specs.Prelude.{◌≡◌, ℕ, ◌<◌, ◌≤◌, ◌^◌, ◌++◌, OnOk, IfOk, IfSome, slice_index};
+ghost use Rattle.std.specs.List.{All, AllPairs};
+ghost use Rattle.std.specs.List.Sorted.{IsPermutation};
+ghost use Rattle.plan_spec.specs.Planning.Sorted.{group_of};
+ghost use Rattle.pci_tree.specs.Roots.{buses_of};
+ghost use Rattle.pci_base.specs.WindowKinds.{kind_value};
+ghost use Rattle.pci_place.specs.Pools.{pools_value};
+ghost use Rattle.pci_place.specs.Above.{AreAboves, system_in};
+ghost use Rattle.pci_place.specs.Needs.{AreNeeds};
+ghost use Rattle.pci_place.specs.Items.{IsBar, owned, bar_items, window_items, rom_items, record_items, AreItems, IsRooted};
+ghost use Rattle.pci_place.specs.Sorting.{IsLarger, IsPlacedBefore};
+
+use super::need::{Needs, bar_size, rom_size, window_size_of};
+use super::pools::Pools;
+use crate::above::Above;
+use crate::class::class_of_bar;
+use pci_base::memory::OutOfMemory;
+use pci_base::offset::BASE_ADDRESS;
+use pci_base::slot::BUSES;
+use pci_base::window_kind::WindowKind;
+use pci_function::record::{Bridge, Record};
+use pci_image::bar::Bar;
+use pci_image::rom::Rom;
+use pci_tree::admitted::Admitted;
+use pci_tree::roots::Roots;
+use std::alloc::Allocator;
+use std::cmp::Reverse;
+
+/// What an item is of its function.
+#[derive(Clone, Copy, Debug, PartialEq, Eq)]
+pub enum Part {
+    /// The BAR that this Base Address register starts, counted from 0.
+    Bar(u8),
+    Rom,
+    /// The window of a bridge around what is behind this bus.
+    Window { secondary: u8 },
+}
+
+/// A BAR, a ROM or a window that is to be placed.
+#[derive(Clone, Copy, Debug)]
+pub struct Item {
+    /// Which of the functions, in slot order.
+    pub function: usize,
+    /// The bus that it stands on, 0 for each root: the roots' items are placed as those of one bus.
+    pub group: u8,
+    pub part: Part,
+    pub size: u128,
+}
+
+/// The function that items are of.
+#[derive(Clone, Copy, Debug)]
+struct Owner {
+    /// Which of the functions, in slot order.
+    function: usize,
+    /// The group of its bus.
+    group: u8,
+}
+
+impl Owner {
+    /// An item of this function.
+    fn item(self, part: Part, size: u128) -> Item
+        ensures { result ≡ owned self part size }
+    {
+        Item {
+            function: self.function,
+            group: self.group,
+            part,
+            size,
+        }
+    }
+}
+
+/// Adds the BARs of a class.
+fn add_bars<A: Allocator>(
+    items: &mut Vec<Item, A>,
+    owner: Owner,
+    bars: &[Bar],
+    class: WindowKind,
+    above: Above,
+    pools: &Pools,
+) -> Result<(), OutOfMemory>
+    requires { All IsBar bars.now }
+    ensures { OnOk result (items.new.items
+        ≡ items.old.items ++ bar_items owner (kind_value class) above pools.now bars.now) }
+{
+    for bar in bars {
+        if class_of_bar(bar, above, pools) == class {
+            let part = Part::Bar((bar.reg - BASE_ADDRESS) / 4);
+            items.push(owner.item(part, bar_size(bar)))?;
+        }
+    }
+    Ok(())
+}
+
+/// Adds the window of a bridge with something behind it.
+fn add_window<A: Allocator>(
+    items: &mut Vec<Item, A>,
+    owner: Owner,
+    bridge: Option<Bridge>,
+    class: WindowKind,
+    needs: &Needs,
+) -> Result<(), OutOfMemory>
+    requires { (bus : ℕ) → bus < 256 → slice_index needs.now.of_bus bus ≤ 2 ^ 65 }
+    ensures { OnOk result (items.new.items
+        ≡ items.old.items ++ window_items owner (kind_value class) needs.now.of_bus bridge) }
+{
+    if let Some(bridge) = bridge {
+        let secondary = bridge.secondary;
+        let need = needs.of_bus[secondary as usize];
+        if 0 < need {
+            items.push(owner.item(Part::Window { secondary }, window_size_of(class, need)))?;
+        }
+    }
+    Ok(())
+}
+
+/// Adds a ROM, if the class is that of memory.
+fn add_rom<A: Allocator>(
+    items: &mut Vec<Item, A>,
+    owner: Owner,
+    rom: Option<Rom>,
+    class: WindowKind,
+) -> Result<(), OutOfMemory>
+    requires { IfSome rom (λ rom. rom.first ≤ rom.last) }
+    ensures { OnOk result
+        (items.new.items ≡ items.old.items ++ rom_items owner (kind_value class) rom) }
+{
+    if let Some(rom) = rom {
+        if class == WindowKind::Memory {
+            items.push(owner.item(Part::Rom, rom_size(&rom)))?;
+        }
+    }
+    Ok(())
+}
+
+/// Adds the items of a class that a function has, in the order of their registers.
+fn add_items<A: Allocator>(
+    items: &mut Vec<Item, A>,
+    owner: Owner,
+    record: &Record,
+    class: WindowKind,
+    above: Above,
+    pools: &Pools,
+    needs: &Needs,
+) -> Result<(), OutOfMemory>
+    requires bars { All IsBar «record».now.bars.items }
+    requires rom { IfSome «record».now.rom (λ rom. rom.first ≤ rom.last) }
+    requires needs { (bus : ℕ) → bus < 256 → slice_index needs.now.of_bus bus ≤ 2 ^ 65 }
+    ensures { OnOk result (items.new.items
+        ≡ items.old.items
+        ++ record_items owner (kind_value class) above pools.now needs.now.of_bus «record».now) }
+{
+    add_bars(items, owner, record.bars.as_slice(), class, above, pools)?;
+    add_window(items, owner, record.bridge, class, needs)?;
+    add_rom(items, owner, record.rom, class)
+}
+
+/// The group of a bus: the roots are one.
+fn group_of(roots: &Roots, bus: u8) -> u8
+    ensures { result ≡ group_of (buses_of roots.now) bus }
+{
+    if roots.has(bus) { 0 } else { bus }
+}
+
+/// The items of a class in slot and register order.
+pub fn items_of<A: Allocator, B: Allocator>(
+    alloc: A,
+    admitted: &Admitted<B>,
+    pools: &Pools,
+    class: WindowKind,
+    aboves: &[Above; BUSES],
+    needs: &Needs,
+) -> Result<Vec<Item, A>, OutOfMemory>
+    requires aboves { AreAboves (system_in admitted.now) aboves.now }
+    requires needs { AreNeeds admitted.now.roots (system_in admitted.now) (pools_value pools.now)
+        (kind_value class) needs.now }
+    ensures items { IfOk result (λ items. AreItems admitted.now.roots (system_in admitted.now)
+        (pools_value pools.now) (kind_value class) items.items) }
+    ensures rooted { OnOk result (IsRooted admitted.now.roots (system_in admitted.now)) }
+{
+    let outline = admitted.outline();
+    let roots = outline.roots();
+    let mut items = Vec::new(alloc);
+    for (function, record) in outline.records().iter().enumerate() {
+        let bus = record.slot.bus();
+        let owner = Owner {
+            function,
+            group: group_of(&roots, bus),
+        };
+        let above = aboves[bus as usize];
+        add_items(&mut items, owner, record, class, above, pools, needs)?;
+    }
+    Ok(items)
+}
+
+/// Sorts items by falling size; those of one size stay in their order.
+fn sort_by_size<A: Allocator + Copy>(items: &mut Vec<Item, A>) -> Result<(), OutOfMemory>
+    ensures permutation { IsPermutation items.old.items items.new.items }
+    ensures sorted { OnOk result ((number : Item → ℕ)
+        → AllPairs (λ i j. number i < number j) items.old.items
+        → AllPairs (IsLarger number) items.new.items) }
+{
+    match items.sort_by_key(|item| Reverse(item.size)) {
+        Ok(()) => Ok(()),
+        Err(_) => Err(OutOfMemory),
+    }
+}
+
+/// Sorts items by their group; those of one group stay in their order.
+fn sort_by_group<A: Allocator + Copy>(items: &mut Vec<Item, A>) -> Result<(), OutOfMemory>
+    ensures permutation { IsPermutation items.old.items items.new.items }
+    ensures sorted { OnOk result ((number : Item → ℕ) → AllPairs (IsLarger number) items.old.items
+        → AllPairs (IsPlacedBefore number) items.new.items) }
+{
+    match items.sort_by_key(|item| item.group) {
+        Ok(()) => Ok(()),
+        Err(_) => Err(OutOfMemory),
+    }
+}
+
+/// Sorts items that stand in slot and register order into groups, and each group by falling size.
+pub fn sort_items<A: Allocator + Copy>(items: &mut Vec<Item, A>) -> Result<(), OutOfMemory>
+    ensures permutation { IsPermutation items.old.items items.new.items }
+    ensures sorted { OnOk result ((number : Item → ℕ)
+        → AllPairs (λ i j. number i < number j) items.old.items
+        → AllPairs (IsPlacedBefore number) items.new.items) }
+{
+    sort_by_size(items)?;
+    sort_by_group(items)
+}

@@ -1,0 +1,60 @@
+//! Whether what is of a class fits its pool.
+ghost use Rattle.std.specs.Prelude.{◌≡◌, ◌<◌, ◌≤◌, ◌^◌, map, slice_index};
+ghost use Rattle.std.specs.List.{All, sum};
+ghost use Rattle.plan_spec.specs.Plan.{fits, raised_to};
+ghost use Rattle.pci_tree.specs.Roots.{buses_of};
+ghost use Rattle.pci_base.specs.WindowKinds.{kind_value};
+ghost use Rattle.pci_place.specs.Pools.{pools_value};
+ghost use Rattle.pci_place.specs.Above.{system_in};
+ghost use Rattle.pci_place.specs.Needs.{AreNeeds};
+
+use crate::need::Needs;
+use crate::pools::Pools;
+use pci_base::slot::BUSES;
+use pci_base::window_kind::WindowKind;
+use pci_tree::admitted::Admitted;
+use pci_tree::roots::Roots;
+use std::alloc::Allocator;
+
+/// What all root buses need together: they are placed as one bus.
+fn need_of_roots(roots: &Roots, needs: &Needs) -> u128
+    requires { All (λ need. need ≤ 2 ^ 65) needs.now.of_bus }
+    ensures sum { result ≡ sum (map (slice_index needs.now.of_bus) (buses_of roots.now)) }
+    ensures bound { result ≤ 2 ^ 73 }
+{
+    let mut sum = 0;
+    for bus in 0..BUSES {
+        if roots.has(bus as u8) {
+            sum += needs.of_bus[bus];
+        }
+    }
+    sum
+}
+
+/// The least multiple of a size from an address on.
+pub fn raised(size: u128, first: u64) -> u128
+    requires some { 0 < size }
+    requires limited { size ≤ 2 ^ 65 }
+    ensures raised { result ≡ raised_to size first }
+    ensures bound { result ≤ 2 ^ 66 }
+{
+    (u128::from(first) + size - 1) / size * size
+}
+
+/// Whether what is of a class fits its pool.
+pub fn has_room<A: Allocator>(
+    admitted: &Admitted<A>,
+    pools: &Pools,
+    class: WindowKind,
+    needs: &Needs,
+) -> bool
+    requires { AreNeeds admitted.now.roots (system_in admitted.now) (pools_value pools.now)
+        (kind_value class) needs.now }
+    ensures { result
+        ≡ fits admitted.now.roots (system_in admitted.now) (pools_value pools.now)
+        (kind_value class) }
+{
+    let need = need_of_roots(&admitted.outline().roots(), needs);
+    let pool = pools.of(class);
+    need == 0 || raised(needs.greatest, pool.first) + need <= u128::from(pool.last) + 1
+}

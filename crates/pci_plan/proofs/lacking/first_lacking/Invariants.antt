@@ -1,6 +1,0 @@
-use Rattle.pci_plan.specs.Above.{system_in}
-use Rattle.pci_plan.proofs.NoWindows.{NoneLacks}
-use Rattle.pci_plan.proofs.lacking.first_lacking.Given as goal
-
-abbrev pub invariant-loop-record : goal.invariant-loop-record
-invariant-loop-record g l = NoneLacks (system_in l.admitted) l.record-index

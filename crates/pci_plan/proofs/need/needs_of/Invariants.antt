@@ -1,9 +1,0 @@
-use Rattle.std.proofs.Common.{◌-◌, length}
-use Rattle.pci_base.specs.WindowKinds.{kind_value}
-use Rattle.pci_plan.specs.Pools.{pools_value}
-use Rattle.pci_plan.specs.Above.{system_in}
-use Rattle.pci_plan.proofs.NeedTables.{AreNeedsFrom}
-use Rattle.pci_plan.proofs.need.needs_of.Given as goal
-
-abbrev pub invariant-loop-done : goal.invariant-loop-done
-invariant-loop-done g l = AreNeedsFrom l.admitted.roots (system_in l.admitted) (pools_value l.pools) (kind_value l.class) (length (system_in l.admitted) - l.done) l.of_bus l.greatest

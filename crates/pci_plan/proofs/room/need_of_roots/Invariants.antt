@@ -1,5 +1,0 @@
-use Rattle.pci_plan.proofs.RootNeeds.{IsSumBelow}
-use Rattle.pci_plan.proofs.room.need_of_roots.Given as goal
-
-abbrev pub invariant-loop-bus : goal.invariant-loop-bus
-invariant-loop-bus l = IsSumBelow l.roots.flags l.needs.of_bus l.bus l.sum
