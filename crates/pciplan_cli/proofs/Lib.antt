@@ -1,8 +1,3 @@
-mod Headers
-mod Messages
-mod Functions
-mod Chains
-mod Shows
 mod Sizes
 mod PlainWrites
 mod HexWords
@@ -10,4 +5,3 @@ mod PoolWords
 mod RootWords
 mod Invocations
 mod Tasks
-pub mod HexPushes

@@ -1,10 +1,3 @@
-pub mod Spans
-pub mod RegionLines
-pub mod BridgeLines
-pub mod CapabilityLines
-pub mod HeaderLines
-pub mod FunctionLines
-pub mod Shows
 pub mod Statuses
 pub mod Answers
 pub mod PlanAnswers

@@ -12,9 +12,7 @@
 
 pub mod asked;
 pub mod failure;
-mod hex_text;
 pub mod invocation;
-pub mod listing;
 pub mod opened;
 pub mod planning;
 pub mod pool_word;
@@ -23,7 +21,6 @@ pub mod program;
 pub mod reply;
 pub mod root_list;
 pub mod run;
-pub mod show;
 pub mod sizing;
 
 pub use failure::Failure;

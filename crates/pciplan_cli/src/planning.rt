@@ -9,10 +9,10 @@ ghost use Rattle.pci_plan.specs.Writes.{is_plain, write_value};
 ghost use Rattle.pciplan_cli.specs.Answers.{answer_of};
 ghost use Rattle.pciplan_cli.specs.PlanAnswers.{IsPlanned};
 
-use crate::hex_text::{push_byte, push_hex, push_slot};
 use crate::reply::{Reply, Text, done, refused};
 use pci_base::memory::{OutOfMemory, Refused};
 use pci_dump::dump::Dump;
+use pci_listing::hex_text::{push_byte, push_hex, push_slot};
 use pci_place::pools::Pools;
 use pci_plan::planning::plan;
 use pci_plan::write::Write as RegisterWrite;

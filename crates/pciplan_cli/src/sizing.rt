@@ -3,7 +3,7 @@ ghost use Rattle.std.specs.Prelude.{◌≡◌, ◌++◌, ◌<◌, [], ◌∷◌,
 ghost use Rattle.pci_spec.specs.Machine.{sized};
 ghost use Rattle.pci_spec.specs.Stops.{IsAboveLast, last_slot};
 ghost use Rattle.pci_spec.specs.Sizing.{function_at, IsSizable};
-ghost use Rattle.pciplan_cli.specs.Shows.{IsRefusedIn};
+ghost use Rattle.pci_listing.specs.Shows.{IsRefusedIn};
 
 use pci_base::image::Image;
 use pci_base::memory::{OutOfMemory, Refused};

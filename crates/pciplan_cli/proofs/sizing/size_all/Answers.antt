@@ -9,9 +9,9 @@ use Rattle.pci_base.specs.declared.memory.Refused.{Refused}
 use Rattle.pci_base.specs.declared.memory.Refused.TheVariants as refusals
 use Rattle.pci_function.specs.declared.fault.Fault.{Fault}
 use Rattle.pci_machine.specs.Made.{IsRefusedFor}
-use Rattle.pciplan_cli.specs.Shows.{IsRefusedIn}
+use Rattle.pci_listing.specs.Shows.{IsRefusedIn}
 use Rattle.pci_spec.specs.Sizing.{function_at, IsSizable}
-use Rattle.pciplan_cli.proofs.Shows.{same_count}
+use Rattle.pci_listing.proofs.Shows.{same_count}
 use Rattle.pciplan_cli.proofs.Sizes.{above_last, function_at_block}
 use Rattle.pciplan_cli.proofs.sizing.size_all.Goals as goal
 

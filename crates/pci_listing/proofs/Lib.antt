@@ -1,0 +1,6 @@
+pub mod Headers
+pub mod Messages
+pub mod Functions
+pub mod Chains
+pub mod Shows
+pub mod HexPushes

@@ -1,0 +1,18 @@
+use Rattle.std.proofs.Common.{◌∙◌}
+use Rattle.std.proofs.lemmas.List.{append_assoc}
+use Rattle.std.proofs.lemmas.Result.{on_ok_weaker}
+use Rattle.pci_listing.proofs.listing.bridge.BusLine.push_to.Goals as goal
+
+pub returns : goal.returns
+returns g c =
+    on_ok_weaker c.end_line.result
+    (λ last. last ∙ rw (
+      c.in_ok-push_byte-3.ensures,
+      c.in_ok-push_str-3.ensures.bytes,
+      c.in_ok-push_byte-2.ensures,
+      c.in_ok-push_str-2.ensures.bytes,
+      c.in_ok-push_byte.ensures,
+      c.in_ok-push_str.ensures.bytes,
+    )
+    (simp append_assoc))
+    c.end_line.ensures

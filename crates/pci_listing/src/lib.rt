@@ -1,0 +1,6 @@
+//! The listing of a dump and its probe: each function's identity, windows, BARs, ROM and capabilities, a line each.
+#![tactic(auto)]
+
+pub mod hex_text;
+pub mod listing;
+pub mod show;
