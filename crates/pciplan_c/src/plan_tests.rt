@@ -3,9 +3,9 @@ use crate::calls::pciplan_plan;
 use crate::planning::{HeldBack, plan_into};
 use crate::register_write::{PoolsOfC, RegisterWrite};
 use crate::texts::{Pair, whole};
-use boards::refusing::Refusing;
 use std::alloc::{AllocError, Global};
 use std::test::Fail;
+use test_support::refusing::Refusing;
 
 const BARE_DUMP: &str = "00:01.0
 00: 34 12 78 56 00 00 00 00 00 00 00 00 00 00 01 00

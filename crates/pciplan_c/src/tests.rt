@@ -4,10 +4,10 @@ use crate::calls::pciplan_check;
 use crate::refusal::Refusal;
 use crate::texts::{Pair, desk_pair, old_pair, roots_pair};
 use crate::verdict::check_into;
-use boards::refusing::Refusing;
 use pci_dump::read_fault::ReadFault;
 use std::alloc::Global;
 use std::test::Fail;
+use test_support::refusing::Refusing;
 
 /// A call: two texts, roots and the length of the line; the status, and the text that is put or has no room.
 type Call<'a> = (&'a [u8], &'a [u8], &'a [u8], usize, u8, &'a str);

@@ -1,0 +1,164 @@
+use crate::texts::block;
+use pci_base::image::Image;
+use pci_base::slot::Slot;
+use pci_dump::block::Block;
+use pci_dump::dump::Dump;
+use pci_dump::reader::read_dump;
+use pci_function::fault::PairFault;
+use pci_pair::pair::pair;
+use std::test::Fail;
+use test_support::fakes::Pieces;
+
+/// A dump of functions on bus 00, each a device and the bytes that aren't 00.
+fn dump_of(rt: &HostRuntime, functions: &[(u8, Bytes)]) -> Result<Dump, Fail> {
+    let mut dump = Dump::empty(rt.alloc());
+    for (device, bytes) in functions {
+        let mut image = [0; 256];
+        for &(at, byte) in *bytes {
+            if let Some(place) = image.get_mut(at) {
+                *place = byte;
+            }
+        }
+        if let Some(slot) = Slot::new(0, *device, 0) {
+            let _ = dump.push(Block {
+                slot,
+                title: None,
+                image: Image(image),
+            });
+        }
+    }
+    Ok(dump)
+}
+
+/// Bytes of an image that aren't 00.
+type Bytes = &'static [(usize, u8)];
+
+const NONE: Bytes = &[];
+
+const DEAD: Bytes = &[(0, 0xff), (1, 0xff), (0x0e, 0x02)];
+
+const HALF: Bytes = &[(0, 0xff), (1, 0xfe)];
+
+const CARD: Bytes = &[(0x0e, 0x82)];
+
+const BRIDGE: Bytes = &[(0x0e, 0x81)];
+
+const BARS: Bytes = &[(0x10, 1), (0x27, 1), (0x30, 1), (0x33, 1)];
+
+const WINDOWS: Bytes = &[
+    (0x17, 1),
+    (0x1c, 1),
+    (0x1d, 1),
+    (0x20, 1),
+    (0x33, 1),
+    (0x38, 1),
+    (0x3b, 1),
+];
+
+const STRAY: Bytes = &[(0x3d, 1), (0x28, 1), (0xff, 1)];
+
+/// Whether a pair is refused with this text, or accepted where there is none.
+fn answers(
+    rt: &HostRuntime,
+    dump: &[(u8, Bytes)],
+    probe: &[(u8, Bytes)],
+    wanted: &str,
+) -> Result<bool, Fail> {
+    match pair(&dump_of(rt, dump)?, &dump_of(rt, probe)?) {
+        Ok(()) => Ok(wanted.is_empty()),
+        Err(fault) => Ok(format!(in rt.alloc(); "{fault}")?.as_str() == wanted),
+    }
+}
+
+/// The functions of a dump, those of a probe, and the text of the fault that the pair is refused by.
+type Row = (&'static [(u8, Bytes)], &'static [(u8, Bytes)], &'static str);
+
+const ROWS: [Row; 16] = [
+    (&[], &[], ""),
+    (&[(1, NONE), (2, HALF)], &[(1, BARS), (2, NONE)], ""),
+    (&[(1, BRIDGE)], &[(1, WINDOWS)], ""),
+    (&[(0, DEAD)], &[(0, NONE)], "20 NoVendor 00:00.0"),
+    (&[(0, DEAD)], &[], "30 SlotsDiffer 00:00.0"),
+    (&[], &[(3, NONE)], "30 SlotsDiffer 00:03.0"),
+    (
+        &[(1, DEAD), (2, NONE)],
+        &[(1, NONE), (3, NONE)],
+        "30 SlotsDiffer 00:02.0",
+    ),
+    (
+        &[(1, NONE), (3, NONE)],
+        &[(1, NONE), (2, NONE)],
+        "30 SlotsDiffer 00:02.0",
+    ),
+    (
+        &[(1, NONE), (2, NONE)],
+        &[(1, NONE)],
+        "30 SlotsDiffer 00:02.0",
+    ),
+    (&[(1, CARD)], &[(1, STRAY)], "21 HeaderKind 00:01.0"),
+    (
+        &[(1, NONE), (2, DEAD)],
+        &[(1, STRAY), (2, NONE)],
+        "31 StrayProbe 00:01.0 28",
+    ),
+    (&[(1, NONE)], &[(1, WINDOWS)], "31 StrayProbe 00:01.0 38"),
+    (
+        &[(1, BRIDGE)],
+        &[(1, &[(0x18, 1)])],
+        "31 StrayProbe 00:01.0 18",
+    ),
+    (
+        &[(1, BRIDGE)],
+        &[(1, &[(0x1e, 1)])],
+        "31 StrayProbe 00:01.0 1e",
+    ),
+    (
+        &[(1, BRIDGE)],
+        &[(1, &[(0x34, 1)])],
+        "31 StrayProbe 00:01.0 34",
+    ),
+    (
+        &[(1, BRIDGE)],
+        &[(1, &[(0x3c, 1)])],
+        "31 StrayProbe 00:01.0 3c",
+    ),
+];
+
+#[test]
+fn a_pair_is_refused_by_the_first_fault(rt: HostRuntime) -> Result<(), Fail> {
+    for (dump, probe, wanted) in ROWS {
+        assert!(rt; answers(&rt, dump, probe, wanted)?, "{wanted}");
+    }
+    Ok(())
+}
+
+#[test]
+fn titles_of_a_pair_need_not_agree(rt: HostRuntime) -> Result<(), Fail> {
+    let dump = block(&rt, b"00:01.0 a title\n")?;
+    let probe = block(&rt, b"00:01.0\n")?;
+    let dump = read_dump(rt.alloc(), &mut Pieces::new(&dump, 4096, 0));
+    let probe = read_dump(rt.alloc(), &mut Pieces::new(&probe, 4096, 0));
+    let (Ok(dump), Ok(probe)) = (dump, probe) else {
+        assert!(rt; false);
+        return Ok(());
+    };
+    assert!(rt; pair(&dump, &probe).is_ok());
+    Ok(())
+}
+
+#[test]
+fn faults_are_numbered(rt: HostRuntime) {
+    let Some(slot) = Slot::new(0, 1, 0) else {
+        return;
+    };
+    let cases = [
+        (PairFault::BarType(slot, 0x10), 22),
+        (PairFault::BarMask(slot, 0x10), 23),
+        (PairFault::BarPair(slot, 0x10), 24),
+        (PairFault::RomMask(slot, 0x30), 25),
+        (PairFault::WindowMask(slot, 0x1c), 26),
+    ];
+    for (fault, number) in cases {
+        assert!(rt; fault.number() == number, "{number}");
+    }
+}

@@ -1,0 +1,92 @@
+//! Runs in which a read or a write fails.
+use crate::program::{Answer, line_of, run_task};
+use pci_dump::std_streams::{Incoming, Outgoing};
+use pciplan_cli::invocation::Task;
+use pciplan_cli::run::run;
+use std::process::Abort;
+use test_support::board::Texts;
+use test_support::fakes::{Narrow, Pieces};
+
+/// What a task answers where one read of each text fails, counted from 1; 0 is none. A read gives up to 500 bytes.
+pub fn with_failing_read(
+    rt: &impl AllocGlobal,
+    task: Task,
+    texts: &Texts,
+    dump_fails: u64,
+    probe_fails: u64,
+) -> Answer {
+    let mut dump = Pieces::new(texts.dump.as_bytes(), 500, dump_fails);
+    let mut probe = Pieces::new(texts.probe.as_bytes(), 500, probe_fails);
+    run_on_pieces(rt, task, &mut dump, &mut probe)
+}
+
+/// What a task answers to texts that come in pieces.
+fn run_on_pieces(
+    rt: &impl AllocGlobal,
+    task: Task,
+    dump: &mut Pieces<'_>,
+    probe: &mut Pieces<'_>,
+) -> Answer {
+    let mut out = Vec::new(rt.alloc());
+    let mut err = Vec::new(rt.alloc());
+    let status = run(
+        rt.alloc(),
+        &line_of(rt, task),
+        dump,
+        probe,
+        &mut Outgoing::new(&mut out),
+        &mut Outgoing::new(&mut err),
+    );
+    Answer { status, out, err }
+}
+
+/// What a task answers, whose answer goes to a writer.
+fn with_writer(rt: &impl AllocGlobal, task: Task, texts: &Texts, writer: Narrow) -> Answer {
+    let mut writer = writer;
+    let mut err = Vec::new(rt.alloc());
+    let status = run(
+        rt.alloc(),
+        &line_of(rt, task),
+        &mut Incoming::new(texts.dump.as_bytes()),
+        &mut Incoming::new(texts.probe.as_bytes()),
+        &mut Outgoing::new(&mut writer),
+        &mut Outgoing::new(&mut err),
+    );
+    Answer {
+        status,
+        out: writer.taken,
+        err,
+    }
+}
+
+/// Asserts that writers with too little room, which take up to `step` bytes at once, hold a beginning of the answer.
+pub fn leaves_beginnings(
+    rt: &(impl Abort + AllocGlobal),
+    task: Task,
+    texts: &Texts,
+    step: usize,
+    rooms: &[usize],
+) {
+    let whole = run_task(rt, task, texts.dump.as_str(), texts.probe.as_str());
+    for room in rooms {
+        for fails in [true, false] {
+            let writer = Narrow {
+                taken: Vec::new(rt.alloc()),
+                room: *room,
+                step,
+                fails,
+            };
+            let got = with_writer(rt, task, texts, writer);
+            assert_eq!(rt; got.status, 4, "{room}");
+            assert!(rt;
+                got.err.as_slice() == b"pciplan: 10 Io\n".as_slice(),
+                "{room}"
+            );
+            let front = whole.out.get(..*room);
+            assert!(rt;
+                front.is_some_and(|front| front == got.out.as_slice()),
+                "{room}"
+            );
+        }
+    }
+}

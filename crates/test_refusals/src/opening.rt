@@ -1,0 +1,145 @@
+//! The program on texts that may not be there, and on words that can't be had.
+ghost use Rattle.std.specs.Prelude.{None};
+
+use crate::program::Answer;
+use pci_base::failures::Failures;
+use pci_dump::std_streams::Outgoing;
+use pci_dump::streams::{Failed, Source};
+use pciplan_cli::opened::Opening;
+use pciplan_cli::program::program;
+use std::alloc::AllocError;
+use std::io;
+use std::io::{ErrorKind, Read};
+use std::test::Fail;
+use test_support::example::{DUMP, LISTING, PROBE};
+
+/// Texts by their paths, of which one is opened. While none is, it reads as if it were empty.
+#[derive(Drop)]
+struct Shelf<'a> {
+    texts: &'a [(&'a str, &'a str)],
+    rest: &'a [u8],
+    failed: Failures,
+}
+
+impl<'a> Shelf<'a> {
+    fn closed(texts: &'a [(&'a str, &'a str)]) -> Shelf<'a> {
+        Shelf {
+            texts,
+            rest: &[],
+            failed: Failures::new(),
+        }
+    }
+}
+
+impl Source for Shelf<'_> {
+    ghost left = { λ _. None };
+
+    ghost failures = { λ s. s.failed.count };
+
+    fn read(&mut self, buf: &mut [u8]) -> Result<usize, Failed> {
+        if let Ok(count) = self.rest.read(buf) {
+            return Ok(count);
+        }
+        self.failed = self.failed.and_one();
+        Err(Failed)
+    }
+}
+
+impl Opening for Shelf<'_> {
+    ghost stands = { λ _ _. Unit {0} };
+
+    ghost bytes_at = { λ _ _. None };
+
+    fn open(&mut self, path: &str) -> Result<(), Failed> {
+        if let Some(entry) = self.texts.iter().find(|entry| entry.0 == path) {
+            self.rest = entry.1.as_bytes();
+            return Ok(());
+        }
+        self.failed = self.failed.and_one();
+        Err(Failed)
+    }
+}
+
+/// The words of a line.
+fn words_of(rt: &impl AllocGlobal, words: &[&str]) -> Result<Vec<String>, AllocError> {
+    let mut owned = Vec::new(rt.alloc());
+    for word in words {
+        owned.push(String::from_str(rt.alloc(), word)?)?;
+    }
+    Ok(owned)
+}
+
+/// What the program answers to words, where these texts can be opened.
+fn answer(rt: &impl AllocGlobal, words: io::Result<Vec<String>>, texts: &[(&str, &str)]) -> Answer {
+    let mut out = Vec::new(rt.alloc());
+    let mut err = Vec::new(rt.alloc());
+    let status = program(
+        rt.alloc(),
+        words,
+        &mut Shelf::closed(texts),
+        &mut Shelf::closed(texts),
+        &mut Outgoing::new(&mut out),
+        &mut Outgoing::new(&mut err),
+    );
+    Answer { status, out, err }
+}
+
+/// Whether that is what is wanted on standard output and on standard error, and the status.
+fn is_left(got: &Answer, out: &str, err: &str, status: u8) -> bool {
+    got.out.as_slice() == out.as_bytes()
+        && got.err.as_slice() == err.as_bytes()
+        && got.status == status
+}
+
+/// Whether a command is refused so where these texts can be opened.
+fn is_refused(
+    rt: &impl AllocGlobal,
+    command: &str,
+    texts: &[(&str, &str)],
+    err: &str,
+    status: u8,
+) -> Result<bool, AllocError> {
+    let words = words_of(rt, &[command, "d", "p"])?;
+    Ok(is_left(&answer(rt, Ok(words), texts), "", err, status))
+}
+
+#[test]
+fn each_path_opens_its_own_text(rt: HostRuntime) -> Result<(), Fail> {
+    let texts = [("p", PROBE), ("d", DUMP)];
+    for (command, out) in [("check", "yes\n"), ("size", PROBE), ("show", LISTING)] {
+        let words = words_of(&rt, &[command, "d", "p"])?;
+        assert!(rt; is_left(&answer(&rt, Ok(words), &texts), out, "", 0));
+    }
+    Ok(())
+}
+
+#[test]
+fn a_text_that_cant_be_opened_is_one_that_cant_be_read(rt: HostRuntime) -> Result<(), Fail> {
+    let dump = "pciplan: dump: 1 Io\n";
+    let probe = "pciplan: probe: 1 Io\n";
+    for command in ["show", "check", "size"] {
+        assert!(rt; is_refused(&rt, command, &[("p", PROBE)], dump, 4)?);
+        assert!(rt; is_refused(&rt, command, &[("d", DUMP)], probe, 4)?);
+        // the dump's goes first
+        assert!(rt; is_refused(&rt, command, &[], dump, 4)?);
+        // and so does a fault of its text
+        let cut = "pciplan: dump: 9 Ended 1\n";
+        assert!(rt; is_refused(&rt, command, &[("d", "00:01.0")], cut, 2)?);
+    }
+    Ok(())
+}
+
+#[test]
+fn words_that_cant_be_had_are_refused(rt: HostRuntime) -> Result<(), Fail> {
+    let texts = [("p", PROBE), ("d", DUMP)];
+    for (kind, err, status) in [
+        (ErrorKind::OutOfMemory, "pciplan: 2 Memory\n", 3),
+        (ErrorKind::InvalidData, "pciplan: usage\n", 2),
+    ] {
+        let got = answer(&rt, Err(io::Error::from(kind)), &texts);
+        assert!(rt; is_left(&got, "", err, status));
+    }
+    let got = answer(&rt, Ok(words_of(&rt, &["check", "d"])?), &texts);
+    assert!(rt; is_left(&got, "", "pciplan: usage\n", 2));
+    Ok(())
+}

@@ -1,0 +1,68 @@
+//! Deriving a probe where a read, a write or a growth fails.
+use crate::failing::{leaves_beginnings, with_failing_read};
+use crate::refused_tasks::is_refused_in_turn;
+use pciplan_cli::invocation::Task;
+use std::alloc::{AllocError, Global};
+use std::fmt::Write;
+use std::test::Fail;
+use test_support::board::{Texts, device, texts_of};
+
+/// A probe in which read backs may be assumed.
+const TASK: Task = Task::Probe { exact: false };
+
+/// Appends a block of sizes, with its first line.
+fn push_sizes(text: &mut String, slot: &str, first: &str) -> Result<(), AllocError> {
+    writeln!(text, "{slot}")?;
+    writeln!(text, "{first}")?;
+    for _ in 0..6 {
+        writeln!(text, "0x{:016x} 0x{:016x} 0x{:016x}", 0, 0, 0)?;
+    }
+    writeln!(text, "")
+}
+
+/// A dump of two functions, of one of which a size is told, and the sizes in the place of its probe.
+fn example(alloc: Global) -> Result<Texts, AllocError> {
+    let board = [
+        device("00:01.0", 2, &[(0x10, 0xfebc_0000, 0)]),
+        device("00:02.0", 0, &[(0x10, 0xe000_0000, 0)]),
+    ];
+    let dump = texts_of(alloc, &board)?.dump;
+    let mut probe = String::new(alloc);
+    let told = "0x00000000febc0000 0x00000000febdffff 0x0000000000040200";
+    let none = "0x0000000000000000 0x0000000000000000 0x0000000000000000";
+    push_sizes(&mut probe, "00:01.0", told)?;
+    push_sizes(&mut probe, "00:02.0", none)?;
+    Ok(Texts { dump, probe })
+}
+
+#[test]
+fn a_probe_that_is_refused_a_growth_says_just_that(rt: HostRuntime) -> Result<(), Fail> {
+    let texts = example(rt.alloc())?;
+    assert!(rt; is_refused_in_turn(&rt, TASK, &texts));
+    leaves_beginnings(&rt, TASK, &texts, 7, &[0, 1, 100, 300]);
+    Ok(())
+}
+
+#[test]
+fn a_probe_is_derived_of_what_can_be_read(rt: HostRuntime) -> Result<(), Fail> {
+    let texts = example(rt.alloc())?;
+    let mut failed = 0u64;
+    for at in 1..9u64 {
+        for (dump_fails, sizes_fail, message) in [
+            (at, 0, b"pciplan: dump: 1 Io\n".as_slice()),
+            (0, at, b"pciplan: sizes: 1 Io\n".as_slice()),
+        ] {
+            let got = with_failing_read(&rt, TASK, &texts, dump_fails, sizes_fail);
+            if got.status == 4 {
+                failed = failed.max(sizes_fail);
+                assert!(rt; got.out.is_empty(), "{at}");
+                assert!(rt; got.err.as_slice() == message, "{at}");
+            } else {
+                assert_eq!(rt; got.status, 0, "{at}");
+                assert!(rt; got.err.as_slice() == b"pciplan: assumed 00:02.0 10\n".as_slice());
+            }
+        }
+    }
+    assert!(rt; 1 < failed && failed < 8, "{failed}");
+    Ok(())
+}
