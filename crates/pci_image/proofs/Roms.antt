@@ -42,6 +42,10 @@ size-rom_other mask start answer is some outside = false_from_ne_true _ (λ yes.
     let same = same_Some start found.0 (sym some ∙ (is found.0).1 (omega arith, omega (arith, at.1), at.2)) in
     outside (omega (arith, same, at.0)) (omega (arith, same, at.1)))
 
+-- without a ROM nothing is decoded
+pub none-decoded : (image probe : List ℕ) → has_rom image probe ≡ false → None ≡ decoded_rom image probe
+none-decoded image probe absent = rw absent refl
+
 -- ---- the value but its enable bit
 
 -- each bit of a value without bit 0 is in its mask
