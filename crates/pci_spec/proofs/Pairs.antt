@@ -1,5 +1,5 @@
 -- What stands at one place in two systems that agree place by place.
-use Rattle.std.proofs.Common.{◌≡◌, zero, suc, [], ◌∷◌, refl, arith, subst, List, ◌<◌, ℕ}
+use Rattle.std.proofs.Common.{zero, suc, [], ◌∷◌, refl, arith, subst}
 use Rattle.std.specs.List.{AllZip, Contains}
 use Rattle.pci_spec.specs.System.{System, Function}
 

@@ -3,7 +3,7 @@ use Rattle.std.specs.Prelude.{◌≡◌, ℕ, zero, suc, ◌+◌, ◌-◌, ◌==
 use Rattle.std.specs.List.{filter, flat_map, sum, find, range_with_len, Contains}
 use Rattle.pci_spec.specs.Slot.{slot_number}
 use Rattle.pci_spec.specs.Header.{layout, bar_count}
-use Rattle.pci_spec.specs.Window.{WindowKind, Bounds, bounds_at, has_window, is_wide_window, page_bits, closed_bounds}
+use Rattle.pci_spec.specs.Window.{WindowKind, bounds_at, has_window, is_wide_window, closed_bounds}
 use Rattle.pci_spec.specs.Rom.{rom_at}
 use Rattle.pci_spec.specs.Decoded.{Range, decoded_bar, rom_size, aligned_range, window_range}
 use Rattle.pci_spec.specs.System.{System, Function, Part, Bar, Rom, Window, is_implemented, bars_and_rom, register_of, is_bridge}

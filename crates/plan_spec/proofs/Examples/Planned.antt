@@ -1,13 +1,13 @@
 -- A planned system: the old one with everything placed in its pool, open and enabled.
 use Rattle.std.proofs.Common.{◌≡◌, ℕ, zero, suc, ◌<◌, ◌≤◌, [], ◌∷◌, ◌&&◌, ◌||◌, refl, Bool, true, false, inl, inr, arith, lit<, subst, ◌∙◌, map, ap}
-use Rattle.std.specs.Bool.{IsTrue, IsFalse, nat_le, nat_lt, ◌==◌}
+use Rattle.std.specs.Bool.{IsTrue, IsFalse, nat_lt, ◌==◌}
 use Rattle.std.specs.Int.{bit_at}
 use Rattle.std.specs.List.{Contains, AllZip}
-use Rattle.std.proofs.lemmas.Bool.{and_parts, or_cases, leb-true, ltb-true, both_ways, cases_order, eqb-true}
+use Rattle.std.proofs.lemmas.Bool.{or_cases, ltb-true, both_ways, cases_order, eqb-true}
 use Rattle.std.proofs.lemmas.Nat.{pow_below}
-use Rattle.pci_spec.specs.Number.{each_from, has_bit, AgreeFrom, byte_at}
+use Rattle.pci_spec.specs.Number.{each_from, has_bit, byte_at}
 use Rattle.pci_spec.specs.Header.{command}
-use Rattle.pci_spec.specs.Bar.{Memory32, Answers, is_run}
+use Rattle.pci_spec.specs.Bar.{Memory32, is_run}
 use Rattle.pci_spec.specs.Window.{WindowKind, IoWindow, MemoryWindow, PrefetchWindow, has_window}
 use Rattle.pci_spec.specs.System.{Function, Io, Memory, is_bridge, Part, Bar, Rom, Window, Decodes, has_part, is_window, System}
 use Rattle.pci_spec.specs.Machine.{in_fields, address_fields}

@@ -1,5 +1,5 @@
 -- A system whose functions were moved keeps its tree of buses and its capability lists.
-use Rattle.std.proofs.Common.{◌≡◌, ℕ, zero, suc, List, [], ◌∷◌, refl, Bool, ◌&&◌, ◌||◌, not, arith, sym, ◌∙◌, ap, subst}
+use Rattle.std.proofs.Common.{◌≡◌, ℕ, suc, List, [], ◌∷◌, refl, Bool, ◌&&◌, ◌||◌, not, arith, sym, ◌∙◌, ap}
 use Rattle.std.specs.Bool.{IsTrue, nat_le, nat_lt, ◌==◌}
 use Rattle.std.specs.List.{Contains, AllZip, list_all}
 use Rattle.std.proofs.lemmas.List.Elements.{All-contains}
