@@ -101,6 +101,21 @@ impl<A: Allocator> Dump<A> {
         Ok(())
     }
 
+    /// Puts a block after all that are there, where there is room and its slot is above the last one.
+    ///
+    /// Errors: 2 `OutOfMemory` where the growth was refused.
+    pub fn push_next(&mut self, block: Block) -> Result<(), OutOfMemory>
+        requires above { IsAboveLast (last_slot self.old) block.slot }
+        requires room { length self.old < BLOCKS_MAX }
+        ensures { OnOk result (self.new ≡ self.old ++ block ∷ []) }
+    {
+        match self.push(block) {
+            Ok(()) => Ok(()),
+            Err(Refused::Fault(_)) => unreachable!(),
+            Err(Refused::Memory) => Err(OutOfMemory),
+        }
+    }
+
     /// Puts a block that may stand there after all that are there. At an error the dump is as it was.
     pub(crate) fn append(&mut self, block: Block) -> Result<(), OutOfMemory>
         requires block { IsBlock block }

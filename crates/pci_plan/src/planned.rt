@@ -1,8 +1,7 @@
 //! The planned dump: the start with the new numbers put in.
-ghost use Rattle.std.specs.Prelude.{◌≡◌, ◌+◌, ◌++◌, ◌<◌, IfOk, OnOk, [], ◌∷◌, map, length};
+ghost use Rattle.std.specs.Prelude.{◌≡◌, ◌<◌, IfOk, map, length};
 ghost use Rattle.std.specs.List.{AllZip};
 ghost use Rattle.pci_spec.specs.Text.{slots_of};
-ghost use Rattle.pci_spec.specs.Stops.{IsAboveLast, last_slot};
 ghost use Rattle.pci_spec.specs.System.{system_of};
 ghost use Rattle.pci_spec.specs.Window.{WindowKind as KindValue};
 ghost use Rattle.plan_spec.specs.PlanPromise.{CanBePlanned};
@@ -15,7 +14,7 @@ ghost use Rattle.pci_plan.specs.Fillings.{FillingOf};
 
 use super::numbers::Filling;
 use pci_base::image::{Image, put};
-use pci_base::memory::{OutOfMemory, Refused};
+use pci_base::memory::OutOfMemory;
 use pci_base::offset::COMMAND;
 use pci_base::window_kind::ByKind;
 use pci_dump::block::Block;
@@ -45,19 +44,6 @@ fn filled(filling: &Filling<'_>) -> Image
     }
     put(&mut image.0, COMMAND, 2, u32::from(filling.command()));
     image
-}
-
-/// Puts a block after all that are there.
-fn push_next<A: Allocator>(dump: &mut Dump<A>, block: Block) -> Result<(), OutOfMemory>
-    requires above { IsAboveLast (last_slot dump.old) block.slot }
-    requires room { length dump.old < 4096 }
-    ensures { OnOk result (dump.new ≡ dump.old ++ block ∷ []) }
-{
-    match dump.push(block) {
-        Ok(()) => Ok(()),
-        Err(Refused::Fault(_)) => unreachable!(),
-        Err(Refused::Memory) => Err(OutOfMemory),
-    }
 }
 
 /// The dump of all functions with their new numbers, slots and titles as they are.
@@ -98,13 +84,10 @@ pub fn planned_dump<A: Allocator, B: Allocator>(
             needs,
         };
         let image = filled(&filling);
-        push_next(
-            &mut dump,
-            Block {
-                image,
-                ..block.copy()
-            },
-        )?;
+        dump.push_next(Block {
+            image,
+            ..block.copy()
+        })?;
     }
     Ok(dump)
 }

@@ -84,15 +84,11 @@ fn add<A: Allocator>(
         Ok(registers) => registers,
         Err(fault) => return Err(Refused::Fault(ProbeFault::at(block.slot, fault))),
     };
-    match derivation.probe.push(Block {
+    derivation.probe.push_next(Block {
         slot: block.slot,
         title: None,
         image,
-    }) {
-        Ok(()) => {}
-        Err(Refused::Fault(_)) => unreachable!(),
-        Err(Refused::Memory) => return Err(Refused::Memory),
-    }
+    })?;
     add_assumed(&mut derivation.assumed, block.slot, registers.as_slice())?;
     Ok(())
 }

@@ -1,12 +1,11 @@
 //! The dump that sizing every function of a machine makes.
-ghost use Rattle.std.specs.Prelude.{◌≡◌, ◌++◌, ◌<◌, [], ◌∷◌, length, OnOk, IfOk, IfErr};
+ghost use Rattle.std.specs.Prelude.{◌≡◌, ◌<◌, [], ◌∷◌, IfOk, IfErr};
 ghost use Rattle.pci_spec.specs.Machine.{sized};
-ghost use Rattle.pci_spec.specs.Stops.{IsAboveLast, last_slot};
 ghost use Rattle.pci_spec.specs.Sizing.{function_at, IsSizable};
 ghost use Rattle.pci_listing.specs.Shows.{IsRefusedIn};
 
 use pci_base::image::Image;
-use pci_base::memory::{OutOfMemory, Refused};
+use pci_base::memory::Refused;
 use pci_base::slot::Slot;
 use pci_dump::block::Block;
 use pci_dump::dump::Dump;
@@ -41,19 +40,6 @@ fn sized_block<A: Allocator>(machine: &mut Machine<A>, probe: &Block) -> Block
     }
 }
 
-/// Puts a block after all that are there.
-fn push_next<A: Allocator>(dump: &mut Dump<A>, block: Block) -> Result<(), OutOfMemory>
-    requires above { IsAboveLast (last_slot dump.old) block.slot }
-    requires room { length dump.old < 4096 }
-    ensures { OnOk result (dump.new ≡ dump.old ++ block ∷ []) }
-{
-    match dump.push(block) {
-        Ok(()) => Ok(()),
-        Err(Refused::Fault(_)) => unreachable!(),
-        Err(Refused::Memory) => Err(OutOfMemory),
-    }
-}
-
 /// What sizing finds of each function of a dump and its probe, with the probe's titles. It is the
 /// probe again.
 ///
@@ -76,10 +62,7 @@ pub fn size_all<A: Allocator + Copy, D: Allocator, P: Allocator>(
     let mut found = Dump::empty(alloc);
     for i in 0..blocks.len() {
         let block = sized_block(&mut machine, &probes[i]);
-        match push_next(&mut found, block) {
-            Ok(()) => {}
-            Err(OutOfMemory) => return Err(Refused::Memory),
-        }
+        found.push_next(block)?;
     }
     Ok(found)
 }

@@ -76,7 +76,7 @@ loop-i-preserved g c =
     let count = same_count c.args.dump.now c.args.probe.now same in
     let within : c.loop-i.i < length probes = omega (arith, count, ap length c.blocks-blocks.ensures.value, ap length c.blocks-probes.ensures.value) in
     let so_far : List Block = take c.loop-i.i probes in (
-      c.in-Ok-push_next.ensures ∙ ap (λ bs. bs ++ c.sized_block-block.result ∷ []) c.loop-i.invariant.0
+      c.in_ok-push_next.ensures ∙ ap (λ bs. bs ++ c.sized_block-block.result ∷ []) c.loop-i.invariant.0
           ∙ ap (λ b. so_far ++ b ∷ []) (c.sized_block-block.ensures.value ∙ c.index-probes-i.is) ∙ sym (take_more probes c.loop-i.i block within),
       c.sized_block-block.ensures.unchanged ∙ c.loop-i.invariant.1,
     )
