@@ -2,6 +2,7 @@
 use pci_dump::std_streams::{Incoming, Outgoing};
 use pciplan_cli::invocation::{Invocation, Task, start};
 use pciplan_cli::run::run;
+use std::alloc::Allocator;
 use std::test::Fail;
 
 /// What a run left: its status, and what it wrote.
@@ -21,12 +22,18 @@ pub fn line_of(rt: &impl AllocGlobal, task: Task) -> Invocation {
     }
 }
 
-/// What a task answers to two texts.
-pub fn run_task(rt: &impl AllocGlobal, task: Task, dump: &str, probe: &str) -> Answer {
+/// What a task answers to two texts, where it grows by `alloc`.
+pub fn run_by<A: Allocator + Copy>(
+    rt: &impl AllocGlobal,
+    alloc: A,
+    task: Task,
+    dump: &str,
+    probe: &str,
+) -> Answer {
     let mut out = Vec::new(rt.alloc());
     let mut err = Vec::new(rt.alloc());
     let status = run(
-        rt.alloc(),
+        alloc,
         &line_of(rt, task),
         &mut Incoming::new(dump.as_bytes()),
         &mut Incoming::new(probe.as_bytes()),
@@ -34,6 +41,11 @@ pub fn run_task(rt: &impl AllocGlobal, task: Task, dump: &str, probe: &str) -> A
         &mut Outgoing::new(&mut err),
     );
     Answer { status, out, err }
+}
+
+/// The same with all the memory that it asks for.
+pub fn run_task(rt: &impl AllocGlobal, task: Task, dump: &str, probe: &str) -> Answer {
+    run_by(rt, rt.alloc(), task, dump, probe)
 }
 
 /// What a line of words answers to two texts.

@@ -1,12 +1,13 @@
 use super::probes::{shown, told, with_registers};
 use super::rows::{Line, Registers};
-use crate::probe::probe_of;
+use crate::probe::{Derivation, probe_of};
 use crate::probe_fault::ProbeFault;
 use crate::sizes::{Sizes, SizesBlock};
 use pci_base::memory::Refused;
 use pci_base::slot::Slot;
 use pci_dump::block::{Block, Title};
 use pci_dump::dump::{Dump, PushFault};
+use std::fmt::Write;
 use std::test::Fail;
 
 /// Functions of bus 00 by their device numbers: what they show, what is told of them, whether the
@@ -161,31 +162,72 @@ fn texts(rt: &HostRuntime, system: &System) -> Result<(Dump, Sizes), Fail> {
     Ok((dump, sizes))
 }
 
+/// Whether a block of a probe is of this device, and holds these read backs.
+fn is_block(block: &Block, device: u8, registers: Registers) -> bool {
+    block.slot == slot(device)
+        && block.title.is_none()
+        && block.image == with_registers([0; 256], registers)
+}
+
+/// Whether a probe has a system's functions with these read backs.
+fn has_blocks(blocks: &[Block], system: &System, read_backs: &[Registers]) -> bool {
+    for (i, block) in blocks.iter().enumerate() {
+        match (system.0.get(i), read_backs.get(i)) {
+            (Some((device, _)), Some(registers)) if is_block(block, *device, registers) => {}
+            _ => return false,
+        }
+    }
+    blocks.len() == read_backs.len()
+}
+
+/// Whether these are the remarks on registers that are assumed.
+fn has_remarks(rt: &HostRuntime, derivation: &Derivation, remarks: &[&str]) -> Result<bool, Fail> {
+    let mut text = String::new(rt.alloc());
+    for register in &derivation.assumed {
+        writeln!(text, "{register}")?;
+    }
+    let mut wanted = String::new(rt.alloc());
+    for remark in remarks {
+        writeln!(wanted, "{remark}")?;
+    }
+    Ok(text == wanted)
+}
+
+/// Whether a probe is refused with a fault of this text.
+fn is_refused(rt: &HostRuntime, refused: &Refused<ProbeFault>, text: &str) -> Result<bool, Fail> {
+    match refused {
+        Refused::Fault(fault) => Ok(format!(in rt.alloc(); "{fault}")?.as_str() == text),
+        Refused::Memory => Ok(false),
+    }
+}
+
+/// Whether a system's probe is derived, or refused, as its row says.
+fn is_as_its_row_says(rt: &HostRuntime, system: &System) -> Result<bool, Fail> {
+    let (dump, sizes) = texts(rt, system)?;
+    let derivation = match probe_of(rt.alloc(), &dump, &sizes, system.2) {
+        Ok(derivation) => derivation,
+        Err(refused) => {
+            return match system.3 {
+                Ok(_) => Ok(false),
+                Err(text) => is_refused(rt, &refused, text),
+            };
+        }
+    };
+    match system.3 {
+        Ok((read_backs, remarks)) => {
+            Ok(
+                has_blocks(derivation.probe.blocks(), system, read_backs)
+                    && has_remarks(rt, &derivation, remarks)?,
+            )
+        }
+        Err(_) => Ok(false),
+    }
+}
+
 #[test]
 fn systems_have_these_probes(rt: HostRuntime) -> Result<(), Fail> {
-    for system in &SYSTEMS {
-        let (dump, sizes) = texts(&rt, system)?;
-        match (probe_of(rt.alloc(), &dump, &sizes, system.2), &system.3) {
-            (Ok(derivation), Ok((read_backs, remarks))) => {
-                let blocks = derivation.probe.blocks();
-                assert_eq!(rt; blocks.len(), read_backs.len());
-                for (block, registers) in blocks.iter().zip(read_backs.iter()) {
-                    assert!(rt; block.title.is_none());
-                    assert_eq!(rt; block.image, with_registers([0; 256], registers));
-                }
-                for (block, (device, _)) in blocks.iter().zip(system.0.iter()) {
-                    assert_eq!(rt; block.slot, slot(*device));
-                }
-                assert_eq!(rt; derivation.assumed.len(), remarks.len());
-                for (register, remark) in derivation.assumed.iter().zip(remarks.iter()) {
-                    assert_eq!(rt; format!(in rt.alloc(); "{register}")?.as_str(), *remark);
-                }
-            }
-            (Err(Refused::Fault(fault)), Err(expected)) => {
-                assert_eq!(rt; format!(in rt.alloc(); "{fault}")?.as_str(), *expected);
-            }
-            _ => return Err(Fail::from("another answer")),
-        }
+    for (row, system) in SYSTEMS.iter().enumerate() {
+        assert!(rt; is_as_its_row_says(&rt, system)?, "{row}");
     }
     Ok(())
 }
