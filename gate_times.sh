@@ -3,15 +3,16 @@
 # processor for each crate's proof, its tests and its edits. The processes of `rt ci` are looked at every two seconds, so
 # what each takes after the last look is missing, some percent in all. Nothing else should run beside it.
 #
-# Usage: gate_times.sh
+# Usage: gate_times.sh [FILE]; what the gate says goes to FILE, too, and its last lines are printed where it fails.
 set -u
 top=$(cd "$(dirname "$0")" && pwd) || exit 1
 room=$(mktemp -d) || exit 1
 trap 'rm -rf "$room"' EXIT
 git clone -q "$top" "$room/tree" || exit 1
+told=$(realpath "${1:-$room/told}") || exit 1
 cd "$room/tree" || exit 1
 exec 3>&1
-python3 - "$room/told" >&3 <<'PYTHON'
+python3 - "$told" >&3 <<'PYTHON'
 import collections, glob, os, re, subprocess, sys, time
 
 TICK = os.sysconf("SC_CLK_TCK")
@@ -45,6 +46,8 @@ with open(sys.argv[1], "w") as told:
 
 with open(sys.argv[1]) as it:
     said = it.read()
+if gate.returncode:
+    print(said[-8000:])
 times = collections.Counter()
 for crate, kind, _, seconds in seen.values():
     times[crate, kind] += seconds
