@@ -12,7 +12,7 @@
 //! ```
 //!
 //! From bytes to blocks: a `Source` gives bytes, `ahead` holds them and hands out blocks, `parse`
-//! finds a block at the front of some bytes, `rows`, `row` and `digit` its lines. Back:
+//! finds a block at the front of some bytes, `rows`, `row` and `lanes` its lines. Back:
 //! `block_text` spells a block, `write` hands it to a `Sink`.
 #![tactic(auto)]
 

@@ -2,8 +2,7 @@
 //!
 //! `examine` looks at a function in the order in which its faults are named: `profile` at its identity and its probe,
 //! `decode` at its registers, then at the places of its capabilities, and `profile` at what it may not do. What is kept
-//! of it is a `Record`. `pair` says whether a dump and a probe go together, and `fault` has each fault with its number,
-//! its phase and its text.
+//! of it is a `Record`. `fault` has each fault with its number, its phase and its text.
 //!
 //! ```text
 //! let record = examine(block.slot, &block.image, &probe.image)?;

@@ -1,6 +1,6 @@
 //! One function of PCI configuration space, decoded from its 256 bytes and its read backs.
 //!
-//! A function is told by two images: what its registers hold, and its probe, which has what the
+//! A function is told by two images (`pci_base::image`): what its registers hold, and its probe, which has what the
 //! address registers read back after all ones were written to them. [`header::Header::of`] tells a
 //! device from a bridge. [`bar::bars`], [`rom::register::rom`] and [`window::Windows::of`] give the
 //! addresses that the function's comparators answer, as inclusive ranges, and

@@ -4,6 +4,11 @@
 //! around what the bus behind it needs (`need`). Then, from the roots outwards, what stands on a bus (`item`) is placed
 //! largest first, from the pool's or the window's first address on (`place`). As sizes are powers of two this leaves no
 //! gap, and each region stands at a multiple of its size. This takes a tree of buses and no verdict.
+//!
+//! ```text
+//! let needs = needs_of(&admitted, &pools, class, &aboves); // of each of the 256 buses
+//! if has_room(&admitted, &pools, class, &needs) { /* each item of the class has its place */ }
+//! ```
 #![tactic(auto)]
 
 pub mod above;

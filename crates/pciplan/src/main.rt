@@ -1,4 +1,4 @@
-//! The program: `pciplan show|check|size|plan DUMP PROBE`.
+//! The program: `pciplan show|check|size|plan DUMP PROBE`, and `pciplan probe DUMP SIZES`.
 #![tactic(auto)]
 
 use pci_dump::std_streams::Outgoing;
