@@ -221,7 +221,9 @@ impl Bounds {
 
     /// Of a window from first to last.
     pub fn open(kind: WindowKind, nibble: u16, first: u64, last: u64) -> Bounds
+        // the nibble stands below the bits of the page, and must not reach into them
         requires nibble { nibble < 16 }
+        // of I/O 16 bits: no I/O pool goes beyond FFFFh, so the upper halves stay 0
         requires first { first < 2 ^ address_bits kind }
         requires last { last < 2 ^ address_bits kind }
         ensures { spec_bounds_of result ≡ bounds_for (kind_value kind) nibble first last }
@@ -250,6 +252,7 @@ impl Bounds {
 
     /// Base and limit in one register, the limit from a bit on.
     pub fn lower(self, bit: u32) -> u32
+        // above bit 16 the upper bits of the limit would fall out of the register
         requires { bit ≤ 16 }
         ensures { result ≡ self.base + 2 ^ bit * self.limit }
     {
@@ -258,6 +261,7 @@ impl Bounds {
 
     /// The upper halves of base and limit in one register, of 16 bits each.
     pub fn upper(self) -> u32
+        // of I/O windows alone the upper halves have 16 bits; others would be cut here
         requires base { self.base_upper < 2 ^ 16 }
         requires limit { self.limit_upper < 2 ^ 16 }
         ensures { result ≡ self.base_upper + 2 ^ 16 * self.limit_upper }

@@ -29,6 +29,7 @@ fn nibble(byte: u8) -> u32
 /// What a hex digit in lower case stands for.
 pub fn digit_value(byte: u8) -> Option<u8>
     ensures some { IfSome result (λ d. (d ≤ 15) × (byte ≡ hex_digit d)) }
+    // so that a None rules out every digit, and the text may be refused for it
     ensures found { (d : ℕ) → d < 16 → byte ≡ hex_digit d → result ≡ Some d }
 {
     let value = nibble(byte);

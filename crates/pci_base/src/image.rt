@@ -22,6 +22,7 @@ impl Image {
 
     /// The little-endian number of two bytes at an even offset.
     pub fn u16(&self, off: u8) -> u16
+        // an even offset leaves room for the second byte, also at FEh
         requires { off % 2 ≡ 0 }
         ensures { result ≡ number_at self.now.0 off 2 }
     {
@@ -61,8 +62,10 @@ pub fn byte_of(value: u32, j: u8) -> u8
 pub fn put(bytes: &mut [u8; IMAGE_LEN], off: u8, width: u8, value: u32)
     requires { IsTrue (port.is_access off width) }
     ensures inside { (j : ℕ) → j < width → slice_index bytes.new (off + j) ≡ value / 256 ^ j % 256 }
+    // registers are put one after another, and none may undo the one before
     ensures outside { (place : ℕ) → (place < off) ⊎ (off + width ≤ place)
         → slice_index bytes.new place ≡ slice_index bytes.old place }
+    // a larger value would be cut to the width, so nothing is said of one
     ensures number { value < 256 ^ width → number_at bytes.new off width ≡ value }
     ensures image { IsImage bytes.old → IsImage bytes.new }
 {

@@ -66,6 +66,7 @@ impl Slot {
     /// The function number, 0 to 7.
     pub fn fun(self) -> u8
         ensures number { result ≡ self.function }
+        // so that a writer can take its hex digit without a test
         ensures below { result < 8 }
     {
         self.function
@@ -75,6 +76,7 @@ impl Slot {
     /// function in bits 2:0.
     pub fn number(self) -> u16
         ensures number { result ≡ slot_number self }
+        // the fields are hidden, so this is how other crates learn that each slot is a lawful one
         ensures slot { IsSlot self }
     {
         u16::from(self.bus) * 256 + u16::from(self.device) * 8 + u16::from(self.function)

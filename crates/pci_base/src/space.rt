@@ -53,6 +53,7 @@ impl Space {
 
     /// The kind of access that gets furthest: each window of the space passes it.
     pub fn furthest(self) -> WindowKind
+        // two regions clash wherever some access gets, so clashes are looked for by this kind
         ensures { kind_value result ≡ kind_in (space_of self) true }
     {
         self.kind(true)
@@ -70,6 +71,7 @@ impl Space {
 
     /// All its addresses.
     pub fn whole(self) -> Range
+        // so that a list of this one range rises, as looking for overlaps asks
         ensures lawful { result.first ≤ result.last }
         ensures exact { (a : ℕ) → ((result.first ≤ a) × (a ≤ result.last))
             ↔ IsAddress (space_of self) a }

@@ -48,6 +48,7 @@ pub fn judge_texts<A: Allocator + Copy, D: Source, P: Source>(
         (IsAudited (buses_of roots) (D.left dump.old) (P.left probe.old)) }
     ensures fault { IfErr result (IsTextRefusal (D.left dump.old) (D.failures dump.old)
         (D.failures dump.new) (P.left probe.old) (P.failures probe.old) (P.failures probe.new)) }
+    // nothing is written here, so a caller has no 10 to answer
     ensures read { IfErr result (λ fault. fault ≢ AuditFault.Write) }
 {
     let survey = survey_texts(alloc, dump, probe, roots)?;
@@ -80,11 +81,14 @@ pub fn audit_with<A: Allocator + Copy, D: Source, P: Source, O: Sink>(
 ) -> Result<Outcome, AuditFault>
     ensures outcome { IfOk result
         (IsAudited (buses_of roots) (D.left dump.old) (P.left probe.old)) }
+    // what is answered and what is written can't differ
     ensures line { IfOk result
         (λ outcome. Appends (O.taken out.old) (O.taken out.new) (outcome_line outcome)) }
     ensures fault { IfErr result (IsTextRefusal (D.left dump.old) (D.failures dump.old)
         (D.failures dump.new) (P.left probe.old) (P.failures probe.old) (P.failures probe.new)) }
+    // where a text is refused no part of a line goes out
     ensures quiet { IfErr result (λ fault. fault ≢ AuditFault.Write → out.new ≡ out.old) }
+    // both texts were judged then: only the line of their verdict didn't get out
     ensures begun { IfErr result (λ fault. fault ≡ AuditFault.Write
         → HasBegun (buses_of roots) (D.left dump.old) (P.left probe.old) (O.taken out.old)
         (O.taken out.new)) }

@@ -55,6 +55,7 @@ pub fn first_clash<A: Allocator + Copy>(
     io: &mut Vec<Region, A>,
     memory: &mut Vec<Region, A>,
 ) -> Result<Option<Fault>, OutOfMemory>
+    // of each tree that these belong to, as no outline is handed in
     ensures { IfOk result (λ o. (t : Tree) → AreReachesOf t reached.now
         → AreListed t bus Io io.old.items → AreListed t bus Memory memory.old.items
         → MatchOption o ((space : SpaceValue) → NoneClashOn t bus space)

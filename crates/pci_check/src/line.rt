@@ -11,6 +11,7 @@ use std::fmt::Display;
 
 /// `no`, the text of a fault of any kind, and a line end.
 pub fn no_line<A: Allocator, F: Display>(alloc: A, fault: &F) -> Result<String<A>, OutOfMemory>
+    // of a fault that doesn't tell its text the line is left open
     ensures { IfOk result (λ line. IfSome (F.output fault.now)
         (λ text. string_bytes line ≡ codes "no" ++ field text ++ 10 ∷ [])) }
 {

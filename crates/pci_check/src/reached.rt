@@ -41,6 +41,7 @@ impl<A: Allocator + Copy> Reached<A> {
     /// What gets to each bus of an outline.
     pub fn of(outline: &Outline<A>) -> Result<Reached<A>, OutOfMemory>
         ensures exact { IfOk result (λ r. AreReachesOf outline.now r) }
+        // `first_unreached` asks for it: who works out the reaches learns it with them
         ensures nested { IfOk result (λ r. AlwaysNested outline.now) }
     {
         let io = outline.reaches(WindowKind::Io)?;
@@ -58,6 +59,7 @@ impl<A: Allocator + Copy> Reached<A> {
     /// The addresses of a kind of access that get to a bus.
     pub fn ranges(&self, bus: u8, kind: WindowKind) -> &[Range]
         ensures same { result.now ≡ slice_index_or (reaches_by self.now (kind_value kind)) bus [] }
+        // callers look for addresses in them by halving
         ensures canonical { IsCanonical result.now }
     {
         let reaches = self.reaches.get(kind).as_slice();

@@ -75,7 +75,9 @@ pub fn first_split<A: Allocator + Copy>(
     outline: &Outline<A>,
     roots: &Roots,
 ) -> Result<Option<Fault>, OutOfMemory>
+    // the buses that the outline was made for: on others the host starts no access
     requires { buses_of roots.now ≡ outline.now.roots }
+    // the first fault only where 60 and 61 aren't there, which are looked for before
     ensures { IfOk result
         (λ o. MatchOption o (NoneSplit outline.now) (λ fault. IsSplitFault outline.now fault)) }
 {

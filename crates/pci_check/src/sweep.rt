@@ -163,6 +163,7 @@ pub fn first_overlap<A: Allocator>(
     regions: &mut Vec<Region, A>,
     allowed: &[Range],
 ) -> Result<Option<Overlap>, OutOfMemory>
+    // looked up by halving, so these have to rise; regions are sorted here
     requires { IsCanonical allowed.now }
     ensures { IfOk result (λ o. MatchOption o
         (AreDistinct regions.old.items → (a : ℕ) → IsUnshared regions.old.items allowed.now a)

@@ -199,7 +199,9 @@ pub fn first_unreached<A: Allocator + Copy>(
     memory: &[Region],
 ) -> Option<Fault>
     requires reached { AreReachesOf outline.now reached.now }
+    // one way alone leads to each bus, so the bridge that is named is the one at fault
     requires nested { AlwaysNested outline.now }
+    // listed by the caller, who looks for clashes in the same lists
     requires io { AreListed outline.now bus Io io.now }
     requires memory { AreListed outline.now bus Memory memory.now }
     ensures { MatchOption result (AreHomeInEach outline.now bus)

@@ -42,6 +42,7 @@ impl<'a, A: Allocator> Sound<'a, A> {
     /// Lends the dump and the probe that are sound.
     pub fn admitted(&self) -> &'a Admitted<A>
         ensures same { result.now ≡ self.now }
+        // who is handed this evidence need not judge again
         ensures sound { IsSound self.now.roots (system_of self.now.dump self.now.probe) }
     {
         self.admitted

@@ -104,7 +104,9 @@ impl ReadAhead {
     /// Errors: 3 to 9 where the text has that fault, 1 `Io` where a read failed. After a fault it
     /// answers that fault, after None it answers None, and reads no more.
     pub fn next_block<S: Source>(&mut self, source: &mut S) -> Result<Option<Block>, ReadFault>
+        // once the end was told no more is read, so a source with bytes left would lose them
         requires { IsOver self.old (S.left source.old) }
+        // what the next call asks for
         ensures over { IsOver self.new (S.left source.new) }
         ensures ok { IfOk result (λ found. MatchOption found
             (TakesNone (state_of self.old (S.left source.old) (S.failures source.old))
@@ -146,10 +148,13 @@ impl ReadAhead {
         ensures err { IfErr result
             (TakesFault (state_of self.old (S.left source.old) (S.failures source.old))
             (state_of self.new (S.left source.new) (S.failures source.new))) }
+        // a caller may read on to the end without a note that it was there already
         ensures done { self.old.progress ≡ Progress.Done
             → (result ≡ Ok false) × (self.new ≡ self.old) }
+        // of two texts one may stop first: its fault is let go, and met again at the end
         ensures again { (fault : ReadFault) → self.old.progress ≡ Progress.Failed fault
             → (result ≡ Err fault) × (self.new ≡ self.old) }
+        // an answer that is given again adds no failure, so its count is still that of the fault
         ensures untouched { self.old.progress ≢ Progress.Open → source.new ≡ source.old }
     {
         match self.progress {

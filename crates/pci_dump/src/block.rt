@@ -56,6 +56,7 @@ impl Title {
     /// The title's bytes.
     pub fn bytes(&self) -> &[u8]
         ensures value { result.now ≡ self.now }
+        // 200 bytes at most, for which the text of a block has room
         ensures title { IsTitle self.now }
     {
         self.bytes.as_slice()

@@ -64,6 +64,7 @@ impl<A: Allocator> Dump<A> {
     /// The blocks in order.
     pub fn blocks(&self) -> &[Block]
         ensures value { result.now ≡ self.now }
+        // callers walk two dumps side by side, and copy them, as slots rise in both
         ensures dump { IsDump self.now }
     {
         self.blocks.as_slice()
@@ -85,6 +86,7 @@ impl<A: Allocator> Dump<A> {
     /// 4,096 blocks, else `Memory` where the growth was refused. The dump is then as it was.
     pub fn push(&mut self, block: Block) -> Result<(), Refused<PushFault>>
         ensures ok { OnOk result (self.new ≡ self.old ++ block ∷ []) }
+        // both ways: who puts the slots of another dump in order has no such error to handle
         ensures not_above { IsErrOf result (Refused.Fault PushFault.NotAbove)
             ↔ (IsAboveLast (last_slot self.old) block.slot → ⊥) }
         ensures full { IsErrOf result (Refused.Fault PushFault.Full)

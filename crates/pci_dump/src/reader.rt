@@ -53,8 +53,10 @@ impl<S: Source> Reader<S> {
     /// Errors: 3 to 9 where the text has that fault, 1 `Io` where a read failed in this call or an
     /// earlier one. After a fault it answers that fault, after None it answers None.
     pub fn next_block(&mut self) -> Result<Option<Block>, ReadFault>
+        // what is read next is what stood behind this block, so that a reader may go on after it
         ensures ok { IfOk result (λ found. MatchOption found (TakesNone self.old self.new)
             (TakesBlock self.old self.new)) }
+        // a fault is one of the whole text, and its line is counted from the text's first
         ensures err { IfErr result (TakesFault self.old self.new) }
         ensures done { self.old.progress ≡ Progress.Done
             → (result ≡ Ok None) × (self.new ≡ self.old) }
@@ -86,11 +88,15 @@ impl<S: Source> Reader<S> {
 /// Errors: 3 to 9 where that is no text, 1 `Io` where a read failed, 2 `Memory` where a growth was
 /// refused.
 pub fn read_dump<S: Source, A: Allocator>(alloc: A, source: &mut S) -> Result<Dump<A>, ReadFault>
+    // only where the source tells its bytes: of others there is no text to speak of
     ensures ok { IfOk result
         (λ dump. (bytes : List ℕ) → S.left source.old ≡ Some bytes → IsTextOf bytes dump) }
+    // text and dump are one to one, so no other dump can have been meant
     ensures only { IfOk result (λ dump. (bytes : List ℕ) → S.left source.old ≡ Some bytes
         → (others : List BlockValue) → IsTextOf bytes others → others ≡ dump) }
+    // with `io` and `no_io`: fault 1 comes exactly where a read failed
     ensures fine { OnOk result (S.failures source.new ≡ S.failures source.old) }
+    // 1 and 2 may come at any text, so they say nothing of this one
     ensures fault { IfErr result (λ fault. (bytes : List ℕ) → S.left source.old ≡ Some bytes
         → fault ≢ ReadFault.Io → fault ≢ ReadFault.Memory → IsTextFault bytes fault) }
     ensures io { IfErr result

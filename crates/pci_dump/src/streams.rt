@@ -18,8 +18,11 @@ pub trait Source {
     /// Puts the next bytes at the front of `buf` and answers how many. For a `buf` that isn't empty
     /// `Ok(0)` is the end. An `Err` took no byte and raises the count of failures by one.
     fn read(&mut self, buf: &mut [u8]) -> Result<usize, Failed>
+        // a caller cuts its buffer at this number
         ensures bound { IfOk result (λ n. n ≤ length buf.new) }
+        // so that a text may come in parts of any length, and no byte is lost between them
         ensures bytes { ReadConsumes (left self.old) (left self.new) result buf.new }
+        // bytes don't show a failure, so it is counted: fault 1 needs one more
         ensures counted { MatchResult result (λ _. failures self.new ≡ failures self.old)
             (λ _. failures self.new ≡ failures self.old + 1) };
 }
@@ -37,8 +40,10 @@ pub trait Sink {
     /// any. An `Err` took no byte and raises the count of failures by one.
     fn write(&mut self, bytes: &[u8]) -> Result<usize, Failed>
         ensures bound { IfOk result (λ n. n ≤ length bytes.now) }
+        // a caller writes the rest until there is none, which has to end
         ensures some { IfOk result (λ n. 0 < length bytes.now → 0 < n) }
         ensures bytes { WriteAppends (taken self.old) (taken self.new) result bytes.now }
+        // so that whoever answers fault 10 can show the write that failed
         ensures counted { MatchResult result (λ _. failures self.new ≡ failures self.old)
             (λ _. failures self.new ≡ failures self.old + 1) };
 }

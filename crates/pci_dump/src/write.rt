@@ -14,6 +14,7 @@ use std::alloc::Allocator;
 pub fn write_all<K: Sink>(sink: &mut K, bytes: &[u8]) -> Result<(), Failed>
     ensures ok { OnOk result (Appends (K.taken sink.old) (K.taken sink.new) bytes.now) }
     ensures fine { OnOk result (K.failures sink.new ≡ K.failures sink.old) }
+    // what went out can't be taken back, so all that is promised is that it is a beginning
     ensures begun { OnErr result
         (AppendsBeginning (K.taken sink.old) (K.taken sink.new) bytes.now) }
     ensures failed { OnErr result (K.failures sink.new ≡ K.failures sink.old + 1) }
@@ -31,6 +32,7 @@ pub fn write_all<K: Sink>(sink: &mut K, bytes: &[u8]) -> Result<(), Failed>
 /// Errors: 10 `Io` where a write failed. Then a beginning of the text went out.
 pub fn write_dump<K: Sink, A: Allocator>(sink: &mut K, dump: &Dump<A>) -> Result<(), WriteFault>
     ensures ok { OnOk result (Appends (K.taken sink.old) (K.taken sink.new) (text_of dump.now)) }
+    // what is written is a text that reads back as this dump
     ensures text { IsTextOf (text_of dump.now) dump.now }
     ensures fine { OnOk result (K.failures sink.new ≡ K.failures sink.old) }
     ensures begun { OnErr result

@@ -44,12 +44,15 @@ fn bridge_at(image: &Image, probe: &Image) -> Result<Option<Bridge>, ImageFault>
 /// 20 `NoVendor` and 21 `HeaderKind` where it isn't a function that decodes; else the first fault of its registers, in
 /// the order of BARs (22 to 24), ROM (25) and windows (26).
 pub fn decode(slot: Slot, image: &Image, probe: &Image) -> Result<Record, ImageFault>
+    // judging keeps no image, so all that it asks of a function later stands in the record
     ensures decoded { MatchResult result (IsRecordOf record {
       slot = slot;
       image = image.now.0;
       probe = probe.now.0;
     }) (IsImageFaultIn image.now.0 probe.now.0) }
+    // never 27 to 29: a machine in memory has the header alone, and refuses no list
     ensures number { IfErr result (λ e. image_fault_number e ≤ 26) }
+    // whoever decodes all functions in turn so comes to the first fault of all
     ensures first { IfErr result (λ e. IsFirstOf (phase_key Decoding) record {
       slot = slot;
       image = image.now.0;

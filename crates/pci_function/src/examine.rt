@@ -20,6 +20,7 @@ use pci_image::capability::add_places;
 /// Its first fault: 20 `NoVendor`, 21 `HeaderKind`, 31 `StrayProbe`; then 22 to 26 of its registers and 27 to 29 of its
 /// capabilities list; then 51 to 56 of its profile.
 pub fn examine(slot: Slot, image: &Image, probe: &Image) -> Result<Record, Fault>
+    // a function with a record has no fault by itself, so only places and regions are left
     ensures { MatchResult result (IsExamined record {
       slot = slot;
       image = image.now.0;

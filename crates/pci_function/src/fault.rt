@@ -143,6 +143,7 @@ impl Fault {
     /// The phase in which the fault is looked for: 0 slots, 1 identities and probes, 2 registers and
     /// capabilities lists, 3 profiles, 4 places in the tree of buses, 5 regions.
     pub fn phase(&self) -> u8
+        // by it a survey keeps the earlier of two faults, in whatever order functions come
         ensures { result ≡ phase_of (fault_of self.now) }
     {
         match self {

@@ -38,6 +38,7 @@ fn has_bit(register: u16, bit: u8) -> bool
 /// The fault of a function's identity or probe: 20 `NoVendor`, else 21 `HeaderKind`, else 31 `StrayProbe` with the
 /// first byte offset outside the address registers where the probe isn't 00.
 pub fn identity_fault(slot: Slot, image: &Image, probe: &Image) -> Option<Fault>
+    // apart from the later faults, as a pair of texts is refused for these alone
     ensures fault { MatchOption result (IsAnswering record {
       slot = slot;
       image = image.now.0;
@@ -45,6 +46,7 @@ pub fn identity_fault(slot: Slot, image: &Image, probe: &Image) -> Option<Fault>
     })
         (λ e. IsHereIn (phase_key Identity) record
         { slot = slot; image = image.now.0; probe = probe.now.0 } (fault_of e)) }
+    // which bytes are stray hangs on the layout, so 31 is looked for last
     ensures first { IfSome result (λ e. IsFirstOf (phase_key Identity) record {
       slot = slot;
       image = image.now.0;
@@ -119,6 +121,7 @@ fn is_not_in_d0(image: &Image, places: &[u8]) -> bool
 /// The fault of a function's profile, `places` being those of its capabilities: 51 `PaletteSnoop`; on a bridge 52
 /// `VgaEnable`, 53 `IsaEnable`, 54 `Subtractive`, 55 `InReset`; 56 `PowerState`. The first of these is answered.
 pub fn profile_fault(slot: Slot, image: &Image, probe: &Image, places: &[u8]) -> Option<Fault>
+    // a place left out could hide that the function is in a lower power state
     requires { IsChain image.now.0 places.now }
     ensures fault { MatchOption result (IsPlain image.now.0)
         (λ e. IsHereIn (phase_key Profile) record

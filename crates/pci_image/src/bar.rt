@@ -70,6 +70,7 @@ impl Bar {
     /// What the BAR's registers hold, both together where it has two, to answer addresses from a
     /// first one on: that address, over the encoding that stands in its register.
     pub fn value_from(&self, register: u32, first: u64) -> u64
+        // the registers hold no more; a multiple of the BAR's size leaves room for the encoding
         requires { first + register % 2 ^ first_bit (decoded_kind_of self.now.kind) < 2 ^ 64 }
         ensures { result ≡ first + register % 2 ^ first_bit (decoded_kind_of self.now.kind) }
     {
@@ -137,6 +138,7 @@ fn is_wide(mask: u32) -> bool
 /// Whether BAR register n starts a BAR, and is not the upper half of one, by what registers read
 /// back.
 pub fn starts_bar(probe: &Image, n: u8) -> bool
+    // no header has more BAR registers, and all below n are looked at
     requires { n < 6 }
     ensures { result ≡ bar.starts_bar probe.now.0 n }
 {
@@ -257,12 +259,15 @@ fn decode_register(
 /// 20 `NoVendor` and 21 `HeaderKind` as [`Header::of`]; then the first rule that the lowest faulty
 /// register breaks: 22 `BarType`, 23 `BarMask` or 24 `BarPair`.
 pub fn bars(image: &Image, probe: &Image) -> Result<ArrayVec<Bar, 6>, ImageFault>
+    // both ways: BARs that keep the rules are never refused
     ensures lawful { IsOk result ↔ HasLawfulBars image.now.0 probe.now.0 }
     ensures decoded { IfOk result
         (λ v. map decoded_bar_of v.items ≡ decoded_bars image.now.0 probe.now.0) }
+    // said of single addresses, as the rules know no ranges: the two are joined here
     ensures compared { IfOk result (λ v. All (IsComparedBar image.now.0 probe.now.0) v.items) }
     ensures fault { IfErr result
         (λ f. IsImageFaultIn image.now.0 probe.now.0 f × (image_fault_number f ≤ 24)) }
+    // decoding names the first fault of all its parts by it
     ensures lowest { IfErr result (IsLowestBarFault image.now.0 probe.now.0) }
 {
     let count = Header::of(image)?.bar_count();

@@ -170,8 +170,10 @@ pub fn places(image: &Image) -> Result<ArrayVec<u8, 48>, ImageFault>
 ///
 /// As of [`places`]. Those before the refused one were added.
 pub fn add_places(image: &Image, found: &mut ArrayVec<u8, 48>) -> Result<(), ImageFault>
+    // there is room for the places of one list, and for no others besides
     requires none { found.old.items ≡ [] }
     ensures lawful { IsOk result ↔ HasChain image.now.0 }
+    // all places, as the power state is looked for at each of them
     ensures chain { OnOk result (IsChain image.now.0 found.new.items) }
     ensures fault { IfErr result (IsChainFaultIn image.now.0) }
     ensures first { IfErr result (IsFirstAlong image.now.0) }
@@ -203,6 +205,7 @@ pub fn add_places(image: &Image, found: &mut ArrayVec<u8, 48>) -> Result<(), Ima
 pub fn chain(image: &Image) -> Result<ArrayVec<Cap<'_>, 48>, ImageFault>
     ensures lawful { IsOk result ↔ HasChain image.now.0 }
     ensures places { IfOk result (λ v. IsChain image.now.0 (map place_of v.items)) }
+    // the listing prints these bytes, so they have to be the image's own
     ensures bodies { IfOk result (λ v. All (IsCapIn image.now.0) v.items) }
     ensures fault { IfErr result (IsChainFaultIn image.now.0) }
 {

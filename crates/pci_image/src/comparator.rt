@@ -13,6 +13,7 @@ use pci_base::range::Range;
 /// ends at bit `top`.
 pub fn run_start(mask: u64, from: u32, top: u32) -> Option<u32>
     requires order { from ≤ top }
+    // the run is cut from 64 ones by a shift of 63 - top
     requires width { top < 64 }
     ensures { (k : ℕ) → (result ≡ Some k)
         ↔ ((from ≤ k) × (k ≤ top) × IsTrue (is_run from mask k top)) }
@@ -35,6 +36,7 @@ pub fn fits_within(value: u64, mask: u64) -> bool
 
 /// The addresses that agree with a value from bit `size_log2` upward.
 pub fn aligned(value: u64, size_log2: u32) -> Range
+    // a shift by 64 isn't defined, and no register decodes so many addresses
     requires { size_log2 < 64 }
     ensures { decoded_range_of result ≡ aligned_range value (2 ^ size_log2) }
 {

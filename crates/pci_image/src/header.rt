@@ -65,8 +65,10 @@ impl<'a> Header<'a> {
     pub fn of(image: &'a Image) -> Result<Header<'a>, ImageFault>
         ensures lawful { IsOk result ↔ HasHeader image.entry.now.0 }
         ensures header { IfOk result (IsHeaderOf image.entry.now) }
+        // 20 and 21 alone, which ask nothing of a probe: the image stands in for one
         ensures fault { IfErr result (λ f. IsImageFaultIn image.entry.now.0 image.entry.now.0 f
             × (image_fault_number f ≤ 21)) }
+        // an empty slot reads all ones: its layout is no fault of its own
         ensures first { IfErr result
             (λ f. f ≡ ImageFault.HeaderKind → IsFalse (has_no_vendor image.entry.now.0)) }
     {

@@ -116,8 +116,10 @@ static BRIDGE_BYTES: [bool; HEADER_LEN] = [
 
 /// The registers of a device's or a bridge's header that a write can change.
 pub fn registers(bridge: bool) -> &'static [Register]
+    // a machine in memory takes the bits that can be written from here
     ensures table { map register_value result.now
         ≡ (if bridge then bridge_header else device_header) }
+    // so that each read back can be taken from a probe as one number
     ensures readable { IsTrue (list_all is_readable result.now) }
 {
     if bridge { &BRIDGE } else { &DEVICE }
@@ -125,6 +127,7 @@ pub fn registers(bridge: bool) -> &'static [Register]
 
 /// Those that address decoding is set by, by rising offset.
 pub fn address_registers(bridge: bool) -> &'static [Register]
+    // place and width are all that sizing, comparing and planning go by
     ensures { map (λ r. (r.offset, r.width)) result.now
         ≡ header.address_registers (if bridge then 1 else 0) }
 {
@@ -133,6 +136,7 @@ pub fn address_registers(bridge: bool) -> &'static [Register]
 
 /// Which bytes of a header lie in one of those.
 pub fn address_bytes(bridge: bool) -> &'static [bool; HEADER_LEN]
+    // the same registers byte by byte: a probe is looked through for bytes outside them
     ensures { (offset : ℕ) → offset < 64
         → slice_index_or result.now offset false
         ≡ list_any (header.is_in_register offset) (header.registers_by bridge) }

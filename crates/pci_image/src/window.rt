@@ -116,7 +116,9 @@ impl Windows {
         ensures lawful { IsOk result ↔ HasLawfulWindows image.now.0 probe.now.0 }
         ensures decoded { IfOk result
             (λ w. decoded_windows_of w ≡ decoded_windows image.now.0 probe.now.0) }
+        // a window that is absent or closed holds no address, and above the two are alike
         ensures compared { IfOk result (HoldsAsComparators image.now.0 probe.now.0) }
+        // 21 is also what a device gets: its header decodes, but windows are a bridge's
         ensures fault { IfErr result (IsWindowsFaultIn image.now.0 probe.now.0) }
         ensures lowest { IfErr result (IsLowestWindowFault image.now.0 probe.now.0) }
     {

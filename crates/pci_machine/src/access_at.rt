@@ -23,10 +23,12 @@ pub fn read_at<P: ConfigPort>(
     off: u8,
     width: u8,
 ) -> Result<u32, AccessFault>
+    // without it 40 could come, and a stop wouldn't mean that the port failed
     requires there { IsTrue (ports.has_function (P.targets port.old) slot) }
     requires lawful { IsTrue (ports.is_access off width) }
     ensures value { IfOk result
         (λ value. value ≡ number_at (function_at (P.targets port.old) slot).image off width) }
+    // so that what was read can be written back
     ensures fits { IfOk result (λ value. IsTrue (ports.fits width value)) }
     ensures stop { IfErr result (λ stop. stop ≡ record { offset = off; fault = PortError.Failed }) }
     ensures counted { P.failures port.new ≡ P.failures port.old + failures_of_stop result }
@@ -50,6 +52,7 @@ pub fn write_at<P: ConfigPort>(
 ) -> Result<(), AccessFault>
     requires there { IsTrue (ports.has_function (P.targets port.old) slot) }
     requires lawful { IsTrue (ports.is_access off width && ports.fits width value) }
+    // no two functions are at one slot, so that one image alone is written
     requires targets { ports.IsLawful (P.targets port.old) }
     ensures written { OnOk result (P.targets port.new
         ≡ ports.with_image (P.targets port.old) slot

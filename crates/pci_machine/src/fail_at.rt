@@ -104,8 +104,10 @@ impl<P: ConfigPort> ConfigPort for FailAt<P> {
         ensures refused { IsFalse (is_counted result) → self.new ≡ self.old }
         ensures once { (self.old.due ≡ 1 → self.new.port ≡ self.old.port)
             × (self.old.due ≢ 1 → P.reads self.old.port slot off width result self.new.port) }
+        // what is refused by 40 or 41 does nothing, and isn't counted
         ensures due { self.new.due ≡ due_after self.old.due result }
         ensures fails { self.old.due ≡ 1 → IsErr result }
+        // of its own it fails one access; all other failures are the port's behind it
         ensures passes_on { self.old.due ≢ 1 → self.new.failed.count ≡ self.old.failed.count }
     {
         if self.due == 1 && is_access(off, width) {

@@ -33,6 +33,7 @@ pub fn registers_of(slot: Slot, image: &Image, probe: &Image) -> Result<ConfigSp
       probe = probe.now.0;
     }) }
     ensures lawful { IfOk result IsTarget }
+    // no write changes the layout then, so what is a status register stays one
     ensures header { IfOk result (λ registers. byte_at registers.writable table.HEADER_TYPE ≡ 0) }
     ensures fault { IfErr result (IsImageFaultIn image.now.0 probe.now.0) }
     ensures number { IfErr result (λ fault. image_fault_number fault ≤ 26) }

@@ -58,14 +58,18 @@ impl<A: Allocator> Machine<A> {
     ) -> Result<Machine<A>, Refused<PairFault>>
         ensures machine { IfOk result
             (λ machine. machine ≡ map target_of (system_of dump.now probe.now)) }
+        // so that a caller need not look at both texts again
         ensures pair { OnOk result ((roots : List ℕ) → IsPair roots dump.now probe.now) }
         ensures decodable { OnOk result (All IsDecodable (system_of dump.now probe.now)) }
+        // sizing finds the probe again that the machine was made of
         ensures read_backs { IfOk result (λ machine. All
             (λ f. sized (function_at machine f.slot) ≡ f.probe) (system_of dump.now probe.now)) }
         ensures sizable { IfOk result
             (λ machine. All (λ f. IsSizable machine f.slot) (system_of dump.now probe.now)) }
+        // never 27 to 29: a machine is made of the header's registers alone
         ensures kind { IfErr result IsOfMachine }
         ensures fault { IfErr result (IsRefusedFor dump.now probe.now) }
+        // but for faults of capabilities lists, which aren't looked for here
         ensures first { IfErr result (IsFirstFor dump.now probe.now) }
     {
         match pair(dump, probe) {

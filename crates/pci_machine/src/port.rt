@@ -57,14 +57,20 @@ pub trait ConfigPort {
     /// The little-endian number of `width` bytes at an offset of the function at a slot.
     fn read(&mut self, slot: Slot, off: u8, width: u8) -> Result<u32, PortError>
         ensures value { IfOk result (ShowsNumber (targets self.old) slot off width) }
+        // both ways: where a function is known to be there, no caller has to expect 40
         ensures no_function { result ≡ Err PortError.NoFunction
             ↔ IsFalse (has_function (targets self.old) slot) }
         ensures bad_access { result ≡ Err PortError.BadAccess
             ↔ IsTrue (has_function (targets self.old) slot) × IsFalse (is_access off width) }
+        // so that a port that failed can be told from a function that isn't there
         ensures counted { failures self.new ≡ failures self.old + failures_of result }
+        // looking changes nothing, so registers may be compared before the first write
         ensures same { targets self.new ≡ targets self.old }
+        // a caller need not ask for lawful functions: its first access tells it
         ensures lawful { IsLawful (targets self.new) }
+        // so a read of no bytes may be tried, to learn whether a function is there
         ensures refused { IsFalse (is_counted result) → self.new ≡ self.old }
+        // a port around another one shows by it that each access got there once
         ensures once { reads self.old slot off width result self.new };
 
     /// Writes the little-endian bytes of `value` to `width` bytes at an offset: a writable bit takes
@@ -72,9 +78,11 @@ pub trait ConfigPort {
     fn write(&mut self, slot: Slot, off: u8, width: u8, value: u32) -> Result<(), PortError>
         ensures written { OnOk result (targets self.new ≡ write_targets (targets self.old)
             record { slot = slot; offset = off; width = width; value = value }) }
+        // a write that failed wasn't made, so how many were made is always known
         ensures kept { OnErr result (targets self.new ≡ targets self.old) }
         ensures no_function { result ≡ Err PortError.NoFunction
             ↔ IsFalse (has_function (targets self.old) slot) }
+        // a value that is too wide is refused, and never cut
         ensures bad_access { result ≡ Err PortError.BadAccess
             ↔ IsTrue (has_function (targets self.old) slot)
             × IsFalse (is_access off width && fits width value) }

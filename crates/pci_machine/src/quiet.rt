@@ -38,6 +38,7 @@ impl Quiet {
     pub fn begin<P: ConfigPort>(port: &mut P, slot: Slot) -> Result<Quiet, AccessFault>
         requires there { IsTrue (ports.has_function (P.targets port.old) slot) }
         requires lawful { ports.IsLawful (P.targets port.old) }
+        // with all its bits, as it is put back as a whole
         ensures command { IfOk result
             (λ quiet. quiet ≡ command (function_at (P.targets port.old) slot).image) }
         ensures quieted { OnOk result (P.targets port.new
@@ -46,6 +47,7 @@ impl Quiet {
         ensures function { OnOk result (function_at (P.targets port.new) slot
             ≡ record (function_at (P.targets port.old) slot)
             { image = quieted (function_at (P.targets port.old) slot) }) }
+        // where Command couldn't be written nothing has to be put back
         ensures kept { OnErr result (P.targets port.new ≡ P.targets port.old) }
         ensures stop { IfErr result (λ stop. stop ≡ record {
           offset = table.COMMAND;
@@ -70,6 +72,7 @@ impl Quiet {
     pub fn end<P: ConfigPort>(self, port: &mut P, slot: Slot) -> Result<(), (AccessFault, u16)>
         requires there { IsTrue (ports.has_function (P.targets port.old) slot) }
         requires lawful { ports.IsLawful (P.targets port.old) }
+        // with `command` of `begin` this makes the function what it was before
         ensures written { OnOk result (P.targets port.new
             ≡ ports.with_image (P.targets port.old) slot
             (written (function_at (P.targets port.old) slot) table.COMMAND 2 self)) }

@@ -21,12 +21,14 @@ pub fn read_back<P: ConfigPort>(
     requires there { IsTrue (ports.has_function (P.targets port.old) slot) }
     requires access { IsTrue (ports.is_access off width && ports.fits width ones) }
     requires lawful { ports.IsLawful (P.targets port.old) }
+    // in a status register ones would clear what no write could set again
     requires plain { IsPlain (function_at (P.targets port.old) slot) off width }
     ensures value { IfOk result (λ value. value
         ≡ number_at (written (function_at (P.targets port.old) slot) off width ones) off width) }
     ensures fits { IfOk result (λ value. IsTrue (ports.fits width value)) }
     ensures kept { OnOk result (P.targets port.new ≡ P.targets port.old) }
     ensures stop { IfErr result (λ stop. stop ≡ record { offset = off; fault = PortError.Failed }) }
+    // ones may stand in the register then, but nothing else is touched
     ensures left { OnErr result
         ((image : List ℕ) × (P.targets port.new ≡ ports.with_image (P.targets port.old) slot image)
         × DiffersWithin off width (function_at (P.targets port.old) slot).image image) }

@@ -23,11 +23,13 @@ pub fn read_backs<P: ConfigPort>(
 ) -> Result<Image, AccessFault>
     requires there { IsTrue (ports.has_function (P.targets port.old) slot) }
     requires lawful { ports.IsLawful (P.targets port.old) }
+    // by the other layout a device's BARs would be taken for the registers of windows
     requires header { layout (function_at (P.targets port.old) slot).image
         ≡ (if bridge then 1 else 0) }
     ensures read_backs { IfOk result
         (λ image. image.0 ≡ sized (function_at (P.targets port.old) slot)) }
     ensures kept { OnOk result (P.targets port.new ≡ P.targets port.old) }
+    // the fault of sizing tells at which register it stopped
     ensures stop { IfErr result (λ stop. (stop.fault ≡ PortError.Failed)
         × IsTrue (is_address_register
         (layout (function_at (P.targets port.old) slot).image) stop.offset)) }
@@ -35,6 +37,7 @@ pub fn read_backs<P: ConfigPort>(
         ((image : List ℕ) × (P.targets port.new ≡ ports.with_image (P.targets port.old) slot image)
         × DiffersInRegisters (function_at (P.targets port.old) slot).image image) }
     ensures counted { P.failures port.new ≡ P.failures port.old + failures_of_stop result }
+    // Command is still to be put back, so the function has to be there
     ensures there { IsTrue (ports.has_function (P.targets port.new) slot) }
     ensures lawful { ports.IsLawful (P.targets port.new) }
 {

@@ -37,15 +37,18 @@ pub fn size<P: ConfigPort>(port: &mut P, slot: Slot) -> Result<Image, SizeFault>
     ensures read_backs { IfOk result
         (λ image. image.0 ≡ sized (function_at (P.targets port.old) slot)) }
     ensures unchanged { OnOk result (P.targets port.new ≡ P.targets port.old) }
+    // this and the next three are what `succeeds` asks for, so an Ok tells it all
     ensures there { OnOk result (IsTrue (ports.has_function (P.targets port.old) slot)) }
     ensures vendor { OnOk result
         (IsFalse (has_no_vendor (function_at (P.targets port.old) slot).image)) }
     ensures header { OnOk result
         (IsFalse (has_other_layout (function_at (P.targets port.old) slot).image)) }
     ensures not_stuck { OnOk result (IsStuck (function_at (P.targets port.old) slot) → ⊥) }
+    // a machine in memory never fails, so its functions are sized without an error to handle
     ensures succeeds { IsSizable (P.targets port.old) slot
         → P.failures port.new ≡ P.failures port.old → IsOk result }
     ensures fault { IfErr result (SizingLeaves (P.targets port.old) slot (P.targets port.new)) }
+    // told by the first read, before anything is written
     ensures missing { IsFalse (ports.has_function (P.targets port.old) slot)
         → result ≡ Err (SizeFault.Port table.VENDOR_ID PortError.NoFunction None) }
     ensures counted { P.failures port.new ≡ P.failures port.old + failures_of_size result }

@@ -19,8 +19,10 @@ use std::alloc::Allocator;
 /// slots at the first place where they differ, or the one that one list alone has there. None where
 /// both have the same slots.
 pub fn first_difference(dump: &[Block], probe: &[Block]) -> Option<Slot>
+    // where both rise, the first place at which they differ has the least such slot
     requires dump { IsRising (slots_of dump.now) }
     requires probe { IsRising (slots_of probe.now) }
+    // then the functions of both are paired by their index
     ensures none { IfNone result (slots_of dump.now ≡ slots_of probe.now) }
     ensures some { IfSome result (IsInOne dump.now probe.now) }
     ensures least { IfSome result (IsNoneBelow dump.now probe.now) }
@@ -52,7 +54,9 @@ pub fn first_difference(dump: &[Block], probe: &[Block]) -> Option<Slot>
 /// Errors, in the order in which they are looked for: 30 `SlotsDiffer`; then by function 20
 /// `NoVendor`, 21 `HeaderKind` and 31 `StrayProbe` with the first such offset.
 pub fn pair<A: Allocator, B: Allocator>(dump: &Dump<A>, probe: &Dump<B>) -> Result<(), PairFault>
+    // whatever the roots are: a pair is looked at before any bus is
     ensures ok { OnOk result ((roots : List ℕ) → IsPair roots dump.now probe.now) }
+    // 30, 20, 21 or 31: no register was decoded yet
     ensures kind { IfErr result (λ fault. phase_of (fault_of fault) ≤ 1) }
     ensures there { IfErr result
         (λ fault. (roots : List ℕ) → IsThere roots dump.now probe.now (fault_of fault)) }

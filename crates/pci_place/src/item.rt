@@ -177,6 +177,7 @@ pub fn items_of<A: Allocator, B: Allocator>(
         (kind_value class) needs.now }
     ensures items { IfOk result (λ items. AreItems admitted.now.roots (system_in admitted.now)
         (pools_value pools.now) (kind_value class) items.items) }
+    // placing learns here that a bridge's group is done before what is behind it begins
     ensures rooted { OnOk result (IsRooted admitted.now.roots (system_in admitted.now)) }
 {
     let outline = admitted.outline();
@@ -221,7 +222,9 @@ fn sort_by_group<A: Allocator + Copy>(items: &mut Vec<Item, A>) -> Result<(), Ou
 
 /// Sorts items that stand in slot and register order into groups, and each group by falling size.
 pub fn sort_items<A: Allocator + Copy>(items: &mut Vec<Item, A>) -> Result<(), OutOfMemory>
+    // nothing is lost or doubled, also where there was no memory to sort with
     ensures permutation { IsPermutation items.old.items items.new.items }
+    // by any number that rises along the items: those of one size stay in their order
     ensures sorted { OnOk result ((number : Item → ℕ)
         → AllPairs (λ i j. number i < number j) items.old.items
         → AllPairs (IsPlacedBefore number) items.new.items) }

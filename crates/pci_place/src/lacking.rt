@@ -28,6 +28,7 @@ pub fn has_io_bar(function: &Record) -> bool
 
 /// The first function, by slot, that has an I/O BAR behind a bridge without an I/O window.
 pub fn first_lacking<A: Allocator>(admitted: &Admitted<A>, aboves: &[Above; BUSES]) -> Option<Slot>
+    // a table that lacks a bridge would let an I/O BAR be placed where none gets to it
     requires { AreAboves (system_in admitted.now) aboves.now }
     ensures { MatchOption result
         ((slot : SlotValue) → LacksWindow (system_in admitted.now) slot → ⊥)

@@ -61,8 +61,10 @@ impl Tally {
 
 /// How many addresses a BAR has.
 pub fn bar_size(bar: &Bar) -> u128
+    // a BAR has an address at least; without one the difference would be below 0
     requires { bar.now.first ≤ bar.now.last }
     ensures size { result ≡ span bar.now.first bar.now.last }
+    // sums of sizes are cut off at 2^65, and take none above it
     ensures bound { result ≤ 2 ^ 64 }
 {
     u128::from(bar.last) - u128::from(bar.first) + 1
@@ -79,6 +81,7 @@ pub fn rom_size(rom: &Rom) -> u128
 
 /// The least power of two that is no less than the need of the bus behind a bridge, nor than a page.
 pub fn window_size_of(class: WindowKind, need: u128) -> u128
+    // so that doubling from a page on comes to it in 66 steps
     requires { need ≤ 2 ^ 65 }
     ensures { result ≡ window_size (kind_value class) need }
 {
@@ -140,10 +143,12 @@ pub fn needs_of<A: Allocator>(
     class: WindowKind,
     aboves: &[Above; BUSES],
 ) -> Needs
+    // the class of a BAR hangs on the windows of the bridges above it
     requires { AreAboves (system_in admitted.now) aboves.now }
     ensures need { (bus : ℕ) → bus < 256
         → slice_index result.of_bus bus
         ≡ need_of (system_in admitted.now) (pools_value pools.now) (kind_value class) bus }
+    // placing starts at a multiple of it, so that each size stands at one of its own
     ensures greatest { result.greatest
         ≡ greatest_of_roots admitted.now.roots (system_in admitted.now) (pools_value pools.now)
         (kind_value class) }

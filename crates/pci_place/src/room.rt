@@ -33,9 +33,11 @@ fn need_of_roots(roots: &Roots, needs: &Needs) -> u128
 
 /// The least multiple of a size from an address on.
 pub fn raised(size: u128, first: u64) -> u128
+    // the size of the largest item, which is there wherever something is placed
     requires some { 0 < size }
     requires limited { size ≤ 2 ^ 65 }
     ensures raised { result ≡ raised_to size first }
+    // so that what all roots need can be added to it in 128 bits
     ensures bound { result ≤ 2 ^ 66 }
 {
     (u128::from(first) + size - 1) / size * size

@@ -31,16 +31,20 @@ pub fn apply<P: ConfigPort, A: Allocator>(
     port: &mut P,
     plan: &Plan<'_, A>,
 ) -> Result<(), ApplyFault>
+    // on any machine, also one that writes other bits than planned: the fault's count is exact
     ensures made { P.targets port.new
         ≡ after_writes (P.targets port.old)
         (take (writes_made plan.now.writes result) plan.now.writes) }
+    // no promise is asked of a machine beforehand: an Ok says that it was the right one
     ensures started { OnOk result (ShowsSystem (P.targets port.old) (system_in plan.now.start)) }
     ensures ended { OnOk result (ShowsSystem (P.targets port.new) (final_of plan.now)) }
     ensures counted { OnOk result (P.failures port.new ≡ P.failures port.old) }
     ensures fault { IfErr result (IsApplyFault (P.targets port.old) (P.failures port.old)
         (system_in plan.now.start) plan.now.writes (P.targets port.new) (P.failures port.new)) }
+    // where the machine is as it was read, only its port can stop a plan
     ensures own_machine { P.targets port.old ≡ map target_of (system_in plan.now.start)
         → P.failures port.new ≡ P.failures port.old → IsOk result }
+    // what a write leaves hangs on the bits that can be written, so these have to be the plan's
     ensures sound { P.targets port.old ≡ map target_of (system_in plan.now.start)
         → IsSound plan.now.start.roots (system_in plan.now.start)
         ⊎ (plan.now.safe_from ≤ writes_made plan.now.writes result)

@@ -62,7 +62,9 @@ fn compare_function<P: ConfigPort>(
 
 /// Whether each function is as its block has it, the lowest slot first.
 pub fn compare<P: ConfigPort>(port: &mut P, blocks: &[Block]) -> Result<(), ApplyFault>
+    // a machine that isn't the one that was planned for is left as it was
     ensures same { P.targets port.new ≡ P.targets port.old }
+    // all that a plan hangs on: registers that it neither reads nor writes may differ
     ensures started { OnOk result (StartsAs (P.targets port.old) blocks.now) }
     ensures counted { OnOk result (P.failures port.new ≡ P.failures port.old) }
     ensures fault { IfErr result

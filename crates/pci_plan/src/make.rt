@@ -40,7 +40,9 @@ fn make_one<P: ConfigPort>(port: &mut P, write: Write, done: usize) -> Result<()
 
 /// Makes each write and reads it back, until one fails or reads back otherwise.
 pub fn make<P: ConfigPort>(port: &mut P, writes: &[Write]) -> Result<(), ApplyFault>
+    // a port would refuse others by 41, a cause of a stop that 81 doesn't know
     requires { All IsAccessible writes.now }
+    // each was read back, so what the port says it holds is what was written
     ensures made { OnOk result (AreMade (P.targets port.old) (map write_value writes.now)
         (length writes.now) (P.targets port.new)) }
     ensures counted { OnOk result (P.failures port.new ≡ P.failures port.old) }

@@ -191,6 +191,7 @@ impl Filling<'_> {
     /// What an address register holds.
     pub fn number(&self, register: Register) -> u32
         requires of { FillingOf self.now }
+        // any offset that isn't a window's or a ROM's is taken for a BAR's
         requires listed { IsListed self.now.record.now register }
         ensures { (of : FillingOf self.now)
             → result

@@ -82,6 +82,7 @@ impl<'a, A: Allocator> Plan<'a, A> {
     /// The dump and the probe that were planned for.
     pub fn start(&self) -> &'a Admitted<A>
         ensures value { result.now ≡ self.now.start }
+        // all that holds of each plan, for whoever hasn't the pools that it was made in
         ensures plan { IsPlanValue self.now }
     {
         self.start
@@ -90,9 +91,11 @@ impl<'a, A: Allocator> Plan<'a, A> {
     /// The dump after all writes: with the probe it makes a sound system, also where ROMs are switched on.
     pub fn dump(&self) -> &Dump<A>
         ensures value { result.now ≡ self.now.dump }
+        // by it the planned dump goes with the old probe
         ensures slots { slots_of self.now.dump ≡ slots_of self.now.start.dump }
         ensures system { IsSystem (final_of self.now) }
         ensures sound { IsSound self.now.start.roots (final_of self.now) }
+        // a ROM is switched on when it is read, perhaps long after, and mustn't clash then
         ensures roms { IsSound self.now.start.roots (map with_rom_on (final_of self.now)) }
     {
         &self.dump
@@ -109,13 +112,18 @@ impl<'a, A: Allocator> Plan<'a, A> {
     /// then functions are opened from the lowest slot up. They may stop anywhere from `safe_from` on.
     pub fn writes(&self) -> &[Write]
         ensures value { map write_value result.now ≡ self.now.writes }
+        // from it printing learns that each write is of a whole register, of 2 or 4 bytes
         ensures exact { self.now.writes
             ≡ plan_writes (changes_between (system_in self.now.start) (final_of self.now)) }
+        // a machine may lose its port half way, and is to work on all the same
         ensures stops { StopsSafely self.now.start.roots
             (system_in self.now.start) self.now.writes self.now.safe_from }
+        // what the writes make and what `dump` shows is one and the same
         ensures reached { system_after (system_in self.now.start) self.now.writes
             ≡ final_of self.now }
+        // each access may fail, so none is made for nothing
         ensures changes { EachWriteChanges (system_in self.now.start) self.now.writes }
+        // 9 for a device and 11 for a bridge at most: how long a plan may get is known before
         ensures few { length self.now.writes
             ≤ sum
             (map most_writes (changes_between (system_in self.now.start) (final_of self.now))) }

@@ -54,6 +54,7 @@ pub fn planned_dump<A: Allocator, B: Allocator>(
     needs: &ByKind<Needs>,
     places: &[Places],
 ) -> Result<Dump<A>, OutOfMemory>
+    // only in pools with room for all does each sum of place and size fit its register
     requires plannable { CanBePlanned admitted.now.roots (system_in admitted.now)
         (pools_value pools.now) }
     requires needs { AreAllNeeds admitted.now.roots (system_in admitted.now)

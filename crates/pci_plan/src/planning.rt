@@ -233,7 +233,9 @@ pub fn plan<'a, A: Allocator + Copy>(
     admitted: &'a Admitted<A>,
     pools: &Pools,
 ) -> Result<Plan<'a, A>, Refused<PlanFault>>
+    // in these pools, and with everything at its place: a `Plan` alone says no such thing
     ensures planned { IfOk result (IsPlanIn admitted.entry.now (pools_value pools.now)) }
+    // both ways: what can be planned is refused for want of memory alone, and never by 73
     ensures fault { (f : PlanFault) → (result ≡ Err (Refused.Fault f))
         ↔ IsFaultOf admitted.entry.now pools.now f }
 {

@@ -108,6 +108,7 @@ pub fn writes_between<A: Allocator>(
     start: &[Block],
     planned: &[Block],
 ) -> Result<Vec<Write, A>, OutOfMemory>
+    // old and new of a function have one index
     requires { length planned.now ≡ length start.now }
     ensures { IfOk result
         (λ v. map write_value v.items ≡ plan_writes (block_changes start.now planned.now)) }

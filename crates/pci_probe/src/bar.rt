@@ -113,6 +113,7 @@ fn derived(line: ResourceLine, wide: bool, enabled: bool, value: u64) -> Derived
 
 /// What is derived for the BAR at register `n`, of its line.
 pub fn bar(image: &Image, line: ResourceLine, bridge: bool, n: u8) -> Derived
+    // no 64-bit BAR starts in the last BAR register, and which that is hangs on the layout
     requires header { layout image.now.0 ≡ (if bridge then 1 else 0) }
     requires few { n < 6 }
     ensures { derived_of result

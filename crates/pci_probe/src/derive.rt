@@ -71,6 +71,7 @@ pub fn derive(
     ensures header { OnOk result (HasHeader image.now.0) }
     ensures told { OnOk result (no_probe exact image.now.0 lines.now ≡ None) }
     ensures probe { OnOk result (probe.new.0 ≡ derived_probe image.now.0 lines.now) }
+    // the command line has a remark on each of these
     ensures assumed { IfOk result
         (λ registers. registers.items ≡ assumed_registers image.now.0 lines.now) }
     ensures fault { IfErr result (IsDeriveFault exact image.now.0 lines.now) }

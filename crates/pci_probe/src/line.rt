@@ -73,9 +73,11 @@ impl ResourceLine {
     /// How many addresses there are from the first to the last, where that is a power of two, of at
     /// most 2 to the power of `most`.
     pub fn size(self, most: u32) -> Option<u64>
+        // 2^64 would be no u64
         requires { most < 64 }
         ensures told { MatchOption result (has_size most self ≡ false)
             (λ size. (has_size most self ≡ true) × (size ≡ address_count self)) }
+        // at least one, as callers divide by it; at most what the register can decode
         ensures bounds { MatchOption result ⊤ (λ size. (1 ≤ size) × (size ≤ 2 ^ most)) }
     {
         if self.last < self.first || self.last - self.first == u64::MAX {

@@ -13,6 +13,7 @@ use pci_dump::block::Block;
 pub fn lone_slot(dump: &[Block], sizes: &[SizesBlock]) -> Option<Slot>
     requires dump { IsDump dump.now }
     requires sizes { IsSizes sizes.now }
+    // then a function and what is told of it have the same index
     ensures same { IfNone result (slots_of dump.now ≡ sized_slots sizes.now) }
     ensures least { result ≡ least_slot (lone_slots (slots_of dump.now) (sized_slots sizes.now)) }
 {

@@ -115,6 +115,7 @@ pub fn probe_of<A: Allocator + Copy, B: Allocator, C: Allocator>(
         (λ derivation. derivation.probe ≡ spec.probe_of dump.now sizes.now) }
     ensures assumed { IfOk result
         (λ derivation. derivation.assumed.items ≡ assumed_of dump.now sizes.now) }
+    // none of 20, 21, 30 and 31 is left for `check` to find in it
     ensures pair { IfOk result
         (λ derivation. (roots : List ℕ) → IsPair roots dump.now derivation.probe) }
     ensures fault { IfErr result (IsFirstFault exact dump.now sizes.now) }

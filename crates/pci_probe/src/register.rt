@@ -36,8 +36,10 @@ fn bar_register(image: &Image, lines: &[ResourceLine; 7], bridge: bool, n: u8) -
 #[tactic(auto, unfolding(pci_spec::specs::Derived::register_derived))]
 pub fn register(image: &Image, lines: &[ResourceLine; 7], bridge: bool, offset: u8) -> Derived
     requires header { header.layout image.now.0 ≡ (if bridge then 1 else 0) }
+    // what is derived is picked by this offset, so it has to be a register's first byte
     requires begins { is_address_register (if bridge then 1 else 0) offset ≡ true }
     ensures derived { derived_of result ≡ spec.register_derived image.now.0 lines.now offset }
+    // the probe takes 32 bits of it, and none may be lost
     ensures narrow { IsNarrow result }
 {
     let bars_end = if bridge {

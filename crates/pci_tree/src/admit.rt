@@ -52,6 +52,7 @@ pub fn outline_of<A: Allocator, B: Allocator, C: Allocator>(
     probe: &Dump<C>,
     roots: Roots,
 ) -> Result<Outline<A>, Refused<Fault>>
+    // of dumps that are lent, as planning looks at its own dump with the probe it was given
     ensures { MatchResult result (IsOutlineFor record {
       roots = buses_of roots;
       dump = dump.now;

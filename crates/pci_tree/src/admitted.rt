@@ -75,7 +75,9 @@ impl<A: Allocator> Admitted<A> {
     /// Lends the outline.
     pub fn outline(&self) -> &Outline<A>
         ensures roots { result.now.roots ≡ self.now.roots }
+        // by it what is found in the outline is said of the dump and the probe themselves
         ensures records { HasRecords (system_of self.now.dump self.now.probe) result.now.records }
+        // who judges or plans need not look for faults 20 to 58 again
         ensures admitted { IsAdmitted self.now }
     {
         &self.outline

@@ -21,7 +21,9 @@ fn first_from(records: &[Record], bus: u16) -> usize
 
 /// The records of a bus.
 pub fn on_bus(records: &[Record], bus: u8) -> &[Record]
+    // the records of a bus then stand in a row, whose ends are found by halving
     requires rising { RiseBySlot records.now }
+    // a device number above 31 would make a slot's number one of the next bus
     requires slots { All (λ r. IsSlot r.slot) records.now }
     ensures { IsBusPart records.now bus result.now }
 {

@@ -36,8 +36,10 @@ fn join(r: Range, s: Range) -> Forwarded
 
 /// What a bridge passes by two windows, each of which may be absent.
 pub fn union(v: Option<Range>, w: Option<Range>) -> Forwarded
+    // else an empty range could be passed on, which no list of ranges may have
     requires first { IfSome v (λ r. r.first ≤ r.last) }
     requires second { IfSome w (λ r. r.first ≤ r.last) }
+    // one range where the two touch, so that what is passed on keeps its gaps
     ensures lawful { IsPassed result }
     ensures exact { (a : ℕ) → Passes result a ↔ (HoldsSome v a ⊎ HoldsSome w a) }
 {
@@ -95,7 +97,9 @@ pub fn passed_on<A: Allocator>(
     forwarded: Forwarded,
 ) -> Result<Vec<Range, A>, OutOfMemory>
     requires canonical { IsCanonical rs.now }
+    // two windows with a gap, lower one first, keep a rising list rising
     requires lawful { IsPassed forwarded }
+    // it rises with gaps again, so that the next bridge down may pass it on
     ensures { IfOk result (λ out. IsReach rs.now forwarded out.items) }
 {
     let mut out = Vec::new(alloc);

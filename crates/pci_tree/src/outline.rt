@@ -82,7 +82,9 @@ impl<A: Allocator> Outline<A> {
     /// function that isn't: 50 `LoneFunction`, 57 `BusRange`, 58 `Orphan`.
     pub fn placed(records: Vec<Record, A>, roots: Roots) -> Result<Outline<A>, Fault>
         requires slots { All (λ r. IsSlot r.slot) records.items }
+        // the functions of a bus are found by halving, to look for function 0 and bridges there
         requires rising { RiseBySlot records.items }
+        // who gets where is worked out by ranges that each have an address
         requires lawful { All IsLawful records.items }
         ensures { MatchResult result (λ o. (o.roots ≡ buses_of roots)
             × (o.records ≡ map record_value records.items)
@@ -105,7 +107,9 @@ impl<A: Allocator> Outline<A> {
     /// The records, in slot order.
     pub fn records(&self) -> &[Record]
         ensures value { map record_value result.now ≡ self.now.records }
+        // in slot order a bridge stands before what is behind it, and planning goes by that
         ensures rising { RiseBySlot result.now }
+        // a size is the last address less the first, so that must not be below it
         ensures lawful { All IsLawful result.now }
         ensures nested { (s : System) → HasRecords s self.now.records → IsNested self.now.roots s }
     {
@@ -116,6 +120,7 @@ impl<A: Allocator> Outline<A> {
 impl<A: Allocator + Copy> Outline<A> {
     /// The bridges, in slot order.
     pub fn bridges(&self) -> Result<Vec<Slot, A>, OutOfMemory>
+        // an outline has no image, so this is said of every system with its records
         ensures { IfOk result (λ v. (s : System) → HasRecords s self.now.records
             → v.items ≡ map (λ f. f.slot) (filter is_bridge s)) }
     {
@@ -159,7 +164,9 @@ impl<A: Allocator + Copy> Outline<A> {
     /// For each bus the addresses of a kind of access that get there from a root.
     pub fn reaches(&self, kind: WindowKind) -> Result<Vec<Reach<A>, A>, OutOfMemory>
         ensures size { IfOk result (λ v. length v.items ≡ 256) }
+        // judging looks for addresses in these lists by halving
         ensures canonical { IfOk result (λ v. All IsCanonical v.items) }
+        // handed on with the lists: there is one way to each bus, along which a fault is looked for
         ensures nested { (s : System) → HasRecords s self.now.records → IsNested self.now.roots s }
         ensures exact { IfOk result (λ v. (s : System) (bus : ℕ) (d : List RangeValue)
             → HasRecords s self.now.records → bus < 256

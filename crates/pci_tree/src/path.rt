@@ -11,6 +11,7 @@ use pci_function::record::Record;
 
 /// At each bus the index of the bridge that leads there.
 pub fn bridge_to_bus(records: &[Record]) -> [Option<usize>; BUSES]
+    // of any records: where two bridges lead to one bus it names one of them
     ensures { IsBridgeToBus records.now result }
 {
     let mut bridge_to_bus = [None; BUSES];
@@ -24,6 +25,7 @@ pub fn bridge_to_bus(records: &[Record]) -> [Option<usize>; BUSES]
 
 /// Whether a bus is a root or a bridge leads to it.
 pub fn is_led_to(bridge_to_bus: &[Option<usize>; BUSES], roots: &Roots, bus: u8) -> bool
+    // one way only: a caller leaves out the buses that nothing leads to
     ensures { result ≡ false → (records : List RecordValue)
         → IsBridgeToBus records bridge_to_bus.now → IsUnled records (buses_of roots.now) bus }
 {
@@ -37,8 +39,10 @@ pub fn path(
     roots: &Roots,
     bus: u8,
 ) -> Option<ArrayVec<Slot, 255>>
+    // each step up comes to a lower bus, so it ends, after 255 bridges at most
     requires forest { IsForest records.now }
     requires bridge_to_bus { IsBridgeToBus records.now bridge_to_bus.now }
+    // a bridge that led to a root would make a second, longer way
     requires clear { AreClear (buses_of roots.now) records.now }
     ensures { MatchOption result (IsUnled records.now (buses_of roots.now) bus)
         (λ v. AreSlotsOfWay records.now (buses_of roots.now) v.items bus) }

@@ -7,6 +7,7 @@ use pci_base::range::Range;
 
 /// The addresses that two ranges have in common.
 pub fn meet(r: Range, s: Range) -> Option<Range>
+    // what is in common is never an empty range, since no list of ranges may have one
     ensures { MatchOption result ((a : ℕ) → Holds r a → Holds s a → ⊥)
         (λ m. (m.first ≤ m.last) × ((a : ℕ) → Holds m a ↔ (Holds r a × Holds s a))) }
 {
@@ -31,7 +32,9 @@ fn first_not_before(rs: &[Range], a: u64) -> usize
 
 /// The least address of `r` that no range of `rs` has.
 pub fn least_outside(r: Range, rs: &[Range]) -> Option<u64>
+    // of an empty range its first address would be answered, which it hasn't
     requires lawful { r.first ≤ r.last }
+    // ranges have a gap behind them, so the address after one is in none
     requires canonical { IsCanonical rs.now }
     ensures { MatchOption result ((a : ℕ) → Holds r a → Covers rs.now a)
         (λ a. IsLeastOutside r rs.now a) }
@@ -52,6 +55,7 @@ pub fn least_outside(r: Range, rs: &[Range]) -> Option<u64>
 
 /// The least address from `from` on that a range of `rs` has.
 pub fn least_from(rs: &[Range], from: u64) -> Option<u64>
+    // the range is found by halving, so they have to rise
     requires { IsCanonical rs.now }
     ensures { MatchOption result ((a : ℕ) → from ≤ a → Covers rs.now a → ⊥)
         (λ a. IsLeastFrom rs.now from a) }

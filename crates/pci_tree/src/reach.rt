@@ -99,9 +99,11 @@ pub fn reaches<A: Allocator + Copy>(
     roots: &Roots,
     kind: WindowKind,
 ) -> Result<Vec<Reach<A>, A>, OutOfMemory>
+    // each bridge leads to a higher bus, so the bus above was done when it is met
     requires forest { IsForest records.now }
     requires bridge_to_bus { IsBridgeToBus records.now bridge_to_bus.now }
     requires spans { All HasSpans records.now }
+    // bus numbers index it
     ensures size { IfOk result (λ v. length v.items ≡ 256) }
     ensures exact { IfOk result (λ v. (bus : ℕ) (d : List Range) → bus < 256
         → IsReachOf records.now (buses_of roots.now) (kind_value kind) bus

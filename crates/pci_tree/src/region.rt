@@ -149,6 +149,7 @@ pub fn add_regions<A: Allocator>(
     function: &Record,
     space: Space,
 ) -> Result<(), OutOfMemory>
+    // in register order, so that those of a bus stand by slot and register without sorting
     ensures { OnOk result
         (out.new.items ≡ out.old.items ++ regions_of function.now (space_of space)) }
 {

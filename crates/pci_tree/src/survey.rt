@@ -111,12 +111,16 @@ impl<A: Allocator> Survey<A> {
     ///
     /// 2 where a growth was refused. The survey is then as it was.
     pub fn add(&mut self, block: &Block, probe: &Block) -> Result<(), OutOfMemory>
+        // records rise by slot, as an outline asks of them
         requires above { IsAboveLast self.old.last block.now.slot }
+        // a probe that falls back would have a slot named that both sides list
         requires probe_above { IsAboveLast self.old.last probe.now.slot }
+        // after 30 the two sides don't go together any more
         requires open { IfSome self.old.fault (λ e. phase_of e ≢ 0) }
         ensures added { OnOk result (probe.now.slot ≡ block.now.slot
             → IsAdded self.old self.new record
             { slot = block.now.slot; image = block.now.image; probe = probe.now.image }) }
+        // of whole systems, so that a caller that adds all functions has one fact of all of them
         ensures taken { OnOk result
             (probe.now.slot ≡ block.now.slot → (s : System) → IsSurveyOf self.old s
             → IsSurveyOf self.new (s
@@ -202,6 +206,7 @@ impl<A: Allocator> Survey<A> {
     ///
     /// The noted fault, else 50 `LoneFunction`, 58 `Orphan` or 57 `BusRange` of the first function that has one.
     pub fn finish(self) -> Result<Outline<A>, Refused<Fault>>
+        // said of every system whose functions it took, since it kept none of their images
         ensures { MatchResult result (IsOutlineOf self) (IsRefusalOf self) }
     {
         let Survey {

@@ -41,6 +41,7 @@ fn windows_passed(bridge: Bridge, kind: WindowKind) -> Forwarded
 
 /// The addresses that a bridge passes of accesses of a kind. A function that is no bridge passes none.
 pub fn forwarded(function: &Record, kind: WindowKind) -> Forwarded
+    // a window that is open has an address: a closed one has no range at all
     requires { IfSome function.now.bridge (λ b. HaveSpans (bridge_value b).windows) }
     ensures lawful { IsPassed result }
     ensures exact { (a : ℕ) → Passes result a

@@ -48,6 +48,7 @@ pub extern "C" fn pciplan_check(
     ensures memory { result ≡ 3 → (line.new ≡ line.old) × (line_used.new ≡ line_used.old) }
     ensures room { result ≡ 4
         → (line.new ≡ line.old) × IsTooLong roots.now dump.now probe.now line.old line_used.new }
+    // so with 96 bytes it is called once, but for texts that are refused
     ensures enough { result ≡ 4 → 96 ≤ length line.old
         → (refusal : Refusal) × IsRefusalOf roots.now dump.now probe.now refusal }
     ensures known { result ≤ 4 }
@@ -94,6 +95,7 @@ pub extern "C" fn pciplan_plan(
         → ArePut roots.now dump.now probe.now
         (pools_of pools.now) writes.old writes.new writes_used.new safe_from.new
         × (line.new ≡ line.old) }
+    // where there is no plan no write is put that could be made by mistake
     ensures told { (result ≡ 1) ⊎ (result ≡ 2)
         → IsNoPlanTold roots.now dump.now probe.now
         (pools_of pools.now) result line.old line.new line_used.new

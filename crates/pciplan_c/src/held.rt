@@ -14,6 +14,7 @@ pub struct Bytes<'a> {
 impl<'a> Bytes<'a> {
     /// All of some bytes.
     pub fn of(rest: &'a [u8]) -> Bytes<'a>
+        // all bytes are told, so what is said of told texts holds of this one
         ensures left { ⟦<Bytes<'a> as Source>⟧.left result ≡ Some rest.entry.now }
     {
         Bytes { rest }

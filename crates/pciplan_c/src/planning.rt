@@ -161,6 +161,7 @@ pub fn plan_into<A: Allocator + Copy>(
 ) -> Result<Ending, HeldBack>
     ensures ending { IfOk result (IsEnding roots.now dump.now probe.now
         (pools_of pools.now) writes.old writes.new line.old line.new) }
+    // half a plan must not be taken for one
     ensures writes { IfErr result (λ _. writes.new ≡ writes.old) }
     ensures line { IfErr result (λ _. line.new ≡ line.old) }
     ensures room { IfErr result

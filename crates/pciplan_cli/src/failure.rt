@@ -124,6 +124,7 @@ impl<K: Sink> fmt::Write for Messages<'_, K> {
 
 /// Writes the message to `err`, and answers the status. A sink that fails changes no status.
 pub fn report<K: Sink>(err: &mut K, failure: Failure) -> u8
+    // also where the message couldn't be written
     ensures { result ≡ status_of failure }
 {
     let mut messages = Messages { sink: err };

@@ -66,6 +66,7 @@ pub fn start<E: Sink>(alloc: Global, words: &[&str], err: &mut E) -> Result<Invo
     ensures line { IfOk result (IsInvocationOf (map (λ w. w.now) words.now)) }
     ensures refused { IfErr result (λ status. (failure : Failure)
         × IsRefusedFor (map (λ w. w.now) words.now) failure × (status ≡ status_of failure)) }
+    // 0 and 1 are answers, and 4 is of texts, of which none was opened yet
     ensures status { IfErr result (λ status. (status ≡ 2) ⊎ (status ≡ 3)) }
     ensures silent { IfOk result (λ _. err.new ≡ err.old) }
 {

@@ -17,8 +17,11 @@ pub trait Opening: Source {
 
     /// Opens the text at a path. An `Err` raises the count of failures by one.
     fn open(&mut self, path: &str) -> Result<(), Failed>
+        // an answer is one to two texts that were there
         ensures stands { OnOk result (stands self.old path.now) }
+        // from its first byte on: an answer speaks of the whole text
         ensures bytes { OnOk result (Self.left self.new ≡ bytes_at self.old path.now) }
+        // not to be opened counts as not to be read, and both end with status 4
         ensures counted { MatchResult result (λ _. Self.failures self.new ≡ Self.failures self.old)
             (λ _. Self.failures self.new ≡ Self.failures self.old + 1) };
 }

@@ -139,6 +139,7 @@ pub fn program<D: Opening, P: Opening, O: Sink, E: Sink>(
     out: &mut O,
     err: &mut E,
 ) -> u8
+    // of words that couldn't be had: 3 may go away by itself, 2 needs other words
     ensures memory { IfErr words (λ error. error_kind error ≡ ErrorKind.OutOfMemory → result ≡ 3) }
     ensures unread { IfErr words (λ error. error_kind error ≢ ErrorKind.OutOfMemory → result ≡ 2) }
     ensures done { result < 2

@@ -39,6 +39,7 @@ impl<A: Allocator> Reply<A> {
     /// The status that the program ends with.
     pub fn status(&self) -> u8
         ensures named { result ≡ (answer_of self.now).status }
+        // 2 to 4 say that there is no answer
         ensures small { result < 2 }
     {
         if self.refused { REFUSED } else { DONE }

@@ -133,14 +133,17 @@ pub fn run<A: Allocator + Copy, D: Source, P: Source, O: Sink, E: Sink>(
     out: &mut O,
     err: &mut E,
 ) -> u8
+    // standard error may fail: what was asked for is answered all the same
     ensures answered { result < 2
         → IsAnswered line.now.task (D.left dump.old) (P.left probe.old) result
         (O.taken out.old) (O.taken out.new) (E.taken err.old) (E.taken err.new)
         (E.failures err.new ≡ E.failures err.old + 1) (err.new ≡ err.old) }
+    // who reads the output by a pipe gets nothing that looks like an answer
     ensures quiet { (result ≡ 2) ⊎ (result ≡ 3) → out.new ≡ out.old }
     ensures begun { result ≡ 4 → (out.new ≡ out.old)
         ⊎ IsBegun line.now.task (D.left dump.old) (P.left probe.old) (O.taken out.old)
         (O.taken out.new) }
+    // it is the text's own fault, and comes again however often it is tried
     ensures refused { result ≡ 2
         → IsTaskRefused line.now.task (D.left dump.old) (P.left probe.old) }
     ensures failed { result ≡ 4 → HasFailed (D.failures dump.old) (D.failures dump.new)

@@ -51,6 +51,7 @@ pub fn size_all<A: Allocator + Copy, D: Allocator, P: Allocator>(
     probe: &Dump<P>,
 ) -> Result<Dump<A>, Refused<Fault>>
     ensures sized { IfOk result (λ found. found ≡ probe.now) }
+    // roots are none of its business: no fault up to 31 speaks of them
     ensures refused { IfErr result (IsRefusedIn (0 ∷ []) dump.now probe.now) }
 {
     let mut machine = match Machine::of(alloc, dump, probe) {

@@ -63,7 +63,9 @@ pub fn rom(image: &Image, probe: &Image) -> Result<Option<Rom>, ImageFault>
     ensures lawful { IsOk result ↔ HasLawfulRom image.now.0 probe.now.0 }
     ensures decoded { IfOk result
         (λ found. option_map decoded_rom_of found ≡ decoded_rom image.now.0 probe.now.0) }
+    // of no ROM it says that no address is answered
     ensures compared { IfOk result (IsComparedRom image.now.0 probe.now.0) }
+    // no fault of a BAR: these were looked at before
     ensures fault { IfErr result
         (λ f. IsImageFaultIn image.now.0 probe.now.0 f × IsTrue (is_rom_fault f)) }
 {
