@@ -2,16 +2,32 @@
 # Runs the built program as its users do. Each case compares what went to standard output, what went to standard error,
 # and the status. A line is printed for each case, and one for each file of cases; the status is 1 where one differs.
 #
-# Usage: program_test.sh [PROGRAM], by default out/pciplan beside this file, which `rt ci` and `rt run` make.
+# Usage: program_test.sh [PROGRAM], by default out/pciplan beside this file, which `rt ci` and `rt run` make, and then
+# out/pciplan.by-rattle, which `rt ci` has from its second compiler.
 set -u
 
 here=$(CDPATH='' cd -- "$(dirname -- "$0")" && pwd) || exit 1
+if [ $# -eq 0 ]; then
+    worst=0
+    for build in "$here/out/pciplan" "$here/out/pciplan.by-rattle"; do
+        [ -e "$build" ] || [ "$build" = "$here/out/pciplan" ] || continue
+        echo "== ${build##*/}"
+        "$0" "$build" || worst=1
+    done
+    exit $worst
+fi
 room=$(mktemp -d) || exit 1
 trap 'rm -rf "$room"' EXIT
-cp -- "${1:-$here/out/pciplan}" "$room/pciplan" || exit 1
+cp -- "$1" "$room/program" || exit 1
+# A program that doesn't end is stopped, and has status 124 then.
+if command -v timeout >/dev/null; then
+    printf '#!/bin/sh\nexec timeout 60 "%s/program" "$@"\n' "$room" >"$room/pciplan"
+else
+    cp -- "$room/program" "$room/pciplan"
+fi
 cp -- "$here"/data/*.txt "$here"/../../machines/* "$room" || exit 1
 cp -R -- "$here"/cases "$here"/cases.awk "$room" || exit 1
-chmod 755 "$room" "$room/pciplan"
+chmod 755 "$room" "$room/program" "$room/pciplan"
 cd "$room" || exit 1
 
 mkdir folder
@@ -199,10 +215,41 @@ else
     echo "skipped: $name"
 fi
 
+# texts that come through pipes, also in parts and longer than a buffer; a path with blanks; more words than a line has
+cat dump.txt | ./pciplan check /dev/stdin probe.txt >out 2>err
+compare 'a dump on standard input' 0 "yes$lf" '' $?
+cat probe.txt | ./pciplan check dump.txt /dev/stdin >out 2>err
+compare 'a probe on standard input' 0 "yes$lf" '' $?
+mkfifo dump.pipe probe.pipe
+# writers_end: ends what still waits for the program to read it, where that failed.
+writers_end() {
+    # shellcheck disable=SC2046
+    kill $(jobs -p) 2>/dev/null
+    wait
+}
+text_of old.check
+for size in 1000 4096 9000; do
+    { head -c $size old.dump; sleep 0.1; tail -c +$((size + 1)) old.dump; } >dump.pipe &
+    cat old.probe >probe.pipe &
+    case_of "texts through pipes, the dump cut after $size bytes" 0 "$text" '' check dump.pipe probe.pipe
+    writers_end
+done
+text_of old.derived
+cat old.dump >dump.pipe &
+{ head -c 1000 old.sizes; sleep 0.1; tail -c +1001 old.sizes; } >probe.pipe &
+case_of 'dump and sizes through pipes' 0 "$text" "pciplan: assumed 00:02.0 30$lf" probe dump.pipe probe.pipe
+writers_end
+case_of 'no dump, and a pipe that nobody writes' 4 '' "pciplan: dump: 1 Io$lf" check missing.txt probe.pipe
+cp dump.txt ' dump .txt '
+case_of 'a path with blanks' 0 "yes$lf" '' check ' dump .txt ' probe.txt
+case_of 'a path that lacks its last blank' 4 '' "pciplan: dump: 1 Io$lf" check ' dump .txt' probe.txt
+# shellcheck disable=SC2086
+case_of 'thirteen words' 2 '' "pciplan: usage$lf" plan empty.txt empty.txt $pools --root 00 --writes more
+
 # memory that holds the program and not the largest of texts, where the shell can limit it
 name='want of memory'
 # shellcheck disable=SC3045
-(ulimit -v 7000 && exec ./pciplan) >out 2>err
+(ulimit -v 7000 && exec ./program) >out 2>err
 if [ $? -eq 2 ]; then
     awk 'BEGIN {
         for (n = 0; n < 4096; n++) {
@@ -217,7 +264,7 @@ if [ $? -eq 2 ]; then
         }
     }' >large.txt
     # shellcheck disable=SC3045
-    (ulimit -v 7000 && exec ./pciplan size large.txt large.txt) >out 2>err
+    (ulimit -v 7000 && exec ./program size large.txt large.txt) >out 2>err
     compare "$name" 3 '' "pciplan: 2 Memory$lf" $?
 else
     echo "skipped: $name"

@@ -30,6 +30,7 @@ fn fill<S: Source>(source: &mut S, chunk: &mut [u8; CHUNK_LEN]) -> Result<usize,
 {
     let mut len = 0;
     // A full chunk ends it as well: there is room for nothing then, and nothing is read.
+    // It has no return within: with one, a build of the kit's read the end of a file for ever.
     let mut drained = false;
     while !drained {
         let read = source.read(&mut chunk[len..])?;
