@@ -1,0 +1,370 @@
+#!/bin/sh
+# Tests the scripts that read dumps and sizes: machines/capture.sh over sysfs made of files, machines/convert.sh over what
+# lspci prints, both made from the dumps of machines/, and the lines of docs/FORMATS.md that cut such texts into form. A
+# line is printed for each case; the status is 1 where one differs.
+#
+# Usage: capture_test.sh [PROGRAM], by default out/pciplan beside this file, which `rt ci` and `rt run` make.
+set -u
+export LC_ALL=C
+
+here=$(CDPATH='' cd -- "$(dirname -- "$0")" && pwd) || exit 1
+program=${1:-$here/out/pciplan}
+case $program in
+    /*) ;;
+    *) program=$PWD/$program ;;
+esac
+machines=$here/../../machines
+formats=$here/../../docs/FORMATS.md
+room=$(mktemp -d) || exit 1
+trap 'rm -rf "$room"' EXIT
+cd "$room" || exit 1
+
+passed=0 failed=0
+
+# told NAME STATUS: prints the case's line; STATUS says whether all was as wanted.
+told() {
+    if [ "$2" -eq 0 ]; then
+        echo "ok: $1"
+        passed=$((passed + 1))
+    else
+        echo "DIFFERS: $1"
+        failed=$((failed + 1))
+    fi
+}
+
+# fake SYSFS DOMAIN ABOVE MACHINE ROOT..: adds a machine's functions as a domain of a sysfs of files. Its host buses stand
+# in the folder ABOVE of `devices`, and a function behind a bridge stands in a folder of its own below its host bus.
+fake() {
+    sysfs=$1 domain=$2 above=$3 machine=$4
+    shift 4
+    mkdir -p "$sysfs/bus/pci/devices"
+    # each function's slot, and its bytes as printf writes them
+    awk '
+        function octal(hex, n) {
+            n = (index("0123456789abcdef", substr(hex, 1, 1)) - 1) * 16 + index("0123456789abcdef", substr(hex, 2)) - 1
+            return sprintf("\\%03o", n)
+        }
+        /^..:..\../ { printf "%s ", $1 }
+        /^..: / { for (i = 2; i <= 17; i++) printf "%s", octal($i) }
+        /^$/ { print "" }' "$machines/$machine.dump" >functions
+    while read -r slot bytes; do
+        bus=${slot%%:*} root=00 behind=/
+        for other; do
+            expr "$bus" '>=' "$other" >/dev/null && root=$other
+        done
+        [ "$bus" = "$root" ] || behind=/$domain:$root:1f.0/
+        path=devices/${above}pci$domain:$root$behind$domain:$slot
+        mkdir -p "$sysfs/$path"
+        ln -s "../../../$path" "$sysfs/bus/pci/devices/$domain:$slot"
+        # shellcheck disable=SC2059
+        printf "$bytes" >"$sysfs/$path/config"
+        sed -n "/^$slot\$/,/^\$/s/^0x/&/p" "$machines/$machine.sizes" >"$sysfs/$path/resource"
+    done <functions
+}
+
+# longer SYSFS NAME: gives the function 4,096 bytes, and the lines of a bridge's windows.
+longer() {
+    dd if=/dev/zero bs=3840 count=1 2>/dev/null | tr '\0' '\245' >>"$1/bus/pci/devices/$2/config"
+    for window in 1000 fe000000 fd000000 0; do
+        printf '0x%016x 0x%016x 0x%016x\n' "0x$window" "0x$window" 512
+    done >>"$1/bus/pci/devices/$2/resource"
+}
+
+# captured NAME SYSFS ERR MACHINE ROOTS [DOMAIN]: captures, and compares with the machine's own texts.
+captured() {
+    title=$1 sysfs=$2 err=$3 machine=$4 roots=$5
+    shift 5
+    rm -f dump.txt sizes.txt
+    SYSFS=$room/$sysfs "$machines/capture.sh" "$@" >out 2>err && [ "$(cat out)" = "--root $roots" ] && [ "$(cat err)" = "$err" ] &&
+        cmp -s dump.txt "$machines/$machine.dump" && cmp -s sizes.txt "$machines/$machine.sizes"
+    told "capture: $title" $?
+}
+
+# not_captured NAME SYSFS MESSAGE [DOMAIN..]: nothing is captured, standard error ends with the message, and no file stays.
+not_captured() {
+    title=$1 sysfs=$2 message=$3
+    shift 3
+    SYSFS=$room/$sysfs "$machines/capture.sh" "$@" >out 2>err
+    [ $? -eq 1 ] && ! [ -s out ] && [ "$(tail -n 1 err)" = "capture.sh: $message" ] &&
+        ! [ -f dump.txt ] && ! [ -f sizes.txt ]
+    told "capture: $title" $?
+    rm -rf dump.txt sizes.txt
+}
+
+# judged NAME MACHINE ROOTS: the program derives and says of dump.txt and sizes.txt what it does of the machine's own texts.
+judged() {
+    title=$1 machine=$2 roots=$3
+    "$program" probe dump.txt sizes.txt >probe.txt 2>probe.err &&
+        "$program" probe "$machines/$machine.dump" "$machines/$machine.sizes" >own.txt 2>own.err &&
+        [ -s own.txt ] && cmp -s probe.txt own.txt && cmp -s probe.err own.err
+    told "$title: probe" $?
+    "$program" check dump.txt probe.txt --root "$roots" >verdict 2>&1
+    wrote=$?
+    "$program" check "$machines/$machine.dump" own.txt --root "$roots" >own.verdict 2>&1
+    [ $? -eq $wrote ] && [ $wrote -le 1 ] && cmp -s verdict own.verdict
+    told "$title: check" $?
+}
+
+for own in desk old port; do
+    fake $own 0000 '' $own 00
+    captured "$own" $own '' $own 00
+    judged "captured $own" $own 00
+done
+fake roots 0000 '' roots 00 40
+longer roots 0000:40:00.0
+longer roots 0000:00:00.0
+captured 'two host buses, and functions of 4,096 bytes' roots '' roots 00,40
+judged 'captured roots' roots 00,40
+
+# several domains: one is behind a function of another
+fake several 0000 '' roots 00 40
+fake several 0001 'platform/host/' old 00
+fake several 10000 'pci0000:00/0000:00:0e.0/' desk 00
+captured 'several domains: the first' several '' roots 00,40
+captured 'several domains: the first is said' several '' roots 00,40 0000
+captured 'several domains: the second' several '' old 00 0001
+captured 'several domains: one behind a function' several '' desk 00 10000
+
+# a virtual function reads FFh as its Vendor ID
+virtual=virtual/devices/pci0000:00/0000:00:1e.0
+mkdir -p $virtual/physfn
+fake virtual 0000 '' old 00
+ln -s "../../../${virtual#virtual/}" virtual/bus/pci/devices/0000:00:1e.0
+tr '\0' '\377' </dev/zero 2>/dev/null | dd bs=256 count=1 of=$virtual/config 2>/dev/null
+head -n 7 virtual/devices/pci0000:00/0000:00:00.0/resource >$virtual/resource
+captured 'a virtual function is left out' virtual 'capture.sh: left out 0000:00:1e.0, a virtual function' old 00
+
+# what is refused
+bytes='00:01.0: less than 256 bytes of configuration space can be read; root reads them all'
+cp -R old short
+for size in 0 64 255; do
+    head -c $size old/bus/pci/devices/0000:00:01.0/config >short/bus/pci/devices/0000:00:01.0/config
+    not_captured "a function of $size bytes" short "0000:$bytes"
+done
+rm short/bus/pci/devices/0000:00:01.0/config
+not_captured 'a function without a file of its bytes' short "0000:$bytes"
+cp -R old unsized
+head -n 6 old/bus/pci/devices/0000:00:01.0/resource >unsized/bus/pci/devices/0000:00:01.0/resource
+not_captured 'six lines of sizes' unsized "0000:00:01.0: its file resource can't be read"
+rm unsized/bus/pci/devices/0000:00:01.0/resource
+not_captured 'no sizes' unsized "0000:00:01.0: its file resource can't be read"
+mkdir -p lone/bus/pci/devices
+cp -R old/devices/pci0000:00/0000:00:00.0 lone/bus/pci/devices
+not_captured 'no host bus' lone "0000:00:00.0: no host bus pci0000:.. is in its path"
+not_captured 'no such domain' several "no domain 0002 in $room/several/bus/pci/devices" 0002
+not_captured 'a domain that is cut' several "no domain 000 in $room/several/bus/pci/devices" 000
+not_captured 'a pattern as domain' several "no domain * in $room/several/bus/pci/devices" '*'
+not_captured 'no sysfs' missing "no domain 0000 in $room/missing/bus/pci/devices"
+not_captured 'two words' several 'usage: capture.sh [DOMAIN]' 0000 0001
+for file in dump.txt sizes.txt; do
+    mkdir $file
+    not_captured "a folder as $file" old "$file can't be written"
+    if [ -w /dev/full ]; then
+        ln -s /dev/full $file
+        not_captured "no space for $file" old "$file can't be written"
+    else
+        echo "skipped: no space for $file"
+    fi
+done
+
+# A dump with titles as lspci prints it: one is longer than 200 bytes, one has bytes above 7Fh.
+titled() {
+    awk -v long="$(awk 'BEGIN { for (n = 0; n < 30; n++) printf "Memory %02d " , n }')" '
+        /^..:..\../ {
+            n++
+            $0 = $0 " Class [0604]: Vendor" (n == 2 ? " " long : n == 3 ? " \303\251" : "") " [1234:5678] (rev " n ")"
+        }
+        { print }' "$machines/$1.dump"
+}
+
+# named: changes titles into those of -mm
+named() {
+    sed 's/^\(..:..\..\) \([^:]*\): \(.*\)$/\1 "\2" "\3" -r02 "" ""/'
+}
+
+# extended: adds the lines 100 to ff0 of -xxxx
+extended() {
+    awk '{ print } /^f0: / { for (n = 16; n < 256; n++) printf "%x0: 00 10 20 30 40 50 60 70 80 90 a0 b0 c0 d0 e0 f0\n", n }'
+}
+
+# verbose: adds lines of -vv behind each slot line, some with blanks as a console shows tabs
+verbose() {
+    awk '{ print } /^..:..\../ {
+        print "\tSubsystem: Vendor Device [1234:5678]"
+        print "\tControl: I/O+ Mem+ BusMaster+ SpecCycle- MemWINV- VGASnoop- ParErr- Stepping- SERR+ FastB2B- DisINTx-"
+        print "        Region 0: Memory at fe000000 (32-bit, non-prefetchable) [size=128K]"
+        print "\tBus: primary=00, secondary=01, subordinate=02, sec-latency=0"
+        print "\tCapabilities: [40] Express (v2) Root Port (Slot+), MSI 00"
+        print "\t\tDevCap:\tMaxPayload 128 bytes, PhantFunc 0"
+        print " 00: 01 02"
+        print "\t00:01.0"
+    }'
+}
+
+# kernel: adds the lines of -k
+kernel() {
+    awk '{ print } /^..:..\../ {
+        print "\tDeviceName: Onboard"
+        print "\tKernel driver in use: pcieport"
+        print "\tKernel modules: shpchp"
+    }'
+}
+
+# records WORD: changes slot lines into those of -vmm, which have no titles
+records() {
+    awk -v word="$1" '
+        /^..:..\../ {
+            printf "%s:\t%s\nClass:\tPCI bridge\nVendor:\tVendor\nDevice:\tDevice 00:01.0\nRev:\t02\nNUMANode:\t0\n", word, $1
+            next
+        }
+        { print }'
+}
+
+# of_domain DOMAIN: adds the prefix to slots, of -vmm too
+of_domain() {
+    sed -e "s/^..:..\.[0-7]/$1:&/" -e "s/^\(Slot:.\)\(..:..\.[0-7]\)/\1$1:\2/"
+}
+
+# ended: adds carriage returns
+ended() {
+    awk '{ printf "%s\r\n", $0 }'
+}
+
+# remarked: puts a prompt first, and messages of lspci's library between the lines
+remarked() {
+    awk 'NR == 1 { print "# lspci -xxx 2>&1" }
+        /^..:..\../ { print "pcilib: sysfs_read_vpd: read failed: Input/output error" }
+        { print }
+        /^20: / { print "lspci: Unable to load libkmod resources: error -2" }'
+}
+
+# converted NAME WANTED [WORD..]: converts the file text, and compares with a dump.
+converted() {
+    title=$1 wanted=$2
+    shift 2
+    "$machines/convert.sh" "$@" <text >out 2>err && ! [ -s err ] && cmp -s out "$wanted"
+    told "convert: $title" $?
+}
+
+# not_converted NAME MESSAGE [WORD..]: the file text isn't converted, and nothing is printed.
+not_converted() {
+    title=$1 message=$2
+    shift 2
+    "$machines/convert.sh" "$@" <text >out 2>err
+    [ $? -eq 1 ] && ! [ -s out ] && [ "$(cat err)" = "convert.sh: $message" ]
+    told "convert: $title" $?
+}
+
+for machine in desk old port roots; do
+    own=$machines/$machine.dump
+    titled $machine >lspci.txt
+    cut -b1-208 lspci.txt >titled.txt
+    named <lspci.txt | cut -b1-208 >named.txt
+    cp "$own" text
+    converted "$machine: a dump" "$own"
+    cp lspci.txt text
+    converted "$machine: -nnxxx" titled.txt
+    of_domain 0000 <lspci.txt >text
+    converted "$machine: -Dnnxxx" titled.txt
+    extended <lspci.txt >text
+    converted "$machine: -nnxxxx" titled.txt
+    verbose <lspci.txt >text
+    converted "$machine: -vvnnxxx" titled.txt
+    kernel <lspci.txt >text
+    converted "$machine: -knnxxx" titled.txt
+    named <lspci.txt >text
+    converted "$machine: -mmxxx" named.txt
+    records Slot <lspci.txt >text
+    converted "$machine: -vmmxxx" "$own"
+    records Device <lspci.txt >text
+    converted "$machine: -vmxxx" "$own"
+    records Slot <lspci.txt | of_domain 0000 | extended >text
+    converted "$machine: -Dvmmxxxx" "$own"
+    ended <lspci.txt >text
+    converted "$machine: carriage returns" titled.txt
+    ended <lspci.txt | ended >text
+    converted "$machine: carriage returns twice" titled.txt
+    sed '$d' lspci.txt >text
+    converted "$machine: no empty line at the end" titled.txt
+    printf '%s' "$(cat lspci.txt)" >text
+    converted "$machine: no line feed at the end" titled.txt
+    sed '/^$/d' lspci.txt >text
+    converted "$machine: no empty lines" titled.txt
+    remarked <lspci.txt >text
+    converted "$machine: messages between" titled.txt
+    kernel <lspci.txt | verbose | extended | of_domain 0000 | remarked | ended | sed '$d' >text
+    converted "$machine: all at once" titled.txt
+    converted "$machine: all at once, of a domain" titled.txt 0000
+    cp text ./all.txt
+    : >text
+    converted "$machine: all at once, of a file" titled.txt all.txt
+    converted "$machine: all at once, of a domain and a file" titled.txt 0000 all.txt
+    mv all.txt text
+    "$machines/convert.sh" <text >dump.txt
+    cp "$machines/$machine.sizes" sizes.txt
+    roots=00
+    [ $machine = roots ] && roots=00,40
+    judged "converted $machine" $machine $roots
+done
+
+# several domains in one text
+for form in cat extended verbose kernel; do
+    {
+        of_domain 0000 <"$machines/roots.dump"
+        of_domain 0001 <"$machines/old.dump"
+        of_domain 10000 <"$machines/desk.dump"
+    } | $form >text
+    converted "several domains: $form" "$machines/roots.dump"
+    converted "several domains: $form, the first is said" "$machines/roots.dump" 0000
+    converted "several domains: $form, the second" "$machines/old.dump" 0001
+    converted "several domains: $form, one of five digits" "$machines/desk.dump" 10000
+done
+not_converted 'no such domain' 'no function of domain 0002' 0002
+not_converted 'two files' 'usage: convert.sh [DOMAIN] [FILE]' one.txt two.txt
+not_converted 'no such file' "missing.txt can't be read" missing.txt
+not_converted 'no such file, and a domain' "missing.txt can't be read" 0000 missing.txt
+: >text
+not_converted 'an empty text' 'no function of domain 0000'
+cp "$machines/old.dump" ./beef
+converted 'a file with the name of a domain' "$machines/old.dump" ./beef
+
+# what has less than 256 bytes a function
+cut="not all of the lines 00 to f0; root reads them, with lspci -xxx"
+titled old >lspci.txt
+sed '/^[4-9a-f]0: /d' lspci.txt >text
+not_converted '64 bytes a function' "00:00.0: $cut"
+of_domain 0001 <lspci.txt | sed '/^[4-9a-f]0: /d' >text
+not_converted '64 bytes a function, of a domain' "00:00.0: $cut" 0001
+verbose <lspci.txt | sed '/^[4-9a-f]0: /d' >text
+not_converted '64 bytes a function, with -v' "00:00.0: $cut"
+sed '/^00:01.0/,/^$/{/^[89a-f]0: /d;}' lspci.txt >text
+not_converted '128 bytes of one function' "00:01.0: $cut"
+grep '^..:..\.' lspci.txt >text
+not_converted 'no bytes' "00:00.0: $cut"
+sed '/^00:01.0/,/^$/{/^50: /d;}' lspci.txt >text
+not_converted 'a line that is missing' "00:01.0: $cut"
+sed '$d' lspci.txt | sed '$d' >text
+not_converted 'the last line is missing' "02:02.0: $cut"
+head -n 1 lspci.txt >text
+not_converted 'a slot line alone' "00:00.0: $cut"
+
+# The two lines of docs/FORMATS.md: the first for texts of one domain, the second for domain 0001 of several.
+sed -n 's/^    \(sed -n .* lspci.txt | .*\) > dump.txt$/\1/p' "$formats" >lines
+[ "$(wc -l <lines)" -eq 2 ]
+told 'FORMATS.md: two lines' $?
+one=$(sed -n 1p lines) of_several=$(sed -n 2p lines)
+for machine in desk old port roots; do
+    titled $machine | kernel | verbose | extended | remarked | sed '$d' >text
+    titled $machine | cut -b1-208 >titled.txt
+    for form in cat 'of_domain 0000'; do
+        $form <text >lspci.txt
+        sh -c "$one" >out && cmp -s out titled.txt
+        told "FORMATS.md: $machine, one domain: $form" $?
+    done
+    { of_domain 0000 <text; of_domain 0001 <text; of_domain 10000 <text; } >lspci.txt
+    sh -c "$of_several" >out && cmp -s out titled.txt
+    told "FORMATS.md: $machine, a domain of several" $?
+done
+
+echo "$passed passed, $failed failed"
+[ "$failed" -eq 0 ]
