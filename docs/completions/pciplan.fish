@@ -1,0 +1,48 @@
+# Completion of pciplan for fish. pciplan(1) says what the words mean.
+
+# Whether a command is still wanted.
+function __pciplan_wants_command
+    test (count (commandline -opc)) -eq 1
+end
+
+# __pciplan_takes OPTION COMMAND..: whether the command is one of these, and the option isn't said yet.
+function __pciplan_takes
+    set -l words (commandline -opc)
+    contains -- "$words[2]" $argv[2..-1]
+    and not string match -qr -- "^--$argv[1](=|\$)" $words
+end
+
+# Whether one of the two texts is still wanted, and the cursor doesn't stand in an option's own word.
+function __pciplan_wants_text
+    set -l words (commandline -opc)
+    contains -- "$words[2]" show check size plan probe; or return
+    set -e words[1..2]
+    set -l valued --root --io --mem --pref
+    set -l texts 0
+    set -l before ''
+    for word in $words
+        if test "$before" = --
+            set texts (math $texts + 1)
+        else if contains -- "$before" $valued
+            set before ''
+        else
+            string match -q -- '--*' "$word"; or set texts (math $texts + 1)
+            set before "$word"
+        end
+    end
+    test $texts -lt 2; and not contains -- "$before" $valued
+end
+
+complete -c pciplan -f
+complete -c pciplan -n __pciplan_wants_text -F
+complete -c pciplan -n __pciplan_wants_command -a show -d 'List what each function decodes to'
+complete -c pciplan -n __pciplan_wants_command -a check -d 'Judge a dump and its probe'
+complete -c pciplan -n __pciplan_wants_command -a size -d 'Print the probe that sizing would read'
+complete -c pciplan -n __pciplan_wants_command -a plan -d 'Plan the addresses of a board'
+complete -c pciplan -n __pciplan_wants_command -a probe -d 'Derive the probe from what Linux sized'
+complete -c pciplan -n '__pciplan_takes root check plan' -l root -x -d 'Buses on which accesses of the host start'
+complete -c pciplan -n '__pciplan_takes io plan' -l io -x -d 'Pool of I/O addresses'
+complete -c pciplan -n '__pciplan_takes mem plan' -l mem -x -d 'Pool of memory addresses'
+complete -c pciplan -n '__pciplan_takes pref plan' -l pref -x -d 'Pool of prefetchable memory addresses'
+complete -c pciplan -n '__pciplan_takes writes plan' -l writes -d 'Print the register writes'
+complete -c pciplan -n '__pciplan_takes exact probe' -l exact -d 'Assume nothing'
