@@ -18,7 +18,8 @@ if [ $# -eq 0 ]; then
 fi
 room=$(mktemp -d) || exit 1
 trap 'rm -rf "$room"' EXIT
-cp -- "$1" "$room/program" || exit 1
+made=$(realpath -- "$1") || exit 1
+cp -- "$made" "$room/program" || exit 1
 # A program that doesn't end is stopped, and has status 124 then.
 if command -v timeout >/dev/null; then
     printf '#!/bin/sh\nexec timeout 60 "%s/program" "$@"\n' "$room" >"$room/pciplan"
@@ -341,6 +342,15 @@ for cases in cases/*.txt; do
     # shellcheck disable=SC2046
     set -- $(tail -n 1 told)
     passed=$((passed + $2)) failed=$((failed + $4))
+done
+
+# the scripts around the program: capture and conversion of texts, and what is installed
+for script in capture install; do
+    "$here/${script}_test.sh" "$made" >told
+    grep -v '^ok: ' told | sed "s/^[0-9]* passed/${script}_test.sh: &/"
+    # shellcheck disable=SC2046
+    set -- $(tail -n 1 told)
+    passed=$((passed + $1)) failed=$((failed + $3))
 done
 
 echo "$passed passed, $failed failed"
