@@ -344,8 +344,8 @@ for cases in cases/*.txt; do
     passed=$((passed + $2)) failed=$((failed + $4))
 done
 
-# the scripts around the program: capture and conversion of texts, and what is installed
-for script in capture install; do
+# the scripts around the program: capture and conversion of texts, what is installed, and the commands that pages show
+for script in capture install pages; do
     "$here/${script}_test.sh" "$made" >told
     grep -v '^ok: ' told | sed "s/^[0-9]* passed/${script}_test.sh: &/"
     # shellcheck disable=SC2046

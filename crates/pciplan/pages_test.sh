@@ -1,0 +1,48 @@
+#!/bin/sh
+# Runs the commands that pages show, as they stand there: in a block that is indented by four spaces, each line that
+# begins with `$ ` is a command, those behind it that begin with `> ` go on with it, and the others are what it prints on
+# both of its outputs. Blocks that don't begin with `$ ` aren't run.
+#
+# Usage: pages_test.sh PROGRAM [PAGE..]; README.md and docs/USING.md if none is said.
+set -u
+
+here=$(CDPATH='' cd -- "$(dirname -- "$0")" && pwd) || exit 1
+made=$(realpath -- "$1") || exit 1
+shift
+[ $# -gt 0 ] || set -- "$here/../../README.md" "$here/../../docs/USING.md"
+room=$(mktemp -d) || exit 1
+trap 'rm -rf "$room"' EXIT
+mkdir "$room/bin" "$room/texts" "$room/steps" || exit 1
+printf '#!/bin/sh\nexec "%s" "$@"\n' "$made" >"$room/bin/pciplan"
+chmod 755 "$room/bin/pciplan"
+cp -- "$here"/data/*.txt "$here"/../../machines/*.* "$room/texts" || exit 1
+PATH=$room/bin:$PATH
+cd "$room/texts" || exit 1
+
+passed=0 failed=0
+for page; do
+    rm -f ../steps/*
+    # steps/N.run has the N-th command of the page, steps/N.wanted what it prints.
+    awk -v steps="$room/steps" '
+        !/^    / { runs = 0; next }
+        { line = substr($0, 5) }
+        line ~ /^\$ / { runs = 1; n++; file = sprintf("%s/%03d", steps, n); printf "" >(file ".wanted")
+                        print substr(line, 3) >(file ".run"); next }
+        runs && line ~ /^> / { print substr(line, 3) >(file ".run"); next }
+        runs { print line >(file ".wanted") }' "$page"
+    for step in ../steps/*.run; do
+        [ -e "$step" ] || continue
+        name="${page##*/}: $(head -n 1 "$step")"
+        sh "$step" >got 2>&1
+        if cmp -s got "${step%.run}.wanted"; then
+            echo "ok: $name"
+            passed=$((passed + 1))
+        else
+            echo "DIFFERS: $name"
+            cat got
+            failed=$((failed + 1))
+        fi
+    done
+done
+echo "$passed passed, $failed failed"
+[ "$failed" -eq 0 ]
