@@ -3,13 +3,14 @@ use Rattle.std.specs.Prelude.{◌⊎◌}
 use Rattle.std.proofs.Common.{◌≡◌, ◌≢◌, ℕ, ◌+◌, ◌*◌, ◌%◌, ◌^◌, Bool, true, false, ◌&&◌, not, Some, None, inl, inr, refl, arith, sym, ◌∙◌, ap}
 use Rattle.std.specs.Bool.{nat_eq, ◌==◌, if◌then◌else◌}
 use Rattle.std.specs.Int.{bit_at}
-use Rattle.std.proofs.lemmas.Bool.{and_parts, both_ways, eqb-true, eq-eqb, ne_eqb}
+use Rattle.std.proofs.lemmas.Bool.{and_parts, both_ways, cases_Bool, eqb-true, eq-eqb, ne_eqb}
+use Rattle.std.proofs.lemmas.Option.{none-some}
 use Rattle.pci_spec.specs.Number.{has_bit}
 use Rattle.pci_spec.specs.Bar.{BarMask, BarType, BarPair, bar_kind, BarReading, first_broken, is_io, is_wide, type_bits, encodings, has_lawful_size, is_within}
 use Rattle.pci_spec.specs.Machine.{without_low}
 use Rattle.pci_spec.specs.Resource.{ResourceLine, is_of_register, address_count, tells_bar}
-use Rattle.pci_spec.specs.Derived.{Derived, Known, Assumed, NoSize, OtherSize, bar_of_size, derived_bar, lower_half, read_back_of}
-use Rattle.pci_spec.specs.NoProbe.{register_fault}
+use Rattle.pci_spec.specs.Derived.{Derived, Known, Assumed, Untold, OtherSize, bar_of_size, derived_bar, lower_half, read_back_of}
+use Rattle.pci_spec.specs.NoProbe.{Assuming, NoSize, assumes_enabled, register_fault}
 use Rattle.pci_spec.proofs.BarLaws.{kind_by}
 use Rattle.pci_spec.proofs.Ranges.{width_of, ObeysRules}
 use Rattle.pci_spec.proofs.ToldAlike.{IsOfEncoding, same_encoding}
@@ -93,34 +94,42 @@ absent_is_fine bar v m =
 
 abbrev derived_by : Bool → Bool → Bool → Bool → ℕ → ℕ → Derived
 derived_by told clear addresses enabled size least =
-    if told then Known size else if clear then (if addresses then OtherSize else Known 0) else if enabled then NoSize else Assumed least
+    if told then Known size else if clear then (if addresses then OtherSize else Known 0) else if enabled then Untold least else Assumed least
 
-abbrev pub Cases : Bool → Bool → Bool → Bool → ℕ → ℕ → ℕ → Type 0
-Cases told clear addresses enabled size least read_back =
+-- an enabled register has no fault only where the least size is assumed of it
+pub none_assumed : (assuming : Assuming) (register : ℕ) → (if assumes_enabled assuming then None else Some (NoSize register)) ≡ None → assumes_enabled assuming ≡ true
+none_assumed assuming register none = elim (cases_Bool (assumes_enabled assuming)) [
+  | inl any ↦ any
+  | inr off ↦ absurd (none-some (NoSize register) (sym (sym (ap (λ b. if b then None else Some (NoSize register)) off) ∙ none)))
+]
+
+-- the least size is taken where the BAR isn't enabled, or where it is taken of enabled ones too
+abbrev pub Cases : Assuming → Bool → Bool → Bool → Bool → ℕ → ℕ → ℕ → Type 0
+Cases assuming told clear addresses enabled size least read_back =
     ((told ≡ true) × (read_back ≡ size))
     ⊎ ((clear ≡ true) × (addresses ≡ false) × (read_back ≡ 0))
-    ⊎ ((clear ≡ false) × (enabled ≡ false) × (read_back ≡ least))
+    ⊎ ((clear ≡ false) × ((enabled ≡ false) ⊎ (assumes_enabled assuming ≡ true)) × (read_back ≡ least))
 
-derived_cases : (register : ℕ) (told clear addresses enabled : Bool) (size least : ℕ)
-    → register_fault false register (lower_half (derived_by told clear addresses enabled size least)) ≡ None
-    → Cases told clear addresses enabled size least (read_back_of (derived_by told clear addresses enabled size least))
-derived_cases register true clear addresses enabled size least none = inl (refl, refl)
-derived_cases register false true true enabled size least none = absurd (cc)
-derived_cases register false true false enabled size least none = inr (inl (refl, refl, refl))
-derived_cases register false false addresses true size least none = absurd (cc)
-derived_cases register false false addresses false size least none = inr (inr (refl, refl, refl))
+derived_cases : (assuming : Assuming) (register : ℕ) (told clear addresses enabled : Bool) (size least : ℕ)
+    → register_fault assuming register (lower_half (derived_by told clear addresses enabled size least)) ≡ None
+    → Cases assuming told clear addresses enabled size least (read_back_of (derived_by told clear addresses enabled size least))
+derived_cases assuming register true clear addresses enabled size least none = inl (refl, refl)
+derived_cases assuming register false true true enabled size least none = absurd (cc)
+derived_cases assuming register false true false enabled size least none = inr (inl (refl, refl, refl))
+derived_cases assuming register false false addresses true size least none = inr (inr (refl, inr (none_assumed assuming register none), refl))
+derived_cases assuming register false false addresses false size least none = inr (inr (refl, inl refl, refl))
 
-pub bar_cases : (register : ℕ) (line : ResourceLine) (width : ℕ) (enabled : Bool) (value : ℕ) → register_fault false register (lower_half (derived_bar line width enabled value)) ≡ None
-    → Cases (tells_bar line width value) (value == 0) (is_of_register line) enabled (bar_of_size width value (address_count line)) (bar_of_size width value (encodings value))
+pub bar_cases : (assuming : Assuming) (register : ℕ) (line : ResourceLine) (width : ℕ) (enabled : Bool) (value : ℕ) → register_fault assuming register (lower_half (derived_bar line width enabled value)) ≡ None
+    → Cases assuming (tells_bar line width value) (value == 0) (is_of_register line) enabled (bar_of_size width value (address_count line)) (bar_of_size width value (encodings value))
     (read_back_of (derived_bar line width enabled value))
 unfolding derived_bar
-bar_cases register line width enabled value none =
-    derived_cases register (tells_bar line width value) (value == 0) (is_of_register line) enabled (bar_of_size width value (address_count line)) (bar_of_size width value (encodings value)) none
+bar_cases assuming register line width enabled value none =
+    derived_cases assuming register (tells_bar line width value) (value == 0) (is_of_register line) enabled (bar_of_size width value (address_count line)) (bar_of_size width value (encodings value)) none
 
 pub lower_read_back : (d : Derived) → read_back_of (lower_half d) ≡ read_back_of d % 2 ^ 32
 lower_read_back (Known read_back) = refl
 lower_read_back (Assumed read_back) = refl
-lower_read_back NoSize = refl
+lower_read_back (Untold read_back) = refl
 lower_read_back OtherSize = refl
 
 pub aligned_told : (line : ResourceLine) (width value : ℕ) → tells_bar line width value ≡ true → without_low (encodings value) value % address_count line ≡ 0

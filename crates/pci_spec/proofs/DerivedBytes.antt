@@ -16,7 +16,7 @@ use Rattle.pci_spec.specs.Machine.{register_at}
 use Rattle.pci_spec.specs.Fault.{is_in_address_register, is_stray}
 use Rattle.pci_spec.specs.Resource.{ResourceLine}
 use Rattle.pci_spec.specs.Derived.{Derived, read_back_of, bar_register_derived, rom_derived, window_register_derived, register_derived, register_offsets, derived_byte, derived_probe}
-use Rattle.pci_spec.specs.NoProbe.{NoProbe, register_fault, first_at, no_probe}
+use Rattle.pci_spec.specs.NoProbe.{Assuming, NoProbe, register_fault, first_at, no_probe}
 use Rattle.pci_spec.proofs.Bits.{each_from-at}
 
 -- ---- bytes
@@ -201,15 +201,15 @@ module _ (image : List ℕ) (lines : List ResourceLine) (kind : IsLayout (layout
       let bytes = and_parts (has_bytes (layout image) (bar_register n)) _ row.0 in
       register_number image lines (bar_register n) bytes.0 ∙ ap (λ d. read_back_of d % 2 ^ 32) (bar_derived_at n less)
 
-  pub bar_no_fault : no_probe false image lines ≡ None → (n : ℕ) → n < bar_count (layout image) → register_fault false (bar_register n) (bar_register_derived image lines n) ≡ None
+  pub bar_no_fault : (assuming : Assuming) → no_probe assuming image lines ≡ None → (n : ℕ) → n < bar_count (layout image) → register_fault assuming (bar_register n) (bar_register_derived image lines n) ≡ None
   unfolding no_probe
-  bar_no_fault none n less =
+  bar_no_fault assuming none n less =
       let row = and_parts (has_bytes (layout image) (bar_register n) && nat_lt n (length (register_offsets image))) _ (bar_row n less) in
       let bytes = and_parts (has_bytes (layout image) (bar_register n)) (nat_lt n (length (register_offsets image))) row.0 in
       let at : get_or (register_offsets image) n 0 ≡ bar_register n = eqb-true _ _ row.1 in
-      let fault = first_none (λ register. register_fault false register (register_derived image lines register)) (register_offsets image) n none (ltb-true n (length (register_offsets image)) bytes.1) in
-      sym (ap (register_fault false (bar_register n)) (bar_derived_at n less))
-      ∙ sym (ap (λ register. register_fault false register (register_derived image lines register)) at) ∙ fault
+      let fault = first_none (λ register. register_fault assuming register (register_derived image lines register)) (register_offsets image) n none (ltb-true n (length (register_offsets image)) bytes.1) in
+      sym (ap (register_fault assuming (bar_register n)) (bar_derived_at n less))
+      ∙ sym (ap (λ register. register_fault assuming register (register_derived image lines register)) at) ∙ fault
 
   -- ---- the ROM
 
@@ -233,15 +233,15 @@ module _ (image : List ℕ) (lines : List ResourceLine) (kind : IsLayout (layout
       let bytes = and_parts (has_bytes (layout image) (rom_register (layout image))) (nat_lt (rom_row (layout image)) (length (register_offsets image))) row.0 in
       register_number image lines (rom_register (layout image)) bytes.0 ∙ ap (λ d. read_back_of d % 2 ^ 32) rom_derived_at
 
-  pub rom_no_fault : no_probe false image lines ≡ None → register_fault false (rom_register (layout image)) (rom_derived image lines) ≡ None
+  pub rom_no_fault : (assuming : Assuming) → no_probe assuming image lines ≡ None → register_fault assuming (rom_register (layout image)) (rom_derived image lines) ≡ None
   unfolding no_probe
-  rom_no_fault none =
+  rom_no_fault assuming none =
       let row = and_parts (has_bytes (layout image) (rom_register (layout image)) && nat_lt (rom_row (layout image)) (length (register_offsets image))) _ (rom_rows (layout image) kind) in
       let bytes = and_parts (has_bytes (layout image) (rom_register (layout image))) (nat_lt (rom_row (layout image)) (length (register_offsets image))) row.0 in
       let at : get_or (register_offsets image) (rom_row (layout image)) 0 ≡ rom_register (layout image) = eqb-true _ _ row.1 in
-      let fault = first_none (λ register. register_fault false register (register_derived image lines register)) (register_offsets image) (rom_row (layout image)) none (ltb-true (rom_row (layout image)) (length (register_offsets image)) bytes.1) in
-      sym (ap (register_fault false (rom_register (layout image))) rom_derived_at)
-      ∙ sym (ap (λ register. register_fault false register (register_derived image lines register)) at) ∙ fault
+      let fault = first_none (λ register. register_fault assuming register (register_derived image lines register)) (register_offsets image) (rom_row (layout image)) none (ltb-true (rom_row (layout image)) (length (register_offsets image)) bytes.1) in
+      sym (ap (register_fault assuming (rom_register (layout image))) rom_derived_at)
+      ∙ sym (ap (λ register. register_fault assuming register (register_derived image lines register)) at) ∙ fault
 
   -- ---- windows
 

@@ -1,19 +1,21 @@
--- Two probes of which the same is told: what a function claims and what a bridge passes is the same with both.
-use Rattle.std.proofs.Common.{◌≡◌, ℕ, zero, suc, ◌+◌, ◌*◌, ◌/◌, ◌%◌, ◌^◌, ◌<◌, List, inl, inr, refl, Bool, true, false, ◌&&◌, ◌||◌, not, None, arith, sym, ◌∙◌, ap, subst}
+-- Two probes of which the same is told: what a function claims and what a bridge passes is the same with both. With greater
+-- sizes a function claims as much at least.
+use Rattle.std.proofs.Common.{◌≡◌, ℕ, zero, suc, ◌+◌, ◌*◌, ◌/◌, ◌%◌, ◌^◌, ◌<◌, ◌≤◌, List, inl, inr, refl, Bool, true, false, ◌&&◌, ◌||◌, not, None, arith, sym, ◌∙◌, ap, subst}
 use Rattle.std.specs.Bool.{IsTrue, nat_le, ◌==◌, if◌then◌else◌}
 use Rattle.std.specs.Int.{bit_at}
-use Rattle.std.proofs.lemmas.Bool.{and_parts, and_from, and_left, cases_Bool, eqb-true, eq-eqb, ne_eqb, ltb-true, lt-ltb, not_from_false}
+use Rattle.std.proofs.lemmas.Bool.{and_parts, and_from, and_left, cases_Bool, cases_lt, eqb-true, eq-eqb, ne_eqb, ltb-true, lt-ltb, not_from_false}
+use Rattle.std.proofs.lemmas.Nat.{pow_below}
 use Rattle.pci_spec.specs.Number.{has_bit}
 use Rattle.pci_spec.specs.Header.{command, layout, bar_count, rom_register}
 use Rattle.pci_spec.specs.Bar.{bar_at, bar_fault, encodings, is_io, is_wide, is_prefetchable, type_bits, starts_bar, whole_bar}
 use Rattle.pci_spec.specs.Rom.{rom_at, has_rom, rom_is_on}
 use Rattle.pci_spec.specs.Window.{WindowKind, IoWindow, MemoryWindow, PrefetchWindow, base_page, limit_page, page_size, holds}
 use Rattle.pci_spec.specs.System.{Function, Space, Io, Memory, is_space_on, Part, Bar, Rom, Window, register_of, Claims, window_space, window_claims, forwards, passes, is_prefetchable_part, is_bridge}
-use Rattle.pci_spec.specs.Decoded.{InRange, Range, IsDecodable, aligned_range}
+use Rattle.pci_spec.specs.Decoded.{InRange, IsDecodable, aligned_range, bar_size, rom_size}
 use Rattle.pci_spec.specs.Derived.{window_enable}
-use Rattle.pci_spec.specs.ToldAlike.{enables_bar, enables_rom, enables_window, IsToldAlike}
-use Rattle.pci_spec.specs.ProbeLaws.{AlikeClaimTheSame}
-use Rattle.pci_spec.proofs.Ranges.{decoded_bar-decodes, has_bar-of_decodes, rom_range-decodes}
+use Rattle.pci_spec.specs.ToldAlike.{enables_bar, enables_rom, enables_window, IsToldAlike, IsToldAtLeast}
+use Rattle.pci_spec.specs.ProbeLaws.{AlikeClaimTheSame, GreaterClaimAsMuch}
+use Rattle.pci_spec.proofs.Ranges.{in_aligned_range, decoded_bar-decodes, has_bar-of_decodes, rom_range-decodes}
 use Rattle.pci_spec.proofs.ReadBacks.{bar_rules}
 
 -- ---- what a register shows of its encoding
@@ -83,7 +85,7 @@ window_bit f MemoryWindow = refl
 window_bit f PrefetchWindow = refl
 
 -- a ROM that is on is there
-on_is_there : (image probe : List ℕ) → rom_is_on image ≡ true → has_rom image probe ≡ true
+pub on_is_there : (image probe : List ℕ) → rom_is_on image ≡ true → has_rom image probe ≡ true
 on_is_there image probe on =
     let bit = eqb-true (bit_at (rom_at image image) 0) 1 on in
     not_from_false _ (and_left (rom_at image image == 0) (rom_at image probe == 0) (ne_eqb (rom_at image image) 0 (λ zeros. omega (arith, bit, zeros))))
@@ -100,7 +102,24 @@ told_back f g h = record {
   windows = λ kind on. sym (h.windows kind (subst (λ image. IsTrue (enables_window kind image)) (sym h.image) on));
 }
 
-module _ (f g : Function) (is_f : IsDecodable f) (is_g : IsDecodable g) (h : IsToldAlike f g) where
+pub told_at_least : (f g : Function) → IsToldAlike f g → IsToldAtLeast f g
+told_at_least f g h = record {
+  slot = h.slot;
+  image = h.image;
+  bars = h.bars;
+  bar_sizes = λ n on there. let e = h.bar_sizes n on there in omega (arith, e);
+  rom = λ on. let e = h.rom on in omega (arith, e);
+  windows = h.windows;
+}
+
+-- a greater block of addresses holds a lesser one about the same value
+in_greater : (value i j a : ℕ) → 2 ^ i ≤ 2 ^ j → InRange (aligned_range value (2 ^ i)) a → InRange (aligned_range value (2 ^ j)) a
+in_greater value i j a most inside = elim (cases_lt j i) [
+  | inl below ↦ let less = pow_below j i below in absurd (let no : ⊥ = omega (arith, most, less) in no)
+  | inr at ↦ (in_aligned_range value j a).1 (λ k above. (in_aligned_range value i a).0 inside k (omega (arith, at, above)))
+]
+
+module _ (f g : Function) (is_f : IsDecodable f) (is_g : IsDecodable g) (h : IsToldAtLeast f g) where
   pub same_register : (part : Part) → register_of f part ≡ register_of g part
   same_register (Bar n) = refl
   same_register Rom = ap (λ image. rom_register (layout image)) h.image
@@ -150,7 +169,7 @@ module _ (f g : Function) (is_f : IsDecodable f) (is_g : IsDecodable g) (h : IsT
       let whole : whole_bar f.probe f.image n ≡ whole_bar g.probe g.image n =
       λ i. if wide i then bar_at (image i) n + 2 ^ 32 * bar_at (image i) (n + 1) else bar_at (image i) n in
       let inside = (decoded_bar-decodes f.image f.probe n has (is_f.bars n less) a).1 c.decodes in
-      let inside_too = subst (λ (r : Range). InRange r a) (λ i. aligned_range (whole i) (size i)) inside in
+      let inside_too = subst (λ value. InRange (aligned_range value (bar_size g.probe n)) a) whole (in_greater (whole_bar f.probe f.image n) _ _ a size inside) in
       record {
         there = lt-ltb n (bar_count (layout g.image)) less_too;
         enabled = sym (ap (λ b. is_space_on g (if b then Io else Memory)) bar.io) ∙ sym (same_space_on (if is_io (bar_at f.probe n) then Io else Memory)) ∙ c.enabled;
@@ -168,7 +187,7 @@ module _ (f g : Function) (is_f : IsDecodable f) (is_g : IsDecodable g) (h : IsT
       let on = (and_parts (is_space_on f Memory) (rom_is_on f.image) c.enabled).1 in
       let on_too : rom_is_on g.image ≡ true = sym (ap rom_is_on image) ∙ on in
       let inside = (rom_range-decodes f.image f.probe (on_is_there f.image f.probe on) is_f.rom a).1 c.decodes in
-      let inside_too = subst (λ (r : Range). InRange r a) (λ i. aligned_range (rom_at (image i) (image i)) (size i)) inside in
+      let inside_too = subst (λ shown. InRange (aligned_range (rom_at shown shown) (rom_size g.image g.probe)) a) image (in_greater (rom_at f.image f.image) _ _ a size inside) in
       record {
         there = refl;
         enabled = sym (ap enables_rom image) ∙ c.enabled;
@@ -230,4 +249,10 @@ module _ (f g : Function) (is_f : IsDecodable f) (is_g : IsDecodable g) (h : IsT
   same_prefetchable (Window kind) space a c = refl
 
 pub alike_claim_the_same : AlikeClaimTheSame
-alike_claim_the_same f g is_f is_g h part space a = (claims_too f g is_f is_g h part space a, claims_too g f is_g is_f (told_back f g h) part space a)
+alike_claim_the_same f g is_f is_g h part space a = (
+  claims_too f g is_f is_g (told_at_least f g h) part space a,
+  claims_too g f is_g is_f (told_at_least g f (told_back f g h)) part space a,
+)
+
+pub greater_claim_as_much : GreaterClaimAsMuch
+greater_claim_as_much = claims_too

@@ -11,13 +11,13 @@ use Rattle.pci_spec.specs.Machine.{without_low}
 use Rattle.pci_spec.specs.Decoded.{IsDecodable, bar_size}
 use Rattle.pci_spec.specs.Resource.{ResourceLine, line_at, address_count, tells_bar}
 use Rattle.pci_spec.specs.Derived.{Known, is_pair, shown_bar, bar_width, is_enabled, bar_of_size, bar_derived, lower_half, read_back_of, bar_register_derived, derived_probe}
-use Rattle.pci_spec.specs.NoProbe.{register_fault, no_probe}
+use Rattle.pci_spec.specs.NoProbe.{Assuming, assumes_enabled, register_fault, no_probe}
 use Rattle.pci_spec.specs.ToldAlike.{enables_bar}
 use Rattle.pci_spec.specs.TrueLines.{IsTrueOf}
 use Rattle.pci_spec.proofs.ReadBacks.{encodings-power}
 use Rattle.pci_spec.proofs.Ranges.{absent_shows_0, first_bit, width_of, lowest_one-of_lawful, has_lawful_size-of_lawful, lawful-lowest_one, lawful_bar, ObeysRules, first_bit-of_register, whole_bar-fits}
 use Rattle.pci_spec.proofs.ToldAlike.{IsOfEncoding, shows_encoding, starts_shown}
-use Rattle.pci_spec.proofs.DerivedBits.{sized_mask, IsSized, is_sized, IsBound, lawful_bound, sized_lawful, least_lawful, sized_within}
+use Rattle.pci_spec.proofs.DerivedBits.{pow_within, sized_mask, IsSized, is_sized, IsBound, lawful_bound, sized_lawful, least_lawful, sized_within}
 use Rattle.pci_spec.proofs.DerivedBytes.{IsLayout, bar_number, bar_no_fault}
 use Rattle.pci_spec.proofs.DerivedBars.{IsSameKind, same_kind, width_of_register, keeps_rules, absent_is_fine, bar_cases, lower_read_back, aligned_told, aligned_by, low_encoding, wide_some, io_of_whole, zero_of_whole}
 
@@ -27,7 +27,7 @@ layouts f good = elim (or_cases (layout f.image == 0) (layout f.image == 1) (not
   | inr bridge ↦ inr (eqb-true (layout f.image) 1 bridge)
 ]
 
-module _ (f : Function) (lines : List ResourceLine) (is : IsImage f.image) (good : IsDecodable f) (told : IsTrueOf lines f.image f.probe) (none : no_probe false f.image lines ≡ None) where
+module _ (f : Function) (lines : List ResourceLine) (is : IsImage f.image) (good : IsDecodable f) (told : IsTrueOf lines f.image f.probe) (assuming : Assuming) (none : no_probe assuming f.image lines ≡ None) where
   abbrev image : List ℕ
   image = f.image
 
@@ -74,7 +74,8 @@ module _ (f : Function) (lines : List ResourceLine) (is : IsImage f.image) (good
     lawful : is_lawful (kind_at n) some k ≡ true
     read_back : back n ≡ sized_mask (kind_at n) (shown n) k
     aligned : without_low (2 ^ first_bit (kind_at n)) (shown n) % 2 ^ k ≡ 0
-    size : is_enabled image (shown n) ≡ true → bar_size own n ≡ 2 ^ k
+    least : is_enabled image (shown n) ≡ true → 2 ^ k ≤ bar_size own n
+    size : assumes_enabled assuming ≡ false → is_enabled image (shown n) ≡ true → bar_size own n ≡ 2 ^ k
 
   module _ (n : ℕ) (less : n < count) (s : starts_bar image n ≡ true) where
     own_starts : starts_bar own n ≡ true
@@ -141,7 +142,8 @@ module _ (f : Function) (lines : List ResourceLine) (is : IsImage f.image) (good
           lawful = lawful.0;
           read_back = e ∙ ap (bar_of_size (bar_width image n) (shown n)) count_is ∙ mask_is k;
           aligned = sym (λ i. without_low (step i) (shown n) % count_is i) ∙ aligned_told (line_at lines n) (bar_width image n) (shown n) t;
-          size = λ on. own_size;
+          least = λ on. omega (arith, own_size);
+          size = λ exact on. own_size;
         }
 
     shows_some : (shown n == 0) ≡ false → bar_at own n ≢ 0
@@ -153,8 +155,8 @@ module _ (f : Function) (lines : List ResourceLine) (is : IsImage f.image) (good
         ap (λ m. if is_wide m then bar_at image n + 2 ^ 32 * bar_at image (n + 1) else bar_at image n) zeros in
         eqb-false (shown n) 0 some (shown_is ∙ whole ∙ value)
 
-    assumed_case : (shown n == 0) ≡ false → is_enabled image (shown n) ≡ false → back n ≡ bar_of_size (bar_width image n) (shown n) (encodings (shown n)) → IsSizedBar n
-    assumed_case some off e =
+    assumed_case : (shown n == 0) ≡ false → (is_enabled image (shown n) ≡ false) ⊎ (assumes_enabled assuming ≡ true) → back n ≡ bar_of_size (bar_width image n) (shown n) (encodings (shown n)) → IsSizedBar n
+    assumed_case some may e =
         let there = shows_some some in
         let lawful = lawful-lowest_one (kind_at n) (whole_bar own own n) (rules there).sized in
         let least = least_lawful (kind_at n) (whole_bar own own n) (lowest_one (first_bit (kind_at n)) (whole_bar own own n)) lawful.0 in
@@ -166,13 +168,22 @@ module _ (f : Function) (lines : List ResourceLine) (is : IsImage f.image) (good
           lawful = least.1;
           read_back = e ∙ ap (bar_of_size (bar_width image n) (shown n)) step ∙ mask_is (first_bit (kind_at n));
           aligned = sym (λ i. without_low (step i) (shown n) % step i) ∙ aligned_by (is_io (shown n)) (shown n);
-          size = λ on. absurd (both_ways (is_enabled image (shown n)) off on);
+          least = λ on.
+              let own_size : bar_size own n ≡ 2 ^ lowest_one (first_bit (kind_at n)) (whole_bar own own n) =
+              ap (λ from. 2 ^ lowest_one from (whole_bar own own n)) (sym (first_bit-of_register (bar_at own n))) in
+              let low = (lawful_bound (kind_at n) (whole_bar own own n) (lowest_one (first_bit (kind_at n)) (whole_bar own own n)) lawful.0).least in
+              let more = pow_within (first_bit (kind_at n)) (lowest_one (first_bit (kind_at n)) (whole_bar own own n)) low in
+              omega (arith, own_size, more);
+          size = λ exact on. elim may [
+            | inl off ↦ absurd (both_ways (is_enabled image (shown n)) off on)
+            | inr any ↦ absurd (both_ways (assumes_enabled assuming) exact any)
+          ];
         }
 
     choice : IsAbsentBar n ⊎ IsSizedBar n
     choice =
-        let fault = sym (ap (register_fault false (bar_register n)) (starts_derived n s)) ∙ bar_no_fault image lines (layouts f good) none n less in
-        elim (bar_cases (bar_register n) (line_at lines n) (bar_width image n) (is_enabled image (shown n)) (shown n) fault) [
+        let fault = sym (ap (register_fault assuming (bar_register n)) (starts_derived n s)) ∙ bar_no_fault image lines (layouts f good) assuming none n less in
+        elim (bar_cases assuming (bar_register n) (line_at lines n) (bar_width image n) (is_enabled image (shown n)) (shown n) fault) [
           | inl known ↦ inr (told_case known.0 known.1)
           | inr other ↦ elim other [
             | inl clear ↦ inl record {
@@ -354,10 +365,18 @@ module _ (f : Function) (lines : List ResourceLine) (is : IsImage f.image) (good
         no_more true = refl
         no_more false = refl
 
-  pub same_sizes : (n : ℕ) → IsTrue (enables_bar image n) → IsTrue (has_bar own n) → bar_size own n ≡ bar_size new n
-  same_sizes n on there =
+  pub least_sizes : (n : ℕ) → IsTrue (enables_bar image n) → IsTrue (has_bar own n) → bar_size new n ≤ bar_size own n
+  least_sizes n on there =
       let h = is_on n on in
       elim (choice n h.less h.starts) [
         | inl b ↦ absurd (both_ways (has_bar own n) (b.gone on) there)
-        | inr b ↦ b.size h.command_on ∙ sym (size_new n h.less h.starts b)
+        | inr b ↦ let least = b.least h.command_on in let size = size_new n h.less h.starts b in omega (arith, least, size)
+      ]
+
+  pub same_sizes : assumes_enabled assuming ≡ false → (n : ℕ) → IsTrue (enables_bar image n) → IsTrue (has_bar own n) → bar_size own n ≡ bar_size new n
+  same_sizes exact n on there =
+      let h = is_on n on in
+      elim (choice n h.less h.starts) [
+        | inl b ↦ absurd (both_ways (has_bar own n) (b.gone on) there)
+        | inr b ↦ b.size exact h.command_on ∙ sym (size_new n h.less h.starts b)
       ]

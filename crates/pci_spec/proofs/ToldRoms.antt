@@ -13,8 +13,8 @@ use Rattle.pci_spec.specs.System.{Function}
 use Rattle.pci_spec.specs.Machine.{without_low}
 use Rattle.pci_spec.specs.Decoded.{IsDecodable, rom_size}
 use Rattle.pci_spec.specs.Resource.{ResourceLine, rom_line, address_count, tells_rom, rom_step}
-use Rattle.pci_spec.specs.Derived.{Derived, Known, Assumed, NoSize, rom_of_size, derived_rom, rom_derived, read_back_of, derived_probe}
-use Rattle.pci_spec.specs.NoProbe.{register_fault, no_probe}
+use Rattle.pci_spec.specs.Derived.{Derived, Known, Assumed, Untold, rom_of_size, derived_rom, rom_derived, read_back_of, derived_probe}
+use Rattle.pci_spec.specs.NoProbe.{Assuming, assumes_enabled, register_fault, no_probe}
 use Rattle.pci_spec.specs.ToldAlike.{enables_rom}
 use Rattle.pci_spec.specs.TrueLines.{IsTrueOf}
 use Rattle.pci_spec.proofs.Bits.{each_from-by, some_from-at, bit_of_true, bit_at-mod, bit_at-without_low}
@@ -23,6 +23,8 @@ use Rattle.pci_spec.proofs.ReadBacks.{IsRomRegister, rom_rules}
 use Rattle.pci_spec.proofs.Ranges.{lowest_one-of_run, lawful_rom}
 use Rattle.pci_spec.proofs.DerivedBits.{multiple, pow_within, in_run}
 use Rattle.pci_spec.proofs.DerivedBytes.{rom_number, rom_no_fault}
+use Rattle.pci_spec.proofs.DerivedBars.{none_assumed}
+use Rattle.pci_spec.proofs.ToldAlike.{on_is_there}
 use Rattle.pci_spec.proofs.ToldBars.{layouts}
 
 -- ---- numbers
@@ -64,30 +66,30 @@ rom_within k value mask lawful small low aligned = each_from-by 1 63 (λ i. nat_
 -- ---- the cases of a derived ROM
 
 abbrev rom_by : Bool → Bool → Bool → ℕ → ℕ → Derived
-rom_by told clear on size least = if told then Known size else if clear then Known 0 else if on then NoSize else Assumed least
+rom_by told clear on size least = if told then Known size else if clear then Known 0 else if on then Untold least else Assumed least
 
-abbrev Cases : Bool → Bool → Bool → ℕ → ℕ → ℕ → Type 0
-Cases told clear on size least read_back =
-    ((told ≡ true) × (read_back ≡ size)) ⊎ ((clear ≡ true) × (read_back ≡ 0)) ⊎ ((clear ≡ false) × (on ≡ false) × (read_back ≡ least))
+abbrev Cases : Assuming → Bool → Bool → Bool → ℕ → ℕ → ℕ → Type 0
+Cases assuming told clear on size least read_back =
+    ((told ≡ true) × (read_back ≡ size)) ⊎ ((clear ≡ true) × (read_back ≡ 0)) ⊎ ((clear ≡ false) × ((on ≡ false) ⊎ (assumes_enabled assuming ≡ true)) × (read_back ≡ least))
 
-cases_by : (register : ℕ) (told clear on : Bool) (size least : ℕ) → register_fault false register (rom_by told clear on size least) ≡ None
-    → Cases told clear on size least (read_back_of (rom_by told clear on size least))
-cases_by register true clear on size least none = inl (refl, refl)
-cases_by register false true on size least none = inr (inl (refl, refl))
-cases_by register false false true size least none = absurd (cc)
-cases_by register false false false size least none = inr (inr (refl, refl, refl))
+cases_by : (assuming : Assuming) (register : ℕ) (told clear on : Bool) (size least : ℕ) → register_fault assuming register (rom_by told clear on size least) ≡ None
+    → Cases assuming told clear on size least (read_back_of (rom_by told clear on size least))
+cases_by assuming register true clear on size least none = inl (refl, refl)
+cases_by assuming register false true on size least none = inr (inl (refl, refl))
+cases_by assuming register false false true size least none = inr (inr (refl, inr (none_assumed assuming register none), refl))
+cases_by assuming register false false false size least none = inr (inr (refl, inl refl, refl))
 
-rom_cases : (register : ℕ) (line : ResourceLine) (enabled : Bool) (value : ℕ) → register_fault false register (derived_rom line enabled value) ≡ None
-    → Cases (tells_rom line value) (value == 0) (has_bit value 0 && enabled) (rom_of_size (address_count line)) (rom_of_size rom_step) (read_back_of (derived_rom line enabled value))
+rom_cases : (assuming : Assuming) (register : ℕ) (line : ResourceLine) (enabled : Bool) (value : ℕ) → register_fault assuming register (derived_rom line enabled value) ≡ None
+    → Cases assuming (tells_rom line value) (value == 0) (has_bit value 0 && enabled) (rom_of_size (address_count line)) (rom_of_size rom_step) (read_back_of (derived_rom line enabled value))
 unfolding derived_rom
-rom_cases register line enabled value none =
-    cases_by register (tells_rom line value) (value == 0) (has_bit value 0 && enabled) (rom_of_size (address_count line)) (rom_of_size rom_step) none
+rom_cases assuming register line enabled value none =
+    cases_by assuming register (tells_rom line value) (value == 0) (has_bit value 0 && enabled) (rom_of_size (address_count line)) (rom_of_size rom_step) none
 
 aligned_told : (line : ResourceLine) (value : ℕ) → tells_rom line value ≡ true → without_low rom_step value % address_count line ≡ 0
 unfolding tells_rom
 aligned_told line value told = eqb-true _ 0 (and_parts _ (without_low rom_step value % address_count line == 0) told).1
 
-module _ (f : Function) (lines : List ResourceLine) (is : IsImage f.image) (good : IsDecodable f) (told : IsTrueOf lines f.image f.probe) (none : no_probe false f.image lines ≡ None) where
+module _ (f : Function) (lines : List ResourceLine) (is : IsImage f.image) (good : IsDecodable f) (told : IsTrueOf lines f.image f.probe) (assuming : Assuming) (none : no_probe assuming f.image lines ≡ None) where
   abbrev new : List ℕ
   new = derived_probe f.image lines
 
@@ -103,7 +105,8 @@ module _ (f : Function) (lines : List ResourceLine) (is : IsImage f.image) (good
     k : ℕ
     lawful : is_rom_size (rom_at f.image new) k ≡ true
     within : is_within 1 value (rom_at f.image new) ≡ true
-    size : enables_rom f.image ≡ true → rom_size f.image f.probe ≡ 2 ^ k
+    least : enables_rom f.image ≡ true → 2 ^ k ≤ rom_size f.image f.probe
+    size : assumes_enabled assuming ≡ false → enables_rom f.image ≡ true → rom_size f.image f.probe ≡ 2 ^ k
 
   low_clear : IsRomRegister value (rom_at f.image f.probe) → (i : ℕ) → 1 ≤ i → i < 11 → bit_at value i ≡ 0
   low_clear r i from under = let clear = r.low i under in let less = r.under i from (omega (arith, under)) in omega (arith, clear, less)
@@ -126,10 +129,10 @@ module _ (f : Function) (lines : List ResourceLine) (is : IsImage f.image) (good
         | inl zeros ↦ λ i from under. let v = ap (λ n. bit_at n i) zeros.1 in let z = bit_at-zero i in v ∙ z
         | inr r ↦ low_clear r
       ] in
-      record { k = k; lawful = lawful; within = rom_within k value (rom_at f.image new) lawful small low aligned; size = λ on. refl }
+      record { k = k; lawful = lawful; within = rom_within k value (rom_at f.image new) lawful small low aligned; least = λ on. omega arith; size = λ exact on. refl }
 
-  assumed_case : (value == 0) ≡ false → (has_bit value 0 && has_bit (command f.image) 1) ≡ false → read_back_of (rom_derived f.image lines) ≡ rom_of_size rom_step → IsSizedRom
-  assumed_case some off e =
+  assumed_case : (value == 0) ≡ false → ((has_bit value 0 && has_bit (command f.image) 1) ≡ false) ⊎ (assumes_enabled assuming ≡ true) → read_back_of (rom_derived f.image lines) ≡ rom_of_size rom_step → IsSizedRom
+  assumed_case some may e =
       let mask : rom_at f.image new ≡ rom_of_size (2 ^ 11) % 2 ^ 32 = rom_number f.image lines (layouts f good) ∙ ap (λ m. m % 2 ^ 32) e in
       let lawful = rom_sized 11 (rom_at f.image new) (lit≤ tt) (lit≤ tt) mask in
       let low : (i : ℕ) → 1 ≤ i → i < 11 → bit_at value i ≡ 0 = elim (rom_rules f.image f.probe good.rom) [
@@ -140,13 +143,20 @@ module _ (f : Function) (lines : List ResourceLine) (is : IsImage f.image) (good
         k = 11;
         lawful = lawful;
         within = rom_within 11 value (rom_at f.image new) lawful small low (omega arith);
-        size = λ on.
+        least = λ on.
+            let there = on_is_there f.image f.probe (and_parts (has_bit (command f.image) 1) (rom_is_on f.image) on).1 in
+            let run = rom_run (rom_at f.image f.probe) (lowest_one 0 (rom_at f.image f.probe)) (lawful_rom f.image f.probe there good.rom).0 in
+            pow_within 11 (lowest_one 0 (rom_at f.image f.probe)) run.least;
+        size = λ exact on.
             let both = and_parts (has_bit (command f.image) 1) (rom_is_on f.image) on in
-            absurd (both_ways (has_bit value 0 && has_bit (command f.image) 1) off (and_from (has_bit value 0) (has_bit (command f.image) 1) both.1 both.0));
+            elim may [
+              | inl off ↦ absurd (both_ways (has_bit value 0 && has_bit (command f.image) 1) off (and_from (has_bit value 0) (has_bit (command f.image) 1) both.1 both.0))
+              | inr any ↦ absurd (both_ways (assumes_enabled assuming) exact any)
+            ];
       }
 
   choice : IsAbsentRom ⊎ IsSizedRom
-  choice = elim (rom_cases (rom_register (layout f.image)) (rom_line lines) (has_bit (command f.image) 1) value (rom_no_fault f.image lines (layouts f good) none)) [
+  choice = elim (rom_cases assuming (rom_register (layout f.image)) (rom_line lines) (has_bit (command f.image) 1) value (rom_no_fault f.image lines (layouts f good) assuming none)) [
     | inl known ↦ inr (told_case known.0 known.1)
     | inr other ↦ elim other [
       | inl clear ↦ inl record { zeros = eqb-true value 0 clear.0; read_back = rom_number f.image lines (layouts f good) ∙ ap (λ m. m % 2 ^ 32) clear.1 }
@@ -167,14 +177,28 @@ module _ (f : Function) (lines : List ResourceLine) (is : IsImage f.image) (good
         and_right (has_rom f.image new) _ (not_from_true _ (and_from (some_from 0 64 (is_rom_size (rom_at f.image new))) (is_within 1 value (rom_at f.image new)) found b.within))
   ]
 
-  pub same_rom : IsTrue (enables_rom f.image) → rom_size f.image f.probe ≡ rom_size f.image new
-  same_rom on = elim choice [
+  -- a ROM that is on has a size
+  sized_of_on : IsTrue (enables_rom f.image) → IsSizedRom
+  sized_of_on on = elim choice [
     | inl b ↦
         let bit = eqb-true (bit_at value 0) 1 (and_parts (has_bit (command f.image) 1) (rom_is_on f.image) on).1 in
         let v = b.zeros in
         absurd (let no : ⊥ = omega (arith, bit, v) in no)
-    | inr b ↦
-        let run = rom_run (rom_at f.image new) b.k b.lawful in
-        let most = run.most in
-        b.size on ∙ sym (ap (λ j. 2 ^ j) (lowest_one-of_run 0 (rom_at f.image new) b.k 31 (omega arith) (omega (arith, most)) (lit< tt) run.run))
+    | inr b ↦ b
   ]
+
+  size_new : (b : IsSizedRom) → rom_size f.image new ≡ 2 ^ b.k
+  size_new b =
+      let run = rom_run (rom_at f.image new) b.k b.lawful in
+      let most = run.most in
+      ap (λ j. 2 ^ j) (lowest_one-of_run 0 (rom_at f.image new) b.k 31 (omega arith) (omega (arith, most)) (lit< tt) run.run)
+
+  pub least_rom : IsTrue (enables_rom f.image) → rom_size f.image new ≤ rom_size f.image f.probe
+  least_rom on =
+      let b = sized_of_on on in
+      let least = b.least on in
+      let size = size_new b in
+      omega (arith, least, size)
+
+  pub same_rom : assumes_enabled assuming ≡ false → IsTrue (enables_rom f.image) → rom_size f.image f.probe ≡ rom_size f.image new
+  same_rom exact on = let b = sized_of_on on in b.size exact on ∙ sym (size_new b)

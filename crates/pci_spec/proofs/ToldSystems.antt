@@ -1,4 +1,4 @@
--- Two systems of which the same is told have the same faults, and are sound together.
+-- Two systems of which the same is told have the same faults, and are sound together. With greater sizes all faults stay.
 use Rattle.std.proofs.Common.{◌≡◌, ℕ, ◌<◌, List, [], ◌∷◌, refl, Bool, true, ◌&&◌, ◌||◌, not, sym, ◌∙◌, ap, subst}
 use Rattle.std.specs.Bool.{IsTrue, nat_lt, ◌==◌, if◌then◌else◌}
 use Rattle.std.specs.List.{All, AllZip, Contains, list_all, list_any}
@@ -11,12 +11,12 @@ use Rattle.pci_spec.specs.System.{System, Function, Space, is_bridge, Leads, Get
 use Rattle.pci_spec.specs.Bus.{has_bus_order, has_no_root_behind, has_lawful_buses, is_inside, are_apart, are_siblings, is_root, is_led_to}
 use Rattle.pci_spec.specs.Fault.{Fault, IsIn, NoVendor, HeaderKind, BarType, BarMask, BarPair, RomMask, WindowMask, CapRange, CapLoop, CapCut, SlotsDiffer, StrayProbe, LoneFunction, PaletteSnoop, VgaEnable, IsaEnable, Subtractive, InReset, PowerState, BusRange, Orphan, Unreached, Clash, Split, SomeAt, IsNotInD0, has_no_vendor, has_other_layout, has_function_zero, IsUnreached, ClaimsOnBus}
 use Rattle.pci_spec.specs.Order.{image_at, is_before, IsFirstIn}
-use Rattle.pci_spec.specs.ToldAlike.{IsToldAlike, IsReadable}
-use Rattle.pci_spec.specs.ProbeLaws.{AlikeHaveTheSameFaults, AlikeHaveTheSameFirstFault, AlikeAreSoundTogether}
+use Rattle.pci_spec.specs.ToldAlike.{IsToldAlike, IsToldAtLeast, IsReadable}
+use Rattle.pci_spec.specs.ProbeLaws.{GreaterHaveTheFaults, AlikeHaveTheSameFaults, AlikeHaveTheSameFirstFault, AlikeAreSoundTogether}
 use Rattle.pci_spec.proofs.Pairs.{member_forth}
 use Rattle.pci_spec.proofs.Sounding.{sound_without_faults}
 use Rattle.pci_spec.proofs.Readable.{none_of_readable}
-use Rattle.pci_spec.proofs.ToldAlike.{told_back, same_register, same_forwards, same_passes, claims_too, same_prefetchable}
+use Rattle.pci_spec.proofs.ToldAlike.{told_back, told_at_least, same_register, same_forwards, same_passes, claims_too, same_prefetchable}
 
 -- ---- what is seen of slots and images alone
 
@@ -24,7 +24,7 @@ use Rattle.pci_spec.proofs.ToldAlike.{told_back, same_register, same_forwards, s
 abbrev shown_at : Slot → List ℕ → Function
 shown_at slot image = record { slot = slot; image = image; probe = [] }
 
-all_same : (test : Slot → List ℕ → Bool) (s t : System) → AllZip IsToldAlike s t
+all_same : (test : Slot → List ℕ → Bool) (s t : System) → AllZip IsToldAtLeast s t
     → list_all (λ (f : Function). test f.slot f.image) s ≡ list_all (λ (f : Function). test f.slot f.image) t
 all_same test [] [] pairs = refl
 all_same test [] (y ∷ t) pairs = absurd pairs
@@ -35,7 +35,7 @@ all_same test (x ∷ s) (y ∷ t) (h, rest) =
     let later = all_same test s t rest in
     λ i. test (slot i) (image i) && later i
 
-any_same : (test : Slot → List ℕ → Bool) (s t : System) → AllZip IsToldAlike s t
+any_same : (test : Slot → List ℕ → Bool) (s t : System) → AllZip IsToldAtLeast s t
     → list_any (λ (f : Function). test f.slot f.image) s ≡ list_any (λ (f : Function). test f.slot f.image) t
 any_same test [] [] pairs = refl
 any_same test [] (y ∷ t) pairs = absurd pairs
@@ -46,7 +46,7 @@ any_same test (x ∷ s) (y ∷ t) (h, rest) =
     let later = any_same test s t rest in
     λ i. test (slot i) (image i) || later i
 
-image_same : (s t : System) → AllZip IsToldAlike s t → (slot : Slot) → image_at s slot ≡ image_at t slot
+image_same : (s t : System) → AllZip IsToldAtLeast s t → (slot : Slot) → image_at s slot ≡ image_at t slot
 image_same [] [] pairs slot = refl
 image_same [] (y ∷ t) pairs slot = absurd pairs
 image_same (x ∷ s) [] pairs slot = absurd pairs
@@ -62,11 +62,17 @@ pairs_back [] (y ∷ t) pairs = absurd pairs
 pairs_back (x ∷ s) [] pairs = absurd pairs
 pairs_back (x ∷ s) (y ∷ t) (h, rest) = (told_back x y h, pairs_back s t rest)
 
+at_least : (s t : System) → AllZip IsToldAlike s t → AllZip IsToldAtLeast s t
+at_least [] [] pairs = tt
+at_least [] (y ∷ t) pairs = absurd pairs
+at_least (x ∷ s) [] pairs = absurd pairs
+at_least (x ∷ s) (y ∷ t) (h, rest) = (told_at_least x y h, at_least s t rest)
+
 -- what belongs together in two systems
 record IsMate (f g : Function) : Type 0 where
   is_f : IsReadable f
   is_g : IsReadable g
-  alike : IsToldAlike f g
+  alike : IsToldAtLeast f g
 
 -- of a bridge
 record IsBridgeMate (f g : Function) : Type 0 where
@@ -92,7 +98,7 @@ forwarded_same space a (b ∷ bs) (c ∷ cs) (m, rest) =
     let later = forwarded_same space a bs cs rest in
     λ i. first i && later i
 
-module _ (roots : List ℕ) (s t : System) (is_s : All IsReadable s) (is_t : All IsReadable t) (pairs : AllZip IsToldAlike s t) where
+module _ (roots : List ℕ) (s t : System) (is_s : All IsReadable s) (is_t : All IsReadable t) (pairs : AllZip IsToldAtLeast s t) where
   -- the function of the other system
   record Mate (f : Function) : Type 0 where
     g : Function
@@ -101,7 +107,7 @@ module _ (roots : List ℕ) (s t : System) (is_s : All IsReadable s) (is_t : All
 
   mate_of : (f : Function) → Contains s f → Mate f
   mate_of f listed =
-      let found = member_forth IsToldAlike s t pairs f listed in
+      let found = member_forth IsToldAtLeast s t pairs f listed in
       record {
         g = found.0;
         listed = found.1;
@@ -132,7 +138,7 @@ module _ (roots : List ℕ) (s t : System) (is_s : All IsReadable s) (is_t : All
   led_same : (bus : ℕ) → is_led_to roots s bus ≡ is_led_to roots t bus
   led_same bus = ap (λ b. is_root roots bus || b) (any_same (λ at image. layout image == 1 && secondary_bus image == bus) s t pairs)
 
-  buses_same : (b c : Function) → IsToldAlike b c → has_lawful_buses roots s b ≡ has_lawful_buses roots t c
+  buses_same : (b c : Function) → IsToldAtLeast b c → has_lawful_buses roots s b ≡ has_lawful_buses roots t c
   buses_same b c h =
       let slot = h.slot in
       let image = h.image in
@@ -254,16 +260,22 @@ module _ (roots : List ℕ) (s t : System) (is_s : All IsReadable s) (is_t : All
 
 -- ---- the laws
 
+pub greater_have_the_faults : GreaterHaveTheFaults
+greater_have_the_faults = fault_too
+
 pub alike_have_the_same_faults : AlikeHaveTheSameFaults
-alike_have_the_same_faults roots s t is_s is_t pairs fault = (fault_too roots s t is_s is_t pairs fault, fault_too roots t s is_t is_s (pairs_back s t pairs) fault)
+alike_have_the_same_faults roots s t is_s is_t pairs fault = (
+  fault_too roots s t is_s is_t (at_least s t pairs) fault,
+  fault_too roots t s is_t is_s (at_least t s (pairs_back s t pairs)) fault,
+)
 
 first_too : (roots : List ℕ) (s t : System) → All IsReadable s → All IsReadable t → AllZip IsToldAlike s t
     → (fault : Fault) → IsFirstIn roots s fault → IsFirstIn roots t fault
 first_too roots s t is_s is_t pairs fault first =
-    let images = image_same s t pairs in
+    let images = image_same s t (at_least s t pairs) in
     record {
-      there = fault_too roots s t is_s is_t pairs fault first.there;
-      none_before = λ other before there. first.none_before other ((λ i. is_before (λ slot. images slot i) other fault) ∙ before) (fault_too roots t s is_t is_s (pairs_back s t pairs) other there);
+      there = fault_too roots s t is_s is_t (at_least s t pairs) fault first.there;
+      none_before = λ other before there. first.none_before other ((λ i. is_before (λ slot. images slot i) other fault) ∙ before) (fault_too roots t s is_t is_s (at_least t s (pairs_back s t pairs)) other there);
     }
 
 pub alike_have_the_same_first_fault : AlikeHaveTheSameFirstFault

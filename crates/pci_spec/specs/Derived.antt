@@ -16,8 +16,8 @@ pub data Derived : Type 0 where
   Known : (read_back : ℕ) → Derived
   -- none is told and nothing enabled hangs on it: a read back by habit
   Assumed : (read_back : ℕ) → Derived
-  -- the register is enabled, and no size is told
-  NoSize : Derived
+  -- the register is enabled, and no size is told: the read back of the least size
+  Untold : (read_back : ℕ) → Derived
   -- the register shows 0, and what is told isn't of it
   OtherSize : Derived
 
@@ -49,7 +49,7 @@ unfoldable pub derived_bar : ResourceLine → ℕ → Bool → ℕ → Derived
 derived_bar line width enabled value =
     if tells_bar line width value then Known (bar_of_size width value (address_count line))
     else if value == 0 then (if is_of_register line then OtherSize else Known 0)
-    else if enabled then NoSize
+    else if enabled then Untold (bar_of_size width value (encodings value))
     else Assumed (bar_of_size width value (encodings value))
 
 -- of the BAR at register n
@@ -69,7 +69,7 @@ unfoldable pub derived_rom : ResourceLine → Bool → ℕ → Derived
 derived_rom line enabled value =
     if tells_rom line value then Known (rom_of_size (address_count line))
     else if value == 0 then Known 0
-    else if has_bit value 0 && enabled then NoSize
+    else if has_bit value 0 && enabled then Untold (rom_of_size rom_step)
     else Assumed (rom_of_size rom_step)
 
 abbrev pub rom_derived : List ℕ → List ResourceLine → Derived
@@ -119,21 +119,21 @@ window_derived kind image read_back =
 abbrev pub is_assumed : Derived → Bool
 is_assumed (Known read_back) = false
 is_assumed (Assumed read_back) = true
-is_assumed NoSize = false
+is_assumed (Untold read_back) = true
 is_assumed OtherSize = false
 
 -- the read back, or 0 where there is none
 abbrev pub read_back_of : Derived → ℕ
 read_back_of (Known read_back) = read_back
 read_back_of (Assumed read_back) = read_back
-read_back_of NoSize = 0
+read_back_of (Untold read_back) = read_back
 read_back_of OtherSize = 0
 
 -- the lower 32 bits, in which a BAR is named
 abbrev pub lower_half : Derived → Derived
 lower_half (Known read_back) = Known (read_back % 2 ^ 32)
 lower_half (Assumed read_back) = Assumed (read_back % 2 ^ 32)
-lower_half NoSize = NoSize
+lower_half (Untold read_back) = Untold (read_back % 2 ^ 32)
 lower_half OtherSize = OtherSize
 
 -- of BAR register n: a BAR, or the upper half of the one before

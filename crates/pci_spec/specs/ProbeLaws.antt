@@ -6,7 +6,7 @@ use Rattle.pci_spec.specs.Fault.{Fault, fault_number, IsIn}
 use Rattle.pci_spec.specs.Order.{IsFirstIn}
 use Rattle.pci_spec.specs.Sound.{IsSound}
 use Rattle.pci_spec.specs.Decoded.{IsDecodable}
-use Rattle.pci_spec.specs.ToldAlike.{IsToldAlike, IsReadable}
+use Rattle.pci_spec.specs.ToldAlike.{IsToldAlike, IsToldAtLeast, IsReadable}
 
 -- whether a fault's number is one of reading a header, its address registers and its probe
 abbrev pub is_reading_number : ℕ → Bool
@@ -43,3 +43,16 @@ AlikeAreSoundTogether =
     (roots : List ℕ) (s t : System) → IsSystem s → IsSystem t → All IsReadable s → All IsReadable t
     → AllZip IsToldAlike s t
     → IsSound roots s ↔ IsSound roots t
+
+-- With greater sizes a function claims what it claims with lesser ones,
+abbrev pub GreaterClaimAsMuch : Type 0
+GreaterClaimAsMuch =
+    (f g : Function) → IsDecodable f → IsDecodable g → IsToldAtLeast f g
+    → (part : Part) (space : Space) (a : ℕ) → Claims f part space a → Claims g part space a
+
+-- and each fault of a system is there with greater sizes too.
+abbrev pub GreaterHaveTheFaults : Type 0
+GreaterHaveTheFaults =
+    (roots : List ℕ) (s t : System) → All IsReadable s → All IsReadable t
+    → AllZip IsToldAtLeast s t
+    → (fault : Fault) → IsIn roots s fault → IsIn roots t fault

@@ -1,5 +1,5 @@
 -- The probe of a dump, derived from what its functions show and what Linux tells of them, or the first reason why there is none.
-use Rattle.std.specs.Prelude.{ℕ, nat_le, Bool, not, if◌then◌else◌, List, [], ◌∷◌, ◌++◌, codes, map, Option, None, Some}
+use Rattle.std.specs.Prelude.{ℕ, nat_le, not, if◌then◌else◌, List, [], ◌∷◌, ◌++◌, codes, map, Option, None, Some}
 use Rattle.std.specs.List.{filter, find, flat_map, list_all, list_any}
 use Rattle.std.specs.Option.{option_map, option_or}
 use Rattle.pci_spec.specs.Slot.{Slot, same_slot, slot_number}
@@ -8,7 +8,7 @@ use Rattle.pci_spec.specs.Fault.{has_no_vendor, has_other_layout}
 use Rattle.pci_spec.specs.Line.{field, region_field, slot_field, two_digits}
 use Rattle.pci_spec.specs.Resource.{ResourceLine}
 use Rattle.pci_spec.specs.Derived.{derived_probe, assumed_registers}
-use Rattle.pci_spec.specs.NoProbe.{NoProbe, no_probe}
+use Rattle.pci_spec.specs.NoProbe.{Assuming, NoProbe, no_probe}
 use Rattle.pci_spec.specs.NoProbe as register
 use Rattle.pci_spec.specs.SizesText.{SizesBlock, sized_slots}
 
@@ -58,7 +58,7 @@ pub data ProbeFault : Type 0 where
   NoVendor : (slot : Slot) → ProbeFault
   -- the header is of a layout that isn't decoded
   HeaderKind : (slot : Slot) → ProbeFault
-  -- no size is told of an enabled register, or, where the probe has to be exact, of any
+  -- no size is told of the register, and none may be assumed
   NoSize : (slot : Slot) (register : ℕ) → ProbeFault
   -- the register shows 0, and what is told isn't of it
   OtherSize : (slot : Slot) (register : ℕ) → ProbeFault
@@ -88,8 +88,8 @@ abbrev pub at_slot : Slot → NoProbe → ProbeFault
 at_slot slot (register.NoSize offset) = NoSize slot offset
 at_slot slot (register.OtherSize offset) = OtherSize slot offset
 
-abbrev pub read_back_fault : Bool → Told → Option ProbeFault
-read_back_fault exact f = option_map (at_slot f.slot) (no_probe exact f.image f.lines)
+abbrev pub read_back_fault : Assuming → Told → Option ProbeFault
+read_back_fault assuming f = option_map (at_slot f.slot) (no_probe assuming f.image f.lines)
 
 -- that of the first function that has one
 unfoldable pub first_of : {X : Type 0} → (X → Option ProbeFault) → List X → Option ProbeFault
@@ -97,11 +97,11 @@ first_of fault [] = None
 first_of fault (f ∷ functions) = option_or (fault f) (first_of fault functions)
 
 -- What is looked for first: slots, then the headers of all functions, then their registers.
-unfoldable pub probe_fault : Bool → List Block → List SizesBlock → Option ProbeFault
-probe_fault exact dump sizes =
+unfoldable pub probe_fault : Assuming → List Block → List SizesBlock → Option ProbeFault
+probe_fault assuming dump sizes =
     option_or (slots_fault (slots_of dump) (sized_slots sizes))
     (option_or (first_of identity_fault dump)
-    (first_of (read_back_fault exact) (told_of dump sizes)))
+    (first_of (read_back_fault assuming) (told_of dump sizes)))
 
 -- ---- how it is printed
 

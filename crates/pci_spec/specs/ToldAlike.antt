@@ -1,6 +1,6 @@
 -- Two probes of a function of which the same is told: of all that is enabled they show the same sizes.
 -- What isn't enabled may read back anything that goes with what its registers show.
-use Rattle.std.specs.Prelude.{◌≡◌, ℕ, ◌==◌, nat_lt, Bool, ◌&&◌, IsTrue, IsFalse, List}
+use Rattle.std.specs.Prelude.{◌≡◌, ◌≤◌, ℕ, ◌==◌, nat_lt, Bool, ◌&&◌, IsTrue, IsFalse, List}
 use Rattle.pci_spec.specs.Number.{has_bit}
 use Rattle.pci_spec.specs.Header.{command, layout, bar_count}
 use Rattle.pci_spec.specs.Bar.{bar_at, starts_bar, has_bar}
@@ -35,6 +35,17 @@ pub record IsToldAlike (f g : Function) : Type 0 where
       → bar_size f.probe n ≡ bar_size g.probe n
   pub rom : IsTrue (enables_rom f.image) → rom_size f.image f.probe ≡ rom_size g.image g.probe
   -- both have a window whose space is enabled, or neither has it
+  pub windows : (kind : WindowKind) → IsTrue (enables_window kind f.image)
+      → has_window kind f.probe ≡ has_window kind g.probe
+
+-- one function with two probes: of what is enabled the second tells all that the first tells, of sizes no less
+pub record IsToldAtLeast (f g : Function) : Type 0 where
+  pub slot : f.slot ≡ g.slot
+  pub image : f.image ≡ g.image
+  pub bars : (n : ℕ) → IsTrue (enables_bar f.image n) → has_bar f.probe n ≡ has_bar g.probe n
+  pub bar_sizes : (n : ℕ) → IsTrue (enables_bar f.image n) → IsTrue (has_bar f.probe n)
+      → bar_size f.probe n ≤ bar_size g.probe n
+  pub rom : IsTrue (enables_rom f.image) → rom_size f.image f.probe ≤ rom_size g.image g.probe
   pub windows : (kind : WindowKind) → IsTrue (enables_window kind f.image)
       → has_window kind f.probe ≡ has_window kind g.probe
 

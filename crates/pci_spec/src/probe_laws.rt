@@ -1,7 +1,7 @@
 //! Laws of probes. These functions do nothing: each contract is a law.
 
-ghost use Rattle.pci_spec.specs.ProbeLaws.{ReadableWithoutFaults, AlikeClaimTheSame, AlikeHaveTheSameFaults, AlikeHaveTheSameFirstFault, AlikeAreSoundTogether};
-ghost use Rattle.pci_spec.specs.DerivedLaws.{DerivedIsToldAlike, DerivedHasTheSameFaults, DerivedHasTheSameFirstFault, DerivedIsSoundWithOwn, DumpHasTheSameVerdict};
+ghost use Rattle.pci_spec.specs.ProbeLaws.{ReadableWithoutFaults, AlikeClaimTheSame, GreaterClaimAsMuch, GreaterHaveTheFaults, AlikeHaveTheSameFaults, AlikeHaveTheSameFirstFault, AlikeAreSoundTogether};
+ghost use Rattle.pci_spec.specs.DerivedLaws.{DerivedIsToldAlike, DerivedHasTheSameFaults, DerivedHasTheSameFirstFault, DerivedIsSoundWithOwn, DumpHasTheSameVerdict, LeastIsToldAtMost, FaultsAtLeastSizesStand, FaultsOfDumpStand};
 
 /// Functions are readable exactly where none of the faults 20 to 26 and 31 is there.
 pub fn readable_functions_have_no_fault_of_reading()
@@ -20,6 +20,12 @@ pub fn sizes_of_the_enabled_settle_the_verdict()
     ensures sound { AlikeAreSoundTogether }
 {}
 
+/// With greater sizes a function claims as much at least, and no fault of a system goes.
+pub fn greater_sizes_keep_faults()
+    ensures claims { GreaterClaimAsMuch }
+    ensures faults { GreaterHaveTheFaults }
+{}
+
 /// A probe that is derived from true lines shows the sizes of what is enabled that the function's own shows.
 pub fn derived_probes_are_told_alike()
     ensures { DerivedIsToldAlike }
@@ -35,4 +41,11 @@ pub fn derived_probes_give_the_same_verdict()
 /// And so has a dump with the probe that is derived for it, where what is told is true of the machine.
 pub fn derived_probes_judge_dumps_as_the_machine_does()
     ensures { DumpHasTheSameVerdict }
+{}
+
+/// Where the least size is assumed of what is enabled and isn't told, each fault that is found is there.
+pub fn faults_at_least_sizes_stand()
+    ensures function { LeastIsToldAtMost }
+    ensures system { FaultsAtLeastSizesStand }
+    ensures dump { FaultsOfDumpStand }
 {}

@@ -1,9 +1,9 @@
 -- Derived probes: what each register of a function reads back, by what it shows and what Linux tells of it.
-use Rattle.std.proofs.Common.{◌≡◌, ℕ, List, [], ◌∷◌, refl, true, false, Option, None, Some, replicate, set, map}
+use Rattle.std.proofs.Common.{◌≡◌, ℕ, List, [], ◌∷◌, refl, Option, None, Some, replicate, set, map}
 use Rattle.pci_spec.specs.Number.{some_from}
 use Rattle.pci_spec.specs.Resource.{ResourceLine, no_line, has_size, tells_bar, tells_rom}
 use Rattle.pci_spec.specs.Derived.{bar_of_size, derived_bar, derived_rom, window_read_back, bar_register_derived, window_register_derived, register_derived, derived_probe, assumed_registers, register_offsets, read_back_of}
-use Rattle.pci_spec.specs.NoProbe.{NoProbe, NoSize, OtherSize, first_at, no_probe}
+use Rattle.pci_spec.specs.NoProbe.{Nothing, Disabled, Any, NoProbe, NoSize, OtherSize, first_at, no_probe}
 use Rattle.pci_spec.proofs.Examples.Samples.{puts, blank, zeros}
 
 abbrev pub line : ℕ → ℕ → ℕ → ResourceLine
@@ -23,7 +23,7 @@ abbrev answer : List ℕ → List ResourceLine → Answer
 answer image lines = record {
   read_backs = map (λ offset. read_back_of (register_derived image lines offset)) (register_offsets image);
   assumed = assumed_registers image lines;
-  fault = no_probe false image lines;
+  fault = no_probe Disabled image lines;
 }
 
 abbrev of_device : ℕ → List (ℕ × ℕ) → List ResourceLine → Answer
@@ -145,13 +145,34 @@ open_windows : of_bridge 7 ((0x1c, 0xe0c0) ∷ (0x20, 0xfe90fe40) ∷ (0x24, 0xf
 unfolding some_from has_size tells_bar tells_rom bar_of_size derived_bar derived_rom window_read_back bar_register_derived window_register_derived register_derived assumed_registers first_at no_probe
 open_windows = refl
 
+-- ---- the least size of what is enabled and isn't told
+
+abbrev with_least : ℕ → List (ℕ × ℕ) → Answer
+with_least command values = record (of_device command values (lines 0 no_line)) { fault = no_probe Any (puts values (blank 0 command)) (lines 0 no_line) }
+
+the_least_memory_bar : with_least 0x0002 ((0x10, 0xe0000008) ∷ []) ≡ assumed (only 0 0xfffffff8) (0x10 ∷ [])
+unfolding some_from has_size tells_bar tells_rom bar_of_size derived_bar derived_rom window_read_back bar_register_derived window_register_derived register_derived assumed_registers first_at no_probe
+the_least_memory_bar = refl
+
+the_least_ports : with_least 0x0001 ((0x14, 0xc001) ∷ []) ≡ assumed (only 1 0xfffffffd) (0x14 ∷ [])
+unfolding some_from has_size tells_bar tells_rom bar_of_size derived_bar derived_rom window_read_back bar_register_derived window_register_derived register_derived assumed_registers first_at no_probe
+the_least_ports = refl
+
+the_least_rom : with_least 0x0002 ((0x30, 0xfebe0001) ∷ []) ≡ assumed (only 6 0xfffff800) (0x30 ∷ [])
+unfolding some_from has_size tells_bar tells_rom bar_of_size derived_bar derived_rom window_read_back bar_register_derived window_register_derived register_derived assumed_registers first_at no_probe
+the_least_rom = refl
+
+other_addresses_stay_refused : no_probe Any (blank 0 2) (lines 0 (line 0 0xfff 0x204)) ≡ Some (OtherSize 0x10)
+unfolding some_from has_size tells_bar tells_rom bar_of_size derived_bar derived_rom window_read_back bar_register_derived window_register_derived register_derived assumed_registers first_at no_probe
+other_addresses_stay_refused = refl
+
 -- ---- the fault and the probe of a function
 
-the_lowest_register_is_named : no_probe false (puts ((0x14, 0xe0000000) ∷ []) (blank 0 2)) (set (lines 0 no_line) 5 (line 0 0xfff 0x204)) ≡ Some (NoSize 0x14)
+the_lowest_register_is_named : no_probe Disabled (puts ((0x14, 0xe0000000) ∷ []) (blank 0 2)) (set (lines 0 no_line) 5 (line 0 0xfff 0x204)) ≡ Some (NoSize 0x14)
 unfolding some_from has_size tells_bar tells_rom bar_of_size derived_bar derived_rom window_read_back bar_register_derived window_register_derived register_derived assumed_registers first_at no_probe
 the_lowest_register_is_named = refl
 
-nothing_is_assumed_in_an_exact_probe : no_probe true (puts ((0x20, 0xfff0) ∷ []) (blank 1 7)) (lines 0 no_line) ≡ Some (NoSize 0x1c)
+nothing_is_assumed_in_an_exact_probe : no_probe Nothing (puts ((0x20, 0xfff0) ∷ []) (blank 1 7)) (lines 0 no_line) ≡ Some (NoSize 0x1c)
 unfolding some_from has_size tells_bar tells_rom bar_of_size derived_bar derived_rom window_read_back bar_register_derived window_register_derived register_derived assumed_registers first_at no_probe
 nothing_is_assumed_in_an_exact_probe = refl
 

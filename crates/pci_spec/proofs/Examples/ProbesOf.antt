@@ -1,11 +1,11 @@
 -- Probes of whole dumps: the first fault, the probe and the assumed registers of two functions.
-use Rattle.std.proofs.Common.{◌≡◌, ℕ, List, [], ◌∷◌, refl, true, false, Bool, Option, None, Some, replicate, map}
+use Rattle.std.proofs.Common.{◌≡◌, ℕ, List, [], ◌∷◌, refl, Option, None, Some, replicate, map}
 use Rattle.std.specs.Prelude.{codes}
 use Rattle.pci_spec.specs.Number.{some_from}
 use Rattle.pci_spec.specs.Text.{Block}
 use Rattle.pci_spec.specs.Resource.{ResourceLine, no_line, has_size, tells_bar, tells_rom}
 use Rattle.pci_spec.specs.Derived.{bar_of_size, derived_bar, derived_rom, window_read_back, bar_register_derived, window_register_derived, register_derived, derived_probe, assumed_registers}
-use Rattle.pci_spec.specs.NoProbe.{first_at, no_probe}
+use Rattle.pci_spec.specs.NoProbe.{Assuming, Nothing, Disabled, first_at, no_probe}
 use Rattle.pci_spec.specs.SizesText.{SizesBlock}
 use Rattle.pci_spec.specs.ProbeOf.{ProbeFault, SlotsDiffer, NoVendor, HeaderKind, NoSize, OtherSize, first_of, probe_fault, probe_of, assumed_of, assumed_at, probe_fault_text, assumed_text}
 use Rattle.pci_spec.proofs.Examples.Samples.{put, puts, blank, slot, read_backs}
@@ -29,14 +29,14 @@ abbrev untold : List ResourceLine
 untold = replicate 7 no_line
 
 -- two functions
-abbrev fault_of : Bool → List ℕ → List ResourceLine → List ℕ → List ResourceLine → Option ProbeFault
-fault_of exact first first_lines second second_lines =
-    probe_fault exact (shown 1 first ∷ shown 2 second ∷ []) (told 1 first_lines ∷ told 2 second_lines ∷ [])
+abbrev fault_of : Assuming → List ℕ → List ResourceLine → List ℕ → List ResourceLine → Option ProbeFault
+fault_of assuming first first_lines second second_lines =
+    probe_fault assuming (shown 1 first ∷ shown 2 second ∷ []) (told 1 first_lines ∷ told 2 second_lines ∷ [])
 
 -- ---- slots
 
 abbrev slots : List ℕ → List ℕ → Option ProbeFault
-slots ours theirs = probe_fault false (map (λ d. shown d (bar 2 0xe0000000)) ours) (map (λ d. told d untold) theirs)
+slots ours theirs = probe_fault Disabled (map (λ d. shown d (bar 2 0xe0000000)) ours) (map (λ d. told d untold) theirs)
 
 only_the_dump_has_it : slots (1 ∷ 2 ∷ []) (2 ∷ []) ≡ Some (SlotsDiffer (slot 0 1 0))
 unfolding first_of probe_fault
@@ -54,39 +54,39 @@ a_slot_goes_before_a_register : slots (1 ∷ 2 ∷ []) (1 ∷ []) ≡ Some (Slot
 unfolding first_of probe_fault
 a_slot_goes_before_a_register = refl
 
-nothing_is_derived_for_nothing : probe_fault true [] [] ≡ None
+nothing_is_derived_for_nothing : probe_fault Nothing [] [] ≡ None
 unfolding first_of probe_fault
 nothing_is_derived_for_nothing = refl
 
 -- ---- headers
 
-no_function : fault_of false (bar 0 0) untold (put 2 0 0xffff (bar 0 0)) untold ≡ Some (NoVendor (slot 0 2 0))
+no_function : fault_of Disabled (bar 0 0) untold (put 2 0 0xffff (bar 0 0)) untold ≡ Some (NoVendor (slot 0 2 0))
 unfolding first_of probe_fault
 no_function = refl
 
-a_header_of_type_2 : fault_of false (blank 2 0) untold (put 2 0 0xffff (bar 0 0)) untold ≡ Some (HeaderKind (slot 0 1 0))
+a_header_of_type_2 : fault_of Disabled (blank 2 0) untold (put 2 0 0xffff (bar 0 0)) untold ≡ Some (HeaderKind (slot 0 1 0))
 unfolding first_of probe_fault
 a_header_of_type_2 = refl
 
-a_later_header_goes_before_a_register : fault_of false (bar 2 0xe0000000) untold (blank 2 0) untold ≡ Some (HeaderKind (slot 0 2 0))
+a_later_header_goes_before_a_register : fault_of Disabled (bar 2 0xe0000000) untold (blank 2 0) untold ≡ Some (HeaderKind (slot 0 2 0))
 unfolding first_of probe_fault
 a_later_header_goes_before_a_register = refl
 
 -- ---- registers
 
-no_size_is_told : fault_of false (bar 2 0xe0000000) sized (bar 2 0xe0000000) untold ≡ Some (NoSize (slot 0 2 0) 0x10)
+no_size_is_told : fault_of Disabled (bar 2 0xe0000000) sized (bar 2 0xe0000000) untold ≡ Some (NoSize (slot 0 2 0) 0x10)
 unfolding some_from has_size tells_bar tells_rom bar_of_size derived_bar derived_rom window_read_back bar_register_derived window_register_derived register_derived first_at no_probe first_of probe_fault
 no_size_is_told = refl
 
-the_lower_slot_is_named : fault_of false (bar 2 0) (lines 0 (line 0xe0000000 0xe0000fff 0x40204)) (bar 2 0xe0000000) untold ≡ Some (OtherSize (slot 0 1 0) 0x10)
+the_lower_slot_is_named : fault_of Disabled (bar 2 0) (lines 0 (line 0xe0000000 0xe0000fff 0x40204)) (bar 2 0xe0000000) untold ≡ Some (OtherSize (slot 0 1 0) 0x10)
 unfolding some_from has_size tells_bar tells_rom bar_of_size derived_bar derived_rom window_read_back bar_register_derived window_register_derived register_derived first_at no_probe first_of probe_fault
 the_lower_slot_is_named = refl
 
-all_is_derived : fault_of false (bar 2 0xe0000000) sized (bar 0 0xe0000000) untold ≡ None
+all_is_derived : fault_of Disabled (bar 2 0xe0000000) sized (bar 0 0xe0000000) untold ≡ None
 unfolding some_from has_size tells_bar tells_rom bar_of_size derived_bar derived_rom window_read_back bar_register_derived window_register_derived register_derived first_at no_probe first_of probe_fault
 all_is_derived = refl
 
-an_exact_probe_assumes_nothing : fault_of true (bar 2 0xe0000000) sized (bar 0 0xe0000000) untold ≡ Some (NoSize (slot 0 2 0) 0x10)
+an_exact_probe_assumes_nothing : fault_of Nothing (bar 2 0xe0000000) sized (bar 0 0xe0000000) untold ≡ Some (NoSize (slot 0 2 0) 0x10)
 unfolding some_from has_size tells_bar tells_rom bar_of_size derived_bar derived_rom window_read_back bar_register_derived window_register_derived register_derived first_at no_probe first_of probe_fault
 an_exact_probe_assumes_nothing = refl
 

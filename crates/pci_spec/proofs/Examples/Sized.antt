@@ -1,5 +1,5 @@
 -- What a BAR of 1 MB answers.
-use Rattle.std.proofs.Common.{◌≡◌, ◌<◌, ◌≤◌, ◌&&◌, ℕ, true, inl, inr, arith, lit<, subst}
+use Rattle.std.proofs.Common.{◌≡◌, ◌≤◌, ◌&&◌, ℕ, true, inl, inr, arith, lit<, subst}
 use Rattle.std.specs.Bool.{nat_le}
 use Rattle.std.proofs.lemmas.Bool.{and_parts, leb-true, cases_order}
 use Rattle.std.proofs.lemmas.Nat.{pow_below}

@@ -11,7 +11,7 @@ use Rattle.pci_spec.specs.System.{Function, IsFunction, system_of}
 use Rattle.pci_spec.specs.Decoded.{bar_size, rom_size}
 use Rattle.pci_spec.specs.Resource.{ResourceLine, no_line, line_at, rom_line, address_count, has_size, tells_bar, tells_rom}
 use Rattle.pci_spec.specs.Derived.{bar_of_size, derived_bar, derived_rom, window_read_back, bar_register_derived, window_register_derived, register_derived, derived_probe}
-use Rattle.pci_spec.specs.NoProbe.{first_at, no_probe}
+use Rattle.pci_spec.specs.NoProbe.{Disabled, first_at, no_probe}
 use Rattle.pci_spec.specs.SizesText.{SizesBlock}
 use Rattle.pci_spec.specs.ProbeOf.{first_of, probe_of, probe_fault}
 use Rattle.pci_spec.specs.Sound.{IsSound}
@@ -56,7 +56,7 @@ readable = reads told_device refl refl refl (six (λ n. bar_fault told_device.im
 function : IsFunction told_device
 function = record { slot = (lit< tt, lit< tt, lit< tt); image = record { full = refl; bytes = bytes_by told_device.image refl }; probe = record { full = refl; bytes = bytes_by told_device.probe refl } }
 
-derived : IsDerivedOf told_device (with_derived told_lines told_device)
+derived : IsDerivedOf Disabled told_device (with_derived told_lines told_device)
 unfolding some_from has_size tells_bar tells_rom bar_of_size derived_bar derived_rom window_read_back bar_register_derived window_register_derived register_derived first_at no_probe
 derived = record { lines = told_lines; told = true_lines; derivable = refl; derived = refl }
 
@@ -73,7 +73,7 @@ one_told = record { slot = slot 0 1 0; lines = told_lines } ∷ []
 
 same_word : IsSound host (told_device ∷ []) ↔ IsSound host (system_of (one_block told_device.image) (probe_of (one_block told_device.image) one_told))
 unfolding some_from has_size tells_bar tells_rom bar_of_size derived_bar derived_rom window_read_back bar_register_derived window_register_derived register_derived first_at no_probe first_of probe_fault
-same_word = (dump_has_the_same_verdict host false (one_block told_device.image) (one_block told_device.probe) one_told refl (system_alone told_device function) (all_readable told_device readable) (true_lines, tt) refl).1
+same_word = (dump_has_the_same_verdict host Disabled (one_block told_device.image) (one_block told_device.probe) one_told refl refl (system_alone told_device function) (all_readable told_device readable) (true_lines, tt) refl).1
 
 -- ---- where one premise fails and the others hold, the function isn't told alike
 
@@ -90,7 +90,7 @@ abbrev NoWindows : Function → Type 0
 NoWindows f = (kind : WindowKind) → is_untold_window kind f.image ≡ true → has_window kind f.probe ≡ false
 
 abbrev Derives : Function → List ResourceLine → Type 0
-Derives f lines = no_probe false f.image lines ≡ None
+Derives f lines = no_probe Disabled f.image lines ≡ None
 
 abbrev Differs : Function → List ResourceLine → Type 0
 Differs f lines = IsToldAlike f (with_derived lines f) → ⊥
@@ -183,7 +183,7 @@ others_without_size = (
 
 a_bar_without_a_size : Differs without_size no_lines
 unfolding some_from has_size tells_bar tells_rom bar_of_size derived_bar derived_rom window_read_back bar_register_derived window_register_derived register_derived derived_probe
-a_bar_without_a_size h = both_ways true (h.bars 0 refl) refl
+a_bar_without_a_size h = let size : 4096 ≡ 16 = h.bar_sizes 0 refl refl in omega (arith, size)
 
 -- an I/O window shows 0, and is there
 abbrev line_of_64_ports : List ResourceLine
