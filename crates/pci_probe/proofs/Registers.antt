@@ -13,7 +13,7 @@ use Rattle.pci_spec.specs.Header.{layout, address_registers}
 use Rattle.pci_spec.specs.Machine.{register_at}
 use Rattle.pci_spec.specs.Resource.{ResourceLine}
 use Rattle.pci_spec.specs.Derived.{Derived, register_derived, read_back_of, is_assumed, derived_byte, derived_probe, assumed_registers}
-use Rattle.pci_spec.specs.NoProbe.{NoProbe, register_fault, first_at, no_probe}
+use Rattle.pci_spec.specs.NoProbe.{Assuming, NoProbe, register_fault, first_at, no_probe}
 use Rattle.pci_image.specs.declared.register.Register.{Register}
 use Rattle.pci_machine.proofs.RegisterOrder.{holds_place, found_in, found_in-more, registers_rise, layout_of}
 
@@ -53,7 +53,7 @@ first_at-found fault (x ∷ xs) (suc k) found is = or_of (first_at-found fault x
 
 -- ---- what was derived of the registers so far
 
-module _ (exact : Bool) (image : List ℕ) (lines : List ResourceLine) (bridge : Bool) where
+module _ (assuming : Assuming) (image : List ℕ) (lines : List ResourceLine) (bridge : Bool) where
   abbrev registers : List (ℕ × ℕ)
   registers = address_registers (layout_of bridge)
 
@@ -64,7 +64,7 @@ module _ (exact : Bool) (image : List ℕ) (lines : List ResourceLine) (bridge :
   derived offset = register_derived image lines offset
 
   abbrev fault : ℕ → Option NoProbe
-  fault offset = register_fault exact offset (derived offset)
+  fault offset = register_fault assuming offset (derived offset)
 
   abbrev assumes : ℕ → Bool
   assumes offset = is_assumed (derived offset)
@@ -97,7 +97,7 @@ module _ (exact : Bool) (image : List ℕ) (lines : List ResourceLine) (bridge :
 
     -- a register without a read back is the first
     pub derived_fault : (probe assumed : List ℕ) (found : NoProbe) → HasDerived k probe assumed → layout image ≡ layout_of bridge → fault r.0 ≡ Some found
-        → no_probe exact image lines ≡ Some found
+        → no_probe assuming image lines ≡ Some found
     unfolding no_probe
     derived_fault probe assumed found so_far kind faulty =
         ap (λ m. first_at fault (map (λ (q : ℕ × ℕ). q.0) (address_registers m))) kind
@@ -167,7 +167,7 @@ module _ (exact : Bool) (image : List ℕ) (lines : List ResourceLine) (bridge :
         has.bytes place below ∙ ap (λ rs. derived_byte image lines place (found_in rs place)) (take_all k registers all)
         ∙ ap (λ m. derived_byte image lines place (register_at m place)) (sym kind))
 
-    pub told_all : no_probe exact image lines ≡ None
+    pub told_all : no_probe assuming image lines ≡ None
     unfolding no_probe
     told_all =
         ap (λ m. first_at fault (map (λ (q : ℕ × ℕ). q.0) (address_registers m))) kind

@@ -1,5 +1,5 @@
 -- Why a function has no derived probe, as the definitions have it.
-use Rattle.std.specs.Prelude.{◌≡◌, ℕ, Bool, IsFalse, List, Option, Some, ◌≤◌}
+use Rattle.std.specs.Prelude.{◌≡◌, ℕ, IsFalse, List, Option, Some, ◌≤◌}
 use Rattle.pci_spec.specs.Fault.{has_no_vendor}
 use Rattle.pci_spec.specs.NoProbe.{NoProbe, no_probe}
 use Rattle.pci_spec.specs.NoProbe as spec
@@ -8,6 +8,8 @@ use Rattle.pci_image.specs.Faults.{IsImageFaultIn, image_fault_number}
 use Rattle.pci_image.specs.Header.{HasHeader}
 use Rattle.pci_image.specs.declared.fault.ImageFault.{ImageFault}
 use Rattle.pci_image.specs.declared.fault.ImageFault.TheVariants.{HeaderKind}
+use Rattle.pci_probe.specs.Assuming.{assuming_of}
+use Rattle.pci_probe.specs.declared.assuming.Assuming.{Assuming}
 use Rattle.pci_probe.specs.declared.fault.DeriveFault.{DeriveFault}
 use Rattle.pci_probe.specs.declared.fault.DeriveFault.TheVariants.{Header, NoSize, OtherSize}
 
@@ -24,9 +26,9 @@ pub record IsHeaderFault (image : List ℕ) (fault : ImageFault) : Type 0 where
   pub answers : fault ≡ HeaderKind → IsFalse (has_no_vendor image)
 
 -- the function has a header, and its first register without a read back is this
-abbrev pub IsRegisterFault : Bool → List ℕ → List ResourceLine → NoProbe → Type 0
-IsRegisterFault exact image lines fault =
-    HasHeader image × (no_probe exact image lines ≡ Some fault)
+abbrev pub IsRegisterFault : Assuming → List ℕ → List ResourceLine → NoProbe → Type 0
+IsRegisterFault assuming image lines fault =
+    HasHeader image × (no_probe (assuming_of assuming) image lines ≡ Some fault)
 
 -- the fault is that of a register
 abbrev pub IsFaultOf : DeriveFault → Option NoProbe → Type 0
@@ -35,9 +37,9 @@ IsFaultOf (NoSize register) found = found ≡ Some (spec.NoSize register)
 IsFaultOf (OtherSize register) found = found ≡ Some (spec.OtherSize register)
 
 -- why the function has no probe
-abbrev pub IsDeriveFault : Bool → List ℕ → List ResourceLine → DeriveFault → Type 0
-IsDeriveFault exact image lines (Header fault) = IsHeaderFault image fault
-IsDeriveFault exact image lines (NoSize register) =
-    IsRegisterFault exact image lines (spec.NoSize register)
-IsDeriveFault exact image lines (OtherSize register) =
-    IsRegisterFault exact image lines (spec.OtherSize register)
+abbrev pub IsDeriveFault : Assuming → List ℕ → List ResourceLine → DeriveFault → Type 0
+IsDeriveFault assuming image lines (Header fault) = IsHeaderFault image fault
+IsDeriveFault assuming image lines (NoSize register) =
+    IsRegisterFault assuming image lines (spec.NoSize register)
+IsDeriveFault assuming image lines (OtherSize register) =
+    IsRegisterFault assuming image lines (spec.OtherSize register)

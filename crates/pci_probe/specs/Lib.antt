@@ -1,3 +1,4 @@
+pub mod Assuming
 pub mod Derived
 pub mod Fault
 pub mod SizesFault

@@ -1,5 +1,5 @@
 -- Why a dump has no derived probe, as the definitions have it.
-use Rattle.std.specs.Prelude.{◌≡◌, Bool, List, Some}
+use Rattle.std.specs.Prelude.{◌≡◌, List, Some}
 use Rattle.pci_spec.specs.Slot.{Slot}
 use Rattle.pci_spec.specs.Text.{Block}
 use Rattle.pci_spec.specs.SizesText.{SizesBlock}
@@ -8,6 +8,8 @@ use Rattle.pci_spec.specs.ProbeOf as spec
 use Rattle.pci_image.specs.declared.fault.ImageFault.TheVariants as of_image
 use Rattle.pci_base.specs.declared.memory.Refused.{Refused}
 use Rattle.pci_base.specs.declared.memory.Refused.TheVariants.{Fault, Memory}
+use Rattle.pci_probe.specs.Assuming.{assuming_of}
+use Rattle.pci_probe.specs.declared.assuming.Assuming.{Assuming}
 use Rattle.pci_probe.specs.declared.fault.DeriveFault.{DeriveFault}
 use Rattle.pci_probe.specs.declared.fault.DeriveFault.TheVariants as of_function
 use Rattle.pci_probe.specs.declared.probe_fault.ProbeFault.{ProbeFault}
@@ -28,7 +30,7 @@ fault_at slot (of_function.NoSize register) = spec.NoSize slot register
 fault_at slot (of_function.OtherSize register) = spec.OtherSize slot register
 
 -- what is named is the first that there is
-abbrev pub IsFirstFault : Bool → List Block → List SizesBlock → Refused ProbeFault → Type 0
-IsFirstFault exact dump sizes (Fault fault) =
-    probe_fault exact dump sizes ≡ Some (fault_value fault)
-IsFirstFault exact dump sizes Memory = Unit {0}
+abbrev pub IsFirstFault : Assuming → List Block → List SizesBlock → Refused ProbeFault → Type 0
+IsFirstFault assuming dump sizes (Fault fault) =
+    probe_fault (assuming_of assuming) dump sizes ≡ Some (fault_value fault)
+IsFirstFault assuming dump sizes Memory = Unit {0}

@@ -105,10 +105,12 @@ fn derived(line: ResourceLine, wide: bool, enabled: bool, value: u64) -> Derived
             Derived::Known(0)
         };
     }
+    let least = of_size(wide, value, encodings(value));
     if enabled {
-        return Derived::NoSize;
+        Derived::Untold(least)
+    } else {
+        Derived::Assumed(least)
     }
-    Derived::Assumed(of_size(wide, value, encodings(value)))
 }
 
 /// What is derived for the BAR at register `n`, of its line.

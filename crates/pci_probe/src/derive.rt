@@ -4,9 +4,11 @@ ghost use Rattle.pci_spec.specs.Header.{layout};
 ghost use Rattle.pci_spec.specs.Derived.{derived_probe, assumed_registers, read_back_of, is_assumed};
 ghost use Rattle.pci_spec.specs.NoProbe.{no_probe, register_fault};
 ghost use Rattle.pci_image.specs.Header.{HasHeader};
+ghost use Rattle.pci_probe.specs.Assuming.{assuming_of};
 ghost use Rattle.pci_probe.specs.Derived.{derived_of, IsNarrow};
 ghost use Rattle.pci_probe.specs.Fault.{IsDeriveFault, IsHeaderFault, IsFaultOf};
 
+use super::assuming::Assuming;
 use super::derived::Derived;
 use super::fault::DeriveFault;
 use super::line::ResourceLine;
@@ -30,20 +32,22 @@ pub(crate) fn is_bridge(image: &Image) -> Result<bool, ImageFault>
     }
 }
 
-/// The read back of the register at an offset, and whether it is assumed; in an `exact` probe none is.
-fn taken(derived: Derived, exact: bool, offset: u8) -> Result<(u32, bool), DeriveFault>
+/// The read back of the register at an offset, and whether it is assumed.
+fn taken(derived: Derived, assuming: Assuming, offset: u8) -> Result<(u32, bool), DeriveFault>
     requires narrow { IsNarrow derived }
-    ensures told { OnOk result (register_fault exact offset (derived_of derived) ≡ None) }
+    ensures told { OnOk result (register_fault (assuming_of assuming) offset (derived_of derived)
+        ≡ None) }
     ensures read_back { IfOk result (λ taken. (taken.0 ≡ read_back_of (derived_of derived))
         × (taken.1 ≡ is_assumed (derived_of derived))) }
     ensures fault { IfErr result
-        (λ fault. IsFaultOf fault (register_fault exact offset (derived_of derived))) }
+        (λ fault. IsFaultOf fault
+        (register_fault (assuming_of assuming) offset (derived_of derived))) }
 {
     match derived {
         Derived::Known(read_back) => Ok((read_back as u32, false)),
-        Derived::Assumed(_) if exact => Err(DeriveFault::NoSize(offset)),
-        Derived::Assumed(read_back) => Ok((read_back as u32, true)),
-        Derived::NoSize => Err(DeriveFault::NoSize(offset)),
+        Derived::Assumed(read_back) if assuming.of_disabled() => Ok((read_back as u32, true)),
+        Derived::Untold(read_back) if assuming.of_enabled() => Ok((read_back as u32, true)),
+        Derived::Assumed(_) | Derived::Untold(_) => Err(DeriveFault::NoSize(offset)),
         Derived::OtherSize => Err(DeriveFault::OtherSize(offset)),
     }
 }
@@ -52,29 +56,28 @@ fn taken(derived: Derived, exact: bool, offset: u8) -> Result<(u32, bool), Deriv
 /// are those of the BAR registers, line 6 is that of the ROM. It is written to `probe`; what comes
 /// back are the registers whose read backs are assumed, by rising offset.
 ///
-/// Where no size is told of a register that isn't enabled, the read back of the least size is
-/// assumed, and a window that shows 0 while its space is enabled is assumed to be absent. In an
-/// `exact` probe nothing is assumed.
+/// Where no size is told of a register, the read back of the least size is assumed as [`Assuming`]
+/// says; a window that shows 0 while its space is enabled is assumed to be absent, unless nothing may
+/// be assumed.
 ///
 /// # Errors
 ///
 /// 20 and 21 (`Header`) as [`Header::of`]. Then that of the lowest register without a read back: 32
-/// `NoSize` where it is enabled and no size is told (or, of an exact probe, where it would be
-/// assumed), 33 `OtherSize` where it shows 0 and what is told has another encoding or size. Then
+/// `NoSize` where no size is told and none may be assumed, 33 `OtherSize` where it shows 0 and what is told has another encoding or size. Then
 /// `probe` holds no probe.
 pub fn derive(
     image: &Image,
     lines: &[ResourceLine; 7],
-    exact: bool,
+    assuming: Assuming,
     probe: &mut Image,
 ) -> Result<ArrayVec<u8, 9>, DeriveFault>
     ensures header { OnOk result (HasHeader image.now.0) }
-    ensures told { OnOk result (no_probe exact image.now.0 lines.now ≡ None) }
+    ensures told { OnOk result (no_probe (assuming_of assuming) image.now.0 lines.now ≡ None) }
     ensures probe { OnOk result (probe.new.0 ≡ derived_probe image.now.0 lines.now) }
     // the command line has a remark on each of these
     ensures assumed { IfOk result
         (λ registers. registers.items ≡ assumed_registers image.now.0 lines.now) }
-    ensures fault { IfErr result (IsDeriveFault exact image.now.0 lines.now) }
+    ensures fault { IfErr result (IsDeriveFault assuming image.now.0 lines.now) }
 {
     let bridge = match is_bridge(image) {
         Ok(bridge) => bridge,
@@ -84,7 +87,7 @@ pub fn derive(
     probe.0 = [0; IMAGE_LEN];
     for place in address_registers(bridge) {
         let derived = register(image, lines, bridge, place.offset);
-        let (read_back, is_assumed) = taken(derived, exact, place.offset)?;
+        let (read_back, is_assumed) = taken(derived, assuming, place.offset)?;
         put(&mut probe.0, place.offset, place.width, read_back);
         if is_assumed {
             assumed.push(place.offset);

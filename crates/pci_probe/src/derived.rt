@@ -7,8 +7,8 @@ pub enum Derived {
     Known(u64),
     /// Nothing tells it and nothing enabled hangs on it: this is assumed.
     Assumed(u64),
-    /// 32: the register is enabled, and no size is told.
-    NoSize,
+    /// The register is enabled, and no size is told: the read back of the least size.
+    Untold(u64),
     /// 33: the register shows 0, and what is told of it has another encoding or size.
     OtherSize,
 }
@@ -25,7 +25,7 @@ impl Derived {
         match self {
             Derived::Known(read_back) => Derived::Known(read_back % 0x1_0000_0000),
             Derived::Assumed(read_back) => Derived::Assumed(read_back % 0x1_0000_0000),
-            Derived::NoSize => Derived::NoSize,
+            Derived::Untold(read_back) => Derived::Untold(read_back % 0x1_0000_0000),
             Derived::OtherSize => Derived::OtherSize,
         }
     }
@@ -35,8 +35,10 @@ impl Derived {
         ensures { result ≡ read_back_of (derived_of self) / 2 ^ 32 }
     {
         match self {
-            Derived::Known(read_back) | Derived::Assumed(read_back) => read_back / 0x1_0000_0000,
-            Derived::NoSize | Derived::OtherSize => 0,
+            Derived::Known(read_back) | Derived::Assumed(read_back) | Derived::Untold(read_back) => {
+                read_back / 0x1_0000_0000
+            }
+            Derived::OtherSize => 0,
         }
     }
 }

@@ -8,7 +8,7 @@ use pci_image::fault::ImageFault;
 pub enum DeriveFault {
     /// 20 `NoVendor` or 21 `HeaderKind`: the function's header isn't decoded.
     Header(ImageFault),
-    /// 32: no size is told of an enabled register, or, of an exact probe, of any.
+    /// 32: no size is told of the register, and none may be assumed.
     NoSize(u8),
     /// 33: the register shows 0, and what is told of it has another encoding or size.
     OtherSize(u8),

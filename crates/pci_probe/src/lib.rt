@@ -5,13 +5,13 @@
 //! line for each BAR register and for the ROM. [`probe::probe_of`] makes the probe of a dump by the
 //! lines of its functions, one function after another ([`derive::derive`]) and register by register
 //! ([`register::register`]); nothing is written to a device. Where no size is told of a register that
-//! isn't enabled, a read back is assumed by habit, and the register is named; where the register is
-//! enabled, there is no probe.
+//! isn't enabled, the least is assumed, and the register is named; where the register is enabled,
+//! there is no probe, unless that may be assumed of any ([`Assuming`]).
 //!
 //! ```text
 //! let dump = read_dump(rt.alloc(), &mut Incoming::new(dump_file))?;
 //! let sizes = read_sizes(rt.alloc(), &mut Incoming::new(sizes_file))?;
-//! match probe_of(rt.alloc(), &dump, &sizes, false) {
+//! match probe_of(rt.alloc(), &dump, &sizes, Assuming::Disabled) {
 //!     Ok(derivation) => {
 //!         write_dump(&mut output, &derivation.probe)?;
 //!         for register in &derivation.assumed { eprintln!(rt; "{register}")?; }
@@ -23,6 +23,7 @@
 #![tactic(auto)]
 
 pub mod assumed;
+pub mod assuming;
 mod bar;
 pub mod derive;
 pub mod derived;
@@ -43,6 +44,7 @@ mod tests;
 mod window;
 
 pub use assumed::AssumedRegister;
+pub use assuming::Assuming;
 pub use derived::Derived;
 pub use fault::DeriveFault;
 pub use line::ResourceLine;

@@ -6,10 +6,12 @@ ghost use Rattle.pci_spec.specs.ProbeOf.{assumed_at, assumed_in, assumed_of, fir
 ghost use Rattle.pci_spec.specs.ProbeOf as spec;
 ghost use Rattle.pci_image.specs.Header.{HasHeader};
 ghost use Rattle.pci_pair.specs.Pair.{IsPair};
+ghost use Rattle.pci_probe.specs.Assuming.{assuming_of};
 ghost use Rattle.pci_probe.specs.ProbeFault.{IsFirstFault, fault_value};
 ghost use Rattle.pci_probe.specs.Derivation.{IsFaultOfFunction, told};
 
 use super::assumed::AssumedRegister;
+use super::assuming::Assuming;
 use super::derive::{derive, is_bridge};
 use super::fault::DeriveFault;
 use super::lone::lone_slot;
@@ -67,20 +69,20 @@ fn add<A: Allocator>(
     derivation: &mut Derivation<A>,
     block: &Block,
     sizes: &SizesBlock,
-    exact: bool,
+    assuming: Assuming,
 ) -> Result<(), Refused<ProbeFault>>
     requires header { HasHeader block.now.image }
     requires above { IsAboveLast (last_slot derivation.old.probe) block.now.slot }
     requires room { length derivation.old.probe < 4096 }
-    ensures told { OnOk result (no_probe exact block.now.image sizes.now.lines ≡ None) }
+    ensures told { OnOk result (no_probe (assuming_of assuming) block.now.image sizes.now.lines ≡ None) }
     ensures probe { OnOk result (derivation.new.probe
         ≡ derivation.old.probe ++ probe_block (told block.now sizes.now) ∷ []) }
     ensures assumed { OnOk result (derivation.new.assumed.items
         ≡ derivation.old.assumed.items ++ assumed_in (told block.now sizes.now)) }
-    ensures fault { IfErr result (IsFaultOfFunction exact (told block.now sizes.now)) }
+    ensures fault { IfErr result (IsFaultOfFunction assuming (told block.now sizes.now)) }
 {
     let mut image = Image([0; IMAGE_LEN]);
-    let registers = match derive(&block.image, &sizes.lines, exact, &mut image) {
+    let registers = match derive(&block.image, &sizes.lines, assuming, &mut image) {
         Ok(registers) => registers,
         Err(fault) => return Err(Refused::Fault(ProbeFault::at(block.slot, fault))),
     };
@@ -94,8 +96,7 @@ fn add<A: Allocator>(
 }
 
 /// The probe of a dump, by what Linux tells of its functions' registers. It has the dump's slots and
-/// no titles, and goes with the dump as [`pci_pair::pair::pair`] asks. In an `exact` probe nothing is
-/// assumed.
+/// no titles, and goes with the dump as [`pci_pair::pair::pair`] asks.
 ///
 /// # Errors
 ///
@@ -108,9 +109,9 @@ pub fn probe_of<A: Allocator + Copy, B: Allocator, C: Allocator>(
     alloc: A,
     dump: &Dump<B>,
     sizes: &Sizes<C>,
-    exact: bool,
+    assuming: Assuming,
 ) -> Result<Derivation<A>, Refused<ProbeFault>>
-    ensures told { OnOk result (probe_fault exact dump.now sizes.now ≡ None) }
+    ensures told { OnOk result (probe_fault (assuming_of assuming) dump.now sizes.now ≡ None) }
     ensures probe { IfOk result
         (λ derivation. derivation.probe ≡ spec.probe_of dump.now sizes.now) }
     ensures assumed { IfOk result
@@ -118,7 +119,7 @@ pub fn probe_of<A: Allocator + Copy, B: Allocator, C: Allocator>(
     // none of 20, 21, 30 and 31 is left for `check` to find in it
     ensures pair { IfOk result
         (λ derivation. (roots : List ℕ) → IsPair roots dump.now derivation.probe) }
-    ensures fault { IfErr result (IsFirstFault exact dump.now sizes.now) }
+    ensures fault { IfErr result (IsFirstFault assuming dump.now sizes.now) }
 {
     let blocks = dump.blocks();
     let told = sizes.blocks();
@@ -135,7 +136,7 @@ pub fn probe_of<A: Allocator + Copy, B: Allocator, C: Allocator>(
         assumed: Vec::new(alloc),
     };
     for i in 0..blocks.len() {
-        add(&mut derivation, &blocks[i], &told[i], exact)?;
+        add(&mut derivation, &blocks[i], &told[i], assuming)?;
     }
     Ok(derivation)
 }

@@ -40,8 +40,10 @@ pub fn rom(line: ResourceLine, enabled: bool, value: u32) -> Derived
     if value == 0 {
         return Derived::Known(0);
     }
+    let least = 0x1_0000_0000 - LEAST;
     if value % 2 == 1 && enabled {
-        return Derived::NoSize;
+        Derived::Untold(least)
+    } else {
+        Derived::Assumed(least)
     }
-    Derived::Assumed(0x1_0000_0000 - LEAST)
 }

@@ -1,4 +1,4 @@
-use Rattle.std.proofs.Common.{◌≡◌, ◌++◌, ◌∷◌, [], Bool, List, Option, Some, ℕ, arith, sym, ◌∙◌, ap}
+use Rattle.std.proofs.Common.{◌≡◌, ◌++◌, ◌∷◌, [], List, Option, Some, ℕ, arith, sym, ◌∙◌, ap}
 use Rattle.std.proofs.lemmas.Bool.{cond-true, cond-false}
 use Rattle.std.proofs.lemmas.List.{append-nil}
 use Rattle.std.proofs.lemmas.Result.{err_from_is_err_and}
@@ -12,6 +12,8 @@ use Rattle.pci_image.specs.declared.register.Role.TheVariants as roles
 use Rattle.pci_machine.proofs.RegisterOrder.{layout_of, sound_at, sound_parts, register_begins}
 use Rattle.pci_probe.specs.declared.fault.DeriveFault.{DeriveFault}
 use Rattle.pci_probe.specs.declared.fault.DeriveFault.TheVariants.{Header, NoSize, OtherSize}
+use Rattle.pci_probe.specs.Assuming.{assuming_of}
+use Rattle.pci_probe.specs.declared.assuming.Assuming.{Assuming}
 use Rattle.pci_probe.specs.Derived.{derived_of}
 use Rattle.pci_probe.specs.Fault.{IsDeriveFault, IsFaultOf}
 use Rattle.pci_probe.proofs.Registers.{derived_none, derived_fault, derived_more, derived_all, told_all, assumed_all, length_of_table, here, in_table, at_place}
@@ -21,14 +23,14 @@ use Rattle.pci_probe.proofs.derive.derive.Goals.{then-is_assumed, else-is_assume
 abbrev none : Register
 none = record { offset = 0; width = 0; role = roles.Bar 0 }
 
-fault_of : (exact : Bool) (image : List ℕ) (lines : List ResourceLine) (fault : DeriveFault) (found : Option NoProbe) → IsFaultOf fault found → HasHeader image
-    → ((x : NoProbe) → found ≡ Some x → no_probe exact image lines ≡ Some x) → IsDeriveFault exact image lines fault
-fault_of exact image lines (Header fault) found is header first = absurd is
-fault_of exact image lines (NoSize register) found is header first = (header, first (spec.NoSize register) is)
-fault_of exact image lines (OtherSize register) found is header first = (header, first (spec.OtherSize register) is)
+fault_of : (assuming : Assuming) (image : List ℕ) (lines : List ResourceLine) (fault : DeriveFault) (found : Option NoProbe) → IsFaultOf fault found → HasHeader image
+    → ((x : NoProbe) → found ≡ Some x → no_probe (assuming_of assuming) image lines ≡ Some x) → IsDeriveFault assuming image lines fault
+fault_of assuming image lines (Header fault) found is header first = absurd is
+fault_of assuming image lines (NoSize register) found is header first = (header, first (spec.NoSize register) is)
+fault_of assuming image lines (OtherSize register) found is header first = (header, first (spec.OtherSize register) is)
 
 pub loop-place-init : goal.loop-place-init
-loop-place-init c = derived_none c.args.exact c.args.image.now.0 c.args.lines.now c.in-Ok.bridge c.new-assumed.result.items c.new-assumed.ensures
+loop-place-init c = derived_none (assuming_of c.args.assuming) c.args.image.now.0 c.args.lines.now c.in-Ok.bridge c.new-assumed.result.items c.new-assumed.ensures
 
 pub register-derived-requires-clause-begins : goal.register-derived-requires-clause-begins
 register-derived-requires-clause-begins c =
@@ -48,10 +50,10 @@ returns-in_err-read_back-clause-fault c =
     let register = here items bridge table k within none in
     let derived = c.register-derived.ensures.derived in
     let p = err_from_is_err_and c.from_residual.result c.from_residual.ensures.1 in
-    rw (p.1, p.2) (fault_of c.args.exact c.args.image.now.0 c.args.lines.now c.in_err-read_back.field-0.0 (register_fault c.args.exact register.0 (derived_of c.register-derived.result))
+    rw (p.1, p.2) (fault_of c.args.assuming c.args.image.now.0 c.args.lines.now c.in_err-read_back.field-0.0 (register_fault (assuming_of c.args.assuming) register.0 (derived_of c.register-derived.result))
     c.in_err-read_back.ensures.fault c.in-Ok.ensures.header (λ found is.
-    derived_fault c.args.exact c.args.image.now.0 c.args.lines.now bridge k register (in_table items bridge table k within none) (at_place items bridge table k within none)
-    c.loop-place.probe.0 c.loop-place.assumed.items found c.loop-place.invariant c.in-Ok.ensures.layout (sym (ap (register_fault c.args.exact register.0) derived) ∙ is)))
+    derived_fault (assuming_of c.args.assuming) c.args.image.now.0 c.args.lines.now bridge k register (in_table items bridge table k within none) (at_place items bridge table k within none)
+    c.loop-place.probe.0 c.loop-place.assumed.items found c.loop-place.invariant c.in-Ok.ensures.layout (sym (ap (register_fault (assuming_of c.args.assuming) register.0) derived) ∙ is)))
 
 pub put-requires : goal.put-requires
 put-requires c =
@@ -77,9 +79,9 @@ loop-place-preserved c =
     let taken = c.in_ok-read_back.ensures in
     let assumes : c.in_ok-read_back.is_assumed ≡ is_assumed (register_derived image lines register.0) = taken.read_back.1 ∙ ap is_assumed derived in
     let so_far = c.loop-place.assumed.items in
-    derived_more c.args.exact image lines bridge k register (in_table items bridge table k within none) (at_place items bridge table k within none)
+    derived_more (assuming_of c.args.assuming) image lines bridge k register (in_table items bridge table k within none) (at_place items bridge table k within none)
     c.loop-place.probe.0 c.put.new.bytes c.loop-place.assumed.items c.if-is_assumed.assumed.items c.in_ok-read_back.read_back c.loop-place.invariant
-    (sym (ap (register_fault c.args.exact register.0) derived) ∙ taken.told) c.put.array_long (taken.read_back.0 ∙ ap read_back_of derived) c.put.ensures.inside c.put.ensures.outside
+    (sym (ap (register_fault (assuming_of c.args.assuming) register.0) derived) ∙ taken.told) c.put.array_long (taken.read_back.0 ∙ ap read_back_of derived) c.put.ensures.inside c.put.ensures.outside
     (elim c.if-is_assumed.branch [
       | then-is_assumed w ↦ rw w.assumed-is
           (w.push.ensures.items ∙ ap (λ xs. so_far ++ xs) (sym (cond-true (is_assumed (register_derived image lines register.0)) (register.0 ∷ []) [] (sym assumes ∙ w.if-is_assumed.true))))
@@ -91,19 +93,19 @@ pub returns-clause-told : goal.returns-clause-told
 returns-clause-told c =
     let items = c.address_registers-place-items.result.now in
     let long = length_of_table items c.in-Ok.bridge c.address_registers-place-items.ensures in
-    told_all c.args.exact c.args.image.now.0 c.args.lines.now c.in-Ok.bridge c.loop-place.place-index c.loop-place.probe.0 c.loop-place.assumed.items
+    told_all (assuming_of c.args.assuming) c.args.image.now.0 c.args.lines.now c.in-Ok.bridge c.loop-place.place-index c.loop-place.probe.0 c.loop-place.assumed.items
     c.in-Ok.ensures.layout (omega (arith, c.loop-place-test.false, long)) c.loop-place.invariant
 
 pub returns-clause-probe : goal.returns-clause-probe
 returns-clause-probe c =
     let items = c.address_registers-place-items.result.now in
     let long = length_of_table items c.in-Ok.bridge c.address_registers-place-items.ensures in
-    derived_all c.args.exact c.args.image.now.0 c.args.lines.now c.in-Ok.bridge c.loop-place.place-index c.loop-place.probe.0 c.loop-place.assumed.items
+    derived_all (assuming_of c.args.assuming) c.args.image.now.0 c.args.lines.now c.in-Ok.bridge c.loop-place.place-index c.loop-place.probe.0 c.loop-place.assumed.items
     c.in-Ok.ensures.layout (omega (arith, c.loop-place-test.false, long)) c.loop-place.invariant
 
 pub returns-clause-assumed : goal.returns-clause-assumed
 returns-clause-assumed c =
     let items = c.address_registers-place-items.result.now in
     let long = length_of_table items c.in-Ok.bridge c.address_registers-place-items.ensures in
-    assumed_all c.args.exact c.args.image.now.0 c.args.lines.now c.in-Ok.bridge c.loop-place.place-index c.loop-place.probe.0 c.loop-place.assumed.items
+    assumed_all (assuming_of c.args.assuming) c.args.image.now.0 c.args.lines.now c.in-Ok.bridge c.loop-place.place-index c.loop-place.probe.0 c.loop-place.assumed.items
     c.in-Ok.ensures.layout (omega (arith, c.loop-place-test.false, long)) c.loop-place.invariant

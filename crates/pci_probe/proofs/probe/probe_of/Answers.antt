@@ -13,21 +13,22 @@ use Rattle.pci_probe.proofs.ToldFunctions.{same_count, length-told_of, told_at, 
 use Rattle.pci_pair.specs.Pair.{IsPair}
 use Rattle.pci_probe.proofs.ProbePairs.{pair_of}
 use Rattle.pci_probe.proofs.ProbeFaults.{fault_by, register_fault_by}
+use Rattle.pci_probe.specs.Assuming.{assuming_of}
 use Rattle.pci_probe.proofs.probe.probe_of.Goals as goal
 
 pub returns-in-Some-clause-fault : goal.returns-in-Some-clause-fault
 returns-in-Some-clause-fault g c =
     let dump = c.blocks-blocks.ensures.value in
     let sizes = c.blocks-told.ensures.value in
-    sym (λ i. probe_fault c.args.exact (dump i) (sizes i))
-    ∙ fault_by c.args.exact c.blocks-blocks.result.now c.blocks-told.result.now (Some c.in-Some.slot) (first_of identity_fault c.blocks-blocks.result.now) c.in-Some.ensures.least refl
+    sym (λ i. probe_fault (assuming_of c.args.assuming) (dump i) (sizes i))
+    ∙ fault_by c.args.assuming c.blocks-blocks.result.now c.blocks-told.result.now (Some c.in-Some.slot) (first_of identity_fault c.blocks-blocks.result.now) c.in-Some.ensures.least refl
 
 pub returns-in-Some-header_fault-clause-fault : goal.returns-in-Some-header_fault-clause-fault
 returns-in-Some-header_fault-clause-fault g c =
     let dump = c.blocks-blocks.ensures.value in
     let sizes = c.blocks-told.ensures.value in
-    sym (λ i. probe_fault c.args.exact (dump i) (sizes i))
-    ∙ fault_by c.args.exact c.blocks-blocks.result.now c.blocks-told.result.now None _ c.in-None.ensures.least c.in-Some-header_fault.ensures.some
+    sym (λ i. probe_fault (assuming_of c.args.assuming) (dump i) (sizes i))
+    ∙ fault_by c.args.assuming c.blocks-blocks.result.now c.blocks-told.result.now None _ c.in-None.ensures.least c.in-Some-header_fault.ensures.some
 
 pub loop-i-init : goal.loop-i-init
 unfolding first_of
@@ -56,9 +57,9 @@ returns-in_err-add-clause-fault g c =
     let dump = c.blocks-blocks.ensures.value in
     let sizes = c.blocks-told.ensures.value in
     let p = err_from_is_err_and c.from_residual.result c.from_residual.ensures.1 in
-    rw (p.1, p.2) (subst (λ (bs : List Block). IsFirstFault c.args.exact bs c.args.sizes.now c.in_err-add.field-0.0) dump
-    (subst (λ (ss : List SizesBlock). IsFirstFault c.args.exact c.blocks-blocks.result.now ss c.in_err-add.field-0.0) sizes
-    (register_fault_by c.args.exact c.blocks-blocks.result.now c.blocks-told.result.now c.in_err-add.field-0.0 c.loop-i.i c.index-blocks-i.result c.index-told-i.result
+    rw (p.1, p.2) (subst (λ (bs : List Block). IsFirstFault c.args.assuming bs c.args.sizes.now c.in_err-add.field-0.0) dump
+    (subst (λ (ss : List SizesBlock). IsFirstFault c.args.assuming c.blocks-blocks.result.now ss c.in_err-add.field-0.0) sizes
+    (register_fault_by c.args.assuming c.blocks-blocks.result.now c.blocks-told.result.now c.in_err-add.field-0.0 c.loop-i.i c.index-blocks-i.result c.index-told-i.result
     c.in-None.ensures.least c.in-None.ensures.same c.in-None-header_fault.ensures.none c.loop-i-test.true c.index-blocks-i.is c.index-told-i.is c.loop-i.invariant.fine c.in_err-add.ensures.fault)))
 
 pub loop-i-preserved : goal.loop-i-preserved
@@ -74,7 +75,7 @@ loop-i-preserved g c =
     let inside : c.loop-i.i < length (told_of blocks sizes) = omega (arith, long, within) in
     let at = told_at blocks sizes c.loop-i.i b s within (omega (arith, count, within)) c.index-blocks-i.is c.index-told-i.is in
     record {
-      fine = first_of-more (read_back_fault c.args.exact) (told_of blocks sizes) c.loop-i.i (told b s) inside at c.loop-i.invariant.fine ∙ ap (option_map (at_slot b.slot)) c.in_ok-add.ensures.told;
+      fine = first_of-more (read_back_fault (assuming_of c.args.assuming)) (told_of blocks sizes) c.loop-i.i (told b s) inside at c.loop-i.invariant.fine ∙ ap (option_map (at_slot b.slot)) c.in_ok-add.ensures.told;
       probe = c.in_ok-add.ensures.probe ∙ ap (λ bs. bs ++ probe_block (told b s) ∷ []) c.loop-i.invariant.probe ∙ sym (blocks_more blocks sizes same c.loop-i.i (told b s) inside at);
       assumed = c.in_ok-add.ensures.assumed ∙ ap (λ xs. xs ++ assumed_in (told b s)) c.loop-i.invariant.assumed ∙ sym (assumed_more blocks sizes same c.loop-i.i (told b s) inside at);
     }
@@ -86,8 +87,8 @@ returns-clause-told g c =
     let told = c.blocks-told.result.now in
     let dump = c.blocks-blocks.ensures.value in
     let sizes = c.blocks-told.ensures.value in
-    sym (λ i. probe_fault c.args.exact (dump i) (sizes i)) ∙ fault_by c.args.exact blocks told None None c.in-None.ensures.least c.in-None-header_fault.ensures.none
-    ∙ ap (first_of (read_back_fault c.args.exact)) (sym (all_told blocks told c.in-None.ensures.same c.loop-i.i c.loop-i-test.false)) ∙ c.loop-i.invariant.fine
+    sym (λ i. probe_fault (assuming_of c.args.assuming) (dump i) (sizes i)) ∙ fault_by c.args.assuming blocks told None None c.in-None.ensures.least c.in-None-header_fault.ensures.none
+    ∙ ap (first_of (read_back_fault (assuming_of c.args.assuming))) (sym (all_told blocks told c.in-None.ensures.same c.loop-i.i c.loop-i-test.false)) ∙ c.loop-i.invariant.fine
 
 pub returns-clause-probe : goal.returns-clause-probe
 returns-clause-probe g c =
