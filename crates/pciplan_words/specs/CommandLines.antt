@@ -32,7 +32,9 @@ planning = with_rule (with_rule (with_rule (with_rule (with_rule (with_paths (co
     (option_rule (codes "root"))
 
 abbrev pub probing : App
-probing = with_rule (with_paths (codes "probe")) (flag_rule (codes "exact"))
+probing =
+    with_rule (with_rule (with_paths (codes "probe")) (flag_rule (codes "exact")))
+    (flag_rule (codes "least"))
 
 -- the program: its words come without its name, and one of them has to name a subcommand
 abbrev pub program : App

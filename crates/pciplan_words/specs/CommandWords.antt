@@ -31,8 +31,9 @@ IsAsked name rows (Check root) =
     (name ≡ codes "check") × (first_of (codes "root") rows ≡ word_of root)
 IsAsked name rows Size = name ≡ codes "size"
 IsAsked name rows (Plan words) = (name ≡ codes "plan") × HasPlanWords rows words
-IsAsked name rows (Probe exact) =
+IsAsked name rows (Probe exact least) =
     (name ≡ codes "probe") × IsFlag (one_of (codes "exact") rows) exact
+    × IsFlag (one_of (codes "least") rows) least
 
 -- what the words of a subcommand say: what is asked for, and the paths of the dump and of the second text
 pub record IsSaid (name : Text) (rows : List Row) (asked : Asked)

@@ -24,8 +24,8 @@ pub enum Asked<'a> {
     Size,
     /// The plan.
     Plan(PlanWords<'a>),
-    /// The derived probe, and whether it has to be exact.
-    Probe { exact: bool },
+    /// The derived probe, whether it has to be exact, and whether the least size is taken where an enabled register has none.
+    Probe { exact: bool, least: bool },
 }
 
 /// What the words of a command line say: the task with the words of its options, and the paths of the two texts.

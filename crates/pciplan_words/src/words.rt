@@ -3,7 +3,7 @@ ghost use Rattle.std.specs.Prelude.{◌≡◌, ◌≢◌, ◌⊎◌, List, ℕ, 
 ghost use Rattle.clap.specs.Words.{app_of, found_of, kind_of, rows_of, rule_of};
 ghost use Rattle.clap.specs.declared.error.kind.ErrorKind.{ErrorKind};
 ghost use Rattle.clap.specs.declared.builder.command.Command.TheViews.{out-Command};
-ghost use Rattle.pciplan_words.specs.CommandLines.{pool_rule, with_paths, planning, probing, commands, IsGiven, HasNoLine};
+ghost use Rattle.pciplan_words.specs.CommandLines.{flag_rule, pool_rule, with_paths, planning, probing, commands, IsGiven, HasNoLine};
 ghost use Rattle.pciplan_words.specs.CommandWords.{HasPlanWords, IsAsked, IsSaid};
 ghost use Rattle.pciplan_words.specs.declared.asked.Asked.{Asked};
 ghost use Rattle.pciplan_words.specs.declared.asked.PlanWords.{PlanWords};
@@ -33,6 +33,9 @@ const PREF: &str = "pref";
 
 /// The name of the option that lets nothing be assumed.
 const EXACT: &str = "exact";
+
+/// The name of the option that lets the least size be assumed of enabled registers.
+const LEAST: &str = "least";
 
 impl From<AllocError> for WordsFault {
     ghost from_gives = { λ _ fault. fault ≡ WordsFault.Memory };
@@ -75,31 +78,35 @@ fn pool_arg<'a>(alloc: Global, name: &'a str) -> Arg<'a>
     Arg::new(alloc, name).long(name).required(true)
 }
 
+/// The option of this name, which takes no word.
+fn flag_arg<'a>(alloc: Global, name: &'a str) -> Arg<'a>
+    ensures rule { rule_of result ≡ flag_rule name.now }
+    ensures local { result.global ≡ false }
+{
+    Arg::new(alloc, name).long(name).action(ArgAction::SetTrue)
+}
+
 /// `pciplan plan DUMP PROBE --io A-B --mem A-B --pref A-B [--writes] [--root LIST]`.
 fn plan_command<'a>(alloc: Global) -> Result<Command<'a>, AllocError>
     ensures app { IfOk result (λ command. app_of command ≡ planning) }
     ensures local { IfOk result (λ command. (out-Command command).has_globals ≡ false) }
 {
-    let writes = Arg::new(alloc, WRITES)
-        .long(WRITES)
-        .action(ArgAction::SetTrue);
     of_texts(alloc, "plan")?
         .arg(pool_arg(alloc, IO))?
         .arg(pool_arg(alloc, MEM))?
         .arg(pool_arg(alloc, PREF))?
-        .arg(writes)?
+        .arg(flag_arg(alloc, WRITES))?
         .arg(Arg::new(alloc, ROOT).long(ROOT))
 }
 
-/// `pciplan probe DUMP SIZES [--exact]`.
+/// `pciplan probe DUMP SIZES [--exact] [--least]`.
 fn probe_command<'a>(alloc: Global) -> Result<Command<'a>, AllocError>
     ensures app { IfOk result (λ command. app_of command ≡ probing) }
     ensures local { IfOk result (λ command. (out-Command command).has_globals ≡ false) }
 {
-    let exact = Arg::new(alloc, EXACT)
-        .long(EXACT)
-        .action(ArgAction::SetTrue);
-    of_texts(alloc, "probe")?.arg(exact)
+    of_texts(alloc, "probe")?
+        .arg(flag_arg(alloc, EXACT))?
+        .arg(flag_arg(alloc, LEAST))
 }
 
 /// `pciplan show DUMP PROBE`, `pciplan check [--root LIST] DUMP PROBE`, `pciplan size DUMP PROBE`, and `pciplan plan` and
@@ -147,6 +154,7 @@ fn asked_of<'a>(name: &str, found: &ArgMatches<'a>) -> Option<Asked<'a>>
         "plan" => Some(Asked::Plan(plan_words(found)?)),
         "probe" => Some(Asked::Probe {
             exact: found.get_flag(EXACT),
+            least: found.get_flag(LEAST),
         }),
         _ => None,
     }
