@@ -1,8 +1,10 @@
 -- The task that a command line asks for, and the word that it is refused for.
-use Rattle.std.specs.Prelude.{◌≡◌, ℕ, ◌∷◌, [], List, Option, None, Some}
+use Rattle.std.specs.Prelude.{◌≡◌, ℕ, ◌∷◌, [], Bool, true, false, List, Option, None, Some}
 use Rattle.std.specs.Borrow.{Bor}
 use Rattle.pci_base.specs.declared.range.Range.{Range}
 use Rattle.pci_place.specs.declared.pools.Pools.{Pools}
+use Rattle.pci_probe.specs.declared.assuming.Assuming.{Assuming}
+use Rattle.pci_probe.specs.declared.assuming.Assuming.TheVariants.{Nothing, Disabled, Any}
 use Rattle.pci_tree.specs.Roots.{buses_of}
 use Rattle.pci_tree.specs.declared.roots.Roots.{Roots}
 use Rattle.pciplan_cli.specs.PoolWords.{IsPoolWord, HasNoPool}
@@ -14,7 +16,7 @@ use Rattle.pciplan_cli.specs.declared.invocation.Task.{Task}
 use Rattle.pciplan_cli.specs.declared.invocation.Task.TheVariants as task
 use Rattle.pciplan_cli.specs.declared.failure.PoolOption.TheVariants.{Io, Mem, Pref}
 use Rattle.pciplan_cli.specs.declared.failure.Failure.{Failure}
-use Rattle.pciplan_cli.specs.declared.failure.Failure.TheVariants.{Root, Pool}
+use Rattle.pciplan_cli.specs.declared.failure.Failure.TheVariants.{Usage, Root, Pool}
 
 -- the roots of the word of `--root`: bus 00 alone where there is none
 abbrev pub AreRootsOf : Option (Bor (List ℕ)) → Roots → Type 0
@@ -35,12 +37,20 @@ pub record IsPlanningOf (words : PlanWords) (planning : Task) : Type 0 where
   pub pref : IsPoolWord words.pref.now pools.pref
   pub is : planning ≡ task.Plan pools words.writes roots
 
+-- of which registers a size may be assumed, by `--exact` and `--least`
+abbrev pub IsAssumingOf : Bool → Bool → Assuming → Type 0
+IsAssumingOf true true assuming = ⊥
+IsAssumingOf true false assuming = assuming ≡ Nothing
+IsAssumingOf false true assuming = assuming ≡ Any
+IsAssumingOf false false assuming = assuming ≡ Disabled
+
 abbrev pub IsTaskOf : Asked → Task → Type 0
 IsTaskOf asked.Show t = t ≡ task.Show
 IsTaskOf (asked.Check root) t = (roots : Roots) × AreRootsOf root roots × (t ≡ task.Check roots)
 IsTaskOf asked.Size t = t ≡ task.Size
 IsTaskOf (asked.Plan words) t = IsPlanningOf words t
-IsTaskOf (asked.Probe exact) t = t ≡ task.Probe exact
+IsTaskOf (asked.Probe exact least) t =
+    (assuming : Assuming) × IsAssumingOf exact least assuming × (t ≡ task.Probe assuming)
 
 -- the words before the one that is refused have their roots and pools
 abbrev pub HasRoots : PlanWords → Type 0
@@ -52,11 +62,13 @@ HasIo words = HasRoots words × ((pool : Range) × IsPoolWord words.io.now pool)
 abbrev pub HasMem : PlanWords → Type 0
 HasMem words = HasIo words × ((pool : Range) × IsPoolWord words.mem.now pool)
 
--- the first word that is none, of the root list and then the pools of I/O, memory and prefetchable memory
+-- the first word that is none, of the root list and then the pools of I/O, memory and prefetchable memory; or two options of
+-- which one alone may be said
 abbrev pub IsRefusedFor : Asked → Failure → Type 0
 IsRefusedFor (asked.Check root) Root = HasNoRoots root
 IsRefusedFor (asked.Plan words) Root = HasNoRoots words.root
 IsRefusedFor (asked.Plan words) (Pool Io) = HasRoots words × HasNoPool words.io.now
 IsRefusedFor (asked.Plan words) (Pool Mem) = HasIo words × HasNoPool words.mem.now
 IsRefusedFor (asked.Plan words) (Pool Pref) = HasMem words × HasNoPool words.pref.now
+IsRefusedFor (asked.Probe exact least) Usage = (exact ≡ true) × (least ≡ true)
 IsRefusedFor _ _ = ⊥

@@ -1,5 +1,5 @@
 -- The command lines, by their words.
-use Rattle.std.specs.Prelude.{◌≡◌, List, ℕ, ⊤}
+use Rattle.std.specs.Prelude.{◌≡◌, ◌⊎◌, List, ℕ, ⊤}
 use Rattle.std.specs.String.{string_bytes}
 use Rattle.pciplan_words.specs.CommandLines.{IsGiven, HasNoLine}
 use Rattle.pciplan_words.specs.declared.asked.Asked.{Asked}
@@ -15,13 +15,17 @@ pub record IsInvocationOf (words : List (List ℕ)) (line : Invocation) : Type 0
   pub given : IsGiven words asked (string_bytes line.dump) (string_bytes line.probe)
   pub task : IsTaskOf asked line.task
 
+-- what the words say is refused
+abbrev pub IsRefusedLine : List (List ℕ) → Failure → Type 0
+IsRefusedLine words failure =
+    (asked : Asked) × (dump : List ℕ) × (second : List ℕ) × IsGiven words asked dump second
+    × IsWordRefused asked failure
+
 -- why words make none: no command line, or a word of one that is none; a want of memory can come at any words
 abbrev pub IsRefusedFor : List (List ℕ) → Failure → Type 0
 IsRefusedFor words Memory = ⊤
-IsRefusedFor words Usage = HasNoLine words
-IsRefusedFor words failure =
-    (asked : Asked) × (dump : List ℕ) × (second : List ℕ) × IsGiven words asked dump second
-    × IsWordRefused asked failure
+IsRefusedFor words Usage = HasNoLine words ⊎ IsRefusedLine words Usage
+IsRefusedFor words failure = IsRefusedLine words failure
 
 -- the words are refused: they are no command line, or a word of one is no root list or no pool
 abbrev pub HasBadWords : List (List ℕ) → Type 0

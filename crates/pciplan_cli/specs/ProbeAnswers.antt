@@ -1,8 +1,9 @@
 -- What the program answers where a probe is to be derived from a dump and its sizes.
-use Rattle.std.specs.Prelude.{List, ℕ, [], ◌∷◌, ◌++◌, Option, Some, None, Bool, codes}
+use Rattle.std.specs.Prelude.{List, ℕ, [], ◌∷◌, ◌++◌, Option, Some, None, codes}
 use Rattle.std.specs.List.{flat_map}
 use Rattle.pci_spec.specs.Text.{Block, text_of}
 use Rattle.pci_spec.specs.SizesText.{SizesBlock}
+use Rattle.pci_spec.specs.NoProbe.{Assuming}
 use Rattle.pci_spec.specs.ProbeOf.{AssumedRegister, ProbeFault, probe_of, assumed_of, assumed_text, probe_fault, probe_fault_text}
 use Rattle.pciplan_cli.specs.Answers.{Answer, no_line, refused}
 
@@ -20,5 +21,6 @@ answer_of_fault dump sizes None =
     }
 answer_of_fault dump sizes (Some fault) = refused (no_line (probe_fault_text fault))
 
-abbrev pub probe_answer : Bool → List Block → List SizesBlock → Answer
-probe_answer exact dump sizes = answer_of_fault dump sizes (probe_fault exact dump sizes)
+abbrev pub probe_answer : Assuming → List Block → List SizesBlock → Answer
+probe_answer assuming dump sizes =
+    answer_of_fault dump sizes (probe_fault assuming dump sizes)

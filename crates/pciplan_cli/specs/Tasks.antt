@@ -8,6 +8,7 @@ use Rattle.pci_dump.specs.Begun.{AppendsBeginning}
 use Rattle.pci_dump.specs.ReadFault.{IsTextFault}
 use Rattle.pci_dump.specs.declared.read_fault.ReadFault.{ReadFault}
 use Rattle.pci_dump.specs.declared.read_fault.ReadFault.TheVariants as faults
+use Rattle.pci_probe.specs.Assuming.{assuming_of}
 use Rattle.pci_probe.specs.SizesFault.{IsSizesTextFault}
 use Rattle.pci_tree.specs.Roots.{buses_of}
 use Rattle.pci_place.specs.Pools.{pools_value}
@@ -44,8 +45,9 @@ IsAnswerOf task.Size = IsAnswerTo IsDumpOf IsSized
 IsAnswerOf (task.Plan pools writes roots) =
     IsAnswerTo IsDumpOf
     (IsPlanned record { pools = pools_value pools; writes = writes; roots = buses_of roots })
-IsAnswerOf (task.Probe exact) =
-    IsAnswerTo AreSizesOf (λ dump sizes answer. answer ≡ probe_answer exact dump sizes)
+IsAnswerOf (task.Probe assuming) =
+    IsAnswerTo AreSizesOf
+    (λ dump sizes answer. answer ≡ probe_answer (assuming_of assuming) dump sizes)
 
 -- the answer was written, and the remarks, if standard error takes them; without remarks it is as before
 pub record IsAnswered (task : Task) (dump_left second_left : Option (List ℕ)) (status : ℕ)
@@ -66,7 +68,7 @@ pub record IsBegun (task : Task)
 
 -- whether the second text is one of sizes, and no probe
 abbrev pub takes_sizes : Task → Bool
-takes_sizes (task.Probe exact) = true
+takes_sizes (task.Probe assuming) = true
 takes_sizes _ = false
 
 -- the fault of the text that was left, where the bytes are told and none was met in reading

@@ -1,8 +1,8 @@
 //! The task that a command line asks for.
-ghost use Rattle.std.specs.Prelude.{◌≡◌, MatchOption, MatchResult};
+ghost use Rattle.std.specs.Prelude.{◌≡◌, true, MatchOption, MatchResult};
 ghost use Rattle.pciplan_words.specs.declared.asked.Asked.{Asked};
 ghost use Rattle.pciplan_cli.specs.declared.failure.Failure.{Failure};
-ghost use Rattle.pciplan_cli.specs.Asked.{AreRootsOf, HasNoRoots, IsTaskOf, IsRefusedFor};
+ghost use Rattle.pciplan_cli.specs.Asked.{AreRootsOf, HasNoRoots, IsAssumingOf, IsTaskOf, IsRefusedFor};
 ghost use Rattle.pciplan_cli.specs.PoolWords.{HasNoPool, IsPoolWord};
 
 use crate::failure::{Failure, PoolOption};
@@ -11,6 +11,7 @@ use crate::pool_word::pool_of_word;
 use crate::root_list::roots_of_list;
 use pci_base::range::Range;
 use pci_place::pools::Pools;
+use pci_probe::assuming::Assuming;
 use pci_tree::roots::Roots;
 use pciplan_words::asked::{Asked, PlanWords};
 
@@ -48,6 +49,18 @@ fn planning_of(words: &PlanWords<'_>) -> Result<Task, Failure>
     })
 }
 
+/// Of which registers a size may be assumed, by `--exact` and `--least`, of which one alone may be said.
+fn assuming_of(exact: bool, least: bool) -> Option<Assuming>
+    ensures { MatchOption result ((exact ≡ true) × (least ≡ true)) (IsAssumingOf exact least) }
+{
+    match (exact, least) {
+        (true, true) => None,
+        (true, false) => Some(Assuming::Nothing),
+        (false, true) => Some(Assuming::Any),
+        (false, false) => Some(Assuming::Disabled),
+    }
+}
+
 /// The task that is asked for. The root list is read before the pools, and they in the order of I/O, memory and
 /// prefetchable memory: the first word that is none is the fault.
 pub fn task_of(asked: &Asked<'_>) -> Result<Task, Failure>
@@ -60,6 +73,8 @@ pub fn task_of(asked: &Asked<'_>) -> Result<Task, Failure>
         }),
         Asked::Size => Ok(Task::Size),
         Asked::Plan(words) => planning_of(words),
-        Asked::Probe { exact } => Ok(Task::Probe { exact: *exact }),
+        Asked::Probe { exact, least } => Ok(Task::Probe {
+            assuming: assuming_of(*exact, *least).ok_or(Failure::Usage)?,
+        }),
     }
 }

@@ -8,6 +8,7 @@ use crate::asked::task_of;
 use crate::failure::{Failure, report};
 use pci_dump::streams::Sink;
 use pci_place::pools::Pools;
+use pci_probe::assuming::Assuming;
 use pci_tree::roots::Roots;
 use pciplan_words::words::words_given;
 use std::alloc::Global;
@@ -29,10 +30,10 @@ pub enum Task {
         writes: bool,
         roots: Roots,
     },
-    /// Derives the probe from the dump and the sizes that Linux tells, which are the second text. Where it has to be
-    /// exact, nothing is assumed.
+    /// Derives the probe from the dump and the sizes that Linux tells, which are the second text, assuming the least size of
+    /// these registers where none is told.
     Probe {
-        exact: bool,
+        assuming: Assuming,
     },
 }
 

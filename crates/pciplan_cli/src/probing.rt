@@ -2,6 +2,7 @@
 ghost use Rattle.std.specs.Prelude.{◌≡◌, ◌++◌, IfOk, OnOk};
 ghost use Rattle.std.specs.List.{flat_map};
 ghost use Rattle.std.specs.String.{string_bytes};
+ghost use Rattle.pci_probe.specs.Assuming.{assuming_of};
 ghost use Rattle.pciplan_cli.specs.Answers.{answer_of};
 ghost use Rattle.pciplan_cli.specs.ProbeAnswers.{probe_answer, remark};
 
@@ -9,6 +10,7 @@ use crate::reply::{Reply, Text, refused};
 use pci_base::memory::{OutOfMemory, Refused};
 use pci_dump::dump::Dump;
 use pci_probe::assumed::AssumedRegister;
+use pci_probe::assuming::Assuming;
 use pci_probe::probe::probe_of;
 use pci_probe::sizes::Sizes;
 use std::alloc::{AllocError, Allocator};
@@ -43,11 +45,12 @@ pub fn derive<A: Allocator + Copy>(
     alloc: A,
     dump: &Dump<A>,
     sizes: &Sizes<A>,
-    exact: bool,
+    assuming: Assuming,
 ) -> Result<Reply<A>, OutOfMemory>
-    ensures { IfOk result (λ reply. answer_of reply ≡ probe_answer exact dump.now sizes.now) }
+    ensures { IfOk result (λ reply. answer_of reply
+        ≡ probe_answer (assuming_of assuming) dump.now sizes.now) }
 {
-    match probe_of(alloc, dump, sizes, exact) {
+    match probe_of(alloc, dump, sizes, assuming) {
         Ok(found) => {
             let remarks = remarks_on(alloc, found.assumed.as_slice())?;
             Ok(Reply {

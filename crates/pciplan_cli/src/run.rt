@@ -104,9 +104,9 @@ fn reply_to<A: Allocator + Copy, D: Source, S: Source>(
         return check_texts(alloc, roots, dump, second);
     }
     let dump = read_dump(alloc, dump).map_err(Failure::Dump)?;
-    if let Task::Probe { exact } = task {
+    if let Task::Probe { assuming } = task {
         let sizes = read_sizes(alloc, second).map_err(Failure::Sizes)?;
-        return Ok(derive(alloc, &dump, &sizes, exact)?);
+        return Ok(derive(alloc, &dump, &sizes, assuming)?);
     }
     let probe = read_dump(alloc, second).map_err(Failure::Probe)?;
     match task {
