@@ -12,7 +12,7 @@ _pciplan() {
     show | size) options='' ;;
     check) options='--root' ;;
     plan) options='--io --mem --pref --root --writes' ;;
-    probe) options='--exact' ;;
+    probe) options='--exact --least' ;;
     *) return ;;
     esac
 

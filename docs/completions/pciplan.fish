@@ -46,3 +46,4 @@ complete -c pciplan -n '__pciplan_takes mem plan' -l mem -x -d 'Pool of memory a
 complete -c pciplan -n '__pciplan_takes pref plan' -l pref -x -d 'Pool of prefetchable memory addresses'
 complete -c pciplan -n '__pciplan_takes writes plan' -l writes -d 'Print the register writes'
 complete -c pciplan -n '__pciplan_takes exact probe' -l exact -d 'Assume nothing'
+complete -c pciplan -n '__pciplan_takes least probe' -l least -d 'Assume the least size of enabled registers too'

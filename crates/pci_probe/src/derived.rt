@@ -35,9 +35,8 @@ impl Derived {
         ensures { result ≡ read_back_of (derived_of self) / 2 ^ 32 }
     {
         match self {
-            Derived::Known(read_back) | Derived::Assumed(read_back) | Derived::Untold(read_back) => {
-                read_back / 0x1_0000_0000
-            }
+            Derived::Known(read_back) | Derived::Assumed(read_back) | Derived::Untold(read_back) =>
+                { read_back / 0x1_0000_0000 }
             Derived::OtherSize => 0,
         }
     }

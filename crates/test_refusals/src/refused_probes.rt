@@ -1,6 +1,7 @@
 //! Deriving a probe where a read, a write or a growth fails.
 use crate::failing::{leaves_beginnings, with_failing_read};
 use crate::refused_tasks::is_refused_in_turn;
+use pci_probe::assuming::Assuming;
 use pciplan_cli::invocation::Task;
 use std::alloc::{AllocError, Global};
 use std::fmt::Write;
@@ -8,7 +9,9 @@ use std::test::Fail;
 use test_support::board::{Texts, device, texts_of};
 
 /// A probe in which read backs may be assumed.
-const TASK: Task = Task::Probe { exact: false };
+const TASK: Task = Task::Probe {
+    assuming: Assuming::Disabled,
+};
 
 /// Appends a block of sizes, with its first line.
 fn push_sizes(text: &mut String, slot: &str, first: &str) -> Result<(), AllocError> {

@@ -1,4 +1,5 @@
 use super::rows::{Line, ROWS, Registers, Row};
+use crate::assuming::Assuming;
 use crate::derive::derive;
 use crate::derived::Derived;
 use crate::fault::DeriveFault;
@@ -54,7 +55,7 @@ fn function(row: &Row) -> (Image, [ResourceLine; 7]) {
 fn has_probe(row: &Row, registers: Registers, expected: &[u8]) -> bool {
     let (image, lines) = function(row);
     let mut probe = Image([0xff; 256]);
-    match derive(&image, &lines, false, &mut probe) {
+    match derive(&image, &lines, Assuming::Disabled, &mut probe) {
         Ok(assumed) => {
             probe == with_registers([0; 256], registers) && assumed.as_slice() == expected
         }
@@ -63,10 +64,10 @@ fn has_probe(row: &Row, registers: Registers, expected: &[u8]) -> bool {
 }
 
 /// Why a row's function has no probe.
-fn fault_of(row: &Row, exact: bool) -> Option<DeriveFault> {
+fn fault_of(row: &Row, assuming: Assuming) -> Option<DeriveFault> {
     let (image, lines) = function(row);
     let mut probe = Image([0; 256]);
-    derive(&image, &lines, exact, &mut probe).err()
+    derive(&image, &lines, assuming, &mut probe).err()
 }
 
 #[test]
@@ -74,7 +75,7 @@ fn functions_have_these_probes(rt: HostRuntime) {
     for row in &ROWS {
         match row.2 {
             Ok((registers, expected)) => assert!(rt; has_probe(row, registers, expected)),
-            Err(fault) => assert_eq!(rt; fault_of(row, false), Some(fault)),
+            Err(fault) => assert_eq!(rt; fault_of(row, Assuming::Disabled), Some(fault)),
         }
     }
 }
@@ -88,7 +89,15 @@ fn an_exact_probe_has_nothing_assumed(rt: HostRuntime) {
                 .map(|register| DeriveFault::NoSize(*register)),
             Err(fault) => Some(fault),
         };
-        assert_eq!(rt; fault_of(row, true), expected);
+        assert_eq!(rt; fault_of(row, Assuming::Nothing), expected);
+    }
+}
+
+#[test]
+fn no_size_is_wanting_where_the_least_is_assumed(rt: HostRuntime) {
+    for row in &ROWS {
+        let number = fault_of(row, Assuming::Any).map(DeriveFault::number);
+        assert_ne!(rt; number, Some(32));
     }
 }
 

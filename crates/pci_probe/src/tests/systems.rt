@@ -1,5 +1,6 @@
 use super::probes::{shown, told, with_registers};
 use super::rows::{Line, Registers};
+use crate::assuming::Assuming;
 use crate::probe::{Derivation, probe_of};
 use crate::probe_fault::ProbeFault;
 use crate::sizes::{Sizes, SizesBlock};
@@ -10,12 +11,12 @@ use pci_dump::dump::{Dump, PushFault};
 use std::fmt::Write;
 use std::test::Fail;
 
-/// Functions of bus 00 by their device numbers: what they show, what is told of them, whether the
-/// probe has to be exact, and their read backs with the remarks, or the fault.
+/// Functions of bus 00 by their device numbers: what they show, what is told of them, of
+/// which registers a size may be assumed, and their read backs with the remarks, or the fault.
 struct System(
     &'static [(u8, Registers)],
     &'static [(u8, &'static [Line])],
-    bool,
+    Assuming,
     Result<(&'static [Registers], &'static [&'static str]), &'static str>,
 );
 
@@ -39,19 +40,19 @@ const WIDE: &[Line] = &[(0, 0, 0xfff, 0x14_0204)];
 
 const UNTOLD: &[Line] = &[];
 
-const SYSTEMS: [System; 15] = [
-    System(&[], &[], true, Ok((&[], &[]))),
+const SYSTEMS: [System; 17] = [
+    System(&[], &[], Assuming::Nothing, Ok((&[], &[]))),
     System(
         &[(1, ENABLED), (2, ENABLED)],
         &[(1, SIZED), (2, SIZED)],
-        true,
+        Assuming::Nothing,
         Ok((&[&[(0x10, 0xffff_f000)], &[(0x10, 0xffff_f000)]], &[])),
     ),
     // remarks by slot and register
     System(
         &[(1, DISABLED), (2, WITH_ROM)],
         &[(1, UNTOLD), (2, UNTOLD)],
-        false,
+        Assuming::Disabled,
         Ok((
             &[
                 &[(0x10, 0xffff_fff0)],
@@ -67,67 +68,93 @@ const SYSTEMS: [System; 15] = [
     System(
         &[(1, ENABLED), (2, WITH_ROM)],
         &[(1, SIZED), (2, SIZED)],
-        true,
+        Assuming::Nothing,
         Err("32 NoSize 00:02.0 30"),
     ),
     // slots that differ, the least of them, before all else
-    System(&[(1, ENABLED)], &[], false, Err("30 SlotsDiffer 00:01.0")),
-    System(&[], &[(3, UNTOLD)], false, Err("30 SlotsDiffer 00:03.0")),
+    System(
+        &[(1, ENABLED)],
+        &[],
+        Assuming::Disabled,
+        Err("30 SlotsDiffer 00:01.0"),
+    ),
+    System(
+        &[],
+        &[(3, UNTOLD)],
+        Assuming::Disabled,
+        Err("30 SlotsDiffer 00:03.0"),
+    ),
     System(
         &[(1, SILENT), (2, ENABLED)],
         &[(1, UNTOLD), (3, UNTOLD)],
-        false,
+        Assuming::Disabled,
         Err("30 SlotsDiffer 00:02.0"),
     ),
     System(
         &[(1, ENABLED), (3, ENABLED)],
         &[(1, UNTOLD), (2, UNTOLD)],
-        false,
+        Assuming::Disabled,
         Err("30 SlotsDiffer 00:02.0"),
     ),
     System(
         &[(1, ENABLED)],
         &[(1, UNTOLD), (2, UNTOLD)],
-        false,
+        Assuming::Disabled,
         Err("30 SlotsDiffer 00:02.0"),
     ),
     // headers, of all functions before any register
     System(
         &[(1, CARD), (2, SILENT)],
         &[(1, UNTOLD), (2, UNTOLD)],
-        false,
+        Assuming::Disabled,
         Err("21 HeaderKind 00:01.0"),
     ),
     System(
         &[(1, SILENT), (2, CARD)],
         &[(1, UNTOLD), (2, UNTOLD)],
-        false,
+        Assuming::Disabled,
         Err("20 NoVendor 00:01.0"),
     ),
     System(
         &[(1, ENABLED), (2, SILENT)],
         &[(1, UNTOLD), (2, UNTOLD)],
-        false,
+        Assuming::Disabled,
         Err("20 NoVendor 00:02.0"),
     ),
     // registers, by slot
     System(
         &[(1, DISABLED), (2, ENABLED)],
         &[(1, UNTOLD), (2, UNTOLD)],
-        false,
+        Assuming::Disabled,
         Err("32 NoSize 00:02.0 10"),
     ),
     System(
         &[(1, &[(0x04, 2)]), (2, ENABLED)],
         &[(1, WIDE), (2, UNTOLD)],
-        false,
+        Assuming::Disabled,
         Err("33 OtherSize 00:01.0 10"),
     ),
     System(
         &[(1, ENABLED), (2, &[])],
         &[(1, UNTOLD), (2, WIDE)],
-        false,
+        Assuming::Disabled,
         Err("32 NoSize 00:01.0 10"),
+    ),
+    // the least size of what is enabled, too
+    System(
+        &[(1, ENABLED), (2, ENABLED)],
+        &[(1, UNTOLD), (2, SIZED)],
+        Assuming::Any,
+        Ok((
+            &[&[(0x10, 0xffff_fff0)], &[(0x10, 0xffff_f000)]],
+            &["assumed 00:01.0 10"],
+        )),
+    ),
+    System(
+        &[(1, ENABLED), (2, &[(0x04, 2)])],
+        &[(1, UNTOLD), (2, WIDE)],
+        Assuming::Any,
+        Err("33 OtherSize 00:02.0 10"),
     ),
 ];
 
