@@ -80,11 +80,12 @@ IsNoPlanOf roots dump probe pools (Refused refusal) = IsRefusalOf roots dump pro
 IsNoPlanOf roots dump probe pools (NotAdmitted fault) = IsNotAdmitted roots dump probe fault
 IsNoPlanOf roots dump probe pools (NotPlanned fault) = IsNotPlanned roots dump probe pools fault
 
--- these are the writes of a plan of the two texts
+-- these are the writes of a plan of the two texts, which are admitted
 pub record ArePlanned (roots dump probe : List ℕ) (pools : plan.Pools) (writes : List RegisterWrite)
     (safe_from : ℕ) : Type 0 where
   pub start : Admission
   pub texts : AreTexts roots dump probe start
+  pub admitted : IsAdmitted start
   pub plan : PlanValue
   pub stands : IsPlanIn start pools plan
   pub made : map value_of writes ≡ plan.writes

@@ -26,9 +26,10 @@ admission_of asked dump probe = record { roots = asked.roots; dump = dump; probe
 abbrev pub plan_text : Bool → PlanValue → List ℕ
 plan_text writes p = if writes then flat_map write_line p.writes else text_of p.dump
 
--- the text of a plan of the two
+-- the text of a plan of the two, which are admitted
 pub record IsPlanText (asked : Asked) (dump probe : List Block) (answer : Answer) : Type 0 where
   pub plan : PlanValue
+  pub admitted : IsAdmitted (admission_of asked dump probe)
   pub stands : IsPlanIn (admission_of asked dump probe) asked.pools plan
   pub line : answer ≡ done (plan_text asked.writes plan)
 
