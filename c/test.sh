@@ -1,6 +1,7 @@
 #!/bin/sh
-# Captures the machines of machines/ from their registers; then builds the library and the C test over both memories,
-# and runs it: c/test.sh, from anywhere. `c/test.sh --capture` leaves the library out, which takes a proof to build.
+# Captures the machines of machines/ from their registers, and numbers boards in memory; then builds the library and the
+# C test over both memories, and runs it: c/test.sh, from anywhere. `c/test.sh --capture` leaves the library out, which
+# takes a proof to build.
 set -e
 here=$(cd "$(dirname "$0")" && pwd)
 machines=$here/../machines
@@ -11,7 +12,7 @@ trap 'rm -rf "$built"' EXIT
 compiled() {
     out=$1
     shift
-    ${CC:-cc} -std=c11 -Wall -Wextra -O2 -I"$here/include" -I"$here/capture" -o "$built/$out" "$@"
+    ${CC:-cc} -std=c11 -Wall -Wextra -O2 -I"$here/include" -I"$here/capture" -I"$here/number" -o "$built/$out" "$@"
 }
 
 compiled capture.o -ffreestanding -c "$here/capture/pciplan_capture.c"
@@ -20,6 +21,10 @@ for machine in desk old port roots; do
     printf '%s: ' "$machine"
     "$built/capture" "$machines/$machine.dump" "$machines/$machine.probe"
 done
+compiled number.o -ffreestanding -c "$here/number/pciplan_number.c"
+compiled number "$here/test/pciplan_number_test.c" "$here/test/pciplan_board.c" "$built/number.o" "$built/capture.o"
+printf 'number: '
+"$built/number"
 [ "${1-}" != --capture ] || exit 0
 
 library=$here/../crates/pciplan_c/out/libpciplan_c.a

@@ -1,0 +1,42 @@
+/* A board in memory, whose bridges forward configuration accesses by their numbers (Bridge 1.2, 3.1.2.1.2). */
+#ifndef PCIPLAN_BOARD_H
+#define PCIPLAN_BOARD_H
+
+#include <stdint.h>
+
+enum { NODES = 160, ROOTS = 3, NO_NODE = -1 };
+
+struct node {
+    int bus;         /* the bridge that it is behind, or -2 - r on root r */
+    int first, next; /* the first node on its other side, and the next one on its bus, or NO_NODE */
+    uint8_t place;   /* device * 8 + function */
+    uint8_t echoes;  /* it answers as each of its device's functions */
+    uint8_t takes;   /* its numbers take writes */
+    uint8_t image[256];
+};
+
+struct board {
+    int count, roots;
+    uint8_t root[ROOTS];
+    int on_root[ROOTS];
+    struct node nodes[NODES];
+};
+
+void board_empty(struct board *b);
+void board_add_root(struct board *b, uint8_t root);
+
+/* Adds a node where none is: on bus -2 - r of root r, or behind a bridge. Its index. */
+int board_add(struct board *b, int bus, unsigned place, int is_bridge);
+
+/* The list of the nodes on a bus as `board_add` names it. */
+int *board_list(struct board *b, int bus);
+
+int is_bridge_node(const struct node *n);
+
+/* The nodes that answer an access, at most `room` of them in `nodes`. How many answer. */
+int board_answers(struct board *b, unsigned bus, unsigned place, int *nodes, int room);
+
+/* Whether at most one node answers each access to buses first to last. */
+int board_is_single(struct board *b, unsigned first, unsigned last);
+
+#endif
