@@ -28,6 +28,6 @@ not_admitted roots buses dump probe listed read_back fault why pools rising same
       rising = rising;
       dump_text = dump_text;
       probe_text = probe_text;
-      there = r.0.there;
+      first = r.0;
       early = r.1;
     }

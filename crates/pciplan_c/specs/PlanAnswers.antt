@@ -1,7 +1,8 @@
 -- What is answered where two texts are to be planned, and where it is put.
 use Rattle.std.specs.Prelude.{◌≡◌, ◌<◌, ℕ, List, ◌∷◌, [], ◌++◌, map, Some, codes}
 use Rattle.pci_spec.specs.Text.{Block, IsTextOf}
-use Rattle.pci_spec.specs.Fault.{IsThere, fault_number}
+use Rattle.pci_spec.specs.Fault.{fault_number}
+use Rattle.pci_spec.specs.Order.{IsFirstThere}
 use Rattle.pci_spec.specs.Line.{verdict_line, field}
 use Rattle.plan_spec.specs.PlanLine.{plan_fault_text}
 use Rattle.pci_spec.specs.Machine.{Write}
@@ -56,14 +57,14 @@ pub record AreTexts (roots dump probe : List ℕ) (a : Admission) : Type 0 where
   pub dump_text : IsTextOf dump a.dump
   pub probe_text : IsTextOf probe a.probe
 
--- they have a fault that is looked for before judging
+-- the first fault that they have is one that is looked for before judging
 pub record IsNotAdmitted (roots dump probe : List ℕ) (fault : Fault) : Type 0 where
   pub listed : List Block
   pub read_back : List Block
   pub rising : IsRootList roots
   pub dump_text : IsTextOf dump listed
   pub probe_text : IsTextOf probe read_back
-  pub there : IsThere roots listed read_back (fault_of fault)
+  pub first : IsFirstThere roots listed read_back (fault_of fault)
   pub early : fault_number (fault_of fault) < 60
 
 -- they have none, and a fault of planning

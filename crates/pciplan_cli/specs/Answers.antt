@@ -1,13 +1,18 @@
 -- What a task answers to a dump and a second text.
-use Rattle.std.specs.Prelude.{◌≡◌, ◌⊎◌, ℕ, List, [], ◌∷◌, ◌++◌, Option, Some, codes, if◌then◌else◌}
+use Rattle.std.specs.Prelude.{◌≡◌, ◌⊎◌, ◌≤◌, ℕ, IsTrue, IsFalse, List, [], ◌∷◌, ◌++◌, Option, Some, codes, if◌then◌else◌}
+use Rattle.std.specs.List.{All}
 use Rattle.std.specs.Io.KnownBytes.{Appends}
 use Rattle.std.specs.String.{string_bytes}
 use Rattle.pci_spec.specs.Text.{Block, text_of}
 use Rattle.pci_spec.specs.System.{system_of}
 use Rattle.pci_spec.specs.Fault.{Fault, IsThere}
+use Rattle.pci_spec.specs.Order.{image_at, is_before, phase_of}
+use Rattle.pci_spec.specs.Decoded.{IsDecodable}
 use Rattle.pci_spec.specs.Line.{field, verdict_line}
 use Rattle.pci_spec.specs.Listing.{listing}
 use Rattle.pci_dump.specs.Begun.{AppendsBeginning}
+use Rattle.pci_pair.specs.Pair.{IsPair}
+use Rattle.pci_machine.specs.Made.{is_of_list}
 use Rattle.pci_check.specs.Audits.{IsOutcomeOf, outcome_line}
 use Rattle.pci_check.specs.declared.outcome.Outcome.{Outcome}
 use Rattle.pci_check.specs.declared.outcome.Outcome.TheVariants.{Yes, No}
@@ -59,9 +64,25 @@ abbrev pub IsShown : List Block → List Block → Answer → Type 0
 IsShown dump probe answer =
     (answer ≡ done (listing (system_of dump probe))) ⊎ IsRefusal dump probe answer
 
--- `size`: the probe again, or the line of a fault that is there
+-- what sizing finds is the probe, where none of the faults 20 to 26, 30 and 31 is there
+pub record IsSizedText (dump probe : List Block) (answer : Answer) : Type 0 where
+  pub pair : (roots : List ℕ) → IsPair roots dump probe
+  pub decodable : All IsDecodable (system_of dump probe)
+  pub line : answer ≡ done (text_of probe)
+
+-- the line of the first of these that is there, whatever the capabilities lists are
+pub record IsNotSized (dump probe : List Block) (answer : Answer) : Type 0 where
+  pub fault : Fault
+  pub kind : (phase_of fault ≤ 2) × IsFalse (is_of_list fault)
+  pub there : (roots : List ℕ) → IsThere roots dump probe fault
+  pub first : (roots : List ℕ) (other : Fault)
+      → IsTrue (is_before (image_at (system_of dump probe)) other fault)
+      → IsFalse (is_of_list other) → IsThere roots dump probe other → ⊥
+  pub line : answer ≡ refused (verdict_line (Some fault))
+
+-- `size`: the probe again, or the line of the first fault that sizing looks for
 abbrev pub IsSized : List Block → List Block → Answer → Type 0
-IsSized dump probe answer = (answer ≡ done (text_of probe)) ⊎ IsRefusal dump probe answer
+IsSized dump probe answer = IsSizedText dump probe answer ⊎ IsNotSized dump probe answer
 
 -- `check`: the line of the verdict, at status 0 where it is yes
 abbrev pub outcome_answer : Outcome → Answer

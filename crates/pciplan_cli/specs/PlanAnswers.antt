@@ -2,7 +2,8 @@
 use Rattle.std.specs.Prelude.{◌≡◌, ◌⊎◌, ◌<◌, ℕ, List, Some, Bool, if◌then◌else◌}
 use Rattle.std.specs.List.{flat_map}
 use Rattle.pci_spec.specs.Text.{Block, text_of}
-use Rattle.pci_spec.specs.Fault.{Fault, IsThere, fault_number}
+use Rattle.pci_spec.specs.Fault.{Fault, fault_number}
+use Rattle.pci_spec.specs.Order.{IsFirstThere}
 use Rattle.pci_spec.specs.Line.{verdict_line, write_line}
 use Rattle.plan_spec.specs.PlanLine.{plan_fault_text}
 use Rattle.plan_spec.specs.Plan as plan
@@ -33,10 +34,10 @@ pub record IsPlanText (asked : Asked) (dump probe : List Block) (answer : Answer
   pub stands : IsPlanIn (admission_of asked dump probe) asked.pools plan
   pub line : answer ≡ done (plan_text asked.writes plan)
 
--- the line of a fault that is there, and is looked for before judging
+-- the line of the first fault that is there, which is one that is looked for before judging
 pub record IsRefusedText (roots : List ℕ) (dump probe : List Block) (answer : Answer) : Type 0 where
   pub fault : Fault
-  pub there : IsThere roots dump probe fault
+  pub first : IsFirstThere roots dump probe fault
   pub early : fault_number fault < 60
   pub line : answer ≡ refused (verdict_line (Some fault))
 

@@ -1,8 +1,12 @@
 //! The dump that sizing every function of a machine makes.
-ghost use Rattle.std.specs.Prelude.{◌≡◌, ◌<◌, [], ◌∷◌, IfOk, IfErr};
+ghost use Rattle.std.specs.Prelude.{◌≡◌, ℕ, List, IfOk, IfErr, OnOk};
+ghost use Rattle.std.specs.List.{All};
 ghost use Rattle.pci_spec.specs.Machine.{sized};
 ghost use Rattle.pci_spec.specs.Sizing.{function_at, IsSizable};
-ghost use Rattle.pci_listing.specs.Shows.{IsRefusedIn};
+ghost use Rattle.pci_spec.specs.System.{system_of};
+ghost use Rattle.pci_spec.specs.Decoded.{IsDecodable};
+ghost use Rattle.pci_pair.specs.Pair.{IsPair};
+ghost use Rattle.pci_machine.specs.Made.{IsFirstFor, IsOfMachine, IsRefusedFor};
 
 use pci_base::image::Image;
 use pci_base::memory::Refused;
@@ -51,8 +55,12 @@ pub fn size_all<A: Allocator + Copy, D: Allocator, P: Allocator>(
     probe: &Dump<P>,
 ) -> Result<Dump<A>, Refused<Fault>>
     ensures sized { IfOk result (λ found. found ≡ probe.now) }
-    // roots are none of its business: no fault up to 31 speaks of them
-    ensures refused { IfErr result (IsRefusedIn (0 ∷ []) dump.now probe.now) }
+    ensures pair { OnOk result ((roots : List ℕ) → IsPair roots dump.now probe.now) }
+    ensures decodable { OnOk result (All IsDecodable (system_of dump.now probe.now)) }
+    // never 27 to 29: sizing doesn't read a capabilities list
+    ensures kind { IfErr result IsOfMachine }
+    ensures fault { IfErr result (IsRefusedFor dump.now probe.now) }
+    ensures first { IfErr result (IsFirstFor dump.now probe.now) }
 {
     let mut machine = match Machine::of(alloc, dump, probe) {
         Ok(machine) => machine,

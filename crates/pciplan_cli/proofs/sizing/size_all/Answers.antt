@@ -5,22 +5,10 @@ use Rattle.pci_spec.specs.Text.{Block, IsDump}
 use Rattle.pci_spec.specs.Stops.{IsAboveLast, last_slot}
 use Rattle.pci_spec.specs.System.{system_of}
 use Rattle.pci_spec.specs.Machine.{Target, sized}
-use Rattle.pci_base.specs.declared.memory.Refused.{Refused}
-use Rattle.pci_base.specs.declared.memory.Refused.TheVariants as refusals
-use Rattle.pci_function.specs.declared.fault.Fault.{Fault}
-use Rattle.pci_machine.specs.Made.{IsRefusedFor}
-use Rattle.pci_listing.specs.Shows.{IsRefusedIn}
 use Rattle.pci_spec.specs.Sizing.{function_at, IsSizable}
 use Rattle.pci_listing.proofs.Shows.{same_count}
 use Rattle.pciplan_cli.proofs.Sizes.{above_last, function_at_block}
 use Rattle.pciplan_cli.proofs.sizing.size_all.Goals as goal
-
-refused_in : (dump probe : List Block) (r : Refused Fault) → IsRefusedFor dump probe r → IsRefusedIn (0 ∷ []) dump probe r
-refused_in dump probe (refusals.Fault fault) is = is (0 ∷ [])
-refused_in dump probe refusals.Memory is = tt
-
-pub returns-in-Err-clause-refused : goal.returns-in-Err-clause-refused
-returns-in-Err-clause-refused g c = refused_in c.args.dump.now c.args.probe.now c.in-Err.refused c.in-Err.ensures.fault
 
 pub bounds-probes-i : goal.bounds-probes-i
 bounds-probes-i g c =
