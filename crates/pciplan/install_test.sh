@@ -224,7 +224,8 @@ same 'bash has the commands and options of the page'
 awk '
     /^ *\047[a-z]+:/ { split($0, parts, /[\047:]/); print parts[2] }
     /^ *\([a-z|]+\)$/ { gsub(/[ ()]/, ""); count = split($0, commands, "|") }
-    /^ *\047--/ {
+    /^ *\047(\(--[a-z]+\))?--/ {
+        sub(/\(--[a-z]+\)/, "")
         split($0, parts, /[\047[]/)
         for (at = 1; at <= count; at++)
             print commands[at] " " parts[2]
