@@ -1,10 +1,9 @@
 /* The memory of the library, from an array of fixed size: for firmware, where there is no malloc.
 
    Blocks are handed out one behind the other. A block that is given back is used again only if it is the last one; once
-   all are given back, as they are when a call has returned, the array is empty again. One call at a time may run. */
+   all are given back, as they are when a call has returned, the array is empty again. One call at a time may run. It
+   needs no header but the compiler's own. */
 #include "pciplan.h"
-
-#include <string.h>
 
 #ifndef PCIPLAN_FIXED_BYTES
 #define PCIPLAN_FIXED_BYTES (256 * 1024)
@@ -33,6 +32,12 @@ static size_t rounded(size_t n, size_t from)
     return n <= room && whole <= room ? whole : 0;
 }
 
+static void copy(uint8_t *to, const uint8_t *from, size_t n)
+{
+    for (size_t i = 0; i < n; i++)
+        to[i] = from[i];
+}
+
 struct pciplan_tried rattle_alloc(size_t n, size_t align)
 {
     size_t size = rounded(n, used);
@@ -57,7 +62,7 @@ struct pciplan_tried rattle_realloc(void *at, size_t kept, size_t n, size_t alig
     }
     struct pciplan_tried t = rattle_alloc(n, align);
     if (t.ok) {
-        memcpy(t.at, at, kept < n ? kept : n);
+        copy(t.at, at, kept < n ? kept : n);
         blocks--;
     }
     return t;
