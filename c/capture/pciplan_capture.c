@@ -64,22 +64,26 @@ static void put_block(struct slot s, const uint8_t bytes[256])
     pciplan_put('\n');
 }
 
-static void read_image(struct slot s, uint8_t bytes[256])
+static int read_image(struct slot s, uint8_t bytes[256])
 {
     for (unsigned offset = 0; offset < 256; offset++)
         bytes[offset] = (uint8_t)read_register(s, (uint8_t)offset, 1);
+    return 1;
 }
 
-static void read_back(struct slot s, uint8_t bytes[256])
+/* Whether the function could be sized. */
+static int read_back(struct slot s, uint8_t bytes[256])
 {
     unsigned layout = read_register(s, HEADER_TYPE, 1) % MULTI_FUNCTION;
     const struct address_register *r = layout == 0 ? of_device : layout == 1 ? of_bridge : of_others;
     uint32_t command = read_register(s, COMMAND, 2);
+    int is_off;
 
     for (unsigned offset = 0; offset < 256; offset++)
         bytes[offset] = 0;
     write_register(s, COMMAND, 2, command & ~(uint32_t)DECODE_ENABLES);
-    for (; r->width != 0; r++) {
+    is_off = !(read_register(s, COMMAND, 2) & DECODE_ENABLES);
+    for (; is_off && r->width != 0; r++) {
         uint32_t value = read_register(s, r->offset, r->width), back;
         write_register(s, r->offset, r->width, r->ones);
         back = read_register(s, r->offset, r->width);
@@ -88,6 +92,7 @@ static void read_back(struct slot s, uint8_t bytes[256])
             bytes[r->offset + i] = (uint8_t)(back >> 8 * i);
     }
     write_register(s, COMMAND, 2, command);
+    return is_off;
 }
 
 static int is_there(struct slot s)
@@ -102,17 +107,24 @@ static int has_one_function(struct slot s)
     return is_there(s) && !(read_register(s, HEADER_TYPE, 1) & MULTI_FUNCTION);
 }
 
-static void capture(uint8_t first, uint8_t last, void (*of)(struct slot, uint8_t[256]))
+/* The functions of which no block could be made as it should be. */
+static struct pciplan_unsized capture(uint8_t first, uint8_t last, int (*of)(struct slot, uint8_t[256]))
 {
+    struct pciplan_unsized left = {0, 0, 0, 0};
     uint8_t bytes[256];
 
     for (unsigned number = first * 256u; number < (last + 1u) * 256u; number++) {
         struct slot s = {(uint8_t)(number / 256), (uint8_t)(number / 8 % 32), (uint8_t)(number % 8)};
         if (!is_there(s) || (s.function != 0 && has_one_function(s)))
             continue;
-        of(s, bytes);
+        if (!of(s, bytes) && left.count++ == 0) {
+            left.bus = s.bus;
+            left.device = s.device;
+            left.function = s.function;
+        }
         put_block(s, bytes);
     }
+    return left;
 }
 
 void pciplan_capture_dump(uint8_t first, uint8_t last)
@@ -120,7 +132,7 @@ void pciplan_capture_dump(uint8_t first, uint8_t last)
     capture(first, last, read_image);
 }
 
-void pciplan_capture_probe(uint8_t first, uint8_t last)
+struct pciplan_unsized pciplan_capture_probe(uint8_t first, uint8_t last)
 {
-    capture(first, last, read_back);
+    return capture(first, last, read_back);
 }

@@ -1,4 +1,5 @@
-/* Captures a machine that is made of a dump and its probe, and compares the texts: pciplan_capture_test DUMP PROBE. */
+/* Captures a machine that is made of a dump and its probe, and compares the texts: pciplan_capture_test DUMP PROBE. Then it
+   wires Command bit 1 of each function in turn, and finds that this one isn't sized. */
 #include <stdio.h>
 #include <stdlib.h>
 #include <string.h>
@@ -9,6 +10,7 @@ enum { FUNCTIONS = 256 * 256, TEXT = 1 << 22 };
 
 struct space {
     int is_there;
+    uint8_t wired; /* bits of Command that stay set */
     uint8_t now[256], before[256], probe[256];
 };
 
@@ -63,7 +65,7 @@ void pciplan_config_write(uint8_t bus, uint8_t device, uint8_t function, uint8_t
     for (unsigned i = 0; i < width; i++) {
         unsigned at = offset + i;
         uint8_t writable = at < 0x08 ? 0xff : s->probe[at] & ~fixed_bits(s, at);
-        s->now[at] = (uint8_t)((value >> 8 * i & writable) | (s->now[at] & ~writable));
+        s->now[at] = (uint8_t)((value >> 8 * i & writable) | (s->now[at] & ~writable) | (at == 0x04 ? s->wired : 0));
     }
 }
 
@@ -99,13 +101,47 @@ static void read_text(const char *path, int is_probe)
     fclose(file);
 }
 
-static void compare(const char *path, void (*capture)(uint8_t, uint8_t))
+static void compare(const char *path, struct pciplan_unsized (*capture)(void))
 {
     got_used = 0;
     memset(got, 0, TEXT);
-    capture(0, 255);
-    if (strcmp(got, wanted) != 0)
+    if (capture().count != 0 || strcmp(got, wanted) != 0)
         stop(path);
+}
+
+static struct pciplan_unsized dump(void)
+{
+    struct pciplan_unsized none = {0, 0, 0, 0};
+    pciplan_capture_dump(0, 255);
+    return none;
+}
+
+static struct pciplan_unsized probe(void)
+{
+    return pciplan_capture_probe(0, 255);
+}
+
+static void is_as_it_was(void)
+{
+    for (unsigned i = 0; i < FUNCTIONS; i++)
+        if (memcmp(spaces[i].before, spaces[i].now, 256) != 0)
+            stop("a register isn't as it was");
+}
+
+/* Where a function's decoding stays on, none of its address registers is written, and it is named. */
+static void wire(unsigned number)
+{
+    struct space *s = &spaces[number];
+    struct pciplan_unsized left;
+    uint8_t command = s->now[0x04];
+
+    s->wired = 2;
+    s->now[0x04] |= s->wired;
+    left = pciplan_capture_probe((uint8_t)(number / 256), (uint8_t)(number / 256));
+    if (left.count != 1 || left.bus * 256u + left.device * 8u + left.function != number)
+        stop("a function that goes on decoding isn't named");
+    s->wired = 0;
+    s->now[0x04] = command;
 }
 
 int main(int count, char **words)
@@ -116,12 +152,14 @@ int main(int count, char **words)
     read_text(words[1], 0);
     for (unsigned i = 0; i < FUNCTIONS; i++)
         memcpy(spaces[i].before, spaces[i].now, 256);
-    compare(words[1], pciplan_capture_dump);
+    compare(words[1], dump);
     read_text(words[2], 1);
-    compare(words[2], pciplan_capture_probe);
+    compare(words[2], probe);
+    is_as_it_was();
     for (unsigned i = 0; i < FUNCTIONS; i++)
-        if (memcmp(spaces[i].before, spaces[i].now, 256) != 0)
-            stop("a register isn't as it was");
+        if (spaces[i].is_there)
+            wire(i);
+    is_as_it_was();
     puts("captured as it is");
     return 0;
 }
