@@ -1,6 +1,6 @@
 #!/bin/sh
 # Captures the machines of machines/ from their registers, and numbers boards in memory; then builds the library and the
-# C test over both memories, and runs it: c/test.sh, from anywhere. `c/test.sh --capture` leaves the library out, which
+# C test over both memories, runs it, and measures the stack that a call uses: c/test.sh, from anywhere. `c/test.sh --capture` leaves the library out, which
 # takes a proof to build.
 set -e
 here=$(cd "$(dirname "$0")" && pwd)
@@ -15,13 +15,17 @@ compiled() {
     ${CC:-cc} -std=c11 -Wall -Wextra -O2 -I"$here/include" -I"$here/capture" -I"$here/number" -o "$built/$out" "$@"
 }
 
-compiled capture.o -ffreestanding -c "$here/capture/pciplan_capture.c"
+# What firmware takes is compiled with no header but the compiler's own.
+headers=$(${CC:-cc} -print-file-name=include)
+for part in capture/pciplan_capture number/pciplan_number memory/pciplan_fixed_memory processor/pciplan_supported; do
+    compiled "${part##*_}.o" -ffreestanding -nostdinc -isystem "$headers" -c "$here/$part.c"
+done
+
 compiled capture "$here/test/pciplan_capture_test.c" "$built/capture.o"
 for machine in desk old port roots; do
     printf '%s: ' "$machine"
     "$built/capture" "$machines/$machine.dump" "$machines/$machine.probe"
 done
-compiled number.o -ffreestanding -c "$here/number/pciplan_number.c"
 compiled number "$here/test/pciplan_number_test.c" "$here/test/pciplan_board.c" "$built/number.o" "$built/capture.o"
 printf 'number: '
 "$built/number"
@@ -36,3 +40,5 @@ for memory in pciplan_memory pciplan_fixed_memory; do
     printf '%s: ' "$memory"
     "$built/$memory"
 done
+compiled stack "$here/test/pciplan_stack_test.c" "$here/memory/pciplan_memory.c" "$library"
+"$built/stack" old.dump old.probe

@@ -1,0 +1,89 @@
+/* Measures how much stack a check and a plan of a sound machine use: pciplan_stack_test DUMP PROBE. Each runs on a stack of its
+   own, whose bytes were painted before. */
+#define _XOPEN_SOURCE 700
+#include <stdio.h>
+#include <stdlib.h>
+#include <string.h>
+#include <ucontext.h>
+
+#include "pciplan.h"
+
+enum { STACK = 256 * 1024, TEXT = 1 << 22, WRITES = 4096, PAINT = 0xa5 };
+
+/* What pciplan.h says that they need at most. */
+enum { CHECK_NEEDS = 32 * 1024, PLAN_NEEDS = 80 * 1024 };
+
+static _Alignas(16) uint8_t stack[STACK];
+static uint8_t dump[TEXT], probe[TEXT], line[PCIPLAN_LINE];
+static struct pciplan_write writes[WRITES];
+static size_t dump_len, probe_len;
+static const uint8_t root[] = {0};
+static const struct pciplan_pools pools = {0x1000, 0xffff, 0x80000000, 0xfebfffff, 0x100000000, 0xffffffffff};
+static uint8_t status;
+static ucontext_t caller, callee;
+
+static void stop(const char *why)
+{
+    fprintf(stderr, "%s\n", why);
+    exit(1);
+}
+
+static size_t text_of(const char *path, uint8_t *text)
+{
+    FILE *file = fopen(path, "rb");
+    size_t used;
+
+    if (file == NULL)
+        stop(path);
+    used = fread(text, 1, TEXT, file);
+    fclose(file);
+    return used;
+}
+
+static void check(void)
+{
+    size_t used;
+    status = pciplan_check(dump, dump_len, probe, probe_len, root, sizeof root, line, sizeof line, &used);
+}
+
+static void plan(void)
+{
+    size_t count, safe_from, used;
+    status = pciplan_plan(dump, dump_len, probe, probe_len, root, sizeof root, &pools, writes, WRITES, &count, &safe_from,
+                          line, sizeof line, &used);
+}
+
+/* The bytes of the stack that a call used, which has to answer YES. */
+static size_t stack_of(void (*call)(void))
+{
+    size_t untouched = 0;
+
+    memset(stack, PAINT, STACK);
+    if (getcontext(&callee) != 0)
+        stop("no context");
+    callee.uc_stack.ss_sp = stack;
+    callee.uc_stack.ss_size = STACK;
+    callee.uc_link = &caller;
+    makecontext(&callee, call, 0);
+    if (swapcontext(&caller, &callee) != 0)
+        stop("no context");
+    if (status != PCIPLAN_YES)
+        stop("another answer than yes");
+    while (untouched < STACK && stack[untouched] == PAINT)
+        untouched++;
+    return STACK - untouched;
+}
+
+int main(int count, char **words)
+{
+    size_t of_check, of_plan;
+
+    if (count != 3)
+        stop("usage: pciplan_stack_test DUMP PROBE");
+    dump_len = text_of(words[1], dump);
+    probe_len = text_of(words[2], probe);
+    of_check = stack_of(check);
+    of_plan = stack_of(plan);
+    printf("a check used %zu bytes of stack, a plan %zu\n", of_check, of_plan);
+    return of_check > CHECK_NEEDS || of_plan > PLAN_NEEDS;
+}
