@@ -17,7 +17,8 @@ compiled() {
 
 # What firmware takes is compiled with no header but the compiler's own.
 headers=$(${CC:-cc} -print-file-name=include)
-for part in capture/pciplan_capture number/pciplan_number memory/pciplan_fixed_memory processor/pciplan_supported; do
+for part in capture/pciplan_capture number/pciplan_number memory/pciplan_fixed_memory processor/pciplan_supported \
+    example/pciplan_bring_up; do
     compiled "${part##*_}.o" -ffreestanding -nostdinc -isystem "$headers" -c "$here/$part.c"
 done
 
@@ -29,6 +30,15 @@ done
 compiled number "$here/test/pciplan_number_test.c" "$here/test/pciplan_board.c" "$built/number.o" "$built/capture.o"
 printf 'number: '
 "$built/number"
+# The code that docs/C.md shows, but for what the tests print, is of the example.
+flat() {
+    tr -s ' \n' ' '
+}
+example=$(flat <"$here/example/pciplan_bring_up.c")
+shown=$(sed -n '1,/^## The tests/{/^    /{p;b};s/.*/@/p}' "$here/../docs/C.md" | flat | tr '@' '\n')
+echo "$shown" | while read -r block; do
+    case $example in *"$block"*) ;; *) echo "not in the example: $block"; exit 1 ;; esac
+done
 [ "${1-}" != --capture ] || exit 0
 
 library=$here/../crates/pciplan_c/out/libpciplan_c.a
@@ -40,5 +50,8 @@ for memory in pciplan_memory pciplan_fixed_memory; do
     printf '%s: ' "$memory"
     "$built/$memory"
 done
+compiled bring_up "$here/test/pciplan_bring_up_test.c" "$here/test/pciplan_board.c" "$built/up.o" "$built/number.o" \
+    "$built/capture.o" "$built/supported.o" "$built/memory.o" "$library"
+"$built/bring_up"
 compiled stack "$here/test/pciplan_stack_test.c" "$here/memory/pciplan_memory.c" "$library"
 "$built/stack" old.dump old.probe

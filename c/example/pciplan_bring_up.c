@@ -1,0 +1,95 @@
+/* From power-on to a board whose devices have addresses, over the hooks of configuration access of pciplan_capture.h.
+   Nothing uses the board's functions meanwhile. */
+#include "pciplan.h"
+#include "pciplan_capture.h"
+#include "pciplan_number.h"
+
+enum { FUNCTIONS = 64, TEXT = FUNCTIONS * PCIPLAN_CAPTURED, WRITES = FUNCTIONS * 11 };
+
+static uint8_t dump[TEXT], probe[TEXT];
+static struct pciplan_write writes[WRITES];
+static char line[PCIPLAN_LINE + 1];
+
+static uint8_t *text; /* where the text goes that is captured */
+static size_t used;
+
+void pciplan_put(char character)
+{
+    if (used < TEXT)
+        text[used] = (uint8_t)character;
+    used++;
+}
+
+static size_t captured_dump(uint8_t last)
+{
+    text = dump;
+    used = 0;
+    pciplan_capture_dump(0, last);
+    return used;
+}
+
+static size_t captured_probe(uint8_t last, uint16_t *unsized)
+{
+    text = probe;
+    used = 0;
+    *unsized = pciplan_capture_probe(0, last).count;
+    return used;
+}
+
+/* What the library said: null at YES. */
+static const char *said(uint8_t status, size_t length)
+{
+    if (status == PCIPLAN_MEMORY)
+        return "there is no memory";
+    if (status == PCIPLAN_SHORT)
+        return "the plan has too many writes";
+    line[length] = '\0';
+    return status == PCIPLAN_YES ? NULL : line;
+}
+
+/* Makes the first writes, so many of them. */
+static const char *made(size_t count, size_t safe_from)
+{
+    for (size_t i = 0; i < count; i++) {
+        const struct pciplan_write *w = &writes[i];
+        pciplan_config_write(w->bus, w->device, w->function, w->offset, w->width, w->value);
+        if (pciplan_config_read(w->bus, w->device, w->function, w->offset, w->width) != w->value)
+            return i + 1 < safe_from ? "a write doesn't stay, before a stop is safe" : "a write doesn't stay";
+    }
+    return NULL;
+}
+
+/* Null where all went well, else what didn't: in a line with its end, what the library says of the board. */
+const char *pciplan_bring_up(const struct pciplan_pools *pools)
+{
+    static const uint8_t roots[] = {0x00};
+    size_t of_dump, of_probe, count = 0, safe_from = 0, length = 0;
+    const char *fault;
+    uint16_t unsized;
+    uint8_t status;
+
+    if (!pciplan_supported())
+        return "the processor lacks instructions that the library needs";
+    struct pciplan_numbered numbered = pciplan_number(roots[0], 0xff, 0);
+    if (numbered.status != PCIPLAN_NUMBERED)
+        return "a bridge has no bus numbers";
+
+    of_dump = captured_dump(numbered.highest);
+    of_probe = captured_probe(numbered.highest, &unsized);
+    if (of_dump > TEXT || of_probe > TEXT)
+        return "the board has too many functions";
+    if (unsized != 0)
+        return "a function goes on decoding while it is sized";
+
+    status = pciplan_plan(dump, of_dump, probe, of_probe, roots, sizeof roots, pools, writes, WRITES, &count, &safe_from,
+                          (uint8_t *)line, PCIPLAN_LINE, &length);
+    fault = said(status, length);
+    if (fault == NULL)
+        fault = made(count, safe_from);
+    if (fault != NULL)
+        return fault;
+
+    of_dump = captured_dump(numbered.highest);
+    status = pciplan_check(dump, of_dump, probe, of_probe, roots, sizeof roots, (uint8_t *)line, PCIPLAN_LINE, &length);
+    return said(status, length);
+}
