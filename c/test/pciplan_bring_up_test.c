@@ -105,7 +105,7 @@ int main(void)
     int bridge = make();
 
     says(NULL, &pools);
-    if (bar_of(0x00, 2) != 0xe0000000 || bar_of(0x01, 0) != 0xe0100000)
+    if (bar_of(0x01, 0) != 0xe0000000 || bar_of(0x00, 2) != 0xe0100000)
         stop("a device isn't at its place");
 
     make();

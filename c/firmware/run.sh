@@ -1,0 +1,45 @@
+#!/bin/sh
+# Builds the firmware with the library of crates/pciplan_c/out, and runs it as the only firmware of an emulated PC with a
+# bridge, a display and two `edu` devices: c/firmware/run.sh, from anywhere. It needs gcc, binutils and qemu-system-x86_64.
+# Its status is 0 where the devices answer at their places.
+set -e
+here=$(cd "$(dirname "$0")" && pwd)
+c=$here/..
+library=$c/../crates/pciplan_c/out/libpciplan_c.a
+built=$(mktemp -d)
+trap 'rm -rf "$built"' EXIT
+[ -e "$library" ] || (cd "$c/../crates/pciplan_c" && rt lib >/dev/null)
+
+headers=$(gcc -print-file-name=include)
+compiled() {
+    gcc -std=c11 -Wall -Wextra -O2 -ffreestanding -nostdinc -isystem "$headers" -I"$c/include" -I"$c/capture" \
+        -I"$c/number" -fno-pic -fno-pie -fno-stack-protector -fcf-protection=none -mno-red-zone \
+        -fno-asynchronous-unwind-tables -c -o "$built/$1" "$2"
+}
+
+compiled start.o "$here/start.S"
+compiled firmware.o "$here/firmware.c"
+compiled example.o "$c/example/pciplan_bring_up.c"
+compiled number.o "$c/number/pciplan_number.c"
+compiled capture.o "$c/capture/pciplan_capture.c"
+compiled supported.o "$c/processor/pciplan_supported.c"
+compiled memory.o "$c/memory/pciplan_fixed_memory.c"
+cd "$built"
+gcc -nostdlib -static -no-pie -Wl,-T,"$here/image.ld" -Wl,--build-id=none -Wl,--no-warn-rwx-segments \
+    -Wl,--gc-sections -Wl,-z,max-page-size=4096 -o image.elf start.o firmware.o example.o number.o capture.o supported.o memory.o "$library" -lgcc
+objcopy -O binary image.elf image.bin
+
+# The ROM: the image, and in the last 4 KB what the processor does after reset.
+start=0x$(nm image.elf | sed -n 's/^0*\([0-9a-f]*\) T start$/\1/p')
+rom=1024
+size=$(stat -c %s image.bin)
+gcc -c -DSTART="$start" -DROM_KB=$rom -o reset.o "$here/reset.S"
+ld -Ttext=0xfffff000 -e 0xfffffff0 -o reset.elf reset.o
+objcopy -O binary -j .text reset.elf reset.bin
+{ cat image.bin; head -c $(((rom - 4) * 1024 - size)) /dev/zero; cat reset.bin; } >rom.bin
+
+status=0
+qemu-system-x86_64 -machine pc -cpu Nehalem -m 256 -nodefaults -display none -serial stdio -bios rom.bin \
+    -device isa-debug-exit,iobase=0xf4,iosize=1 -device pci-bridge,id=behind,chassis_nr=1,addr=3 \
+    -device edu,bus=behind,addr=1 -device edu,addr=4 -device bochs-display,addr=5 || status=$?
+[ $status = 1 ]
