@@ -4,15 +4,15 @@
    memset and the compiler's own __umodti3 (libgcc has it) it needs the three functions of memory at the end;
    c/memory/pciplan_memory.c gives them over malloc, c/memory/pciplan_fixed_memory.c over an array of fixed size.
 
-   What it needs of its place, which c/test.sh measures where it can:
+   What it needs of its place; c/test.sh measures the stack:
    - x86-64, in ELF, by the System V calling convention, with the instructions of x86-64-v2 (SSE up to 4.2, POPCNT,
      CMPXCHG16B). pciplan_supported says whether the processor has them. Firmware switches SSE on first (CR0.EM clear,
      CR0.MP set, CR4.OSFXSR set), or the first call is an invalid opcode.
    - Stack: 32 KB for pciplan_check, 80 KB for pciplan_plan. 128 bytes below the stack pointer are in use: what interrupts
      on the same stack leaves them alone (firmware is built with -mno-red-zone for that; this library isn't).
    - Memory: a check holds some 340 bytes a function at once, a plan some 2,200. The array of
-     c/memory/pciplan_fixed_memory.c, which uses little of what is given back again, holds a check of 512 functions or a
-     plan of 64 in its 256 KB.
+     c/memory/pciplan_fixed_memory.c, which uses little of what is given back again, holds a check of about 512
+     functions or a plan of about 64 in its 256 KB.
    - Texts of at most 1,042 bytes a function, of at most 4,096 functions. A plan has at most 9 writes for a device and 11
      for a bridge.
    - It may be called again while it runs, from another thread or an interrupt, if the three functions of memory may be.
