@@ -37,6 +37,7 @@ pub mod Rising
 pub mod Records
 pub mod Settling
 pub mod Verdicts
+pub mod AllFaults
 pub mod Sounding
 pub mod Regions
 pub mod Firsts

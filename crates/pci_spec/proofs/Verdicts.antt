@@ -3,7 +3,7 @@ use Rattle.std.proofs.Common.{◌≡◌, ℕ, suc, inl, inr, List, [], ◌∷◌
 use Rattle.std.specs.List.{list_all, Contains}
 use Rattle.std.proofs.lemmas.Bool.{and_cases, cases_eq, cases_Bool, both_ways}
 use Rattle.pci_spec.specs.Slot.{Slot}
-use Rattle.pci_spec.specs.System.{System, Function, Space, Part, Claims, Gets, IsPassedTo, IsSystem, Leads, is_prefetchable_part, passes, register_of}
+use Rattle.pci_spec.specs.System.{System, Function, Space, Part, Claims, Gets, IsPassedTo, IsSystem, Leads, is_prefetchable_part, is_window, passes, register_of}
 use Rattle.pci_spec.specs.Bus.{IsNested}
 use Rattle.pci_spec.specs.Fault.{IsUnreached, ClaimsOnBus}
 use Rattle.pci_spec.specs.Sound.{IsSingle, IsHome, IsSameRegion}
@@ -38,7 +38,7 @@ no_split roots s single space address first fr second sr split =
     split.buses (ap (λ (x : Slot). x.bus) (sym one.3 ∙ same.0 ∙ two.3))
 
 -- a region that claims an address
-on_bus : (s : System) (f : Function) (p : Part) (space : Space) (a bus : ℕ) → Contains s f → f.slot.bus ≡ bus → Claims f p space a
+pub on_bus : (s : System) (f : Function) (p : Part) (space : Space) (a bus : ℕ) → Contains s f → f.slot.bus ≡ bus → Claims f p space a
     → ClaimsOnBus s bus space a f.slot (register_of f p)
 on_bus s f p space a bus listed at claims = (f, p, listed, refl, at, refl, claims)
 
@@ -105,14 +105,16 @@ passed_not_unreached roots s system nested slot register space a bridge u way =
     subst (λ (x : Slot). IsPassedTo roots s space (is_prefetchable_part u.f u.part) a x.bus) u.named.0 way in
     both_ways _ u.stops (passed_by_each roots s system nested space (is_prefetchable_part u.f u.part) a u.root slot.bus u.bridges u.starts u.leads there u.b u.on_the_way)
 
-home : (roots : List ℕ) (s : System) → IsNested roots s → HasNoUnreached roots s → IsHome roots s
-home roots s nested none f p space a listed no_window claims =
+-- an address of a region that no bridge on the way stops is passed on all the way
+pub passed_where_none_stops : (roots : List ℕ) (s : System) → IsNested roots s → (f : Function) (p : Part) (space : Space) (a : ℕ) → Contains s f → is_window p ≡ false → Claims f p space a
+    → ((bridge : Slot) → IsUnreached roots s f.slot (register_of f p) space a bridge → ⊥) → IsPassedTo roots s space (is_prefetchable_part f p) a f.slot.bus
+passed_where_none_stops roots s nested f p space a listed no_window claims none =
     let way = a_way_to_each roots s nested f listed in
     elim (cases_Bool (list_all (passes space (is_prefetchable_part f p) a) way.2)) [
       | inl all ↦ (way.0, way.1, way.2, way.3, all)
       | inr not_all ↦
           let found = some_fails (passes space (is_prefetchable_part f p) a) way.2 not_all in
-          absurd (none f.slot (register_of f p) space a found.0.slot record {
+          absurd (none found.0.slot record {
             f = f;
             part = p;
             listed = listed;
@@ -134,5 +136,6 @@ pub home_without_unreached : HomeWithoutUnreached
 home_without_unreached roots s system nested = (
   λ (h : IsHome roots s) slot register space a bridge (u : IsUnreached roots s slot register space a bridge).
       passed_not_unreached roots s system nested slot register space a bridge u (h u.f u.part space a u.listed u.no_window u.claims),
-  λ (h : HasNoUnreached roots s). home roots s nested h,
+  λ (h : HasNoUnreached roots s) f p space a listed no_window claims.
+      passed_where_none_stops roots s nested f p space a listed no_window claims (λ bridge. h f.slot (register_of f p) space a bridge),
 )

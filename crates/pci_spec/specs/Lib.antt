@@ -36,6 +36,8 @@ pub mod TextLaws
 pub mod CapabilityLaws
 pub mod MachineLaws
 pub mod JudgingLaws
+pub mod AllFaults
+pub mod AllFaultsLaws
 pub mod SoundLaws
 pub mod RecordLaws
 pub mod ProbeLaws

@@ -1,6 +1,7 @@
 //! Laws of judging and of soundness. These functions do nothing: each contract is a law.
 
 ghost use Rattle.pci_spec.specs.JudgingLaws.{SingleWithoutClashes, HomeWithoutUnreached, LeastUnreachedIsFirst, LeastClashIsFirst, LeastSplitIsFirst};
+ghost use Rattle.pci_spec.specs.AllFaultsLaws.{EmptyWhereNoneFails, LineWhereNotHome, SingleWithoutSeconds};
 ghost use Rattle.pci_spec.specs.RecordLaws.{RecordsSettleClaims};
 ghost use Rattle.pci_spec.specs.SoundLaws.{ChainWithoutFaults, SoundWithoutFaults};
 
@@ -15,6 +16,13 @@ pub fn the_least_fault_is_first()
     ensures unreached { LeastUnreachedIsFirst }
     ensures clash { LeastClashIsFirst }
     ensures split { LeastSplitIsFirst }
+{}
+
+/// A list of all faults of judging leaves nothing out.
+pub fn a_list_of_all_is_whole()
+    ensures empty { EmptyWhereNoneFails }
+    ensures home { LineWhereNotHome }
+    ensures seconds { SingleWithoutSeconds }
 {}
 
 /// A system is sound exactly where no fault is there.
