@@ -1,5 +1,5 @@
 -- A list of all faults of judging leaves nothing out.
-use Rattle.std.proofs.Common.{◌≡◌, ℕ, zero, suc, ◌<◌, ◌≤◌, ◌⊎◌, inl, inr, List, [], ◌∷◌, refl, false, arith, sym, ◌∙◌, ap, subst, lit<}
+use Rattle.std.proofs.Common.{◌≡◌, ℕ, zero, suc, ◌<◌, ◌≤◌, ◌⊎◌, inl, inr, List, [], ◌∷◌, refl, false, arith, sym, ◌∙◌, ap, subst}
 use Rattle.std.specs.Bool.{IsTrue}
 use Rattle.std.specs.List.{Contains}
 use Rattle.std.proofs.lemmas.Bool.{cases_order, cases_eq}
@@ -9,7 +9,7 @@ use Rattle.pci_spec.specs.Bus.{IsNested}
 use Rattle.pci_spec.specs.Fault.{Fault, Unreached, Clash, Split, IsUnreached, IsClash, IsSplit}
 use Rattle.pci_spec.specs.Sound.{IsSingle, IsHome}
 use Rattle.pci_spec.specs.JudgingLaws.{region_number, HasNoUnreached, HasNoClash, HasNoSplit}
-use Rattle.pci_spec.specs.AllFaults.{IsUnreachedOf, IsClashOf, IsSplitOf, IsNamed, AreAllOfJudging}
+use Rattle.pci_spec.specs.AllFaults.{IsClashOf, IsSplitOf, IsNamed, AreAllOfJudging}
 use Rattle.pci_spec.specs.AllFaultsLaws.{EmptyWhereNoneFails, IsPartHome, IsNotUnreached, LineWhereNotHome, IsNeverSecond, SingleWithoutSeconds}
 use Rattle.pci_spec.proofs.Firsts.{slot_of, named_slot, named_register}
 use Rattle.pci_spec.proofs.Regions.{part_same, slot_number-same, region_number-same, region_decided}
@@ -217,12 +217,14 @@ empty_where_none_fails roots s faults system nested all = (
       let never : (slot : Slot) (register : ℕ) → IsNeverSecond roots s slot register = λ slot register. record {
         of_a_bus = λ bus space a first fr line. none (Clash bus space a first fr slot register) line;
         of_roots = λ space a first fr line. none (Split space a first fr slot register) line;
-      } in
-      ((single_without_clashes roots s).1 (
-        λ bus space a first fr second sr clash. never_clash roots s system bus space a first fr second sr (never first fr) (never second sr) clash,
-        λ space a first fr second sr split. never_split roots s system space a first fr second sr (never first fr) (never second sr) split,
-      ), (home_without_unreached roots s system nested).1 (λ slot register space a bridge unreached.
-          none_unreached roots s system nested slot register (λ sp b other line. none (Unreached slot register sp b other) line) space a bridge unreached)),
+      } in (
+        (single_without_clashes roots s).1 (
+          λ bus space a first fr second sr clash. never_clash roots s system bus space a first fr second sr (never first fr) (never second sr) clash,
+          λ space a first fr second sr split. never_split roots s system space a first fr second sr (never first fr) (never second sr) split,
+        ),
+        (home_without_unreached roots s system nested).1 (λ slot register space a bridge unreached.
+            none_unreached roots s system nested slot register (λ sp b other line. none (Unreached slot register sp b other) line) space a bridge unreached),
+      ),
   λ (sound : IsSingle roots s × IsHome roots s).
       let apart = (single_without_clashes roots s).0 sound.0 in
       let reached = (home_without_unreached roots s system nested).0 sound.1 in

@@ -28,3 +28,4 @@ pub mod ProbesOf
 pub mod ToldAlike
 pub mod TrueLines
 pub mod Sized
+pub mod AllFaults

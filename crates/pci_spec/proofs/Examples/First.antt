@@ -15,7 +15,7 @@ use Rattle.pci_spec.proofs.Examples.Samples.{slot, host}
 use Rattle.pci_spec.proofs.Examples.Clashes.{large, in_its_upper_half, two_bars_overlap}
 use Rattle.pci_spec.proofs.Examples.Sized.{answered}
 
-abbrev s : System
+abbrev pub s : System
 s = large ∷ in_its_upper_half ∷ []
 
 no : {A : Type 0} → false ≡ true → A
@@ -55,13 +55,13 @@ half_claims Rom space a c = absurd (no_rom c.decodes.0 c.decodes.1)
 half_claims (Window kind) space a c = no c.there
 
 -- a region that claims an address on a bus, by its device
-record IsOf (d bus : ℕ) (space : Space) (at : Slot) (register : ℕ) : Type 0 where
-  slot_is : at ≡ slot 0 d 0
-  register_is : register ≡ 0x10
-  bus_is : bus ≡ 0
-  space_is : space ≡ Memory
+pub record IsOf (d bus : ℕ) (space : Space) (at : Slot) (register : ℕ) : Type 0 where
+  pub slot_is : at ≡ slot 0 d 0
+  pub register_is : register ≡ 0x10
+  pub bus_is : bus ≡ 0
+  pub space_is : space ≡ Memory
 
-region : (bus : ℕ) (space : Space) (a : ℕ) (at : Slot) (register : ℕ) → ClaimsOnBus s bus space a at register
+pub region : (bus : ℕ) (space : Space) (a : ℕ) (at : Slot) (register : ℕ) → ClaimsOnBus s bus space a at register
     → IsOf 1 bus space at register ⊎ (IsOf 2 bus space at register × (0xe0080000 ≤ a))
 region bus space a at register (f, part, listed, named, on_bus, by, claims) = elim (in_pair large in_its_upper_half f listed) [
   | inl is ↦
@@ -89,7 +89,7 @@ region bus space a at register (f, part, listed, named, on_bus, by, claims) = el
 
 -- ---- nothing is before
 
-abbrev found : Fault
+abbrev pub found : Fault
 found = Clash 0 Memory 0xe0080000 (slot 0 1 0) 0x10 (slot 0 2 0) 0x10
 
 abbrev IsBefore : Fault → Type 0
