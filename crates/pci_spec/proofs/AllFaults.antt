@@ -9,7 +9,7 @@ use Rattle.pci_spec.specs.Bus.{IsNested}
 use Rattle.pci_spec.specs.Fault.{Fault, Unreached, Clash, Split, IsUnreached, IsClash, IsSplit}
 use Rattle.pci_spec.specs.Sound.{IsSingle, IsHome}
 use Rattle.pci_spec.specs.JudgingLaws.{region_number, HasNoUnreached, HasNoClash, HasNoSplit}
-use Rattle.pci_spec.specs.AllFaults.{IsClashOf, IsSplitOf, IsNamed, AreAllOfJudging}
+use Rattle.pci_spec.specs.AllFaults.{IsUnreachedOf, IsClashOf, IsSplitOf, IsNamed, AreAllOfJudging}
 use Rattle.pci_spec.specs.AllFaultsLaws.{EmptyWhereNoneFails, IsPartHome, IsNotUnreached, LineWhereNotHome, IsNeverSecond, SingleWithoutSeconds}
 use Rattle.pci_spec.proofs.Firsts.{slot_of, named_slot, named_register}
 use Rattle.pci_spec.proofs.Regions.{part_same, slot_number-same, region_number-same, region_decided}
@@ -37,11 +37,29 @@ module _ {X : Type 0} (m : X → ℕ) (P : ℕ → X → Type 0)
   none_below zero n x less p = let no : ⊥ = omega (arith, less) in no
   none_below (suc b) n x less p = none_with n (λ k y down q. none_below b k y (omega (arith, down, less)) q) (suc (m x)) x (omega arith) p
 
--- where none is the least there is none
-none_there : {X : Type 0} (m : X → ℕ) (P : ℕ → X → Type 0)
-    → ((n : ℕ) (x : X) → P n x → ((k : ℕ) (y : X) → P k y → (n < k) ⊎ ((n ≡ k) × (m x ≤ m y))) → ⊥)
-    → (n : ℕ) (x : X) → P n x → ⊥
-none_there m P none_least n x p = none_below m P none_least (suc n) n x (omega arith) p
+-- not after another, by a number and then by a measure
+abbrev pub IsNotAfter : ℕ → ℕ → ℕ → ℕ → Type 0
+IsNotAfter n m k j = (n < k) ⊎ ((n ≡ k) × (m ≤ j))
+
+-- of some things one is least, and not after one that is given
+module _ {X : Type 0} (m : X → ℕ) (P : ℕ → X → Type 0) (n : ℕ) (x : X)
+    (none : (k : ℕ) (y : X) → P k y → IsNotAfter k (m y) n (m x) → ((j : ℕ) (z : X) → P j z → IsNotAfter k (m y) j (m z)) → ⊥) where
+  none_up_to : P n x → ⊥
+  none_up_to p = none_below m (λ k y. P k y × IsNotAfter k (m y) n (m x)) (λ k y q least. none k y q.0 q.1 (λ j z r. elim (cases_order k j) [
+    | inr (inl up) ↦ inl up
+    | inr (inr down) ↦ least j z (r, elim q.1 [ inl less ↦ inl (omega (arith, less, down)) | inr same ↦ inl (let e = same.0 in omega (arith, e, down)) ])
+    | inl same ↦ elim (cases_order (m y) (m z)) [
+      | inl e ↦ inr (same, omega (arith, e))
+      | inr (inl up) ↦ inr (same, omega (arith, up))
+      | inr (inr down) ↦ least j z (
+        r,
+        elim q.1 [
+          | inl less ↦ inl (omega (arith, less, same))
+          | inr (e, low) ↦ inr (omega (arith, e, same), omega (arith, low, down))
+        ],
+      )
+    ]
+  ])) (suc n) n x (omega arith) (p, inr (refl, omega arith))
 
 -- ---- regions that clash with one before them
 
@@ -51,25 +69,8 @@ Named = Slot × ℕ
 abbrev number : Named → ℕ
 number r = region_number r.0 r.1
 
--- where no line names a region as second, it clashes with none before it
-no_earlier : (roots : List ℕ) (s : System) (bus : ℕ) (space : Space) (second : Slot) (sr : ℕ)
-    → ((a : ℕ) (first : Slot) (fr : ℕ) → IsClashOf roots s bus space a first fr second sr → ⊥)
-    → (a : ℕ) (first : Slot) (fr : ℕ) → IsClash roots s bus space a first fr second sr → region_number first fr < region_number second sr → ⊥
-no_earlier roots s bus space second sr none a first fr clash rise =
-    none_there number (λ b r. IsClash roots s bus space b r.0 r.1 second sr × (number r < region_number second sr))
-    (λ b r p least. none b r.0 r.1 record { there = p.0; rise = p.1; least = λ e slot register other up. least e (slot, register) (other, up) })
-    a (first, fr) (clash, rise)
-
-no_earlier_split : (roots : List ℕ) (s : System) (space : Space) (second : Slot) (sr : ℕ)
-    → ((a : ℕ) (first : Slot) (fr : ℕ) → IsSplitOf roots s space a first fr second sr → ⊥)
-    → (a : ℕ) (first : Slot) (fr : ℕ) → IsSplit roots s space a first fr second sr → region_number first fr < region_number second sr → ⊥
-no_earlier_split roots s space second sr none a first fr split rise =
-    none_there number (λ b r. IsSplit roots s space b r.0 r.1 second sr × (number r < region_number second sr))
-    (λ b r p least. none b r.0 r.1 record { there = p.0; rise = p.1; least = λ e slot register other up. least e (slot, register) (other, up) })
-    a (first, fr) (split, rise)
-
 -- two regions that clash, the other way round
-swapped : (roots : List ℕ) (s : System) (bus : ℕ) (space : Space) (a : ℕ) (first : Slot) (fr : ℕ) (second : Slot) (sr : ℕ)
+pub swapped : (roots : List ℕ) (s : System) (bus : ℕ) (space : Space) (a : ℕ) (first : Slot) (fr : ℕ) (second : Slot) (sr : ℕ)
     → IsClash roots s bus space a first fr second sr → IsClash roots s bus space a second sr first fr
 swapped roots s bus space a first fr second sr clash = record {
   gets = clash.gets;
@@ -78,7 +79,7 @@ swapped roots s bus space a first fr second sr clash = record {
   differ = λ same. clash.differ (sym same.0, sym same.1);
 }
 
-swapped_split : (roots : List ℕ) (s : System) (space : Space) (a : ℕ) (first : Slot) (fr : ℕ) (second : Slot) (sr : ℕ)
+pub swapped_split : (roots : List ℕ) (s : System) (space : Space) (a : ℕ) (first : Slot) (fr : ℕ) (second : Slot) (sr : ℕ)
     → IsSplit roots s space a first fr second sr → IsSplit roots s space a second sr first fr
 swapped_split roots s space a first fr second sr split = record {
   root_first = split.root_second;
@@ -89,6 +90,25 @@ swapped_split roots s space a first fr second sr split = record {
 }
 
 module _ (roots : List ℕ) (s : System) (system : IsSystem s) where
+  -- a clash with an earlier region has a line, which isn't after it
+  pub line_of_clash : (bus : ℕ) (space : Space) (a : ℕ) (first : Slot) (fr : ℕ) (second : Slot) (sr : ℕ)
+      → IsClash roots s bus space a first fr second sr → region_number first fr < region_number second sr
+      → ((b : ℕ) (at : Slot) (register : ℕ) → IsClashOf roots s bus space b at register second sr → IsNotAfter b (region_number at register) a (region_number first fr) → ⊥)
+      → ⊥
+  line_of_clash bus space a first fr second sr clash rise none =
+      none_up_to number (λ b r. IsClash roots s bus space b r.0 r.1 second sr × (number r < region_number second sr)) a (first, fr)
+      (λ b r p before least. none b r.0 r.1 record { there = p.0; rise = p.1; least = λ e slot register other up. least e (slot, register) (other, up) } before)
+      (clash, rise)
+
+  pub line_of_split : (space : Space) (a : ℕ) (first : Slot) (fr : ℕ) (second : Slot) (sr : ℕ)
+      → IsSplit roots s space a first fr second sr → region_number first fr < region_number second sr
+      → ((b : ℕ) (at : Slot) (register : ℕ) → IsSplitOf roots s space b at register second sr → IsNotAfter b (region_number at register) a (region_number first fr) → ⊥)
+      → ⊥
+  line_of_split space a first fr second sr split rise none =
+      none_up_to number (λ b r. IsSplit roots s space b r.0 r.1 second sr × (number r < region_number second sr)) a (first, fr)
+      (λ b r p before least. none b r.0 r.1 record { there = p.0; rise = p.1; least = λ e slot register other up. least e (slot, register) (other, up) } before)
+      (split, rise)
+
   -- regions of which none is second don't clash
   never_clash : (bus : ℕ) (space : Space) (a : ℕ) (first : Slot) (fr : ℕ) (second : Slot) (sr : ℕ)
       → IsNeverSecond roots s first fr → IsNeverSecond roots s second sr → IsClash roots s bus space a first fr second sr → ⊥
@@ -96,8 +116,8 @@ module _ (roots : List ℕ) (s : System) (system : IsSystem s) where
     | inl same ↦ clash.differ (region_number-same first second fr sr
         (named_slot s system bus space a first fr clash.claims_first) (named_slot s system bus space a second sr clash.claims_second)
         (named_register s bus space a first fr clash.claims_first) (named_register s bus space a second sr clash.claims_second) same)
-    | inr (inl up) ↦ no_earlier roots s bus space second sr (of_second.of_a_bus bus space) a first fr clash up
-    | inr (inr down) ↦ no_earlier roots s bus space first fr (of_first.of_a_bus bus space) a second sr (swapped roots s bus space a first fr second sr clash) down
+    | inr (inl up) ↦ line_of_clash bus space a first fr second sr clash up (λ b at register line before. of_second.of_a_bus bus space b at register line)
+    | inr (inr down) ↦ line_of_clash bus space a second sr first fr (swapped roots s bus space a first fr second sr clash) down (λ b at register line before. of_first.of_a_bus bus space b at register line)
   ]
 
   never_split : (space : Space) (a : ℕ) (first : Slot) (fr : ℕ) (second : Slot) (sr : ℕ)
@@ -106,31 +126,32 @@ module _ (roots : List ℕ) (s : System) (system : IsSystem s) where
     | inl same ↦ split.buses (ap (λ (x : Slot). x.bus) (region_number-same first second fr sr
         (named_slot s system first.bus space a first fr split.claims_first) (named_slot s system second.bus space a second sr split.claims_second)
         (named_register s first.bus space a first fr split.claims_first) (named_register s second.bus space a second sr split.claims_second) same).0)
-    | inr (inl up) ↦ no_earlier_split roots s space second sr (of_second.of_roots space) a first fr split up
-    | inr (inr down) ↦ no_earlier_split roots s space first fr (of_first.of_roots space) a second sr (swapped_split roots s space a first fr second sr split) down
+    | inr (inl up) ↦ line_of_split space a first fr second sr split up (λ b at register line before. of_second.of_roots space b at register line)
+    | inr (inr down) ↦ line_of_split space a second sr first fr (swapped_split roots s space a first fr second sr split) down (λ b at register line before. of_first.of_roots space b at register line)
   ]
 
 -- ---- regions that aren't home
 
 -- a bridge on the way has a slot
-bridge_slot : (roots : List ℕ) (s : System) → IsSystem s → IsNested roots s → (slot : Slot) (register : ℕ) (space : Space) (a : ℕ) (bridge : Slot)
+pub bridge_slot : (roots : List ℕ) (s : System) → IsSystem s → IsNested roots s → (slot : Slot) (register : ℕ) (space : Space) (a : ℕ) (bridge : Slot)
     → IsUnreached roots s slot register space a bridge → IsSlot bridge
 bridge_slot roots s system nested slot register space a bridge u =
     subst IsSlot u.named_bridge (slot_of s system u.b (below_the_end roots s nested u.root u.bridges slot.bus u.leads u.b u.on_the_way).0)
 
--- where no line names a region as unreached, nothing keeps an address from it
-none_unreached : (roots : List ℕ) (s : System) → IsSystem s → IsNested roots s → (slot : Slot) (register : ℕ) → IsNotUnreached roots s slot register
-    → (space : Space) (a : ℕ) (bridge : Slot) → IsUnreached roots s slot register space a bridge → ⊥
-none_unreached roots s system nested slot register none space a bridge unreached =
+-- what keeps an address from a region has a line, which isn't after it
+pub line_of_unreached : (roots : List ℕ) (s : System) → IsSystem s → IsNested roots s → (slot : Slot) (register : ℕ) (space : Space) (a : ℕ) (bridge : Slot) → IsUnreached roots s slot register space a bridge
+    → ((sp : Space) (b : ℕ) (other : Slot) → IsUnreachedOf roots s slot register sp b other → IsNotAfter (slot_number other) b (slot_number bridge) a → ⊥)
+    → ⊥
+line_of_unreached roots s system nested slot register space a bridge unreached none =
     let low = bridge_slot roots s system nested slot register in
-    none_there (λ (x : Space × ℕ × Slot). x.1) (λ n x. (slot_number x.2 ≡ n) × IsUnreached roots s slot register x.0 x.1 x.2)
-    (λ n x p least. none x.0 x.1 x.2 record {
+    none_up_to (λ (x : Space × ℕ × Slot). x.1) (λ n x. (slot_number x.2 ≡ n) × IsUnreached roots s slot register x.0 x.1 x.2) (slot_number bridge) (space, a, bridge)
+    (λ n x p before least. none x.0 x.1 x.2 record {
       there = p.1;
       first = λ sp b other u. elim (least (slot_number other) (sp, b, other) (refl, u)) [
         | inl up ↦ inl (let e = p.0 in omega (arith, up, e))
         | inr (same, lower) ↦ inr (slot_number-same x.2 other (low x.0 x.1 x.2 p.1) (low sp b other u) (p.0 ∙ same), lower)
       ];
-    }) (slot_number bridge) (space, a, bridge) (refl, unreached)
+    } (subst (λ k. IsNotAfter k x.1 (slot_number bridge) a) (sym p.0) before)) (refl, unreached)
 
 -- what is unreached by the name of a function's part is that part
 module _ (roots : List ℕ) (s : System) (system : IsSystem s) (nested : IsNested roots s) (f : Function) (part : Part)
@@ -155,7 +176,7 @@ module _ (roots : List ℕ) (s : System) (system : IsSystem s) (nested : IsNeste
   not_unreached_home : is_window part ≡ false → IsNotUnreached roots s f.slot (register_of f part) → IsPartHome roots s f part
   not_unreached_home no_window none space a claims =
       passed_where_none_stops roots s nested f part space a listed no_window claims
-      (λ bridge. none_unreached roots s system nested f.slot (register_of f part) none space a bridge)
+      (λ bridge u. line_of_unreached roots s system nested f.slot (register_of f part) space a bridge u (λ sp b other line before. none sp b other line))
 
 pub line_where_not_home : LineWhereNotHome
 line_where_not_home roots s system nested f part listed there no_window = (
@@ -223,7 +244,7 @@ empty_where_none_fails roots s faults system nested all = (
           λ space a first fr second sr split. never_split roots s system space a first fr second sr (never first fr) (never second sr) split,
         ),
         (home_without_unreached roots s system nested).1 (λ slot register space a bridge unreached.
-            none_unreached roots s system nested slot register (λ sp b other line. none (Unreached slot register sp b other) line) space a bridge unreached),
+            line_of_unreached roots s system nested slot register space a bridge unreached (λ sp b other line before. none (Unreached slot register sp b other) line)),
       ),
   λ (sound : IsSingle roots s × IsHome roots s).
       let apart = (single_without_clashes roots s).0 sound.0 in

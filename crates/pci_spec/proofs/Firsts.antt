@@ -17,7 +17,7 @@ use Rattle.pci_spec.proofs.Ways.{one_way, buses_rise}
 use Rattle.pci_spec.proofs.Regions.{register_of-lt, part_same, precedes-cases, precedes-region}
 use Rattle.pci_spec.proofs.Verdicts.{passed_not_unreached}
 
-no : {A : Type 0} → false ≡ true → A
+pub no : {A : Type 0} → false ≡ true → A
 no h = absurd (let contradiction : ⊥ = both_ways false refl h in contradiction)
 
 -- ---- what claims an address is named lawfully
@@ -32,7 +32,7 @@ pub named_register : (s : System) (bus : ℕ) (space : Space) (a : ℕ) (slot : 
 named_register s bus space a slot register c = let less = register_of-lt c.0 c.1 c.6.there in let e = c.5 in omega (arith, less, e)
 
 -- keys of two regions: where one pair precedes another, its first region is lesser, or the same and its second lesser
-pair_precedes : (s t u v : Slot) (r q m n : ℕ) → IsSlot s → IsSlot t → IsSlot u → IsSlot v → r < 256 → q < 256 → m < 256 → n < 256
+pub pair_precedes : (s t u v : Slot) (r q m n : ℕ) → IsSlot s → IsSlot t → IsSlot u → IsSlot v → r < 256 → q < 256 → m < 256 → n < 256
     → precedes (slot_key s ++ (r ∷ slot_key u) ++ (m ∷ [])) (slot_key t ++ (q ∷ slot_key v) ++ (n ∷ [])) ≡ true
     → (region_number s r < region_number t q) ⊎ ((s ≡ t) × (r ≡ q) × (region_number u m < region_number v n))
 pair_precedes s t u v r q m n hs ht hu hv hr hq hm hn h =

@@ -38,6 +38,7 @@ pub mod Records
 pub mod Settling
 pub mod Verdicts
 pub mod AllFaults
+pub mod FirstLines
 pub mod Sounding
 pub mod Regions
 pub mod Firsts

@@ -1,11 +1,12 @@
 -- What a list of all faults of judging is good for: it is empty where nothing is wrong, it has a line for each region
 -- that isn't home, and mending the second region of each line leaves no two that share an address.
-use Rattle.std.specs.Prelude.{◌≡◌, ℕ, ◌↔◌, false, IsTrue, List, []}
+use Rattle.std.specs.Prelude.{◌≡◌, ℕ, ◌↔◌, false, IsTrue, List, [], ◌∷◌}
 use Rattle.std.specs.List.{Contains}
 use Rattle.pci_spec.specs.Slot.{Slot}
 use Rattle.pci_spec.specs.System.{System, Function, Space, Part, Claims, Gets, IsPassedTo, IsSystem, has_part, is_prefetchable_part, is_window, register_of}
 use Rattle.pci_spec.specs.Bus.{IsNested}
 use Rattle.pci_spec.specs.Fault.{Fault}
+use Rattle.pci_spec.specs.Order.{IsFirst}
 use Rattle.pci_spec.specs.Sound.{IsSingle, IsHome, IsSameRegion}
 use Rattle.pci_spec.specs.AllFaults.{IsUnreachedOf, IsClashOf, IsSplitOf, AreAllOfJudging}
 
@@ -15,6 +16,13 @@ EmptyWhereNoneFails =
     (roots : List ℕ) (s : System) (faults : List Fault) → IsSystem s → IsNested roots s
     → AreAllOfJudging roots s faults
     → (faults ≡ []) ↔ (IsSingle roots s × IsHome roots s)
+
+-- Its first line is the fault of judging that is looked for first.
+abbrev pub FirstLineIsFirst : Type 0
+FirstLineIsFirst =
+    (roots : List ℕ) (s : System) (fault : Fault) (rest : List Fault) → IsSystem s
+    → IsNested roots s → AreAllOfJudging roots s (fault ∷ rest)
+    → IsFirst roots s fault
 
 -- each address of the region gets to its function, by bridges that pass it
 abbrev pub IsPartHome : List ℕ → System → Function → Part → Type 0

@@ -1,7 +1,7 @@
 //! Laws of judging and of soundness. These functions do nothing: each contract is a law.
 
 ghost use Rattle.pci_spec.specs.JudgingLaws.{SingleWithoutClashes, HomeWithoutUnreached, LeastUnreachedIsFirst, LeastClashIsFirst, LeastSplitIsFirst};
-ghost use Rattle.pci_spec.specs.AllFaultsLaws.{EmptyWhereNoneFails, LineWhereNotHome, SingleWithoutSeconds};
+ghost use Rattle.pci_spec.specs.AllFaultsLaws.{EmptyWhereNoneFails, FirstLineIsFirst, LineWhereNotHome, SingleWithoutSeconds};
 ghost use Rattle.pci_spec.specs.RecordLaws.{RecordsSettleClaims};
 ghost use Rattle.pci_spec.specs.SoundLaws.{ChainWithoutFaults, SoundWithoutFaults};
 
@@ -21,6 +21,7 @@ pub fn the_least_fault_is_first()
 /// A list of all faults of judging leaves nothing out.
 pub fn a_list_of_all_is_whole()
     ensures empty { EmptyWhereNoneFails }
+    ensures first { FirstLineIsFirst }
     ensures home { LineWhereNotHome }
     ensures seconds { SingleWithoutSeconds }
 {}
