@@ -208,6 +208,7 @@ pub fn chain(image: &Image) -> Result<ArrayVec<Cap<'_>, 48>, ImageFault>
     // the listing prints these bytes, so they have to be the image's own
     ensures bodies { IfOk result (λ v. All (IsCapIn image.now.0) v.items) }
     ensures fault { IfErr result (IsChainFaultIn image.now.0) }
+    ensures first { IfErr result (IsFirstAlong image.now.0) }
 {
     let places = places(image)?;
     let mut found = ArrayVec::new();

@@ -1,9 +1,9 @@
 //! The listing of a dump and its probe, or the first fault that decoding them meets.
-ghost use Rattle.std.specs.Prelude.{◌≡◌, ◌++◌, [], ◌∷◌, OnOk, IfOk, IfErr};
+ghost use Rattle.std.specs.Prelude.{◌≡◌, ◌++◌, OnOk, IfOk, IfErr};
 ghost use Rattle.std.specs.String.{string_bytes};
 ghost use Rattle.pci_spec.specs.System.{function_of, system_of};
 ghost use Rattle.pci_spec.specs.Listing.{listing, function_listing};
-ghost use Rattle.pci_listing.specs.Shows.{IsRefusedFor, IsRefusedIn};
+ghost use Rattle.pci_listing.specs.Shows.{AreListable, IsListable, IsRefusedFor, IsRefusedIn};
 
 use crate::listing::function::push_function;
 use pci_base::memory::Refused;
@@ -21,6 +21,7 @@ fn push_block<A: Allocator>(
 ) -> Result<(), Refused<Fault>>
     ensures ok { OnOk result (string_bytes text.new
         ≡ string_bytes text.old ++ function_listing (function_of block.now probe.now)) }
+    ensures listable { OnOk result (IsListable (function_of block.now probe.now)) }
     ensures refused { IfErr result (IsRefusedFor (function_of block.now probe.now)) }
 {
     push_function(text, block.slot, &block.image, &probe.image)
@@ -38,7 +39,9 @@ pub fn show<A: Allocator, D: Allocator, P: Allocator>(
 ) -> Result<String<A>, Refused<Fault>>
     ensures listing { IfOk result
         (λ text. string_bytes text ≡ listing (system_of dump.now probe.now)) }
-    ensures refused { IfErr result (IsRefusedIn (0 ∷ []) dump.now probe.now) }
+    // only where none of its faults is there, so one of two answers is right
+    ensures listable { OnOk result (AreListable dump.now probe.now) }
+    ensures refused { IfErr result (IsRefusedIn dump.now probe.now) }
 {
     if let Err(fault) = pair(dump, probe) {
         return Err(Refused::Fault(fault));

@@ -9,7 +9,7 @@ ghost use Rattle.pci_image.specs.Roms.{decoded_rom_of};
 ghost use Rattle.pci_function.specs.Values.{bridge_value, record_value};
 ghost use Rattle.pci_listing.specs.CapabilityLines.{IsListed};
 ghost use Rattle.pci_listing.specs.FunctionLines.{record_lines};
-ghost use Rattle.pci_listing.specs.Shows.{IsRefusedFor};
+ghost use Rattle.pci_listing.specs.Shows.{IsListable, IsRefusedFor};
 
 use super::bridge::{BusLine, push_window};
 use super::capability::CapabilityLine;
@@ -113,6 +113,12 @@ pub fn push_function<A: Allocator>(
 ) -> Result<(), Refused<Fault>>
     ensures ok { OnOk result (string_bytes text.new ≡ string_bytes text.old
         ++ function_listing record { slot = slot; image = image.now.0; probe = probe.now.0 }) }
+    // so that who lists each function in turn knows that none has a fault
+    ensures listable { OnOk result (IsListable record {
+      slot = slot;
+      image = image.now.0;
+      probe = probe.now.0;
+    }) }
     ensures refused { IfErr result (IsRefusedFor record {
       slot = slot;
       image = image.now.0;

@@ -9,6 +9,7 @@ use Rattle.pci_spec.specs.Listing.{header_line, capability_line, places_of}
 use Rattle.pci_image.specs.declared.capability.Cap.{Cap}
 use Rattle.pci_image.specs.Caps.{place_of}
 use Rattle.pci_function.proofs.Examined.{chain_fault}
+use Rattle.pci_function.proofs.FirstDecoded.{first_of_chain}
 use Rattle.pci_listing.specs.CapabilityLines.{IsListed}
 use Rattle.pci_listing.specs.FunctionLines.{record_lines}
 use Rattle.pci_listing.proofs.Chains.{listed, places_of-chain}
@@ -35,12 +36,26 @@ push_capabilities-requires g c =
     subst P (sym c.as_slice.ensures.value) each
 
 pub returns-in-Err-clause-refused : goal.returns-in-Err-clause-refused
-returns-in-Err-clause-refused g c = (c.in-Err.fault, c.of_image.ensures, c.in-Err.ensures.decoded)
+returns-in-Err-clause-refused g c = record {
+  of_image = c.in-Err.fault;
+  named = c.of_image.ensures;
+  there = c.in-Err.ensures.decoded;
+  first = c.in-Err.ensures.first;
+}
 
 pub returns-in-Err-chain-clause-refused : goal.returns-in-Err-chain-clause-refused
 returns-in-Err-chain-clause-refused g c =
     let f : Function = record { slot = c.args.slot; image = c.args.image.now.0; probe = c.args.probe.now.0 } in
-    (c.in-Err-chain.fault, c.of_image-in-Err-chain.ensures, chain_fault f c.in-Err-chain.fault c.in-Err-chain.ensures.fault)
+    let d = c.in-Ok.ensures.decoded.decodable in
+    record {
+      of_image = c.in-Err-chain.fault;
+      named = c.of_image-in-Err-chain.ensures;
+      there = chain_fault f c.in-Err-chain.fault c.in-Err-chain.ensures.fault;
+      first = first_of_chain f c.in-Err-chain.fault record { bars = d.bars; rom = d.rom; windows = d.windows } c.in-Err-chain.ensures.first;
+    }
+
+pub returns-clause-listable : goal.returns-clause-listable
+returns-clause-listable g c = (c.in-Ok.ensures.decoded.decodable, c.in-Ok-chain.ensures.lawful.0 refl)
 
 pub returns-clause-ok : goal.returns-clause-ok
 returns-clause-ok g c =
