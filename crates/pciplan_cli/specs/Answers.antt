@@ -6,12 +6,13 @@ use Rattle.std.specs.String.{string_bytes}
 use Rattle.pci_spec.specs.Text.{Block, text_of}
 use Rattle.pci_spec.specs.System.{system_of}
 use Rattle.pci_spec.specs.Fault.{Fault, IsThere}
-use Rattle.pci_spec.specs.Order.{image_at, is_before, phase_of}
+use Rattle.pci_spec.specs.Order.{phase_key, Decoding, IsFirstThere, image_at, is_before, phase_of}
 use Rattle.pci_spec.specs.Decoded.{IsDecodable}
 use Rattle.pci_spec.specs.Line.{field, verdict_line}
 use Rattle.pci_spec.specs.Listing.{listing}
 use Rattle.pci_dump.specs.Begun.{AppendsBeginning}
 use Rattle.pci_pair.specs.Pair.{IsPair}
+use Rattle.pci_listing.specs.Shows.{AreListable}
 use Rattle.pci_machine.specs.Made.{is_of_list}
 use Rattle.pci_check.specs.Audits.{IsOutcomeOf, outcome_line}
 use Rattle.pci_check.specs.declared.outcome.Outcome.{Outcome}
@@ -53,16 +54,21 @@ abbrev pub IsTold : Option (List ℕ) → Option (List ℕ) → Type 0 → List 
 IsTold before after failed text =
     Appends before after text ⊎ (failed × AppendsBeginning before after text)
 
--- the line of a fault that is there
-pub record IsRefusal (dump probe : List Block) (answer : Answer) : Type 0 where
+-- the listing, where each function has one
+pub record IsShownText (dump probe : List Block) (answer : Answer) : Type 0 where
+  pub listable : AreListable dump probe
+  pub line : answer ≡ done (listing (system_of dump probe))
+
+-- the line of the first fault that is there, where it is of slots, of identities and probes, or of decoding
+pub record IsNotShown (dump probe : List Block) (answer : Answer) : Type 0 where
   pub fault : Fault
-  pub there : IsThere (0 ∷ []) dump probe fault
+  pub kind : phase_of fault ≤ phase_key Decoding
+  pub first : (roots : List ℕ) → IsFirstThere roots dump probe fault
   pub line : answer ≡ refused (verdict_line (Some fault))
 
--- `show`: the listing, or the line of a fault that is there
+-- `show`: the listing, or the line of the first fault that a listing is refused for
 abbrev pub IsShown : List Block → List Block → Answer → Type 0
-IsShown dump probe answer =
-    (answer ≡ done (listing (system_of dump probe))) ⊎ IsRefusal dump probe answer
+IsShown dump probe answer = IsShownText dump probe answer ⊎ IsNotShown dump probe answer
 
 -- what sizing finds is the probe, where none of the faults 20 to 26, 30 and 31 is there
 pub record IsSizedText (dump probe : List Block) (answer : Answer) : Type 0 where
