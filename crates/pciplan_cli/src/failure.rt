@@ -22,7 +22,7 @@ pub enum PoolOption {
 /// Why a command line isn't carried out.
 #[derive(Clone, Copy, Debug, PartialEq, Eq)]
 pub enum Failure {
-    /// The words are no command line.
+    /// The words are no command line, or name both `--exact` and `--least`, which exclude each other.
     Usage,
     /// The list of root buses is none.
     Root,
