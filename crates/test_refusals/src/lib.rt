@@ -1,25 +1,11 @@
-//! Tests of what the public calls and the program do where a read, a write or a growth fails.
+//! Tests of what the public calls do where a growth fails.
 #![tactic(auto)]
 
 #[cfg(test)]
-mod failing;
-#[cfg(test)]
-mod hostile;
-#[cfg(test)]
-mod interrupted;
-#[cfg(test)]
 mod no_growth;
-#[cfg(test)]
-mod opening;
-#[cfg(test)]
-mod program;
 #[cfg(test)]
 mod refused_plans;
 #[cfg(test)]
-mod refused_probes;
-#[cfg(test)]
 mod refused_readings;
-#[cfg(test)]
-mod refused_tasks;
 #[cfg(test)]
 mod refused_verdicts;

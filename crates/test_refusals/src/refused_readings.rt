@@ -10,11 +10,8 @@ use pci_tree::survey::Survey;
 use std::alloc::Global;
 use std::test::Fail;
 use test_support::board::Texts;
-use test_support::refusing::Refusing;
+use test_support::refusing::{MANY, Refusing};
 use test_support::samples::samples;
-
-/// More growths than any call here asks for.
-pub const MANY: u64 = 1000;
 
 /// The dump of a text.
 pub fn read<'a>(

@@ -1,5 +1,5 @@
 //! Listing and judging, with the first growth refused, then with the second, and so on until no refusal is met.
-use crate::refused_readings::{MANY, read};
+use crate::refused_readings::read;
 use pci_base::memory::OutOfMemory;
 use pci_check::audit::audit;
 use pci_check::check::check;
@@ -16,7 +16,7 @@ use pci_tree::space::Space;
 use std::alloc::Global;
 use std::test::Fail;
 use test_support::board::Texts;
-use test_support::refusing::Refusing;
+use test_support::refusing::{MANY, Refusing};
 use test_support::samples::samples;
 
 /// The admission of two texts.

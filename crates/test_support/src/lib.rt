@@ -11,6 +11,7 @@
 pub mod board;
 pub mod example;
 pub mod fakes;
+pub mod planned;
 pub mod refusing;
 pub mod registers;
 pub mod samples;

@@ -2,6 +2,9 @@
 use std::alloc::{AllocError, Allocator};
 use std::cell::Cell;
 
+/// More growths than any call asks for whose growths are refused in turn.
+pub const MANY: u64 = 1000;
+
 /// Passes each call on to another allocator, and refuses one growth of those to come. Collections hold a `&` to it.
 pub struct Refusing<B: Allocator> {
     inner: B,

@@ -1,11 +1,10 @@
 //! The program's tasks with the first growth refused, then with the second, and so on until no refusal is met.
 use crate::program::{Answer, run_by, run_task};
-use crate::refused_readings::MANY;
 use pci_tree::roots::Roots;
 use pciplan_cli::invocation::Task;
 use std::test::Fail;
 use test_support::board::Texts;
-use test_support::refusing::Refusing;
+use test_support::refusing::{MANY, Refusing};
 use test_support::samples::samples;
 
 /// Whether two runs left the same.

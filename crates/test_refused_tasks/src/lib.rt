@@ -1,0 +1,19 @@
+//! Tests of what the program does where a read, a write or a growth fails.
+#![tactic(auto)]
+
+#[cfg(test)]
+mod failing;
+#[cfg(test)]
+mod hostile;
+#[cfg(test)]
+mod interrupted;
+#[cfg(test)]
+mod opening;
+#[cfg(test)]
+mod program;
+#[cfg(test)]
+mod refused_plans;
+#[cfg(test)]
+mod refused_probes;
+#[cfg(test)]
+mod refused_tasks;
