@@ -1,3 +1,4 @@
+pub mod Examples
 pub mod Writes
 pub mod Targets
 pub mod Bytes

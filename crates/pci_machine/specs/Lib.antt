@@ -1,4 +1,5 @@
 pub mod Outcome
+pub mod Failing
 pub mod Memory
 pub mod SizeOutcome
 pub mod Masks

@@ -54,3 +54,9 @@ SizingLeaves before slot after Stuck =
     (after ≡ before) × IsTrue (has_function before slot) × IsStuck (function_at before slot)
 SizingLeaves before slot after (Port offset fault old) =
     IsCause fault (has_function before slot) × StopLeaves before slot after offset old
+
+-- a fault that comes of an access that failed tells its offset
+abbrev pub TellsOffset : (ℕ → Type 0) → SizeFault → Type 0
+TellsOffset HasFailedAt (Header fault) = Unit {0}
+TellsOffset HasFailedAt Stuck = Unit {0}
+TellsOffset HasFailedAt (Port offset fault old) = fault ≡ Failed → HasFailedAt offset

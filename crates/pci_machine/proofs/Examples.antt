@@ -1,0 +1,2 @@
+-- Worked examples: what the definitions say of single accesses.
+pub mod Failing
