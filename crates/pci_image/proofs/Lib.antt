@@ -1,3 +1,4 @@
+pub mod Examples
 pub mod AddressBytes
 pub mod Comparators
 pub mod Registers

@@ -1,5 +1,5 @@
 -- What a fault of an image says, and its number.
-use Rattle.std.specs.Prelude.{ℕ, IsTrue, List}
+use Rattle.std.specs.Prelude.{ℕ, IsTrue, IsFalse, List}
 use Rattle.pci_spec.specs.Bar as bars
 use Rattle.pci_spec.specs.Capability.{ComesTwiceTo, HasLowPlace, HasCutBody}
 use Rattle.pci_spec.specs.Fault.{has_no_vendor, has_other_layout, HasBarFault, HasRomFault, HasWindowFault}
@@ -31,3 +31,10 @@ IsImageFaultIn image probe (WindowMask register) = HasWindowFault image probe re
 IsImageFaultIn image probe (CapRange place) = HasLowPlace image place
 IsImageFaultIn image probe (CapLoop place) = ComesTwiceTo image place
 IsImageFaultIn image probe (CapCut place) = HasCutBody image place
+
+-- no fault of the header that is looked for before this one is there: 20 comes first, then 21, then all others
+abbrev pub HasNoHeaderFaultBefore : List ℕ → ImageFault → Type 0
+HasNoHeaderFaultBefore image NoVendor = Unit {0}
+HasNoHeaderFaultBefore image HeaderKind = IsFalse (has_no_vendor image)
+HasNoHeaderFaultBefore image _ =
+    IsFalse (has_no_vendor image) × IsFalse (has_other_layout image)

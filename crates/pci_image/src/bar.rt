@@ -6,7 +6,7 @@ ghost use Rattle.pci_spec.specs.Bar as bar;
 ghost use Rattle.pci_spec.specs.Bar.{bar_kind, bar_reading, first_broken, is_prefetchable, has_lawful_size, is_lawful, first_bit};
 ghost use Rattle.pci_spec.specs.Header.{bar_register};
 ghost use Rattle.pci_image.specs.Bars.{decoded_kind_of, decoded_bar_of, HasLawfulBars, IsBarFault, IsLowestBarFault, IsComparedBar, IsDecodedAt, IsPlaced, broken_encoding, broken_size};
-ghost use Rattle.pci_image.specs.Faults.{IsImageFaultIn, image_fault_number};
+ghost use Rattle.pci_image.specs.Faults.{IsImageFaultIn, HasNoHeaderFaultBefore, image_fault_number};
 
 use super::comparator::{aligned, fits_within, run_start};
 use super::fault::ImageFault;
@@ -267,7 +267,8 @@ pub fn bars(image: &Image, probe: &Image) -> Result<ArrayVec<Bar, 6>, ImageFault
     ensures compared { IfOk result (λ v. All (IsComparedBar image.now.0 probe.now.0) v.items) }
     ensures fault { IfErr result
         (λ f. IsImageFaultIn image.now.0 probe.now.0 f × (image_fault_number f ≤ 24)) }
-    // decoding names the first fault of all its parts by it
+    // decoding names the first fault of all its parts by the next two
+    ensures header { IfErr result (HasNoHeaderFaultBefore image.now.0) }
     ensures lowest { IfErr result (IsLowestBarFault image.now.0 probe.now.0) }
 {
     let count = Header::of(image)?.bar_count();

@@ -101,6 +101,7 @@ impl Windows {
     ghost use Rattle.std.specs.Prelude.{IfErr};
     ghost use Rattle.pci_spec.specs.Decoded.{decoded_windows};
     ghost use Rattle.pci_base.specs.WindowKinds.{kind_value};
+    ghost use Rattle.pci_image.specs.Faults.{HasNoHeaderFaultBefore};
     ghost use Rattle.pci_image.specs.Windows.{decoded_windows_of, window_of, HasLawfulWindows, HoldsAsComparators, IsWindowsFaultIn, IsLowestWindowFault};
 
     /// The windows of a bridge.
@@ -120,6 +121,7 @@ impl Windows {
         ensures compared { IfOk result (HoldsAsComparators image.now.0 probe.now.0) }
         // 21 is also what a device gets: its header decodes, but windows are a bridge's
         ensures fault { IfErr result (IsWindowsFaultIn image.now.0 probe.now.0) }
+        ensures header { IfErr result (HasNoHeaderFaultBefore image.now.0) }
         ensures lowest { IfErr result (IsLowestWindowFault image.now.0 probe.now.0) }
     {
         let Header::Type1(_) = Header::of(image)? else {

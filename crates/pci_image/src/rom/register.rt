@@ -4,7 +4,7 @@ ghost use Rattle.std.specs.Option.{option_map};
 ghost use Rattle.pci_spec.specs.Number.{some_from, lowest_one};
 ghost use Rattle.pci_spec.specs.Rom.{is_rom_size};
 ghost use Rattle.pci_spec.specs.Decoded.{aligned_range, decoded_rom};
-ghost use Rattle.pci_image.specs.Faults.{IsImageFaultIn};
+ghost use Rattle.pci_image.specs.Faults.{IsImageFaultIn, HasNoHeaderFaultBefore};
 ghost use Rattle.pci_image.specs.Roms.{decoded_rom_of, HasLawfulRom, IsComparedRom, is_lawful_rom, is_rom_fault};
 ghost use Rattle.pci_base.specs.Ranges.{decoded_range_of};
 
@@ -68,6 +68,7 @@ pub fn rom(image: &Image, probe: &Image) -> Result<Option<Rom>, ImageFault>
     // no fault of a BAR: these were looked at before
     ensures fault { IfErr result
         (λ f. IsImageFaultIn image.now.0 probe.now.0 f × IsTrue (is_rom_fault f)) }
+    ensures header { IfErr result (HasNoHeaderFaultBefore image.now.0) }
 {
     let reg = Header::of(image)?.rom_register();
     let value = u64::from(image.u32(reg));

@@ -1,0 +1,2 @@
+-- Worked examples: what the definitions say of plain images.
+pub mod Headers
