@@ -2,13 +2,13 @@
 use Rattle.std.proofs.Common.{◌≡◌, ℕ, ◌<◌, ◌≤◌, ◌⊎◌, ◌↔◌, inl, inr, List, Bool, true, false, not, ◌&&◌, ◌||◌, arith, refl, sym, subst, get_or}
 use Rattle.std.specs.Bool.{IsTrue, nat_le, nat_lt, ◌==◌}
 use Rattle.std.specs.List.{list_all, list_any, Contains}
-use Rattle.std.proofs.lemmas.Bool.{and_parts, and_from, or_cases, or_parts, leb-true, le-leb, ltb-true, ltb-false, lt-ltb, eqb-true, eq-eqb, cases_lt, cases_Bool, both_ways, not_from_false, not-true, true_from_ne_false, false_from_ne_true}
+use Rattle.std.proofs.lemmas.Bool.{or_left, or_right, and_parts, and_from, or_cases, or_parts, leb-true, le-leb, ltb-true, ltb-false, lt-ltb, eqb-true, eq-eqb, cases_lt, cases_Bool, both_ways, not_from_false, not-true, true_from_ne_false, false_from_ne_true}
 use Rattle.std.proofs.lemmas.List.Elements.{All-contains, Contains-get_or}
 use Rattle.std.proofs.lemmas.List.Sums.{AllPass-from_list_all, list_all-from_AllPass}
 use Rattle.std.proofs.lemmas.List.Folds.{Any-from_list_any, list_any-from_Any}
 use Rattle.pci_spec.specs.Header.{primary_bus}
 use Rattle.pci_spec.specs.System.{Function}
-use Rattle.pci_spec.specs.Bus.{secondary, subordinate, is_behind, are_apart, is_inside, is_strictly_inside, is_root, has_bus_order, has_no_root_behind}
+use Rattle.pci_spec.specs.Bus.{secondary, subordinate, is_behind, has_no_bus, are_apart, share_no_bus, is_inside, is_strictly_inside, is_root, has_bus_order, has_no_root_behind}
 
 -- ---- tests over the elements of a list
 
@@ -98,6 +98,34 @@ apart_from_sharing_none b c range_b range_c none = true_from_ne_false (are_apart
       | inr high ↦ none (secondary b) record { low = omega arith; high = range_b } record { low = high; high = over_c }
     ])
 
+-- a range whose ends are crossed holds no bus
+crossed_holds_none : (b : Function) → has_no_bus b ≡ true → (bus : ℕ) → IsWithin b bus → ⊥
+crossed_holds_none b none bus within = let less = ltb-true (subordinate b) (secondary b) none in omega (arith, less, within.low, within.high)
+
+-- where no bus is behind both, none lies in both ranges
+pub shares_none : (b c : Function) → share_no_bus b c ≡ true → (bus : ℕ) → IsWithin b bus → IsWithin c bus → ⊥
+shares_none b c h bus in_b in_c = elim (or_cases (are_apart b c || has_no_bus b) (has_no_bus c) h) [
+  | inl first ↦ elim (or_cases (are_apart b c) (has_no_bus b) first) [
+    | inl apart ↦ apart_shares_none b c apart bus in_b in_c
+    | inr none ↦ crossed_holds_none b none bus in_b
+  ]
+  | inr none ↦ crossed_holds_none c none bus in_c
+]
+
+-- which ranges that are apart have
+pub shares_none_apart : (b c : Function) → are_apart b c ≡ true → share_no_bus b c ≡ true
+shares_none_apart b c apart = or_left (are_apart b c || has_no_bus b) (has_no_bus c) (or_left (are_apart b c) (has_no_bus b) apart)
+
+-- and back
+shares_none_from : (b c : Function) → ((bus : ℕ) → IsWithin b bus → IsWithin c bus → ⊥) → share_no_bus b c ≡ true
+shares_none_from b c none = elim (cases_Bool (has_no_bus b)) [
+  | inl crossed ↦ or_left (are_apart b c || has_no_bus b) (has_no_bus c) (or_right (are_apart b c) (has_no_bus b) crossed)
+  | inr range_b ↦ elim (cases_Bool (has_no_bus c)) [
+    | inl crossed ↦ or_right (are_apart b c || has_no_bus b) (has_no_bus c) crossed
+    | inr range_c ↦ shares_none_apart b c (apart_from_sharing_none b c (ltb-false (subordinate b) (secondary b) range_b) (ltb-false (subordinate c) (secondary c) range_c) none)
+  ]
+]
+
 -- a range is inside another by its two ends
 pub inside_from : (b c : Function) → secondary c ≤ secondary b → subordinate b ≤ subordinate c → is_inside b c ≡ true
 inside_from b c low high = and_from (nat_le (secondary c) (secondary b)) (nat_le (subordinate b) (subordinate c)) (le-leb _ _ low) (le-leb _ _ high)
@@ -124,6 +152,13 @@ pub apart_means : (b c : Function) → IsTrue (has_bus_order b) → IsTrue (has_
 apart_means b c order_b order_c = (
   λ apart bus at_b at_c. apart_shares_none b c apart bus (within_of_behind b bus at_b) (within_of_behind c bus at_c),
   λ none. apart_from_sharing_none b c (ordered b order_b).range (ordered c order_c).range (λ bus at_b at_c. none bus (behind_of_within b bus at_b) (behind_of_within c bus at_c)),
+)
+
+-- the same of any two ranges, crossed ones too
+pub shares_none_means : (b c : Function) → IsTrue (share_no_bus b c) ↔ ((bus : ℕ) → IsTrue (is_behind b bus) → IsTrue (is_behind c bus) → ⊥)
+shares_none_means b c = (
+  λ shared bus at_b at_c. shares_none b c shared bus (within_of_behind b bus at_b) (within_of_behind c bus at_c),
+  λ none. shares_none_from b c (λ bus at_b at_c. none bus (behind_of_within b bus at_b) (behind_of_within c bus at_c)),
 )
 
 -- inside: each bus behind the one is behind the other

@@ -7,9 +7,9 @@ use Rattle.std.proofs.lemmas.List.{get_or-map, length-map, get_or_default}
 use Rattle.std.proofs.lemmas.List.Kept.{AllPairs-from_increasing}
 use Rattle.pci_spec.specs.Slot.{Slot, slot_number}
 use Rattle.pci_spec.specs.System.{System, Function, is_bridge, IsSystem}
-use Rattle.pci_spec.specs.Bus.{secondary, subordinate, is_behind, are_apart, is_inside, is_root, has_bus_order, are_siblings, is_apart_from_earlier, is_inside_its_parents, has_no_root_behind, has_lawful_buses, is_led_to, IsNested}
+use Rattle.pci_spec.specs.Bus.{secondary, subordinate, is_behind, share_no_bus, is_inside, is_root, has_bus_order, are_siblings, is_apart_from_earlier, is_inside_its_parents, has_no_root_behind, has_lawful_buses, is_led_to, IsNested}
 use Rattle.pci_spec.specs.NestingLaws.{HasNoBusFault}
-use Rattle.pci_spec.proofs.BusRanges.{all_gives, all_from, any_gives, any_from, second_side, IsWithin, IsOrdered, ordered, within_of_behind, behind_of_within, not_behind, within_or_not, apart_shares_none, apart_from_sharing_none, inside_from, behind_is_no_root}
+use Rattle.pci_spec.proofs.BusRanges.{all_gives, all_from, any_gives, any_from, second_side, IsWithin, IsOrdered, ordered, within_of_behind, behind_of_within, not_behind, within_or_not, shares_none, shares_none_apart, apart_from_sharing_none, inside_from, behind_is_no_root}
 
 -- side by side goes both ways
 side_by_side_both_ways : (roots : List ℕ) (bus other : ℕ) → are_siblings roots bus other ≡ true → are_siblings roots other bus ≡ true
@@ -76,10 +76,10 @@ module _ (roots : List ℕ) (s : System)
   apart_from_earlier : (b c : Function) → Listed b → Listed c → are_siblings roots c.slot.bus b.slot.bus ≡ true → slot_number c.slot < slot_number b.slot
       → (x : ℕ) → IsWithin b x → IsWithin c x → ⊥
   apart_from_earlier b c hb hc beside earlier x in_b in_c =
-      let at = all_gives (λ c. not (is_bridge c && are_siblings roots c.slot.bus b.slot.bus && nat_lt (slot_number c.slot) (slot_number b.slot)) || are_apart b c) s (parts_of b hb).apart c hc.listed in
+      let at = all_gives (λ c. not (is_bridge c && are_siblings roots c.slot.bus b.slot.bus && nat_lt (slot_number c.slot) (slot_number b.slot)) || share_no_bus b c) s (parts_of b hb).apart c hc.listed in
       let premise : (is_bridge c && are_siblings roots c.slot.bus b.slot.bus && nat_lt (slot_number c.slot) (slot_number b.slot)) ≡ true =
       and_from _ _ (and_from _ _ hc.bridge beside) (lt-ltb (slot_number c.slot) (slot_number b.slot) earlier) in
-      apart_shares_none b c (second_side _ (are_apart b c) at (not_from_true _ premise)) x in_b in_c
+      shares_none b c (second_side _ (share_no_bus b c) at (not_from_true _ premise)) x in_b in_c
 
   side_by_side : (b c : Function) → Listed b → Listed c → are_siblings roots b.slot.bus c.slot.bus ≡ true
       → slot_number b.slot ≢ slot_number c.slot → (x : ℕ) → IsWithin b x → IsWithin c x → ⊥
@@ -271,16 +271,16 @@ module _ (roots : List ℕ) (s : System) (nests : IsNested roots s) where
   -- each bridge's range is apart from those of the earlier ones beside it
   apart_from_all_earlier : (b : Function) → Contains s b → IsTrue (is_bridge b) → is_apart_from_earlier roots s b ≡ true
   apart_from_all_earlier b in_b bridge_b =
-      all_from (λ c. not (is_bridge c && are_siblings roots c.slot.bus b.slot.bus && nat_lt (slot_number c.slot) (slot_number b.slot)) || are_apart b c) s (λ c in_c.
+      all_from (λ c. not (is_bridge c && are_siblings roots c.slot.bus b.slot.bus && nat_lt (slot_number c.slot) (slot_number b.slot)) || share_no_bus b c) s (λ c in_c.
       elim (cases_Bool (is_bridge c && are_siblings roots c.slot.bus b.slot.bus && nat_lt (slot_number c.slot) (slot_number b.slot))) [
-        | inr other ↦ or_left _ (are_apart b c) (not_from_false _ other)
+        | inr other ↦ or_left _ (share_no_bus b c) (not_from_false _ other)
         | inl earlier ↦
             let parts = and_parts (is_bridge c && are_siblings roots c.slot.bus b.slot.bus) (nat_lt (slot_number c.slot) (slot_number b.slot)) earlier in
             let inner = and_parts (is_bridge c) (are_siblings roots c.slot.bus b.slot.bus) parts.0 in
             let less = ltb-true (slot_number c.slot) (slot_number b.slot) parts.1 in
             let differ : b.slot ≢ c.slot = λ same. let e = ap slot_number same in omega (arith, less, e) in
             let beside = not_behind_beside c b in_c in_b inner.0 bridge_b inner.1 in
-            or_right _ (are_apart b c) (nests.apart b c in_b in_c bridge_b inner.0 differ beside.0 beside.1)
+            or_right _ (share_no_bus b c) (shares_none_apart b c (nests.apart b c in_b in_c bridge_b inner.0 differ beside.0 beside.1))
       ])
     where
       -- of two bridges side by side neither stands behind the other

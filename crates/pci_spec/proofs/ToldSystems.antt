@@ -8,7 +8,7 @@ use Rattle.pci_spec.specs.Slot.{Slot, same_slot, slot_number}
 use Rattle.pci_spec.specs.Header.{command, class_code, layout, bridge_control, secondary_bus}
 use Rattle.pci_spec.specs.Capability.{HasLowPlace, ComesTwiceTo, HasCutBody}
 use Rattle.pci_spec.specs.System.{System, Function, Space, is_bridge, Leads, Gets, forwards, passes, is_prefetchable_part}
-use Rattle.pci_spec.specs.Bus.{has_bus_order, has_no_root_behind, has_lawful_buses, is_inside, are_apart, are_siblings, is_root, is_led_to}
+use Rattle.pci_spec.specs.Bus.{has_bus_order, has_no_root_behind, has_lawful_buses, is_inside, share_no_bus, are_siblings, is_root, is_led_to}
 use Rattle.pci_spec.specs.Fault.{Fault, IsIn, NoVendor, HeaderKind, BarType, BarMask, BarPair, RomMask, WindowMask, CapRange, CapLoop, CapCut, SlotsDiffer, StrayProbe, LoneFunction, PaletteSnoop, VgaEnable, IsaEnable, Subtractive, InReset, PowerState, BusRange, Orphan, Unreached, Clash, Split, SomeAt, IsNotInD0, has_no_vendor, has_other_layout, has_function_zero, IsUnreached, ClaimsOnBus}
 use Rattle.pci_spec.specs.Order.{image_at, is_before, IsFirstIn}
 use Rattle.pci_spec.specs.ToldAlike.{IsToldAlike, IsToldAtLeast, IsReadable}
@@ -142,7 +142,7 @@ module _ (roots : List ℕ) (s t : System) (is_s : All IsReadable s) (is_t : All
   buses_same b c h =
       let slot = h.slot in
       let image = h.image in
-      let apart = all_same (λ at shown. not (is_bridge (shown_at at shown) && are_siblings roots at.bus c.slot.bus && nat_lt (slot_number at) (slot_number c.slot)) || are_apart c (shown_at at shown)) s t pairs in
+      let apart = all_same (λ at shown. not (is_bridge (shown_at at shown) && are_siblings roots at.bus c.slot.bus && nat_lt (slot_number at) (slot_number c.slot)) || share_no_bus c (shown_at at shown)) s t pairs in
       let inside = all_same (λ at shown. not (is_bridge (shown_at at shown) && secondary_bus shown == c.slot.bus) || is_inside c (shown_at at shown)) s t pairs in
       (λ i. has_lawful_buses roots s (shown_at (slot i) (image i)))
       ∙ (λ i. has_bus_order c && apart i && (is_root roots c.slot.bus || inside i) && has_no_root_behind roots c)

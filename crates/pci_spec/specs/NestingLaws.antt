@@ -5,7 +5,7 @@ use Rattle.std.specs.List.Sorted.{IsStrictlyIncreasing}
 use Rattle.pci_spec.specs.Slot.{Slot, slot_number}
 use Rattle.pci_spec.specs.Header.{primary_bus}
 use Rattle.pci_spec.specs.System.{System, Function, IsSystem, is_bridge, Leads}
-use Rattle.pci_spec.specs.Bus.{secondary, subordinate, is_behind, are_apart, is_inside, is_strictly_inside, is_root, has_bus_order, IsNested}
+use Rattle.pci_spec.specs.Bus.{secondary, subordinate, is_behind, are_apart, share_no_bus, is_inside, is_strictly_inside, is_root, has_bus_order, IsNested}
 use Rattle.pci_spec.specs.Fault.{IsIn, BusRange, Orphan}
 
 -- A bridge has its buses in order exactly where it knows its own bus, and leads to higher ones.
@@ -20,6 +20,12 @@ abbrev pub ApartSharesNoBus : Type 0
 ApartSharesNoBus =
     (b c : Function) → IsTrue (has_bus_order b) → IsTrue (has_bus_order c)
     → IsTrue (are_apart b c) ↔ ((bus : ℕ) → IsTrue (is_behind b bus) → IsTrue (is_behind c bus) → ⊥)
+
+-- Two bridges share no bus exactly where none is behind both, whatever their numbers are.
+abbrev pub SharedBusIsBehindBoth : Type 0
+SharedBusIsBehindBoth =
+    (b c : Function) → IsTrue (share_no_bus b c)
+    ↔ ((bus : ℕ) → IsTrue (is_behind b bus) → IsTrue (is_behind c bus) → ⊥)
 
 -- A range is inside another exactly where each bus behind its bridge is behind the other.
 abbrev pub InsideIsBehindBoth : Type 0

@@ -1,11 +1,12 @@
 //! Laws of bus numbers (Bridge 1.2, 3.2.5). These functions do nothing: each contract is a law.
 
-ghost use Rattle.pci_spec.specs.NestingLaws.{BusOrderByNumber, ApartSharesNoBus, InsideIsBehindBoth, StrictlyInsideIsOneWay, RootIsListed, NestingFollows, NestedHasNoBusFault, OneWayLeadsToABus, AWayLeadsToEachFunction, BusesRiseOnAWay, BehindIsOnTheWay, WaysComeFromLowerSlots};
+ghost use Rattle.pci_spec.specs.NestingLaws.{BusOrderByNumber, ApartSharesNoBus, SharedBusIsBehindBoth, InsideIsBehindBoth, StrictlyInsideIsOneWay, RootIsListed, NestingFollows, NestedHasNoBusFault, OneWayLeadsToABus, AWayLeadsToEachFunction, BusesRiseOnAWay, BehindIsOnTheWay, WaysComeFromLowerSlots};
 
 /// What the tests on bus ranges mean, bus by bus.
 pub fn ranges_are_of_buses()
     ensures order { BusOrderByNumber }
     ensures apart { ApartSharesNoBus }
+    ensures shared { SharedBusIsBehindBoth }
     ensures inside { InsideIsBehindBoth }
     ensures strictly { StrictlyInsideIsOneWay }
     ensures root { RootIsListed }

@@ -7,14 +7,14 @@ use Rattle.pci_spec.specs.Slot.{Slot, IsSlot, slot_number}
 use Rattle.pci_function.specs.declared.record.Bridge.{Bridge}
 use Rattle.pci_function.specs.declared.record.Record.{Record}
 use Rattle.pci_tree.specs.Outline.{IsBusPart}
-use Rattle.pci_tree.specs.BusNumbers.{IsBridgeWith, AreSiblings, AreApart, IsApartFrom, IsApartFromLower, IsApartFromEarlier, IsBehind, HasBusOrder, HasNoRootBehind, IsInsideParents, HasLawfulBuses, first_function}
+use Rattle.pci_tree.specs.BusNumbers.{IsBridgeWith, AreSiblings, ShareNoBus, IsApartFrom, IsApartFromLower, IsApartFromEarlier, IsBehind, HasBusOrder, HasNoRootBehind, IsInsideParents, HasLawfulBuses, first_function}
 use Rattle.pci_tree.specs.Ways.{slots_of}
 use Rattle.pci_spec.proofs.Members.{IsMade, in_map_to, in_map_from}
 
 -- apart from the earlier bridges on the buses below a number
 abbrev pub IsApartBelow : ℕ → List ℕ → List Record → Slot → Bridge → Type 0
 IsApartBelow n roots records slot b =
-    (c : Record) (d : Bridge) → c.slot.bus < n → IsBridgeWith records c d → AreSiblings roots c.slot.bus slot.bus → slot_number c.slot < slot_number slot → AreApart b d
+    (c : Record) (d : Bridge) → c.slot.bus < n → IsBridgeWith records c d → AreSiblings roots c.slot.bus slot.bus → slot_number c.slot < slot_number slot → ShareNoBus b d
 
 pub apart_on_bus : (n : ℕ) (roots : List ℕ) (records part : List Record) (slot : Slot) (b : Bridge) → IsBusPart records n part → IsApartFromLower part slot b
     → IsApartBelow n roots records slot b → IsApartBelow (n + 1) roots records slot b

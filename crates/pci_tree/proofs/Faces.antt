@@ -7,14 +7,14 @@ use Rattle.std.proofs.lemmas.Bool.{and_from, and_parts, or_cases, or_left, or_ri
 use Rattle.pci_spec.specs.Slot.{Slot, slot_number}
 use Rattle.pci_spec.specs.Header.{primary_bus, secondary_bus, subordinate_bus}
 use Rattle.pci_spec.specs.System.{System, Function, is_bridge}
-use Rattle.pci_spec.specs.Bus.{secondary, subordinate, is_behind, are_apart, is_inside, is_root, has_bus_order, are_siblings, is_apart_from_earlier, is_inside_its_parents, has_no_root_behind, has_lawful_buses, is_led_to}
+use Rattle.pci_spec.specs.Bus.{secondary, subordinate, is_behind, has_no_bus, are_apart, share_no_bus, is_inside, is_root, has_bus_order, are_siblings, is_apart_from_earlier, is_inside_its_parents, has_no_root_behind, has_lawful_buses, is_led_to}
 use Rattle.pci_spec.specs.Decoded.{record_of, bridge_of}
 use Rattle.pci_spec.specs.Decoded as decoded
 use Rattle.pci_spec.proofs.BusRanges.{all_gives, all_from, any_gives, any_from, second_side, bus_order_means, within_of_behind, behind_of_within, IsWithin, inside_from, inside_parts, root_means}
 use Rattle.pci_function.specs.declared.record.Bridge.{Bridge}
 use Rattle.pci_function.specs.declared.record.Record.{Record}
 use Rattle.pci_function.specs.Values.{record_value, bridge_value}
-use Rattle.pci_tree.specs.BusNumbers.{IsBridgeWith, HasBusOrder, AreApart, AreSiblings, HasLawfulBuses, IsLedTo}
+use Rattle.pci_tree.specs.BusNumbers.{IsBridgeWith, HasBusOrder, HasNoBus, AreApart, ShareNoBus, AreSiblings, HasLawfulBuses, IsLedTo}
 use Rattle.pci_tree.proofs.Lifting.{Has, StandsFor, record_for, function_for, same_bridge, same_slot_of}
 use Rattle.pci_tree.proofs.Regions.{some_is}
 use Rattle.pci_tree.proofs.RegionParts.{same_bridge_of}
@@ -122,6 +122,34 @@ apart_from rs f c r x b d face other h =
       | inr right ↦ or_right (nat_lt (subordinate f) (secondary c)) (nat_lt (subordinate c) (secondary f)) (lt-ltb (subordinate c) (secondary f) (omega arith))
     ]
 
+no_bus_to : (rs : List Record) (f : Function) (r : Record) (b : Bridge) → IsFaceOf rs f r b → has_no_bus f ≡ true → HasNoBus b
+no_bus_to rs f r b face h =
+    let fs : b.secondary ≡ secondary_bus f.image = face.secondary in
+    let fe : b.subordinate ≡ subordinate_bus f.image = face.subordinate in
+    let lt : subordinate_bus f.image < secondary_bus f.image = ltb-true _ _ h in omega arith
+
+no_bus_from : (rs : List Record) (f : Function) (r : Record) (b : Bridge) → IsFaceOf rs f r b → HasNoBus b → has_no_bus f ≡ true
+no_bus_from rs f r b face h =
+    let fs : b.secondary ≡ secondary_bus f.image = face.secondary in
+    let fe : b.subordinate ≡ subordinate_bus f.image = face.subordinate in
+    lt-ltb (subordinate f) (secondary f) (omega arith)
+
+shares_to : (rs : List Record) (f c : Function) (r x : Record) (b d : Bridge) → IsFaceOf rs f r b → IsFaceOf rs c x d → share_no_bus f c ≡ true → ShareNoBus b d
+shares_to rs f c r x b d face other h = elim (or_cases (are_apart f c || has_no_bus f) (has_no_bus c) h) [
+  | inl first ↦ elim (or_cases (are_apart f c) (has_no_bus f) first) [
+    | inl apart ↦ inl (apart_to rs f c r x b d face other apart)
+    | inr none ↦ inr (inl (no_bus_to rs f r b face none))
+  ]
+  | inr none ↦ inr (inr (no_bus_to rs c x d other none))
+]
+
+shares_from : (rs : List Record) (f c : Function) (r x : Record) (b d : Bridge) → IsFaceOf rs f r b → IsFaceOf rs c x d → ShareNoBus b d → share_no_bus f c ≡ true
+shares_from rs f c r x b d face other h = elim h [
+  | inl apart ↦ or_left (are_apart f c || has_no_bus f) (has_no_bus c) (or_left (are_apart f c) (has_no_bus f) (apart_from rs f c r x b d face other apart))
+  | inr (inl none) ↦ or_left (are_apart f c || has_no_bus f) (has_no_bus c) (or_right (are_apart f c) (has_no_bus f) (no_bus_from rs f r b face none))
+  | inr (inr none) ↦ or_right (are_apart f c || has_no_bus f) (has_no_bus c) (no_bus_from rs c x d other none)
+]
+
 bus_of_face : (rs : List Record) (f : Function) (r : Record) (d : Bridge) → IsFaceOf rs f r d → r.slot.bus ≡ f.slot.bus
 bus_of_face rs f r d face = ap (λ (x : Slot). x.bus) face.slot
 
@@ -136,8 +164,8 @@ lawful_function roots s rs f r b faces face lawful =
     let order : HasBusOrder r.slot.bus b = lawful.order in
     let ordered : has_bus_order f ≡ true = (bus_order_means f).1 (omega arith, omega arith, omega arith) in
     let apart : is_apart_from_earlier roots s f ≡ true =
-    all_from (λ c. not (is_bridge c && are_siblings roots c.slot.bus f.slot.bus && nat_lt (slot_number c.slot) (slot_number f.slot)) || are_apart f c) s
-    (λ c in_c. implies_from (is_bridge c && are_siblings roots c.slot.bus f.slot.bus && nat_lt (slot_number c.slot) (slot_number f.slot)) (are_apart f c) (λ h. (
+    all_from (λ c. not (is_bridge c && are_siblings roots c.slot.bus f.slot.bus && nat_lt (slot_number c.slot) (slot_number f.slot)) || share_no_bus f c) s
+    (λ c in_c. implies_from (is_bridge c && are_siblings roots c.slot.bus f.slot.bus && nat_lt (slot_number c.slot) (slot_number f.slot)) (share_no_bus f c) (λ h. (
     let outer : ((is_bridge c && are_siblings roots c.slot.bus f.slot.bus) ≡ true) × (nat_lt (slot_number c.slot) (slot_number f.slot) ≡ true) =
     and_parts (is_bridge c && are_siblings roots c.slot.bus f.slot.bus) (nat_lt (slot_number c.slot) (slot_number f.slot)) h in
     let inner : (is_bridge c ≡ true) × (are_siblings roots c.slot.bus f.slot.bus ≡ true) = and_parts (is_bridge c) (are_siblings roots c.slot.bus f.slot.bus) outer.0 in
@@ -146,7 +174,7 @@ lawful_function roots s rs f r b faces face lawful =
     subst (λ m. AreSiblings roots m r.slot.bus) (sym (bus_of_face rs c x.0 x.1 x.2)) (subst (λ n. AreSiblings roots c.slot.bus n) (sym bus) (side_to roots c.slot.bus f.slot.bus inner.1)) in
     let less : slot_number x.0.slot < slot_number r.slot =
     subst (λ m. slot_number m < slot_number r.slot) (sym x.2.slot) (subst (λ n. slot_number c.slot < slot_number n) (sym face.slot) (ltb-true _ _ outer.1)) in
-    apart_from rs f c r x.0 b x.1 face x.2 (lawful.apart x.0 x.1 x.2.bridge side less)))) in
+    shares_from rs f c r x.0 b x.1 face x.2 (lawful.apart x.0 x.1 x.2.bridge side less)))) in
     let inside : is_inside_its_parents roots s f ≡ true = elim (cases_Bool (is_root roots f.slot.bus)) [
       | inl root ↦ or_left (is_root roots f.slot.bus) (list_all (λ c. not (is_bridge c && secondary c == f.slot.bus) || is_inside f c) s) root
       | inr off ↦ or_right (is_root roots f.slot.bus) (list_all (λ c. not (is_bridge c && secondary c == f.slot.bus) || is_inside f c) s)
@@ -196,9 +224,9 @@ lawful_record_of roots s rs f r b faces face lawful =
           side_from roots g.f.slot.bus f.slot.bus (subst (λ m. AreSiblings roots m f.slot.bus) (bus_of_face rs g.f c d g.face) (subst (λ n. AreSiblings roots c.slot.bus n) bus side)) in
           let lower : nat_lt (slot_number g.f.slot) (slot_number f.slot) ≡ true =
           lt-ltb _ _ (subst (λ m. slot_number m < slot_number f.slot) g.face.slot (subst (λ n. slot_number c.slot < slot_number n) face.slot less)) in
-          apart_to rs f g.f r c b d face g.face
-          (implies_gives (is_bridge g.f && are_siblings roots g.f.slot.bus f.slot.bus && nat_lt (slot_number g.f.slot) (slot_number f.slot)) (are_apart f g.f)
-          (all_gives (λ x. not (is_bridge x && are_siblings roots x.slot.bus f.slot.bus && nat_lt (slot_number x.slot) (slot_number f.slot)) || are_apart f x) s three.1 g.f g.has)
+          shares_to rs f g.f r c b d face g.face
+          (implies_gives (is_bridge g.f && are_siblings roots g.f.slot.bus f.slot.bus && nat_lt (slot_number g.f.slot) (slot_number f.slot)) (share_no_bus f g.f)
+          (all_gives (λ x. not (is_bridge x && are_siblings roots x.slot.bus f.slot.bus && nat_lt (slot_number x.slot) (slot_number f.slot)) || share_no_bus f x) s three.1 g.f g.has)
           (and_from (is_bridge g.f && are_siblings roots g.f.slot.bus f.slot.bus) (nat_lt (slot_number g.f.slot) (slot_number f.slot))
           (and_from (is_bridge g.f) (are_siblings roots g.f.slot.bus f.slot.bus) g.is there) lower)));
       inside = λ off c d bridge leads. (

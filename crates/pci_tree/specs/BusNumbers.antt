@@ -19,28 +19,36 @@ HasBusOrder bus b = (b.primary ≡ bus) × (bus < b.secondary) × (b.secondary �
 abbrev pub IsBehind : Bridge → ℕ → Type 0
 IsBehind b bus = (b.secondary ≤ bus) × (bus ≤ b.subordinate)
 
--- the ranges of two bridges have no bus in common
+-- no bus is behind a bridge: the ends of its range are crossed
+abbrev pub HasNoBus : Bridge → Type 0
+HasNoBus b = b.subordinate < b.secondary
+
+-- the range of one of two bridges ends before that of the other begins
 abbrev pub AreApart : Bridge → Bridge → Type 0
 AreApart b d = (b.subordinate < d.secondary) ⊎ (d.subordinate < b.secondary)
+
+-- no bus is behind both of two bridges
+abbrev pub ShareNoBus : Bridge → Bridge → Type 0
+ShareNoBus b d = AreApart b d ⊎ (HasNoBus b ⊎ HasNoBus d)
 
 -- two buses are the same, or both are roots
 abbrev pub AreSiblings : List ℕ → ℕ → ℕ → Type 0
 AreSiblings roots m n = (m ≡ n) ⊎ (Contains roots m × Contains roots n)
 
--- the range is apart from that of a function which is a bridge with a lower slot
+-- the bridge shares no bus with a function which is a bridge with a lower slot
 abbrev pub IsApartFrom : Record → Slot → Bridge → Type 0
 IsApartFrom c slot b =
-    (d : Bridge) → c.bridge ≡ Some d → slot_number c.slot < slot_number slot → AreApart b d
+    (d : Bridge) → c.bridge ≡ Some d → slot_number c.slot < slot_number slot → ShareNoBus b d
 
--- and from those of such functions among some records
+-- and with those among some records
 abbrev pub IsApartFromLower : List Record → Slot → Bridge → Type 0
 IsApartFromLower part slot b = All (λ c. IsApartFrom c slot b) part
 
--- and from those that stand on its bus, or on any root where its bus is one
+-- and with those that stand on its bus, or on any root where its bus is one
 abbrev pub IsApartFromEarlier : List ℕ → List Record → Slot → Bridge → Type 0
 IsApartFromEarlier roots records slot b =
     (c : Record) (d : Bridge) → IsBridgeWith records c d → AreSiblings roots c.slot.bus slot.bus
-    → slot_number c.slot < slot_number slot → AreApart b d
+    → slot_number c.slot < slot_number slot → ShareNoBus b d
 
 -- the range ends where that of each bridge that leads to its bus does, or before; a root has no such
 abbrev pub IsInsideParents : List ℕ → List Record → Slot → Bridge → Type 0

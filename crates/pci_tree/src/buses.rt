@@ -6,7 +6,7 @@ ghost use Rattle.std.specs.List.{All};
 ghost use Rattle.pci_spec.specs.Slot.{IsSlot};
 ghost use Rattle.pci_tree.specs.Roots.{buses_of};
 ghost use Rattle.pci_tree.specs.Outline.{RiseBySlot};
-ghost use Rattle.pci_tree.specs.BusNumbers.{HasBusOrder, AreApart, AreSiblings, IsApartFrom, IsApartFromLower, IsApartFromEarlier, HasNoRootBehind, HasLawfulBuses, IsNotLone, IsInPlace, AreLeastEnds, least_of, EndsWithin};
+ghost use Rattle.pci_tree.specs.BusNumbers.{HasBusOrder, HasNoBus, AreApart, ShareNoBus, AreSiblings, IsApartFrom, IsApartFromLower, IsApartFromEarlier, HasNoRootBehind, HasLawfulBuses, IsNotLone, IsInPlace, AreLeastEnds, least_of, EndsWithin};
 ghost use Rattle.pci_tree.specs.PlaceFaults.{IsPlaceFault, IsSomePlaceFault};
 
 use super::bus::{has_slot, on_bus};
@@ -22,24 +22,38 @@ fn has_order(bus: u8, bridge: &Bridge) -> bool
     bridge.primary == bus && bus < bridge.secondary && bridge.secondary <= bridge.subordinate
 }
 
-/// Whether the ranges of two bridges have no bus in common.
+/// Whether no bus is behind a bridge: the ends of its range are crossed.
+fn has_no_bus(bridge: &Bridge) -> bool
+    ensures { IsTrue result ↔ HasNoBus bridge.now }
+{
+    bridge.subordinate < bridge.secondary
+}
+
+/// Whether the range of one of two bridges ends before that of the other begins.
 fn are_apart(bridge: &Bridge, other: &Bridge) -> bool
     ensures { IsTrue result ↔ AreApart bridge.now other.now }
 {
     bridge.subordinate < other.secondary || other.subordinate < bridge.secondary
 }
 
-/// Whether the range of a bridge is apart from that of a function which is a bridge with a lower slot.
+/// Whether no bus is behind both of two bridges.
+fn share_no_bus(bridge: &Bridge, other: &Bridge) -> bool
+    ensures { IsTrue result ↔ ShareNoBus bridge.now other.now }
+{
+    are_apart(bridge, other) || has_no_bus(bridge) || has_no_bus(other)
+}
+
+/// Whether a bridge shares no bus with a function which is a bridge with a lower slot.
 fn is_apart_from(function: &Record, slot: Slot, bridge: &Bridge) -> bool
     ensures { IsTrue result ↔ IsApartFrom function.now slot bridge.now }
 {
     match &function.bridge {
         None => true,
-        Some(other) => slot.number() <= function.slot.number() || are_apart(bridge, other),
+        Some(other) => slot.number() <= function.slot.number() || share_no_bus(bridge, other),
     }
 }
 
-/// Whether the range of a bridge is apart from those of the bridges with lower slots among some records.
+/// Whether a bridge shares no bus with the bridges with lower slots among some records.
 fn is_apart_from_lower(part: &[Record], slot: Slot, bridge: &Bridge) -> bool
     ensures { IsTrue result ↔ IsApartFromLower part.now slot bridge.now }
 {
@@ -58,8 +72,7 @@ fn are_siblings(roots: &Roots, bus: u8, other: u8) -> bool
     bus == other || (roots.has(bus) && roots.has(other))
 }
 
-/// Whether the range of a bridge is apart from those of the bridges with lower slots on its bus, and on each root where
-/// its bus is one.
+/// Whether a bridge shares no bus with the bridges with lower slots on its bus, and on each root where its bus is one.
 fn is_apart_from_earlier(records: &[Record], roots: &Roots, slot: Slot, bridge: &Bridge) -> bool
     requires rising { RiseBySlot records.now }
     requires slots { All (λ r. IsSlot r.slot) records.now }

@@ -2,7 +2,7 @@
 use Rattle.std.proofs.Common.{◌≡◌, ℕ, ◌+◌, ◌*◌, List, [], ◌∷◌, refl, Bool, true, false, map}
 use Rattle.std.specs.List.{range_with_len, list_all}
 use Rattle.pci_spec.specs.System.{Function, System}
-use Rattle.pci_spec.specs.Bus.{has_lawful_buses, has_bus_order, has_no_root_behind, is_inside_its_parents, is_led_to, is_behind, are_apart, is_inside, is_strictly_inside, is_apart_from_earlier}
+use Rattle.pci_spec.specs.Bus.{has_lawful_buses, has_bus_order, has_no_root_behind, is_inside_its_parents, is_led_to, is_behind, are_apart, share_no_bus, is_inside, is_strictly_inside}
 use Rattle.pci_spec.proofs.Examples.Samples.{slot, device, bridge, host}
 
 -- the bridge on a bus, with a device number, from its secondary to its subordinate bus
@@ -138,7 +138,21 @@ root_behind_from_first_to_last = refl
 
 -- ---- ranges that are crossed
 
--- an earlier bridge from bus 5 down to 3 holds no bus; the later one's range is 2 to 9
-crossed_range_counts_as_overlapping :
-    is_apart_from_earlier host (bridge (slot 0 1 0) 0 0x30500 [] [] ∷ bridge (slot 0 2 0) 0 0x90200 [] [] ∷ []) (bridge (slot 0 2 0) 0 0x90200 [] []) ≡ false
-crossed_range_counts_as_overlapping = refl
+-- the range from bus 5 down to 3 holds no bus, so it shares none with one round it, in it or across either end
+crossed_range_shares_no_bus :
+    map (share_no_bus (on_bus 0 1 5 3)) (on_bus 0 2 2 9 ∷ on_bus 0 2 4 4 ∷ on_bus 0 2 2 3 ∷ on_bus 0 2 5 6 ∷ on_bus 0 2 5 3 ∷ []) ≡ true ∷ true ∷ true ∷ true ∷ true ∷ []
+crossed_range_shares_no_bus = refl
+
+no_range_shares_a_bus_with_a_crossed_one :
+    map (λ b. share_no_bus b (on_bus 0 1 5 3)) (on_bus 0 2 2 9 ∷ on_bus 0 2 4 4 ∷ on_bus 0 2 2 3 ∷ on_bus 0 2 5 6 ∷ []) ≡ true ∷ true ∷ true ∷ true ∷ []
+no_range_shares_a_bus_with_a_crossed_one = refl
+
+one_bus_is_shared : share_no_bus (on_bus 0 1 1 3) (on_bus 0 2 3 4) ∷ share_no_bus (on_bus 0 1 3 4) (on_bus 0 2 1 3) ∷ share_no_bus (on_bus 0 1 3 3) (on_bus 0 2 2 4) ∷ [] ≡ false ∷ false ∷ false ∷ []
+one_bus_is_shared = refl
+
+-- the crossed bridge is the one whose numbers don't fit, whichever comes first
+crossed_range_before_one_round_it : lawful host (on_bus 0 1 5 3 ∷ on_bus 0 2 2 9 ∷ []) ≡ false ∷ true ∷ []
+crossed_range_before_one_round_it = refl
+
+crossed_range_behind_one_round_it : lawful host (on_bus 0 1 2 9 ∷ on_bus 0 2 5 3 ∷ []) ≡ true ∷ false ∷ []
+crossed_range_behind_one_round_it = refl
