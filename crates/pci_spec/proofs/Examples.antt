@@ -18,6 +18,8 @@ pub mod Nothing
 pub mod Lines
 pub mod Records
 pub mod Machine
+pub mod Ports
+pub mod Sizings
 pub mod First
 pub mod Apart
 pub mod Listings

@@ -30,6 +30,9 @@ phases_come_first : in_order (SlotsDiffer high ∷ NoVendor high ∷ BarMask hig
     ∷ Unreached high 0x10 Io 9 low ∷ Clash 9 Memory 9 high 0x10 high 0x14 ∷ Split Io 0 low 0x10 high 0x10 ∷ []) ≡ true
 phases_come_first = refl
 
+lists_that_differ_by_slot : in_order (SlotsDiffer (slot 0 1 0) ∷ SlotsDiffer (slot 0 1 1) ∷ SlotsDiffer (slot 0 2 0) ∷ SlotsDiffer (slot 1 0 0) ∷ []) ≡ true
+lists_that_differ_by_slot = refl
+
 identity_by_slot_then_kind : in_order (StrayProbe low 0xff ∷ NoVendor high ∷ HeaderKind high ∷ StrayProbe high 0x00 ∷ StrayProbe high 0x3d ∷ []) ≡ true
 identity_by_slot_then_kind = refl
 
