@@ -100,6 +100,9 @@ bytes_of_a_bridge = refl
 no_partly_sized_function_decodes : IsPartlySized (with_command 3) (blank 0 1) → ⊥
 no_partly_sized_function_decodes is = both_ways true (is.quiet 0 (lit< tt) refl) refl
 
+nor_does_it_decode_memory_alone : IsPartlySized (with_command 3) (blank 0 2) → ⊥
+nor_does_it_decode_memory_alone is = both_ways true (is.quiet 1 (lit< tt) refl) refl
+
 other_bits_of_command_stay : IsPartlySized (with_command 7) (blank 0 0) → ⊥
 other_bits_of_command_stay is = let e : 0 ≡ 1 = is.rest_of_command 2 (omega arith) in let no : ⊥ = omega (arith, e) in no
 
