@@ -1,5 +1,5 @@
 -- What applying a plan leaves, by what comparing and making leave.
-use Rattle.std.proofs.Common.{◌≡◌, ℕ, ◌+◌, ◌^◌, ◌<◌, ◌≤◌, ◌⊎◌, inl, inr, List, [], ◌∷◌, ◌++◌, refl, Bool, true, false, ◌&&◌, ◌||◌, Some, arith, sym, ◌∙◌, ap, subst, map, length, take, get_or}
+use Rattle.std.proofs.Common.{◌≡◌, ℕ, ◌+◌, ◌-◌, ◌^◌, ◌<◌, ◌≤◌, ◌⊎◌, inl, inr, List, [], ◌∷◌, ◌++◌, refl, Bool, true, false, ◌&&◌, ◌||◌, Some, arith, sym, ◌∙◌, ap, subst, map, length, take, get_or}
 use Rattle.std.specs.List.{All, AllZip, Contains, slice_get}
 use Rattle.std.specs.Result.{OnOk, IfErr, IsOk}
 use Rattle.std.specs.declared.result.Result.{Result}
@@ -41,8 +41,8 @@ use Rattle.pci_plan.specs.Writes.{write_value}
 use Rattle.pci_place.specs.Above.{system_in}
 use Rattle.pci_plan.specs.Plans.{PlanValue, IsPlanValue, final_of}
 use Rattle.pci_plan.specs.Comparing.{ShowsAll, IsChangedAt, StartsAs, IsStartFault}
-use Rattle.pci_plan.specs.Making.{IsAccessible, AreMade, IsStop}
-use Rattle.pci_plan.specs.Applying.{ShowsSystem, AreSound, writes_before, writes_made, IsApplyFault}
+use Rattle.pci_plan.specs.Making.{IsAccessible, AreReadBack, AreMade, IsStop}
+use Rattle.pci_plan.specs.Applying.{ShowsSystem, AreSound, writes_before, writes_made, AreReadBackUntil, ReadBackBy, IsApplyFault}
 use Rattle.pci_plan.proofs.Compares.{register_access}
 use Rattle.pci_plan.proofs.Ended.{plan_ends}
 
@@ -225,6 +225,13 @@ module _ (p : PlanValue) (is : IsPlanValue p) where
       same ∙ ap (λ n. after_writes before (take n p.writes)) (sym none_made)
   start_made before after failures failures_after (Stuck done) (b, listed, reason) same = absurd reason
 
+  pub start_read_back : (before : List Target) (failures failures_after : ℕ) (fault : ApplyFault)
+      → IsStartFault before failures p.start.dump failures_after fault → AreReadBackUntil before failures p.writes failures_after fault
+  start_read_back before failures failures_after (Changed at offset) reason = tt
+  start_read_back before failures failures_after (Port done) (b, listed, (none_made, refused)) =
+      inl (λ k w less at. absurd (let impossible : ⊥ = omega (arith, none_made, less) in impossible))
+  start_read_back before failures failures_after (Stuck done) (b, listed, reason) = absurd reason
+
   -- ---- making
 
   pub stop_fault : (before : List Target) (failures : ℕ) (after : List Target) (failures_after : ℕ) (fault : ApplyFault) → ShowsSystem before s
@@ -254,6 +261,15 @@ module _ (p : PlanValue) (is : IsPlanValue p) where
   stop_made before failures after failures_after (Changed at offset) stop = absurd stop
   stop_made before failures after failures_after (Port done) stop = stop.made
   stop_made before failures after failures_after (Stuck done) stop = stop.made
+
+  pub stop_read_back : (before : List Target) (failures : ℕ) (after : List Target) (failures_after : ℕ) (fault : ApplyFault)
+      → IsStop before failures p.writes after failures_after fault → AreReadBackUntil before failures p.writes failures_after fault
+  stop_read_back before failures after failures_after (Changed at offset) stop = absurd stop
+  stop_read_back before failures after failures_after (Port done) stop = stop.read_back
+  stop_read_back before failures after failures_after (Stuck done) stop =
+      let is = stop.is_last in
+      let others : stop.last ≡ done - 1 = omega (arith, is) in
+      subst (AreReadBack before p.writes) others stop.read_back
 
   pub all_made : (items : List CodeWrite) (before after : List Target) → map write_value items ≡ p.writes → AreMade before (map write_value items) (length items) after → AreMade before p.writes (length p.writes) after
   all_made items before after same made =
@@ -340,6 +356,13 @@ module _ (p : PlanValue) (is : IsPlanValue p) where
   made_by (Ok x) items before failures after failures_after same made stop = (all_made items before after same made).made
   made_by (Err fault) items before failures after failures_after same made stop =
       stop_made before failures after failures_after fault (subst (λ ws. IsStop before failures ws after failures_after fault) same stop)
+
+  pub read_back_by : {T : Type 0} (r : Result T ApplyFault) (items : List CodeWrite) (before : List Target) (failures : ℕ) (after : List Target) (failures_after : ℕ) → map write_value items ≡ p.writes
+      → OnOk r (AreMade before (map write_value items) (length items) after) → IfErr r (IsStop before failures (map write_value items) after failures_after)
+      → ReadBackBy before failures p.writes failures_after r
+  read_back_by (Ok x) items before failures after failures_after same made stop = (all_made items before after same made).read_back
+  read_back_by (Err fault) items before failures after failures_after same made stop =
+      stop_read_back before failures after failures_after fault (subst (λ ws. IsStop before failures ws after failures_after fault) same stop)
 
   pub ok_on_machine : {T : Type 0} (r : Result T ApplyFault) (before : List Target) (failures : ℕ) (after : List Target) (failures_after : ℕ)
       → after ≡ after_writes before (take (writes_made p.writes r) p.writes) → IfErr r (IsApplyFault before failures s p.writes after failures_after)

@@ -180,4 +180,4 @@ plan_ends s t system pairs before after old made =
     let all : after ≡ after_writes before (plan_writes changes) = made.made ∙ ap (after_writes before) (take_all (length (plan_writes changes)) (plan_writes changes) (omega arith)) in
     subst (λ (u : System). ShowsSystem after u) (news_of s t pairs)
     (subst (λ ts. ShowsSystem ts (news changes)) (sym all)
-    (ends changes is.system is.moved before (subst (λ (u : System). ShowsSystem before u) (sym (olds_of s t pairs)) old) (read_back_by_place before (plan_writes changes) made.shown)))
+    (ends changes is.system is.moved before (subst (λ (u : System). ShowsSystem before u) (sym (olds_of s t pairs)) old) (read_back_by_place before (plan_writes changes) made.read_back)))

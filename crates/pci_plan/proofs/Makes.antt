@@ -1,17 +1,22 @@
 -- Writes over a port, one more at a time.
-use Rattle.std.proofs.Common.{◌≡◌, ℕ, suc, ◌+◌, ◌<◌, ◌≤◌, inl, inr, List, [], ◌∷◌, ◌++◌, refl, cond, ◌||◌, arith, sym, ◌∙◌, ap, subst, map, length, take, get_or, Some}
+use Rattle.std.proofs.Common.{◌≡◌, ℕ, suc, ◌+◌, ◌-◌, ◌<◌, inl, inr, List, [], ◌∷◌, ◌++◌, refl, Bool, true, cond, ◌||◌, ◌↔◌, IsTrue, IsFalse, arith, sym, ◌∙◌, ap, subst, map, length, take, get_or, Some}
 use Rattle.std.specs.List.{Contains, slice_get}
-use Rattle.std.proofs.lemmas.Bool.{cases_Bool, cases_lt}
+use Rattle.std.specs.declared.result.Result.{Result}
+use Rattle.std.specs.declared.result.Result.TheVariants.{Ok, Err}
+use Rattle.std.proofs.lemmas.Bool.{cases_Bool, cases_lt, both_ways}
 use Rattle.std.proofs.lemmas.List.{take_more, get_or-map, length-map}
 use Rattle.std.proofs.lemmas.Option.{slice_get-get_or, same_Some}
 use Rattle.pci_spec.specs.Slot.{Slot, same_slot}
 use Rattle.pci_spec.specs.Machine.{Target, Write, write_target, write_targets, after_writes, written}
 use Rattle.pci_spec.specs.Port.{has_function, ShowsNumber}
+use Rattle.pci_machine.specs.declared.port.PortError.{PortError}
+use Rattle.pci_machine.specs.declared.port.PortError.TheVariants.{NoFunction, BadAccess, Failed}
+use Rattle.pci_machine.specs.Outcome.{failures_of}
 use Rattle.pci_plan.specs.declared.write.Write.{Write as CodeWrite}
 use Rattle.pci_plan.specs.Writes.{write_value}
 use Rattle.pci_plan.specs.declared.apply_fault.ApplyFault.{ApplyFault}
 use Rattle.pci_plan.specs.declared.apply_fault.ApplyFault.TheVariants.{Changed, Port, Stuck}
-use Rattle.pci_plan.specs.Making.{IsLeftBy, IsLastWrite, AreMade, IsStop}
+use Rattle.pci_plan.specs.Making.{IsLastWrite, AreReadBack, AreMade, IsStop}
 
 fold_more : (targets : List Target) (ws : List Write) (w : Write) → after_writes targets (ws ++ w ∷ []) ≡ write_targets (after_writes targets ws) w
 fold_more targets [] w = refl
@@ -25,7 +30,7 @@ same_place w t = elim (cases_Bool (same_slot t.slot w.slot)) [
   | inr other ↦ ap (λ b. (cond b (record t { image = written t w.offset w.width w.value }) t).slot) other
 ]
 
-has_after_one : (w : Write) (targets : List Target) (slot : Slot) → has_function (write_targets targets w) slot ≡ has_function targets slot
+pub has_after_one : (w : Write) (targets : List Target) (slot : Slot) → has_function (write_targets targets w) slot ≡ has_function targets slot
 has_after_one w [] slot = refl
 has_after_one w (t ∷ targets) slot =
     ap (λ s. same_slot s slot || has_function (write_targets targets w) slot) (same_place w t) ∙ ap (λ b. same_slot t.slot slot || b) (has_after_one w targets slot)
@@ -34,6 +39,24 @@ has_after_one w (t ∷ targets) slot =
 pub has_after : (targets : List Target) (ws : List Write) (slot : Slot) → has_function (after_writes targets ws) slot ≡ has_function targets slot
 has_after targets [] slot = refl
 has_after targets (w ∷ ws) slot = has_after (write_targets targets w) ws slot ∙ has_after_one w targets slot
+
+-- ---- accesses that a port refuses
+
+-- an access that was taken found the function
+pub found : {T : Type 0} (r : Result T PortError) (x : T) (has : Bool) → r ≡ Ok x → (r ≡ Err NoFunction ↔ IsFalse has) → has ≡ true
+found r x has is none = elim (cases_Bool has) [
+  | inl there ↦ there
+  | inr gone ↦ absurd (let impossible : Ok x ≡ Err NoFunction = sym is ∙ none.1 gone in let no : ⊥ = cc in no)
+]
+
+-- a lawful access to a function that is there has no other way to be refused than to fail
+pub failed : {T : Type 0} (r : Result T PortError) (e : PortError) (has lawful : Bool) (failures failures_after : ℕ) → r ≡ Err e → has ≡ true → lawful ≡ true
+    → (r ≡ Err NoFunction ↔ IsFalse has) → (r ≡ Err BadAccess ↔ IsTrue has × IsFalse lawful) → failures_after ≡ failures + failures_of r → failures < failures_after
+failed r NoFunction has lawful failures failures_after is there fine none bad counted = absurd (both_ways has (none.0 is) there)
+failed r BadAccess has lawful failures failures_after is there fine none bad counted = absurd (both_ways lawful (bad.0 is).1 fine)
+failed r Failed has lawful failures failures_after is there fine none bad counted =
+    let one : failures_of r ≡ 1 = ap failures_of is in
+    omega (arith, counted, one)
 
 -- ---- the next write
 
@@ -58,23 +81,25 @@ module _ (before : List Target) (items : List CodeWrite) (i : ℕ) (within : i <
       e ∙ ap (λ ts. write_targets ts (write_value w)) made.made ∙ sym (fold_more before (take i ws) (write_value w))
       ∙ ap (λ xs. after_writes before xs) (ap (λ x. take i ws ++ x ∷ []) (sym (is (write_value w))) ∙ sym (take_more ws i (write_value w) within_ws))
 
-  -- a stop after so many writes, the next one among them or not
-  left_at : (after : List Target) (n : ℕ) → IsLeftBy now (write_value w) i after n → (n ≤ length ws) × (after ≡ after_writes before (take n ws))
-  left_at after n (inl (is, same)) = (omega (arith, is, within_ws), same ∙ made.made ∙ ap (λ k. after_writes before (take k ws)) (sym is))
-  left_at after n (inr (is, e)) = (omega (arith, is, within_ws), made_more after e ∙ ap (λ k. after_writes before (take k ws)) (sym is))
-
   -- why this write is the last is why all stop
   pub stop_at : (after : List Target) (failures failures_after : ℕ) (fault : ApplyFault) → IsLastWrite now failures (write_value w) i after failures_after fault → IsStop before failures ws after failures_after fault
   stop_at after failures failures_after (Changed slot offset) stop = absurd stop
-  stop_at after failures failures_after (Port n) (left, refused) =
-      let at_n = left_at after n left in
+  stop_at after failures failures_after (Port n) (inl (is, same, refused)) = record {
+    within = omega (arith, is, within_ws);
+    made = same ∙ made.made ∙ ap (λ k. after_writes before (take k ws)) (sym is);
+    read_back = inl (subst (AreReadBack before ws) (sym is) made.read_back);
+    cause = elim refused [
+      | inl rose ↦ inl rose
+      | inr none ↦ inr (write_value w, listed, sym (has_after before (take i ws) w.slot) ∙ ap (λ ts. has_function ts w.slot) (sym made.made) ∙ none)
+    ];
+  }
+  stop_at after failures failures_after (Port n) (inr (is, e, rose)) =
+      let others : i ≡ n - 1 = omega (arith, is) in
       record {
-        within = at_n.0;
-        made = at_n.1;
-        cause = elim refused [
-          | inl rose ↦ inl rose
-          | inr none ↦ inr (write_value w, listed, sym (has_after before (take n ws) w.slot) ∙ ap (λ ts. has_function ts w.slot) (sym at_n.1) ∙ none)
-        ];
+        within = omega (arith, is, within_ws);
+        made = made_more after e ∙ ap (λ k. after_writes before (take k ws)) (sym is);
+        read_back = inr (rose, subst (AreReadBack before ws) others made.read_back);
+        cause = inl rose;
       }
   stop_at after failures failures_after (Stuck n) (is, e, otherwise) = record {
     last = i;
@@ -82,6 +107,7 @@ module _ (before : List Target) (items : List CodeWrite) (i : ℕ) (within : i <
     write = write_value w;
     listed = at;
     made = made_more after e ∙ ap (λ k. after_writes before (take k ws)) (sym is);
+    read_back = made.read_back;
     otherwise = otherwise;
   }
 
@@ -89,8 +115,8 @@ module _ (before : List Target) (items : List CodeWrite) (i : ℕ) (within : i <
   one_more after e shown = record {
     within = omega (arith, within_ws);
     made = made_more after e;
-    shown = λ k x less listed. elim (cases_lt k i) [
-      | inl earlier ↦ made.shown k x earlier listed
+    read_back = λ k x less listed. elim (cases_lt k i) [
+      | inl earlier ↦ made.read_back k x earlier listed
       | inr last ↦
           let same : k ≡ i = omega (arith, less, last) in
           let next : i + 1 ≡ suc k = omega (arith, same) in

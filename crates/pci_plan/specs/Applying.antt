@@ -1,5 +1,5 @@
 -- What stands behind a port after a plan was put onto it, or part of it.
-use Rattle.std.specs.Prelude.{◌≡◌, ℕ, ◌+◌, ◌<◌, ◌≤◌, ◌⊎◌, IsFalse, List, length, map, Some, Result, Ok, Err, slice_get}
+use Rattle.std.specs.Prelude.{◌≡◌, ℕ, ◌+◌, ◌-◌, ◌<◌, ◌≤◌, ◌⊎◌, IsFalse, List, length, map, Some, Result, Ok, Err, slice_get}
 use Rattle.std.specs.List.{Contains}
 use Rattle.pci_spec.specs.Slot.{Slot}
 use Rattle.pci_spec.specs.System.{System, Function}
@@ -7,7 +7,7 @@ use Rattle.pci_spec.specs.Sound.{IsSound}
 use Rattle.pci_spec.specs.Machine.{Target, Write, target_of}
 use Rattle.pci_spec.specs.Port.{has_function}
 use Rattle.pci_plan.specs.Comparing.{ShowsAll, IsChangedAt}
-use Rattle.pci_plan.specs.Making.{IsShownOtherwise}
+use Rattle.pci_plan.specs.Making.{AreReadBack, AreReadBackOrFailed, IsShownOtherwise}
 use Rattle.pci_plan.specs.declared.apply_fault.ApplyFault.{ApplyFault}
 use Rattle.pci_plan.specs.declared.apply_fault.ApplyFault.TheVariants.{Changed, Port, Stuck}
 
@@ -28,6 +28,23 @@ writes_before (Stuck done) = done
 abbrev pub writes_made : {T : Type 0} → List Write → Result T ApplyFault → ℕ
 writes_made writes (Ok x) = length writes
 writes_made writes (Err fault) = writes_before fault
+
+-- which writes read back as they were written, each before the next one was made: those before the one that sticks, and those
+-- before an access that failed
+abbrev pub AreReadBackUntil : List Target → ℕ → List Write → ℕ → ApplyFault → Type 0
+AreReadBackUntil before failures writes failures_after (Changed slot offset) = Unit {0}
+AreReadBackUntil before failures writes failures_after (Port done) =
+    AreReadBackOrFailed before failures writes failures_after done
+AreReadBackUntil before failures writes failures_after (Stuck done) =
+    AreReadBack before writes (done - 1)
+
+-- or all of them, where none stopped the others
+abbrev pub ReadBackBy : {T : Type 0} → List Target → ℕ → List Write → ℕ → Result T ApplyFault
+    → Type 0
+ReadBackBy before failures writes failures_after (Ok x) =
+    AreReadBack before writes (length writes)
+ReadBackBy before failures writes failures_after (Err fault) =
+    AreReadBackUntil before failures writes failures_after fault
 
 -- ---- why not all were
 

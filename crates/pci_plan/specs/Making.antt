@@ -1,5 +1,5 @@
 -- What writes over a port leave, where all are made and where they stop.
-use Rattle.std.specs.Prelude.{◌≡◌, ◌≢◌, ℕ, suc, ◌+◌, ◌<◌, ◌≤◌, ◌⊎◌, ◌&&◌, IsTrue, IsFalse, Some, List, length, take, slice_get}
+use Rattle.std.specs.Prelude.{◌≡◌, ◌≢◌, ℕ, suc, ◌+◌, ◌-◌, ◌<◌, ◌≤◌, ◌⊎◌, ◌&&◌, IsTrue, IsFalse, Some, List, length, take, slice_get}
 use Rattle.std.specs.List.{Contains}
 use Rattle.pci_spec.specs.Machine.{Target, Write, write_targets, after_writes}
 use Rattle.pci_spec.specs.Port.{is_access, fits, has_function, ShowsNumber}
@@ -14,10 +14,15 @@ IsAccessible w = IsTrue (is_access w.off w.width && fits w.width w.value)
 
 -- ---- one write
 
--- it wasn't made, or it was
-abbrev pub IsLeftBy : List Target → Write → ℕ → List Target → ℕ → Type 0
-IsLeftBy before w done after n =
-    ((n ≡ done) × (after ≡ before)) ⊎ ((n ≡ done + 1) × (after ≡ write_targets before w))
+-- after so many others it wasn't made, as it was refused
+abbrev pub IsRefused : List Target → ℕ → Write → ℕ → List Target → ℕ → ℕ → Type 0
+IsRefused before failures w done after failures_after n =
+    (n ≡ done) × (after ≡ before) × IsRefusedAt before failures w.slot failures_after
+
+-- or it was made, and reading it back failed
+abbrev pub IsUnread : List Target → ℕ → Write → ℕ → List Target → ℕ → ℕ → Type 0
+IsUnread before failures w done after failures_after n =
+    (n ≡ done + 1) × (after ≡ write_targets before w) × (failures < failures_after)
 
 -- it reads back otherwise
 pub record IsShownOtherwise (targets : List Target) (w : Write) : Type 0 where
@@ -29,19 +34,31 @@ pub record IsShownOtherwise (targets : List Target) (w : Write) : Type 0 where
 abbrev pub IsLastWrite : List Target → ℕ → Write → ℕ → List Target → ℕ → ApplyFault → Type 0
 IsLastWrite before failures w done after failures_after (Changed slot offset) = ⊥
 IsLastWrite before failures w done after failures_after (Port n) =
-    IsLeftBy before w done after n × IsRefusedAt after failures w.slot failures_after
+    IsRefused before failures w done after failures_after n
+    ⊎ IsUnread before failures w done after failures_after n
 IsLastWrite before failures w done after failures_after (Stuck n) =
     (n ≡ done + 1) × (after ≡ write_targets before w) × IsShownOtherwise after w
 
 -- ---- all writes
+
+-- each of the first writes read back as it was written, before the next one was made
+abbrev pub AreReadBack : List Target → List Write → ℕ → Type 0
+AreReadBack before writes count =
+    (k : ℕ) (w : Write) → k < count → slice_get writes k ≡ Some w
+    → ShowsNumber (after_writes before (take (suc k) writes)) w.slot w.offset w.width w.value
+
+-- where the last access failed, the last of them may not have: that access was its read back
+abbrev pub AreReadBackOrFailed : List Target → ℕ → List Write → ℕ → ℕ → Type 0
+AreReadBackOrFailed before failures writes failures_after count =
+    AreReadBack before writes count
+    ⊎ ((failures < failures_after) × AreReadBack before writes (count - 1))
 
 -- the first writes were made, and each was read back
 pub record AreMade (before : List Target) (writes : List Write) (count : ℕ)
     (after : List Target) : Type 0 where
   pub within : count ≤ length writes
   pub made : after ≡ after_writes before (take count writes)
-  pub shown : (k : ℕ) (w : Write) → k < count → slice_get writes k ≡ Some w
-      → ShowsNumber (after_writes before (take (suc k) writes)) w.slot w.offset w.width w.value
+  pub read_back : AreReadBack before writes count
 
 -- an access failed, or the function of a write isn't there
 abbrev pub IsPortCause : List Target → ℕ → List Write → ℕ → Type 0
@@ -53,6 +70,7 @@ pub record IsPortStop (before : List Target) (failures : ℕ) (writes : List Wri
     (after : List Target) (failures_after done : ℕ) : Type 0 where
   pub within : done ≤ length writes
   pub made : after ≡ after_writes before (take done writes)
+  pub read_back : AreReadBackOrFailed before failures writes failures_after done
   pub cause : IsPortCause before failures writes failures_after
 
 -- the last write that was made reads back otherwise
@@ -63,6 +81,7 @@ pub record IsStuckStop (before : List Target) (writes : List Write) (after : Lis
   pub write : Write
   pub listed : slice_get writes last ≡ Some write
   pub made : after ≡ after_writes before (take done writes)
+  pub read_back : AreReadBack before writes last
   pub otherwise : IsShownOtherwise after write
 
 abbrev pub IsStop : List Target → ℕ → List Write → List Target → ℕ → ApplyFault → Type 0

@@ -4,7 +4,7 @@ ghost use Rattle.pci_spec.specs.Sound.{IsSound};
 ghost use Rattle.pci_spec.specs.Machine.{target_of, after_writes};
 ghost use Rattle.pci_place.specs.Above.{system_in};
 ghost use Rattle.pci_plan.specs.Plans.{final_of};
-ghost use Rattle.pci_plan.specs.Applying.{ShowsSystem, AreSound, writes_made, IsApplyFault};
+ghost use Rattle.pci_plan.specs.Applying.{ShowsSystem, AreSound, writes_made, ReadBackBy, IsApplyFault};
 
 use super::apply_fault::ApplyFault;
 use super::compare::compare;
@@ -23,7 +23,7 @@ use std::alloc::Allocator;
 ///
 /// 80 `Changed`: a register isn't as the plan starts from; nothing was written. 81 `Port`: an access failed, or a function
 /// isn't there; exactly the first `done` writes were made. 82 `Stuck`: the last of the first `done` writes reads back
-/// otherwise; no more were made.
+/// otherwise; no more were made. The writes before the last one read back as they were written.
 ///
 /// From a sound start, over functions that have just the writable bits that header and probe give them, a sound system is
 /// left whatever is answered.
@@ -38,6 +38,9 @@ pub fn apply<P: ConfigPort, A: Allocator>(
     // no promise is asked of a machine beforehand: an Ok says that it was the right one
     ensures started { OnOk result (ShowsSystem (P.targets port.old) (system_in plan.now.start)) }
     ensures ended { OnOk result (ShowsSystem (P.targets port.new) (final_of plan.now)) }
+    // so nothing is moved beside a function that stays on, though its Command is written again later
+    ensures read_back { ReadBackBy (P.targets port.old) (P.failures port.old) plan.now.writes
+        (P.failures port.new) result }
     ensures counted { OnOk result (P.failures port.new ≡ P.failures port.old) }
     ensures fault { IfErr result (IsApplyFault (P.targets port.old) (P.failures port.old)
         (system_in plan.now.start) plan.now.writes (P.targets port.new) (P.failures port.new)) }

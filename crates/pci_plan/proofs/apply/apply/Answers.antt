@@ -5,8 +5,8 @@ use Rattle.pci_tree.specs.Admission.{Admission}
 use Rattle.pci_place.specs.Above.{system_in}
 use Rattle.pci_plan.specs.Comparing.{StartsAs, IsStartFault}
 use Rattle.pci_plan.specs.Making.{IsStop}
-use Rattle.pci_plan.specs.Applying.{writes_made, IsApplyFault}
-use Rattle.pci_plan.proofs.Applied.{accesses, shows_start, start_fault, start_made, stop_fault, all_made, shows_final, made_by, ok_on_machine, left_sound}
+use Rattle.pci_plan.specs.Applying.{writes_made, ReadBackBy, IsApplyFault}
+use Rattle.pci_plan.proofs.Applied.{accesses, shows_start, start_fault, start_made, start_read_back, stop_fault, all_made, shows_final, made_by, read_back_by, ok_on_machine, left_sound}
 use Rattle.pci_plan.proofs.apply.apply.Goals as goal
 
 -- ---- comparing ended it
@@ -21,6 +21,17 @@ returns-in_err-compare-clause-made g c =
     let p = err_from_is_err_and c.from_residual.result c.from_residual.ensures.1 in
     rw (p.1, p.2)
     (start_made plan c.start.ensures.plan before (g.P.ConfigPort.targets c.compare.new.port) (g.P.ConfigPort.failures c.args.port.now) (g.P.ConfigPort.failures c.compare.new.port) e reason c.in_err-compare.ensures.same)
+
+pub returns-in_err-compare-clause-read_back : goal.returns-in_err-compare-clause-read_back
+returns-in_err-compare-clause-read_back g c =
+    let plan = c.args.plan.now in
+    let before = g.P.ConfigPort.targets c.args.port.now in
+    let blocks : c.blocks-2.result.now ≡ plan.start.dump = c.blocks-2.ensures.value ∙ c.dump.ensures ∙ ap (λ (a : Admission). a.dump) c.start.ensures.value in
+    let e = c.in_err-compare.field-0.0 in
+    let reason = subst (λ bs. IsStartFault before (g.P.ConfigPort.failures c.args.port.now) bs (g.P.ConfigPort.failures c.compare.new.port) e) blocks c.in_err-compare.ensures.fault in
+    let p = err_from_is_err_and c.from_residual.result c.from_residual.ensures.1 in
+    rw (p.1, p.2)
+    (start_read_back plan c.start.ensures.plan before (g.P.ConfigPort.failures c.args.port.now) (g.P.ConfigPort.failures c.compare.new.port) e reason)
 
 pub returns-in_err-compare-clause-fault : goal.returns-in_err-compare-clause-fault
 returns-in_err-compare-clause-fault g c =
@@ -74,6 +85,19 @@ returns-clause-ended g c =
     (λ made. shows_final plan c.start.ensures.plan now after (shows_start plan c.start.ensures.plan now (subst (λ ts. StartsAs ts plan.start.dump) (sym before) starts))
     (all_made plan c.start.ensures.plan c.writes.result.now now after c.writes.ensures.value made))
     c.make.ensures.made
+
+pub returns-clause-read_back : goal.returns-clause-read_back
+returns-clause-read_back g c =
+    let plan = c.args.plan.now in
+    let now = g.P.ConfigPort.targets c.compare.new.port in
+    let after = g.P.ConfigPort.failures c.make.new.port in
+    let before : now ≡ g.P.ConfigPort.targets c.args.port.now = c.in_ok-compare.ensures.same in
+    let quiet : g.P.ConfigPort.failures c.compare.new.port ≡ g.P.ConfigPort.failures c.args.port.now = c.in_ok-compare.ensures.counted in
+    let by : ReadBackBy now (g.P.ConfigPort.failures c.compare.new.port) plan.writes after c.make.result =
+    read_back_by plan c.start.ensures.plan c.make.result c.writes.result.now now (g.P.ConfigPort.failures c.compare.new.port)
+    (g.P.ConfigPort.targets c.make.new.port) after c.writes.ensures.value c.make.ensures.made c.make.ensures.stop in
+    subst (λ ts. ReadBackBy ts (g.P.ConfigPort.failures c.args.port.now) plan.writes after c.make.result) before
+    (subst (λ n. ReadBackBy now n plan.writes after c.make.result) quiet by)
 
 pub returns-clause-counted : goal.returns-clause-counted
 returns-clause-counted g c = on_ok_weaker c.make.result (λ e. e ∙ c.in_ok-compare.ensures.counted) c.make.ensures.counted
