@@ -1,20 +1,20 @@
 -- What applying a plan leaves, by what comparing and making leave.
-use Rattle.std.proofs.Common.{◌≡◌, ℕ, ◌+◌, ◌-◌, ◌^◌, ◌<◌, ◌≤◌, ◌⊎◌, inl, inr, List, [], ◌∷◌, ◌++◌, refl, Bool, true, false, ◌&&◌, ◌||◌, Some, arith, sym, ◌∙◌, ap, subst, map, length, take, get_or}
+use Rattle.std.proofs.Common.{◌≡◌, ℕ, zero, suc, ◌+◌, ◌-◌, ◌^◌, ◌<◌, ◌≤◌, ◌⊎◌, inl, inr, List, [], ◌∷◌, ◌++◌, refl, Bool, true, false, ◌&&◌, ◌||◌, Some, arith, sym, ◌∙◌, ap, subst, map, length, take, get_or}
 use Rattle.std.specs.List.{All, AllZip, Contains, slice_get}
 use Rattle.std.specs.Result.{OnOk, IfErr, IsOk}
 use Rattle.std.specs.declared.result.Result.{Result}
 use Rattle.std.specs.declared.result.Result.TheVariants.{Ok, Err}
 use Rattle.std.proofs.lemmas.Bool.{cases_Bool, both_ways, and_from, and_parts, lt-ltb, ltb-true, cond-true, cond-false}
-use Rattle.std.proofs.lemmas.List.{take_more, length-map}
+use Rattle.std.proofs.lemmas.List.{take_more, take_all, length-map}
 use Rattle.std.proofs.lemmas.List.Elements.{All-contains, Contains-append_cases, Contains-get_or}
-use Rattle.std.proofs.lemmas.Option.{same_Some, slice_get_within, get_or_from_slice_get}
+use Rattle.std.proofs.lemmas.Option.{same_Some, slice_get_cases, slice_get_within, get_or_from_slice_get}
 use Rattle.pci_spec.specs.Number.{number_at, IsImage}
 use Rattle.pci_spec.specs.Slot.{Slot, same_slot, slot_number}
 use Rattle.pci_spec.specs.Header.{command, layout, address_registers}
 use Rattle.pci_spec.specs.Text.{Block, slots_of}
 use Rattle.pci_spec.specs.System.{System, Function, IsSystem, function_of, system_of}
 use Rattle.pci_spec.specs.Sound.{IsSound}
-use Rattle.pci_spec.specs.Machine.{Target, Write, target_of, after_writes, write_function, write_system, system_after}
+use Rattle.pci_spec.specs.Machine.{Target, Write, target_of, after_writes, write_targets, write_function, write_system, system_after}
 use Rattle.plan_spec.specs.Plan.{IsMoved}
 use Rattle.plan_spec.specs.PlanPromise.{changes_between}
 use Rattle.plan_spec.specs.Planning.Fitting.{FitsAt, IsFitting}
@@ -22,6 +22,7 @@ use Rattle.plan_spec.specs.Planning.PlanWrites.{Change, olds, closed_command, cl
 use Rattle.plan_spec.specs.Planning.Laws.{AreChanges}
 use Rattle.pci_spec.proofs.Members.{in_nil, in_cons_cases, in_head, in_tail, in_map_to, in_map_from, IsMade}
 use Rattle.pci_spec.proofs.Nesting.{one_function}
+use Rattle.pci_spec.proofs.Rising.{pairs_of_rising}
 use Rattle.plan_spec.proofs.Planning.Registers.{number_below}
 use Rattle.plan_spec.proofs.Planning.Kept.{images_of}
 use Rattle.pci_spec.proofs.Pairs.{member_back}
@@ -42,9 +43,12 @@ use Rattle.pci_place.specs.Above.{system_in}
 use Rattle.pci_plan.specs.Plans.{PlanValue, IsPlanValue, final_of}
 use Rattle.pci_plan.specs.Comparing.{ShowsAll, IsChangedAt, StartsAs, IsStartFault}
 use Rattle.pci_plan.specs.Making.{IsAccessible, AreReadBack, AreMade, IsStop}
-use Rattle.pci_plan.specs.Applying.{ShowsSystem, AreSound, writes_before, writes_made, AreReadBackUntil, ReadBackBy, IsApplyFault}
+use Rattle.pci_plan.specs.Applying.{ShowsSystem, AreSound, writes_before, writes_made, AreReadBackUntil, ReadBackBy, HasImages, AreSoundWhileReadBack, IsApplyFault}
 use Rattle.pci_plan.proofs.Compares.{register_access}
+use Rattle.plan_spec.proofs.Planning.Whole.{moved_system}
 use Rattle.pci_plan.proofs.Ended.{plan_ends}
+use Rattle.pci_plan.proofs.Makes.{fold_more}
+use Rattle.pci_plan.proofs.OtherBits.{numbers, images_after}
 
 -- ---- blocks and functions
 
@@ -295,13 +299,25 @@ module _ (p : PlanValue) (is : IsPlanValue p) where
   moved_after : (k : ℕ) → AllZip IsMoved s (system_after s (take k p.writes))
   moved_after k = after_moved s s p.writes images all_fit (moved_start s images) k
 
+  -- each write sets its register
+  sets : (k : ℕ) (w : Write) → slice_get p.writes k ≡ Some w → (g : Function) → Contains (system_after s (take k p.writes)) g → same_slot g.slot w.slot ≡ true
+      → number_at (write_function w g).image w.offset w.width ≡ w.value
+  sets k w at g listed here =
+      let has : Contains p.writes w = (k, slice_get_within p.writes k w at, get_or_from_slice_get p.writes k w w at) in
+      let back = member_back IsMoved s (system_after s (take k p.writes)) (moved_after k) g listed in
+      let f = back.0 in
+      let m = back.2 in
+      let fit : IsFitting w g =
+      fitting_later w f g (images f back.1) m (All-contains (FitsAt s) p.writes w all_fit has f back.1 (ap (λ x. same_slot x w.slot) (sym m.slot) ∙ here)) in
+      let small = ltb-true w.value (256 ^ w.width) (and_parts (is_access w.offset w.width) (port.fits w.width w.value) (write_of w has).access).1 in
+      write_shows g w m.image fit small here
+
   -- each write reads back as it was made
   reads_back : (last : ℕ) (w : Write) (after : List Target) (shows : ℕ) → slice_get p.writes last ≡ Some w → after ≡ after_writes (map target_of s) (take (last + 1) p.writes)
       → ShowsNumber after w.slot w.offset w.width shows → shows ≡ w.value
   reads_back last w after shows at made shown =
       let u = system_after s (take last p.writes) in
       let within = slice_get_within p.writes last w at in
-      let has : Contains p.writes w = (last, within, get_or_from_slice_get p.writes last w w at) in
       let taken : take (last + 1) p.writes ≡ take last p.writes ++ w ∷ [] =
       take_more p.writes last w within ∙ ap (λ x. take last p.writes ++ x ∷ []) (get_or_from_slice_get p.writes last w w at) in
       let next : system_after s (take (last + 1) p.writes) ≡ write_system u w = ap (system_after s) taken ∙ system_more s (take last p.writes) w in
@@ -309,16 +325,9 @@ module _ (p : PlanValue) (is : IsPlanValue p) where
       subst (λ ts. ShowsNumber ts w.slot w.offset w.width shows) (made ∙ on_machine (last + 1) ∙ ap (map target_of) next) shown in
       let found = shown_in (write_system u w) w.slot w.offset w.width shows here in
       let of : IsMade (write_function w) u found.0 = in_map_to (write_function w) u found.0 found.1 in
-      let g = of.from in
-      let slot : g.slot ≡ w.slot = ap (λ (x : Function). x.slot) of.is ∙ found.2 in
-      let test : same_slot g.slot w.slot ≡ true = ap (λ x. same_slot x w.slot) slot ∙ slot_itself w.slot in
-      let back = member_back IsMoved s u (moved_after last) g of.has in
-      let f = back.0 in
-      let m = back.2 in
-      let fit : IsFitting w g =
-      fitting_later w f g (images f back.1) m (All-contains (FitsAt s) p.writes w all_fit has f back.1 (ap (λ x. same_slot x w.slot) (sym m.slot) ∙ test)) in
-      let small = ltb-true w.value (256 ^ w.width) (and_parts (is_access w.offset w.width) (port.fits w.width w.value) (write_of w has).access).1 in
-      found.3 ∙ ap (λ (x : Function). number_at x.image w.offset w.width) (sym of.is) ∙ write_shows g w m.image fit small test
+      let slot : of.from.slot ≡ w.slot = ap (λ (x : Function). x.slot) of.is ∙ found.2 in
+      found.3 ∙ ap (λ (x : Function). number_at x.image w.offset w.width) (sym of.is)
+      ∙ sets last w at of.from of.has (ap (λ x. same_slot x w.slot) slot ∙ slot_itself w.slot)
 
   -- so it is never refused there
   pub none_on_machine : (before : List Target) (failures : ℕ) (after : List Target) (failures_after : ℕ) (fault : ApplyFault)
@@ -342,11 +351,41 @@ module _ (p : PlanValue) (is : IsPlanValue p) where
       reason.otherwise.differs (reads_back reason.last w after reason.otherwise.shows reason.listed from reason.otherwise.shown)
 
   -- and a stop leaves a sound system
+  past_safe : (k : ℕ) → IsSound p.start.roots s ⊎ (p.safe_from ≤ k) → p.safe_from ≤ k
+  past_safe k (inl sound) = let none = is.safe.at_once.1 sound in omega (arith, none)
+  past_safe k (inr past) = past
+
   pub left_sound : (k : ℕ) (before after : List Target) → before ≡ map target_of s → after ≡ after_writes before (take k p.writes)
       → IsSound p.start.roots s ⊎ (p.safe_from ≤ k) → AreSound p.start.roots after
   left_sound k before after start made from =
-      let past : p.safe_from ≤ k = elim from [ inl sound ↦ (let none = is.safe.at_once.1 sound in omega (arith, none)) | inr past ↦ past ] in
-      (system_after s (take k p.writes), is.stops k past, made ∙ ap (λ ts. after_writes ts (take k p.writes)) start ∙ on_machine k)
+      (system_after s (take k p.writes), is.stops k (past_safe k from), made ∙ ap (λ ts. after_writes ts (take k p.writes)) start ∙ on_machine k)
+
+  -- ---- over functions of which other bits can be written
+
+  images_stay : (before : List Target) → HasImages before s → (k : ℕ) → AreReadBack before p.writes k → HasImages (after_writes before (take k p.writes)) (system_after s (take k p.writes))
+  images_stay before same zero back = same
+  images_stay before same (suc k) back =
+      let now = after_writes before (take k p.writes) in
+      let u = system_after s (take k p.writes) in
+      let earlier : HasImages now u = images_stay before same k (λ j w less at. back j w (omega (arith, less)) at) in
+      elim (slice_get_cases p.writes k).1 [
+        | inr (past, none) ↦
+            let all : take (suc k) p.writes ≡ take k p.writes = take_all (suc k) p.writes (omega (arith, past)) ∙ sym (take_all k p.writes past) in
+            subst (λ ws. HasImages (after_writes before ws) (system_after s ws)) (sym all) earlier
+        | inl (w, within, at, here) ↦
+            let next : suc k ≡ k + 1 = omega arith in
+            let taken : take (suc k) p.writes ≡ take k p.writes ++ w ∷ [] = ap (λ n. take n p.writes) next ∙ take_more p.writes k w within ∙ ap (λ x. take k p.writes ++ x ∷ []) here in
+            let targets : after_writes before (take (suc k) p.writes) ≡ write_targets now w = ap (after_writes before) taken ∙ fold_more before (take k p.writes) w in
+            let system : system_after s (take (suc k) p.writes) ≡ write_system u w = ap (system_after s) taken ∙ system_more s (take k p.writes) w in
+            let is_system : IsSystem u = moved_system s u (moved_after k) is.admitted.system in
+            let shown = subst (λ ts. ShowsNumber ts w.slot w.offset w.width w.value) targets (back k w (omega arith) at) in
+            subst (λ ts. HasImages ts (system_after s (take (suc k) p.writes))) (sym targets)
+            (subst (λ v. HasImages (write_targets now w) v) (sym system)
+            (images_after w now u earlier (pairs_of_rising (numbers u) is_system.rising) (images_of u is_system) (sets k w at) shown))
+      ]
+
+  pub sound_while_read_back : (before : List Target) → HasImages before s → AreSoundWhileReadBack p.start.roots s p.writes p.safe_from before
+  sound_while_read_back before same k back from = record { images = images_stay before same k back; sound = is.stops k (past_safe k from) }
 
   -- ---- by the answer
 

@@ -13,4 +13,5 @@ pub mod AllPlaces
 pub mod Refusing
 pub mod PlanFaults
 pub mod Ended
+pub mod OtherBits
 pub mod Applied

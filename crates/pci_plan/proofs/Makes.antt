@@ -18,7 +18,7 @@ use Rattle.pci_plan.specs.declared.apply_fault.ApplyFault.{ApplyFault}
 use Rattle.pci_plan.specs.declared.apply_fault.ApplyFault.TheVariants.{Changed, Port, Stuck}
 use Rattle.pci_plan.specs.Making.{IsLastWrite, AreReadBack, AreMade, IsStop}
 
-fold_more : (targets : List Target) (ws : List Write) (w : Write) → after_writes targets (ws ++ w ∷ []) ≡ write_targets (after_writes targets ws) w
+pub fold_more : (targets : List Target) (ws : List Write) (w : Write) → after_writes targets (ws ++ w ∷ []) ≡ write_targets (after_writes targets ws) w
 fold_more targets [] w = refl
 fold_more targets (x ∷ ws) w = fold_more (write_targets targets x) ws w
 

@@ -1,10 +1,10 @@
 -- What stands behind a port after a plan was put onto it, or part of it.
-use Rattle.std.specs.Prelude.{◌≡◌, ℕ, ◌+◌, ◌-◌, ◌<◌, ◌≤◌, ◌⊎◌, IsFalse, List, length, map, Some, Result, Ok, Err, slice_get}
-use Rattle.std.specs.List.{Contains}
+use Rattle.std.specs.Prelude.{◌≡◌, ℕ, ◌+◌, ◌-◌, ◌<◌, ◌≤◌, ◌⊎◌, IsFalse, List, length, map, take, Some, Result, Ok, Err, slice_get}
+use Rattle.std.specs.List.{AllZip, Contains}
 use Rattle.pci_spec.specs.Slot.{Slot}
 use Rattle.pci_spec.specs.System.{System, Function}
 use Rattle.pci_spec.specs.Sound.{IsSound}
-use Rattle.pci_spec.specs.Machine.{Target, Write, target_of}
+use Rattle.pci_spec.specs.Machine.{Target, Write, target_of, after_writes, system_after}
 use Rattle.pci_spec.specs.Port.{has_function}
 use Rattle.pci_plan.specs.Comparing.{ShowsAll, IsChangedAt}
 use Rattle.pci_plan.specs.Making.{AreReadBack, AreReadBackOrFailed, IsShownOtherwise}
@@ -29,8 +29,8 @@ abbrev pub writes_made : {T : Type 0} → List Write → Result T ApplyFault →
 writes_made writes (Ok x) = length writes
 writes_made writes (Err fault) = writes_before fault
 
--- which writes read back as they were written, each before the next one was made: those before the one that sticks, and those
--- before an access that failed
+-- which writes read back as they were written, each before the next one was made: those before the one that sticks, and
+-- those before an access that failed
 abbrev pub AreReadBackUntil : List Target → ℕ → List Write → ℕ → ApplyFault → Type 0
 AreReadBackUntil before failures writes failures_after (Changed slot offset) = Unit {0}
 AreReadBackUntil before failures writes failures_after (Port done) =
@@ -45,6 +45,27 @@ ReadBackBy before failures writes failures_after (Ok x) =
     AreReadBack before writes (length writes)
 ReadBackBy before failures writes failures_after (Err fault) =
     AreReadBackUntil before failures writes failures_after fault
+
+-- ---- functions of which other bits can be written
+
+-- a function behind a port has the slot and the image of one of a system
+abbrev pub HasImage : Target → Function → Type 0
+HasImage t f = (t.slot ≡ f.slot) × (t.image ≡ f.image)
+
+abbrev pub HasImages : List Target → System → Type 0
+HasImages targets s = AllZip HasImage targets s
+
+-- the functions have the images that the start has after the first writes, and these are a sound system's
+pub record AreSoundAfter (roots : List ℕ) (start : System) (writes : List Write) (count : ℕ)
+    (targets : List Target) : Type 0 where
+  pub images : HasImages targets (system_after start (take count writes))
+  pub sound : IsSound roots (system_after start (take count writes))
+
+-- they do as long as writes read back, from a sound start or once a stop is safe
+abbrev pub AreSoundWhileReadBack : List ℕ → System → List Write → ℕ → List Target → Type 0
+AreSoundWhileReadBack roots start writes safe_from before =
+    (k : ℕ) → AreReadBack before writes k → IsSound roots start ⊎ (safe_from ≤ k)
+    → AreSoundAfter roots start writes k (after_writes before (take k writes))
 
 -- ---- why not all were
 

@@ -4,7 +4,7 @@ ghost use Rattle.pci_spec.specs.Sound.{IsSound};
 ghost use Rattle.pci_spec.specs.Machine.{target_of, after_writes};
 ghost use Rattle.pci_place.specs.Above.{system_in};
 ghost use Rattle.pci_plan.specs.Plans.{final_of};
-ghost use Rattle.pci_plan.specs.Applying.{ShowsSystem, AreSound, writes_made, ReadBackBy, IsApplyFault};
+ghost use Rattle.pci_plan.specs.Applying.{ShowsSystem, AreSound, writes_made, ReadBackBy, HasImages, AreSoundWhileReadBack, IsApplyFault};
 
 use super::apply_fault::ApplyFault;
 use super::compare::compare;
@@ -52,6 +52,10 @@ pub fn apply<P: ConfigPort, A: Allocator>(
         → IsSound plan.now.start.roots (system_in plan.now.start)
         ⊎ (plan.now.safe_from ≤ writes_made plan.now.writes result)
         → AreSound plan.now.start.roots (P.targets port.new) }
+    // but for writes that read back it makes no difference which bits can be written
+    ensures sound_images { HasImages (P.targets port.old) (system_in plan.now.start)
+        → AreSoundWhileReadBack plan.now.start.roots (system_in plan.now.start)
+        plan.now.writes plan.now.safe_from (P.targets port.old) }
 {
     compare(port, plan.start().dump().blocks())?;
     make(port, plan.writes())

@@ -37,7 +37,7 @@ two_of R xs x y pairs (j, l, ex) (k, m, ey) = elim (cases_order j k) [
 ]
 
 -- numbers that agree have bytes that agree
-byte_of_number : (a b : List ℕ) (o w place : ℕ) → IsImage a → IsImage b → number_at a o w ≡ number_at b o w → o ≤ place → place < o + w → byte_at a place ≡ byte_at b place
+pub byte_of_number : (a b : List ℕ) (o w place : ℕ) → IsImage a → IsImage b → number_at a o w ≡ number_at b o w → o ≤ place → place < o + w → byte_at a place ≡ byte_at b place
 byte_of_number a b o w place is_a is_b same from to =
     let j = place - o in
     let at : o + j ≡ place = omega (arith, from) in

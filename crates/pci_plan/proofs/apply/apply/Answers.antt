@@ -6,7 +6,7 @@ use Rattle.pci_place.specs.Above.{system_in}
 use Rattle.pci_plan.specs.Comparing.{StartsAs, IsStartFault}
 use Rattle.pci_plan.specs.Making.{IsStop}
 use Rattle.pci_plan.specs.Applying.{writes_made, ReadBackBy, IsApplyFault}
-use Rattle.pci_plan.proofs.Applied.{accesses, shows_start, start_fault, start_made, start_read_back, stop_fault, all_made, shows_final, made_by, read_back_by, ok_on_machine, left_sound}
+use Rattle.pci_plan.proofs.Applied.{accesses, shows_start, start_fault, start_made, start_read_back, stop_fault, all_made, shows_final, made_by, read_back_by, ok_on_machine, left_sound, sound_while_read_back}
 use Rattle.pci_plan.proofs.apply.apply.Goals as goal
 
 -- ---- comparing ended it
@@ -53,6 +53,9 @@ pub returns-in_err-compare-clause-sound : goal.returns-in_err-compare-clause-sou
 returns-in_err-compare-clause-sound g c = λ start from.
     left_sound c.args.plan.now c.start.ensures.plan (writes_made c.args.plan.now.writes c.from_residual.result) (g.P.ConfigPort.targets c.args.port.now) (g.P.ConfigPort.targets c.compare.new.port)
     start (returns-in_err-compare-clause-made g c) from
+
+pub returns-in_err-compare-clause-sound_images : goal.returns-in_err-compare-clause-sound_images
+returns-in_err-compare-clause-sound_images g c = sound_while_read_back c.args.plan.now c.start.ensures.plan (g.P.ConfigPort.targets c.args.port.now)
 
 -- ---- writes were made
 
@@ -131,3 +134,6 @@ pub returns-clause-sound : goal.returns-clause-sound
 returns-clause-sound g c = λ start from.
     left_sound c.args.plan.now c.start.ensures.plan (writes_made c.args.plan.now.writes c.make.result) (g.P.ConfigPort.targets c.args.port.now) (g.P.ConfigPort.targets c.make.new.port)
     start (returns-clause-made g c) from
+
+pub returns-clause-sound_images : goal.returns-clause-sound_images
+returns-clause-sound_images g c = sound_while_read_back c.args.plan.now c.start.ensures.plan (g.P.ConfigPort.targets c.args.port.now)
