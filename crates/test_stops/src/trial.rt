@@ -6,7 +6,10 @@ use crate::changes::{
 use crate::firmware::{firmware_knows_what_next, firmware_learns_what_stuck};
 use crate::setting::{admitted, planned};
 use crate::stops::stops_anywhere;
-use crate::worked::{each_pinned_register_stops, pinned_command_stops, takes, third_write_fails};
+use crate::worked::{
+    each_pinned_closing_stops, each_pinned_register_stops, pinned_command_stops, takes,
+    third_write_fails,
+};
 use pci_place::pools::Pools;
 use pci_plan::plan::Plan;
 use pci_plan::planning::plan;
@@ -24,6 +27,8 @@ pub enum Trial {
     ThirdWriteFails,
     PinnedCommand,
     EachPinnedRegister,
+    /// The Command of each function that is closed can't be cleared, for so many of them.
+    EachPinnedClosing(usize),
     EachChange,
     CommandChanges,
     OtherBytesChange,
@@ -40,6 +45,7 @@ fn try_on(rt: &(impl Abort + AllocGlobal), plan: &Plan<'_>, trial: Trial) -> Res
         Trial::ThirdWriteFails => third_write_fails(rt, plan),
         Trial::PinnedCommand => pinned_command_stops(rt, plan),
         Trial::EachPinnedRegister => each_pinned_register_stops(rt, plan),
+        Trial::EachPinnedClosing(closing) => each_pinned_closing_stops(rt, plan, closing),
         Trial::EachChange => each_change_is_named(rt, plan),
         Trial::CommandChanges => command_is_compared(rt, plan),
         Trial::OtherBytesChange => other_bytes_may_change(rt, plan),

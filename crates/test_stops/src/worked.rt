@@ -122,6 +122,20 @@ pub fn each_pinned_register_stops(
     Ok(())
 }
 
+/// Asserts that nothing is moved beside a function that stays on: a plan of so many closing writes stops at the one whose
+/// Command can't be cleared, and the first of them leaves everything as it was.
+pub fn each_pinned_closing_stops(
+    rt: &(impl Abort + AllocGlobal),
+    plan: &Plan<'_>,
+    closing: usize,
+) -> Result<(), Fail> {
+    for (before, write) in plan.writes().iter().take(closing).enumerate() {
+        assert!(rt; (write.off, write.value) == (0x04, 0));
+        pinned_register_stops(rt, plan, before, write)?;
+    }
+    Ok(())
+}
+
 /// A trial of counts.
 fn counts(compared: u64, writes: u64) -> Trial {
     Trial::Takes { compared, writes }
@@ -160,6 +174,11 @@ fn a_third_write_that_fails_leaves_two(rt: HostRuntime) -> Result<(), Fail> {
 #[test]
 fn a_pinned_command_bit_stops_the_writes(rt: HostRuntime) -> Result<(), Fail> {
     tried(&rt, &three(0), &POOLS, Trial::PinnedCommand)
+}
+
+#[test]
+fn a_function_that_stays_on_stops_the_writes(rt: HostRuntime) -> Result<(), Fail> {
+    tried(&rt, &three(2), &POOLS, Trial::EachPinnedClosing(3))
 }
 
 #[test]
