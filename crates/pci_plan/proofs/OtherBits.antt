@@ -1,11 +1,11 @@
 -- Writes over functions that have a system's images and other writable bits: where they read back, the images are the same.
 use Rattle.std.proofs.Common.{◌≡◌, ℕ, ◌+◌, ◌<◌, inl, inr, List, [], ◌∷◌, Bool, true, false, cond, Some, arith, sym, ◌∙◌, ap, subst, map}
-use Rattle.std.specs.List.{AllZip, AllPairs, Contains}
+use Rattle.std.specs.List.{AllPairs, Contains}
 use Rattle.std.proofs.lemmas.Bool.{cases_Bool, cases_lt, cond-true, cond-false}
 use Rattle.std.proofs.lemmas.List.{ext_get_or}
 use Rattle.std.proofs.lemmas.Option.{same_Some}
 use Rattle.pci_spec.specs.Number.{byte_at, number_at, IsImage}
-use Rattle.pci_spec.specs.Slot.{Slot, same_slot, slot_number}
+use Rattle.pci_spec.specs.Slot.{same_slot, slot_number}
 use Rattle.pci_spec.specs.System.{System, Function}
 use Rattle.pci_spec.specs.Machine.{Target, Write, target_of, write_target, write_targets, write_function, write_system, written}
 use Rattle.pci_spec.specs.Port.{target_at, ShowsNumber}
