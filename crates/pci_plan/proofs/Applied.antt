@@ -232,8 +232,7 @@ module _ (p : PlanValue) (is : IsPlanValue p) where
   pub start_read_back : (before : List Target) (failures failures_after : ℕ) (fault : ApplyFault)
       → IsStartFault before failures p.start.dump failures_after fault → AreReadBackUntil before failures p.writes failures_after fault
   start_read_back before failures failures_after (Changed at offset) reason = tt
-  start_read_back before failures failures_after (Port done) (b, listed, (none_made, refused)) =
-      inl (λ k w less at. absurd (let impossible : ⊥ = omega (arith, none_made, less) in impossible))
+  start_read_back before failures failures_after (Port done) (b, listed, (none_made, refused)) = inl none_made
   start_read_back before failures failures_after (Stuck done) (b, listed, reason) = absurd reason
 
   -- ---- making
@@ -269,7 +268,7 @@ module _ (p : PlanValue) (is : IsPlanValue p) where
   pub stop_read_back : (before : List Target) (failures : ℕ) (after : List Target) (failures_after : ℕ) (fault : ApplyFault)
       → IsStop before failures p.writes after failures_after fault → AreReadBackUntil before failures p.writes failures_after fault
   stop_read_back before failures after failures_after (Changed at offset) stop = absurd stop
-  stop_read_back before failures after failures_after (Port done) stop = stop.read_back
+  stop_read_back before failures after failures_after (Port done) stop = inr stop.read_back
   stop_read_back before failures after failures_after (Stuck done) stop =
       let is = stop.is_last in
       let others : stop.last ≡ done - 1 = omega (arith, is) in

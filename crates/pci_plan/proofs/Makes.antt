@@ -1,5 +1,5 @@
 -- Writes over a port, one more at a time.
-use Rattle.std.proofs.Common.{◌≡◌, ℕ, suc, ◌+◌, ◌-◌, ◌<◌, inl, inr, List, [], ◌∷◌, ◌++◌, refl, Bool, true, cond, ◌||◌, ◌↔◌, IsTrue, IsFalse, arith, sym, ◌∙◌, ap, subst, map, length, take, get_or, Some}
+use Rattle.std.proofs.Common.{◌≡◌, ℕ, suc, ◌+◌, ◌<◌, inl, inr, List, [], ◌∷◌, ◌++◌, refl, Bool, true, cond, ◌||◌, ◌↔◌, IsTrue, IsFalse, arith, sym, ◌∙◌, ap, subst, map, length, take, get_or, Some}
 use Rattle.std.specs.List.{Contains, slice_get}
 use Rattle.std.specs.declared.result.Result.{Result}
 use Rattle.std.specs.declared.result.Result.TheVariants.{Ok, Err}
@@ -16,6 +16,7 @@ use Rattle.pci_plan.specs.declared.write.Write.{Write as CodeWrite}
 use Rattle.pci_plan.specs.Writes.{write_value}
 use Rattle.pci_plan.specs.declared.apply_fault.ApplyFault.{ApplyFault}
 use Rattle.pci_plan.specs.declared.apply_fault.ApplyFault.TheVariants.{Changed, Port, Stuck}
+use Rattle.pci_plan.specs.Comparing.{IsRefusedAt}
 use Rattle.pci_plan.specs.Making.{IsLastWrite, AreReadBack, AreMade, IsStop}
 
 pub fold_more : (targets : List Target) (ws : List Write) (w : Write) → after_writes targets (ws ++ w ∷ []) ≡ write_targets (after_writes targets ws) w
@@ -81,24 +82,36 @@ module _ (before : List Target) (items : List CodeWrite) (i : ℕ) (within : i <
       e ∙ ap (λ ts. write_targets ts (write_value w)) made.made ∙ sym (fold_more before (take i ws) (write_value w))
       ∙ ap (λ xs. after_writes before xs) (ap (λ x. take i ws ++ x ∷ []) (sym (is (write_value w))) ∙ sym (take_more ws i (write_value w) within_ws))
 
+  -- a function that isn't there now was not there before
+  gone_before : IsFalse (has_function now w.slot) → IsFalse (has_function before w.slot)
+  gone_before none = sym (has_after before (take i ws) w.slot) ∙ ap (λ ts. has_function ts w.slot) (sym made.made) ∙ none
+
+  first_refused : (failures failures_after : ℕ) → IsRefusedAt now failures w.slot failures_after → IsRefusedAt before failures w.slot failures_after
+  first_refused failures failures_after (inl rose) = inl rose
+  first_refused failures failures_after (inr none) = inr (gone_before none)
+
   -- why this write is the last is why all stop
   pub stop_at : (after : List Target) (failures failures_after : ℕ) (fault : ApplyFault) → IsLastWrite now failures (write_value w) i after failures_after fault → IsStop before failures ws after failures_after fault
   stop_at after failures failures_after (Changed slot offset) stop = absurd stop
   stop_at after failures failures_after (Port n) (inl (is, same, refused)) = record {
     within = omega (arith, is, within_ws);
     made = same ∙ made.made ∙ ap (λ k. after_writes before (take k ws)) (sym is);
-    read_back = inl (subst (AreReadBack before ws) (sym is) made.read_back);
+    read_back = inl record {
+      next = write_value w;
+      listed = ap (slice_get ws) is ∙ at;
+      read_back = subst (AreReadBack before ws) (sym is) made.read_back;
+      refused = first_refused failures failures_after refused;
+    };
     cause = elim refused [
       | inl rose ↦ inl rose
-      | inr none ↦ inr (write_value w, listed, sym (has_after before (take i ws) w.slot) ∙ ap (λ ts. has_function ts w.slot) (sym made.made) ∙ none)
+      | inr none ↦ inr (write_value w, listed, gone_before none)
     ];
   }
   stop_at after failures failures_after (Port n) (inr (is, e, rose)) =
-      let others : i ≡ n - 1 = omega (arith, is) in
       record {
         within = omega (arith, is, within_ws);
         made = made_more after e ∙ ap (λ k. after_writes before (take k ws)) (sym is);
-        read_back = inr (rose, subst (AreReadBack before ws) others made.read_back);
+        read_back = inr record { last = i; is_last = is; read_back = made.read_back; failed = rose };
         cause = inl rose;
       }
   stop_at after failures failures_after (Stuck n) (is, e, otherwise) = record {

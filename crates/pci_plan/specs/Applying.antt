@@ -30,11 +30,11 @@ writes_made writes (Ok x) = length writes
 writes_made writes (Err fault) = writes_before fault
 
 -- which writes read back as they were written, each before the next one was made: those before the one that sticks, and
--- those before an access that failed
+-- those before an access that failed, where it wasn't one of comparing
 abbrev pub AreReadBackUntil : List Target → ℕ → List Write → ℕ → ApplyFault → Type 0
 AreReadBackUntil before failures writes failures_after (Changed slot offset) = Unit {0}
 AreReadBackUntil before failures writes failures_after (Port done) =
-    AreReadBackOrFailed before failures writes failures_after done
+    (done ≡ 0) ⊎ AreReadBackOrFailed before failures writes failures_after done
 AreReadBackUntil before failures writes failures_after (Stuck done) =
     AreReadBack before writes (done - 1)
 

@@ -1,5 +1,5 @@
 -- What writes over a port leave, where all are made and where they stop.
-use Rattle.std.specs.Prelude.{◌≡◌, ◌≢◌, ℕ, suc, ◌+◌, ◌-◌, ◌<◌, ◌≤◌, ◌⊎◌, ◌&&◌, IsTrue, IsFalse, Some, List, length, take, slice_get}
+use Rattle.std.specs.Prelude.{◌≡◌, ◌≢◌, ℕ, suc, ◌+◌, ◌<◌, ◌≤◌, ◌⊎◌, ◌&&◌, IsTrue, IsFalse, Some, List, length, take, slice_get}
 use Rattle.std.specs.List.{Contains}
 use Rattle.pci_spec.specs.Machine.{Target, Write, write_targets, after_writes}
 use Rattle.pci_spec.specs.Port.{is_access, fits, has_function, ShowsNumber}
@@ -47,11 +47,27 @@ AreReadBack before writes count =
     (k : ℕ) (w : Write) → k < count → slice_get writes k ≡ Some w
     → ShowsNumber (after_writes before (take (suc k) writes)) w.slot w.offset w.width w.value
 
--- where the last access failed, the last of them may not have: that access was its read back
+-- the next write was refused: an access failed, or its function isn't there; each before it was read back
+pub record IsNextRefused (before : List Target) (failures : ℕ) (writes : List Write)
+    (failures_after done : ℕ) : Type 0 where
+  pub next : Write
+  pub listed : slice_get writes done ≡ Some next
+  pub read_back : AreReadBack before writes done
+  pub refused : IsRefusedAt before failures next.slot failures_after
+
+-- or reading back the last one failed; each before it was read back
+pub record IsLastUnread (before : List Target) (failures : ℕ) (writes : List Write)
+    (failures_after done : ℕ) : Type 0 where
+  pub last : ℕ
+  pub is_last : done ≡ last + 1
+  pub read_back : AreReadBack before writes last
+  pub failed : failures < failures_after
+
+-- which of the first writes were read back where an access ended them
 abbrev pub AreReadBackOrFailed : List Target → ℕ → List Write → ℕ → ℕ → Type 0
-AreReadBackOrFailed before failures writes failures_after count =
-    AreReadBack before writes count
-    ⊎ ((failures < failures_after) × AreReadBack before writes (count - 1))
+AreReadBackOrFailed before failures writes failures_after done =
+    IsNextRefused before failures writes failures_after done
+    ⊎ IsLastUnread before failures writes failures_after done
 
 -- the first writes were made, and each was read back
 pub record AreMade (before : List Target) (writes : List Write) (count : ℕ)
