@@ -15,3 +15,4 @@ pub mod PlanFaults
 pub mod Ended
 pub mod OtherBits
 pub mod Applied
+pub mod Examples
