@@ -1,5 +1,5 @@
 -- What a list of all faults of judging is good for: it is empty where nothing is wrong, it has a line for each region
--- that isn't home, and mending the second region of each line leaves no two that share an address.
+-- that isn't home, and without the second region of each line no two are left that share an address.
 use Rattle.std.specs.Prelude.{◌≡◌, ℕ, ◌↔◌, false, IsTrue, List, [], ◌∷◌}
 use Rattle.std.specs.List.{Contains}
 use Rattle.pci_spec.specs.Slot.{Slot}
