@@ -3,7 +3,7 @@
 # and the status. A line is printed for each case, and one for each file of cases; the status is 1 where one differs.
 #
 # Usage: program_test.sh [PROGRAM], by default out/pciplan beside this file, which `rt ci` and `rt run` make, and then
-# out/pciplan.by-rattle, which `rt ci` has from its second compiler.
+# out/pciplan.by-rattle, which `rt ci` has from its second compiler; after them the C of c/, where a C compiler is.
 set -u
 
 here=$(CDPATH='' cd -- "$(dirname -- "$0")" && pwd) || exit 1
@@ -14,6 +14,12 @@ if [ $# -eq 0 ]; then
         echo "== ${build##*/}"
         "$0" "$build" || worst=1
     done
+    echo '== c/test.sh'
+    if command -v "${CC:-cc}" >/dev/null; then
+        "$here/../../c/test.sh" --built || worst=1
+    else
+        echo 'skipped: all of it, as no C compiler is here'
+    fi
     exit $worst
 fi
 room=$(mktemp -d) || exit 1
