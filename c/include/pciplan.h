@@ -52,7 +52,7 @@ enum pciplan_status {
    REFUSED a message without a line end stands there: "root", or whose text it is and its fault, as "dump: 5 BadLine 17".
    *line_used is its length, and what follows it in line isn't changed.
 
-   At MEMORY and SHORT line isn't changed. At SHORT *line_used is the length that is needed. */
+   At MEMORY and SHORT line isn't changed. At SHORT *line_used is the length that is needed; at MEMORY it isn't changed. */
 uint8_t pciplan_check(const uint8_t *dump, size_t dump_len,
                       const uint8_t *probe, size_t probe_len,
                       const uint8_t *roots, size_t roots_len,
@@ -75,11 +75,14 @@ struct pciplan_write {
 
    At YES the writes of the plan, in the order in which they are to be made, stand at the front of writes, and
    *writes_used of them count. After *safe_from of them or more one may stop anywhere: what the registers then hold is
-   sound. line isn't changed.
+   sound. What follows them in writes isn't changed, nor is line; *line_used is 0.
 
    At NO and REFUSED line and *line_used are as pciplan_check leaves them, where NO names a fault of the texts or of
-   planning; writes isn't changed. At MEMORY and SHORT neither writes nor line is changed. At SHORT *writes_used or
-   *line_used is what is needed, and the other one 0. */
+   planning. writes and *safe_from aren't changed; *writes_used is 0.
+
+   At MEMORY nothing is changed. At SHORT writes, line and *safe_from aren't: either *writes_used is above writes_len, the
+   number of writes that a plan has, and *line_used is 0; or there is no plan, *line_used is above line_len, the length
+   that is needed to say why, and *writes_used is 0. */
 uint8_t pciplan_plan(const uint8_t *dump, size_t dump_len,
                      const uint8_t *probe, size_t probe_len,
                      const uint8_t *roots, size_t roots_len,

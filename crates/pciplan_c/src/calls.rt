@@ -1,5 +1,5 @@
 //! What C calls.
-ghost use Rattle.std.specs.Prelude.{◌≡◌, ◌⊎◌, ◌≤◌, length};
+ghost use Rattle.std.specs.Prelude.{◌≡◌, ◌⊎◌, ◌≤◌, ◌<◌, length};
 ghost use Rattle.pci_function.specs.declared.fault.Fault.{Fault};
 ghost use Rattle.pci_check.specs.declared.outcome.Outcome.TheVariants.{Yes, No};
 ghost use Rattle.pciplan_c.specs.Answers.{IsTold, IsTooLong};
@@ -73,11 +73,13 @@ pub extern "C" fn pciplan_check(
 /// Plans the texts of a dump and of its probe in these pools, with the root buses that `roots` lists.
 ///
 /// It answers 0 and puts the writes of the plan, in their order, at the front of `writes`; `writes_used` is how many
-/// they are, and a stop after `safe_from` of them or more leaves a sound system. It answers 1 and the line `no ..` where
-/// the texts or the plan have a fault, and 2 and a message as `pciplan_check` does; `line_used` is its length.
+/// they are, and a stop after `safe_from` of them or more leaves a sound system; `line_used` is 0. It answers 1 and the
+/// line `no ..` where the texts or the plan have a fault, and 2 and a message as `pciplan_check` does; `line_used` is its
+/// length, and `writes_used` is 0.
 ///
 /// It answers 3 where a growth was refused; then nothing was changed. It answers 4 where `writes` or `line` has no room;
-/// then both are as they were, and `writes_used` or `line_used` is what is needed, and the other one 0.
+/// then both are as they were, and `writes_used` or `line_used` is what is needed, and the other one 0. `safe_from` is
+/// changed at 0 alone.
 #[unsafe(no_mangle)]
 pub extern "C" fn pciplan_plan(
     alloc: Global,
@@ -94,17 +96,23 @@ pub extern "C" fn pciplan_plan(
     ensures plan { result ≡ 0
         → ArePut roots.now dump.now probe.now
         (pools_of pools.now) writes.old writes.new writes_used.new safe_from.new
-        × (line.new ≡ line.old) }
+        × (line.new ≡ line.old) × (line_used.new ≡ 0) }
     // where there is no plan no write is put that could be made by mistake
     ensures told { (result ≡ 1) ⊎ (result ≡ 2)
         → IsNoPlanTold roots.now dump.now probe.now
         (pools_of pools.now) result line.old line.new line_used.new
-        × (writes.new ≡ writes.old) }
+        × (writes.new ≡ writes.old) × (writes_used.new ≡ 0) }
     ensures quiet { (result ≡ 3) ⊎ (result ≡ 4)
         → (writes.new ≡ writes.old) × (line.new ≡ line.old) }
+    ensures memory { result ≡ 3
+        → (writes_used.new ≡ writes_used.old) × (line_used.new ≡ line_used.old) }
     ensures room { result ≡ 4
         → AreTooMany roots.now dump.now probe.now (pools_of pools.now) writes.old writes_used.new
-        ⊎ IsNoPlanTooLong roots.now dump.now probe.now (pools_of pools.now) line.old line_used.new }
+        × (line_used.new ≡ 0)
+        ⊎ IsNoPlanTooLong roots.now dump.now probe.now (pools_of pools.now) line.old line_used.new
+        × (writes_used.new ≡ 0) }
+    // of no use without a plan
+    ensures safe { 0 < result → safe_from.new ≡ safe_from.old }
     ensures known { result ≤ 4 }
 {
     match plan_into(alloc, dump, probe, roots, pools, writes, line) {
