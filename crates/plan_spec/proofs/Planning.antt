@@ -21,6 +21,7 @@ pub mod Final
 pub mod Fit
 pub mod Greatest
 pub mod Home
+pub mod Idle
 pub mod InPool
 pub mod Insertion
 pub mod Kept

@@ -8,12 +8,13 @@ use Rattle.pci_spec.specs.Decoded.{IsDecodable}
 use Rattle.pci_spec.specs.Fault.{fault_number}
 use Rattle.pci_spec.specs.Sound.{is_profile_number}
 use Rattle.plan_spec.specs.Planning.Safety.{IsSafe}
-use Rattle.plan_spec.specs.PlanningLaws.{CutIsSound, OffIsSound, MovedIsSystem, MovedIsNested, MovedIsInProfile, MovedHasChains, ProfileDecodes, LargestFirstIsAligned, TakesAddress, PlacedFillsItsRange, PlacedTakesOnce, FewWritesEach, WindowIsLeastPower, LaidOutIsSound, RomsCanBeOn, PlacesAreATable, PlannedNumbersAreFinal}
+use Rattle.plan_spec.specs.PlanningLaws.{CutIsSound, OffIsSound, IdleCommandIsFree, MovedIsSystem, MovedIsNested, MovedIsInProfile, MovedHasChains, ProfileDecodes, LargestFirstIsAligned, TakesAddress, PlacedFillsItsRange, PlacedTakesOnce, FewWritesEach, WindowIsLeastPower, LaidOutIsSound, RomsCanBeOn, PlacesAreATable, PlannedNumbersAreFinal}
 use Rattle.pci_spec.specs.ProbeLaws.{is_reading_number}
 use Rattle.pci_spec.specs.ToldAlike.{IsReadable}
 use Rattle.pci_spec.proofs.Readable.{readable_of_none}
 use Rattle.plan_spec.proofs.Planning.Faults.{moved_profile}
 use Rattle.plan_spec.proofs.Planning.FewEach.{few_at_each}
+use Rattle.plan_spec.proofs.Planning.Idle.{idle_claim_nothing}
 use Rattle.plan_spec.proofs.Planning.Kept.{moved_nested, moved_chains}
 use Rattle.plan_spec.proofs.Planning.LaidOut.{laid_safe}
 use Rattle.plan_spec.proofs.Planning.Placement.{placed, sum_cons, window_least}
@@ -41,6 +42,17 @@ pub off_is_sound : OffIsSound
 off_is_sound roots s off nested profile chains =
     let safe : IsSafe roots s = all_off_safe roots s off in
     record { single = safe.single; home = safe.home; nested = nested; profile = profile; chains = chains }
+
+pub idle_command_is_free : IdleCommandIsFree
+idle_command_is_free roots s t system moved idle sound =
+    let same = idle_claim_nothing roots s t idle in
+    record {
+      single = same.0.0 sound.single;
+      home = same.1.0 sound.home;
+      nested = moved_nested roots s t system moved sound.nested;
+      profile = moved_profile roots s t system sound.chains moved sound.profile;
+      chains = moved_chains s t system moved sound.chains;
+    }
 
 -- ---- what moving keeps
 

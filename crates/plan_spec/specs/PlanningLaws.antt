@@ -1,12 +1,15 @@
 -- Laws of planning: cuts of sound systems, sizes placed largest first, what moving keeps, and systems in which everything has its place.
-use Rattle.std.specs.Prelude.{◌≡◌, ℕ, ◌+◌, ◌%◌, ◌^◌, ◌<◌, ◌≤◌, ◌↔◌, IsFalse, List, length, map, slice_index}
+use Rattle.std.specs.Prelude.{◌≡◌, ◌⊎◌, ℕ, ◌+◌, ◌%◌, ◌^◌, ◌<◌, ◌≤◌, ◌↔◌, IsTrue, IsFalse, List, length, map, slice_index}
 use Rattle.std.specs.List.{All, AllZip, Contains, count_by, sum}
 use Rattle.std.specs.List.Sorted.{IsStrictlyIncreasing}
 use Rattle.pci_spec.specs.Slot.{same_slot}
-use Rattle.pci_spec.specs.Window.{WindowKind, page_size}
-use Rattle.pci_spec.specs.System.{System, IsSystem}
+use Rattle.pci_spec.specs.Header.{layout, bar_count}
+use Rattle.pci_spec.specs.Bar.{bar_at}
+use Rattle.pci_spec.specs.Rom.{rom_at}
+use Rattle.pci_spec.specs.Window.{WindowKind, page_size, has_window, is_closed}
+use Rattle.pci_spec.specs.System.{System, Function, Part, Decodes, IsSystem, has_part, is_bridge}
 use Rattle.pci_spec.specs.Bus.{IsNested}
-use Rattle.pci_spec.specs.Sound.{HasChains, IsInProfile, IsSound}
+use Rattle.pci_spec.specs.Sound.{HasChains, IsHome, IsInProfile, IsSingle, IsSound}
 use Rattle.pci_spec.specs.Decoded.{IsDecodable}
 use Rattle.plan_spec.specs.Plan.{Pools, IsMoved, window_size, are_bad}
 use Rattle.plan_spec.specs.PlanPromise.{with_rom_on}
@@ -34,6 +37,39 @@ abbrev pub OffIsSound : Type 0
 OffIsSound =
     (roots : List ℕ) (s : System) → IsOffFrom 0 s → IsNested roots s → IsInProfile roots s
     → HasChains s → IsSound roots s
+
+-- ---- functions without regions
+
+-- No part of it answers an address, whatever Command enables.
+abbrev pub HoldsNothing : Function → Type 0
+HoldsNothing f = (part : Part) (a : ℕ) → IsTrue (has_part f part) → Decodes f part a → ⊥
+
+-- by its registers and what they read back it has no BAR and no ROM, and as a bridge no open window
+pub record HasNoRegion (f : Function) : Type 0 where
+  pub bars : (n : ℕ) → n < bar_count (layout f.image) → bar_at f.probe n ≡ 0
+  pub rom : rom_at f.image f.probe ≡ 0
+  pub windows : (kind : WindowKind) → IsTrue (is_bridge f)
+      → IsFalse (has_window kind f.probe) ⊎ IsTrue (is_closed kind f.image)
+
+-- Such a function holds nothing.
+abbrev pub NoRegionHoldsNothing : Type 0
+NoRegionHoldsNothing = (f : Function) → HasNoRegion f → HoldsNothing f
+
+-- one function, unless there is nothing for Command to enable
+abbrev pub IsSameOrIdle : Function → Function → Type 0
+IsSameOrIdle f g = (f ≡ g) ⊎ (HoldsNothing f × HoldsNothing g)
+
+-- Whether regions are single and home doesn't hang on functions that hold nothing.
+abbrev pub IdleClaimNothing : Type 0
+IdleClaimNothing =
+    (roots : List ℕ) (s t : System) → AllZip IsSameOrIdle s t
+    → (IsSingle roots s ↔ IsSingle roots t) × (IsHome roots s ↔ IsHome roots t)
+
+-- So a sound system stays sound whatever the Command bits 0 and 1 of such functions are.
+abbrev pub IdleCommandIsFree : Type 0
+IdleCommandIsFree =
+    (roots : List ℕ) (s t : System) → IsSystem s → AllZip IsMoved s t → AllZip IsSameOrIdle s t
+    → IsSound roots s → IsSound roots t
 
 -- ---- what moving keeps
 

@@ -1,6 +1,6 @@
 //! Laws of planning. These functions do nothing: each contract is a law.
 
-ghost use Rattle.plan_spec.specs.PlanningLaws.{CutIsSound, OffIsSound, MovedIsSystem, MovedIsNested, MovedIsInProfile, MovedHasChains, ProfileDecodes, LargestFirstIsAligned, PlacedFillsItsRange, PlacedTakesOnce, FewWritesEach, WindowIsLeastPower, LaidOutIsSound, RomsCanBeOn, PlacesAreATable, PlannedNumbersAreFinal};
+ghost use Rattle.plan_spec.specs.PlanningLaws.{CutIsSound, OffIsSound, NoRegionHoldsNothing, IdleClaimNothing, IdleCommandIsFree, MovedIsSystem, MovedIsNested, MovedIsInProfile, MovedHasChains, ProfileDecodes, LargestFirstIsAligned, PlacedFillsItsRange, PlacedTakesOnce, FewWritesEach, WindowIsLeastPower, LaidOutIsSound, RomsCanBeOn, PlacesAreATable, PlannedNumbersAreFinal};
 ghost use Rattle.plan_spec.specs.Planning.Laws.{LowerPartIsSafe, OffIsSafe, OffClaimsNothing, BringsNoFault, RaisedIsLeast, FitHasRoom, WindowHolds, ItemsByBehind, NeedBySlots, BehindIsNeed, PlanCanStop, WritesReach, EachWriteChanges, FewWrites, PlanOnItsMachine, StopsOnItsMachine, CanStopAnywhere, CanStopOnceOff, StaysLawful, LawfulOnceClosed, FitsIfNumberDoes, LaidOutIsSafe, HomeBySteps, SingleByRanges, FitMakesTable, TablePlans, TableIsSound, BuildShows, BarShows, RomShows, WindowShows};
 
 /// A sound system stays sound where the functions from a slot on are switched off.
@@ -10,6 +10,13 @@ pub fn cuts_of_sound_systems_are_sound()
     ensures safe { LowerPartIsSafe }
     ensures safe_off { OffIsSafe }
     ensures claims { OffClaimsNothing }
+{}
+
+/// A function without regions may have any Command: it claims nothing, and a sound system stays sound.
+pub fn functions_without_regions_may_have_any_command()
+    ensures empty { NoRegionHoldsNothing }
+    ensures claims { IdleClaimNothing }
+    ensures sound { IdleCommandIsFree }
 {}
 
 /// What moves address bits and Command bits 0 and 1 alone keeps bus numbers, profile and lists.
