@@ -9,3 +9,5 @@ mod refused_plans;
 mod refused_readings;
 #[cfg(test)]
 mod refused_verdicts;
+#[cfg(test)]
+mod turn;

@@ -1,13 +1,13 @@
 //! Calls that take no memory, with the first growth refused: they meet no refusal, and answer the same.
-use crate::refused_readings::read;
-use crate::refused_verdicts::admitted;
+use crate::refused_readings::both;
+use crate::refused_verdicts::{admitted, is_written_as};
 use pci_base::memory::Refused;
 use pci_base::range::Range;
+use pci_base::slot::Slot;
 use pci_dump::block::Block;
 use pci_dump::dump::Dump;
 use pci_dump::reader::Reader;
-use pci_dump::std_streams::{Incoming, Outgoing};
-use pci_dump::write::write_dump;
+use pci_dump::std_streams::Incoming;
 use pci_machine::machine::Machine;
 use pci_machine::size::size;
 use pci_pair::pair::pair;
@@ -24,57 +24,78 @@ use test_support::board::Texts;
 use test_support::refusing::Refusing;
 use test_support::samples::samples;
 
+/// Whether a text's blocks are those of its dump, in their order.
+fn is_read_by_blocks<'a>(dump: &Dump<&'a Refusing<Global>>, text: &str) -> bool {
+    let mut reader = Reader::new(Incoming::new(text.as_bytes()));
+    for block in dump.blocks() {
+        match reader.next_block() {
+            Ok(Some(next)) if next == *block => {}
+            _ => return false,
+        }
+    }
+    matches!(reader.next_block(), Ok(None))
+}
+
+/// Whether texts are read, paired and written with no growth.
+fn is_read_and_written(alloc: Global, heap: &Refusing<Global>, texts: &Texts) -> bool {
+    let Some((dump, probe)) = both(heap, texts) else {
+        return false;
+    };
+    heap.refuse(1);
+    is_written_as(alloc, &dump, texts.dump.as_str())
+        && pair(&dump, &probe) == Ok(())
+        && is_read_by_blocks(&dump, texts.dump.as_str())
+        && heap.is_due()
+}
+
 #[test]
 fn texts_are_read_paired_and_written(rt: HostRuntime) -> Result<(), Fail> {
     let heap = Refusing::new(rt.alloc());
     for (texts, _) in samples(rt.alloc())? {
-        heap.refuse(0);
-        let dump = read(&heap, texts.dump.as_str())?;
-        let probe = read(&heap, texts.probe.as_str())?;
-        heap.refuse(1);
-        let mut text = Vec::new(rt.alloc());
-        assert!(rt; write_dump(&mut Outgoing::new(&mut text), &dump).is_ok());
-        assert!(rt; text.as_slice() == texts.dump.as_bytes());
-        assert_eq!(rt; pair(&dump, &probe), Ok(()));
-        let mut reader = Reader::new(Incoming::new(texts.dump.as_bytes()));
-        for block in dump.blocks() {
-            let next = reader.next_block()?.ok_or("no block")?;
-            assert!(rt; next == *block);
-        }
-        assert!(rt; reader.next_block()?.is_none());
-        assert!(rt; heap.is_due());
+        assert!(rt; is_read_and_written(rt.alloc(), &heap, &texts));
     }
     Ok(())
 }
 
-/// The machine of a dump and its probe.
-fn machine_of<'a>(
+/// Whether sizing each function finds what its block of the probe holds.
+fn is_sized<'a>(
+    machine: &mut Machine<&'a Refusing<Global>>,
+    probe: &Dump<&'a Refusing<Global>>,
+) -> bool {
+    for block in probe.blocks() {
+        if size(machine, block.slot) != Ok(block.image) {
+            return false;
+        }
+    }
+    true
+}
+
+/// Whether the functions of a dump and its probe are sized with no growth.
+fn is_sized_at_once<'a>(
     heap: &'a Refusing<Global>,
     dump: &Dump<&'a Refusing<Global>>,
     probe: &Dump<&'a Refusing<Global>>,
-) -> Result<Machine<&'a Refusing<Global>>, Fail> {
-    let machine = Machine::of(heap, dump, probe)?;
-    Ok(machine)
+) -> bool {
+    let Some(mut machine) = Machine::of(heap, dump, probe).ok() else {
+        return false;
+    };
+    heap.refuse(1);
+    is_sized(&mut machine, probe) && heap.is_due()
 }
 
-/// Whether sizing a function finds what its block of the probe holds.
-fn is_sized<'a>(machine: &mut Machine<&'a Refusing<Global>>, block: &Block) -> bool {
-    size(machine, block.slot) == Ok(block.image)
+/// The same of two texts.
+fn are_sized(heap: &Refusing<Global>, texts: &Texts) -> bool {
+    match both(heap, texts) {
+        Some((dump, probe)) => is_sized_at_once(heap, &dump, &probe),
+        None => false,
+    }
 }
 
 #[test]
 fn functions_are_sized(rt: HostRuntime) -> Result<(), Fail> {
     let heap = Refusing::new(rt.alloc());
     for (texts, _) in samples(rt.alloc())? {
-        heap.refuse(0);
-        let dump = read(&heap, texts.dump.as_str())?;
-        let probe = read(&heap, texts.probe.as_str())?;
-        let mut machine = machine_of(&heap, &dump, &probe)?;
-        heap.refuse(1);
-        for block in probe.blocks() {
-            assert!(rt; is_sized(&mut machine, block));
-        }
-        assert!(rt; heap.is_due());
+        assert!(rt; are_sized(&heap, &texts));
     }
     Ok(())
 }
@@ -91,24 +112,42 @@ fn noted_in<'a>(survey: Survey<&'a Refusing<Global>>) -> Option<Fault> {
     }
 }
 
+/// Whether the way to a slot is found; the boards' bridges stand in a row, one on each bus.
+fn is_way_found<'a>(board: &Admitted<&'a Refusing<Global>>, slot: Slot) -> bool {
+    match (board.outline().path(slot), board.path(slot)) {
+        (Some(path), Some(same)) => {
+            path.len() == usize::from(slot.bus()) && same.as_slice() == path.as_slice()
+        }
+        _ => false,
+    }
+}
+
+/// Whether a survey that one text alone has a slot for ends with that fault.
+fn is_survey_begun(heap: &Refusing<Global>, slot: Slot) -> bool {
+    let mut survey = Survey::new(heap);
+    survey.only(slot);
+    noted_in(survey) == Some(Fault::SlotsDiffer(slot))
+}
+
+/// Whether each way is found and a survey is begun at each function with no growth.
+fn are_ways_found(heap: &Refusing<Global>, texts: &Texts) -> bool {
+    let Some(board) = admitted(heap, texts) else {
+        return false;
+    };
+    heap.refuse(1);
+    for block in board.dump().blocks() {
+        if !is_way_found(&board, block.slot) || !is_survey_begun(heap, block.slot) {
+            return false;
+        }
+    }
+    heap.is_due()
+}
+
 #[test]
 fn ways_are_found_and_surveys_begun(rt: HostRuntime) -> Result<(), Fail> {
     let heap = Refusing::new(rt.alloc());
     for (texts, _) in samples(rt.alloc())? {
-        heap.refuse(0);
-        let board = admitted(&heap, &texts)?;
-        heap.refuse(1);
-        for block in board.dump().blocks() {
-            let slot = block.slot;
-            let path = board.outline().path(slot).ok_or("no path")?;
-            // the boards' bridges stand in a row, one on each bus
-            assert_eq!(rt; path.len(), usize::from(slot.bus()));
-            assert!(rt; board.path(slot).ok_or("no path")?.as_slice() == path.as_slice());
-            let mut survey = Survey::new(&heap);
-            survey.only(slot);
-            assert_eq!(rt; noted_in(survey), Some(Fault::SlotsDiffer(slot)));
-        }
-        assert!(rt; heap.is_due());
+        assert!(rt; are_ways_found(&heap, &texts));
     }
     Ok(())
 }
@@ -131,15 +170,6 @@ fn wide_pools() -> Pools {
     }
 }
 
-/// A plan of an admitted board.
-fn planned<'p, 'a>(
-    heap: &'a Refusing<Global>,
-    board: &'p Admitted<&'a Refusing<Global>>,
-) -> Result<Plan<'p, &'a Refusing<Global>>, Fail> {
-    let plan = plan(heap, board, &wide_pools())?;
-    Ok(plan)
-}
-
 /// Whether a machine is as it is planned once a plan is applied to it.
 fn is_applied<'a>(
     machine: &mut Machine<&'a Refusing<Global>>,
@@ -156,21 +186,40 @@ fn is_applied<'a>(
     true
 }
 
-/// Whether a plan of two texts is lent and applied with no growth.
-fn is_planned_and_applied<'a>(heap: &'a Refusing<Global>, texts: &Texts) -> Result<bool, Fail> {
-    heap.refuse(0);
-    let board = admitted(heap, texts)?;
-    let mut machine = machine_of(heap, board.dump(), board.probe())?;
-    let plan = planned(heap, &board)?;
+/// Whether a plan of a board is lent and applied to its machine with no growth.
+fn is_planned_and_applied<'a>(
+    heap: &'a Refusing<Global>,
+    board: &Admitted<&'a Refusing<Global>>,
+    machine: &mut Machine<&'a Refusing<Global>>,
+) -> bool {
+    let Some(plan) = plan(heap, board, &wide_pools()).ok() else {
+        return false;
+    };
     heap.refuse(1);
-    Ok(is_applied(&mut machine, &plan) && heap.is_due())
+    is_applied(machine, &plan) && heap.is_due()
+}
+
+/// The same of a board with the machine that it is of.
+fn is_set_up<'a>(heap: &'a Refusing<Global>, board: &Admitted<&'a Refusing<Global>>) -> bool {
+    match Machine::of(heap, board.dump(), board.probe()).ok() {
+        Some(mut machine) => is_planned_and_applied(heap, board, &mut machine),
+        None => false,
+    }
+}
+
+/// The same of two texts.
+fn is_lent_and_applied(heap: &Refusing<Global>, texts: &Texts) -> bool {
+    match admitted(heap, texts) {
+        Some(board) => is_set_up(heap, &board),
+        None => false,
+    }
 }
 
 #[test]
 fn plans_are_lent_and_applied(rt: HostRuntime) -> Result<(), Fail> {
     let heap = Refusing::new(rt.alloc());
     for (texts, _) in samples(rt.alloc())? {
-        assert!(rt; is_planned_and_applied(&heap, &texts)?);
+        assert!(rt; is_lent_and_applied(&heap, &texts));
     }
     Ok(())
 }
