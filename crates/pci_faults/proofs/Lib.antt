@@ -1,0 +1,2 @@
+pub mod Filling
+pub mod Sharing

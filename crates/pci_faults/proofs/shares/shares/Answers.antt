@@ -1,0 +1,36 @@
+use Rattle.std.proofs.Common.{◌+◌, List, subst, sym, ap, ◌∙◌, arith}
+use Rattle.pci_faults.specs.declared.shares.Share.{Share}
+use Rattle.pci_faults.specs.Shares.{AreSharesBelow}
+use Rattle.pci_faults.proofs.Sharing.{none_before, still_before, none_owned, no_shares, share_none, share_more}
+use Rattle.pci_faults.proofs.shares.shares.Goals.{in-Some+in_ok-push, in_default}
+use Rattle.pci_faults.proofs.shares.shares.Goals as goal
+
+pub loop-i-init : goal.loop-i-init
+loop-i-init g c = record {
+  within = omega arith;
+  lesser = none_before 0 c.args.by c.args.regions.now;
+  owned = none_owned c.args.regions.now c.args.allowed.now c.new-owners.result c.new-owners.ensures;
+  shares = subst (λ (l : List Share). AreSharesBelow 0 c.args.by c.args.regions.now c.args.allowed.now l) (sym c.new-out.ensures.items)
+      (no_shares c.args.by c.args.regions.now c.args.allowed.now);
+}
+
+pub loop-i-preserved : goal.loop-i-preserved
+loop-i-preserved g c =
+    let lesser = c.in_ok-added.ensures.0 in
+    let owned = c.in_ok-added.ensures.1 in
+    let Below : List Share → Type 0 = λ (l : List Share). AreSharesBelow (c.loop-i.i + 1) c.args.by c.args.regions.now c.args.allowed.now l in
+    record {
+      within = (let within = lesser.within in omega (arith, within));
+      lesser = still_before c.in_ok-added.added c.loop-i.i c.args.by c.args.regions.now c.requires.rise lesser;
+      owned = owned;
+      shares = elim c.match-share_at.branch [
+        | in-Some+in_ok-push w ↦
+            let is = (rw w.in-Some.is at c.share_at.ensures) c.args.by c.in_ok-added.added lesser owned in
+            subst Below (sym (ap (λ v. v.items) w.out-is ∙ w.in_ok-push.ensures.items))
+            (share_more c.loop-i.i c.args.by c.args.regions.now c.args.allowed.now c.loop-i.out.items c.loop-i.invariant.shares w.in-Some.share is.0 is.1)
+        | in_default w ↦
+            subst Below (sym (ap (λ v. v.items) w.out-is))
+            (share_none c.loop-i.i c.args.by c.args.regions.now c.args.allowed.now c.loop-i.out.items c.loop-i.invariant.shares
+            ((rw w.in_default.is at c.share_at.ensures) c.args.by c.in_ok-added.added lesser owned))
+      ];
+    }

@@ -1,0 +1,140 @@
+//! Of regions by slot and register: the least address that each shares with one before it, and with which.
+ghost use Rattle.std.specs.Prelude.{◌≡◌, ◌<◌, ◌≤◌, ℕ, length, IfOk, OnOk, MatchOption};
+ghost use Rattle.pci_tree.specs.Ranges.{Covers, IsCanonical, IsLeastFrom};
+ghost use Rattle.pci_faults.specs.Shares.{group_at, GroupsRise, IsShared, IsLeastShared, AreShares, AreOwned, AreLesser};
+ghost use Rattle.pci_faults.specs.declared.shares.Apart.{Apart as ApartValue};
+
+use super::owners::Owners;
+use pci_base::memory::OutOfMemory;
+use pci_base::range::Range;
+use pci_tree::ranges::least_from;
+use pci_tree::region::Region;
+use std::alloc::Allocator;
+
+/// Which regions count as apart, so that an address which both claim is told.
+#[derive(Clone, Copy, Debug, PartialEq, Eq)]
+pub enum Apart {
+    /// Any two.
+    Regions,
+    /// Two on different buses.
+    Buses,
+}
+
+/// The least address that a region shares with one before it, and the least that claims this address. Both are
+/// told by their indices.
+#[derive(Clone, Copy, Debug, PartialEq, Eq)]
+pub struct Share {
+    pub address: u64,
+    pub first: usize,
+    pub second: usize,
+}
+
+/// The group of the region at an index: regions of two groups are apart.
+fn group(regions: &[Region], k: usize, by: Apart) -> usize
+    requires { k < length regions.now }
+    ensures { result ≡ group_at by regions.now k }
+{
+    match by {
+        Apart::Regions => k,
+        Apart::Buses => usize::from(regions[k].slot.bus()),
+    }
+}
+
+/// The addresses of a region from the least one of `allowed` on.
+fn opened(region: &Region, allowed: &[Range]) -> Option<Range>
+    requires { IsCanonical allowed.now }
+    ensures { MatchOption result
+        ((a : ℕ) → region.now.first ≤ a → a ≤ region.now.last → Covers allowed.now a → ⊥)
+        (λ r. (r.first ≤ r.last) × IsLeastFrom allowed.now region.now.first r.first
+        × (r.last ≡ region.now.last)) }
+{
+    let last = region.last;
+    let Some(first) = least_from(allowed, region.first) else {
+        return None;
+    };
+    if first <= last {
+        Some(Range { first, last })
+    } else {
+        None
+    }
+}
+
+/// Adds the regions from `added` on that are of lesser groups than the one at `i`, and answers how many are added.
+fn add_lesser<A: Allocator + Copy>(
+    owners: &mut Owners<A>,
+    regions: &[Region],
+    allowed: &[Range],
+    by: Apart,
+    added: usize,
+    i: usize,
+) -> Result<usize, OutOfMemory>
+    requires canonical { IsCanonical allowed.now }
+    requires rise { GroupsRise by regions.now }
+    requires index { i < length regions.now }
+    requires within { added ≤ i }
+    requires lesser { (k : ℕ) → k < added → group_at by regions.now k < group_at by regions.now i }
+    requires owned { AreOwned added regions.now allowed.now owners.old }
+    ensures { IfOk result (λ n. AreLesser n i by regions.now
+        × AreOwned n regions.now allowed.now owners.new) }
+{
+    let mut n = added;
+    while n < i && group(regions, n, by) < group(regions, i, by) {
+        if let Some(range) = opened(&regions[n], allowed) {
+            owners.add(range, n)?;
+        }
+        n += 1;
+    }
+    Ok(n)
+}
+
+/// What the region at `i` shares with those that have owners' addresses.
+fn share_at<A: Allocator + Copy>(
+    owners: &Owners<A>,
+    regions: &[Region],
+    allowed: &[Range],
+    i: usize,
+) -> Option<Share>
+    requires canonical { IsCanonical allowed.now }
+    requires index { i < length regions.now }
+    ensures { (by : ApartValue) (n : ℕ) → AreLesser n i by regions.now
+        → AreOwned n regions.now allowed.now owners.now
+        → MatchOption result
+        ((a first : ℕ) → IsShared by regions.now allowed.now a first i → ⊥)
+        (λ s. (s.second ≡ i) × IsLeastShared by regions.now allowed.now s) }
+{
+    let Some(range) = opened(&regions[i], allowed) else {
+        return None;
+    };
+    match owners.first_from(range.first) {
+        Some(found) if found.address <= range.last => Some(Share {
+            address: found.address,
+            first: found.owner,
+            second: i,
+        }),
+        _ => None,
+    }
+}
+
+/// The least address of `allowed` that each region shares with one before it, where it is apart from this one; those
+/// that share none are left out. The regions stand by slot and register.
+pub fn shares<A: Allocator + Copy>(
+    alloc: A,
+    regions: &[Region],
+    allowed: &[Range],
+    by: Apart,
+) -> Result<Vec<Share, A>, OutOfMemory>
+    requires canonical { IsCanonical allowed.now }
+    requires rise { GroupsRise by regions.now }
+    ensures { IfOk result (λ out. AreShares by regions.now allowed.now out.items) }
+{
+    let mut out = Vec::new(alloc);
+    let mut owners = Owners::new(alloc);
+    let mut added = 0;
+    for i in 0..regions.len() {
+        added = add_lesser(&mut owners, regions, allowed, by, added, i)?;
+        if let Some(share) = share_at(&owners, regions, allowed, i) {
+            out.push(share)?;
+        }
+    }
+    Ok(out)
+}
