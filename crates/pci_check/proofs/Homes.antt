@@ -10,10 +10,11 @@ use Rattle.pci_spec.specs.System.{System, Function, Space, Io, Memory, Part, Cla
 use Rattle.pci_spec.specs.Decoded.{record_of}
 use Rattle.pci_spec.specs.Fault.{Unreached}
 use Rattle.pci_spec.specs.Order.{IsFirst}
-use Rattle.pci_spec.specs.JudgingLaws.{region_number}
+use Rattle.pci_spec.specs.JudgingLaws.{region_number, IsFirstStop as StopsFirst}
+use Rattle.pci_spec.specs.AllFaults.{IsUnreachedOf}
 use Rattle.pci_spec.proofs.Members.{in_map_from}
 use Rattle.pci_spec.proofs.Regions.{register_of-lt}
-use Rattle.pci_spec.proofs.Firsts.{slot_of, least_unreached_is_first}
+use Rattle.pci_spec.proofs.Firsts.{slot_of, least_unreached_is_first, line_of_stop}
 use Rattle.pci_function.specs.declared.fault.Fault.{Fault}
 use Rattle.pci_tree.specs.declared.region.Region.{Region}
 use Rattle.pci_tree.specs.Regions.{IsRegionOf, IsRegionOn, AreRegionsOf, region_number as number_of}
@@ -23,7 +24,7 @@ use Rattle.pci_check.specs.Homes.{AreHomeBelow, IsHomeOn, IsHomeBelow}
 use Rattle.pci_check.specs.Judgement.{AreHome}
 use Rattle.pci_check.specs.Stops.{is_of_window, Reaches, AreReachesOf, AlwaysNested, IsWholeAt, IsReachedAt, IsFirstOutside, IsOutsideAnswer, IsWholeBehind, IsFirstStop, IsUnreachedFault, IsUnreachedFaultOn, IsWholeInEach, AreHomeInEach, AreListed}
 use Rattle.pci_check.proofs.Overlaps.{number_same}
-use Rattle.pci_check.proofs.Stops.{window_named, least_unreached, whole_without_stop}
+use Rattle.pci_check.proofs.Stops.{window_named, first_stop, whole_without_stop}
 
 module _ (t : Tree) (reaches : Reaches) (reached : AreReachesOf t reaches) (nested : AlwaysNested t) where
   -- a bus of a system's function
@@ -46,14 +47,18 @@ module _ (t : Tree) (reaches : Reaches) (reached : AreReachesOf t reaches) (nest
       bus r on path (paths s tree) whole (subst (λ (x : Slot). x.bus < 256) (sym on.is.slot) (bus_fits s tree on.f on.listed))
 
   -- where one stops it
-  pub unreached_fault : (space : Space) (r : Region) (path : List Slot) (k address : ℕ) (bridge : Slot) → ((s : System) → HasTree t s → IsPathTo t.roots s path r.slot.bus)
-      → IsFirstStop reaches space path r.slot.bus r k address → bridge ≡ get_or path k bridge
-      → (s : System) → HasTree t s → (bus : ℕ) → IsRegionOn s bus space r → is_of_window r.part ≡ false → AreHomeBelow t.roots s (number_of r)
-      → IsFirst t.roots s (Unreached r.slot r.reg space address bridge)
-  unreached_fault space r path k address bridge paths stop named s tree bus on no_window lesser =
-      subst (λ (x : Slot). IsFirst t.roots s (Unreached r.slot r.reg space address x)) (sym named)
-      (least_unreached_is_first t.roots s tree.system (nested s tree) r.slot r.reg space address (get_or path k bridge)
-      (least_unreached t.roots s tree.system (nested s tree) reaches space (reached s tree space) bus r on path (paths s tree) no_window k address stop bridge lesser))
+  module _ (space : Space) (r : Region) (path : List Slot) (k address : ℕ) (bridge : Slot) (paths : (s : System) → HasTree t s → IsPathTo t.roots s path r.slot.bus)
+      (stop : IsFirstStop reaches space path r.slot.bus r k address) (named : bridge ≡ get_or path k bridge)
+      (s : System) (tree : HasTree t s) (bus : ℕ) (on : IsRegionOn s bus space r) (no_window : is_of_window r.part ≡ false) where
+    stops_first : StopsFirst t.roots s r.slot r.reg space address bridge
+    stops_first = subst (λ (x : Slot). StopsFirst t.roots s r.slot r.reg space address x) (sym named)
+        (first_stop t.roots s tree.system (nested s tree) reaches space (reached s tree space) bus r on path (paths s tree) no_window k address stop bridge)
+
+    pub unreached_fault : AreHomeBelow t.roots s (number_of r) → IsFirst t.roots s (Unreached r.slot r.reg space address bridge)
+    unreached_fault lesser = least_unreached_is_first t.roots s tree.system (nested s tree) r.slot r.reg space address bridge record { stop = stops_first; lesser_regions = lesser }
+
+    pub unreached_line : IsUnreachedOf t.roots s r.slot r.reg space address bridge
+    unreached_line = line_of_stop t.roots s tree.system (nested s tree) r.slot r.reg space address bridge stops_first
 
   -- ---- the regions of a bus
 

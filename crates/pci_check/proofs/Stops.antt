@@ -6,9 +6,9 @@ use Rattle.std.proofs.lemmas.List.{get_or_default, get_or-map, length-map, lengt
 use Rattle.std.proofs.lemmas.List.Elements.{All-contains}
 use Rattle.pci_spec.specs.Slot.{Slot}
 use Rattle.pci_spec.specs.Header.{secondary_bus}
-use Rattle.pci_spec.specs.System.{System, IsSystem, IsFunction, Function, Space, Part, Bar, Rom, Window, Claims, IsPassedTo, Leads, passes, is_window, is_prefetchable_part, register_of}
+use Rattle.pci_spec.specs.System.{System, IsSystem, IsFunction, Function, Space, Part, Bar, Rom, Window, Claims, IsPassedTo, Leads, passes, is_window, is_prefetchable_part}
 use Rattle.pci_spec.specs.Bus.{IsNested}
-use Rattle.pci_spec.specs.JudgingLaws.{region_number, IsLeastUnreached}
+use Rattle.pci_spec.specs.JudgingLaws.{IsFirstStop as StopsFirst}
 use Rattle.pci_spec.proofs.Verdicts.{passed_by_each}
 use Rattle.pci_tree.specs.declared.region.Region.{Region}
 use Rattle.pci_tree.specs.Ranges.{Covers}
@@ -134,9 +134,7 @@ module _ (roots : List ℕ) (s : System) (system : IsSystem s) (nested : IsNeste
       subst (λ (b : Function). passes space (is_prefetchable_part f part) a b ≡ true) is
       (passes_behind m c (omega (arith, lt, within)) a (passed_behind m c (omega (arith, lt, within)) (whole m lt) a claims))
 
-  module _ (no_window : is_of_window r.part ≡ false) (k address : ℕ) (stop : IsFirstStop reaches space path r.slot.bus r k address) (d : Slot)
-      (lesser : (g : Function) (q : Part) (sp : Space) (a : ℕ) → Contains s g → is_window q ≡ false → region_number g.slot (register_of g q) < region_number r.slot r.reg
-      → Claims g q sp a → IsPassedTo roots s sp (is_prefetchable_part g q) a g.slot.bus) where
+  module _ (no_window : is_of_window r.part ≡ false) (k address : ℕ) (stop : IsFirstStop reaches space path r.slot.bus r k address) (d : Slot) where
     in_bridges : k < length is_path.bridges
     in_bridges = let n = long in let within = stop.within in omega (arith, n, within)
 
@@ -159,8 +157,8 @@ module _ (roots : List ℕ) (s : System) (system : IsSystem s) (nested : IsNeste
         ) in
         stop.lost.outside (((reached r.prefetch stop.bus stop.small).exact address).1 (claims.address, way)))
 
-    pub least_unreached : IsLeastUnreached roots s r.slot r.reg space address (get_or path k d)
-    least_unreached = record {
+    pub first_stop : StopsFirst roots s r.slot r.reg space address (get_or path k d)
+    first_stop = record {
       f = f;
       part = part;
       listed = region.listed;
@@ -177,7 +175,6 @@ module _ (roots : List ℕ) (s : System) (system : IsSystem s) (nested : IsNeste
       at = get_or_default is_path.bridges k (get_or is_path.bridges k f) f in_bridges;
       named_bridge = sym (at_path k f d in_bridges);
       stops = stops;
-      lesser_regions = lesser;
       earlier_bridges = let n = in_bridges in earlier k (omega (arith, n)) stop.before;
       lower_addresses = λ a less claims. passes_behind k f in_bridges a (to_bus a (stop.lost.least a less ((region.is.claims a).1 claims)));
     }

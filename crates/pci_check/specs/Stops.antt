@@ -6,6 +6,8 @@ use Rattle.pci_spec.specs.Window.{WindowKind, IoWindow, MemoryWindow, PrefetchWi
 use Rattle.pci_spec.specs.System.{System, Space}
 use Rattle.pci_spec.specs.Bus.{IsNested}
 use Rattle.pci_spec.specs.Decoded.{HasRecords}
+use Rattle.pci_spec.specs.Fault as faults
+use Rattle.pci_spec.specs.AllFaults.{IsUnreachedOf}
 use Rattle.pci_spec.specs.Order.{IsFirst}
 use Rattle.pci_base.specs.declared.range.Range.{Range}
 use Rattle.pci_function.specs.declared.fault.Fault.{Fault}
@@ -117,12 +119,25 @@ IsEarlier io i memory m (foremost.Memory k) =
     × MatchOption i (Unit {0}) (λ n. (d : Region)
     → number_of (slice_index_or memory k d) ≤ number_of (slice_index_or io n d))
 
+-- the fault is the one that a list of all names of the region
+abbrev pub IsLineOf : List ℕ → System → Space → Region → faults.Fault → Type 0
+IsLineOf roots s space r (faults.Unreached slot register sp address bridge) =
+    (slot ≡ r.slot) × (register ≡ r.reg) × (sp ≡ space)
+    × IsUnreachedOf roots s slot register sp address bridge
+IsLineOf roots s space r fault = ⊥
+
 -- the fault of a region whose addresses aren't all passed on to its bus
 abbrev pub IsUnreachedFault : Tree → Space → Region → Fault → Type 0
 IsUnreachedFault t space r fault =
     (s : System) → HasTree t s → (bus : ℕ) → IsRegionOn s bus space r → is_of_window r.part ≡ false
     → AreHomeBelow t.roots s (number_of r)
     → IsFirst t.roots s (fault_of fault)
+
+-- the one fault that a list of all names of a BAR or ROM that isn't home
+abbrev pub IsLineFault : Tree → Space → Region → Fault → Type 0
+IsLineFault t space r fault =
+    (s : System) → HasTree t s → (bus : ℕ) → IsRegionOn s bus space r → is_of_window r.part ≡ false
+    → IsLineOf t.roots s space r (fault_of fault)
 
 -- the first fault, where it is on this bus
 abbrev pub IsUnreachedFaultOn : Tree → ℕ → Fault → Type 0

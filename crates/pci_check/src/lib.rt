@@ -18,11 +18,11 @@ mod clash;
 pub mod judge;
 pub mod line;
 pub mod outcome;
-mod reached;
+pub mod reached;
 mod side_by_side;
-mod split;
+pub mod split;
 mod sweep;
-mod unreached;
+pub mod unreached;
 pub mod verdict;
 
 pub use audit::audit_with;

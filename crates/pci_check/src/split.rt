@@ -15,7 +15,7 @@ use pci_tree::roots::Roots;
 use std::alloc::Allocator;
 
 /// The regions of all root buses that claim some address of a space.
-fn of_roots<A: Allocator + Copy>(
+pub fn of_roots<A: Allocator + Copy>(
     alloc: A,
     outline: &Outline<A>,
     roots: &Roots,

@@ -4,7 +4,7 @@ ghost use Rattle.std.specs.Prelude.{◌≡◌, ◌<◌, ℕ, false, length, Opti
 ghost use Rattle.pci_spec.specs.System.{Io, Memory};
 ghost use Rattle.pci_function.specs.declared.fault.Fault.{Fault};
 ghost use Rattle.pci_base.specs.Space.{space_of};
-ghost use Rattle.pci_check.specs.Stops.{is_of_window, AreReachesOf, IsWholeAt, IsReachedAt, IsOutsideAnswer, IsBusBehind, IsWholeBehind, IsLeastLost, IsFirstStop, IsEarlier, IsUnreachedFault, IsUnreachedFaultOn, IsWholeInEach, AreHomeInEach, AlwaysNested, AreListed};
+ghost use Rattle.pci_check.specs.Stops.{is_of_window, AreReachesOf, IsWholeAt, IsReachedAt, IsOutsideAnswer, IsBusBehind, IsWholeBehind, IsLeastLost, IsFirstStop, IsEarlier, IsUnreachedFault, IsLineFault, IsUnreachedFaultOn, IsWholeInEach, AreHomeInEach, AlwaysNested, AreListed};
 
 use super::reached::Reached;
 use super::sweep::is_before;
@@ -48,7 +48,7 @@ fn is_window(part: Part) -> bool
 }
 
 /// Whether a region is a BAR or a ROM with an address that doesn't get to a bus.
-fn is_lost<A: Allocator + Copy>(
+pub fn is_lost<A: Allocator + Copy>(
     region: &Region,
     reached: &Reached<A>,
     space: Space,
@@ -159,8 +159,9 @@ fn first_stop<A: Allocator + Copy>(
     None
 }
 
-/// The fault of a region, where not all of it gets to its bus.
-fn unreached_at<A: Allocator + Copy>(
+/// The fault of a BAR or a ROM, where not all of it gets to its bus: the first bridge on the way that doesn't pass all
+/// of it, and the least address that this bridge doesn't pass.
+pub fn unreached_at<A: Allocator + Copy>(
     outline: &Outline<A>,
     reached: &Reached<A>,
     region: &Region,
@@ -168,8 +169,11 @@ fn unreached_at<A: Allocator + Copy>(
 ) -> Option<Fault>
     requires reached { AreReachesOf outline.now reached.now }
     requires nested { AlwaysNested outline.now }
-    ensures { MatchOption result (IsWholeInEach outline.now reached.now (space_of space) region.now)
+    ensures fault { MatchOption result
+        (IsWholeInEach outline.now reached.now (space_of space) region.now)
         (λ fault. IsUnreachedFault outline.now (space_of space) region.now fault) }
+    // whoever lists all faults asks for each region, whatever is wrong with lesser ones
+    ensures line { IfSome result (IsLineFault outline.now (space_of space) region.now) }
 {
     match outline.path(region.slot) {
         None => None,

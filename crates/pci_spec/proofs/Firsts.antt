@@ -2,7 +2,7 @@
 use Rattle.std.proofs.Common.{◌≡◌, ℕ, ◌+◌, ◌<◌, ◌≤◌, ◌⊎◌, inl, inr, List, [], ◌∷◌, ◌++◌, refl, true, false, arith, sym, ◌∙◌, ap, subst, length, get_or, map, take}
 use Rattle.std.specs.Bool.{IsTrue}
 use Rattle.std.specs.List.{Contains}
-use Rattle.std.proofs.lemmas.Bool.{cases_order, both_ways}
+use Rattle.std.proofs.lemmas.Bool.{cases_lt, cases_order, both_ways}
 use Rattle.std.proofs.lemmas.List.{get_or-map, get_or_default, get_or-take, length-take-le, length-map, length_push, get_or_append_left}
 use Rattle.std.proofs.lemmas.List.Elements.{All-contains}
 use Rattle.std.proofs.lemmas.List.Kept.{AllPairs-from_increasing}
@@ -11,10 +11,11 @@ use Rattle.pci_spec.specs.System.{System, Function, IsFunction, Space, Io, Memor
 use Rattle.pci_spec.specs.Bus.{IsNested}
 use Rattle.pci_spec.specs.Fault.{IsIn, IsUnreached, IsClash, IsSplit, ClaimsOnBus, Unreached, Clash, Split}
 use Rattle.pci_spec.specs.Order.{precedes, slot_key, space_key, judging_key}
-use Rattle.pci_spec.specs.JudgingLaws.{region_number, IsLeastUnreached, IsLeastClash, IsLeastSplit, LeastUnreachedIsFirst, LeastClashIsFirst, LeastSplitIsFirst}
+use Rattle.pci_spec.specs.AllFaults.{IsUnreachedOf}
+use Rattle.pci_spec.specs.JudgingLaws.{region_number, IsFirstStop, IsLeastUnreached, IsLeastClash, IsLeastSplit, LeastUnreachedIsFirst, LeastClashIsFirst, LeastSplitIsFirst}
 use Rattle.pci_spec.proofs.Nesting.{one_function}
-use Rattle.pci_spec.proofs.Ways.{one_way, buses_rise}
-use Rattle.pci_spec.proofs.Regions.{register_of-lt, part_same, precedes-cases, precedes-region}
+use Rattle.pci_spec.proofs.Ways.{one_way, buses_rise, below_the_end}
+use Rattle.pci_spec.proofs.Regions.{register_of-lt, part_same, precedes-cases, precedes-slot, precedes-region}
 use Rattle.pci_spec.proofs.Verdicts.{passed_not_unreached}
 
 pub no : {A : Type 0} → false ≡ true → A
@@ -213,7 +214,7 @@ same_region s system f g p q sp space a e in_f in_g slot register claims_f claim
 
 module _ (roots : List ℕ) (s : System) (system : IsSystem s) (nested : IsNested roots s)
     (slot : Slot) (register : ℕ) (space : Space) (address : ℕ) (bridge : Slot)
-    (is : IsLeastUnreached roots s slot register space address bridge) where
+    (is : IsFirstStop roots s slot register space address bridge) where
   -- what stops an address of the same region
   record Stopped (a : ℕ) (other : Slot) : Type 0 where
     b : Function
@@ -238,43 +239,31 @@ module _ (roots : List ℕ) (s : System) (system : IsSystem s) (nested : IsNeste
             (subst (λ (x : Space). passes x (is_prefetchable_part u.f u.part) a u.b ≡ false) same.2 u.stops));
       }
 
-  no_lower_address : (a : ℕ) → precedes (slot_key bridge ++ a ∷ []) (slot_key bridge ++ address ∷ []) ≡ true → a < address
-  no_lower_address a h =
-      elim (precedes-cases bridge.bus bridge.bus (bridge.device ∷ bridge.function ∷ a ∷ []) (bridge.device ∷ bridge.function ∷ address ∷ []) h) [
-        | inl less ↦ absurd (let impossible : ⊥ = omega (arith, less) in impossible)
-        | inr (bus, h1) ↦ elim (precedes-cases bridge.device bridge.device (bridge.function ∷ a ∷ []) (bridge.function ∷ address ∷ []) h1) [
-          | inl less ↦ absurd (let impossible : ⊥ = omega (arith, less) in impossible)
-          | inr (device, h2) ↦ elim (precedes-cases bridge.function bridge.function (a ∷ []) (address ∷ []) h2) [
-            | inl less ↦ absurd (let impossible : ⊥ = omega (arith, less) in impossible)
-            | inr (function, h3) ↦ elim (precedes-cases a address [] [] h3) [ inl less ↦ less | inr same ↦ no same.1 ]
-          ]
-        ]
-      ]
-
-  no_lesser_stop : (a : ℕ) (other : Slot) → Stopped a other → precedes (slot_key other ++ a ∷ []) (slot_key bridge ++ address ∷ []) ≡ true → ⊥
-  no_lesser_stop a other stop h =
+  -- none of the bridges before it, and no lower address there, stops the region
+  not_before : (a : ℕ) (other : Slot) → Stopped a other → (slot_number bridge < slot_number other) ⊎ ((bridge ≡ other) × (address ≤ a))
+  not_before a other stop =
       let at : Contains is.bridges is.b = (is.place, is.within, is.at) in
       elim (cases_order stop.on_the_way.0 is.place) [
         | inl here ↦
             let b : stop.b ≡ is.b = same_place is.bridges stop.b is.b stop.on_the_way at here in
-            let named : other ≡ bridge = sym stop.named ∙ ap (λ (x : Function). x.slot) b ∙ is.named_bridge in
-            let less = no_lower_address a (subst (λ (x : Slot). precedes (slot_key x ++ a ∷ []) (slot_key bridge ++ address ∷ []) ≡ true) named h) in
-            both_ways _ (subst (λ (x : Function). passes space (is_prefetchable_part is.f is.part) a x ≡ false) b stop.stops) (is.lower_addresses a less stop.claims)
+            inr (sym is.named_bridge ∙ ap (λ (x : Function). x.slot) (sym b) ∙ stop.named, elim (cases_lt a address) [
+              | inl less ↦ absurd (both_ways _ (subst (λ (x : Function). passes space (is_prefetchable_part is.f is.part) a x ≡ false) b stop.stops) (is.lower_addresses a less stop.claims))
+              | inr ge ↦ ge
+            ])
         | inr (inl before) ↦
             let within = is.within in
-            both_ways _ stop.stops (is.earlier_bridges stop.b (in_front is.bridges is.place stop.b stop.on_the_way before (omega (arith, within))) a stop.claims)
+            absurd (both_ways _ stop.stops (is.earlier_bridges stop.b (in_front is.bridges is.place stop.b stop.on_the_way before (omega (arith, within))) a stop.claims))
         | inr (inr after) ↦
             let up = later_is_higher roots s nested is.root is.bridges slot.bus is.leads is.b stop.b at stop.on_the_way after in
-            let low : is.b.slot.bus ≡ bridge.bus = ap (λ (x : Slot). x.bus) is.named_bridge in
-            let high : stop.b.slot.bus ≡ other.bus = ap (λ (x : Slot). x.bus) stop.named in
-            elim (precedes-cases other.bus bridge.bus (other.device ∷ other.function ∷ a ∷ []) (bridge.device ∷ bridge.function ∷ address ∷ []) h) [
-              | inl less ↦ let impossible : ⊥ = omega (arith, less, up, low, high) in impossible
-              | inr (same, rest) ↦ let impossible : ⊥ = omega (arith, same, up, low, high) in impossible
-            ]
+            let bridge_of = λ (c : Function) (on : Contains is.bridges c). slot_of s system c (below_the_end roots s nested is.root is.bridges slot.bus is.leads c on).0 in
+            let low = bridge_of is.b at in
+            let high = bridge_of stop.b stop.on_the_way in
+            let less : slot_number is.b.slot < slot_number stop.b.slot = omega (arith, up, low, high) in
+            inl (subst (λ (x : Slot). slot_number bridge < slot_number x) stop.named (subst (λ (x : Slot). slot_number x < slot_number stop.b.slot) is.named_bridge less))
       ]
 
-  there : IsUnreached roots s slot register space address bridge
-  there = record {
+  stop_is_there : IsUnreached roots s slot register space address bridge
+  stop_is_there = record {
     f = is.f;
     part = is.part;
     listed = is.listed;
@@ -291,9 +280,31 @@ module _ (roots : List ℕ) (s : System) (system : IsSystem s) (nested : IsNeste
     stops = is.stops;
   }
 
+  -- it is the line of its region
+  pub line_of_stop : IsUnreachedOf roots s slot register space address bridge
+  line_of_stop = record {
+    there = stop_is_there;
+    first = λ sp a other u. not_before a other (stopped slot register sp a other u refl refl);
+  }
+
+  not_lesser : (a : ℕ) (other : Slot) → Stopped a other → IsSlot other → precedes (slot_key other ++ a ∷ []) (slot_key bridge ++ address ∷ []) ≡ true → ⊥
+  not_lesser a other stop slot_other h =
+      let slot_bridge = subst IsSlot is.named_bridge (slot_of s system is.b (below_the_end roots s nested is.root is.bridges slot.bus is.leads is.b (is.place, is.within, is.at)).0) in
+      elim (precedes-slot other bridge (a ∷ []) (address ∷ []) slot_other slot_bridge h) [
+        | inl less ↦ elim (not_before a other stop) [ inl up ↦ omega (arith, less, up) | inr (same, up) ↦ (let e = ap slot_number same in omega (arith, less, e)) ]
+        | inr (same, later) ↦ elim (precedes-cases a address [] [] later) [
+          | inl low ↦ elim (not_before a other stop) [ inl up ↦ (let e = ap slot_number same in omega (arith, e, up)) | inr (there, up) ↦ omega (arith, low, up) ]
+          | inr nothing ↦ no nothing.1
+        ]
+      ]
+
+module _ (roots : List ℕ) (s : System) (system : IsSystem s) (nested : IsNested roots s)
+    (slot : Slot) (register : ℕ) (space : Space) (address : ℕ) (bridge : Slot)
+    (least : IsLeastUnreached roots s slot register space address bridge) where
   none_before_unreached : (t : Slot) (r : ℕ) (sp : Space) (a : ℕ) (other : Slot) → IsUnreached roots s t r sp a other
       → precedes (judging_key (Unreached t r sp a other)) (judging_key (Unreached slot register space address bridge)) ≡ true → ⊥
   none_before_unreached t r sp a other u h =
+      let is = least.stop in
       let slot_t = subst IsSlot u.named.0 (slot_of s system u.f u.listed) in
       let slot_s = subst IsSlot is.named.0 (slot_of s system is.f is.listed) in
       let less_r = register_of-lt u.f u.part u.claims.there in
@@ -308,14 +319,17 @@ module _ (roots : List ℕ) (s : System) (system : IsSystem s) (nested : IsNeste
                   let number : region_number u.f.slot (register_of u.f u.part) ≡ region_number t r =
                   ap (λ (x : Slot). region_number x (register_of u.f u.part)) u.named.0 ∙ ap (λ k. region_number t k) u.named.1 in
                   passed_not_unreached roots s system nested t r sp a other u
-                  (is.lesser_regions u.f u.part sp a u.listed u.no_window (subst (λ k. k < region_number slot register) (sym number) less) u.claims)
-              | inr (same_slot, same_register, later) ↦ no_lesser_stop a other (stopped t r sp a other u same_slot same_register) later
+                  (least.lesser_regions u.f u.part sp a u.listed u.no_window (subst (λ k. k < region_number slot register) (sym number) less) u.claims)
+              | inr (same_slot, same_register, later) ↦
+                  let slot_other = subst IsSlot u.named_bridge (slot_of s system u.b (below_the_end roots s nested u.root u.bridges t.bus u.leads u.b u.on_the_way).0) in
+                  not_lesser roots s system nested slot register space address bridge is a other
+                  (stopped roots s system nested slot register space address bridge is t r sp a other u same_slot same_register) slot_other later
             ]
       ]
 
 pub least_unreached_is_first : LeastUnreachedIsFirst
 least_unreached_is_first roots s system nested slot register space address bridge is = record {
-  there = there roots s system nested slot register space address bridge is;
+  there = stop_is_there roots s system nested slot register space address bridge is.stop;
   first = λ other. elim other as (λ other.
       IsTrue (precedes (judging_key other) (judging_key (Unreached slot register space address bridge))) → IsIn roots s other → ⊥) [
         | Unreached t r sp a b ↦ λ before unreached. none_before_unreached roots s system nested slot register space address bridge is t r sp a b unreached before

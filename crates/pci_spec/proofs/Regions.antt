@@ -112,24 +112,31 @@ precedes-cases x y xs ys h = elim (or_cases (nat_lt x y) (x == y && precedes xs 
   | inr same ↦ (let parts = and_parts (x == y) (precedes xs ys) same in inr (eqb-true x y parts.0, parts.1))
 ]
 
+-- a slot in front of two keys
+pub precedes-slot : (s t : Slot) (xs ys : List ℕ) → IsSlot s → IsSlot t → precedes (slot_key s ++ xs) (slot_key t ++ ys) ≡ true
+    → (slot_number s < slot_number t) ⊎ ((s ≡ t) × (precedes xs ys ≡ true))
+precedes-slot s t xs ys hs ht h = elim (precedes-cases s.bus t.bus (s.device ∷ s.function ∷ xs) (t.device ∷ t.function ∷ ys) h) [
+  | inl less ↦ inl (omega (arith, less, hs, ht))
+  | inr (bus, h1) ↦ elim (precedes-cases s.device t.device (s.function ∷ xs) (t.function ∷ ys) h1) [
+    | inl less ↦ inl (omega (arith, bus, less, hs, ht))
+    | inr (device, h2) ↦ elim (precedes-cases s.function t.function xs ys h2) [
+      | inl less ↦ inl (omega (arith, bus, device, less, hs, ht))
+      | inr (function, h3) ↦ inr (slot_from s t bus device function, h3)
+    ]
+  ]
+]
+
 -- a slot and a register in front of two keys
 pub precedes-region : (s t : Slot) (r q : ℕ) (xs ys : List ℕ) → IsSlot s → IsSlot t → r < 256 → q < 256
     → precedes (slot_key s ++ r ∷ xs) (slot_key t ++ q ∷ ys) ≡ true
     → (region_number s r < region_number t q) ⊎ ((s ≡ t) × (r ≡ q) × (precedes xs ys ≡ true))
-precedes-region s t r q xs ys hs ht hr hq h =
-    elim (precedes-cases s.bus t.bus (s.device ∷ s.function ∷ r ∷ xs) (t.device ∷ t.function ∷ q ∷ ys) h) [
-      | inl less ↦ inl (omega (arith, less, hs, ht, hr, hq))
-      | inr (bus, h1) ↦ elim (precedes-cases s.device t.device (s.function ∷ r ∷ xs) (t.function ∷ q ∷ ys) h1) [
-        | inl less ↦ inl (omega (arith, bus, less, hs, ht, hr, hq))
-        | inr (device, h2) ↦ elim (precedes-cases s.function t.function (r ∷ xs) (q ∷ ys) h2) [
-          | inl less ↦ inl (omega (arith, bus, device, less, hs, ht, hr, hq))
-          | inr (function, h3) ↦ elim (precedes-cases r q xs ys h3) [
-            | inl less ↦ inl (omega (arith, bus, device, function, less, hs, ht, hr, hq))
-            | inr (register, h4) ↦ inr (slot_from s t bus device function, register, h4)
-          ]
-        ]
-      ]
-    ]
+precedes-region s t r q xs ys hs ht hr hq h = elim (precedes-slot s t (r ∷ xs) (q ∷ ys) hs ht h) [
+  | inl less ↦ inl (omega (arith, less, hr, hq))
+  | inr (slot, later) ↦ elim (precedes-cases r q xs ys later) [
+    | inl less ↦ inl (let e = ap slot_number slot in omega (arith, e, less))
+    | inr (register, rest) ↦ inr (slot, register, rest)
+  ]
+]
 
 -- the number of a region is its own
 pub region_number-same : (s t : Slot) (r q : ℕ) → IsSlot s → IsSlot t → r < 256 → q < 256 → region_number s r ≡ region_number t q → (s ≡ t) × (r ≡ q)

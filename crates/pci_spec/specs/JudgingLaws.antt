@@ -49,10 +49,10 @@ HomeWithoutUnreached =
 abbrev pub region_number : Slot → ℕ → ℕ
 region_number slot register = slot_number slot * 256 + register
 
--- Of the BARs and ROMs with an address that isn't passed all the way the least, with the first bridge on its way that
--- doesn't pass all of it, and the least address that this bridge doesn't pass.
-pub record IsLeastUnreached (roots : List ℕ) (s : System) (slot : Slot) (register : ℕ)
-    (space : Space) (address : ℕ) (bridge : Slot) : Type 0 where
+-- A BAR or ROM with an address that isn't passed all the way, the first bridge on its way that doesn't pass all of it,
+-- and the least address that this bridge doesn't pass.
+pub record IsFirstStop (roots : List ℕ) (s : System) (slot : Slot) (register : ℕ) (space : Space)
+    (address : ℕ) (bridge : Slot) : Type 0 where
   pub f : Function
   pub part : Part
   pub listed : Contains s f
@@ -69,17 +69,22 @@ pub record IsLeastUnreached (roots : List ℕ) (s : System) (slot : Slot) (regis
   pub at : slice_index_or bridges place b ≡ b
   pub named_bridge : b.slot ≡ bridge
   pub stops : passes space (is_prefetchable_part f part) address b ≡ false
-  -- lesser regions are passed all the way
-  pub lesser_regions : (g : Function) (q : Part) (sp : Space) (a : ℕ) → Contains s g
-      → is_window q ≡ false
-      → region_number g.slot (register_of g q) < region_number slot register → Claims g q sp a
-      → IsPassedTo roots s sp (is_prefetchable_part g q) a g.slot.bus
   -- the bridges before it pass the whole region
   pub earlier_bridges : (c : Function) → Contains (take place bridges) c → (a : ℕ)
       → Claims f part space a → passes space (is_prefetchable_part f part) a c ≡ true
   -- it passes the region's lower addresses
   pub lower_addresses : (a : ℕ) → a < address → Claims f part space a
       → passes space (is_prefetchable_part f part) a b ≡ true
+
+-- Of such regions the least.
+pub record IsLeastUnreached (roots : List ℕ) (s : System) (slot : Slot) (register : ℕ)
+    (space : Space) (address : ℕ) (bridge : Slot) : Type 0 where
+  pub stop : IsFirstStop roots s slot register space address bridge
+  -- lesser regions are passed all the way
+  pub lesser_regions : (g : Function) (q : Part) (sp : Space) (a : ℕ) → Contains s g
+      → is_window q ≡ false
+      → region_number g.slot (register_of g q) < region_number slot register → Claims g q sp a
+      → IsPassedTo roots s sp (is_prefetchable_part g q) a g.slot.bus
 
 -- Where every region is reached: on the lowest bus with a clash, in I/O before memory, at the least address, the two least regions.
 pub record IsLeastClash (roots : List ℕ) (s : System) (bus : ℕ) (space : Space) (address : ℕ)

@@ -15,10 +15,10 @@ pub returns-in-Io : goal.returns-in-Io
 returns-in-Io g c =
     found_in_io c.args.outline.now c.args.reached.now c.requires.reached c.requires.nested c.args.bus c.args.io.now c.args.memory.now c.requires.io c.requires.memory
     c.in-Io.k c.index-io-k.result c.first_outside-in_io.result c.first_outside-in_memory.result c.unreached_at.result c.first_outside-in_io.ensures c.first_outside-in_memory.ensures
-    c.in-Io.ensures.0 c.in-Io.ensures.1 c.index-io-k.is c.unreached_at.ensures
+    c.in-Io.ensures.0 c.in-Io.ensures.1 c.index-io-k.is c.unreached_at.ensures.fault
 
 pub returns-in-Memory : goal.returns-in-Memory
 returns-in-Memory g c =
     found_in_memory c.args.outline.now c.args.reached.now c.requires.reached c.requires.nested c.args.bus c.args.io.now c.args.memory.now c.requires.io c.requires.memory
     c.in-Memory.k c.index-memory-k.result c.first_outside-in_io.result c.first_outside-in_memory.result c.unreached_at-in-Memory.result c.first_outside-in_io.ensures c.first_outside-in_memory.ensures
-    c.in-Memory.ensures.0 c.in-Memory.ensures.1 c.index-memory-k.is c.unreached_at-in-Memory.ensures
+    c.in-Memory.ensures.0 c.in-Memory.ensures.1 c.index-memory-k.is c.unreached_at-in-Memory.ensures.fault
