@@ -26,7 +26,7 @@ pub gets_of_passed : (roots : List ℕ) (s : System) (space : Space) (a bus : �
 gets_of_passed roots s Io a bus h = h
 gets_of_passed roots s Memory a bus h = h
 
-passed_of_gets : (roots : List ℕ) (s : System) (space : Space) (a bus : ℕ) → Gets roots s space a bus → IsPassedTo roots s space true a bus
+pub passed_of_gets : (roots : List ℕ) (s : System) (space : Space) (a bus : ℕ) → Gets roots s space a bus → IsPassedTo roots s space true a bus
 passed_of_gets roots s Io a bus h = h
 passed_of_gets roots s Memory a bus h = h
 

@@ -63,7 +63,7 @@ module _ (t : Tree) (reaches : Reaches) (reached : AreReachesOf t reaches) (nest
   -- ---- the regions of a bus
 
   -- a region that is reached is passed on to its bus
-  passed_on : (s : System) → HasTree t s → (bus : ℕ) → bus < 256 → (space : Space) (f : Function) (p : Part) (r : Region) (a : ℕ) → IsRegionOf f p space r → is_window p ≡ false
+  pub passed_on : (s : System) → HasTree t s → (bus : ℕ) → bus < 256 → (space : Space) (f : Function) (p : Part) (r : Region) (a : ℕ) → IsRegionOf f p space r → is_window p ≡ false
       → IsReachedAt reaches space bus r → Claims f p space a → IsPassedTo t.roots s space (is_prefetchable_part f p) a bus
   passed_on s tree bus small space f p r a is no_window at claims =
       let covered = at (ap is_of_window is.named ∙ sym (window_named p) ∙ no_window) a ((is.claims a).1 claims) in

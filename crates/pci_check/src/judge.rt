@@ -50,7 +50,9 @@ pub fn judge<A: Allocator + Copy>(
     alloc: A,
     outline: &Outline<A>,
 ) -> Result<Option<Fault>, OutOfMemory>
-    ensures { IfOk result (λ o. IsJudgement outline.now o) }
+    ensures judgement { IfOk result (λ o. IsJudgement outline.now o) }
+    // so a caller who is told None knows at once that a list of all faults is empty
+    ensures nested { IfOk result (λ o. AlwaysNested outline.now) }
 {
     let roots = outline.roots();
     let reached = Reached::of(outline)?;

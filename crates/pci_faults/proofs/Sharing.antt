@@ -8,11 +8,11 @@ use Rattle.std.proofs.lemmas.List.Quantifiers.{all_pairs_push}
 use Rattle.pci_base.specs.declared.range.Range.{Range}
 use Rattle.pci_tree.specs.declared.region.Region.{Region}
 use Rattle.pci_tree.specs.Ranges.{Covers, IsLeastFrom}
-use Rattle.pci_faults.specs.declared.shares.Apart.{Apart}
+use Rattle.pci_faults.specs.declared.shares.Among.{Among}
 use Rattle.pci_faults.specs.declared.shares.Share.{Share}
 use Rattle.pci_faults.specs.declared.owners.Found.{Found}
 use Rattle.pci_faults.specs.Owners.{Ranges, Owns, Holds, IsFirstOwned, IsAdded}
-use Rattle.pci_faults.specs.Shares.{SpansAt, GroupsRise, IsShared, IsLeastShared, IsTaken, AreOwned, AreLesser, AreSharesBelow, group_at}
+use Rattle.pci_faults.specs.Shares.{SpansAt, GroupsRise, IsShared, IsLeastShared, IsTaken, AreOwned, AreLesser, AreSharesBelow, AreBefore}
 
 -- what is known of an element at one default is known at each
 at_each : (P : Region → Type 0) (regions : List Region) (k : ℕ) (z : Region) → k < length regions → P (get_or regions k z) → HoldsAt P regions k
@@ -94,7 +94,7 @@ module _ (regions : List Region) (allowed : List Range) where
 
   -- ---- what a region shares with them
 
-  module _ (by : Apart) (n i : ℕ) (ranges : Ranges) (z : Region) (first : ℕ) (within : i < length regions) (lesser : AreLesser n i by regions) (owned : AreOwned n regions allowed ranges)
+  module _ (by : Among) (n i : ℕ) (ranges : Ranges) (z : Region) (first : ℕ) (within : i < length regions) (lesser : AreLesser n i by regions) (owned : AreOwned n regions allowed ranges)
       (least : IsLeastFrom allowed (get_or regions i z).first first) where
     -- an address that it shares has an owner, which isn't behind the one that shares it
     owner_of : (a k : ℕ) → IsShared by regions allowed a k i → (j : ℕ) × Owns ranges a j × (j ≤ k) × (first ≤ a) × (a ≤ (get_or regions i z).last)
@@ -154,21 +154,17 @@ module _ (regions : List Region) (allowed : List Range) where
             ];
       }
 
--- the first so many are of lesser groups than each from a place on
-abbrev pub AreBefore : ℕ → ℕ → Apart → List Region → Type 0
-AreBefore n i by regions = (k j : ℕ) → k < n → i ≤ j → j < length regions → group_at by regions k < group_at by regions j
-
-pub none_before : (i : ℕ) (by : Apart) (regions : List Region) → AreBefore 0 i by regions
+pub none_before : (i : ℕ) (by : Among) (regions : List Region) → AreBefore 0 i by regions
 none_before i by regions k j less from within = absurd (let none : ⊥ = omega (arith, less) in none)
 
-pub still_before : (n i : ℕ) (by : Apart) (regions : List Region) → GroupsRise by regions → AreLesser n i by regions → AreBefore n (i + 1) by regions
+pub still_before : (n i : ℕ) (by : Among) (regions : List Region) → GroupsRise by regions → AreLesser n i by regions → AreBefore n (i + 1) by regions
 still_before n i by regions rise lesser k j less from within =
     let low = lesser.lesser k less in let up = rise i j (omega (arith, from)) within in omega (arith, low, up)
 
 -- ---- the list of what is shared
 
 -- of one region there is one
-one_share : (by : Apart) (regions : List Region) (allowed : List Range) (s t : Share) → s.second ≡ t.second
+one_share : (by : Among) (regions : List Region) (allowed : List Range) (s t : Share) → s.second ≡ t.second
     → IsLeastShared by regions allowed s → IsLeastShared by regions allowed t → s ≡ t
 one_share by regions allowed s t same of_s of_t =
     let one = of_s.least t.address t.first (subst (λ m. IsShared by regions allowed t.address t.first m) (sym same) of_t.there) in
@@ -188,7 +184,7 @@ one_share by regions allowed s t same of_s of_t =
     ∙ ap (λ k. record { address = t.address; first = k; second = s.second }) first
     ∙ ap (λ k. record { address = t.address; first = t.first; second = k }) same
 
-module _ (i : ℕ) (by : Apart) (regions : List Region) (allowed : List Range) (shares : List Share) (below : AreSharesBelow i by regions allowed shares) where
+module _ (i : ℕ) (by : Among) (regions : List Region) (allowed : List Range) (shares : List Share) (below : AreSharesBelow i by regions allowed shares) where
   pub share_none : ((a first : ℕ) → IsShared by regions allowed a first i → ⊥) → AreSharesBelow (i + 1) by regions allowed shares
   share_none none = record {
     each = λ s has. (let was = below.each s has in let low = was.0 in (omega (arith, low), was.1));
@@ -234,10 +230,10 @@ module _ (regions : List Region) (allowed : List Range) (n : ℕ) (x : Region) (
       → AreOwned n regions allowed ranges → AreOwned (n + 1) regions allowed ranges
   one_without_read ranges none was = one_without regions allowed n ranges (unclaimed none) was
 
-  pub none_claimed : (by : Apart) → ((a : ℕ) → x.first ≤ a → a ≤ x.last → Covers allowed a → ⊥) → (a k : ℕ) → IsShared by regions allowed a k n → ⊥
+  pub none_claimed : (by : Among) → ((a : ℕ) → x.first ≤ a → a ≤ x.last → Covers allowed a → ⊥) → (a k : ℕ) → IsShared by regions allowed a k n → ⊥
   none_claimed by none a k shared = unclaimed none a shared.covered shared.claims_second
 
-  module _ (by : Apart) (m : ℕ) (ranges : Ranges) (range : Range) (lesser : AreLesser m n by regions) (owned : AreOwned m regions allowed ranges)
+  module _ (by : Among) (m : ℕ) (ranges : Ranges) (range : Range) (lesser : AreLesser m n by regions) (owned : AreOwned m regions allowed ranges)
       (opened : (range.first ≤ range.last) × IsLeastFrom allowed x.first range.first × (range.last ≡ x.last)) where
     abbrev least_read : IsLeastFrom allowed (get_or regions n x).first range.first
     least_read = subst (λ (y : Region). IsLeastFrom allowed y.first range.first) is opened.1
@@ -253,9 +249,13 @@ module _ (regions : List Region) (allowed : List Range) (n : ℕ) (x : Region) (
         → IsLeastShared by regions allowed (record { address = f.address; first = f.owner; second = n })
     found_read f found up = found_least regions allowed by m n ranges x range.first within lesser owned least_read f found (let e = last_read in omega (arith, e, up))
 
-pub no_shares : (by : Apart) (regions : List Region) (allowed : List Range) → AreSharesBelow 0 by regions allowed []
+pub no_shares : (by : Among) (regions : List Region) (allowed : List Range) → AreSharesBelow 0 by regions allowed []
 no_shares by regions allowed = record {
   each = λ s (k, less, is). absurd (let none : ⊥ = omega (arith, less) in none);
   complete = λ s less. absurd (let none : ⊥ = omega (arith, less) in none);
   rising = λ j k d up less. absurd (let none : ⊥ = omega (arith, less) in none);
 }
+
+-- a region that owns an address is one of the first so many
+pub owner_below : (n : ℕ) (regions : List Region) (allowed : List Range) (ranges : Ranges) (first : ℕ) (f : Found) → AreOwned n regions allowed ranges → IsFirstOwned ranges first f → f.owner < n
+owner_below n regions allowed ranges first f owned found = let some : f.address ≤ f.last = found.some in (owned.sound f.address f.owner (found.owned f.address (omega arith) some)).0

@@ -1,2 +1,4 @@
+pub mod Lines
+pub mod Order
 pub mod Owners
 pub mod Shares

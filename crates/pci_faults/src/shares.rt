@@ -1,8 +1,8 @@
 //! Of regions by slot and register: the least address that each shares with one before it, and with which.
-ghost use Rattle.std.specs.Prelude.{◌≡◌, ◌<◌, ◌≤◌, ℕ, length, IfOk, OnOk, MatchOption};
+ghost use Rattle.std.specs.Prelude.{◌≡◌, ◌<◌, ◌≤◌, ℕ, length, IfOk, IfSome, OnOk, MatchOption};
 ghost use Rattle.pci_tree.specs.Ranges.{Covers, IsCanonical, IsLeastFrom};
-ghost use Rattle.pci_faults.specs.Shares.{group_at, GroupsRise, IsShared, IsLeastShared, AreShares, AreOwned, AreLesser};
-ghost use Rattle.pci_faults.specs.declared.shares.Apart.{Apart as ApartValue};
+ghost use Rattle.pci_faults.specs.Shares.{group_at, GroupsRise, IsShared, IsLeastShared, AreShares, AreOwned, AreBefore, AreLesser, AreWithin};
+ghost use Rattle.pci_faults.specs.declared.shares.Among.{Among as AmongValue};
 
 use super::owners::Owners;
 use pci_base::memory::OutOfMemory;
@@ -11,13 +11,13 @@ use pci_tree::ranges::least_from;
 use pci_tree::region::Region;
 use std::alloc::Allocator;
 
-/// Which regions count as apart, so that an address which both claim is told.
+/// Among which regions one looks for two that claim an address.
 #[derive(Clone, Copy, Debug, PartialEq, Eq)]
-pub enum Apart {
-    /// Any two.
-    Regions,
-    /// Two on different buses.
-    Buses,
+pub enum Among {
+    /// Those of a bus: any two of them.
+    Bus(u8),
+    /// Those of the root buses: two on different buses.
+    Roots,
 }
 
 /// The least address that a region shares with one before it, and the least that claims this address. Both are
@@ -30,13 +30,13 @@ pub struct Share {
 }
 
 /// The group of the region at an index: regions of two groups are apart.
-fn group(regions: &[Region], k: usize, by: Apart) -> usize
+fn group(regions: &[Region], k: usize, by: Among) -> usize
     requires { k < length regions.now }
     ensures { result ≡ group_at by regions.now k }
 {
     match by {
-        Apart::Regions => k,
-        Apart::Buses => usize::from(regions[k].slot.bus()),
+        Among::Bus(_) => k,
+        Among::Roots => usize::from(regions[k].slot.bus()),
     }
 }
 
@@ -64,18 +64,17 @@ fn add_lesser<A: Allocator + Copy>(
     owners: &mut Owners<A>,
     regions: &[Region],
     allowed: &[Range],
-    by: Apart,
+    by: Among,
     added: usize,
     i: usize,
 ) -> Result<usize, OutOfMemory>
     requires canonical { IsCanonical allowed.now }
-    requires rise { GroupsRise by regions.now }
     requires index { i < length regions.now }
     requires within { added ≤ i }
-    requires lesser { (k : ℕ) → k < added → group_at by regions.now k < group_at by regions.now i }
     requires owned { AreOwned added regions.now allowed.now owners.old }
-    ensures { IfOk result (λ n. AreLesser n i by regions.now
-        × AreOwned n regions.now allowed.now owners.new) }
+    ensures { IfOk result (λ n. (n ≤ i) × AreOwned n regions.now allowed.now owners.new
+        × (GroupsRise by regions.now → AreBefore added i by regions.now
+        → AreLesser n i by regions.now)) }
 {
     let mut n = added;
     while n < i && group(regions, n, by) < group(regions, i, by) {
@@ -96,7 +95,9 @@ fn share_at<A: Allocator + Copy>(
 ) -> Option<Share>
     requires canonical { IsCanonical allowed.now }
     requires index { i < length regions.now }
-    ensures { (by : ApartValue) (n : ℕ) → AreLesser n i by regions.now
+    ensures within { (n : ℕ) → n ≤ i → AreOwned n regions.now allowed.now owners.now
+        → IfSome result (λ s. (s.first < s.second) × (s.second ≡ i)) }
+    ensures least { (by : AmongValue) (n : ℕ) → AreLesser n i by regions.now
         → AreOwned n regions.now allowed.now owners.now
         → MatchOption result
         ((a first : ℕ) → IsShared by regions.now allowed.now a first i → ⊥)
@@ -121,11 +122,13 @@ pub fn shares<A: Allocator + Copy>(
     alloc: A,
     regions: &[Region],
     allowed: &[Range],
-    by: Apart,
+    by: Among,
 ) -> Result<Vec<Share, A>, OutOfMemory>
     requires canonical { IsCanonical allowed.now }
-    requires rise { GroupsRise by regions.now }
-    ensures { IfOk result (λ out. AreShares by regions.now allowed.now out.items) }
+    ensures within { IfOk result (λ out. AreWithin (length regions.now) out.items) }
+    // what the order of the regions is, a caller knows of each system that has them
+    ensures exact { IfOk result (λ out. GroupsRise by regions.now
+        → AreShares by regions.now allowed.now out.items) }
 {
     let mut out = Vec::new(alloc);
     let mut owners = Owners::new(alloc);

@@ -159,12 +159,12 @@ module _ (roots : List ℕ) (s : System) (system : IsSystem s) (nested : IsNeste
   same_function : (space : Space) (a : ℕ) (bridge : Slot) (u : IsUnreached roots s f.slot (register_of f part) space a bridge) → u.f ≡ f
   same_function space a bridge u = one_function s system u.f f u.listed listed (ap slot_number u.named.0)
 
-  same_part : (space : Space) (a : ℕ) (bridge : Slot) (u : IsUnreached roots s f.slot (register_of f part) space a bridge) → u.part ≡ part
+  pub same_part : (space : Space) (a : ℕ) (bridge : Slot) (u : IsUnreached roots s f.slot (register_of f part) space a bridge) → u.part ≡ part
   same_part space a bridge u =
       part_same f u.part part (subst (λ (g : Function). IsTrue (has_part g u.part)) (same_function space a bridge u) u.claims.there) there
       (ap (λ (g : Function). register_of g u.part) (sym (same_function space a bridge u)) ∙ u.named.1)
 
-  home_not_unreached : IsPartHome roots s f part → IsNotUnreached roots s f.slot (register_of f part)
+  pub home_not_unreached : IsPartHome roots s f part → IsNotUnreached roots s f.slot (register_of f part)
   home_not_unreached home space a bridge line =
       let u = line.there in
       let function = same_function space a bridge u in
@@ -220,7 +220,7 @@ single_without_seconds roots s system = record {
 }
 
 -- no fault is in the list where none is there
-none_listed : (roots : List ℕ) (s : System) → HasNoUnreached roots s → HasNoClash roots s → HasNoSplit roots s → (fault : Fault) → IsNamed roots s fault → ⊥
+pub none_listed : (roots : List ℕ) (s : System) → HasNoUnreached roots s → HasNoClash roots s → HasNoSplit roots s → (fault : Fault) → IsNamed roots s fault → ⊥
 none_listed roots s reached apart together fault = elim fault as (λ (fault : Fault). IsNamed roots s fault → ⊥) [
   | Unreached slot register space address bridge ↦ λ line. reached slot register space address bridge line.there
   | Clash bus space address first fr second sr ↦ λ line. apart bus space address first fr second sr line.there

@@ -17,10 +17,10 @@ use Rattle.pci_spec.proofs.AllFaults.{IsNotAfter, line_of_clash, line_of_split, 
 
 -- ---- keys
 
-less_precedes : (x y : ℕ) (xs ys : List ℕ) → x < y → precedes (x ∷ xs) (y ∷ ys) ≡ true
+pub less_precedes : (x y : ℕ) (xs ys : List ℕ) → x < y → precedes (x ∷ xs) (y ∷ ys) ≡ true
 less_precedes x y xs ys less = search arith
 
-same_precedes : (x y : ℕ) (xs ys : List ℕ) → x ≡ y → precedes xs ys ≡ true → precedes (x ∷ xs) (y ∷ ys) ≡ true
+pub same_precedes : (x y : ℕ) (xs ys : List ℕ) → x ≡ y → precedes xs ys ≡ true → precedes (x ∷ xs) (y ∷ ys) ≡ true
 same_precedes x y xs ys e h = search arith
 
 precedes-trans : (xs ys zs : List ℕ) → precedes xs ys ≡ true → precedes ys zs ≡ true → precedes xs zs ≡ true

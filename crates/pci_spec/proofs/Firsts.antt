@@ -52,7 +52,7 @@ lower_space Io Memory less = (refl, refl)
 lower_space Memory Io less = absurd (let impossible : ⊥ = omega (arith, less) in impossible)
 lower_space Memory Memory less = absurd (let impossible : ⊥ = omega (arith, less) in impossible)
 
-space_key-same : (sp space : Space) → space_key sp ≡ space_key space → sp ≡ space
+pub space_key-same : (sp space : Space) → space_key sp ≡ space_key space → sp ≡ space
 space_key-same Io Io e = refl
 space_key-same Io Memory e = absurd (let impossible : ⊥ = omega (arith, e) in impossible)
 space_key-same Memory Io e = absurd (let impossible : ⊥ = omega (arith, e) in impossible)
@@ -203,7 +203,7 @@ same_place : (bridges : List Function) (b c : Function) (at_b : Contains bridges
 same_place bridges b c at_b at_c e = sym at_b.2 ∙ ap (λ k. get_or bridges k b) e ∙ get_or_default bridges at_c.0 b c at_c.1 ∙ at_c.2
 
 -- the region of a function that has a slot and a register is one
-same_region : (s : System) → IsSystem s → (f g : Function) (p q : Part) (sp space : Space) (a e : ℕ) → Contains s f → Contains s g → f.slot ≡ g.slot → register_of f p ≡ register_of g q
+pub same_region : (s : System) → IsSystem s → (f g : Function) (p q : Part) (sp space : Space) (a e : ℕ) → Contains s f → Contains s g → f.slot ≡ g.slot → register_of f p ≡ register_of g q
     → Claims f p sp a → Claims g q space e → (f ≡ g) × (p ≡ q) × (sp ≡ space)
 same_region s system f g p q sp space a e in_f in_g slot register claims_f claims_g =
     let same : f ≡ g = one_function s system f g in_f in_g (ap slot_number slot) in

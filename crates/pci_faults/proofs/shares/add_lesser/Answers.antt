@@ -16,9 +16,9 @@ loop-n-preserved g c =
     let here : group_at c.args.by c.args.regions.now c.loop-n.n < group_at c.args.by c.args.regions.now c.args.i = omega (arith, group, other, less) in
     record {
       within = omega (arith, below);
-      lesser = λ k low. elim (cases_eq k c.loop-n.n) [
+      lesser = λ before k low. elim (cases_eq k c.loop-n.n) [
         | inl same ↦ subst (λ m. group_at c.args.by c.args.regions.now m < group_at c.args.by c.args.regions.now c.args.i) (sym same) here
-        | inr differ ↦ c.loop-n.invariant.lesser k (omega (arith, low, differ))
+        | inr differ ↦ c.loop-n.invariant.lesser before k (omega (arith, low, differ))
       ];
       owned = elim c.match-opened.branch [
         | in-Some+in_ok-add w ↦ subst (λ (o : Ranges). AreOwned (c.loop-n.n + 1) c.args.regions.now c.args.allowed.now o) (sym w.owners-is)

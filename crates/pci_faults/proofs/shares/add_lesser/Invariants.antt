@@ -1,11 +1,11 @@
 use Rattle.std.proofs.Common.{◌-◌, ◌<◌, ◌≤◌, ℕ}
-use Rattle.pci_faults.specs.Shares.{group_at, AreOwned}
+use Rattle.pci_faults.specs.Shares.{group_at, AreOwned, AreBefore}
 use Rattle.pci_faults.proofs.shares.add_lesser.Given as goal
 
 abbrev pub invariant-loop-n : goal.invariant-loop-n
 invariant-loop-n g l = record {
   within : l.n ≤ l.i;
-  lesser : (k : ℕ) → k < l.n → group_at l.by l.regions k < group_at l.by l.regions l.i;
+  lesser : AreBefore l.added l.i l.by l.regions → (k : ℕ) → k < l.n → group_at l.by l.regions k < group_at l.by l.regions l.i;
   owned : AreOwned l.n l.regions l.allowed l.owners;
 }
 

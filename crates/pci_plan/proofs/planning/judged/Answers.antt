@@ -8,7 +8,7 @@ use Rattle.pci_plan.proofs.planning.judged.Goals as goal
 
 pub returns-in-Ok : goal.returns-in-Ok
 returns-in-Ok g c =
-    judged_result (buses_of c.args.roots) c.args.admitted.now.roots c.args.dump.now c.args.admitted.now.probe c.probe.result.now c.in-Ok.outline c.requires.roots c.probe.ensures c.in-Ok.ensures c.judge.result c.judge.ensures
+    judged_result (buses_of c.args.roots) c.args.admitted.now.roots c.args.dump.now c.args.admitted.now.probe c.probe.result.now c.in-Ok.outline c.requires.roots c.probe.ensures c.in-Ok.ensures c.judge.result c.judge.ensures.judgement
 
 pub returns-in-Err-Fault : goal.returns-in-Err-Fault
 returns-in-Err-Fault g c =

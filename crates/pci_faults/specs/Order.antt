@@ -1,0 +1,25 @@
+-- The order in which judging looks for faults, as one number of each.
+use Rattle.std.specs.Prelude.{ℕ, ◌+◌, ◌*◌, ◌^◌}
+use Rattle.pci_spec.specs.Slot.{slot_number}
+use Rattle.pci_spec.specs.System.{Space}
+use Rattle.pci_spec.specs.Fault.{Fault, Unreached, Clash, Split}
+use Rattle.pci_spec.specs.Order.{space_key}
+use Rattle.pci_spec.specs.JudgingLaws.{region_number}
+
+-- a space and an address in it, below 2^65
+abbrev pub place_in : Space → ℕ → ℕ
+place_in space address = space_key space * 2 ^ 64 + address
+
+-- what judging looks for first has the least place
+abbrev pub place_of : Fault → ℕ
+place_of (Unreached slot register space address bridge) =
+    (region_number slot register * 2 ^ 16 + slot_number bridge) * 2 ^ 64 + address
+place_of (Clash bus space address first first_register second second_register) =
+    2 ^ 126
+    + ((bus * 2 ^ 65 + place_in space address) * 2 ^ 24 + region_number first first_register) * 2 ^ 24
+    + region_number second second_register
+place_of (Split space address first first_register second second_register) =
+    2 ^ 127
+    + (place_in space address * 2 ^ 24 + region_number first first_register) * 2 ^ 24
+    + region_number second second_register
+place_of fault = 0
