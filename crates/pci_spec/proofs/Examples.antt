@@ -31,3 +31,4 @@ pub mod ToldAlike
 pub mod TrueLines
 pub mod Sized
 pub mod AllFaults
+pub mod FaultLines

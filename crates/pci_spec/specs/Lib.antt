@@ -38,6 +38,7 @@ pub mod MachineLaws
 pub mod JudgingLaws
 pub mod AllFaults
 pub mod AllFaultsLaws
+pub mod FaultLines
 pub mod SoundLaws
 pub mod RecordLaws
 pub mod ProbeLaws
