@@ -3,8 +3,8 @@ ghost use Rattle.std.specs.Prelude.{◌≡◌, ◌+◌, ◌*◌, ◌%◌, ◌^�
 ghost use Rattle.pci_spec.specs.Decoded.{decoded_bars};
 ghost use Rattle.pci_spec.specs.Number.{number_at};
 ghost use Rattle.pci_spec.specs.Bar as bar;
-ghost use Rattle.pci_spec.specs.Bar.{bar_kind, bar_reading, first_broken, is_prefetchable, has_lawful_size, is_lawful, first_bit};
-ghost use Rattle.pci_spec.specs.Header.{bar_register};
+ghost use Rattle.pci_spec.specs.Bar.{bar_fault, bar_kind, bar_reading, first_broken, is_prefetchable, has_lawful_size, is_lawful, first_bit};
+ghost use Rattle.pci_spec.specs.Header.{bar_count, bar_register, layout};
 ghost use Rattle.pci_image.specs.Bars.{decoded_kind_of, decoded_bar_of, HasLawfulBars, IsBarFault, IsLowestBarFault, IsComparedBar, IsDecodedAt, IsPlaced, broken_encoding, broken_size};
 ghost use Rattle.pci_image.specs.Faults.{IsImageFaultIn, HasNoHeaderFaultBefore, image_fault_number};
 
@@ -247,6 +247,24 @@ fn decode_register(
         )?,
     };
     Ok(Some(bar))
+}
+
+/// The first rule that the BAR of register `n` breaks, where it starts one: 22 `BarType`, 23 `BarMask` or 24 `BarPair`.
+/// `count` is how many BAR registers the header has.
+pub fn bar_fault(image: &Image, probe: &Image, n: u8, count: u8) -> Option<ImageFault>
+    requires register { n < 6 }
+    // only the last register has none after it
+    requires count { count ≡ bar_count (layout image.now.0) }
+    ensures { MatchOption result (bar_fault image.now.0 probe.now.0 n ≡ None)
+        (IsBarFault (bar_register n) (bar_fault image.now.0 probe.now.0 n)) }
+{
+    if !starts_bar(probe, n) {
+        return None;
+    }
+    match decode_register(image, probe, n, n + 1 == count) {
+        Ok(_) => None,
+        Err(fault) => Some(fault),
+    }
 }
 
 /// The implemented BARs of a function, in the order of their registers.

@@ -95,6 +95,18 @@ impl Window {
         }
         Ok(Some(Window::implemented(kind, image, probe)?))
     }
+
+    /// Whether the window of a kind breaks its rule, in a bridge.
+    pub fn breaks_rule(kind: WindowKind, image: &Image, probe: &Image) -> bool
+        ensures { result ≡ breaks_window_rule (kind_value kind) image.now.0 probe.now.0 }
+    {
+        match kind {
+            WindowKind::Memory => Window::implemented(kind, image, probe).is_err(),
+            WindowKind::Io | WindowKind::Prefetchable => {
+                Window::optional(kind, image, probe).is_err()
+            }
+        }
+    }
 }
 
 impl Windows {
