@@ -25,7 +25,7 @@ use Rattle.pci_function.proofs.FirstHere.{rest_of, before_here}
 
 -- ---- what the fault with this rest of a key says
 
-abbrev WalkIs : List ℕ → List ℕ → Type 0
+abbrev pub WalkIs : List ℕ → List ℕ → Type 0
 WalkIs image ys =
     (place : ℕ) × (((ys ≡ step_after 0 image place ∷ 0 ∷ []) × HasLowPlace image place)
     ⊎ (((ys ≡ step_after 1 image place ∷ 1 ∷ []) × ComesTwiceTo image place) ⊎ ((ys ≡ step_after 0 image place ∷ 2 ∷ []) × HasCutBody image place)))
@@ -233,40 +233,71 @@ first_of_list f e n place step kind key fine at = first_of_decoding f e (3 ∷ s
 few_steps : (image : List ℕ) (n : ℕ) → IsChainUpTo image n → n < longest_walk + 1
 few_steps image n up_to = let few = places-at_most_48 image n up_to.in_range up_to.distinct in omega (arith, few)
 
+range_step : (image : List ℕ) (n place : ℕ) → IsChainUpTo image n → pointer image n ≡ place → IsStep image n place (step_after 0 image place) 0
+range_step image n place up_to here = record {
+  up_to = up_to;
+  here = here;
+  soon = met_by image place n (few_steps image n up_to) here;
+  some_kind = omega arith;
+  high = λ more. absurd (let no : ⊥ = omega (arith, more) in no);
+  fresh = λ more. absurd (let no : ⊥ = omega (arith, more) in no);
+}
+
+cut_step : (image : List ℕ) (n place : ℕ) → IsChainUpTo image n → pointer image n ≡ place → 0x40 ≤ place → ((k : ℕ) → k < n → pointer image k ≢ place)
+    → IsStep image n place (step_after 0 image place) 2
+cut_step image n place up_to here high fresh = record {
+  up_to = up_to;
+  here = here;
+  soon = met_by image place n (few_steps image n up_to) here;
+  some_kind = omega arith;
+  high = λ more. high;
+  fresh = λ more. fresh;
+}
+
+loop_step : (image : List ℕ) (m n place : ℕ) → IsChainUpTo image n → m < n → pointer image m ≡ place → pointer image n ≡ place → 0x40 ≤ place
+    → IsStep image n place (step_after 1 image place) 1
+loop_step image m n place up_to less before here high = record {
+  up_to = up_to;
+  here = here;
+  soon = met_again_by image place m n less (few_steps image n up_to) before here;
+  some_kind = omega arith;
+  high = λ more. high;
+  fresh = λ more. absurd (let no : ⊥ = omega (arith, more) in no);
+}
+
 pub first_cap_range : (f : Function) (n place : ℕ) → AreRegistersFine f → IsChainUpTo f.image n → pointer f.image n ≡ place → IsFirstOf 2 f (CapRange f.slot place)
 first_cap_range f n place fine up_to here =
-    first_of_list f (CapRange f.slot place) n place (step_after 0 f.image place) 0 refl fine record {
-      up_to = up_to;
-      here = here;
-      soon = met_by f.image place n (few_steps f.image n up_to) here;
-      some_kind = omega arith;
-      high = λ more. absurd (let no : ⊥ = omega (arith, more) in no);
-      fresh = λ more. absurd (let no : ⊥ = omega (arith, more) in no);
-    }
+    first_of_list f (CapRange f.slot place) n place (step_after 0 f.image place) 0 refl fine (range_step f.image n place up_to here)
 
 pub first_cap_cut : (f : Function) (n place : ℕ) → AreRegistersFine f → IsChainUpTo f.image n → pointer f.image n ≡ place → 0x40 ≤ place
     → ((k : ℕ) → k < n → pointer f.image k ≢ place) → IsFirstOf 2 f (CapCut f.slot place)
 first_cap_cut f n place fine up_to here high fresh =
-    first_of_list f (CapCut f.slot place) n place (step_after 0 f.image place) 2 refl fine record {
-      up_to = up_to;
-      here = here;
-      soon = met_by f.image place n (few_steps f.image n up_to) here;
-      some_kind = omega arith;
-      high = λ more. high;
-      fresh = λ more. fresh;
-    }
+    first_of_list f (CapCut f.slot place) n place (step_after 0 f.image place) 2 refl fine (cut_step f.image n place up_to here high fresh)
 
 pub first_cap_loop : (f : Function) (m n place : ℕ) → AreRegistersFine f → IsChainUpTo f.image n → m < n → pointer f.image m ≡ place → pointer f.image n ≡ place → 0x40 ≤ place
     → IsFirstOf 2 f (CapLoop f.slot place)
 first_cap_loop f m n place fine up_to less before here high =
-    first_of_list f (CapLoop f.slot place) n place (step_after 1 f.image place) 1 refl fine record {
-      up_to = up_to;
-      here = here;
-      soon = met_again_by f.image place m n less (few_steps f.image n up_to) before here;
-      some_kind = omega arith;
-      high = λ more. high;
-      fresh = λ more. absurd (let no : ⊥ = omega (arith, more) in no);
-    }
+    first_of_list f (CapLoop f.slot place) n place (step_after 1 f.image place) 1 refl fine (loop_step f.image m n place up_to less before here high)
+
+-- whatever its registers are, none of the list is before the first along it, which the walk comes to among the first 48 steps
+pub record IsFirstStep (image : List ℕ) (step kind : ℕ) : Type 0 where
+  pub soon : step ≤ 48
+  pub first : (xs : List ℕ) → WalkIs image xs → precedes xs (step ∷ kind ∷ []) ≡ true → ⊥
+
+first_step : (image : List ℕ) (n place step kind : ℕ) → IsStep image n place step kind → IsFirstStep image step kind
+first_step image n place step kind at = record {
+  soon = (let soon = at.soon in let most = few image n place step kind at in omega (arith, soon, most));
+  first = λ xs is before. walk_before image n place step kind at xs is before;
+}
+
+pub first_range : (image : List ℕ) (place : ℕ) → IsFirstAlong image (images.CapRange place) → IsFirstStep image (step_after 0 image place) 0
+first_range image place (n, up_to, here) = first_step image n place (step_after 0 image place) 0 (range_step image n place up_to here)
+
+pub first_loop : (image : List ℕ) (place : ℕ) → IsFirstAlong image (images.CapLoop place) → IsFirstStep image (step_after 1 image place) 1
+first_loop image place (m, n, less, up_to, before, here, high) = first_step image n place (step_after 1 image place) 1 (loop_step image m n place up_to less before here high)
+
+pub first_cut : (image : List ℕ) (place : ℕ) → IsFirstAlong image (images.CapCut place) → IsFirstStep image (step_after 0 image place) 2
+first_cut image place (n, up_to, here, high, fresh) = first_step image n place (step_after 0 image place) 2 (cut_step image n place up_to here high fresh)
 
 -- ---- faults of an image
 

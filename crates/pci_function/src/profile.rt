@@ -3,7 +3,7 @@ ghost use Rattle.std.specs.Prelude.{◌≡◌, ◌+◌, ◌≤◌, ◌↔◌, �
 ghost use Rattle.pci_spec.specs.Number.{has_bit};
 ghost use Rattle.pci_spec.specs.Header.{command};
 ghost use Rattle.pci_spec.specs.Capability.{body_length, IsChain};
-ghost use Rattle.pci_spec.specs.Fault.{IsNotInD0, IsNotInD0At};
+ghost use Rattle.pci_spec.specs.Fault.{controls_bridge, is_subtractive_bridge, IsNotInD0, IsNotInD0At};
 ghost use Rattle.pci_spec.specs.Order.{phase_key, Identity, Profile};
 ghost use Rattle.pci_function.specs.Fault.{fault_of};
 ghost use Rattle.pci_function.specs.Profile.{IsAnswering, IsPlainBridge, IsPlain, IsHereIn, IsFirstOf};
@@ -20,12 +20,14 @@ use pci_image::header::{NO_VENDOR, class_code, layout};
 const PALETTE_SNOOP: u8 = 5;
 /// The Class Code of a bridge that decodes subtractively (PCI 3.0, 6.2.1).
 const SUBTRACTIVE: u32 = 0x06_0401;
-/// Bit numbers in Bridge Control (Bridge 1.2, 3.2.5).
-const ISA_ENABLE: u8 = 2;
+/// The bit number of ISA Enable in Bridge Control (Bridge 1.2, 3.2.5).
+pub const ISA_ENABLE: u8 = 2;
 
-const VGA_ENABLE: u8 = 3;
+/// The bit number of VGA Enable in Bridge Control (Bridge 1.2, 3.2.5).
+pub const VGA_ENABLE: u8 = 3;
 
-const SECONDARY_BUS_RESET: u8 = 6;
+/// The bit number of Secondary Bus Reset in Bridge Control (Bridge 1.2, 3.2.5).
+pub const SECONDARY_BUS_RESET: u8 = 6;
 
 /// Whether a register has a bit.
 fn has_bit(register: u16, bit: u8) -> bool
@@ -33,6 +35,28 @@ fn has_bit(register: u16, bit: u8) -> bool
     ensures { result ≡ has_bit register bit }
 {
     register >> bit & 1 == 1
+}
+
+/// Whether Command enables VGA palette snooping (PCI 3.0, 6.2.2).
+pub fn snoops_palette(image: &Image) -> bool
+    ensures { result ≡ has_bit (command image.now.0) PALETTE_SNOOP }
+{
+    has_bit(image.u16(COMMAND), PALETTE_SNOOP)
+}
+
+/// Whether a function is a bridge whose Bridge Control has a bit (Bridge 1.2, 3.2.5).
+pub fn controls_bridge(image: &Image, bit: u8) -> bool
+    requires { bit ≤ 15 }
+    ensures { result ≡ controls_bridge image.now.0 bit }
+{
+    layout(image) == 1 && has_bit(image.u16(BRIDGE_CONTROL), bit)
+}
+
+/// Whether a function is a bridge that takes what nothing else claims, by its Class Code (PCI 3.0, 6.2.1).
+pub fn is_subtractive_bridge(image: &Image) -> bool
+    ensures { result ≡ is_subtractive_bridge image.now.0 }
+{
+    layout(image) == 1 && class_code(image) == SUBTRACTIVE
 }
 
 /// The fault of a function's identity or probe: 20 `NoVendor`, else 21 `HeaderKind`, else 31 `StrayProbe` with the
@@ -106,7 +130,7 @@ fn is_not_in_d0_at(image: &Image, place: u8) -> bool
 }
 
 /// Whether one of the capabilities of a function shows another power state than D0.
-fn is_not_in_d0(image: &Image, places: &[u8]) -> bool
+pub fn is_not_in_d0(image: &Image, places: &[u8]) -> bool
     requires { IsChain image.now.0 places.now }
     ensures { IsTrue result ↔ IsNotInD0 image.now.0 }
 {
@@ -132,7 +156,7 @@ pub fn profile_fault(slot: Slot, image: &Image, probe: &Image, places: &[u8]) ->
       probe = probe.now.0;
     } (fault_of e)) }
 {
-    if has_bit(image.u16(COMMAND), PALETTE_SNOOP) {
+    if snoops_palette(image) {
         return Some(Fault::PaletteSnoop(slot));
     }
     match bridge_fault(slot, image, probe) {
