@@ -86,10 +86,10 @@ place_phase roots rs r _ is = absurd is
 -- ---- no fault of places before it
 
 module _ (roots : List ℕ) (s : System) (rs : List Record) (faces : HaveFaces s rs) where
-  not_lone : (slot : Slot) → IsNotLone rs slot → IsIn roots s (LoneFunction slot) → ⊥
+  pub not_lone : (slot : Slot) → IsNotLone rs slot → IsIn roots s (LoneFunction slot) → ⊥
   not_lone slot beside (f, listed, same, (above, lone)) = both_ways (has_function_zero s slot) (not-true _ lone) (zero_function s rs slot faces (beside above))
 
-  not_orphan : (slot : Slot) → IsLedTo roots rs slot.bus → IsIn roots s (Orphan slot) → ⊥
+  pub not_orphan : (slot : Slot) → IsLedTo roots rs slot.bus → IsIn roots s (Orphan slot) → ⊥
   not_orphan slot led (f, listed, same, un) = both_ways (is_led_to roots s slot.bus) (not-true _ un) (led_function roots s rs slot.bus faces led)
 
   -- none of a function whose records are in their place

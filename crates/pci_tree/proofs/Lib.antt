@@ -21,6 +21,7 @@ pub mod Shadows
 pub mod FirstPlaces
 pub mod FirstAmong
 pub mod FirstPlaced
+pub mod Misplacing
 pub mod Finishes
 pub mod Pairings
 pub mod Surveys

@@ -55,7 +55,7 @@ zero_record s rs slot faces h =
 -- ---- faults
 
 -- a function with another function number than 0 and no function 0 beside it is lone in the system
-lone_in : (s : System) (rs : List Record) (slot : Slot) → HaveFaces s rs → (IsNotLone rs slot → ⊥) → (0 < slot.function) × (not (has_function_zero s slot) ≡ true)
+pub lone_in : (s : System) (rs : List Record) (slot : Slot) → HaveFaces s rs → (IsNotLone rs slot → ⊥) → (0 < slot.function) × (not (has_function_zero s slot) ≡ true)
 lone_in s rs slot faces lone = (
   elim (cases_lt 0 slot.function) [
     | inl lt ↦ lt
@@ -68,14 +68,14 @@ lone_in s rs slot faces lone = (
 )
 
 -- a bus that no bridge of the records leads to is one that no bridge of the system does
-orphan_in : (roots : List ℕ) (s : System) (rs : List Record) (bus : ℕ) → HaveFaces s rs → (IsLedTo roots rs bus → ⊥) → not (is_led_to roots s bus) ≡ true
+pub orphan_in : (roots : List ℕ) (s : System) (rs : List Record) (bus : ℕ) → HaveFaces s rs → (IsLedTo roots rs bus → ⊥) → not (is_led_to roots s bus) ≡ true
 orphan_in roots s rs bus faces off = elim (cases_Bool (is_led_to roots s bus)) [
   | inl led ↦ absurd (off (led_record roots s rs bus faces led))
   | inr un ↦ not_from_false (is_led_to roots s bus) un
 ]
 
 -- bus numbers that are unlawful in the records are so in the system
-buses_in : (roots : List ℕ) (s : System) (rs : List Record) (f : Function) (r : Record) (b : Bridge) → HaveFaces s rs → SameFace f r → Contains rs r → r.bridge ≡ Some b
+pub buses_in : (roots : List ℕ) (s : System) (rs : List Record) (f : Function) (r : Record) (b : Bridge) → HaveFaces s rs → SameFace f r → Contains rs r → r.bridge ≡ Some b
     → (HasLawfulBuses roots rs r.slot b → ⊥) → (is_bridge f && not (has_lawful_buses roots s f)) ≡ true
 buses_in roots s rs f r b faces face has some off =
     let n = face.numbers b some in

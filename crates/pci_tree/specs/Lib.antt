@@ -8,6 +8,7 @@ pub mod Outline
 pub mod Regions
 pub mod BusNumbers
 pub mod PlaceFaults
+pub mod Misplaced
 pub mod Admission
 pub mod Refusals
 pub mod Survey

@@ -1,13 +1,14 @@
 //! Whether functions stand in their places: function 0 is beside each other function of a device, a bridge leads to
 //! each bus that is no root, and the bus numbers of bridges fit (Bridge 1.2, 3.2.5).
-ghost use Rattle.std.specs.Prelude.{◌≡◌, ◌↔◌, ◌<◌, IsTrue, MatchOption};
+ghost use Rattle.std.specs.Prelude.{◌≡◌, ◌↔◌, ◌<◌, IsTrue, List, MatchOption};
 ghost use Rattle.std.specs.Option.{is_some};
 ghost use Rattle.std.specs.List.{All};
 ghost use Rattle.pci_spec.specs.Slot.{IsSlot};
 ghost use Rattle.pci_tree.specs.Roots.{buses_of};
 ghost use Rattle.pci_tree.specs.Outline.{RiseBySlot};
-ghost use Rattle.pci_tree.specs.BusNumbers.{HasBusOrder, HasNoBus, AreApart, ShareNoBus, AreSiblings, IsApartFrom, IsApartFromLower, IsApartFromEarlier, HasNoRootBehind, HasLawfulBuses, IsNotLone, IsInPlace, AreLeastEnds, least_of, EndsWithin};
+ghost use Rattle.pci_tree.specs.BusNumbers.{HasBusOrder, HasNoBus, AreApart, ShareNoBus, AreSiblings, IsApartFrom, IsApartFromLower, IsApartFromEarlier, HasNoRootBehind, HasLawfulBuses, IsNotLone, IsLedTo, IsInPlace, AreLeastEnds, least_of, EndsWithin};
 ghost use Rattle.pci_tree.specs.PlaceFaults.{IsPlaceFault, IsSomePlaceFault};
+ghost use Rattle.pci_tree.specs.Misplaced.{HasUnlawfulBuses, IsMisplacedBy};
 
 use super::bus::{has_slot, on_bus};
 use super::roots::Roots;
@@ -106,7 +107,7 @@ fn has_no_root_behind(roots: &Roots, bridge: &Bridge) -> bool
 }
 
 /// At each bus the least subordinate bus of the bridges that lead there.
-fn least_subordinates(records: &[Record]) -> [Option<u8>; BUSES]
+pub fn least_subordinates(records: &[Record]) -> [Option<u8>; BUSES]
     ensures { AreLeastEnds records.now result }
 {
     let mut table = [None; BUSES];
@@ -217,6 +218,64 @@ fn place_fault(
                 Some(Fault::BusRange(slot))
             }
         }
+    }
+}
+
+/// What is wrong with a function's place, each by itself.
+#[derive(Clone, Copy, Debug, PartialEq, Eq)]
+pub struct Misplaced {
+    /// 50 `LoneFunction`: function 0 of its device isn't beside it.
+    pub lone: bool,
+    /// 58 `Orphan`: its bus is no root, and no bridge leads there.
+    pub orphan: bool,
+    /// 57 `BusRange`: it is a bridge whose bus numbers don't fit.
+    pub bus_range: bool,
+}
+
+/// Whether a bus is a root, or a bridge leads to it.
+fn is_led_to(roots: &Roots, ends: &[Option<u8>; BUSES], bus: u8) -> bool
+    ensures { (records : List Record) → AreLeastEnds records ends.now
+        → (IsTrue result ↔ IsLedTo (buses_of roots.now) records bus) }
+{
+    roots.has(bus) || has_upstream_bridge(ends[bus as usize])
+}
+
+/// Whether a function is a bridge whose bus numbers don't fit those of the others, or the roots.
+fn has_unlawful_buses(
+    records: &[Record],
+    roots: &Roots,
+    ends: &[Option<u8>; BUSES],
+    function: &Record,
+) -> bool
+    requires rising { RiseBySlot records.now }
+    requires slots { All (λ r. IsSlot r.slot) records.now }
+    requires ends { AreLeastEnds records.now ends.now }
+    ensures { IsTrue result ↔ HasUnlawfulBuses (buses_of roots.now) records.now function.now }
+{
+    match &function.bridge {
+        None => false,
+        Some(bridge) => !has_lawful_buses(records, roots, ends, function.slot, bridge),
+    }
+}
+
+/// What is wrong with a function's place, `ends` being the table that `least_subordinates` gives.
+pub fn look_at_place(
+    records: &[Record],
+    roots: &Roots,
+    ends: &[Option<u8>; BUSES],
+    function: &Record,
+) -> Misplaced
+    requires rising { RiseBySlot records.now }
+    requires slots { All (λ r. IsSlot r.slot) records.now }
+    requires ends { AreLeastEnds records.now ends.now }
+    // a list of all faults tells each of the three, whichever of them is looked for first
+    ensures { IsMisplacedBy (buses_of roots.now) records.now function.now result }
+{
+    let slot = function.slot;
+    Misplaced {
+        lone: !is_not_lone(records, slot),
+        orphan: !is_led_to(roots, ends, slot.bus()),
+        bus_range: has_unlawful_buses(records, roots, ends, function),
     }
 }
 
