@@ -133,7 +133,7 @@ early_phase f (Split space address first first_register second second_register) 
 
 -- ---- the first of them
 
-image_of_function : (s : System) → IsSystem s → (f : Function) → Contains s f → image_at s f.slot ≡ f.image
+pub image_of_function : (s : System) → IsSystem s → (f : Function) → Contains s f → image_at s f.slot ≡ f.image
 image_of_function s system f has = image_at_is s f (λ g listed same. one_function s system g f listed has (ap slot_number same)) has
 
 -- what stands before a function in slot order does so in the list

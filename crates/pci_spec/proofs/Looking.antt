@@ -65,7 +65,7 @@ one_number j k ys h = elim (precedes-cases j k ys [] h) [
 
 -- ---- phases
 
-key_head : (image_of : Slot → List ℕ) (e : Fault) → looking_key image_of e ≡ phase_of e ∷ drop 1 (looking_key image_of e)
+pub key_head : (image_of : Slot → List ℕ) (e : Fault) → looking_key image_of e ≡ phase_of e ∷ drop 1 (looking_key image_of e)
 key_head image_of (NoVendor slot) = refl
 key_head image_of (HeaderKind slot) = refl
 key_head image_of (BarType slot register) = refl
