@@ -1,0 +1,19 @@
+-- Lists of just those faults that are of some kind.
+use Rattle.std.specs.Prelude.{List, [], ◌∷◌, Option, None, Some}
+use Rattle.std.specs.List.{AllPairs, Contains}
+use Rattle.pci_spec.specs.Fault as faults
+use Rattle.pci_function.specs.declared.fault.Fault.{Fault}
+use Rattle.pci_function.specs.Fault.{fault_of}
+
+-- each fault of the kind stands in the list and no other does, each before those that it is looked for before
+pub record AreJust (Before : faults.Fault → faults.Fault → Type 0) (Is : faults.Fault → Type 0)
+    (list : List faults.Fault) : Type 0 where
+  pub each : (fault : faults.Fault) → Contains list fault → Is fault
+  pub complete : (fault : faults.Fault) → Is fault → Contains list fault
+  pub rising : AllPairs Before list
+
+-- those faults that are there
+abbrev pub told : List (Option Fault) → List faults.Fault
+told [] = []
+told (None ∷ rest) = told rest
+told (Some fault ∷ rest) = fault_of fault ∷ told rest
