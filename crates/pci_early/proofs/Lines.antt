@@ -1,12 +1,12 @@
 -- From what each function adds to the whole list.
-use Rattle.std.proofs.Common.{◌≡◌, ◌⊎◌, ℕ, ◌+◌, ◌<◌, ◌≤◌, List, [], ◌∷◌, ◌++◌, length, get_or, take, drop, refl, true, inl, inr, arith, sym, ◌∙◌, ap, subst}
+use Rattle.std.proofs.Common.{◌≡◌, ℕ, ◌+◌, ◌<◌, ◌≤◌, List, [], ◌∷◌, ◌++◌, length, get_or, take, drop, refl, true, inl, inr, arith, sym, ◌∙◌, ap, subst}
 use Rattle.std.specs.List.{Contains}
 use Rattle.std.proofs.lemmas.Bool.{cases_lt, cases_order}
 use Rattle.std.proofs.lemmas.List.{get_or-take, get_or_default, length-take-le}
 use Rattle.pci_spec.specs.Slot.{slot_number}
 use Rattle.pci_spec.specs.Text.{Block, slots_of}
 use Rattle.pci_spec.specs.System.{System, Function, IsSystem, system_of}
-use Rattle.pci_spec.specs.Fault.{Fault, IsIn, IsThere}
+use Rattle.pci_spec.specs.Fault.{Fault, IsThere}
 use Rattle.pci_spec.specs.Order.{precedes, slot_key, looking_key, phase_of, is_before, image_at, IsFirstThere}
 use Rattle.pci_spec.specs.FaultLines.{subject, IsLine, AreAllFaults}
 use Rattle.pci_spec.proofs.Firsts.{slot_of}
@@ -16,7 +16,7 @@ use Rattle.pci_function.specs.Profile.{IsHere}
 use Rattle.pci_function.proofs.FirstHere.{rest_of, key_at}
 use Rattle.pci_function.proofs.FirstIn.{in_here, here_in, image_of_function}
 use Rattle.pci_early.specs.Lists.{AreJust}
-use Rattle.pci_early.specs.OwnLines.{IsOwnLine, IsBeforeIn, IsBeforeAt, HasNoneBefore}
+use Rattle.pci_early.specs.OwnLines.{IsOwnLine, IsOwnOf, IsBeforeIn, IsBeforeAt, HasNoneBefore}
 use Rattle.pci_early.proofs.Keys.{lower_precedes, slot_of_key, earlier_is_before, same_phase, subject_here, before_with}
 use Rattle.pci_early.proofs.Lists.{just_none, just_append, just_same}
 
@@ -31,12 +31,6 @@ taken_to s i g within has =
 
 taken_from : (s : System) (i k : ℕ) (g : Function) → i ≤ length s → k < i → get_or s k g ≡ g → Contains (take i s) g
 taken_from s i k g within less at = let long = length-take-le i s within in (k, omega (arith, long, less), get_or-take i s k g less ∙ at)
-
--- it is what one of these functions adds
-pub record IsOwnOf (Own : Function → Fault → Type 0) (fs : System) (e : Fault) : Type 0 where
-  pub of : Function
-  pub has : Contains fs of
-  pub own : Own of e
 
 module _ (s : System) (system : IsSystem s) (phase : ℕ) (Own : Function → Fault → Type 0) (rest : Function → Fault → List ℕ)
     (key : (f : Function) (e : Fault) → Contains s f → Own f e → looking_key (image_at s) e ≡ phase ∷ slot_key f.slot ++ rest f e) where

@@ -1,15 +1,15 @@
 -- Two lists of slots side by side: which slots one of them has alone.
-use Rattle.std.proofs.Common.{◌≡◌, ◌⊎◌, ℕ, zero, suc, ◌+◌, ◌<◌, ◌≤◌, List, [], ◌∷◌, ◌++◌, length, get_or, drop, map, None, true, refl, inl, inr, arith, sym, ◌∙◌, ap, subst}
+use Rattle.std.proofs.Common.{◌≡◌, ◌⊎◌, ℕ, suc, ◌+◌, ◌<◌, ◌≤◌, List, [], ◌∷◌, ◌++◌, length, get_or, drop, map, None, true, refl, inl, inr, arith, sym, ◌∙◌, ap, subst}
 use Rattle.std.specs.List.{AllPairs, Contains}
 use Rattle.std.proofs.Math.ListN.{get_or-map, drop_of_length-le}
 use Rattle.std.proofs.Math.Seq.{drop-cons}
 use Rattle.std.proofs.lemmas.List.{length-map, get_or_default}
 use Rattle.std.proofs.lemmas.List.Elements.{All-contains, Contains-append_left, Contains-append_right, Contains-append_cases}
 use Rattle.std.proofs.lemmas.List.Kept.{AllPairs-from_increasing}
-use Rattle.pci_spec.specs.Slot.{Slot, IsSlot, IsRising, slot_number}
+use Rattle.pci_spec.specs.Slot.{Slot, IsSlot, slot_number}
 use Rattle.pci_spec.specs.Text.{Block, IsBlock, IsDump, slots_of}
 use Rattle.pci_spec.specs.System.{system_of}
-use Rattle.pci_spec.specs.Fault.{Fault, SlotsDiffer, IsInOne, IsThere}
+use Rattle.pci_spec.specs.Fault.{Fault, SlotsDiffer}
 use Rattle.pci_spec.specs.Order.{precedes, slot_key, phase_of, is_before, image_at, IsFirstThere}
 use Rattle.pci_spec.specs.FaultLines.{subject, IsLine, AreAllFaults}
 use Rattle.pci_spec.proofs.Members.{IsMade, in_map_to, in_nil, in_head, in_tail, in_cons_cases, pairs_nil, pairs_cons, pairs_append, pairs_head, pairs_tail}

@@ -1,3 +1,4 @@
 pub mod Lists
 pub mod OwnLines
 pub mod Slots
+pub mod Phases

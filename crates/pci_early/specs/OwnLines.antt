@@ -1,5 +1,6 @@
 -- What one function adds to a list of all faults.
 use Rattle.std.specs.Prelude.{◌≡◌, ℕ, ◌<◌, IsTrue, List, Option}
+use Rattle.std.specs.List.{Contains}
 use Rattle.pci_spec.specs.System.{System, Function}
 use Rattle.pci_spec.specs.Fault as faults
 use Rattle.pci_spec.specs.Order.{is_before, image_at, phase_of}
@@ -30,3 +31,10 @@ IsBeforeAt s fault other = IsTrue (is_before (image_at s) fault other)
 -- just those of the function
 abbrev pub AreOwnLines : ℕ → Function → List (Option Fault) → Type 0
 AreOwnLines phase f list = AreJust (IsBeforeIn f) (IsOwnLine phase f) (told list)
+
+-- it is a line of one of these functions
+pub record IsOwnOf (Own : Function → faults.Fault → Type 0) (fs : System)
+    (fault : faults.Fault) : Type 0 where
+  pub of : Function
+  pub has : Contains fs of
+  pub own : Own of fault

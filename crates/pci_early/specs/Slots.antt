@@ -2,7 +2,6 @@
 use Rattle.std.specs.Prelude.{◌≡◌, ◌⊎◌, ℕ, List, [], ◌∷◌}
 use Rattle.std.specs.List.{Contains}
 use Rattle.pci_spec.specs.Slot.{Slot, slot_number}
-use Rattle.pci_spec.specs.Text.{Block, slots_of}
 use Rattle.pci_spec.specs.Fault.{Fault, SlotsDiffer}
 
 -- exactly one of the two has it

@@ -1,7 +1,6 @@
-use Rattle.std.proofs.Common.{◌≡◌, ℕ, ◌<◌, ◌+◌, List, [], ◌∷◌, ◌++◌, length, map, drop, arith, sym, ◌∙◌, ap, subst}
-use Rattle.pci_spec.specs.Slot.{Slot}
+use Rattle.std.proofs.Common.{◌≡◌, ◌<◌, ◌+◌, [], ◌∷◌, ◌++◌, length, map, drop, arith, sym, ◌∙◌, ap, subst}
 use Rattle.pci_spec.specs.Text.{Block, slots_of}
-use Rattle.pci_spec.specs.Fault.{Fault, SlotsDiffer}
+use Rattle.pci_spec.specs.Fault.{SlotsDiffer}
 use Rattle.pci_function.specs.Fault.{fault_of}
 use Rattle.pci_early.specs.Slots.{IsFront}
 use Rattle.pci_tree.proofs.Surveys.{map_last}
