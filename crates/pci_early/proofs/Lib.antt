@@ -5,3 +5,5 @@ pub mod Lines
 pub mod Merging
 pub mod OfIdentity
 pub mod OfProfile
+pub mod OfPlace
+pub mod Wholes

@@ -83,6 +83,12 @@ phase_of_line roots dump probe first e is line = elim (cases_order (phase_of e) 
 pub none_earlier_than : (roots : List ℕ) (dump probe : List Block) (first other : Fault) → IsFirstThere roots dump probe first → phase_of other < phase_of first → IsThere roots dump probe other → ⊥
 none_earlier_than roots dump probe first other is less there = is.none_before other (earlier_is_before (image_at (system_of dump probe)) other first less) there
 
+-- and so none of a function
+pub none_in_function : (roots : List ℕ) (dump probe : List Block) → slots_of dump ≡ slots_of probe → (first : Fault) → IsFirstThere roots dump probe first
+    → (f : Function) → Contains (system_of dump probe) f → HasNoneBefore (phase_of first) f
+none_in_function roots dump probe same first is f has other less here =
+    none_earlier_than roots dump probe first other is less (there-of_in roots dump probe other same (here_in roots (system_of dump probe) f other has here))
+
 -- lines of a phase before judging, given those of that phase
 pub all_faults : (roots : List ℕ) (dump probe : List Block) (first : Fault) (Is : Fault → Type 0) (xs : List Fault) → IsFirstThere roots dump probe first
     → AreJust (IsBeforeAt (system_of dump probe)) Is xs → ((e : Fault) → Is e → IsLine roots dump probe e)
@@ -95,11 +101,6 @@ all_faults roots dump probe first Is xs is just to from = record {
 
 module _ (roots : List ℕ) (dump probe : List Block) (system : IsSystem (system_of dump probe)) (same : slots_of dump ≡ slots_of probe)
     (first : Fault) (is_first : IsFirstThere roots dump probe first) (early : phase_of first < 4) where
-  -- none of a function is of an earlier phase
-  pub none_before_first : (f : Function) → Contains (system_of dump probe) f → HasNoneBefore (phase_of first) f
-  none_before_first f has other less here =
-      none_earlier_than roots dump probe first other is_first less (there-of_in roots dump probe other same (here_in roots (system_of dump probe) f other has here))
-
   own_first : (f : Function) (e other : Fault) → Contains (system_of dump probe) f → IsOwnLine (phase_of first) f e → subject other ≡ subject e
       → is_before (image_at (system_of dump probe)) other e ≡ true → IsThere roots dump probe other → ⊥
   own_first f e other has own subjects before there =

@@ -2,3 +2,4 @@ pub mod Lists
 pub mod OwnLines
 pub mod Slots
 pub mod Phases
+pub mod Places

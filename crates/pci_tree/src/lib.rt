@@ -12,7 +12,7 @@
 pub mod admit;
 pub mod admitted;
 mod bus;
-mod buses;
+pub mod buses;
 mod forwarded;
 pub mod outline;
 mod path;
