@@ -32,3 +32,4 @@ pub mod TrueLines
 pub mod Sized
 pub mod AllFaults
 pub mod FaultLines
+pub mod Why

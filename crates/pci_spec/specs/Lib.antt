@@ -39,6 +39,7 @@ pub mod JudgingLaws
 pub mod AllFaults
 pub mod AllFaultsLaws
 pub mod FaultLines
+pub mod Why
 pub mod SoundLaws
 pub mod RecordLaws
 pub mod ProbeLaws
