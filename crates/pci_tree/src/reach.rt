@@ -1,16 +1,18 @@
 //! The addresses that get to each bus, made from the roots downwards: those of a bus are what the bridge above it
 //! passes of those of its own bus.
-ghost use Rattle.std.specs.Prelude.{◌≡◌, ◌<◌, ℕ, List, length, IfOk, IfSome, slice_index_or};
+ghost use Rattle.std.specs.Prelude.{◌≡◌, ◌<◌, ◌↔◌, ℕ, List, length, IfOk, IfSome, IsTrue, slice_index_or};
 ghost use Rattle.std.specs.List.{All};
 ghost use Rattle.pci_base.specs.declared.range.Range.{Range};
 ghost use Rattle.pci_base.specs.WindowKinds.{kind_value};
 ghost use Rattle.pci_base.specs.Space.{space_of};
-ghost use Rattle.pci_tree.specs.Ranges.{IsCanonical};
+ghost use Rattle.pci_function.specs.Values.{record_value};
+ghost use Rattle.pci_tree.specs.Ranges.{Covers, IsCanonical};
+ghost use Rattle.pci_tree.specs.Passes.{record_passes};
 ghost use Rattle.pci_tree.specs.Roots.{buses_of};
 ghost use Rattle.pci_tree.specs.Ways.{IsForest, IsBridgeToBus};
 ghost use Rattle.pci_tree.specs.Reaches.{IsReachOf, IsStep, IsWhole, HasSpans, StandsBelow};
 
-use super::forwarded::passed_on;
+use super::forwarded::{Forwarded, passed_on};
 use super::roots::Roots;
 use super::window::forwarded;
 use pci_base::memory::OutOfMemory;
@@ -52,6 +54,30 @@ impl<A: Allocator> Reach<A> {
         let Reach { ranges } = self;
         ranges
     }
+}
+
+/// The addresses that one bridge passes of accesses of a kind: ranges that rise, with an address between each two.
+pub fn passed_by<A: Allocator>(
+    alloc: A,
+    function: &Record,
+    kind: WindowKind,
+) -> Result<Vec<Range, A>, OutOfMemory>
+    // of an empty window no address could be told
+    requires { HasSpans function.now }
+    ensures canonical { IfOk result (λ v. IsCanonical v.items) }
+    ensures exact { IfOk result (λ v. (a : ℕ) → Covers v.items a
+        ↔ IsTrue (record_passes (kind_value kind) a (record_value function.now))) }
+{
+    let mut ranges = Vec::new(alloc);
+    match forwarded(function, kind) {
+        Forwarded::Nothing => {}
+        Forwarded::One(range) => ranges.push(range)?,
+        Forwarded::Two(lower, upper) => {
+            ranges.push(lower)?;
+            ranges.push(upper)?;
+        }
+    }
+    Ok(ranges)
 }
 
 /// All addresses of a space.
