@@ -25,6 +25,12 @@ impl<T: Drop> From<AllocFailed<T>> for OutOfMemory {
     }
 }
 
+impl From<AllocError> for OutOfMemory {
+    fn from(_error: AllocError) -> OutOfMemory {
+        OutOfMemory
+    }
+}
+
 /// A fault, or a growth was refused.
 #[derive(Clone, Copy, Debug, PartialEq, Eq)]
 pub enum Refused<F> {

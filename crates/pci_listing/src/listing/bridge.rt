@@ -39,7 +39,7 @@ impl BusLine {
 }
 
 /// Appends what a window holds: `none` where it isn't implemented, `closed`, or its range.
-fn push_held<A: Allocator>(
+pub fn push_held<A: Allocator>(
     text: &mut String<A>,
     space: Space,
     window: Option<Window>,

@@ -1,0 +1,38 @@
+-- The line of a region, by the fields of its value.
+use Rattle.std.specs.Prelude.{ℕ, ◌==◌, Bool, false, if◌then◌else◌, List, ◌∷◌}
+use Rattle.pci_spec.specs.Registers.{IO_BASE, MEMORY_BASE}
+use Rattle.pci_spec.specs.System.{Space}
+use Rattle.pci_spec.specs.System as system
+use Rattle.pci_spec.specs.Window.{IoWindow, MemoryWindow, PrefetchWindow}
+use Rattle.pci_spec.specs.Decoded as decoded
+use Rattle.pci_spec.specs.Listing.{inner_line}
+use Rattle.pci_spec.specs.Why.{part_text, place_words}
+use Rattle.pci_tree.specs.declared.region.Part.{Part}
+use Rattle.pci_tree.specs.declared.region.Part.TheVariants.{Bar, Rom, Window}
+use Rattle.pci_tree.specs.declared.region.Region.{Region}
+
+abbrev pub bar_words : Space → Bool → List ℕ
+bar_words space prefetch = part_text (system.Bar 0) space prefetch
+
+-- the window whose register this is
+abbrev pub window_at : ℕ → List ℕ
+window_at reg =
+    if reg == IO_BASE then part_text (system.Window IoWindow) system.Io false
+    else if reg == MEMORY_BASE then part_text (system.Window MemoryWindow) system.Memory false
+    else part_text (system.Window PrefetchWindow) system.Memory false
+
+abbrev pub words_of : Part → ℕ → Space → Bool → List ℕ
+words_of Bar reg space prefetch = bar_words space prefetch
+words_of Rom reg space prefetch = part_text system.Rom system.Memory false
+words_of Window reg space prefetch = window_at reg
+
+-- what a region is
+abbrev pub part_words : Region → Space → List ℕ
+part_words q space = words_of q.part q.reg space q.prefetch
+
+abbrev pub range_of : Region → decoded.Range
+range_of q = record { first = q.first; last = q.last }
+
+abbrev pub line_of : List ℕ → Space → Region → List ℕ
+line_of word space q =
+    inner_line (word ∷ place_words q.slot q.reg (part_words q space) space (range_of q))

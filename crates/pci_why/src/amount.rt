@@ -1,0 +1,59 @@
+//! Numbers of addresses.
+ghost use Rattle.std.specs.Prelude.{◌≡◌, ◌≤◌, ◌++◌, OnOk};
+ghost use Rattle.std.specs.String.{string_bytes};
+ghost use Rattle.std.specs.Fmt.{decimal};
+ghost use Rattle.pci_spec.specs.Why.{amount_text, address_count};
+ghost use Rattle.pci_base.specs.Ranges.{decoded_range_of};
+ghost use Rattle.pci_why.specs.Amounts.{unit_text};
+
+use pci_base::range::Range;
+use std::alloc::{AllocError, Allocator};
+
+/// How many units there are above a single address.
+const UNITS: u32 = 6;
+
+/// The letter of a unit.
+fn unit_name(unit: u32) -> &'static str
+    requires { unit ≤ 6 }
+    ensures { result.now ≡ unit_text unit }
+{
+    match unit {
+        0 => "",
+        1 => "K",
+        2 => "M",
+        3 => "G",
+        4 => "T",
+        5 => "P",
+        _ => "E",
+    }
+}
+
+/// Appends a number of units.
+fn push_number<A: Allocator>(
+    text: &mut String<A>,
+    number: u128,
+    unit: u32,
+) -> Result<(), AllocError>
+    requires { unit ≤ 6 }
+    ensures { OnOk result
+        (string_bytes text.new ≡ string_bytes text.old ++ (decimal number ++ unit_text unit)) }
+{
+    write!(text, "{number}")?;
+    text.push_str(unit_name(unit))
+}
+
+/// Appends how many addresses a range has, as `64K`. All of memory space are `16E`.
+pub fn push_amount<A: Allocator>(text: &mut String<A>, range: Range) -> Result<(), AllocError>
+    requires { range.first ≤ range.last }
+    ensures { OnOk result (string_bytes text.new
+        ≡ string_bytes text.old ++ amount_text (address_count (decoded_range_of range))) }
+{
+    let mut number = u128::from(range.last - range.first) + 1;
+    for unit in 0..UNITS {
+        if number % 1024 != 0 {
+            return push_number(text, number, unit);
+        }
+        number /= 1024;
+    }
+    push_number(text, number, UNITS)
+}

@@ -1,0 +1,128 @@
+//! The lines of a region, and of ranges in it.
+ghost use Rattle.std.specs.Prelude.{◌≡◌, ◌≤◌, ◌++◌, OnOk};
+ghost use Rattle.std.specs.String.{string_bytes};
+ghost use Rattle.pci_spec.specs.Listing.{words};
+ghost use Rattle.pci_spec.specs.Why.{extent_words, place_words, range_line};
+ghost use Rattle.pci_base.specs.Ranges.{decoded_range_of};
+ghost use Rattle.pci_base.specs.Space.{space_of};
+ghost use Rattle.pci_why.specs.RegionLines.{bar_words, window_at, part_words, line_of};
+
+use super::amount::push_amount;
+use pci_base::offset::{IO_BASE, MEMORY_BASE};
+use pci_base::range::Range;
+use pci_base::slot::Slot;
+use pci_base::space::Space;
+use pci_listing::hex_text::{end_line, push_byte, push_slot};
+use pci_listing::listing::span::Span;
+use pci_tree::region::{Part, Region};
+use std::alloc::{AllocError, Allocator};
+
+/// What a BAR is of.
+pub fn bar_name(space: Space, prefetch: bool) -> &'static str
+    ensures { result.now ≡ bar_words (space_of space) prefetch }
+{
+    match (space, prefetch) {
+        (Space::Io, _) => "bar io",
+        (Space::Mem, false) => "bar mem",
+        (Space::Mem, true) => "bar mem pref",
+    }
+}
+
+/// What a window at a register is of.
+fn window_name(reg: u8) -> &'static str
+    ensures { result.now ≡ window_at reg }
+{
+    match reg {
+        IO_BASE => "window io",
+        MEMORY_BASE => "window mem",
+        _ => "window mem pref",
+    }
+}
+
+/// What a region of a space is.
+fn part_name(region: &Region, space: Space) -> &'static str
+    ensures { result.now ≡ part_words region.now (space_of space) }
+{
+    match region.part {
+        Part::Bar => bar_name(space, region.prefetch),
+        Part::Rom => "rom mem",
+        Part::Window => window_name(region.reg),
+    }
+}
+
+/// Appends a range with its number of addresses, and ends the line.
+pub fn push_extent<A: Allocator>(
+    text: &mut String<A>,
+    space: Space,
+    range: Range,
+) -> Result<(), AllocError>
+    requires { range.first ≤ range.last }
+    ensures { OnOk result (string_bytes text.new
+        ≡ string_bytes text.old ++ words (extent_words (space_of space) (decoded_range_of range))) }
+{
+    text.push_str(" ")?;
+    let span = Span { space, range };
+    span.push_to(text)?;
+    text.push_str(" ")?;
+    push_amount(text, range)?;
+    end_line(text)
+}
+
+/// Appends a region by its slot, its register and what it is, with its addresses, and ends the line.
+pub fn push_place<A: Allocator>(
+    text: &mut String<A>,
+    slot: Slot,
+    reg: u8,
+    part: &'static str,
+    space: Space,
+    range: Range,
+) -> Result<(), AllocError>
+    requires { range.first ≤ range.last }
+    ensures { OnOk result (string_bytes text.new ≡ string_bytes text.old
+        ++ words (place_words slot reg part.now (space_of space) (decoded_range_of range))) }
+{
+    text.push_str(" ")?;
+    push_slot(text, slot)?;
+    text.push_str(" ")?;
+    push_byte(text, reg)?;
+    text.push_str(" ")?;
+    text.push_str(part)?;
+    push_extent(text, space, range)
+}
+
+/// Appends the line of a range, as `missed 00000000e0100000-00000000e01fffff 1M`.
+pub fn push_range_line<A: Allocator>(
+    text: &mut String<A>,
+    word: &'static str,
+    space: Space,
+    range: Range,
+) -> Result<(), AllocError>
+    requires { range.first ≤ range.last }
+    ensures { OnOk result (string_bytes text.new ≡ string_bytes text.old
+        ++ range_line word.now (space_of space) (decoded_range_of range)) }
+{
+    text.push_str("  ")?;
+    text.push_str(word)?;
+    push_extent(text, space, range)
+}
+
+/// Appends the line of a region, as `needs 01:00.0 10 bar mem 00000000e0000000-00000000e0000fff 4K`.
+pub fn push_region_line<A: Allocator>(
+    text: &mut String<A>,
+    word: &'static str,
+    space: Space,
+    region: &Region,
+) -> Result<(), AllocError>
+    requires { region.now.first ≤ region.now.last }
+    ensures { OnOk result (string_bytes text.new
+        ≡ string_bytes text.old ++ line_of word.now (space_of space) region.now) }
+{
+    let range = Range {
+        first: region.first,
+        last: region.last,
+    };
+    text.push_str("  ")?;
+    text.push_str(word)?;
+    let part = part_name(region, space);
+    push_place(text, region.slot, region.reg, part, space, range)
+}
