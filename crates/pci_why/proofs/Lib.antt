@@ -1,3 +1,5 @@
 pub mod Amounts
 pub mod Texts
 pub mod OffLines
+pub mod Gaps
+pub mod Founds

@@ -1,3 +1,5 @@
 pub mod Amounts
 pub mod RegionLines
 pub mod Off
+pub mod Missed
+pub mod Found

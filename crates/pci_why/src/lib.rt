@@ -6,5 +6,7 @@
 #![tactic(auto)]
 
 pub mod amount;
+pub mod find;
+pub mod missed;
 pub mod off;
 pub mod region_line;

@@ -1,0 +1,16 @@
+use Rattle.std.proofs.Common.{arith, ◌∙◌, ap}
+use Rattle.std.proofs.lemmas.List.{get_or_default}
+use Rattle.pci_function.specs.declared.record.Record.{Record}
+use Rattle.pci_why.proofs.Founds.{no_record, slot_differs}
+use Rattle.pci_why.proofs.find.record_at.Goals as goal
+
+pub returns-then-index-records : goal.returns-then-index-records
+returns-then-index-records c =
+    no_record c.args.records.now c.args.slot c.first_from-index.result c.requires c.first_from-index.ensures.before c.first_from-index.ensures.after
+    (λ r within at. omega (arith, within, c.if-index-records.true))
+
+pub returns-else-eq : goal.returns-else-eq
+returns-else-eq c =
+    no_record c.args.records.now c.args.slot c.first_from-index.result c.requires c.first_from-index.ensures.before c.first_from-index.ensures.after
+    (λ r within at. slot_differs c.index-records-index.result.slot c.args.slot c.eq.result c.eq.ensures c.if-eq.false
+    (ap (λ (x : Record). x.slot) (c.index-records-index.is ∙ get_or_default c.args.records.now c.first_from-index.result c.index-records-index.result r within) ∙ at))
