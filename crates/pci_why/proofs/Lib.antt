@@ -3,3 +3,5 @@ pub mod Texts
 pub mod OffLines
 pub mod Gaps
 pub mod Founds
+pub mod Runs
+pub mod Evidences

@@ -25,6 +25,9 @@ pub record IsFoundIn (s : System) (slot : Slot) (reg : ℕ) (space : Space) (q :
   pub is : IsRegionOf f part space q
   pub slot_is : q.slot ≡ slot
   pub register : q.reg ≡ reg
+  -- no other part that the register names claims an address
+  pub all : (g : Function) (other : Part) (a : ℕ) → Contains s g → g.slot ≡ slot
+      → register_of g other ≡ reg → Claims g other space a → (q.first ≤ a) × (a ≤ q.last)
 
 -- no part of a function of the slot that this register names claims an address of the space
 abbrev pub NoneClaims : System → Slot → ℕ → Space → Type 0

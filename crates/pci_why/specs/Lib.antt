@@ -3,3 +3,5 @@ pub mod RegionLines
 pub mod Off
 pub mod Missed
 pub mod Found
+pub mod Bridges
+pub mod Evidence

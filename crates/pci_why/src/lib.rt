@@ -1,12 +1,15 @@
 //! What stands behind a fault of judging, and which BARs are off: the lines that a list of all faults has for them.
 //!
 //! ```text
+//! push_evidence(alloc, &mut text, &outline, &fault)?; // `needs`, `bridge`, `missed`, or `first`, `second`, `shared`
 //! push_off(&mut text, &outline)?; // a line for each BAR of a space that its function's Command doesn't enable
 //! ```
 #![tactic(auto)]
 
 pub mod amount;
+pub mod bridge_line;
 pub mod find;
 pub mod missed;
 pub mod off;
 pub mod region_line;
+pub mod why;

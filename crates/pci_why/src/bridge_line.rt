@@ -1,0 +1,123 @@
+//! The line of a bridge, and those of the addresses that it misses.
+ghost use Rattle.std.specs.Prelude.{◌≡◌, ◌≤◌, ◌++◌, map, codes, OnOk};
+ghost use Rattle.std.specs.List.{All, flat_map};
+ghost use Rattle.std.specs.String.{string_bytes};
+ghost use Rattle.pci_spec.specs.Listing.{on_text};
+ghost use Rattle.pci_spec.specs.Why.{windows_text, range_line};
+ghost use Rattle.pci_base.specs.Ranges.{decoded_range_of};
+ghost use Rattle.pci_base.specs.Space.{space_of};
+ghost use Rattle.pci_image.specs.Windows.{decoded_windows_of};
+ghost use Rattle.pci_function.specs.Values.{record_value};
+ghost use Rattle.pci_tree.specs.Reaches.{HasSpans};
+ghost use Rattle.pci_why.specs.Bridges.{line_of_bridge, AreMissedTold};
+
+use super::missed::outside;
+use super::region_line::push_range_line;
+use pci_base::memory::OutOfMemory;
+use pci_base::range::Range;
+use pci_base::space::Space;
+use pci_function::record::Record;
+use pci_image::window::Windows;
+use pci_listing::hex_text::{end_line, push_slot};
+use pci_listing::listing::bridge::push_held;
+use pci_tree::reach::passed_by;
+use pci_tree::region::Region;
+use std::alloc::{AllocError, Allocator};
+
+/// Appends the windows that serve a region.
+fn push_windows<A: Allocator>(
+    text: &mut String<A>,
+    windows: &Windows,
+    space: Space,
+    prefetch: bool,
+) -> Result<(), AllocError>
+    ensures { OnOk result (string_bytes text.new ≡ string_bytes text.old
+        ++ windows_text (space_of space) prefetch (decoded_windows_of windows.now)) }
+{
+    match (space, prefetch) {
+        (Space::Io, _) => {
+            text.push_str("io ")?;
+            push_held(text, Space::Io, windows.io)
+        }
+        (Space::Mem, false) => {
+            text.push_str("mem ")?;
+            push_held(text, Space::Mem, Some(windows.mem))
+        }
+        (Space::Mem, true) => {
+            text.push_str("mem ")?;
+            push_held(text, Space::Mem, Some(windows.mem))?;
+            text.push_str(" pref ")?;
+            push_held(text, Space::Mem, windows.pref)
+        }
+    }
+}
+
+/// `on` or `off`.
+fn on_name(on: bool) -> &'static str
+    ensures { result.now ≡ on_text on }
+{
+    if on { "on" } else { "off" }
+}
+
+/// Appends the line of a bridge, as `bridge 00:01.0 off mem 00000000e0000000-00000000e00fffff`: whether its Command
+/// enables the space, and its windows for a region. Of another function nothing.
+pub fn push_bridge_line<A: Allocator>(
+    text: &mut String<A>,
+    function: &Record,
+    space: Space,
+    prefetch: bool,
+) -> Result<(), AllocError>
+    ensures { OnOk result (string_bytes text.new ≡ string_bytes text.old
+        ++ line_of_bridge (record_value function.now) (space_of space) prefetch) }
+{
+    let Some(bridge) = function.bridge else {
+        return Ok(());
+    };
+    let on = on_name(space.is_on(function.command));
+    text.push_str("  bridge")?;
+    text.push_str(" ")?;
+    push_slot(text, function.slot)?;
+    text.push_str(" ")?;
+    text.push_str(on)?;
+    text.push_str(" ")?;
+    push_windows(text, &bridge.windows, space, prefetch)?;
+    end_line(text)
+}
+
+/// Appends a line for each of some ranges that are missed.
+fn push_ranges<A: Allocator>(
+    text: &mut String<A>,
+    space: Space,
+    ranges: &[Range],
+) -> Result<(), AllocError>
+    requires { All (λ r. r.first ≤ r.last) ranges.now }
+    ensures { OnOk result (string_bytes text.new ≡ string_bytes text.old ++ flat_map
+        (range_line (codes "missed") (space_of space)) (map decoded_range_of ranges.now)) }
+{
+    for range in ranges {
+        push_range_line(text, "missed", space, *range)?;
+    }
+    Ok(())
+}
+
+/// Appends a line for each run of addresses of a region that a bridge doesn't pass.
+pub fn push_missed<A: Allocator + Copy, B: Allocator>(
+    alloc: A,
+    text: &mut String<B>,
+    function: &Record,
+    space: Space,
+    region: &Region,
+) -> Result<(), OutOfMemory>
+    requires { HasSpans function.now }
+    ensures { OnOk result (AreMissedTold function.now (space_of space) region.now
+        (string_bytes text.old) (string_bytes text.new)) }
+{
+    let range = Range {
+        first: region.first,
+        last: region.last,
+    };
+    let passed = passed_by(alloc, function, space.kind(region.prefetch))?;
+    let missed = outside(alloc, range, passed.as_slice())?;
+    push_ranges(text, space, missed.as_slice())?;
+    Ok(())
+}
