@@ -12,4 +12,6 @@ pub mod find;
 pub mod missed;
 pub mod off;
 pub mod region_line;
+#[cfg(test)]
+mod tests;
 pub mod why;
