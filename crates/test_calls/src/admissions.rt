@@ -26,43 +26,65 @@ fn read_back(off: u8) -> Registers {
 }
 
 /// Appends a function to a dump.
-fn add(dump: &mut Dump, slot: Slot, image: Image) -> Result<(), Fail> {
-    dump.push(Block {
+fn add(dump: &mut Dump, slot: Slot, image: Image) -> bool {
+    let pushed = dump.push(Block {
         slot,
         title: None,
         image,
-    })?;
-    Ok(())
+    });
+    pushed.is_ok()
+}
+
+/// Appends a function to a dump and to its probe.
+fn add_both(dump: &mut Dump, probe: &mut Dump, placed: &Placed) -> bool {
+    let (bus, device, function, registers) = placed;
+    match Slot::new(*bus, *device, *function) {
+        Some(slot) => add(dump, slot, registers.image) && add(probe, slot, registers.probe),
+        None => false,
+    }
+}
+
+/// Appends functions.
+fn add_all(dump: &mut Dump, probe: &mut Dump, functions: &[Placed]) -> bool {
+    for placed in functions {
+        if !add_both(dump, probe, placed) {
+            return false;
+        }
+    }
+    true
 }
 
 /// The dump and the probe of some functions.
-fn pair(rt: &HostRuntime, functions: &[Placed]) -> Result<(Dump, Dump), Fail> {
+fn pair(rt: &HostRuntime, functions: &[Placed]) -> Option<(Dump, Dump)> {
     let mut dump = Dump::empty(rt.alloc());
     let mut probe = Dump::empty(rt.alloc());
-    for (bus, device, function, registers) in functions {
-        let slot = Slot::new(*bus, *device, *function).ok_or("a slot")?;
-        add(&mut dump, slot, registers.image)?;
-        add(&mut probe, slot, registers.probe)?;
-    }
-    Ok((dump, probe))
-}
-
-/// The fault of a refusal.
-fn fault_in(refused: Refused<Fault>) -> Result<Option<Fault>, Fail> {
-    match refused {
-        Refused::Fault(fault) => Ok(Some(fault)),
-        Refused::Memory => Err("no memory".into()),
+    if add_all(&mut dump, &mut probe, functions) {
+        Some((dump, probe))
+    } else {
+        None
     }
 }
 
-/// The fault that some functions are refused by, on some roots.
-fn refusal(rt: &HostRuntime, roots: Roots, functions: &[Placed]) -> Result<Option<Fault>, Fail> {
-    let (dump, probe) = pair(rt, functions)?;
-    let refused = match admit_with(rt.alloc(), dump, probe, roots) {
-        Ok(_) => return Ok(None),
-        Err(refused) => refused,
-    };
-    fault_in(refused)
+/// Whether what comes of an admission is this fault, or none.
+fn ends_with(answer: Result<Admitted, Refused<Fault>>, fault: Option<Fault>) -> bool {
+    match (answer, fault) {
+        (Ok(_), None) => true,
+        (Err(Refused::Fault(found)), Some(fault)) => found == fault,
+        _ => false,
+    }
+}
+
+/// Whether some functions are admitted on some roots, or refused by this fault.
+fn is_answered(rt: &HostRuntime, roots: Roots, functions: &[Placed], fault: Option<Fault>) -> bool {
+    match pair(rt, functions) {
+        Some((dump, probe)) => ends_with(admit_with(rt.alloc(), dump, probe, roots), fault),
+        None => false,
+    }
+}
+
+/// Whether a function at 00:02.0 is admitted, or refused by this fault.
+fn is_answered_alone(rt: &HostRuntime, registers: &Registers, fault: Option<Fault>) -> bool {
+    is_answered(rt, Roots::host(), &[(0, 2, 0, *registers)], fault)
 }
 
 #[test]
@@ -98,13 +120,16 @@ fn each_fault_is_named(rt: HostRuntime) -> Result<(), Fail> {
         (list_at(0x40).byte(0x40, 1), None),
         (bridge(), Some(Fault::BusRange(slot))),
     ];
-    for (registers, fault) in rows {
-        assert!(rt;
-            refusal(&rt, Roots::host(), &[(0, 2, 0, registers)])? == fault,
-            "{fault:?}"
-        );
+    for (registers, fault) in &rows {
+        assert!(rt; is_answered_alone(&rt, registers, *fault), "{fault:?}");
     }
     Ok(())
+}
+
+/// Whether a function at 00:01.0 and one at 00:02.0 are refused by this fault.
+fn are_refused(rt: &HostRuntime, one: &Registers, other: &Registers, fault: Fault) -> bool {
+    let both = [(0, 1, 0, *one), (0, 2, 0, *other)];
+    is_answered(rt, Roots::host(), &both, Some(fault))
 }
 
 #[test]
@@ -136,11 +161,8 @@ fn the_earlier_phase_is_named(rt: HostRuntime) -> Result<(), Fail> {
             Fault::StrayProbe(first, 0x3d),
         ),
     ];
-    for (one, other, fault) in rows {
-        assert!(rt;
-            refusal(&rt, Roots::host(), &[(0, 1, 0, one), (0, 2, 0, other)])? == Some(fault),
-            "{fault:?}"
-        );
+    for (one, other, fault) in &rows {
+        assert!(rt; are_refused(&rt, one, other, *fault), "{fault:?}");
     }
     Ok(())
 }
@@ -169,53 +191,49 @@ fn each_function_has_its_place(rt: HostRuntime) -> Result<(), Fail> {
         ),
     ];
     for (roots, functions, fault) in rows {
-        assert!(rt; refusal(&rt, roots, functions)? == fault, "{fault:?}");
+        assert!(rt; is_answered(&rt, roots, functions, fault), "{fault:?}");
     }
     Ok(())
 }
 
-/// The fault that the dump of some functions and the probe of others are refused by.
-fn refusal_of_both(
-    rt: &HostRuntime,
-    ours: &[Placed],
-    theirs: &[Placed],
-) -> Result<Option<Fault>, Fail> {
-    let (dump, _) = pair(rt, ours)?;
-    let (_, probe) = pair(rt, theirs)?;
-    let refused = match admit(rt.alloc(), dump, probe) {
-        Ok(_) => return Ok(None),
-        Err(refused) => refused,
-    };
-    fault_in(refused)
+/// The dump of some functions.
+fn dump_of(rt: &HostRuntime, functions: &[Placed]) -> Option<Dump> {
+    let (dump, _) = pair(rt, functions)?;
+    Some(dump)
+}
+
+/// The probe of some functions.
+fn probe_of(rt: &HostRuntime, functions: &[Placed]) -> Option<Dump> {
+    let (_, probe) = pair(rt, functions)?;
+    Some(probe)
+}
+
+/// Whether the dump of some functions and the probe of others are refused as they differ at a slot.
+fn differ_at(rt: &HostRuntime, ours: &[Placed], theirs: &[Placed], slot: Slot) -> bool {
+    match (dump_of(rt, ours), probe_of(rt, theirs)) {
+        (Some(dump), Some(probe)) => ends_with(
+            admit(rt.alloc(), dump, probe),
+            Some(Fault::SlotsDiffer(slot)),
+        ),
+        _ => false,
+    }
 }
 
 #[test]
 fn other_slots_are_named_first(rt: HostRuntime) -> Result<(), Fail> {
     let second = Slot::new(0, 2, 0).ok_or("a slot")?;
-    let rows: [(&[Placed], &[Placed]); 3] = [
-        (
-            &[(0, 1, 0, list_at(0x10)), (0, 2, 0, device())],
-            &[(0, 1, 0, device()), (0, 3, 0, device())],
-        ),
-        (
-            &[(0, 1, 0, list_at(0x10))],
-            &[(0, 1, 0, device()), (0, 2, 0, device())],
-        ),
-        (
-            &[(0, 1, 0, list_at(0x10)), (0, 2, 0, device())],
-            &[(0, 1, 0, device())],
-        ),
-    ];
-    for (ours, theirs) in rows {
-        assert!(rt; refusal_of_both(&rt, ours, theirs)? == Some(Fault::SlotsDiffer(second)));
-    }
+    let (first, plain) = ((0, 1, 0, list_at(0x10)), (0, 1, 0, device()));
+    let (next, other) = ((0, 2, 0, device()), (0, 3, 0, device()));
+    assert!(rt; differ_at(&rt, &[first, next], &[plain, other], second));
+    assert!(rt; differ_at(&rt, &[first], &[plain, next], second));
+    assert!(rt; differ_at(&rt, &[first, next], &[plain], second));
     Ok(())
 }
 
 /// A bridge and a device behind it, admitted.
-fn bridged(rt: &HostRuntime) -> Result<Admitted, Fail> {
+fn bridged(rt: &HostRuntime) -> Option<Admitted> {
     let (dump, probe) = pair(rt, &[(0, 1, 0, to_bus_1()), (1, 0, 0, device())])?;
-    Ok(admit(rt.alloc(), dump, probe)?)
+    admit(rt.alloc(), dump, probe).ok()
 }
 
 /// Whether the path to a slot leads through one bridge.
@@ -223,15 +241,25 @@ fn is_behind(admitted: &Admitted, slot: Slot, bridge: Slot) -> bool {
     matches!(admitted.path(slot), Some(path) if path.as_slice() == [bridge].as_slice())
 }
 
+/// Whether an admission lends dumps and an outline of two functions.
+fn lends_two(admitted: &Admitted) -> bool {
+    admitted.dump().blocks().len() == 2
+        && admitted.probe().blocks().len() == 2
+        && admitted.outline().records().len() == 2
+        && admitted.outline().roots() == Roots::host()
+}
+
+/// Whether an admission lends all of a bridge and of a device behind it.
+fn lends_all(admitted: &Admitted) -> bool {
+    match (Slot::new(0, 1, 0), Slot::new(1, 0, 0)) {
+        (Some(bridge), Some(device)) => {
+            lends_two(admitted) && is_behind(admitted, device, bridge)
+        }
+        _ => false,
+    }
+}
+
 #[test]
-fn both_dumps_and_the_outline_are_lent(rt: HostRuntime) -> Result<(), Fail> {
-    let bridge = Slot::new(0, 1, 0).ok_or("a slot")?;
-    let device = Slot::new(1, 0, 0).ok_or("a slot")?;
-    let admitted = bridged(&rt)?;
-    assert!(rt; admitted.dump().blocks().len() == 2);
-    assert!(rt; admitted.probe().blocks().len() == 2);
-    assert!(rt; admitted.outline().records().len() == 2);
-    assert!(rt; admitted.outline().roots() == Roots::host());
-    assert!(rt; is_behind(&admitted, device, bridge));
-    Ok(())
+fn both_dumps_and_the_outline_are_lent(rt: HostRuntime) {
+    assert!(rt; matches!(bridged(&rt), Some(admitted) if lends_all(&admitted)));
 }

@@ -2,6 +2,7 @@ use crate::texts::{STEPS, block, example, joined, outcome, reads_as};
 use pci_dump::block::{Block, Title};
 use pci_dump::read_fault::ReadFault;
 use pci_dump::reader::{Reader, read_dump};
+use std::alloc::AllocError;
 use std::test::Fail;
 use test_support::fakes::Pieces;
 
@@ -32,36 +33,44 @@ fn has_ended(reader: &mut Reader<Pieces<'_>>) -> bool {
     matches!(next_of(reader), Ok(None))
 }
 
+/// Whether a text is read as the example and no more in this cutting.
+fn is_read_as_example(text: &[u8], step: usize) -> bool {
+    let mut reader = Reader::new(Pieces::new(text, step, 0));
+    gives_example(&mut reader) && has_ended(&mut reader) && has_ended(&mut reader)
+}
+
 #[test]
 fn the_example_is_read_in_any_cutting(rt: HostRuntime) -> Result<(), Fail> {
     let text = example(&rt)?;
     assert!(rt; text.len() == 849);
     for step in STEPS {
-        let mut reader = Reader::new(Pieces::new(&text, step, 0));
-        assert!(rt; gives_example(&mut reader), "{step}");
-        assert!(rt; has_ended(&mut reader), "{step}");
-        assert!(rt; has_ended(&mut reader), "{step}");
+        assert!(rt; is_read_as_example(&text, step), "{step}");
     }
     Ok(())
+}
+
+/// How many lines a text of 849 bytes has that ends, cut after each byte, in the line that is cut; or a cut after which
+/// it doesn't.
+fn lines_of(rt: &HostRuntime, text: &[u8]) -> Result<u64, usize> {
+    let mut line = 1u64;
+    for cut in 1..849 {
+        let Some(front) = text.get(..cut) else {
+            return Err(cut);
+        };
+        if front.last() == Some(&b'\n') {
+            line = line.wrapping_add(1);
+        }
+        if outcome(rt, front, 100) != Err(ReadFault::Ended(line)) {
+            return Err(cut);
+        }
+    }
+    Ok(line)
 }
 
 #[test]
 fn cut_after_each_byte_the_example_ends_there(rt: HostRuntime) -> Result<(), Fail> {
     let text = example(&rt)?;
-    let mut line = 1u64;
-    for cut in 1..849 {
-        let Some(front) = text.get(..cut) else {
-            continue;
-        };
-        if front.last() == Some(&b'\n') {
-            line = line.wrapping_add(1);
-        }
-        assert!(rt;
-            outcome(&rt, front, 100) == Err(ReadFault::Ended(line)),
-            "{cut}"
-        );
-    }
-    assert!(rt; line == 18);
+    assert_eq!(rt; lines_of(&rt, &text), Ok(18));
     Ok(())
 }
 
@@ -76,28 +85,37 @@ fn changed(at: usize, line: u64) -> Result<usize, ReadFault> {
     }
 }
 
-#[test]
-fn each_byte_of_the_example_counts(rt: HostRuntime) -> Result<(), Fail> {
-    let mut text = example(&rt)?;
+/// Puts a byte in place of another, which is returned.
+fn put(text: &mut [u8], at: usize, byte: u8) -> Option<u8> {
+    let place = text.get_mut(at)?;
+    let before = *place;
+    *place = byte;
+    Some(before)
+}
+
+/// The first byte of the example's text that doesn't count, if any.
+fn idle_byte(rt: &HostRuntime, text: &mut [u8]) -> Option<usize> {
     let mut line = 1u64;
     for at in 0..849usize {
-        let Some(&byte) = text.get(at) else {
-            continue;
+        let Some(byte) = put(text, at, b'G') else {
+            return Some(at);
         };
-        if let Some(place) = text.get_mut(at) {
-            *place = b'G';
-        }
         let wanted = changed(at.wrapping_add(1), line);
-        for step in [64, 4096] {
-            assert!(rt; outcome(&rt, &text, step) == wanted, "{at}");
+        if outcome(rt, text, 64) != wanted || outcome(rt, text, 4096) != wanted {
+            return Some(at);
         }
-        if let Some(place) = text.get_mut(at) {
-            *place = byte;
-        }
+        let _ = put(text, at, byte);
         if byte == b'\n' {
             line = line.wrapping_add(1);
         }
     }
+    None
+}
+
+#[test]
+fn each_byte_of_the_example_counts(rt: HostRuntime) -> Result<(), Fail> {
+    let mut text = example(&rt)?;
+    assert_eq!(rt; idle_byte(&rt, &mut text), None);
     Ok(())
 }
 
@@ -113,7 +131,7 @@ enum Front {
 }
 
 /// The block of zeros that comes first in a text, or its beginning.
-fn front_of(rt: &HostRuntime, front: Front) -> Result<Vec<u8>, Fail> {
+fn front_of(rt: &HostRuntime, front: Front) -> Result<Vec<u8>, AllocError> {
     match front {
         Front::Nothing => Ok(Vec::new(rt.alloc())),
         Front::One => block(rt, b"00:01.0\n"),
@@ -129,7 +147,7 @@ fn front_of(rt: &HostRuntime, front: Front) -> Result<Vec<u8>, Fail> {
 /// What a text begins with, what follows, and what it is read as.
 type Row = (Front, &'static [u8], Result<usize, ReadFault>);
 
-const ROWS: [Row; 20] = [
+static ROWS: [Row; 20] = [
     (Front::Nothing, b"", Ok(0)),
     (Front::Nothing, b"00:01.0", Err(ReadFault::Ended(1))),
     (Front::Nothing, b"00:01.0\r\n", Err(ReadFault::BadSlot(1))),
@@ -164,27 +182,39 @@ const ROWS: [Row; 20] = [
     (Front::One, b"00:02.0 \xff \n", Err(ReadFault::Ended(20))),
 ];
 
-#[test]
-fn texts_are_refused_at_their_line(rt: HostRuntime) -> Result<(), Fail> {
-    for (front, end, wanted) in ROWS {
-        let front = front_of(&rt, front)?;
-        assert!(rt; reads_as(&rt, &front, end, wanted)?, "{wanted:?}");
+/// Whether a row's text is read as it says.
+fn is_as_its_row_says(rt: &HostRuntime, row: &Row) -> bool {
+    let (front, end, wanted) = *row;
+    match front_of(rt, front) {
+        Ok(front) => reads_as(rt, &front, end, wanted),
+        Err(_) => false,
     }
-    Ok(())
+}
+
+#[test]
+fn texts_are_refused_at_their_line(rt: HostRuntime) {
+    for row in &ROWS {
+        assert!(rt; is_as_its_row_says(&rt, row), "{:?}", row.2);
+    }
+}
+
+/// Whether two blocks are read in their order alone.
+fn rise(rt: &HostRuntime, one: &[u8], two: &[u8]) -> bool {
+    reads_as(rt, one, two, Ok(2))
+        && reads_as(rt, one, one, Err(ReadFault::Order(19)))
+        && reads_as(rt, two, one, Err(ReadFault::Order(19)))
 }
 
 #[test]
 fn blocks_rise(rt: HostRuntime) -> Result<(), Fail> {
     let one = block(&rt, b"00:01.0\n")?;
     let two = block(&rt, b"00:02.0\n")?;
-    assert!(rt; reads_as(&rt, &one, &two, Ok(2))?);
-    assert!(rt; reads_as(&rt, &one, &one, Err(ReadFault::Order(19)))?);
-    assert!(rt; reads_as(&rt, &two, &one, Err(ReadFault::Order(19)))?);
+    assert!(rt; rise(&rt, &one, &two));
     Ok(())
 }
 
 /// A block of zeros with a title of so many bytes.
-fn titled(rt: &HostRuntime, len: usize) -> Result<Vec<u8>, Fail> {
+fn titled(rt: &HostRuntime, len: usize) -> Result<Vec<u8>, AllocError> {
     let mut line = Vec::new(rt.alloc());
     line.extend_from_slice(b"00:01.0 ")?;
     line.resize(len.saturating_add(8), b'a')?;
@@ -192,14 +222,18 @@ fn titled(rt: &HostRuntime, len: usize) -> Result<Vec<u8>, Fail> {
     block(rt, &line)
 }
 
+/// Whether a block with a title of so many bytes is read so.
+fn title_reads_as(rt: &HostRuntime, len: usize, wanted: Result<usize, ReadFault>) -> bool {
+    match titled(rt, len) {
+        Ok(text) => text.len() == len.saturating_add(842) && reads_as(rt, &text, b"", wanted),
+        Err(_) => false,
+    }
+}
+
 #[test]
-fn a_title_has_at_most_200_bytes(rt: HostRuntime) -> Result<(), Fail> {
-    let long = titled(&rt, 200)?;
-    assert!(rt; long.len() == 1042);
-    let longer = titled(&rt, 201)?;
-    assert!(rt; reads_as(&rt, &long, b"", Ok(1))?);
-    assert!(rt; reads_as(&rt, &longer, b"", Err(ReadFault::BadTitle(1)))?);
-    Ok(())
+fn a_title_has_at_most_200_bytes(rt: HostRuntime) {
+    assert!(rt; title_reads_as(&rt, 200, Ok(1)));
+    assert!(rt; title_reads_as(&rt, 201, Err(ReadFault::BadTitle(1))));
 }
 
 /// Whether bytes are a title's, and that title's bytes are these.
@@ -217,15 +251,25 @@ fn titles_have_1_to_200_bytes_and_no_controls(rt: HostRuntime) {
     }
 }
 
+/// Whether a reader answers that its text has no title in line 19.
+fn has_no_title(reader: &mut Reader<Pieces<'_>>) -> bool {
+    matches!(next_of(reader), Err(ReadFault::BadTitle(19)))
+}
+
+/// Whether a reader of a text answers a block, and then three times that fault.
+fn stays_at_fault(text: &[u8]) -> bool {
+    let mut reader = Reader::new(Pieces::new(text, 841, 0));
+    matches!(next_of(&mut reader), Ok(Some(_)))
+        && has_no_title(&mut reader)
+        && has_no_title(&mut reader)
+        && has_no_title(&mut reader)
+}
+
 #[test]
 fn a_reader_stays_at_its_fault(rt: HostRuntime) -> Result<(), Fail> {
     let one = block(&rt, b"00:01.0\n")?;
     let text = joined(&rt, &[&one, b"00:01.1 \n", &one])?;
-    let mut reader = Reader::new(Pieces::new(&text, 841, 0));
-    assert!(rt; matches!(next_of(&mut reader), Ok(Some(_))));
-    for _ in 0..3 {
-        assert!(rt; matches!(next_of(&mut reader), Err(ReadFault::BadTitle(19))));
-    }
+    assert!(rt; stays_at_fault(&text));
     Ok(())
 }
 
@@ -244,19 +288,26 @@ fn stays_failed(text: &[u8], fail_at: u64) -> bool {
     failed
 }
 
+/// Whether reading a text, cut by a failed read, fails.
+fn fails(rt: &HostRuntime, text: &[u8], fail_at: u64) -> bool {
+    let read = read_dump(rt.alloc(), &mut Pieces::new(text, 400, fail_at));
+    matches!(read, Err(ReadFault::Io))
+}
+
 #[test]
 fn a_reader_stays_at_a_failed_read(rt: HostRuntime) -> Result<(), Fail> {
     let one = block(&rt, b"00:01.0\n")?;
     for fail_at in 1..5u64 {
-        assert!(rt; stays_failed(&one, fail_at), "{fail_at}");
-        let read = read_dump(rt.alloc(), &mut Pieces::new(&one, 400, fail_at));
-        assert!(rt; matches!(read, Err(ReadFault::Io)), "{fail_at}");
+        assert!(rt;
+            stays_failed(&one, fail_at) && fails(&rt, &one, fail_at),
+            "{fail_at}"
+        );
     }
     Ok(())
 }
 
 /// Faults with their numbers and texts.
-const SHOWN: [(ReadFault, u8, &str); 9] = [
+static SHOWN: [(ReadFault, u8, &str); 9] = [
     (ReadFault::Io, 1, "1 Io"),
     (ReadFault::Memory, 2, "2 Memory"),
     (ReadFault::BadSlot(1), 3, "3 BadSlot 1"),
@@ -269,15 +320,19 @@ const SHOWN: [(ReadFault, u8, &str); 9] = [
 ];
 
 /// Whether a fault is shown so.
-fn is_shown(rt: &HostRuntime, fault: ReadFault, text: &str) -> Result<bool, Fail> {
-    Ok(format!(in rt.alloc(); "{fault}")?.as_str() == text)
+fn is_shown(rt: &HostRuntime, fault: ReadFault, text: &str) -> bool {
+    match format!(in rt.alloc(); "{fault}") {
+        Ok(shown) => shown.as_str() == text,
+        Err(_) => false,
+    }
 }
 
 #[test]
-fn faults_are_shown_by_number_name_and_line(rt: HostRuntime) -> Result<(), Fail> {
-    for (fault, number, text) in SHOWN {
-        assert!(rt; fault.number() == number, "{number}");
-        assert!(rt; is_shown(&rt, fault, text)?, "{text}");
+fn faults_are_shown_by_number_name_and_line(rt: HostRuntime) {
+    for &(fault, number, text) in &SHOWN {
+        assert!(rt;
+            fault.number() == number && is_shown(&rt, fault, text),
+            "{text}"
+        );
     }
-    Ok(())
 }

@@ -6,7 +6,7 @@ use pci_image::bar::{Bar, BarKind};
 use pci_image::fault::ImageFault;
 use pci_image::rom::Rom;
 use pci_tree::decode::decode;
-use pci_tree::record::Record;
+use pci_tree::record::{Bridge, Record};
 use std::test::Fail;
 use test_support::registers::{Registers, bridge, device, list_at};
 
@@ -39,6 +39,15 @@ const ROM: Rom = Rom {
     last: 0xfea1_ffff,
 };
 
+/// Whether a record is of that device.
+fn is_device(found: &Record, slot: Slot) -> bool {
+    found.slot == slot
+        && found.command == 0x0103
+        && found.bars.as_slice() == BARS.as_slice()
+        && found.rom == Some(ROM)
+        && found.bridge == None
+}
+
 #[test]
 fn a_record_has_what_judging_needs(rt: HostRuntime) -> Result<(), Fail> {
     let slot = Slot::new(1, 2, 3).ok_or("a slot")?;
@@ -48,13 +57,20 @@ fn a_record_has_what_judging_needs(rt: HostRuntime) -> Result<(), Fail> {
         .register(0x10, 0x0000_e001, 0xffff_ff01)
         .register(0x14, 0xfebf_f008, 0xffff_f008)
         .register(0x30, 0xfea0_0001, 0xfffe_0000);
-    let found = decoded(slot, &function)?;
-    assert!(rt; found.slot == slot);
-    assert!(rt; found.command == 0x0103);
-    assert!(rt; found.bars.as_slice() == BARS.as_slice());
-    assert!(rt; found.rom == Some(ROM));
-    assert!(rt; found.bridge == None);
+    assert!(rt; is_device(&decoded(slot, &function)?, slot));
     Ok(())
+}
+
+/// Whether a bridge has these bus numbers, and a memory window alone.
+fn is_bridge(found: &Bridge) -> bool {
+    let range = Range {
+        first: 0xe000_0000,
+        last: 0xe01f_ffff,
+    };
+    (found.primary, found.secondary, found.subordinate) == (1, 4, 9)
+        && found.windows.mem.range() == Some(range)
+        && found.windows.io == None
+        && found.windows.pref == None
 }
 
 #[test]
@@ -63,15 +79,7 @@ fn a_bridge_has_its_bus_numbers_and_windows(rt: HostRuntime) -> Result<(), Fail>
     let function = bridge()
         .bytes(0x18, &[1, 4, 9])
         .register(0x20, 0xe010_e000, 0xfff0_fff0);
-    let found = decoded(slot, &function)?.bridge.ok_or("no bridge")?;
-    let range = Range {
-        first: 0xe000_0000,
-        last: 0xe01f_ffff,
-    };
-    assert!(rt; (found.primary, found.secondary, found.subordinate) == (1, 4, 9));
-    assert!(rt; found.windows.mem.range() == Some(range));
-    assert!(rt; found.windows.io == None);
-    assert!(rt; found.windows.pref == None);
+    assert!(rt; matches!(&decoded(slot, &function)?.bridge, Some(found) if is_bridge(found)));
     Ok(())
 }
 

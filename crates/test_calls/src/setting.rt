@@ -10,14 +10,12 @@ use pci_machine::port::{ConfigPort, PortError};
 use pci_machine::size::size;
 use pci_machine::size_fault::SizeFault;
 use std::alloc::Global;
-use std::test::Fail;
 use test_support::registers;
 use test_support::registers::Registers;
 
 /// A slot of bus 00.
-pub fn slot(dev: u8) -> Result<Slot, Fail> {
-    let slot = Slot::new(0, dev, 0).ok_or("no slot")?;
-    Ok(slot)
+pub fn slot(dev: u8) -> Option<Slot> {
+    Slot::new(0, dev, 0)
 }
 
 /// A device with all decode bits set, a pending error in Status, and a BAR of 1 MB.
@@ -53,14 +51,16 @@ pub fn capable_device() -> Registers {
 }
 
 /// Appends function 0 of a device of bus 00 to a dump.
-pub fn add(dump: &mut Dump, dev: u8, image: Image) -> Result<(), Fail> {
-    let slot = slot(dev)?;
-    dump.push(Block {
+pub fn add(dump: &mut Dump, dev: u8, image: Image) -> bool {
+    let Some(slot) = slot(dev) else {
+        return false;
+    };
+    let pushed = dump.push(Block {
         slot,
         title: None,
         image,
-    })?;
-    Ok(())
+    });
+    pushed.is_ok()
 }
 
 /// The machine of a dump and a probe, or why there is none.
@@ -73,13 +73,14 @@ pub fn machine_of_pair(
 }
 
 /// A machine with one function, at 00:00.0.
-pub fn machine_with(alloc: Global, function: Registers) -> Result<Machine, Fail> {
+pub fn machine_with(alloc: Global, function: Registers) -> Option<Machine> {
     let mut dump = Dump::empty(alloc);
     let mut probe = Dump::empty(alloc);
-    add(&mut dump, 0, function.image)?;
-    add(&mut probe, 0, function.probe)?;
-    let machine = machine_of_pair(alloc, &dump, &probe)?;
-    Ok(machine)
+    if add(&mut dump, 0, function.image) && add(&mut probe, 0, function.probe) {
+        machine_of_pair(alloc, &dump, &probe).ok()
+    } else {
+        None
+    }
 }
 
 /// What sizing finds.

@@ -12,21 +12,32 @@ use std::test::Fail;
 use test_support::fakes::{Narrow, Pieces};
 
 /// What is written of a dump, nothing where a write fails.
-fn written(rt: &HostRuntime, dump: &Dump) -> Result<Vec<u8>, Fail> {
+fn written(rt: &HostRuntime, dump: &Dump) -> Vec<u8> {
     let mut text = Vec::new(rt.alloc());
     if write_dump(&mut Outgoing::new(&mut text), dump).is_err() {
         text.clear();
     }
-    Ok(text)
+    text
 }
 
 /// Whether a dump that was read is written as this text.
-fn is_written_again(
-    rt: &HostRuntime,
-    dump: Result<Dump, ReadFault>,
-    text: &[u8],
-) -> Result<bool, Fail> {
-    Ok(written(rt, &dump?)?.as_slice() == text)
+fn is_written_again(rt: &HostRuntime, dump: Result<Dump, ReadFault>, text: &[u8]) -> bool {
+    match dump {
+        Ok(dump) => written(rt, &dump).as_slice() == text,
+        Err(_) => false,
+    }
+}
+
+/// Whether a text that is read in this cutting is written again.
+fn is_kept(rt: &HostRuntime, text: &[u8], step: usize) -> bool {
+    let dump = read_dump(rt.alloc(), &mut Pieces::new(text, step, 0));
+    is_written_again(rt, dump, text)
+}
+
+/// Whether it is where a reader of std gives it.
+fn is_kept_by_std(rt: &HostRuntime, text: &[u8]) -> bool {
+    let dump = read_dump(rt.alloc(), &mut Incoming::new(text));
+    is_written_again(rt, dump, text)
 }
 
 #[test]
@@ -35,11 +46,9 @@ fn what_is_read_is_written_again(rt: HostRuntime) -> Result<(), Fail> {
     let last = block(&rt, b"ff:1f.7 \xe9 ~\n")?;
     let text = joined(&rt, &[&first, &last])?;
     for step in STEPS {
-        let dump = read_dump(rt.alloc(), &mut Pieces::new(&text, step, 0));
-        assert!(rt; is_written_again(&rt, dump, &text)?, "{step}");
+        assert!(rt; is_kept(&rt, &text, step), "{step}");
     }
-    let dump = read_dump(rt.alloc(), &mut Incoming::new(text.as_slice()));
-    assert!(rt; is_written_again(&rt, dump, &text)?);
+    assert!(rt; is_kept_by_std(&rt, &text));
     Ok(())
 }
 
@@ -73,28 +82,43 @@ fn takes_all(dump: &Dump, text: &[u8], writer: Narrow) -> bool {
     write_to(&mut writer, dump) == Ok(()) && writer.taken.as_slice() == text
 }
 
+/// Writers by step, room, and whether they fail.
+static NARROW: [(usize, usize, bool); 5] = [
+    (4096, 100, true),
+    (4096, 100, false),
+    (1, 100, true),
+    (1, 100, false),
+    (7, 0, true),
+];
+
+/// Whether each of those writers, and one of each room that takes a byte at a time, holds a beginning.
+fn hold_beginnings(rt: &HostRuntime, dump: &Dump, text: &[u8]) -> bool {
+    for &(step, room, fails) in &NARROW {
+        if !leaves_beginning(dump, text, narrow(rt, room, step, fails)) {
+            return false;
+        }
+    }
+    for room in 0..849 {
+        if !leaves_beginning(dump, text, narrow(rt, room, 1, true)) {
+            return false;
+        }
+    }
+    true
+}
+
+/// Whether writers that have just the room take all.
+fn take_all(rt: &HostRuntime, dump: &Dump, text: &[u8]) -> bool {
+    takes_all(dump, text, narrow(rt, 849, 1, true))
+        && takes_all(dump, text, narrow(rt, 849, 848, true))
+        && takes_all(dump, text, narrow(rt, 849, 4096, true))
+}
+
 #[test]
 fn a_failing_writer_holds_a_beginning(rt: HostRuntime) -> Result<(), Fail> {
     let text = example(&rt)?;
     let dump = read_dump(rt.alloc(), &mut Pieces::new(&text, 4096, 0))?;
-    for (step, room, fails) in [
-        (4096, 100, true),
-        (4096, 100, false),
-        (1, 100, true),
-        (1, 100, false),
-        (7, 0, true),
-    ] {
-        let writer = narrow(&rt, room, step, fails);
-        assert!(rt; leaves_beginning(&dump, &text, writer), "{step} {room}");
-    }
-    for room in 0..849 {
-        let writer = narrow(&rt, room, 1, true);
-        assert!(rt; leaves_beginning(&dump, &text, writer), "{room}");
-    }
-    for step in [1, 848, 4096] {
-        let writer = narrow(&rt, 849, step, true);
-        assert!(rt; takes_all(&dump, &text, writer), "{step}");
-    }
+    assert!(rt; hold_beginnings(&rt, &dump, &text));
+    assert!(rt; take_all(&rt, &dump, &text));
     Ok(())
 }
 
@@ -132,22 +156,33 @@ fn takes_once(dump: &mut Dump, n: u16) -> bool {
     pushed(dump, n) == Some(Ok(())) && is_refused(dump, n, PushFault::NotAbove)
 }
 
-#[test]
-fn a_dump_has_at_most_4096_blocks(rt: HostRuntime) -> Result<(), Fail> {
-    let mut dump = Dump::empty(rt.alloc());
+/// Whether a dump takes 4,096 blocks, each once, and no more.
+fn is_filled(dump: &mut Dump) -> bool {
     for n in 0..4096u16 {
-        assert!(rt; takes_once(&mut dump, n), "{n}");
+        if !takes_once(dump, n) {
+            return false;
+        }
     }
-    assert!(rt; is_refused(&mut dump, 4096, PushFault::Full));
-    assert!(rt; is_refused(&mut dump, 4095, PushFault::NotAbove));
-    assert!(rt; dump.blocks().len() == 4096);
-    let text = written(&rt, &dump)?;
-    assert!(rt; text.len() == 3_444_736);
-    assert!(rt; reads_as(&rt, &text, b"", Ok(4096))?);
-    for end in [b"0", b"G", b"\n"] {
-        assert!(rt; reads_as(&rt, &text, end, Err(ReadFault::TooMany(73729)))?);
-    }
-    Ok(())
+    is_refused(dump, 4096, PushFault::Full)
+        && is_refused(dump, 4095, PushFault::NotAbove)
+        && dump.blocks().len() == 4096
+}
+
+/// Whether a text of 4,096 blocks is read, and with no byte more.
+fn is_full(rt: &HostRuntime, text: &[u8]) -> bool {
+    let refused = Err(ReadFault::TooMany(73729));
+    text.len() == 3_444_736
+        && reads_as(rt, text, b"", Ok(4096))
+        && reads_as(rt, text, b"0", refused)
+        && reads_as(rt, text, b"G", refused)
+        && reads_as(rt, text, b"\n", refused)
+}
+
+#[test]
+fn a_dump_has_at_most_4096_blocks(rt: HostRuntime) {
+    let mut dump = Dump::empty(rt.alloc());
+    assert!(rt; is_filled(&mut dump));
+    assert!(rt; is_full(&rt, &written(&rt, &dump)));
 }
 
 #[test]
