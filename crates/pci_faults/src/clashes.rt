@@ -2,9 +2,8 @@
 ghost use Rattle.std.specs.Prelude.{◌≡◌, OnOk};
 ghost use Rattle.pci_spec.specs.Order.{Clashes, Splits};
 ghost use Rattle.pci_base.specs.Space.{space_of};
-ghost use Rattle.pci_tree.specs.Roots.{buses_of};
 ghost use Rattle.pci_check.specs.Stops.{AreReachesOf};
-ghost use Rattle.pci_faults.specs.Lines.{AreLinesAdded, IsAt, IsBelow};
+ghost use Rattle.pci_faults.specs.Lines.{AreLinesAdded, IsAt};
 
 use super::shares::{Among, shares};
 use super::told::add_told;

@@ -1,5 +1,5 @@
 //! Of regions by slot and register: the least address that each shares with one before it, and with which.
-ghost use Rattle.std.specs.Prelude.{◌≡◌, ◌<◌, ◌≤◌, ℕ, length, IfOk, IfSome, OnOk, MatchOption};
+ghost use Rattle.std.specs.Prelude.{◌≡◌, ◌<◌, ◌≤◌, ℕ, length, IfOk, IfSome, MatchOption};
 ghost use Rattle.pci_tree.specs.Ranges.{Covers, IsCanonical, IsLeastFrom};
 ghost use Rattle.pci_faults.specs.Shares.{group_at, GroupsRise, IsShared, IsLeastShared, AreShares, AreOwned, AreBefore, AreLesser, AreWithin};
 ghost use Rattle.pci_faults.specs.declared.shares.Among.{Among as AmongValue};

@@ -246,10 +246,13 @@ module _ (roots : List ℕ) (s : System) (system : IsSystem s) (nested : IsNeste
       elim (cases_order stop.on_the_way.0 is.place) [
         | inl here ↦
             let b : stop.b ≡ is.b = same_place is.bridges stop.b is.b stop.on_the_way at here in
-            inr (sym is.named_bridge ∙ ap (λ (x : Function). x.slot) (sym b) ∙ stop.named, elim (cases_lt a address) [
-              | inl less ↦ absurd (both_ways _ (subst (λ (x : Function). passes space (is_prefetchable_part is.f is.part) a x ≡ false) b stop.stops) (is.lower_addresses a less stop.claims))
-              | inr ge ↦ ge
-            ])
+            inr (
+              sym is.named_bridge ∙ ap (λ (x : Function). x.slot) (sym b) ∙ stop.named,
+              elim (cases_lt a address) [
+                | inl less ↦ absurd (both_ways _ (subst (λ (x : Function). passes space (is_prefetchable_part is.f is.part) a x ≡ false) b stop.stops) (is.lower_addresses a less stop.claims))
+                | inr ge ↦ ge
+              ],
+            )
         | inr (inl before) ↦
             let within = is.within in
             absurd (both_ways _ stop.stops (is.earlier_bridges stop.b (in_front is.bridges is.place stop.b stop.on_the_way before (omega (arith, within))) a stop.claims))

@@ -39,13 +39,15 @@ fn a_clash_is_told_at_the_least_address_of_each_later_region(rt: HostRuntime) ->
         device("00:02.0", 2, &[(0x10, 0xe100_0000, 0xfff0_0000)]),
         device("00:03.0", 2, &[(0x10, 0xe080_0000, 0xfff0_0000)]),
     ];
-    assert!(rt; has_lines(
-        rt.alloc(),
-        &board,
-        &[0],
-        "61 Clash bus 00 mem 00000000e0800000 00:01.0 10 00:03.0 10\n\
+    assert!(rt;
+        has_lines(
+            rt.alloc(),
+            &board,
+            &[0],
+            "61 Clash bus 00 mem 00000000e0800000 00:01.0 10 00:03.0 10\n\
          61 Clash bus 00 mem 00000000e1000000 00:01.0 10 00:02.0 10\n",
-    ));
+        )
+    );
     Ok(())
 }
 
@@ -63,14 +65,16 @@ fn each_region_is_named_second_once(rt: HostRuntime) -> Result<(), Fail> {
             ],
         ),
     ];
-    assert!(rt; has_lines(
-        rt.alloc(),
-        &board,
-        &[0],
-        "61 Clash bus 00 mem 00000000e0100000 00:01.0 10 00:02.0 10\n\
+    assert!(rt;
+        has_lines(
+            rt.alloc(),
+            &board,
+            &[0],
+            "61 Clash bus 00 mem 00000000e0100000 00:01.0 10 00:02.0 10\n\
          61 Clash bus 00 mem 00000000e0100000 00:01.0 10 00:03.0 10\n\
          61 Clash bus 00 mem 00000000e0180000 00:01.0 10 00:03.0 14\n",
-    ));
+        )
+    );
     Ok(())
 }
 
@@ -88,14 +92,16 @@ fn each_bar_and_rom_behind_a_bridge_that_is_off_has_a_line(rt: HostRuntime) -> R
             ],
         ),
     ];
-    assert!(rt; has_lines(
-        rt.alloc(),
-        &board,
-        &[0],
-        "60 Unreached 01:00.0 10 mem 00000000e0000000 bridge 00:01.0\n\
+    assert!(rt;
+        has_lines(
+            rt.alloc(),
+            &board,
+            &[0],
+            "60 Unreached 01:00.0 10 mem 00000000e0000000 bridge 00:01.0\n\
          60 Unreached 01:01.0 10 mem 00000000e0010000 bridge 00:01.0\n\
          60 Unreached 01:01.0 30 mem 00000000e0020000 bridge 00:01.0\n",
-    ));
+        )
+    );
     Ok(())
 }
 
@@ -113,12 +119,14 @@ fn the_least_address_that_the_first_bridge_misses_is_told(rt: HostRuntime) -> Re
         ),
         device("01:00.0", 2, &[(0x10, 0xe000_0008, 0xffc0_0008)]),
     ];
-    assert!(rt; has_lines(
-        rt.alloc(),
-        &board,
-        &[0],
-        "60 Unreached 01:00.0 10 mem 00000000e0100000 bridge 00:01.0\n",
-    ));
+    assert!(rt;
+        has_lines(
+            rt.alloc(),
+            &board,
+            &[0],
+            "60 Unreached 01:00.0 10 mem 00000000e0100000 bridge 00:01.0\n",
+        )
+    );
     Ok(())
 }
 
@@ -129,14 +137,16 @@ fn splits_follow_clashes(rt: HostRuntime) -> Result<(), Fail> {
         device("40:01.0", 2, &[(0x10, 0xe000_0000, 0xfff0_0000)]),
         device("40:02.0", 2, &[(0x10, 0xe008_0000, 0xfff8_0000)]),
     ];
-    assert!(rt; has_lines(
-        rt.alloc(),
-        &board,
-        &[0, 0x40],
-        "61 Clash bus 40 mem 00000000e0080000 40:01.0 10 40:02.0 10\n\
+    assert!(rt;
+        has_lines(
+            rt.alloc(),
+            &board,
+            &[0, 0x40],
+            "61 Clash bus 40 mem 00000000e0080000 40:01.0 10 40:02.0 10\n\
          62 Split mem 00000000e0000000 00:01.0 10 40:01.0 10\n\
          62 Split mem 00000000e0080000 00:01.0 10 40:02.0 10\n",
-    ));
+        )
+    );
     Ok(())
 }
 

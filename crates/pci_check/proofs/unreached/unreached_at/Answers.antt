@@ -22,8 +22,13 @@ returns-in-Some-first_stop g c = record {
       c.in-Some-first_stop.stop.index c.in-Some-first_stop.stop.address c.index-path-stop.result
       (λ s tree. subst (λ (path : List Slot). IsPathTo c.args.outline.now.roots s path c.args.region.now.slot.bus) (sym c.as_slice-path.ensures.value) (c.in-Some.ensures s tree.records))
       c.in-Some-first_stop.ensures c.index-path-stop.is;
-  line = λ s tree bus on no_window. (refl, refl, refl, unreached_line c.args.outline.now c.args.reached.now c.requires.reached c.requires.nested (space_of c.args.space) c.args.region.now
-      c.as_slice-path.result.now c.in-Some-first_stop.stop.index c.in-Some-first_stop.stop.address c.index-path-stop.result
-      (λ s tree. subst (λ (path : List Slot). IsPathTo c.args.outline.now.roots s path c.args.region.now.slot.bus) (sym c.as_slice-path.ensures.value) (c.in-Some.ensures s tree.records))
-      c.in-Some-first_stop.ensures c.index-path-stop.is s tree bus on no_window);
+  line = λ s tree bus on no_window. (
+    refl,
+    refl,
+    refl,
+    unreached_line c.args.outline.now c.args.reached.now c.requires.reached c.requires.nested (space_of c.args.space) c.args.region.now
+        c.as_slice-path.result.now c.in-Some-first_stop.stop.index c.in-Some-first_stop.stop.address c.index-path-stop.result
+        (λ s tree. subst (λ (path : List Slot). IsPathTo c.args.outline.now.roots s path c.args.region.now.slot.bus) (sym c.as_slice-path.ensures.value) (c.in-Some.ensures s tree.records))
+        c.in-Some-first_stop.ensures c.index-path-stop.is s tree bus on no_window,
+  );
 }
