@@ -6,4 +6,7 @@ pub mod Merging
 pub mod OfIdentity
 pub mod OfProfile
 pub mod OfPlace
+pub mod OfRegisters
+pub mod OfLists
+pub mod OfDecoding
 pub mod Wholes

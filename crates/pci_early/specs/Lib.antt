@@ -3,3 +3,4 @@ pub mod OwnLines
 pub mod Slots
 pub mod Phases
 pub mod Places
+pub mod Registers

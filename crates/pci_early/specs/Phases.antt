@@ -2,7 +2,7 @@
 use Rattle.std.specs.Prelude.{◌≡◌, ℕ, List, ◌++◌}
 use Rattle.pci_spec.specs.System.{Function}
 use Rattle.pci_spec.specs.Fault as faults
-use Rattle.pci_spec.specs.Order.{phase_key, Identity, Profile}
+use Rattle.pci_spec.specs.Order.{phase_key, Identity, Decoding, Profile}
 use Rattle.pci_early.specs.declared.functions.OwnPhase.{OwnPhase}
 use Rattle.pci_early.specs.declared.functions.OwnPhase.TheVariants as codes
 use Rattle.pci_early.specs.Lists.{AreJust}
@@ -10,6 +10,7 @@ use Rattle.pci_early.specs.OwnLines.{IsBeforeIn, IsOwnLine}
 
 abbrev pub number_of : OwnPhase → ℕ
 number_of codes.Identity = phase_key Identity
+number_of codes.Decoding = phase_key Decoding
 number_of codes.Profile = phase_key Profile
 
 -- a list has grown by the function's lines

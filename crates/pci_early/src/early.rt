@@ -1,7 +1,7 @@
 //! All faults of the earliest phase that has any.
-ghost use Rattle.std.specs.Prelude.{◌≡◌, ◌≢◌, ◌<◌, map, IfOk};
+ghost use Rattle.std.specs.Prelude.{◌<◌, map, IfOk};
 ghost use Rattle.pci_spec.specs.Fault.{fault_number};
-ghost use Rattle.pci_spec.specs.Order.{phase_of, IsFirstThere};
+ghost use Rattle.pci_spec.specs.Order.{IsFirstThere};
 ghost use Rattle.pci_spec.specs.FaultLines.{AreAllFaults};
 ghost use Rattle.pci_function.specs.Fault.{fault_of};
 ghost use Rattle.pci_tree.specs.Roots.{buses_of};
@@ -15,10 +15,10 @@ use pci_function::fault::Fault;
 use pci_tree::roots::Roots;
 use std::alloc::Allocator;
 
-/// All faults of a dump and its probe of the phase of `first`, the first fault that is there, in the order in which they
-/// are looked for: 30 of each slot that one of the two alone lists; else of each function the first of 20, 21 and 31;
-/// else of each register the first of 22 to 26, and of each capabilities list the first of 27 to 29; else each of 51 to
-/// 56; else each of 50, 58 and 57.
+/// All faults of a dump and its probe that are of the phase of `first`, the first fault that is there. In the order in
+/// which they are looked for these are 30 of each slot that one of the two alone lists; else of each function the first
+/// of 20, 21 and 31; else of each register the first of 22 to 26, and of each capabilities list the first of 27 to 29;
+/// else each of 51 to 56; else each of 50, 58 and 57.
 ///
 /// # Errors
 ///
@@ -32,7 +32,6 @@ pub fn faults_from<A: Allocator + Copy, B: Allocator, C: Allocator>(
 ) -> Result<Vec<Fault, A>, OutOfMemory>
     // faults of judging, 60 and above, are found among the regions of an outline
     requires early { fault_number (fault_of first) < 60 }
-    requires registers { phase_of (fault_of first) ≢ 2 }
     // whoever was refused an outline has it; it tells which phases have no fault
     requires first { IsFirstThere (buses_of roots.now) dump.now probe.now (fault_of first) }
     ensures { IfOk result (λ found. AreAllFaults (buses_of roots.now) dump.now probe.now
@@ -43,6 +42,7 @@ pub fn faults_from<A: Allocator + Copy, B: Allocator, C: Allocator>(
     match first.phase() {
         0 => slot_faults(alloc, blocks, probes),
         1 => function_faults(alloc, OwnPhase::Identity, blocks, probes),
+        2 => function_faults(alloc, OwnPhase::Decoding, blocks, probes),
         3 => function_faults(alloc, OwnPhase::Profile, blocks, probes),
         _ => place_faults(alloc, blocks, probes, roots),
     }

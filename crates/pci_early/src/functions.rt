@@ -11,6 +11,7 @@ ghost use Rattle.pci_early.specs.Phases.{number_of, IsAdding};
 
 use super::identity::identity_faults;
 use super::profile::profile_faults;
+use super::registers::decoding_faults;
 use super::told::add_told;
 use pci_base::memory::OutOfMemory;
 use pci_dump::block::Block;
@@ -22,6 +23,8 @@ use std::alloc::Allocator;
 pub enum OwnPhase {
     /// Its identity and its probe: 20, 21 and 31.
     Identity,
+    /// Its registers and its capabilities list: 22 to 29.
+    Decoding,
     /// Its profile: 51 to 56.
     Profile,
 }
@@ -41,6 +44,10 @@ fn add_function<A: Allocator>(
     match phase {
         OwnPhase::Identity => {
             let faults = identity_faults(slot, &block.image, &probe.image);
+            add_told(found, faults.as_slice())
+        }
+        OwnPhase::Decoding => {
+            let faults = decoding_faults(slot, &block.image, &probe.image);
             add_told(found, faults.as_slice())
         }
         OwnPhase::Profile => {

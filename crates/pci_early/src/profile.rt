@@ -26,8 +26,8 @@ fn is_asleep(image: &Image) -> bool
     }
 }
 
-/// Of 51 to 56 each that a function has, in the order in which they are looked for, where none of an earlier phase is one
-/// of the function.
+/// Of 51 to 56 each that a function has, in the order in which they are looked for, where none of an earlier phase is
+/// one of the function.
 pub fn profile_faults(slot: Slot, image: &Image) -> [Option<Fault>; 6]
     // the probe tells nothing of a profile
     ensures { (probe : List ℕ)

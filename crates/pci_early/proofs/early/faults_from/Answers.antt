@@ -5,6 +5,11 @@ use Rattle.pci_tree.specs.Roots.{buses_of}
 use Rattle.pci_early.proofs.Wholes.{ok_more, before_judging, none_of_functions, whole_of_slots, whole_of_functions, whole_of_places}
 use Rattle.pci_early.proofs.early.faults_from.Goals as goal
 
+pub function_faults-requires-in-2-clause-none : goal.function_faults-requires-in-2-clause-none
+function_faults-requires-in-2-clause-none g c =
+    none_of_functions (buses_of c.args.roots.now) c.args.dump.now c.args.probe.now c.blocks-blocks.result.now c.blocks-probes.result.now c.blocks-blocks.ensures.value c.blocks-probes.ensures.value
+    c.blocks-blocks.ensures.dump c.blocks-probes.ensures.dump (fault_of c.args.first) c.requires.first 2 (omega arith) (sym c.phase.ensures ∙ c.in-2.is)
+
 pub function_faults-requires-in-3-clause-none : goal.function_faults-requires-in-3-clause-none
 function_faults-requires-in-3-clause-none g c =
     none_of_functions (buses_of c.args.roots.now) c.args.dump.now c.args.probe.now c.blocks-blocks.result.now c.blocks-probes.result.now c.blocks-blocks.ensures.value c.blocks-probes.ensures.value
@@ -28,6 +33,12 @@ returns-in-1 g c =
     ok_more _ _ c.function_faults.result
     (λ found just. whole_of_functions (buses_of c.args.roots.now) c.args.dump.now c.args.probe.now c.blocks-blocks.result.now c.blocks-probes.result.now c.blocks-blocks.ensures.value c.blocks-probes.ensures.value
     c.blocks-blocks.ensures.dump c.blocks-probes.ensures.dump (fault_of c.args.first) c.requires.first 1 (omega arith) (omega arith) (sym c.phase.ensures ∙ c.in-1.is) (map fault_of found.items) just) c.function_faults.ensures
+
+pub returns-in-2 : goal.returns-in-2
+returns-in-2 g c =
+    ok_more _ _ c.function_faults-in-2.result
+    (λ found just. whole_of_functions (buses_of c.args.roots.now) c.args.dump.now c.args.probe.now c.blocks-blocks.result.now c.blocks-probes.result.now c.blocks-blocks.ensures.value c.blocks-probes.ensures.value
+    c.blocks-blocks.ensures.dump c.blocks-probes.ensures.dump (fault_of c.args.first) c.requires.first 2 (omega arith) (omega arith) (sym c.phase.ensures ∙ c.in-2.is) (map fault_of found.items) just) c.function_faults-in-2.ensures
 
 pub returns-in-3 : goal.returns-in-3
 returns-in-3 g c =
