@@ -21,4 +21,6 @@ mod place;
 mod profile;
 mod registers;
 mod slots;
+#[cfg(test)]
+mod tests;
 mod told;

@@ -1,0 +1,218 @@
+//! Lists of all faults, by rows of functions.
+
+use crate::early::faults_from;
+use pci_base::image::{IMAGE_LEN, Image};
+use pci_base::memory::Refused;
+use pci_base::slot::Slot;
+use pci_dump::block::Block;
+use pci_dump::dump::Dump;
+use pci_function::fault::Fault;
+use pci_tree::admit::outline_of;
+use pci_tree::roots::Roots;
+use std::test::Fail;
+
+/// Registers of four bytes, by their offsets; all else is 0.
+type Registers = &'static [(u8, u32)];
+
+/// A function on bus, device and function, with its registers and their read backs.
+type Placed = (u8, u8, u8, Registers, Registers);
+
+/// A device, and a bridge from bus 0 to bus 1, by what stands at 00h, 0Ch and 18h.
+const DEVICE: (u8, u32) = (0x00, 0x5678_1234);
+
+const BRIDGE: (u8, u32) = (0x0c, 0x0001_0000);
+
+const TO_BUS_1: (u8, u32) = (0x18, 0x0001_0100);
+
+/// Read backs of a bridge's memory window.
+const WINDOW: (u8, u32) = (0x20, 0xfff0_fff0);
+
+/// Where no function answers.
+const NOTHING: (u8, u32) = (0x00, 0xffff_ffff);
+
+/// A list that begins at 40h, and one that begins inside the header.
+const LIST: [(u8, u32); 2] = [(0x04, 0x0010_0000), (0x34, 0x40)];
+
+fn slot(bus: u8, device: u8, function: u8) -> Result<Slot, Fail> {
+    Ok(Slot::new(bus, device, function).ok_or("a slot")?)
+}
+
+fn image(registers: Registers) -> Image {
+    let mut image = Image([0; IMAGE_LEN]);
+    for &(off, value) in registers {
+        for (i, byte) in value.to_le_bytes().into_iter().enumerate() {
+            let at = usize::from(off) + i;
+            if at < IMAGE_LEN {
+                image.0[at] = byte;
+            }
+        }
+    }
+    image
+}
+
+/// Appends a function to a dump.
+fn add(dump: &mut Dump, slot: Slot, registers: Registers) -> Result<(), Fail> {
+    dump.push(Block {
+        slot,
+        title: None,
+        image: image(registers),
+    })?;
+    Ok(())
+}
+
+/// All faults of a dump and its probe, in one text.
+fn list_of(rt: &HostRuntime, dump: &Dump, probe: &Dump, roots: Roots) -> Result<String, Fail> {
+    let mut text = String::new(rt.alloc());
+    match outline_of(rt.alloc(), dump, probe, roots) {
+        Ok(_) => Ok(text),
+        Err(Refused::Memory) => Err("no memory".into()),
+        Err(Refused::Fault(first)) => {
+            for fault in &faults_from(rt.alloc(), dump, probe, &roots, first)? {
+                text.push_str(format!(in rt.alloc(); "{fault}\n")?.as_str())?;
+            }
+            Ok(text)
+        }
+    }
+}
+
+/// The same of some functions.
+fn list_for(rt: &HostRuntime, roots: Roots, functions: &[Placed]) -> Result<String, Fail> {
+    let mut dump = Dump::empty(rt.alloc());
+    let mut probe = Dump::empty(rt.alloc());
+    for &(bus, device, function, registers, read_backs) in functions {
+        let slot = slot(bus, device, function)?;
+        add(&mut dump, slot, registers)?;
+        add(&mut probe, slot, read_backs)?;
+    }
+    list_of(rt, &dump, &probe, roots)
+}
+
+#[test]
+fn each_slot_of_one_text_alone_has_a_line(rt: HostRuntime) -> Result<(), Fail> {
+    let mut dump = Dump::empty(rt.alloc());
+    let mut probe = Dump::empty(rt.alloc());
+    for device in [1, 2, 5, 6] {
+        add(&mut dump, slot(0, device, 0)?, &[NOTHING])?;
+    }
+    for device in [2, 3, 5, 7] {
+        add(&mut probe, slot(0, device, 0)?, &[])?;
+    }
+    assert!(rt;
+        list_of(&rt, &dump, &probe, Roots::host())?.as_str()
+            == "30 SlotsDiffer 00:01.0\n30 SlotsDiffer 00:03.0\n30 SlotsDiffer 00:06.0\n30 SlotsDiffer 00:07.0\n"
+    );
+    Ok(())
+}
+
+#[test]
+fn each_function_has_one_line_of_identity(rt: HostRuntime) -> Result<(), Fail> {
+    let functions: [Placed; 4] = [
+        (0, 1, 0, &[NOTHING], &[(0x3c, 1)]),
+        (
+            0,
+            2,
+            0,
+            &[DEVICE, (0x04, 0x20)],
+            &[(0x3c, 0x0100), (0x40, 1)],
+        ),
+        (0, 3, 0, &[DEVICE, (0x04, 0x20)], &[]),
+        (0, 4, 0, &[DEVICE, (0x0c, 0x0002_0000)], &[(0x3c, 1)]),
+    ];
+    assert!(rt;
+        list_for(&rt, Roots::host(), &functions)?.as_str()
+            == "20 NoVendor 00:01.0\n31 StrayProbe 00:02.0 3d\n21 HeaderKind 00:04.0\n"
+    );
+    Ok(())
+}
+
+#[test]
+fn each_register_has_one_line(rt: HostRuntime) -> Result<(), Fail> {
+    let functions: [Placed; 4] = [
+        (
+            0,
+            1,
+            0,
+            &[
+                DEVICE,
+                LIST[0],
+                (0x34, 0x10),
+                (0x10, 2),
+                (0x18, 4),
+                (0x24, 0x0c),
+            ],
+            &[
+                (0x10, 0xfff0_0002),
+                (0x14, 0xfff0_f000),
+                (0x18, 0xfff0_0004),
+                (0x1c, 0xffff_ffff),
+                (0x24, 0xff00_000c),
+                (0x30, 0xfe00_0000),
+            ],
+        ),
+        (0, 2, 0, &[DEVICE, (0x04, 0x20)], &[]),
+        (
+            0,
+            3,
+            0,
+            &[DEVICE, BRIDGE, TO_BUS_1, (0x10, 1)],
+            &[(0x14, 0xf), (0x1c, 0xf1f0), (0x20, 0xfff0_fff1), (0x24, 1)],
+        ),
+        (0, 4, 0, &[DEVICE, LIST[0], LIST[1], (0x40, 0x4000)], &[]),
+    ];
+    let lines =
+        "22 BarType 00:01.0 10\n23 BarMask 00:01.0 14\n24 BarPair 00:01.0 24\n25 RomMask 00:01.0 30\n\
+        27 CapRange 00:01.0 10\n23 BarMask 00:03.0 10\n23 BarMask 00:03.0 14\n26 WindowMask 00:03.0 1c\n\
+        26 WindowMask 00:03.0 20\n26 WindowMask 00:03.0 24\n28 CapLoop 00:04.0 40\n";
+    assert!(rt; list_for(&rt, Roots::host(), &functions)?.as_str() == lines);
+    Ok(())
+}
+
+#[test]
+fn each_fault_of_a_profile_has_a_line(rt: HostRuntime) -> Result<(), Fail> {
+    let functions: [Placed; 3] = [
+        (
+            0,
+            1,
+            0,
+            &[
+                DEVICE,
+                (0x04, 0x0010_0020),
+                (0x08, 0x0604_0100),
+                BRIDGE,
+                TO_BUS_1,
+                LIST[1],
+                (0x3c, 0x004c_0000),
+                (0x40, 1),
+                (0x44, 3),
+            ],
+            &[WINDOW],
+        ),
+        (0, 2, 1, &[DEVICE], &[]),
+        (0, 3, 0, &[DEVICE, (0x04, 0x20)], &[]),
+    ];
+    let lines =
+        "51 PaletteSnoop 00:01.0\n52 VgaEnable 00:01.0\n53 IsaEnable 00:01.0\n54 Subtractive 00:01.0\n\
+        55 InReset 00:01.0\n56 PowerState 00:01.0\n51 PaletteSnoop 00:03.0\n";
+    assert!(rt; list_for(&rt, Roots::host(), &functions)?.as_str() == lines);
+    Ok(())
+}
+
+#[test]
+fn each_fault_of_a_place_has_a_line(rt: HostRuntime) -> Result<(), Fail> {
+    let functions: [Placed; 4] = [
+        (0, 1, 1, &[DEVICE], &[]),
+        (1, 0, 0, &[DEVICE], &[]),
+        (2, 3, 4, &[DEVICE, BRIDGE, TO_BUS_1], &[WINDOW]),
+        (3, 0, 0, &[DEVICE], &[]),
+    ];
+    let lines =
+        "50 LoneFunction 00:01.1\n50 LoneFunction 02:03.4\n58 Orphan 02:03.4\n57 BusRange 02:03.4\n\
+        58 Orphan 03:00.0\n";
+    assert!(rt; list_for(&rt, Roots::host(), &functions)?.as_str() == lines);
+    let roots = Roots::of(&[0, 2, 3]).ok_or("roots")?;
+    assert!(rt;
+        list_for(&rt, roots, &functions)?.as_str()
+            == "50 LoneFunction 00:01.1\n50 LoneFunction 02:03.4\n57 BusRange 02:03.4\n"
+    );
+    Ok(())
+}
