@@ -1,18 +1,19 @@
 -- The list of each phase is the whole one, also of blocks that are lent.
-use Rattle.std.proofs.Common.{◌≡◌, ℕ, ◌<◌, List, Result, Ok, Err, arith, sym, subst}
-use Rattle.std.specs.Prelude.{IfOk}
+use Rattle.std.proofs.Common.{◌≡◌, ℕ, ◌<◌, List, [], ◌∷◌, Result, Ok, Err, inl, inr, arith, sym, ap, subst}
+use Rattle.std.specs.Prelude.{IfOk, IsTrue}
 use Rattle.std.specs.List.{Contains}
 use Rattle.pci_spec.specs.Text.{Block, IsDump, slots_of}
 use Rattle.pci_spec.specs.System.{Function, IsSystem, system_of}
 use Rattle.pci_spec.specs.Fault.{Fault, SlotsDiffer, Unreached, Clash, Split, IsThere, fault_number}
-use Rattle.pci_spec.specs.Order.{phase_of, IsFirstThere}
-use Rattle.pci_spec.specs.FaultLines.{AreAllFaults}
+use Rattle.pci_spec.specs.Order.{phase_of, is_before, image_at, IsFirstThere}
+use Rattle.pci_spec.specs.FaultLines.{IsLine, AreAllFaults}
+use Rattle.pci_spec.proofs.Members.{in_nil, in_head, in_cons_cases, pairs_head}
 use Rattle.pci_spec.proofs.Pairing.{IsSystem-of_dumps}
-use Rattle.pci_early.specs.Lists.{AreJust}
+use Rattle.pci_early.specs.Lists.{AreJust, BeginsWith}
 use Rattle.pci_early.specs.OwnLines.{HasNoneBefore, IsBeforeAt, IsOwnLine, IsOwnOf}
 use Rattle.pci_early.specs.Places.{IsPlaceOf}
 use Rattle.pci_early.specs.Slots.{IsLoneSlot}
-use Rattle.pci_early.proofs.Lines.{none_in_function, all_of_functions}
+use Rattle.pci_early.proofs.Lines.{none_in_function, none_earlier_than, all_of_functions}
 use Rattle.pci_early.proofs.Merging.{all_of_slots}
 use Rattle.pci_early.proofs.OfPlace.{all_of_places}
 
@@ -63,3 +64,26 @@ module _ (roots : List ℕ) (dump probe a b : List Block) (lent_dump : a ≡ dum
 
   pub whole_of_places : phase_of first ≡ 4 → (xs : List Fault) → AreJust (IsBeforeAt (system_of a b)) (IsOwnOf (IsPlaceOf roots (system_of a b)) (system_of a b)) xs → AreAllFaults roots dump probe xs
   whole_of_places phase xs just = lent_all xs (all_of_places roots a b (lent_same (omega (arith, phase))) first lent_first phase xs just)
+
+-- ---- the first line
+
+module _ (roots : List ℕ) (dump probe : List Block) (first : Fault) (early : fault_number first < 60) (is : IsFirstThere roots dump probe first) where
+  first_is_line : IsLine roots dump probe first
+  first_is_line = record {
+    there = is.there;
+    none_earlier = λ other less there. none_earlier_than roots dump probe first other is less there;
+    first = λ low other same before there. is.none_before other before there;
+    named = λ judging. absurd (let low = before_judging first early in let no : ⊥ = omega (arith, judging, low) in no);
+  }
+
+  begins : (xs : List Fault) → AreAllFaults roots dump probe xs → BeginsWith first xs
+  begins [] all = absurd (in_nil first (all.complete first first_is_line))
+  begins (x ∷ xs) all = elim (in_cons_cases x xs first (all.complete first first_is_line)) [
+    | inl same ↦ (xs, ap (λ y. y ∷ xs) same)
+    | inr later ↦
+        absurd (is.none_before x (pairs_head (λ a b. IsTrue (is_before (image_at (system_of dump probe)) a b)) x xs first all.rising later) (all.each x (in_head x xs)).there)
+  ]
+
+  pub ok_begins : {X E : Type 0} (list_of : X → List Fault) (r : Result X E) → IfOk r (λ x. AreAllFaults roots dump probe (list_of x)) → IfOk r (λ x. BeginsWith first (list_of x))
+  ok_begins list_of (Ok x) all = begins (list_of x) all
+  ok_begins list_of (Err e) all = all

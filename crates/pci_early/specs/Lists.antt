@@ -1,5 +1,5 @@
 -- Lists of just those faults that are of some kind.
-use Rattle.std.specs.Prelude.{List, [], ◌∷◌, Option, None, Some}
+use Rattle.std.specs.Prelude.{◌≡◌, List, [], ◌∷◌, Option, None, Some}
 use Rattle.std.specs.List.{AllPairs, Contains}
 use Rattle.pci_spec.specs.Fault as faults
 use Rattle.pci_function.specs.declared.fault.Fault.{Fault}
@@ -17,3 +17,7 @@ abbrev pub told : List (Option Fault) → List faults.Fault
 told [] = []
 told (None ∷ rest) = told rest
 told (Some fault ∷ rest) = fault_of fault ∷ told rest
+
+-- the fault is the list's first
+abbrev pub BeginsWith : faults.Fault → List faults.Fault → Type 0
+BeginsWith fault list = (rest : List faults.Fault) × (list ≡ fault ∷ rest)

@@ -5,6 +5,7 @@ ghost use Rattle.pci_spec.specs.Order.{IsFirstThere};
 ghost use Rattle.pci_spec.specs.FaultLines.{AreAllFaults};
 ghost use Rattle.pci_function.specs.Fault.{fault_of};
 ghost use Rattle.pci_tree.specs.Roots.{buses_of};
+ghost use Rattle.pci_early.specs.Lists.{BeginsWith};
 
 use super::functions::{OwnPhase, function_faults};
 use super::place::place_faults;
@@ -34,8 +35,11 @@ pub fn faults_from<A: Allocator + Copy, B: Allocator, C: Allocator>(
     requires early { fault_number (fault_of first) < 60 }
     // whoever was refused an outline has it; it tells which phases have no fault
     requires first { IsFirstThere (buses_of roots.now) dump.now probe.now (fault_of first) }
-    ensures { IfOk result (λ found. AreAllFaults (buses_of roots.now) dump.now probe.now
+    ensures all { IfOk result (λ found. AreAllFaults (buses_of roots.now) dump.now probe.now
         (map fault_of found.items)) }
+    // so that a list of all begins with what is named where one fault alone is
+    ensures head { IfOk result
+        (λ found. BeginsWith (fault_of first) (map fault_of found.items)) }
 {
     let blocks = dump.blocks();
     let probes = probe.blocks();
