@@ -17,7 +17,7 @@ type Registers = &'static [(u8, u32)];
 /// A function on bus, device and function, with its registers and their read backs.
 type Placed = (u8, u8, u8, Registers, Registers);
 
-/// A device, and a bridge from bus 0 to bus 1, by what stands at 00h, 0Ch and 18h.
+/// Vendor and device, the Header Type of a bridge, and its bus numbers where it leads from bus 0 to bus 1.
 const DEVICE: (u8, u32) = (0x00, 0x5678_1234);
 
 const BRIDGE: (u8, u32) = (0x0c, 0x0001_0000);
@@ -30,7 +30,7 @@ const WINDOW: (u8, u32) = (0x20, 0xfff0_fff0);
 /// Where no function answers.
 const NOTHING: (u8, u32) = (0x00, 0xffff_ffff);
 
-/// A list that begins at 40h, and one that begins inside the header.
+/// Status says that there is a capabilities list, and it begins at 40h.
 const LIST: [(u8, u32); 2] = [(0x04, 0x0010_0000), (0x34, 0x40)];
 
 fn slot(bus: u8, device: u8, function: u8) -> Result<Slot, Fail> {
