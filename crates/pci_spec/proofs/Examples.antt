@@ -33,3 +33,4 @@ pub mod Sized
 pub mod AllFaults
 pub mod FaultLines
 pub mod Why
+pub mod FaultsText

@@ -40,6 +40,8 @@ pub mod AllFaults
 pub mod AllFaultsLaws
 pub mod FaultLines
 pub mod Why
+pub mod WhyLaws
+pub mod FaultsText
 pub mod SoundLaws
 pub mod RecordLaws
 pub mod ProbeLaws

@@ -2,6 +2,7 @@
 
 ghost use Rattle.pci_spec.specs.JudgingLaws.{SingleWithoutClashes, HomeWithoutUnreached, LeastUnreachedIsFirst, LeastClashIsFirst, LeastSplitIsFirst};
 ghost use Rattle.pci_spec.specs.AllFaultsLaws.{EmptyWhereNoneFails, FirstLineIsFirst, LineWhereNotHome, SingleWithoutSeconds};
+ghost use Rattle.pci_spec.specs.WhyLaws.{LeastPlaceIsHome};
 ghost use Rattle.pci_spec.specs.RecordLaws.{RecordsSettleClaims};
 ghost use Rattle.pci_spec.specs.SoundLaws.{ChainWithoutFaults, SoundWithoutFaults};
 
@@ -24,6 +25,11 @@ pub fn a_list_of_all_is_whole()
     ensures first { FirstLineIsFirst }
     ensures home { LineWhereNotHome }
     ensures seconds { SingleWithoutSeconds }
+{}
+
+/// At the place that is told for a region it would be home, and clash with none.
+pub fn told_places_are_home()
+    ensures { LeastPlaceIsHome }
 {}
 
 /// A system is sound exactly where no fault is there.
