@@ -1,5 +1,6 @@
 pub mod Adding
 pub mod Claiming
+pub mod EveryFault
 pub mod Filling
 pub mod Listing
 pub mod Losing

@@ -1,3 +1,5 @@
+pub mod FirstLine
+pub mod Phases
 pub mod Lines
 pub mod Order
 pub mod Owners

@@ -14,6 +14,7 @@
 #![tactic(auto)]
 
 pub mod clashes;
+pub mod every;
 pub mod judging;
 pub mod order;
 pub mod owners;
