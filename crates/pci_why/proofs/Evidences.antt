@@ -69,7 +69,7 @@ line_same word f part space q is =
     ap (λ words. inner_line (word ∷ place_words q.slot q.reg words space (range_of q)))
     (named_words f part space q.part q.reg q.prefetch is.named is.register is.prefetch (maps_of f part space q is))
 
-region_in : (s : System) (f : Function) (part : system.Part) (space : Space) (q : Region) → Contains s f → IsRegionOf f part space q → IsRegionIn s (told q part space)
+pub region_in : (s : System) (f : Function) (part : system.Part) (space : Space) (q : Region) → Contains s f → IsRegionOf f part space q → IsRegionIn s (told q part space)
 region_in s f part space q listed is = record {
   f = f;
   listed = listed;

@@ -5,3 +5,9 @@ pub mod Gaps
 pub mod Founds
 pub mod Runs
 pub mod Evidences
+pub mod LeastPlaces
+pub mod FreePlaces
+pub mod FitPlaces
+pub mod WideBars
+pub mod Whys
+pub mod Reasoned

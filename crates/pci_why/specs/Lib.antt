@@ -5,3 +5,6 @@ pub mod Missed
 pub mod Found
 pub mod Bridges
 pub mod Evidence
+pub mod Places
+pub mod Fits
+pub mod Lists

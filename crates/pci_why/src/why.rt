@@ -3,10 +3,12 @@ ghost use Rattle.std.specs.Prelude.{◌≤◌, ◌↔◌, ℕ, OnOk, MatchOption
 ghost use Rattle.std.specs.String.{string_bytes};
 ghost use Rattle.pci_base.specs.Space.{space_of};
 ghost use Rattle.pci_function.specs.Fault.{fault_of};
+ghost use Rattle.pci_why.specs.Fits.{IsAdviceTold, IsWhyTold};
 ghost use Rattle.pci_why.specs.Evidence.{IsInBoth, IsUnreachedTold, AreTwoTold, IsEvidenceTold};
 
 use super::bridge_line::{push_bridge_line, push_missed};
 use super::find::{record_at, region_at};
+use super::fits::push_fits;
 use super::region_line::{push_range_line, push_region_line};
 use pci_base::memory::OutOfMemory;
 use pci_base::range::Range;
@@ -86,9 +88,9 @@ fn push_two<A: Allocator + Copy, B: Allocator>(
     Ok(())
 }
 
-/// Appends the lines that tell with what ranges a fault is there, each with two spaces before it: after a 60 the region
-/// that it names, the bridge, and each run of its addresses that this doesn't pass; after a 61 and a 62 the two regions,
-/// and the addresses that are of both. Other faults have none.
+/// Appends the lines that tell with what ranges a fault is there, each with two spaces before it: after a 60 the
+/// region that it names, the bridge, and each run of its addresses that this doesn't pass; after a 61 and a 62 the two
+/// regions, and the addresses that are of both. Other faults have none.
 ///
 /// At want of memory some of the lines may stand in the text.
 pub fn push_evidence<A: Allocator + Copy, B: Allocator>(
@@ -140,4 +142,51 @@ pub fn push_evidence<A: Allocator + Copy, B: Allocator>(
         ),
         _ => Ok(()),
     }
+}
+
+/// Appends where the region that could be moved would fit: the one that isn't reached, or of a clash the second.
+fn push_advice<A: Allocator + Copy, B: Allocator>(
+    alloc: A,
+    text: &mut String<B>,
+    outline: &Outline<A>,
+    fault: &Fault,
+) -> Result<(), OutOfMemory>
+    ensures { OnOk result (IsAdviceTold outline.now (fault_of fault.now)
+        (string_bytes text.old) (string_bytes text.new)) }
+{
+    match *fault {
+        Fault::Unreached {
+            slot,
+            reg,
+            space,
+            ..
+        } => push_fits(alloc, text, outline, slot, reg, space),
+        Fault::Clash {
+            space,
+            second,
+            second_reg,
+            ..
+        } => push_fits(alloc, text, outline, second, second_reg, space),
+        // the second region stands on a root bus
+        Fault::Split { .. } => Ok(()),
+        _ => Ok(()),
+    }
+}
+
+/// Appends the lines behind a fault of judging, each with two spaces before it: those that tell with what ranges it is
+/// there, and after a 60 and a 61 where the region would fit that isn't reached, or is the second of the two. Other
+/// faults have none.
+///
+/// At want of memory some of the lines may stand in the text.
+pub fn push_why<A: Allocator + Copy, B: Allocator>(
+    alloc: A,
+    text: &mut String<B>,
+    outline: &Outline<A>,
+    fault: &Fault,
+) -> Result<(), OutOfMemory>
+    ensures { OnOk result (IsWhyTold outline.now (fault_of fault.now)
+        (string_bytes text.old) (string_bytes text.new)) }
+{
+    push_evidence(alloc, text, outline, fault)?;
+    push_advice(alloc, text, outline, fault)
 }

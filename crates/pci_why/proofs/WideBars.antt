@@ -1,0 +1,155 @@
+-- BARs of 64 bits, and what is told of where a region would fit.
+use Rattle.std.proofs.Common.{◌≡◌, ℕ, ◌+◌, ◌<◌, List, [], ◌++◌, length, get_or, take, map, sym, ap, subst, inl, inr, arith, ◌∙◌, Bool, true, false, refl, Option, append-nil}
+use Rattle.std.specs.Prelude.{◌↔◌, ◌==◌, IsTrue, MatchOption, MatchBool}
+use Rattle.std.specs.Option.{option_map}
+use Rattle.std.specs.List.{Contains, All}
+use Rattle.std.proofs.lemmas.Bool.{cases_Bool, ltb-true}
+use Rattle.std.proofs.lemmas.List.{get_or_default}
+use Rattle.pci_spec.specs.Slot.{Slot}
+use Rattle.pci_spec.specs.Header.{bar_register, bar_count, layout}
+use Rattle.pci_spec.specs.Bar.{IoBar, Memory32, Memory64, Reserved, bar_at, bar_kind, is_io, is_wide, type_bits}
+use Rattle.pci_spec.specs.System.{System, Function, Space, Claims}
+use Rattle.pci_spec.specs.System as system
+use Rattle.pci_spec.specs.Bus.{is_root}
+use Rattle.pci_spec.specs.Decoded.{DecodedBar, HasRecords, record_of}
+use Rattle.pci_spec.specs.Why.{is_wide_part, fits_line, IsFit, IsPlaceFor, IsLeastPlace}
+use Rattle.pci_spec.proofs.Records.{same_truth}
+use Rattle.pci_spec.proofs.BusRanges.{root_means}
+use Rattle.pci_spec.proofs.Ranges.{has_bar-of_decodes}
+use Rattle.pci_image.specs.declared.bar.Bar.{Bar}
+use Rattle.pci_image.specs.declared.bar.BarKind.{BarKind as Kind}
+use Rattle.pci_image.specs.declared.bar.BarKind.TheVariants.{Io, Mem32, Mem64}
+use Rattle.pci_image.specs.Bars.{decoded_kind_of}
+use Rattle.pci_base.specs.declared.range.Range.{Range}
+use Rattle.pci_base.specs.Ranges.{decoded_range_of}
+use Rattle.pci_function.specs.declared.record.Record.{Record}
+use Rattle.pci_function.specs.Values.{record_value}
+use Rattle.pci_tree.specs.declared.region.Region.{Region}
+use Rattle.pci_tree.specs.Regions.{IsRegionOf}
+use Rattle.pci_tree.specs.Outline.{Tree, RiseBySlot}
+use Rattle.pci_tree.proofs.Lifting.{Has, function_for, same_slot_of, one_function}
+use Rattle.pci_tree.proofs.Regions.{bar_at_register, bar_of_register}
+use Rattle.pci_why.specs.Found.{IsFoundIn}
+use Rattle.pci_why.specs.Evidence.{Appends}
+use Rattle.pci_why.specs.Fits.{told, IsWideAt, IsWideIn, IsFitFor, IsAdviceFor}
+use Rattle.pci_why.proofs.Founds.{all_more}
+use Rattle.pci_why.proofs.Evidences.{region_in}
+
+-- one more BAR that isn't at the register, or has 32 bits
+pub bar_more : (bars : List Bar) (k reg : ℕ) (z : Bar) → k < length bars → All (λ b. IsWideAt reg b → ⊥) (take k bars) → ((get_or bars k z).reg ≡ reg → (get_or bars k z).kind ≡ Mem64 → ⊥)
+    → All (λ b. IsWideAt reg b → ⊥) (take (k + 1) bars)
+bar_more bars k reg z within before none =
+    all_more (λ (b : Bar). IsWideAt reg b → ⊥) bars k (get_or bars k z) within (get_or_default bars k z (get_or bars k z) within) before (λ wide. none wide.0 wide.1)
+
+wide_of_kind : (m : ℕ) → Memory64 ≡ bar_kind m → is_wide m ≡ true
+wide_of_kind m e = elim (cases_Bool (is_io m)) [
+  | inl io ↦ (let k : Memory64 ≡ IoBar = e ∙ rw io refl in cc)
+  | inr memory ↦ elim (cases_Bool (type_bits m == 2)) [
+    | inl wide ↦ rw (memory, wide) refl
+    | inr narrow ↦ elim (cases_Bool (type_bits m == 0)) [
+      | inl zero_type ↦ (let k : Memory64 ≡ Memory32 = e ∙ rw (memory, narrow, zero_type) refl in cc)
+      | inr other ↦ (let k : Memory64 ≡ Reserved = e ∙ rw (memory, narrow, other) refl in cc)
+    ]
+  ]
+]
+
+kind_of_wide : (m : ℕ) → is_wide m ≡ true → bar_kind m ≡ Memory64
+kind_of_wide m e = elim (cases_Bool (is_io m)) [
+  | inl io ↦ (let k : false ≡ true = sym (rw io refl) ∙ e in cc)
+  | inr memory ↦ elim (cases_Bool (type_bits m == 2)) [
+    | inl wide ↦ rw (memory, wide) refl
+    | inr narrow ↦ (let k : false ≡ true = sym (rw (memory, narrow) refl) ∙ e in cc)
+  ]
+]
+
+memory64 : (k : Kind) → decoded_kind_of k ≡ Memory64 → k ≡ Mem64
+memory64 Io e = cc
+memory64 Mem32 e = cc
+memory64 Mem64 e = refl
+
+same_register : (m n : ℕ) → bar_register m ≡ bar_register n → m ≡ n
+same_register m n e = omega (arith, e)
+
+to_wide : (r : Record) (f : Function) (part : system.Part) (space : Space) (q : Region) → record_value r ≡ record_of f → IsRegionOf f part space q → IsWideIn r q → is_wide_part f part ≡ true
+to_wide r f (system.Bar n) space q e is (named, any) =
+    let at = bar_at_register r f any.1 e (any.0, any.2, any.3) in
+    let register : at.0 ≡ n = same_register at.0 n (sym (ap (λ (d : DecodedBar). d.register) at.1.is) ∙ any.4.0 ∙ is.register) in
+    let kind : Memory64 ≡ bar_kind (bar_at f.probe at.0) = sym (ap decoded_kind_of any.4.1) ∙ ap (λ (d : DecodedBar). d.kind) at.1.is in
+    subst (λ m. is_wide (bar_at f.probe m) ≡ true) register (wide_of_kind (bar_at f.probe at.0) kind)
+to_wide r f system.Rom space q e is (named, any) = (let no = sym is.named ∙ named in cc)
+to_wide r f (system.Window kind) space q e is (named, any) = (let no = sym is.named ∙ named in cc)
+
+from_wide : (r : Record) (f : Function) (part : system.Part) (space : Space) (q : Region) → record_value r ≡ record_of f → IsRegionOf f part space q → is_wide_part f part ≡ true → IsWideIn r q
+from_wide r f (system.Bar n) space q e is wide =
+    let claims = (is.claims q.first).0 (omega arith, is.some) in
+    let found = bar_of_register r f n e (ltb-true n (bar_count (layout f.image)) claims.there) (has_bar-of_decodes f.image f.probe n q.first claims.decodes) in
+    let b : Bar = found.0 in (
+      is.named,
+      (
+        found.1.0,
+        b,
+        found.1.1,
+        found.1.2,
+        (
+          ap (λ (d : DecodedBar). d.register) found.2.is ∙ sym is.register,
+          memory64 b.kind (ap (λ (d : DecodedBar). d.kind) found.2.is ∙ kind_of_wide (bar_at f.probe n) wide),
+        ),
+      ),
+    )
+from_wide r f system.Rom space q e is wide = cc
+from_wide r f (system.Window kind) space q e is wide = cc
+
+-- ---- lines
+
+nothing : (old : List ℕ) → old ≡ old ++ []
+nothing old = sym (append-nil old)
+
+-- on a root bus nothing is told
+pub root_told : (roots : List ℕ) (s : System) (slot : Slot) (reg : ℕ) (space : Space) (q : Region) (old : List ℕ) → IsFoundIn s slot reg space q → Contains roots slot.bus
+    → Appends (IsAdviceFor roots s slot reg space) old old
+root_told roots s slot reg space q old found root =
+    let is : is_root roots q.slot.bus ≡ true = (root_means roots q.slot.bus).1 (subst (λ (x : Slot). Contains roots x.bus) (sym found.slot_is) root) in
+    record {
+      lines = [];
+      text = nothing old;
+      are = (
+        told q found.part space,
+        (found.slot_is, found.register, refl),
+        region_in s found.f found.part space q found.listed found.is,
+        subst (λ b. MatchBool b (◌≡◌ {A = List ℕ} [] []) (IsFit roots s (told q found.part space) [])) (sym is) (refl {a = []}),
+      );
+    }
+
+-- elsewhere the least place is
+pub fit_told : (t : Tree) (s : System) (rs : List Record) (r : Record) (slot : Slot) (reg : ℕ) (space : Space) (q : Region) (wide : Bool) (fit : Option Range) (old new : List ℕ)
+    → t.records ≡ map record_value rs → Has s rs → RiseBySlot rs → Contains rs r → r.slot ≡ slot → IsFoundIn s slot reg space q → (Contains t.roots slot.bus → ⊥) → IsTrue wide ↔ IsWideIn r q
+    → IsFitFor t space q wide fit → new ≡ old ++ fits_line space (option_map decoded_range_of fit) → Appends (IsAdviceFor t.roots s slot reg space) old new
+fit_told t s rs r slot reg space q wide fit old new records is rise has at found root wide_is fits text =
+    let v = told q found.part space in
+    let own = function_for s rs r is has in
+    let same : own.0 ≡ found.f = one_function s rs own.0 found.f is rise own.1 found.listed (sym (same_slot_of r own.0 own.2) ∙ at ∙ sym found.slot_is ∙ found.is.slot) in
+    let stands : record_value r ≡ record_of found.f = own.2 ∙ ap record_of same in
+    let wide_same : wide ≡ is_wide_part found.f found.part = same_truth wide (is_wide_part found.f found.part) (λ w. to_wide r found.f found.part space q stands found.is (wide_is.0 w))
+    (λ w. wide_is.1 (from_wide r found.f found.part space q stands found.is w)) in
+    let no_root : is_root t.roots q.slot.bus ≡ false = elim (cases_Bool (is_root t.roots q.slot.bus)) [
+      | inl on ↦ absurd (root (subst (λ (x : Slot). Contains t.roots x.bus) found.slot_is ((root_means t.roots q.slot.bus).0 on)))
+      | inr off ↦ off
+    ] in
+    record {
+      lines = fits_line space (option_map decoded_range_of fit);
+      text = text;
+      are = (
+        v,
+        (found.slot_is, found.register, refl),
+        region_in s found.f found.part space q found.listed found.is,
+        subst (λ b. MatchBool b (fits_line space (option_map decoded_range_of fit) ≡ []) (IsFit t.roots s v (fits_line space (option_map decoded_range_of fit)))) (sym no_root) record {
+          f = found.f;
+          listed = found.listed;
+          slot = sym found.is.slot;
+          place = option_map decoded_range_of fit;
+          exact = subst (λ w. MatchOption (option_map decoded_range_of fit) ((first : ℕ) → IsPlaceFor t.roots s v w first → ⊥) (λ range. IsLeastPlace t.roots s v w range)) wide_same
+              (fits s found.f found.part (subst (λ xs. HasRecords s xs) (sym records) is) found.listed found.is);
+          text = refl;
+        },
+      );
+    }

@@ -1,0 +1,102 @@
+//! The least place at which a region could stand.
+ghost use Rattle.std.specs.Prelude.{◌≡◌, ◌+◌, ◌<◌, ◌≤◌, ◌%◌, ◌^◌, ◌↔◌, ℕ, IsTrue, IfSome, MatchOption, max};
+ghost use Rattle.std.specs.List.{AllPairs};
+ghost use Rattle.pci_tree.specs.Ranges.{IsCanonical};
+ghost use Rattle.pci_why.specs.Places.{IsReachedAt, IsLeastFrom, IsSame, IsFreeAt, IsLeastFree};
+
+use pci_base::range::Range;
+use pci_tree::region::Region;
+
+/// The least multiple of a number from another one on.
+fn multiple_from(from: u128, count: u128) -> u128
+    requires some { 0 < count }
+    requires small { count ≤ 2 ^ 64 }
+    requires from { from ≤ 2 ^ 64 }
+    ensures multiple { result % count ≡ 0 }
+    ensures from { from ≤ result }
+    ensures below { result < from + count }
+    ensures least { (n : ℕ) → from ≤ n → n % count ≡ 0 → result ≤ n }
+{
+    let over = from % count;
+    if over == 0 {
+        from
+    } else {
+        from + (count - over)
+    }
+}
+
+/// The first address of a range, or a greater number.
+fn start_in(range: &Range, from: u128) -> u128
+    requires { from ≤ 2 ^ 64 }
+    ensures start { result ≡ max from range.now.first }
+    ensures small { result ≤ 2 ^ 64 }
+{
+    from.max(u128::from(range.first))
+}
+
+/// The least multiple of `count` from `from` on, such that one range has that many addresses from there on, all of them
+/// below `end`.
+fn least_from(ranges: &[Range], from: u128, count: u128, end: u128) -> Option<u128>
+    requires some { 0 < count }
+    requires small { count ≤ 2 ^ 64 }
+    requires from { from ≤ 2 ^ 64 }
+    // so that its last address is one
+    ensures below { IfSome result (λ p. p + count ≤ end) }
+    ensures least { IsCanonical ranges.now → MatchOption result
+        ((p : ℕ) → from ≤ p → IsReachedAt ranges.now count end p → ⊥)
+        (λ p. IsLeastFrom ranges.now count end from p) }
+{
+    for range in ranges {
+        let past = u128::from(range.last) + 1;
+        let first = multiple_from(start_in(range, from), count);
+        if first + count <= end.min(past) {
+            return Some(first);
+        }
+    }
+    None
+}
+
+/// Whether two regions are one.
+fn is_same(one: &Region, other: &Region) -> bool
+    ensures { IsTrue result ↔ IsSame other.now one.now }
+{
+    one.slot == other.slot && one.reg == other.reg
+}
+
+/// The least multiple of `count`, such that one range has that many addresses from there on, all of them below `end`,
+/// and no region but its own claims one.
+///
+/// The regions stand by first address: a place below the next one clears all that follow, and each that it doesn't
+/// clear lies below the places that are left.
+pub fn least_free(
+    ranges: &[Range],
+    regions: &[Region],
+    own: &Region,
+    count: u128,
+    end: u128,
+) -> Option<u128>
+    requires some { 0 < count }
+    requires small { count ≤ 2 ^ 64 }
+    requires end { end ≤ 2 ^ 64 }
+    ensures below { IfSome result (λ p. p + count ≤ end) }
+    ensures least { IsCanonical ranges.now → AllPairs (λ p q. p.first ≤ q.first) regions.now
+        → MatchOption result
+        ((p : ℕ) → IsFreeAt ranges.now regions.now own.now count end p → ⊥)
+        (λ p. IsLeastFree ranges.now regions.now own.now count end p) }
+{
+    let mut from: u128 = 0;
+    for region in regions {
+        if is_same(region, own) {
+            continue;
+        }
+        let past = u128::from(region.last) + 1;
+        let Some(first) = least_from(ranges, from, count, end) else {
+            return None;
+        };
+        if first + count <= u128::from(region.first) {
+            return Some(first);
+        }
+        from = first.max(past);
+    }
+    least_from(ranges, from, count, end)
+}
