@@ -21,6 +21,4 @@ mod place;
 mod profile;
 mod registers;
 mod slots;
-#[cfg(test)]
-mod tests;
 mod told;

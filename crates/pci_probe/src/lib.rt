@@ -39,8 +39,6 @@ mod sizes_block;
 mod sizes_fault;
 mod sizes_line;
 pub mod sizes_reader;
-#[cfg(test)]
-mod tests;
 mod window;
 
 pub use assumed::AssumedRegister;

@@ -1,13 +1,13 @@
-use super::probes::{shown, told, with_registers};
-use super::rows::{Line, Registers};
-use crate::assuming::Assuming;
-use crate::probe::{Derivation, probe_of};
-use crate::probe_fault::ProbeFault;
-use crate::sizes::{Sizes, SizesBlock};
+use crate::probes::{shown, told, with_registers};
+use crate::rows::{Line, Registers};
 use pci_base::memory::Refused;
 use pci_base::slot::Slot;
 use pci_dump::block::{Block, Title};
 use pci_dump::dump::{Dump, PushFault};
+use pci_probe::assuming::Assuming;
+use pci_probe::probe::{Derivation, probe_of};
+use pci_probe::probe_fault::ProbeFault;
+use pci_probe::sizes::{Sizes, SizesBlock};
 use std::fmt::Write;
 use std::test::Fail;
 

@@ -1,12 +1,12 @@
 ghost use Rattle.std.specs.Prelude.{Some};
 
-use crate::line::ResourceLine;
-use crate::sizes_reader::read_sizes;
 use pci_base::failures::Failures;
 use pci_base::slot::Slot;
 use pci_dump::read_fault::ReadFault;
 use pci_dump::std_streams::Incoming;
 use pci_dump::streams::{Failed, Source};
+use pci_probe::line::ResourceLine;
+use pci_probe::sizes_reader::read_sizes;
 use std::test::Fail;
 
 /// Two functions of a machine, as its sysfs shows them: a network card, and a display with a ROM.

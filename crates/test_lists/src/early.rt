@@ -1,11 +1,11 @@
 //! Lists of all faults, by rows of functions.
 
-use crate::early::faults_from;
 use pci_base::image::{IMAGE_LEN, Image};
 use pci_base::memory::Refused;
 use pci_base::slot::Slot;
 use pci_dump::block::Block;
 use pci_dump::dump::Dump;
+use pci_early::early::faults_from;
 use pci_function::fault::Fault;
 use pci_tree::admit::outline_of;
 use pci_tree::roots::Roots;

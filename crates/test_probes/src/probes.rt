@@ -1,12 +1,12 @@
-use super::rows::{Line, ROWS, Registers, Row};
-use crate::assuming::Assuming;
-use crate::derive::derive;
-use crate::derived::Derived;
-use crate::fault::DeriveFault;
-use crate::line::ResourceLine;
-use crate::register::register;
+use crate::rows::{Line, ROWS, Registers, Row};
 use pci_base::image::Image;
 use pci_image::fault::ImageFault;
+use pci_probe::assuming::Assuming;
+use pci_probe::derive::derive;
+use pci_probe::derived::Derived;
+use pci_probe::fault::DeriveFault;
+use pci_probe::line::ResourceLine;
+use pci_probe::register::register;
 
 /// Puts bytes in, from an offset on.
 fn put(image: &mut [u8; 256], offset: u8, bytes: &[u8]) {

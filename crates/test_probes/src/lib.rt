@@ -1,0 +1,14 @@
+//! Tests of derived probes: by rows of what functions show and what Linux tells of them, of whole dumps, and of the texts
+//! of what it tells.
+#![tactic(auto)]
+
+#[cfg(test)]
+mod lines;
+#[cfg(test)]
+mod probes;
+#[cfg(test)]
+mod rows;
+#[cfg(test)]
+mod sizes_texts;
+#[cfg(test)]
+mod systems;
