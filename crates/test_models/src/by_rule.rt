@@ -1,13 +1,13 @@
 //! Plans of boards that are made by rule.
 use crate::made::{Board, Made, Rule};
 use crate::slow_planner;
-use crate::stops::{admitted_with, fault_of, stops_safely};
+use crate::stops::{admitted_with, is_sound, stops_safely};
 use pci_base::image::Image;
 use pci_base::memory::Refused;
 use pci_base::range::Range;
 use pci_dump::block::Block;
 use pci_dump::dump::Dump;
-use pci_image::bar::bars;
+use pci_image::bar::{Bar, bars};
 use pci_image::rom::register::rom;
 use pci_image::window::{Window, Windows};
 use pci_place::pools::Class;
@@ -21,36 +21,35 @@ use std::alloc::Global;
 use std::test::Fail;
 
 /// Appends an image at the slot of a function.
-fn push(dump: &mut Dump, made: &Made, image: Image) -> Result<(), Fail> {
+fn push(dump: &mut Dump, made: &Made, image: Image) -> bool {
     let block = Block {
         slot: made.slot,
         title: None,
         image,
     };
-    dump.push(block)?;
-    Ok(())
+    dump.push(block).is_ok()
+}
+
+/// Appends a board's functions to a dump and its probe.
+fn push_all(dump: &mut Dump, probe: &mut Dump, board: &Board) -> bool {
+    for made in &board.functions {
+        let registers = &made.function.registers;
+        if !push(dump, made, registers.image) || !push(probe, made, registers.probe) {
+            return false;
+        }
+    }
+    true
 }
 
 /// A board, admitted.
-fn admitted(alloc: Global, board: &Board) -> Result<Admitted, Fail> {
+fn admitted(alloc: Global, board: &Board) -> Option<Admitted> {
     let mut dump = Dump::empty(alloc);
     let mut probe = Dump::empty(alloc);
-    for made in &board.functions {
-        push(&mut dump, made, made.function.registers.image)?;
-        push(&mut probe, made, made.function.registers.probe)?;
+    if !push_all(&mut dump, &mut probe, board) {
+        return None;
     }
     let roots = board.roots().unwrap_or(Roots::host());
-    let admitted = admit_with(alloc, dump, probe, roots)?;
-    Ok(admitted)
-}
-
-/// Why there is no plan.
-fn fault_in<'a>(answer: &Result<Plan<'a>, Refused<PlanFault>>) -> Result<Option<PlanFault>, Fail> {
-    match answer {
-        Ok(_) => Ok(None),
-        Err(Refused::Fault(fault)) => Ok(Some(*fault)),
-        Err(Refused::Memory) => Err(Fail::new(format_args!("no memory"))),
-    }
+    admit_with(alloc, dump, probe, roots).ok()
 }
 
 /// Whether a range lies in the pool of a class.
@@ -75,72 +74,78 @@ fn is_wanted(board: &Board, made: &Made, class: Class, window: Option<Window>) -
     }
 }
 
-/// Whether the BARs of a function's image are in the pools of their classes.
-fn are_bars_in_place(board: &Board, made: &Made, image: &Image) -> Result<bool, Fail> {
-    let decoded = bars(image, &made.function.registers.probe)?;
-    for bar in decoded.as_slice() {
-        let range = Range {
-            first: bar.first,
-            last: bar.last,
-        };
-        for wanted in &made.bars {
-            let is_it = wanted.offset == bar.reg;
-            if is_it
-                && !is_in_pool(
-                    board,
-                    slow_planner::class_of(board, made.slot.bus(), *wanted),
-                    range,
-                )
-            {
-                return Ok(false);
+/// Whether a function's BAR is in the pool of its class.
+fn is_bar_in_place(board: &Board, made: &Made, bar: &Bar) -> bool {
+    let range = Range {
+        first: bar.first,
+        last: bar.last,
+    };
+    for wanted in &made.bars {
+        if wanted.offset == bar.reg {
+            let class = slow_planner::class_of(board, made.slot.bus(), *wanted);
+            if !is_in_pool(board, class, range) {
+                return false;
             }
         }
     }
-    Ok(decoded.len() == made.bars.len())
+    true
+}
+
+/// Whether the BARs of a function's image are.
+fn are_bars_in_place(board: &Board, made: &Made, image: &Image) -> bool {
+    let Ok(decoded) = bars(image, &made.function.registers.probe) else {
+        return false;
+    };
+    for bar in decoded.as_slice() {
+        if !is_bar_in_place(board, made, bar) {
+            return false;
+        }
+    }
+    decoded.len() == made.bars.len()
 }
 
 /// Whether the ROM of a function's image is in the pool of memory.
-fn is_rom_in_place(board: &Board, made: &Made, image: &Image) -> Result<bool, Fail> {
-    match rom(image, &made.function.registers.probe)? {
-        None => Ok(made.rom.is_none()),
-        Some(rom) => {
+fn is_rom_in_place(board: &Board, made: &Made, image: &Image) -> bool {
+    match rom(image, &made.function.registers.probe) {
+        Ok(None) => made.rom.is_none(),
+        Ok(Some(rom)) => {
             let range = Range {
                 first: rom.first,
                 last: rom.last,
             };
-            Ok(made.rom.is_some() && is_in_pool(board, Class::Memory, range))
+            made.rom.is_some() && is_in_pool(board, Class::Memory, range)
         }
+        Err(_) => false,
     }
 }
 
 /// Whether the windows of a function's image are those that are wanted.
-fn are_windows_wanted(board: &Board, made: &Made, image: &Image) -> Result<bool, Fail> {
+fn are_windows_wanted(board: &Board, made: &Made, image: &Image) -> bool {
     if made.bridge.is_none() {
-        return Ok(true);
+        return true;
     }
-    let windows = Windows::of(image, &made.function.registers.probe)?;
-    Ok(
-        is_wanted(board, made, Class::Io, windows.io)
-            && is_wanted(board, made, Class::Memory, Some(windows.mem))
-            && is_wanted(board, made, Class::Prefetchable, windows.pref),
-    )
+    match Windows::of(image, &made.function.registers.probe) {
+        Ok(windows) => {
+            is_wanted(board, made, Class::Io, windows.io)
+                && is_wanted(board, made, Class::Memory, Some(windows.mem))
+                && is_wanted(board, made, Class::Prefetchable, windows.pref)
+        }
+        Err(_) => false,
+    }
 }
 
-/// Whether all that is planned of a board is in its pool, and is sound.
-fn is_in_place(alloc: Global, board: &Board, planned: &Dump, start: &Admitted) -> Result<(), Fail> {
+/// Whether all that is planned of a board is in its pool.
+fn is_in_place(board: &Board, planned: &Dump) -> bool {
     for (made, block) in board.functions.iter().zip(planned.blocks()) {
         let image = &block.image;
-        if !are_bars_in_place(board, made, image)?
-            || !is_rom_in_place(board, made, image)?
-            || !are_windows_wanted(board, made, image)?
+        if !are_bars_in_place(board, made, image)
+            || !is_rom_in_place(board, made, image)
+            || !are_windows_wanted(board, made, image)
         {
-            return Err(Fail::new(format_args!("{} is out of place", made.slot)));
+            return false;
         }
     }
-    match fault_of(alloc, planned, start)? {
-        None => Ok(()),
-        Some(fault) => Err(Fail::new(format_args!("planned: {fault}"))),
-    }
+    true
 }
 
 /// Whether two dumps have the same images.
@@ -153,19 +158,30 @@ fn are_equal(one: &Dump, other: &Dump) -> bool {
     one.blocks().len() == other.blocks().len()
 }
 
-/// Whether what is planned is planned again where it stands, by writes to Command alone.
-fn stays(alloc: Global, board: &Board, planned: &Dump, start: &Admitted) -> Result<(), Fail> {
-    let next = admitted_with(alloc, planned, start)?;
-    let again = plan(alloc, &next, &board.pools)?;
-    if !are_equal(planned, again.dump()) || again.safe_from() != 0 {
-        return Err(Fail::new(format_args!("another plan of what is planned")));
-    }
+/// Whether a plan leaves a dump where it stands, by writes to Command alone.
+fn is_kept<'a>(planned: &Dump, again: &Plan<'a>) -> bool {
     for write in again.writes() {
         if write.off != 0x04 {
-            return Err(Fail::new(format_args!("moved by {write}")));
+            return false;
         }
     }
-    Ok(())
+    are_equal(planned, again.dump()) && again.safe_from() == 0
+}
+
+/// Whether what is planned is planned again where it stands.
+fn is_planned_again(alloc: Global, board: &Board, planned: &Dump, next: &Admitted) -> bool {
+    match plan(alloc, next, &board.pools) {
+        Ok(again) => is_kept(planned, &again),
+        Err(_) => false,
+    }
+}
+
+/// The same from where it starts.
+fn stays(alloc: Global, board: &Board, planned: &Dump, start: &Admitted) -> bool {
+    match admitted_with(alloc, planned, start) {
+        Some(next) => is_planned_again(alloc, board, planned, &next),
+        None => false,
+    }
 }
 
 /// What came of boards.
@@ -207,36 +223,56 @@ impl Tally {
 }
 
 /// Whether a plan of a board is in place and sound, stays where it is planned again, and may stop where it says.
-fn holds<'a>(alloc: Global, board: &Board, plan: &Plan<'a>) -> Result<(), Fail> {
+fn holds<'a>(alloc: Global, board: &Board, plan: &Plan<'a>) -> bool {
     let (planned, start) = (plan.dump(), plan.start());
-    is_in_place(alloc, board, planned, start)?;
-    stays(alloc, board, planned, start)?;
-    stops_safely(alloc, plan)
+    is_in_place(board, planned)
+        && is_sound(alloc, planned, start) == Some(true)
+        && stays(alloc, board, planned, start)
+        && stops_safely(alloc, plan)
+}
+
+/// Adds a board for which there is a plan that holds, and the slow planner says so too.
+fn and_plan<'a>(alloc: Global, board: &Board, plan: &Plan<'a>, before: Tally) -> Option<Tally> {
+    if slow_planner::fault_of(board).is_none() && holds(alloc, board, plan) {
+        Some(before.and(None, plan.safe_from()))
+    } else {
+        None
+    }
+}
+
+/// Adds a board for which there is none, and the slow planner says so for the same fault.
+fn and_fault(board: &Board, fault: Option<PlanFault>, before: Tally) -> Option<Tally> {
+    if slow_planner::fault_of(board) == fault {
+        Some(before.and(fault, 0))
+    } else {
+        None
+    }
+}
+
+/// Adds a board from where it starts.
+fn and_board(alloc: Global, board: &Board, start: &Admitted, before: Tally) -> Option<Tally> {
+    match plan(alloc, start, &board.pools) {
+        Ok(plan) => and_plan(alloc, board, &plan, before),
+        Err(Refused::Fault(fault)) => and_fault(board, Some(fault), before),
+        Err(Refused::Memory) => None,
+    }
 }
 
 /// Adds the board of a seed, of which both planners have to say the same, and whose plan has to hold.
-fn and_seed(alloc: Global, seed: u64, before: Tally) -> Result<Tally, Fail> {
-    let board = Rule::new(seed).board(alloc)?;
+fn and_seed(alloc: Global, seed: u64, before: Tally) -> Option<Tally> {
+    let board = Rule::new(seed).board(alloc).ok()?;
     let start = admitted(alloc, &board)?;
-    let answer = plan(alloc, &start, &board.pools);
-    let fault = fault_in(&answer)?;
-    if fault != slow_planner::fault_of(&board) {
-        return Err(Fail::new(format_args!("the slow planner says otherwise")));
-    }
-    match &answer {
-        Ok(plan) => {
-            holds(alloc, &board, plan)?;
-            Ok(before.and(fault, plan.safe_from()))
-        }
-        Err(_) => Ok(before.and(fault, 0)),
-    }
+    and_board(alloc, &board, &start, before)
 }
 
 /// Plans the boards of some seeds.
 fn plan_all(alloc: Global, first: u64, end: u64) -> Result<(), Fail> {
     let mut tally = Tally::NONE;
     for seed in first..end {
-        tally = and_seed(alloc, seed, tally)?;
+        match and_seed(alloc, seed, tally) {
+            Some(more) => tally = more,
+            None => return Err(Fail::new(format_args!("the board of {seed}"))),
+        }
     }
     if !tally.has_all(5) {
         return Err(Fail::new(format_args!("boards are lacking")));

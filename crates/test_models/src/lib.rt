@@ -1,9 +1,7 @@
-//! Slow models beside the fast code, over boards made by rule: a judge and a planner. Lists of all faults. And where the writes of a plan
-//! may stop, and what the tree of buses lists.
+//! Slow models beside the fast code, over boards made by rule: a judge and a planner. And where the writes of
+//! a plan may stop, and what the tree of buses lists.
 #![tactic(auto)]
 
-#[cfg(test)]
-mod all_faults;
 #[cfg(test)]
 mod by_rule;
 #[cfg(test)]

@@ -4,7 +4,6 @@ use pci_place::pools::Pools;
 use pci_tree::roots::Roots;
 use pciplan_cli::invocation::{Task, start};
 use std::alloc::{AllocError, Global};
-use std::test::Fail;
 use test_support::board::{Function, Texts, bridge, device, texts_of};
 
 /// The words of three pools, I/O, memory and prefetchable memory, and of the root buses.
@@ -59,15 +58,13 @@ impl Where {
     }
 
     /// The pools and the root buses themselves.
-    pub fn read(self, alloc: Global) -> Result<(Pools, Roots), Fail> {
+    pub fn read(self, alloc: Global) -> Option<(Pools, Roots)> {
         let mut messages = Vec::new(alloc);
         let mut err = Outgoing::new(&mut messages);
-        match start(alloc, &self.words(), &mut err) {
-            Ok(line) => match line.task {
-                Task::Plan { pools, roots, .. } => Ok((pools, roots)),
-                _ => Err(Fail::new(format_args!("another task"))),
-            },
-            Err(status) => Err(Fail::new(format_args!("status {status}"))),
+        let line = start(alloc, &self.words(), &mut err).ok()?;
+        match line.task {
+            Task::Plan { pools, roots, .. } => Some((pools, roots)),
+            _ => None,
         }
     }
 }
@@ -164,16 +161,19 @@ fn unsound(alloc: Global) -> Result<Sample, AllocError> {
     })
 }
 
-/// All of them: three functions where nothing is on, and as they are planned, and no function at all.
-pub fn samples(alloc: Global) -> Result<[Sample; 8], AllocError> {
-    Ok([
-        from_sound(alloc, &three(0), USUAL)?,
-        wide(alloc)?,
-        rom(alloc)?,
-        ports(alloc)?,
-        roots(alloc)?,
-        from_sound(alloc, &three_placed(), USUAL)?,
-        unsound(alloc)?,
-        from_sound(alloc, &[], USUAL)?,
-    ])
+/// How many samples there are.
+pub const SAMPLES: u32 = 8;
+
+/// The n-th of them: also three functions where nothing is on, and as they are planned, and no function at all.
+pub fn nth_sample(alloc: Global, n: u32) -> Result<Sample, AllocError> {
+    match n {
+        0 => from_sound(alloc, &three(0), USUAL),
+        1 => wide(alloc),
+        2 => rom(alloc),
+        3 => ports(alloc),
+        4 => roots(alloc),
+        5 => from_sound(alloc, &three_placed(), USUAL),
+        6 => unsound(alloc),
+        _ => from_sound(alloc, &[], USUAL),
+    }
 }

@@ -1,13 +1,18 @@
-//! A plain judge beside the fast one: it looks at every page of every region, and walks every way.
+//! A plain lister of all faults beside the fast judge and the fast lister: it looks at every page of every region, and
+//! walks every way.
 //!
 //! Boards are made by rule: two bridges in a row and a device on each of the three buses. All regions are whole
 //! megabytes from E0000000h on, so a page stands for all its addresses.
 use pci_check::audit::audit;
 use pci_check::outcome::{AuditFault, Outcome};
+use pci_dump::dump::Dump;
+use pci_dump::reader::read_dump;
 use pci_dump::std_streams::{Incoming, Outgoing};
+use pci_faults::every::all_faults;
+use pci_function::fault::Fault;
+use pci_tree::roots::Roots;
 use std::alloc::{AllocError, Global};
-use std::test::Fail;
-use test_support::board::{Function, bridge, device, texts_of};
+use test_support::board::{Function, Texts, bridge, device, texts_of};
 
 /// Pages from first to last; none where first is above last.
 #[derive(Clone, Copy)]
@@ -15,6 +20,9 @@ struct Pages {
     first: u32,
     last: u32,
 }
+
+/// No page.
+const NO_PAGES: Pages = Pages { first: 1, last: 0 };
 
 impl Pages {
     fn has(self, page: u32) -> bool {
@@ -56,6 +64,16 @@ impl Bar {
         let register = (0x10, address + encoding, mask + encoding);
         device(self.slot, command(self.enabled), &[register])
     }
+
+    fn claim(self) -> Claim {
+        let pages = if self.enabled { self.pages } else { NO_PAGES };
+        Claim {
+            bus: self.bus,
+            slot: self.slot,
+            register: 0x10,
+            pages,
+        }
+    }
 }
 
 /// A bridge with a memory window, and a prefetchable one or none.
@@ -85,6 +103,26 @@ impl Windows {
         let registers = [(0x20, self.memory.register(), 0xfff0_fff0), prefetch];
         bridge(self.slot, command(self.enabled), self.buses, &registers)
     }
+
+    fn claim(self, register: u8, window: Pages) -> Claim {
+        let (bus, _, _) = self.buses;
+        let pages = if self.enabled { window } else { NO_PAGES };
+        Claim {
+            bus,
+            slot: self.slot,
+            register,
+            pages,
+        }
+    }
+
+    /// The claims of both its windows.
+    fn claims(self) -> [Claim; 2] {
+        let prefetch = match self.prefetch {
+            Some(pages) => pages,
+            None => NO_PAGES,
+        };
+        [self.claim(0x20, self.memory), self.claim(0x24, prefetch)]
+    }
 }
 
 /// A board: the bridge to bus 01, the one from there to bus 02, and a device on each bus.
@@ -97,7 +135,7 @@ struct Board {
     far: Bar,
 }
 
-/// A region that claims pages of its bus, by the names that a verdict gives it.
+/// A region that claims pages of its bus, by the names that a fault gives it. What is off claims no page.
 #[derive(Clone, Copy)]
 struct Claim {
     bus: u8,
@@ -192,48 +230,19 @@ impl Board {
         ]
     }
 
-    /// The claims of a bridge's windows.
-    fn push_windows(claims: &mut Vec<Claim>, windows: Windows) -> Result<(), AllocError> {
-        if !windows.enabled {
-            return Ok(());
-        }
-        let (bus, _, _) = windows.buses;
-        let slot = windows.slot;
-        for (register, pages) in [(0x20, Some(windows.memory)), (0x24, windows.prefetch)] {
-            if let Some(pages) = pages {
-                claims.push(Claim {
-                    bus,
-                    slot,
-                    register,
-                    pages,
-                })?;
-            }
-        }
-        Ok(())
-    }
-
-    /// The claim of a device.
-    fn push_bar(claims: &mut Vec<Claim>, bar: Bar) -> Result<(), AllocError> {
-        if bar.enabled {
-            claims.push(Claim {
-                bus: bar.bus,
-                slot: bar.slot,
-                register: 0x10,
-                pages: bar.pages,
-            })?;
-        }
-        Ok(())
-    }
-
-    /// All that claims pages, by slot and register.
-    fn claims(&self, alloc: Global) -> Result<Vec<Claim>, AllocError> {
-        let mut claims = Vec::new(alloc);
-        Board::push_windows(&mut claims, self.outer)?;
-        Board::push_bar(&mut claims, self.near)?;
-        Board::push_windows(&mut claims, self.inner)?;
-        Board::push_bar(&mut claims, self.middle)?;
-        Board::push_bar(&mut claims, self.far)?;
-        Ok(claims)
+    /// All regions, by slot and register.
+    fn claims(&self) -> [Claim; 7] {
+        let [outer, outer_prefetch] = self.outer.claims();
+        let [inner, inner_prefetch] = self.inner.claims();
+        [
+            outer,
+            outer_prefetch,
+            self.near.claim(),
+            inner,
+            inner_prefetch,
+            self.middle.claim(),
+            self.far.claim(),
+        ]
     }
 
     /// Where a bridge on the way doesn't pass a page of the BAR: the bridge that comes first, and its first such page.
@@ -258,58 +267,93 @@ impl Board {
         outer && inner
     }
 
-    /// The first unreached BAR.
-    fn unreached(&self, alloc: Global) -> Result<Option<String>, AllocError> {
-        let ways = [
-            (self.middle, &[self.outer][..]),
-            (self.far, &[self.outer, self.inner][..]),
-        ];
-        for (bar, way) in ways {
-            if let Some((stop, page)) = Board::missed(bar, way) {
-                let (slot, digit) = (bar.slot, page % 16);
-                let text = format!(in alloc;
-                    "no 60 Unreached {slot} 10 mem 00000000e0{digit:x}00000 bridge {stop}"
-                )?;
-                return Ok(Some(text));
-            }
-        }
-        Ok(None)
+    /// The line of a BAR that isn't home.
+    fn push_missed(lines: &mut String, bar: Bar, way: &[Windows]) -> Result<(), AllocError> {
+        let Some((stop, page)) = Board::missed(bar, way) else {
+            return Ok(());
+        };
+        let (slot, digit) = (bar.slot, page % 16);
+        writeln!(
+            lines,
+            "60 Unreached {slot} 10 mem 00000000e0{digit:x}00000 bridge {stop}"
+        )
     }
 
-    /// The first page of the lowest bus that two regions claim.
-    fn clash(&self, alloc: Global) -> Result<Option<String>, AllocError> {
-        let claims = self.claims(alloc)?;
-        for bus in 0..3u8 {
-            for page in 0..16u32 {
-                let mut first: Option<&Claim> = None;
-                for claim in &claims {
-                    if claim.bus != bus || !claim.pages.has(page) || !self.gets(bus, page) {
-                        continue;
-                    }
-                    if let Some(other) = first {
-                        let (one, two) = (other.slot, claim.slot);
-                        let (register, other_register) = (other.register, claim.register);
-                        let text = format!(in alloc;
-                            "no 61 Clash bus {bus:02x} mem 00000000e0{page:x}00000 {one} {register:02x} {two} {other_register:02x}"
-                        )?;
-                        return Ok(Some(text));
-                    }
-                    first = Some(claim);
+    /// The least page at which a claim meets one before it, and the first that claims this page.
+    fn clash_of(&self, claims: &[Claim], index: usize, claim: Claim) -> Option<(u32, Claim)> {
+        for page in 0..16u32 {
+            if claim.pages.has(page) && self.gets(claim.bus, page) {
+                if let Some(first) = first_before(claims, index, claim.bus, page) {
+                    return Some((page, first));
                 }
             }
         }
-        Ok(None)
+        None
     }
 
-    fn verdict(&self, alloc: Global) -> Result<String, AllocError> {
-        if let Some(text) = self.unreached(alloc)? {
-            return Ok(text);
+    /// The lines of the claims whose clash is at a page of a bus.
+    fn push_clashes_at(
+        &self,
+        lines: &mut String,
+        claims: &[Claim],
+        bus: u8,
+        page: u32,
+    ) -> Result<(), AllocError> {
+        for (index, claim) in claims.iter().enumerate() {
+            match self.clash_of(claims, index, *claim) {
+                Some((least, first)) if claim.bus == bus && least == page => {
+                    push_clash(lines, page, first, *claim)?;
+                }
+                _ => {}
+            }
         }
-        match self.clash(alloc)? {
-            Some(text) => Ok(text),
-            None => format!(in alloc; "yes"),
+        Ok(())
+    }
+
+    /// A line for each claim that clashes.
+    fn push_clashes(&self, lines: &mut String, claims: &[Claim]) -> Result<(), AllocError> {
+        for bus in 0..3u8 {
+            for page in 0..16u32 {
+                self.push_clashes_at(lines, claims, bus, page)?;
+            }
+        }
+        Ok(())
+    }
+
+    /// A line for each fault.
+    fn push_lines(&self, lines: &mut String) -> Result<(), AllocError> {
+        Board::push_missed(lines, self.middle, &[self.outer])?;
+        Board::push_missed(lines, self.far, &[self.outer, self.inner])?;
+        self.push_clashes(lines, &self.claims())
+    }
+
+    /// The list of its faults.
+    fn list(&self, alloc: Global) -> Result<String, AllocError> {
+        let mut lines = String::new(alloc);
+        self.push_lines(&mut lines)?;
+        Ok(lines)
+    }
+}
+
+/// The first of the claims before an index that claims a page of a bus.
+fn first_before(claims: &[Claim], index: usize, bus: u8, page: u32) -> Option<Claim> {
+    for claim in claims.iter().take(index) {
+        if claim.bus == bus && claim.pages.has(page) {
+            return Some(*claim);
         }
     }
+    None
+}
+
+/// The line of two claims that clash at a page.
+fn push_clash(lines: &mut String, page: u32, one: Claim, two: Claim) -> Result<(), AllocError> {
+    let (bus, digit) = (one.bus, page % 16);
+    let (slot, register) = (one.slot, one.register);
+    let (other, other_register) = (two.slot, two.register);
+    writeln!(
+        lines,
+        "61 Clash bus {bus:02x} mem 00000000e0{digit:x}00000 {slot} {register:02x} {other} {other_register:02x}"
+    )
 }
 
 /// The verdict of the fast judge.
@@ -327,29 +371,94 @@ fn audited(
     )
 }
 
-/// Whether the fast judge writes this verdict on a board.
-fn judges(rt: &impl AllocGlobal, board: &[Function], verdict: &str) -> Result<(), Fail> {
-    let texts = texts_of(rt.alloc(), board)?;
-    let wanted = format!(in rt.alloc(); "{verdict}\n")?;
-    let mut line = Vec::new(rt.alloc());
+/// The verdict that goes with a list: its first line, or yes.
+fn verdict_of(alloc: Global, lines: &str) -> Result<String, AllocError> {
+    match lines.lines().next() {
+        Some(first) => format!(in alloc; "no {first}\n"),
+        None => format!(in alloc; "yes\n"),
+    }
+}
+
+/// Whether a verdict goes with a list.
+fn is_verdict_of(alloc: Global, verdict: &[u8], lines: &str) -> bool {
+    match verdict_of(alloc, lines) {
+        Ok(wanted) => verdict == wanted.as_bytes(),
+        Err(_) => false,
+    }
+}
+
+/// Whether the fast judge's verdict on two texts goes with a list.
+fn is_judged(alloc: Global, texts: &Texts, lines: &str) -> bool {
+    let mut verdict = Vec::new(alloc);
     let outcome = audited(
-        rt.alloc(),
+        alloc,
         texts.dump.as_str(),
         texts.probe.as_str(),
-        &mut line,
+        &mut verdict,
     );
-    if outcome.is_err() || line.as_slice() != wanted.as_bytes() {
-        return Err(Fail::new(format_args!("not the verdict: {verdict}")));
+    outcome.is_ok() && is_verdict_of(alloc, &verdict, lines)
+}
+
+/// Appends a line for each fault.
+fn push_faults(lines: &mut String, faults: &[Fault]) -> Result<(), AllocError> {
+    for fault in faults {
+        writeln!(lines, "{fault}")?;
     }
     Ok(())
 }
 
-#[test]
-fn the_fast_judge_agrees_with_the_slow_one(rt: HostRuntime) -> Result<(), Fail> {
-    for seed in 0..4000u64 {
-        let board = Rule { seed }.board();
-        let verdict = board.verdict(rt.alloc())?;
-        judges(&rt, &board.functions(), verdict.as_str())?;
+/// Whether faults are these lines.
+fn are_lines(alloc: Global, faults: &[Fault], lines: &str) -> bool {
+    let mut found = String::new(alloc);
+    push_faults(&mut found, faults).is_ok() && found.as_str() == lines
+}
+
+/// Whether the fast lister's faults of a dump and its probe are these lines.
+fn has_faults(alloc: Global, dump: &Dump<Global>, probe: &Dump<Global>, lines: &str) -> bool {
+    match all_faults(alloc, dump, probe, Roots::host()) {
+        Ok(found) => are_lines(alloc, &found.faults, lines),
+        Err(_) => false,
     }
-    Ok(())
+}
+
+/// Whether the fast lister's faults of two texts are these lines.
+fn is_listed(alloc: Global, texts: &Texts, lines: &str) -> bool {
+    let dump = read_dump(alloc, &mut Incoming::new(texts.dump.as_bytes()));
+    let probe = read_dump(alloc, &mut Incoming::new(texts.probe.as_bytes()));
+    match (dump, probe) {
+        (Ok(dump), Ok(probe)) => has_faults(alloc, &dump, &probe, lines),
+        _ => false,
+    }
+}
+
+/// Whether the fast judge and the slow lister agree on the board of a seed.
+fn judges_agree(alloc: Global, seed: u64) -> bool {
+    let board = Rule { seed }.board();
+    match (board.list(alloc), texts_of(alloc, &board.functions())) {
+        (Ok(lines), Ok(texts)) => is_judged(alloc, &texts, lines.as_str()),
+        _ => false,
+    }
+}
+
+/// Whether both listers agree on the board of a seed.
+fn listers_agree(alloc: Global, seed: u64) -> bool {
+    let board = Rule { seed }.board();
+    match (board.list(alloc), texts_of(alloc, &board.functions())) {
+        (Ok(lines), Ok(texts)) => is_listed(alloc, &texts, lines.as_str()),
+        _ => false,
+    }
+}
+
+#[test]
+fn the_fast_judge_agrees_with_the_slow_one(rt: HostRuntime) {
+    for seed in 0..4000u64 {
+        assert!(rt; judges_agree(rt.alloc(), seed), "{seed}");
+    }
+}
+
+#[test]
+fn the_fast_lister_agrees_with_the_slow_one(rt: HostRuntime) {
+    for seed in 0..4000u64 {
+        assert!(rt; listers_agree(rt.alloc(), seed), "{seed}");
+    }
 }

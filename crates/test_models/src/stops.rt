@@ -1,5 +1,6 @@
 //! Writes that stop: what is left after each beginning of a plan's writes is judged.
-use crate::samples::{Sample, samples};
+use crate::samples::{SAMPLES, Sample, nth_sample};
+use pci_base::slot::Slot;
 use pci_check::check::check;
 use pci_check::verdict::Verdict;
 use pci_dump::block::Block;
@@ -8,139 +9,157 @@ use pci_dump::reader::read_dump;
 use pci_dump::std_streams::Incoming;
 use pci_machine::machine::Machine;
 use pci_machine::port::ConfigPort;
+use pci_place::pools::Pools;
 use pci_plan::plan::Plan;
 use pci_plan::planning::plan;
 use pci_plan::write::Write;
 use pci_tree::admit::admit_with;
 use pci_tree::admitted::Admitted;
-use pci_tree::fault::Fault;
 use pci_tree::roots::Roots;
 use std::alloc::Global;
 use std::test::Fail;
 use test_support::board::Texts;
 
+/// The dump of a text.
+fn read(alloc: Global, text: &str) -> Option<Dump> {
+    read_dump(alloc, &mut Incoming::new(text.as_bytes())).ok()
+}
+
 /// The admission of two texts.
-fn admitted(alloc: Global, texts: &Texts, roots: Roots) -> Result<Admitted, Fail> {
-    let dump = read_dump(alloc, &mut Incoming::new(texts.dump.as_bytes()))?;
-    let probe = read_dump(alloc, &mut Incoming::new(texts.probe.as_bytes()))?;
-    let admitted = admit_with(alloc, dump, probe, roots)?;
-    Ok(admitted)
+fn admitted(alloc: Global, texts: &Texts, roots: Roots) -> Option<Admitted> {
+    let dump = read(alloc, texts.dump.as_str())?;
+    let probe = read(alloc, texts.probe.as_str())?;
+    admit_with(alloc, dump, probe, roots).ok()
 }
 
 /// An equal dump.
-fn copy_of(alloc: Global, dump: &Dump) -> Result<Dump, Fail> {
+fn copy_of(alloc: Global, dump: &Dump) -> Option<Dump> {
     let mut copy = Dump::empty(alloc);
     for block in dump.blocks() {
-        copy.push(block.copy())?;
+        copy.push(block.copy()).ok()?;
     }
-    Ok(copy)
+    Some(copy)
 }
 
 /// The admission of a dump with the probe and the root buses of another.
-pub fn admitted_with(alloc: Global, dump: &Dump, start: &Admitted) -> Result<Admitted, Fail> {
+pub fn admitted_with(alloc: Global, dump: &Dump, start: &Admitted) -> Option<Admitted> {
     let dump = copy_of(alloc, dump)?;
     let probe = copy_of(alloc, start.probe())?;
-    let admitted = admit_with(alloc, dump, probe, start.outline().roots())?;
-    Ok(admitted)
+    admit_with(alloc, dump, probe, start.outline().roots()).ok()
+}
+
+/// The block of a function of a machine.
+fn block_of(machine: &Machine, slot: Slot) -> Option<Block> {
+    let image = *machine.image(slot)?;
+    Some(Block {
+        slot,
+        title: None,
+        image,
+    })
 }
 
 /// The images of a machine, as a dump with the slots of another.
-fn images_of(alloc: Global, machine: &Machine, slots: &Dump) -> Result<Dump, Fail> {
+fn images_of(alloc: Global, machine: &Machine, slots: &Dump) -> Option<Dump> {
     let mut dump = Dump::empty(alloc);
     for block in slots.blocks() {
-        let Some(image) = machine.image(block.slot) else {
-            return Err(Fail::new(format_args!("no function at {}", block.slot)));
-        };
-        let now = Block {
-            slot: block.slot,
-            title: None,
-            image: *image,
-        };
-        dump.push(now)?;
+        dump.push(block_of(machine, block.slot)?).ok()?;
     }
-    Ok(dump)
+    Some(dump)
 }
 
-/// The fault that `check` refuses an admission for.
-fn verdict_on(alloc: Global, admitted: &Admitted) -> Result<Option<Fault>, Fail> {
-    let answer = check(alloc, admitted);
-    match &answer {
-        Ok(Verdict::Yes(_)) => Ok(None),
-        Ok(Verdict::No(fault)) => Ok(Some(*fault)),
-        Err(_) => Err(Fail::new(format_args!("no memory"))),
+/// Whether `check` accepts an admission.
+fn is_accepted(alloc: Global, admitted: &Admitted) -> Option<bool> {
+    match check(alloc, admitted) {
+        Ok(Verdict::Yes(_)) => Some(true),
+        Ok(Verdict::No(_)) => Some(false),
+        Err(_) => None,
     }
 }
 
-/// The fault of a dump with the probe of another, where `check` refuses it.
-pub fn fault_of(alloc: Global, dump: &Dump, start: &Admitted) -> Result<Option<Fault>, Fail> {
+/// Whether `check` accepts a dump with the probe of another; none where it isn't admitted.
+pub fn is_sound(alloc: Global, dump: &Dump, start: &Admitted) -> Option<bool> {
     let admitted = admitted_with(alloc, dump, start)?;
-    verdict_on(alloc, &admitted)
+    is_accepted(alloc, &admitted)
 }
 
 /// Makes a write on a machine.
-fn make(machine: &mut Machine, write: &Write) -> Result<(), Fail> {
-    match machine.write(write.slot, write.off, write.width, write.value) {
-        Ok(()) => Ok(()),
-        Err(_) => Err(Fail::new(format_args!("refused: {write}"))),
-    }
+fn make(machine: &mut Machine, write: &Write) -> bool {
+    machine.write(write.slot, write.off, write.width, write.value) == Ok(())
 }
 
 /// Whether a machine holds what is planned.
-fn is_as_planned(machine: &Machine, planned: &Dump) -> Result<(), Fail> {
+fn is_as_planned(machine: &Machine, planned: &Dump) -> bool {
     for block in planned.blocks() {
         if machine.image(block.slot) != Some(&block.image) {
-            return Err(Fail::new(format_args!("{} isn't as planned", block.slot)));
+            return false;
         }
     }
-    Ok(())
+    true
 }
 
-/// Makes the writes of a plan on a machine of its start, one after another. What `check` says of each beginning, the
-/// empty one first: its fault, or none.
-fn faults_left<'a>(alloc: Global, plan: &Plan<'a>) -> Result<Vec<Option<Fault>>, Fail> {
-    let start = plan.start();
-    let mut machine = Machine::of(alloc, start.dump(), start.probe())?;
-    let mut faults = Vec::new(alloc);
-    faults.push(fault_of(alloc, start.dump(), start)?)?;
-    for write in plan.writes() {
-        make(&mut machine, write)?;
-        let now = images_of(alloc, &machine, start.dump())?;
-        faults.push(fault_of(alloc, &now, start)?)?;
+/// Whether a dump that so many writes of a plan leave is sound from `safe_from` on, and the start isn't where that is
+/// above 0.
+fn is_as_safe<'a>(alloc: Global, plan: &Plan<'a>, left: &Dump, done: usize) -> bool {
+    match is_sound(alloc, left, plan.start()) {
+        Some(true) => done != 0 || plan.safe_from() == 0,
+        Some(false) => done < plan.safe_from(),
+        None => false,
     }
-    is_as_planned(&machine, plan.dump())?;
-    Ok(faults)
+}
+
+/// The same of what a machine holds.
+fn is_left_safe<'a>(alloc: Global, plan: &Plan<'a>, machine: &Machine, done: usize) -> bool {
+    match images_of(alloc, machine, plan.start().dump()) {
+        Some(left) => is_as_safe(alloc, plan, &left, done),
+        None => false,
+    }
+}
+
+/// The same of each beginning of a plan's writes, which are made on a machine of its start one after another.
+fn is_safe_on<'a>(alloc: Global, plan: &Plan<'a>, machine: &mut Machine) -> bool {
+    for (before, write) in plan.writes().iter().enumerate() {
+        if !make(machine, write) || !is_left_safe(alloc, plan, machine, before.saturating_add(1)) {
+            return false;
+        }
+    }
+    is_as_planned(machine, plan.dump())
 }
 
 /// Whether a stop is sound after each number of writes from `safe_from` on, and the start isn't where that is above 0.
-pub fn stops_safely<'a>(alloc: Global, plan: &Plan<'a>) -> Result<(), Fail> {
-    let safe_from = plan.safe_from();
-    for (done, fault) in faults_left(alloc, plan)?.iter().enumerate() {
-        if let Some(fault) = fault {
-            if safe_from <= done {
-                return Err(Fail::new(format_args!("after {done} writes: {fault}")));
-            }
-        } else if done == 0 && 0 < safe_from {
-            return Err(Fail::new(format_args!("a sound start")));
+pub fn stops_safely<'a>(alloc: Global, plan: &Plan<'a>) -> bool {
+    let start = plan.start();
+    match Machine::of(alloc, start.dump(), start.probe()).ok() {
+        Some(mut machine) => {
+            is_as_safe(alloc, plan, start.dump(), 0) && is_safe_on(alloc, plan, &mut machine)
         }
+        None => false,
     }
-    Ok(())
+}
+
+/// Whether the writes of a plan may stop there.
+fn is_planned(alloc: Global, start: &Admitted, pools: &Pools, safe_from: usize) -> bool {
+    match plan(alloc, start, pools) {
+        Ok(plan) => plan.safe_from() == safe_from && stops_safely(alloc, &plan),
+        Err(_) => false,
+    }
 }
 
 /// Whether the writes of a sample may stop where it says.
-fn is_safe_sample(alloc: Global, sample: &Sample) -> Result<(), Fail> {
-    let (pools, roots) = sample.place.read(alloc)?;
-    let start = admitted(alloc, &sample.start, roots)?;
-    let plan = plan(alloc, &start, &pools)?;
-    if plan.safe_from() != sample.safe_from {
-        return Err(Fail::new(format_args!("safe from {}", plan.safe_from())));
+fn is_safe_sample(alloc: Global, sample: &Sample) -> bool {
+    let Some((pools, roots)) = sample.place.read(alloc) else {
+        return false;
+    };
+    match admitted(alloc, &sample.start, roots) {
+        Some(start) => is_planned(alloc, &start, &pools, sample.safe_from),
+        None => false,
     }
-    stops_safely(alloc, &plan)
 }
 
 #[test]
 fn writes_may_stop_anywhere_once_they_are_safe(rt: HostRuntime) -> Result<(), Fail> {
-    for sample in samples(rt.alloc())? {
-        is_safe_sample(rt.alloc(), &sample)?;
+    for n in 0..SAMPLES {
+        let sample = nth_sample(rt.alloc(), n)?;
+        assert!(rt; is_safe_sample(rt.alloc(), &sample), "sample {n}");
     }
     Ok(())
 }
