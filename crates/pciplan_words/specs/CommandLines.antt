@@ -26,6 +26,11 @@ with_paths name =
 abbrev pub checking : App
 checking = with_rule (with_paths (codes "check")) (option_rule (codes "root"))
 
+abbrev pub listing : App
+listing =
+    with_rule (with_rule (with_paths (codes "faults")) (option_rule (codes "root")))
+    (flag_rule (codes "why"))
+
 abbrev pub planning : App
 planning = with_rule (with_rule (with_rule (with_rule (with_rule (with_paths (codes "plan"))
     (pool_rule (codes "io"))) (pool_rule (codes "mem"))) (pool_rule (codes "pref"))) (flag_rule (codes "writes")))
@@ -45,9 +50,9 @@ program = record (new_app (codes "pciplan")) {
 
 abbrev pub commands : App
 commands =
-    with_subcommand (with_subcommand
+    with_subcommand (with_subcommand (with_subcommand
     (with_subcommand (with_subcommand (with_subcommand program (with_paths (codes "show")).top)
-    checking.top) (with_paths (codes "size")).top) planning.top) probing.top
+    checking.top) listing.top) (with_paths (codes "size")).top) planning.top) probing.top
 
 -- what the words of a command line say, which no fault of usage refuses
 pub record IsGiven (words : List Text) (asked : Asked) (dump second : Text) : Type 0 where

@@ -3,7 +3,7 @@ use Rattle.std.specs.Prelude.{◌≡◌, Bool, true, false, List, Option, None, 
 use Rattle.std.specs.Borrow.{Bor}
 use Rattle.clap.specs.Words.{Row, Text, first_of, one_of}
 use Rattle.pciplan_words.specs.declared.asked.Asked.{Asked}
-use Rattle.pciplan_words.specs.declared.asked.Asked.TheVariants.{Show, Check, Size, Plan, Probe}
+use Rattle.pciplan_words.specs.declared.asked.Asked.TheVariants.{Show, Check, Faults, Size, Plan, Probe}
 use Rattle.pciplan_words.specs.declared.asked.PlanWords.{PlanWords}
 
 -- the word of an option or a path, where it has one
@@ -29,6 +29,9 @@ abbrev pub IsAsked : Text → List Row → Asked → Type 0
 IsAsked name rows Show = name ≡ codes "show"
 IsAsked name rows (Check root) =
     (name ≡ codes "check") × (first_of (codes "root") rows ≡ word_of root)
+IsAsked name rows (Faults root why) =
+    (name ≡ codes "faults") × (first_of (codes "root") rows ≡ word_of root)
+    × IsFlag (one_of (codes "why") rows) why
 IsAsked name rows Size = name ≡ codes "size"
 IsAsked name rows (Plan words) = (name ≡ codes "plan") × HasPlanWords rows words
 IsAsked name rows (Probe exact least) =

@@ -20,6 +20,8 @@ pub enum Asked<'a> {
     Show,
     /// The verdict, with the list of root buses where there is one.
     Check { root: Option<&'a str> },
+    /// All faults at once, with the list of root buses where there is one, and whether what stands behind each is asked for.
+    Faults { root: Option<&'a str>, why: bool },
     /// The sizing run.
     Size,
     /// The plan.

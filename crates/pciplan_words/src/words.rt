@@ -3,7 +3,7 @@ ghost use Rattle.std.specs.Prelude.{◌≡◌, ◌≢◌, ◌⊎◌, List, ℕ, 
 ghost use Rattle.clap.specs.Words.{app_of, found_of, kind_of, rows_of, rule_of};
 ghost use Rattle.clap.specs.declared.error.kind.ErrorKind.{ErrorKind};
 ghost use Rattle.clap.specs.declared.builder.command.Command.TheViews.{out-Command};
-ghost use Rattle.pciplan_words.specs.CommandLines.{flag_rule, pool_rule, with_paths, planning, probing, commands, IsGiven, HasNoLine};
+ghost use Rattle.pciplan_words.specs.CommandLines.{flag_rule, pool_rule, with_paths, listing, planning, probing, commands, IsGiven, HasNoLine};
 ghost use Rattle.pciplan_words.specs.CommandWords.{HasPlanWords, IsAsked, IsSaid};
 ghost use Rattle.pciplan_words.specs.declared.asked.Asked.{Asked};
 ghost use Rattle.pciplan_words.specs.declared.asked.PlanWords.{PlanWords};
@@ -20,6 +20,9 @@ const PROBE: &str = "PROBE";
 
 /// The name of the option that lists the root buses.
 const ROOT: &str = "root";
+
+/// The name of the option that asks for what stands behind faults.
+const WHY: &str = "why";
 
 /// The name of the option that asks for the writes of a plan.
 const WRITES: &str = "writes";
@@ -86,6 +89,16 @@ fn flag_arg<'a>(alloc: Global, name: &'a str) -> Arg<'a>
     Arg::new(alloc, name).long(name).action(ArgAction::SetTrue)
 }
 
+/// `pciplan faults DUMP PROBE [--root LIST] [--why]`.
+fn faults_command<'a>(alloc: Global) -> Result<Command<'a>, AllocError>
+    ensures app { IfOk result (λ command. app_of command ≡ listing) }
+    ensures local { IfOk result (λ command. (out-Command command).has_globals ≡ false) }
+{
+    of_texts(alloc, "faults")?
+        .arg(Arg::new(alloc, ROOT).long(ROOT))?
+        .arg(flag_arg(alloc, WHY))
+}
+
 /// `pciplan plan DUMP PROBE --io A-B --mem A-B --pref A-B [--writes] [--root LIST]`.
 fn plan_command<'a>(alloc: Global) -> Result<Command<'a>, AllocError>
     ensures app { IfOk result (λ command. app_of command ≡ planning) }
@@ -109,8 +122,8 @@ fn probe_command<'a>(alloc: Global) -> Result<Command<'a>, AllocError>
         .arg(flag_arg(alloc, LEAST))
 }
 
-/// `pciplan show DUMP PROBE`, `pciplan check [--root LIST] DUMP PROBE`, `pciplan size DUMP PROBE`, and `pciplan plan` and
-/// `pciplan probe`.
+/// `pciplan show DUMP PROBE`, `pciplan check [--root LIST] DUMP PROBE`, `pciplan size DUMP PROBE`, and `pciplan faults`,
+/// `pciplan plan` and `pciplan probe`.
 fn command<'a>(alloc: Global) -> Result<Command<'a>, AllocError>
     ensures { IfOk result (λ command. app_of command ≡ commands) }
 {
@@ -119,6 +132,7 @@ fn command<'a>(alloc: Global) -> Result<Command<'a>, AllocError>
         .subcommand_required(true)
         .subcommand(of_texts(alloc, "show")?)?
         .subcommand(of_texts(alloc, "check")?.arg(Arg::new(alloc, ROOT).long(ROOT))?)?
+        .subcommand(faults_command(alloc)?)?
         .subcommand(of_texts(alloc, "size")?)?
         .subcommand(plan_command(alloc)?)?
         .subcommand(probe_command(alloc)?)
@@ -149,6 +163,10 @@ fn asked_of<'a>(name: &str, found: &ArgMatches<'a>) -> Option<Asked<'a>>
         "show" => Some(Asked::Show),
         "check" => Some(Asked::Check {
             root: found.get_str(ROOT),
+        }),
+        "faults" => Some(Asked::Faults {
+            root: found.get_str(ROOT),
+            why: found.get_flag(WHY),
         }),
         "size" => Some(Asked::Size),
         "plan" => Some(Asked::Plan(plan_words(found)?)),

@@ -15,7 +15,8 @@ returns c =
     let checking = with_arg c.in_ok-arg.ensures c.in_ok-of_texts-2.ensures.app root_is root_local in
     let checking_local = local_arg c.in_ok-arg.ensures c.in_ok-of_texts-2.ensures.local root_local in
     let check = with_sub c.in_ok-subcommand-2.ensures show checking checking_local in
-    let size = with_sub c.in_ok-subcommand-3.ensures check c.in_ok-of_texts-3.ensures.app c.in_ok-of_texts-3.ensures.local in
-    let plan = with_sub c.in_ok-subcommand-4.ensures size c.in_ok-plan_command.ensures.app c.in_ok-plan_command.ensures.local in
-    IfOk-weaker c.subcommand-5.result _ _ (λ command adds. with_sub adds plan c.in_ok-probe_command.ensures.app c.in_ok-probe_command.ensures.local)
-    c.subcommand-5.ensures
+    let faults = with_sub c.in_ok-subcommand-3.ensures check c.in_ok-faults_command.ensures.app c.in_ok-faults_command.ensures.local in
+    let size = with_sub c.in_ok-subcommand-4.ensures faults c.in_ok-of_texts-3.ensures.app c.in_ok-of_texts-3.ensures.local in
+    let plan = with_sub c.in_ok-subcommand-5.ensures size c.in_ok-plan_command.ensures.app c.in_ok-plan_command.ensures.local in
+    IfOk-weaker c.subcommand-6.result _ _ (λ command adds. with_sub adds plan c.in_ok-probe_command.ensures.app c.in_ok-probe_command.ensures.local)
+    c.subcommand-6.ensures
