@@ -1,15 +1,15 @@
 -- What all roots need together, and whether it fits.
-use Rattle.std.proofs.Common.{◌≡◌, ℕ, ◌+◌, ◌*◌, ◌^◌, ◌<◌, ◌≤◌, ◌↔◌, inl, inr, List, [], ◌∷◌, ◌++◌, map, length, get_or, refl, Bool, true, false, cond, ◌||◌, arith, sym, ◌∙◌, ap}
-use Rattle.std.specs.Bool.{nat_eq, nat_le}
+use Rattle.std.proofs.Common.{◌≡◌, ℕ, ◌+◌, ◌-◌, ◌*◌, ◌^◌, ◌<◌, ◌≤◌, ◌↔◌, inl, inr, List, [], ◌∷◌, ◌++◌, map, length, get_or, refl, Bool, true, false, cond, ◌||◌, arith, sym, ◌∙◌, ap}
+use Rattle.std.specs.Bool.{IsFalse, nat_eq, nat_le}
 use Rattle.std.specs.List.{Contains, All, filter, range_with_len, sum, sum_by}
-use Rattle.std.proofs.lemmas.Bool.{cases_lt, eq-eqb, ne_eqb, or_left}
-use Rattle.std.proofs.lemmas.List.{get_or_past, map-id}
+use Rattle.std.proofs.lemmas.Bool.{both_ways, cases_lt, eq-eqb, ne_eqb, or_left}
+use Rattle.std.proofs.lemmas.List.{get_or_default, get_or_past, map-id}
 use Rattle.std.proofs.lemmas.List.Elements.{filter-append}
 use Rattle.std.proofs.lemmas.List.FromFn.{map-range_with_len_more}
 use Rattle.std.proofs.lemmas.List.Sums.{sum_by-append, sum-map}
 use Rattle.pci_spec.specs.Window.{WindowKind}
 use Rattle.pci_spec.specs.System.{System}
-use Rattle.plan_spec.specs.Plan.{Pools, pool_of, need_of, need_of_roots, greatest_of_roots, raised_to, fits}
+use Rattle.plan_spec.specs.Plan.{Pools, pool_of, need_of, need_of_roots, greatest_of_roots, raised_to, fits, Shortage, shortage}
 use Rattle.pci_spec.proofs.Members.{in_head, in_tail}
 use Rattle.pci_spec.proofs.Records.{same_truth}
 use Rattle.plan_spec.proofs.Planning.Tallies.{none_needed}
@@ -91,6 +91,12 @@ module _ (roots : List ℕ) (s : System) (pools : Pools) (c : WindowKind) where
       ap sum (map_same (get_or_zero needs) (need_of s pools c) (set_in flags) (λ bus has. each bus (set_small flags bus has)))
       ∙ ap (λ buses. sum (map (need_of s pools c) buses)) are
 
+  -- and none of it is more than what is told apart
+  pub needs_limited : (needs : List ℕ) → length needs ≡ 256 → ((bus : ℕ) → bus < 256 → get_or needs bus 0 ≡ need_of s pools c bus) → All (λ need. need ≤ 2 ^ 65) needs
+  needs_limited needs all each bus d within =
+      let here = get_or_default needs bus d 0 within ∙ each bus (omega (arith, all, within)) in
+      omega (arith, here)
+
   -- where something is needed, something has a size
   pub some_greatest : (need greatest : ℕ) → need ≡ need_of_roots roots s pools c → (need ≡ 0 → ⊥) → greatest ≡ greatest_of_roots roots s pools c → 0 < greatest
   some_greatest need greatest e some is = elim (cases_lt 0 greatest) [
@@ -114,3 +120,19 @@ module _ (roots : List ℕ) (s : System) (pools : Pools) (c : WindowKind) where
       ∙ ap (λ x. nat_le (raised_to (greatest_of_roots roots s pools c) (pool_of pools c).first + x) (last + 1)) e
       ∙ ap (λ x. nat_le (raised_to (greatest_of_roots roots s pools c) (pool_of pools c).first + n) (x + 1)) end
       ∙ sym (ap (λ b. b || nat_le (raised_to (greatest_of_roots roots s pools c) (pool_of pools c).first + n) ((pool_of pools c).last + 1)) none)
+
+  -- what doesn't fit has a size
+  pub unfit_greatest : (greatest : ℕ) → greatest ≡ greatest_of_roots roots s pools c → IsFalse (fits roots s pools c) → 0 < greatest
+  unfit_greatest greatest is unfit =
+      let need = need_of_roots roots s pools c in
+      some_greatest need greatest refl (λ none. both_ways (fits roots s pools c) unfit (sym (fits_none need refl none) ∙ eq-eqb need 0 none)) is
+
+  pub shortage_is : (greatest first last : ℕ) (lacking : Shortage) → lacking.needed ≡ need_of_roots roots s pools c → greatest ≡ greatest_of_roots roots s pools c
+      → first ≡ (pool_of pools c).first → last ≡ (pool_of pools c).last → lacking.start ≡ raised_to greatest first → lacking.available ≡ last + 1 - lacking.start
+      → lacking ≡ shortage roots s pools c
+  shortage_is greatest first last lacking needed is at end from rest =
+      let start : lacking.start ≡ (shortage roots s pools c).start =
+      from ∙ ap (λ size. raised_to size first) is ∙ ap (λ x. raised_to (greatest_of_roots roots s pools c) x) at in
+      let available : lacking.available ≡ (shortage roots s pools c).available =
+      rest ∙ ap (λ x. last + 1 - x) start ∙ ap (λ x. x + 1 - (shortage roots s pools c).start) end in
+      λ i. record { needed = needed i; start = start i; available = available i }

@@ -5,6 +5,7 @@ pub mod Needs
 pub mod Places
 pub mod Pools
 pub mod Records
+pub mod Shortages
 pub mod Sizes
 pub mod Sorting
 pub mod Walks

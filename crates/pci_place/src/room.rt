@@ -1,20 +1,33 @@
-//! Whether what is of a class fits its pool.
-ghost use Rattle.std.specs.Prelude.{◌≡◌, ◌<◌, ◌≤◌, ◌^◌, map, slice_index};
+//! Whether what is of a class fits its pool, and what it lacks where it doesn't.
+ghost use Rattle.std.specs.Prelude.{◌≡◌, ◌<◌, ◌≤◌, ◌^◌, IsFalse, map, slice_index};
 ghost use Rattle.std.specs.List.{All, sum};
-ghost use Rattle.plan_spec.specs.Plan.{fits, raised_to};
+ghost use Rattle.plan_spec.specs.Plan.{fits, raised_to, shortage};
 ghost use Rattle.pci_tree.specs.Roots.{buses_of};
 ghost use Rattle.pci_base.specs.WindowKinds.{kind_value};
 ghost use Rattle.pci_place.specs.Pools.{pools_value};
 ghost use Rattle.pci_place.specs.Above.{system_in};
 ghost use Rattle.pci_place.specs.Needs.{AreNeeds};
+ghost use Rattle.pci_place.specs.Shortages.{shortage_value};
 
-use crate::need::Needs;
+use crate::above::aboves;
+use crate::need::{Needs, needs_of};
 use crate::pools::Pools;
 use pci_base::slot::BUSES;
 use pci_base::window_kind::WindowKind;
 use pci_tree::admitted::Admitted;
 use pci_tree::roots::Roots;
 use std::alloc::Allocator;
+
+/// What a class lacks that doesn't fit its pool. Start and counts may be above all addresses of 64 bits.
+#[derive(Clone, Copy, Debug, PartialEq, Eq)]
+pub struct Shortage {
+    /// How many addresses it needs.
+    pub needed: u128,
+    /// The first address that they could have.
+    pub start: u128,
+    /// How many addresses the pool has from there on, 0 where it ends before.
+    pub available: u128,
+}
 
 /// What all root buses need together: they are placed as one bus.
 fn need_of_roots(roots: &Roots, needs: &Needs) -> u128
@@ -59,4 +72,30 @@ pub fn has_room<A: Allocator>(
     let need = need_of_roots(&admitted.outline().roots(), needs);
     let pool = pools.of(class);
     need == 0 || raised(needs.greatest, pool.first) + need <= u128::from(pool.last) + 1
+}
+
+/// What a class lacks.
+pub fn shortage_of<A: Allocator>(
+    admitted: &Admitted<A>,
+    pools: &Pools,
+    class: WindowKind,
+) -> Shortage
+    // what fits may have no size of which the start could be a multiple
+    requires { IsFalse (fits admitted.now.roots (system_in admitted.now) (pools_value pools.now)
+        (kind_value class)) }
+    ensures lacking { shortage_value result
+        ≡ shortage admitted.now.roots (system_in admitted.now) (pools_value pools.now)
+        (kind_value class) }
+    // so that what 64 bits of it don't hold is one digit
+    ensures bound { result.start ≤ 2 ^ 66 }
+{
+    let needs = needs_of(admitted, pools, class, &aboves(admitted));
+    let needed = need_of_roots(&admitted.outline().roots(), &needs);
+    let pool = pools.of(class);
+    let start = raised(needs.greatest, pool.first);
+    Shortage {
+        needed,
+        start,
+        available: (u128::from(pool.last) + 1).saturating_sub(start),
+    }
 }

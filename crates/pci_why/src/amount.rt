@@ -42,18 +42,25 @@ fn push_number<A: Allocator>(
     text.push_str(unit_name(unit))
 }
 
-/// Appends how many addresses a range has, as `64K`. All of memory space are `16E`.
+/// Appends a number of addresses, as `64K`. All of memory space are `16E`, and none would be `0E`.
+pub fn push_count<A: Allocator>(text: &mut String<A>, number: u128) -> Result<(), AllocError>
+    ensures { OnOk result (string_bytes text.new ≡ string_bytes text.old ++ amount_text number) }
+{
+    let mut scaled = number;
+    for unit in 0..UNITS {
+        if scaled % 1024 != 0 {
+            return push_number(text, scaled, unit);
+        }
+        scaled /= 1024;
+    }
+    push_number(text, scaled, UNITS)
+}
+
+/// Appends how many addresses a range has.
 pub fn push_amount<A: Allocator>(text: &mut String<A>, range: Range) -> Result<(), AllocError>
     requires { range.first ≤ range.last }
     ensures { OnOk result (string_bytes text.new
         ≡ string_bytes text.old ++ amount_text (address_count (decoded_range_of range))) }
 {
-    let mut number = u128::from(range.last - range.first) + 1;
-    for unit in 0..UNITS {
-        if number % 1024 != 0 {
-            return push_number(text, number, unit);
-        }
-        number /= 1024;
-    }
-    push_number(text, number, UNITS)
+    push_count(text, u128::from(range.last - range.first) + 1)
 }

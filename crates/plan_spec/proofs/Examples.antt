@@ -15,3 +15,4 @@ pub mod WholePlan
 pub mod Stopped
 pub mod Unplanned
 pub mod Lines
+pub mod Shortages

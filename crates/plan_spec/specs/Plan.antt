@@ -134,6 +134,24 @@ fits roots s pools c =
     + need_of_roots roots s pools c)
     ((pool_of pools c).last + 1)
 
+-- what a class lacks that doesn't fit its pool
+pub record Shortage : Type 0 where
+  -- how many addresses it needs
+  pub needed : ℕ
+  -- the first address that they could have
+  pub start : ℕ
+  -- how many addresses the pool has from there on
+  pub available : ℕ
+
+abbrev pub shortage : List ℕ → System → Pools → WindowKind → Shortage
+shortage roots s pools c =
+    let start = raised_to (greatest_of_roots roots s pools c) (pool_of pools c).first in
+    record {
+      needed = need_of_roots roots s pools c;
+      start = start;
+      available = (pool_of pools c).last + 1 - start;
+    }
+
 -- whether a part is an I/O BAR
 abbrev pub is_io_part : Function → Part → Bool
 is_io_part f (Bar n) = is_io (bar_at f.probe n)

@@ -199,7 +199,7 @@ unfolding items_within doubled_to
 class_without_items_fits = refl
 
 -- a BAR of 4 KB and a ROM of 64 KB: the start is raised to a multiple of the greatest
-abbrev with_rom : System
+abbrev pub with_rom : System
 with_rom = device (slot 0 1 0) 0 [] ((0x10, 0xfffff000) ∷ (0x30, 0xffff0000) ∷ []) ∷ []
 
 raised_and_filled_to_the_byte : fits host with_rom (three (pool 0x1000 0xffff) (pool 0xe0000800 0xe0020fff) (pool 0x100000000 0x1ffffffff)) MemoryWindow ≡ true
