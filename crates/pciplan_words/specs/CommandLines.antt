@@ -32,9 +32,9 @@ listing =
     (flag_rule (codes "why"))
 
 abbrev pub planning : App
-planning = with_rule (with_rule (with_rule (with_rule (with_rule (with_paths (codes "plan"))
+planning = with_rule (with_rule (with_rule (with_rule (with_rule (with_rule (with_paths (codes "plan"))
     (pool_rule (codes "io"))) (pool_rule (codes "mem"))) (pool_rule (codes "pref"))) (flag_rule (codes "writes")))
-    (option_rule (codes "root"))
+    (flag_rule (codes "why"))) (option_rule (codes "root"))
 
 abbrev pub probing : App
 probing =

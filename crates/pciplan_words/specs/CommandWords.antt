@@ -23,6 +23,7 @@ pub record HasPlanWords (rows : List Row) (words : PlanWords) : Type 0 where
   pub mem : first_of (codes "mem") rows ≡ Some words.mem.now
   pub pref : first_of (codes "pref") rows ≡ Some words.pref.now
   pub writes : IsFlag (one_of (codes "writes") rows) words.writes
+  pub why : IsFlag (one_of (codes "why") rows) words.why
 
 -- the task of this name, with the words of its options
 abbrev pub IsAsked : Text → List Row → Asked → Type 0

@@ -11,6 +11,8 @@ pub struct PlanWords<'a> {
     pub pref: &'a str,
     /// Whether the writes are asked for, and not the planned dump.
     pub writes: bool,
+    /// Whether it is asked for what a class that has no room lacks.
+    pub why: bool,
 }
 
 /// The task that is asked for, with the words of its options.

@@ -99,7 +99,7 @@ fn faults_command<'a>(alloc: Global) -> Result<Command<'a>, AllocError>
         .arg(flag_arg(alloc, WHY))
 }
 
-/// `pciplan plan DUMP PROBE --io A-B --mem A-B --pref A-B [--writes] [--root LIST]`.
+/// `pciplan plan DUMP PROBE --io A-B --mem A-B --pref A-B [--writes] [--why] [--root LIST]`.
 fn plan_command<'a>(alloc: Global) -> Result<Command<'a>, AllocError>
     ensures app { IfOk result (λ command. app_of command ≡ planning) }
     ensures local { IfOk result (λ command. (out-Command command).has_globals ≡ false) }
@@ -109,6 +109,7 @@ fn plan_command<'a>(alloc: Global) -> Result<Command<'a>, AllocError>
         .arg(pool_arg(alloc, MEM))?
         .arg(pool_arg(alloc, PREF))?
         .arg(flag_arg(alloc, WRITES))?
+        .arg(flag_arg(alloc, WHY))?
         .arg(Arg::new(alloc, ROOT).long(ROOT))
 }
 
@@ -150,6 +151,7 @@ fn plan_words<'a>(found: &ArgMatches<'a>) -> Option<PlanWords<'a>>
         mem: found.get_str(MEM)?,
         pref: found.get_str(PREF)?,
         writes: found.get_flag(WRITES),
+        why: found.get_flag(WHY),
     })
 }
 

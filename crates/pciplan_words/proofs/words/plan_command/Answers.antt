@@ -13,7 +13,8 @@ returns-clause-app c =
     let mem = with_arg c.in_ok-arg-2.ensures io c.pool_arg-2.ensures.rule c.pool_arg-2.ensures.local in
     let pref = with_arg c.in_ok-arg-3.ensures mem c.pool_arg-3.ensures.rule c.pool_arg-3.ensures.local in
     let writes = with_arg c.in_ok-arg-4.ensures pref c.flag_arg.ensures.rule c.flag_arg.ensures.local in
-    IfOk-weaker c.arg-5.result _ _ (λ command adds. with_arg adds writes root_is root_local) c.arg-5.ensures
+    let why = with_arg c.in_ok-arg-5.ensures writes c.flag_arg-2.ensures.rule c.flag_arg-2.ensures.local in
+    IfOk-weaker c.arg-6.result _ _ (λ command adds. with_arg adds why root_is root_local) c.arg-6.ensures
 
 pub returns-clause-local : goal.returns-clause-local
 returns-clause-local c =
@@ -22,4 +23,5 @@ returns-clause-local c =
     let mem = local_arg c.in_ok-arg-2.ensures io c.pool_arg-2.ensures.local in
     let pref = local_arg c.in_ok-arg-3.ensures mem c.pool_arg-3.ensures.local in
     let writes = local_arg c.in_ok-arg-4.ensures pref c.flag_arg.ensures.local in
-    IfOk-weaker c.arg-5.result _ _ (λ command adds. local_arg adds writes root_local) c.arg-5.ensures
+    let why = local_arg c.in_ok-arg-5.ensures writes c.flag_arg-2.ensures.local in
+    IfOk-weaker c.arg-6.result _ _ (λ command adds. local_arg adds why root_local) c.arg-6.ensures

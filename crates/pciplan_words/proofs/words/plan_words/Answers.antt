@@ -24,4 +24,5 @@ returns c =
       mem = word_there found (codes "mem") (Some c.in_ok-get_str-2.field-0) c.in_ok-get_str-2.ensures;
       pref = word_there found (codes "pref") (Some c.in_ok-get_str-3.field-0) c.in_ok-get_str-3.ensures;
       writes = flag_there found (codes "writes") c.get_flag.result c.get_flag.ensures.none c.get_flag.ensures.value c.get_flag.ensures.other;
+      why = flag_there found (codes "why") c.get_flag-2.result c.get_flag-2.ensures.none c.get_flag-2.ensures.value c.get_flag-2.ensures.other;
     }
