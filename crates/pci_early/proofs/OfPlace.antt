@@ -9,7 +9,7 @@ use Rattle.pci_spec.specs.Text.{Block, slots_of}
 use Rattle.pci_spec.specs.System.{System, Function, IsSystem, system_of}
 use Rattle.pci_spec.specs.Fault.{Fault, IsIn, LoneFunction, Orphan, BusRange}
 use Rattle.pci_spec.specs.Order.{precedes, slot_key, looking_key, phase_of, image_at, IsFirstThere}
-use Rattle.pci_spec.specs.Decoded.{IsDecodable, HasRecords, record_of}
+use Rattle.pci_spec.specs.Decoded.{record_of}
 use Rattle.pci_spec.specs.Decoded as decoded
 use Rattle.pci_spec.specs.FaultLines.{IsLine, AreAllFaults}
 use Rattle.pci_spec.proofs.FirstLines.{less_precedes}

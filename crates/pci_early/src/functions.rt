@@ -1,12 +1,12 @@
 //! Faults of functions by themselves, one function after another.
-ghost use Rattle.std.specs.Prelude.{◌≡◌, ◌++◌, List, map, OnOk, IfOk};
+ghost use Rattle.std.specs.Prelude.{◌≡◌, map, OnOk, IfOk};
 ghost use Rattle.std.specs.List.{Contains};
 ghost use Rattle.pci_spec.specs.Text.{IsDump, slots_of};
 ghost use Rattle.pci_spec.specs.System.{Function, function_of, system_of};
 ghost use Rattle.pci_spec.specs.Fault as faults;
 ghost use Rattle.pci_function.specs.Fault.{fault_of};
 ghost use Rattle.pci_early.specs.Lists.{AreJust};
-ghost use Rattle.pci_early.specs.OwnLines.{HasNoneBefore, IsBeforeIn, IsBeforeAt, IsOwnLine, IsOwnOf};
+ghost use Rattle.pci_early.specs.OwnLines.{HasNoneBefore, IsBeforeAt, IsOwnLine, IsOwnOf};
 ghost use Rattle.pci_early.specs.Phases.{number_of, IsAdding};
 
 use super::identity::identity_faults;

@@ -1,5 +1,4 @@
 //! The fault of a function's identity or probe.
-ghost use Rattle.std.specs.Prelude.{◌≡◌};
 ghost use Rattle.pci_early.specs.OwnLines.{AreOwnLines};
 
 use pci_base::image::Image;

@@ -1,7 +1,7 @@
 //! Each fault of a function's registers, and that of its capabilities list.
-ghost use Rattle.std.specs.Prelude.{◌≡◌, ◌<◌, ◌==◌, ◌&&◌, None, IsTrue, IsFalse, MatchOption};
+ghost use Rattle.std.specs.Prelude.{◌≡◌, ◌<◌, ◌==◌, ◌&&◌, None, IsFalse, MatchOption};
 ghost use Rattle.std.specs.Bool.{then_some};
-ghost use Rattle.pci_spec.specs.Header.{bar_count, layout, rom_register};
+ghost use Rattle.pci_spec.specs.Header.{bar_count, layout};
 ghost use Rattle.pci_spec.specs.Bar as bar;
 ghost use Rattle.pci_spec.specs.Rom.{breaks_rom_rule};
 ghost use Rattle.pci_spec.specs.Window.{window_register, breaks_window_rule};

@@ -1,5 +1,5 @@
 //! Slots that one of two texts alone lists.
-ghost use Rattle.std.specs.Prelude.{◌≡◌, ◌<◌, ◌≤◌, ◌↔◌, length, map, drop, List, IfOk};
+ghost use Rattle.std.specs.Prelude.{◌<◌, ◌≤◌, ◌↔◌, length, map, drop, IfOk};
 ghost use Rattle.pci_spec.specs.Text.{IsDump, slots_of};
 ghost use Rattle.pci_spec.specs.System.{system_of};
 ghost use Rattle.pci_spec.specs.Fault as faults;

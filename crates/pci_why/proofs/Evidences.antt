@@ -9,10 +9,10 @@ use Rattle.pci_spec.specs.Slot.{Slot}
 use Rattle.pci_spec.specs.Header.{secondary_bus}
 use Rattle.pci_spec.specs.Text.{slot_text}
 use Rattle.pci_spec.specs.Window.{WindowKind, IoWindow, MemoryWindow, PrefetchWindow}
-use Rattle.pci_spec.specs.System.{System, Function, Space, Io, Memory, Claims, Leads, is_bridge, passes, is_space_on}
+use Rattle.pci_spec.specs.System.{System, Function, Space, Io, Memory, Claims, Leads, is_bridge, passes}
 use Rattle.pci_spec.specs.System as system
 use Rattle.pci_spec.specs.Fault.{Clash, Split, IsUnreached, ClaimsOnBus}
-use Rattle.pci_spec.specs.Decoded.{InRange, Bridge, IsDecodable, record_of, bridge_of, decoded_windows}
+use Rattle.pci_spec.specs.Decoded.{Bridge, IsDecodable, record_of, bridge_of, decoded_windows}
 use Rattle.pci_spec.specs.Decoded as decoded
 use Rattle.pci_spec.specs.Listing.{inner_line, on_text}
 use Rattle.pci_spec.specs.Why.{Region as RegionValue, IsRegionIn, Misses, part_text, place_words, region_line, range_line, bridge_line, windows_text}

@@ -4,7 +4,7 @@ use Rattle.std.specs.List.{Contains, AllPairs}
 use Rattle.std.proofs.lemmas.Bool.{cases_lt, cases_eq}
 use Rattle.std.proofs.lemmas.List.Elements.{All-contains, Contains-get_or}
 use Rattle.pci_spec.specs.Slot.{Slot}
-use Rattle.pci_spec.specs.System.{System, Function, Space, Io, Memory, IsAddress}
+use Rattle.pci_spec.specs.System.{System, Space, Io, Memory, IsAddress}
 use Rattle.pci_spec.specs.System as system
 use Rattle.pci_spec.specs.Why.{place_end, address_count, IsPlaceFor, IsLeastPlace}
 use Rattle.pci_base.specs.declared.range.Range.{Range}

@@ -4,7 +4,6 @@ use Rattle.std.specs.Prelude.{◌↔◌}
 use Rattle.std.specs.List.{Contains}
 use Rattle.std.proofs.Math.ListN.{get_or-map}
 use Rattle.std.proofs.lemmas.List.{get_or_default, length-map}
-use Rattle.pci_spec.specs.Decoded.{InRange}
 use Rattle.pci_spec.specs.Decoded as decoded
 use Rattle.pci_spec.specs.Why.{IsRun, AreRuns}
 use Rattle.pci_spec.proofs.Members.{in_map_from, pairs_map}

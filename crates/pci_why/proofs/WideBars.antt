@@ -8,7 +8,7 @@ use Rattle.std.proofs.lemmas.List.{get_or_default}
 use Rattle.pci_spec.specs.Slot.{Slot}
 use Rattle.pci_spec.specs.Header.{bar_register, bar_count, layout}
 use Rattle.pci_spec.specs.Bar.{IoBar, Memory32, Memory64, Reserved, bar_at, bar_kind, is_io, is_wide, type_bits}
-use Rattle.pci_spec.specs.System.{System, Function, Space, Claims}
+use Rattle.pci_spec.specs.System.{System, Function, Space}
 use Rattle.pci_spec.specs.System as system
 use Rattle.pci_spec.specs.Bus.{is_root}
 use Rattle.pci_spec.specs.Decoded.{DecodedBar, HasRecords, record_of}

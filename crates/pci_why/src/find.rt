@@ -1,5 +1,5 @@
 //! The region at a slot and register of an outline.
-ghost use Rattle.std.specs.Prelude.{◌≡◌, ◌≤◌, ◌<◌, ℕ, length, IfOk, IfSome, MatchOption, IsTrue, ◌↔◌};
+ghost use Rattle.std.specs.Prelude.{◌≡◌, ◌≤◌, ◌<◌, length, IfOk, IfSome, MatchOption, IsTrue, ◌↔◌};
 ghost use Rattle.std.specs.List.{All, AllWithin, Contains};
 ghost use Rattle.pci_spec.specs.Slot.{slot_number};
 ghost use Rattle.pci_spec.specs.System.{System};

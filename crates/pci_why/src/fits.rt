@@ -1,5 +1,5 @@
 //! Where a region that isn't reached, or is the second of two, would fit on its bus.
-ghost use Rattle.std.specs.Prelude.{◌≡◌, ◌≤◌, ◌^◌, ◌↔◌, ◌++◌, ℕ, IsTrue, IfOk, IfSome, OnOk};
+ghost use Rattle.std.specs.Prelude.{◌≡◌, ◌≤◌, ◌^◌, ◌↔◌, ◌++◌, IsTrue, IfOk, IfSome, OnOk};
 ghost use Rattle.std.specs.List.{Any};
 ghost use Rattle.std.specs.Option.{option_map};
 ghost use Rattle.pci_base.specs.Ranges.{decoded_range_of};

@@ -1,5 +1,5 @@
 //! The addresses of a range that no range of a list has.
-ghost use Rattle.std.specs.Prelude.{◌+◌, ◌<◌, ◌≤◌, ◌^◌, ℕ, IfOk, OnOk};
+ghost use Rattle.std.specs.Prelude.{◌+◌, ◌<◌, ℕ, IfOk, OnOk};
 ghost use Rattle.pci_tree.specs.Ranges.{Covers, IsCanonical};
 ghost use Rattle.pci_tree.specs.Passing.{IsPush};
 ghost use Rattle.pci_why.specs.Missed.{IsBetween, IsOutside};
