@@ -5,3 +5,4 @@ mod PoolWords
 mod RootWords
 mod Invocations
 mod Tasks
+pub mod Faults

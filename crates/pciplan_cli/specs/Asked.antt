@@ -35,7 +35,7 @@ pub record IsPlanningOf (words : PlanWords) (planning : Task) : Type 0 where
   pub io : IsPoolWord words.io.now pools.io
   pub mem : IsPoolWord words.mem.now pools.mem
   pub pref : IsPoolWord words.pref.now pools.pref
-  pub is : planning ≡ task.Plan pools words.writes roots
+  pub is : planning ≡ task.Plan pools words.writes words.why roots
 
 -- of which registers a size may be assumed, by `--exact` and `--least`
 abbrev pub IsAssumingOf : Bool → Bool → Assuming → Type 0
@@ -47,6 +47,8 @@ IsAssumingOf false false assuming = assuming ≡ Disabled
 abbrev pub IsTaskOf : Asked → Task → Type 0
 IsTaskOf asked.Show t = t ≡ task.Show
 IsTaskOf (asked.Check root) t = (roots : Roots) × AreRootsOf root roots × (t ≡ task.Check roots)
+IsTaskOf (asked.Faults root why) t =
+    (roots : Roots) × AreRootsOf root roots × (t ≡ task.Faults roots why)
 IsTaskOf asked.Size t = t ≡ task.Size
 IsTaskOf (asked.Plan words) t = IsPlanningOf words t
 IsTaskOf (asked.Probe exact least) t =
@@ -66,6 +68,7 @@ HasMem words = HasIo words × ((pool : Range) × IsPoolWord words.mem.now pool)
 -- which one alone may be said
 abbrev pub IsRefusedFor : Asked → Failure → Type 0
 IsRefusedFor (asked.Check root) Root = HasNoRoots root
+IsRefusedFor (asked.Faults root why) Root = HasNoRoots root
 IsRefusedFor (asked.Plan words) Root = HasNoRoots words.root
 IsRefusedFor (asked.Plan words) (Pool Io) = HasRoots words × HasNoPool words.io.now
 IsRefusedFor (asked.Plan words) (Pool Mem) = HasIo words × HasNoPool words.mem.now

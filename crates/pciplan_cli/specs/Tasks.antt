@@ -14,6 +14,7 @@ use Rattle.pci_tree.specs.Roots.{buses_of}
 use Rattle.pci_place.specs.Pools.{pools_value}
 use Rattle.pci_check.specs.Audits.{IsDumpOf}
 use Rattle.pciplan_cli.specs.Answers.{Answer, IsShown, IsChecked, IsSized, IsTold}
+use Rattle.pciplan_cli.specs.FaultsAnswers.{AreTold}
 use Rattle.pciplan_cli.specs.PlanAnswers.{IsPlanned}
 use Rattle.pciplan_cli.specs.ProbeAnswers.{probe_answer}
 use Rattle.pciplan_cli.specs.Statuses.{status_of}
@@ -41,10 +42,16 @@ pub record IsAnswerTo {B : Type 0} (IsSecond : Option (List ℕ) → List B → 
 abbrev pub IsAnswerOf : Task → Option (List ℕ) → Option (List ℕ) → Answer → Type 0
 IsAnswerOf task.Show = IsAnswerTo IsDumpOf IsShown
 IsAnswerOf (task.Check roots) = IsAnswerTo IsDumpOf (IsChecked (buses_of roots))
+IsAnswerOf (task.Faults roots why) = IsAnswerTo IsDumpOf (AreTold (buses_of roots) why)
 IsAnswerOf task.Size = IsAnswerTo IsDumpOf IsSized
-IsAnswerOf (task.Plan pools writes roots) =
+IsAnswerOf (task.Plan pools writes why roots) =
     IsAnswerTo IsDumpOf
-    (IsPlanned record { pools = pools_value pools; writes = writes; roots = buses_of roots })
+    (IsPlanned record {
+      pools = pools_value pools;
+      writes = writes;
+      why = why;
+      roots = buses_of roots;
+    })
 IsAnswerOf (task.Probe assuming) =
     IsAnswerTo AreSizesOf
     (λ dump sizes answer. answer ≡ probe_answer (assuming_of assuming) dump sizes)

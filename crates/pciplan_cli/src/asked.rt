@@ -45,6 +45,7 @@ fn planning_of(words: &PlanWords<'_>) -> Result<Task, Failure>
     Ok(Task::Plan {
         pools: Pools { io, mem, pref },
         writes: words.writes,
+        why: words.why,
         roots,
     })
 }
@@ -70,6 +71,10 @@ pub fn task_of(asked: &Asked<'_>) -> Result<Task, Failure>
         Asked::Show => Ok(Task::Show),
         Asked::Check { root } => Ok(Task::Check {
             roots: roots_of(*root).ok_or(Failure::Root)?,
+        }),
+        Asked::Faults { root, why } => Ok(Task::Faults {
+            roots: roots_of(*root).ok_or(Failure::Root)?,
+            why: *why,
         }),
         Asked::Size => Ok(Task::Size),
         Asked::Plan(words) => planning_of(words),

@@ -22,12 +22,19 @@ pub enum Task {
     Check {
         roots: Roots,
     },
+    /// Lists all faults of the same system, with what stands behind each where that is asked for.
+    Faults {
+        roots: Roots,
+        why: bool,
+    },
     /// Sizes every function of a machine of the two texts.
     Size,
-    /// Plans them in these pools, with these root buses: the planned dump, or the writes that lead there.
+    /// Plans them in these pools, with these root buses: the planned dump, or the writes that lead there. Where a class
+    /// has no room it may be asked for what it lacks.
     Plan {
         pools: Pools,
         writes: bool,
+        why: bool,
         roots: Roots,
     },
     /// Derives the probe from the dump and the sizes that Linux tells, which are the second text, assuming the least size of

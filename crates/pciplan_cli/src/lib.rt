@@ -12,6 +12,7 @@
 
 pub mod asked;
 pub mod failure;
+pub mod faulting;
 pub mod invocation;
 pub mod opened;
 pub mod planning;
@@ -21,6 +22,7 @@ pub mod program;
 pub mod reply;
 pub mod root_list;
 pub mod run;
+pub mod shortage_line;
 pub mod sizing;
 
 pub use failure::Failure;

@@ -1,22 +1,33 @@
 //! What `plan` answers of a dump and its probe.
-ghost use Rattle.std.specs.Prelude.{◌≡◌, ◌++◌, map, IsTrue, IfOk, OnOk};
+ghost use Rattle.std.specs.Prelude.{◌≡◌, ◌++◌, map, IsFalse, IsTrue, IfOk, OnOk};
 ghost use Rattle.std.specs.List.{All, flat_map};
 ghost use Rattle.std.specs.String.{string_bytes};
 ghost use Rattle.pci_spec.specs.Line.{write_line};
+ghost use Rattle.plan_spec.specs.Plan.{NoRoom, fits, shortage};
+ghost use Rattle.plan_spec.specs.PlanLine.{plan_fault_text, shortage_line};
+ghost use Rattle.pci_base.specs.WindowKinds.{kind_value};
+ghost use Rattle.pci_place.specs.Above.{system_in};
 ghost use Rattle.pci_tree.specs.Roots.{buses_of};
 ghost use Rattle.pci_place.specs.Pools.{pools_value};
 ghost use Rattle.pci_plan.specs.Writes.{is_plain, write_value};
-ghost use Rattle.pciplan_cli.specs.Answers.{answer_of};
-ghost use Rattle.pciplan_cli.specs.PlanAnswers.{IsPlanned};
+ghost use Rattle.pciplan_cli.specs.Answers.{answer_of, no_line, refused};
+ghost use Rattle.pci_plan.specs.Plans.{IsFaultOf, plan_fault_of};
+ghost use Rattle.pciplan_cli.specs.PlanAnswers.{IsPlanned, no_plan_text};
 
 use crate::reply::{Reply, Text, done, refused};
+use crate::shortage_line::push_shortage;
 use pci_base::memory::{OutOfMemory, Refused};
+use pci_base::window_kind::WindowKind;
+use pci_check::line::no_line;
 use pci_dump::dump::Dump;
 use pci_listing::hex_text::{push_byte, push_hex, push_slot};
 use pci_place::pools::Pools;
+use pci_place::room::shortage_of;
+use pci_plan::plan_fault::PlanFault;
 use pci_plan::planning::plan;
 use pci_plan::write::Write as RegisterWrite;
 use pci_tree::admit::admit_with;
+use pci_tree::admitted::Admitted;
 use pci_tree::roots::Roots;
 use std::alloc::{AllocError, Allocator};
 
@@ -52,18 +63,67 @@ fn lines_of<A: Allocator>(alloc: A, writes: &[RegisterWrite]) -> Result<String<A
     Ok(text)
 }
 
-/// Plans a dump and its probe in these pools, with these root buses.
+/// The answer that a class has no room, with what it lacks.
+fn lacking<A: Allocator + Copy>(
+    alloc: A,
+    admitted: &Admitted<A>,
+    pools: &Pools,
+    class: WindowKind,
+) -> Result<Reply<A>, OutOfMemory>
+    requires { IsFalse (fits admitted.now.roots (system_in admitted.now) (pools_value pools.now)
+        (kind_value class)) }
+    ensures { IfOk result (λ reply. answer_of reply ≡ refused (no_line
+        (plan_fault_text (NoRoom (kind_value class)))
+        ++ shortage_line (kind_value class) (shortage admitted.now.roots (system_in admitted.now)
+        (pools_value pools.now) (kind_value class)))) }
+{
+    let mut lines = no_line(alloc, &PlanFault::NoRoom(class))?;
+    push_shortage(&mut lines, class, shortage_of(admitted, pools, class))?;
+    Ok(Reply {
+        refused: true,
+        text: Text::Lines(lines),
+        remarks: String::new(alloc),
+    })
+}
+
+/// The answer that there is no plan; where it is asked for, with what a class without room lacks.
+fn no_plan<A: Allocator + Copy>(
+    alloc: A,
+    admitted: &Admitted<A>,
+    pools: &Pools,
+    fault: PlanFault,
+    why: bool,
+) -> Result<Reply<A>, OutOfMemory>
+    requires { IsFaultOf admitted.now pools.now fault }
+    ensures { IfOk result (λ reply. answer_of reply ≡ refused (no_plan_text why admitted.now.roots
+        (system_in admitted.now) (pools_value pools.now) (plan_fault_of fault))) }
+{
+    if !why {
+        return refused(alloc, &fault);
+    }
+    match fault {
+        PlanFault::NoRoom(class) => lacking(alloc, admitted, pools, class),
+        PlanFault::BadPools | PlanFault::NoWindow(_) | PlanFault::NotAccepted(_) => {
+            refused(alloc, &fault)
+        }
+    }
+}
+
+/// Plans a dump and its probe in these pools, with these root buses: writes in the place of the planned dump, and what
+/// a class without room lacks, where that is asked for.
 pub fn plan_pair<A: Allocator + Copy>(
     alloc: A,
     dump: Dump<A>,
     probe: Dump<A>,
     pools: &Pools,
     writes: bool,
+    why: bool,
     roots: Roots,
 ) -> Result<Reply<A>, OutOfMemory>
     ensures { IfOk result (λ reply. IsPlanned record {
       pools = pools_value pools.now;
       writes = writes;
+      why = why;
       roots = buses_of roots;
     } dump probe (answer_of reply)) }
 {
@@ -74,7 +134,9 @@ pub fn plan_pair<A: Allocator + Copy>(
     };
     let plan = match plan(alloc, &admitted, pools) {
         Ok(plan) => plan,
-        Err(Refused::Fault(plan_fault)) => return refused(alloc, &plan_fault),
+        Err(Refused::Fault(plan_fault)) => {
+            return no_plan(alloc, &admitted, pools, plan_fault, why);
+        }
         Err(Refused::Memory) => return Err(OutOfMemory),
     };
     if writes {

@@ -5,6 +5,7 @@ ghost use Rattle.pciplan_cli.specs.Statuses.{status_of};
 ghost use Rattle.pciplan_cli.specs.Tasks.{HasFailed, IsAnswerOf, IsAnswered, IsBegun, IsFailureOf, IsTaskRefused};
 
 use crate::failure::{Failure, report};
+use crate::faulting::faults_pair;
 use crate::invocation::{Invocation, Task};
 use crate::planning::plan_pair;
 use crate::probing::derive;
@@ -111,12 +112,14 @@ fn reply_to<A: Allocator + Copy, D: Source, S: Source>(
     let probe = read_dump(alloc, second).map_err(Failure::Probe)?;
     match task {
         Task::Show => Ok(show_pair(alloc, &dump, &probe)?),
+        Task::Faults { roots, why } => Ok(faults_pair(alloc, &dump, &probe, roots, why)?),
         Task::Size => Ok(size_pair(alloc, &dump, &probe)?),
         Task::Plan {
             pools,
             writes,
+            why,
             roots,
-        } => Ok(plan_pair(alloc, dump, probe, &pools, writes, roots)?),
+        } => Ok(plan_pair(alloc, dump, probe, &pools, writes, why, roots)?),
         Task::Check { .. } | Task::Probe { .. } => unreachable!(),
     }
 }

@@ -32,6 +32,19 @@ returns-in_ok-show_pair-in-Show g c = record {
   failed = tt;
 }
 
+pub returns-in_ok-faults_pair-in-Faults : goal.returns-in_ok-faults_pair-in-Faults
+returns-in_ok-faults_pair-in-Faults g c = record {
+  reply = rw c.in-Faults.is record {
+    dump = c.in_ok-dump.dump;
+    second = c.in_ok-probe.probe;
+    dump_text = dump_read (g.D.Source.left c.args.dump.now) c.read_dump.result (Ok c.in_ok-dump.dump) c.in_ok-dump.ensures.cases c.read_dump.ensures.ok c.read_dump.ensures.only;
+    second_text = dump_read (g.S.Source.left c.args.second.now) c.read_dump-2.result (Ok c.in_ok-probe.probe) c.in_ok-probe.ensures.cases c.read_dump-2.ensures.ok c.read_dump-2.ensures.only;
+    means = c.in_ok-faults_pair-in-Faults.ensures;
+  };
+  failure = tt;
+  failed = tt;
+}
+
 pub returns-in_ok-size_pair-in-Size : goal.returns-in_ok-size_pair-in-Size
 returns-in_ok-size_pair-in-Size g c = record {
   reply = rw c.in-Size.is record {
