@@ -12,6 +12,8 @@ mod opening;
 #[cfg(test)]
 mod program;
 #[cfg(test)]
+mod refused_lists;
+#[cfg(test)]
 mod refused_plans;
 #[cfg(test)]
 mod refused_probes;
