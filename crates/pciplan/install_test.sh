@@ -313,7 +313,7 @@ example() {
 }
 
 PATH=$room/usr/bin:$PATH
-for number in 1 2; do
+for number in 1 2 3; do
     example $number | sed -n '1,/[^\\]$/s/^\$ //p;1,/[^\\]$/s/^    //p' >command.sh
     example $number >wanted
     { example $number | sed '/[^\\]$/q'; sh command.sh; } >got 2>&1
@@ -341,15 +341,15 @@ while read -r slot bytes; do
 done <functions
 mkdir devices/0001:00:00.0
 rm dump.txt
-example 3 | sed "s,/sys/bus/pci/devices,$room/devices," >command.sh
+example 4 | sed "s,/sys/bus/pci/devices,$room/devices," >command.sh
 sh command.sh >got 2>&1
 cmp dump.txt "$top/machines/old.dump" >>got 2>&1
 cmp sizes.txt "$top/machines/old.sizes" >>got 2>&1
 : >wanted
-same 'example 3 of the page'
-example 4 >command.sh
+same 'example 4 of the page'
+example 5 >command.sh
 sh command.sh >got 2>&1
-has 'example 4 of the page' 'pciplan: assumed 00:02.0 30
+has 'example 5 of the page' 'pciplan: assumed 00:02.0 30
 yes'
 quiet 'the page: mandoc' mandoc -Tlint "$page"
 quiet 'the page: groff' groff -man -ww -z -Tutf8 "$page"
@@ -371,7 +371,7 @@ offers() {
 
 quiet 'bash takes its completion' bash -n $names/pciplan.bash
 if command -v bash >/dev/null; then
-    offers "''" 'show check size plan probe'
+    offers "''" 'show check faults size plan probe'
     for command in $commands; do
         offers "$command ''" FILES
         offers "$command dump.txt probe.txt ''" \
@@ -389,7 +389,7 @@ if command -v bash >/dev/null; then
     offers 'check -- dump.txt -' FILES
     offers "check -- dump.txt probe.txt ''" ''
     offers "show check probe ''" ''
-    offers 'plan --io 0-1 dump.txt --writes --' '--mem --pref --root'
+    offers 'plan --io 0-1 dump.txt --writes --' '--mem --pref --root --why'
     offers 'probe dump.txt --exact s' FILES
     offers "judge ''" ''
 else

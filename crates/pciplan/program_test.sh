@@ -101,7 +101,12 @@ for machine in desk old port roots; do
     [ $machine = roots ] && roots=00,40
     text_of $machine.check
     [ "$text" = "yes$lf" ]
-    case_of "$machine: check" $? "$text" '' check --root $roots $machine.dump $machine.probe
+    judged=$?
+    case_of "$machine: check" $judged "$text" '' check --root $roots $machine.dump $machine.probe
+    # the list begins with the fault that the verdict names
+    text=${text#no }
+    [ $machine = desk ] && text="${text}52 VgaEnable 01:00.0$lf"
+    case_of "$machine: faults" $judged "$text" '' faults --root $roots $machine.dump $machine.probe
     text_of $machine.show
     refused=0
     [ $machine = port ] && refused=1
@@ -187,7 +192,7 @@ case_of 'a fault of both' 2 '' "pciplan: dump: 9 Ended 1$lf" check cut.txt cut.t
 
 # texts that can't be opened or read
 # shellcheck disable=SC2086
-for command in show check size "plan $pools"; do
+for command in show check faults size "plan $pools"; do
     name=${command%% *}
     case_of "$name: no dump" 4 '' "pciplan: dump: 1 Io$lf" $command missing.txt probe.txt
     case_of "$name: no probe" 4 '' "pciplan: probe: 1 Io$lf" $command dump.txt missing.txt
@@ -300,7 +305,7 @@ got=$?
 : >err
 compare 'probe: remarks where standard error is closed' 0 "$text" '' $got
 if [ -w /dev/full ]; then
-    for command in show check size; do
+    for command in show check faults size; do
         ./pciplan $command dump.txt probe.txt 2>err >/dev/full
         got=$?
         : >out
