@@ -7,12 +7,13 @@ ghost use Rattle.plan_spec.specs.Plan.{NoRoom, fits, shortage};
 ghost use Rattle.plan_spec.specs.PlanLine.{plan_fault_text, shortage_line};
 ghost use Rattle.pci_base.specs.WindowKinds.{kind_value};
 ghost use Rattle.pci_place.specs.Above.{system_in};
+ghost use Rattle.pci_tree.specs.Admission.{IsAdmitted};
 ghost use Rattle.pci_tree.specs.Roots.{buses_of};
 ghost use Rattle.pci_place.specs.Pools.{pools_value};
 ghost use Rattle.pci_plan.specs.Writes.{is_plain, write_value};
-ghost use Rattle.pciplan_cli.specs.Answers.{answer_of, no_line, refused};
+ghost use Rattle.pciplan_cli.specs.Answers.{answer_of, done, no_line, refused};
 ghost use Rattle.pci_plan.specs.Plans.{IsFaultOf, plan_fault_of};
-ghost use Rattle.pciplan_cli.specs.PlanAnswers.{IsPlanned, no_plan_text};
+ghost use Rattle.pciplan_cli.specs.PlanAnswers.{IsPlanned, no_plan_text, plan_text};
 
 use crate::reply::{Reply, Text, done, refused};
 use crate::shortage_line::push_shortage;
@@ -23,6 +24,7 @@ use pci_dump::dump::Dump;
 use pci_listing::hex_text::{push_byte, push_hex, push_slot};
 use pci_place::pools::Pools;
 use pci_place::room::shortage_of;
+use pci_plan::plan::Plan;
 use pci_plan::plan_fault::PlanFault;
 use pci_plan::planning::plan;
 use pci_plan::write::Write as RegisterWrite;
@@ -109,6 +111,44 @@ fn no_plan<A: Allocator + Copy>(
     }
 }
 
+/// What a plan answers: its writes, or the planned dump.
+fn plan_reply<'a, A: Allocator + Copy>(
+    alloc: A,
+    plan: Plan<'a, A>,
+    writes: bool,
+) -> Result<Reply<A>, OutOfMemory>
+    ensures { IfOk result (λ reply. answer_of reply ≡ done (plan_text writes plan.entry)) }
+{
+    if writes {
+        let lines = lines_of(alloc, plan.writes())?;
+        return Ok(done(alloc, Text::Lines(lines)));
+    }
+    Ok(done(alloc, Text::Dump(plan.into_dump())))
+}
+
+/// Plans what was admitted.
+fn plan_admitted<A: Allocator + Copy>(
+    alloc: A,
+    admitted: &Admitted<A>,
+    pools: &Pools,
+    writes: bool,
+    why: bool,
+) -> Result<Reply<A>, OutOfMemory>
+    requires { IsAdmitted admitted.now }
+    ensures { IfOk result (λ reply. IsPlanned record {
+      pools = pools_value pools.now;
+      writes = writes;
+      why = why;
+      roots = admitted.now.roots;
+    } admitted.now.dump admitted.now.probe (answer_of reply)) }
+{
+    match plan(alloc, admitted, pools) {
+        Ok(plan) => plan_reply(alloc, plan, writes),
+        Err(Refused::Fault(fault)) => no_plan(alloc, admitted, pools, fault, why),
+        Err(Refused::Memory) => Err(OutOfMemory),
+    }
+}
+
 /// Plans a dump and its probe in these pools, with these root buses: writes in the place of the planned dump, and what
 /// a class without room lacks, where that is asked for.
 pub fn plan_pair<A: Allocator + Copy>(
@@ -127,21 +167,9 @@ pub fn plan_pair<A: Allocator + Copy>(
       roots = buses_of roots;
     } dump probe (answer_of reply)) }
 {
-    let admitted = match admit_with(alloc, dump, probe, roots) {
-        Ok(admitted) => admitted,
-        Err(Refused::Fault(fault)) => return refused(alloc, &fault),
-        Err(Refused::Memory) => return Err(OutOfMemory),
-    };
-    let plan = match plan(alloc, &admitted, pools) {
-        Ok(plan) => plan,
-        Err(Refused::Fault(plan_fault)) => {
-            return no_plan(alloc, &admitted, pools, plan_fault, why);
-        }
-        Err(Refused::Memory) => return Err(OutOfMemory),
-    };
-    if writes {
-        let lines = lines_of(alloc, plan.writes())?;
-        return Ok(done(alloc, Text::Lines(lines)));
+    match admit_with(alloc, dump, probe, roots) {
+        Ok(admitted) => plan_admitted(alloc, &admitted, pools, writes, why),
+        Err(Refused::Fault(fault)) => refused(alloc, &fault),
+        Err(Refused::Memory) => Err(OutOfMemory),
     }
-    Ok(done(alloc, Text::Dump(plan.into_dump())))
 }
