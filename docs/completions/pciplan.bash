@@ -12,7 +12,7 @@ _pciplan() {
     show | size) options='' ;;
     check) options='--root' ;;
     faults) options='--root --why' ;;
-    plan) options='--io --mem --pref --root --writes --why' ;;
+    plan) options='--io --mem --pref --root --why --writes' ;;
     probe) options='--exact --least' ;;
     *) return ;;
     esac
