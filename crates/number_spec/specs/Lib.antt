@@ -1,0 +1,5 @@
+pub mod Board
+pub mod Walk
+pub mod Numbered
+pub mod Room
+pub mod NumberingLaws

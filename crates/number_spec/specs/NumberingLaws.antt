@@ -1,0 +1,69 @@
+-- Laws of numbering.
+use Rattle.std.specs.Prelude.{◌≡◌, ◌↔◌, ℕ, IsTrue, List, [], ◌∷◌, map}
+use Rattle.std.specs.List.{Contains, filter}
+use Rattle.std.specs.List.Sorted.{IsStrictlyIncreasing}
+use Rattle.pci_spec.specs.Slot.{Slot}
+use Rattle.pci_spec.specs.Header.{secondary_bus}
+use Rattle.number_spec.specs.Board.{Nodes, Root, Board, Place, is_type_1, image_at, access_of, answers, IsSingle}
+use Rattle.number_spec.specs.Walk.{is_rising, is_walkable, walk}
+use Rattle.number_spec.specs.Numbered.{without_numbers, secondaries, IsNumbered}
+use Rattle.number_spec.specs.Room.{IsNumberedWithRoom}
+
+-- The bridges whose numbers are in order are those that the walk comes to, where it finds all nodes.
+abbrev pub WalkIsInOrder : Type 0
+WalkIsInOrder =
+    (nodes : Nodes) → IsTrue (is_walkable nodes)
+    → secondaries nodes
+    ≡ map secondary_bus (filter is_type_1 (map (image_at nodes) (walk nodes nodes)))
+
+-- Whether it finds them doesn't hang on bus numbers.
+abbrev pub SameIsWalkable : Type 0
+SameIsWalkable =
+    (before after : Nodes) → without_numbers before ≡ without_numbers after
+    → is_walkable before ≡ is_walkable after
+
+-- Where the nodes behind a root are numbered, and no two on a bus have one device and function, each access
+-- is answered by one node at most.
+abbrev pub NumberedIsSingle : Type 0
+NumberedIsSingle =
+    (root last : ℕ) (before after : Nodes) → IsTrue (is_rising after)
+    → IsNumbered root last before after
+    → IsSingle (record { number = root; nodes = after } ∷ [])
+
+-- The same where numbers are kept free,
+abbrev pub RoomyIsSingle : Type 0
+RoomyIsSingle =
+    (room : List ℕ → ℕ) (root last : ℕ) (before after : Nodes) → IsTrue (is_rising after)
+    → IsNumberedWithRoom room root last before after
+    → IsSingle (record { number = root; nodes = after } ∷ [])
+
+-- and where none are the n-th bridge has the n-th bus above the root.
+abbrev pub NoRoomIsInOrder : Type 0
+NoRoomIsInOrder =
+    (root last : ℕ) (before after : Nodes) → IsNumberedWithRoom (λ image. 0) root last before after
+    → IsNumbered root last before after
+
+-- A board whose roots rise is single where each of them alone is.
+abbrev pub RootsAreSingle : Type 0
+RootsAreSingle =
+    (board : Board) → IsStrictlyIncreasing (map (λ root. root.number) board)
+    → ((root : Root) → Contains board root → IsSingle (root ∷ [])) → IsSingle board
+
+-- Each node that the walk finds answers one access, that to its bus, device and function, and no other.
+abbrev pub FoundAnswersOnce : Type 0
+FoundAnswersOnce =
+    (root last : ℕ) (before after : Nodes) → IsNumbered root last before after
+    → (place : Place) → Contains (walk after after) place
+    → (access : Slot)
+    → Contains (answers (record { number = root; nodes = after } ∷ []) access) (root, place)
+    ↔ (access ≡ access_of root after place)
+
+-- So it does where numbers are kept free.
+abbrev pub RoomyAnswersOnce : Type 0
+RoomyAnswersOnce =
+    (room : List ℕ → ℕ) (root last : ℕ) (before after : Nodes)
+    → IsNumberedWithRoom room root last before after
+    → (place : Place) → Contains (walk after after) place
+    → (access : Slot)
+    → Contains (answers (record { number = root; nodes = after } ∷ []) access) (root, place)
+    ↔ (access ≡ access_of root after place)

@@ -1,0 +1,24 @@
+//! Laws of numbering. These functions do nothing: each contract is a law.
+
+ghost use Rattle.number_spec.specs.NumberingLaws.{WalkIsInOrder, SameIsWalkable, NumberedIsSingle, RoomyIsSingle, RootsAreSingle, NoRoomIsInOrder, FoundAnswersOnce, RoomyAnswersOnce};
+
+/// On a board whose bridges are numbered in the order of the walk each access is answered once at most,
+/// and also where numbers are kept free, or there are several roots.
+pub fn numbered_boards_are_single()
+    ensures single { NumberedIsSingle }
+    ensures roomy { RoomyIsSingle }
+    ensures roots { RootsAreSingle }
+{}
+
+/// Where no number is kept free the bridges have the numbers above their root in the order of the walk.
+pub fn bridges_are_numbered_in_order()
+    ensures walk { WalkIsInOrder }
+    ensures same { SameIsWalkable }
+    ensures order { NoRoomIsInOrder }
+{}
+
+/// On a numbered board each node that the walk finds answers exactly one access.
+pub fn nodes_that_are_found_answer_once()
+    ensures once { FoundAnswersOnce }
+    ensures roomy { RoomyAnswersOnce }
+{}
