@@ -83,6 +83,10 @@ wrong_ranges_behind_the_first = refl
 no_bus_is_0_in_all_three : map (λ m. have_ranges 0 (single_bridge m)) (0x000000 ∷ 0x010000 ∷ 0x000005 ∷ []) ≡ true ∷ false ∷ false ∷ []
 no_bus_is_0_in_all_three = refl
 
+-- a device shows something else there
+device_shows_no_numbers : have_ranges 0 (Node 1 0 (image 0 0x010005) NoMore NoMore) ≡ true
+device_shows_no_numbers = refl
+
 greatest_wherever_it_is : map (greatest 2) ([] ∷ (1 ∷ []) ∷ (3 ∷ []) ∷ (1 ∷ 5 ∷ 3 ∷ []) ∷ []) ≡ 2 ∷ 2 ∷ 3 ∷ 5 ∷ []
 greatest_wherever_it_is = refl
 

@@ -42,6 +42,10 @@ no_room = refl
 no_room_and_wrong_numbers : map (have_numbers (λ image. 0) 3 0 0) (single_bridge 0x010001 ∷ row 0x000103 0x010202 0x020303 ∷ fork 0x000101 0x010202 0x010303 ∷ tree 0x000103 0x010202 0x010303 0x000505 ∷ tree 0x000103 0x010202 0x010303 0 ∷ []) ≡ false ∷ false ∷ false ∷ false ∷ true ∷ []
 no_room_and_wrong_numbers = refl
 
+-- after a bridge without a bus the next one has none either
+none_left_for_the_next : map (have_numbers (λ image. 0) 0 0 0) (pair 0 0 ∷ pair 0 0x000505 ∷ pair 0 0x000101 ∷ []) ≡ true ∷ false ∷ false ∷ []
+none_left_for_the_next = refl
+
 -- the last bus behind is that of the last bridge with a bus, or the bus itself
 last_buses : map (last_behind 0) (devices ∷ pair 0x000102 0x000304 ∷ pair 0x000102 0 ∷ pair 0 0 ∷ []) ≡ 0 ∷ 4 ∷ 2 ∷ 0 ∷ []
 last_buses = refl
