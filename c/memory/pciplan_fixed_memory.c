@@ -1,8 +1,8 @@
 /* The memory of the library, from an array of fixed size: for firmware, where there is no malloc.
 
-   Blocks are handed out one behind the other. A block that is given back is used again only if it is the last one; once
-   all are given back, as they are when a call has returned, the array is empty again. One call at a time may run. It
-   needs no header but the compiler's own. */
+   The array is cut into blocks, each behind a head. The first free block that is large enough is handed out, and free
+   blocks that stand side by side are joined as they are come upon; so once all are given back, as they are when a call
+   has returned, the whole array can be had again. One call at a time may run. It needs no header but the compiler's own. */
 #include "pciplan.h"
 
 #ifndef PCIPLAN_FIXED_BYTES
@@ -12,10 +12,17 @@
 /* No block is aligned to more than 16. */
 #define STEP 16
 
-static _Alignas(STEP) uint8_t bytes[PCIPLAN_FIXED_BYTES];
-static size_t used;   /* so many bytes are handed out */
-static size_t blocks; /* so many blocks are out */
-static size_t last;   /* where the last block begins */
+/* What stands before each block. */
+struct head {
+    size_t steps; /* so many STEPs the block has, with its head */
+    size_t taken;
+};
+
+_Static_assert(sizeof(struct head) == STEP, "what stands behind a head is aligned as the head is");
+
+#define STEPS (PCIPLAN_FIXED_BYTES / STEP)
+
+static _Alignas(STEP) struct head heads[STEPS];
 static uint8_t none;
 
 static struct pciplan_tried refused(void)
@@ -24,12 +31,30 @@ static struct pciplan_tried refused(void)
     return t;
 }
 
-/* n as a multiple of STEP that isn't 0, or 0 where there is no such room behind from. */
-static size_t rounded(size_t n, size_t from)
+/* How many STEPs a block of n bytes takes with its head, or 0 where the array has fewer. */
+static size_t steps_for(size_t n)
 {
-    size_t room = sizeof bytes - from;
-    size_t whole = n / STEP * STEP + (n % STEP != 0 || n == 0 ? STEP : 0);
-    return n <= room && whole <= room ? whole : 0;
+    return n <= (STEPS - 1) * STEP ? 1 + n / STEP + (n % STEP != 0 || n == 0) : 0;
+}
+
+/* Joins the free blocks right behind a block to it. */
+static void join(struct head *head)
+{
+    while (head + head->steps < heads + STEPS && !head[head->steps].taken)
+        head->steps += head[head->steps].steps;
+}
+
+/* Takes the front of a block, and leaves the rest of it free. */
+static struct pciplan_tried take(struct head *head, size_t steps)
+{
+    if (steps < head->steps) {
+        head[steps].steps = head->steps - steps;
+        head[steps].taken = 0;
+        head->steps = steps;
+    }
+    head->taken = 1;
+    struct pciplan_tried t = {1, head + 1};
+    return t;
 }
 
 static void copy(uint8_t *to, const uint8_t *from, size_t n)
@@ -40,39 +65,41 @@ static void copy(uint8_t *to, const uint8_t *from, size_t n)
 
 struct pciplan_tried rattle_alloc(size_t n, size_t align)
 {
-    size_t size = rounded(n, used);
-    if (size == 0 || align > STEP)
+    size_t steps = steps_for(n);
+    if (steps == 0 || align > STEP)
         return refused();
-    last = used;
-    used += size;
-    blocks++;
-    struct pciplan_tried t = {1, bytes + last};
-    return t;
+    if (heads->steps == 0)
+        heads->steps = STEPS;
+    for (struct head *head = heads; head < heads + STEPS; head += head->steps) {
+        if (head->taken)
+            continue;
+        join(head);
+        if (head->steps >= steps)
+            return take(head, steps);
+    }
+    return refused();
 }
 
 struct pciplan_tried rattle_realloc(void *at, size_t kept, size_t n, size_t align)
 {
-    if (at == bytes + last) {
-        size_t size = rounded(n, last);
-        if (size == 0)
-            return refused();
-        used = last + size;
-        struct pciplan_tried t = {1, at};
-        return t;
-    }
+    struct head *head = (struct head *)at - 1;
+    size_t old = head->steps;
+    size_t steps = steps_for(n);
+    if (steps == 0)
+        return refused();
+    join(head);
+    if (head->steps >= steps)
+        return take(head, steps);
+    take(head, old);
     struct pciplan_tried t = rattle_alloc(n, align);
     if (t.ok) {
         copy(t.at, at, kept < n ? kept : n);
-        blocks--;
+        head->taken = 0;
     }
     return t;
 }
 
 void rattle_dealloc(void *at)
 {
-    blocks--;
-    if (blocks == 0)
-        used = 0;
-    else if (at == bytes + last)
-        used = last;
+    ((struct head *)at - 1)->taken = 0;
 }

@@ -6,7 +6,7 @@
 //! gap, and each region stands at a multiple of its size. This takes a tree of buses and no verdict.
 //!
 //! ```text
-//! let needs = needs_of(&admitted, &pools, class, &aboves); // of each of the 256 buses
+//! needs_of(&admitted, &pools, class, &aboves, &mut needs); // of each of the 256 buses
 //! if has_room(&admitted, &pools, class, &needs) { /* each item of the class has its place */ }
 //! ```
 #![tactic(auto)]

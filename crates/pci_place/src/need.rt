@@ -1,6 +1,6 @@
 //! What each bus needs of a class: the sizes of its BARs and ROMs, and for each bridge with something behind it a window
 //! around what the bus behind needs.
-ghost use Rattle.std.specs.Prelude.{◌≡◌, ◌≤◌, ◌^◌, ◌<◌, ◌+◌, ℕ, min, max, slice_index, ◌++◌};
+ghost use Rattle.std.specs.Prelude.{◌≡◌, ◌≤◌, ◌^◌, ◌<◌, ◌+◌, ℕ, length, min, max, slice_index, ◌++◌};
 ghost use Rattle.std.specs.List.{All};
 ghost use Rattle.plan_spec.specs.Plan.{window_size, need_of, greatest_of_roots};
 ghost use Rattle.pci_tree.specs.Regions.{IsLawful};
@@ -37,6 +37,14 @@ pub struct Needs {
 struct Tally {
     sum: u128,
     greatest: u128,
+}
+
+impl Needs {
+    /// Nothing is needed anywhere: a table to be filled.
+    pub const NONE: Needs = Needs {
+        of_bus: [0; BUSES],
+        greatest: 0,
+    };
 }
 
 impl Tally {
@@ -135,37 +143,42 @@ fn tally_of(
     tally
 }
 
-/// What each bus needs of a class. Functions behind a bridge have higher slots than the bridge, so in one pass from the
-/// highest slot down the need of the bus behind a bridge is whole when the bridge is met.
+/// Puts into `needs` what each bus needs of a class. Functions behind a bridge have higher slots than the bridge, so in
+/// one pass from the highest slot down the need of the bus behind a bridge is whole when the bridge is met.
+///
+/// The table of 4 KB is filled where it lies, as a caller of little stack can't have it twice.
 pub fn needs_of<A: Allocator>(
     admitted: &Admitted<A>,
     pools: &Pools,
     class: WindowKind,
     aboves: &[Above; BUSES],
-) -> Needs
+    needs: &mut Needs,
+)
     // the class of a BAR hangs on the windows of the bridges above it
     requires { AreAboves (system_in admitted.now) aboves.now }
+    // a caller that goes by all of them has to know that there are no more
+    ensures size { length needs.new.of_bus ≡ 256 }
     ensures need { (bus : ℕ) → bus < 256
-        → slice_index result.of_bus bus
+        → slice_index needs.new.of_bus bus
         ≡ need_of (system_in admitted.now) (pools_value pools.now) (kind_value class) bus }
     // placing starts at a multiple of it, so that each size stands at one of its own
-    ensures greatest { result.greatest
+    ensures greatest { needs.new.greatest
         ≡ greatest_of_roots admitted.now.roots (system_in admitted.now) (pools_value pools.now)
         (kind_value class) }
 {
     let outline = admitted.outline();
     let records = outline.records();
     let roots = outline.roots();
-    let mut of_bus = [0; BUSES];
+    needs.of_bus = [0; BUSES];
     let mut greatest = 0;
     for done in 0..records.len() {
         let record = &records[records.len() - 1 - done];
         let bus = record.slot.bus() as usize;
-        let tally = tally_of(record, class, aboves[bus], pools, &of_bus);
-        of_bus[bus] = MOST.min(of_bus[bus] + tally.sum);
+        let tally = tally_of(record, class, aboves[bus], pools, &needs.of_bus);
+        needs.of_bus[bus] = MOST.min(needs.of_bus[bus] + tally.sum);
         if roots.has(record.slot.bus()) && greatest < tally.greatest {
             greatest = tally.greatest;
         }
     }
-    Needs { of_bus, greatest }
+    needs.greatest = greatest;
 }

@@ -89,7 +89,8 @@ pub fn shortage_of<A: Allocator>(
     // so that what 64 bits of it don't hold is one digit
     ensures bound { result.start ≤ 2 ^ 66 }
 {
-    let needs = needs_of(admitted, pools, class, &aboves(admitted));
+    let mut needs = Needs::NONE;
+    needs_of(admitted, pools, class, &aboves(admitted), &mut needs);
     let needed = need_of_roots(&admitted.outline().roots(), &needs);
     let pool = pools.of(class);
     let start = raised(needs.greatest, pool.first);

@@ -1,5 +1,6 @@
 //! Planning: places for everything, and the writes that lead there.
-ghost use Rattle.std.specs.Prelude.{◌≡◌, ◌↔◌, ◌⊎◌, IfOk, IsTrue, MatchOption, length, count_by, Err};
+ghost use Rattle.std.specs.Prelude.{◌≡◌, ◌↔◌, ◌⊎◌, IfOk, IsTrue, IsFalse, MatchOption, length, count_by, Err};
+ghost use Rattle.pci_spec.specs.Slot.{Slot as SlotValue};
 ghost use Rattle.pci_spec.specs.Text.{slots_of};
 ghost use Rattle.pci_spec.specs.System.{IsSystem, system_of};
 ghost use Rattle.std.specs.List.{All};
@@ -9,7 +10,7 @@ ghost use Rattle.pci_tree.specs.Admission.{IsAdmitted};
 ghost use Rattle.pci_tree.specs.Roots.{buses_of};
 ghost use Rattle.pci_spec.specs.Sound.{IsSound};
 ghost use Rattle.pci_spec.specs.Window.{WindowKind as KindValue};
-ghost use Rattle.plan_spec.specs.Plan.{fits};
+ghost use Rattle.plan_spec.specs.Plan.{fits, are_bad, LacksWindow};
 ghost use Rattle.plan_spec.specs.PlanPromise.{CanBePlanned, IsFirstTooLarge};
 ghost use Rattle.pci_base.specs.WindowKinds.{kind_value};
 ghost use Rattle.pci_place.specs.Pools.{pools_value};
@@ -42,21 +43,32 @@ use pci_tree::admitted::Admitted;
 use pci_tree::roots::Roots;
 use std::alloc::Allocator;
 
-/// What the buses need of each class.
+/// Puts into `needs` what the buses need of each class.
 fn all_needs<A: Allocator>(
     admitted: &Admitted<A>,
     pools: &Pools,
     aboves: &[Above; BUSES],
-) -> ByKind<Needs>
+    needs: &mut ByKind<Needs>,
+)
     requires { AreAboves (system_in admitted.now) aboves.now }
     ensures { AreAllNeeds admitted.now.roots (system_in admitted.now)
-        (pools_value pools.now) result }
+        (pools_value pools.now) needs.new }
 {
-    ByKind {
-        io: needs_of(admitted, pools, WindowKind::Io, aboves),
-        memory: needs_of(admitted, pools, WindowKind::Memory, aboves),
-        prefetchable: needs_of(admitted, pools, WindowKind::Prefetchable, aboves),
-    }
+    needs_of(admitted, pools, WindowKind::Io, aboves, &mut needs.io);
+    needs_of(
+        admitted,
+        pools,
+        WindowKind::Memory,
+        aboves,
+        &mut needs.memory,
+    );
+    needs_of(
+        admitted,
+        pools,
+        WindowKind::Prefetchable,
+        aboves,
+        &mut needs.prefetchable,
+    );
 }
 
 /// The first class that doesn't fit its pool.
@@ -164,6 +176,7 @@ fn roots_of<A: Allocator>(admitted: &Admitted<A>) -> Roots
 }
 
 /// The first fault of a dump with the probe, where it isn't accepted.
+#[inline(never)]
 fn judged<A: Allocator + Copy>(
     alloc: A,
     admitted: &Admitted<A>,
@@ -176,10 +189,13 @@ fn judged<A: Allocator + Copy>(
     ensures { IfOk result
         (λ o. IsUnsoundIf o admitted.now.roots (system_of dump.now admitted.now.probe)) }
 {
-    match outline_of(alloc, dump, admitted.probe(), roots) {
-        Ok(outline) => judge(alloc, &outline),
-        Err(Refused::Fault(fault)) => Ok(Some(fault)),
-        Err(Refused::Memory) => Err(OutOfMemory),
+    let outline = outline_of(alloc, dump, admitted.probe(), roots);
+    match &outline {
+        Ok(outline) => judge(alloc, outline),
+        Err(why) => match *why {
+            Refused::Fault(fault) => Ok(Some(fault)),
+            Refused::Memory => Err(OutOfMemory),
+        },
     }
 }
 
@@ -195,8 +211,8 @@ fn safe_from<A: Allocator + Copy>(alloc: A, admitted: &Admitted<A>) -> Result<us
     }
 }
 
-/// The plan of what can be planned.
-fn made<'a, A: Allocator + Copy>(
+/// The plan of what can be planned, by what the buses need.
+fn made_by<'a, A: Allocator + Copy>(
     alloc: A,
     admitted: &'a Admitted<A>,
     pools: &Pools,
@@ -218,6 +234,41 @@ fn made<'a, A: Allocator + Copy>(
     let writes = writes_between(alloc, admitted.dump().blocks(), dump.blocks())?;
     let safe_from = safe_from(alloc, admitted)?;
     Ok(Plan::of(admitted, dump, writes, safe_from))
+}
+
+/// The plan, or the class that doesn't fit its pool.
+///
+/// It has a frame of its own: what the buses need takes 12 KB of stack, and is let go before the plan is judged.
+#[inline(never)]
+fn made<'a, A: Allocator + Copy>(
+    alloc: A,
+    admitted: &'a Admitted<A>,
+    pools: &Pools,
+    aboves: &[Above; BUSES],
+) -> Result<Plan<'a, A>, Refused<PlanFault>>
+    requires good { IsFalse (are_bad (pools_value pools.now)) }
+    requires windows { (slot : SlotValue) → LacksWindow (system_in admitted.now) slot → ⊥ }
+    requires aboves { AreAboves (system_in admitted.now) aboves.now }
+    ensures planned { IfOk result (IsPlanIn admitted.entry.now (pools_value pools.now)) }
+    ensures fault { (f : PlanFault) → (result ≡ Err (Refused.Fault f))
+        ↔ IsFaultOf admitted.entry.now pools.now f }
+{
+    // Read for what it says of the system.
+    let _roots = roots_of(admitted);
+    let mut needs = ByKind {
+        io: Needs::NONE,
+        memory: Needs::NONE,
+        prefetchable: Needs::NONE,
+    };
+    all_needs(admitted, pools, aboves, &mut needs);
+    match first_too_large(admitted, pools, &needs) {
+        None => {}
+        Some(class) => return Err(Refused::Fault(PlanFault::NoRoom(class))),
+    }
+    match made_by(alloc, admitted, pools, aboves, &needs) {
+        Ok(plan) => Ok(plan),
+        Err(OutOfMemory) => Err(Refused::Memory),
+    }
 }
 
 /// Gives every implemented BAR and ROM a place in the pool of its class, every window just what stands behind it, and
@@ -248,14 +299,9 @@ pub fn plan<'a, A: Allocator + Copy>(
         None => {}
         Some(slot) => return Err(Refused::Fault(PlanFault::NoWindow(slot))),
     }
-    let needs = all_needs(admitted, pools, &aboves);
-    match first_too_large(admitted, pools, &needs) {
-        None => {}
-        Some(class) => return Err(Refused::Fault(PlanFault::NoRoom(class))),
-    }
-    let plan = match made(alloc, admitted, pools, &aboves, &needs) {
+    let plan = match made(alloc, admitted, pools, &aboves) {
         Ok(plan) => plan,
-        Err(OutOfMemory) => return Err(Refused::Memory),
+        Err(why) => return Err(why),
     };
     match judged(alloc, admitted, plan.dump(), roots) {
         Ok(None) => Ok(plan),

@@ -36,6 +36,9 @@ fn read<A: Allocator>(alloc: A, text: &[u8]) -> Result<Dump<A>, Refused<ReadFaul
 }
 
 /// The two dumps, admitted.
+///
+/// It has a frame of its own, as `plan_texts` has: an `Admitted` has 4 KB, and what moves it takes as much.
+#[inline(never)]
 fn admit_texts<A: Allocator + Copy>(
     alloc: A,
     dump: &[u8],
@@ -78,6 +81,7 @@ struct Steps<A: Allocator> {
 }
 
 /// Plans two texts.
+#[inline(never)]
 fn plan_texts<A: Allocator + Copy>(
     alloc: A,
     dump: &[u8],
@@ -90,11 +94,13 @@ fn plan_texts<A: Allocator + Copy>(
     ensures why { IfErr result (λ why. (no : NoPlan) → why ≡ Refused.Fault no
         → IsNoPlanOf roots.now dump.now probe.now (pools_of pools.now) no) }
 {
-    let admitted = match admit_texts(alloc, dump, probe, roots) {
+    let admitted = admit_texts(alloc, dump, probe, roots);
+    // Lent where it lies: moved out it would stand on the stack twice.
+    let admitted = match &admitted {
         Ok(admitted) => admitted,
-        Err(why) => return Err(why),
+        Err(why) => return Err(*why),
     };
-    let plan = match plan(alloc, &admitted, &pools.pools()) {
+    let plan = match plan(alloc, admitted, &pools.pools()) {
         Ok(plan) => plan,
         Err(Refused::Fault(fault)) => return Err(Refused::Fault(NoPlan::NotPlanned(fault))),
         Err(Refused::Memory) => return Err(Refused::Memory),

@@ -51,7 +51,7 @@ loop-done-preserved g c =
       | else-has w ↦ w.greatest-is
     ]) in
     needs_step roots s admitted.system admitted.nested c.args.pools.now (kind_value c.args.class) records has c.args.aboves.now c.requires
-    c.loop-done.done r c.loop-done-test.true c.index-records-records.is c.loop-done.of_bus most c.loop-done.invariant bus d c.bus-bus.ensures t c.tally_of-tally.ensures c.min.result next c.min.ensures root other
+    c.loop-done.done r c.loop-done-test.true c.index-records-records.is c.loop-done.needs.of_bus most c.loop-done.invariant bus d c.bus-bus.ensures t c.tally_of-tally.ensures c.min.result next c.min.ensures root other
 
 at_start : (n done : ℕ) → n ≤ done → n - done ≡ 0
 at_start n done h = omega (arith, h)
@@ -65,8 +65,8 @@ returns-clause-need g c =
     let has : HasRecords s (map record_value records) = subst (λ rs. HasRecords s rs) (sym c.records-records.ensures.value) c.outline-outline.ensures.records in
     let count = same_count s records has in
     let start = at_start (length s) c.loop-done.done (omega (arith, count)) in
-    whole_needs roots s admitted.system admitted.nested c.args.pools.now (kind_value c.args.class) c.loop-done.of_bus c.loop-done.greatest
-    (subst (λ n. AreNeedsFrom roots s (pools_value c.args.pools.now) (kind_value c.args.class) n c.loop-done.of_bus c.loop-done.greatest) start c.loop-done.invariant)
+    whole_needs roots s admitted.system admitted.nested c.args.pools.now (kind_value c.args.class) c.loop-done.needs.of_bus c.loop-done.greatest
+    (subst (λ n. AreNeedsFrom roots s (pools_value c.args.pools.now) (kind_value c.args.class) n c.loop-done.needs.of_bus c.loop-done.greatest) start c.loop-done.invariant)
 
 pub returns-clause-greatest : goal.returns-clause-greatest
 returns-clause-greatest g c =
@@ -77,5 +77,5 @@ returns-clause-greatest g c =
     let has : HasRecords s (map record_value records) = subst (λ rs. HasRecords s rs) (sym c.records-records.ensures.value) c.outline-outline.ensures.records in
     let count = same_count s records has in
     let start = at_start (length s) c.loop-done.done (omega (arith, count)) in
-    whole_greatest roots s admitted.system admitted.nested c.args.pools.now (kind_value c.args.class) c.loop-done.of_bus c.loop-done.greatest
-    (subst (λ n. AreNeedsFrom roots s (pools_value c.args.pools.now) (kind_value c.args.class) n c.loop-done.of_bus c.loop-done.greatest) start c.loop-done.invariant)
+    whole_greatest roots s admitted.system admitted.nested c.args.pools.now (kind_value c.args.class) c.loop-done.needs.of_bus c.loop-done.greatest
+    (subst (λ n. AreNeedsFrom roots s (pools_value c.args.pools.now) (kind_value c.args.class) n c.loop-done.needs.of_bus c.loop-done.greatest) start c.loop-done.invariant)

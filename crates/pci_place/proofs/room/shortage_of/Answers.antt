@@ -1,4 +1,4 @@
-use Rattle.std.proofs.Common.{rules, ◌≡◌, length, arith, ◌∙◌, ap}
+use Rattle.std.proofs.Common.{◌≡◌, arith, ◌∙◌, ap}
 use Rattle.pci_spec.specs.Decoded.{Range}
 use Rattle.plan_spec.specs.Plan.{need_of_roots}
 use Rattle.plan_spec.proofs.Planning.Tallies.{greatest_small}
@@ -11,20 +11,19 @@ use Rattle.pci_place.proofs.room.shortage_of.Goals as goal
 pub raised-start-requires-clause-some : goal.raised-start-requires-clause-some
 raised-start-requires-clause-some g c =
     unfit_greatest c.args.admitted.now.roots (system_in c.args.admitted.now) (pools_value c.args.pools.now) (kind_value c.args.class)
-    c.needs_of-needs.result.greatest c.needs_of-needs.ensures.greatest c.requires
+    c.needs_of.new.needs.greatest c.needs_of.ensures.greatest c.requires
 
 pub raised-start-requires-clause-limited : goal.raised-start-requires-clause-limited
 raised-start-requires-clause-limited g c =
     let admitted = c.outline.ensures.admitted in
     let small = greatest_small c.args.admitted.now.roots (system_in c.args.admitted.now) (pools_value c.args.pools.now) (kind_value c.args.class) admitted.system admitted.nested in
-    let is = c.needs_of-needs.ensures.greatest in
+    let is = c.needs_of.ensures.greatest in
     omega (arith, small, is)
 
 pub need_of_roots-needed-requires : goal.need_of_roots-needed-requires
 need_of_roots-needed-requires g c =
-    let size : length c.needs_of-needs.result.of_bus ≡ 256 = search rules in
     needs_limited c.args.admitted.now.roots (system_in c.args.admitted.now) (pools_value c.args.pools.now) (kind_value c.args.class)
-    c.needs_of-needs.result.of_bus size c.needs_of-needs.ensures.need
+    c.needs_of.new.needs.of_bus c.needs_of.ensures.size c.needs_of.ensures.need
 
 pub returns-clause-lacking : goal.returns-clause-lacking
 returns-clause-lacking g c =
@@ -32,8 +31,8 @@ returns-clause-lacking g c =
     let s = system_in c.args.admitted.now in
     let pools = pools_value c.args.pools.now in
     let class = kind_value c.args.class in
-    let needs = c.needs_of-needs.result in
+    let needs = c.needs_of.new.needs in
     let need : c.need_of_roots-needed.result ≡ need_of_roots roots s pools class =
-    c.need_of_roots-needed.ensures.sum ∙ need_is roots s pools class c.roots.result.flags needs.of_bus (c.roots.ensures ∙ c.outline.ensures.roots) c.needs_of-needs.ensures.need in
+    c.need_of_roots-needed.ensures.sum ∙ need_is roots s pools class c.roots.result.flags needs.of_bus (c.roots.ensures ∙ c.outline.ensures.roots) c.needs_of.ensures.need in
     shortage_is roots s pools class needs.greatest c.of-pool.result.first c.from.result (record { needed = c.need_of_roots-needed.result; start = c.raised-start.result; available = c.saturating_sub.result })
-    need c.needs_of-needs.ensures.greatest (ap (λ (x : Range). x.first) c.of-pool.ensures) (c.from.ensures ∙ ap (λ (x : Range). x.last) c.of-pool.ensures) c.raised-start.ensures.raised c.saturating_sub.ensures
+    need c.needs_of.ensures.greatest (ap (λ (x : Range). x.first) c.of-pool.ensures) (c.from.ensures ∙ ap (λ (x : Range). x.last) c.of-pool.ensures) c.raised-start.ensures.raised c.saturating_sub.ensures
