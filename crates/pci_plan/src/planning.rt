@@ -1,12 +1,13 @@
 //! Planning: places for everything, and the writes that lead there.
-ghost use Rattle.std.specs.Prelude.{◌≡◌, ◌↔◌, ◌⊎◌, IfOk, IsTrue, IsFalse, MatchOption, length, count_by, Err};
+ghost use Rattle.std.specs.Prelude.{◌≡◌, ◌↔◌, ◌⊎◌, IfOk, IsTrue, IsFalse, MatchOption, MatchResult, length, count_by, Err};
 ghost use Rattle.pci_spec.specs.Slot.{Slot as SlotValue};
 ghost use Rattle.pci_spec.specs.Text.{slots_of};
 ghost use Rattle.pci_spec.specs.System.{IsSystem, system_of};
 ghost use Rattle.std.specs.List.{All};
 ghost use Rattle.std.specs.List.Sorted.{IsStrictlyIncreasing};
 ghost use Rattle.pci_spec.specs.Decoded.{IsDecodable};
-ghost use Rattle.pci_tree.specs.Admission.{IsAdmitted};
+ghost use Rattle.pci_tree.specs.Admission.{IsAdmitted, IsOutlineFor};
+ghost use Rattle.pci_tree.specs.Refusals.{IsPairRefusal};
 ghost use Rattle.pci_tree.specs.Roots.{buses_of};
 ghost use Rattle.pci_spec.specs.Sound.{IsSound};
 ghost use Rattle.pci_spec.specs.Window.{WindowKind as KindValue};
@@ -40,6 +41,7 @@ use pci_place::pools::Pools;
 use pci_place::room::has_room;
 use pci_tree::admit::outline_of;
 use pci_tree::admitted::Admitted;
+use pci_tree::outline::Outline;
 use pci_tree::roots::Roots;
 use std::alloc::Allocator;
 
@@ -175,6 +177,24 @@ fn roots_of<A: Allocator>(admitted: &Admitted<A>) -> Roots
     admitted.outline().roots()
 }
 
+/// The outline of a dump with a probe. What makes it moves its table of 4 KB several times, in a frame that is let go
+/// before the outline is judged.
+#[inline(never)]
+fn outline_with<A: Allocator>(
+    alloc: A,
+    dump: &Dump<A>,
+    probe: &Dump<A>,
+    roots: Roots,
+) -> Result<Outline<A>, Refused<Fault>>
+    ensures { MatchResult result (IsOutlineFor record {
+      roots = buses_of roots;
+      dump = dump.now;
+      probe = probe.now;
+    }) (IsPairRefusal (buses_of roots) dump.now probe.now) }
+{
+    outline_of(alloc, dump, probe, roots)
+}
+
 /// The first fault of a dump with the probe, where it isn't accepted.
 #[inline(never)]
 fn judged<A: Allocator + Copy>(
@@ -189,7 +209,7 @@ fn judged<A: Allocator + Copy>(
     ensures { IfOk result
         (λ o. IsUnsoundIf o admitted.now.roots (system_of dump.now admitted.now.probe)) }
 {
-    let outline = outline_of(alloc, dump, admitted.probe(), roots);
+    let outline = outline_with(alloc, dump, admitted.probe(), roots);
     match &outline {
         Ok(outline) => judge(alloc, outline),
         Err(why) => match *why {

@@ -1,8 +1,10 @@
 //! The plan of two texts that lie in memory.
-ghost use Rattle.std.specs.Prelude.{◌≡◌, IfOk, IfErr};
+ghost use Rattle.std.specs.Prelude.{◌≡◌, ℕ, List, IfOk, IfErr, OnOk, MatchOption, MatchResult};
 ghost use Rattle.plan_spec.specs.Plan.{Pools as PoolsValue};
 ghost use Rattle.pci_spec.specs.Text.{IsTextOf};
 ghost use Rattle.pci_dump.specs.ReadFault.{IsTextFault};
+ghost use Rattle.pci_tree.specs.Refusals.{IsPairRefusal};
+ghost use Rattle.pci_tree.specs.Roots.{buses_of};
 ghost use Rattle.pciplan_c.specs.PlanAnswers.{AreTexts, IsNoPlanOf, ArePlanned, pools_of};
 ghost use Rattle.pciplan_c.specs.Endings.{IsToldOf, IsTooLongFor, IsEnding, IsHeldBack};
 
@@ -16,6 +18,7 @@ use pci_base::memory::{OutOfMemory, Refused};
 use pci_dump::dump::Dump;
 use pci_dump::read_fault::ReadFault;
 use pci_dump::reader::read_dump;
+use pci_function::fault::Fault;
 use pci_plan::planning::plan;
 use pci_tree::admit::admit_with;
 use pci_tree::admitted::Admitted;
@@ -35,17 +38,40 @@ fn read<A: Allocator>(alloc: A, text: &[u8]) -> Result<Dump<A>, Refused<ReadFaul
     }
 }
 
-/// The two dumps, admitted.
-///
-/// It has a frame of its own, as `plan_texts` has: an `Admitted` has 4 KB, and what moves it takes as much.
+/// A place for what is admitted: it has a table of 4 KB, which would stand on the stack twice while planning.
+#[inline(never)]
+fn no_admitted<A: Allocator + Copy>(alloc: A) -> Result<Box<Option<Admitted<A>>, A>, OutOfMemory> {
+    match Box::new(alloc, None) {
+        Ok(place) => Ok(place),
+        Err(_) => Err(OutOfMemory),
+    }
+}
+
+/// Admits two dumps. What makes the outline moves its table several times, in a frame of its own.
+#[inline(never)]
+fn admitted<A: Allocator>(
+    alloc: A,
+    dump: Dump<A>,
+    probe: Dump<A>,
+    roots: Roots,
+) -> Result<Admitted<A>, Refused<Fault>>
+    ensures { MatchResult result
+        (λ a. (a.roots ≡ buses_of roots) × (a.dump ≡ dump) × (a.probe ≡ probe))
+        (IsPairRefusal (buses_of roots) dump probe) }
+{
+    admit_with(alloc, dump, probe, roots)
+}
+
+/// Puts the two dumps, admitted, into a place.
 #[inline(never)]
 fn admit_texts<A: Allocator + Copy>(
     alloc: A,
     dump: &[u8],
     probe: &[u8],
     roots: &[u8],
-) -> Result<Admitted<A>, Refused<NoPlan>>
-    ensures texts { IfOk result (AreTexts roots.now dump.now probe.now) }
+    place: &mut Option<Admitted<A>>,
+) -> Result<(), Refused<NoPlan>>
+    ensures texts { OnOk result (MatchOption place.new ⊥ (AreTexts roots.now dump.now probe.now)) }
     ensures why { IfErr result (λ why. (no : NoPlan) (pools : PoolsValue) → why ≡ Refused.Fault no
         → IsNoPlanOf roots.now dump.now probe.now pools no) }
 {
@@ -66,8 +92,11 @@ fn admit_texts<A: Allocator + Copy>(
         }
         Err(Refused::Memory) => return Err(Refused::Memory),
     };
-    match admit_with(alloc, dump, probe, roots) {
-        Ok(admitted) => Ok(admitted),
+    match admitted(alloc, dump, probe, roots) {
+        Ok(admitted) => {
+            *place = Some(admitted);
+            Ok(())
+        }
         Err(Refused::Fault(fault)) => Err(Refused::Fault(NoPlan::NotAdmitted(fault))),
         Err(Refused::Memory) => Err(Refused::Memory),
     }
@@ -78,6 +107,34 @@ fn admit_texts<A: Allocator + Copy>(
 struct Steps<A: Allocator> {
     writes: Vec<RegisterWrite, A>,
     safe_from: usize,
+}
+
+/// The steps of a plan of what is admitted.
+fn steps_of<A: Allocator + Copy>(
+    alloc: A,
+    admitted: &Admitted<A>,
+    pools: &PoolsOfC,
+) -> Result<Steps<A>, Refused<NoPlan>>
+    // of all texts that these dumps are of
+    ensures planned { IfOk result (λ s. (roots dump probe : List ℕ)
+        → AreTexts roots dump probe admitted.now
+        → ArePlanned roots dump probe (pools_of pools.now) s.writes.items s.safe_from) }
+    ensures why { IfErr result (λ why. (no : NoPlan) (roots dump probe : List ℕ)
+        → AreTexts roots dump probe admitted.now → why ≡ Refused.Fault no
+        → IsNoPlanOf roots dump probe (pools_of pools.now) no) }
+{
+    // Read for what it says of what was admitted.
+    let _outline = admitted.outline();
+    let plan = match plan(alloc, admitted, &pools.pools()) {
+        Ok(plan) => plan,
+        Err(Refused::Fault(fault)) => return Err(Refused::Fault(NoPlan::NotPlanned(fault))),
+        Err(Refused::Memory) => return Err(Refused::Memory),
+    };
+    let safe_from = plan.safe_from();
+    match writes_of(alloc, plan.writes()) {
+        Ok(writes) => Ok(Steps { writes, safe_from }),
+        Err(OutOfMemory) => Err(Refused::Memory),
+    }
 }
 
 /// Plans two texts.
@@ -94,21 +151,19 @@ fn plan_texts<A: Allocator + Copy>(
     ensures why { IfErr result (λ why. (no : NoPlan) → why ≡ Refused.Fault no
         → IsNoPlanOf roots.now dump.now probe.now (pools_of pools.now) no) }
 {
-    let admitted = admit_texts(alloc, dump, probe, roots);
-    // Lent where it lies: moved out it would stand on the stack twice.
-    let admitted = match &admitted {
-        Ok(admitted) => admitted,
-        Err(why) => return Err(*why),
+    let Ok(mut place) = no_admitted(alloc) else {
+        return Err(Refused::Memory);
     };
-    let plan = match plan(alloc, admitted, &pools.pools()) {
-        Ok(plan) => plan,
-        Err(Refused::Fault(fault)) => return Err(Refused::Fault(NoPlan::NotPlanned(fault))),
-        Err(Refused::Memory) => return Err(Refused::Memory),
+    match admit_texts(alloc, dump, probe, roots, &mut place) {
+        Ok(()) => {}
+        Err(why) => return Err(why),
+    }
+    let Some(admitted) = place.as_ref().as_ref() else {
+        unreachable!();
     };
-    let safe_from = plan.safe_from();
-    match writes_of(alloc, plan.writes()) {
-        Ok(writes) => Ok(Steps { writes, safe_from }),
-        Err(OutOfMemory) => Err(Refused::Memory),
+    match steps_of(alloc, admitted, pools) {
+        Ok(steps) => Ok(steps),
+        Err(why) => Err(why),
     }
 }
 

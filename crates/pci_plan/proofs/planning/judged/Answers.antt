@@ -8,11 +8,11 @@ use Rattle.pci_plan.proofs.planning.judged.Goals as goal
 
 pub returns-in-Ok : goal.returns-in-Ok
 returns-in-Ok g c =
-    judged_result (buses_of c.args.roots) c.args.admitted.now.roots c.args.dump.now c.args.admitted.now.probe c.probe.result.now c.in-Ok.outline c.requires.roots c.probe.ensures (rw c.in-Ok.is at c.outline_of-outline.ensures) c.judge.result c.judge.ensures.judgement
+    judged_result (buses_of c.args.roots) c.args.admitted.now.roots c.args.dump.now c.args.admitted.now.probe c.probe.result.now c.in-Ok.outline c.requires.roots c.probe.ensures (rw c.in-Ok.is at c.outline_with-outline.ensures) c.judge.result c.judge.ensures.judgement
 
 pub returns-in-Fault : goal.returns-in-Fault
 returns-in-Fault g c =
-    let refused = rw c.in-Err.is at c.outline_of-outline.ensures in
+    let refused = rw c.in-Err.is at c.outline_with-outline.ensures in
     let there = rw c.in-Fault.is at refused in
     let dump : List Block = c.args.dump.now in
     let probe : List Block = c.args.admitted.now.probe in
