@@ -1,5 +1,5 @@
 //! Planning: places for everything, and the writes that lead there.
-ghost use Rattle.std.specs.Prelude.{◌≡◌, ◌↔◌, ◌⊎◌, IfOk, IsTrue, IsFalse, MatchOption, MatchResult, length, count_by, Err};
+ghost use Rattle.std.specs.Prelude.{◌≡◌, ◌↔◌, ◌⊎◌, IfOk, IsTrue, IsFalse, IfErr, OnOk, MatchOption, length, count_by, Err};
 ghost use Rattle.pci_spec.specs.Slot.{Slot as SlotValue};
 ghost use Rattle.pci_spec.specs.Text.{slots_of};
 ghost use Rattle.pci_spec.specs.System.{IsSystem, system_of};
@@ -177,22 +177,30 @@ fn roots_of<A: Allocator>(admitted: &Admitted<A>) -> Roots
     admitted.outline().roots()
 }
 
-/// The outline of a dump with a probe. What makes it moves its table of 4 KB several times, in a frame that is let go
-/// before the outline is judged.
+/// Puts the outline of a dump with a probe into a place. What makes it moves its table of 4 KB several times, in a frame
+/// that is let go before the outline is judged.
 #[inline(never)]
-fn outline_with<A: Allocator>(
+fn outline_into<A: Allocator>(
     alloc: A,
     dump: &Dump<A>,
     probe: &Dump<A>,
     roots: Roots,
-) -> Result<Outline<A>, Refused<Fault>>
-    ensures { MatchResult result (IsOutlineFor record {
+    place: &mut Option<Outline<A>>,
+) -> Result<(), Refused<Fault>>
+    ensures outline { OnOk result (MatchOption place.new ⊥ (IsOutlineFor record {
       roots = buses_of roots;
       dump = dump.now;
       probe = probe.now;
-    }) (IsPairRefusal (buses_of roots) dump.now probe.now) }
+    })) }
+    ensures refused { IfErr result (IsPairRefusal (buses_of roots) dump.now probe.now) }
 {
-    outline_of(alloc, dump, probe, roots)
+    match outline_of(alloc, dump, probe, roots) {
+        Ok(outline) => {
+            *place = Some(outline);
+            Ok(())
+        }
+        Err(why) => Err(why),
+    }
 }
 
 /// The first fault of a dump with the probe, where it isn't accepted.
@@ -209,13 +217,15 @@ fn judged<A: Allocator + Copy>(
     ensures { IfOk result
         (λ o. IsUnsoundIf o admitted.now.roots (system_of dump.now admitted.now.probe)) }
 {
-    let outline = outline_with(alloc, dump, admitted.probe(), roots);
-    match &outline {
-        Ok(outline) => judge(alloc, outline),
-        Err(why) => match *why {
-            Refused::Fault(fault) => Ok(Some(fault)),
-            Refused::Memory => Err(OutOfMemory),
-        },
+    let mut place = None;
+    match outline_into(alloc, dump, admitted.probe(), roots, &mut place) {
+        Ok(()) => {}
+        Err(Refused::Fault(fault)) => return Ok(Some(fault)),
+        Err(Refused::Memory) => return Err(OutOfMemory),
+    }
+    match &place {
+        Some(outline) => judge(alloc, outline),
+        None => unreachable!(),
     }
 }
 
