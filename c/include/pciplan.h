@@ -9,12 +9,12 @@
      CMPXCHG16B). pciplan_supported says whether the processor has them. Firmware switches SSE on first (CR0.EM clear,
      CR0.MP set, CR4.OSFXSR set), or the first call is an invalid opcode.
      `rt lib --backend rattle --cpu x86-64` builds it for every x86-64 processor; then pciplan_supported needn't be asked.
-   - Stack: 32 KB for pciplan_check, 80 KB for pciplan_plan. 128 bytes below the stack pointer are in use: what interrupts
-     on the same stack leaves them alone (firmware is built with -mno-red-zone for that; this library isn't). In a build
-     with `--backend rattle` nothing was found that does so (docs/C.md).
-   - Memory: a check holds some 340 bytes a function at once, a plan some 2,200. The array of
-     c/memory/pciplan_fixed_memory.c, which uses little of what is given back again, holds a check of about 512
-     functions or a plan of about 64 in its 256 KB.
+   - Stack: 32 KB for each call. 128 bytes below the stack pointer are in use: what interrupts on the same stack leaves
+     them alone (firmware is built with -mno-red-zone for that; this library isn't). In a build with `--backend rattle`
+     nothing was found that does so, and pciplan_plan needs 80 KB (docs/C.md).
+   - Memory: a check holds some 340 bytes a function at once, a plan some 2,200 and 25 KB more; lists grow by doubling. The
+     256 KB of c/memory/pciplan_fixed_memory.c hold a check of 512 functions or a plan of 64; a plan of 128 takes 300 KB
+     there.
    - Texts of at most 1,042 bytes a function, of at most 4,096 functions. A plan has at most 9 writes for a device and 11
      for a bridge.
    - It may be called again while it runs, from another thread or an interrupt, if the three functions of memory may be.

@@ -11,7 +11,10 @@
 enum { STACK = 256 * 1024, TEXT = 1 << 22, WRITES = 4096, PAINT = 0xa5 };
 
 /* What pciplan.h says that they need at most. */
-enum { CHECK_NEEDS = 32 * 1024, PLAN_NEEDS = 32 * 1024 };
+#define CHECK_NEEDS (32 * 1024)
+#ifndef PLAN_NEEDS
+#define PLAN_NEEDS (32 * 1024)
+#endif
 
 static _Alignas(16) uint8_t stack[STACK];
 static uint8_t dump[TEXT], probe[TEXT], line[PCIPLAN_LINE];
