@@ -1,5 +1,5 @@
 //! The plan of two texts that lie in memory.
-ghost use Rattle.std.specs.Prelude.{◌≡◌, ℕ, List, IfOk, IfErr, OnOk, MatchOption, MatchResult};
+ghost use Rattle.std.specs.Prelude.{◌≡◌, ℕ, List, None, IfOk, IfErr, OnOk, MatchOption, MatchResult};
 ghost use Rattle.plan_spec.specs.Plan.{Pools as PoolsValue};
 ghost use Rattle.pci_spec.specs.Text.{IsTextOf};
 ghost use Rattle.pci_dump.specs.ReadFault.{IsTextFault};
@@ -40,7 +40,9 @@ fn read<A: Allocator>(alloc: A, text: &[u8]) -> Result<Dump<A>, Refused<ReadFaul
 
 /// A place for what is admitted: it has a table of 4 KB, which would stand on the stack twice while planning.
 #[inline(never)]
-fn no_admitted<A: Allocator + Copy>(alloc: A) -> Result<Box<Option<Admitted<A>>, A>, OutOfMemory> {
+fn empty_place<A: Allocator + Copy>(alloc: A) -> Result<Box<Option<Admitted<A>>, A>, OutOfMemory>
+    ensures { IfOk result (λ place. place.value ≡ None) }
+{
     match Box::new(alloc, None) {
         Ok(place) => Ok(place),
         Err(_) => Err(OutOfMemory),
@@ -137,7 +139,7 @@ fn steps_of<A: Allocator + Copy>(
     }
 }
 
-/// Plans two texts.
+/// Plans two texts, in a frame that is let go before it is told what came of it.
 #[inline(never)]
 fn plan_texts<A: Allocator + Copy>(
     alloc: A,
@@ -151,7 +153,7 @@ fn plan_texts<A: Allocator + Copy>(
     ensures why { IfErr result (λ why. (no : NoPlan) → why ≡ Refused.Fault no
         → IsNoPlanOf roots.now dump.now probe.now (pools_of pools.now) no) }
 {
-    let Ok(mut place) = no_admitted(alloc) else {
+    let Ok(mut place) = empty_place(alloc) else {
         return Err(Refused::Memory);
     };
     match admit_texts(alloc, dump, probe, roots, &mut place) {
