@@ -1,0 +1,55 @@
+-- What words leave as it is.
+use Rattle.std.proofs.Common.{◌≡◌, ℕ, List, [], ◌∷◌, Bool, ◌&&◌, refl, ◌∙◌, ap, inl, inr, map}
+use Rattle.std.specs.Bool.{if◌then◌else◌}
+use Rattle.std.proofs.lemmas.Bool.{cases_Bool}
+use Rattle.pci_spec.specs.Slot.{Slot}
+use Rattle.pci_spec.specs.System.{Function, System}
+use Rattle.model_spec.specs.Words.{Words, no_words}
+use Rattle.model_spec.specs.Taken.{IsTaken, IsWhere, AreTaken, is_ide, is_unnumbered, with_image, bridge_aside, reset_aside, parts_aside}
+
+-- ---- no words
+
+unchanged : (Condition : Type 0) (f changed g : Function) → IsWhere Condition f changed g → (Condition → changed ≡ f) → g ≡ f
+unchanged Condition f changed g (inl (holds, is)) same = is ∙ same holds
+unchanged Condition f changed g (inr (fails, is)) same = is
+
+taken_same : (slots : List Slot) (f h : Function) → IsTaken no_words slots f h → h ≡ f
+taken_same slots f h taken =
+    unchanged _ taken.g taken.g h taken.parts (λ holds. refl)
+    ∙ unchanged _ f _ taken.g taken.power (λ holds. cc holds.0)
+
+pub all_same : (slots : List Slot) (s t : System) → AreTaken no_words slots s t → t ≡ s
+all_same slots [] [] taken = refl
+all_same slots [] (h ∷ t) taken = absurd taken
+all_same slots (f ∷ s) [] taken = absurd taken
+all_same slots (f ∷ s) (h ∷ t) taken = rw (taken_same slots f h taken.0, all_same slots s t taken.1) refl
+
+-- ---- slots
+
+at_slot : (f : Function) (test : Bool) (image : List ℕ) → (if test then with_image f image else f).slot ≡ f.slot
+at_slot f test image = elim (cases_Bool test) [ inl on ↦ rw on refl | inr off ↦ rw off refl ]
+
+bridge_slot : (w : Words) (slots : List Slot) (f : Function) → (bridge_aside w slots f).slot ≡ f.slot
+bridge_slot w slots f = at_slot (reset_aside w slots f) _ _ ∙ at_slot f _ _
+
+parts_slot : (w : Words) (f : Function) → (parts_aside w f).slot ≡ f.slot
+parts_slot w f = elim (cases_Bool (w.ide && is_ide f.image)) [
+  | inl ide ↦ rw ide refl
+  | inr other ↦ elim (cases_Bool (w.unnumbered && is_unnumbered f)) [ inl bare ↦ rw (other, bare) refl | inr neither ↦ rw (other, neither) refl ]
+]
+
+kept_slot : (Condition : Type 0) (f changed g : Function) → IsWhere Condition f changed g → changed.slot ≡ f.slot → g.slot ≡ f.slot
+kept_slot Condition f changed g (inl (holds, is)) same = ap (λ x. x.slot) is ∙ same
+kept_slot Condition f changed g (inr (fails, is)) same = ap (λ x. x.slot) is
+
+taken_slot : (w : Words) (slots : List Slot) (f h : Function) → IsTaken w slots f h → h.slot ≡ f.slot
+taken_slot w slots f h taken =
+    let b = bridge_aside w slots taken.g in
+    kept_slot _ b _ h taken.parts (parts_slot w b) ∙ bridge_slot w slots taken.g
+    ∙ kept_slot _ f _ taken.g taken.power refl
+
+pub slots_same : (w : Words) (slots : List Slot) (s t : System) → AreTaken w slots s t → map (λ f. f.slot) t ≡ map (λ f. f.slot) s
+slots_same w slots [] [] taken = refl
+slots_same w slots [] (h ∷ t) taken = absurd taken
+slots_same w slots (f ∷ s) [] taken = absurd taken
+slots_same w slots (f ∷ s) (h ∷ t) taken = rw (taken_slot w slots f h taken.0, slots_same w slots s t taken.1) refl

@@ -1,0 +1,5 @@
+pub mod Words
+pub mod Bytes
+pub mod Taken
+pub mod TakenDumps
+pub mod WordsLaws

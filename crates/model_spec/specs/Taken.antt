@@ -1,0 +1,133 @@
+-- How a function is taken by a user's words: as one with another image, so that all that is said of systems is said of
+-- what was taken.
+use Rattle.std.specs.Prelude.{◌≡◌, ◌⊎◌, ℕ, ◌<◌, ◌/◌, ◌==◌, nat_lt, nat_le, Bool, false, ◌&&◌, ◌||◌, not, if◌then◌else◌, IsTrue, List, [], ◌∷◌, Option, None, Some, is_some}
+use Rattle.std.specs.List.{AllZip, list_any, filter}
+use Rattle.pci_spec.specs.Number.{byte_at, has_bit}
+use Rattle.pci_spec.specs.Slot.{Slot}
+use Rattle.pci_spec.specs.Registers.{INTERFACE, SECONDARY_BUS_RESET}
+use Rattle.pci_spec.specs.Header.{class_code, layout}
+use Rattle.pci_spec.specs.System.{Function, System}
+use Rattle.pci_spec.specs.Bus.{is_behind}
+use Rattle.pci_spec.specs.Decoded.{Bridge, DecodedBar, DecodedRom, DecodedWindow, DecodedWindows, Record, record_of}
+use Rattle.pci_spec.specs.Fault.{Fault, IsIn, IsNotInD0, controls_bridge, is_subtractive_bridge}
+use Rattle.pci_spec.specs.Order.{Phase, Profile, Place, phase_key, phase_of}
+use Rattle.model_spec.specs.Words.{Words}
+use Rattle.model_spec.specs.Bytes.{as_device, device_read_backs, out_of_reset, positive, switched_off, without_bars}
+
+-- nothing is wrong with the function by itself that is looked for before a phase
+abbrev pub HasNoneBefore : Phase → Function → Type 0
+HasNoneBefore phase f =
+    (fault : Fault) → phase_of fault < phase_key phase → IsIn [] (f ∷ []) fault → ⊥
+
+-- whether a function is listed on a bus behind a bridge
+abbrev pub is_anyone_behind : List Slot → Function → Bool
+is_anyone_behind slots b = list_any (λ slot. is_behind b slot.bus) slots
+
+-- a function with another image
+abbrev pub with_image : Function → List ℕ → Function
+with_image f image = record { slot = f.slot; image = image; probe = f.probe }
+
+-- ---- power
+
+-- a function whose registers and list decode, and that isn't in D0 (Power Management 1.2, 5.4)
+abbrev pub IsAsleep : Function → Type 0
+IsAsleep f = HasNoneBefore Profile f × IsNotInD0 f.image
+
+-- ---- reset, subtractive
+
+-- a bridge without Secondary Bus Reset, where it may be left out (Bridge 1.2, 3.2.5.18)
+abbrev pub reset_aside : Words → List Slot → Function → Function
+reset_aside w slots f =
+    if w.reset && controls_bridge f.image SECONDARY_BUS_RESET && not (is_anyone_behind slots f)
+    then with_image f (out_of_reset f.image) else f
+
+-- one that doesn't decode subtractively, where that may be left out
+abbrev pub subtractive_aside : Words → List Slot → Function → Function
+subtractive_aside w slots f =
+    if w.subtractive && is_subtractive_bridge f.image && not (is_anyone_behind slots f)
+    then with_image f (positive f.image) else f
+
+abbrev pub bridge_aside : Words → List Slot → Function → Function
+bridge_aside w slots f = subtractive_aside w slots (reset_aside w slots f)
+
+-- ---- ide
+
+-- whether it is an IDE controller: class 01, sub-class 01 (PCI IDE Controller 1.0, 2.1)
+abbrev pub is_ide : List ℕ → Bool
+is_ide image = layout image == 0 && class_code image / 256 == 0x0101
+
+-- whether a register is a BAR of a channel in compatibility mode: those at 10h and 14h by bit 0 of the programming
+-- interface, those at 18h and 1Ch by bit 2
+abbrev pub is_compatible : ℕ → ℕ → Bool
+is_compatible interface register =
+    (nat_lt register 0x18 && not (has_bit interface 0))
+    || (nat_le 0x18 register && nat_lt register 0x20 && not (has_bit interface 2))
+
+abbrev pub compatible_bars : Function → List DecodedBar
+compatible_bars f =
+    filter (λ bar. is_compatible (byte_at f.image INTERFACE) bar.register) (record_of f).bars
+
+-- a controller without those BARs
+abbrev pub without_channels : Function → Function
+without_channels f = record {
+  slot = f.slot;
+  image = without_bars (compatible_bars f) f.image;
+  probe = without_bars (compatible_bars f) f.probe;
+}
+
+-- ---- unnumbered
+
+abbrev pub is_open : Option DecodedWindow → Bool
+is_open None = false
+is_open (Some window) = is_some window.range
+
+-- whether a window claims an address, by Command
+abbrev pub has_open_window : ℕ → DecodedWindows → Bool
+has_open_window command w =
+    (has_bit command 0 && is_open w.io)
+    || (has_bit command 1 && (is_some w.memory.range || is_open w.prefetch))
+
+abbrev pub has_numbers : Bridge → Bool
+has_numbers b = not (b.primary == 0 && b.secondary == 0 && b.subordinate == 0)
+
+abbrev pub is_rom_on : Option DecodedRom → Bool
+is_rom_on None = false
+is_rom_on (Some rom) = rom.on
+
+-- whether a record is of a bridge that nobody gave bus numbers: they are 0, none of its windows claims an address, and
+-- its ROM is off
+abbrev pub is_unnumbered_bridge : Record → Option Bridge → Bool
+is_unnumbered_bridge r None = false
+is_unnumbered_bridge r (Some b) =
+    not (has_numbers b) && not (has_open_window r.command b.windows) && not (is_rom_on r.rom)
+
+abbrev pub is_unnumbered : Function → Bool
+is_unnumbered f = is_unnumbered_bridge (record_of f) (record_of f).bridge
+
+-- a bridge as a device with its BARs: it leads to no bus
+abbrev pub without_buses : Function → Function
+without_buses f =
+    record { slot = f.slot; image = as_device f.image; probe = device_read_backs f.probe }
+
+-- ---- all of them
+
+abbrev pub parts_aside : Words → Function → Function
+parts_aside w f =
+    if w.ide && is_ide f.image then without_channels f
+    else if w.unnumbered && is_unnumbered f then without_buses f else f
+
+-- a function is another one where a condition holds, and else itself
+abbrev pub IsWhere : Type 0 → Function → Function → Function → Type 0
+IsWhere Condition f changed g = (Condition × (g ≡ changed)) ⊎ ((Condition → ⊥) × (g ≡ f))
+
+-- The function h is how f is taken. What is wrong with it by itself is told before all else: `power` leaves a function be
+-- whose registers or list don't decode, `ide` and `unnumbered` one that has any fault by itself.
+pub record IsTaken (w : Words) (slots : List Slot) (f h : Function) : Type 0 where
+  pub g : Function
+  pub power : IsWhere (IsTrue w.power × IsAsleep f) f (with_image f (switched_off f.image)) g
+  pub parts : IsWhere (HasNoneBefore Place (bridge_aside w slots g)) (bridge_aside w slots g)
+      (parts_aside w (bridge_aside w slots g)) h
+
+-- the same of each function of a system
+abbrev pub AreTaken : Words → List Slot → System → System → Type 0
+AreTaken w slots s t = AllZip (IsTaken w slots) s t

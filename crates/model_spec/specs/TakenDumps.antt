@@ -1,0 +1,23 @@
+-- A dump and its probe as words take them, and what is wrong with them.
+use Rattle.std.specs.Prelude.{◌≡◌, ℕ, List}
+use Rattle.pci_spec.specs.Text.{Block, slots_of}
+use Rattle.pci_spec.specs.System.{system_of}
+use Rattle.pci_spec.specs.Fault.{Fault}
+use Rattle.pci_spec.specs.FaultLines.{AreAllFaults}
+use Rattle.model_spec.specs.Words.{Words}
+use Rattle.model_spec.specs.Taken.{AreTaken}
+
+-- they list the same slots, each function as it is taken
+pub record AreTakenAs (w : Words) (dump probe taken taken_probe : List Block) : Type 0 where
+  pub slots : slots_of taken ≡ slots_of dump
+  pub probe_slots : slots_of taken_probe ≡ slots_of probe
+  pub each : slots_of dump ≡ slots_of probe
+      → AreTaken w (slots_of dump) (system_of dump probe) (system_of taken taken_probe)
+
+-- all faults of a dump and its probe as words take them
+pub record AreAllFaultsBy (w : Words) (roots : List ℕ) (dump probe : List Block)
+    (faults : List Fault) : Type 0 where
+  pub taken : List Block
+  pub taken_probe : List Block
+  pub are : AreTakenAs w dump probe taken taken_probe
+  pub all : AreAllFaults roots taken taken_probe faults

@@ -1,0 +1,47 @@
+-- Laws of what words take.
+use Rattle.std.specs.Prelude.{◌≡◌, ℕ, IsFalse, List, map}
+use Rattle.pci_spec.specs.Slot.{Slot}
+use Rattle.pci_spec.specs.Number.{IsImage}
+use Rattle.pci_spec.specs.Registers.{SECONDARY_BUS_RESET}
+use Rattle.pci_spec.specs.System.{System, Function, Space, Part, Claims, is_bridge}
+use Rattle.pci_spec.specs.Fault.{IsNotInD0, controls_bridge, is_subtractive_bridge}
+use Rattle.model_spec.specs.Words.{Words, no_words}
+use Rattle.model_spec.specs.Bytes.{out_of_reset, positive, switched_off}
+use Rattle.model_spec.specs.Taken.{AreTaken, with_image, without_buses}
+
+-- Without words a system is taken as it is.
+abbrev pub NoWordsChangeNothing : Type 0
+NoWordsChangeNothing =
+    (slots : List Slot) (s t : System) → AreTaken no_words slots s t → t ≡ s
+
+-- Words change no slot.
+abbrev pub SlotsAreKept : Type 0
+SlotsAreKept =
+    (w : Words) (slots : List Slot) (s t : System) → AreTaken w slots s t
+    → map (λ f. f.slot) t ≡ map (λ f. f.slot) s
+
+-- ---- what the changes are for
+
+-- What is switched off claims nothing,
+abbrev pub OffClaimsNothing : Type 0
+OffClaimsNothing =
+    (f : Function) → IsImage f.image → (part : Part) (space : Space) (a : ℕ)
+    → Claims (with_image f (switched_off f.image)) part space a → ⊥
+
+-- and shows no power state.
+abbrev pub OffShowsNoState : Type 0
+OffShowsNoState = (image : List ℕ) → IsImage image → IsNotInD0 (switched_off image) → ⊥
+
+-- A bridge out of reset has no reset,
+abbrev pub OutOfResetIs : Type 0
+OutOfResetIs =
+    (image : List ℕ) → IsImage image
+    → IsFalse (controls_bridge (out_of_reset image) SECONDARY_BUS_RESET)
+
+-- and one that decodes its windows alone isn't subtractive.
+abbrev pub PositiveIs : Type 0
+PositiveIs = (image : List ℕ) → IsImage image → IsFalse (is_subtractive_bridge (positive image))
+
+-- What was an unnumbered bridge is none: it leads to no bus, and has no bus numbers.
+abbrev pub DeviceLeadsNowhere : Type 0
+DeviceLeadsNowhere = (f : Function) → IsImage f.image → IsFalse (is_bridge (without_buses f))

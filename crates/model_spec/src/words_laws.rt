@@ -1,0 +1,23 @@
+//! Laws of words. These functions do nothing: each contract is a law.
+
+ghost use Rattle.model_spec.specs.WordsLaws.{NoWordsChangeNothing, SlotsAreKept, OffClaimsNothing, OffShowsNoState, OutOfResetIs, PositiveIs, DeviceLeadsNowhere};
+
+/// Without words a system is taken as it is.
+pub fn no_words_change_nothing()
+    ensures same { NoWordsChangeNothing }
+{}
+
+/// Each function stands where it stood.
+pub fn slots_are_kept()
+    ensures kept { SlotsAreKept }
+{}
+
+/// What is switched off claims nothing and is in no power state; a bridge out of reset, or one that decodes its windows
+/// alone, has none of the faults that it had; and a bridge without buses leads nowhere.
+pub fn changes_do_what_they_are_for()
+    ensures off { OffClaimsNothing }
+    ensures state { OffShowsNoState }
+    ensures reset { OutOfResetIs }
+    ensures positive { PositiveIs }
+    ensures device { DeviceLeadsNowhere }
+{}
