@@ -1,0 +1,5 @@
+pub mod Alone
+pub mod Behind
+pub mod Channels
+pub mod Takes
+pub mod Parts

@@ -1,0 +1,117 @@
+-- A dump and its probe that are taken block by block.
+use Rattle.std.proofs.Common.{◌≡◌, ℕ, ◌+◌, ◌<◌, ◌≤◌, List, [], ◌∷◌, ◌++◌, length, map, take, get_or, arith, refl, sym, ◌∙◌, ap, subst}
+use Rattle.std.specs.List.{AllZip, Contains}
+use Rattle.std.proofs.lemmas.List.{get_or-map, get_or-take, length-map, length-take-le, map-append, take_all, take_more}
+use Rattle.std.proofs.lemmas.List.Elements.{AllZip-push}
+use Rattle.pci_spec.specs.Slot.{Slot, slot_number}
+use Rattle.pci_spec.specs.Text.{Block, IsDump, slots_of}
+use Rattle.pci_spec.specs.Stops.{IsAboveLast, last_slot}
+use Rattle.pci_spec.specs.System.{System, Function, function_of, system_of}
+use Rattle.pci_spec.proofs.Members.{in_head, in_tail}
+use Rattle.pci_spec.proofs.Pairing.{function-at, length-system_of, same_length}
+use Rattle.model_spec.specs.Words.{Words}
+use Rattle.model_spec.specs.Taken.{IsTaken}
+use Rattle.model_spec.specs.TakenDumps.{AreTakenAs}
+use Rattle.pci_model.proofs.Behind.{numbers_rise}
+
+-- a slot above all slots of a dump may stand after its last one
+above_all : (found : List Block) (s : Slot) → ((t : Slot) → Contains (slots_of found) t → slot_number t < slot_number s) → IsAboveLast (last_slot found) s
+above_all [] s below = tt
+above_all (b ∷ []) s below = below b.slot (in_head b.slot [])
+above_all (b ∷ c ∷ found) s below = above_all (c ∷ found) s (λ t has. below t (in_tail b.slot (slots_of (c ∷ found)) t has))
+
+-- one function more
+system_last : (dump probe : List Block) (b p : Block) → length dump ≡ length probe → system_of (dump ++ b ∷ []) (probe ++ p ∷ []) ≡ system_of dump probe ++ function_of b p ∷ []
+system_last [] [] b p e = refl
+system_last [] (q ∷ probe) b p e = absurd (let no : ⊥ = omega (arith, e) in no)
+system_last (d ∷ dump) [] b p e = absurd (let no : ⊥ = omega (arith, e) in no)
+system_last (d ∷ dump) (q ∷ probe) b p e = ap (λ (s : System). function_of d q ∷ s) (system_last dump probe b p (omega (arith, e)))
+
+-- the first blocks, as they are taken
+pub record AreTakenSoFar (w : Words) (dump probe : List Block) (i : ℕ) (found found_probe : List Block) : Type 0 where
+  pub slots : slots_of found ≡ take i (slots_of dump)
+  pub probe_slots : slots_of found_probe ≡ take i (slots_of probe)
+  pub each : AllZip (IsTaken w (slots_of dump)) (take i (system_of dump probe)) (system_of found found_probe)
+
+pub none_taken : (w : Words) (dump probe : List Block) → AreTakenSoFar w dump probe 0 [] []
+none_taken w dump probe = record { slots = refl; probe_slots = refl; each = tt }
+
+count_of : (dump found : List Block) (i : ℕ) → slots_of found ≡ take i (slots_of dump) → i ≤ length dump → length found ≡ i
+count_of dump found i so_far inside =
+    let slots = length-map dump (λ (b : Block). b.slot) in
+    let own = length-map found (λ (b : Block). b.slot) in
+    let taken = length-take-le i (slots_of dump) (omega (arith, slots, inside)) in
+    let e = ap length so_far in
+    omega (arith, own, e, taken)
+
+-- the next block may stand after them
+pub next_above : (dump found : List Block) (i : ℕ) (s : Slot) (b : Block) → slots_of found ≡ take i (slots_of dump) → IsDump dump → i < length dump
+    → b ≡ get_or dump i b → s ≡ b.slot → IsAboveLast (last_slot found) s
+next_above dump found i s b so_far is inside at same = above_all found s (λ t has.
+    let slots = length-map dump (λ (c : Block). c.slot) in
+    let taken = length-take-le i (slots_of dump) (omega (arith, slots, inside)) in
+    let earlier : Contains (take i (slots_of dump)) t = subst (λ (ss : List Slot). Contains ss t) so_far has in
+    let short = earlier.1 in
+    let j = earlier.0 in
+    let before : j < i = omega (arith, taken, short) in
+    let t_at : (get_or dump j b).slot ≡ t =
+    sym (get_or-map (λ (c : Block). c.slot) dump j b t (omega (arith, before, inside))) ∙ sym (get_or-take i (slots_of dump) j t before) ∙ earlier.2 in
+    let less = numbers_rise dump j i b is before inside in
+    let low = ap slot_number t_at in
+    let high = ap (λ (c : Block). slot_number c.slot) at in
+    let end = ap slot_number same in
+    omega (arith, less, low, high, end))
+
+pub room_left : (dump found : List Block) (i : ℕ) → slots_of found ≡ take i (slots_of dump) → IsDump dump → i < length dump → length found < 4096
+room_left dump found i so_far is inside =
+    let own = count_of dump found i so_far (omega (arith, inside)) in
+    let room = is.room in
+    omega (arith, own, room, inside)
+
+slots_more : (dump found : List Block) (i : ℕ) (b c : Block) → slots_of found ≡ take i (slots_of dump) → i < length dump → c ≡ get_or dump i c → b.slot ≡ c.slot
+    → slots_of (found ++ b ∷ []) ≡ take (i + 1) (slots_of dump)
+slots_more dump found i b c so_far inside at same =
+    let slots = length-map dump (λ (d : Block). d.slot) in
+    let slot_at : get_or (slots_of dump) i c.slot ≡ c.slot = get_or-map (λ (d : Block). d.slot) dump i c c.slot inside ∙ ap (λ (d : Block). d.slot) (sym at) in
+    map-append (λ (d : Block). d.slot) found (b ∷ []) ∙ ap (λ (ss : List Slot). ss ++ b.slot ∷ []) so_far
+    ∙ ap (λ (s : Slot). take i (slots_of dump) ++ s ∷ []) (same ∙ sym slot_at)
+    ∙ sym (take_more (slots_of dump) i c.slot (omega (arith, slots, inside)))
+
+-- one more
+pub next_taken : (w : Words) (dump probe : List Block) (i : ℕ) (found found_probe : List Block) (b p c q : Block) → slots_of dump ≡ slots_of probe
+    → AreTakenSoFar w dump probe i found found_probe → i < length dump
+    → c ≡ get_or dump i c → q ≡ get_or probe i q → b.slot ≡ c.slot → p.slot ≡ q.slot → IsTaken w (slots_of dump) (function_of c q) (function_of b p)
+    → AreTakenSoFar w dump probe (i + 1) (found ++ b ∷ []) (found_probe ++ p ∷ [])
+next_taken w dump probe i found found_probe b p c q same so_far inside c_at q_at slot probe_slot taken =
+    let count = same_length dump probe same in
+    let size = length-system_of dump probe count in
+    let in_probe : i < length probe = omega (arith, count, inside) in
+    let f_at : get_or (system_of dump probe) i (function_of c q) ≡ function_of c q =
+    function-at dump probe i c q (function_of c q) inside in_probe ∙ ap (λ (d : Block). function_of d (get_or probe i q)) (sym c_at) ∙ ap (λ (d : Block). function_of c d) (sym q_at) in
+    let functions : take (i + 1) (system_of dump probe) ≡ take i (system_of dump probe) ++ function_of c q ∷ [] =
+    take_more (system_of dump probe) i (function_of c q) (omega (arith, size, inside)) ∙ ap (λ f. take i (system_of dump probe) ++ f ∷ []) f_at in
+    let own = count_of dump found i so_far.slots (omega (arith, inside)) in
+    let own_probe = count_of probe found_probe i so_far.probe_slots (omega (arith, in_probe)) in
+    let R : Function → Function → Type 0 = IsTaken w (slots_of dump) in
+    let pushed = AllZip-push R (take i (system_of dump probe)) (system_of found found_probe) (function_of c q) (function_of b p) so_far.each taken in
+    let last : system_of (found ++ b ∷ []) (found_probe ++ p ∷ []) ≡ system_of found found_probe ++ function_of b p ∷ [] = system_last found found_probe b p (omega (arith, own, own_probe)) in
+    record {
+      slots = slots_more dump found i b c so_far.slots inside c_at slot;
+      probe_slots = slots_more probe found_probe i p q so_far.probe_slots in_probe q_at probe_slot;
+      each = subst (λ fs. AllZip R fs (system_of (found ++ b ∷ []) (found_probe ++ p ∷ []))) (sym functions)
+          (subst (λ fs. AllZip R (take i (system_of dump probe) ++ function_of c q ∷ []) fs) (sym last) pushed);
+    }
+
+-- all of them
+pub all_taken : (w : Words) (dump probe : List Block) (i : ℕ) (found found_probe : List Block) → slots_of dump ≡ slots_of probe
+    → AreTakenSoFar w dump probe i found found_probe → length dump ≤ i → AreTakenAs w dump probe found found_probe
+all_taken w dump probe i found found_probe same so_far done =
+    let count = same_length dump probe same in
+    let slots = length-map dump (λ (b : Block). b.slot) in
+    let probe_slots = length-map probe (λ (b : Block). b.slot) in
+    let size = length-system_of dump probe count in
+    record {
+      slots = so_far.slots ∙ take_all i (slots_of dump) (omega (arith, slots, done));
+      probe_slots = so_far.probe_slots ∙ take_all i (slots_of probe) (omega (arith, count, probe_slots, done));
+      each = λ e. subst (λ fs. AllZip (IsTaken w (slots_of dump)) fs (system_of found found_probe)) (take_all i (system_of dump probe) (omega (arith, size, done))) so_far.each;
+    }

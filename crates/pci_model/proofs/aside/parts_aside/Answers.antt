@@ -1,0 +1,67 @@
+use Rattle.std.proofs.Common.{◌≡◌, ◌<◌, List, map, refl, sym, ◌∙◌, ap, inl, inr, arith, true, false, ◌&&◌}
+use Rattle.std.proofs.Math.Bool.{and-false}
+use Rattle.pci_spec.specs.System.{Function}
+use Rattle.pci_spec.specs.Fault.{Fault}
+use Rattle.pci_spec.specs.Order.{Place}
+use Rattle.pci_function.specs.Fault.{fault_of}
+use Rattle.pci_function.specs.Values.{record_value}
+use Rattle.model_spec.specs.Taken.{HasNoneBefore, is_ide, is_compatible, is_unnumbered_bridge}
+use Rattle.model_spec.specs.Bytes.{without_bars}
+use Rattle.pci_spec.specs.Decoded.{DecodedBar}
+use Rattle.pci_image.specs.Bars.{decoded_bar_of}
+use Rattle.pci_image.specs.declared.bar.Bar.{Bar}
+use Rattle.std.specs.List.{filter}
+use Rattle.pci_model.specs.WordsValue.{words_value}
+use Rattle.pci_model.proofs.Alone.{clear_alone, early, there_alone}
+use Rattle.pci_model.proofs.Parts.{channels_aside, buses_aside, nothing_aside}
+use Rattle.pci_model.proofs.aside.parts_aside.Goals as goal
+use Rattle.pci_model.proofs.aside.parts_aside.Goals.{else-words-via-then-words+else-is_ide, else-words-via-else-words, else-words-2-via-then-words-2+else-is_unnumbered, else-words-2-via-else-words-2}
+
+pub returns-in-Err : goal.returns-in-Err
+returns-in-Err c =
+    let f : Function = record { slot = c.args.slot; image = c.args.image.now.0; probe = c.args.probe.now.0 } in
+    let told = fault_of c.in-Err.field-0 in
+    inr (λ none. none told (early f told c.in-Err.ensures.here) (there_alone f told c.in-Err.ensures.here), refl)
+
+pub returns-then-is_ide : goal.returns-then-is_ide
+returns-then-is_ide c =
+    let bars : List DecodedBar = map decoded_bar_of c.in-Ok.decoded.bars.items in
+    let f : Function = record { slot = c.args.slot; image = c.args.image.now.0; probe = c.args.probe.now.0 } in
+    let none : HasNoneBefore Place f = λ fault low is. clear_alone 4 f fault c.in-Ok.ensures.clear low low is in
+    inl (
+      none,
+      channels_aside (words_value c.args.words) f (record_value c.in-Ok.decoded) c.in-Ok.ensures.decoded.same c.if-words.true (sym c.is_ide.ensures ∙ c.if-is_ide.true) _ _
+          (c.leave_channels_out.ensures ∙ ap (λ (bs : List Bar). without_bars (filter (λ bar. is_compatible c.u8-interface.result bar.register) (map decoded_bar_of bs)) f.image) c.deref.ensures.0
+          ∙ ap (λ n. without_bars (filter (λ bar. is_compatible n bar.register) bars) f.image) c.u8-interface.ensures)
+          (c.leave_channels_out-then-is_ide.ensures ∙ ap (λ (bs : List Bar). without_bars (filter (λ bar. is_compatible c.u8-interface.result bar.register) (map decoded_bar_of bs)) f.probe) c.deref-then-is_ide.ensures.0
+          ∙ ap (λ n. without_bars (filter (λ bar. is_compatible n bar.register) bars) f.probe) c.u8-interface.ensures),
+    )
+
+pub returns-then-is_unnumbered : goal.returns-then-is_unnumbered
+returns-then-is_unnumbered c =
+    let f : Function = record { slot = c.args.slot; image = c.args.image.now.0; probe = c.args.probe.now.0 } in
+    let none : HasNoneBefore Place f = λ fault low is. clear_alone 4 f fault c.in-Ok.ensures.clear low low is in
+    let other : (c.args.words.ide && is_ide f.image) ≡ false = elim c.else-words.branch [
+      | else-words-via-then-words+else-is_ide w ↦ (let no : is_ide f.image ≡ false = sym w.is_ide.ensures ∙ w.if-is_ide.false in rw no (and-false c.args.words.ide))
+      | else-words-via-else-words w ↦ (let no : c.args.words.ide ≡ false = w.if-words.false in rw no refl)
+    ] in
+    inl (
+      none,
+      buses_aside (words_value c.args.words) f (record_value c.in-Ok.decoded) c.in-Ok.ensures.decoded.same other c.if-words-2.true
+          (sym c.is_unnumbered.ensures ∙ c.if-is_unnumbered.true) _ _ c.make_device.ensures c.make_device_read_backs.ensures,
+    )
+
+pub returns-else-words-2 : goal.returns-else-words-2
+returns-else-words-2 c =
+    let f : Function = record { slot = c.args.slot; image = c.args.image.now.0; probe = c.args.probe.now.0 } in
+    let r = record_value c.in-Ok.decoded in
+    let none : HasNoneBefore Place f = λ fault low is. clear_alone 4 f fault c.in-Ok.ensures.clear low low is in
+    let other : (c.args.words.ide && is_ide f.image) ≡ false = elim c.else-words.branch [
+      | else-words-via-then-words+else-is_ide w ↦ (let no : is_ide f.image ≡ false = sym w.is_ide.ensures ∙ w.if-is_ide.false in rw no (and-false c.args.words.ide))
+      | else-words-via-else-words w ↦ (let no : c.args.words.ide ≡ false = w.if-words.false in rw no refl)
+    ] in
+    let numbered : (c.args.words.unnumbered && is_unnumbered_bridge r r.bridge) ≡ false = elim c.else-words-2.branch [
+      | else-words-2-via-then-words-2+else-is_unnumbered w ↦ (let no : is_unnumbered_bridge r r.bridge ≡ false = sym w.is_unnumbered.ensures ∙ w.if-is_unnumbered.false in rw no (and-false c.args.words.unnumbered))
+      | else-words-2-via-else-words-2 w ↦ (let no : c.args.words.unnumbered ≡ false = w.if-words-2.false in rw no refl)
+    ] in
+    inl (none, nothing_aside (words_value c.args.words) f r c.in-Ok.ensures.decoded.same other numbered)

@@ -1,0 +1,66 @@
+//! Images with some of their bytes changed.
+ghost use Rattle.std.specs.Prelude.{◌≡◌, ◌+◌, ◌≤◌};
+ghost use Rattle.model_spec.specs.Bytes as bytes;
+
+use pci_base::image::Image;
+use pci_base::offset::{
+    BRIDGE_CONTROL, BRIDGE_EXPANSION_ROM, COMMAND, HEADER_TYPE, INTERFACE, PRIMARY_BUS, STATUS,
+};
+
+/// The bytes of a bridge's numbers and windows, 18h to 33h (Bridge 1.2, 3.2.5).
+const BRIDGE_REGISTERS: u8 = 28;
+
+/// The bytes of an expansion ROM register.
+const ROM_REGISTER: u8 = 4;
+
+/// Clears so many bytes from an offset on.
+pub fn clear(image: &mut Image, off: u8, count: u8)
+    requires { off + count ≤ 256 }
+    ensures { image.new.0 ≡ bytes.cleared off count image.old.0 }
+{
+    for j in 0..count {
+        image.0[usize::from(off) + usize::from(j)] = 0;
+    }
+}
+
+/// Command without its bits 0 and 1, and Status without a capabilities list (PCI 3.0, 6.2.2 and 6.2.3).
+pub fn switch_off(image: &mut Image)
+    ensures { image.new.0 ≡ bytes.switched_off image.old.0 }
+{
+    let command = image.u8(COMMAND);
+    let status = image.u8(STATUS);
+    image.0[usize::from(COMMAND)] = command / 4 * 4;
+    image.0[usize::from(STATUS)] = status / 32 * 32 + status % 16;
+}
+
+/// Bridge Control without Secondary Bus Reset (Bridge 1.2, 3.2.5.18).
+pub fn take_out_of_reset(image: &mut Image)
+    ensures { image.new.0 ≡ bytes.out_of_reset image.old.0 }
+{
+    let control = image.u8(BRIDGE_CONTROL);
+    image.0[usize::from(BRIDGE_CONTROL)] = control / 128 * 128 + control % 64;
+}
+
+/// The interface of a bridge that decodes its windows alone (PCI 3.0, appendix D).
+pub fn make_positive(image: &mut Image)
+    ensures { image.new.0 ≡ bytes.positive image.old.0 }
+{
+    image.0[usize::from(INTERFACE)] = 0;
+}
+
+/// A header of type 0 with the BARs of a bridge.
+pub fn make_device(image: &mut Image)
+    ensures { image.new.0 ≡ bytes.as_device image.old.0 }
+{
+    let header_type = image.u8(HEADER_TYPE);
+    clear(image, PRIMARY_BUS, BRIDGE_REGISTERS);
+    image.0[usize::from(HEADER_TYPE)] = header_type / 128 * 128;
+}
+
+/// What reads back of such a header.
+pub fn make_device_read_backs(probe: &mut Image)
+    ensures { probe.new.0 ≡ bytes.device_read_backs probe.old.0 }
+{
+    clear(probe, PRIMARY_BUS, BRIDGE_REGISTERS);
+    clear(probe, BRIDGE_EXPANSION_ROM, ROM_REGISTER);
+}

@@ -1,0 +1,14 @@
+//! How functions are taken by a user's words ([`words::Words`]): a dump and its probe in which the images of some functions
+//! are others ([`take::taken_by`]), so that all that lists, judges or explains them does so by these words.
+//!
+//! ```text
+//! let taken = taken_by(alloc, &dump, &probe, words)?;
+//! let found = all_faults(alloc, &taken.dump, &taken.probe, roots)?;
+//! ```
+#![tactic(auto)]
+
+pub mod aside;
+pub mod bytes;
+pub mod power;
+pub mod take;
+pub mod words;

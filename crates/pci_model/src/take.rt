@@ -1,0 +1,112 @@
+//! A dump and its probe as words take them.
+ghost use Rattle.std.specs.Prelude.{◌≡◌, ◌<◌, ◌≤◌, ℕ, List, length, IfOk};
+ghost use Rattle.std.specs.List.{AllWithin};
+ghost use Rattle.pci_spec.specs.Slot.{Slot as SlotValue};
+ghost use Rattle.pci_spec.specs.System.{function_of};
+ghost use Rattle.pci_spec.specs.Text.{IsDump, slots_of};
+ghost use Rattle.model_spec.specs.Taken.{IsTaken, is_anyone_behind};
+ghost use Rattle.model_spec.specs.TakenDumps.{AreTakenAs};
+ghost use Rattle.pci_model.specs.WordsValue.{words_value};
+
+use super::aside::{bridge_aside, parts_aside};
+use super::power::take_asleep;
+use super::words::Words;
+use pci_base::image::Image;
+use pci_base::memory::OutOfMemory;
+use pci_base::offset::{SECONDARY_BUS, SUBORDINATE_BUS};
+use pci_base::slot::Slot;
+use pci_dump::block::Block;
+use pci_dump::dump::Dump;
+use std::alloc::Allocator;
+
+/// A dump and its probe.
+#[derive(Drop)]
+pub struct TakenPair<A: Allocator> {
+    pub dump: Dump<A>,
+    pub probe: Dump<A>,
+}
+
+/// The index of the first block on this bus or a higher one.
+fn first_from(blocks: &[Block], bus: u8) -> usize
+    requires { IsDump blocks.now }
+    ensures bound { result ≤ length blocks.now }
+    ensures before { AllWithin (λ b. b.slot.bus < bus) blocks.now 0 result }
+    ensures after { AllWithin (λ b. bus ≤ b.slot.bus) blocks.now result (length blocks.now) }
+{
+    blocks.partition_point(|block| block.slot.bus() < bus)
+}
+
+/// Whether a function of a dump is listed on a bus behind a bridge.
+fn is_anyone_behind(blocks: &[Block], bridge: &Image) -> bool
+    requires { IsDump blocks.now }
+    ensures { (slot : SlotValue) (probe : List ℕ) → result ≡ is_anyone_behind (slots_of blocks.now) record
+        { slot = slot; image = bridge.now.0; probe = probe } }
+{
+    let first = first_from(blocks, bridge.u8(SECONDARY_BUS));
+    if blocks.len() <= first {
+        return false;
+    }
+    let block = &blocks[first];
+    block.slot.bus() <= bridge.u8(SUBORDINATE_BUS)
+}
+
+/// Takes a function of a dump.
+fn take(slot: Slot, image: &mut Image, probe: &mut Image, blocks: &[Block], words: Words)
+    requires { IsDump blocks.now }
+    ensures { IsTaken (words_value words) (slots_of blocks.now)
+        record { slot = slot; image = image.old.0; probe = probe.old.0 }
+        record { slot = slot; image = image.new.0; probe = probe.new.0 } }
+{
+    take_asleep(slot, image, probe, words);
+    let behind = is_anyone_behind(blocks, image);
+    bridge_aside(image, behind, words);
+    parts_aside(slot, image, probe, words);
+}
+
+/// Takes a function of a dump, by its two blocks.
+fn take_blocks(block: &mut Block, probe: &mut Block, blocks: &[Block], words: Words)
+    requires { IsDump blocks.now }
+    ensures taken { IsTaken (words_value words) (slots_of blocks.now)
+        (function_of block.old probe.old) (function_of block.new probe.new) }
+    ensures slot { block.new.slot ≡ block.old.slot }
+    ensures probe_slot { probe.new.slot ≡ probe.old.slot }
+{
+    take(
+        block.slot,
+        &mut block.image,
+        &mut probe.image,
+        blocks,
+        words,
+    );
+}
+
+/// A dump and its probe, which list the same slots, as words take them.
+///
+/// # Errors
+///
+/// 2 where a growth was refused.
+pub fn taken_by<A: Allocator + Copy, B: Allocator, C: Allocator>(
+    alloc: A,
+    dump: &Dump<B>,
+    probe: &Dump<C>,
+    words: Words,
+) -> Result<TakenPair<A>, OutOfMemory>
+    // else no two blocks make a function
+    requires { slots_of dump.now ≡ slots_of probe.now }
+    ensures { IfOk result (λ t. AreTakenAs (words_value words) dump.now probe.now t.dump t.probe) }
+{
+    let blocks = dump.blocks();
+    let probes = probe.blocks();
+    let mut taken = TakenPair {
+        dump: Dump::empty(alloc),
+        probe: Dump::empty(alloc),
+    };
+    for i in 0..blocks.len() {
+        let mut block = blocks[i].copy();
+        let mut read_backs = probes[i].copy();
+        take_blocks(&mut block, &mut read_backs, blocks, words);
+        taken.dump.push_next(block)?;
+        taken.probe.push_next(read_backs)?;
+    }
+    Ok(taken)
+}
