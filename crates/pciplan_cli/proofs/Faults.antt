@@ -19,7 +19,7 @@ use Rattle.pci_faults.specs.Phases.{AreOfJudging, AreEarly}
 use Rattle.pci_function.specs.declared.fault.Fault as code
 use Rattle.pci_function.specs.Fault.{fault_of}
 use Rattle.pciplan_cli.specs.Answers.{Answer}
-use Rattle.pciplan_cli.specs.FaultsAnswers.{IsTextOf, list_answer, AreTold}
+use Rattle.pciplan_cli.specs.FaultsAnswers.{IsListText, list_answer, AreTold}
 
 -- ---- of faults before judging nothing more is told
 
@@ -65,7 +65,7 @@ IsJudgedOf roots dump probe faults judged =
     MatchOption judged (AreEarly faults) (λ outline. AreOfJudging faults × IsOutlineFor (admission roots dump probe) outline)
 
 text_is : (roots : List ℕ) (dump probe : List Block) (faults : List Fault) (judged : Option Tree) (why : Bool) (text : List ℕ) → AreAllFaults roots dump probe faults
-    → IsJudgedOf roots dump probe faults judged → IsTextOf judged why faults text → IsFaultsText roots (system_of dump probe) why faults text
+    → IsJudgedOf roots dump probe faults judged → IsListText judged why faults text → IsFaultsText roots (system_of dump probe) why faults text
 text_is roots dump probe faults None false text all early is = is
 text_is roots dump probe faults (Some t) false text all late is = is
 text_is roots dump probe faults None true text all early is = early_text roots (system_of dump probe) faults text early is
@@ -91,7 +91,7 @@ none_of_items (f ∷ rest) P both = (λ e. absurd (let no : ⊥ = cc in no), λ 
 
 pub told : (roots : List ℕ) (dump probe : List Block) (faults : List Fault) (judged : Option Tree) (why : Bool) (text : List ℕ) (answer : Answer)
     → AreAllFaults roots dump probe faults → IsFirstLine roots dump probe faults → (faults ≡ []) ↔ AreSound roots dump probe → IsJudgedOf roots dump probe faults judged
-    → IsTextOf judged why faults text → answer ≡ list_answer faults text → AreTold roots why dump probe answer
+    → IsListText judged why faults text → answer ≡ list_answer faults text → AreTold roots why dump probe answer
 told roots dump probe faults judged why text answer all first none outline is line = record {
   faults = faults;
   all = all;

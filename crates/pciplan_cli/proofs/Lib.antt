@@ -3,6 +3,7 @@ mod PlainWrites
 mod HexWords
 mod PoolWords
 mod RootWords
+mod ModelWords
 mod Invocations
 mod Tasks
 pub mod Faults

@@ -3,10 +3,14 @@ use Rattle.std.specs.Prelude.{◌≡◌, ℕ, ◌∷◌, [], Bool, true, false, 
 use Rattle.std.specs.Borrow.{Bor}
 use Rattle.pci_base.specs.declared.range.Range.{Range}
 use Rattle.pci_place.specs.declared.pools.Pools.{Pools}
+use Rattle.model_spec.specs.Words as model
+use Rattle.pci_model.specs.declared.words.Words.{Words}
+use Rattle.pci_model.specs.WordsValue.{words_value}
 use Rattle.pci_probe.specs.declared.assuming.Assuming.{Assuming}
 use Rattle.pci_probe.specs.declared.assuming.Assuming.TheVariants.{Nothing, Disabled, Any}
 use Rattle.pci_tree.specs.Roots.{buses_of}
 use Rattle.pci_tree.specs.declared.roots.Roots.{Roots}
+use Rattle.pciplan_cli.specs.ModelWords.{IsModelWord}
 use Rattle.pciplan_cli.specs.PoolWords.{IsPoolWord, HasNoPool}
 use Rattle.pciplan_cli.specs.RootWords.{IsRootWord}
 use Rattle.pciplan_words.specs.declared.asked.Asked.{Asked}
@@ -16,7 +20,7 @@ use Rattle.pciplan_cli.specs.declared.invocation.Task.{Task}
 use Rattle.pciplan_cli.specs.declared.invocation.Task.TheVariants as task
 use Rattle.pciplan_cli.specs.declared.failure.PoolOption.TheVariants.{Io, Mem, Pref}
 use Rattle.pciplan_cli.specs.declared.failure.Failure.{Failure}
-use Rattle.pciplan_cli.specs.declared.failure.Failure.TheVariants.{Usage, Root, Pool}
+use Rattle.pciplan_cli.specs.declared.failure.Failure.TheVariants.{Usage, Root, Model, Pool}
 
 -- the roots of the word of `--root`: bus 00 alone where there is none
 abbrev pub AreRootsOf : Option (Bor (List ℕ)) → Roots → Type 0
@@ -26,6 +30,16 @@ AreRootsOf (Some word) roots = IsRootWord word.now (buses_of roots)
 abbrev pub HasNoRoots : Option (Bor (List ℕ)) → Type 0
 HasNoRoots None = ⊥
 HasNoRoots (Some word) = (buses : List ℕ) → IsRootWord word.now buses → ⊥
+
+-- the words of the list of `--model`: none where there is no list
+abbrev pub AreWordsOf : Option (Bor (List ℕ)) → Option Words → Type 0
+AreWordsOf None words = words ≡ None
+AreWordsOf (Some list) None = ⊥
+AreWordsOf (Some list) (Some words) = IsModelWord list.now (words_value words)
+
+abbrev pub HasNoWords : Option (Bor (List ℕ)) → Type 0
+HasNoWords None = ⊥
+HasNoWords (Some list) = (words : model.Words) → IsModelWord list.now words → ⊥
 
 -- the planning that the words ask for: each pool is that of its own option
 pub record IsPlanningOf (words : PlanWords) (planning : Task) : Type 0 where
@@ -47,8 +61,9 @@ IsAssumingOf false false assuming = assuming ≡ Disabled
 abbrev pub IsTaskOf : Asked → Task → Type 0
 IsTaskOf asked.Show t = t ≡ task.Show
 IsTaskOf (asked.Check root) t = (roots : Roots) × AreRootsOf root roots × (t ≡ task.Check roots)
-IsTaskOf (asked.Faults root why) t =
-    (roots : Roots) × AreRootsOf root roots × (t ≡ task.Faults roots why)
+IsTaskOf (asked.Faults root model why) t =
+    (roots : Roots) × (words : Option Words) × AreRootsOf root roots × AreWordsOf model words
+    × (t ≡ task.Faults roots words why)
 IsTaskOf asked.Size t = t ≡ task.Size
 IsTaskOf (asked.Plan words) t = IsPlanningOf words t
 IsTaskOf (asked.Probe exact least) t =
@@ -64,11 +79,13 @@ HasIo words = HasRoots words × ((pool : Range) × IsPoolWord words.io.now pool)
 abbrev pub HasMem : PlanWords → Type 0
 HasMem words = HasIo words × ((pool : Range) × IsPoolWord words.mem.now pool)
 
--- the first word that is none, of the root list and then the pools of I/O, memory and prefetchable memory; or two options of
+-- the first word that is none, of the root list and then the words of `--model` or the pools of I/O, memory and prefetchable memory; or two options of
 -- which one alone may be said
 abbrev pub IsRefusedFor : Asked → Failure → Type 0
 IsRefusedFor (asked.Check root) Root = HasNoRoots root
-IsRefusedFor (asked.Faults root why) Root = HasNoRoots root
+IsRefusedFor (asked.Faults root model why) Root = HasNoRoots root
+IsRefusedFor (asked.Faults root model why) Model =
+    ((roots : Roots) × AreRootsOf root roots) × HasNoWords model
 IsRefusedFor (asked.Plan words) Root = HasNoRoots words.root
 IsRefusedFor (asked.Plan words) (Pool Io) = HasRoots words × HasNoPool words.io.now
 IsRefusedFor (asked.Plan words) (Pool Mem) = HasIo words × HasNoPool words.mem.now

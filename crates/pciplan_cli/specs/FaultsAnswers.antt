@@ -1,26 +1,29 @@
 -- What the program answers where all faults of two texts are to be listed.
-use Rattle.std.specs.Prelude.{◌≡◌, ◌↔◌, ℕ, Bool, true, List, [], ◌∷◌, ◌++◌, Option, Some}
+use Rattle.std.specs.Prelude.{◌≡◌, ◌↔◌, ℕ, Bool, true, List, [], ◌∷◌, ◌++◌, Option, None, Some}
 use Rattle.std.specs.List.{flat_map}
 use Rattle.pci_spec.specs.Text.{Block}
 use Rattle.pci_spec.specs.System.{system_of}
 use Rattle.pci_spec.specs.Fault.{Fault}
 use Rattle.pci_spec.specs.FaultLines.{AreAllFaults}
 use Rattle.pci_spec.specs.FaultsText.{fault_line, yes_line, IsFaultsText}
+use Rattle.model_spec.specs.TakenDumps.{AreTakenAs}
+use Rattle.pci_model.specs.declared.words.Words.{Words}
+use Rattle.pci_model.specs.WordsValue.{words_value}
 use Rattle.pci_check.specs.Audits.{AreSound}
 use Rattle.pci_faults.specs.FirstLine.{IsFirstLine}
 use Rattle.pci_tree.specs.Outline.{Tree}
 use Rattle.pci_why.specs.Lists.{IsReasonedTextOf}
-use Rattle.pciplan_cli.specs.Answers.{Answer, done}
+use Rattle.pciplan_cli.specs.Answers.{Answer, done, refused}
 
 -- the text of a list, where it is of what was judged with reasons
-abbrev pub IsTextOf : Option Tree → Bool → List Fault → List ℕ → Type 0
-IsTextOf (Some judged) true faults text = IsReasonedTextOf judged faults text
-IsTextOf _ _ faults text = text ≡ yes_line faults ++ flat_map fault_line faults
+abbrev pub IsListText : Option Tree → Bool → List Fault → List ℕ → Type 0
+IsListText (Some judged) true faults text = IsReasonedTextOf judged faults text
+IsListText _ _ faults text = text ≡ yes_line faults ++ flat_map fault_line faults
 
 -- a list of no fault is a yes
 abbrev pub list_answer : List Fault → List ℕ → Answer
 list_answer [] text = done text
-list_answer (fault ∷ rest) text = record { status = 1; text = text; remarks = [] }
+list_answer (fault ∷ rest) text = refused text
 
 -- `faults`: all of them, of which the first is the one that `check` names; none exactly where it says yes
 pub record AreTold (roots : List ℕ) (why : Bool) (dump probe : List Block)
@@ -32,3 +35,11 @@ pub record AreTold (roots : List ℕ) (why : Bool) (dump probe : List Block)
   pub text : List ℕ
   pub is : IsFaultsText roots (system_of dump probe) why faults text
   pub line : answer ≡ list_answer faults text
+
+-- the same of a dump and its probe as words take them, where there are words
+abbrev pub AreToldBy : Option Words → List ℕ → Bool → List Block → List Block → Answer → Type 0
+AreToldBy None roots why dump probe answer = AreTold roots why dump probe answer
+AreToldBy (Some words) roots why dump probe answer =
+    (taken : List Block) × (taken_probe : List Block)
+    × AreTakenAs (words_value words) dump probe taken taken_probe
+    × AreTold roots why taken taken_probe answer

@@ -2,6 +2,7 @@ pub mod Statuses
 pub mod Answers
 pub mod PlanAnswers
 pub mod FaultsAnswers
+pub mod ModelWords
 pub mod PoolWords
 pub mod RootWords
 pub mod Asked

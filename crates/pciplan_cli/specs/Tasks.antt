@@ -14,7 +14,7 @@ use Rattle.pci_tree.specs.Roots.{buses_of}
 use Rattle.pci_place.specs.Pools.{pools_value}
 use Rattle.pci_check.specs.Audits.{IsDumpOf}
 use Rattle.pciplan_cli.specs.Answers.{Answer, IsShown, IsChecked, IsSized, IsTold}
-use Rattle.pciplan_cli.specs.FaultsAnswers.{AreTold}
+use Rattle.pciplan_cli.specs.FaultsAnswers.{AreToldBy}
 use Rattle.pciplan_cli.specs.PlanAnswers.{IsPlanned}
 use Rattle.pciplan_cli.specs.ProbeAnswers.{probe_answer}
 use Rattle.pciplan_cli.specs.Statuses.{status_of}
@@ -38,23 +38,33 @@ pub record IsAnswerTo {B : Type 0} (IsSecond : Option (List ℕ) → List B → 
   pub second_text : IsSecond second_left second
   pub means : Means dump second answer
 
--- what each task answers
-abbrev pub IsAnswerOf : Task → Option (List ℕ) → Option (List ℕ) → Answer → Type 0
-IsAnswerOf task.Show = IsAnswerTo IsDumpOf IsShown
-IsAnswerOf (task.Check roots) = IsAnswerTo IsDumpOf (IsChecked (buses_of roots))
-IsAnswerOf (task.Faults roots why) = IsAnswerTo IsDumpOf (AreTold (buses_of roots) why)
-IsAnswerOf task.Size = IsAnswerTo IsDumpOf IsSized
-IsAnswerOf (task.Plan pools writes why roots) =
-    IsAnswerTo IsDumpOf
-    (IsPlanned record {
+-- what a task answers to a dump and its probe; that of a derived probe is none of these
+abbrev pub IsPairAnswer : Task → List Block → List Block → Answer → Type 0
+IsPairAnswer task.Show = IsShown
+IsPairAnswer (task.Check roots) = IsChecked (buses_of roots)
+IsPairAnswer (task.Faults roots words why) = AreToldBy words (buses_of roots) why
+IsPairAnswer task.Size = IsSized
+IsPairAnswer (task.Plan pools writes why roots) =
+    IsPlanned record {
       pools = pools_value pools;
       writes = writes;
       why = why;
       roots = buses_of roots;
-    })
+    }
+IsPairAnswer (task.Probe assuming) = λ dump probe answer. ⊥
+
+-- the task takes a whole dump and a whole probe: the verdict reads both side by side, and a derived probe takes sizes
+abbrev pub IsOfWholePair : Task → Type 0
+IsOfWholePair (task.Check roots) = ⊥
+IsOfWholePair (task.Probe assuming) = ⊥
+IsOfWholePair _ = Unit {0}
+
+-- what each task answers
+abbrev pub IsAnswerOf : Task → Option (List ℕ) → Option (List ℕ) → Answer → Type 0
 IsAnswerOf (task.Probe assuming) =
     IsAnswerTo AreSizesOf
     (λ dump sizes answer. answer ≡ probe_answer (assuming_of assuming) dump sizes)
+IsAnswerOf t = IsAnswerTo IsDumpOf (IsPairAnswer t)
 
 -- the answer was written, and the remarks, if standard error takes them; without remarks it is as before
 pub record IsAnswered (task : Task) (dump_left second_left : Option (List ℕ)) (status : ℕ)

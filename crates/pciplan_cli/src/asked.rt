@@ -2,14 +2,16 @@
 ghost use Rattle.std.specs.Prelude.{◌≡◌, true, MatchOption, MatchResult};
 ghost use Rattle.pciplan_words.specs.declared.asked.Asked.{Asked};
 ghost use Rattle.pciplan_cli.specs.declared.failure.Failure.{Failure};
-ghost use Rattle.pciplan_cli.specs.Asked.{AreRootsOf, HasNoRoots, IsAssumingOf, IsTaskOf, IsRefusedFor};
+ghost use Rattle.pciplan_cli.specs.Asked.{AreRootsOf, AreWordsOf, HasNoRoots, HasNoWords, IsAssumingOf, IsTaskOf, IsRefusedFor};
 ghost use Rattle.pciplan_cli.specs.PoolWords.{HasNoPool, IsPoolWord};
 
 use crate::failure::{Failure, PoolOption};
 use crate::invocation::Task;
+use crate::model_words::words_of_list;
 use crate::pool_word::pool_of_word;
 use crate::root_list::roots_of_list;
 use pci_base::range::Range;
+use pci_model::words::Words;
 use pci_place::pools::Pools;
 use pci_probe::assuming::Assuming;
 use pci_tree::roots::Roots;
@@ -22,6 +24,20 @@ fn roots_of(root: Option<&str>) -> Option<Roots>
     match root {
         None => Some(Roots::host()),
         Some(list) => roots_of_list(list),
+    }
+}
+
+/// The words of the list of `--model`, where there is one.
+fn words_of(model: Option<&str>) -> Result<Option<Words>, Failure>
+    ensures { MatchResult result (AreWordsOf model.entry)
+        (λ failure. (failure ≡ Failure.Model) × HasNoWords model.entry) }
+{
+    match model {
+        None => Ok(None),
+        Some(list) => match words_of_list(list) {
+            None => Err(Failure::Model),
+            Some(words) => Ok(Some(words)),
+        },
     }
 }
 
@@ -62,8 +78,8 @@ fn assuming_of(exact: bool, least: bool) -> Option<Assuming>
     }
 }
 
-/// The task that is asked for. The root list is read before the pools, and they in the order of I/O, memory and
-/// prefetchable memory: the first word that is none is the fault.
+/// The task that is asked for. The root list is read first, then the words of `--model` or the pools, these in the order of
+/// I/O, memory and prefetchable memory: the first word that is none is the fault.
 pub fn task_of(asked: &Asked<'_>) -> Result<Task, Failure>
     ensures { MatchResult result (IsTaskOf asked.now) (IsRefusedFor asked.now) }
 {
@@ -72,8 +88,9 @@ pub fn task_of(asked: &Asked<'_>) -> Result<Task, Failure>
         Asked::Check { root } => Ok(Task::Check {
             roots: roots_of(*root).ok_or(Failure::Root)?,
         }),
-        Asked::Faults { root, why } => Ok(Task::Faults {
+        Asked::Faults { root, model, why } => Ok(Task::Faults {
             roots: roots_of(*root).ok_or(Failure::Root)?,
+            words: words_of(*model)?,
             why: *why,
         }),
         Asked::Size => Ok(Task::Size),

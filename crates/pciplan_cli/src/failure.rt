@@ -26,6 +26,8 @@ pub enum Failure {
     Usage,
     /// The list of root buses is none.
     Root,
+    /// The list of words by which functions are taken is none.
+    Model,
     /// The word of an option's pool is none.
     Pool(PoolOption),
     /// The text of the dump has a fault, or can't be read.
@@ -46,6 +48,7 @@ impl fmt::Display for Failure {
         match self {
             Failure::Usage => write!(f, "usage"),
             Failure::Root => write!(f, "root"),
+            Failure::Model => write!(f, "model"),
             Failure::Pool(PoolOption::Io) => write!(f, "pool --io"),
             Failure::Pool(PoolOption::Mem) => write!(f, "pool --mem"),
             Failure::Pool(PoolOption::Pref) => write!(f, "pool --pref"),
@@ -68,7 +71,7 @@ impl Failure {
         ensures { result ≡ status_of self }
     {
         match self {
-            Failure::Usage | Failure::Root | Failure::Pool(_) => 2,
+            Failure::Usage | Failure::Root | Failure::Model | Failure::Pool(_) => 2,
             Failure::Dump(fault) | Failure::Probe(fault) | Failure::Sizes(fault) => match fault {
                 ReadFault::Io => 4,
                 ReadFault::Memory => 3,

@@ -1,16 +1,19 @@
 //! Lists all faults of a dump and its probe.
-ghost use Rattle.std.specs.Prelude.{map, IfOk};
+ghost use Rattle.std.specs.Prelude.{map, Some, IfOk};
 ghost use Rattle.std.specs.String.{string_bytes};
 ghost use Rattle.pci_function.specs.Fault.{fault_of};
 ghost use Rattle.pci_tree.specs.Roots.{buses_of};
 ghost use Rattle.pciplan_cli.specs.Answers.{answer_of};
-ghost use Rattle.pciplan_cli.specs.FaultsAnswers.{AreTold, IsTextOf};
+ghost use Rattle.pciplan_cli.specs.FaultsAnswers.{AreTold, AreToldBy, IsListText};
 
 use crate::reply::{Reply, Text};
 use pci_base::memory::OutOfMemory;
 use pci_dump::dump::Dump;
 use pci_faults::every::all_faults;
 use pci_function::fault::Fault;
+use pci_model::take::taken_by;
+use pci_model::words::Words;
+use pci_pair::pair::first_difference;
 use pci_tree::outline::Outline;
 use pci_tree::roots::Roots;
 use pci_why::list::{plain_text, reasoned_text};
@@ -24,7 +27,7 @@ fn text_of<A: Allocator + Copy>(
     why: bool,
 ) -> Result<String<A>, OutOfMemory>
     ensures { IfOk result
-        (λ text. IsTextOf judged.now why (map fault_of faults.now) (string_bytes text)) }
+        (λ text. IsListText judged.now why (map fault_of faults.now) (string_bytes text)) }
 {
     match (judged, why) {
         (Some(outline), true) => reasoned_text(alloc, outline, faults),
@@ -33,7 +36,7 @@ fn text_of<A: Allocator + Copy>(
 }
 
 /// All faults of a dump and its probe with these root buses, with reasons or without.
-pub fn faults_pair<A: Allocator + Copy>(
+fn faults_pair<A: Allocator + Copy>(
     alloc: A,
     dump: &Dump<A>,
     probe: &Dump<A>,
@@ -51,4 +54,42 @@ pub fn faults_pair<A: Allocator + Copy>(
         text: Text::Lines(text),
         remarks: String::new(alloc),
     })
+}
+
+/// The same of a dump and its probe as words take them. Two that list other slots are taken as they are.
+fn faults_taken<A: Allocator + Copy>(
+    alloc: A,
+    dump: &Dump<A>,
+    probe: &Dump<A>,
+    roots: Roots,
+    words: Words,
+    why: bool,
+) -> Result<Reply<A>, OutOfMemory>
+    ensures { IfOk result (λ reply. AreToldBy (Some words) (buses_of roots) why dump.now probe.now
+        (answer_of reply)) }
+{
+    if first_difference(dump.blocks(), probe.blocks()).is_some() {
+        return faults_pair(alloc, dump, probe, roots, why);
+    }
+    let taken = taken_by(alloc, dump, probe, words)?;
+    faults_pair(alloc, &taken.dump, &taken.probe, roots, why)
+}
+
+/// All faults of a dump and its probe with these root buses, with reasons or without: as words take them, where there are
+/// words.
+pub fn faults_by<A: Allocator + Copy>(
+    alloc: A,
+    dump: &Dump<A>,
+    probe: &Dump<A>,
+    roots: Roots,
+    words: Option<Words>,
+    why: bool,
+) -> Result<Reply<A>, OutOfMemory>
+    ensures { IfOk result
+        (λ reply. AreToldBy words (buses_of roots) why dump.now probe.now (answer_of reply)) }
+{
+    match words {
+        None => faults_pair(alloc, dump, probe, roots, why),
+        Some(words) => faults_taken(alloc, dump, probe, roots, words, why),
+    }
 }

@@ -7,6 +7,7 @@ ghost use Rattle.pciplan_cli.specs.declared.failure.Failure.{Failure};
 use crate::asked::task_of;
 use crate::failure::{Failure, report};
 use pci_dump::streams::Sink;
+use pci_model::words::Words;
 use pci_place::pools::Pools;
 use pci_probe::assuming::Assuming;
 use pci_tree::roots::Roots;
@@ -22,9 +23,11 @@ pub enum Task {
     Check {
         roots: Roots,
     },
-    /// Lists all faults of the same system, with what stands behind each where that is asked for.
+    /// Lists all faults of the same system, its functions taken by these words where there are any, with what stands behind
+    /// each where that is asked for.
     Faults {
         roots: Roots,
+        words: Option<Words>,
         why: bool,
     },
     /// Sizes every function of a machine of the two texts.
@@ -69,7 +72,7 @@ fn invocation_of(alloc: Global, words: &[&str]) -> Result<Invocation, Failure>
 }
 
 /// Reads the words after the program's name. Where they make no command line it writes the message to `err`
-/// and answers the status: 2 for a fault of usage, then of the root list, and then of a pool's word, 3 at want of memory.
+/// and answers the status: 2 for a fault of usage, then of the root list, and then of the words of `--model` or of a pool, 3 at want of memory.
 pub fn start<E: Sink>(alloc: Global, words: &[&str], err: &mut E) -> Result<Invocation, u8>
     ensures line { IfOk result (IsInvocationOf (map (λ w. w.now) words.now)) }
     ensures refused { IfErr result (λ status. (failure : Failure)

@@ -14,6 +14,7 @@ pub mod asked;
 pub mod failure;
 pub mod faulting;
 pub mod invocation;
+pub mod model_words;
 pub mod opened;
 pub mod planning;
 pub mod pool_word;

@@ -2,10 +2,10 @@
 ghost use Rattle.std.specs.Prelude.{◌≡◌, ◌⊎◌, ◌<◌, ◌≤◌, ◌+◌, IfOk, IfErr};
 ghost use Rattle.pciplan_cli.specs.Answers.{IsShown, IsSized, answer_of, outcome_answer};
 ghost use Rattle.pciplan_cli.specs.Statuses.{status_of};
-ghost use Rattle.pciplan_cli.specs.Tasks.{HasFailed, IsAnswerOf, IsAnswered, IsBegun, IsFailureOf, IsTaskRefused};
+ghost use Rattle.pciplan_cli.specs.Tasks.{HasFailed, IsAnswerOf, IsAnswered, IsBegun, IsFailureOf, IsOfWholePair, IsPairAnswer, IsTaskRefused};
 
 use crate::failure::{Failure, report};
-use crate::faulting::faults_pair;
+use crate::faulting::faults_by;
 use crate::invocation::{Invocation, Task};
 use crate::planning::plan_pair;
 use crate::probing::derive;
@@ -19,6 +19,7 @@ use pci_dump::dump::Dump;
 use pci_dump::reader::read_dump;
 use pci_dump::streams::{Failed, Sink, Source};
 use pci_listing::show::show;
+use pci_probe::assuming::Assuming;
 use pci_probe::sizes_reader::read_sizes;
 use pci_tree::roots::Roots;
 use std::alloc::Allocator;
@@ -87,6 +88,70 @@ fn check_texts<A: Allocator + Copy, D: Source, P: Source>(
     }
 }
 
+/// Derives the probe of a dump from the sizes that the second text tells.
+fn derive_texts<A: Allocator + Copy, D: Source, S: Source>(
+    alloc: A,
+    assuming: Assuming,
+    dump: &mut D,
+    sizes: &mut S,
+) -> Result<Reply<A>, Failure>
+    ensures reply { IfOk result (λ reply. IsAnswerOf (Task.Probe assuming) (D.left dump.old)
+        (S.left sizes.old) (answer_of reply)) }
+    ensures failure { IfErr result
+        (IsFailureOf (Task.Probe assuming) (D.left dump.old) (S.left sizes.old)) }
+    ensures failed { IfErr result (λ failure. status_of failure ≡ 4
+        → (D.failures dump.new ≡ D.failures dump.old + 1)
+        ⊎ (S.failures sizes.new ≡ S.failures sizes.old + 1)) }
+{
+    let dump = read_dump(alloc, dump).map_err(Failure::Dump)?;
+    let sizes = read_sizes(alloc, sizes).map_err(Failure::Sizes)?;
+    Ok(derive(alloc, &dump, &sizes, assuming)?)
+}
+
+/// What a task that takes a whole dump and a whole probe answers to them.
+fn pair_reply<A: Allocator + Copy>(
+    alloc: A,
+    task: Task,
+    dump: Dump<A>,
+    probe: Dump<A>,
+) -> Result<Reply<A>, OutOfMemory>
+    requires { IsOfWholePair task }
+    ensures { IfOk result (λ reply. IsPairAnswer task dump probe (answer_of reply)) }
+{
+    match task {
+        Task::Show => show_pair(alloc, &dump, &probe),
+        Task::Faults { roots, words, why } => faults_by(alloc, &dump, &probe, roots, words, why),
+        Task::Size => size_pair(alloc, &dump, &probe),
+        Task::Plan {
+            pools,
+            writes,
+            why,
+            roots,
+        } => plan_pair(alloc, dump, probe, &pools, writes, why, roots),
+        Task::Check { .. } | Task::Probe { .. } => unreachable!(),
+    }
+}
+
+/// What such a task answers to two texts.
+fn pair_texts<A: Allocator + Copy, D: Source, P: Source>(
+    alloc: A,
+    task: Task,
+    dump: &mut D,
+    probe: &mut P,
+) -> Result<Reply<A>, Failure>
+    requires { IsOfWholePair task }
+    ensures reply { IfOk result
+        (λ reply. IsAnswerOf task (D.left dump.old) (P.left probe.old) (answer_of reply)) }
+    ensures failure { IfErr result (IsFailureOf task (D.left dump.old) (P.left probe.old)) }
+    ensures failed { IfErr result (λ failure. status_of failure ≡ 4
+        → (D.failures dump.new ≡ D.failures dump.old + 1)
+        ⊎ (P.failures probe.new ≡ P.failures probe.old + 1)) }
+{
+    let dump = read_dump(alloc, dump).map_err(Failure::Dump)?;
+    let probe = read_dump(alloc, probe).map_err(Failure::Probe)?;
+    Ok(pair_reply(alloc, task, dump, probe)?)
+}
+
 /// What a task answers to two texts. A fault of the dump's text goes before one of the second.
 fn reply_to<A: Allocator + Copy, D: Source, S: Source>(
     alloc: A,
@@ -101,26 +166,10 @@ fn reply_to<A: Allocator + Copy, D: Source, S: Source>(
         → (D.failures dump.new ≡ D.failures dump.old + 1)
         ⊎ (S.failures second.new ≡ S.failures second.old + 1)) }
 {
-    if let Task::Check { roots } = task {
-        return check_texts(alloc, roots, dump, second);
-    }
-    let dump = read_dump(alloc, dump).map_err(Failure::Dump)?;
-    if let Task::Probe { assuming } = task {
-        let sizes = read_sizes(alloc, second).map_err(Failure::Sizes)?;
-        return Ok(derive(alloc, &dump, &sizes, assuming)?);
-    }
-    let probe = read_dump(alloc, second).map_err(Failure::Probe)?;
     match task {
-        Task::Show => Ok(show_pair(alloc, &dump, &probe)?),
-        Task::Faults { roots, why } => Ok(faults_pair(alloc, &dump, &probe, roots, why)?),
-        Task::Size => Ok(size_pair(alloc, &dump, &probe)?),
-        Task::Plan {
-            pools,
-            writes,
-            why,
-            roots,
-        } => Ok(plan_pair(alloc, dump, probe, &pools, writes, why, roots)?),
-        Task::Check { .. } | Task::Probe { .. } => unreachable!(),
+        Task::Check { roots } => check_texts(alloc, roots, dump, second),
+        Task::Probe { assuming } => derive_texts(alloc, assuming, dump, second),
+        _ => pair_texts(alloc, task, dump, second),
     }
 }
 

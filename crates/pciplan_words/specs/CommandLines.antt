@@ -28,8 +28,8 @@ checking = with_rule (with_paths (codes "check")) (option_rule (codes "root"))
 
 abbrev pub listing : App
 listing =
-    with_rule (with_rule (with_paths (codes "faults")) (option_rule (codes "root")))
-    (flag_rule (codes "why"))
+    with_rule (with_rule (with_rule (with_paths (codes "faults")) (option_rule (codes "root")))
+    (option_rule (codes "model"))) (flag_rule (codes "why"))
 
 abbrev pub planning : App
 planning = with_rule (with_rule (with_rule (with_rule (with_rule (with_rule (with_paths (codes "plan"))

@@ -30,9 +30,9 @@ abbrev pub IsAsked : Text → List Row → Asked → Type 0
 IsAsked name rows Show = name ≡ codes "show"
 IsAsked name rows (Check root) =
     (name ≡ codes "check") × (first_of (codes "root") rows ≡ word_of root)
-IsAsked name rows (Faults root why) =
+IsAsked name rows (Faults root model why) =
     (name ≡ codes "faults") × (first_of (codes "root") rows ≡ word_of root)
-    × IsFlag (one_of (codes "why") rows) why
+    × (first_of (codes "model") rows ≡ word_of model) × IsFlag (one_of (codes "why") rows) why
 IsAsked name rows Size = name ≡ codes "size"
 IsAsked name rows (Plan words) = (name ≡ codes "plan") × HasPlanWords rows words
 IsAsked name rows (Probe exact least) =

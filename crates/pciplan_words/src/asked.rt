@@ -21,15 +21,25 @@ pub enum Asked<'a> {
     /// The listing.
     Show,
     /// The verdict, with the list of root buses where there is one.
-    Check { root: Option<&'a str> },
-    /// All faults at once, with the list of root buses where there is one, and whether what stands behind each is asked for.
-    Faults { root: Option<&'a str>, why: bool },
+    Check {
+        root: Option<&'a str>,
+    },
+    /// All faults at once, with the list of root buses and the words by which functions are taken, where there are any, and
+    /// whether what stands behind each is asked for.
+    Faults {
+        root: Option<&'a str>,
+        model: Option<&'a str>,
+        why: bool,
+    },
     /// The sizing run.
     Size,
     /// The plan.
     Plan(PlanWords<'a>),
     /// The derived probe, whether it has to be exact, and whether the least size is taken where an enabled register has none.
-    Probe { exact: bool, least: bool },
+    Probe {
+        exact: bool,
+        least: bool,
+    },
 }
 
 /// What the words of a command line say: the task with the words of its options, and the paths of the two texts.

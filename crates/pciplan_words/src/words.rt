@@ -21,6 +21,9 @@ const PROBE: &str = "PROBE";
 /// The name of the option that lists the root buses.
 const ROOT: &str = "root";
 
+/// The name of the option that lists the words by which functions are taken.
+const MODEL: &str = "model";
+
 /// The name of the option that asks for what stands behind faults.
 const WHY: &str = "why";
 
@@ -89,13 +92,14 @@ fn flag_arg<'a>(alloc: Global, name: &'a str) -> Arg<'a>
     Arg::new(alloc, name).long(name).action(ArgAction::SetTrue)
 }
 
-/// `pciplan faults DUMP PROBE [--root LIST] [--why]`.
+/// `pciplan faults DUMP PROBE [--root LIST] [--model WORDS] [--why]`.
 fn faults_command<'a>(alloc: Global) -> Result<Command<'a>, AllocError>
     ensures app { IfOk result (λ command. app_of command ≡ listing) }
     ensures local { IfOk result (λ command. (out-Command command).has_globals ≡ false) }
 {
     of_texts(alloc, "faults")?
         .arg(Arg::new(alloc, ROOT).long(ROOT))?
+        .arg(Arg::new(alloc, MODEL).long(MODEL))?
         .arg(flag_arg(alloc, WHY))
 }
 
@@ -168,6 +172,7 @@ fn asked_of<'a>(name: &str, found: &ArgMatches<'a>) -> Option<Asked<'a>>
         }),
         "faults" => Some(Asked::Faults {
             root: found.get_str(ROOT),
+            model: found.get_str(MODEL),
             why: found.get_flag(WHY),
         }),
         "size" => Some(Asked::Size),

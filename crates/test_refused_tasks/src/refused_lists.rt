@@ -2,6 +2,7 @@
 use crate::failing::{leaves_beginnings, with_failing_read};
 use crate::program::Answer;
 use crate::refused_tasks::is_refused_in_turn;
+use pci_model::words::Words;
 use pci_tree::roots::Roots;
 use pciplan_cli::invocation::Task;
 use std::alloc::{AllocError, Global};
@@ -10,11 +11,26 @@ use test_support::board::{Texts, bridge, device, texts_of};
 
 /// A list with reasons.
 fn task() -> Task {
+    task_by(None)
+}
+
+/// The same of functions that are taken by words.
+fn task_by(words: Option<Words>) -> Task {
     Task::Faults {
         roots: Roots::host(),
+        words,
         why: true,
     }
 }
+
+/// All words there are.
+const ALL_WORDS: Words = Words {
+    ide: true,
+    power: true,
+    reset: true,
+    subtractive: true,
+    unnumbered: true,
+};
 
 /// A bridge that is off above a BAR, a clash, and a BAR that is off.
 fn judged(alloc: Global) -> Result<Texts, AllocError> {
@@ -47,6 +63,13 @@ fn a_list_that_is_refused_a_growth_says_just_that(rt: HostRuntime) -> Result<(),
 fn so_does_one_of_an_earlier_phase(rt: HostRuntime) -> Result<(), Fail> {
     let texts = misplaced(rt.alloc())?;
     assert!(rt; is_refused_in_turn(&rt, task(), &texts));
+    Ok(())
+}
+
+#[test]
+fn so_does_one_by_words(rt: HostRuntime) -> Result<(), Fail> {
+    let texts = judged(rt.alloc())?;
+    assert!(rt; is_refused_in_turn(&rt, task_by(Some(ALL_WORDS)), &texts));
     Ok(())
 }
 

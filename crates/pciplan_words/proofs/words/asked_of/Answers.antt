@@ -10,6 +10,7 @@ pub returns-in-faults : goal.returns-in-faults
 returns-in-faults c = (
   search rules,
   word_there (found_of c.args.found.now) (codes "root") c.get_str-in-faults.result c.get_str-in-faults.ensures,
+  word_there (found_of c.args.found.now) (codes "model") c.get_str-in-faults-2.result c.get_str-in-faults-2.ensures,
   flag_there (found_of c.args.found.now) (codes "why") c.get_flag.result c.get_flag.ensures.none c.get_flag.ensures.value c.get_flag.ensures.other,
 )
 

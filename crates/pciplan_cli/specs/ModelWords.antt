@@ -1,0 +1,16 @@
+-- The words of `--model`.
+use Rattle.std.specs.Prelude.{◌≡◌, ℕ, List, [], ◌∷◌, Option, None, Some, option_map}
+use Rattle.std.specs.Borrow.{Bor}
+use Rattle.model_spec.specs.Words.{Words, list_text}
+
+-- the words that count, joined by commas: with a comma before the first too, each has one
+abbrev pub IsModelWord : List ℕ → Words → Type 0
+IsModelWord word w = 44 ∷ word ≡ list_text w
+
+-- what is left of a list of words with a comma before the first, where any is left
+abbrev pub left_text : Option (List ℕ) → List ℕ
+left_text None = []
+left_text (Some list) = 44 ∷ list
+
+abbrev pub text_of : Option (Bor (List ℕ)) → List ℕ
+text_of left = left_text (option_map (λ list. list.now) left)
