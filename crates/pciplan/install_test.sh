@@ -266,6 +266,7 @@ for command in $commands; do
     for option in $options; do
         case $option in
         --root) word=00 ;;
+        --model) word=power ;;
         --pref) word=f0000000-ffffffff ;;
         *) word=1000-ffff ;;
         esac
