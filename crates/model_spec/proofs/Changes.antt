@@ -1,14 +1,13 @@
 -- What the changes of images are for.
-use Rattle.std.proofs.Common.{◌≡◌, ◌≢◌, ℕ, zero, suc, ◌+◌, ◌*◌, ◌/◌, ◌%◌, ◌^◌, ◌<◌, List, length, set, Bool, true, false, ◌&&◌, refl, sym, ◌∙◌, ap, inl, inr, arith}
+use Rattle.std.proofs.Common.{◌≡◌, ℕ, zero, suc, ◌+◌, ◌*◌, ◌/◌, ◌%◌, ◌<◌, List, length, set, false, refl, sym, ◌∙◌, arith}
 use Rattle.std.specs.Int.{bit_at}
-use Rattle.std.specs.Bool.{if◌then◌else◌, IsFalse, IsTrue}
-use Rattle.std.proofs.lemmas.Bool.{and_parts, both_ways, cases_Bool, ne_eqb}
+use Rattle.std.proofs.lemmas.Bool.{both_ways, ne_eqb}
 use Rattle.std.proofs.Math.Bool.{and-false}
 use Rattle.std.proofs.lemmas.List.{get_or-set_same, get_or-set_other, length-set}
-use Rattle.pci_spec.specs.Number.{byte_at, number_at, has_bit, IsImage}
+use Rattle.pci_spec.specs.Number.{byte_at, has_bit, IsImage}
 use Rattle.pci_spec.specs.Registers.{COMMAND, STATUS, INTERFACE, HEADER_TYPE, PRIMARY_BUS, BRIDGE_CONTROL, SECONDARY_BUS_RESET}
 use Rattle.pci_spec.specs.Header.{command, status, class_code, layout, bridge_control}
-use Rattle.pci_spec.specs.Capability.{pointer, ComesTo}
+use Rattle.pci_spec.specs.Capability.{pointer}
 use Rattle.pci_spec.specs.System.{Function, Space, Io, Memory, Part, Bar, Rom, Window, Claims, is_space_on, is_enabled, is_bridge, space_of, window_space}
 use Rattle.pci_spec.specs.Fault.{IsNotInD0, controls_bridge, is_subtractive_bridge}
 use Rattle.model_spec.specs.Bytes.{cleared, as_device, out_of_reset, positive, switched_off}

@@ -1,5 +1,5 @@
 -- Whether a function of a dump is listed behind a bridge: blocks rise by slot, and so by bus.
-use Rattle.std.proofs.Common.{◌≡◌, ℕ, ◌+◌, ◌*◌, ◌<◌, ◌≤◌, List, [], ◌∷◌, length, get_or, map, inl, inr, arith, refl, sym, ◌∙◌, ap, subst, ltb, Bool, true, false, None, ◌&&◌}
+use Rattle.std.proofs.Common.{◌≡◌, ℕ, ◌<◌, ◌≤◌, List, [], length, get_or, map, inl, inr, arith, refl, sym, ◌∙◌, ap, ltb, Bool, true, false, None, ◌&&◌}
 use Rattle.std.specs.Bool.{nat_le}
 use Rattle.std.specs.List.{AllWithin, list_any}
 use Rattle.std.specs.List.Sorted.{IsPartitionedBy, IsNonDecreasingBy}
@@ -9,7 +9,7 @@ use Rattle.std.proofs.lemmas.List.{get_or-map, get_or_default, length-map}
 use Rattle.std.proofs.lemmas.List.Kept.{AllPairs-from_increasing}
 use Rattle.std.proofs.lemmas.List.Sorted.{IsPartitionedBy-ltb}
 use Rattle.std.proofs.lemmas.List.Folds.{list_any_at, list_any_none}
-use Rattle.pci_spec.specs.Slot.{Slot, IsSlot, IsRising, slot_number}
+use Rattle.pci_spec.specs.Slot.{Slot, IsSlot, slot_number}
 use Rattle.pci_spec.specs.Text.{Block, IsDump, slots_of}
 
 -- a slot of a lower number is on no higher bus

@@ -1,11 +1,10 @@
 -- What is left aside of a function that has no fault by itself, by its record.
-use Rattle.std.proofs.Common.{◌≡◌, ℕ, List, map, refl, sym, ◌∙◌, ap, inl, inr, Bool, true, false, ◌&&◌}
-use Rattle.std.specs.Bool.{if◌then◌else◌}
+use Rattle.std.proofs.Common.{◌≡◌, ℕ, List, refl, sym, ◌∙◌, ap, true, false, ◌&&◌}
 use Rattle.std.specs.List.{filter}
 use Rattle.pci_spec.specs.Number.{byte_at}
 use Rattle.pci_spec.specs.Registers.{INTERFACE}
 use Rattle.pci_spec.specs.System.{Function}
-use Rattle.pci_spec.specs.Decoded.{DecodedBar, Record, record_of}
+use Rattle.pci_spec.specs.Decoded.{Record, record_of}
 use Rattle.model_spec.specs.Words.{Words}
 use Rattle.model_spec.specs.Bytes.{as_device, device_read_backs, without_bars}
 use Rattle.model_spec.specs.Taken.{is_compatible, is_ide, is_unnumbered, is_unnumbered_bridge, parts_aside}

@@ -1,5 +1,5 @@
 //! Functions that aren't in D0.
-ghost use Rattle.std.specs.Prelude.{◌≡◌, ◌↔◌, ℕ, List, IsTrue};
+ghost use Rattle.std.specs.Prelude.{◌↔◌, ℕ, List, IsTrue};
 ghost use Rattle.pci_spec.specs.Slot.{Slot as SlotValue};
 ghost use Rattle.pci_spec.specs.Fault.{IsNotInD0};
 ghost use Rattle.pci_spec.specs.Order.{Profile};

@@ -1,8 +1,8 @@
 -- IDE controllers, whose channels may be in compatibility mode.
-use Rattle.std.proofs.Common.{◌≡◌, ℕ, List, [], ◌∷◌, refl, Bool, true, false, map}
+use Rattle.std.proofs.Common.{◌≡◌, ℕ, List, [], ◌∷◌, refl, true, map}
 use Rattle.pci_spec.specs.System.{Function}
 use Rattle.pci_spec.specs.Decoded.{record_of}
-use Rattle.pci_spec.proofs.Examples.Samples.{device, bridge, slot}
+use Rattle.pci_spec.proofs.Examples.Samples.{device, slot}
 use Rattle.model_spec.specs.Words.{Words, no_words}
 use Rattle.model_spec.specs.Taken.{parts_aside}
 

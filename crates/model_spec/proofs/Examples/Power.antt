@@ -1,6 +1,5 @@
 -- What is switched off.
 use Rattle.std.proofs.Common.{◌≡◌, ℕ, List, [], ◌∷◌, refl}
-use Rattle.pci_spec.specs.Number.{byte_at}
 use Rattle.pci_spec.specs.Header.{command, status}
 use Rattle.pci_spec.proofs.Examples.Samples.{on_device}
 use Rattle.model_spec.specs.Bytes.{switched_off}

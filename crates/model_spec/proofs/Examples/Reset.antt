@@ -1,5 +1,5 @@
 -- Bridges in reset, and bridges that decode subtractively.
-use Rattle.std.proofs.Common.{◌≡◌, ℕ, List, [], ◌∷◌, refl, Bool, true, false, map}
+use Rattle.std.proofs.Common.{◌≡◌, List, [], ◌∷◌, refl, Bool, true, false, map}
 use Rattle.pci_spec.specs.Number.{byte_at}
 use Rattle.pci_spec.specs.Registers.{SECONDARY_BUS_RESET}
 use Rattle.pci_spec.specs.Slot.{Slot}
@@ -7,7 +7,7 @@ use Rattle.pci_spec.specs.System.{Function}
 use Rattle.pci_spec.specs.Fault.{controls_bridge, is_subtractive_bridge}
 use Rattle.pci_spec.proofs.Examples.Samples.{bridge, slot}
 use Rattle.model_spec.specs.Words.{Words, no_words}
-use Rattle.model_spec.specs.Taken.{bridge_aside, is_anyone_behind}
+use Rattle.model_spec.specs.Taken.{bridge_aside}
 
 abbrev reset_counts : Words
 reset_counts = record no_words { reset = true }

@@ -1,6 +1,6 @@
 -- The lists of words.
-use Rattle.std.proofs.Common.{◌≡◌, List, [], refl, true, false, codes}
-use Rattle.model_spec.specs.Words.{Words, no_words, list_text}
+use Rattle.std.proofs.Common.{◌≡◌, [], refl, true, codes}
+use Rattle.model_spec.specs.Words.{no_words, list_text}
 
 none : list_text no_words ≡ []
 none = refl

@@ -1,4 +1,4 @@
-use Rattle.std.proofs.Common.{◌≡◌, ◌∙◌, ap, get_or, false}
+use Rattle.std.proofs.Common.{◌∙◌, ap, get_or, false}
 use Rattle.std.specs.Bool.{if◌then◌else◌}
 use Rattle.pci_image.specs.Bars.{decoded_kind_of}
 use Rattle.pci_image.specs.declared.bar.BarKind.TheVariants.{Io}

@@ -1,4 +1,3 @@
-use Rattle.std.proofs.Common.{refl}
 use Rattle.pci_model.proofs.power.is_asleep.Goals as goal
 
 pub returns-then-shows_sleep : goal.returns-then-shows_sleep
