@@ -6,7 +6,7 @@ use Rattle.std.proofs.lemmas.List.{length-append}
 use Rattle.std.proofs.lemmas.List.Elements.{All-nil}
 use Rattle.pci_spec.specs.Slot.{Slot}
 use Rattle.pci_spec.specs.Text.{Block, IsBlock, slots_of}
-use Rattle.pci_spec.specs.System.{System, function_of, system_of}
+use Rattle.pci_spec.specs.System.{function_of, system_of}
 use Rattle.pci_spec.specs.Fault.{SlotsDiffer}
 use Rattle.pci_dump.specs.declared.read_fault.ReadFault.{ReadFault}
 use Rattle.pci_dump.specs.declared.ahead.Progress.{Progress}
@@ -17,7 +17,7 @@ use Rattle.pci_dump.proofs.Texts.{read_all, read_all_one, read_fault, read_more_
 use Rattle.pci_pair.proofs.Pairs.{in_left, in_right, in_left_more, in_right_more, none_below_both, none_below_left, none_below_right}
 use Rattle.pci_tree.specs.Survey.{Surveyed, IsSurveyOf, IsAdded}
 use Rattle.pci_tree.proofs.Surveys.{map_last, survey_more}
-use Rattle.pci_spec.proofs.Pairing.{same_length}
+use Rattle.pci_spec.proofs.Pairing.{same_length, system_last}
 use Rattle.pci_tree.proofs.Pairings.{open_more}
 use Rattle.pci_check.specs.Audits.{IsDumpOf, IsReadFaultOf}
 use Rattle.pci_check.specs.SideBySide.{Texts, IsTaken, IsRest, IsOpen, IsSurveyOfBoth, IsSurveyOfTexts, IsBeside, IsDecided, IsBesideOrDecided, IsTakenBySurvey}
@@ -150,12 +150,6 @@ no_more : (ds ms : List Block) → ms ≡ [] → ds ≡ ds ++ ms
 no_more ds ms e = sym (ap (λ xs. ds ++ xs) e ∙ append-nil ds)
 
 -- one function more
-pub system_last : (dump probe : List Block) (b p : Block) → length dump ≡ length probe → system_of (dump ++ b ∷ []) (probe ++ p ∷ []) ≡ system_of dump probe ++ function_of b p ∷ []
-system_last [] [] b p e = refl
-system_last [] (q ∷ probe) b p e = absurd (let no : ⊥ = omega (arith, e) in no)
-system_last (d ∷ dump) [] b p e = absurd (let no : ⊥ = omega (arith, e) in no)
-system_last (d ∷ dump) (q ∷ probe) b p e = ap (λ (s : System). function_of d q ∷ s) (system_last dump probe b p (omega (arith, e)))
-
 -- ---- two texts
 
 -- the dump's fault

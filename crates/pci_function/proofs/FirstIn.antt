@@ -105,7 +105,7 @@ here_not_clear g (Clash bus space address first first_register second second_reg
 here_not_clear g (Split space address first first_register second second_register) n less clear is = absurd is
 
 -- it is of a phase before that of places
-early_phase : (f : Function) (e : Fault) → IsHere f e → phase_of e < 4
+pub early_phase : (f : Function) (e : Fault) → IsHere f e → phase_of e < 4
 early_phase f (NoVendor slot) is = omega arith
 early_phase f (HeaderKind slot) is = omega arith
 early_phase f (BarType slot register) is = omega arith

@@ -1,8 +1,8 @@
 -- What is wrong with a function by itself, and what is so in the system that it makes alone.
-use Rattle.std.proofs.Common.{◌≡◌, ℕ, zero, suc, ◌<◌, List, [], ◌∷◌, refl, arith, sym, subst, lit<}
+use Rattle.std.proofs.Common.{◌≡◌, ℕ, zero, suc, ◌<◌, [], ◌∷◌, refl, arith, subst, lit<}
 use Rattle.std.specs.List.{Contains}
 use Rattle.pci_spec.specs.System.{Function}
-use Rattle.pci_spec.specs.Fault.{Fault, NoVendor, HeaderKind, BarType, BarMask, BarPair, RomMask, WindowMask, CapRange, CapLoop, CapCut, SlotsDiffer, StrayProbe, LoneFunction, PaletteSnoop, VgaEnable, IsaEnable, Subtractive, InReset, PowerState, BusRange, Orphan, Unreached, Clash, Split, IsIn}
+use Rattle.pci_spec.specs.Fault.{Fault, CapRange, CapLoop, CapCut, IsIn}
 use Rattle.pci_spec.specs.Order.{phase_of, Profile}
 use Rattle.pci_function.specs.Profile.{IsHere, IsClearBefore}
 use Rattle.pci_function.proofs.FirstIn.{in_here, here_in, here_not_clear}
@@ -29,30 +29,3 @@ list_ended f (images.CapRange place) none is = none (CapRange f.slot place) (ome
 list_ended f (images.CapLoop place) none is = none (CapLoop f.slot place) (omega arith) (there_alone f (CapLoop f.slot place) (refl, is))
 list_ended f (images.CapCut place) none is = none (CapCut f.slot place) (omega arith) (there_alone f (CapCut f.slot place) (refl, is))
 list_ended f _ none is = absurd is
-
--- what is wrong with a function by itself is of a phase before that of places
-pub early : (f : Function) (e : Fault) → IsHere f e → phase_of e < 4
-early f (NoVendor slot) is = omega arith
-early f (HeaderKind slot) is = omega arith
-early f (BarType slot register) is = omega arith
-early f (BarMask slot register) is = omega arith
-early f (BarPair slot register) is = omega arith
-early f (RomMask slot register) is = omega arith
-early f (WindowMask slot register) is = omega arith
-early f (CapRange slot place) is = omega arith
-early f (CapLoop slot place) is = omega arith
-early f (CapCut slot place) is = omega arith
-early f (SlotsDiffer slot) is = absurd is
-early f (StrayProbe slot offset) is = omega arith
-early f (LoneFunction slot) is = absurd is
-early f (PaletteSnoop slot) is = omega arith
-early f (VgaEnable slot) is = omega arith
-early f (IsaEnable slot) is = omega arith
-early f (Subtractive slot) is = omega arith
-early f (InReset slot) is = omega arith
-early f (PowerState slot) is = omega arith
-early f (BusRange slot) is = absurd is
-early f (Orphan slot) is = absurd is
-early f (Unreached slot register space address bridge) is = absurd is
-early f (Clash bus space address first first_register second second_register) is = absurd is
-early f (Split space address first first_register second second_register) is = absurd is

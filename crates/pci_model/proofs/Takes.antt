@@ -6,26 +6,12 @@ use Rattle.std.proofs.lemmas.List.Elements.{AllZip-push}
 use Rattle.pci_spec.specs.Slot.{Slot, slot_number}
 use Rattle.pci_spec.specs.Text.{Block, IsDump, slots_of}
 use Rattle.pci_spec.specs.Stops.{IsAboveLast, last_slot}
-use Rattle.pci_spec.specs.System.{System, Function, function_of, system_of}
-use Rattle.pci_spec.proofs.Members.{in_head, in_tail}
-use Rattle.pci_spec.proofs.Pairing.{function-at, length-system_of, same_length}
+use Rattle.pci_spec.specs.System.{Function, function_of, system_of}
+use Rattle.pci_spec.proofs.Pairing.{above_all, function-at, length-system_of, same_length, system_last}
 use Rattle.model_spec.specs.Words.{Words}
 use Rattle.model_spec.specs.Taken.{IsTaken}
 use Rattle.model_spec.specs.TakenDumps.{AreTakenAs}
 use Rattle.pci_model.proofs.Behind.{numbers_rise}
-
--- a slot above all slots of a dump may stand after its last one
-above_all : (found : List Block) (s : Slot) → ((t : Slot) → Contains (slots_of found) t → slot_number t < slot_number s) → IsAboveLast (last_slot found) s
-above_all [] s below = tt
-above_all (b ∷ []) s below = below b.slot (in_head b.slot [])
-above_all (b ∷ c ∷ found) s below = above_all (c ∷ found) s (λ t has. below t (in_tail b.slot (slots_of (c ∷ found)) t has))
-
--- one function more
-system_last : (dump probe : List Block) (b p : Block) → length dump ≡ length probe → system_of (dump ++ b ∷ []) (probe ++ p ∷ []) ≡ system_of dump probe ++ function_of b p ∷ []
-system_last [] [] b p e = refl
-system_last [] (q ∷ probe) b p e = absurd (let no : ⊥ = omega (arith, e) in no)
-system_last (d ∷ dump) [] b p e = absurd (let no : ⊥ = omega (arith, e) in no)
-system_last (d ∷ dump) (q ∷ probe) b p e = ap (λ (s : System). function_of d q ∷ s) (system_last dump probe b p (omega (arith, e)))
 
 -- the first blocks, as they are taken
 pub record AreTakenSoFar (w : Words) (dump probe : List Block) (i : ℕ) (found found_probe : List Block) : Type 0 where

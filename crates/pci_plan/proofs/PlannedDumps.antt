@@ -17,15 +17,13 @@ use Rattle.plan_spec.specs.Plan.{Pools, class_of, pool_of}
 use Rattle.plan_spec.specs.Planning.Plannable.{IsPlannable}
 use Rattle.plan_spec.specs.Planning.Table.{IsTable}
 use Rattle.plan_spec.specs.Planning.Numbers.{place_at}
-use Rattle.pci_spec.proofs.Members.{in_head, in_tail}
-use Rattle.pci_spec.proofs.Pairing.{function-at, length-system_of, same_length}
+use Rattle.pci_spec.proofs.Pairing.{above_all, function-at, length-system_of, same_length, system_last}
 use Rattle.plan_spec.proofs.Planning.Placings.{table_of_places}
 use Rattle.plan_spec.proofs.Planning.Reach.{AreGood, good_pools}
 use Rattle.pci_tree.specs.Admission.{Admission, IsAdmitted}
 use Rattle.pci_function.specs.declared.record.Record.{Record}
 use Rattle.pci_function.specs.Values.{record_value}
 use Rattle.pci_tree.proofs.Pairings.{later_is_above}
-use Rattle.pci_check.proofs.Beside.{system_last}
 use Rattle.pci_place.specs.Above.{system_in}
 use Rattle.pci_base.specs.declared.window_kind.ByKind.{ByKind}
 use Rattle.pci_place.specs.declared.need.Needs.{Needs}
@@ -36,12 +34,6 @@ use Rattle.pci_place.specs.Places.{first_in, HasPlaces}
 use Rattle.pci_place.specs.Records.{IsRecordOf}
 use Rattle.pci_plan.specs.Fillings.{FillingOf}
 use Rattle.pci_place.proofs.Records.{same_count, function_at}
-
--- a slot above all slots of a dump may stand after its last one
-above_all : (found : List Block) (s : Slot) → ((t : Slot) → Contains (slots_of found) t → slot_number t < slot_number s) → IsAboveLast (last_slot found) s
-above_all [] s below = tt
-above_all (b ∷ []) s below = below b.slot (in_head b.slot [])
-above_all (b ∷ c ∷ found) s below = above_all (c ∷ found) s (λ t has. below t (in_tail b.slot (slots_of (c ∷ found)) t has))
 
 -- the first blocks of a dump, with their slots, their titles, and what is planned of each
 pub record ArePlanned (P : Function → Function → Type 0) (dump probe : List Block) (i : ℕ) (found : List Block) : Type 0 where

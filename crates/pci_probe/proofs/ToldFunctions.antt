@@ -9,7 +9,7 @@ use Rattle.pci_spec.specs.Text.{Block, IsDump, slots_of}
 use Rattle.pci_spec.specs.Stops.{IsAboveLast, last_slot}
 use Rattle.pci_spec.specs.SizesText.{SizesBlock, sized_slots}
 use Rattle.pci_spec.specs.ProbeOf.{Told, AssumedRegister, told_of, probe_block, assumed_in}
-use Rattle.pci_spec.proofs.Members.{in_head, in_tail}
+use Rattle.pci_spec.proofs.Pairing.{above_all}
 use Rattle.pci_machine.proofs.Targets.{map-map}
 use Rattle.pci_probe.specs.Derivation.{told}
 
@@ -36,11 +36,6 @@ slots-told_of (b ∷ dump) [] h = absurd (let no : ⊥ = omega (arith, h) in no)
 slots-told_of (b ∷ dump) (s ∷ sizes) h = ap (λ slots. b.slot ∷ slots) (slots-told_of dump sizes (let e : length dump ≡ length sizes = omega (arith, h) in e))
 
 -- ---- the blocks so far
-
-above_all : (found : List Block) (s : Slot) → ((t : Slot) → Contains (slots_of found) t → slot_number t < slot_number s) → IsAboveLast (last_slot found) s
-above_all [] s below = tt
-above_all (b ∷ []) s below = below b.slot (in_head b.slot [])
-above_all (b ∷ c ∷ found) s below = above_all (c ∷ found) s (λ t is. below t (in_tail b.slot (slots_of (c ∷ found)) t is))
 
 -- a slot stands above those before it
 above_before : (slots : List Slot) (found : List Block) (i : ℕ) (s : Slot) → IsRising slots → slots_of found ≡ take i slots → i < length slots → get_or slots i s ≡ s → IsAboveLast (last_slot found) s

@@ -1,11 +1,13 @@
 -- The system that a dump and its probe make.
-use Rattle.std.proofs.Common.{◌≡◌, ℕ, List, [], ◌∷◌, map, refl, sym, ap, subst, inl, inr, ◌∙◌, zero, suc, drop, ◌<◌, length, get_or, arith}
+use Rattle.std.proofs.Common.{◌≡◌, ℕ, List, [], ◌∷◌, ◌++◌, map, refl, sym, ap, subst, inl, inr, ◌∙◌, zero, suc, drop, ◌<◌, length, get_or, arith}
 use Rattle.std.specs.List.{All, Contains}
 use Rattle.std.proofs.lemmas.List.{length-map}
-use Rattle.pci_spec.specs.Slot.{Slot, IsRising}
+use Rattle.pci_spec.specs.Slot.{Slot, IsRising, slot_number}
+use Rattle.pci_spec.specs.Stops.{IsAboveLast, last_slot}
 use Rattle.pci_spec.specs.Text.{Block, IsBlock, IsDump, slots_of}
-use Rattle.pci_spec.specs.System.{Function, IsFunction, IsSystem, function_of, system_of}
+use Rattle.pci_spec.specs.System.{System, Function, IsFunction, IsSystem, function_of, system_of}
 use Rattle.pci_spec.specs.Fault.{Fault, IsIn, IsThere, SlotsDiffer}
+use Rattle.pci_spec.proofs.Members.{in_head, in_tail}
 
 -- both have as many blocks
 pub same_length : (dump probe : List Block) → slots_of dump ≡ slots_of probe → length dump ≡ length probe
@@ -24,6 +26,19 @@ function-at [] probe k b p d h i = absurd (let no : ⊥ = omega (arith, h) in no
 function-at (x ∷ dump) [] k b p d h i = absurd (let no : ⊥ = omega (arith, i) in no)
 function-at (x ∷ dump) (y ∷ probe) zero b p d h i = refl
 function-at (x ∷ dump) (y ∷ probe) (suc k) b p d h i = function-at dump probe k b p d (omega (arith, h)) (omega (arith, i))
+
+-- one function more
+pub system_last : (dump probe : List Block) (b p : Block) → length dump ≡ length probe → system_of (dump ++ b ∷ []) (probe ++ p ∷ []) ≡ system_of dump probe ++ function_of b p ∷ []
+system_last [] [] b p e = refl
+system_last [] (q ∷ probe) b p e = absurd (let no : ⊥ = omega (arith, e) in no)
+system_last (d ∷ dump) [] b p e = absurd (let no : ⊥ = omega (arith, e) in no)
+system_last (d ∷ dump) (q ∷ probe) b p e = ap (λ (s : System). function_of d q ∷ s) (system_last dump probe b p (omega (arith, e)))
+
+-- a slot above all slots of a dump may stand after its last one
+pub above_all : (found : List Block) (s : Slot) → ((t : Slot) → Contains (slots_of found) t → slot_number t < slot_number s) → IsAboveLast (last_slot found) s
+above_all [] s below = tt
+above_all (b ∷ []) s below = below b.slot (in_head b.slot [])
+above_all (b ∷ c ∷ found) s below = above_all (c ∷ found) s (λ t is. below t (in_tail b.slot (slots_of (c ∷ found)) t is))
 
 -- its slots are those of the dump
 pub slots-system_of : (dump probe : List Block) → slots_of dump ≡ slots_of probe → map (λ f. f.slot) (system_of dump probe) ≡ slots_of dump

@@ -1,7 +1,6 @@
-use Rattle.std.proofs.Common.{◌≡◌, ◌<◌, List, map, refl, sym, ◌∙◌, ap, inl, inr, arith, true, false, ◌&&◌}
+use Rattle.std.proofs.Common.{◌≡◌, List, map, refl, sym, ◌∙◌, ap, inl, inr, true, false, ◌&&◌}
 use Rattle.std.proofs.Math.Bool.{and-false}
 use Rattle.pci_spec.specs.System.{Function}
-use Rattle.pci_spec.specs.Fault.{Fault}
 use Rattle.pci_spec.specs.Order.{Place}
 use Rattle.pci_function.specs.Fault.{fault_of}
 use Rattle.pci_function.specs.Values.{record_value}
@@ -12,7 +11,8 @@ use Rattle.pci_image.specs.Bars.{decoded_bar_of}
 use Rattle.pci_image.specs.declared.bar.Bar.{Bar}
 use Rattle.std.specs.List.{filter}
 use Rattle.pci_model.specs.WordsValue.{words_value}
-use Rattle.pci_model.proofs.Alone.{clear_alone, early, there_alone}
+use Rattle.pci_model.proofs.Alone.{clear_alone, there_alone}
+use Rattle.pci_function.proofs.FirstIn.{early_phase}
 use Rattle.pci_model.proofs.Parts.{channels_aside, buses_aside, nothing_aside}
 use Rattle.pci_model.proofs.aside.parts_aside.Goals as goal
 use Rattle.pci_model.proofs.aside.parts_aside.Goals.{else-words-via-then-words+else-is_ide, else-words-via-else-words, else-words-2-via-then-words-2+else-is_unnumbered, else-words-2-via-else-words-2}
@@ -21,7 +21,7 @@ pub returns-in-Err : goal.returns-in-Err
 returns-in-Err c =
     let f : Function = record { slot = c.args.slot; image = c.args.image.now.0; probe = c.args.probe.now.0 } in
     let told = fault_of c.in-Err.field-0 in
-    inr (λ none. none told (early f told c.in-Err.ensures.here) (there_alone f told c.in-Err.ensures.here), refl)
+    inr (λ none. none told (early_phase f told c.in-Err.ensures.here) (there_alone f told c.in-Err.ensures.here), refl)
 
 pub returns-then-is_ide : goal.returns-then-is_ide
 returns-then-is_ide c =
