@@ -3,3 +3,4 @@ pub mod Behind
 pub mod Comparing
 pub mod Making
 pub mod Applying
+pub mod Standing
