@@ -12,3 +12,4 @@ pub mod Put
 pub mod RowLine
 pub mod SixteenLanes
 pub mod TitleRuns
+pub mod Tails

@@ -108,7 +108,7 @@ read_row row (x ∷ y ∷ z ∷ rest) values l h m a b c e f =
     let whole : rest ≡ flat_map spaced values ++ 10 ∷ [] = sym (take-append-drop 48 rest) ∙ (λ i. cells i ++ end i) in
     (λ i. high i ∷ low i ∷ c i ∷ whole i)
 
-small_zeros : (n k : ℕ) → get_or (replicate n 0) k 0 < 256
+pub small_zeros : (n k : ℕ) → get_or (replicate n 0) k 0 < 256
 small_zeros zero k = omega arith
 small_zeros (suc n) zero = omega arith
 small_zeros (suc n) (suc k) = small_zeros n k

@@ -12,7 +12,7 @@
 //! ```
 //!
 //! From bytes to blocks: a `Source` gives bytes, `ahead` holds them and hands out blocks, `parse`
-//! finds a block at the front of some bytes, `rows`, `row` and `lanes` its lines. Back:
+//! finds a block at the front of some bytes, `rows`, `tail`, `row` and `lanes` its lines. Back:
 //! `block_text` spells a block, `write` hands it to a `Sink`.
 #![tactic(auto)]
 
@@ -29,6 +29,7 @@ mod rows;
 pub mod slot_text;
 pub mod std_streams;
 pub mod streams;
+mod tail;
 pub mod write;
 
 pub use block::{Block, Title};

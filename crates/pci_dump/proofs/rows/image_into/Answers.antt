@@ -1,5 +1,6 @@
 use Rattle.std.proofs.Common.{arith, ◌∙◌, ℕ, [], ◌∷◌, ap, drop, subst}
 use Rattle.pci_dump.proofs.Lines.{rows_start, row_more, small_more, part_stops, line_stops, blank_ends, blank_stops, blank_there, at_end, none_left, first_left, whole_image}
+use Rattle.pci_dump.proofs.Tails.{last_there, zeroed}
 use Rattle.pci_dump.specs.Value.{AreSmall}
 use Rattle.pci_dump.proofs.rows.image_into.Goals as goal
 
@@ -45,3 +46,14 @@ pub returns-in-Some-eq10-clause-image : goal.returns-in-Some-eq10-clause-image
 returns-in-Some-eq10-clause-image c =
     let all = at_end _ _ _ _ (omega arith) c.loop-row.invariant.small c.loop-row.invariant.so_far in
     (c.loop-row.invariant.long, subst AreSmall (whole_image _ c.loop-row.invariant.long) all.0)
+
+pub returns-then-are_last_zeros-clause-ok : goal.returns-then-are_last_zeros-clause-ok
+returns-then-are_last_zeros-clause-ok c =
+    let row = c.may_be_last.ensures c.if-may_be_last.true in
+    last_there c.loop-row.row c.args.bytes.now c.loop-row.image c.put_last_zeros.new.image c.loop-row.rest.now _ row.1 c.loop-row.invariant.long c.put_last_zeros.array_long c.loop-row.invariant.small c.loop-row.invariant.so_far
+    (c.are_last_zeros.ensures c.if-are_last_zeros.true) c.put_last_zeros.ensures
+
+pub returns-then-are_last_zeros-clause-image : goal.returns-then-are_last_zeros-clause-image
+returns-then-are_last_zeros-clause-image c =
+    let row = c.may_be_last.ensures c.if-may_be_last.true in
+    (c.put_last_zeros.array_long, zeroed c.loop-row.row c.loop-row.image c.put_last_zeros.new.image row.1 c.loop-row.invariant.long c.loop-row.invariant.small c.put_last_zeros.ensures)
