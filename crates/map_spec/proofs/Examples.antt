@@ -1,0 +1,3 @@
+pub mod Samples
+pub mod Texts
+pub mod FirstWindows

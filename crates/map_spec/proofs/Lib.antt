@@ -1,0 +1,3 @@
+pub mod Having
+pub mod Freeing
+pub mod Examples

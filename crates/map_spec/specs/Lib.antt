@@ -1,0 +1,4 @@
+pub mod Lines
+pub mod Map
+pub mod MapText
+pub mod MapLaws

@@ -1,0 +1,139 @@
+-- The lines of a map: which regions stand in which place, and what of a window is free (Bridge 1.2, chapter 4).
+use Rattle.std.specs.Prelude.{◌≡◌, ◌⊎◌, ℕ, ◌+◌, ◌*◌, ◌<◌, Bool, false, ◌&&◌, not, IsTrue, List, [], ◌∷◌, ◌++◌}
+use Rattle.std.specs.List.{AllPairs, Contains}
+use Rattle.pci_spec.specs.Slot.{slot_number}
+use Rattle.pci_spec.specs.Window.{WindowKind, IoWindow, MemoryWindow, PrefetchWindow}
+use Rattle.pci_spec.specs.System.{System, Function, Space, Io, Memory, Part, Bar, Rom, Window, Claims, is_bridge, window_claims}
+use Rattle.pci_spec.specs.Bus.{secondary}
+use Rattle.pci_spec.specs.Decoded.{Range, InRange}
+use Rattle.pci_spec.specs.Why.{Region, IsRegionIn, AreRuns}
+
+-- ---- places
+
+-- whether a window of a bridge is the first one, by register, that claims an address of a space
+abbrev pub is_first_window : Space → WindowKind → ℕ → Function → Bool
+is_first_window Io IoWindow a b = window_claims b IoWindow a
+is_first_window Io MemoryWindow a b = false
+is_first_window Io PrefetchWindow a b = false
+is_first_window Memory IoWindow a b = false
+is_first_window Memory MemoryWindow a b = window_claims b MemoryWindow a
+is_first_window Memory PrefetchWindow a b =
+    window_claims b PrefetchWindow a && not (window_claims b MemoryWindow a)
+
+-- A region belongs under a window: this is of a bridge to the region's bus, and of that bridge's windows the first that
+-- holds the region's first address.
+pub record BelongsUnder (s : System) (w q : Region) : Type 0 where
+  pub b : Function
+  pub listed : Contains s b
+  pub bridge : IsTrue (is_bridge b)
+  pub slot : b.slot ≡ w.slot
+  pub leads : secondary b ≡ q.slot.bus
+  pub kind : WindowKind
+  pub window : w.part ≡ Window kind
+  pub first : IsTrue (is_first_window q.space kind q.range.first b)
+
+-- where regions stand: on a root bus, or inside a window
+pub data Place : Type 0 where
+  OnRoot : ℕ → Place
+  Inside : Region → Place
+
+abbrev pub StandsAt : System → Place → Region → Type 0
+StandsAt s (OnRoot bus) q = q.slot.bus ≡ bus
+StandsAt s (Inside w) q = BelongsUnder s w q
+
+-- an enabled region of a bus claims an address
+pub record IsClaimedOn (s : System) (bus : ℕ) (space : Space) (a : ℕ) : Type 0 where
+  pub f : Function
+  pub part : Part
+  pub listed : Contains s f
+  pub on_bus : f.slot.bus ≡ bus
+  pub claims : Claims f part space a
+
+-- an address of a window that no enabled region of its bridge's secondary bus claims
+pub record IsFreeIn (s : System) (w : Region) (a : ℕ) : Type 0 where
+  pub held : InRange w.range a
+  pub unclaimed : (b : Function) → Contains s b → b.slot ≡ w.slot
+      → IsClaimedOn s (secondary b) w.space a → ⊥
+
+-- what of a place is free; of a root bus nothing, as the host's ranges aren't known
+abbrev pub IsFreeAt : System → Place → ℕ → Type 0
+IsFreeAt s (OnRoot bus) a = ⊥
+IsFreeAt s (Inside w) a = IsFreeIn s w a
+
+-- ---- lines
+
+-- the lines of a place
+pub data Lines : Type 0 where
+  End : Lines
+  -- a free run of addresses, and the lines that follow
+  Free : Range → Lines → Lines
+  -- a region, the lines inside it, and those that follow
+  Sits : Region → Lines → Lines → Lines
+
+-- the regions that stand in the place itself
+abbrev pub regions_at : Lines → List Region
+regions_at End = []
+regions_at (Free r rest) = regions_at rest
+regions_at (Sits q inside rest) = q ∷ regions_at rest
+
+-- the free runs of the place itself
+abbrev pub runs_at : Lines → List Range
+runs_at End = []
+runs_at (Free r rest) = r ∷ runs_at rest
+runs_at (Sits q inside rest) = runs_at rest
+
+-- all regions that have a line
+abbrev pub all_regions : Lines → List Region
+all_regions End = []
+all_regions (Free r rest) = all_regions rest
+all_regions (Sits q inside rest) = q ∷ (all_regions inside ++ all_regions rest)
+
+-- by what the lines of a place are ordered: a first address, then slot and register
+pub record Mark : Type 0 where
+  pub first : ℕ
+  pub number : ℕ
+
+abbrev pub region_number : Region → ℕ
+region_number q = slot_number q.slot * 256 + q.register
+
+abbrev pub region_mark : Region → Mark
+region_mark q = record { first = q.range.first; number = region_number q }
+
+-- no region begins where a run does
+abbrev pub run_mark : Range → Mark
+run_mark r = record { first = r.first; number = 0 }
+
+abbrev pub marks : Lines → List Mark
+marks End = []
+marks (Free r rest) = run_mark r ∷ marks rest
+marks (Sits q inside rest) = region_mark q ∷ marks rest
+
+abbrev pub IsBefore : Mark → Mark → Type 0
+IsBefore m n = (m.first < n.first) ⊎ ((m.first ≡ n.first) × (m.number < n.number))
+
+-- just the regions of a space that stand in a place and the greatest runs of what is free there, in order
+pub record AreLinesAt (s : System) (space : Space) (place : Place) (lines : Lines) : Type 0 where
+  pub regions : (q : Region) → Contains (regions_at lines) q → IsRegionIn s q
+  pub of_space : (q : Region) → Contains (regions_at lines) q → q.space ≡ space
+  pub stand : (q : Region) → Contains (regions_at lines) q → StandsAt s place q
+  pub complete : (q : Region) → IsRegionIn s q → q.space ≡ space → StandsAt s place q
+      → Contains (regions_at lines) q
+  pub free : AreRuns (IsFreeAt s place) (runs_at lines)
+  pub rising : AllPairs IsBefore (marks lines)
+
+-- what is inside a region: only a window has something inside
+abbrev pub AreInside : System → Space → Part → Region → Lines → Type 0
+AreInside s space (Bar n) q lines = lines ≡ End
+AreInside s space Rom q lines = lines ≡ End
+AreInside s space (Window kind) q lines = AreLinesAt s space (Inside q) lines
+
+-- inside each region of some lines, all the way down
+abbrev pub AreAllInside : System → Space → Lines → Type 0
+AreAllInside s space End = Unit {0}
+AreAllInside s space (Free r rest) = AreAllInside s space rest
+AreAllInside s space (Sits q inside rest) =
+    AreInside s space q.part q inside × AreAllInside s space inside × AreAllInside s space rest
+
+-- the lines of a place, with all that is inside
+abbrev pub AreAllLines : System → Space → Place → Lines → Type 0
+AreAllLines s space place lines = AreLinesAt s space place lines × AreAllInside s space lines

@@ -1,0 +1,54 @@
+-- The map of a system: the lines of each root bus, and the regions that are left.
+use Rattle.std.specs.Prelude.{◌≡◌, ℕ, ◌<◌, List, [], ◌∷◌, ◌++◌, map}
+use Rattle.std.specs.List.{AllPairs, Contains, filter, flat_map, range_with_len}
+use Rattle.pci_spec.specs.System.{System, Io, Memory}
+use Rattle.pci_spec.specs.Bus.{is_root}
+use Rattle.pci_spec.specs.Why.{Region, IsRegionIn}
+use Rattle.map_spec.specs.Lines.{BelongsUnder, OnRoot, Lines, all_regions, AreAllLines, region_number}
+
+-- a root bus, with the lines of its two spaces
+pub record Root : Type 0 where
+  pub bus : ℕ
+  pub io : Lines
+  pub memory : Lines
+
+pub record Map : Type 0 where
+  pub roots : List Root
+  pub unreached : List Region
+
+-- A region has a place on a root bus, or below: windows lead to it from a root, each belonging under the next one of
+-- the list, and the last standing on a root bus.
+abbrev pub HasWay : List ℕ → System → Region → List Region → Type 0
+HasWay roots s q [] = Contains roots q.slot.bus
+HasWay roots s q (w ∷ windows) = IsRegionIn s w × BelongsUnder s w q × HasWay roots s w windows
+
+-- no window holds its first address, or it belongs under one that is itself left
+abbrev pub IsLeft : List ℕ → System → Region → Type 0
+IsLeft roots s q = (windows : List Region) → HasWay roots s q windows → ⊥
+
+-- the root buses, rising
+abbrev pub root_buses : List ℕ → List ℕ
+root_buses roots = filter (is_root roots) (range_with_len 0 256)
+
+pub record IsRootOf (s : System) (root : Root) : Type 0 where
+  pub io : AreAllLines s Io (OnRoot root.bus) root.io
+  pub memory : AreAllLines s Memory (OnRoot root.bus) root.memory
+
+-- just the regions that are left, by slot and register
+pub record AreLeft (roots : List ℕ) (s : System) (qs : List Region) : Type 0 where
+  pub regions : (q : Region) → Contains qs q → IsRegionIn s q
+  pub left : (q : Region) → Contains qs q → IsLeft roots s q
+  pub complete : (q : Region) → IsRegionIn s q → IsLeft roots s q → Contains qs q
+  pub rising : AllPairs (λ p q. region_number p < region_number q) qs
+
+pub record IsMap (roots : List ℕ) (s : System) (m : Map) : Type 0 where
+  pub buses : map (λ root. root.bus) m.roots ≡ root_buses roots
+  pub each : (root : Root) → Contains m.roots root → IsRootOf s root
+  pub left : AreLeft roots s m.unreached
+
+-- the regions that have a line
+abbrev pub regions_on : Root → List Region
+regions_on root = all_regions root.io ++ all_regions root.memory
+
+abbrev pub regions_in : Map → List Region
+regions_in m = flat_map regions_on m.roots ++ m.unreached

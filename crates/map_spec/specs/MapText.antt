@@ -1,0 +1,92 @@
+-- The text of a map.
+use Rattle.std.specs.Prelude.{◌≡◌, ℕ, zero, suc, Bool, true, false, List, [], ◌∷◌, ◌++◌, map, codes}
+use Rattle.std.specs.List.{flat_map}
+use Rattle.pci_spec.specs.Slot.{Slot}
+use Rattle.pci_spec.specs.Text.{hex_byte, slot_text}
+use Rattle.pci_spec.specs.System.{System, Space, Io, Memory, Part, Bar, Rom, Window, Function}
+use Rattle.pci_spec.specs.Line.{space_text, field, byte_field}
+use Rattle.pci_spec.specs.Decoded.{Range, DecodedBar}
+use Rattle.pci_spec.specs.Listing.{words, range_text, kind_space}
+use Rattle.pci_spec.specs.Why.{Region, amount_text, address_count, off_bars}
+use Rattle.map_spec.specs.Lines.{Lines, End, Free, Sits}
+use Rattle.map_spec.specs.Map.{Root, Map, IsMap}
+
+-- two spaces for each window around a line, and for the heading above
+unfoldable pub indent : ℕ → List ℕ
+indent zero = []
+indent (suc depth) = 32 ∷ 32 ∷ indent depth
+
+abbrev pub part_name : Part → Bool → List ℕ
+part_name (Bar n) true = codes "bar pref"
+part_name (Bar n) false = codes "bar"
+part_name Rom prefetchable = codes "rom"
+part_name (Window kind) prefetchable = codes "window"
+
+-- first and last address, how many they are, and what they are
+abbrev pub extent_line : ℕ → Space → Range → List (List ℕ) → List ℕ
+extent_line depth space r what =
+    indent depth ++ (range_text space r ++ words (amount_text (address_count r) ∷ what))
+
+abbrev pub region_line : ℕ → Region → List ℕ
+region_line depth q =
+    extent_line depth q.space q.range
+    (part_name q.part q.prefetchable ∷ slot_text q.slot ∷ hex_byte q.register ∷ [])
+
+abbrev pub free_line : ℕ → Space → Range → List ℕ
+free_line depth space r = extent_line depth space r (codes "free" ∷ [])
+
+-- what is inside a region stands behind its line, two spaces deeper
+unfoldable pub lines_text : ℕ → Space → Lines → List ℕ
+lines_text depth space End = []
+lines_text depth space (Free r rest) = free_line depth space r ++ lines_text depth space rest
+lines_text depth space (Sits q inside rest) =
+    region_line depth q ++ (lines_text (suc depth) space inside ++ lines_text depth space rest)
+
+-- ---- root buses
+
+abbrev pub bus_heading : ℕ → Space → List ℕ
+bus_heading bus space = codes "bus" ++ (byte_field bus ++ (field (space_text space) ++ 10 ∷ []))
+
+-- where there are lines they stand below a heading
+abbrev pub space_lines : ℕ → Space → Lines → List ℕ
+space_lines bus space End = []
+space_lines bus space (Free r rest) =
+    bus_heading bus space ++ lines_text 1 space (Free r rest)
+space_lines bus space (Sits q inside rest) =
+    bus_heading bus space ++ lines_text 1 space (Sits q inside rest)
+
+abbrev pub root_text : Root → List ℕ
+root_text root = space_lines root.bus Io root.io ++ space_lines root.bus Memory root.memory
+
+-- ---- what isn't reached, and what is off
+
+-- some lines below a heading, where there are any
+abbrev pub under_heading : List ℕ → List (List ℕ) → List ℕ
+under_heading heading [] = []
+under_heading heading (line ∷ lines) = heading ++ (10 ∷ flat_map (λ text. text) (line ∷ lines))
+
+abbrev pub unreached_text : List Region → List ℕ
+unreached_text qs = under_heading (codes "unreached") (map (region_line 1) qs)
+
+-- the line of an implemented BAR
+abbrev pub off_line : Slot → DecodedBar → List ℕ
+off_line slot b =
+    extent_line 1 (kind_space b.kind) b.range
+    (part_name (Bar 0) b.prefetchable ∷ slot_text slot ∷ hex_byte b.register ∷ [])
+
+-- those of a function whose space its Command doesn't enable
+abbrev pub off_lines_of : Function → List (List ℕ)
+off_lines_of f = map (off_line f.slot) (off_bars f)
+
+abbrev pub off_text : System → List ℕ
+off_text s = under_heading (codes "off") (flat_map off_lines_of s)
+
+-- ---- the whole text
+
+abbrev pub text_of : Map → System → List ℕ
+text_of m s = flat_map root_text m.roots ++ (unreached_text m.unreached ++ off_text s)
+
+pub record IsMapText (roots : List ℕ) (s : System) (text : List ℕ) : Type 0 where
+  pub m : Map
+  pub is : IsMap roots s m
+  pub says : text ≡ text_of m s
