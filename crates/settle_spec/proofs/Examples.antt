@@ -1,0 +1,2 @@
+-- Worked examples: what the definitions of settling say of small trees, one module a subject.
+pub mod Settlings

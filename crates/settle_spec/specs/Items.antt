@@ -1,0 +1,178 @@
+-- What is to be placed: BARs and ROMs that don't keep their places, and new windows around what is behind bridges.
+use Rattle.std.specs.Prelude.{ℕ, zero, suc, ◌+◌, ◌==◌, nat_lt, max, Bool, true, false, ◌&&◌, ◌||◌, not, if◌then◌else◌, List, [], ◌∷◌, ◌++◌, map, Option, None, Some}
+use Rattle.std.specs.List.{list_any, list_all, filter, flat_map}
+use Rattle.pci_spec.specs.Bar.{bar_at, is_wide}
+use Rattle.pci_spec.specs.Window.{WindowKind, PrefetchWindow, page_size, is_wide_window}
+use Rattle.pci_spec.specs.Decoded.{Range}
+use Rattle.pci_spec.specs.System.{System, Function, Part, Bar, Window, window_space, is_bridge, is_window}
+use Rattle.pci_spec.specs.Bus.{secondary, is_behind, are_siblings}
+use Rattle.plan_spec.specs.Plan.{bridges_above, greatest, raised_to, same_class, size_of}
+use Rattle.plan_spec.specs.Place.{range_from}
+use Rattle.settle_spec.specs.FirstPlace.{Extent, first_spot, first_place}
+use Rattle.settle_spec.specs.Lists.{Request}
+use Rattle.settle_spec.specs.Parts.{Region, regions, regions_of, addresses, class_in, same_space}
+use Rattle.settle_spec.specs.Stands.{rank, window_region, region_space, stands}
+
+-- what is to be placed
+pub record Item : Type 0 where
+  pub region : Region
+  pub class : WindowKind
+  pub extent : Extent
+
+-- ---- in turn
+
+-- falling alignments come first, then falling sizes, then lower slots and registers
+abbrev pub comes_before : Item → Item → Bool
+comes_before i j =
+    nat_lt j.extent.alignment i.extent.alignment || (i.extent.alignment == j.extent.alignment
+    && (nat_lt j.extent.size i.extent.size || (i.extent.size == j.extent.size
+    && nat_lt (rank i.region) (rank j.region))))
+
+abbrev pub put_in : Item → List Item → List Item
+put_in i [] = i ∷ []
+put_in i (j ∷ items) = if comes_before i j then i ∷ (j ∷ items) else j ∷ put_in i items
+
+-- items in the order in which they are placed
+abbrev pub in_turn : List Item → List Item
+in_turn [] = []
+in_turn (i ∷ items) = put_in i (in_turn items)
+
+-- an item at its place
+pub record Placed : Type 0 where
+  pub item : Item
+  pub at : ℕ
+
+abbrev pub taken_by : Item → ℕ → Range
+taken_by i a = range_from a i.extent.size
+
+-- all of them, or those before the first that has no place
+pub data Placing : Type 0 where
+  AllPlaced : (placed : List Placed) → Placing
+  Lacks : (item : Item) → Placing
+
+abbrev pub and_placed : Item → ℕ → Placing → Placing
+and_placed i a (AllPlaced placed) = AllPlaced (record { item = i; at = a } ∷ placed)
+and_placed i a (Lacks j) = Lacks j
+
+-- each item gets its first place, those before it being taken
+abbrev pub place_next : Item → Option ℕ → (ℕ → Placing) → Placing
+place_next i None rest = Lacks i
+place_next i (Some a) rest = and_placed i a (rest a)
+
+abbrev pub place_all : (Item → List Range) → List Range → List Item → Placing
+place_all ranges taken [] = AllPlaced []
+place_all ranges taken (i ∷ items) =
+    place_next i (first_place (ranges i) taken i.extent)
+    (λ a. place_all ranges (taken_by i a ∷ taken) items)
+
+-- ---- of a bus
+
+-- a BAR's size is its alignment, and so is a ROM's
+abbrev pub is_wide_part : Function → Part → Bool
+is_wide_part f (Bar n) = is_wide (bar_at f.probe n)
+is_wide_part f p = false
+
+abbrev pub own_extent : Region → Extent
+own_extent r = record {
+  size = size_of r.function r.part;
+  alignment = size_of r.function r.part;
+  wide = is_wide_part r.function r.part;
+}
+
+abbrev pub own_item : WindowKind → Region → Item
+own_item c r = record { region = r; class = c; extent = own_extent r }
+
+-- a BAR or ROM of a class
+abbrev pub is_own : Request → System → WindowKind → Region → Bool
+is_own q s c r =
+    not (is_window r.part) && same_class c (class_in q s r.function r.part)
+
+-- whether a BAR or ROM of a class is behind a bridge
+abbrev pub has_of : Request → System → WindowKind → Function → Bool
+has_of q s c b =
+    list_any (λ f. is_behind b f.slot.bus && list_any (is_own q s c) (regions_of q s f)) s
+
+-- the items of a function in a class: `keeps` says what keeps its place, `extent` how large a new window is
+abbrev pub items_of : Request → System → WindowKind → (Region → Bool) → (Function → Extent) → Function → List Item
+items_of q s c keeps extent f =
+    map (own_item c) (filter (λ r. is_own q s c r && not (keeps r)) (regions_of q s f))
+    ++ (if is_bridge f && has_of q s c f && not (keeps (window_region c f))
+    then record { region = window_region c f; class = c; extent = extent f } ∷ [] else [])
+
+-- those of a bus, in turn: all roots are one bus
+abbrev pub items_on : Request → System → WindowKind → (Region → Bool) → (Function → Extent) → ℕ → List Item
+items_on q s c keeps extent bus =
+    in_turn (flat_map (λ f. if are_siblings q.roots bus f.slot.bus then items_of q s c keeps extent f else []) s)
+
+-- ---- new windows
+
+-- what items take when each is placed from 0 on, anywhere above those before it
+abbrev pub laid_out : List Range → List Item → List Range
+laid_out taken [] = taken
+laid_out taken (i ∷ items) = laid_out (taken_by i (first_spot 0 taken i.extent) ∷ taken) items
+
+-- the end of the last address
+abbrev pub end_of : List Range → ℕ
+end_of taken = greatest (map (λ (t : Range). t.last + 1) taken)
+
+-- a window around items: whole pages, as aligned as the items are, and wide where all of them are
+abbrev pub extent_around : WindowKind → Function → List Item → Extent
+extent_around c b items = record {
+  size = raised_to (page_size c) (end_of (laid_out [] items));
+  alignment = max (page_size c) (greatest (map (λ (i : Item). i.extent.alignment) items));
+  wide = same_class c PrefetchWindow && is_wide_window PrefetchWindow b.probe
+      && list_all (λ (i : Item). i.extent.wide) items;
+}
+
+abbrev pub nothing : Region → Bool
+nothing r = false
+
+-- the new window of a bridge, where at most `depth` buses are behind one another
+unfoldable pub window_within : Request → System → WindowKind → ℕ → Function → Extent
+window_within q s c zero b = extent_around c b []
+window_within q s c (suc depth) b =
+    extent_around c b (items_on q s c nothing (window_within q s c depth) (secondary b))
+
+-- buses rise on the way down, so 256 of them are all
+abbrev pub new_window : Request → System → WindowKind → Function → Extent
+new_window q s c b = window_within q s c 256 b
+
+-- ---- what keeps its place
+
+abbrev pub are_placed : Placing → Bool
+are_placed (AllPlaced placed) = true
+are_placed (Lacks i) = false
+
+-- what is taken on a bus in the space of a class
+abbrev pub taken_on : Request → System → WindowKind → (Region → Bool) → ℕ → List Range
+taken_on q s c keeps bus =
+    map addresses
+    (filter (λ r. are_siblings q.roots bus r.function.slot.bus && same_space (window_space c) (region_space r) && keeps r)
+    (regions q s))
+
+-- whether a window has a place for each item behind it, `keeps` saying what keeps its place there
+abbrev pub has_places : Request → System → (Region → Bool) → Function → WindowKind → Bool
+has_places q s keeps b c =
+    are_placed (place_all (λ i. addresses (window_region c b) ∷ [])
+    (taken_on q s c keeps (secondary b))
+    (items_on q s c keeps (new_window q s c) (secondary b)))
+
+-- whether what is behind a part has its place there: nothing is behind a BAR or a ROM
+abbrev pub has_room : Request → System → (Region → Bool) → Function → Part → Bool
+has_room q s keeps f (Window c) = has_places q s keeps f c
+has_room q s keeps f p = true
+
+-- a part stands and, if it is a window, holds, where at most `depth` buses are behind one another
+unfoldable pub holds_within : Request → System → ℕ → Region → Bool
+holds_within q s zero r = stands q s r
+holds_within q s (suc depth) r = stands q s r && has_room q s (holds_within q s depth) r.function r.part
+
+abbrev pub holds : Request → System → Region → Bool
+holds q s r = holds_within q s 256 r
+
+-- a part stays where it holds and each window of its class above it does
+abbrev pub stays : Request → System → Region → Bool
+stays q s r =
+    holds q s r
+    && list_all (λ b. holds q s (window_region (class_in q s r.function r.part) b))
+    (bridges_above s r.function.slot.bus)
