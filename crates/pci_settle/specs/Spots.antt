@@ -1,0 +1,34 @@
+-- Free places, by the list of what is taken.
+use Rattle.std.specs.Prelude.{ℕ, ◌<◌, ◌≤◌, ◌^◌, IsTrue, List, length, map, slice_index_or}
+use Rattle.plan_spec.specs.Place.{range_from}
+use Rattle.settle_spec.specs.FirstPlace.{Extent as ExtentValue, is_spot}
+use Rattle.pci_base.specs.declared.range.Range.{Range}
+use Rattle.pci_base.specs.Ranges.{decoded_range_of}
+use Rattle.pci_settle.specs.declared.extent.Extent.{Extent}
+use Rattle.pci_settle.specs.declared.spot.Spot.{Spot}
+
+-- the extent as the definitions have it
+abbrev pub extent_value : Extent → ExtentValue
+extent_value e = record { size = e.size; alignment = e.alignment; wide = e.wide }
+
+-- it has an address, and an alignment
+pub record IsExtent (e : Extent) : Type 0 where
+  pub size : 0 < e.size
+  pub alignment : 0 < e.alignment
+
+-- no first address is below one before it
+abbrev pub AreInOrder : List Range → Type 0
+AreInOrder taken =
+    (j k : ℕ) (d : Range) → j < k → k < length taken
+    → (slice_index_or taken j d).first ≤ (slice_index_or taken k d).first
+
+-- the least free place from an address on, which ends in 64 bits: what is taken before it lies below it, and the rest above
+pub record IsSpotAt (taken : List Range) (low : ℕ) (e : Extent) (s : Spot) : Type 0 where
+  pub free : IsTrue (is_spot low (map decoded_range_of taken) (extent_value e) s.at)
+  pub least : (b : ℕ) → IsTrue (is_spot low (map decoded_range_of taken) (extent_value e) b)
+      → s.at ≤ b
+  pub ends : (range_from s.at e.size).last < 2 ^ 64
+  pub within : s.index ≤ length taken
+  pub below : (k : ℕ) (d : Range) → k < s.index → (slice_index_or taken k d).last < s.at
+  pub above : (k : ℕ) (d : Range) → s.index ≤ k → k < length taken
+      → (range_from s.at e.size).last < (slice_index_or taken k d).first

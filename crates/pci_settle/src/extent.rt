@@ -1,0 +1,25 @@
+//! What is to be placed: so many addresses from a multiple of an alignment on.
+ghost use Rattle.std.specs.Prelude.{ℕ, ◌≡◌, ◌+◌, ◌-◌, ◌<◌, ◌^◌, SomeIff};
+ghost use Rattle.plan_spec.specs.Place.{range_from};
+
+/// So many addresses from a multiple of an alignment on.
+#[derive(Clone, Copy, Debug, PartialEq, Eq)]
+pub struct Extent {
+    /// How many addresses, at least one.
+    pub size: u64,
+    /// What the first address is a multiple of, at least one.
+    pub alignment: u64,
+    /// Whether it may lie above 4 GB.
+    pub wide: bool,
+}
+
+impl Extent {
+    /// The last address where the first is `at`; None where it would be above all addresses of 64 bits.
+    pub fn last_from(self, at: u64) -> Option<u64>
+        requires some { 0 < self.size }
+        ensures { SomeIff result ((range_from at self.size).last < 2 ^ 64)
+            (range_from at self.size).last }
+    {
+        at.checked_add(self.size - 1)
+    }
+}

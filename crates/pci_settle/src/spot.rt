@@ -1,0 +1,65 @@
+//! The first free place in ranges of addresses.
+ghost use Rattle.std.specs.Prelude.{ℕ, ◌≡◌, ◌≤◌, ◌<◌, ◌+◌, ◌^◌, IfSome, IfNone, IsTrue, map, length, SomeIff};
+ghost use Rattle.settle_spec.specs.FirstPlace.{is_spot};
+ghost use Rattle.plan_spec.specs.Plan.{raised_to};
+ghost use Rattle.plan_spec.specs.Place.{range_from};
+ghost use Rattle.pci_base.specs.Ranges.{decoded_range_of};
+ghost use Rattle.pci_settle.specs.Spots.{extent_value, IsExtent, AreInOrder, IsSpotAt};
+
+use crate::extent::Extent;
+use pci_base::range::Range;
+
+/// A free place, and where it belongs in the list of what is taken.
+#[derive(Clone, Copy, Debug, PartialEq, Eq)]
+pub struct Spot {
+    pub at: u64,
+    /// How many of the ranges that are taken lie below it.
+    pub index: usize,
+}
+
+/// The least multiple of an alignment from an address on; None where it is above all addresses of 64 bits.
+fn raised(from: u64, alignment: u64) -> Option<u64>
+    requires some { 0 < alignment }
+    ensures { SomeIff result (raised_to alignment from < 2 ^ 64) (raised_to alignment from) }
+{
+    let over = from % alignment;
+    if over == 0 {
+        Some(from)
+    } else {
+        from.checked_add(alignment - over)
+    }
+}
+
+/// The least multiple of an alignment behind a range; None where it is above all addresses of 64 bits.
+fn behind(range: Range, alignment: u64) -> Option<u64>
+    requires some { 0 < alignment }
+    ensures { SomeIff result (raised_to alignment (range.last + 1) < 2 ^ 64)
+        (raised_to alignment (range.last + 1)) }
+{
+    raised(range.last.checked_add(1)?, alignment)
+}
+
+/// The first free place from an address on; None where it would end above all addresses of 64 bits.
+fn first_spot(taken: &[Range], low: u64, extent: Extent) -> Option<Spot>
+    requires extent { IsExtent extent }
+    requires order { AreInOrder taken.now }
+    ensures found { IfSome result (IsSpotAt taken.now low extent) }
+    ensures none { IfNone result ((b : ℕ)
+        → IsTrue (is_spot low (map decoded_range_of taken.now) (extent_value extent) b)
+        → 2 ^ 64 ≤ (range_from b extent.size).last) }
+{
+    let mut at = raised(low, extent.alignment)?;
+    for (index, range) in taken.iter().enumerate() {
+        if extent.last_from(at)? < range.first {
+            return Some(Spot { at, index });
+        }
+        if at <= range.last {
+            at = behind(*range, extent.alignment)?;
+        }
+    }
+    extent.last_from(at)?;
+    Some(Spot {
+        at,
+        index: taken.len(),
+    })
+}
