@@ -1,0 +1,3 @@
+pub mod Ranges
+pub mod Legacy
+pub mod Clashes

@@ -1,0 +1,5 @@
+pub mod Examples
+pub mod Nothing
+pub mod Judging
+pub mod Naming
+pub mod Taken

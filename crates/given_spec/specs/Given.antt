@@ -1,0 +1,73 @@
+-- What is given beside a system: which addresses the host sends to which root bus, and which bridges answer for a VGA
+-- adapter behind them.
+use Rattle.std.specs.Prelude.{ℕ, ◌%◌, ◌^◌, ◌==◌, nat_lt, nat_le, Bool, true, ◌&&◌, ◌||◌, if◌then◌else◌, List, [], Option, None, Some}
+use Rattle.std.specs.List.{list_any}
+use Rattle.pci_spec.specs.Slot.{Slot, same_slot}
+use Rattle.pci_spec.specs.System.{Space, Io, Memory, Function, is_bridge, is_space_on}
+
+-- addresses from first to last, both of them too, that the host sends to one root bus, or to each
+pub record HostRange : Type 0 where
+  pub root : Option ℕ
+  pub first : ℕ
+  pub last : ℕ
+
+-- a bridge with legacy parts, and whether it decodes 16 bits of their I/O addresses, or 10 of them
+pub record LegacyBridge : Type 0 where
+  pub slot : Slot
+  pub is_wide : Bool
+
+-- where no ranges are said of a space, the host sends all of it to each root bus
+pub record Given : Type 0 where
+  pub io : Option (List HostRange)
+  pub memory : Option (List HostRange)
+  pub legacy : List LegacyBridge
+
+abbrev pub nothing_given : Given
+nothing_given = record { io = None; memory = None; legacy = [] }
+
+-- ---- where accesses start
+
+abbrev pub ranges_said : Given → Space → Option (List HostRange)
+ranges_said given Io = given.io
+ranges_said given Memory = given.memory
+
+-- whether a root bus is the one that is said, or none is
+abbrev pub is_for : Option ℕ → ℕ → Bool
+is_for None root = true
+is_for (Some bus) root = bus == root
+
+-- whether the host sends an address to a root bus by the range
+abbrev pub sends : ℕ → ℕ → HostRange → Bool
+sends root a r = is_for r.root root && nat_le r.first a && nat_le a r.last
+
+abbrev pub starts_in : Option (List HostRange) → ℕ → ℕ → Bool
+starts_in None root a = true
+starts_in (Some ranges) root a = list_any (sends root a) ranges
+
+-- whether an access of the host to an address starts on a root bus
+abbrev pub starts : Given → Space → ℕ → ℕ → Bool
+starts given space root a = starts_in (ranges_said given space) root a
+
+-- ---- legacy parts (Bridge 1.2, 3.2.5.18: VGA Enable and VGA 16-bit Decode)
+
+-- whether a port is one of a VGA adapter
+abbrev pub is_vga_port : ℕ → Bool
+is_vga_port port = (nat_le 0x3b0 port && nat_le port 0x3bb) || (nat_le 0x3c0 port && nat_le port 0x3df)
+
+-- what is decoded of an I/O address
+abbrev pub decoded_port : Bool → ℕ → ℕ
+decoded_port is_wide a = if is_wide then a else a % 0x400
+
+-- whether a legacy part has an address: the frame buffer, and ports where all bits above bit 15 are 0
+abbrev pub legacy_holds : Bool → Space → ℕ → Bool
+legacy_holds is_wide Io a = nat_lt a (2 ^ 16) && is_vga_port (decoded_port is_wide a)
+legacy_holds is_wide Memory a = nat_le 0xa0000 a && nat_le a 0xbffff
+
+-- whether an entry is the bridge's, and its part has the address
+abbrev pub is_legacy_at : Function → Space → ℕ → LegacyBridge → Bool
+is_legacy_at b space a entry = same_slot entry.slot b.slot && legacy_holds entry.is_wide space a
+
+-- whether a legacy part of a bridge claims an address: Command enables it as a window of its space
+abbrev pub legacy_claims : Given → Space → ℕ → Function → Bool
+legacy_claims given space a b =
+    is_bridge b && is_space_on b space && list_any (is_legacy_at b space a) given.legacy

@@ -1,0 +1,109 @@
+-- Laws of what is given.
+use Rattle.std.specs.Prelude.{◌≡◌, ℕ, ◌↔◌, Bool, false, IsTrue, List, []}
+use Rattle.std.specs.List.{Contains}
+use Rattle.pci_spec.specs.Slot.{Slot}
+use Rattle.pci_spec.specs.System.{System, Function, Space, IsSystem, Leads, has_part, is_window, is_prefetchable_part}
+use Rattle.pci_spec.specs.System as system
+use Rattle.pci_spec.specs.Bus.{IsNested}
+use Rattle.pci_spec.specs.Fault as plain
+use Rattle.pci_spec.specs.Sound as sound
+use Rattle.given_spec.specs.Given.{Given, nothing_given, starts}
+use Rattle.given_spec.specs.Claims.{Own, Legacy, Claims, forwards, passes, Gets, IsPassedTo}
+use Rattle.given_spec.specs.Fault.{Fault, Known, IsIn, IsOutside}
+use Rattle.given_spec.specs.Sound.{IsSingle, IsHome, IsSound}
+use Rattle.given_spec.specs.AllFaults.{IsOutsideOf, AreAllOfJudging}
+use Rattle.given_spec.specs.Words.{taken_by_vga}
+
+-- ---- with nothing given each word is the one without it
+
+abbrev pub StartsAnywhere : Type 0
+StartsAnywhere = (space : Space) (root a : ℕ) → IsTrue (starts nothing_given space root a)
+
+abbrev pub SameClaims : Type 0
+SameClaims =
+    (f : Function) (part : system.Part) (space : Space) (a : ℕ)
+    → Claims nothing_given f (Own part) space a ↔ system.Claims f part space a
+
+abbrev pub NoLegacyClaims : Type 0
+NoLegacyClaims =
+    (f : Function) (space : Space) (a : ℕ) → Claims nothing_given f Legacy space a → ⊥
+
+abbrev pub SameForwards : Type 0
+SameForwards =
+    (space : Space) (a : ℕ) (b : Function)
+    → forwards nothing_given space a b ≡ system.forwards space a b
+
+abbrev pub SamePasses : Type 0
+SamePasses =
+    (space : Space) (prefetchable : Bool) (a : ℕ) (b : Function)
+    → passes nothing_given space prefetchable a b ≡ system.passes space prefetchable a b
+
+abbrev pub SameGets : Type 0
+SameGets =
+    (roots : List ℕ) (s : System) (space : Space) (a bus : ℕ)
+    → Gets nothing_given roots s space a bus ↔ system.Gets roots s space a bus
+
+abbrev pub SamePassedTo : Type 0
+SamePassedTo =
+    (roots : List ℕ) (s : System) (space : Space) (prefetchable : Bool) (a bus : ℕ)
+    → IsPassedTo nothing_given roots s space prefetchable a bus
+    ↔ system.IsPassedTo roots s space prefetchable a bus
+
+abbrev pub NoneOutside : Type 0
+NoneOutside =
+    (roots : List ℕ) (s : System) (slot : Slot) (register : ℕ) (space : Space) (a : ℕ)
+    → IsOutside nothing_given roots s slot register space a → ⊥
+
+-- the exception needs a legacy part, as no other register is named 3Eh
+abbrev pub SameFaults : Type 0
+SameFaults =
+    (roots : List ℕ) (s : System) (fault : plain.Fault)
+    → IsIn nothing_given roots s (Known fault) ↔ plain.IsIn roots s fault
+
+abbrev pub SameSound : Type 0
+SameSound =
+    (roots : List ℕ) (s : System) → IsSystem s
+    → IsSound nothing_given roots s ↔ sound.IsSound roots s
+
+-- ---- what faults are good for
+
+-- A system is sound exactly where no fault is there.
+abbrev pub SoundWithoutFaults : Type 0
+SoundWithoutFaults =
+    (given : Given) (roots : List ℕ) (s : System) → IsSystem s
+    → IsSound given roots s ↔ ((fault : Fault) → IsIn given roots s fault → ⊥)
+
+-- A list of all is empty exactly where at most one region claims an access, and each region is reached.
+abbrev pub EmptyWhereNoneFails : Type 0
+EmptyWhereNoneFails =
+    (given : Given) (roots : List ℕ) (s : System) (faults : List Fault) → IsSystem s
+    → IsNested roots s → AreAllOfJudging given roots s faults
+    → (faults ≡ []) ↔ (IsSingle given roots s × IsHome given roots s)
+
+-- each address of a region is one that the host sends to the root above it
+abbrev pub IsWithinHost : Given → List ℕ → System → Function → system.Part → Type 0
+IsWithinHost given roots s f part =
+    (space : Space) (a root : ℕ) (bridges : List Function) → system.Claims f part space a
+    → Contains roots root → Leads s root bridges f.slot.bus → IsTrue (starts given space root a)
+
+-- no line says that it is outside
+abbrev pub IsNotOutside : Given → List ℕ → System → Slot → ℕ → Type 0
+IsNotOutside given roots s slot register =
+    (space : Space) (address : ℕ) → IsOutsideOf given roots s slot register space address → ⊥
+
+-- A BAR or ROM has a line of 63 exactly where it isn't within what the host sends to its root.
+abbrev pub LineWhereOutside : Type 0
+LineWhereOutside =
+    (given : Given) (roots : List ℕ) (s : System) → IsSystem s → IsNested roots s
+    → (f : Function) (part : system.Part) → Contains s f → IsTrue (has_part f part)
+    → is_window part ≡ false
+    → IsWithinHost given roots s f part
+    ↔ IsNotOutside given roots s f.slot (system.register_of f part)
+
+-- ---- words
+
+-- Functions that are taken by a word have no 52.
+abbrev pub NoVgaEnable : Type 0
+NoVgaEnable =
+    (roots : List ℕ) (s : System) (slot : Slot) → IsSystem s
+    → plain.IsIn roots (taken_by_vga s) (plain.VgaEnable slot) → ⊥

@@ -1,0 +1,29 @@
+//! Laws of what is given. These functions do nothing: each contract is a law.
+
+ghost use Rattle.given_spec.specs.Laws.{StartsAnywhere, SameClaims, NoLegacyClaims, SameForwards, SamePasses, SameGets, SamePassedTo, NoneOutside, SameFaults, SameSound, SoundWithoutFaults, EmptyWhereNoneFails, LineWhereOutside, NoVgaEnable};
+
+/// With nothing given each word is the one without it.
+pub fn nothing_given_changes_nothing()
+    ensures starts { StartsAnywhere }
+    ensures claims { SameClaims }
+    ensures legacy { NoLegacyClaims }
+    ensures forwards { SameForwards }
+    ensures passes { SamePasses }
+    ensures gets { SameGets }
+    ensures passed { SamePassedTo }
+    ensures outside { NoneOutside }
+    ensures faults { SameFaults }
+    ensures sound { SameSound }
+{}
+
+/// A system is sound with what is given exactly where no fault is there, and a list of all faults leaves nothing out.
+pub fn faults_are_what_fails()
+    ensures sound { SoundWithoutFaults }
+    ensures empty { EmptyWhereNoneFails }
+    ensures outside { LineWhereOutside }
+{}
+
+/// Functions that are taken by a word have no VGA Enable.
+pub fn taken_functions_have_no_vga_enable()
+    ensures none { NoVgaEnable }
+{}
