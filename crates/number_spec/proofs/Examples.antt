@@ -4,3 +4,4 @@ pub mod Answers
 pub mod Walks
 pub mod Numbers
 pub mod Rooms
+pub mod Accesses

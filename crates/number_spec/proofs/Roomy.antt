@@ -12,22 +12,22 @@ use Rattle.number_spec.proofs.Single.{IsRanged, outside_is_idle, low_to_high}
 use Rattle.number_spec.proofs.InOrder.{top, IsRun, of_device, of_closed, of_open, number_or_none, greatest_of_run}
 
 -- what a bridge shows, number by number
-record Shows (image : List ℕ) (p : ℕ) (s : ℕ) (u : ℕ) : Type 0 where
-  primary : primary_bus image ≡ p
-  secondary : secondary_bus image ≡ s
-  subordinate : subordinate_bus image ≡ u
+pub record Shows (image : List ℕ) (p : ℕ) (s : ℕ) (u : ℕ) : Type 0 where
+  pub primary : primary_bus image ≡ p
+  pub secondary : secondary_bus image ≡ s
+  pub subordinate : subordinate_bus image ≡ u
 
-shown : (image : List ℕ) (p s u : ℕ) → shows image p s u ≡ true → Shows image p s u
+pub shown : (image : List ℕ) (p s u : ℕ) → shows image p s u ≡ true → Shows image p s u
 shown image p s u h =
     let outer = and_parts (primary_bus image == p && secondary_bus image == s) (subordinate_bus image == u) h in
     let inner = and_parts (primary_bus image == p) (secondary_bus image == s) outer.0 in
     record { primary = eqb-true (primary_bus image) p inner.0; secondary = eqb-true (secondary_bus image) s inner.1; subordinate = eqb-true (subordinate_bus image) u outer.1 }
 
 -- a bridge has a bus by its secondary number
-opened : (image : List ℕ) → is_type_1 image ≡ true → (secondary_bus image ≡ 0 → ⊥) → has_bus image ≡ true
+pub opened : (image : List ℕ) → is_type_1 image ≡ true → (secondary_bus image ≡ 0 → ⊥) → has_bus image ≡ true
 opened image bridge some = and_from (is_type_1 image) (not (secondary_bus image == 0)) bridge (ap not (ne_eqb (secondary_bus image) 0 some))
 
-closed : (image : List ℕ) → is_type_1 image ≡ true → secondary_bus image ≡ 0 → has_bus image ≡ false
+pub closed : (image : List ℕ) → is_type_1 image ≡ true → secondary_bus image ≡ 0 → has_bus image ≡ false
 closed image bridge none = let zeros = eq-eqb (secondary_bus image) 0 none in rw (bridge, zeros) refl
 
 -- a node on a bus: a device, a bridge with the next number, or a bridge for which none is left
@@ -64,7 +64,7 @@ behind_opened : (bus device function : ℕ) (image : List ℕ) (behind others : 
 behind_opened bus device function image behind others leads = rw leads refl
 
 -- no bridge leads above the last bus
-within_last : (room : List ℕ → ℕ) (last bus taken : ℕ) (nodes : Nodes) → have_numbers room last bus taken nodes ≡ true → taken ≤ last → last_behind taken nodes ≤ last
+pub within_last : (room : List ℕ → ℕ) (last bus taken : ℕ) (nodes : Nodes) → have_numbers room last bus taken nodes ≡ true → taken ≤ last → last_behind taken nodes ≤ last
 within_last room last bus taken NoMore h low = low
 within_last room last bus taken (Node d f image behind others) h low = elim (turn room last bus taken d f image behind others h) [
   | Plain plain none rest ↦ rw (behind_closed taken d f image behind others none) (within_last room last bus taken others rest low)

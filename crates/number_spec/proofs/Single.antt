@@ -11,7 +11,7 @@ use Rattle.number_spec.specs.Walk.{comes_before, all_after, is_rising}
 -- ---- on one bus
 
 -- an access to a device and function before all those on a bus
-none_before : (device function : ℕ) (nodes : Nodes) → all_after device function nodes ≡ true → (access : Slot) → device ≡ access.device → function ≡ access.function → on_bus nodes access ≡ []
+pub none_before : (device function : ℕ) (nodes : Nodes) → all_after device function nodes ≡ true → (access : Slot) → device ≡ access.device → function ≡ access.function → on_bus nodes access ≡ []
 none_before device function NoMore after access same same_function = refl
 none_before device function (Node d f image behind others) after access same same_function =
     let parts = and_parts (comes_before device function d f) (all_after device function others) after in
@@ -81,7 +81,7 @@ outside_is_idle image bus outside range = (
 )
 
 -- where a bridge passes nothing on, only what is behind the others on its bus answers
-rest_alone : (device function : ℕ) (image : List ℕ) (behind others : Nodes) (access : Slot) → ((is_type_1 image && secondary_bus image == access.bus) ≡ false) × ((is_type_1 image && passes_on image access.bus) ≡ false) → behind_bridges (Node device function image behind others) access ≡ map Next (behind_bridges others access)
+pub rest_alone : (device function : ℕ) (image : List ℕ) (behind others : Nodes) (access : Slot) → ((is_type_1 image && secondary_bus image == access.bus) ≡ false) × ((is_type_1 image && passes_on image access.bus) ≡ false) → behind_bridges (Node device function image behind others) access ≡ map Next (behind_bridges others access)
 rest_alone device function image behind others access idle = rw (idle.0, idle.1) refl
 
 -- an access to a bus outside the range

@@ -1,0 +1,20 @@
+-- The first bridge that got no bus number.
+use Rattle.std.specs.Prelude.{ℕ, if◌then◌else◌, Option, Some, None}
+use Rattle.pci_spec.specs.Slot.{Slot}
+use Rattle.pci_spec.specs.Header.{secondary_bus}
+use Rattle.number_spec.specs.Board.{Nodes, NoMore, Node, is_type_1}
+use Rattle.number_spec.specs.Walk.{has_bus}
+
+-- the first of two, or the second where there is no first
+abbrev pub first_of : Option Slot → Option Slot → Option Slot
+first_of (Some slot) other = Some slot
+first_of None other = other
+
+-- the first bridge in the order of the walk that has no bus on its other side, of those on a bus and
+-- behind it
+abbrev pub first_without : ℕ → Nodes → Option Slot
+first_without bus NoMore = None
+first_without bus (Node device function image behind others) =
+    first_of (if has_bus image then first_without (secondary_bus image) behind
+    else if is_type_1 image then Some (record { bus = bus; device = device; function = function })
+    else None) (first_without bus others)
