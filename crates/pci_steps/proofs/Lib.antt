@@ -1,0 +1,5 @@
+pub mod Places
+pub mod Starts
+pub mod Goes
+pub mod Runs
+pub mod Applies
