@@ -1,5 +1,5 @@
 -- One step: what follows from what its access showed.
-use Rattle.std.proofs.Common.{◌≡◌, ◌≢◌, ℕ, ◌⊎◌, inl, inr, List, refl, Bool, true, false, sym, ◌∙◌, ap, subst, Some, None, Option, OnOk, OnErr, IfErr}
+use Rattle.std.proofs.Common.{◌≡◌, ◌≢◌, ℕ, inl, inr, List, refl, sym, ◌∙◌, subst, Some, None, Option, OnOk, OnErr, IfErr}
 use Rattle.std.specs.Bool.{◌==◌}
 use Rattle.std.specs.declared.result.Result.{Result}
 use Rattle.std.specs.declared.result.Result.TheVariants.{Ok, Err}
@@ -11,7 +11,7 @@ use Rattle.pci_plan.specs.declared.apply_fault.ApplyFault.TheVariants.{Changed, 
 use Rattle.pci_steps.specs.declared.step.Kind.{Kind}
 use Rattle.pci_steps.specs.declared.step.Kind.TheVariants.{Compare, Make, ReadBack}
 use Rattle.pci_steps.specs.Steps.{Step, unless_same, judged}
-use Rattle.pci_steps.specs.Going.{Answers, GoesOn, IsStepFault, IsNumberFault, IsReadBackFault}
+use Rattle.pci_steps.specs.Going.{Answers, GoesOn, IsStepFault}
 
 -- ---- a number that is shown beside the wanted one
 

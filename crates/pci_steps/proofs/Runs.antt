@@ -1,5 +1,5 @@
 -- All steps, one more at a time.
-use Rattle.std.proofs.Common.{◌≡◌, ℕ, suc, ◌+◌, ◌<◌, ◌≤◌, ◌⊎◌, inl, inr, List, [], ◌∷◌, ◌++◌, refl, Bool, true, IsFalse, arith, sym, ◌∙◌, ap, subst, length, take, Some}
+use Rattle.std.proofs.Common.{◌≡◌, ℕ, suc, ◌+◌, ◌<◌, ◌≤◌, ◌⊎◌, inl, inr, List, [], ◌∷◌, ◌++◌, refl, true, IsFalse, arith, sym, ◌∙◌, ap, subst, length, take, Some}
 use Rattle.std.specs.List.{Contains, slice_get}
 use Rattle.std.proofs.lemmas.Bool.{both_ways, cases_lt, and_parts}
 use Rattle.std.proofs.lemmas.List.{take_more}
@@ -12,9 +12,9 @@ use Rattle.pci_plan.specs.declared.apply_fault.ApplyFault.TheVariants.{Changed, 
 use Rattle.pci_plan.specs.Comparing.{IsRefusedAt}
 use Rattle.pci_plan.specs.Making.{AreMade, IsStop}
 use Rattle.pci_plan.proofs.Makes.{fold_more, has_after, has_after_one}
-use Rattle.pci_steps.specs.Steps.{Step, compare_step, make_step, read_back_step, steps_of}
+use Rattle.pci_steps.specs.Steps.{Step, steps_of}
 use Rattle.pci_steps.specs.Going.{IsReadable, IsWritable, IsTaken, GoesOn, IsShown, IsStepFault, IsNumberFault, IsWriteFault, IsReadBackFault, AreFirstShown, AreAllShown, AreStopped}
-use Rattle.pci_steps.proofs.Places.{IsStepAt, IsCompareAt, IsMakeAt, IsReadBackAt, length_steps}
+use Rattle.pci_steps.proofs.Places.{IsStepAt, length_steps}
 
 -- what can be written can be read
 readable_too : (w : Write) → IsWritable w → IsReadable w

@@ -1,11 +1,10 @@
 -- The registers that are compared, of all blocks.
-use Rattle.std.proofs.Common.{◌≡◌, ℕ, List, refl, sym, ◌∙◌, ap, subst, Some}
-use Rattle.std.specs.List.{Contains, flat_map, slice_get}
+use Rattle.std.proofs.Common.{◌≡◌, ℕ, List, sym, ◌∙◌, ap, subst, Some}
+use Rattle.std.specs.List.{Contains}
 use Rattle.std.proofs.lemmas.Option.{slice_get-get_or, slice_get_within, get_or_from_slice_get}
 use Rattle.pci_spec.specs.Number.{number_at}
 use Rattle.pci_spec.specs.Text.{Block}
 use Rattle.pci_spec.specs.Machine.{Target, Write}
-use Rattle.pci_spec.specs.Port.{ShowsNumber}
 use Rattle.pci_spec.proofs.Members.{IsMade, in_map_to, in_map_from, IsInPiece, in_flat_map_to, in_flat_map_from}
 use Rattle.pci_plan.specs.declared.apply_fault.ApplyFault.{ApplyFault}
 use Rattle.pci_plan.specs.declared.apply_fault.ApplyFault.TheVariants.{Changed, Port, Stuck}

@@ -4,7 +4,6 @@ use Rattle.pci_spec.specs.Machine.{Target, Write, write_targets}
 use Rattle.pci_spec.specs.Port.{is_access, fits, has_function, ShowsNumber}
 use Rattle.pci_plan.specs.Comparing.{IsRefusedAt}
 use Rattle.pci_plan.specs.Making.{IsShownOtherwise, IsStop}
-use Rattle.pci_plan.specs.declared.write.Write.{Write as CodeWrite}
 use Rattle.pci_plan.specs.declared.apply_fault.ApplyFault.{ApplyFault}
 use Rattle.pci_plan.specs.declared.apply_fault.ApplyFault.TheVariants.{Changed, Port, Stuck}
 use Rattle.pci_plan.specs.Writes.{write_value}

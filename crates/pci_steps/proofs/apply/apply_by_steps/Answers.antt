@@ -1,9 +1,9 @@
-use Rattle.std.proofs.Common.{map, subst, sym}
+use Rattle.std.proofs.Common.{map, subst}
 use Rattle.std.specs.List.{Contains}
 use Rattle.pci_plan.specs.Writes.{write_value}
-use Rattle.pci_plan.proofs.Applied.{accesses, sound_while_read_back}
+use Rattle.pci_plan.proofs.Applied.{sound_while_read_back}
 use Rattle.pci_steps.proofs.Starts.{all_readable}
-use Rattle.pci_steps.proofs.Applies.{IsRun, all_writable, ran_made, ran_started, ran_ended, ran_read_back, ran_fault, ran_own_machine, ran_sound}
+use Rattle.pci_steps.proofs.Applies.{all_writable, ran_made, ran_started, ran_ended, ran_read_back, ran_fault, ran_own_machine, ran_sound}
 use Rattle.pci_steps.proofs.apply.apply_by_steps.Goals as goal
 
 pub run-requires-clause-compares : goal.run-requires-clause-compares

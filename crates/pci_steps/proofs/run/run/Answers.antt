@@ -1,4 +1,4 @@
-use Rattle.std.proofs.Common.{◌≡◌, arith, sym, ◌∙◌, subst, map}
+use Rattle.std.proofs.Common.{arith, sym, ◌∙◌, subst, map}
 use Rattle.std.proofs.lemmas.Result.{err_from_is_err_and}
 use Rattle.pci_plan.specs.Writes.{write_value}
 use Rattle.pci_steps.specs.Going.{step_value, AreStopped}

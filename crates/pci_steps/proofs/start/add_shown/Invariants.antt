@@ -1,5 +1,4 @@
-use Rattle.std.proofs.Common.{◌≡◌, ◌++◌, ◌∷◌, [], map, take}
-use Rattle.pci_spec.specs.Number.{number_at}
+use Rattle.std.proofs.Common.{◌≡◌, ◌++◌, map, take}
 use Rattle.pci_plan.specs.Writes.{write_value}
 use Rattle.pci_steps.proofs.Starts.{shown_at}
 use Rattle.pci_steps.proofs.start.add_shown.Given as goal

@@ -3,7 +3,6 @@ use Rattle.std.specs.List.{slice_get}
 use Rattle.std.specs.Option.{option_map}
 use Rattle.std.proofs.lemmas.List.{length-map}
 use Rattle.std.proofs.lemmas.Option.{slice_get-map, slice_get_read}
-use Rattle.pci_spec.specs.Machine.{Write}
 use Rattle.pci_plan.specs.declared.write.Write.{Write as CodeWrite}
 use Rattle.pci_plan.specs.Writes.{write_value}
 use Rattle.pci_steps.specs.Places.{IsPlaceAt}
