@@ -17,39 +17,45 @@ use pci_image::header::Header;
 use pci_image::rom::register::rom;
 use pci_image::window::Windows;
 
-/// The bus numbers and windows of a function, where it is a bridge.
-fn bridge_at(image: &Image, probe: &Image) -> Result<Option<Bridge>, ImageFault>
-    ensures bridge { MatchResult result (IsBridgeAt image.now.0 probe.now.0)
+/// Fills in the bus numbers and windows of a function, where it is a bridge.
+fn bridge_into(image: &Image, probe: &Image, bridge: &mut Option<Bridge>) -> Result<(), ImageFault>
+    ensures bridge { MatchResult result (λ _. IsBridgeAt image.now.0 probe.now.0 bridge.new)
         (IsImageFaultIn image.now.0 probe.now.0) }
     ensures lowest { IfErr result (IsLowestWindowFault image.now.0 probe.now.0) }
 {
     match Header::of(image)? {
-        Header::Type0(_) => Ok(None),
+        Header::Type0(_) => *bridge = None,
         Header::Type1(_) => {
             let windows = Windows::of(image, probe)?;
-            Ok(Some(Bridge {
+            *bridge = Some(Bridge {
                 primary: image.u8(PRIMARY_BUS),
                 secondary: image.u8(SECONDARY_BUS),
                 subordinate: image.u8(SUBORDINATE_BUS),
                 windows,
-            }))
+            });
         }
     }
+    Ok(())
 }
 
-/// The record of a function.
+/// Fills a record with what a function decodes to. What the record held before is let go.
 ///
 /// # Errors
 ///
 /// 20 `NoVendor` and 21 `HeaderKind` where it isn't a function that decodes; else the first fault of its registers, in
 /// the order of BARs (22 to 24), ROM (25) and windows (26).
-pub fn decode(slot: Slot, image: &Image, probe: &Image) -> Result<Record, ImageFault>
+pub fn decode_into(
+    slot: Slot,
+    image: &Image,
+    probe: &Image,
+    decoded: &mut Record,
+) -> Result<(), ImageFault>
     // judging keeps no image, so all that it asks of a function later stands in the record
-    ensures decoded { MatchResult result (IsRecordOf record {
+    ensures decoded { MatchResult result (λ _. IsRecordOf record {
       slot = slot;
       image = image.now.0;
       probe = probe.now.0;
-    }) (IsImageFaultIn image.now.0 probe.now.0) }
+    } decoded.new) (IsImageFaultIn image.now.0 probe.now.0) }
     // never 27 to 29: a machine in memory has the header alone, and refuses no list
     ensures number { IfErr result (λ e. image_fault_number e ≤ 26) }
     // whoever decodes all functions in turn so comes to the first fault of all
@@ -59,14 +65,33 @@ pub fn decode(slot: Slot, image: &Image, probe: &Image) -> Result<Record, ImageF
       probe = probe.now.0;
     } (image_fault_at slot e)) }
 {
-    let bars = bars(image, probe)?;
-    let rom = rom(image, probe)?;
-    let bridge = bridge_at(image, probe)?;
-    Ok(Record {
-        slot,
-        command: image.u16(COMMAND),
-        bars,
-        rom,
-        bridge,
-    })
+    decoded.bars = bars(image, probe)?;
+    decoded.rom = rom(image, probe)?;
+    bridge_into(image, probe, &mut decoded.bridge)?;
+    decoded.slot = slot;
+    decoded.command = image.u16(COMMAND);
+    Ok(())
+}
+
+/// The record of a function, as [`decode_into`] fills it in.
+///
+/// # Errors
+///
+/// As of [`decode_into`].
+pub fn decode(slot: Slot, image: &Image, probe: &Image) -> Result<Record, ImageFault>
+    ensures decoded { MatchResult result (IsRecordOf record {
+      slot = slot;
+      image = image.now.0;
+      probe = probe.now.0;
+    }) (IsImageFaultIn image.now.0 probe.now.0) }
+    ensures number { IfErr result (λ e. image_fault_number e ≤ 26) }
+    ensures first { IfErr result (λ e. IsFirstOf (phase_key Decoding) record {
+      slot = slot;
+      image = image.now.0;
+      probe = probe.now.0;
+    } (image_fault_at slot e)) }
+{
+    let mut decoded = Record::blank(slot);
+    decode_into(slot, image, probe, &mut decoded)?;
+    Ok(decoded)
 }

@@ -1,4 +1,7 @@
 //! What judging needs of a function: its slot, what Command enables, and the ranges that its registers decode to.
+ghost use Rattle.std.specs.Prelude.{◌≡◌, [], None};
+ghost use Rattle.pci_function.specs.Values.{record_value};
+
 use arrayvec::ArrayVec;
 use pci_base::slot::Slot;
 use pci_image::bar::Bar;
@@ -28,4 +31,20 @@ pub struct Record {
     pub rom: Option<Rom>,
     /// Its bus numbers and windows, where it is a bridge.
     pub bridge: Option<Bridge>,
+}
+
+impl Record {
+    /// The record of a function at a slot that decodes nothing: what a record is filled into.
+    pub fn blank(slot: Slot) -> Record
+        ensures { record_value result
+            ≡ record { slot = slot; command = 0; bars = []; rom = None; bridge = None } }
+    {
+        Record {
+            slot,
+            command: 0,
+            bars: ArrayVec::new(),
+            rom: None,
+            bridge: None,
+        }
+    }
 }

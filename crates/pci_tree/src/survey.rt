@@ -16,7 +16,7 @@ use pci_base::image::IMAGE_LEN;
 use pci_base::memory::{OutOfMemory, Refused};
 use pci_base::slot::Slot;
 use pci_dump::block::Block;
-use pci_function::examine::examine;
+use pci_function::examine::examine_into;
 use pci_function::fault::Fault;
 use pci_function::record::Record;
 use std::alloc::{Allocator, Global};
@@ -169,18 +169,20 @@ impl<A: Allocator> Survey<A> {
         // Both are read for what their types say of them.
         let _number = slot.number();
         let _bytes = bytes_of(&block.image.0);
-        match examine(slot, &block.image, &probe.image) {
+        let mut decoded = Record::blank(slot);
+        match examine_into(slot, &block.image, &probe.image, &mut decoded) {
             Err(fault) => {
                 self.noted = Some(earlier(self.noted, fault));
                 self.last = Some(slot);
                 Ok(())
             }
-            Ok(decoded) => {
+            Ok(()) => {
                 if self.noted.is_some() {
                     self.last = Some(slot);
                     return Ok(());
                 }
-                self.records.push(decoded)?;
+                self.records.reserve(1)?;
+                self.records.push_reserved(decoded);
                 self.last = Some(slot);
                 Ok(())
             }

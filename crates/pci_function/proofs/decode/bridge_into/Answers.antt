@@ -2,7 +2,7 @@ use Rattle.std.proofs.Common.{refl}
 use Rattle.std.proofs.lemmas.Result.{err_from_is_err_and}
 use Rattle.pci_image.proofs.WindowRules.{header_fault-no_window}
 use Rattle.pci_function.proofs.Decodes.{bridge_is_at}
-use Rattle.pci_function.proofs.decode.bridge_at.Goals as goal
+use Rattle.pci_function.proofs.decode.bridge_into.Goals as goal
 
 pub returns-in_ok-windows-in-Type1-clause-bridge : goal.returns-in_ok-windows-in-Type1-clause-bridge
 returns-in_ok-windows-in-Type1-clause-bridge c =

@@ -4,7 +4,7 @@ use Rattle.pci_function.specs.Fault.{fault_of}
 use Rattle.pci_function.specs.Profile.{IsFirstFault}
 use Rattle.pci_function.proofs.Examined.{clear_1, clear_3, first_fault_of, first_of_image, chain_fault}
 use Rattle.pci_function.proofs.FirstDecoded.{AreRegistersFine, first_of_chain}
-use Rattle.pci_function.proofs.examine.examine.Goals as goal
+use Rattle.pci_function.proofs.examine.examine_into.Goals as goal
 
 pub returns-in-Some : goal.returns-in-Some
 returns-in-Some c =
