@@ -11,7 +11,7 @@ use super::record::{Bridge, Record};
 use pci_base::image::Image;
 use pci_base::offset::{COMMAND, PRIMARY_BUS, SECONDARY_BUS, SUBORDINATE_BUS};
 use pci_base::slot::Slot;
-use pci_image::bar::bars;
+use pci_image::bar::bars_into;
 use pci_image::fault::ImageFault;
 use pci_image::header::Header;
 use pci_image::rom::register::rom;
@@ -65,7 +65,7 @@ pub fn decode_into(
       probe = probe.now.0;
     } (image_fault_at slot e)) }
 {
-    decoded.bars = bars(image, probe)?;
+    bars_into(image, probe, &mut decoded.bars)?;
     decoded.rom = rom(image, probe)?;
     bridge_into(image, probe, &mut decoded.bridge)?;
     decoded.slot = slot;

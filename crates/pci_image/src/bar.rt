@@ -1,5 +1,5 @@
 //! Base Address registers (PCI 3.0, 6.2.5.1).
-ghost use Rattle.std.specs.Prelude.{◌≡◌, ◌+◌, ◌*◌, ◌%◌, ◌^◌, ◌<◌, ◌≤◌, ◌↔◌, false, IsTrue, MatchResult, MatchOption, IsOk, IfOk, IfErr, None, map, All};
+ghost use Rattle.std.specs.Prelude.{◌≡◌, ◌+◌, ◌*◌, ◌%◌, ◌^◌, ◌<◌, ◌≤◌, ◌↔◌, false, IsTrue, MatchResult, MatchOption, IsOk, IfOk, OnOk, IfErr, None, map, All};
 ghost use Rattle.pci_spec.specs.Decoded.{decoded_bars};
 ghost use Rattle.pci_spec.specs.Number.{number_at};
 ghost use Rattle.pci_spec.specs.Bar as bar;
@@ -267,7 +267,8 @@ pub fn bar_fault(image: &Image, probe: &Image, n: u8, count: u8) -> Option<Image
     }
 }
 
-/// The implemented BARs of a function, in the order of their registers.
+/// Fills a list with the implemented BARs of a function, in the order of their registers. What the list held before is
+/// let go.
 ///
 /// A 64-bit BAR takes the register after its own as its upper half. `probe` holds what the registers
 /// read back after all ones were written to them.
@@ -276,13 +277,17 @@ pub fn bar_fault(image: &Image, probe: &Image, n: u8, count: u8) -> Option<Image
 ///
 /// 20 `NoVendor` and 21 `HeaderKind` as [`Header::of`]; then the first rule that the lowest faulty
 /// register breaks: 22 `BarType`, 23 `BarMask` or 24 `BarPair`.
-pub fn bars(image: &Image, probe: &Image) -> Result<ArrayVec<Bar, 6>, ImageFault>
+pub fn bars_into(
+    image: &Image,
+    probe: &Image,
+    found: &mut ArrayVec<Bar, 6>,
+) -> Result<(), ImageFault>
     // both ways: BARs that keep the rules are never refused
     ensures lawful { IsOk result ↔ HasLawfulBars image.now.0 probe.now.0 }
-    ensures decoded { IfOk result
-        (λ v. map decoded_bar_of v.items ≡ decoded_bars image.now.0 probe.now.0) }
+    ensures decoded { OnOk result
+        (map decoded_bar_of found.new.items ≡ decoded_bars image.now.0 probe.now.0) }
     // said of single addresses, as the rules know no ranges: the two are joined here
-    ensures compared { IfOk result (λ v. All (IsComparedBar image.now.0 probe.now.0) v.items) }
+    ensures compared { OnOk result (All (IsComparedBar image.now.0 probe.now.0) found.new.items) }
     ensures fault { IfErr result
         (λ f. IsImageFaultIn image.now.0 probe.now.0 f × (image_fault_number f ≤ 24)) }
     // decoding names the first fault of all its parts by the next two
@@ -290,7 +295,7 @@ pub fn bars(image: &Image, probe: &Image) -> Result<ArrayVec<Bar, 6>, ImageFault
     ensures lowest { IfErr result (IsLowestBarFault image.now.0 probe.now.0) }
 {
     let count = Header::of(image)?.bar_count();
-    let mut found = ArrayVec::new();
+    found.clear();
     let mut is_upper_half = false;
     for n in 0..count {
         if is_upper_half {
@@ -300,5 +305,25 @@ pub fn bars(image: &Image, probe: &Image) -> Result<ArrayVec<Bar, 6>, ImageFault
             found.push(bar);
         }
     }
+    Ok(())
+}
+
+/// The implemented BARs of a function, as [`bars_into`] gives them.
+///
+/// # Errors
+///
+/// As of [`bars_into`].
+pub fn bars(image: &Image, probe: &Image) -> Result<ArrayVec<Bar, 6>, ImageFault>
+    ensures lawful { IsOk result ↔ HasLawfulBars image.now.0 probe.now.0 }
+    ensures decoded { IfOk result
+        (λ v. map decoded_bar_of v.items ≡ decoded_bars image.now.0 probe.now.0) }
+    ensures compared { IfOk result (λ v. All (IsComparedBar image.now.0 probe.now.0) v.items) }
+    ensures fault { IfErr result
+        (λ f. IsImageFaultIn image.now.0 probe.now.0 f × (image_fault_number f ≤ 24)) }
+    ensures header { IfErr result (HasNoHeaderFaultBefore image.now.0) }
+    ensures lowest { IfErr result (IsLowestBarFault image.now.0 probe.now.0) }
+{
+    let mut found = ArrayVec::new();
+    bars_into(image, probe, &mut found)?;
     Ok(found)
 }

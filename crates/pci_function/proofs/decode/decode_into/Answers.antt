@@ -17,31 +17,31 @@ use Rattle.pci_function.proofs.decode.decode_into.Goals as goal
 pub returns-clause-decoded : goal.returns-clause-decoded
 returns-clause-decoded c =
     let f : Function = record { slot = c.args.slot; image = c.args.image.now.0; probe = c.args.probe.now.0 } in
-    let r : Record = record { slot = c.args.slot; command = c.u16-decoded.result; bars = c.in_ok-decoded.field-0; rom = c.in_ok-decoded-2.field-0; bridge = c.bridge_into.new.bridge } in
-    let bars : HasLawfulBars f.image f.probe = c.in_ok-decoded.ensures.lawful.0 refl in
-    let rom : HasLawfulRom f.image f.probe = c.in_ok-decoded-2.ensures.lawful.0 refl in
+    let r : Record = record { slot = c.args.slot; command = c.u16-decoded.result; bars = c.bars_into.new.found; rom = c.in_ok-decoded.field-0; bridge = c.bridge_into.new.bridge } in
+    let bars : HasLawfulBars f.image f.probe = c.in_ok-bars_into.ensures.lawful.0 refl in
+    let rom : HasLawfulRom f.image f.probe = c.in_ok-decoded.ensures.lawful.0 refl in
     let decodable : IsDecodable f = record { vendor = bars.vendor; header = bars.header; bars = bars.each; rom = rom.rom; windows = c.in_ok-bridge_into.ensures.bridge.windows } in
-    let same : record_value r ≡ record_of f = record_is r f refl c.u16-decoded.ensures c.in_ok-decoded.ensures.decoded c.in_ok-decoded-2.ensures.decoded c.in_ok-bridge_into.ensures.bridge.same in
+    let same : record_value r ≡ record_of f = record_is r f refl c.u16-decoded.ensures c.in_ok-bars_into.ensures.decoded c.in_ok-decoded.ensures.decoded c.in_ok-bridge_into.ensures.bridge.same in
     record { decodable = decodable; same = same }
+
+pub returns-in_err-bars_into-clause-first : goal.returns-in_err-bars_into-clause-first
+returns-in_err-bars_into-clause-first c =
+    let f : Function = record { slot = c.args.slot; image = c.args.image.now.0; probe = c.args.probe.now.0 } in
+    let p = err_from_is_err_and c.from_residual.result c.from_residual.ensures.1 in
+    rw (p.1, p.2) (first_of_bars f c.in_err-bars_into.field-0.0 c.in_err-bars_into.ensures.lowest)
 
 pub returns-in_err-decoded-clause-first : goal.returns-in_err-decoded-clause-first
 returns-in_err-decoded-clause-first c =
     let f : Function = record { slot = c.args.slot; image = c.args.image.now.0; probe = c.args.probe.now.0 } in
-    let p = err_from_is_err_and c.from_residual.result c.from_residual.ensures.1 in
-    rw (p.1, p.2) (first_of_bars f c.in_err-decoded.field-0.0 c.in_err-decoded.ensures.lowest)
-
-pub returns-in_err-decoded-2-clause-first : goal.returns-in_err-decoded-2-clause-first
-returns-in_err-decoded-2-clause-first c =
-    let f : Function = record { slot = c.args.slot; image = c.args.image.now.0; probe = c.args.probe.now.0 } in
-    let bars : HasLawfulBars f.image f.probe = c.in_ok-decoded.ensures.lawful.0 refl in
-    let p = err_from_is_err_and c.from_residual-in_err-decoded-2.result c.from_residual-in_err-decoded-2.ensures.1 in
-    rw (p.1, p.2) (first_of_rom f c.in_err-decoded-2.field-0.0 bars.each c.in_err-decoded-2.ensures.fault.1)
+    let bars : HasLawfulBars f.image f.probe = c.in_ok-bars_into.ensures.lawful.0 refl in
+    let p = err_from_is_err_and c.from_residual-in_err-decoded.result c.from_residual-in_err-decoded.ensures.1 in
+    rw (p.1, p.2) (first_of_rom f c.in_err-decoded.field-0.0 bars.each c.in_err-decoded.ensures.fault.1)
 
 pub returns-in_err-bridge_into-clause-first : goal.returns-in_err-bridge_into-clause-first
 returns-in_err-bridge_into-clause-first c =
     let f : Function = record { slot = c.args.slot; image = c.args.image.now.0; probe = c.args.probe.now.0 } in
-    let bars : HasLawfulBars f.image f.probe = c.in_ok-decoded.ensures.lawful.0 refl in
-    let rom : HasLawfulRom f.image f.probe = c.in_ok-decoded-2.ensures.lawful.0 refl in
+    let bars : HasLawfulBars f.image f.probe = c.in_ok-bars_into.ensures.lawful.0 refl in
+    let rom : HasLawfulRom f.image f.probe = c.in_ok-decoded.ensures.lawful.0 refl in
     let p = err_from_is_err_and c.from_residual-in_err-bridge_into.result c.from_residual-in_err-bridge_into.ensures.1 in
     rw (p.1, p.2) (first_of_windows f c.in_err-bridge_into.field-0.0 bars.each rom.rom c.in_err-bridge_into.ensures.lowest)
 

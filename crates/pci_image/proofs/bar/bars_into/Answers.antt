@@ -5,8 +5,8 @@ use Rattle.pci_spec.specs.Bar.{bar_fault}
 use Rattle.pci_image.specs.Bars.{IsDecodedAt}
 use Rattle.pci_image.proofs.Found.{layout-of_header, bar_fault-found, bar_fault-lowest, header_fault-lowest}
 use Rattle.pci_image.proofs.Reading.{read_upper, read_empty, read_bar, fault_is, read-compared}
-use Rattle.pci_image.proofs.bar.bars.Goals as goal
-use Rattle.pci_image.proofs.bar.bars.Goals.{then-is_upper_half, else-is_upper_half+in_ok-bar+in-Some, else-is_upper_half+in_ok-bar+in_default}
+use Rattle.pci_image.proofs.bar.bars_into.Goals as goal
+use Rattle.pci_image.proofs.bar.bars_into.Goals.{then-is_upper_half, else-is_upper_half+in_ok-bar+in-Some, else-is_upper_half+in_ok-bar+in_default}
 
 pub returns-in_err-bar-clause-fault : goal.returns-in_err-bar-clause-fault
 returns-in_err-bar-clause-fault c =
