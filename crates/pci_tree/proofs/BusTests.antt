@@ -1,5 +1,5 @@
 -- Tests of bus numbers, bus by bus.
-use Rattle.std.proofs.Common.{◌≡◌, ℕ, ◌+◌, ◌<◌, ◌≤◌, ◌↔◌, List, get_or, refl, sym, ap, ◌∙◌, subst, inl, inr, arith}
+use Rattle.std.proofs.Common.{◌≡◌, ℕ, ◌+◌, ◌<◌, ◌≤◌, ◌↔◌, List, get_or, refl, sym, subst, inl, inr, arith}
 use Rattle.std.specs.List.{Contains, All}
 use Rattle.std.proofs.lemmas.Bool.{cases_eq}
 use Rattle.std.proofs.lemmas.List.Elements.{All-contains, Contains-get_or}
@@ -7,9 +7,7 @@ use Rattle.pci_spec.specs.Slot.{Slot, IsSlot, slot_number}
 use Rattle.pci_function.specs.declared.record.Bridge.{Bridge}
 use Rattle.pci_function.specs.declared.record.Record.{Record}
 use Rattle.pci_tree.specs.Outline.{IsBusPart}
-use Rattle.pci_tree.specs.BusNumbers.{IsBridgeWith, AreSiblings, ShareNoBus, IsApartFrom, IsApartFromLower, IsApartFromEarlier, IsBehind, HasBusOrder, HasNoRootBehind, IsInsideParents, HasLawfulBuses, first_function}
-use Rattle.pci_tree.specs.Ways.{slots_of}
-use Rattle.pci_spec.proofs.Members.{IsMade, in_map_to, in_map_from}
+use Rattle.pci_tree.specs.BusNumbers.{IsBridgeWith, AreSiblings, ShareNoBus, IsApartFrom, IsApartFromLower, IsApartFromEarlier, IsBehind, HasBusOrder, HasNoRootBehind, IsInsideParents, HasLawfulBuses}
 
 -- apart from the earlier bridges on the buses below a number
 abbrev pub IsApartBelow : ℕ → List ℕ → List Record → Slot → Bridge → Type 0
@@ -69,17 +67,3 @@ pub lawful_buses : (roots : List ℕ) (records : List Record) (slot : Slot) (b :
     → HasNoRootBehind roots b → IsInsideParents roots records slot b → HasLawfulBuses roots records slot b
 lawful_buses roots records slot b bus e order apart clear inside =
     record { order = subst (λ n. HasBusOrder n b) e order; apart = apart; inside = inside; clear = clear }
-
--- the functions of a device are on one bus
-pub first_to : (records part : List Record) (slot first : Slot) (bus : ℕ) → IsBusPart records bus part → first ≡ first_function slot → Contains (slots_of part) first
-    → Contains (slots_of records) (first_function slot)
-first_to records part slot first bus on e has =
-    let made : IsMade (λ (r : Record). r.slot) part first = in_map_to (λ (r : Record). r.slot) part first has in
-    subst (λ x. Contains (slots_of records) x) (made.is ∙ e) (in_map_from (λ (r : Record). r.slot) records made.from (on.each made.from made.has).0)
-
-pub first_from_all : (records part : List Record) (slot first : Slot) (bus : ℕ) → IsBusPart records bus part → bus ≡ slot.bus → first ≡ first_function slot
-    → Contains (slots_of records) (first_function slot) → Contains (slots_of part) first
-first_from_all records part slot first bus on here e has =
-    let made : IsMade (λ (r : Record). r.slot) records (first_function slot) = in_map_to (λ (r : Record). r.slot) records (first_function slot) has in
-    let there : made.from.slot.bus ≡ bus = ap (λ (x : Slot). x.bus) made.is ∙ sym here in
-    subst (λ x. Contains (slots_of part) x) (made.is ∙ sym e) (in_map_from (λ (r : Record). r.slot) part made.from (on.all made.from made.has there))

@@ -14,6 +14,7 @@ pub mod Outlines
 pub mod Orders
 pub mod Lawful
 pub mod LeastEnds
+pub mod SlotSearch
 pub mod BusTests
 pub mod Faces
 pub mod Places

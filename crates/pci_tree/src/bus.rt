@@ -1,7 +1,7 @@
 //! The records of a bus, which stand in a row, as records rise by slot.
 ghost use Rattle.std.specs.Prelude.{◌↔◌, ◌<◌, ◌≤◌, IsTrue, length};
 ghost use Rattle.std.specs.List.{All, AllWithin, Contains};
-ghost use Rattle.pci_spec.specs.Slot.{IsSlot};
+ghost use Rattle.pci_spec.specs.Slot.{IsSlot, slot_number};
 ghost use Rattle.pci_tree.specs.Ways.{slots_of};
 ghost use Rattle.pci_tree.specs.Outline.{RiseBySlot, IsBusPart};
 
@@ -32,14 +32,28 @@ pub fn on_bus(records: &[Record], bus: u8) -> &[Record]
     &records[first..end]
 }
 
+/// The index of the first record whose slot isn't below another.
+fn first_not_below(records: &[Record], slot: Slot) -> usize
+    requires { RiseBySlot records.now }
+    ensures bound { result ≤ length records.now }
+    ensures before { AllWithin (λ r. slot_number r.slot < slot_number slot) records.now 0 result }
+    ensures after { AllWithin (λ r. slot_number slot ≤ slot_number r.slot) records.now result
+        (length records.now) }
+{
+    let number = slot.number();
+    records.partition_point(|function| function.slot.number() < number)
+}
+
 /// Whether a function of some records has the slot.
 pub fn has_slot(records: &[Record], slot: Slot) -> bool
+    // it is found by halving
+    requires { RiseBySlot records.now }
     ensures { IsTrue result ↔ Contains (slots_of records.now) slot }
 {
-    for function in records {
-        if function.slot == slot {
-            return true;
-        }
+    let index = first_not_below(records, slot);
+    if index == records.len() {
+        return false;
     }
-    false
+    let function = &records[index];
+    function.slot == slot
 }

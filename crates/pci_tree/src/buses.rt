@@ -184,7 +184,7 @@ fn is_not_lone(records: &[Record], slot: Slot) -> bool
     }
     match Slot::new(slot.bus(), slot.dev(), 0) {
         None => false,
-        Some(first) => has_slot(on_bus(records, slot.bus()), first),
+        Some(first) => has_slot(records, first),
     }
 }
 

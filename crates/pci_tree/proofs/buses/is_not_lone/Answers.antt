@@ -1,7 +1,8 @@
-use Rattle.std.proofs.Common.{◌≡◌, ℕ, ◌∙◌, arith}
+use Rattle.std.proofs.Common.{◌≡◌, ℕ, ◌∙◌, sym, subst, arith}
+use Rattle.std.specs.List.{Contains}
 use Rattle.pci_spec.specs.Slot.{Slot}
+use Rattle.pci_tree.specs.Ways.{slots_of}
 use Rattle.pci_tree.specs.BusNumbers.{first_function}
-use Rattle.pci_tree.proofs.BusTests.{first_to, first_from_all}
 use Rattle.pci_tree.proofs.buses.is_not_lone.Goals as goal
 
 slot_at : ℕ → ℕ → Slot
@@ -15,7 +16,6 @@ unfolding slot_at
 returns-in-Some c =
     let first : c.in-Some.first ≡ first_function c.args.slot =
     c.in-Some.ensures.numbers ∙ slot_of c.bus.result c.args.slot.bus c.dev.result c.args.slot.device c.bus.ensures c.dev.ensures in (
-      λ h other. first_to c.args.records.now c.on_bus.result.now c.args.slot c.in-Some.first c.bus-in-Some.result c.on_bus.ensures first (c.has_slot.ensures.0 h),
-      λ h. c.has_slot.ensures.1 (first_from_all c.args.records.now c.on_bus.result.now c.args.slot c.in-Some.first c.bus-in-Some.result c.on_bus.ensures c.bus-in-Some.ensures first
-          (h (let some = c.if-fun-eq0.false in let same = c.fun.ensures.number in omega arith))),
+      λ h other. subst (λ x. Contains (slots_of c.args.records.now) x) first (c.has_slot.ensures.0 h),
+      λ h. c.has_slot.ensures.1 (subst (λ x. Contains (slots_of c.args.records.now) x) (sym first) (h (let some = c.if-fun-eq0.false in let same = c.fun.ensures.number in omega arith))),
     )

@@ -5,9 +5,12 @@ use Rattle.std.proofs.lemmas.Bool.{both_ways}
 use Rattle.pci_spec.specs.System.{System}
 use Rattle.pci_spec.specs.Decoded.{HasRecords}
 use Rattle.pci_tree.specs.Ways.{slots_of}
-use Rattle.pci_tree.specs.Outline.{Tree, IsPathTo}
+use Rattle.pci_tree.specs.Outline.{Tree, RiseBySlot, IsPathTo}
 use Rattle.pci_tree.proofs.Outlines.{slots_of_values, path_to}
 use Rattle.pci_tree.proofs.outline.Outline.path.Goals as goal
+
+pub has_slot-requires : goal.has_slot-requires
+has_slot-requires g c = subst RiseBySlot (sym c.deref.ensures.value) c.self.invariant.0.rising
 
 pub returns-then-not-has_slot : goal.returns-then-not-has_slot
 returns-then-not-has_slot g c = λ has.
