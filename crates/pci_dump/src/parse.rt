@@ -140,7 +140,10 @@ fn title_into(after: &[u8], title_len: usize, place: &mut Option<Title>)
     ensures { place.new ≡ title_at after.now title_len }
 {
     if title_len == 0 {
-        *place = None;
+        // a title's place is 216 bytes long
+        if place.is_some() {
+            *place = None;
+        }
         return;
     }
     let (_space, rest) = after.split_at(1);
