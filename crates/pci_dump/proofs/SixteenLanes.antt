@@ -1,5 +1,5 @@
 -- Vectors of sixteen bytes, lane by lane.
-use Rattle.std.proofs.Common.{◌≡◌, ℕ, zero, suc, ◌+◌, ◌*◌, ◌/◌, ◌%◌, ◌^◌, ◌<◌, List, [], ◌∷◌, ◌++◌, refl, arith, sym, ◌∙◌, ap, subst, length, get_or, take, replicate, Bool, true, false, cond, eqb, w8}
+use Rattle.std.proofs.Common.{◌≡◌, ℕ, zero, suc, ◌+◌, ◌*◌, ◌/◌, ◌%◌, ◌^◌, ◌-◌, ◌<◌, List, [], ◌∷◌, ◌++◌, refl, arith, sym, ◌∙◌, ap, subst, length, get_or, take, replicate, Bool, true, false, cond, eqb, w8}
 use Rattle.std.specs.Prelude.{nat_lt, ◌==◌}
 use mathlib.Core.List.{map}
 use lib.Lanes.{Each1, zip2, sel_l, mask_l, top, pick_l}
@@ -14,10 +14,12 @@ use Rattle.pci_spec.proofs.Bits.{each_from-at}
 use Rattle.std.proofs.lemmas.Bool.{eqb-true, eq-eqb, cond-true, ltb-true, false≢true}
 use Rattle.std.proofs.lemmas.List.{length-map}
 use Rattle.std.proofs.lemmas.List.{get_or-map}
-use Rattle.std.proofs.lemmas.Simd.{mask_l-mod, bit_mask_l, pick_l_whole}
+use Rattle.std.proofs.lemmas.Nat.{le_or_l, le_or_r}
+use Rattle.std.proofs.lemmas.Simd.{mask_l-mod, bit_mask_l, pick_l_whole, get_or-zip2}
+use Rattle.std.proofs.lemmas.Grind.{same_number_lists}
 use Rattle.std.specs.List.{range_with_len, slice_range}
-use Rattle.pci_dump.specs.Value.{AreValues}
-use Rattle.pci_dump.specs.Lane.{IsDigit, AreDigits, AreSpaces}
+use Rattle.pci_dump.specs.Value.{AreValues, AreSmall}
+use Rattle.pci_dump.specs.Lane.{IsDigit, AreDigits, AreSpaces, AreZero}
 
 abbrev pub less : ℕ → ℕ → ℕ
 less = act2 (mask (lt unsigned)) (s_int w8) (s_int w8) (s_int w8)
@@ -78,6 +80,44 @@ space_test c = top 7 (same c 32)
 pub spaces_map : (cells : List ℕ) → map (top 7) (zip2 same cells (replicate (length cells) 32)) ≡ map space_test cells
 spaces_map [] = refl
 spaces_map (c ∷ cells) = ap (λ l. space_test c ∷ l) (spaces_map cells)
+
+-- ---- zeros
+
+abbrev pub zero_test : ℕ → Bool
+zero_test c = top 7 (same c 0)
+
+pub zeros_map : (cells : List ℕ) → map (top 7) (zip2 same cells (replicate (length cells) 0)) ≡ map zero_test cells
+zeros_map [] = refl
+zeros_map (c ∷ cells) = ap (λ l. zero_test c ∷ l) (zeros_map cells)
+
+abbrev is_right_zero : ℕ → Bool
+is_right_zero c = cond (zero_test c) (c == 0) true
+
+all_right_zeros : each_from 0 256 is_right_zero ≡ true
+unfolding each_from
+all_right_zeros = refl
+
+pub is_zero : (c : ℕ) → c < 256 → zero_test c ≡ true → c ≡ 0
+is_zero c small e = eqb-true c 0 (sym (cond-true (zero_test c) (c == 0) true e) ∙ each_from-at 0 256 is_right_zero all_right_zeros c (omega arith) (omega (arith, small)))
+
+pub passes_zero : (c : ℕ) → c ≡ 0 → zero_test c ≡ true
+passes_zero c e = ap zero_test e
+
+-- a lane that is 0 is 0 in both
+pub both_zero : (a b : ℕ) → either a b ≡ 0 → (a ≡ 0) × (b ≡ 0)
+both_zero a b e = let l = le_or_l a b in let r = le_or_r a b in (omega (arith, l, e), omega (arith, r, e))
+
+pub zero_of_both : (a b : ℕ) → a ≡ 0 → b ≡ 0 → either a b ≡ 0
+zero_of_both a b p q = λ i. either (p i) (q i)
+
+-- bytes that differ by 0 are the same
+pub same_lane : (a b : ℕ) → a < 256 → b < 256 → minus a b ≡ 0 → a ≡ b
+same_lane a b x y e = let d : (a + (256 - b)) % 256 ≡ 0 = e in omega (arith, x, y, d)
+
+pub same_vectors : (xs ys : List ℕ) → length xs ≡ 16 → length ys ≡ 16 → AreSmall xs → AreSmall ys → AreZero (zip2 minus xs ys) → xs ≡ ys
+same_vectors xs ys lx ly sx sy none =
+    same_number_lists xs ys (lx ∙ sym ly) (λ k below.
+    same_lane (get_or xs k 0) (get_or ys k 0) (sx k) (sy k) (sym (get_or-zip2 minus xs ys k 0 0 0 (omega (arith, below)) (omega (arith, below, lx, ly))) ∙ none k (omega (arith, below, lx))))
 
 -- ---- digits
 

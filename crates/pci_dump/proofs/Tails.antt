@@ -16,6 +16,12 @@ same_more xs ys n k same e =
     let next : take k (drop n xs) ≡ take k (drop n ys) = subst (λ (j : ℕ). take j (drop n xs) ≡ take j (drop n ys)) many e in
     take_on xs n k ∙ (λ i. same i ++ next i) ∙ sym (take_on ys n k)
 
+-- all 64 are the same
+pub four_same : (xs ys : List ℕ) → length xs ≡ 64 → length ys ≡ 64 → slice_range xs 0 16 ≡ slice_range ys 0 16 → slice_range xs 16 32 ≡ slice_range ys 16 32 → slice_range xs 32 48 ≡ slice_range ys 32 48
+    → slice_range xs 48 64 ≡ slice_range ys 48 64 → xs ≡ ys
+four_same xs ys lx ly a b c d =
+    sym (take_all 64 xs (omega (arith, lx))) ∙ same_more xs ys 48 16 (same_more xs ys 32 16 (same_more xs ys 16 16 a b) c) d ∙ take_all 64 ys (omega (arith, ly))
+
 -- fewer are the same too
 same_less : (xs ys : List ℕ) (m n : ℕ) → m ≤ n → take n xs ≡ take n ys → take m xs ≡ take m ys
 same_less xs ys m n less same = sym (take-take m n xs less) ∙ ap (take m) same ∙ take-take m n ys less

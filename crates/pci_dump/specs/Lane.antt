@@ -11,3 +11,6 @@ AreDigits cells = (k : ℕ) → k < 16 → IsDigit (slice_index cells k)
 
 abbrev pub AreSpaces : List ℕ → Type 0
 AreSpaces cells = (k : ℕ) → k < 16 → slice_index cells k ≡ 32
+
+abbrev pub AreZero : List ℕ → Type 0
+AreZero cells = (k : ℕ) → k < 16 → slice_index cells k ≡ 0

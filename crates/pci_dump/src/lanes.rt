@@ -1,7 +1,7 @@
 //! Sixteen bytes at once.
-ghost use Rattle.std.specs.Prelude.{◌≡◌, ◌+◌, ◌<◌, ◌≤◌, ◌/◌, ◌%◌, ℕ, length, false, IsTrue, slice_index};
+ghost use Rattle.std.specs.Prelude.{◌≡◌, ◌↔◌, ◌+◌, ◌<◌, ◌≤◌, ◌/◌, ◌%◌, ℕ, length, false, IsTrue, slice_index};
 ghost use Rattle.pci_spec.specs.Text.{hex_digit};
-ghost use Rattle.pci_dump.specs.Lane.{AreDigits, AreSpaces};
+ghost use Rattle.pci_dump.specs.Lane.{AreDigits, AreSpaces, AreZero};
 ghost use Rattle.pci_dump.specs.TitleRun.{IsTitleRun, first_of_16};
 
 use std::simd::prelude::*;
@@ -47,6 +47,35 @@ pub(crate) fn bytes_of(high: u8x16, low: u8x16) -> u8x16
         → slice_index low k ≡ v % 16 → slice_index result k ≡ v }
 {
     (high << u8x16::splat(4)) | low
+}
+
+/// Whether all are 0.
+#[inline(always)]
+pub(crate) fn are_zero(cells: u8x16) -> bool
+    ensures yes { IsTrue result → AreZero cells }
+    ensures no { result ≡ false → AreZero cells → ⊥ }
+{
+    cells.simd_eq(u8x16::splat(0)).all()
+}
+
+/// What is 0 where both are.
+#[inline(always)]
+pub(crate) fn either_of(one: u8x16, other: u8x16) -> u8x16
+    ensures long { length result ≡ 16 }
+    ensures zero { AreZero result ↔ (AreZero one × AreZero other) }
+{
+    one | other
+}
+
+/// What is 0 where two parts of sixteen bytes are the same.
+#[inline(always)]
+pub(crate) fn difference(part: &[u8], other: &[u8]) -> u8x16
+    requires part { length part.now ≡ 16 }
+    requires other { length other.now ≡ 16 }
+    ensures long { length result ≡ 16 }
+    ensures same { AreZero result → part.now ≡ other.now }
+{
+    u8x16::from_slice(part) - u8x16::from_slice(other)
 }
 
 /// The place of the lowest of sixteen bits that is set, 16 where none is.

@@ -20,7 +20,7 @@ static ZEROS: [u8; 48] = *b" 00 00 00 00 00 00 00 00 00 00 00 00 00 00 00 00";
 
 /// Eight bytes as one number, to compare them at once.
 #[inline(always)]
-pub(crate) fn eight(bytes: &[u8]) -> u64
+fn eight(bytes: &[u8]) -> u64
     requires { length bytes.now ≡ 8 }
     ensures { result ≡ from_le_bytes w64 bytes.now }
 {

@@ -2,7 +2,8 @@
 ghost use Rattle.std.specs.Prelude.{◌≡◌, ◌<◌, ◌≤◌, ◌+◌, ◌-◌, ◌*◌, ◌++◌, ◌∷◌, [], true, length, take, drop, replicate, IsTrue};
 ghost use Rattle.pci_spec.specs.Form.{rows_text};
 
-use super::row::{ROW_LEN, eight};
+use super::lanes::{are_zero, difference, either_of};
+use super::row::ROW_LEN;
 use pci_base::image::IMAGE_LEN;
 
 /// The row from which on a block's lines are tried as one: that of 40h, behind the header's registers.
@@ -25,13 +26,13 @@ fn are_same(part: &[u8], other: &[u8]) -> bool
     requires other { length other.now ≡ 64 }
     ensures { result ≡ true → part.now ≡ other.now }
 {
-    for step in 0..8 {
-        let at = 8 * step;
-        if eight(&part[at..at + 8]) != eight(&other[at..at + 8]) {
-            return false;
-        }
-    }
-    true
+    let first = difference(&part[0..16], &other[0..16]);
+    let second = difference(&part[16..32], &other[16..32]);
+    let third = difference(&part[32..48], &other[32..48]);
+    let fourth = difference(&part[48..64], &other[48..64]);
+    let half = either_of(first, second);
+    let rest = either_of(third, fourth);
+    are_zero(either_of(half, rest))
 }
 
 /// Whether bytes begin with some others.
