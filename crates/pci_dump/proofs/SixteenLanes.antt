@@ -72,15 +72,6 @@ set_all test xs long each =
     let power : 2 ^ length (map test xs) ≡ 65536 = ap (λ n. 2 ^ n) (many ∙ long) in
     eq-eqb _ 65535 (mask_l-mod (map test xs) 64 (omega (arith, long, many)) ∙ (let all : mask_l (map test xs) ≡ 65535 = omega (arith, full, power) in all))
 
--- ---- spaces
-
-abbrev pub space_test : ℕ → Bool
-space_test c = top 7 (same c 32)
-
-pub spaces_map : (cells : List ℕ) → map (top 7) (zip2 same cells (replicate (length cells) 32)) ≡ map space_test cells
-spaces_map [] = refl
-spaces_map (c ∷ cells) = ap (λ l. space_test c ∷ l) (spaces_map cells)
-
 -- ---- zeros
 
 abbrev pub zero_test : ℕ → Bool
@@ -119,6 +110,15 @@ same_vectors xs ys lx ly sx sy none =
     same_number_lists xs ys (lx ∙ sym ly) (λ k below.
     same_lane (get_or xs k 0) (get_or ys k 0) (sx k) (sy k) (sym (get_or-zip2 minus xs ys k 0 0 0 (omega (arith, below)) (omega (arith, below, lx, ly))) ∙ none k (omega (arith, below, lx))))
 
+-- ---- spaces
+
+abbrev pub less_32 : ℕ → ℕ
+less_32 c = minus c 32
+
+pub spaces_map : (cells : List ℕ) → zip2 minus cells (replicate (length cells) 32) ≡ map less_32 cells
+spaces_map [] = refl
+spaces_map (c ∷ cells) = ap (λ l. less_32 c ∷ l) (spaces_map cells)
+
 -- ---- digits
 
 abbrev pub digit_test : ℕ → Bool
@@ -127,6 +127,14 @@ digit_test c = top 7 (either (less (minus c 48) 10) (less (minus c 97) 6))
 pub digits_map : (cells : List ℕ) → map (top 7) (zip2 either (zip2 less (zip2 minus cells (replicate (length cells) 48)) (replicate (length cells) 10)) (zip2 less (zip2 minus cells (replicate (length cells) 97)) (replicate (length cells) 6))) ≡ map digit_test cells
 digits_map [] = refl
 digits_map (c ∷ cells) = ap (λ l. digit_test c ∷ l) (digits_map cells)
+
+-- 0 where it is a digit
+abbrev pub digit_wrong : ℕ → ℕ
+digit_wrong c = cond (digit_test c) 0 255
+
+pub wrong_map : (cells : List ℕ) → sel_l (map (top 7) (zip2 either (zip2 less (zip2 minus cells (replicate (length cells) 48)) (replicate (length cells) 10)) (zip2 less (zip2 minus cells (replicate (length cells) 97)) (replicate (length cells) 6)))) (replicate (length cells) 0) (replicate (length cells) 255) ≡ map digit_wrong cells
+wrong_map [] = refl
+wrong_map (c ∷ cells) = ap (λ l. digit_wrong c ∷ l) (wrong_map cells)
 
 abbrev pub digit_number : ℕ → ℕ
 digit_number c = cond (top 7 (less (minus c 48) 10)) (minus c 48) (minus c 87)
@@ -159,13 +167,6 @@ all_right_numbers : each_from 0 16 is_right_number ≡ true
 unfolding each_from
 all_right_numbers = refl
 
-abbrev is_right_space : ℕ → Bool
-is_right_space c = cond (space_test c) (c == 32) true
-
-all_right_spaces : each_from 0 256 is_right_space ≡ true
-unfolding each_from
-all_right_spaces = refl
-
 abbrev is_right_join : ℕ → Bool
 is_right_join v = join (v / 16) (v % 16) == v
 
@@ -196,14 +197,18 @@ passes_digit c d =
 pub number_is : (d : ℕ) → d < 16 → digit_number (hex_digit d) ≡ d
 number_is d small = eqb-true _ d (then_true _ _ (each_from-at 0 16 is_right_number all_right_numbers d (omega arith) (omega (arith, small))))
 
-pub is_space : (c : ℕ) → c < 256 → space_test c ≡ true → c ≡ 32
-is_space c small e = eqb-true c 32 (sym (cond-true (space_test c) (c == 32) true e) ∙ each_from-at 0 256 is_right_space all_right_spaces c (omega arith) (omega (arith, small)))
-
 pub join_is : (v : ℕ) → v < 256 → join (v / 16) (v % 16) ≡ v
 join_is v small = eqb-true _ v (each_from-at 0 256 is_right_join all_right_joins v (omega arith) (omega (arith, small)))
 
-pub passes_space : (c : ℕ) → c ≡ 32 → space_test c ≡ true
-passes_space c e = ap space_test e
+right_is_set : (b : Bool) → ◌≡◌ {A = ℕ} (cond b 0 255) 0 → b ≡ true
+right_is_set true e = refl
+right_is_set false e = absurd (let no : ⊥ = omega (arith, e) in no)
+
+pub right_digit : (c : ℕ) → c < 256 → digit_wrong c ≡ 0 → IsDigit c
+right_digit c small e = is_digit c small (right_is_set (digit_test c) e)
+
+pub digit_is_right : (c : ℕ) → IsDigit c → digit_wrong c ≡ 0
+digit_is_right c d = ap (λ (b : Bool). cond b 0 255) (passes_digit c d)
 
 -- what holds for a vector's own length holds for sixteen
 pub at_sixteen : (xs : List ℕ) → length xs ≡ 16 → (P : ℕ → Type 0) → P (length xs) → P 16

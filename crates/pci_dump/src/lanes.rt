@@ -6,24 +6,24 @@ ghost use Rattle.pci_dump.specs.TitleRun.{IsTitleRun, first_of_16};
 
 use std::simd::prelude::*;
 
-/// Whether all are spaces.
+/// What is 0 where a space stands.
 #[inline(always)]
-pub(crate) fn are_spaces(cells: u8x16) -> bool
-    ensures yes { IsTrue result → AreSpaces cells }
-    ensures no { result ≡ false → AreSpaces cells → ⊥ }
+pub(crate) fn non_spaces(cells: u8x16) -> u8x16
+    ensures long { length result ≡ 16 }
+    ensures zero { AreZero result ↔ AreSpaces cells }
 {
-    cells.simd_eq(u8x16::splat(b' ')).all()
+    cells - u8x16::splat(b' ')
 }
 
-/// Whether all are hex digits in lower case.
+/// What is 0 where a hex digit in lower case stands.
 #[inline(always)]
-pub(crate) fn are_digits(cells: u8x16) -> bool
-    ensures yes { IsTrue result → AreDigits cells }
-    ensures no { result ≡ false → AreDigits cells → ⊥ }
+pub(crate) fn non_digits(cells: u8x16) -> u8x16
+    ensures long { length result ≡ 16 }
+    ensures zero { AreZero result ↔ AreDigits cells }
 {
     let number = (cells - u8x16::splat(48)).simd_lt(u8x16::splat(10));
     let letter = (cells - u8x16::splat(97)).simd_lt(u8x16::splat(6));
-    (number | letter).all()
+    (number | letter).select(u8x16::splat(0), u8x16::splat(255))
 }
 
 /// What hex digits in lower case stand for.

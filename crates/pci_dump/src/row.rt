@@ -4,7 +4,7 @@ ghost use Rattle.std.specs.Int.{from_le_bytes, w64};
 ghost use Rattle.pci_spec.specs.Form.{Fits, row_cells, row_text};
 ghost use Rattle.pci_dump.specs.Value.{AreValues, AreSmall};
 
-use super::lanes::{are_digits, are_spaces, bytes_of, numbers_of};
+use super::lanes::{are_zero, bytes_of, either_of, non_digits, non_spaces, numbers_of};
 use pci_base::digit::digit_of;
 use std::simd::prelude::*;
 
@@ -65,13 +65,8 @@ fn values_into(cells: &[u8], values: &mut [u8]) -> bool
     let low = a
         .shuffle(b, [2, 5, 8, 11, 14, 17, 20, 23, 26, 29, 0, 0, 0, 0, 0, 0])
         .shuffle(c, [0, 1, 2, 3, 4, 5, 6, 7, 8, 9, 16, 19, 22, 25, 28, 31]);
-    if !are_spaces(spaces) {
-        return false;
-    }
-    if !are_digits(high) {
-        return false;
-    }
-    if !are_digits(low) {
+    let digits = either_of(non_digits(high), non_digits(low));
+    if !are_zero(either_of(non_spaces(spaces), digits)) {
         return false;
     }
     bytes_of(numbers_of(high), numbers_of(low)).copy_to_slice(values);

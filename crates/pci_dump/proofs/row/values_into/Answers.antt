@@ -4,17 +4,13 @@ use Rattle.pci_dump.specs.Value.{AreValues}
 use Rattle.pci_dump.proofs.SixteenLanes.{thirds_0, thirds_1, thirds_2, spaces_there, highs_there, lows_there, values_there}
 use Rattle.pci_dump.proofs.row.values_into.Goals as goal
 
-pub returns-then-not-are_spaces-clause-no : goal.returns-then-not-are_spaces-clause-no
-returns-then-not-are_spaces-clause-no c = λ no v each.
-    c.are_spaces.ensures.no c.if-not-are_spaces.true (spaces_there c.args.cells.now _ v each (thirds_0 c.args.cells.now c.requires.cells))
-
-pub returns-then-not-are_digits-clause-no : goal.returns-then-not-are_digits-clause-no
-returns-then-not-are_digits-clause-no c = λ no v each.
-    c.are_digits.ensures.no c.if-not-are_digits.true (highs_there c.args.cells.now _ v each (thirds_1 c.args.cells.now c.requires.cells))
-
-pub returns-then-not-are_digits-2-clause-no : goal.returns-then-not-are_digits-2-clause-no
-returns-then-not-are_digits-2-clause-no c = λ no v each.
-    c.are_digits-2.ensures.no c.if-not-are_digits-2.true (lows_there c.args.cells.now _ v each (thirds_2 c.args.cells.now c.requires.cells))
+pub returns-then-not-are_zero-clause-no : goal.returns-then-not-are_zero-clause-no
+returns-then-not-are_zero-clause-no c = λ no v each.
+    let cells = c.args.cells.now in
+    let spaces = c.non_spaces.ensures.zero.1 (spaces_there cells _ v each (thirds_0 cells c.requires.cells)) in
+    let high = c.non_digits.ensures.zero.1 (highs_there cells _ v each (thirds_1 cells c.requires.cells)) in
+    let low = c.non_digits-2.ensures.zero.1 (lows_there cells _ v each (thirds_2 cells c.requires.cells)) in
+    c.are_zero.ensures.no c.if-not-are_zero.true (c.either_of.ensures.zero.1 (spaces, c.either_of-digits.ensures.zero.1 (high, low)))
 
 pub returns-clause-yes : goal.returns-clause-yes
 returns-clause-yes c = λ yes.
@@ -22,6 +18,8 @@ returns-clause-yes c = λ yes.
     let s = thirds_0 cells c.requires.cells in
     let h = thirds_1 cells c.requires.cells in
     let l = thirds_2 cells c.requires.cells in
+    let all = c.either_of.ensures.zero.0 (c.are_zero.ensures.yes c.if-not-are_zero.false) in
+    let digits = c.either_of-digits.ensures.zero.0 all.1 in
     subst (λ (v : List ℕ). AreValues cells v 16) (sym (put_chunk_whole c.args.values.now c.bytes_of.result (c.requires.values ∙ sym c.bytes_of.ensures.long)))
-    (values_there cells _ _ _ c.numbers_of.result c.numbers_of-2.result c.bytes_of.result s h l (c.are_spaces.ensures.yes c.if-not-are_spaces.false) (c.are_digits.ensures.yes c.if-not-are_digits.false)
-    (c.are_digits-2.ensures.yes c.if-not-are_digits-2.false) c.numbers_of.ensures.each c.numbers_of-2.ensures.each c.bytes_of.ensures.each)
+    (values_there cells _ _ _ c.numbers_of.result c.numbers_of-2.result c.bytes_of.result s h l (c.non_spaces.ensures.zero.0 all.0) (c.non_digits.ensures.zero.0 digits.0)
+    (c.non_digits-2.ensures.zero.0 digits.1) c.numbers_of.ensures.each c.numbers_of-2.ensures.each c.bytes_of.ensures.each)
