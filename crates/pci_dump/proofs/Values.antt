@@ -1,18 +1,18 @@
 -- A line of values by its places, and by its cells.
 use Rattle.std.proofs.Common.{◌≡◌, replicate, inl, inr, ℕ, zero, suc, ◌+◌, ◌-◌, ◌*◌, ◌/◌, ◌%◌, ◌<◌, ◌≤◌, List, [], ◌∷◌, ◌++◌, refl, arith, sym, ◌∙◌, ap, subst, length, get_or, take, drop, append-nil}
-use Rattle.std.proofs.Common.{Bool, true}
-use Rattle.std.specs.Prelude.{nat_lt}
+use Rattle.std.proofs.Common.{Bool, true, false, cond}
+use Rattle.std.specs.Prelude.{nat_lt, ◌==◌}
 use Rattle.pci_spec.specs.Number.{each_from}
 use Rattle.pci_spec.proofs.Bits.{each_from-at}
-use Rattle.std.proofs.lemmas.Bool.{cases_lt, ltb-true}
+use Rattle.std.proofs.lemmas.Bool.{cases_lt, ltb-true, eqb-true, false≢true}
 use Rattle.std.specs.List.{flat_map, slice_index, slice_range}
-use Rattle.std.proofs.lemmas.List.{length-take, length-drop, take-append-drop, take-take, drop-take, drop_more, drop_all, take_at, get_or_at, nil_from_length, get_or_past}
+use Rattle.std.proofs.lemmas.List.{length-take, length-drop, take-append-drop, take-take, drop-take, drop_more, drop_all, take_at, get_or_at, nil_from_length, get_or_past, get_or-take, get_or-drop}
 use Rattle.pci_spec.specs.Text.{hex_digit}
 use Rattle.pci_spec.specs.Form.{Fits, row_cells, row_text}
 use Rattle.pci_spec.proofs.Forms.{spaced, row_of, small_take, small_drop}
 use Rattle.std.specs.Int.{from_le_bytes, w64}
 use Rattle.std.proofs.lemmas.Nat.{le_bytes_8}
-use Rattle.pci_dump.specs.declared.row.TheConstants.{ZEROS}
+use Rattle.pci_dump.specs.declared.row.TheConstants.{HEADS, ZEROS}
 use Rattle.pci_dump.specs.Value.{IsValueAt, AreValues, AreSmall}
 
 later : (k : ℕ) (x y z : ℕ) (cells : List ℕ) (v : ℕ) → IsValueAt (x ∷ y ∷ z ∷ cells) (3 * suc k) v → IsValueAt cells (3 * k) v
@@ -61,6 +61,7 @@ pub record RowPlaces (row : ℕ) (line : List ℕ) : Type 0 where
   pub first : get_or line 0 0 ≡ hex_digit row
   pub second : get_or line 1 0 ≡ 48
   pub third : get_or line 2 0 ≡ 58
+  pub fourth : get_or line 3 0 ≡ 32
   pub last : get_or line 51 0 ≡ 10
   pub values : List ℕ
   pub each : AreValues (slice_range line 3 51) values 16
@@ -82,14 +83,17 @@ row_places row line h f =
     let text = r.text in
     let long : length (flat_map spaced r.values) ≡ 48 = (let a = spaced_long r.values in let b = r.many in omega (arith, a, b)) in
     let tail : List ℕ → List ℕ = λ (t : List ℕ). drop 3 t in
+    let each : AreValues (slice_range line 3 51) r.values 16 =
+    subst (λ (n : ℕ). AreValues (slice_range line 3 51) r.values n) r.many
+    (subst (λ (t : List ℕ). AreValues t r.values (length r.values)) (append-nil (flat_map spaced r.values) ∙ sym (ap (λ (t : List ℕ). slice_range t 3 51) text ∙ take_at (flat_map spaced r.values) (10 ∷ []) 48 long)) (placed r.values [] r.small)) in
     record {
       first = ap (λ (t : List ℕ). get_or t 0 0) text ∙ d.0;
       second = ap (λ (t : List ℕ). get_or t 1 0) text ∙ d.1;
       third = ap (λ (t : List ℕ). get_or t 2 0) text;
+      fourth = sym (get_or-take 48 (drop 3 line) 0 0 (omega arith) ∙ get_or-drop 3 line 0 0) ∙ (each 0 (omega arith)).space;
       last = ap (λ (t : List ℕ). get_or t 51 0) text ∙ get_or_at (flat_map spaced r.values) 10 [] 0 48 long;
       values = r.values;
-      each = subst (λ (n : ℕ). AreValues (slice_range line 3 51) r.values n) r.many
-          (subst (λ (t : List ℕ). AreValues t r.values (length r.values)) (append-nil (flat_map spaced r.values) ∙ sym (ap (λ (t : List ℕ). slice_range t 3 51) text ∙ take_at (flat_map spaced r.values) (10 ∷ []) 48 long)) (placed r.values [] r.small));
+      each = each;
     }
 
 pub read_row : (row : ℕ) (line values : List ℕ) → length line ≡ 52 → row < 16 → length values ≡ 16 → get_or line 0 0 ≡ hex_digit row → get_or line 1 0 ≡ 48 → get_or line 2 0 ≡ 58 → get_or line 51 0 ≡ 10
@@ -112,6 +116,46 @@ pub small_zeros : (n k : ℕ) → get_or (replicate n 0) k 0 < 256
 small_zeros zero k = omega arith
 small_zeros (suc n) zero = omega arith
 small_zeros (suc n) (suc k) = small_zeros n k
+
+-- a line's head as a number
+abbrev is_right_head : ℕ → Bool
+is_right_head k = cond (get_or HEADS k 0 == hex_digit k + 540684288) (nat_lt (hex_digit k) 256) false
+
+all_right_heads : each_from 0 16 is_right_head ≡ true
+unfolding each_from
+all_right_heads = refl
+
+pub record IsHeadOf (row a b c d : ℕ) : Type 0 where
+  pub first : a ≡ hex_digit row
+  pub second : b ≡ 48
+  pub third : c ≡ 58
+  pub fourth : d ≡ 32
+
+both_true : (a b : Bool) → cond a b false ≡ true → (a ≡ true) × (b ≡ true)
+both_true true b e = (refl, e)
+both_true false b e = absurd (false≢true e)
+
+head_is : (row : ℕ) → row < 16 → (get_or HEADS row 0 ≡ hex_digit row + 540684288) × (hex_digit row < 256)
+head_is row below =
+    let right = each_from-at 0 16 is_right_head all_right_heads row (omega arith) (omega (arith, below)) in
+    let both = both_true (get_or HEADS row 0 == hex_digit row + 540684288) (nat_lt (hex_digit row) 256) right in
+    (eqb-true (get_or HEADS row 0) (hex_digit row + 540684288) both.0, ltb-true (hex_digit row) 256 both.1)
+
+pub head_read : (row a b c d n : ℕ) → row < 16 → a < 256 → b < 256 → c < 256 → d < 256 → n ≡ a + b * 256 + c * 65536 + d * 16777216 → n ≡ get_or HEADS row 0 → IsHeadOf row a b c d
+head_read row a b c d n below p q r s e f =
+    let h = head_is row below in
+    let k = h.0 in
+    let small = h.1 in
+    record { first = omega (arith, p, q, r, s, e, f, k, small); second = omega (arith, p, q, r, s, e, f, k, small); third = omega (arith, p, q, r, s, e, f, k, small); fourth = omega (arith, p, q, r, s, e, f, k, small) }
+
+pub head_there : (row a b c d n : ℕ) → row < 16 → n ≡ a + b * 256 + c * 65536 + d * 16777216 → IsHeadOf row a b c d → n ≡ get_or HEADS row 0
+head_there row a b c d n below e h =
+    let k = (head_is row below).0 in
+    let p = h.first in
+    let q = h.second in
+    let r = h.third in
+    let s = h.fourth in
+    omega (arith, e, k, p, q, r, s)
 
 small_values : (v cells : List ℕ) → length v ≡ 16 → AreValues cells v 16 → AreSmall v
 small_values v cells l h k = elim (cases_lt k 16) [

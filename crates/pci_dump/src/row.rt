@@ -1,11 +1,10 @@
 //! Lines of sixteen bytes.
-ghost use Rattle.std.specs.Prelude.{◌≡◌, ◌<◌, ◌+◌, ◌*◌, replicate, true, false, ℕ, List, length, IsTrue};
+ghost use Rattle.std.specs.Prelude.{◌≡◌, ◌<◌, ◌≤◌, ◌+◌, ◌*◌, slice_index, replicate, true, false, ℕ, List, length, IsTrue};
 ghost use Rattle.std.specs.Int.{from_le_bytes, w64};
 ghost use Rattle.pci_spec.specs.Form.{Fits, row_cells, row_text};
 ghost use Rattle.pci_dump.specs.Value.{AreValues, AreSmall};
 
 use super::lanes::{are_zero, bytes_of, either_of, non_digits, non_spaces, numbers_of};
-use pci_base::digit::digit_of;
 use std::simd::prelude::*;
 
 /// How many bytes the line of a row has: its offset, sixteen bytes, and its end.
@@ -14,6 +13,12 @@ pub(crate) const ROW_LEN: usize = 52;
 /// A row's line where all its bytes are 0, but for the first digit of its offset.
 pub(crate) const ROW_OF_ZEROS: [u8; ROW_LEN] =
     *b"00: 00 00 00 00 00 00 00 00 00 00 00 00 00 00 00 00\n";
+
+/// The first four bytes of each row's line as one number: its offset, a colon and a space.
+static HEADS: [u32; 16] = [
+    0x203a3030, 0x203a3031, 0x203a3032, 0x203a3033, 0x203a3034, 0x203a3035, 0x203a3036, 0x203a3037,
+    0x203a3038, 0x203a3039, 0x203a3061, 0x203a3062, 0x203a3063, 0x203a3064, 0x203a3065, 0x203a3066,
+];
 
 /// A line's cells where all values are 0.
 static ZEROS: [u8; 48] = *b" 00 00 00 00 00 00 00 00 00 00 00 00 00 00 00 00";
@@ -27,6 +32,16 @@ fn eight(bytes: &[u8]) -> u64
     u64::from_le_bytes([
         bytes[0], bytes[1], bytes[2], bytes[3], bytes[4], bytes[5], bytes[6], bytes[7],
     ])
+}
+
+/// Four bytes as one number, to compare them at once.
+#[inline(always)]
+fn head_of(line: &[u8]) -> u32
+    requires { 4 ≤ length line.now }
+    ensures { result ≡ slice_index line.now 0 + slice_index line.now 1 * 256 + slice_index line.now 2 * 65536
+        + slice_index line.now 3 * 16777216 }
+{
+    u32::from_le_bytes([line[0], line[1], line[2], line[3]])
 }
 
 /// Whether sixteen times 00 stand there, each after a space.
@@ -91,7 +106,7 @@ pub(crate) fn row_into(line: &[u8], row: u8, values: &mut [u8]) -> bool
     ensures yes { IsTrue result → AreSmall values.new × (line.now ≡ row_text row values.new) }
     ensures no { result ≡ false → Fits (row_cells row) line.now → ⊥ }
 {
-    if line[0] != digit_of(row) || line[1] != b'0' || line[2] != b':' || line[51] != b'\n' {
+    if head_of(line) != HEADS[usize::from(row)] || line[51] != b'\n' {
         return false;
     }
     let cells = &line[3..51];

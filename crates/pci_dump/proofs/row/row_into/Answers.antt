@@ -1,28 +1,37 @@
-use Rattle.std.proofs.Common.{◌∙◌, sym, ap, subst, ℕ, List, length}
+use Rattle.std.proofs.Common.{◌∙◌, arith, sym, ap, subst, ℕ, List, length, get_or}
 use Rattle.std.specs.List.{slice_range}
+use Rattle.pci_dump.specs.declared.row.TheConstants.{HEADS}
 use Rattle.pci_dump.specs.Value.{AreValues}
-use Rattle.pci_dump.proofs.Values.{whole_row, no_row, row_places, zeros_there}
+use Rattle.pci_dump.proofs.Values.{whole_row, no_row, row_places, zeros_there, head_read, head_there}
 use Rattle.pci_dump.proofs.row.row_into.Goals as goal
-use Rattle.pci_dump.proofs.row.row_into.Goals.{then-line-digit_of-via-then-line-digit_of, then-line-digit_of-via-else-line-digit_of+then-line-ne48, then-line-digit_of-via-else-line-digit_of+else-line-ne48+then-line-ne58, then-line-digit_of-via-else-line-digit_of+else-line-ne48+else-line-ne58+then-line-ne10}
+use Rattle.pci_dump.proofs.row.row_into.Goals.{then-head_of-from-via-then-head_of-from, then-head_of-from-via-else-head_of-from+then-line-ne10}
 
-pub returns-then-line-digit_of-clause-no : goal.returns-then-line-digit_of-clause-no
-returns-then-line-digit_of-clause-no c = λ no f.
-    let p = row_places c.args.row c.args.line.now c.requires.row f in
-    elim c.then-line-digit_of.branch [
-      | then-line-digit_of-via-then-line-digit_of w ↦ w.if-line-digit_of.true (p.first ∙ sym c.digit_of.ensures)
-      | then-line-digit_of-via-else-line-digit_of+then-line-ne48 w ↦ w.if-line-ne48.true p.second
-      | then-line-digit_of-via-else-line-digit_of+else-line-ne48+then-line-ne58 w ↦ w.if-line-ne58.true p.third
-      | then-line-digit_of-via-else-line-digit_of+else-line-ne48+else-line-ne58+then-line-ne10 w ↦ w.if-line-ne10.true p.last
+pub returns-then-head_of-from-clause-no : goal.returns-then-head_of-from-clause-no
+returns-then-head_of-from-clause-no c = λ no f.
+    let line = c.args.line.now in
+    let p = row_places c.args.row line c.requires.row f in
+    elim c.then-head_of-from.branch [
+      | then-head_of-from-via-then-head_of-from w ↦
+          w.if-head_of-from.true
+          (head_there c.args.row (get_or line 0 0) (get_or line 1 0) (get_or line 2 0) (get_or line 3 0) c.head_of.result c.requires.row c.head_of.ensures (record { first = p.first; second = p.second; third = p.third; fourth = p.fourth })
+          ∙ sym (ap (λ (k : ℕ). get_or HEADS k 0) c.from.ensures))
+      | then-head_of-from-via-else-head_of-from+then-line-ne10 w ↦ w.if-line-ne10.true p.last
     ]
 
 pub returns-then-are_zeros-clause-yes : goal.returns-then-are_zeros-clause-yes
 returns-then-are_zeros-clause-yes c = λ yes.
-    whole_row c.args.row c.args.line.now c.put_zeros.new.values c.requires.line c.requires.row (c.if-line-digit_of.false ∙ c.digit_of.ensures) c.if-line-ne48.false c.if-line-ne58.false c.if-line-ne10.false
-    (ap length c.put_zeros.ensures) (subst (λ (v : List ℕ). AreValues (slice_range c.args.line.now 3 51) v 16) (sym c.put_zeros.ensures) (zeros_there _ (c.are_zeros.ensures c.if-are_zeros.true)))
+    let line = c.args.line.now in
+    let h = head_read c.args.row (get_or line 0 0) (get_or line 1 0) (get_or line 2 0) (get_or line 3 0) c.head_of.result c.requires.row (let fits = c.type_inv.line 0 in omega (arith, fits)) (let fits = c.type_inv.line 1 in omega (arith, fits))
+    (let fits = c.type_inv.line 2 in omega (arith, fits)) (let fits = c.type_inv.line 3 in omega (arith, fits)) c.head_of.ensures (c.if-head_of-from.false ∙ ap (λ (k : ℕ). get_or HEADS k 0) c.from.ensures) in
+    whole_row c.args.row line c.put_zeros.new.values c.requires.line c.requires.row h.first h.second h.third c.if-line-ne10.false
+    (ap length c.put_zeros.ensures) (subst (λ (v : List ℕ). AreValues (slice_range line 3 51) v 16) (sym c.put_zeros.ensures) (zeros_there _ (c.are_zeros.ensures c.if-are_zeros.true)))
 
 pub returns-clause-yes : goal.returns-clause-yes
 returns-clause-yes c = λ yes.
-    whole_row c.args.row c.args.line.now c.values_into.new.values c.requires.line c.requires.row (c.if-line-digit_of.false ∙ c.digit_of.ensures) c.if-line-ne48.false c.if-line-ne58.false c.if-line-ne10.false
+    let line = c.args.line.now in
+    let h = head_read c.args.row (get_or line 0 0) (get_or line 1 0) (get_or line 2 0) (get_or line 3 0) c.head_of.result c.requires.row (let fits = c.type_inv.line 0 in omega (arith, fits)) (let fits = c.type_inv.line 1 in omega (arith, fits))
+    (let fits = c.type_inv.line 2 in omega (arith, fits)) (let fits = c.type_inv.line 3 in omega (arith, fits)) c.head_of.ensures (c.if-head_of-from.false ∙ ap (λ (k : ℕ). get_or HEADS k 0) c.from.ensures) in
+    whole_row c.args.row line c.values_into.new.values c.requires.line c.requires.row h.first h.second h.third c.if-line-ne10.false
     c.values_into.ensures.long (c.values_into.ensures.yes yes)
 
 pub returns-clause-no : goal.returns-clause-no
