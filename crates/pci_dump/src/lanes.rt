@@ -15,28 +15,20 @@ pub(crate) fn non_spaces(cells: u8x16) -> u8x16
     cells - u8x16::splat(b' ')
 }
 
-/// What is 0 where a hex digit in lower case stands.
+/// What hex digits in lower case stand for; and what is 0 where such a digit stands.
 #[inline(always)]
-pub(crate) fn non_digits(cells: u8x16) -> u8x16
-    ensures long { length result ≡ 16 }
-    ensures zero { AreZero result ↔ AreDigits cells }
+pub(crate) fn digits_of(cells: u8x16) -> (u8x16, u8x16)
+    ensures long { length result.0 ≡ 16 }
+    ensures each { (k d : ℕ) → k < 16 → d < 16 → slice_index cells k ≡ hex_digit d
+        → slice_index result.0 k ≡ d }
+    ensures zero { AreZero result.1 ↔ AreDigits cells }
 {
-    let number = (cells - u8x16::splat(48)).simd_lt(u8x16::splat(10));
-    let letter = (cells - u8x16::splat(97)).simd_lt(u8x16::splat(6));
-    (number | letter).select(u8x16::splat(0), u8x16::splat(255))
-}
-
-/// What hex digits in lower case stand for.
-#[inline(always)]
-pub(crate) fn numbers_of(digits: u8x16) -> u8x16
-    ensures long { length result ≡ 16 }
-    ensures each { (k d : ℕ) → k < 16 → d < 16 → slice_index digits k ≡ hex_digit d
-        → slice_index result k ≡ d }
-{
-    let number = digits - u8x16::splat(48);
-    number
-        .simd_lt(u8x16::splat(10))
-        .select(number, digits - u8x16::splat(87))
+    let number = cells - u8x16::splat(48);
+    let is_number = number.simd_lt(u8x16::splat(10));
+    let is_letter = (cells - u8x16::splat(97)).simd_lt(u8x16::splat(6));
+    let numbers = is_number.select(number, cells - u8x16::splat(87));
+    let others = (is_number | is_letter).select(u8x16::splat(0), u8x16::splat(255));
+    (numbers, others)
 }
 
 /// The bytes of these upper and lower halves.

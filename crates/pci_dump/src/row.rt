@@ -4,7 +4,7 @@ ghost use Rattle.std.specs.Int.{from_le_bytes, w64};
 ghost use Rattle.pci_spec.specs.Form.{Fits, row_cells, row_text};
 ghost use Rattle.pci_dump.specs.Value.{AreValues, AreSmall};
 
-use super::lanes::{are_zero, bytes_of, either_of, non_digits, non_spaces, numbers_of};
+use super::lanes::{are_zero, bytes_of, digits_of, either_of, non_spaces};
 use std::simd::prelude::*;
 
 /// How many bytes the line of a row has: its offset, sixteen bytes, and its end.
@@ -80,11 +80,13 @@ fn values_into(cells: &[u8], values: &mut [u8]) -> bool
     let low = a
         .shuffle(b, [2, 5, 8, 11, 14, 17, 20, 23, 26, 29, 0, 0, 0, 0, 0, 0])
         .shuffle(c, [0, 1, 2, 3, 4, 5, 6, 7, 8, 9, 16, 19, 22, 25, 28, 31]);
-    let digits = either_of(non_digits(high), non_digits(low));
-    if !are_zero(either_of(non_spaces(spaces), digits)) {
+    let (upper, not_upper) = digits_of(high);
+    let (lower, not_lower) = digits_of(low);
+    let not_digits = either_of(not_upper, not_lower);
+    if !are_zero(either_of(non_spaces(spaces), not_digits)) {
         return false;
     }
-    bytes_of(numbers_of(high), numbers_of(low)).copy_to_slice(values);
+    bytes_of(upper, lower).copy_to_slice(values);
     true
 }
 
