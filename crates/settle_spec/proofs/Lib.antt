@@ -1,1 +1,2 @@
+pub mod FirstSpot
 pub mod Examples

@@ -65,6 +65,11 @@ first_place (r ∷ ranges) taken e = else_at (first_in r taken e) (first_place r
 
 -- ---- the same, address by address
 
+-- a is the least free multiple of the alignment from an address on
+pub record IsLeastSpot (low : ℕ) (taken : List Range) (e : Extent) (a : ℕ) : Type 0 where
+  pub free : IsTrue (is_spot low taken e a)
+  pub least : (b : ℕ) → IsTrue (is_spot low taken e b) → a ≤ b
+
 -- a range has no place
 abbrev pub HasNoPlace : Range → List Range → Extent → Type 0
 HasNoPlace r taken e = (b : ℕ) → IsFalse (is_place r taken e b)
