@@ -143,19 +143,18 @@ pub along_ends : (taken : List Range) (low : ℕ) (e : Extent) (at index : ℕ) 
     → ((k : ℕ) (d : Range) → index ≤ k → k < length taken → at + (e.size - 1) < (get_or taken k d).first)
     → IsSpotAt taken low e (record { at = at; index = index })
 along_ends taken low e at index is within ends above = record {
-  free = spot_from taken low (extent_value e) at (record {
-    multiple = is.multiple;
-    from = is.from;
-    free = λ t (k, less, here). elim (cases_lt k index) [
-      | inl before ↦ inr (subst (λ (x : Range). x.last < at) here (is.below k t before))
-      | inr after ↦ inl (subst (λ (x : Range). at + (e.size - 1) < x.first) here (above k t after less))
-    ];
-  });
-  least = is.least;
-  ends = ends;
-  within = within;
-  below = is.below;
-  above = above;
+  least = record {
+    free = spot_from taken low (extent_value e) at (record {
+      multiple = is.multiple;
+      from = is.from;
+      free = λ t (k, less, here). elim (cases_lt k index) [
+        | inl before ↦ inr (subst (λ (x : Range). x.last < at) here (is.below k t before))
+        | inr after ↦ inl (subst (λ (x : Range). at + (e.size - 1) < x.first) here (above k t after less))
+      ];
+    });
+    least = is.least;
+  };
+  between = record { ends = ends; within = within; below = is.below; above = above };
 }
 
 pub all_above : (taken : List Range) → AreInOrder taken → (index last : ℕ) → index < length taken → (d : Range) → last < (get_or taken index d).first

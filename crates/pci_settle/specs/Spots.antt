@@ -1,7 +1,7 @@
 -- Free places, by the list of what is taken.
-use Rattle.std.specs.Prelude.{ℕ, ◌<◌, ◌≤◌, ◌^◌, IsTrue, List, length, map, slice_index_or}
+use Rattle.std.specs.Prelude.{ℕ, ◌<◌, ◌≤◌, ◌^◌, List, length, map, slice_index_or, Option, None, Some}
 use Rattle.plan_spec.specs.Place.{range_from}
-use Rattle.settle_spec.specs.FirstPlace.{Extent as ExtentValue, is_spot}
+use Rattle.settle_spec.specs.FirstPlace.{Extent as ExtentValue, IsLeastSpot}
 use Rattle.pci_base.specs.declared.range.Range.{Range}
 use Rattle.pci_base.specs.Ranges.{decoded_range_of}
 use Rattle.pci_settle.specs.declared.extent.Extent.{Extent}
@@ -22,13 +22,20 @@ AreInOrder taken =
     (j k : ℕ) (d : Range) → j < k → k < length taken
     → (slice_index_or taken j d).first ≤ (slice_index_or taken k d).first
 
--- the least free place from an address on, which ends in 64 bits: what is taken before it lies below it, and the rest above
-pub record IsSpotAt (taken : List Range) (low : ℕ) (e : Extent) (s : Spot) : Type 0 where
-  pub free : IsTrue (is_spot low (map decoded_range_of taken) (extent_value e) s.at)
-  pub least : (b : ℕ) → IsTrue (is_spot low (map decoded_range_of taken) (extent_value e) b)
-      → s.at ≤ b
+-- a place ends in 64 bits: what is taken before its index lies below it, and the rest above
+pub record IsBetween (taken : List Range) (e : Extent) (s : Spot) : Type 0 where
   pub ends : (range_from s.at e.size).last < 2 ^ 64
   pub within : s.index ≤ length taken
   pub below : (k : ℕ) (d : Range) → k < s.index → (slice_index_or taken k d).last < s.at
   pub above : (k : ℕ) (d : Range) → s.index ≤ k → k < length taken
       → (range_from s.at e.size).last < (slice_index_or taken k d).first
+
+-- the least free place from an address on
+pub record IsSpotAt (taken : List Range) (low : ℕ) (e : Extent) (s : Spot) : Type 0 where
+  pub least : IsLeastSpot low (map decoded_range_of taken) (extent_value e) s.at
+  pub between : IsBetween taken e s
+
+-- the place alone
+abbrev pub place_of : Option Spot → Option ℕ
+place_of None = None
+place_of (Some s) = Some s.at

@@ -1,10 +1,10 @@
 //! The first free place in ranges of addresses.
 ghost use Rattle.std.specs.Prelude.{ℕ, ◌≡◌, ◌≤◌, ◌<◌, ◌+◌, ◌^◌, IfSome, IfNone, IsTrue, map, length, SomeIff};
-ghost use Rattle.settle_spec.specs.FirstPlace.{is_spot};
+ghost use Rattle.settle_spec.specs.FirstPlace.{is_spot, ends_in as place_ends_in, first_in, first_place as place_in_ranges};
 ghost use Rattle.plan_spec.specs.Plan.{raised_to};
 ghost use Rattle.plan_spec.specs.Place.{range_from};
 ghost use Rattle.pci_base.specs.Ranges.{decoded_range_of};
-ghost use Rattle.pci_settle.specs.Spots.{extent_value, IsExtent, AreInOrder, IsSpotAt};
+ghost use Rattle.pci_settle.specs.Spots.{extent_value, IsExtent, AreInOrder, IsBetween, IsSpotAt, place_of};
 
 use crate::extent::Extent;
 use pci_base::range::Range;
@@ -62,4 +62,46 @@ fn first_spot(taken: &[Range], low: u64, extent: Extent) -> Option<Spot>
         at,
         index: taken.len(),
     })
+}
+
+/// Whether an extent from `at` on ends in a range, and below 4 GB where it isn't wide.
+fn ends_in(range: Range, extent: Extent, at: u64) -> bool
+    requires some { 0 < extent.size }
+    requires ends { (range_from at extent.size).last < 2 ^ 64 }
+    ensures { result ≡ place_ends_in (decoded_range_of range) (extent_value extent) at }
+{
+    let last = at + (extent.size - 1);
+    last <= range.last && (extent.wide || last <= 0xffff_ffff)
+}
+
+/// The first place in a range.
+fn spot_in(range: Range, taken: &[Range], extent: Extent) -> Option<Spot>
+    requires extent { IsExtent extent }
+    requires order { AreInOrder taken.now }
+    ensures place { place_of result ≡ first_in (decoded_range_of range)
+        (map decoded_range_of taken.now) (extent_value extent) }
+    ensures between { IfSome result (IsBetween taken.now extent) }
+{
+    let spot = first_spot(taken, range.first, extent)?;
+    if ends_in(range, extent, spot.at) {
+        Some(spot)
+    } else {
+        None
+    }
+}
+
+/// The first place in the first range that has one.
+pub fn first_place(ranges: &[Range], taken: &[Range], extent: Extent) -> Option<Spot>
+    requires extent { IsExtent extent }
+    requires order { AreInOrder taken.now }
+    ensures place { place_of result ≡ place_in_ranges (map decoded_range_of ranges.now)
+        (map decoded_range_of taken.now) (extent_value extent) }
+    ensures between { IfSome result (IsBetween taken.now extent) }
+{
+    for range in ranges {
+        if let Some(spot) = spot_in(*range, taken, extent) {
+            return Some(spot);
+        }
+    }
+    None
 }
