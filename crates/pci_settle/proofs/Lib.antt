@@ -1,3 +1,4 @@
 pub mod Raised
 pub mod Spots
 pub mod FirstPlaces
+pub mod Inserted

@@ -1,5 +1,6 @@
 -- Free places, by the list of what is taken.
-use Rattle.std.specs.Prelude.{ℕ, ◌<◌, ◌≤◌, ◌^◌, List, length, map, slice_index_or, Option, None, Some}
+use Rattle.std.specs.Prelude.{ℕ, ◌≡◌, ◌<◌, ◌≤◌, ◌^◌, List, length, map, slice_index_or, Option, None, Some}
+use Rattle.std.specs.List.{insert}
 use Rattle.plan_spec.specs.Place.{range_from}
 use Rattle.settle_spec.specs.FirstPlace.{Extent as ExtentValue, IsLeastSpot}
 use Rattle.pci_base.specs.declared.range.Range.{Range}
@@ -39,3 +40,19 @@ pub record IsSpotAt (taken : List Range) (low : ℕ) (e : Extent) (s : Spot) : T
 abbrev pub place_of : Option Spot → Option ℕ
 place_of None = None
 place_of (Some s) = Some s.at
+
+-- ranges by rising first addresses, none of them backward
+pub record AreListed (taken : List Range) : Type 0 where
+  pub order : AreInOrder taken
+  pub forward : (k : ℕ) (d : Range) → k < length taken
+      → (slice_index_or taken k d).first ≤ (slice_index_or taken k d).last
+
+-- the addresses of an extent from a on
+abbrev pub range_at : Extent → ℕ → Range
+range_at e a = record { first = a; last = (range_from a e.size).last }
+
+-- what is taken once a place was given: it too, where there is one
+abbrev pub IsTakenBy : List Range → List Range → Extent → Option ℕ → Type 0
+IsTakenBy old new e None = new ≡ old
+IsTakenBy old new e (Some a) =
+    (index : ℕ) × (index ≤ length old) × (new ≡ insert old index (range_at e a))

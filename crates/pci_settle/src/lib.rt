@@ -7,4 +7,5 @@
 #![tactic(auto)]
 
 pub mod extent;
+pub mod placing;
 pub mod spot;
