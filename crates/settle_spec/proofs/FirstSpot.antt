@@ -71,37 +71,46 @@ bound_of low (t ∷ taken) b from =
     let lower = is.lower in
     elim (cases_lt t.last b) [
       | inl under ↦ elim (cases_lt n (t.last + 1)) [
-        | inl more ↦ (t.last + 1, record {
-              is_one = in_tail low ((t.last + 1) ∷ map (λ (t : Range). t.last + 1) taken) (t.last + 1) (in_head (t.last + 1) (map (λ (t : Range). t.last + 1) taken));
-              lower = omega (arith, lower, more);
-              up = omega (arith, under);
-              each = λ u listed. elim (in_cons_cases t taken u listed) [
-                | inl here ↦ inl (subst (λ (x : Range). x.last < t.last + 1) here (omega arith))
-                | inr later ↦ elim (is.each u later) [
-                  | inl below ↦ inl (omega (arith, below, more))
-                  | inr above ↦ inr above
-                ]
-              ];
-            })
-        | inr enough ↦ (n, record {
-              is_one = wider low (t.last + 1) (map (λ (t : Range). t.last + 1) taken) n is.is_one;
-              lower = lower;
-              up = is.up;
-              each = λ u listed. elim (in_cons_cases t taken u listed) [
-                | inl here ↦ inl (subst (λ (x : Range). x.last < n) here (omega (arith, enough)))
-                | inr later ↦ is.each u later
-              ];
-            })
-      ]
-      | inr over ↦ (n, record {
+        | inl more ↦ (
+          t.last + 1,
+          record {
+            is_one = in_tail low ((t.last + 1) ∷ map (λ (t : Range). t.last + 1) taken) (t.last + 1) (in_head (t.last + 1) (map (λ (t : Range). t.last + 1) taken));
+            lower = omega (arith, lower, more);
+            up = omega (arith, under);
+            each = λ u listed. elim (in_cons_cases t taken u listed) [
+              | inl here ↦ inl (subst (λ (x : Range). x.last < t.last + 1) here (omega arith))
+              | inr later ↦ elim (is.each u later) [
+                | inl below ↦ inl (omega (arith, below, more))
+                | inr above ↦ inr above
+              ]
+            ];
+          },
+        )
+        | inr enough ↦ (
+          n,
+          record {
             is_one = wider low (t.last + 1) (map (λ (t : Range). t.last + 1) taken) n is.is_one;
             lower = lower;
             up = is.up;
             each = λ u listed. elim (in_cons_cases t taken u listed) [
-              | inl here ↦ inr (subst (λ (x : Range). b ≤ x.last) here over)
+              | inl here ↦ inl (subst (λ (x : Range). x.last < n) here (omega (arith, enough)))
               | inr later ↦ is.each u later
             ];
-          })
+          },
+        )
+      ]
+      | inr over ↦ (
+        n,
+        record {
+          is_one = wider low (t.last + 1) (map (λ (t : Range). t.last + 1) taken) n is.is_one;
+          lower = lower;
+          up = is.up;
+          each = λ u listed. elim (in_cons_cases t taken u listed) [
+            | inl here ↦ inr (subst (λ (x : Range). b ≤ x.last) here over)
+            | inr later ↦ is.each u later
+          ];
+        },
+      )
     ]
 
 pub record IsCandidate (low : ℕ) (taken : List Range) (e : Extent) (b c : ℕ) : Type 0 where
@@ -128,12 +137,14 @@ candidate low taken e pos b spot =
           | inr over ↦ absurd (let no : ⊥ = omega (arith, over, above) in no)
         ]
       ];
-    }) in
-    (raised_to e.alignment n, record {
-      listed = in_filter_from (is_spot low taken e) (candidates low taken e) (raised_to e.alignment n)
-          (in_map_from (raised_to e.alignment) (low ∷ map (λ (t : Range). t.last + 1) taken) n is.is_one) is_spot_there;
-      up = up;
-    })
+    }) in (
+      raised_to e.alignment n,
+      record {
+        listed = in_filter_from (is_spot low taken e) (candidates low taken e) (raised_to e.alignment n)
+            (in_map_from (raised_to e.alignment) (low ∷ map (λ (t : Range). t.last + 1) taken) n is.is_one) is_spot_there;
+        up = up;
+      },
+    )
 
 -- ---- the least of some numbers
 

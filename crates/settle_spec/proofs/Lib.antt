@@ -1,2 +1,3 @@
 pub mod FirstSpot
+pub mod SameTaken
 pub mod Examples
