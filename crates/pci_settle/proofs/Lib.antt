@@ -2,3 +2,4 @@ pub mod Raised
 pub mod Spots
 pub mod FirstPlaces
 pub mod Inserted
+pub mod AllPlaced

@@ -1,8 +1,11 @@
 //! Extents get their first places one after another, each place being taken for those that follow.
-ghost use Rattle.std.specs.Prelude.{ℕ, ◌≡◌, IfOk, map};
+ghost use Rattle.std.specs.Prelude.{ℕ, ◌≡◌, ◌<◌, IfOk, IfSome, List, length, map};
+ghost use Rattle.std.specs.List.{All};
 ghost use Rattle.settle_spec.specs.FirstPlace.{first_place as place_in_ranges};
+ghost use Rattle.settle_spec.specs.Items.{Item, place_all as items_placed};
 ghost use Rattle.pci_base.specs.Ranges.{decoded_range_of};
 ghost use Rattle.pci_settle.specs.Spots.{extent_value, IsExtent, AreListed, IsTakenBy};
+ghost use Rattle.pci_settle.specs.Placings.{item_extent, placing_of};
 
 use crate::extent::Extent;
 use crate::spot::first_place;
@@ -37,4 +40,31 @@ pub fn place_next<A: Allocator>(
             Ok(Some(spot.at))
         }
     }
+}
+
+/// Gives each extent its first place, what is taken and those before it being taken. The answer is None where
+/// all have one, else the index of the first that has none.
+pub fn place_all<A: Allocator>(
+    ranges: &[Range],
+    taken: &mut Vec<Range, A>,
+    extents: &[Extent],
+    places: &mut [u64],
+) -> Result<Option<usize>, OutOfMemory>
+    requires extents { All IsExtent extents.now }
+    requires listed { AreListed taken.old.items }
+    requires count { length places.old ≡ length extents.now }
+    ensures placing { IfOk result (λ lack. (items : List Item)
+        → map item_extent items ≡ map extent_value extents.now
+        → items_placed (λ i. map decoded_range_of ranges.now)
+        (map decoded_range_of taken.old.items) items ≡ placing_of items places.new lack) }
+    ensures within { IfOk result (λ lack. IfSome lack (λ k. k < length extents.now)) }
+    ensures listed { AreListed taken.new.items }
+{
+    for (index, extent) in extents.iter().enumerate() {
+        match place_next(ranges, taken, *extent)? {
+            Some(at) => places[index] = at,
+            None => return Ok(Some(index)),
+        }
+    }
+    Ok(None)
 }
