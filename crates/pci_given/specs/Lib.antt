@@ -1,0 +1,4 @@
+pub mod Gathered
+pub mod Values
+pub mod Legacy
+pub mod Sent

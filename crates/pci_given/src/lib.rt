@@ -1,0 +1,8 @@
+//! Judging with what is given beside a system: the addresses that the host sends to its root buses, and the legacy parts
+//! of bridges.
+#![tactic(auto)]
+
+pub mod gather;
+pub mod given;
+pub mod legacy;
+pub mod sent;
