@@ -1,0 +1,11 @@
+pub mod Here
+pub mod Looks
+pub mod Bytes
+pub mod Puts
+pub mod Errs
+pub mod Views
+pub mod Places
+pub mod Reached
+pub mod Hushing
+pub mod Opening
+pub mod Walking

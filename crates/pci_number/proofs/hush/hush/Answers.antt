@@ -1,0 +1,60 @@
+use Rattle.std.proofs.Common.{◌+◌, true, arith, refl, ap, subst}
+use Rattle.pci_number.specs.Steps.{IsShownAt, IsLeftAt, IsHushLeft}
+use Rattle.pci_number.specs.Hushing.{IsHushing}
+use Rattle.pci_number.proofs.Errs.{always_err}
+use Rattle.pci_number.proofs.Places.{place_of, to_slot, from_slot}
+use Rattle.pci_number.proofs.Hushing.{hush_start, hush_pass, hush_close, hush_left_close, hush_left, hush_done}
+use Rattle.pci_number.proofs.hush.hush.Goals as goal
+use Rattle.pci_number.proofs.hush.hush.Goals.{then-found+in_ok-close, else-found}
+
+pub loop-place-init : goal.loop-place-init
+loop-place-init g c = record { hushing = hush_start (g.P.BoardPort.board c.args.port.now) c.args.bus; counted = refl }
+
+pub returns-in_err-found-clause-left : goal.returns-in_err-found-clause-left
+returns-in_err-found-clause-left g c =
+    let board = g.P.BoardPort.board in
+    always_err c.from_residual.result _
+    (hush_left (board c.args.port.now) (board c.loop-place.port) (board c.look.new.port) c.args.bus c.loop-place.place c.loop-place.more c.loop-place.bridges c.in_err-found.ensures.same c.loop-place.invariant.hushing)
+
+pub returns-in_err-close-clause-left : goal.returns-in_err-close-clause-left
+returns-in_err-close-clause-left g c =
+    let board = g.P.BoardPort.board in
+    let before = board c.args.port.now in
+    let slot = c.slot_at-slot.result in
+    let place = place_of slot c.args.bus c.loop-place.place c.slot_at-slot.ensures in
+    always_err c.from_residual-in_err-close.result _
+    (subst (λ b. IsHushLeft before b (board c.close.new.port)) place.on
+    (hush_left_close before (board c.loop-place.port) (board c.close.new.port) slot c.loop-place.more c.loop-place.bridges c.in_ok-found.found place.low c.in_ok-found.ensures.looked c.if-found.true
+    (subst (λ b. IsLeftAt b slot (board c.close.new.port)) c.in_ok-found.ensures.same c.in_err-close.ensures.left)
+    (to_slot (λ b p. IsHushing before b p c.loop-place.more c.loop-place.bridges (board c.loop-place.port)) slot c.args.bus c.loop-place.place place c.loop-place.invariant.hushing)))
+
+pub loop-place-preserved : goal.loop-place-preserved
+loop-place-preserved g c =
+    let board = g.P.BoardPort.board in
+    let before = board c.args.port.now in
+    let slot = c.slot_at-slot.result in
+    let bus = c.args.bus in
+    let at = c.loop-place.place in
+    let place = place_of slot bus at c.slot_at-slot.ensures in
+    let found = c.in_ok-found.found in
+    let so_far = to_slot (λ b p. IsHushing before b p c.loop-place.more c.loop-place.bridges (board c.loop-place.port)) slot bus at place c.loop-place.invariant.hushing in
+    elim c.if-found.branch [
+      | then-found+in_ok-close w ↦ record {
+        hushing = rw (w.port-is, w.bridges-is) (from_slot (λ b p. IsHushing before b (p + 1) found.more true (board w.close.new.port)) slot bus at place
+            (hush_close before (board c.loop-place.port) (board w.close.new.port) slot c.loop-place.more c.loop-place.bridges found place.low c.in_ok-found.ensures.looked w.if-found.true
+            (subst (λ b. IsShownAt b slot 0 0 0 (board w.close.new.port)) c.in_ok-found.ensures.same w.in_ok-close.ensures.closed) so_far));
+        counted = omega (arith, ap g.P.BoardPort.failures w.port-is, w.in_ok-close.ensures.counted, c.in_ok-found.ensures.counted, c.loop-place.invariant.counted);
+      }
+      | else-found w ↦ record {
+        hushing = rw (w.port-is, w.bridges-is, c.in_ok-found.ensures.same) (from_slot (λ b p. IsHushing before b (p + 1) found.more c.loop-place.bridges (board c.loop-place.port)) slot bus at place
+            (hush_pass before (board c.loop-place.port) slot c.loop-place.more c.loop-place.bridges found place.low c.in_ok-found.ensures.looked w.if-found.false so_far));
+        counted = omega (arith, ap g.P.BoardPort.failures w.port-is, c.in_ok-found.ensures.counted, c.loop-place.invariant.counted);
+      }
+    ]
+
+pub returns-clause-hushed : goal.returns-clause-hushed
+returns-clause-hushed g c =
+    let board = g.P.BoardPort.board in
+    let before = board c.args.port.now in
+    hush_done before (board c.loop-place.port) c.args.bus c.loop-place.more c.loop-place.bridges
+    (subst (λ p. IsHushing before c.args.bus p c.loop-place.more c.loop-place.bridges (board c.loop-place.port)) (omega (arith, c.loop-place-test.false, c.loop-place.auto.place-end)) c.loop-place.invariant.hushing)

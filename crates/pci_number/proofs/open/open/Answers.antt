@@ -1,0 +1,29 @@
+use Rattle.std.proofs.Common.{subst}
+use Rattle.pci_number.specs.Steps.{IsHushed}
+use Rattle.pci_number.proofs.Errs.{always_err}
+use Rattle.pci_number.proofs.Opening.{open_left_second, open_left_third, opened_alone, opened_wide}
+use Rattle.pci_number.proofs.open.open.Goals as goal
+
+pub returns-in_err-hush-clause-left : goal.returns-in_err-hush-clause-left
+returns-in_err-hush-clause-left g c =
+    let board = g.P.BoardPort.board in
+    always_err c.from_residual-in_err-hush.result _
+    (open_left_second (board c.args.port.now) (board c.show.new.port) (board c.hush.new.port) c.args.slot c.args.behind c.args.last c.in_ok-show.ensures.shown c.in_err-hush.ensures.left)
+
+pub returns-then-not-branch-clause-opened : goal.returns-then-not-branch-clause-opened
+returns-then-not-branch-clause-opened g c =
+    let board = g.P.BoardPort.board in
+    opened_alone (board c.args.port.now) (board c.show.new.port) (board c.hush.new.port) c.args.slot c.args.behind c.args.last c.in_ok-show.ensures.shown
+    (subst (λ b. IsHushed (board c.show.new.port) c.args.behind b (board c.hush.new.port)) c.if-not-branch.true c.in_ok-hush.ensures.hushed)
+
+pub returns-in_err-put-clause-left : goal.returns-in_err-put-clause-left
+returns-in_err-put-clause-left g c =
+    let board = g.P.BoardPort.board in
+    always_err c.from_residual-in_err-put.result _
+    (open_left_third (board c.args.port.now) (board c.show.new.port) (board c.hush.new.port) (board c.put.new.port) c.args.slot c.args.behind c.args.last c.in_ok-hush.field-0 c.in_ok-show.ensures.shown c.in_ok-hush.ensures.hushed c.in_err-put.ensures.left)
+
+pub returns-clause-opened : goal.returns-clause-opened
+returns-clause-opened g c =
+    let board = g.P.BoardPort.board in
+    opened_wide (board c.args.port.now) (board c.show.new.port) (board c.hush.new.port) (board c.put.new.port) c.args.slot c.args.behind c.args.last c.in_ok-show.ensures.shown
+    (subst (λ b. IsHushed (board c.show.new.port) c.args.behind b (board c.hush.new.port)) c.if-not-branch.false c.in_ok-hush.ensures.hushed) c.in_ok-put.ensures.put

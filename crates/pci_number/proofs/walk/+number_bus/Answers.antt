@@ -1,0 +1,117 @@
+use Rattle.std.proofs.Common.{◌≡◌, ◌+◌, ℕ, Bool, true, false, arith, refl, ap, subst}
+use Rattle.pci_spec.specs.Slot.{Slot}
+use Rattle.number_spec.specs.Board.{Board}
+use Rattle.pci_number.specs.Steps.{IsOpened, IsOpenLeft}
+use Rattle.pci_number.specs.Walked.{IsBusLeft}
+use Rattle.pci_number.specs.Walking.{IsWalking}
+use Rattle.pci_number.specs.declared.walk.Walk.{Walk}
+use Rattle.pci_number.proofs.Errs.{always_err}
+use Rattle.pci_number.proofs.Places.{place_of, to_slot, from_slot}
+use Rattle.pci_number.proofs.Walking.{one_more, walk_start, walk_pass, walk_without, walk_alone, walk_wide, walk_left, walk_left_open, walk_left_bus, walk_left_put, walk_done}
+use Rattle.pci_number.proofs.walk.+number_bus.Goals as goal
+use Rattle.pci_number.proofs.walk.+number_bus.Goals.{then-found+then-walk-last+in_ok-open+then-branch+in_ok-walk+in_ok-put, then-found+then-walk-last+in_ok-open+else-branch, then-found+else-walk-last, else-found}
+
+pub loop-place-init : goal.loop-place-init
+loop-place-init g t c = record { walking = walk_start (g.P.BoardPort.board c.args.port.now) c.args.bus c.args.last c.args.start; above = omega arith; counted = refl }
+
+pub returns-in_err-found-clause-left : goal.returns-in_err-found-clause-left
+returns-in_err-found-clause-left g t c =
+    let board = g.P.BoardPort.board in
+    always_err c.from_residual.result _
+    (walk_left (board c.args.port.now) (board c.loop-place.port) (board c.look.new.port) c.args.bus c.loop-place.place c.args.last c.args.start c.loop-place.walk c.loop-place.more c.in_err-found.ensures.same c.loop-place.invariant.walking)
+
+pub returns-in_err-open-clause-left : goal.returns-in_err-open-clause-left
+returns-in_err-open-clause-left g t c =
+    let board = g.P.BoardPort.board in
+    let before = board c.args.port.now in
+    let slot = c.slot_at-slot.result in
+    let place = place_of slot c.args.bus c.loop-place.place c.slot_at-slot.ensures in
+    always_err c.from_residual-in_err-open.result _
+    (subst (λ b. IsBusLeft before b c.args.last c.args.start (board c.open.new.port)) place.on
+    (walk_left_open before (board c.loop-place.port) (board c.open.new.port) slot c.args.last c.args.start c.loop-place.walk c.loop-place.more c.in_ok-found.found place.low c.in_ok-found.ensures.looked c.if-found.true c.if-walk-last.true
+    (subst (λ b. IsOpenLeft b slot (c.loop-place.walk.taken + 1) c.args.last (board c.open.new.port)) c.in_ok-found.ensures.same c.in_err-open.ensures.left)
+    (to_slot (λ b p. IsWalking before b c.args.last c.args.start p c.loop-place.more c.loop-place.walk (board c.loop-place.port)) slot c.args.bus c.loop-place.place place c.loop-place.invariant.walking)))
+
+-- a bridge that was opened, on the board as it was looked at
+is_open : (before now later : Board) → (slot : Slot) (bus last : ℕ) (b : Bool) → now ≡ before → b ≡ true → IsOpened now slot bus last b later → IsOpened before slot bus last true later
+is_open before now later slot bus last b same is gets = subst (λ x. IsOpened x slot bus last true later) same (subst (λ x. IsOpened now slot bus last x later) is gets)
+
+pub returns-in_err-walk-clause-left : goal.returns-in_err-walk-clause-left
+returns-in_err-walk-clause-left g t c =
+    let board = g.P.BoardPort.board in
+    let before = board c.args.port.now in
+    let slot = c.slot_at-slot.result in
+    let place = place_of slot c.args.bus c.loop-place.place c.slot_at-slot.ensures in
+    always_err c.from_residual-in_err-walk.result _
+    (subst (λ b. IsBusLeft before b c.args.last c.args.start (board c.number_bus.new.port)) place.on
+    (walk_left_bus before (board c.loop-place.port) (board c.open.new.port) (board c.number_bus.new.port) slot c.args.last c.args.start c.loop-place.walk c.loop-place.more c.in_ok-found.found place.low c.in_ok-found.ensures.looked c.if-found.true c.if-walk-last.true
+    (is_open (board c.loop-place.port) (board c.look.new.port) (board c.open.new.port) slot (c.loop-place.walk.taken + 1) c.args.last c.in_ok-open.field-0 c.in_ok-found.ensures.same c.if-branch.true c.in_ok-open.ensures.opened)
+    c.in_err-walk.ensures.left
+    (to_slot (λ b p. IsWalking before b c.args.last c.args.start p c.loop-place.more c.loop-place.walk (board c.loop-place.port)) slot c.args.bus c.loop-place.place place c.loop-place.invariant.walking)))
+
+pub returns-in_err-put-clause-left : goal.returns-in_err-put-clause-left
+returns-in_err-put-clause-left g t c =
+    let board = g.P.BoardPort.board in
+    let before = board c.args.port.now in
+    let slot = c.slot_at-slot.result in
+    let place = place_of slot c.args.bus c.loop-place.place c.slot_at-slot.ensures in
+    always_err c.from_residual-in_err-put.result _
+    (subst (λ b. IsBusLeft before b c.args.last c.args.start (board c.put.new.port)) place.on
+    (walk_left_put before (board c.loop-place.port) (board c.open.new.port) (board c.number_bus.new.port) (board c.put.new.port) slot c.args.last c.args.start c.loop-place.walk c.in_ok-walk.walk c.loop-place.more c.in_ok-found.found place.low c.in_ok-found.ensures.looked c.if-found.true c.if-walk-last.true
+    (is_open (board c.loop-place.port) (board c.look.new.port) (board c.open.new.port) slot (c.loop-place.walk.taken + 1) c.args.last c.in_ok-open.field-0 c.in_ok-found.ensures.same c.if-branch.true c.in_ok-open.ensures.opened)
+    c.in_ok-walk.ensures.numbered c.in_err-put.ensures.left
+    (to_slot (λ b p. IsWalking before b c.args.last c.args.start p c.loop-place.more c.loop-place.walk (board c.loop-place.port)) slot c.args.bus c.loop-place.place place c.loop-place.invariant.walking)))
+
+pub loop-place-preserved : goal.loop-place-preserved
+loop-place-preserved g t c =
+    let board = g.P.BoardPort.board in
+    let failures = g.P.BoardPort.failures in
+    let before = board c.args.port.now in
+    let slot = c.slot_at-slot.result in
+    let bus = c.args.bus in
+    let last = c.args.last in
+    let start = c.args.start in
+    let walk = c.loop-place.walk in
+    let at = c.loop-place.place in
+    let place = place_of slot bus at c.slot_at-slot.ensures in
+    let found = c.in_ok-found.found in
+    let now = board c.loop-place.port in
+    let looked = c.in_ok-found.ensures.looked in
+    let so_far = to_slot (λ b p. IsWalking before b last start p c.loop-place.more walk now) slot bus at place c.loop-place.invariant.walking in
+    elim c.if-found.branch [
+      | then-found+then-walk-last+in_ok-open+then-branch+in_ok-walk+in_ok-put w ↦ record {
+        walking = rw (w.port-is, w.walk-is) (from_slot (λ b p. IsWalking before b last start (p + 1) found.more w.in_ok-walk.walk (board w.put.new.port)) slot bus at place
+            (walk_wide before now (board w.open.new.port) (board w.number_bus.new.port) (board w.put.new.port) slot last start walk w.in_ok-walk.walk c.loop-place.more found place.low looked w.if-found.true w.if-walk-last.true
+            (is_open now (board c.look.new.port) (board w.open.new.port) slot (walk.taken + 1) last w.in_ok-open.field-0 c.in_ok-found.ensures.same w.if-branch.true w.in_ok-open.ensures.opened)
+            w.in_ok-walk.ensures.numbered w.in_ok-walk.ensures.above w.in_ok-put.ensures.put so_far));
+        above = omega (arith, ap (λ (x : Walk). x.taken) w.walk-is, w.in_ok-walk.ensures.above, c.loop-place.invariant.above);
+        counted = omega (arith, ap failures w.port-is, w.in_ok-put.ensures.counted, w.in_ok-walk.ensures.counted, w.in_ok-open.ensures.counted, c.in_ok-found.ensures.counted, c.loop-place.invariant.counted);
+      }
+      | then-found+then-walk-last+in_ok-open+else-branch w ↦ record {
+        walking = rw (w.port-is, w.walk-is) (from_slot (λ b p. IsWalking before b last start (p + 1) found.more (one_more walk) (board w.open.new.port)) slot bus at place
+            (walk_alone before now (board w.open.new.port) slot last start walk c.loop-place.more found place.low looked w.if-found.true w.if-walk-last.true
+            (subst (λ x. IsOpened x slot (walk.taken + 1) last false (board w.open.new.port)) c.in_ok-found.ensures.same (subst (λ x. IsOpened (board c.look.new.port) slot (walk.taken + 1) last x (board w.open.new.port)) w.if-branch.false w.in_ok-open.ensures.opened))
+            so_far));
+        above = omega (arith, ap (λ (x : Walk). x.taken) w.walk-is, c.loop-place.invariant.above);
+        counted = omega (arith, ap failures w.port-is, w.in_ok-open.ensures.counted, c.in_ok-found.ensures.counted, c.loop-place.invariant.counted);
+      }
+      | then-found+else-walk-last w ↦ record {
+        walking = rw (w.port-is, w.walk-is, c.in_ok-found.ensures.same) (from_slot (λ b p. IsWalking before b last start (p + 1) found.more w.and_without-walk.result now) slot bus at place
+            (walk_without before now slot last start walk w.and_without-walk.result c.loop-place.more found place.low looked w.if-found.true w.if-walk-last.false w.and_without-walk.ensures.taken w.and_without-walk.ensures.named so_far));
+        above = omega (arith, ap (λ (x : Walk). x.taken) w.walk-is, w.and_without-walk.ensures.taken, c.loop-place.invariant.above);
+        counted = omega (arith, ap failures w.port-is, c.in_ok-found.ensures.counted, c.loop-place.invariant.counted);
+      }
+      | else-found w ↦ record {
+        walking = rw (w.port-is, w.walk-is, c.in_ok-found.ensures.same) (from_slot (λ b p. IsWalking before b last start (p + 1) found.more walk now) slot bus at place
+            (walk_pass before now slot last start walk c.loop-place.more found place.low looked w.if-found.false so_far));
+        above = omega (arith, ap (λ (x : Walk). x.taken) w.walk-is, c.loop-place.invariant.above);
+        counted = omega (arith, ap failures w.port-is, c.in_ok-found.ensures.counted, c.loop-place.invariant.counted);
+      }
+    ]
+
+pub returns-clause-numbered : goal.returns-clause-numbered
+returns-clause-numbered g t c =
+    let board = g.P.BoardPort.board in
+    let before = board c.args.port.now in
+    walk_done before (board c.loop-place.port) c.args.bus c.args.last c.args.start c.loop-place.walk c.loop-place.more
+    (subst (λ p. IsWalking before c.args.bus c.args.last c.args.start p c.loop-place.more c.loop-place.walk (board c.loop-place.port)) (omega (arith, c.loop-place-test.false, c.loop-place.auto.place-end)) c.loop-place.invariant.walking)

@@ -1,0 +1,13 @@
+use Rattle.std.proofs.Common.{◌≡◌, ◌≤◌, ◌-◌}
+use Rattle.pci_number.specs.Walking.{IsWalking}
+use Rattle.pci_number.proofs.walk.+number_bus.Given as goal
+
+abbrev pub invariant-loop-place : goal.invariant-loop-place
+invariant-loop-place g l = record {
+  walking : IsWalking (g.P.BoardPort.board l.initial.port) l.bus l.last l.fn.start l.place l.more l.walk (g.P.BoardPort.board l.port);
+  above : l.fn.start.taken ≤ l.walk.taken;
+  counted : g.P.BoardPort.failures l.port ≡ g.P.BoardPort.failures l.initial.port;
+}
+
+abbrev pub decreases-number_bus : goal.decreases-number_bus
+decreases-number_bus g l = 256 - l.bus

@@ -1,0 +1,6 @@
+pub mod Seen
+pub mod Stops
+pub mod Steps
+pub mod Walked
+pub mod Hushing
+pub mod Walking

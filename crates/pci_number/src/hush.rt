@@ -1,0 +1,47 @@
+//! Bridges that forward nothing.
+ghost use Rattle.std.specs.Prelude.{◌≡◌, ◌+◌, IfOk, IfErr, OnOk, OnErr};
+ghost use Rattle.pci_number.specs.Stops.{failures_at, IsStop};
+ghost use Rattle.pci_number.specs.Steps.{IsShownAt, IsLeftAt, IsHushed, IsHushLeft};
+
+use crate::look::{PLACES, look, slot_at};
+use crate::port::BoardPort;
+use crate::put::put;
+use crate::stop::Stop;
+use pci_base::offset::{PRIMARY_BUS, SECONDARY_BUS, SUBORDINATE_BUS};
+use pci_base::slot::Slot;
+
+/// Makes a bridge forward nothing. The subordinate number goes first: with it, a secondary number of 0 would forward
+/// each bus up to it.
+fn close<P: BoardPort>(port: &mut P, slot: Slot) -> Result<(), Stop>
+    ensures closed { OnOk result (IsShownAt (P.board port.old) slot 0 0 0 (P.board port.new)) }
+    ensures left { OnErr result (IsLeftAt (P.board port.old) slot (P.board port.new)) }
+    ensures stop { IfErr result (IsStop (P.board port.new)) }
+    ensures counted { P.failures port.new ≡ P.failures port.old + failures_at result }
+{
+    put(port, slot, SUBORDINATE_BUS, 0)?;
+    put(port, slot, SECONDARY_BUS, 0)?;
+    put(port, slot, PRIMARY_BUS, 0)?;
+    Ok(())
+}
+
+/// Makes the bridges on a bus forward nothing. Whether there are any.
+pub fn hush<P: BoardPort>(port: &mut P, bus: u8) -> Result<bool, Stop>
+    ensures hushed { IfOk result
+        (λ bridges. IsHushed (P.board port.old) bus bridges (P.board port.new)) }
+    ensures left { OnErr result (IsHushLeft (P.board port.old) bus (P.board port.new)) }
+    ensures stop { IfErr result (IsStop (P.board port.new)) }
+    ensures counted { P.failures port.new ≡ P.failures port.old + failures_at result }
+{
+    let mut more = false;
+    let mut bridges = false;
+    for place in 0..PLACES {
+        let slot = slot_at(bus, place);
+        let found = look(port, slot, more)?;
+        more = found.more;
+        if found.bridge {
+            bridges = true;
+            close(port, slot)?;
+        }
+    }
+    Ok(bridges)
+}

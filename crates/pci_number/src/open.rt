@@ -1,0 +1,42 @@
+//! A bridge that gets a number.
+ghost use Rattle.std.specs.Prelude.{◌≡◌, ◌+◌, IfOk, IfErr, OnOk, OnErr};
+ghost use Rattle.pci_number.specs.Stops.{failures_at, IsStop};
+ghost use Rattle.pci_number.specs.Steps.{IsShownAt, IsLeftAt, IsOpened, IsOpenLeft};
+
+use crate::hush::hush;
+use crate::port::BoardPort;
+use crate::put::put;
+use crate::stop::Stop;
+use pci_base::offset::{PRIMARY_BUS, SECONDARY_BUS, SUBORDINATE_BUS};
+use pci_base::slot::Slot;
+
+/// Gives a bridge the bus that it is on and a bus behind it, for that one alone.
+fn show<P: BoardPort>(port: &mut P, slot: Slot, behind: u8) -> Result<(), Stop>
+    ensures shown { OnOk result
+        (IsShownAt (P.board port.old) slot slot.bus behind behind (P.board port.new)) }
+    ensures left { OnErr result (IsLeftAt (P.board port.old) slot (P.board port.new)) }
+    ensures stop { IfErr result (IsStop (P.board port.new)) }
+    ensures counted { P.failures port.new ≡ P.failures port.old + failures_at result }
+{
+    put(port, slot, PRIMARY_BUS, slot.bus())?;
+    put(port, slot, SECONDARY_BUS, behind)?;
+    put(port, slot, SUBORDINATE_BUS, behind)?;
+    Ok(())
+}
+
+/// Gives a bridge a bus, for that one alone until the bridges there forward nothing: two of them could show the same old
+/// numbers. Then what comes next is behind it. Whether there are bridges there.
+pub fn open<P: BoardPort>(port: &mut P, slot: Slot, behind: u8, last: u8) -> Result<bool, Stop>
+    ensures opened { IfOk result
+        (λ bridges. IsOpened (P.board port.old) slot behind last bridges (P.board port.new)) }
+    ensures left { OnErr result (IsOpenLeft (P.board port.old) slot behind last (P.board port.new)) }
+    ensures stop { IfErr result (IsStop (P.board port.new)) }
+    ensures counted { P.failures port.new ≡ P.failures port.old + failures_at result }
+{
+    show(port, slot, behind)?;
+    if !hush(port, behind)? {
+        return Ok(false);
+    }
+    put(port, slot, SUBORDINATE_BUS, last)?;
+    Ok(true)
+}

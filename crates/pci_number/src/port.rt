@@ -1,0 +1,34 @@
+//! A way to the configuration space of a board whose bridges may have any bus numbers.
+ghost use Rattle.std.specs.Prelude.{◌≡◌, ◌+◌, ℕ, IfOk, OnOk, OnErr};
+ghost use Rattle.number_spec.specs.Board.{Board};
+ghost use Rattle.number_spec.specs.Access.{IsRead, IsWritten};
+ghost use Rattle.pci_number.specs.Stops.{failures_of};
+
+use pci_base::slot::Slot;
+
+/// An access failed.
+#[derive(Clone, Copy, Debug, PartialEq, Eq)]
+pub struct AccessFailed;
+
+/// A way to the configuration space of a board. Nothing is said of an access that several nodes answer.
+pub trait BoardPort {
+    // The board: the nodes behind each root, with their images.
+    ghost board: { Self → Board };
+
+    // How many accesses have failed. No number is the last.
+    ghost failures: { Self → ℕ };
+
+    /// The byte at an offset of the node that answers, or FFh where none does.
+    fn read(&mut self, access: Slot, offset: u8) -> Result<u8, AccessFailed>
+        ensures value { IfOk result (IsRead (board self.old) access offset) }
+        // looking changes nothing
+        ensures same { board self.new ≡ board self.old }
+        ensures counted { failures self.new ≡ failures self.old + failures_of result };
+
+    /// Writes one of the three bus numbers of a bridge, bytes 18h to 1Ah. The byte may keep bits.
+    fn write(&mut self, access: Slot, offset: u8, value: u8) -> Result<(), AccessFailed>
+        ensures written { OnOk result (IsWritten (board self.old) access offset (board self.new)) }
+        // a write that failed wasn't made
+        ensures kept { OnErr result (board self.new ≡ board self.old) }
+        ensures counted { failures self.new ≡ failures self.old + failures_of result };
+}

@@ -1,0 +1,34 @@
+//! One bus number of a bridge.
+ghost use Rattle.std.specs.Prelude.{◌≡◌, ◌+◌, IfErr, OnOk, OnErr};
+ghost use Rattle.pci_number.specs.Stops.{failures_at, IsStop};
+ghost use Rattle.pci_number.specs.Steps.{IsPut, IsTouched};
+
+use crate::port::BoardPort;
+use crate::stop::{NotTaken, Stop};
+use pci_base::slot::Slot;
+
+/// Writes a bus number where it isn't there already, and reads it back.
+///
+/// # Errors
+///
+/// `Stuck` where it reads back otherwise.
+pub fn put<P: BoardPort>(port: &mut P, slot: Slot, offset: u8, number: u8) -> Result<(), Stop>
+    ensures put { OnOk result (IsPut (P.board port.old) slot offset number (P.board port.new)) }
+    ensures left { OnErr result (IsTouched (P.board port.old) slot offset (P.board port.new)) }
+    ensures stop { IfErr result (IsStop (P.board port.new)) }
+    ensures counted { P.failures port.new ≡ P.failures port.old + failures_at result }
+{
+    if port.read(slot, offset)? == number {
+        return Ok(());
+    }
+    port.write(slot, offset, number)?;
+    if port.read(slot, offset)? == number {
+        Ok(())
+    } else {
+        Err(Stop::Stuck(NotTaken {
+            slot,
+            offset,
+            number,
+        }))
+    }
+}

@@ -1,0 +1,66 @@
+//! The walk that gives numbers.
+ghost use Rattle.std.specs.Prelude.{◌≡◌, ◌+◌, ◌≤◌, IfOk, IfErr, OnErr};
+ghost use Rattle.pci_number.specs.Stops.{failures_at, IsStop};
+ghost use Rattle.pci_number.specs.Walked.{IsBusNumbered, IsBusLeft, named};
+
+use crate::look::{PLACES, look, slot_at};
+use crate::open::open;
+use crate::port::BoardPort;
+use crate::put::put;
+use crate::stop::Stop;
+use pci_base::offset::SUBORDINATE_BUS;
+use pci_base::slot::Slot;
+
+/// How far a walk is: the greatest number in use, and the first bridge for which none was left.
+#[derive(Clone, Copy, Debug, PartialEq, Eq)]
+pub struct Walk {
+    pub taken: u8,
+    pub without: Option<Slot>,
+}
+
+impl Walk {
+    /// No number is left for a bridge.
+    fn and_without(self, slot: Slot) -> Walk
+        ensures taken { result.taken ≡ self.taken }
+        ensures named { result.without ≡ named self.without slot }
+    {
+        match self.without {
+            Some(_) => self,
+            None => Walk {
+                taken: self.taken,
+                without: Some(slot),
+            },
+        }
+    }
+}
+
+/// Numbers the bridges on a bus, which forward nothing, and those behind them.
+pub fn number_bus<P: BoardPort>(port: &mut P, bus: u8, last: u8, start: Walk) -> Result<Walk, Stop>
+    requires above { bus ≤ start.taken }
+    ensures numbered { IfOk result
+        (λ walk. IsBusNumbered (P.board port.old) bus last start walk (P.board port.new)) }
+    ensures above { IfOk result (λ walk. start.taken ≤ walk.taken) }
+    ensures left { OnErr result (IsBusLeft (P.board port.old) bus last start (P.board port.new)) }
+    ensures stop { IfErr result (IsStop (P.board port.new)) }
+    ensures counted { P.failures port.new ≡ P.failures port.old + failures_at result }
+{
+    let mut walk = start;
+    let mut more = false;
+    for place in 0..PLACES {
+        let slot = slot_at(bus, place);
+        let found = look(port, slot, more)?;
+        more = found.more;
+        if found.bridge {
+            if walk.taken < last {
+                walk.taken += 1;
+                if open(port, slot, walk.taken, last)? {
+                    walk = number_bus(port, walk.taken, last, walk)?;
+                    put(port, slot, SUBORDINATE_BUS, walk.taken)?;
+                }
+            } else {
+                walk = walk.and_without(slot);
+            }
+        }
+    }
+    Ok(walk)
+}
