@@ -71,7 +71,7 @@ module _ (s : System) (space : Space) where
 -- ---- windows
 
 -- a window that claims an address forwards its own space
-first_space : (space : Space) (kind : WindowKind) (a : ℕ) (b : Function) → IsTrue (is_first_window space kind a b) → window_space kind ≡ space
+pub first_space : (space : Space) (kind : WindowKind) (a : ℕ) (b : Function) → IsTrue (is_first_window space kind a b) → window_space kind ≡ space
 first_space Io IoWindow a b is = refl
 first_space Io MemoryWindow a b is = absurd (false≢true is)
 first_space Io PrefetchWindow a b is = absurd (false≢true is)
@@ -79,7 +79,7 @@ first_space Memory IoWindow a b is = absurd (false≢true is)
 first_space Memory MemoryWindow a b is = refl
 first_space Memory PrefetchWindow a b is = refl
 
-first_claims : (space : Space) (kind : WindowKind) (a : ℕ) (b : Function) → IsTrue (is_first_window space kind a b) → IsTrue (window_claims b kind a)
+pub first_claims : (space : Space) (kind : WindowKind) (a : ℕ) (b : Function) → IsTrue (is_first_window space kind a b) → IsTrue (window_claims b kind a)
 first_claims Io IoWindow a b is = is
 first_claims Io MemoryWindow a b is = absurd (false≢true is)
 first_claims Io PrefetchWindow a b is = absurd (false≢true is)

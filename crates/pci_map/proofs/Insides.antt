@@ -1,0 +1,221 @@
+-- What is inside a window.
+use Rattle.std.proofs.Common.{◌≡◌, ℕ, ◌<◌, ◌≤◌, List, map, get_or, refl, sym, ap, ◌∙◌, subst, inl, inr, arith, true, not, Option, None, Some}
+use Rattle.std.specs.Prelude.{◌==◌, ◌&&◌, nat_le, IsTrue, MatchOption, MatchBool}
+use Rattle.std.specs.List.{All, AllPairs, Contains, filter}
+use Rattle.std.proofs.lemmas.Bool.{cases_Bool, and_parts, and_from, both_ways, leb-true, le-leb}
+use Rattle.std.proofs.lemmas.Option.{none-some}
+use Rattle.std.proofs.lemmas.List.Elements.{Contains-get_or}
+use Rattle.pci_spec.specs.Slot.{Slot}
+use Rattle.pci_spec.specs.Registers.{MEMORY_BASE, PREFETCHABLE_BASE}
+use Rattle.pci_spec.specs.Window.{WindowKind, IoWindow, MemoryWindow, PrefetchWindow, window_register, holds}
+use Rattle.pci_spec.specs.System.{System, Function, Space, Claims, IsAddress, window_claims, window_space, is_space_on, is_bridge, register_of}
+use Rattle.pci_spec.specs.System as system
+use Rattle.pci_spec.specs.Bus.{secondary}
+use Rattle.pci_spec.specs.Why.{IsRegionIn, AreRuns}
+use Rattle.pci_spec.proofs.Members.{IsMade, in_map_to, in_map_from, in_filter_to, in_filter_from, pairs_filter, pairs_map}
+use Rattle.pci_spec.proofs.Regions.{part_same}
+use Rattle.map_spec.specs.Lines.{is_first_window, BelongsUnder, IsClaimedOn, IsFreeIn}
+use Rattle.map_spec.proofs.Having.{first_claims}
+use Rattle.pci_base.specs.declared.range.Range.{Range}
+use Rattle.pci_base.specs.Ranges.{decoded_range_of}
+use Rattle.pci_tree.specs.declared.region.Part.TheVariants.{Window}
+use Rattle.pci_tree.specs.declared.region.Region.{Region}
+use Rattle.pci_tree.specs.Regions.{IsRegionOn}
+use Rattle.pci_tree.specs.Ranges.{Covers}
+use Rattle.pci_tree.specs.Outline.{IsBefore, AreSortedRegionsOf}
+use Rattle.pci_why.specs.Bridges.{range_at}
+use Rattle.pci_why.specs.Found.{NoneClaims, IsFoundIn}
+use Rattle.pci_why.proofs.Runs.{runs_of}
+use Rattle.pci_map.specs.Values.{kind_at, part_at, part_of, value_of}
+use Rattle.pci_map.specs.Gaps.{gaps}
+use Rattle.pci_map.specs.Inside.{is_in, is_held, IsEarlier, IsInside}
+use Rattle.pci_map.proofs.Values.{given_region}
+use Rattle.pci_map.proofs.GapRanges.{covers_has, covers_from, gaps_to, gaps_from, gaps_canonical}
+
+-- ---- windows and what they claim
+
+window_claims_of : (b : Function) (k : WindowKind) (space : Space) (a : ℕ) → Claims b (system.Window k) space a → IsTrue (window_claims b k a)
+window_claims_of b k space a c = and_from (is_space_on b (window_space k)) (holds k b.image b.probe a) c.enabled c.decodes
+
+claims_of : (b : Function) (k : WindowKind) (space : Space) (a : ℕ) → IsTrue (is_bridge b) → window_space k ≡ space → IsAddress space a → IsTrue (window_claims b k a) → Claims b (system.Window k) space a
+claims_of b k space a bridge maps address claims =
+    let both = and_parts (is_space_on b (window_space k)) (holds k b.image b.probe a) claims in
+    record { there = bridge; enabled = both.0; maps = maps; address = address; decodes = both.1 }
+
+abbrev kind_in : system.Part → WindowKind
+kind_in (system.Bar n) = IoWindow
+kind_in system.Rom = IoWindow
+kind_in (system.Window k) = k
+
+in_true : (q : Region) (a : ℕ) → q.first ≤ a → a ≤ q.last → is_in q a ≡ true
+in_true q a low high = and_from (nat_le q.first a) (nat_le a q.last) (le-leb q.first a low) (le-leb a q.last high)
+
+true_in : (q : Region) (a : ℕ) → is_in q a ≡ true → (q.first ≤ a) × (a ≤ q.last)
+true_in q a is = let parts = and_parts (nat_le q.first a) (nat_le a q.last) is in (leb-true q.first a parts.0, leb-true a q.last parts.1)
+
+pub held_in : (w : Region) (o : Option Region) (q : Region) → is_held w o q ≡ true → (w.first ≤ q.first) × (q.first ≤ w.last)
+held_in w None q held = true_in w q.first held
+held_in w (Some other) q held = true_in w q.first (and_parts (is_in w q.first) (not (is_in other q.first)) held).0
+
+module _ (s : System) (space : Space) (w : Region) (iw : IsRegionIn s (value_of space w)) (window : w.part ≡ Window)
+    (unique : (f g : Function) → Contains s f → Contains s g → f.slot ≡ g.slot → f ≡ g) where
+  abbrev kind : WindowKind
+  kind = kind_at w.reg
+
+  abbrev b : Function
+  b = iw.f
+
+  part_kind : part_of w ≡ system.Window kind
+  part_kind = ap (λ p. part_at p w.reg) window
+
+  claims_at : (a : ℕ) → w.first ≤ a → a ≤ w.last → Claims b (system.Window kind) space a
+  claims_at a low high = subst (λ p. Claims b p space a) part_kind ((iw.claims a).0 (low, high))
+
+  claims_back : (a : ℕ) → Claims b (system.Window kind) space a → (w.first ≤ a) × (a ≤ w.last)
+  claims_back a c = (iw.claims a).1 (subst (λ p. Claims b p space a) (sym part_kind) c)
+
+  first_one : Claims b (system.Window kind) space w.first
+  first_one = claims_at w.first (omega arith) iw.some
+
+  pub is_a_bridge : IsTrue (is_bridge b)
+  is_a_bridge = first_one.there
+
+  registered : window_register kind ≡ w.reg
+  registered = ap (λ p. register_of b p) (sym part_kind) ∙ iw.register
+
+  -- the memory window doesn't claim what the prefetchable one is left
+  not_earlier : (o : Option Region) → MatchOption o (NoneClaims s w.slot MEMORY_BASE space) (λ q. IsFoundIn s w.slot MEMORY_BASE space q) → (q : Region) → is_held w o q ≡ true
+      → Claims b (system.Window MemoryWindow) space q.first → ⊥
+  not_earlier None none q held claims = none b (system.Window MemoryWindow) q.first iw.listed iw.slot refl claims
+  not_earlier (Some other) found q held claims =
+      let at = found.all b (system.Window MemoryWindow) q.first iw.listed iw.slot refl claims in
+      let parts = and_parts (is_in w q.first) (not (is_in other q.first)) held in
+      both_ways (not (is_in other q.first)) (ap not (in_true other q.first at.0 at.1)) parts.1
+
+  first_from : (k : WindowKind) → window_register k ≡ w.reg → window_space k ≡ space → (o : Option Region) → IsEarlier s space w o → (q : Region) → is_held w o q ≡ true
+      → IsTrue (window_claims b k q.first) → IsAddress space q.first → IsTrue (is_first_window space k q.first b)
+  first_from IoWindow register maps o early q held claims address = subst (λ x. IsTrue (is_first_window x IoWindow q.first b)) maps claims
+  first_from MemoryWindow register maps o early q held claims address = subst (λ x. IsTrue (is_first_window x MemoryWindow q.first b)) maps claims
+  first_from PrefetchWindow register maps o early q held claims address =
+      let found : MatchOption o (NoneClaims s w.slot MEMORY_BASE space) (λ p. IsFoundIn s w.slot MEMORY_BASE space p) =
+      subst (λ r. MatchBool (r == PREFETCHABLE_BASE) (MatchOption o (NoneClaims s w.slot MEMORY_BASE space) (λ p. IsFoundIn s w.slot MEMORY_BASE space p)) (o ≡ None)) (sym register) early in
+      subst (λ x. IsTrue (is_first_window x PrefetchWindow q.first b)) maps (elim (cases_Bool (window_claims b MemoryWindow q.first)) [
+        | inl memory ↦ absurd (not_earlier o found q held (claims_of b MemoryWindow space q.first is_a_bridge maps address memory))
+        | inr none ↦ and_from (window_claims b PrefetchWindow q.first) (not (window_claims b MemoryWindow q.first)) claims (ap not none)
+      ])
+
+  pub belongs : (bus : ℕ) (o : Option Region) → secondary b ≡ bus → IsEarlier s space w o → (q : Region) → IsRegionOn s bus space q → is_held w o q ≡ true
+      → BelongsUnder s (value_of space w) (value_of space q)
+  belongs bus o leads early q on held =
+      let at = held_in w o q held in
+      let claims = claims_at q.first at.0 at.1 in record {
+        b = b;
+        listed = iw.listed;
+        bridge = is_a_bridge;
+        slot = iw.slot;
+        leads = leads ∙ sym on.on_bus ∙ sym (ap (λ (x : Slot). x.bus) on.is.slot);
+        kind = kind;
+        window = part_kind;
+        first = first_from kind registered first_one.maps o early q held (window_claims_of b kind space q.first claims) claims.address;
+      }
+
+  -- where an earlier window is looked for, this is the prefetchable one
+  is_prefetch : (k : WindowKind) → window_register k ≡ w.reg → (o : Option Region) (other : Region) → o ≡ Some other → IsEarlier s space w o → k ≡ PrefetchWindow
+  is_prefetch IoWindow register o other is early =
+      let none : o ≡ None = subst (λ r. MatchBool (r == PREFETCHABLE_BASE) (MatchOption o (NoneClaims s w.slot MEMORY_BASE space) (λ p. IsFoundIn s w.slot MEMORY_BASE space p)) (o ≡ None)) (sym register) early in
+      absurd (none-some other (sym none ∙ is))
+  is_prefetch MemoryWindow register o other is early =
+      let none : o ≡ None = subst (λ r. MatchBool (r == PREFETCHABLE_BASE) (MatchOption o (NoneClaims s w.slot MEMORY_BASE space) (λ p. IsFoundIn s w.slot MEMORY_BASE space p)) (o ≡ None)) (sym register) early in
+      absurd (none-some other (sym none ∙ is))
+  is_prefetch PrefetchWindow register o other is early = refl
+
+  -- an earlier window claims what it has
+  earlier_claims : (other : Region) (a : ℕ) → IsFoundIn s w.slot MEMORY_BASE space other → other.first ≤ a → a ≤ other.last → IsTrue (window_claims b MemoryWindow a)
+  earlier_claims other a found low high =
+      let same : found.f ≡ b = unique found.f b found.listed iw.listed (sym found.is.slot ∙ found.slot_is ∙ sym iw.slot) in
+      let claims : Claims b found.part space a = subst (λ f. Claims f found.part space a) same ((found.is.claims a).0 (low, high)) in
+      let register : register_of b found.part ≡ MEMORY_BASE = ap (λ f. register_of f found.part) (sym same) ∙ sym found.is.register ∙ found.register in
+      let part : found.part ≡ system.Window MemoryWindow = part_same b found.part (system.Window MemoryWindow) claims.there is_a_bridge register in
+      window_claims_of b MemoryWindow space a (subst (λ p. Claims b p space a) part claims)
+
+  held_by : (o : Option Region) → IsEarlier s space w o → (a : ℕ) (q : Region) → q.first ≡ a → IsTrue (is_first_window space kind a b) → is_in w a ≡ true → is_held w o q ≡ true
+  held_by None early a q at first inside = ap (is_in w) at ∙ inside
+  held_by (Some other) early a q at first inside =
+      let prefetch : kind ≡ PrefetchWindow = is_prefetch kind registered (Some other) other refl early in
+      let register : w.reg ≡ PREFETCHABLE_BASE = sym registered ∙ ap window_register prefetch in
+      let found : IsFoundIn s w.slot MEMORY_BASE space other =
+      subst (λ r. MatchBool (r == PREFETCHABLE_BASE) (MatchOption (Some other) (NoneClaims s w.slot MEMORY_BASE space) (λ p. IsFoundIn s w.slot MEMORY_BASE space p)) (Some other ≡ None)) register early in
+      let maps : system.Memory ≡ space = ap window_space (sym prefetch) ∙ first_one.maps in
+      let left : IsTrue (window_claims b PrefetchWindow a && not (window_claims b MemoryWindow a)) =
+      subst (λ x. IsTrue (is_first_window x PrefetchWindow a b)) (sym maps) (subst (λ k. IsTrue (is_first_window space k a b)) prefetch first) in
+      let not_memory = (and_parts (window_claims b PrefetchWindow a) (not (window_claims b MemoryWindow a)) left).1 in
+      ap (λ n. is_in w n && not (is_in other n)) at
+      ∙ and_from (is_in w a) (not (is_in other a)) inside (elim (cases_Bool (is_in other a)) [
+        | inl has ↦ (let at_other = true_in other a has in
+            absurd (both_ways (not (window_claims b MemoryWindow a)) (ap not (earlier_claims other a found at_other.0 at_other.1)) not_memory))
+        | inr hasnt ↦ ap not hasnt
+      ])
+
+  pub held_from : (bus : ℕ) (o : Option Region) → IsEarlier s space w o → (q : Region) → IsRegionOn s bus space q → BelongsUnder s (value_of space w) (value_of space q) → is_held w o q ≡ true
+  held_from bus o early q on u =
+      let same : u.b ≡ b = unique u.b b u.listed iw.listed (u.slot ∙ sym iw.slot) in
+      let kinds : u.kind ≡ kind = sym (ap kind_in (sym part_kind ∙ u.window)) in
+      let first : IsTrue (is_first_window space kind q.first b) =
+      subst (λ f. IsTrue (is_first_window space kind q.first f)) same (subst (λ k. IsTrue (is_first_window space k q.first u.b)) kinds u.first) in
+      let address : IsAddress space q.first = ((on.is.claims q.first).0 (omega arith, on.is.some)).address in
+      let at = claims_back q.first (claims_of b kind space q.first is_a_bridge first_one.maps address (first_claims space kind q.first b first)) in
+      held_by o early q.first q refl first (in_true w q.first at.0 at.1)
+
+  -- ---- what is free
+
+  module _ (bus : ℕ) (leads : secondary b ≡ bus) (qs : List Region) (sorted : AreSortedRegionsOf s bus space qs) where
+    by_first : AllPairs (λ (r t : Range). r.first ≤ t.first) (map range_at qs)
+    by_first = pairs_map (λ (r t : Range). r.first ≤ t.first) range_at qs (λ i j d lt within. elim (sorted.sorted i j d lt within) [
+      | inl low ↦ omega (arith, low)
+      | inr same ↦ (let e = same.0 in omega (arith, e))
+    ])
+
+    some_each : All (λ (r : Range). r.first ≤ r.last) (map range_at qs)
+    some_each = λ k d within. (
+        let made : IsMade range_at qs (get_or (map range_at qs) k d) = in_map_to range_at qs (get_or (map range_at qs) k d) (Contains-get_or (map range_at qs) k d within) in
+        subst (λ (r : Range). r.first ≤ r.last) made.is (sorted.each made.from made.has).is.some)
+
+    covered_claims : (a : ℕ) → Covers (map range_at qs) a → IsClaimedOn s bus space a
+    covered_claims a h =
+        let c = covers_has (map range_at qs) a h in
+        let made : IsMade range_at qs c.0 = in_map_to range_at qs c.0 c.1 in
+        let on = sorted.each made.from made.has in
+        let held : (made.from.first ≤ a) × (a ≤ made.from.last) = subst (λ (r : Range). (r.first ≤ a) × (a ≤ r.last)) (sym made.is) c.2 in
+        record { f = on.f; part = on.part; listed = on.listed; on_bus = on.on_bus; claims = (on.is.claims a).0 held }
+
+    claimed_covers : (a : ℕ) → IsClaimedOn s bus space a → Covers (map range_at qs) a
+    claimed_covers a c =
+        let found = sorted.complete c.f c.part a c.listed c.on_bus c.claims in
+        covers_from (map range_at qs) a (range_at found.q) (in_map_from range_at qs found.q found.has) ((found.is.claims a).1 c.claims)
+
+    abbrev runs : List Range
+    runs = gaps (range_at w) 0 (map range_at qs)
+
+    pub free_runs_are : AreRuns (IsFreeIn s (value_of space w)) (map decoded_range_of runs)
+    free_runs_are = runs_of (IsFreeIn s (value_of space w)) runs (gaps_canonical (range_at w) 0 (map range_at qs) by_first some_each) (λ a. (
+      λ covered. (let at = gaps_to (range_at w) 0 (map range_at qs) a by_first some_each covered in record {
+        held = at.0;
+        unclaimed = λ c listed slot claimed. at.2 (claimed_covers a (subst (λ n. IsClaimedOn s n space a) (ap secondary (unique c b listed iw.listed (slot ∙ sym iw.slot)) ∙ leads) claimed));
+      }),
+      λ free. gaps_from (range_at w) 0 (map range_at qs) a free.held (omega arith) (λ covered. free.unclaimed b iw.listed iw.slot (subst (λ n. IsClaimedOn s n space a) (sym leads) (covered_claims a covered))),
+    ))
+
+    pub inside_is : (o : Option Region) → IsEarlier s space w o → w.slot.bus < bus → IsInside s space w bus (filter (is_held w o) qs) runs
+    inside_is o early rises = record {
+      rises = rises;
+      each = λ q has. sorted.each q (in_filter_to (is_held w o) qs q has).0;
+      belong = λ q has. (let kept = in_filter_to (is_held w o) qs q has in belongs bus o leads early q (sorted.each q kept.0) kept.1);
+      complete = λ v is same under. (
+          let on : v.slot.bus ≡ bus = sym under.leads ∙ ap secondary (unique under.b b under.listed iw.listed (under.slot ∙ sym iw.slot)) ∙ leads in
+          let found = given_region s bus space qs v sorted.complete is on same in
+          let kept = held_from bus o early found.0 (sorted.each found.0 found.1) (subst (λ x. BelongsUnder s (value_of space w) x) (sym found.2) under) in
+          subst (λ x. Contains (map (value_of space) (filter (is_held w o) qs)) x) found.2
+          (in_map_from (value_of space) (filter (is_held w o) qs) found.0 (in_filter_from (is_held w o) qs found.0 found.1 kept)));
+      sorted = pairs_filter IsBefore (is_held w o) qs sorted.sorted;
+      free = free_runs_are;
+    }

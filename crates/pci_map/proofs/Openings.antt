@@ -1,0 +1,54 @@
+-- The record of a window's bridge.
+use Rattle.std.proofs.Common.{◌≡◌, ℕ, ◌<◌, List, map, sym, ap, ◌∙◌, arith, true, Option, None, Some}
+use Rattle.std.specs.Option.{is_some}
+use Rattle.std.specs.List.{Contains, filter}
+use Rattle.std.proofs.lemmas.Bool.{false≢true}
+use Rattle.pci_spec.specs.Slot.{Slot, slot_number}
+use Rattle.pci_spec.specs.System.{System, Function, Space, is_bridge}
+use Rattle.pci_spec.specs.Bus.{IsNested, secondary}
+use Rattle.pci_spec.specs.Decoded.{record_of}
+use Rattle.pci_spec.specs.Why.{IsRegionIn}
+use Rattle.pci_spec.proofs.BusRanges.{bus_order_means}
+use Rattle.pci_function.specs.declared.record.Bridge.{Bridge}
+use Rattle.pci_function.specs.declared.record.Record.{Record}
+use Rattle.pci_function.specs.Values.{record_value}
+use Rattle.pci_tree.specs.declared.region.Part.TheVariants.{Window}
+use Rattle.pci_tree.specs.declared.region.Region.{Region}
+use Rattle.pci_tree.specs.Ways.{slots_of, secondary_in}
+use Rattle.pci_tree.specs.Outline.{RiseBySlot, AreSortedRegionsOf}
+use Rattle.pci_tree.proofs.Lifting.{Has, record_for, same_bridge, same_secondary, same_slot_of, one_by_number, one_function}
+use Rattle.pci_why.specs.Bridges.{range_at}
+use Rattle.pci_why.proofs.Founds.{none_without_record}
+use Rattle.pci_map.specs.Values.{part_of, value_of}
+use Rattle.pci_map.specs.Gaps.{gaps}
+use Rattle.pci_map.specs.Inside.{is_held, IsEarlier, IsInside}
+use Rattle.pci_map.proofs.Insides.{is_a_bridge, inside_is}
+
+module _ (s : System) (rs : List Record) (space : Space) (w : Region) (has : Has s rs) (iw : IsRegionIn s (value_of space w)) where
+  pub no_record : (Contains (slots_of rs) w.slot → ⊥) → ⊥
+  no_record none = none_without_record s rs w.slot w.reg space has none iw.f (part_of w) w.first iw.listed iw.slot iw.register ((iw.claims w.first).0 (omega arith, iw.some))
+
+  module _ (rise : RiseBySlot rs) (window : w.part ≡ Window) (r : Record) (there : Contains rs r) (slot : r.slot ≡ w.slot) where
+    stands_for : record_value r ≡ record_of iw.f
+    stands_for =
+        let own = record_for s rs iw.f has iw.listed in
+        let slots : own.0.slot ≡ r.slot = same_slot_of own.0 iw.f own.1.same ∙ iw.slot ∙ sym slot in
+        let same : own.0 ≡ r = one_by_number (λ (x : Record). slot_number x.slot) rs own.0 r rise own.1.has there (ap slot_number slots) in
+        sym (ap record_value same) ∙ own.1.same
+
+    one : (f g : Function) → Contains s f → Contains s g → f.slot ≡ g.slot → f ≡ g
+    one f g in_f in_g e = one_function s rs f g has rise in_f in_g e
+
+    bridge_is : is_bridge iw.f ≡ true
+    bridge_is = is_a_bridge s space w iw window one
+
+    pub no_bridge : r.bridge ≡ None → ⊥
+    no_bridge none = false≢true (sym (ap is_some none) ∙ same_bridge r iw.f stands_for ∙ bridge_is)
+
+    pub opened : (roots : List ℕ) (b : Bridge) (o : Option Region) (qs : List Region) → IsNested roots s → r.bridge ≡ Some b → IsEarlier s space w o → AreSortedRegionsOf s b.secondary space qs
+        → IsInside s space w b.secondary (filter (is_held w o) qs) (gaps (range_at w) 0 (map range_at qs))
+    opened roots b o qs nested is early sorted =
+        let leads : secondary iw.f ≡ b.secondary = sym (same_secondary r iw.f stands_for bridge_is) ∙ ap secondary_in is in
+        let rises : iw.f.slot.bus < secondary iw.f = ((bus_order_means iw.f).0 (nested.order iw.f iw.listed bridge_is)).1 in
+        let bus : iw.f.slot.bus ≡ w.slot.bus = ap (λ (x : Slot). x.bus) iw.slot in
+        inside_is s space w iw window one b.secondary leads qs sorted o early (omega (arith, rises, bus, leads))

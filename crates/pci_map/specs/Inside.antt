@@ -1,0 +1,43 @@
+-- What a window holds, by regions of an outline.
+use Rattle.std.specs.Prelude.{◌≡◌, ℕ, ◌<◌, nat_le, ◌==◌, Bool, ◌&&◌, not, List, map, Option, None, Some, MatchOption, MatchBool}
+use Rattle.std.specs.List.{AllPairs, Contains}
+use Rattle.pci_spec.specs.Registers.{MEMORY_BASE, PREFETCHABLE_BASE}
+use Rattle.pci_spec.specs.System.{System, Space}
+use Rattle.pci_spec.specs.Why as why
+use Rattle.pci_spec.specs.Why.{IsRegionIn, AreRuns}
+use Rattle.map_spec.specs.Lines.{BelongsUnder, IsFreeIn}
+use Rattle.pci_base.specs.declared.range.Range.{Range}
+use Rattle.pci_base.specs.Ranges.{decoded_range_of}
+use Rattle.pci_tree.specs.Regions.{IsRegionOn}
+use Rattle.pci_tree.specs.Outline.{IsBefore}
+use Rattle.pci_map.specs.Values.{value_of}
+use Rattle.pci_tree.specs.declared.region.Region.{Region}
+use Rattle.pci_why.specs.Found.{NoneClaims, IsFoundIn}
+
+abbrev pub is_in : Region → ℕ → Bool
+is_in q a = nat_le q.first a && nat_le a q.last
+
+-- whether a window has the first address of a region, and an earlier one of its bridge, where there is one, hasn't
+abbrev pub is_held : Region → Option Region → Region → Bool
+is_held w None q = is_in w q.first
+is_held w (Some other) q = is_in w q.first && not (is_in other q.first)
+
+-- before the prefetchable window the memory window comes, where it is enabled and open; before the others none
+abbrev pub IsEarlier : System → Space → Region → Option Region → Type 0
+IsEarlier s space w o =
+    MatchBool (w.reg == PREFETCHABLE_BASE)
+    (MatchOption o (NoneClaims s w.slot MEMORY_BASE space)
+    (λ q. IsFoundIn s w.slot MEMORY_BASE space q)) (o ≡ None)
+
+-- Just the regions that belong under a window, in order, and the greatest runs of what is free of it; and the bus
+-- behind its bridge, which is a higher one.
+pub record IsInside (s : System) (space : Space) (w : Region) (bus : ℕ) (regions : List Region)
+    (runs : List Range) : Type 0 where
+  pub rises : w.slot.bus < bus
+  pub each : (q : Region) → Contains regions q → IsRegionOn s bus space q
+  pub belong : (q : Region) → Contains regions q
+      → BelongsUnder s (value_of space w) (value_of space q)
+  pub complete : (v : why.Region) → IsRegionIn s v → v.space ≡ space
+      → BelongsUnder s (value_of space w) v → Contains (map (value_of space) regions) v
+  pub sorted : AllPairs IsBefore regions
+  pub free : AreRuns (IsFreeIn s (value_of space w)) (map decoded_range_of runs)

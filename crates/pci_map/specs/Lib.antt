@@ -1,0 +1,3 @@
+pub mod Values
+pub mod Gaps
+pub mod Inside

@@ -1,0 +1,28 @@
+-- The regions of an outline as the definitions have them.
+use Rattle.std.specs.Prelude.{ℕ, ◌-◌, ◌/◌, ◌==◌, if◌then◌else◌}
+use Rattle.pci_spec.specs.Registers.{IO_BASE, MEMORY_BASE}
+use Rattle.pci_spec.specs.Window.{WindowKind, IoWindow, MemoryWindow, PrefetchWindow}
+use Rattle.pci_spec.specs.System.{Space}
+use Rattle.pci_spec.specs.System as system
+use Rattle.pci_spec.specs.Why as why
+use Rattle.pci_tree.specs.declared.region.Part.{Part}
+use Rattle.pci_tree.specs.declared.region.Part.TheVariants.{Bar, Rom, Window}
+use Rattle.pci_tree.specs.declared.region.Region.{Region}
+use Rattle.pci_why.specs.Fits.{told}
+
+-- the window whose register this is
+abbrev pub kind_at : ℕ → WindowKind
+kind_at reg =
+    if reg == IO_BASE then IoWindow else if reg == MEMORY_BASE then MemoryWindow else PrefetchWindow
+
+-- what a region at a register is of its function
+abbrev pub part_at : Part → ℕ → system.Part
+part_at Bar reg = system.Bar ((reg - 16) / 4)
+part_at Rom reg = system.Rom
+part_at Window reg = system.Window (kind_at reg)
+
+abbrev pub part_of : Region → system.Part
+part_of q = part_at q.part q.reg
+
+abbrev pub value_of : Space → Region → why.Region
+value_of space q = told q (part_of q) space

@@ -1,0 +1,114 @@
+//! What is inside a window: the regions that belong under it, and the runs of its addresses that are free.
+ghost use Rattle.std.specs.Prelude.{◌≡◌, IfOk, MatchOption};
+ghost use Rattle.std.specs.List.{filter};
+ghost use Rattle.pci_spec.specs.System.{System};
+ghost use Rattle.pci_spec.specs.Decoded.{HasRecords};
+ghost use Rattle.pci_base.specs.Space.{space_of};
+ghost use Rattle.pci_spec.specs.Why.{IsRegionIn};
+ghost use Rattle.pci_tree.specs.declared.region.Part.TheVariants.{Window};
+ghost use Rattle.pci_map.specs.Values.{value_of};
+ghost use Rattle.pci_map.specs.Inside.{is_in, is_held, IsEarlier, IsInside};
+
+use super::gaps::free_runs;
+use pci_base::memory::OutOfMemory;
+use pci_base::offset::{MEMORY_BASE, PREFETCHABLE_BASE};
+use pci_base::range::Range;
+use pci_base::space::Space;
+use pci_tree::outline::Outline;
+use pci_tree::region::Region;
+use pci_why::find::{record_at, region_at};
+use std::alloc::{Allocator, Global};
+
+/// What is inside a window.
+#[derive(Drop)]
+pub struct Inside<A: Allocator = Global> {
+    /// The bus behind its bridge.
+    pub bus: u8,
+    /// The regions that belong under it, by first address, then by slot and register.
+    pub regions: Vec<Region, A>,
+    /// The runs of its addresses that no region of the bus claims, rising.
+    pub runs: Vec<Range, A>,
+}
+
+/// Whether a region has an address.
+fn has(region: &Region, address: u64) -> bool
+    ensures { result ≡ is_in region.now address }
+{
+    region.first <= address && address <= region.last
+}
+
+/// Whether a window has the first address of a region, and an earlier window of the bridge, where there is one, hasn't.
+fn holds(window: &Region, earlier: &Option<Region>, region: &Region) -> bool
+    ensures { result ≡ is_held window.now earlier.now region.now }
+{
+    let address = region.first;
+    match earlier {
+        None => has(window, address),
+        Some(other) => has(window, address) && !has(other, address),
+    }
+}
+
+/// The regions that a window holds, in their order.
+fn held<A: Allocator>(
+    alloc: A,
+    window: &Region,
+    earlier: &Option<Region>,
+    regions: &[Region],
+) -> Result<Vec<Region, A>, OutOfMemory>
+    ensures { IfOk result (λ v. v.items ≡ filter (is_held window.now earlier.now) regions.now) }
+{
+    let mut out = Vec::new(alloc);
+    for region in regions {
+        if holds(window, earlier, region) {
+            out.push(*region)?;
+        }
+    }
+    Ok(out)
+}
+
+/// The window of the same bridge with a lower register, that may hold addresses of a window too: the memory window
+/// beside the prefetchable one.
+fn earlier<A: Allocator, B: Allocator>(
+    alloc: A,
+    outline: &Outline<B>,
+    space: Space,
+    window: &Region,
+) -> Result<Option<Region>, OutOfMemory>
+    ensures { IfOk result (λ o. (s : System) → HasRecords s outline.now.records
+        → IsEarlier s (space_of space) window.now o) }
+{
+    match window.reg {
+        PREFETCHABLE_BASE => region_at(alloc, outline, window.slot, MEMORY_BASE, space),
+        _ => Ok(None),
+    }
+}
+
+/// What is inside a window of an outline.
+pub fn look_inside<A: Allocator + Copy>(
+    alloc: A,
+    outline: &Outline<A>,
+    space: Space,
+    window: &Region,
+) -> Result<Option<Inside<A>>, OutOfMemory>
+    // an outline has no image, so this is said of every system with its records
+    ensures { IfOk result (λ o. (s : System) → HasRecords s outline.now.records
+        → IsRegionIn s (value_of (space_of space) window.now) → window.now.part ≡ Window
+        → MatchOption o ⊥ (λ i. IsInside s (space_of space) window.now i.bus i.regions.items i.runs.items)) }
+{
+    let Some(function) = record_at(outline.records(), window.slot) else {
+        return Ok(None);
+    };
+    let Some(bridge) = function.bridge else {
+        return Ok(None);
+    };
+    let bus = bridge.secondary;
+    let earlier = earlier(alloc, outline, space, window)?;
+    let all = outline.sorted(bus, space)?;
+    let range = Range {
+        first: window.first,
+        last: window.last,
+    };
+    let runs = free_runs(alloc, range, all.as_slice())?;
+    let regions = held(alloc, window, &earlier, all.as_slice())?;
+    Ok(Some(Inside { bus, regions, runs }))
+}
