@@ -4,4 +4,5 @@ pub mod Walk
 pub mod Numbered
 pub mod Room
 pub mod NoBus
+pub mod Ready
 pub mod NumberingLaws
