@@ -9,3 +9,5 @@ pub mod Reached
 pub mod Hushing
 pub mod Opening
 pub mod Walking
+pub mod RootView
+pub mod Roots

@@ -4,3 +4,4 @@ pub mod Steps
 pub mod Walked
 pub mod Hushing
 pub mod Walking
+pub mod Answer

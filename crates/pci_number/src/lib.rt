@@ -4,6 +4,7 @@
 
 mod hush;
 mod look;
+pub mod number;
 mod open;
 pub mod port;
 mod put;

@@ -1,0 +1,102 @@
+-- What is numbered behind a root bus.
+use Rattle.std.proofs.Common.{◌≡◌, ℕ, inl, inr, List, [], ◌∷◌, ◌++◌, Bool, true, false, arith, refl, sym, ◌∙◌, ap, subst, map, None}
+use Rattle.std.specs.Bool.{◌==◌}
+use Rattle.std.specs.List.{flat_map}
+use Rattle.std.proofs.lemmas.Bool.{eq-eqb, ne_eqb, cases_lt}
+use Rattle.pci_spec.specs.Slot.{Slot}
+use Rattle.number_spec.specs.Board.{Nodes, Root, Board, Place, at_root, image_at}
+use Rattle.number_spec.specs.Access.{nodes_behind, with_byte, with_nodes}
+use Rattle.number_spec.specs.Numbered.{secondaries, without_numbers, IsNumbered}
+use Rattle.number_spec.specs.Room.{have_numbers, last_behind}
+use Rattle.number_spec.specs.NoBus.{first_without}
+use Rattle.number_spec.specs.Ready.{IsReady}
+use Rattle.number_spec.proofs.InOrder.{run_is}
+use Rattle.number_spec.proofs.Roomy.{IsUsed, in_order}
+use Rattle.number_spec.proofs.Kept.{same_walk}
+use Rattle.pci_number.specs.Seen.{View, IsSeen}
+use Rattle.pci_number.specs.Steps.{IsHushed, IsHushLeft}
+use Rattle.pci_number.specs.Walked.{IsBusNumbered, IsBusLeft}
+use Rattle.pci_number.specs.Answer.{named_by, highest_of, IsAnswer, IsBoardKept}
+use Rattle.pci_number.specs.declared.number.Numbering.{Numbering}
+use Rattle.pci_number.specs.declared.walk.Walk.{Walk}
+use Rattle.pci_number.proofs.RootView.{only_there, nodes_there, nodes_twice, same_nodes}
+
+append_nothing : {A : Type 0} → (xs : List A) → xs ++ [] ≡ xs
+append_nothing [] = refl
+append_nothing (x ∷ xs) = ap (λ ys. x ∷ ys) (append_nothing xs)
+
+abbrev root_view : Board → ℕ → View
+root_view board root = record { fill = λ nodes. with_nodes board root nodes; at = λ place. (root, place) }
+
+-- the nodes at a root that answer, with its number
+abbrev with_root : Slot → Root → List (ℕ × Place)
+with_root access root = map (λ place. (root.number, place)) (at_root root access)
+
+seen_root : (board : Board) (root last : ℕ) → IsReady board root last → IsSeen (root_view board root) root 0 root last
+seen_root board root last ready = record {
+  here = λ nodes access on from.
+      let own : (root == access.bus) ≡ true = eq-eqb root access.bus (sym on) in
+      ap (flat_map (with_root access)) (only_there board root last ready nodes access.bus (omega (arith, on)) (inl (omega (arith, on))))
+      ∙ append_nothing (with_root access (record { number = root; nodes = nodes }))
+      ∙ rw own refl;
+  behind = λ nodes access over within.
+      let other : (root == access.bus) ≡ false = ne_eqb root access.bus (λ is. omega (arith, is, over)) in
+      ap (flat_map (with_root access)) (only_there board root last ready nodes access.bus (omega (arith, over)) (inr within))
+      ∙ append_nothing (with_root access (record { number = root; nodes = nodes }))
+      ∙ rw other refl;
+  image = λ nodes place. ap (λ n. image_at n place) (nodes_there root nodes board (omega (arith, ready.one)));
+  byte = λ nodes place offset value.
+      ap (λ n. with_nodes (with_nodes board root nodes) root (with_byte n place offset value)) (nodes_there root nodes board (omega (arith, ready.one)))
+      ∙ nodes_twice root nodes (with_byte nodes place offset value) board;
+}
+
+-- the nodes behind the root, where they alone are others
+behind_it : (before after : Board) (root last : ℕ) (whole : Nodes) → IsReady before root last → after ≡ with_nodes before root whole → nodes_behind after root ≡ whole
+behind_it before after root last whole ready is = ap (λ b. nodes_behind b root) is ∙ nodes_there root whole before (omega (arith, ready.one))
+
+kept : (before after : Board) (root last : ℕ) (whole : Nodes) → IsReady before root last → after ≡ with_nodes before root whole → without_numbers whole ≡ without_numbers (nodes_behind before root) → IsBoardKept before root after
+kept before after root last whole ready is same =
+    let there = behind_it before after root last whole ready is in
+    record { others = is ∙ ap (with_nodes before root) (sym there); same = sym same ∙ ap without_numbers (sym there) }
+
+pub kept_at_hush : (before after : Board) (root last : ℕ) → IsHushLeft before root after → IsReady before root last → IsBoardKept before root after
+kept_at_hush before after root last left = λ ready.
+    let w = left (root_view before root) root last (nodes_behind before root) (sym (same_nodes root before ready.one)) (seen_root before root last ready) ready.walkable in
+    kept before after root last w.0 ready w.1 w.2
+
+-- a walk that begins at the root
+abbrev start : ℕ → Walk
+start root = record { taken = root; without = None }
+
+pub kept_at_walk : (before mid after : Board) (root last : ℕ) (bridges : Bool) → IsHushed before root bridges mid → IsBusLeft mid root last (start root) after → IsReady before root last → IsBoardKept before root after
+kept_at_walk before mid after root last bridges hushed left = λ ready.
+    let seen = seen_root before root last ready in
+    let h = hushed (root_view before root) root last (nodes_behind before root) (sym (same_nodes root before ready.one)) seen ready.walkable in
+    let w = left (root_view before root) h.0 h.1 seen (same_walk h.0 (nodes_behind before root) h.2 ∙ ready.walkable) h.3 in
+    kept before after root last w.0 ready w.1 (w.2 ∙ h.2)
+
+in_order_of : (root last : ℕ) (before after : Nodes) → without_numbers before ≡ without_numbers after → have_numbers (λ image. 0) last root root after ≡ true → IsNumbered root last before after
+in_order_of root last before after same numbers =
+    let none_used : IsUsed root last 0 root = elim (cases_lt last root) [ inl above ↦ inr (omega arith, omega arith) | inr below ↦ inl (omega arith, below) ] in
+    let is = in_order root last 0 root root after none_used numbers in
+    record { same = same; order = run_is root last 0 (secondaries after) is.run; ranges = is.ranges }
+
+pub answer_of : (before mid after : Board) (root last : ℕ) (bridges : Bool) (walk : Walk) (answer : Numbering) → IsHushed before root bridges mid → IsBusNumbered mid root last (start root) walk after → named_by answer ≡ walk.without → highest_of answer ≡ walk.taken → IsReady before root last → IsAnswer before root last answer after
+answer_of before mid after root last bridges walk answer hushed numbered names highest = λ ready.
+    let seen = seen_root before root last ready in
+    let h = hushed (root_view before root) root last (nodes_behind before root) (sym (same_nodes root before ready.one)) seen ready.walkable in
+    let n = numbered (root_view before root) h.0 h.1 seen (same_walk h.0 (nodes_behind before root) h.2 ∙ ready.walkable) h.3 in
+    let there = behind_it before after root last n.0 ready n.1 in
+    record {
+      others = n.1 ∙ ap (with_nodes before root) (sym there);
+      numbered = subst (IsNumbered root last (nodes_behind before root)) (sym there) (in_order_of root last (nodes_behind before root) n.0 (sym (n.2 ∙ h.2)) n.3);
+      without = names ∙ n.5 ∙ ap (first_without root) (sym there);
+      highest = highest ∙ n.4 ∙ ap (last_behind root) (sym there);
+    }
+
+pub kept_at_end : (before mid after : Board) (root last : ℕ) (bridges : Bool) (walk : Walk) → IsHushed before root bridges mid → IsBusNumbered mid root last (start root) walk after → IsReady before root last → IsBoardKept before root after
+kept_at_end before mid after root last bridges walk hushed numbered = λ ready.
+    let seen = seen_root before root last ready in
+    let h = hushed (root_view before root) root last (nodes_behind before root) (sym (same_nodes root before ready.one)) seen ready.walkable in
+    let n = numbered (root_view before root) h.0 h.1 seen (same_walk h.0 (nodes_behind before root) h.2 ∙ ready.walkable) h.3 in
+    kept before after root last n.0 ready n.1 (n.2 ∙ h.2)

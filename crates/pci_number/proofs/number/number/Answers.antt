@@ -1,0 +1,36 @@
+use Rattle.std.proofs.Common.{refl, sym}
+use Rattle.pci_number.specs.declared.number.Numbering.TheVariants.{Numbered, NoBus}
+use Rattle.pci_number.proofs.Roots.{kept_at_hush, kept_at_walk, kept_at_end, answer_of}
+use Rattle.pci_number.proofs.number.number.Goals as goal
+
+pub returns-in_err-hush-clause-kept : goal.returns-in_err-hush-clause-kept
+returns-in_err-hush-clause-kept g c =
+    let board = g.P.BoardPort.board in
+    kept_at_hush (board c.args.port.now) (board c.hush.new.port) c.args.root c.args.last c.in_err-hush.ensures.left
+
+pub returns-in_err-walk-clause-kept : goal.returns-in_err-walk-clause-kept
+returns-in_err-walk-clause-kept g c =
+    let board = g.P.BoardPort.board in
+    kept_at_walk (board c.args.port.now) (board c.hush.new.port) (board c.number_bus.new.port) c.args.root c.args.last c.in_ok-hush.field-0 c.in_ok-hush.ensures.hushed c.in_err-walk.ensures.left
+
+pub returns-in-None-clause-answer : goal.returns-in-None-clause-answer
+returns-in-None-clause-answer g c =
+    let board = g.P.BoardPort.board in
+    answer_of (board c.args.port.now) (board c.hush.new.port) (board c.number_bus.new.port) c.args.root c.args.last c.in_ok-hush.field-0 c.in_ok-walk.walk (Numbered c.in_ok-walk.walk.taken)
+    c.in_ok-hush.ensures.hushed c.in_ok-walk.ensures.numbered (sym c.in-None.is) refl
+
+pub returns-in-None-clause-kept : goal.returns-in-None-clause-kept
+returns-in-None-clause-kept g c =
+    let board = g.P.BoardPort.board in
+    kept_at_end (board c.args.port.now) (board c.hush.new.port) (board c.number_bus.new.port) c.args.root c.args.last c.in_ok-hush.field-0 c.in_ok-walk.walk c.in_ok-hush.ensures.hushed c.in_ok-walk.ensures.numbered
+
+pub returns-in-Some-clause-answer : goal.returns-in-Some-clause-answer
+returns-in-Some-clause-answer g c =
+    let board = g.P.BoardPort.board in
+    answer_of (board c.args.port.now) (board c.hush.new.port) (board c.number_bus.new.port) c.args.root c.args.last c.in_ok-hush.field-0 c.in_ok-walk.walk (NoBus c.in-Some.slot c.in_ok-walk.walk.taken)
+    c.in_ok-hush.ensures.hushed c.in_ok-walk.ensures.numbered (sym c.in-Some.is) refl
+
+pub returns-in-Some-clause-kept : goal.returns-in-Some-clause-kept
+returns-in-Some-clause-kept g c =
+    let board = g.P.BoardPort.board in
+    kept_at_end (board c.args.port.now) (board c.hush.new.port) (board c.number_bus.new.port) c.args.root c.args.last c.in_ok-hush.field-0 c.in_ok-walk.walk c.in_ok-hush.ensures.hushed c.in_ok-walk.ensures.numbered

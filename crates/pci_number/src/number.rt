@@ -1,0 +1,51 @@
+//! Bus numbers for what is behind a root bus.
+ghost use Rattle.std.specs.Prelude.{◌≡◌, ◌+◌, IfOk, IfErr, OnErr};
+ghost use Rattle.pci_number.specs.Stops.{failures_at, IsStop};
+ghost use Rattle.pci_number.specs.Answer.{Answers, Keeps};
+
+use crate::hush::hush;
+use crate::port::BoardPort;
+use crate::stop::Stop;
+use crate::walk::{Walk, number_bus};
+use pci_base::slot::Slot;
+
+/// What numbering answers.
+#[derive(Clone, Copy, Debug, PartialEq, Eq)]
+pub enum Numbering {
+    /// Each bridge has its numbers. The greatest is `highest`, or the root where there is no bridge.
+    Numbered { highest: u8 },
+    /// The numbers ran out: `slot` is the first bridge that has none. It and all after it forward nothing.
+    NoBus { slot: Slot, highest: u8 },
+}
+
+/// Numbers the buses behind a root bus, from `root` + 1 to `last`, depth first in the order of devices and functions
+/// (Bridge 1.2, 3.2.5.2 to 3.2.5.4). First the bridges on the root bus are made to forward nothing. Of each bridge
+/// bytes 18h to 1Ah alone are written, one at a time, where that changes them; each is read back.
+///
+/// # Errors
+///
+/// `Stuck` where a write read back otherwise, `Port` where an access failed. No more was written then.
+pub fn number<P: BoardPort>(port: &mut P, root: u8, last: u8) -> Result<Numbering, Stop>
+    ensures answer { IfOk result
+        (λ answer. Answers (P.board port.old) root last answer (P.board port.new)) }
+    // whatever happens, bytes 18h to 1Ah of bridges behind this root alone are changed
+    ensures kept { Keeps (P.board port.old) root last (P.board port.new) }
+    ensures stop { IfErr result (IsStop (P.board port.new)) }
+    ensures counted { P.failures port.new ≡ P.failures port.old + failures_at result }
+{
+    hush(port, root)?;
+    let start = Walk {
+        taken: root,
+        without: None,
+    };
+    let walk = number_bus(port, root, last, start)?;
+    match walk.without {
+        None => Ok(Numbering::Numbered {
+            highest: walk.taken,
+        }),
+        Some(slot) => Ok(Numbering::NoBus {
+            slot,
+            highest: walk.taken,
+        }),
+    }
+}
