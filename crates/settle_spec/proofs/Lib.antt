@@ -1,3 +1,5 @@
 pub mod FirstSpot
+pub mod FirstPlace
 pub mod SameTaken
+pub mod Placed
 pub mod Examples

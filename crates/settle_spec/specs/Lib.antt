@@ -1,4 +1,5 @@
 pub mod FirstPlace
+pub mod PlacingLaws
 pub mod Lists
 pub mod Parts
 pub mod Stands

@@ -5,3 +5,5 @@
 //! In their comments "PCI 3.0" is the PCI Local Bus Specification 3.0, and "Bridge 1.2" the PCI-to-PCI
 //! Bridge Architecture Specification 1.2.
 #![tactic(auto)]
+
+pub mod placing_laws;

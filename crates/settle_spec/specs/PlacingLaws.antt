@@ -1,0 +1,51 @@
+-- Laws of placing: first places are what they are said to be, and what is placed is apart.
+use Rattle.std.specs.Prelude.{◌≡◌, ◌↔◌, ℕ, ◌<◌, IsTrue, List, map, None, Some}
+use Rattle.std.specs.List.{AllPairs, Contains}
+use Rattle.pci_spec.specs.Decoded.{Range}
+use Rattle.settle_spec.specs.FirstPlace.{Extent, are_apart, is_place, first_spot, first_place, IsLeastSpot, HasNoPlace, IsFirstPlace}
+use Rattle.settle_spec.specs.Items.{Item, Placed, AllPlaced, place_all, taken_by}
+
+-- There is always a least free multiple of an alignment from an address on.
+abbrev pub SpotIsLeast : Type 0
+SpotIsLeast =
+    (low : ℕ) (taken : List Range) (e : Extent) → 0 < e.alignment
+    → IsLeastSpot low taken e (first_spot low taken e)
+
+-- A first place is the least place of the first range that has one.
+abbrev pub PlaceIsFirst : Type 0
+PlaceIsFirst =
+    (ranges taken : List Range) (e : Extent) (a : ℕ) → 0 < e.alignment
+    → first_place ranges taken e ≡ Some a ↔ IsFirstPlace ranges taken e a
+
+-- There is none exactly where no range has a place.
+abbrev pub NoPlaceIsNone : Type 0
+NoPlaceIsNone =
+    (ranges taken : List Range) (e : Extent) → 0 < e.alignment
+    → first_place ranges taken e ≡ None
+    ↔ ((r : Range) → Contains ranges r → HasNoPlace r taken e)
+
+-- It hangs on which addresses are taken, and not on the order in which they are listed.
+abbrev pub OrderIsFree : Type 0
+OrderIsFree =
+    (ranges xs ys : List Range) (e : Extent) → 0 < e.alignment
+    → ((t : Range) → Contains xs t ↔ Contains ys t)
+    → first_place ranges xs e ≡ first_place ranges ys e
+
+abbrev pub AreApart : Placed → Placed → Type 0
+AreApart p q = IsTrue (are_apart (taken_by p.item p.at) (taken_by q.item q.at))
+
+-- Items at their places: each of them lies in a range, off what was taken, and no two share an address.
+pub record ArePlaced (ranges : Item → List Range) (taken : List Range) (items : List Item)
+    (placed : List Placed) : Type 0 where
+  pub all : map (λ (p : Placed). p.item) placed ≡ items
+  pub each : (p : Placed) → Contains placed p
+      → (r : Range) × Contains (ranges p.item) r
+      × IsTrue (is_place r taken p.item.extent p.at)
+  pub apart : AllPairs AreApart placed
+
+abbrev pub PlacedAreApart : Type 0
+PlacedAreApart =
+    (ranges : Item → List Range) (taken : List Range) (items : List Item) (placed : List Placed)
+    → ((i : Item) → Contains items i → 0 < i.extent.alignment)
+    → place_all ranges taken items ≡ AllPlaced placed
+    → ArePlaced ranges taken items placed

@@ -1,0 +1,16 @@
+//! Laws of placing. These functions do nothing: each contract is a law.
+
+ghost use Rattle.settle_spec.specs.PlacingLaws.{SpotIsLeast, PlaceIsFirst, NoPlaceIsNone, OrderIsFree, PlacedAreApart};
+
+/// A first place is the least free one of the first range that has any.
+pub fn first_places_are_least()
+    ensures spot { SpotIsLeast }
+    ensures first { PlaceIsFirst }
+    ensures none { NoPlaceIsNone }
+    ensures order { OrderIsFree }
+{}
+
+/// What is placed one after another lies in ranges, and apart.
+pub fn placed_items_are_apart()
+    ensures apart { PlacedAreApart }
+{}
