@@ -1,5 +1,6 @@
 pub mod FirstSpot
 pub mod FirstPlace
 pub mod SameTaken
+pub mod LaidOut
 pub mod Placed
 pub mod Examples

@@ -27,7 +27,7 @@ same_spot low xs ys e b same spot =
     let free = spot_gives low xs e b spot in
     spot_from low ys e b (record { multiple = free.multiple; from = free.from; free = λ t listed. free.free t (same.back t listed) })
 
-same_first_spot : (low : ℕ) (xs ys : List Range) (e : Extent) → 0 < e.alignment → HaveSame xs ys → first_spot low xs e ≡ first_spot low ys e
+pub same_first_spot : (low : ℕ) (xs ys : List Range) (e : Extent) → 0 < e.alignment → HaveSame xs ys → first_spot low xs e ≡ first_spot low ys e
 same_first_spot low xs ys e pos same =
     let first = least_spot low ys e pos in
     only_least low xs e (first_spot low ys e) pos (record {

@@ -106,32 +106,39 @@ items_on q s c keeps extent bus =
 
 -- ---- new windows
 
--- what items take when each is placed from 0 on, anywhere above those before it
-abbrev pub laid_out : List Range → List Item → List Range
+-- what extents take when each is placed from 0 on, off those before it
+abbrev pub laid_out : List Range → List Extent → List Range
 laid_out taken [] = taken
-laid_out taken (i ∷ items) = laid_out (taken_by i (first_spot 0 taken i.extent) ∷ taken) items
+laid_out taken (e ∷ extents) =
+    laid_out (range_from (first_spot 0 taken e) e.size ∷ taken) extents
 
 -- the end of the last address
 abbrev pub end_of : List Range → ℕ
 end_of taken = greatest (map (λ (t : Range). t.last + 1) taken)
 
--- a window around items: whole pages, as aligned as the items are, and wide where all of them are
-abbrev pub extent_around : WindowKind → Function → List Item → Extent
-extent_around c b items = record {
-  size = raised_to (page_size c) (end_of (laid_out [] items));
-  alignment = max (page_size c) (greatest (map (λ (i : Item). i.extent.alignment) items));
-  wide = same_class c PrefetchWindow && is_wide_window PrefetchWindow b.probe
-      && list_all (λ (i : Item). i.extent.wide) items;
+-- an extent around others: whole pages, as aligned as they are, and wide where they all are
+abbrev pub extent_around : ℕ → Bool → List Extent → Extent
+extent_around page wide extents = record {
+  size = raised_to page (end_of (laid_out [] extents));
+  alignment = max page (greatest (map (λ (e : Extent). e.alignment) extents));
+  wide = wide && list_all (λ (e : Extent). e.wide) extents;
 }
+
+-- a new window of a bridge around items: only a prefetchable one with upper halves can be wide
+abbrev pub window_around : WindowKind → Function → List Item → Extent
+window_around c b items =
+    extent_around (page_size c)
+    (same_class c PrefetchWindow && is_wide_window PrefetchWindow b.probe)
+    (map (λ (i : Item). i.extent) items)
 
 abbrev pub nothing : Region → Bool
 nothing r = false
 
 -- the new window of a bridge, where at most `depth` buses are behind one another
 unfoldable pub window_within : Request → System → WindowKind → ℕ → Function → Extent
-window_within q s c zero b = extent_around c b []
+window_within q s c zero b = window_around c b []
 window_within q s c (suc depth) b =
-    extent_around c b (items_on q s c nothing (window_within q s c depth) (secondary b))
+    window_around c b (items_on q s c nothing (window_within q s c depth) (secondary b))
 
 -- buses rise on the way down, so 256 of them are all
 abbrev pub new_window : Request → System → WindowKind → Function → Extent
