@@ -42,7 +42,7 @@ at_append (j ∷ items) (b ∷ places) i a same = ap (λ ps. record { item = j; 
 
 -- ---- what is taken once one more was placed
 
-put_same : (taken : List Range) (index : ℕ) (r : Range) → index ≤ length taken → HaveSame (decoded_range_of r ∷ map decoded_range_of taken) (map decoded_range_of (insert taken index r))
+pub put_same : (taken : List Range) (index : ℕ) (r : Range) → index ≤ length taken → HaveSame (decoded_range_of r ∷ map decoded_range_of taken) (map decoded_range_of (insert taken index r))
 put_same taken zero r within = record { to = λ t listed. listed; back = λ t listed. listed }
 put_same [] (suc index) r within = absurd (let no : ⊥ = omega (arith, within) in no)
 put_same (x ∷ taken) (suc index) r within =

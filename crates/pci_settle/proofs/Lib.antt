@@ -3,3 +3,4 @@ pub mod Spots
 pub mod FirstPlaces
 pub mod Inserted
 pub mod AllPlaced
+pub mod LaidOut

@@ -1,2 +1,3 @@
 pub mod Spots
 pub mod Placings
+pub mod Windows

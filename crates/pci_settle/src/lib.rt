@@ -9,3 +9,4 @@
 pub mod extent;
 pub mod placing;
 pub mod spot;
+pub mod window;

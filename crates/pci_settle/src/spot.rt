@@ -40,7 +40,7 @@ fn behind(range: Range, alignment: u64) -> Option<u64>
 }
 
 /// The first free place from an address on; None where it would end above all addresses of 64 bits.
-fn first_spot(taken: &[Range], low: u64, extent: Extent) -> Option<Spot>
+pub fn first_spot(taken: &[Range], low: u64, extent: Extent) -> Option<Spot>
     requires extent { IsExtent extent }
     requires order { AreInOrder taken.now }
     ensures found { IfSome result (IsSpotAt taken.now low extent) }

@@ -1,0 +1,22 @@
+-- What is laid out from 0 on.
+use Rattle.std.specs.Prelude.{ℕ, ◌≡◌, ◌≤◌, List, length, map, Option, None, Some, ⊤}
+use Rattle.std.specs.List.{insert}
+use Rattle.plan_spec.specs.Place.{range_from}
+use Rattle.settle_spec.specs.FirstPlace.{first_spot}
+use Rattle.pci_base.specs.declared.range.Range.{Range}
+use Rattle.pci_base.specs.Ranges.{decoded_range_of}
+use Rattle.pci_settle.specs.declared.extent.Extent.{Extent}
+use Rattle.pci_settle.specs.Spots.{extent_value, range_at}
+
+-- where an extent starts that is laid out next, and its last address
+abbrev pub laid_first : List Range → Extent → ℕ
+laid_first taken e = first_spot 0 (map decoded_range_of taken) (extent_value e)
+
+abbrev pub laid_last : List Range → Extent → ℕ
+laid_last taken e = (range_from (laid_first taken e) e.size).last
+
+-- what is taken then, where it ends in 64 bits
+abbrev pub IsLaidBy : List Range → List Range → Extent → Option ℕ → Type 0
+IsLaidBy old new e None = ⊤
+IsLaidBy old new e (Some end) =
+    (index : ℕ) × (index ≤ length old) × (new ≡ insert old index (range_at e (laid_first old e)))
