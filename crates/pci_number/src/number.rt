@@ -1,5 +1,5 @@
 //! Bus numbers for what is behind a root bus.
-ghost use Rattle.std.specs.Prelude.{◌≡◌, ◌+◌, IfOk, IfErr, OnErr};
+ghost use Rattle.std.specs.Prelude.{◌≡◌, ◌+◌, IfOk, IfErr};
 ghost use Rattle.pci_number.specs.Stops.{failures_at, IsStop};
 ghost use Rattle.pci_number.specs.Answer.{Answers, Keeps};
 

@@ -1,5 +1,5 @@
 //! What is to be placed: so many addresses from a multiple of an alignment on.
-ghost use Rattle.std.specs.Prelude.{ℕ, ◌≡◌, ◌+◌, ◌-◌, ◌<◌, ◌^◌, SomeIff};
+ghost use Rattle.std.specs.Prelude.{◌-◌, ◌<◌, ◌^◌, SomeIff};
 ghost use Rattle.plan_spec.specs.Place.{range_from};
 
 /// So many addresses from a multiple of an alignment on.

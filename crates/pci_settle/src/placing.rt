@@ -1,5 +1,5 @@
 //! Extents get their first places one after another, each place being taken for those that follow.
-ghost use Rattle.std.specs.Prelude.{ℕ, ◌≡◌, ◌<◌, IfOk, IfSome, List, length, map};
+ghost use Rattle.std.specs.Prelude.{◌≡◌, ◌<◌, IfOk, IfSome, List, length, map};
 ghost use Rattle.std.specs.List.{All};
 ghost use Rattle.settle_spec.specs.FirstPlace.{first_place as place_in_ranges};
 ghost use Rattle.settle_spec.specs.Items.{Item, place_all as items_placed};

@@ -1,5 +1,5 @@
 //! The first free place in ranges of addresses.
-ghost use Rattle.std.specs.Prelude.{ℕ, ◌≡◌, ◌≤◌, ◌<◌, ◌+◌, ◌^◌, IfSome, IfNone, IsTrue, map, length, SomeIff};
+ghost use Rattle.std.specs.Prelude.{ℕ, ◌≡◌, ◌≤◌, ◌<◌, ◌+◌, ◌^◌, IfSome, IfNone, IsTrue, map, SomeIff};
 ghost use Rattle.settle_spec.specs.FirstPlace.{is_spot, ends_in as place_ends_in, first_in, first_place as place_in_ranges};
 ghost use Rattle.plan_spec.specs.Plan.{raised_to};
 ghost use Rattle.plan_spec.specs.Place.{range_from};
