@@ -1,5 +1,7 @@
 -- What numbering's steps leave where they stop.
-use Rattle.std.specs.Prelude.{◌≢◌, ℕ, Result, Ok, Err}
+use Rattle.std.specs.Prelude.{◌≡◌, ◌≢◌, ℕ, Option, Some, Result, Ok, Err}
+use Rattle.pci_spec.specs.Slot.{Slot}
+use Rattle.pci_spec.specs.Machine.{Write}
 use Rattle.number_spec.specs.Board.{Board}
 use Rattle.number_spec.specs.Access.{IsRead}
 use Rattle.pci_number.specs.declared.stop.Stop.{Stop}
@@ -20,8 +22,14 @@ abbrev pub failures_at : {T : Type 0} → Result T Stop → ℕ
 failures_at (Ok x) = 0
 failures_at (Err stop) = failures_of_stop stop
 
--- what a stop says of the board: the number that was written is not what is read there
-abbrev pub IsStop : Board → Stop → Type 0
-IsStop board Port = Unit {0}
-IsStop board (Stuck written) =
-    (found : ℕ) × IsRead board written.slot written.offset found × (found ≢ written.number)
+-- a bus number that is written
+abbrev pub number_write : Slot → ℕ → ℕ → Write
+number_write slot offset number =
+    record { slot = slot; offset = offset; width = 1; value = number }
+
+-- what a stop says of the board and of the last write: the number was written last, and is not what is read there
+abbrev pub IsStop : Board → Option Write → Stop → Type 0
+IsStop board last_write Port = Unit {0}
+IsStop board last_write (Stuck told) =
+    (last_write ≡ Some (number_write told.slot told.offset told.number))
+    × (found : ℕ) × IsRead board told.slot told.offset found × (found ≢ told.number)

@@ -24,13 +24,13 @@ pub enum Numbering {
 ///
 /// # Errors
 ///
-/// `Stuck` where a write read back otherwise, `Port` where an access failed. No more was written then.
+/// `Stuck` where a write read back otherwise, `Port` where an access failed. That write was the last one.
 pub fn number<P: BoardPort>(port: &mut P, root: u8, last: u8) -> Result<Numbering, Stop>
     ensures answer { IfOk result
         (λ answer. Answers (P.board port.old) root last answer (P.board port.new)) }
     // whatever happens, bytes 18h to 1Ah of bridges behind this root alone are changed
     ensures kept { Keeps (P.board port.old) root last (P.board port.new) }
-    ensures stop { IfErr result (IsStop (P.board port.new)) }
+    ensures stop { IfErr result (IsStop (P.board port.new) (P.last_write port.new)) }
     ensures counted { P.failures port.new ≡ P.failures port.old + failures_at result }
 {
     hush(port, root)?;

@@ -15,7 +15,7 @@ fn show<P: BoardPort>(port: &mut P, slot: Slot, behind: u8) -> Result<(), Stop>
     ensures shown { OnOk result
         (IsShownAt (P.board port.old) slot slot.bus behind behind (P.board port.new)) }
     ensures left { OnErr result (IsLeftAt (P.board port.old) slot (P.board port.new)) }
-    ensures stop { IfErr result (IsStop (P.board port.new)) }
+    ensures stop { IfErr result (IsStop (P.board port.new) (P.last_write port.new)) }
     ensures counted { P.failures port.new ≡ P.failures port.old + failures_at result }
 {
     put(port, slot, PRIMARY_BUS, slot.bus())?;
@@ -30,7 +30,7 @@ pub fn open<P: BoardPort>(port: &mut P, slot: Slot, behind: u8, last: u8) -> Res
     ensures opened { IfOk result
         (λ bridges. IsOpened (P.board port.old) slot behind last bridges (P.board port.new)) }
     ensures left { OnErr result (IsOpenLeft (P.board port.old) slot behind last (P.board port.new)) }
-    ensures stop { IfErr result (IsStop (P.board port.new)) }
+    ensures stop { IfErr result (IsStop (P.board port.new) (P.last_write port.new)) }
     ensures counted { P.failures port.new ≡ P.failures port.old + failures_at result }
 {
     show(port, slot, behind)?;

@@ -1,8 +1,9 @@
 //! A way to the configuration space of a board whose bridges may have any bus numbers.
-ghost use Rattle.std.specs.Prelude.{◌≡◌, ◌+◌, ℕ, IfOk, OnOk, OnErr};
+ghost use Rattle.std.specs.Prelude.{◌≡◌, ◌+◌, ℕ, Option, Some, IfOk, OnOk, OnErr};
+ghost use Rattle.pci_spec.specs.Machine.{Write};
 ghost use Rattle.number_spec.specs.Board.{Board};
 ghost use Rattle.number_spec.specs.Access.{IsRead, IsWritten};
-ghost use Rattle.pci_number.specs.Stops.{failures_of};
+ghost use Rattle.pci_number.specs.Stops.{failures_of, number_write};
 
 use pci_base::slot::Slot;
 
@@ -18,17 +19,24 @@ pub trait BoardPort {
     // How many accesses have failed. No number is the last.
     ghost failures: { Self → ℕ };
 
+    // The last write that was made, with the number that was written.
+    ghost last_write: { Self → Option Write };
+
     /// The byte at an offset of the node that answers, or FFh where none does.
     fn read(&mut self, access: Slot, offset: u8) -> Result<u8, AccessFailed>
         ensures value { IfOk result (IsRead (board self.old) access offset) }
         // looking changes nothing
         ensures same { board self.new ≡ board self.old }
+        ensures no_write { last_write self.new ≡ last_write self.old }
         ensures counted { failures self.new ≡ failures self.old + failures_of result };
 
     /// Writes one of the three bus numbers of a bridge, bytes 18h to 1Ah. The byte may keep bits.
     fn write(&mut self, access: Slot, offset: u8, value: u8) -> Result<(), AccessFailed>
         ensures written { OnOk result (IsWritten (board self.old) access offset (board self.new)) }
+        ensures made { OnOk result
+            (last_write self.new ≡ Some (number_write access offset value)) }
         // a write that failed wasn't made
         ensures kept { OnErr result (board self.new ≡ board self.old) }
+        ensures not_made { OnErr result (last_write self.new ≡ last_write self.old) }
         ensures counted { failures self.new ≡ failures self.old + failures_of result };
 }
