@@ -11,3 +11,4 @@ pub mod Opening
 pub mod Walking
 pub mod RootView
 pub mod Roots
+pub mod Few

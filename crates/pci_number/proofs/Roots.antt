@@ -25,14 +25,14 @@ append_nothing : {A : Type 0} → (xs : List A) → xs ++ [] ≡ xs
 append_nothing [] = refl
 append_nothing (x ∷ xs) = ap (λ ys. x ∷ ys) (append_nothing xs)
 
-abbrev root_view : Board → ℕ → View
+abbrev pub root_view : Board → ℕ → View
 root_view board root = record { fill = λ nodes. with_nodes board root nodes; at = λ place. (root, place) }
 
 -- the nodes at a root that answer, with its number
 abbrev with_root : Slot → Root → List (ℕ × Place)
 with_root access root = map (λ place. (root.number, place)) (at_root root access)
 
-seen_root : (board : Board) (root last : ℕ) → IsReady board root last → IsSeen (root_view board root) root 0 root last
+pub seen_root : (board : Board) (root last : ℕ) → IsReady board root last → IsSeen (root_view board root) root 0 root last
 seen_root board root last ready = record {
   here = λ nodes access on from.
       let own : (root == access.bus) ≡ true = eq-eqb root access.bus (sym on) in
@@ -65,7 +65,7 @@ kept_at_hush before after root last left = λ ready.
     kept before after root last w.0 ready w.1 w.2
 
 -- a walk that begins at the root
-abbrev start : ℕ → Walk
+abbrev pub start : ℕ → Walk
 start root = record { taken = root; without = None }
 
 pub kept_at_walk : (before mid after : Board) (root last : ℕ) (bridges : Bool) → IsHushed before root bridges mid → IsBusLeft mid root last (start root) after → IsReady before root last → IsBoardKept before root after

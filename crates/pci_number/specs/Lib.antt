@@ -5,3 +5,4 @@ pub mod Walked
 pub mod Hushing
 pub mod Walking
 pub mod Answer
+pub mod Few

@@ -1,7 +1,8 @@
 //! Bridges that forward nothing.
-ghost use Rattle.std.specs.Prelude.{◌≡◌, ◌+◌, IfOk, IfErr, OnOk, OnErr};
+ghost use Rattle.std.specs.Prelude.{◌≡◌, ◌+◌, ◌≤◌, IfOk, IfErr, OnOk, OnErr};
 ghost use Rattle.pci_number.specs.Stops.{failures_at, IsStop};
 ghost use Rattle.pci_number.specs.Steps.{IsShownAt, IsLeftAt, IsHushed, IsHushLeft};
+ghost use Rattle.pci_number.specs.Few.{IsHushFew};
 
 use crate::look::{PLACES, look, slot_at};
 use crate::port::BoardPort;
@@ -17,6 +18,7 @@ fn close<P: BoardPort>(port: &mut P, slot: Slot) -> Result<(), Stop>
     ensures left { OnErr result (IsLeftAt (P.board port.old) slot (P.board port.new)) }
     ensures stop { IfErr result (IsStop (P.board port.new) (P.last_write port.new)) }
     ensures counted { P.failures port.new ≡ P.failures port.old + failures_at result }
+    ensures few { P.writes port.new ≤ P.writes port.old + 3 }
 {
     put(port, slot, SUBORDINATE_BUS, 0)?;
     put(port, slot, SECONDARY_BUS, 0)?;
@@ -31,6 +33,7 @@ pub fn hush<P: BoardPort>(port: &mut P, bus: u8) -> Result<bool, Stop>
     ensures left { OnErr result (IsHushLeft (P.board port.old) bus (P.board port.new)) }
     ensures stop { IfErr result (IsStop (P.board port.new) (P.last_write port.new)) }
     ensures counted { P.failures port.new ≡ P.failures port.old + failures_at result }
+    ensures few { IsHushFew (P.board port.old) bus (P.writes port.old) (P.writes port.new) }
 {
     let mut more = false;
     let mut bridges = false;

@@ -37,6 +37,7 @@ pub fn look<P: BoardPort>(port: &mut P, slot: Slot, more: bool) -> Result<Found,
     ensures same { P.board port.new ≡ P.board port.old }
     ensures no_write { P.last_write port.new ≡ P.last_write port.old }
     ensures counted { P.failures port.new ≡ P.failures port.old + failures_of result }
+    ensures no_more { P.writes port.new ≡ P.writes port.old }
 {
     let first = slot.fun() == 0;
     if !first && !more {

@@ -2,6 +2,7 @@
 ghost use Rattle.std.specs.Prelude.{◌≡◌, ◌+◌, IfOk, IfErr};
 ghost use Rattle.pci_number.specs.Stops.{failures_at, IsStop};
 ghost use Rattle.pci_number.specs.Answer.{Answers, Keeps};
+ghost use Rattle.pci_number.specs.Few.{IsFew};
 
 use crate::hush::hush;
 use crate::port::BoardPort;
@@ -32,6 +33,8 @@ pub fn number<P: BoardPort>(port: &mut P, root: u8, last: u8) -> Result<Numberin
     ensures kept { Keeps (P.board port.old) root last (P.board port.new) }
     ensures stop { IfErr result (IsStop (P.board port.new) (P.last_write port.new)) }
     ensures counted { P.failures port.new ≡ P.failures port.old + failures_at result }
+    // whatever happens, at most 8 writes are made for each bridge behind this root
+    ensures few { IsFew (P.board port.old) root last (P.writes port.old) (P.writes port.new) }
 {
     hush(port, root)?;
     let start = Walk {

@@ -1,7 +1,8 @@
 //! A bridge that gets a number.
-ghost use Rattle.std.specs.Prelude.{◌≡◌, ◌+◌, IfOk, IfErr, OnOk, OnErr};
+ghost use Rattle.std.specs.Prelude.{◌≡◌, ◌+◌, ◌≤◌, IfOk, IfErr, OnOk, OnErr};
 ghost use Rattle.pci_number.specs.Stops.{failures_at, IsStop};
 ghost use Rattle.pci_number.specs.Steps.{IsShownAt, IsLeftAt, IsOpened, IsOpenLeft};
+ghost use Rattle.pci_number.specs.Few.{IsOpenFew};
 
 use crate::hush::hush;
 use crate::port::BoardPort;
@@ -17,6 +18,7 @@ fn show<P: BoardPort>(port: &mut P, slot: Slot, behind: u8) -> Result<(), Stop>
     ensures left { OnErr result (IsLeftAt (P.board port.old) slot (P.board port.new)) }
     ensures stop { IfErr result (IsStop (P.board port.new) (P.last_write port.new)) }
     ensures counted { P.failures port.new ≡ P.failures port.old + failures_at result }
+    ensures few { P.writes port.new ≤ P.writes port.old + 3 }
 {
     put(port, slot, PRIMARY_BUS, slot.bus())?;
     put(port, slot, SECONDARY_BUS, behind)?;
@@ -32,6 +34,7 @@ pub fn open<P: BoardPort>(port: &mut P, slot: Slot, behind: u8, last: u8) -> Res
     ensures left { OnErr result (IsOpenLeft (P.board port.old) slot behind last (P.board port.new)) }
     ensures stop { IfErr result (IsStop (P.board port.new) (P.last_write port.new)) }
     ensures counted { P.failures port.new ≡ P.failures port.old + failures_at result }
+    ensures few { IsOpenFew (P.board port.old) slot behind last (P.writes port.old) (P.writes port.new) }
 {
     show(port, slot, behind)?;
     if !hush(port, behind)? {

@@ -22,13 +22,17 @@ pub trait BoardPort {
     // The last write that was made, with the number that was written.
     ghost last_write: { Self → Option Write };
 
+    // How many writes were made. No number is the last.
+    ghost writes: { Self → ℕ };
+
     /// The byte at an offset of the node that answers, or FFh where none does.
     fn read(&mut self, access: Slot, offset: u8) -> Result<u8, AccessFailed>
         ensures value { IfOk result (IsRead (board self.old) access offset) }
         // looking changes nothing
         ensures same { board self.new ≡ board self.old }
         ensures no_write { last_write self.new ≡ last_write self.old }
-        ensures counted { failures self.new ≡ failures self.old + failures_of result };
+        ensures counted { failures self.new ≡ failures self.old + failures_of result }
+        ensures no_more { writes self.new ≡ writes self.old };
 
     /// Writes one of the three bus numbers of a bridge, bytes 18h to 1Ah. The byte may keep bits.
     fn write(&mut self, access: Slot, offset: u8, value: u8) -> Result<(), AccessFailed>
@@ -38,5 +42,7 @@ pub trait BoardPort {
         // a write that failed wasn't made
         ensures kept { OnErr result (board self.new ≡ board self.old) }
         ensures not_made { OnErr result (last_write self.new ≡ last_write self.old) }
-        ensures counted { failures self.new ≡ failures self.old + failures_of result };
+        ensures counted { failures self.new ≡ failures self.old + failures_of result }
+        ensures one_more { OnOk result (writes self.new ≡ writes self.old + 1) }
+        ensures none_more { OnErr result (writes self.new ≡ writes self.old) };
 }

@@ -1,5 +1,5 @@
 //! One bus number of a bridge.
-ghost use Rattle.std.specs.Prelude.{◌≡◌, ◌+◌, IfErr, OnOk, OnErr};
+ghost use Rattle.std.specs.Prelude.{◌≡◌, ◌+◌, ◌≤◌, IfErr, OnOk, OnErr};
 ghost use Rattle.pci_number.specs.Stops.{failures_at, IsStop};
 ghost use Rattle.pci_number.specs.Steps.{IsPut, IsTouched};
 
@@ -17,6 +17,7 @@ pub fn put<P: BoardPort>(port: &mut P, slot: Slot, offset: u8, number: u8) -> Re
     ensures left { OnErr result (IsTouched (P.board port.old) slot offset (P.board port.new)) }
     ensures stop { IfErr result (IsStop (P.board port.new) (P.last_write port.new)) }
     ensures counted { P.failures port.new ≡ P.failures port.old + failures_at result }
+    ensures few { P.writes port.new ≤ P.writes port.old + 1 }
 {
     if port.read(slot, offset)? == number {
         return Ok(());

@@ -2,6 +2,7 @@
 ghost use Rattle.std.specs.Prelude.{◌≡◌, ◌+◌, ◌≤◌, IfOk, IfErr, OnErr};
 ghost use Rattle.pci_number.specs.Stops.{failures_at, IsStop};
 ghost use Rattle.pci_number.specs.Walked.{IsBusNumbered, IsBusLeft, named};
+ghost use Rattle.pci_number.specs.Few.{IsBusFew};
 
 use crate::look::{PLACES, look, slot_at};
 use crate::open::open;
@@ -43,6 +44,7 @@ pub fn number_bus<P: BoardPort>(port: &mut P, bus: u8, last: u8, start: Walk) ->
     ensures left { OnErr result (IsBusLeft (P.board port.old) bus last start (P.board port.new)) }
     ensures stop { IfErr result (IsStop (P.board port.new) (P.last_write port.new)) }
     ensures counted { P.failures port.new ≡ P.failures port.old + failures_at result }
+    ensures few { IsBusFew (P.board port.old) bus last start (P.writes port.old) (P.writes port.new) }
 {
     let mut walk = start;
     let mut more = false;

@@ -1,14 +1,16 @@
 use Rattle.std.proofs.Common.{◌+◌, true, arith, refl, ap, subst}
 use Rattle.pci_number.specs.Steps.{IsShownAt, IsLeftAt, IsHushLeft}
 use Rattle.pci_number.specs.Hushing.{IsHushing}
+use Rattle.pci_number.specs.Few.{IsHushFew}
 use Rattle.pci_number.proofs.Errs.{always_err}
 use Rattle.pci_number.proofs.Places.{place_of, to_slot, from_slot}
+use Rattle.pci_number.proofs.Few.{IsHushCounted, hush_count_start, hush_count_pass, hush_count_close, hush_few, hush_few_close}
 use Rattle.pci_number.proofs.Hushing.{hush_start, hush_pass, hush_close, hush_left_close, hush_left, hush_done}
 use Rattle.pci_number.proofs.hush.hush.Goals as goal
 use Rattle.pci_number.proofs.hush.hush.Goals.{then-found+in_ok-close, else-found}
 
 pub loop-place-init : goal.loop-place-init
-loop-place-init g c = record { hushing = hush_start (g.P.BoardPort.board c.args.port.now) c.args.bus; counted = refl }
+loop-place-init g c = record { hushing = hush_start (g.P.BoardPort.board c.args.port.now) c.args.bus; counted = refl; few = hush_count_start (g.P.BoardPort.board c.args.port.now) c.args.bus (g.P.BoardPort.writes c.args.port.now) }
 
 pub returns-in_err-found-clause-left : goal.returns-in_err-found-clause-left
 returns-in_err-found-clause-left g c =
@@ -37,6 +39,10 @@ loop-place-preserved g c =
     let at = c.loop-place.place in
     let place = place_of slot bus at c.slot_at-slot.ensures in
     let found = c.in_ok-found.found in
+    let writes = g.P.BoardPort.writes in
+    let made = writes c.args.port.now in
+    let total = writes c.loop-place.port in
+    let counted = to_slot (λ b p. IsHushCounted before b p c.loop-place.more (board c.loop-place.port) made total) slot bus at place c.loop-place.invariant.few in
     let so_far = to_slot (λ b p. IsHushing before b p c.loop-place.more c.loop-place.bridges (board c.loop-place.port)) slot bus at place c.loop-place.invariant.hushing in
     elim c.if-found.branch [
       | then-found+in_ok-close w ↦ record {
@@ -44,11 +50,17 @@ loop-place-preserved g c =
             (hush_close before (board c.loop-place.port) (board w.close.new.port) slot c.loop-place.more c.loop-place.bridges found place.low c.in_ok-found.ensures.looked w.if-found.true
             (subst (λ b. IsShownAt b slot 0 0 0 (board w.close.new.port)) c.in_ok-found.ensures.same w.in_ok-close.ensures.closed) so_far));
         counted = omega (arith, ap g.P.BoardPort.failures w.port-is, w.in_ok-close.ensures.counted, c.in_ok-found.ensures.counted, c.loop-place.invariant.counted);
+        few = rw w.port-is (from_slot (λ b p. IsHushCounted before b (p + 1) found.more (board w.close.new.port) made (writes w.close.new.port)) slot bus at place
+            (hush_count_close before (board c.loop-place.port) (board w.close.new.port) slot c.loop-place.more found made total (writes w.close.new.port) place.low c.in_ok-found.ensures.looked w.if-found.true
+            (subst (λ b. IsShownAt b slot 0 0 0 (board w.close.new.port)) c.in_ok-found.ensures.same w.in_ok-close.ensures.closed)
+            (omega (arith, w.in_ok-close.ensures.few, c.in_ok-found.ensures.no_more)) counted));
       }
       | else-found w ↦ record {
         hushing = rw (w.port-is, w.bridges-is, c.in_ok-found.ensures.same) (from_slot (λ b p. IsHushing before b (p + 1) found.more c.loop-place.bridges (board c.loop-place.port)) slot bus at place
             (hush_pass before (board c.loop-place.port) slot c.loop-place.more c.loop-place.bridges found place.low c.in_ok-found.ensures.looked w.if-found.false so_far));
         counted = omega (arith, ap g.P.BoardPort.failures w.port-is, c.in_ok-found.ensures.counted, c.loop-place.invariant.counted);
+        few = rw (w.port-is, c.in_ok-found.ensures.same, c.in_ok-found.ensures.no_more) (from_slot (λ b p. IsHushCounted before b (p + 1) found.more (board c.loop-place.port) made total) slot bus at place
+            (hush_count_pass before (board c.loop-place.port) slot c.loop-place.more found made total place.low c.in_ok-found.ensures.looked w.if-found.false counted));
       }
     ]
 
@@ -58,3 +70,29 @@ returns-clause-hushed g c =
     let before = board c.args.port.now in
     hush_done before (board c.loop-place.port) c.args.bus c.loop-place.more c.loop-place.bridges
     (subst (λ p. IsHushing before c.args.bus p c.loop-place.more c.loop-place.bridges (board c.loop-place.port)) (omega (arith, c.loop-place-test.false, c.loop-place.auto.place-end)) c.loop-place.invariant.hushing)
+
+pub returns-in_err-found-clause-few : goal.returns-in_err-found-clause-few
+returns-in_err-found-clause-few g c =
+    let board = g.P.BoardPort.board in
+    let writes = g.P.BoardPort.writes in
+    rw c.in_err-found.ensures.no_more (hush_few (board c.args.port.now) (board c.loop-place.port) c.args.bus c.loop-place.place c.loop-place.more (writes c.args.port.now) (writes c.loop-place.port) c.loop-place.invariant.few)
+
+pub returns-in_err-close-clause-few : goal.returns-in_err-close-clause-few
+returns-in_err-close-clause-few g c =
+    let board = g.P.BoardPort.board in
+    let writes = g.P.BoardPort.writes in
+    let before = board c.args.port.now in
+    let made = writes c.args.port.now in
+    let total = writes c.loop-place.port in
+    let slot = c.slot_at-slot.result in
+    let place = place_of slot c.args.bus c.loop-place.place c.slot_at-slot.ensures in
+    subst (λ b. IsHushFew before b made (writes c.close.new.port)) place.on
+    (hush_few_close before (board c.loop-place.port) slot c.loop-place.more c.in_ok-found.found made total (writes c.close.new.port) place.low c.in_ok-found.ensures.looked c.if-found.true
+    (omega (arith, c.in_err-close.ensures.few, c.in_ok-found.ensures.no_more))
+    (to_slot (λ b p. IsHushCounted before b p c.loop-place.more (board c.loop-place.port) made total) slot c.args.bus c.loop-place.place place c.loop-place.invariant.few))
+
+pub returns-clause-few : goal.returns-clause-few
+returns-clause-few g c =
+    let board = g.P.BoardPort.board in
+    let writes = g.P.BoardPort.writes in
+    hush_few (board c.args.port.now) (board c.loop-place.port) c.args.bus c.loop-place.place c.loop-place.more (writes c.args.port.now) (writes c.loop-place.port) c.loop-place.invariant.few

@@ -1,5 +1,6 @@
 use Rattle.std.proofs.Common.{refl, sym}
 use Rattle.pci_number.specs.declared.number.Numbering.TheVariants.{Numbered, NoBus}
+use Rattle.pci_number.proofs.Few.{few_at_hush, few_at_walk}
 use Rattle.pci_number.proofs.Roots.{kept_at_hush, kept_at_walk, kept_at_end, answer_of}
 use Rattle.pci_number.proofs.number.number.Goals as goal
 
@@ -34,3 +35,29 @@ pub returns-in-Some-clause-kept : goal.returns-in-Some-clause-kept
 returns-in-Some-clause-kept g c =
     let board = g.P.BoardPort.board in
     kept_at_end (board c.args.port.now) (board c.hush.new.port) (board c.number_bus.new.port) c.args.root c.args.last c.in_ok-hush.field-0 c.in_ok-walk.walk c.in_ok-hush.ensures.hushed c.in_ok-walk.ensures.numbered
+
+pub returns-in_err-hush-clause-few : goal.returns-in_err-hush-clause-few
+returns-in_err-hush-clause-few g c =
+    let writes = g.P.BoardPort.writes in
+    few_at_hush (g.P.BoardPort.board c.args.port.now) c.args.root c.args.last (writes c.args.port.now) (writes c.hush.new.port) c.in_err-hush.ensures.few
+
+pub returns-in_err-walk-clause-few : goal.returns-in_err-walk-clause-few
+returns-in_err-walk-clause-few g c =
+    let board = g.P.BoardPort.board in
+    let writes = g.P.BoardPort.writes in
+    few_at_walk (board c.args.port.now) (board c.hush.new.port) c.args.root c.args.last c.in_ok-hush.field-0 (writes c.args.port.now) (writes c.hush.new.port) (writes c.number_bus.new.port)
+    c.in_ok-hush.ensures.hushed c.in_ok-hush.ensures.few c.in_err-walk.ensures.few
+
+pub returns-in-None-clause-few : goal.returns-in-None-clause-few
+returns-in-None-clause-few g c =
+    let board = g.P.BoardPort.board in
+    let writes = g.P.BoardPort.writes in
+    few_at_walk (board c.args.port.now) (board c.hush.new.port) c.args.root c.args.last c.in_ok-hush.field-0 (writes c.args.port.now) (writes c.hush.new.port) (writes c.number_bus.new.port)
+    c.in_ok-hush.ensures.hushed c.in_ok-hush.ensures.few c.in_ok-walk.ensures.few
+
+pub returns-in-Some-clause-few : goal.returns-in-Some-clause-few
+returns-in-Some-clause-few g c =
+    let board = g.P.BoardPort.board in
+    let writes = g.P.BoardPort.writes in
+    few_at_walk (board c.args.port.now) (board c.hush.new.port) c.args.root c.args.last c.in_ok-hush.field-0 (writes c.args.port.now) (writes c.hush.new.port) (writes c.number_bus.new.port)
+    c.in_ok-hush.ensures.hushed c.in_ok-hush.ensures.few c.in_ok-walk.ensures.few

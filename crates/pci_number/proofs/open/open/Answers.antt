@@ -1,6 +1,7 @@
-use Rattle.std.proofs.Common.{subst}
+use Rattle.std.proofs.Common.{arith, subst}
 use Rattle.pci_number.specs.Steps.{IsHushed}
 use Rattle.pci_number.proofs.Errs.{always_err}
+use Rattle.pci_number.proofs.Few.{open_few}
 use Rattle.pci_number.proofs.Opening.{open_left_second, open_left_third, opened_alone, opened_wide}
 use Rattle.pci_number.proofs.open.open.Goals as goal
 
@@ -27,3 +28,31 @@ returns-clause-opened g c =
     let board = g.P.BoardPort.board in
     opened_wide (board c.args.port.now) (board c.show.new.port) (board c.hush.new.port) (board c.put.new.port) c.args.slot c.args.behind c.args.last c.in_ok-show.ensures.shown
     (subst (λ b. IsHushed (board c.show.new.port) c.args.behind b (board c.hush.new.port)) c.if-not-branch.false c.in_ok-hush.ensures.hushed) c.in_ok-put.ensures.put
+
+pub returns-in_err-hush-clause-few : goal.returns-in_err-hush-clause-few
+returns-in_err-hush-clause-few g c =
+    let board = g.P.BoardPort.board in
+    let writes = g.P.BoardPort.writes in
+    open_few (board c.args.port.now) (board c.show.new.port) c.args.slot c.args.behind c.args.last (writes c.args.port.now) (writes c.show.new.port) (writes c.hush.new.port) (writes c.hush.new.port)
+    c.in_ok-show.ensures.shown c.in_ok-show.ensures.few c.in_err-hush.ensures.few (omega arith)
+
+pub returns-then-not-branch-clause-few : goal.returns-then-not-branch-clause-few
+returns-then-not-branch-clause-few g c =
+    let board = g.P.BoardPort.board in
+    let writes = g.P.BoardPort.writes in
+    open_few (board c.args.port.now) (board c.show.new.port) c.args.slot c.args.behind c.args.last (writes c.args.port.now) (writes c.show.new.port) (writes c.hush.new.port) (writes c.hush.new.port)
+    c.in_ok-show.ensures.shown c.in_ok-show.ensures.few c.in_ok-hush.ensures.few (omega arith)
+
+pub returns-in_err-put-clause-few : goal.returns-in_err-put-clause-few
+returns-in_err-put-clause-few g c =
+    let board = g.P.BoardPort.board in
+    let writes = g.P.BoardPort.writes in
+    open_few (board c.args.port.now) (board c.show.new.port) c.args.slot c.args.behind c.args.last (writes c.args.port.now) (writes c.show.new.port) (writes c.hush.new.port) (writes c.put.new.port)
+    c.in_ok-show.ensures.shown c.in_ok-show.ensures.few c.in_ok-hush.ensures.few c.in_err-put.ensures.few
+
+pub returns-clause-few : goal.returns-clause-few
+returns-clause-few g c =
+    let board = g.P.BoardPort.board in
+    let writes = g.P.BoardPort.writes in
+    open_few (board c.args.port.now) (board c.show.new.port) c.args.slot c.args.behind c.args.last (writes c.args.port.now) (writes c.show.new.port) (writes c.hush.new.port) (writes c.put.new.port)
+    c.in_ok-show.ensures.shown c.in_ok-show.ensures.few c.in_ok-hush.ensures.few c.in_ok-put.ensures.few

@@ -3,16 +3,18 @@ use Rattle.pci_spec.specs.Slot.{Slot}
 use Rattle.number_spec.specs.Board.{Board}
 use Rattle.pci_number.specs.Steps.{IsOpened, IsOpenLeft}
 use Rattle.pci_number.specs.Walked.{IsBusLeft}
+use Rattle.pci_number.specs.Few.{IsOpenFew, IsBusFew}
 use Rattle.pci_number.specs.Walking.{IsWalking}
 use Rattle.pci_number.specs.declared.walk.Walk.{Walk}
 use Rattle.pci_number.proofs.Errs.{always_err}
+use Rattle.pci_number.proofs.Few.{IsWalkCounted, walk_count_start, walk_count_pass, walk_count_without, walk_count_alone, walk_count_wide, walk_few, walk_few_open, walk_few_bus}
 use Rattle.pci_number.proofs.Places.{place_of, to_slot, from_slot}
 use Rattle.pci_number.proofs.Walking.{one_more, walk_start, walk_pass, walk_without, walk_alone, walk_wide, walk_left, walk_left_open, walk_left_bus, walk_left_put, walk_done}
 use Rattle.pci_number.proofs.walk.+number_bus.Goals as goal
 use Rattle.pci_number.proofs.walk.+number_bus.Goals.{then-found+then-walk-last+in_ok-open+then-branch+in_ok-walk+in_ok-put, then-found+then-walk-last+in_ok-open+else-branch, then-found+else-walk-last, else-found}
 
 pub loop-place-init : goal.loop-place-init
-loop-place-init g t c = record { walking = walk_start (g.P.BoardPort.board c.args.port.now) c.args.bus c.args.last c.args.start; above = omega arith; counted = refl }
+loop-place-init g t c = record { walking = walk_start (g.P.BoardPort.board c.args.port.now) c.args.bus c.args.last c.args.start; above = omega arith; counted = refl; few = walk_count_start (g.P.BoardPort.board c.args.port.now) c.args.bus c.args.last c.args.start (g.P.BoardPort.writes c.args.port.now) }
 
 pub returns-in_err-found-clause-left : goal.returns-in_err-found-clause-left
 returns-in_err-found-clause-left g t c =
@@ -62,6 +64,10 @@ returns-in_err-put-clause-left g t c =
     c.in_ok-walk.ensures.numbered c.in_err-put.ensures.left
     (to_slot (λ b p. IsWalking before b c.args.last c.args.start p c.loop-place.more c.loop-place.walk (board c.loop-place.port)) slot c.args.bus c.loop-place.place place c.loop-place.invariant.walking)))
 
+-- the writes of opening a bridge, on the board as it was looked at
+few_from : (now before : Board) → (slot : Slot) (bus last total made opened_by : ℕ) → before ≡ now → made ≡ total → IsOpenFew before slot bus last made opened_by → IsOpenFew now slot bus last total opened_by
+few_from now before slot bus last total made opened_by same none few = subst (λ x. IsOpenFew x slot bus last total opened_by) same (subst (λ x. IsOpenFew before slot bus last x opened_by) none few)
+
 pub loop-place-preserved : goal.loop-place-preserved
 loop-place-preserved g t c =
     let board = g.P.BoardPort.board in
@@ -77,6 +83,10 @@ loop-place-preserved g t c =
     let found = c.in_ok-found.found in
     let now = board c.loop-place.port in
     let looked = c.in_ok-found.ensures.looked in
+    let writes = g.P.BoardPort.writes in
+    let made = writes c.args.port.now in
+    let total = writes c.loop-place.port in
+    let count = to_slot (λ b p. IsWalkCounted before b last start p c.loop-place.more walk now made total) slot bus at place c.loop-place.invariant.few in
     let so_far = to_slot (λ b p. IsWalking before b last start p c.loop-place.more walk now) slot bus at place c.loop-place.invariant.walking in
     elim c.if-found.branch [
       | then-found+then-walk-last+in_ok-open+then-branch+in_ok-walk+in_ok-put w ↦ record {
@@ -86,6 +96,12 @@ loop-place-preserved g t c =
             w.in_ok-walk.ensures.numbered w.in_ok-walk.ensures.above w.in_ok-put.ensures.put so_far));
         above = omega (arith, ap (λ (x : Walk). x.taken) w.walk-is, w.in_ok-walk.ensures.above, c.loop-place.invariant.above);
         counted = omega (arith, ap failures w.port-is, w.in_ok-put.ensures.counted, w.in_ok-walk.ensures.counted, w.in_ok-open.ensures.counted, c.in_ok-found.ensures.counted, c.loop-place.invariant.counted);
+        few = rw (w.port-is, w.walk-is) (from_slot (λ b p. IsWalkCounted before b last start (p + 1) found.more w.in_ok-walk.walk (board w.put.new.port) made (writes w.put.new.port)) slot bus at place
+            (walk_count_wide before now (board w.open.new.port) (board w.number_bus.new.port) (board w.put.new.port) slot last start walk w.in_ok-walk.walk c.loop-place.more found made total (writes w.open.new.port) (writes w.number_bus.new.port) (writes w.put.new.port) place.low looked w.if-found.true w.if-walk-last.true
+            (is_open now (board c.look.new.port) (board w.open.new.port) slot (walk.taken + 1) last w.in_ok-open.field-0 c.in_ok-found.ensures.same w.if-branch.true w.in_ok-open.ensures.opened)
+            w.in_ok-walk.ensures.numbered w.in_ok-walk.ensures.above w.in_ok-put.ensures.put
+            (few_from now (board c.look.new.port) slot (walk.taken + 1) last total (writes c.look.new.port) (writes w.open.new.port) c.in_ok-found.ensures.same c.in_ok-found.ensures.no_more w.in_ok-open.ensures.few)
+            w.in_ok-walk.ensures.few w.in_ok-put.ensures.few count));
       }
       | then-found+then-walk-last+in_ok-open+else-branch w ↦ record {
         walking = rw (w.port-is, w.walk-is) (from_slot (λ b p. IsWalking before b last start (p + 1) found.more (one_more walk) (board w.open.new.port)) slot bus at place
@@ -94,18 +110,27 @@ loop-place-preserved g t c =
             so_far));
         above = omega (arith, ap (λ (x : Walk). x.taken) w.walk-is, c.loop-place.invariant.above);
         counted = omega (arith, ap failures w.port-is, w.in_ok-open.ensures.counted, c.in_ok-found.ensures.counted, c.loop-place.invariant.counted);
+        few = rw (w.port-is, w.walk-is) (from_slot (λ b p. IsWalkCounted before b last start (p + 1) found.more (one_more walk) (board w.open.new.port) made (writes w.open.new.port)) slot bus at place
+            (walk_count_alone before now (board w.open.new.port) slot last start walk c.loop-place.more found made total (writes w.open.new.port) place.low looked w.if-found.true w.if-walk-last.true
+            (subst (λ x. IsOpened x slot (walk.taken + 1) last false (board w.open.new.port)) c.in_ok-found.ensures.same (subst (λ x. IsOpened (board c.look.new.port) slot (walk.taken + 1) last x (board w.open.new.port)) w.if-branch.false w.in_ok-open.ensures.opened))
+            (few_from now (board c.look.new.port) slot (walk.taken + 1) last total (writes c.look.new.port) (writes w.open.new.port) c.in_ok-found.ensures.same c.in_ok-found.ensures.no_more w.in_ok-open.ensures.few)
+            count));
       }
       | then-found+else-walk-last w ↦ record {
         walking = rw (w.port-is, w.walk-is, c.in_ok-found.ensures.same) (from_slot (λ b p. IsWalking before b last start (p + 1) found.more w.and_without-walk.result now) slot bus at place
             (walk_without before now slot last start walk w.and_without-walk.result c.loop-place.more found place.low looked w.if-found.true w.if-walk-last.false w.and_without-walk.ensures.taken w.and_without-walk.ensures.named so_far));
         above = omega (arith, ap (λ (x : Walk). x.taken) w.walk-is, w.and_without-walk.ensures.taken, c.loop-place.invariant.above);
         counted = omega (arith, ap failures w.port-is, c.in_ok-found.ensures.counted, c.loop-place.invariant.counted);
+        few = rw (w.port-is, w.walk-is, c.in_ok-found.ensures.same, c.in_ok-found.ensures.no_more) (from_slot (λ b p. IsWalkCounted before b last start (p + 1) found.more w.and_without-walk.result now made total) slot bus at place
+            (walk_count_without before now slot last start walk w.and_without-walk.result c.loop-place.more found made total place.low looked w.if-found.true w.and_without-walk.ensures.taken count));
       }
       | else-found w ↦ record {
         walking = rw (w.port-is, w.walk-is, c.in_ok-found.ensures.same) (from_slot (λ b p. IsWalking before b last start (p + 1) found.more walk now) slot bus at place
             (walk_pass before now slot last start walk c.loop-place.more found place.low looked w.if-found.false so_far));
         above = omega (arith, ap (λ (x : Walk). x.taken) w.walk-is, c.loop-place.invariant.above);
         counted = omega (arith, ap failures w.port-is, c.in_ok-found.ensures.counted, c.loop-place.invariant.counted);
+        few = rw (w.port-is, w.walk-is, c.in_ok-found.ensures.same, c.in_ok-found.ensures.no_more) (from_slot (λ b p. IsWalkCounted before b last start (p + 1) found.more walk now made total) slot bus at place
+            (walk_count_pass before now slot last start walk c.loop-place.more found made total place.low looked w.if-found.false count));
       }
     ]
 
@@ -115,3 +140,65 @@ returns-clause-numbered g t c =
     let before = board c.args.port.now in
     walk_done before (board c.loop-place.port) c.args.bus c.args.last c.args.start c.loop-place.walk c.loop-place.more
     (subst (λ p. IsWalking before c.args.bus c.args.last c.args.start p c.loop-place.more c.loop-place.walk (board c.loop-place.port)) (omega (arith, c.loop-place-test.false, c.loop-place.auto.place-end)) c.loop-place.invariant.walking)
+
+pub returns-in_err-found-clause-few : goal.returns-in_err-found-clause-few
+returns-in_err-found-clause-few g t c =
+    let board = g.P.BoardPort.board in
+    let writes = g.P.BoardPort.writes in
+    rw c.in_err-found.ensures.no_more (walk_few (board c.args.port.now) (board c.loop-place.port) c.args.bus c.args.last c.loop-place.place c.args.start c.loop-place.walk c.loop-place.more (writes c.args.port.now) (writes c.loop-place.port) c.loop-place.invariant.few)
+
+pub returns-in_err-open-clause-few : goal.returns-in_err-open-clause-few
+returns-in_err-open-clause-few g t c =
+    let board = g.P.BoardPort.board in
+    let writes = g.P.BoardPort.writes in
+    let before = board c.args.port.now in
+    let made = writes c.args.port.now in
+    let total = writes c.loop-place.port in
+    let now = board c.loop-place.port in
+    let walk = c.loop-place.walk in
+    let slot = c.slot_at-slot.result in
+    let place = place_of slot c.args.bus c.loop-place.place c.slot_at-slot.ensures in
+    let count = to_slot (λ b p. IsWalkCounted before b c.args.last c.args.start p c.loop-place.more walk now made total) slot c.args.bus c.loop-place.place place c.loop-place.invariant.few in
+    subst (λ b. IsBusFew before b c.args.last c.args.start made (writes c.open.new.port)) place.on
+    (walk_few_open before now slot c.args.last c.args.start walk c.loop-place.more c.in_ok-found.found made total (writes c.open.new.port) place.low c.in_ok-found.ensures.looked c.if-found.true c.if-walk-last.true
+    (few_from now (board c.look.new.port) slot (walk.taken + 1) c.args.last total (writes c.look.new.port) (writes c.open.new.port) c.in_ok-found.ensures.same c.in_ok-found.ensures.no_more c.in_err-open.ensures.few) count)
+
+pub returns-in_err-walk-clause-few : goal.returns-in_err-walk-clause-few
+returns-in_err-walk-clause-few g t c =
+    let board = g.P.BoardPort.board in
+    let writes = g.P.BoardPort.writes in
+    let before = board c.args.port.now in
+    let made = writes c.args.port.now in
+    let total = writes c.loop-place.port in
+    let now = board c.loop-place.port in
+    let walk = c.loop-place.walk in
+    let slot = c.slot_at-slot.result in
+    let place = place_of slot c.args.bus c.loop-place.place c.slot_at-slot.ensures in
+    let count = to_slot (λ b p. IsWalkCounted before b c.args.last c.args.start p c.loop-place.more walk now made total) slot c.args.bus c.loop-place.place place c.loop-place.invariant.few in
+    subst (λ b. IsBusFew before b c.args.last c.args.start made (writes c.number_bus.new.port)) place.on
+    (walk_few_bus before now (board c.open.new.port) slot c.args.last c.args.start walk c.loop-place.more c.in_ok-found.found made total (writes c.open.new.port) (writes c.number_bus.new.port) (writes c.number_bus.new.port) place.low c.in_ok-found.ensures.looked c.if-found.true c.if-walk-last.true
+    (is_open now (board c.look.new.port) (board c.open.new.port) slot (walk.taken + 1) c.args.last c.in_ok-open.field-0 c.in_ok-found.ensures.same c.if-branch.true c.in_ok-open.ensures.opened)
+    (few_from now (board c.look.new.port) slot (walk.taken + 1) c.args.last total (writes c.look.new.port) (writes c.open.new.port) c.in_ok-found.ensures.same c.in_ok-found.ensures.no_more c.in_ok-open.ensures.few) c.in_err-walk.ensures.few (omega arith) count)
+
+pub returns-in_err-put-clause-few : goal.returns-in_err-put-clause-few
+returns-in_err-put-clause-few g t c =
+    let board = g.P.BoardPort.board in
+    let writes = g.P.BoardPort.writes in
+    let before = board c.args.port.now in
+    let made = writes c.args.port.now in
+    let total = writes c.loop-place.port in
+    let now = board c.loop-place.port in
+    let walk = c.loop-place.walk in
+    let slot = c.slot_at-slot.result in
+    let place = place_of slot c.args.bus c.loop-place.place c.slot_at-slot.ensures in
+    let count = to_slot (λ b p. IsWalkCounted before b c.args.last c.args.start p c.loop-place.more walk now made total) slot c.args.bus c.loop-place.place place c.loop-place.invariant.few in
+    subst (λ b. IsBusFew before b c.args.last c.args.start made (writes c.put.new.port)) place.on
+    (walk_few_bus before now (board c.open.new.port) slot c.args.last c.args.start walk c.loop-place.more c.in_ok-found.found made total (writes c.open.new.port) (writes c.number_bus.new.port) (writes c.put.new.port) place.low c.in_ok-found.ensures.looked c.if-found.true c.if-walk-last.true
+    (is_open now (board c.look.new.port) (board c.open.new.port) slot (walk.taken + 1) c.args.last c.in_ok-open.field-0 c.in_ok-found.ensures.same c.if-branch.true c.in_ok-open.ensures.opened)
+    (few_from now (board c.look.new.port) slot (walk.taken + 1) c.args.last total (writes c.look.new.port) (writes c.open.new.port) c.in_ok-found.ensures.same c.in_ok-found.ensures.no_more c.in_ok-open.ensures.few) c.in_ok-walk.ensures.few c.in_err-put.ensures.few count)
+
+pub returns-clause-few : goal.returns-clause-few
+returns-clause-few g t c =
+    let board = g.P.BoardPort.board in
+    let writes = g.P.BoardPort.writes in
+    walk_few (board c.args.port.now) (board c.loop-place.port) c.args.bus c.args.last c.loop-place.place c.args.start c.loop-place.walk c.loop-place.more (writes c.args.port.now) (writes c.loop-place.port) c.loop-place.invariant.few

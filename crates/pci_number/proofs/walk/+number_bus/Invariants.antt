@@ -1,5 +1,6 @@
 use Rattle.std.proofs.Common.{◌≡◌, ◌≤◌, ◌-◌}
 use Rattle.pci_number.specs.Walking.{IsWalking}
+use Rattle.pci_number.proofs.Few.{IsWalkCounted}
 use Rattle.pci_number.proofs.walk.+number_bus.Given as goal
 
 abbrev pub invariant-loop-place : goal.invariant-loop-place
@@ -7,6 +8,7 @@ invariant-loop-place g l = record {
   walking : IsWalking (g.P.BoardPort.board l.initial.port) l.bus l.last l.fn.start l.place l.more l.walk (g.P.BoardPort.board l.port);
   above : l.fn.start.taken ≤ l.walk.taken;
   counted : g.P.BoardPort.failures l.port ≡ g.P.BoardPort.failures l.initial.port;
+  few : IsWalkCounted (g.P.BoardPort.board l.initial.port) l.bus l.last l.fn.start l.place l.more l.walk (g.P.BoardPort.board l.port) (g.P.BoardPort.writes l.initial.port) (g.P.BoardPort.writes l.port);
 }
 
 abbrev pub decreases-number_bus : goal.decreases-number_bus

@@ -1,0 +1,51 @@
+-- How many writes numbering makes.
+use Rattle.std.specs.Prelude.{◌≡◌, ℕ, ◌+◌, ◌*◌, ◌≤◌, true, if◌then◌else◌, List}
+use Rattle.pci_spec.specs.Slot.{Slot}
+use Rattle.number_spec.specs.Board.{Nodes, NoMore, Node, Board, is_type_1}
+use Rattle.number_spec.specs.Access.{nodes_behind}
+use Rattle.number_spec.specs.Walk.{all_after, is_walkable}
+use Rattle.number_spec.specs.Ready.{IsReady}
+use Rattle.pci_number.specs.Seen.{View, code, IsSeen, IsClosed}
+use Rattle.pci_number.specs.declared.walk.Walk.{Walk}
+
+-- how many bridges there are on a bus and behind it
+abbrev pub bridges : Nodes → ℕ
+bridges NoMore = 0
+bridges (Node device function image behind others) =
+    if is_type_1 image then 1 + bridges behind + bridges others else bridges others
+
+-- how many of them are on the bus itself
+abbrev pub bridges_on : Nodes → ℕ
+bridges_on NoMore = 0
+bridges_on (Node device function image behind others) =
+    if is_type_1 image then 1 + bridges_on others else bridges_on others
+
+-- For each bridge behind the root there are at most 8 writes.
+abbrev pub IsFew : Board → ℕ → ℕ → ℕ → ℕ → Type 0
+IsFew before root last made total =
+    IsReady before root last → total ≤ made + 8 * bridges (nodes_behind before root)
+
+-- ---- as it is seen from the bus
+
+-- Each bridge on a bus is closed by 3 writes at most.
+abbrev pub IsHushFew : Board → ℕ → ℕ → ℕ → Type 0
+IsHushFew before bus made total =
+    (v : View) (high last : ℕ) (nodes : Nodes) → before ≡ v.fill nodes
+    → IsSeen v bus 0 high last → is_walkable nodes ≡ true
+    → total ≤ made + 3 * bridges_on nodes
+
+-- A bridge gets a bus by 4 at most, and those there are closed.
+abbrev pub IsOpenFew : Board → Slot → ℕ → ℕ → ℕ → ℕ → Type 0
+IsOpenFew before slot bus last made total =
+    (v : View) (high : ℕ) (image : List ℕ) (behind others : Nodes)
+    → before ≡ v.fill (Node slot.device slot.function image behind others)
+    → IsSeen v slot.bus (code slot) high last → all_after slot.device slot.function others ≡ true
+    → is_type_1 image ≡ true → IsClosed others → is_walkable behind ≡ true
+    → high + 1 ≤ bus → bus ≤ last → total ≤ made + 4 + 3 * bridges_on behind
+
+-- The bridges on a bus, which are closed, get numbers, and so do those behind them.
+abbrev pub IsBusFew : Board → ℕ → ℕ → Walk → ℕ → ℕ → Type 0
+IsBusFew before bus last start made total =
+    (v : View) (nodes : Nodes) → before ≡ v.fill nodes
+    → IsSeen v bus 0 start.taken last → is_walkable nodes ≡ true → IsClosed nodes
+    → total + 3 * bridges_on nodes ≤ made + 8 * bridges nodes
