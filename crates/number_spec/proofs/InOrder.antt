@@ -29,7 +29,7 @@ pub run_is : (root last n : ℕ) (xs : List ℕ) → IsRun root last n xs → xs
 run_is root last n [] run = refl
 run_is root last n (x ∷ xs) run = let rest = run_is root last (n + 1) xs run.1 in let first : x ≡ number_of root last (n + 1) = run.0 in cc
 
-run_parts : (root last n : ℕ) (xs ys : List ℕ) → IsRun root last n (xs ++ ys) → IsRun root last n xs × IsRun root last (n + length xs) ys
+pub run_parts : (root last n : ℕ) (xs ys : List ℕ) → IsRun root last n (xs ++ ys) → IsRun root last n xs × IsRun root last (n + length xs) ys
 run_parts root last n [] ys run = (tt, subst (λ k. IsRun root last k ys) (omega arith) run)
 run_parts root last n (x ∷ xs) ys run =
     let rest = run_parts root last (n + 1) xs ys run.1 in

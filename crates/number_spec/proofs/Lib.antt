@@ -5,4 +5,5 @@ pub mod Found
 pub mod Walked
 pub mod Roots
 pub mod Kept
+pub mod Same
 pub mod Examples

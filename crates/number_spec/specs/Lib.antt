@@ -3,6 +3,7 @@ pub mod Access
 pub mod Walk
 pub mod Numbered
 pub mod Room
+pub mod Reached
 pub mod NoBus
 pub mod Ready
 pub mod NumberingLaws

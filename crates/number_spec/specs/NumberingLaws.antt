@@ -1,5 +1,5 @@
 -- Laws of numbering.
-use Rattle.std.specs.Prelude.{◌≡◌, ◌↔◌, ℕ, IsTrue, List, [], ◌∷◌, map}
+use Rattle.std.specs.Prelude.{◌≡◌, ◌↔◌, ℕ, IsTrue, List, [], ◌∷◌, None, map}
 use Rattle.std.specs.List.{Contains, filter}
 use Rattle.std.specs.List.Sorted.{IsStrictlyIncreasing}
 use Rattle.pci_spec.specs.Slot.{Slot}
@@ -8,6 +8,8 @@ use Rattle.number_spec.specs.Board.{Nodes, Root, Board, Place, is_type_1, image_
 use Rattle.number_spec.specs.Walk.{is_rising, is_walkable, walk}
 use Rattle.number_spec.specs.Numbered.{without_numbers, secondaries, IsNumbered}
 use Rattle.number_spec.specs.Room.{IsNumberedWithRoom}
+use Rattle.number_spec.specs.NoBus.{first_without}
+use Rattle.number_spec.specs.Reached.{reached, only_bridges_lead}
 
 -- The bridges whose numbers are in order are those that the walk comes to, where it finds all nodes.
 abbrev pub WalkIsInOrder : Type 0
@@ -42,6 +44,22 @@ abbrev pub NoRoomIsInOrder : Type 0
 NoRoomIsInOrder =
     (root last : ℕ) (before after : Nodes) → IsNumberedWithRoom (λ image. 0) root last before after
     → IsNumbered root last before after
+
+-- Numbers don't hang on those that were there: where the same nodes are numbered twice, a walk comes to the
+-- same nodes with the same images,
+abbrev pub NumbersAreOne : Type 0
+NumbersAreOne =
+    (root last : ℕ) (first second after again : Nodes)
+    → without_numbers first ≡ without_numbers second → IsNumbered root last first after
+    → IsNumbered root last second again → reached after ≡ reached again
+
+-- and where each bridge has a bus, and there is nothing behind what is no bridge, all nodes are the same.
+abbrev pub AllNumbersAreOne : Type 0
+AllNumbersAreOne =
+    (root last : ℕ) (first second after again : Nodes)
+    → without_numbers first ≡ without_numbers second → IsNumbered root last first after
+    → IsNumbered root last second again → first_without root after ≡ None
+    → IsTrue (only_bridges_lead after) → after ≡ again
 
 -- A board whose roots rise is single where each of them alone is.
 abbrev pub RootsAreSingle : Type 0

@@ -1,6 +1,6 @@
 //! Laws of numbering. These functions do nothing: each contract is a law.
 
-ghost use Rattle.number_spec.specs.NumberingLaws.{WalkIsInOrder, SameIsWalkable, NumberedIsSingle, RoomyIsSingle, RootsAreSingle, NoRoomIsInOrder, FoundAnswersOnce, RoomyAnswersOnce};
+ghost use Rattle.number_spec.specs.NumberingLaws.{WalkIsInOrder, SameIsWalkable, NumberedIsSingle, RoomyIsSingle, RootsAreSingle, NoRoomIsInOrder, FoundAnswersOnce, RoomyAnswersOnce, NumbersAreOne, AllNumbersAreOne};
 
 /// On a board whose bridges are numbered in the order of the walk each access is answered once at most,
 /// and also where numbers are kept free, or there are several roots.
@@ -15,6 +15,12 @@ pub fn bridges_are_numbered_in_order()
     ensures walk { WalkIsInOrder }
     ensures same { SameIsWalkable }
     ensures order { NoRoomIsInOrder }
+{}
+
+/// The numbers of a board hang on its nodes alone, and not on the numbers that were there before.
+pub fn numbers_are_determined()
+    ensures reached { NumbersAreOne }
+    ensures all { AllNumbersAreOne }
 {}
 
 /// On a numbered board each node that the walk finds answers exactly one access.
