@@ -11,4 +11,5 @@ pub mod Opening
 pub mod Walking
 pub mod RootView
 pub mod Roots
+pub mod Again
 pub mod Few

@@ -5,4 +5,5 @@ pub mod Walked
 pub mod Hushing
 pub mod Walking
 pub mod Answer
+pub mod Again
 pub mod Few

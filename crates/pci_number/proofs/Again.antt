@@ -1,0 +1,89 @@
+-- A second numbering answers and leaves the same.
+use Rattle.std.proofs.Common.{◌≡◌, ℕ, suc, inl, inr, [], ◌∷◌, true, ◌||◌, refl, sym, ◌∙◌, ap, subst, length}
+use Rattle.std.specs.Bool.{nat_le, nat_lt, ◌==◌, if◌then◌else◌}
+use Rattle.std.specs.List.{filter, list_all}
+use Rattle.std.proofs.lemmas.Bool.{and_parts, eqb-true, eq-eqb, cases_Bool}
+use Rattle.pci_spec.specs.Header.{secondary_bus, subordinate_bus}
+use Rattle.number_spec.specs.Board.{Nodes, NoMore, Node, Board}
+use Rattle.number_spec.specs.Access.{nodes_behind, with_nodes}
+use Rattle.number_spec.specs.Walk.{has_bus}
+use Rattle.number_spec.specs.Numbered.{without_numbers}
+use Rattle.number_spec.specs.Room.{last_behind}
+use Rattle.number_spec.specs.NoBus.{first_without}
+use Rattle.number_spec.specs.Ready.{IsReady}
+use Rattle.number_spec.specs.Reached.{reached}
+use Rattle.number_spec.proofs.Kept.{same_walk}
+use Rattle.number_spec.proofs.Same.{numbers_are_one, all_numbers_are_one}
+use Rattle.pci_number.specs.Answer.{named_by, highest_of, IsAnswer}
+use Rattle.pci_number.specs.Again.{IsStanding, NumbersStand}
+use Rattle.pci_number.specs.declared.number.Numbering.{Numbering}
+use Rattle.pci_number.specs.declared.number.Numbering.TheVariants.{Numbered, NoBus}
+use Rattle.pci_number.proofs.RootView.{same_nodes}
+
+-- ---- a board that may be numbered may be so with other numbers
+
+count_stays : (root : ℕ) (nodes : Nodes) (board : Board) → length (filter (λ other. other.number == root) (with_nodes board root nodes)) ≡ length (filter (λ other. other.number == root) board)
+count_stays root nodes [] = refl
+count_stays root nodes (r ∷ roots) = elim (cases_Bool (r.number == root)) [
+  | inl own ↦ let same : (root == root) ≡ true = eq-eqb root root refl in rw (own, same) (ap suc (count_stays root nodes roots))
+  | inr other ↦ rw (other, other) (count_stays root nodes roots)
+]
+
+apart_stays : (root last : ℕ) (nodes : Nodes) (board : Board) → list_all (λ other. nat_le other.number root || nat_lt last other.number) board ≡ true → list_all (λ other. nat_le other.number root || nat_lt last other.number) (with_nodes board root nodes) ≡ true
+apart_stays root last nodes [] apart = refl
+apart_stays root last nodes (r ∷ roots) apart =
+    let parts = and_parts (nat_le r.number root || nat_lt last r.number) (list_all (λ other. nat_le other.number root || nat_lt last other.number) roots) apart in
+    let rest = apart_stays root last nodes roots parts.1 in
+    elim (cases_Bool (r.number == root)) [
+      | inl own ↦
+          let first : (nat_le root root || nat_lt last root) ≡ true = subst (λ n. (nat_le n root || nat_lt last n) ≡ true) (eqb-true r.number root own) parts.0 in
+          rw (own, first) rest
+      | inr other ↦ let first = parts.0 in rw (other, first) rest
+    ]
+
+ready_stays : (before after : Board) (root last : ℕ) → IsReady before root last → after ≡ with_nodes before root (nodes_behind after root) → without_numbers (nodes_behind before root) ≡ without_numbers (nodes_behind after root) → IsReady after root last
+ready_stays before after root last ready others same = record {
+  one = ap (λ b. length (filter (λ other. other.number == root) b)) others ∙ count_stays root (nodes_behind after root) before ∙ ready.one;
+  apart = subst (λ b. list_all (λ other. nat_le other.number root || nat_lt last other.number) b ≡ true) (sym others) (apart_stays root last (nodes_behind after root) before ready.apart);
+  walkable = sym (same_walk (nodes_behind before root) (nodes_behind after root) same) ∙ ready.walkable;
+}
+
+-- ---- what is answered hangs on what the walk comes to
+
+first_reached : (bus : ℕ) (nodes : Nodes) → first_without bus (reached nodes) ≡ first_without bus nodes
+first_reached bus NoMore = refl
+first_reached bus (Node d f image behind others) = elim (cases_Bool (has_bus image)) [
+  | inl leads ↦ rw (leads, first_reached (secondary_bus image) behind, first_reached bus others) refl
+  | inr none ↦ rw (none, first_reached bus others) refl
+]
+
+last_reached : (bus : ℕ) (nodes : Nodes) → last_behind bus (reached nodes) ≡ last_behind bus nodes
+last_reached bus NoMore = refl
+last_reached bus (Node d f image behind others) = last_reached (if has_bus image then subordinate_bus image else bus) others
+
+same_numbering : (a b : Numbering) → named_by a ≡ named_by b → highest_of a ≡ highest_of b → a ≡ b
+same_numbering (Numbered n) (Numbered m) named highest = ap Numbered highest
+same_numbering (Numbered n) (NoBus slot m) named highest = absurd (cc named)
+same_numbering (NoBus slot n) (Numbered m) named highest = absurd (cc named)
+same_numbering (NoBus slot n) (NoBus other m) named highest = cc
+
+stands : (root last : ℕ) (before after again : Board) (first second : Numbering) → IsReady after root last → IsAnswer before root last first after → IsAnswer after root last second again → IsStanding root first after second again
+stands root last before after again first second ready a b =
+    let nodes = nodes_behind after root in
+    let more = nodes_behind again root in
+    let one = numbers_are_one root last (nodes_behind before root) nodes nodes more a.numbered.same a.numbered b.numbered in
+    record {
+      answer = same_numbering second first
+          (b.without ∙ sym (first_reached root more) ∙ ap (first_without root) (sym one) ∙ first_reached root nodes ∙ sym a.without)
+          (b.highest ∙ sym (last_reached root more) ∙ ap (last_behind root) (sym one) ∙ last_reached root nodes ∙ sym a.highest);
+      reached = sym one;
+      all = λ none lead.
+          let same = all_numbers_are_one root last (nodes_behind before root) nodes nodes more a.numbered.same a.numbered b.numbered (sym a.without ∙ none) lead in
+          b.others ∙ ap (with_nodes after root) (sym same) ∙ same_nodes root after ready.one;
+    }
+
+pub numbers_stand : NumbersStand
+numbers_stand root last before after again first second ready first_answers second_answers =
+    let a = first_answers ready in
+    let ready_after = ready_stays before after root last ready a.others a.numbered.same in
+    stands root last before after again first second ready_after a (second_answers ready_after)
