@@ -13,11 +13,11 @@ use Rattle.number_spec.proofs.Single.{goes_alone, IsRanged, low_to_high}
 
 -- ---- places in lists that are made of those of the first node and of the rest
 
-chosen : (b : Bool) (xs ys : List Place) (place : Place) → Contains (if b then xs else ys) place → ((b ≡ true) × Contains xs place) ⊎ ((b ≡ false) × Contains ys place)
+pub chosen : (b : Bool) (xs ys : List Place) (place : Place) → Contains (if b then xs else ys) place → ((b ≡ true) × Contains xs place) ⊎ ((b ≡ false) × Contains ys place)
 chosen true xs ys place has = inl (refl, has)
 chosen false xs ys place has = inr (refl, has)
 
-in_rest : (xs rest : List Place) (place : Place) → (Contains xs (Next place) → ⊥) → Contains (xs ++ map Next rest) (Next place) → Contains rest place
+pub in_rest : (xs rest : List Place) (place : Place) → (Contains xs (Next place) → ⊥) → Contains (xs ++ map Next rest) (Next place) → Contains rest place
 in_rest xs rest place not_first has = elim (Contains-append_cases xs (map Next rest) (Next place) has) [
   | inl first ↦ absurd (not_first first)
   | inr later ↦ let made = in_map_to Next rest (Next place) later in
@@ -25,13 +25,13 @@ in_rest xs rest place not_first has = elim (Contains-append_cases xs (map Next r
       subst (Contains rest) same made.has
 ]
 
-in_first : (xs rest : List Place) (place : Place) → ((q : Place) → Next q ≡ place → ⊥) → Contains (xs ++ map Next rest) place → Contains xs place
+pub in_first : (xs rest : List Place) (place : Place) → ((q : Place) → Next q ≡ place → ⊥) → Contains (xs ++ map Next rest) place → Contains xs place
 in_first xs rest place not_later has = elim (Contains-append_cases xs (map Next rest) place has) [
   | inl first ↦ first
   | inr later ↦ let made = in_map_to Next rest place later in absurd (not_later made.from made.is)
 ]
 
-behind_in : (xs : List Place) (place : Place) → Contains (map Behind xs) (Behind place) → Contains xs place
+pub behind_in : (xs : List Place) (place : Place) → Contains (map Behind xs) (Behind place) → Contains xs place
 behind_in xs place has = let made = in_map_to Behind xs (Behind place) has in
     let same : made.from ≡ place = cc made.is in
     subst (Contains xs) same made.has
@@ -130,11 +130,11 @@ further_on image behind place access bridge above upto has =
     rw (not_there, passes) has
 
 -- what a walk finds at the first node, and after it
-abbrev first_found : Nodes → ℕ → ℕ → List ℕ → Nodes → List Place
+abbrev pub first_found : Nodes → ℕ → ℕ → List ℕ → Nodes → List Place
 first_found all d f image behind =
     if is_found all d f then Here ∷ map Behind (if has_bus image then walk behind behind else []) else []
 
-no_next_first : (all : Nodes) (d f : ℕ) (image : List ℕ) (behind : Nodes) (place : Place) → Contains (first_found all d f image behind) (Next place) → ⊥
+pub no_next_first : (all : Nodes) (d f : ℕ) (image : List ℕ) (behind : Nodes) (place : Place) → Contains (first_found all d f image behind) (Next place) → ⊥
 no_next_first all d f image behind place has = elim (chosen (is_found all d f) (Here ∷ map Behind (if has_bus image then walk behind behind else [])) [] (Next place) has) [
   | inl there ↦ elim (in_cons_cases Here (map Behind (if has_bus image then walk behind behind else [])) (Next place) there.1) [
     | inl same ↦ cc same
@@ -143,7 +143,7 @@ no_next_first all d f image behind place has = elim (chosen (is_found all d f) (
   | inr none ↦ in_nil (Next place) none.1
 ]
 
-walked_behind : (all : Nodes) (d f : ℕ) (image : List ℕ) (behind : Nodes) (place : Place) → Contains (first_found all d f image behind) (Behind place) → (has_bus image ≡ true) × Contains (walk behind behind) place
+pub walked_behind : (all : Nodes) (d f : ℕ) (image : List ℕ) (behind : Nodes) (place : Place) → Contains (first_found all d f image behind) (Behind place) → (has_bus image ≡ true) × Contains (walk behind behind) place
 walked_behind all d f image behind place has = elim (chosen (is_found all d f) (Here ∷ map Behind (if has_bus image then walk behind behind else [])) [] (Behind place) has) [
   | inl there ↦ elim (in_cons_cases Here (map Behind (if has_bus image then walk behind behind else [])) (Behind place) there.1) [
     | inl same ↦ cc same

@@ -6,4 +6,5 @@ pub mod Walked
 pub mod Roots
 pub mod Kept
 pub mod Same
+pub mod Listed
 pub mod Examples

@@ -77,22 +77,22 @@ closed_range bus image behind none range =
     let parts = and_parts (primary_bus image == 0) (subordinate_bus image == 0) zeros in
     record { primary = eqb-true (primary_bus image) 0 parts.0; subordinate = eqb-true (subordinate_bus image) 0 parts.1 }
 
-record Opened (bus : ℕ) (image : List ℕ) (behind : Nodes) : Type 0 where
-  primary : primary_bus image ≡ bus
-  subordinate : subordinate_bus image ≡ greatest (secondary_bus image) (secondaries behind)
+pub record Opened (bus : ℕ) (image : List ℕ) (behind : Nodes) : Type 0 where
+  pub primary : primary_bus image ≡ bus
+  pub subordinate : subordinate_bus image ≡ greatest (secondary_bus image) (secondaries behind)
 
-opened_range : (bus : ℕ) (image : List ℕ) (behind : Nodes) → has_bus image ≡ true → has_range bus image behind ≡ true → Opened bus image behind
+pub opened_range : (bus : ℕ) (image : List ℕ) (behind : Nodes) → has_bus image ≡ true → has_range bus image behind ≡ true → Opened bus image behind
 opened_range bus image behind leads range =
     let shows : (primary_bus image == bus && subordinate_bus image == greatest (secondary_bus image) (secondaries behind)) ≡ true = rw leads at range in
     let parts = and_parts (primary_bus image == bus) (subordinate_bus image == greatest (secondary_bus image) (secondaries behind)) shows in
     record { primary = eqb-true (primary_bus image) bus parts.0; subordinate = eqb-true (subordinate_bus image) (greatest (secondary_bus image) (secondaries behind)) parts.1 }
 
-record Ranges (bus : ℕ) (image : List ℕ) (behind : Nodes) (others : Nodes) : Type 0 where
-  own : is_type_1 image ≡ true → has_range bus image behind ≡ true
-  inner : has_bus image ≡ true → have_ranges (secondary_bus image) behind ≡ true
-  outer : have_ranges bus others ≡ true
+pub record Ranges (bus : ℕ) (image : List ℕ) (behind : Nodes) (others : Nodes) : Type 0 where
+  pub own : is_type_1 image ≡ true → has_range bus image behind ≡ true
+  pub inner : has_bus image ≡ true → have_ranges (secondary_bus image) behind ≡ true
+  pub outer : have_ranges bus others ≡ true
 
-ranges_of : (bus d f : ℕ) (image : List ℕ) (behind others : Nodes) → have_ranges bus (Node d f image behind others) ≡ true → Ranges bus image behind others
+pub ranges_of : (bus d f : ℕ) (image : List ℕ) (behind others : Nodes) → have_ranges bus (Node d f image behind others) ≡ true → Ranges bus image behind others
 ranges_of bus d f image behind others ranges =
     let parts = and_parts ((not (is_type_1 image) || has_range bus image behind) && (not (has_bus image) || have_ranges (secondary_bus image) behind)) (have_ranges bus others) ranges in
     let first = and_parts (not (is_type_1 image) || has_range bus image behind) (not (has_bus image) || have_ranges (secondary_bus image) behind) parts.0 in
@@ -197,7 +197,7 @@ numbers_are_one root last first second after again alike numbered numbered_again
 
 -- ---- where all nodes are reached
 
-both_none : (a b : Option Slot) → first_of a b ≡ None → (a ≡ None) × (b ≡ None)
+pub both_none : (a b : Option Slot) → first_of a b ≡ None → (a ≡ None) × (b ≡ None)
 both_none (Some s) b is = absurd (cc is)
 both_none None b is = (refl, is)
 
@@ -209,7 +209,7 @@ no_nodes : (nodes : Nodes) → without_numbers nodes ≡ NoMore → nodes ≡ No
 no_nodes NoMore is = refl
 no_nodes (Node d f image behind others) is = absurd (cc is)
 
-first_device : (bus d f : ℕ) (image : List ℕ) (behind others : Nodes) → is_type_1 image ≡ false → first_without bus (Node d f image behind others) ≡ first_without bus others
+pub first_device : (bus d f : ℕ) (image : List ℕ) (behind others : Nodes) → is_type_1 image ≡ false → first_without bus (Node d f image behind others) ≡ first_without bus others
 first_device bus d f image behind others plain = rw plain refl
 
 all_reached : (bus : ℕ) (nodes : Nodes) → first_without bus nodes ≡ None → only_bridges_lead nodes ≡ true → reached nodes ≡ nodes

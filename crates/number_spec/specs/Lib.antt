@@ -4,6 +4,7 @@ pub mod Walk
 pub mod Numbered
 pub mod Room
 pub mod Reached
+pub mod Listed
 pub mod NoBus
 pub mod Ready
 pub mod NumberingLaws

@@ -4,11 +4,15 @@ use Rattle.std.specs.List.{Contains, filter}
 use Rattle.std.specs.List.Sorted.{IsStrictlyIncreasing}
 use Rattle.pci_spec.specs.Slot.{Slot}
 use Rattle.pci_spec.specs.Header.{secondary_bus}
+use Rattle.pci_spec.specs.System.{System}
+use Rattle.pci_spec.specs.Bus.{IsNested}
+use Rattle.pci_spec.specs.NestingLaws.{HasNoBusFault}
 use Rattle.number_spec.specs.Board.{Nodes, Root, Board, Place, is_type_1, image_at, access_of, answers, IsSingle}
 use Rattle.number_spec.specs.Walk.{is_rising, is_walkable, walk}
 use Rattle.number_spec.specs.Numbered.{without_numbers, secondaries, IsNumbered}
 use Rattle.number_spec.specs.Room.{IsNumberedWithRoom}
 use Rattle.number_spec.specs.NoBus.{first_without}
+use Rattle.number_spec.specs.Listed.{IsListing}
 use Rattle.number_spec.specs.Reached.{reached, only_bridges_lead}
 
 -- The bridges whose numbers are in order are those that the walk comes to, where it finds all nodes.
@@ -60,6 +64,18 @@ AllNumbersAreOne =
     → without_numbers first ≡ without_numbers second → IsNumbered root last first after
     → IsNumbered root last second again → first_without root after ≡ None
     → IsTrue (only_bridges_lead after) → after ≡ again
+
+-- Where each bridge has a bus, the bus ranges of the functions that a walk lists nest, with this root.
+abbrev pub ListedIsNested : Type 0
+ListedIsNested =
+    (root last : ℕ) (before after : Nodes) (s : System) → IsNumbered root last before after
+    → first_without root after ≡ None → IsListing root after s → IsNested (root ∷ []) s
+
+-- So none of them has a bus-range fault, and none is an orphan.
+abbrev pub ListedHasNoBusFault : Type 0
+ListedHasNoBusFault =
+    (root last : ℕ) (before after : Nodes) (s : System) → IsNumbered root last before after
+    → first_without root after ≡ None → IsListing root after s → HasNoBusFault (root ∷ []) s
 
 -- A board whose roots rise is single where each of them alone is.
 abbrev pub RootsAreSingle : Type 0

@@ -1,6 +1,6 @@
 //! Laws of numbering. These functions do nothing: each contract is a law.
 
-ghost use Rattle.number_spec.specs.NumberingLaws.{WalkIsInOrder, SameIsWalkable, NumberedIsSingle, RoomyIsSingle, RootsAreSingle, NoRoomIsInOrder, FoundAnswersOnce, RoomyAnswersOnce, NumbersAreOne, AllNumbersAreOne};
+ghost use Rattle.number_spec.specs.NumberingLaws.{WalkIsInOrder, SameIsWalkable, NumberedIsSingle, RoomyIsSingle, RootsAreSingle, NoRoomIsInOrder, FoundAnswersOnce, RoomyAnswersOnce, NumbersAreOne, AllNumbersAreOne, ListedIsNested, ListedHasNoBusFault};
 
 /// On a board whose bridges are numbered in the order of the walk each access is answered once at most,
 /// and also where numbers are kept free, or there are several roots.
@@ -21,6 +21,12 @@ pub fn bridges_are_numbered_in_order()
 pub fn numbers_are_determined()
     ensures reached { NumbersAreOne }
     ensures all { AllNumbersAreOne }
+{}
+
+/// What a walk of a numbered board lists has bus ranges that nest, and none of the faults of bus numbers.
+pub fn listed_functions_nest()
+    ensures nested { ListedIsNested }
+    ensures no_fault { ListedHasNoBusFault }
 {}
 
 /// On a numbered board each node that the walk finds answers exactly one access.
