@@ -1,21 +1,23 @@
 -- What a walk over a numbered board lists has bus ranges that nest.
-use Rattle.std.proofs.Common.{◌≡◌, ◌≢◌, ℕ, ◌+◌, ◌<◌, ◌≤◌, ◌⊎◌, inl, inr, List, [], ◌∷◌, true, false, ◌&&◌, not, arith, refl, sym, ◌∙◌, ap, subst, length, map, None}
+use Rattle.std.proofs.Common.{◌≡◌, ◌≢◌, ℕ, ◌+◌, ◌<◌, ◌≤◌, ◌⊎◌, inl, inr, List, [], ◌∷◌, true, false, ◌&&◌, not, arith, refl, sym, ◌∙◌, ap, subst, length, map, max, None}
 use Rattle.std.specs.Bool.{nat_le, nat_lt, ◌==◌, if◌then◌else◌}
-use Rattle.std.specs.List.{Contains}
-use Rattle.std.proofs.lemmas.Bool.{and_parts, and_from, or_left, or_right, or_parts, both_ways, eqb-false, eq-eqb, ne_eqb, le-leb, leb-true, lt-ltb, not-true, cases_Bool, cases_lt, false_from_ne_true}
+use Rattle.std.specs.List.{AllPairs, Contains}
+use Rattle.std.proofs.lemmas.Bool.{and_parts, and_from, or_left, or_right, both_ways, eqb-false, eq-eqb, ne_eqb, le-leb, leb-true, lt-ltb, not-true, cases_Bool, cases_lt, false_from_ne_true}
+use Rattle.std.proofs.lemmas.List.Kept.{AllPairs-from_increasing}
 use Rattle.std.proofs.lemmas.List.Elements.{Contains-append_left, Contains-append_right}
 use Rattle.pci_spec.specs.Slot.{Slot}
 use Rattle.pci_spec.specs.Header.{primary_bus, secondary_bus, subordinate_bus}
 use Rattle.pci_spec.specs.System.{Function, System, is_bridge}
 use Rattle.pci_spec.specs.Bus.{secondary, subordinate, is_behind, are_apart, is_inside, is_strictly_inside, is_root, has_bus_order, has_no_root_behind, LeadsTo, IsNested}
-use Rattle.pci_spec.proofs.Members.{in_nil, in_head, in_tail, in_map_from}
+use Rattle.pci_spec.specs.NestingLaws.{HasNoBusFault}
+use Rattle.pci_spec.proofs.Members.{in_nil, in_cons_cases, in_head, in_tail, in_map_to, in_map_from, pairs_head, pairs_tail}
+use Rattle.pci_spec.proofs.BusRanges.{all_from, root_means}
 use Rattle.pci_spec.proofs.Nesting.{no_bus_fault_where_nested}
-use Rattle.number_spec.specs.Board.{Nodes, NoMore, Node, Place, Here, Behind, Next, is_type_1, access_of, image_at}
+use Rattle.number_spec.specs.Board.{Nodes, NoMore, Node, Root, Board, Place, Here, Behind, Next, is_type_1, access_of, image_at}
 use Rattle.number_spec.specs.Walk.{has_bus, is_found, walk}
-use Rattle.number_spec.specs.Numbered.{secondaries, have_ranges}
+use Rattle.number_spec.specs.Numbered.{secondaries, have_ranges, IsNumbered}
 use Rattle.number_spec.specs.NoBus.{first_of, first_without}
-use Rattle.number_spec.specs.Listed.{IsOf, IsListing}
-use Rattle.number_spec.specs.NumberingLaws.{ListedIsNested, ListedHasNoBusFault}
+use Rattle.number_spec.specs.Listed.{IsOf, IsListing, HasNumbers}
 use Rattle.number_spec.proofs.Single.{IsRanged}
 use Rattle.number_spec.proofs.InOrder.{top, run_from, ranged}
 use Rattle.number_spec.proofs.Found.{chosen, in_rest, in_first, first_found, no_next_first, walked_behind}
@@ -122,6 +124,24 @@ no_room low high bus at (Node d f image behind others) none is = elim is [
   | inl plain ↦ inl (plain.0, no_room low high bus at others none plain.1)
   | inr leads ↦ absurd (omega (arith, leads.2, leads.3, rising (subordinate_bus image) high bus others leads.5, none))
 ]
+
+wide : (low high end bus : ℕ) (nodes : Nodes) → high ≤ end → IsFull low high bus nodes → IsFull low end bus nodes
+wide low high end bus NoMore more is = omega (arith, more, is)
+wide low high end bus (Node d f image behind others) more is = elim is [
+  | inl plain ↦ inl (plain.0, wide low high end bus others more plain.1)
+  | inr leads ↦ inr (leads.0, leads.1, leads.2, leads.3, leads.4, wide (subordinate_bus image) high end bus others more leads.5)
+]
+
+-- behind a root, from its number on
+full_root : (root last : ℕ) (nodes : Nodes) → IsNumbered root last nodes nodes → first_without root nodes ≡ None → IsFull root (max root last) root nodes
+full_root root last nodes numbered none =
+    let high = top root last (0 + length (secondaries nodes)) in
+    let is = ranged root last 0 root nodes (secondaries nodes) refl (run_from root last 0 (secondaries nodes) numbered.order) numbered.ranges in
+    let all = full (top root last 0) high root nodes is numbered.ranges none in
+    elim (cases_lt last root) [
+      | inl above ↦ wide root root (max root last) root nodes (omega arith) (no_room (top root last 0) high root root nodes (omega (arith, above)) all)
+      | inr below ↦ wide root high (max root last) root nodes (omega arith) (subst (λ n. IsFull n high root nodes) (omega (arith, below)) all)
+    ]
 
 -- ---- where a node is
 
@@ -323,36 +343,98 @@ strictly b c s u =
     let inside : is_inside b c ≡ true = and_from (nat_le (secondary c) (secondary b)) (nat_le (subordinate b) (subordinate c)) (le-leb (secondary c) (secondary b) (omega (arith, s))) (le-leb (subordinate b) (subordinate c) u) in
     rw (inside, differ) refl
 
-module _ (root high : ℕ) (nodes : Nodes) (s : System) (is : IsFull root high root nodes) (lists : IsListing root nodes s) where
-  bridge_at : (b : Function) (p : Place) → IsOf root nodes p b → is_bridge b ≡ true → is_type_1 (image_at nodes p) ≡ true
-  bridge_at b p it one = ap is_type_1 (sym it.image) ∙ one
+one_root : (board : Board) → AllPairs (λ m n. m < n) (map (λ root. root.number) board) → (r q : Root) → Contains board r → Contains board q → r.number ≡ q.number → r ≡ q
+one_root [] pairs r q has_r has_q same = absurd (in_nil r has_r)
+one_root (x ∷ xs) pairs r q has_r has_q same =
+    let above = λ (y : Root) (has : Contains xs y). pairs_head (λ m n. m < n) x.number (map (λ root. root.number) xs) y.number pairs (in_map_from (λ (root : Root). root.number) xs y has) in
+    elim (in_cons_cases x xs r has_r) [
+      | inl first ↦ elim (in_cons_cases x xs q has_q) [
+        | inl second ↦ sym first ∙ second
+        | inr later ↦ absurd (omega (arith, above q later, ap (λ (root : Root). root.number) first, same))
+      ]
+      | inr early ↦ elim (in_cons_cases x xs q has_q) [
+        | inl second ↦ absurd (omega (arith, above r early, ap (λ (root : Root). root.number) second, same))
+        | inr later ↦ one_root xs (pairs_tail (λ m n. m < n) x.number (map (λ root. root.number) xs) pairs) r q early later same
+      ]
+    ]
 
-  shown_by : (b : Function) → Contains s b → is_bridge b ≡ true → Shown root high b.slot b.image
-  shown_by b has one =
-      let x = lists.each b has in
-      let numbers = shown root high root nodes nodes x.0 (omega arith) is x.1 (bridge_at b x.0 x.2 one) in
-      subst (λ slot. Shown root high slot b.image) (sym x.2.slot) (subst (Shown root high (slot_at root nodes x.0)) (sym x.2.image) numbers)
+-- a function that is listed, and where its node is
+record Stands (root : Root) (f : Function) : Type 0 where
+  place : Place
+  is : IsOf root place f
+
+module _ (last : ℕ → ℕ) (board : Board) (s : System) (numbers : HasNumbers last board) (lists : IsListing board s) where
+  abbrev roots : List ℕ
+  roots = map (λ root. root.number) board
+
+  abbrev high : Root → ℕ
+  high root = max root.number (last root.number)
+
+  is_full : (root : Root) → Contains board root → IsFull root.number (high root) root.number root.nodes
+  is_full root has = full_root root.number (last root.number) root.nodes (numbers.numbered root has) (numbers.none root has)
+
+  bridge_at : (root : Root) (b : Function) (p : Place) → IsOf root p b → is_bridge b ≡ true → is_type_1 (image_at root.nodes p) ≡ true
+  bridge_at root b p it one = ap is_type_1 (sym it.image) ∙ one
+
+  shown_by : (root : Root) → Contains board root → (b : Function) → Stands root b → is_bridge b ≡ true → Shown root.number (high root) b.slot b.image
+  shown_by root there b x one =
+      let n = shown root.number (high root) root.number root.nodes root.nodes x.place (omega arith) (is_full root there) x.is.found (bridge_at root b x.place x.is one) in
+      subst (λ slot. Shown root.number (high root) slot b.image) (sym x.is.slot) (subst (Shown root.number (high root) (slot_at root.number root.nodes x.place)) (sym x.is.image) n)
+
+  within_it : (root : Root) → Contains board root → (b : Function) → Stands root b → IsWithin root.number (high root) root.number b.slot.bus
+  within_it root there b x = subst (λ slot. IsWithin root.number (high root) root.number slot.bus) (sym x.is.slot) (within root.number (high root) root.number root.nodes root.nodes x.place (is_full root there) x.is.found)
+
+  -- behind one root
+  two_of_one : (root : Root) → Contains board root → (b c : Function) → Stands root b → Stands root c → is_bridge b ≡ true → is_bridge c ≡ true → Two b.slot b.image c.slot c.image
+  two_of_one root there b c x y one other =
+      let p = slot_at root.number root.nodes x.place in
+      let q = slot_at root.number root.nodes y.place in
+      let t = two root.number (high root) root.number root.nodes root.nodes x.place y.place (omega arith) (is_full root there) x.is.found y.is.found (bridge_at root b x.place x.is one) (bridge_at root c y.place y.is other) in
+      subst (λ slot. Two slot b.image c.slot c.image) (sym x.is.slot)
+      (subst (λ image. Two p image c.slot c.image) (sym x.is.image)
+      (subst (λ slot. Two p (image_at root.nodes x.place) slot c.image) (sym y.is.slot)
+      (subst (λ image. Two p (image_at root.nodes x.place) q image) (sym y.is.image) t)))
+
+  -- behind a root and behind a later one
+  two_of_two : (r q : Root) → Contains board r → Contains board q → r.number < q.number → (b c : Function) → Stands r b → Stands q c → is_bridge b ≡ true → is_bridge c ≡ true → Two b.slot b.image c.slot c.image
+  two_of_two r q has_r has_q less b c x y one other =
+      let n = shown_by r has_r b x one in
+      let m = shown_by q has_q c y other in
+      let beyond = numbers.apart r q has_r has_q less in
+      Before (omega (arith, n.upto, m.from, beyond, less)) (omega (arith, n.above, n.order, n.upto, m.from, beyond, less)) (elim (within_it q has_q c y) [
+        | inl own ↦ inr (omega (arith, own, n.upto, beyond, less))
+        | inr there ↦ inr (omega (arith, there.0, n.upto, beyond, less))
+      ])
+
+  shown_at : (b : Function) → Contains s b → is_bridge b ≡ true → (root : Root) × Contains board root × Shown root.number (high root) b.slot b.image
+  shown_at b has one = let x = lists.each b has in (x.0, x.1, shown_by x.0 x.1 b (record { place = x.2; is = x.3 }) one)
 
   two_of : (b c : Function) → Contains s b → Contains s c → is_bridge b ≡ true → is_bridge c ≡ true → Two b.slot b.image c.slot c.image
   two_of b c has_b has_c one other =
       let x = lists.each b has_b in
       let y = lists.each c has_c in
-      let t = two root high root nodes nodes x.0 y.0 (omega arith) is x.1 y.1 (bridge_at b x.0 x.2 one) (bridge_at c y.0 y.2 other) in
-      subst (λ slot. Two slot b.image c.slot c.image) (sym x.2.slot)
-      (subst (λ image. Two (slot_at root nodes x.0) image c.slot c.image) (sym x.2.image)
-      (subst (λ slot. Two (slot_at root nodes x.0) (image_at nodes x.0) slot c.image) (sym y.2.slot)
-      (subst (λ image. Two (slot_at root nodes x.0) (image_at nodes x.0) (slot_at root nodes y.0) image) (sym y.2.image) t)))
+      let at_x : Stands x.0 b = record { place = x.2; is = x.3 } in
+      let at_y : Stands y.0 c = record { place = y.2; is = y.3 } in
+      elim (cases_lt x.0.number y.0.number) [
+        | inl less ↦ two_of_two x.0 y.0 x.1 y.1 less b c at_x at_y one other
+        | inr upto ↦ elim (cases_lt y.0.number x.0.number) [
+          | inl more ↦ turned c.slot c.image b.slot b.image (two_of_two y.0 x.0 y.1 x.1 more c b at_y at_x other one)
+          | inr from ↦
+              let same = one_root board (AllPairs-from_increasing roots numbers.rising) y.0 x.0 y.1 x.1 (omega (arith, upto, from)) in
+              two_of_one x.0 x.1 b c at_x (subst (λ root. Stands root c) same at_y) one other
+        ]
+      ]
 
   in_order : (b : Function) → Contains s b → is_bridge b ≡ true → has_bus_order b ≡ true
   in_order b has one =
-      let n = shown_by b has one in
+      let n = (shown_at b has one).2 in
       and_from (primary_bus b.image == b.slot.bus && nat_lt b.slot.bus (secondary b)) (nat_le (secondary b) (subordinate b))
       (and_from (primary_bus b.image == b.slot.bus) (nat_lt b.slot.bus (secondary b)) (eq-eqb (primary_bus b.image) b.slot.bus n.primary) (lt-ltb b.slot.bus (secondary b) n.above)) (le-leb (secondary b) (subordinate b) n.order)
 
   inside_it : (b c : Function) → Contains s b → Contains s c → is_bridge b ≡ true → is_bridge c ≡ true → is_behind c b.slot.bus ≡ true → is_strictly_inside b c ≡ true
   inside_it b c has_b has_c one other behind =
-      let n = shown_by b has_b one in
-      let m = shown_by c has_c other in
+      let n = (shown_at b has_b one).2 in
+      let m = (shown_at c has_c other).2 in
       let parts = and_parts (nat_le (secondary c) b.slot.bus) (nat_le b.slot.bus (subordinate c)) behind in
       let from = leb-true (secondary c) b.slot.bus parts.0 in
       let upto = leb-true b.slot.bus (subordinate c) parts.1 in
@@ -373,16 +455,25 @@ module _ (root high : ℕ) (nodes : Nodes) (s : System) (is : IsFull root high r
     | After apart own where_it_is ↦ or_right (nat_lt (subordinate b) (secondary c)) (nat_lt (subordinate c) (secondary b)) (lt-ltb (subordinate c) (secondary b) apart)
   ]
 
-  clear_of : (b : Function) → Contains s b → is_bridge b ≡ true → has_no_root_behind (root ∷ []) b ≡ true
+  clear_of : (b : Function) → Contains s b → is_bridge b ≡ true → has_no_root_behind roots b ≡ true
   clear_of b has one =
-      let n = shown_by b has one in
-      let outside : is_behind b root ≡ false = false_from_ne_true (is_behind b root) (λ behind. omega (arith, leb-true (secondary b) root (and_parts (nat_le (secondary b) root) (nat_le root (subordinate b)) behind).0, n.from)) in
-      rw outside refl
+      let x = shown_at b has one in
+      all_from (λ root. not (is_behind b root)) roots (λ number has_number.
+      let made = in_map_to (λ (root : Root). root.number) board number has_number in
+      let outside : is_behind b number ≡ false = false_from_ne_true (is_behind b number) (λ behind.
+      let parts = and_parts (nat_le (secondary b) number) (nat_le number (subordinate b)) behind in
+      let from = leb-true (secondary b) number parts.0 in
+      let upto = leb-true number (subordinate b) parts.1 in
+      elim (cases_lt x.0.number number) [
+        | inl less ↦ let beyond = numbers.apart x.0 made.from x.1 made.has (omega (arith, less, made.is)) in omega (arith, upto, x.2.upto, beyond, made.is, less)
+        | inr more ↦ omega (arith, from, x.2.from, more)
+      ]) in
+      ap not outside)
 
   only_one : (b c : Function) → Contains s b → Contains s c → is_bridge b ≡ true → is_bridge c ≡ true → secondary b ≡ secondary c → c.slot ≡ b.slot
   only_one b c has_b has_c one other same =
-      let n = shown_by b has_b one in
-      let m = shown_by c has_c other in
+      let n = (shown_at b has_b one).2 in
+      let m = (shown_at c has_c other).2 in
       elim (two_of b c has_b has_c one other) [
         | Same is_it ↦ sym is_it
         | Within a e s u ↦ absurd (omega (arith, s, same))
@@ -391,33 +482,24 @@ module _ (root high : ℕ) (nodes : Nodes) (s : System) (is : IsFull root high r
         | After apart own where_it_is ↦ absurd (omega (arith, apart, same, m.order))
       ]
 
-  led_to : (f : Function) → Contains s f → is_root (root ∷ []) f.slot.bus ≡ false → (b : Function) × LeadsTo s b f.slot.bus × ((c : Function) → LeadsTo s c f.slot.bus → c.slot ≡ b.slot)
+  led_to : (f : Function) → Contains s f → is_root roots f.slot.bus ≡ false → (b : Function) × LeadsTo s b f.slot.bus × ((c : Function) → LeadsTo s c f.slot.bus → c.slot ≡ b.slot)
   led_to f has no_root =
       let x = lists.each f has in
-      let not_own : (root == f.slot.bus) ≡ false = (or_parts (root == f.slot.bus) false no_root).0 in
-      let at : f.slot.bus ≡ (slot_at root nodes x.0).bus = ap (λ (slot : Slot). slot.bus) x.2.slot in
-      elim (parent root nodes nodes x.0 x.1) [
-        | inl own ↦ absurd (eqb-false root f.slot.bus not_own (sym (at ∙ own)))
+      let root = x.0 in
+      let at : f.slot.bus ≡ (slot_at root.number root.nodes x.2).bus = ap (λ (slot : Slot). slot.bus) x.3.slot in
+      elim (parent root.number root.nodes root.nodes x.2 x.3.found) [
+        | inl own ↦
+            let listed : Contains roots f.slot.bus = subst (Contains roots) (sym (at ∙ own)) (in_map_from (λ (r : Root). r.number) board root x.1) in
+            absurd (both_ways (is_root roots f.slot.bus) no_root ((root_means roots f.slot.bus).1 listed))
         | inr a ↦
-            let y = lists.all a.place a.found in
+            let y = lists.all root x.1 a.place a.found in
             let one : is_bridge y.0 ≡ true = ap is_type_1 y.2.image ∙ a.bridge in
             let leads : secondary y.0 ≡ f.slot.bus = ap secondary_bus y.2.image ∙ a.leads ∙ sym at in
             (y.0, (y.1, one, leads), (λ c to. only_one y.0 c y.1 to.0 one to.1 (leads ∙ sym to.2)))
       ]
 
-  nested : IsNested (root ∷ []) s
-  nested = record { order = in_order; inside = inside_it; apart = apart_from; clear = clear_of; one = led_to }
+  pub listed_is_nested : IsNested roots s
+  listed_is_nested = record { order = in_order; inside = inside_it; apart = apart_from; clear = clear_of; one = led_to }
 
-pub listed_is_nested : ListedIsNested
-listed_is_nested root last before after s numbered none lists =
-    let high = top root last (0 + length (secondaries after)) in
-    let is = ranged root last 0 root after (secondaries after) refl (run_from root last 0 (secondaries after) numbered.order) numbered.ranges in
-    let all = full (top root last 0) high root after is numbered.ranges none in
-    elim (cases_lt last root) [
-      | inl above ↦ nested root root after s (no_room (top root last 0) high root root after (omega (arith, above)) all) lists
-      | inr below ↦ nested root high after s (subst (λ n. IsFull n high root after) (omega (arith, below)) all) lists
-    ]
-
-pub listed_has_no_bus_fault : ListedHasNoBusFault
-listed_has_no_bus_fault root last before after s numbered none lists =
-    no_bus_fault_where_nested (root ∷ []) s (listed_is_nested root last before after s numbered none lists)
+  pub listed_has_no_bus_fault : HasNoBusFault roots s
+  listed_has_no_bus_fault = no_bus_fault_where_nested roots s listed_is_nested

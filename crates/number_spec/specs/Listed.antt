@@ -1,18 +1,34 @@
--- The functions that a walk over a board lists.
-use Rattle.std.specs.Prelude.{◌≡◌, ℕ}
+-- The functions that a walk over a board lists, and a board on which each bridge has its numbers.
+use Rattle.std.specs.Prelude.{◌≡◌, ℕ, ◌<◌, None, map}
 use Rattle.std.specs.List.{Contains}
+use Rattle.std.specs.List.Sorted.{IsStrictlyIncreasing}
 use Rattle.pci_spec.specs.System.{Function, System}
-use Rattle.number_spec.specs.Board.{Nodes, Place, access_of, image_at}
+use Rattle.number_spec.specs.Board.{Root, Board, Place, access_of, image_at}
 use Rattle.number_spec.specs.Walk.{walk}
+use Rattle.number_spec.specs.Numbered.{IsNumbered}
+use Rattle.number_spec.specs.NoBus.{first_without}
 
--- a function is that of a node: it has the slot of the access that the node answers, and its image
-pub record IsOf (root : ℕ) (nodes : Nodes) (place : Place) (f : Function) : Type 0 where
-  pub slot : f.slot ≡ access_of root nodes place
-  pub image : f.image ≡ image_at nodes place
+-- A function is that of a node that the walk finds behind a root: it has the slot of the access that the
+-- node answers, and its image.
+pub record IsOf (root : Root) (place : Place) (f : Function) : Type 0 where
+  pub found : Contains (walk root.nodes root.nodes) place
+  pub slot : f.slot ≡ access_of root.number root.nodes place
+  pub image : f.image ≡ image_at root.nodes place
 
--- These are the functions of the nodes that the walk finds behind a root, in whatever order.
-pub record IsListing (root : ℕ) (nodes : Nodes) (s : System) : Type 0 where
+-- These are the functions of the nodes that the walk finds behind the roots, in whatever order.
+pub record IsListing (board : Board) (s : System) : Type 0 where
   pub each : (f : Function) → Contains s f
-      → (place : Place) × Contains (walk nodes nodes) place × IsOf root nodes place f
-  pub all : (place : Place) → Contains (walk nodes nodes) place
-      → (f : Function) × Contains s f × IsOf root nodes place f
+      → (root : Root) × Contains board root × (place : Place) × IsOf root place f
+  pub all : (root : Root) → Contains board root
+      → (place : Place) → Contains (walk root.nodes root.nodes) place
+      → (f : Function) × Contains s f × IsOf root place f
+
+-- Behind each root each bridge has its numbers, up to a last bus of that root. No root has a bus of another.
+pub record HasNumbers (last : ℕ → ℕ) (board : Board) : Type 0 where
+  pub rising : IsStrictlyIncreasing (map (λ root. root.number) board)
+  pub apart : (root other : Root) → Contains board root → Contains board other
+      → root.number < other.number → last root.number < other.number
+  pub numbered : (root : Root) → Contains board root
+      → IsNumbered root.number (last root.number) root.nodes root.nodes
+  -- no bridge is without a number
+  pub none : (root : Root) → Contains board root → first_without root.number root.nodes ≡ None

@@ -12,7 +12,7 @@ use Rattle.number_spec.specs.Walk.{is_rising, is_walkable, walk}
 use Rattle.number_spec.specs.Numbered.{without_numbers, secondaries, IsNumbered}
 use Rattle.number_spec.specs.Room.{IsNumberedWithRoom}
 use Rattle.number_spec.specs.NoBus.{first_without}
-use Rattle.number_spec.specs.Listed.{IsListing}
+use Rattle.number_spec.specs.Listed.{IsListing, HasNumbers}
 use Rattle.number_spec.specs.Reached.{reached, only_bridges_lead}
 
 -- The bridges whose numbers are in order are those that the walk comes to, where it finds all nodes.
@@ -65,17 +65,18 @@ AllNumbersAreOne =
     → IsNumbered root last second again → first_without root after ≡ None
     → IsTrue (only_bridges_lead after) → after ≡ again
 
--- Where each bridge has a bus, the bus ranges of the functions that a walk lists nest, with this root.
+-- Where each bridge has its numbers, the bus ranges of the functions that a walk lists nest, with the
+-- board's roots.
 abbrev pub ListedIsNested : Type 0
 ListedIsNested =
-    (root last : ℕ) (before after : Nodes) (s : System) → IsNumbered root last before after
-    → first_without root after ≡ None → IsListing root after s → IsNested (root ∷ []) s
+    (last : ℕ → ℕ) (board : Board) (s : System) → HasNumbers last board → IsListing board s
+    → IsNested (map (λ root. root.number) board) s
 
 -- So none of them has a bus-range fault, and none is an orphan.
 abbrev pub ListedHasNoBusFault : Type 0
 ListedHasNoBusFault =
-    (root last : ℕ) (before after : Nodes) (s : System) → IsNumbered root last before after
-    → first_without root after ≡ None → IsListing root after s → HasNoBusFault (root ∷ []) s
+    (last : ℕ → ℕ) (board : Board) (s : System) → HasNumbers last board → IsListing board s
+    → HasNoBusFault (map (λ root. root.number) board) s
 
 -- A board whose roots rise is single where each of them alone is.
 abbrev pub RootsAreSingle : Type 0
