@@ -12,4 +12,5 @@ pub mod Walking
 pub mod RootView
 pub mod Roots
 pub mod Again
+pub mod Left
 pub mod Few

@@ -6,4 +6,5 @@ pub mod Hushing
 pub mod Walking
 pub mod Answer
 pub mod Again
+pub mod Left
 pub mod Few

@@ -2,7 +2,7 @@
 //! space (`port::BoardPort`), depth first in the order of devices and functions (Bridge 1.2, 3.2.5.2 to 3.2.5.4).
 #![tactic(auto)]
 
-pub mod again_laws;
+pub mod board_laws;
 mod hush;
 mod look;
 pub mod number;
