@@ -4,6 +4,7 @@ pub mod Roomy
 pub mod Found
 pub mod Walked
 pub mod Roots
+pub mod Spread
 pub mod Kept
 pub mod Same
 pub mod Listed

@@ -59,16 +59,16 @@ low_to_high low high (Node d f image behind others) ranged = elim ranged [
 ]
 
 -- what answers on the other side of a bridge: what is on its secondary bus, or what is further on, or none
-abbrev other_side : Bool → Bool → List Place → List Place → List Place
+abbrev pub other_side : Bool → Bool → List Place → List Place → List Place
 other_side takes passes here further = if takes then here else if passes then further else []
 
-one_side : (takes passes : Bool) (here further : List Place) → length here ≤ 1 → length further ≤ 1 → length (other_side takes passes here further) ≤ 1
+pub one_side : (takes passes : Bool) (here further : List Place) → length here ≤ 1 → length further ≤ 1 → length (other_side takes passes here further) ≤ 1
 one_side true passes here further one_here one_further = one_here
 one_side false true here further one_here one_further = one_further
 one_side false false here further one_here one_further = omega arith
 
 -- none but those on the other side of the first bridge on a bus, or none but those behind the rest
-first_alone : (first rest : List Place) → length first ≤ 1 → rest ≡ [] → length (map Behind first ++ map Next rest) ≤ 1
+pub first_alone : (first rest : List Place) → length first ≤ 1 → rest ≡ [] → length (map Behind first ++ map Next rest) ≤ 1
 first_alone first rest one none = rw (none, length-append, length-map) (omega arith)
 
 -- no bridge passes on an access outside its range
@@ -132,7 +132,7 @@ goes_alone root access from =
     and_from (nat_le root.number access.bus) _ (le-leb root.number access.bus from) (rw own refl)
 
 -- an access that goes to the one root of a board
-at_one_root : (root : Root) (access : Slot) → (root.number ≤ access.bus → length (at_root root access) ≤ 1) → length (answers (root ∷ []) access) ≤ 1
+pub at_one_root : (root : Root) (access : Slot) → (root.number ≤ access.bus → length (at_root root access) ≤ 1) → length (answers (root ∷ []) access) ≤ 1
 at_one_root root access one = elim (cases_Bool (goes_to (root ∷ []) access.bus root)) [
   | inl goes ↦
       let here = one (leb-true root.number access.bus (and_parts (nat_le root.number access.bus) _ goes).0) in

@@ -7,4 +7,5 @@ pub mod Reached
 pub mod Listed
 pub mod NoBus
 pub mod Ready
+pub mod Spread
 pub mod NumberingLaws

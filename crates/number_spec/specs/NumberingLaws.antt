@@ -11,6 +11,7 @@ use Rattle.number_spec.specs.Board.{Nodes, Root, Board, Place, is_type_1, image_
 use Rattle.number_spec.specs.Walk.{is_rising, is_walkable, walk}
 use Rattle.number_spec.specs.Numbered.{without_numbers, secondaries, IsNumbered}
 use Rattle.number_spec.specs.Room.{IsNumberedWithRoom}
+use Rattle.number_spec.specs.Spread.{IsSpread}
 use Rattle.number_spec.specs.NoBus.{first_without}
 use Rattle.number_spec.specs.Listed.{IsListing, HasNumbers}
 use Rattle.number_spec.specs.Reached.{reached, only_bridges_lead}
@@ -48,6 +49,12 @@ abbrev pub NoRoomIsInOrder : Type 0
 NoRoomIsInOrder =
     (root last : ℕ) (before after : Nodes) → IsNumberedWithRoom (λ image. 0) root last before after
     → IsNumbered root last before after
+
+-- So it is while the numbers are given.
+abbrev pub SpreadIsSingle : Type 0
+SpreadIsSingle =
+    (root high : ℕ) (nodes : Nodes) → IsTrue (is_rising nodes) → IsSpread root high nodes
+    → IsSingle (record { number = root; nodes = nodes } ∷ [])
 
 -- Numbers don't hang on those that were there: where the same nodes are numbered twice, a walk comes to the
 -- same nodes with the same images,

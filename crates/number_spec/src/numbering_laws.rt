@@ -1,12 +1,13 @@
 //! Laws of numbering. These functions do nothing: each contract is a law.
 
-ghost use Rattle.number_spec.specs.NumberingLaws.{WalkIsInOrder, SameIsWalkable, NumberedIsSingle, RoomyIsSingle, RootsAreSingle, NoRoomIsInOrder, FoundAnswersOnce, RoomyAnswersOnce, NumbersAreOne, AllNumbersAreOne, ListedIsNested, ListedHasNoBusFault};
+ghost use Rattle.number_spec.specs.NumberingLaws.{WalkIsInOrder, SameIsWalkable, NumberedIsSingle, RoomyIsSingle, SpreadIsSingle, RootsAreSingle, NoRoomIsInOrder, FoundAnswersOnce, RoomyAnswersOnce, NumbersAreOne, AllNumbersAreOne, ListedIsNested, ListedHasNoBusFault};
 
 /// On a board whose bridges are numbered in the order of the walk each access is answered once at most,
-/// and also where numbers are kept free, or there are several roots.
+/// and also where numbers are kept free, while they are given, or where there are several roots.
 pub fn numbered_boards_are_single()
     ensures single { NumberedIsSingle }
     ensures roomy { RoomyIsSingle }
+    ensures spread { SpreadIsSingle }
     ensures roots { RootsAreSingle }
 {}
 

@@ -6,6 +6,7 @@ use Rattle.number_spec.specs.NumberingLaws.{NumberedIsSingle, RoomyIsSingle}
 use Rattle.number_spec.proofs.Single.{single}
 use Rattle.number_spec.proofs.InOrder.{top, run_from, ranged}
 use Rattle.number_spec.proofs.Roomy.{roomy}
+use Rattle.number_spec.proofs.Spread.{spread_single}
 use Rattle.number_spec.proofs.Roots.{roots_single}
 use Rattle.number_spec.proofs.numbering_laws.numbered_boards_are_single.Goals as goal
 
@@ -19,4 +20,4 @@ roomy_is_single room root last before after rising numbered =
     single root root (last_behind root after) after (roomy room last root root after numbered.numbers) rising
 
 pub returns : goal.returns
-returns c = record { single = numbered_is_single; roomy = roomy_is_single; roots = roots_single }
+returns c = record { single = numbered_is_single; roomy = roomy_is_single; spread = spread_single; roots = roots_single }
