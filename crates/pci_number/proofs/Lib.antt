@@ -14,3 +14,11 @@ pub mod Roots
 pub mod Again
 pub mod Left
 pub mod Few
+pub mod Stood
+pub mod Less
+pub mod Closing
+pub mod Apart
+pub mod Showing
+pub mod Standing
+pub mod Beside
+pub mod Throughout

@@ -21,7 +21,7 @@ open_left_first before after slot bus last left = λ v high image behind others 
     let s = left v high last image behind others is seen alone in
     (s.0, behind, s.1, s.2, refl)
 
-open_hushed : (v : View) (high last : ℕ) (slot : Slot) (bus : ℕ) (new : List ℕ) (others : Nodes) → IsSeen v slot.bus (code slot) high last → is_type_1 new ≡ true → shows new slot.bus bus bus ≡ true → high + 1 ≤ bus → bus ≤ last → IsClosed others → IsSeen (inside v slot.device slot.function new others) bus 0 bus bus
+pub open_hushed : (v : View) (high last : ℕ) (slot : Slot) (bus : ℕ) (new : List ℕ) (others : Nodes) → IsSeen v slot.bus (code slot) high last → is_type_1 new ≡ true → shows new slot.bus bus bus ≡ true → high + 1 ≤ bus → bus ≤ last → IsClosed others → IsSeen (inside v slot.device slot.function new others) bus 0 bus bus
 open_hushed v high last slot bus new others seen bridge numbers over within closed =
     seen_inside v slot.bus (code slot) high last slot.bus bus bus slot.device slot.function new others seen bridge numbers (omega (arith, over)) within within closed
 

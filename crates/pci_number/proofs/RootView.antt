@@ -11,7 +11,7 @@ use Rattle.number_spec.specs.Ready.{IsReady}
 abbrev count : ℕ → Board → ℕ
 count root board = length (filter (λ other. other.number == root) board)
 
-abbrev root_of : ℕ → Nodes → Root
+abbrev pub root_of : ℕ → Nodes → Root
 root_of root nodes = record { number = root; nodes = nodes }
 
 none_changed : (root : ℕ) (nodes : Nodes) (board : Board) → count root board ≡ 0 → with_nodes board root nodes ≡ board

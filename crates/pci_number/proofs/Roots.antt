@@ -21,7 +21,7 @@ use Rattle.pci_number.specs.declared.number.Numbering.{Numbering}
 use Rattle.pci_number.specs.declared.walk.Walk.{Walk}
 use Rattle.pci_number.proofs.RootView.{only_there, nodes_there, nodes_twice, same_nodes}
 
-append_nothing : {A : Type 0} → (xs : List A) → xs ++ [] ≡ xs
+pub append_nothing : {A : Type 0} → (xs : List A) → xs ++ [] ≡ xs
 append_nothing [] = refl
 append_nothing (x ∷ xs) = ap (λ ys. x ∷ ys) (append_nothing xs)
 
@@ -29,7 +29,7 @@ abbrev pub root_view : Board → ℕ → View
 root_view board root = record { fill = λ nodes. with_nodes board root nodes; at = λ place. (root, place) }
 
 -- the nodes at a root that answer, with its number
-abbrev with_root : Slot → Root → List (ℕ × Place)
+abbrev pub with_root : Slot → Root → List (ℕ × Place)
 with_root access root = map (λ place. (root.number, place)) (at_root root access)
 
 pub seen_root : (board : Board) (root last : ℕ) → IsReady board root last → IsSeen (root_view board root) root 0 root last
@@ -51,7 +51,7 @@ seen_root board root last ready = record {
 }
 
 -- the nodes behind the root, where they alone are others
-behind_it : (before after : Board) (root last : ℕ) (whole : Nodes) → IsReady before root last → after ≡ with_nodes before root whole → nodes_behind after root ≡ whole
+pub behind_it : (before after : Board) (root last : ℕ) (whole : Nodes) → IsReady before root last → after ≡ with_nodes before root whole → nodes_behind after root ≡ whole
 behind_it before after root last whole ready is = ap (λ b. nodes_behind b root) is ∙ nodes_there root whole before (omega (arith, ready.one))
 
 kept : (before after : Board) (root last : ℕ) (whole : Nodes) → IsReady before root last → after ≡ with_nodes before root whole → without_numbers whole ≡ without_numbers (nodes_behind before root) → IsBoardKept before root after

@@ -4,6 +4,9 @@ pub mod Steps
 pub mod Walked
 pub mod Hushing
 pub mod Walking
+pub mod Stood
+pub mod Less
+pub mod Single
 pub mod Answer
 pub mod Again
 pub mod Left

@@ -35,6 +35,7 @@ pub fn slot_at(bus: u8, place: u16) -> Slot
 pub fn look<P: BoardPort>(port: &mut P, slot: Slot, more: bool) -> Result<Found, AccessFailed>
     ensures looked { IfOk result (IsLooked (P.board port.old) slot more) }
     ensures same { P.board port.new ≡ P.board port.old }
+    ensures same_history { P.history port.new ≡ P.history port.old }
     ensures no_write { P.last_write port.new ≡ P.last_write port.old }
     ensures counted { P.failures port.new ≡ P.failures port.old + failures_of result }
     ensures no_more { P.writes port.new ≡ P.writes port.old }

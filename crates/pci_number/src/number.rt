@@ -1,8 +1,10 @@
 //! Bus numbers for what is behind a root bus.
 ghost use Rattle.std.specs.Prelude.{◌≡◌, ◌+◌, IfOk, IfErr};
 ghost use Rattle.pci_number.specs.Stops.{failures_at, IsStop};
+ghost use Rattle.number_spec.specs.Ready.{IsReady};
 ghost use Rattle.pci_number.specs.Answer.{Answers, Keeps};
 ghost use Rattle.pci_number.specs.Few.{IsFew};
+ghost use Rattle.pci_number.specs.Single.{IsSingleThroughout};
 
 use crate::hush::hush;
 use crate::port::BoardPort;
@@ -31,6 +33,9 @@ pub fn number<P: BoardPort>(port: &mut P, root: u8, last: u8) -> Result<Numberin
         (λ answer. Answers (P.board port.old) root last answer (P.board port.new)) }
     // whatever happens, bytes 18h to 1Ah of bridges behind this root alone are changed
     ensures kept { Keeps (P.board port.old) root last (P.board port.new) }
+    // each board from the end of the first closing on is single, and each at all if it was at the start
+    ensures single { IsReady (P.board port.old) root last
+        → IsSingleThroughout (P.board port.old) root result (P.history port.old) (P.history port.new) }
     ensures stop { IfErr result (IsStop (P.board port.new) (P.last_write port.new)) }
     ensures counted { P.failures port.new ≡ P.failures port.old + failures_at result }
     // whatever happens, at most 8 writes are made for each bridge behind this root

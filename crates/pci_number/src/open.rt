@@ -3,6 +3,7 @@ ghost use Rattle.std.specs.Prelude.{◌≡◌, ◌+◌, ◌≤◌, IfOk, IfErr, 
 ghost use Rattle.pci_number.specs.Stops.{failures_at, IsStop};
 ghost use Rattle.pci_number.specs.Steps.{IsShownAt, IsLeftAt, IsOpened, IsOpenLeft};
 ghost use Rattle.pci_number.specs.Few.{IsOpenFew};
+ghost use Rattle.pci_number.specs.Single.{IsShowStood, IsOpenStood};
 
 use crate::hush::hush;
 use crate::port::BoardPort;
@@ -16,6 +17,7 @@ fn show<P: BoardPort>(port: &mut P, slot: Slot, behind: u8) -> Result<(), Stop>
     ensures shown { OnOk result
         (IsShownAt (P.board port.old) slot slot.bus behind behind (P.board port.new)) }
     ensures left { OnErr result (IsLeftAt (P.board port.old) slot (P.board port.new)) }
+    ensures stood { IsShowStood (P.board port.old) slot behind (P.history port.old) result (P.history port.new) }
     ensures stop { IfErr result (IsStop (P.board port.new) (P.last_write port.new)) }
     ensures counted { P.failures port.new ≡ P.failures port.old + failures_at result }
     ensures few { P.writes port.new ≤ P.writes port.old + 3 }
@@ -32,6 +34,7 @@ pub fn open<P: BoardPort>(port: &mut P, slot: Slot, behind: u8, last: u8) -> Res
     ensures opened { IfOk result
         (λ bridges. IsOpened (P.board port.old) slot behind last bridges (P.board port.new)) }
     ensures left { OnErr result (IsOpenLeft (P.board port.old) slot behind last (P.board port.new)) }
+    ensures stood { IsOpenStood (P.board port.old) slot behind last (P.history port.old) result (P.history port.new) }
     ensures stop { IfErr result (IsStop (P.board port.new) (P.last_write port.new)) }
     ensures counted { P.failures port.new ≡ P.failures port.old + failures_at result }
     ensures few { IsOpenFew (P.board port.old) slot behind last (P.writes port.old) (P.writes port.new) }

@@ -1,5 +1,5 @@
 //! A way to the configuration space of a board whose bridges may have any bus numbers.
-ghost use Rattle.std.specs.Prelude.{◌≡◌, ◌+◌, ℕ, Option, Some, IfOk, OnOk, OnErr};
+ghost use Rattle.std.specs.Prelude.{◌≡◌, ◌+◌, ℕ, List, ◌∷◌, Option, Some, IfOk, OnOk, OnErr};
 ghost use Rattle.pci_spec.specs.Machine.{Write};
 ghost use Rattle.number_spec.specs.Board.{Board};
 ghost use Rattle.number_spec.specs.Access.{IsRead, IsWritten};
@@ -16,6 +16,9 @@ pub trait BoardPort {
     // The board: the nodes behind each root, with their images.
     ghost board: { Self → Board };
 
+    // The boards that stood after each write so far, the last one first.
+    ghost history: { Self → List Board };
+
     // How many accesses have failed. No number is the last.
     ghost failures: { Self → ℕ };
 
@@ -30,6 +33,7 @@ pub trait BoardPort {
         ensures value { IfOk result (IsRead (board self.old) access offset) }
         // looking changes nothing
         ensures same { board self.new ≡ board self.old }
+        ensures same_history { history self.new ≡ history self.old }
         ensures no_write { last_write self.new ≡ last_write self.old }
         ensures counted { failures self.new ≡ failures self.old + failures_of result }
         ensures no_more { writes self.new ≡ writes self.old };
@@ -37,10 +41,12 @@ pub trait BoardPort {
     /// Writes one of the three bus numbers of a bridge, bytes 18h to 1Ah. The byte may keep bits.
     fn write(&mut self, access: Slot, offset: u8, value: u8) -> Result<(), AccessFailed>
         ensures written { OnOk result (IsWritten (board self.old) access offset (board self.new)) }
+        ensures stood { OnOk result (history self.new ≡ board self.new ∷ history self.old) }
         ensures made { OnOk result
             (last_write self.new ≡ Some (number_write access offset value)) }
         // a write that failed wasn't made
         ensures kept { OnErr result (board self.new ≡ board self.old) }
+        ensures none_stood { OnErr result (history self.new ≡ history self.old) }
         ensures not_made { OnErr result (last_write self.new ≡ last_write self.old) }
         ensures counted { failures self.new ≡ failures self.old + failures_of result }
         ensures one_more { OnOk result (writes self.new ≡ writes self.old + 1) }

@@ -3,6 +3,7 @@ ghost use Rattle.std.specs.Prelude.{◌≡◌, ◌+◌, ◌≤◌, IfOk, IfErr, 
 ghost use Rattle.pci_number.specs.Stops.{failures_at, IsStop};
 ghost use Rattle.pci_number.specs.Walked.{IsBusNumbered, IsBusLeft, named};
 ghost use Rattle.pci_number.specs.Few.{IsBusFew};
+ghost use Rattle.pci_number.specs.Single.{IsBusStood};
 
 use crate::look::{PLACES, look, slot_at};
 use crate::open::open;
@@ -42,6 +43,7 @@ pub fn number_bus<P: BoardPort>(port: &mut P, bus: u8, last: u8, start: Walk) ->
         (λ walk. IsBusNumbered (P.board port.old) bus last start walk (P.board port.new)) }
     ensures above { IfOk result (λ walk. start.taken ≤ walk.taken) }
     ensures left { OnErr result (IsBusLeft (P.board port.old) bus last start (P.board port.new)) }
+    ensures stood { IsBusStood (P.board port.old) bus last start (P.history port.old) result (P.history port.new) }
     ensures stop { IfErr result (IsStop (P.board port.new) (P.last_write port.new)) }
     ensures counted { P.failures port.new ≡ P.failures port.old + failures_at result }
     ensures few { IsBusFew (P.board port.old) bus last start (P.writes port.old) (P.writes port.new) }

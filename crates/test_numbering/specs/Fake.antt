@@ -1,5 +1,5 @@
 -- A board with one root, bus 00, and on it one bridge, 00:01.0, with nothing behind it.
-use Rattle.std.specs.Prelude.{ℕ, Option, Some, None, List, [], ◌∷◌}
+use Rattle.std.specs.Prelude.{ℕ, Option, Some, None, List, [], ◌∷◌, map, reverse}
 use Rattle.pci_spec.specs.Machine.{Write}
 use Rattle.number_spec.specs.Board.{NoMore, Node, Board}
 use Rattle.pci_number.specs.Stops.{number_write}
@@ -7,6 +7,10 @@ use Rattle.pci_number.specs.declared.stop.NotTaken.{NotTaken}
 
 abbrev pub board_of : List ℕ → Board
 board_of image = record { number = 0; nodes = Node 1 0 image NoMore NoMore } ∷ []
+
+-- the boards that stood, by the images that the bridge had: the last one first
+abbrev pub boards_of : List (List ℕ) → List Board
+boards_of images = map board_of (reverse images)
 
 -- the write that is kept
 abbrev pub write_of : Option NotTaken → Option Write

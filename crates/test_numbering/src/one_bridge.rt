@@ -4,6 +4,7 @@ ghost use Rattle.std.specs.Prelude.{◌≡◌, ◌↔◌, IsTrue};
 use pci_base::failures::Failures;
 use pci_base::slot::Slot;
 use pci_number::{AccessFailed, BoardPort, NotTaken};
+use std::alloc::Global;
 
 /// The board. A bridge that takes no number at `keeps` has what it has there.
 #[derive(Drop)]
@@ -11,14 +12,14 @@ pub struct OneBridge {
     image: [u8; 256],
     keeps: u8,
     last: Option<NotTaken>,
-    writes: Failures,
-    /// How many writes were made, as far as 255.
-    pub made: u8,
+    /// The bridge's image after each write so far.
+    stood: Vec<[u8; 256]>,
+    failed: Failures,
 }
 
 impl OneBridge {
     /// A board whose bridge has these numbers, and has what it has at an offset for good.
-    pub fn new(primary: u8, secondary: u8, subordinate: u8, keeps: u8) -> OneBridge {
+    pub fn new(alloc: Global, primary: u8, secondary: u8, subordinate: u8, keeps: u8) -> OneBridge {
         let mut image = [0; 256];
         image[0x00] = 0x34;
         image[0x01] = 0x12;
@@ -30,14 +31,19 @@ impl OneBridge {
             image,
             keeps,
             last: None,
-            writes: Failures::new(),
-            made: 0,
+            stood: Vec::new(alloc),
+            failed: Failures::new(),
         }
     }
 
     /// The bridge's three numbers.
     pub fn numbers(&self) -> [u8; 3] {
         [self.image[0x18], self.image[0x19], self.image[0x1a]]
+    }
+
+    /// How many writes were made.
+    pub fn made(&self) -> usize {
+        self.stood.len()
     }
 }
 
@@ -49,15 +55,18 @@ fn is_bridge(access: Slot) -> bool
 }
 
 impl BoardPort for OneBridge {
-    ghost use Rattle.test_numbering.specs.Fake.{board_of, write_of};
+    ghost use Rattle.std.specs.Prelude.{length};
+    ghost use Rattle.test_numbering.specs.Fake.{board_of, boards_of, write_of};
 
     ghost board = { λ s. board_of s.image };
 
-    ghost failures = { λ s. 0 };
+    ghost history = { λ s. boards_of s.stood.items };
+
+    ghost failures = { λ s. s.failed.count };
 
     ghost last_write = { λ s. write_of s.last };
 
-    ghost writes = { λ s. s.writes.count };
+    ghost writes = { λ s. length s.stood.items };
 
     fn read(&mut self, access: Slot, offset: u8) -> Result<u8, AccessFailed> {
         if is_bridge(access) {
@@ -68,22 +77,27 @@ impl BoardPort for OneBridge {
     }
 
     fn write(&mut self, access: Slot, offset: u8, value: u8) -> Result<(), AccessFailed> {
+        let mut image = self.image;
+        if is_bridge(access) {
+            let index = usize::from(offset);
+            let byte = if offset == self.keeps {
+                image[index]
+            } else {
+                value
+            };
+            image[index] = byte;
+        }
+        // what stood can't be kept without memory, so the write isn't made
+        if self.stood.push(image).is_err() {
+            self.failed = self.failed.and_one();
+            return Err(AccessFailed);
+        }
+        self.image = image;
         self.last = Some(NotTaken {
             slot: access,
             offset,
             number: value,
         });
-        self.writes = self.writes.and_one();
-        self.made = self.made.saturating_add(1);
-        if is_bridge(access) {
-            let index = usize::from(offset);
-            let byte = if offset == self.keeps {
-                self.image[index]
-            } else {
-                value
-            };
-            self.image[index] = byte;
-        }
         Ok(())
     }
 }

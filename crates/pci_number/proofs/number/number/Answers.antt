@@ -2,6 +2,7 @@ use Rattle.std.proofs.Common.{refl, sym}
 use Rattle.pci_number.specs.declared.number.Numbering.TheVariants.{Numbered, NoBus}
 use Rattle.pci_number.proofs.Few.{few_at_hush, few_at_walk}
 use Rattle.pci_number.proofs.Roots.{kept_at_hush, kept_at_walk, kept_at_end, answer_of}
+use Rattle.pci_number.proofs.Throughout.{throughout_hush, throughout_left, throughout_done}
 use Rattle.pci_number.proofs.number.number.Goals as goal
 
 pub returns-in_err-hush-clause-kept : goal.returns-in_err-hush-clause-kept
@@ -61,3 +62,29 @@ returns-in-Some-clause-few g c =
     let writes = g.P.BoardPort.writes in
     few_at_walk (board c.args.port.now) (board c.hush.new.port) c.args.root c.args.last c.in_ok-hush.field-0 (writes c.args.port.now) (writes c.hush.new.port) (writes c.number_bus.new.port)
     c.in_ok-hush.ensures.hushed c.in_ok-hush.ensures.few c.in_ok-walk.ensures.few
+
+pub returns-in_err-hush-clause-single : goal.returns-in_err-hush-clause-single
+returns-in_err-hush-clause-single g c =
+    let history = g.P.BoardPort.history in
+    throughout_hush (g.P.BoardPort.board c.args.port.now) c.args.root c.args.last (history c.args.port.now) (history c.hush.new.port) c.from_residual.result c.from_residual.ensures.0 c.in_err-hush.ensures.stood
+
+pub returns-in_err-walk-clause-single : goal.returns-in_err-walk-clause-single
+returns-in_err-walk-clause-single g c =
+    let board = g.P.BoardPort.board in
+    let history = g.P.BoardPort.history in
+    throughout_left (board c.args.port.now) (board c.hush.new.port) c.args.root c.args.last c.in_ok-hush.field-0 (history c.args.port.now) (history c.hush.new.port) (history c.number_bus.new.port)
+    c.in_ok-hush.ensures.hushed c.in_ok-hush.ensures.stood c.from_residual-in_err-walk.result c.from_residual-in_err-walk.ensures.0 c.in_err-walk.ensures.stood
+
+pub returns-in-None-clause-single : goal.returns-in-None-clause-single
+returns-in-None-clause-single g c =
+    let board = g.P.BoardPort.board in
+    let history = g.P.BoardPort.history in
+    throughout_done (board c.args.port.now) (board c.hush.new.port) c.args.root c.args.last c.in_ok-hush.field-0 (history c.args.port.now) (history c.hush.new.port) (history c.number_bus.new.port)
+    c.in_ok-hush.ensures.hushed c.in_ok-hush.ensures.stood (Numbered c.in_ok-walk.walk.taken) c.in_ok-walk.ensures.stood
+
+pub returns-in-Some-clause-single : goal.returns-in-Some-clause-single
+returns-in-Some-clause-single g c =
+    let board = g.P.BoardPort.board in
+    let history = g.P.BoardPort.history in
+    throughout_done (board c.args.port.now) (board c.hush.new.port) c.args.root c.args.last c.in_ok-hush.field-0 (history c.args.port.now) (history c.hush.new.port) (history c.number_bus.new.port)
+    c.in_ok-hush.ensures.hushed c.in_ok-hush.ensures.stood (NoBus c.in-Some.slot c.in_ok-walk.walk.taken) c.in_ok-walk.ensures.stood

@@ -1,20 +1,29 @@
-use Rattle.std.proofs.Common.{◌≡◌, ◌+◌, ℕ, Bool, true, false, arith, refl, ap, subst}
+use Rattle.std.proofs.Common.{◌≡◌, ◌+◌, ℕ, List, Bool, true, false, arith, refl, ap, subst}
 use Rattle.pci_spec.specs.Slot.{Slot}
 use Rattle.number_spec.specs.Board.{Board}
 use Rattle.pci_number.specs.Steps.{IsOpened, IsOpenLeft}
 use Rattle.pci_number.specs.Walked.{IsBusLeft}
 use Rattle.pci_number.specs.Few.{IsOpenFew, IsBusFew}
 use Rattle.pci_number.specs.Walking.{IsWalking}
+use Rattle.pci_number.specs.Single.{IsBusStood, IsWalkStanding}
 use Rattle.pci_number.specs.declared.walk.Walk.{Walk}
 use Rattle.pci_number.proofs.Errs.{always_err}
 use Rattle.pci_number.proofs.Few.{IsWalkCounted, walk_count_start, walk_count_pass, walk_count_without, walk_count_alone, walk_count_wide, walk_few, walk_few_open, walk_few_bus}
 use Rattle.pci_number.proofs.Places.{place_of, to_slot, from_slot}
 use Rattle.pci_number.proofs.Walking.{one_more, walk_start, walk_pass, walk_without, walk_alone, walk_wide, walk_left, walk_left_open, walk_left_bus, walk_left_put, walk_done}
+use Rattle.pci_number.proofs.Showing.{IsOpenOk}
+use Rattle.pci_number.proofs.Standing.{IsOpenEnd, stand_start, stand_pass, stand_without, stand_alone, stand_wide, stand_left, stand_left_open, stand_left_bus, stand_left_put, stand_done}
 use Rattle.pci_number.proofs.walk.+number_bus.Goals as goal
 use Rattle.pci_number.proofs.walk.+number_bus.Goals.{then-found+then-walk-last+in_ok-open+then-branch+in_ok-walk+in_ok-put, then-found+then-walk-last+in_ok-open+else-branch, then-found+else-walk-last, else-found}
 
 pub loop-place-init : goal.loop-place-init
-loop-place-init g t c = record { walking = walk_start (g.P.BoardPort.board c.args.port.now) c.args.bus c.args.last c.args.start; above = omega arith; counted = refl; few = walk_count_start (g.P.BoardPort.board c.args.port.now) c.args.bus c.args.last c.args.start (g.P.BoardPort.writes c.args.port.now) }
+loop-place-init g t c = record {
+  walking = walk_start (g.P.BoardPort.board c.args.port.now) c.args.bus c.args.last c.args.start;
+  standing = stand_start (g.P.BoardPort.board c.args.port.now) c.args.bus c.args.last c.args.start (g.P.BoardPort.history c.args.port.now);
+  above = omega arith;
+  counted = refl;
+  few = walk_count_start (g.P.BoardPort.board c.args.port.now) c.args.bus c.args.last c.args.start (g.P.BoardPort.writes c.args.port.now);
+}
 
 pub returns-in_err-found-clause-left : goal.returns-in_err-found-clause-left
 returns-in_err-found-clause-left g t c =
@@ -68,6 +77,13 @@ returns-in_err-put-clause-left g t c =
 few_from : (now before : Board) → (slot : Slot) (bus last total made opened_by : ℕ) → before ≡ now → made ≡ total → IsOpenFew before slot bus last made opened_by → IsOpenFew now slot bus last total opened_by
 few_from now before slot bus last total made opened_by same none few = subst (λ x. IsOpenFew x slot bus last total opened_by) same (subst (λ x. IsOpenFew before slot bus last x opened_by) none few)
 
+-- such boards stood while it was opened, on the board as it was looked at
+open_ok : (now before : Board) (slot : Slot) (bus last : ℕ) (old stood new : List Board) → now ≡ before → old ≡ stood → IsOpenOk now slot bus last old new → IsOpenOk before slot bus last stood new
+open_ok now before slot bus last old stood new same same_history ok = subst (λ h. IsOpenOk before slot bus last h new) same_history (subst (λ b. IsOpenOk b slot bus last old new) same ok)
+
+open_end : (now before : Board) (slot : Slot) (bus last : ℕ) (old stood new : List Board) → now ≡ before → old ≡ stood → IsOpenEnd now slot bus last old new → IsOpenEnd before slot bus last stood new
+open_end now before slot bus last old stood new same same_history ends = subst (λ h. IsOpenEnd before slot bus last h new) same_history (subst (λ b. IsOpenEnd b slot bus last old new) same ends)
+
 pub loop-place-preserved : goal.loop-place-preserved
 loop-place-preserved g t c =
     let board = g.P.BoardPort.board in
@@ -87,6 +103,10 @@ loop-place-preserved g t c =
     let made = writes c.args.port.now in
     let total = writes c.loop-place.port in
     let count = to_slot (λ b p. IsWalkCounted before b last start p c.loop-place.more walk now made total) slot bus at place c.loop-place.invariant.few in
+    let history = g.P.BoardPort.history in
+    let old = history c.args.port.now in
+    let stood_now = history c.loop-place.port in
+    let stood = to_slot (λ b p. IsWalkStanding before b last start old p c.loop-place.more walk now stood_now) slot bus at place c.loop-place.invariant.standing in
     let so_far = to_slot (λ b p. IsWalking before b last start p c.loop-place.more walk now) slot bus at place c.loop-place.invariant.walking in
     elim c.if-found.branch [
       | then-found+then-walk-last+in_ok-open+then-branch+in_ok-walk+in_ok-put w ↦ record {
@@ -94,6 +114,11 @@ loop-place-preserved g t c =
             (walk_wide before now (board w.open.new.port) (board w.number_bus.new.port) (board w.put.new.port) slot last start walk w.in_ok-walk.walk c.loop-place.more found place.low looked w.if-found.true w.if-walk-last.true
             (is_open now (board c.look.new.port) (board w.open.new.port) slot (walk.taken + 1) last w.in_ok-open.field-0 c.in_ok-found.ensures.same w.if-branch.true w.in_ok-open.ensures.opened)
             w.in_ok-walk.ensures.numbered w.in_ok-walk.ensures.above w.in_ok-put.ensures.put so_far));
+        standing = rw (w.port-is, w.walk-is) (from_slot (λ b p. IsWalkStanding before b last start old (p + 1) found.more w.in_ok-walk.walk (board w.put.new.port) (history w.put.new.port)) slot bus at place
+            (stand_wide before now slot last start walk old stood_now (history w.open.new.port) c.loop-place.more found place.low looked w.if-found.true w.if-walk-last.true stood (board w.open.new.port)
+            (is_open now (board c.look.new.port) (board w.open.new.port) slot (walk.taken + 1) last w.in_ok-open.field-0 c.in_ok-found.ensures.same w.if-branch.true w.in_ok-open.ensures.opened)
+            (open_ok (board c.look.new.port) now slot (walk.taken + 1) last (history c.look.new.port) stood_now (history w.open.new.port) c.in_ok-found.ensures.same c.in_ok-found.ensures.same_history w.in_ok-open.ensures.stood)
+            (history w.number_bus.new.port) w.in_ok-walk.ensures.stood (board w.put.new.port) (history w.put.new.port) w.in_ok-put.ensures.stood (board w.number_bus.new.port) w.in_ok-walk.walk w.in_ok-walk.ensures.numbered w.in_ok-walk.ensures.above w.in_ok-put.ensures.put));
         above = omega (arith, ap (λ (x : Walk). x.taken) w.walk-is, w.in_ok-walk.ensures.above, c.loop-place.invariant.above);
         counted = omega (arith, ap failures w.port-is, w.in_ok-put.ensures.counted, w.in_ok-walk.ensures.counted, w.in_ok-open.ensures.counted, c.in_ok-found.ensures.counted, c.loop-place.invariant.counted);
         few = rw (w.port-is, w.walk-is) (from_slot (λ b p. IsWalkCounted before b last start (p + 1) found.more w.in_ok-walk.walk (board w.put.new.port) made (writes w.put.new.port)) slot bus at place
@@ -108,6 +133,10 @@ loop-place-preserved g t c =
             (walk_alone before now (board w.open.new.port) slot last start walk c.loop-place.more found place.low looked w.if-found.true w.if-walk-last.true
             (subst (λ x. IsOpened x slot (walk.taken + 1) last false (board w.open.new.port)) c.in_ok-found.ensures.same (subst (λ x. IsOpened (board c.look.new.port) slot (walk.taken + 1) last x (board w.open.new.port)) w.if-branch.false w.in_ok-open.ensures.opened))
             so_far));
+        standing = rw (w.port-is, w.walk-is) (from_slot (λ b p. IsWalkStanding before b last start old (p + 1) found.more (one_more walk) (board w.open.new.port) (history w.open.new.port)) slot bus at place
+            (stand_alone before now (board w.open.new.port) slot last start walk old stood_now (history w.open.new.port) c.loop-place.more found place.low looked w.if-found.true w.if-walk-last.true
+            (subst (λ x. IsOpened x slot (walk.taken + 1) last false (board w.open.new.port)) c.in_ok-found.ensures.same (subst (λ x. IsOpened (board c.look.new.port) slot (walk.taken + 1) last x (board w.open.new.port)) w.if-branch.false w.in_ok-open.ensures.opened))
+            (open_ok (board c.look.new.port) now slot (walk.taken + 1) last (history c.look.new.port) stood_now (history w.open.new.port) c.in_ok-found.ensures.same c.in_ok-found.ensures.same_history w.in_ok-open.ensures.stood) stood));
         above = omega (arith, ap (λ (x : Walk). x.taken) w.walk-is, c.loop-place.invariant.above);
         counted = omega (arith, ap failures w.port-is, w.in_ok-open.ensures.counted, c.in_ok-found.ensures.counted, c.loop-place.invariant.counted);
         few = rw (w.port-is, w.walk-is) (from_slot (λ b p. IsWalkCounted before b last start (p + 1) found.more (one_more walk) (board w.open.new.port) made (writes w.open.new.port)) slot bus at place
@@ -119,6 +148,8 @@ loop-place-preserved g t c =
       | then-found+else-walk-last w ↦ record {
         walking = rw (w.port-is, w.walk-is, c.in_ok-found.ensures.same) (from_slot (λ b p. IsWalking before b last start (p + 1) found.more w.and_without-walk.result now) slot bus at place
             (walk_without before now slot last start walk w.and_without-walk.result c.loop-place.more found place.low looked w.if-found.true w.if-walk-last.false w.and_without-walk.ensures.taken w.and_without-walk.ensures.named so_far));
+        standing = rw (w.port-is, w.walk-is, c.in_ok-found.ensures.same, c.in_ok-found.ensures.same_history) (from_slot (λ b p. IsWalkStanding before b last start old (p + 1) found.more w.and_without-walk.result (now) (stood_now)) slot bus at place
+            (stand_without before now slot last start walk w.and_without-walk.result old stood_now c.loop-place.more found place.low looked w.if-found.true w.and_without-walk.ensures.taken stood));
         above = omega (arith, ap (λ (x : Walk). x.taken) w.walk-is, w.and_without-walk.ensures.taken, c.loop-place.invariant.above);
         counted = omega (arith, ap failures w.port-is, c.in_ok-found.ensures.counted, c.loop-place.invariant.counted);
         few = rw (w.port-is, w.walk-is, c.in_ok-found.ensures.same, c.in_ok-found.ensures.no_more) (from_slot (λ b p. IsWalkCounted before b last start (p + 1) found.more w.and_without-walk.result now made total) slot bus at place
@@ -127,6 +158,8 @@ loop-place-preserved g t c =
       | else-found w ↦ record {
         walking = rw (w.port-is, w.walk-is, c.in_ok-found.ensures.same) (from_slot (λ b p. IsWalking before b last start (p + 1) found.more walk now) slot bus at place
             (walk_pass before now slot last start walk c.loop-place.more found place.low looked w.if-found.false so_far));
+        standing = rw (w.port-is, w.walk-is, c.in_ok-found.ensures.same, c.in_ok-found.ensures.same_history) (from_slot (λ b p. IsWalkStanding before b last start old (p + 1) found.more walk (now) (stood_now)) slot bus at place
+            (stand_pass before now slot last start walk old stood_now c.loop-place.more found place.low looked w.if-found.false stood));
         above = omega (arith, ap (λ (x : Walk). x.taken) w.walk-is, c.loop-place.invariant.above);
         counted = omega (arith, ap failures w.port-is, c.in_ok-found.ensures.counted, c.loop-place.invariant.counted);
         few = rw (w.port-is, w.walk-is, c.in_ok-found.ensures.same, c.in_ok-found.ensures.no_more) (from_slot (λ b p. IsWalkCounted before b last start (p + 1) found.more walk now made total) slot bus at place
@@ -202,3 +235,69 @@ returns-clause-few g t c =
     let board = g.P.BoardPort.board in
     let writes = g.P.BoardPort.writes in
     walk_few (board c.args.port.now) (board c.loop-place.port) c.args.bus c.args.last c.loop-place.place c.args.start c.loop-place.walk c.loop-place.more (writes c.args.port.now) (writes c.loop-place.port) c.loop-place.invariant.few
+
+pub returns-in_err-found-clause-stood : goal.returns-in_err-found-clause-stood
+returns-in_err-found-clause-stood g t c =
+    let board = g.P.BoardPort.board in
+    let history = g.P.BoardPort.history in
+    stand_left (board c.args.port.now) (board c.loop-place.port) c.args.bus c.loop-place.place c.args.last c.args.start c.loop-place.walk (history c.args.port.now) (history c.loop-place.port) (history c.look.new.port) c.loop-place.more c.from_residual.result c.from_residual.ensures.0
+    c.in_err-found.ensures.same_history c.loop-place.invariant.standing
+
+pub returns-in_err-open-clause-stood : goal.returns-in_err-open-clause-stood
+returns-in_err-open-clause-stood g t c =
+    let board = g.P.BoardPort.board in
+    let history = g.P.BoardPort.history in
+    let before = board c.args.port.now in
+    let old = history c.args.port.now in
+    let now = board c.loop-place.port in
+    let stood_now = history c.loop-place.port in
+    let slot = c.slot_at-slot.result in
+    let walk = c.loop-place.walk in
+    let place = place_of slot c.args.bus c.loop-place.place c.slot_at-slot.ensures in
+    let stood = to_slot (λ b p. IsWalkStanding before b c.args.last c.args.start old p c.loop-place.more walk now stood_now) slot c.args.bus c.loop-place.place place c.loop-place.invariant.standing in
+    subst (λ b. IsBusStood before b c.args.last c.args.start old c.from_residual-in_err-open.result (history c.open.new.port)) place.on
+    (stand_left_open before now slot c.args.last c.args.start walk old stood_now (history c.open.new.port) c.loop-place.more c.in_ok-found.found place.low c.in_ok-found.ensures.looked c.if-found.true c.if-walk-last.true stood
+    c.from_residual-in_err-open.result c.from_residual-in_err-open.ensures.0
+    (open_end (board c.look.new.port) now slot (walk.taken + 1) c.args.last (history c.look.new.port) stood_now (history c.open.new.port) c.in_ok-found.ensures.same c.in_ok-found.ensures.same_history c.in_err-open.ensures.stood))
+
+pub returns-in_err-walk-clause-stood : goal.returns-in_err-walk-clause-stood
+returns-in_err-walk-clause-stood g t c =
+    let board = g.P.BoardPort.board in
+    let history = g.P.BoardPort.history in
+    let before = board c.args.port.now in
+    let old = history c.args.port.now in
+    let now = board c.loop-place.port in
+    let stood_now = history c.loop-place.port in
+    let slot = c.slot_at-slot.result in
+    let walk = c.loop-place.walk in
+    let place = place_of slot c.args.bus c.loop-place.place c.slot_at-slot.ensures in
+    let stood = to_slot (λ b p. IsWalkStanding before b c.args.last c.args.start old p c.loop-place.more walk now stood_now) slot c.args.bus c.loop-place.place place c.loop-place.invariant.standing in
+    subst (λ b. IsBusStood before b c.args.last c.args.start old c.from_residual-in_err-walk.result (history c.number_bus.new.port)) place.on
+    (stand_left_bus before now slot c.args.last c.args.start walk old stood_now (history c.open.new.port) c.loop-place.more c.in_ok-found.found place.low c.in_ok-found.ensures.looked c.if-found.true c.if-walk-last.true stood (board c.open.new.port)
+    (is_open now (board c.look.new.port) (board c.open.new.port) slot (walk.taken + 1) c.args.last c.in_ok-open.field-0 c.in_ok-found.ensures.same c.if-branch.true c.in_ok-open.ensures.opened)
+    (open_ok (board c.look.new.port) now slot (walk.taken + 1) c.args.last (history c.look.new.port) stood_now (history c.open.new.port) c.in_ok-found.ensures.same c.in_ok-found.ensures.same_history c.in_ok-open.ensures.stood)
+    (history c.number_bus.new.port) c.from_residual-in_err-walk.result c.from_residual-in_err-walk.ensures.0 c.in_err-walk.ensures.stood)
+
+pub returns-in_err-put-clause-stood : goal.returns-in_err-put-clause-stood
+returns-in_err-put-clause-stood g t c =
+    let board = g.P.BoardPort.board in
+    let history = g.P.BoardPort.history in
+    let before = board c.args.port.now in
+    let old = history c.args.port.now in
+    let now = board c.loop-place.port in
+    let stood_now = history c.loop-place.port in
+    let slot = c.slot_at-slot.result in
+    let walk = c.loop-place.walk in
+    let place = place_of slot c.args.bus c.loop-place.place c.slot_at-slot.ensures in
+    let stood = to_slot (λ b p. IsWalkStanding before b c.args.last c.args.start old p c.loop-place.more walk now stood_now) slot c.args.bus c.loop-place.place place c.loop-place.invariant.standing in
+    subst (λ b. IsBusStood before b c.args.last c.args.start old c.from_residual-in_err-put.result (history c.put.new.port)) place.on
+    (stand_left_put before now slot c.args.last c.args.start walk old stood_now (history c.open.new.port) c.loop-place.more c.in_ok-found.found place.low c.in_ok-found.ensures.looked c.if-found.true c.if-walk-last.true stood (board c.open.new.port)
+    (is_open now (board c.look.new.port) (board c.open.new.port) slot (walk.taken + 1) c.args.last c.in_ok-open.field-0 c.in_ok-found.ensures.same c.if-branch.true c.in_ok-open.ensures.opened)
+    (open_ok (board c.look.new.port) now slot (walk.taken + 1) c.args.last (history c.look.new.port) stood_now (history c.open.new.port) c.in_ok-found.ensures.same c.in_ok-found.ensures.same_history c.in_ok-open.ensures.stood)
+    (history c.number_bus.new.port) c.in_ok-walk.ensures.stood (board c.put.new.port) (history c.put.new.port) c.in_err-put.ensures.stood c.from_residual-in_err-put.result c.from_residual-in_err-put.ensures.0)
+
+pub returns-clause-stood : goal.returns-clause-stood
+returns-clause-stood g t c =
+    let board = g.P.BoardPort.board in
+    let history = g.P.BoardPort.history in
+    stand_done (board c.args.port.now) (board c.loop-place.port) c.args.bus c.loop-place.place c.args.last c.args.start c.loop-place.walk (history c.args.port.now) (history c.loop-place.port) c.loop-place.more c.loop-place.invariant.standing

@@ -1,0 +1,105 @@
+-- A board with other nodes behind one root.
+use Rattle.std.proofs.Common.{◌≡◌, ℕ, ◌≤◌, inl, inr, List, [], ◌∷◌, ◌++◌, true, false, ◌&&◌, ◌||◌, arith, refl, sym, ◌∙◌, ap, subst, length}
+use Rattle.std.specs.Bool.{nat_le, nat_lt, ◌==◌}
+use Rattle.std.specs.List.{filter, flat_map, list_all}
+use Rattle.std.proofs.lemmas.Bool.{and_parts, eqb-true, leb-true, cases_Bool, eqb-false}
+use Rattle.std.proofs.lemmas.List.{length-map}
+use Rattle.pci_spec.specs.Slot.{Slot}
+use Rattle.number_spec.specs.Board.{Nodes, NoMore, Root, Board, at_root, goes_to, behind_bridges, answers, IsSingle}
+use Rattle.number_spec.specs.Access.{nodes_behind, with_nodes}
+use Rattle.number_spec.specs.Walk.{is_rising, is_all_found}
+use Rattle.number_spec.specs.Numbered.{without_numbers}
+use Rattle.number_spec.specs.Ready.{IsReady}
+use Rattle.number_spec.proofs.Kept.{same_walk}
+use Rattle.number_spec.proofs.Single.{once_on_bus}
+use Rattle.number_spec.proofs.Spread.{once_at_root}
+use Rattle.pci_number.specs.Less.{IsLessOf}
+use Rattle.pci_number.specs.Single.{IsApart, IsSingleBeside}
+use Rattle.pci_number.proofs.RootView.{root_of, same_nodes, only_there}
+use Rattle.pci_number.proofs.Roots.{append_nothing, root_view, with_root}
+
+-- where an access goes hangs on the numbers of the roots alone
+all_same : (n bus root : ℕ) (nodes : Nodes) (roots : List Root) → list_all (λ other. nat_le other.number n || nat_lt bus other.number) (with_nodes roots root nodes) ≡ list_all (λ other. nat_le other.number n || nat_lt bus other.number) roots
+all_same n bus root nodes [] = refl
+all_same n bus root nodes (r ∷ roots) = elim (cases_Bool (r.number == root)) [
+  | inl own ↦ let is : root ≡ r.number = sym (eqb-true r.number root own) in rw own (ap (λ m. (nat_le m n || nat_lt bus m) && list_all (λ other. nat_le other.number n || nat_lt bus other.number) (with_nodes roots root nodes)) is ∙ ap (λ b. (nat_le r.number n || nat_lt bus r.number) && b) (all_same n bus root nodes roots))
+  | inr other ↦ rw other (ap (λ b. (nat_le r.number n || nat_lt bus r.number) && b) (all_same n bus root nodes roots))
+]
+
+same_goes : (board : Board) (root bus : ℕ) (nodes : Nodes) (r : Root) → goes_to (with_nodes board root nodes) bus r ≡ goes_to board bus r
+same_goes board root bus nodes r = ap (λ b. nat_le r.number bus && b) (all_same r.number bus root nodes board)
+
+-- it goes to another root, whatever is behind this one
+others_answer : (board : Board) (root : ℕ) (first second : Nodes) (access : Slot) → goes_to board access.bus (root_of root NoMore) ≡ false → (roots : List Root) → flat_map (with_root access) (filter (goes_to (with_nodes board root first) access.bus) (with_nodes roots root first)) ≡ flat_map (with_root access) (filter (goes_to (with_nodes board root second) access.bus) (with_nodes roots root second))
+others_answer board root first second access elsewhere [] = refl
+others_answer board root first second access elsewhere (r ∷ roots) =
+    let rest = others_answer board root first second access elsewhere roots in
+    elim (cases_Bool (r.number == root)) [
+      | inl own ↦
+          let no_first : goes_to (with_nodes board root first) access.bus (root_of root first) ≡ false = same_goes board root access.bus first (root_of root first) ∙ elsewhere in
+          let no_second : goes_to (with_nodes board root second) access.bus (root_of root second) ≡ false = same_goes board root access.bus second (root_of root second) ∙ elsewhere in
+          rw (own, no_first, no_second) rest
+      | inr other ↦ elim (cases_Bool (goes_to board access.bus r)) [
+        | inl goes ↦
+            let to_first : goes_to (with_nodes board root first) access.bus r ≡ true = same_goes board root access.bus first r ∙ goes in
+            let to_second : goes_to (with_nodes board root second) access.bus r ≡ true = same_goes board root access.bus second r ∙ goes in
+            rw (other, to_first, to_second) (ap (λ xs. with_root access r ++ xs) rest)
+        | inr none ↦
+            let no_first : goes_to (with_nodes board root first) access.bus r ≡ false = same_goes board root access.bus first r ∙ none in
+            let no_second : goes_to (with_nodes board root second) access.bus r ≡ false = same_goes board root access.bus second r ∙ none in
+            rw (other, no_first, no_second) rest
+      ]
+    ]
+
+module _ (board : Board) (root last : ℕ) (ready : IsReady board root last) where
+  -- an access that goes to the root
+  root_answers : (nodes : Nodes) (access : Slot) → goes_to board access.bus (root_of root NoMore) ≡ true → answers (with_nodes board root nodes) access ≡ with_root access (root_of root nodes)
+  root_answers nodes access goes =
+      let parts = and_parts (nat_le root access.bus) (list_all (λ other. nat_le other.number root || nat_lt access.bus other.number) board) goes in
+      let here : IsReady board root access.bus = record { one = ready.one; apart = parts.1; walkable = ready.walkable } in
+      ap (flat_map (with_root access)) (only_there board root access.bus here nodes access.bus (leb-true root access.bus parts.0) (inr (omega arith)))
+      ∙ append_nothing (with_root access (root_of root nodes))
+
+  count_at : (nodes : Nodes) (access : Slot) → goes_to board access.bus (root_of root NoMore) ≡ true → length (answers (with_nodes board root nodes) access) ≡ length (at_root (root_of root nodes) access)
+  count_at nodes access goes = ap length (root_answers nodes access goes) ∙ length-map (at_root (root_of root nodes) access) (λ place. (root, place))
+
+  pub single_from : (nodes : Nodes) → IsSingleBeside board root → ((access : Slot) → goes_to board access.bus (root_of root NoMore) ≡ true → length (at_root (root_of root nodes) access) ≤ 1) → IsSingle (with_nodes board root nodes)
+  single_from nodes beside one access = elim (cases_Bool (goes_to board access.bus (root_of root NoMore))) [
+    | inl goes ↦ omega (arith, count_at nodes access goes, one access goes)
+    | inr elsewhere ↦ subst (λ xs. length xs ≤ 1) (others_answer board root NoMore nodes access elsewhere board) (beside access)
+  ]
+
+  nothing_at : (access : Slot) → at_root (root_of root NoMore) access ≡ []
+  nothing_at access = elim (cases_Bool (root == access.bus)) [ inl own ↦ rw own refl | inr other ↦ rw other refl ]
+
+  own_nodes : board ≡ with_nodes board root (nodes_behind board root)
+  own_nodes = sym (same_nodes root board ready.one)
+
+  -- a board that is single
+  pub single_beside : IsSingle board → IsSingleBeside board root
+  single_beside single access = elim (cases_Bool (goes_to board access.bus (root_of root NoMore))) [
+    | inl goes ↦ omega (arith, count_at NoMore access goes, ap length (nothing_at access))
+    | inr elsewhere ↦ subst (λ xs. length xs ≤ 1) (ap (λ b. answers b access) own_nodes ∙ others_answer board root (nodes_behind board root) NoMore access elsewhere board) (single access)
+  ]
+
+  rising_still : (after : Nodes) → without_numbers after ≡ without_numbers (nodes_behind board root) → is_rising after ≡ true
+  rising_still after same = (and_parts (is_rising after) (is_all_found after after) (same_walk after (nodes_behind board root) same ∙ ready.walkable)).0
+
+  pub less_is_single : (after : Nodes) → IsLessOf (nodes_behind board root) after → IsSingle board → IsSingle (with_nodes board root after)
+  less_is_single after less single = single_from after (single_beside single) (λ access goes.
+      let before : length (at_root (root_of root (nodes_behind board root)) access) ≤ 1 = omega (arith, single access, ap (λ b. length (answers b access)) own_nodes, count_at (nodes_behind board root) access goes) in
+      elim (cases_Bool (root == access.bus)) [
+        | inl own ↦ rw own (once_on_bus after (rising_still after less.same) access)
+        | inr other ↦
+            let from = leb-true root access.bus (and_parts (nat_le root access.bus) (list_all (λ o. nat_le o.number root || nat_lt access.bus o.number) board) goes).0 in
+            let apart = eqb-false root access.bus other in
+            let few : length (behind_bridges (nodes_behind board root) access) ≤ 1 = rw other at before in
+            let fewer = less.less access (omega arith) in
+            rw other (omega (arith, few, fewer))
+      ])
+
+  -- bridges that are spread over the buses of the root
+  pub apart_at_root : (nodes : Nodes) → without_numbers nodes ≡ without_numbers (nodes_behind board root) → IsSingleBeside board root → IsApart (root_view board root) nodes root last
+  apart_at_root nodes same beside = λ after same_after spread. single_from after beside (λ access goes.
+      once_at_root root last after spread (rising_still after (same_after ∙ same)) access
+      (leb-true root access.bus (and_parts (nat_le root access.bus) (list_all (λ o. nat_le o.number root || nat_lt access.bus o.number) board) goes).0))

@@ -1,0 +1,271 @@
+-- The board is single on the walk over a bus, place by place.
+use Rattle.std.proofs.Common.{◌≡◌, ℕ, ◌+◌, ◌*◌, ◌<◌, ◌≤◌, inl, inr, Bool, true, false, arith, refl, sym, ◌∙◌, ap, subst, List, Result}
+use Rattle.std.specs.Bool.{if◌then◌else◌}
+use Rattle.std.specs.Result.{IsErr}
+use Rattle.std.proofs.lemmas.Bool.{both_ways}
+use Rattle.pci_spec.specs.Slot.{Slot}
+use Rattle.number_spec.specs.Board.{Nodes, Node, Board, is_type_1, IsSingle}
+use Rattle.number_spec.specs.Walk.{is_walkable, all_after}
+use Rattle.number_spec.specs.Numbered.{without_numbers}
+use Rattle.number_spec.specs.Room.{shows}
+use Rattle.number_spec.specs.Spread.{IsSpread}
+use Rattle.number_spec.proofs.Kept.{same_walk}
+use Rattle.number_spec.proofs.Roomy.{within_last}
+use Rattle.pci_number.specs.Seen.{View, code, IsSeen, IsRest, IsClosed, has_bridges}
+use Rattle.pci_number.specs.Steps.{IsLooked, Absent, There, IsAlike, IsPut, IsOpened}
+use Rattle.pci_number.specs.Walked.{IsBusNumbered}
+use Rattle.pci_number.specs.Single.{IsApart, IsBusStood, IsWalkStanding}
+use Rattle.pci_number.specs.Stood.{Adds, Ends, IsOneMore}
+use Rattle.pci_number.specs.declared.look.Found.{Found}
+use Rattle.pci_number.specs.declared.walk.Walk.{Walk}
+use Rattle.pci_number.proofs.Bytes.{alike_itself, alike_subordinate, alike_then}
+use Rattle.pci_number.proofs.Opening.{shows_another}
+use Rattle.pci_number.proofs.Reached.{rest_of}
+use Rattle.pci_number.proofs.Views.{next, inside, seen_next, seen_on, seen_inside, device_is_idle, above_is_idle, same_others}
+use Rattle.pci_number.proofs.Walking.{one_more}
+use Rattle.pci_number.proofs.Apart.{shut_from, closed_spread, numbered_spread, spread_lead, single_with, apart_next, apart_inside}
+use Rattle.pci_number.proofs.Showing.{IsOpenOk}
+use Rattle.pci_number.proofs.Stood.{adds_none, adds_then, adds_more, ends_one, ends_same, ends_then, ended}
+
+pub stand_start : (before : Board) (bus last : ℕ) (start : Walk) (old : List Board) → IsWalkStanding before bus last start old 0 false start before old
+stand_start before bus last start old = λ v nodes is seen walkable closed apart. (
+  record { view = v; nodes = nodes; device = 0 },
+  record { is = is; seen = seen; past = λ never. cc never; has = rest_of nodes walkable },
+  closed,
+  apart,
+  adds_none IsSingle old,
+)
+
+-- a device
+pub stand_pass : (before now : Board) (slot : Slot) (last : ℕ) (start walk : Walk) (old new : List Board) (more : Bool) (found : Found) → slot.function ≤ 7 → IsLooked now slot more found → found.bridge ≡ false → IsWalkStanding before slot.bus last start old (code slot) more walk now new → IsWalkStanding before slot.bus last start old (code slot + 1) found.more walk now new
+stand_pass before now slot last start walk old new more found low looked none standing = λ v nodes is seen walkable closed apart.
+    let h = standing v nodes is seen walkable closed apart in
+    let d = slot.device in
+    let f = slot.function in
+    elim (looked h.0.view walk.taken last h.0.device h.0.nodes h.1.is h.1.seen low h.1.past h.1.has) [
+      | Absent device no_bridge past has ↦ (
+        record { view = h.0.view; nodes = h.0.nodes; device = device },
+        record { is = h.1.is; seen = seen_on h.0.view slot.bus (code slot) (code slot + 1) walk.taken last h.1.seen (omega arith); past = λ more_are. omega (arith, past more_are); has = has },
+        h.2,
+        h.3,
+        h.4,
+      )
+      | There image behind others device same kind inner alone past has ↦
+          let plain : is_type_1 image ≡ false = kind ∙ none in
+          let apart_here : IsApart h.0.view (Node d f image behind others) walk.taken last = subst (λ n. IsApart h.0.view n walk.taken last) same h.3 in (
+            record { view = next h.0.view d f image behind; nodes = others; device = device },
+            record {
+              is = h.1.is ∙ ap h.0.view.fill same;
+              seen = seen_next h.0.view slot.bus (code slot) (code slot + 1) walk.taken walk.taken last d f image behind h.1.seen (omega arith) (omega arith) (omega arith) (λ bus over within. device_is_idle image bus plain);
+              past = λ more_are. omega (arith, past more_are);
+              has = has;
+            },
+            (subst IsClosed same h.2).1,
+            (λ after same_after spread. apart_here (Node d f image behind after) (same_others d f image behind others after same_after) (inl ((λ bridge. absurd (both_ways (is_type_1 image) plain bridge)), spread))),
+            h.4,
+          )
+    ]
+
+-- a walk that came to a bridge
+record Bridge (now : Board) (slot : Slot) (last : ℕ) (walk : Walk) (old new : List Board) (more : Bool) : Type 0 where
+  view : View
+  image : List ℕ
+  behind : Nodes
+  others : Nodes
+  device : ℕ
+  is : now ≡ view.fill (Node slot.device slot.function image behind others)
+  seen : IsSeen view slot.bus (code slot) walk.taken last
+  bridge : is_type_1 image ≡ true
+  inner : is_walkable behind ≡ true
+  alone : all_after slot.device slot.function others ≡ true
+  past : more ≡ true → device * 8 ≤ code slot
+  has : IsRest (code slot + 1) device more others
+  shut : shows image 0 0 0 ≡ true
+  closed : IsClosed others
+  apart : IsApart view (Node slot.device slot.function image behind others) walk.taken last
+  stood : Adds IsSingle old new
+
+at_bridge : (before now : Board) (slot : Slot) (last : ℕ) (start walk : Walk) (old new : List Board) (more : Bool) (found : Found) → slot.function ≤ 7 → IsLooked now slot more found → found.bridge ≡ true → IsWalkStanding before slot.bus last start old (code slot) more walk now new → (v : View) (nodes : Nodes) → before ≡ v.fill nodes → IsSeen v slot.bus 0 start.taken last → is_walkable nodes ≡ true → IsClosed nodes → IsApart v nodes start.taken last → Bridge now slot last walk old new found.more
+at_bridge before now slot last start walk old new more found low looked one standing v nodes is seen walkable closed apart =
+    let h = standing v nodes is seen walkable closed apart in
+    elim (looked h.0.view walk.taken last h.0.device h.0.nodes h.1.is h.1.seen low h.1.past h.1.has) [
+      | Absent device no_bridge past has ↦ absurd (both_ways found.bridge no_bridge one)
+      | There image behind others device same kind inner alone past has ↦
+          let shut = subst IsClosed same h.2 in
+          record {
+            view = h.0.view;
+            image = image;
+            behind = behind;
+            others = others;
+            device = device;
+            is = h.1.is ∙ ap h.0.view.fill same;
+            seen = h.1.seen;
+            bridge = kind ∙ one;
+            inner = inner;
+            alone = alone;
+            past = past;
+            has = has;
+            shut = shut.0 (kind ∙ one);
+            closed = shut.1;
+            apart = subst (λ n. IsApart h.0.view n walk.taken last) same h.3;
+            stood = h.4;
+          }
+    ]
+
+-- numbers ran out
+pub stand_without : (before now : Board) (slot : Slot) (last : ℕ) (start walk after : Walk) (old new : List Board) (more : Bool) (found : Found) → slot.function ≤ 7 → IsLooked now slot more found → found.bridge ≡ true → after.taken ≡ walk.taken → IsWalkStanding before slot.bus last start old (code slot) more walk now new → IsWalkStanding before slot.bus last start old (code slot + 1) found.more after now new
+stand_without before now slot last start walk walk_after old new more found low looked one same_taken standing = λ v nodes is seen walkable closed apart.
+    let b = at_bridge before now slot last start walk old new more found low looked one standing v nodes is seen walkable closed apart in
+    let d = slot.device in
+    let f = slot.function in (
+      record { view = next b.view d f b.image b.behind; nodes = b.others; device = b.device },
+      record {
+        is = b.is;
+        seen = subst (λ n. IsSeen (next b.view d f b.image b.behind) slot.bus (code slot + 1) n last) (sym same_taken) (seen_next b.view slot.bus (code slot) (code slot + 1) walk.taken walk.taken last d f b.image b.behind b.seen (omega arith) (omega arith) (omega arith) (λ bus above within. above_is_idle b.image 0 0 0 bus b.shut (omega arith) (omega (arith, above))));
+        past = λ more_are. omega (arith, b.past more_are);
+        has = b.has;
+      },
+      b.closed,
+      subst (λ n. IsApart (next b.view d f b.image b.behind) b.others n last) (sym same_taken)
+          (apart_next b.view walk.taken walk.taken last d f b.image b.image b.behind b.behind b.others b.bridge (alike_itself b.image) refl b.apart (λ after spread. inl (shut_from b.image 0 b.shut, spread))),
+      b.stood,
+    )
+
+-- the bridge has its numbers, and so have those behind it
+record Stands (slot : Slot) (last : ℕ) (walk after : Walk) (view : View) (image : List ℕ) (behind others : Nodes) (now : Board) (old new : List Board) : Type 0 where
+  shown_now : List ℕ
+  nodes : Nodes
+  is : now ≡ view.fill (Node slot.device slot.function shown_now nodes others)
+  alike : IsAlike image shown_now
+  same : without_numbers nodes ≡ without_numbers behind
+  numbers : shows shown_now slot.bus (walk.taken + 1) after.taken ≡ true
+  above : walk.taken + 1 ≤ after.taken
+  within : after.taken ≤ last
+  inner : IsSpread (walk.taken + 1) after.taken nodes
+  stood : Adds IsSingle old new
+
+stand_given : (before now later : Board) (slot : Slot) (last : ℕ) (start walk after : Walk) (old new newer : List Board) (more : Bool) (found : Found) → slot.function ≤ 7 → IsLooked now slot more found → found.bridge ≡ true → walk.taken < last → IsWalkStanding before slot.bus last start old (code slot) more walk now new → ((b : Bridge now slot last walk old new found.more) → Stands slot last walk after b.view b.image b.behind b.others later old newer) → IsWalkStanding before slot.bus last start old (code slot + 1) found.more after later newer
+stand_given before now later slot last start walk walk_after old new newer more found low looked one left standing given = λ v nodes is seen walkable closed apart.
+    let b = at_bridge before now slot last start walk old new more found low looked one standing v nodes is seen walkable closed apart in
+    let n = given b in
+    let d = slot.device in
+    let f = slot.function in (
+      record { view = next b.view d f n.shown_now n.nodes; nodes = b.others; device = b.device },
+      record {
+        is = n.is;
+        seen = seen_next b.view slot.bus (code slot) (code slot + 1) walk.taken walk_after.taken last d f n.shown_now n.nodes b.seen (omega arith) (omega arith) (omega (arith, n.above)) (λ bus over within. above_is_idle n.shown_now slot.bus (walk.taken + 1) walk_after.taken bus n.numbers n.above over);
+        past = λ more_are. omega (arith, b.past more_are);
+        has = b.has;
+      },
+      b.closed,
+      apart_next b.view walk.taken walk_after.taken last d f b.image n.shown_now b.behind n.nodes b.others b.bridge n.alike n.same b.apart (λ after spread.
+          spread_lead walk.taken last slot.bus (walk.taken + 1) walk_after.taken d f n.shown_now n.nodes after n.numbers (omega arith) (omega (arith, left)) n.within (inr n.inner)
+          (subst (λ x. IsSpread x last after) (omega (arith, n.above)) spread)),
+      n.stood,
+    )
+
+opened_here : (now : Board) (slot : Slot) (last : ℕ) (walk : Walk) (old new : List Board) (more : Bool) (b : Bridge now slot last walk old new more) (bridges : Bool) (later : Board) → walk.taken < last → IsOpened now slot (walk.taken + 1) last bridges later → (shown_now : List ℕ) × (behind : Nodes) × (later ≡ b.view.fill (Node slot.device slot.function shown_now behind b.others)) × IsAlike b.image shown_now × (without_numbers behind ≡ without_numbers b.behind) × (shows shown_now slot.bus (walk.taken + 1) (if bridges then last else walk.taken + 1) ≡ true) × IsClosed behind × (has_bridges behind ≡ bridges)
+opened_here now slot last walk old new more b bridges later left gets = gets b.view walk.taken b.image b.behind b.others b.is b.seen b.alone b.bridge b.closed b.inner (omega arith) (omega (arith, left))
+
+stood_here : (now : Board) (slot : Slot) (last : ℕ) (walk : Walk) (old new newer : List Board) (more : Bool) (b : Bridge now slot last walk old new more) → walk.taken < last → IsOpenOk now slot (walk.taken + 1) last new newer → Adds IsSingle old newer
+stood_here now slot last walk old new newer more b left gets =
+    adds_then IsSingle old new newer b.stood (gets b.view walk.taken b.image b.behind b.others b.is b.seen b.alone b.bridge b.shut b.closed b.inner (omega arith) (omega (arith, left)) b.apart)
+
+pub stand_alone : (before now later : Board) (slot : Slot) (last : ℕ) (start walk : Walk) (old new newer : List Board) (more : Bool) (found : Found) → slot.function ≤ 7 → IsLooked now slot more found → found.bridge ≡ true → walk.taken < last → IsOpened now slot (walk.taken + 1) last false later → IsOpenOk now slot (walk.taken + 1) last new newer → IsWalkStanding before slot.bus last start old (code slot) more walk now new → IsWalkStanding before slot.bus last start old (code slot + 1) found.more (one_more walk) later newer
+stand_alone before now later slot last start walk old new newer more found low looked one left gets stood standing = stand_given before now later slot last start walk (one_more walk) old new newer more found low looked one left standing (λ b.
+    let o = opened_here now slot last walk old new found.more b false later left gets in
+    record {
+      shown_now = o.0;
+      nodes = o.1;
+      is = o.2;
+      alike = o.3;
+      same = o.4;
+      numbers = o.5;
+      above = omega arith;
+      within = omega (arith, left);
+      inner = closed_spread (walk.taken + 1) (walk.taken + 1) o.1 o.6;
+      stood = stood_here now slot last walk old new newer found.more b left stood;
+    })
+
+-- what is seen behind it, and that the board is single with that
+seen_there : (now : Board) (slot : Slot) (last : ℕ) (walk : Walk) (old new : List Board) (more : Bool) (b : Bridge now slot last walk old new more) (shown_now : List ℕ) → walk.taken < last → IsAlike b.image shown_now → shows shown_now slot.bus (walk.taken + 1) last ≡ true → IsSeen (inside b.view slot.device slot.function shown_now b.others) (walk.taken + 1) 0 (walk.taken + 1) last
+seen_there now slot last walk old new more b shown_now left alike numbers =
+    seen_inside b.view slot.bus (code slot) walk.taken last slot.bus (walk.taken + 1) last slot.device slot.function shown_now b.others b.seen (alike.kind ∙ b.bridge) numbers (omega arith) (omega (arith, left)) (omega arith) b.closed
+
+apart_there : (now : Board) (slot : Slot) (last : ℕ) (walk : Walk) (old new : List Board) (more : Bool) (b : Bridge now slot last walk old new more) (shown_now : List ℕ) (nodes : Nodes) → walk.taken < last → IsAlike b.image shown_now → without_numbers nodes ≡ without_numbers b.behind → shows shown_now slot.bus (walk.taken + 1) last ≡ true → IsApart (inside b.view slot.device slot.function shown_now b.others) nodes (walk.taken + 1) last
+apart_there now slot last walk old new more b shown_now nodes left alike same numbers =
+    apart_inside b.view walk.taken last (walk.taken + 1) last slot.device slot.function b.image shown_now b.behind nodes b.others b.bridge alike same b.apart (λ after spread.
+    spread_lead walk.taken last slot.bus (walk.taken + 1) last slot.device slot.function shown_now after b.others numbers (omega arith) (omega (arith, left)) (omega arith) (inr spread) (closed_spread _ last b.others b.closed))
+
+-- such boards stood while the bridges behind it got their numbers, where that was done and where it stopped
+abbrev pub IsBusOk : Board → ℕ → ℕ → Walk → List Board → List Board → Type 0
+IsBusOk before bus last start old new = (v : View) (nodes : Nodes) → before ≡ v.fill nodes → IsSeen v bus 0 start.taken last → is_walkable nodes ≡ true → IsClosed nodes → IsApart v nodes start.taken last → Adds IsSingle old new
+
+abbrev pub IsBusEnd : Board → ℕ → ℕ → Walk → List Board → List Board → Type 0
+IsBusEnd before bus last start old new = (v : View) (nodes : Nodes) → before ≡ v.fill nodes → IsSeen v bus 0 start.taken last → is_walkable nodes ≡ true → IsClosed nodes → IsApart v nodes start.taken last → Ends IsSingle old new
+
+abbrev pub IsOpenEnd : Board → Slot → ℕ → ℕ → List Board → List Board → Type 0
+IsOpenEnd before slot bus last old new = (v : View) (high : ℕ) (image : List ℕ) (behind others : Nodes) → before ≡ v.fill (Node slot.device slot.function image behind others) → IsSeen v slot.bus (code slot) high last → all_after slot.device slot.function others ≡ true → is_type_1 image ≡ true → shows image 0 0 0 ≡ true → IsClosed others → is_walkable behind ≡ true → high + 1 ≤ bus → bus ≤ last → IsApart v (Node slot.device slot.function image behind others) high last → Ends IsSingle old new
+
+module _ (before now : Board) (slot : Slot) (last : ℕ) (start walk : Walk) (old new newer : List Board) (more : Bool) (found : Found) (low : slot.function ≤ 7) (looked : IsLooked now slot more found) (one : found.bridge ≡ true) (left : walk.taken < last) (standing : IsWalkStanding before slot.bus last start old (code slot) more walk now new) where
+  pub stand_left_open : {T E : Type 0} → (r : Result T E) → IsErr r → IsOpenEnd now slot (walk.taken + 1) last new newer → IsBusStood before slot.bus last start old r newer
+  stand_left_open r err gets = λ v nodes is seen walkable closed apart.
+      let b = at_bridge before now slot last start walk old new more found low looked one standing v nodes is seen walkable closed apart in
+      ended IsSingle r old newer err (ends_then IsSingle old new newer b.stood
+      (gets b.view walk.taken b.image b.behind b.others b.is b.seen b.alone b.bridge b.shut b.closed b.inner (omega arith) (omega (arith, left)) b.apart))
+
+  module _ (mid : Board) (gets : IsOpened now slot (walk.taken + 1) last true mid) (stood : IsOpenOk now slot (walk.taken + 1) last new newer) (newest : List Board) where
+    pub stand_left_bus : {T E : Type 0} → (r : Result T E) → IsErr r → IsBusEnd mid (walk.taken + 1) last (one_more walk) newer newest → IsBusStood before slot.bus last start old r newest
+    stand_left_bus r err bus = λ v nodes is seen walkable closed apart.
+        let b = at_bridge before now slot last start walk old new more found low looked one standing v nodes is seen walkable closed apart in
+        let o = opened_here now slot last walk old new found.more b true mid left gets in
+        ended IsSingle r old newest err (ends_then IsSingle old newer newest (stood_here now slot last walk old new newer found.more b left stood)
+        (bus (inside b.view slot.device slot.function o.0 b.others) o.1 o.2 (seen_there now slot last walk old new found.more b o.0 left o.3 o.5) (same_walk o.1 b.behind o.4 ∙ b.inner) o.6
+        (apart_there now slot last walk old new found.more b o.0 o.1 left o.3 o.4 o.5)))
+
+    bus_stood : (b : Bridge now slot last walk old new found.more) → IsBusOk mid (walk.taken + 1) last (one_more walk) newer newest → Adds IsSingle old newest
+    bus_stood b bus =
+        let o = opened_here now slot last walk old new found.more b true mid left gets in
+        adds_then IsSingle old newer newest (stood_here now slot last walk old new newer found.more b left stood)
+        (bus (inside b.view slot.device slot.function o.0 b.others) o.1 o.2 (seen_there now slot last walk old new found.more b o.0 left o.3 o.5) (same_walk o.1 b.behind o.4 ∙ b.inner) o.6
+        (apart_there now slot last walk old new found.more b o.0 o.1 left o.3 o.4 o.5))
+
+    module _ (bus : IsBusOk mid (walk.taken + 1) last (one_more walk) newer newest) (later : Board) (final : List Board) (put_stood : IsOneMore newest later final) where
+      pub stand_left_put : {T E : Type 0} → (r : Result T E) → IsErr r → IsBusStood before slot.bus last start old r final
+      stand_left_put r err = λ v nodes is seen walkable closed apart.
+          let b = at_bridge before now slot last start walk old new more found low looked one standing v nodes is seen walkable closed apart in
+          ended IsSingle r old final err (ends_one IsSingle old newest later final (bus_stood b bus) put_stood)
+
+      pub stand_wide : (far : Board) (after : Walk) → IsBusNumbered mid (walk.taken + 1) last (one_more walk) after far → walk.taken + 1 ≤ after.taken → IsPut far slot 0x1a after.taken later → IsWalkStanding before slot.bus last start old (code slot + 1) found.more after later final
+      stand_wide far after numbered above put = stand_given before now later slot last start walk after old new final more found low looked one left standing (λ b.
+          let o = opened_here now slot last walk old new found.more b true mid left gets in
+          let r = numbered (inside b.view slot.device slot.function o.0 b.others) o.1 o.2 (seen_there now slot last walk old new found.more b o.0 left o.3 o.5) (same_walk o.1 b.behind o.4 ∙ b.inner) o.6 in
+          let p = put b.view walk.taken last o.0 r.0 b.others r.1 b.seen b.alone in
+          let alike = alike_then b.image o.0 p.0 o.3 (alike_subordinate o.0 p.0 p.2) in
+          let numbers : shows p.0 slot.bus (walk.taken + 1) after.taken ≡ true = shows_another o.0 p.0 slot.bus (walk.taken + 1) last after.taken o.5 p.2 p.3 in
+          let within : after.taken ≤ last = omega (arith, r.4, within_last (λ i. 0) last (walk.taken + 1) (walk.taken + 1) r.0 r.3 (omega (arith, left))) in
+          let inner : IsSpread (walk.taken + 1) after.taken r.0 = subst (λ n. IsSpread (walk.taken + 1) n r.0) (sym r.4) (numbered_spread last (walk.taken + 1) (walk.taken + 1) r.0 r.3) in
+          record {
+            shown_now = p.0;
+            nodes = r.0;
+            is = p.1;
+            alike = alike;
+            same = r.2 ∙ o.4;
+            numbers = numbers;
+            above = above;
+            within = within;
+            inner = inner;
+            stood = adds_more IsSingle old newest later final (bus_stood b bus) put_stood
+                (single_with b.view walk.taken last slot.device slot.function b.image p.0 b.behind r.0 b.others b.bridge alike (r.2 ∙ o.4) b.apart
+                (spread_lead walk.taken last slot.bus (walk.taken + 1) after.taken slot.device slot.function p.0 r.0 b.others numbers (omega arith) (omega (arith, left)) within (inr inner) (closed_spread _ last b.others b.closed)) later p.1);
+          })
+
+-- ---- where it stops, or is done
+
+pub stand_left : {T E : Type 0} → (before now : Board) (bus place last : ℕ) (start walk : Walk) (old mid new : List Board) (more : Bool) (r : Result T E) → IsErr r → new ≡ mid → IsWalkStanding before bus last start old place more walk now mid → IsBusStood before bus last start old r new
+stand_left before now bus place last start walk old mid new more r err same standing = λ v nodes is seen walkable closed apart.
+    let h = standing v nodes is seen walkable closed apart in
+    ended IsSingle r old new err (ends_same IsSingle old mid new h.4 same)
+
+pub stand_done : (before now : Board) (bus place last : ℕ) (start walk : Walk) (old new : List Board) (more : Bool) → IsWalkStanding before bus last start old place more walk now new → IsBusOk before bus last start old new
+stand_done before now bus place last start walk old new more standing = λ v nodes is seen walkable closed apart. (standing v nodes is seen walkable closed apart).4

@@ -1,0 +1,72 @@
+-- Bridges on a bus that forward less than they did.
+use Rattle.std.specs.Prelude.{◌≡◌, ℕ, ◌<◌, ◌≤◌, ◌⊎◌, true, Bool, if◌then◌else◌, List, length, Result}
+use Rattle.pci_spec.specs.Slot.{Slot}
+use Rattle.pci_spec.specs.Header.{secondary_bus, subordinate_bus}
+use Rattle.number_spec.specs.Board.{Nodes, NoMore, Node, Board, is_type_1, behind_bridges}
+use Rattle.number_spec.specs.Walk.{all_after, is_walkable}
+use Rattle.number_spec.specs.Numbered.{with_numbers, without_numbers}
+use Rattle.number_spec.specs.Spread.{IsShut}
+use Rattle.pci_number.specs.Seen.{View, code, IsSeen}
+use Rattle.pci_number.specs.Steps.{IsAlike}
+use Rattle.pci_number.specs.Hushing.{Rest, IsRestOf}
+use Rattle.pci_number.specs.Stood.{Adds, AddsOrEnds}
+
+-- the nodes with the bus numbers of the bridges on this bus alone taken away
+abbrev pub without_own_numbers : Nodes → Nodes
+without_own_numbers NoMore = NoMore
+without_own_numbers (Node device function image behind others) =
+    Node device function (if is_type_1 image then with_numbers 0 0 0 image else image) behind
+    (without_own_numbers others)
+
+-- no bridge on a bus forwards anything
+abbrev pub AreShut : Nodes → Type 0
+AreShut NoMore = Unit {0}
+AreShut (Node device function image behind others) = IsShut image × AreShut others
+
+-- a bridge passes on no bus beyond its own, and that one only if it did before
+abbrev pub IsLess : List ℕ → List ℕ → Type 0
+IsLess image new =
+    (subordinate_bus new ≡ 0)
+    × ((secondary_bus new ≡ secondary_bus image) ⊎ (secondary_bus new ≡ 0))
+
+-- The nodes on a bus are as they were but for bus numbers of bridges on it, and no access gets more answers
+-- from behind them.
+pub record IsLessOf (nodes : Nodes) (after : Nodes) : Type 0 where
+  pub same : without_numbers after ≡ without_numbers nodes
+  pub own : without_own_numbers after ≡ without_own_numbers nodes
+  pub less : (access : Slot) → 0 < access.bus
+      → length (behind_bridges after access) ≤ length (behind_bridges nodes access)
+
+-- While a bridge is closed it is alike, and forwards less.
+abbrev pub IsCloseStood : {T E : Type 0} → Board → Slot → List Board → Result T E → List Board → Type 0
+IsCloseStood before slot old result new =
+    (v : View) (high last : ℕ) (image : List ℕ) (behind others : Nodes)
+    → before ≡ v.fill (Node slot.device slot.function image behind others)
+    → IsSeen v slot.bus (code slot) high last → all_after slot.device slot.function others ≡ true
+    → AddsOrEnds (λ b. (less : List ℕ)
+    × (b ≡ v.fill (Node slot.device slot.function less behind others))
+    × IsAlike image less × IsLess image less) result old new
+
+-- a board with less behind these nodes
+abbrev pub HasLess : View → Nodes → Board → Type 0
+HasLess v nodes board = (after : Nodes) × (board ≡ v.fill after) × IsLessOf nodes after
+
+-- While the bridges on a bus are closed they forward less.
+abbrev pub IsHushStood : {T E : Type 0} → Board → ℕ → List Board → Result T E → List Board → Type 0
+IsHushStood before bus old result new =
+    (v : View) (high last : ℕ) (nodes : Nodes) → before ≡ v.fill nodes
+    → IsSeen v bus 0 high last → is_walkable nodes ≡ true → AddsOrEnds (HasLess v nodes) result old new
+
+-- what forwards less from a place on does so on the whole bus
+abbrev pub LessUpTo : View → Nodes → Rest → Type 0
+LessUpTo v nodes rest =
+    (after : Nodes) → IsLessOf rest.nodes after
+    → (whole : Nodes) × (rest.view.fill after ≡ v.fill whole) × IsLessOf nodes whole
+
+-- the closing of the bridges on a bus under way
+abbrev pub IsHushStanding : Board → ℕ → List Board → ℕ → Bool → Board → List Board → Type 0
+IsHushStanding before bus old place more now new =
+    (v : View) (high last : ℕ) (nodes : Nodes) → before ≡ v.fill nodes
+    → IsSeen v bus 0 high last → is_walkable nodes ≡ true
+    → (rest : Rest) × IsRestOf now bus place 0 0 more rest × LessUpTo v nodes rest
+    × Adds (HasLess v nodes) old new

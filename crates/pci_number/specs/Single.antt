@@ -1,0 +1,82 @@
+-- The board is single while numbers are given.
+use Rattle.std.specs.Prelude.{◌≡◌, ℕ, ◌+◌, ◌≤◌, true, Bool, List, Result}
+use Rattle.pci_spec.specs.Slot.{Slot}
+use Rattle.number_spec.specs.Board.{Nodes, NoMore, Node, Board, is_type_1, IsSingle}
+use Rattle.number_spec.specs.Access.{nodes_behind, with_nodes}
+use Rattle.number_spec.specs.Walk.{all_after, is_walkable}
+use Rattle.number_spec.specs.Room.{shows}
+use Rattle.number_spec.specs.Numbered.{without_numbers}
+use Rattle.number_spec.specs.Spread.{IsSpread}
+use Rattle.pci_number.specs.Seen.{View, code, IsSeen, IsClosed}
+use Rattle.pci_number.specs.Hushing.{Rest, IsRestOf}
+use Rattle.pci_number.specs.Less.{without_own_numbers, AreShut}
+use Rattle.pci_number.specs.Stood.{Adds, AddsOrEnds}
+use Rattle.pci_number.specs.declared.walk.Walk.{Walk}
+
+-- The board is single with these nodes where their bridges are spread over the buses above `high`, up to `last`.
+abbrev pub IsApart : View → Nodes → ℕ → ℕ → Type 0
+IsApart v nodes high last =
+    (after : Nodes) → without_numbers after ≡ without_numbers nodes → IsSpread high last after
+    → IsSingle (v.fill after)
+
+-- A bridge that forwards nothing gets a bus.
+abbrev pub IsShowStood : {T E : Type 0} → Board → Slot → ℕ → List Board → Result T E → List Board → Type 0
+IsShowStood before slot bus old result new =
+    (v : View) (high last : ℕ) (image : List ℕ) (behind others : Nodes)
+    → before ≡ v.fill (Node slot.device slot.function image behind others)
+    → IsSeen v slot.bus (code slot) high last → all_after slot.device slot.function others ≡ true
+    → is_type_1 image ≡ true → shows image 0 0 0 ≡ true → IsClosed others
+    → high + 1 ≤ bus → bus ≤ last
+    → IsApart v (Node slot.device slot.function image behind others) high last
+    → AddsOrEnds IsSingle result old new
+
+-- The same, and the bridges on that bus are closed.
+abbrev pub IsOpenStood : {T E : Type 0} → Board → Slot → ℕ → ℕ → List Board → Result T E → List Board → Type 0
+IsOpenStood before slot bus last old result new =
+    (v : View) (high : ℕ) (image : List ℕ) (behind others : Nodes)
+    → before ≡ v.fill (Node slot.device slot.function image behind others)
+    → IsSeen v slot.bus (code slot) high last → all_after slot.device slot.function others ≡ true
+    → is_type_1 image ≡ true → shows image 0 0 0 ≡ true → IsClosed others
+    → is_walkable behind ≡ true → high + 1 ≤ bus → bus ≤ last
+    → IsApart v (Node slot.device slot.function image behind others) high last
+    → AddsOrEnds IsSingle result old new
+
+-- The bridges on a bus, which are closed, and those behind them get their numbers.
+abbrev pub IsBusStood : {T E : Type 0} → Board → ℕ → ℕ → Walk → List Board → Result T E → List Board → Type 0
+IsBusStood before bus last start old result new =
+    (v : View) (nodes : Nodes) → before ≡ v.fill nodes
+    → IsSeen v bus 0 start.taken last → is_walkable nodes ≡ true → IsClosed nodes
+    → IsApart v nodes start.taken last → AddsOrEnds IsSingle result old new
+
+-- the walk over a bus under way
+abbrev pub IsWalkStanding : Board → ℕ → ℕ → Walk → List Board → ℕ → Bool → Walk → Board → List Board → Type 0
+IsWalkStanding before bus last start old place more walk now new =
+    (v : View) (nodes : Nodes) → before ≡ v.fill nodes
+    → IsSeen v bus 0 start.taken last → is_walkable nodes ≡ true → IsClosed nodes
+    → IsApart v nodes start.taken last
+    → (rest : Rest) × IsRestOf now bus place walk.taken last more rest × IsClosed rest.nodes
+    × IsApart rest.view rest.nodes walk.taken last × Adds IsSingle old new
+
+-- What is behind the other roots is single.
+abbrev pub IsSingleBeside : Board → ℕ → Type 0
+IsSingleBeside before root = IsSingle (with_nodes before root NoMore)
+
+-- A board that stood while the bridges on the root bus were closed.
+pub record IsHushBoard (before : Board) (root : ℕ) (board : Board) : Type 0 where
+  -- it is as it was but for the bus numbers of the bridges on that bus
+  pub others : board ≡ with_nodes before root (nodes_behind board root)
+  pub own : without_own_numbers (nodes_behind board root) ≡ without_own_numbers (nodes_behind before root)
+  -- it is single if the board was at the start, or if no bridge on that bus forwards anything
+  pub single : IsSingle before → IsSingle board
+  pub shut : IsSingleBeside before root → AreShut (nodes_behind board root) → IsSingle board
+
+-- The boards that stood after each write. Where numbering stopped with an error, nothing is said of the one after
+-- its last write: that may have left another number.
+pub record IsSingleThroughout {T E : Type 0} (before : Board) (root : ℕ) (answer : Result T E) (old : List Board) (new : List Board) : Type 0 where
+  -- those that stood until the bridges on the root bus were closed
+  pub hushed : List Board
+  pub hushing : Adds (IsHushBoard before root) old hushed
+  -- each board after that is single,
+  pub later : IsSingleBeside before root → AddsOrEnds IsSingle answer hushed new
+  -- and each at all, if the board was single at the start
+  pub always : IsSingle before → AddsOrEnds IsSingle answer old new
