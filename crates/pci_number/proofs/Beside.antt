@@ -5,7 +5,7 @@ use Rattle.std.specs.List.{filter, flat_map, list_all}
 use Rattle.std.proofs.lemmas.Bool.{and_parts, eqb-true, leb-true, cases_Bool, eqb-false}
 use Rattle.std.proofs.lemmas.List.{length-map}
 use Rattle.pci_spec.specs.Slot.{Slot}
-use Rattle.number_spec.specs.Board.{Nodes, NoMore, Root, Board, at_root, goes_to, behind_bridges, answers, IsSingle}
+use Rattle.number_spec.specs.Board.{Nodes, NoMore, Node, Root, Board, on_bus, at_root, goes_to, behind_bridges, answers, IsSingle}
 use Rattle.number_spec.specs.Access.{nodes_behind, with_nodes}
 use Rattle.number_spec.specs.Walk.{is_rising, is_all_found}
 use Rattle.number_spec.specs.Numbered.{without_numbers}
@@ -13,10 +13,18 @@ use Rattle.number_spec.specs.Ready.{IsReady}
 use Rattle.number_spec.proofs.Kept.{same_walk}
 use Rattle.number_spec.proofs.Single.{once_on_bus}
 use Rattle.number_spec.proofs.Spread.{once_at_root}
-use Rattle.pci_number.specs.Less.{IsLessOf}
+use Rattle.pci_number.specs.Less.{without_own_numbers, IsLessOf}
 use Rattle.pci_number.specs.Single.{IsApart, IsSingleBeside}
 use Rattle.pci_number.proofs.RootView.{root_of, same_nodes, only_there}
 use Rattle.pci_number.proofs.Roots.{append_nothing, root_view, with_root}
+
+-- who is on a bus hangs on no bus number
+on_bus_still : (nodes : Nodes) (access : Slot) → on_bus (without_own_numbers nodes) access ≡ on_bus nodes access
+on_bus_still NoMore access = refl
+on_bus_still (Node d f image behind others) access = rw (on_bus_still others access) refl
+
+same_on_bus : (first second : Nodes) (access : Slot) → without_own_numbers second ≡ without_own_numbers first → on_bus second access ≡ on_bus first access
+same_on_bus first second access same = sym (on_bus_still second access) ∙ ap (λ n. on_bus n access) same ∙ on_bus_still first access
 
 -- where an access goes hangs on the numbers of the roots alone
 all_same : (n bus root : ℕ) (nodes : Nodes) (roots : List Root) → list_all (λ other. nat_le other.number n || nat_lt bus other.number) (with_nodes roots root nodes) ≡ list_all (λ other. nat_le other.number n || nat_lt bus other.number) roots
@@ -103,3 +111,18 @@ module _ (board : Board) (root last : ℕ) (ready : IsReady board root last) whe
   apart_at_root nodes same beside = λ after same_after spread. single_from after beside (λ access goes.
       once_at_root root last after spread (rising_still after (same_after ∙ same)) access
       (leb-true root access.bus (and_parts (nat_le root access.bus) (list_all (λ o. nat_le o.number root || nat_lt access.bus o.number) board) goes).0))
+
+  -- where there is less behind the root no access has more answers
+  pub fewer_answers : (first second : Nodes) → IsLessOf first second → (access : Slot) → length (answers (with_nodes board root second) access) ≤ length (answers (with_nodes board root first) access)
+  fewer_answers first second less access = elim (cases_Bool (goes_to board access.bus (root_of root NoMore))) [
+    | inl goes ↦
+        let few : length (at_root (root_of root second) access) ≤ length (at_root (root_of root first) access) = elim (cases_Bool (root == access.bus)) [
+          | inl own ↦ rw (own, same_on_bus first second access less.own) (omega arith)
+          | inr other ↦
+              let from = leb-true root access.bus (and_parts (nat_le root access.bus) (list_all (λ o. nat_le o.number root || nat_lt access.bus o.number) board) goes).0 in
+              let apart = eqb-false root access.bus other in
+              rw other (less.less access (omega arith))
+        ] in
+        omega (arith, few, count_at first access goes, count_at second access goes)
+    | inr elsewhere ↦ subst (λ xs. length xs ≤ length (answers (with_nodes board root first) access)) (others_answer board root first second access elsewhere board) (omega arith)
+  ]

@@ -43,6 +43,13 @@ two_parts xs less_xs ys less_ys first second =
 pub less_itself : (nodes : Nodes) → IsLessOf nodes nodes
 less_itself nodes = record { same = refl; own = refl; less = λ access above. omega arith }
 
+pub less_then : (first second third : Nodes) → IsLessOf first second → IsLessOf second third → IsLessOf first third
+less_then first second third a b = record {
+  same = b.same ∙ a.same;
+  own = b.own ∙ a.own;
+  less = λ access above. omega (arith, a.less access above, b.less access above);
+}
+
 -- a node is kept
 pub less_after : (d f : ℕ) (image : List ℕ) (behind others after : Nodes) → IsLessOf others after → IsLessOf (Node d f image behind others) (Node d f image behind after)
 less_after d f image behind others after rest = record {

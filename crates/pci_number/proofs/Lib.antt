@@ -15,6 +15,7 @@ pub mod Again
 pub mod Left
 pub mod Few
 pub mod Stood
+pub mod Steady
 pub mod Less
 pub mod Closing
 pub mod Apart

@@ -230,14 +230,14 @@ module _ (before now : Board) (slot : Slot) (last : ℕ) (start walk : Walk) (ol
         (bus (inside b.view slot.device slot.function o.0 b.others) o.1 o.2 (seen_there now slot last walk old new found.more b o.0 left o.3 o.5) (same_walk o.1 b.behind o.4 ∙ b.inner) o.6
         (apart_there now slot last walk old new found.more b o.0 o.1 left o.3 o.4 o.5))
 
-    module _ (bus : IsBusOk mid (walk.taken + 1) last (one_more walk) newer newest) (later : Board) (final : List Board) (put_stood : IsOneMore newest later final) where
+    module _ (bus : IsBusOk mid (walk.taken + 1) last (one_more walk) newer newest) (later : Board) (final : List Board) (far : Board) (put_stood : IsOneMore far newest later final) where
       pub stand_left_put : {T E : Type 0} → (r : Result T E) → IsErr r → IsBusStood before slot.bus last start old r final
       stand_left_put r err = λ v nodes is seen walkable closed apart.
           let b = at_bridge before now slot last start walk old new more found low looked one standing v nodes is seen walkable closed apart in
-          ended IsSingle r old final err (ends_one IsSingle old newest later final (bus_stood b bus) put_stood)
+          ended IsSingle r old final err (ends_one IsSingle far old newest later final (bus_stood b bus) put_stood)
 
-      pub stand_wide : (far : Board) (after : Walk) → IsBusNumbered mid (walk.taken + 1) last (one_more walk) after far → walk.taken + 1 ≤ after.taken → IsPut far slot 0x1a after.taken later → IsWalkStanding before slot.bus last start old (code slot + 1) found.more after later final
-      stand_wide far after numbered above put = stand_given before now later slot last start walk after old new final more found low looked one left standing (λ b.
+      pub stand_wide : (after : Walk) → IsBusNumbered mid (walk.taken + 1) last (one_more walk) after far → walk.taken + 1 ≤ after.taken → IsPut far slot 0x1a after.taken later → IsWalkStanding before slot.bus last start old (code slot + 1) found.more after later final
+      stand_wide after numbered above put = stand_given before now later slot last start walk after old new final more found low looked one left standing (λ b.
           let o = opened_here now slot last walk old new found.more b true mid left gets in
           let r = numbered (inside b.view slot.device slot.function o.0 b.others) o.1 o.2 (seen_there now slot last walk old new found.more b o.0 left o.3 o.5) (same_walk o.1 b.behind o.4 ∙ b.inner) o.6 in
           let p = put b.view walk.taken last o.0 r.0 b.others r.1 b.seen b.alone in
@@ -255,7 +255,7 @@ module _ (before now : Board) (slot : Slot) (last : ℕ) (start walk : Walk) (ol
             above = above;
             within = within;
             inner = inner;
-            stood = adds_more IsSingle old newest later final (bus_stood b bus) put_stood
+            stood = adds_more IsSingle far old newest later final (bus_stood b bus) put_stood
                 (single_with b.view walk.taken last slot.device slot.function b.image p.0 b.behind r.0 b.others b.bridge alike (r.2 ∙ o.4) b.apart
                 (spread_lead walk.taken last slot.bus (walk.taken + 1) after.taken slot.device slot.function p.0 r.0 b.others numbers (omega arith) (omega (arith, left)) within (inr inner) (closed_spread _ last b.others b.closed)) later p.1);
           })

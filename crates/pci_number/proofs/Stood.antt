@@ -8,11 +8,7 @@ each_both : (P : Board → Type 0) (xs ys : List Board) → Each P xs → Each P
 each_both P [] ys px py = py
 each_both P (x ∷ xs) ys px py = (px.0, each_both P xs ys px.1 py)
 
-each_as : (P Q : Board → Type 0) → ((b : Board) → P b → Q b) → (xs : List Board) → Each P xs → Each Q xs
-each_as P Q so [] px = tt
-each_as P Q so (x ∷ xs) px = (so x px.0, each_as P Q so xs px.1)
-
-join : (xs ys zs : List Board) → xs ++ (ys ++ zs) ≡ (xs ++ ys) ++ zs
+pub join : (xs ys zs : List Board) → xs ++ (ys ++ zs) ≡ (xs ++ ys) ++ zs
 join [] ys zs = refl
 join (x ∷ xs) ys zs = ap (λ rest. x ∷ rest) (join xs ys zs)
 
@@ -22,17 +18,14 @@ adds_none P old = ([], refl, tt)
 pub adds_then : (P : Board → Type 0) (old mid new : List Board) → Adds P old mid → Adds P mid new → Adds P old new
 adds_then P old mid new a b = (b.0 ++ a.0, b.1 ∙ ap (λ xs. b.0 ++ xs) a.1 ∙ join b.0 a.0 old, each_both P b.0 a.0 b.2 a.2)
 
-pub adds_one : (P : Board → Type 0) (old : List Board) (board : Board) (new : List Board) → IsOneMore old board new → P board → Adds P old new
-adds_one P old board new more said = elim more [ inl same ↦ ([], same, tt) | inr one ↦ (board ∷ [], one, (said, tt)) ]
+pub adds_one : (P : Board → Type 0) (was : Board) (old : List Board) (board : Board) (new : List Board) → IsOneMore was old board new → P board → Adds P old new
+adds_one P was old board new more said = elim more [ inl same ↦ ([], same.1, tt) | inr one ↦ (board ∷ [], one, (said, tt)) ]
 
-pub adds_more : (P : Board → Type 0) (old mid : List Board) (board : Board) (new : List Board) → Adds P old mid → IsOneMore mid board new → P board → Adds P old new
-adds_more P old mid board new before more said = adds_then P old mid new before (adds_one P mid board new more said)
+pub adds_more : (P : Board → Type 0) (was : Board) (old mid : List Board) (board : Board) (new : List Board) → Adds P old mid → IsOneMore was mid board new → P board → Adds P old new
+adds_more P was old mid board new before more said = adds_then P old mid new before (adds_one P was mid board new more said)
 
-pub adds_as : (P Q : Board → Type 0) → ((b : Board) → P b → Q b) → (old new : List Board) → Adds P old new → Adds Q old new
-adds_as P Q so old new a = (a.0, a.1, each_as P Q so a.0 a.2)
-
-pub ends_one : (P : Board → Type 0) (old mid : List Board) (board : Board) (new : List Board) → Adds P old mid → IsOneMore mid board new → Ends P old new
-ends_one P old mid board new before more = (mid, before, elim more [ inl same ↦ inl same | inr one ↦ inr (board, one) ])
+pub ends_one : (P : Board → Type 0) (was : Board) (old mid : List Board) (board : Board) (new : List Board) → Adds P old mid → IsOneMore was mid board new → Ends P old new
+ends_one P was old mid board new before more = (mid, before, elim more [ inl same ↦ inl same.1 | inr one ↦ inr (board, one) ])
 
 pub ends_same : (P : Board → Type 0) (old mid new : List Board) → Adds P old mid → new ≡ mid → Ends P old new
 ends_same P old mid new before same = (mid, before, inl same)
@@ -40,15 +33,8 @@ ends_same P old mid new before same = (mid, before, inl same)
 pub ends_then : (P : Board → Type 0) (old mid new : List Board) → Adds P old mid → Ends P mid new → Ends P old new
 ends_then P old mid new before ends = (ends.0, adds_then P old mid ends.0 before ends.1, ends.2)
 
-pub ends_as : (P Q : Board → Type 0) → ((b : Board) → P b → Q b) → (old new : List Board) → Ends P old new → Ends Q old new
-ends_as P Q so old new ends = (ends.0, adds_as P Q so old ends.0 ends.1, ends.2)
-
 -- ---- by an outcome
 
 pub ended : {T E : Type 0} → (P : Board → Type 0) (r : Result T E) (old new : List Board) → IsErr r → Ends P old new → AddsOrEnds P r old new
 ended P (Ok x) old new err ends = cc err
 ended P (Err e) old new err ends = ends
-
-pub or_then : {T E : Type 0} → (P : Board → Type 0) (r : Result T E) (old mid new : List Board) → Adds P old mid → AddsOrEnds P r mid new → AddsOrEnds P r old new
-or_then P (Ok x) old mid new before rest = adds_then P old mid new before rest
-or_then P (Err e) old mid new before rest = ends_then P old mid new before rest

@@ -1,73 +1,80 @@
 -- The board is single while numbers are given behind a root.
-use Rattle.std.proofs.Common.{ℕ, Bool, refl, sym, ◌∙◌, ap, subst, List, Result, Ok}
+use Rattle.std.proofs.Common.{ℕ, ◌≤◌, length, Bool, refl, sym, ◌∙◌, ap, subst, List, Result, Ok}
 use Rattle.std.specs.Result.{IsErr}
-use Rattle.number_spec.specs.Board.{Board, IsSingle}
+use Rattle.number_spec.specs.Board.{Board, answers, IsSingle}
 use Rattle.number_spec.specs.Access.{nodes_behind, with_nodes}
 use Rattle.number_spec.specs.Ready.{IsReady}
 use Rattle.number_spec.proofs.Kept.{same_walk}
 use Rattle.pci_number.specs.Steps.{IsHushed}
-use Rattle.pci_number.specs.Less.{without_own_numbers, AreShut, HasLess}
-use Rattle.pci_number.specs.Single.{IsHushBoard, IsSingleBeside, IsSingleThroughout}
-use Rattle.pci_number.specs.Stood.{Adds, Ends}
+use Rattle.pci_number.specs.Less.{without_own_numbers, AreShut, IsLessStep}
+use Rattle.pci_number.specs.Single.{IsHushStep, IsSingleBeside, IsSingleThroughout}
+use Rattle.pci_number.specs.Stood.{Adds, Ends, AddsSteps}
 use Rattle.pci_number.proofs.RootView.{same_nodes}
 use Rattle.pci_number.proofs.Roots.{root_view, seen_root, behind_it, start}
 use Rattle.pci_number.proofs.Apart.{shut_spread}
-use Rattle.pci_number.proofs.Beside.{single_beside, less_is_single, apart_at_root}
+use Rattle.pci_number.proofs.Beside.{single_beside, less_is_single, apart_at_root, fewer_answers}
 use Rattle.pci_number.proofs.Showing.{IsHushOk, IsHushEnd}
 use Rattle.pci_number.proofs.Standing.{IsBusOk, IsBusEnd}
-use Rattle.pci_number.proofs.Stood.{adds_none, adds_then, adds_as, ends_then, ends_as, ended}
+use Rattle.pci_number.proofs.Steady.{steps_as, steps_add, stops_end}
+use Rattle.pci_number.proofs.Less.{less_then}
+use Rattle.pci_number.proofs.Stood.{adds_none, adds_then, ends_then, ended}
 
-hush_board : (before : Board) (root last : ℕ) → IsReady before root last → (b : Board) → HasLess (root_view before root) (nodes_behind before root) b → IsHushBoard before root b
-hush_board before root last ready b has =
-    let there = behind_it before b root last has.0 ready has.1 in
+hush_step : (before : Board) (root last : ℕ) → IsReady before root last → (was b : Board) → IsLessStep (root_view before root) (nodes_behind before root) was b → IsHushStep before root was b
+hush_step before root last ready was b step =
+    let there = behind_it before b root last step.to ready step.is in
+    let less = less_then (nodes_behind before root) step.from step.to step.start step.less in
     record {
-      others = has.1 ∙ ap (with_nodes before root) (sym there);
-      own = ap without_own_numbers there ∙ has.2.own;
-      single = λ single. subst IsSingle (sym has.1) (less_is_single before root last ready has.0 has.2 single);
-      shut = λ beside shut. subst IsSingle (sym has.1) (apart_at_root before root last ready has.0 has.2.same beside has.0 refl (shut_spread root last has.0 (subst AreShut there shut)));
+      others = step.is ∙ ap (with_nodes before root) (sym there);
+      own = ap without_own_numbers there ∙ less.own;
+      fewer = λ access. subst (λ x. length (answers x access) ≤ length (answers was access)) (sym step.is)
+          (subst (λ y. length (answers (with_nodes before root step.to) access) ≤ length (answers y access)) (sym step.was_it) (fewer_answers before root last ready step.from step.to step.less access));
+      shut = λ beside shut. subst IsSingle (sym step.is) (apart_at_root before root last ready step.to less.same beside step.to refl (shut_spread root last step.to (subst AreShut there shut)));
     }
 
-still_single : (before : Board) (root last : ℕ) → IsReady before root last → IsSingle before → (b : Board) → HasLess (root_view before root) (nodes_behind before root) b → IsSingle b
-still_single before root last ready single b has = (hush_board before root last ready b has).single single
+still_single : (before : Board) (root last : ℕ) → IsReady before root last → IsSingle before → (was b : Board) → IsLessStep (root_view before root) (nodes_behind before root) was b → IsSingle b
+still_single before root last ready single was b step = subst IsSingle (sym step.is) (less_is_single before root last ready step.to (less_then (nodes_behind before root) step.from step.to step.start step.less) single)
 
 -- the closing of the bridges on the root bus stopped
 pub throughout_hush : {T E : Type 0} → (before : Board) (root last : ℕ) (old new : List Board) (r : Result T E) → IsErr r → IsHushEnd before root old new → IsReady before root last → IsSingleThroughout before root r old new
 throughout_hush before root last old new r err hush = λ ready.
-    let has = HasLess (root_view before root) (nodes_behind before root) in
+    let R = IsLessStep (root_view before root) (nodes_behind before root) in
     let ends = hush (root_view before root) root last (nodes_behind before root) (sym (same_nodes root before ready.one)) (seen_root before root last ready) ready.walkable in
     record {
-      hushed = ends.0;
-      hushing = adds_as has (IsHushBoard before root) (hush_board before root last ready) old ends.0 ends.1;
-      later = λ beside. ended IsSingle r ends.0 new err (ends.0, adds_none IsSingle ends.0, ends.2);
-      always = λ single. ended IsSingle r old new err (ends_as has IsSingle (still_single before root last ready single) old new ends);
+      closed = ends.0;
+      hushed = ends.1;
+      hushing = steps_as R (IsHushStep before root) (hush_step before root last ready) before old ends.0 ends.1 ends.2;
+      later = λ beside. ended IsSingle r ends.1 new err (ends.1, adds_none IsSingle ends.1, ends.3);
+      always = λ single. ended IsSingle r old new err (stops_end R IsSingle (still_single before root last ready single) before old new ends);
     }
 
-module _ (before mid : Board) (root last : ℕ) (bridges : Bool) (old hushed new : List Board) (hush : IsHushed before root bridges mid) (stood : IsHushOk before root old hushed) where
-  less_stood : IsReady before root last → Adds (HasLess (root_view before root) (nodes_behind before root)) old hushed
+module _ (before mid : Board) (root last : ℕ) (bridges : Bool) (old hushed new : List Board) (hush : IsHushed before root bridges mid) (stood : IsHushOk before root old mid hushed) where
+  less_stood : IsReady before root last → AddsSteps (IsLessStep (root_view before root) (nodes_behind before root)) before old mid hushed
   less_stood ready = stood (root_view before root) root last (nodes_behind before root) (sym (same_nodes root before ready.one)) (seen_root before root last ready) ready.walkable
 
   pub throughout_left : {T E : Type 0} → (r : Result T E) → IsErr r → IsBusEnd mid root last (start root) hushed new → IsReady before root last → IsSingleThroughout before root r old new
   throughout_left r err walk = λ ready.
-      let has = HasLess (root_view before root) (nodes_behind before root) in
+      let R = IsLessStep (root_view before root) (nodes_behind before root) in
       let seen = seen_root before root last ready in
       let h = hush (root_view before root) root last (nodes_behind before root) (sym (same_nodes root before ready.one)) seen ready.walkable in
       let ends : IsSingleBeside before root → Ends IsSingle hushed new = λ beside. walk (root_view before root) h.0 h.1 seen (same_walk h.0 (nodes_behind before root) h.2 ∙ ready.walkable) h.3 (apart_at_root before root last ready h.0 h.2 beside) in
       record {
+        closed = mid;
         hushed = hushed;
-        hushing = adds_as has (IsHushBoard before root) (hush_board before root last ready) old hushed (less_stood ready);
+        hushing = steps_as R (IsHushStep before root) (hush_step before root last ready) before old mid hushed (less_stood ready);
         later = λ beside. ended IsSingle r hushed new err (ends beside);
-        always = λ single. ended IsSingle r old new err (ends_then IsSingle old hushed new (adds_as has IsSingle (still_single before root last ready single) old hushed (less_stood ready)) (ends (single_beside before root last ready single)));
+        always = λ single. ended IsSingle r old new err (ends_then IsSingle old hushed new (steps_add R IsSingle (still_single before root last ready single) before old mid hushed (less_stood ready)) (ends (single_beside before root last ready single)));
       }
 
   pub throughout_done : {T E : Type 0} → (x : T) → IsBusOk mid root last (start root) hushed new → IsReady before root last → IsSingleThroughout {T = T} {E = E} before root (Ok x) old new
   throughout_done x walk = λ ready.
-      let has = HasLess (root_view before root) (nodes_behind before root) in
+      let R = IsLessStep (root_view before root) (nodes_behind before root) in
       let seen = seen_root before root last ready in
       let h = hush (root_view before root) root last (nodes_behind before root) (sym (same_nodes root before ready.one)) seen ready.walkable in
       let adds : IsSingleBeside before root → Adds IsSingle hushed new = λ beside. walk (root_view before root) h.0 h.1 seen (same_walk h.0 (nodes_behind before root) h.2 ∙ ready.walkable) h.3 (apart_at_root before root last ready h.0 h.2 beside) in
       record {
+        closed = mid;
         hushed = hushed;
-        hushing = adds_as has (IsHushBoard before root) (hush_board before root last ready) old hushed (less_stood ready);
+        hushing = steps_as R (IsHushStep before root) (hush_step before root last ready) before old mid hushed (less_stood ready);
         later = adds;
-        always = λ single. adds_then IsSingle old hushed new (adds_as has IsSingle (still_single before root last ready single) old hushed (less_stood ready)) (adds (single_beside before root last ready single));
+        always = λ single. adds_then IsSingle old hushed new (steps_add R IsSingle (still_single before root last ready single) before old mid hushed (less_stood ready)) (adds (single_beside before root last ready single));
       }

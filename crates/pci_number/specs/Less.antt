@@ -7,9 +7,8 @@ use Rattle.number_spec.specs.Walk.{all_after, is_walkable}
 use Rattle.number_spec.specs.Numbered.{with_numbers, without_numbers}
 use Rattle.number_spec.specs.Spread.{IsShut}
 use Rattle.pci_number.specs.Seen.{View, code, IsSeen}
-use Rattle.pci_number.specs.Steps.{IsAlike}
 use Rattle.pci_number.specs.Hushing.{Rest, IsRestOf}
-use Rattle.pci_number.specs.Stood.{Adds, AddsOrEnds}
+use Rattle.pci_number.specs.Stood.{AddsSteps, StepsOrEnds}
 
 -- the nodes with the bus numbers of the bridges on this bus alone taken away
 abbrev pub without_own_numbers : Nodes → Nodes
@@ -37,36 +36,43 @@ pub record IsLessOf (nodes : Nodes) (after : Nodes) : Type 0 where
   pub less : (access : Slot) → 0 < access.bus
       → length (behind_bridges after access) ≤ length (behind_bridges nodes access)
 
--- While a bridge is closed it is alike, and forwards less.
-abbrev pub IsCloseStood : {T E : Type 0} → Board → Slot → List Board → Result T E → List Board → Type 0
-IsCloseStood before slot old result new =
+-- From one board to the next there is less behind these nodes than there was.
+pub record IsLessStep (v : View) (nodes : Nodes) (was : Board) (now : Board) : Type 0 where
+  pub from : Nodes
+  pub to : Nodes
+  pub was_it : was ≡ v.fill from
+  pub is : now ≡ v.fill to
+  pub start : IsLessOf nodes from
+  pub less : IsLessOf from to
+
+-- While a bridge is closed it forwards less at each write.
+abbrev pub IsCloseStood : {T E : Type 0} → Board → Slot → List Board → Result T E → Board → List Board → Type 0
+IsCloseStood before slot old result now new =
     (v : View) (high last : ℕ) (image : List ℕ) (behind others : Nodes)
     → before ≡ v.fill (Node slot.device slot.function image behind others)
     → IsSeen v slot.bus (code slot) high last → all_after slot.device slot.function others ≡ true
-    → AddsOrEnds (λ b. (less : List ℕ)
-    × (b ≡ v.fill (Node slot.device slot.function less behind others))
-    × IsAlike image less × IsLess image less) result old new
+    → is_type_1 image ≡ true
+    → StepsOrEnds (IsLessStep v (Node slot.device slot.function image behind others)) result before old
+    now new
 
--- a board with less behind these nodes
-abbrev pub HasLess : View → Nodes → Board → Type 0
-HasLess v nodes board = (after : Nodes) × (board ≡ v.fill after) × IsLessOf nodes after
-
--- While the bridges on a bus are closed they forward less.
-abbrev pub IsHushStood : {T E : Type 0} → Board → ℕ → List Board → Result T E → List Board → Type 0
-IsHushStood before bus old result new =
+-- While the bridges on a bus are closed they forward less at each write.
+abbrev pub IsHushStood : {T E : Type 0} → Board → ℕ → List Board → Result T E → Board → List Board → Type 0
+IsHushStood before bus old result now new =
     (v : View) (high last : ℕ) (nodes : Nodes) → before ≡ v.fill nodes
-    → IsSeen v bus 0 high last → is_walkable nodes ≡ true → AddsOrEnds (HasLess v nodes) result old new
+    → IsSeen v bus 0 high last → is_walkable nodes ≡ true
+    → StepsOrEnds (IsLessStep v nodes) result before old now new
 
--- what forwards less from a place on does so on the whole bus
-abbrev pub LessUpTo : View → Nodes → Rest → Type 0
-LessUpTo v nodes rest =
-    (after : Nodes) → IsLessOf rest.nodes after
-    → (whole : Nodes) × (rest.view.fill after ≡ v.fill whole) × IsLessOf nodes whole
+-- the nodes from a place on, put into the whole bus
+pub record Wrap (v : View) (nodes : Nodes) (rest : Rest) : Type 0 where
+  pub wrap : Nodes → Nodes
+  pub fills : (after : Nodes) → rest.view.fill after ≡ v.fill (wrap after)
+  pub less : (first second : Nodes) → IsLessOf first second → IsLessOf (wrap first) (wrap second)
+  pub start : IsLessOf nodes (wrap rest.nodes)
 
 -- the closing of the bridges on a bus under way
 abbrev pub IsHushStanding : Board → ℕ → List Board → ℕ → Bool → Board → List Board → Type 0
 IsHushStanding before bus old place more now new =
     (v : View) (high last : ℕ) (nodes : Nodes) → before ≡ v.fill nodes
     → IsSeen v bus 0 high last → is_walkable nodes ≡ true
-    → (rest : Rest) × IsRestOf now bus place 0 0 more rest × LessUpTo v nodes rest
-    × Adds (HasLess v nodes) old new
+    → (rest : Rest) × IsRestOf now bus place 0 0 more rest × Wrap v nodes rest
+    × AddsSteps (IsLessStep v nodes) before old now new

@@ -1,7 +1,7 @@
 -- The board is single while numbers are given.
-use Rattle.std.specs.Prelude.{◌≡◌, ℕ, ◌+◌, ◌≤◌, true, Bool, List, Result}
+use Rattle.std.specs.Prelude.{◌≡◌, ℕ, ◌+◌, ◌≤◌, true, Bool, List, Result, length}
 use Rattle.pci_spec.specs.Slot.{Slot}
-use Rattle.number_spec.specs.Board.{Nodes, NoMore, Node, Board, is_type_1, IsSingle}
+use Rattle.number_spec.specs.Board.{Nodes, NoMore, Node, Board, is_type_1, answers, IsSingle}
 use Rattle.number_spec.specs.Access.{nodes_behind, with_nodes}
 use Rattle.number_spec.specs.Walk.{all_after, is_walkable}
 use Rattle.number_spec.specs.Room.{shows}
@@ -10,7 +10,7 @@ use Rattle.number_spec.specs.Spread.{IsSpread}
 use Rattle.pci_number.specs.Seen.{View, code, IsSeen, IsClosed}
 use Rattle.pci_number.specs.Hushing.{Rest, IsRestOf}
 use Rattle.pci_number.specs.Less.{without_own_numbers, AreShut}
-use Rattle.pci_number.specs.Stood.{Adds, AddsOrEnds}
+use Rattle.pci_number.specs.Stood.{Adds, AddsOrEnds, AddsSteps}
 use Rattle.pci_number.specs.declared.walk.Walk.{Walk}
 
 -- The board is single with these nodes where their bridges are spread over the buses above `high`, up to `last`.
@@ -61,21 +61,23 @@ IsWalkStanding before bus last start old place more walk now new =
 abbrev pub IsSingleBeside : Board → ℕ → Type 0
 IsSingleBeside before root = IsSingle (with_nodes before root NoMore)
 
--- A board that stood while the bridges on the root bus were closed.
-pub record IsHushBoard (before : Board) (root : ℕ) (board : Board) : Type 0 where
-  -- it is as it was but for the bus numbers of the bridges on that bus
+-- A board that stood while the bridges on the root bus were closed, and the one before it.
+pub record IsHushStep (before : Board) (root : ℕ) (was : Board) (board : Board) : Type 0 where
+  -- it is as at the start but for the bus numbers of the bridges on that bus
   pub others : board ≡ with_nodes before root (nodes_behind board root)
   pub own : without_own_numbers (nodes_behind board root) ≡ without_own_numbers (nodes_behind before root)
-  -- it is single if the board was at the start, or if no bridge on that bus forwards anything
-  pub single : IsSingle before → IsSingle board
+  -- no access has more answers than on the one before it
+  pub fewer : (access : Slot) → length (answers board access) ≤ length (answers was access)
+  -- it is single if no bridge on that bus forwards anything
   pub shut : IsSingleBeside before root → AreShut (nodes_behind board root) → IsSingle board
 
 -- The boards that stood after each write. Where numbering stopped with an error, nothing is said of the one after
 -- its last write: that may have left another number.
 pub record IsSingleThroughout {T E : Type 0} (before : Board) (root : ℕ) (answer : Result T E) (old : List Board) (new : List Board) : Type 0 where
   -- those that stood until the bridges on the root bus were closed
+  pub closed : Board
   pub hushed : List Board
-  pub hushing : Adds (IsHushBoard before root) old hushed
+  pub hushing : AddsSteps (IsHushStep before root) before old closed hushed
   -- each board after that is single,
   pub later : IsSingleBeside before root → AddsOrEnds IsSingle answer hushed new
   -- and each at all, if the board was single at the start

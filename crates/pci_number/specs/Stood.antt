@@ -22,5 +22,34 @@ AddsOrEnds P (Ok x) old new = Adds P old new
 AddsOrEnds P (Err e) old new = Ends P old new
 
 -- one write at most was made, and this board stands now
-abbrev pub IsOneMore : List Board → Board → List Board → Type 0
-IsOneMore old board new = (new ≡ old) ⊎ (new ≡ board ∷ old)
+abbrev pub IsOneMore : Board → List Board → Board → List Board → Type 0
+IsOneMore before old board new = ((board ≡ before) × (new ≡ old)) ⊎ (new ≡ board ∷ old)
+
+-- ---- from one board to the next
+
+-- the board that stands: the last that came, or else the one before them
+abbrev pub latest : Board → List Board → Board
+latest before [] = before
+latest before (board ∷ boards) = board
+
+-- said of each board in a list and of the one that stood before it
+abbrev pub EachStep : (Board → Board → Type 0) → Board → List Board → Type 0
+EachStep R before [] = Unit {0}
+EachStep R before (board ∷ boards) = R (latest before boards) board × EachStep R before boards
+
+-- Boards have come to those that stood, from one to another, and this is said of each that has and of the one
+-- before it.
+abbrev pub AddsSteps : (Board → Board → Type 0) → Board → List Board → Board → List Board → Type 0
+AddsSteps R before old now new =
+    (added : List Board) × (new ≡ added ++ old) × EachStep R before added
+    × (latest before added ≡ now)
+
+-- The same, but that of one last board nothing is said.
+abbrev pub EndsSteps : (Board → Board → Type 0) → Board → List Board → List Board → Type 0
+EndsSteps R before old new =
+    (now : Board) × (taken : List Board) × AddsSteps R before old now taken
+    × ((new ≡ taken) ⊎ ((board : Board) × (new ≡ board ∷ taken)))
+
+abbrev pub StepsOrEnds : {T E : Type 0} → (Board → Board → Type 0) → Result T E → Board → List Board → Board → List Board → Type 0
+StepsOrEnds R (Ok x) before old now new = AddsSteps R before old now new
+StepsOrEnds R (Err e) before old now new = EndsSteps R before old new

@@ -23,17 +23,20 @@ pub enum Numbering {
 
 /// Numbers the buses behind a root bus, from `root` + 1 to `last`, depth first in the order of devices and functions
 /// (Bridge 1.2, 3.2.5.2 to 3.2.5.4). First the bridges on the root bus are made to forward nothing. Of each bridge
-/// bytes 18h to 1Ah alone are written, one at a time, where that changes them; each is read back.
+/// bytes 18h to 1Ah alone are written, one at a time, where that changes them; each is read back. Once those on the
+/// root bus forward nothing, at most one node answers each access after every write, and from the start on if it was
+/// so at the start.
 ///
 /// # Errors
 ///
-/// `Stuck` where a write read back otherwise, `Port` where an access failed. That write was the last one.
+/// `Stuck` where a write read back otherwise, `Port` where an access failed. That write was the last one, and it may
+/// have left a number with which two nodes answer an access.
 pub fn number<P: BoardPort>(port: &mut P, root: u8, last: u8) -> Result<Numbering, Stop>
     ensures answer { IfOk result
         (λ answer. Answers (P.board port.old) root last answer (P.board port.new)) }
     // whatever happens, bytes 18h to 1Ah of bridges behind this root alone are changed
     ensures kept { Keeps (P.board port.old) root last (P.board port.new) }
-    // each board from the end of the first closing on is single, and each at all if it was at the start
+    // each board that stood is single, from when the bridges on the root bus are closed, or from the start
     ensures single { IsReady (P.board port.old) root last
         → IsSingleThroughout (P.board port.old) root result (P.history port.old) (P.history port.new) }
     ensures stop { IfErr result (IsStop (P.board port.new) (P.last_write port.new)) }

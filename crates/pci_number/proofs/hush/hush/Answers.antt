@@ -62,8 +62,8 @@ loop-place-preserved g c =
         standing = rw w.port-is (from_slot (λ b p. IsHushStanding before b old (p + 1) found.more (board w.close.new.port) (history w.close.new.port)) slot bus at place
             (standing_close before (board c.loop-place.port) (board w.close.new.port) slot old (history c.loop-place.port) (history w.close.new.port) c.loop-place.more found place.low c.in_ok-found.ensures.looked w.if-found.true
             (subst (λ b. IsShownAt b slot 0 0 0 (board w.close.new.port)) c.in_ok-found.ensures.same w.in_ok-close.ensures.closed)
-            (subst (λ h. IsCloseOk (board c.loop-place.port) slot h (history w.close.new.port)) c.in_ok-found.ensures.same_history
-            (subst (λ b. IsCloseOk b slot (history c.look.new.port) (history w.close.new.port)) c.in_ok-found.ensures.same w.in_ok-close.ensures.stood)) stood));
+            (subst (λ h. IsCloseOk (board c.loop-place.port) slot h (board w.close.new.port) (history w.close.new.port)) c.in_ok-found.ensures.same_history
+            (subst (λ b. IsCloseOk b slot (history c.look.new.port) (board w.close.new.port) (history w.close.new.port)) c.in_ok-found.ensures.same w.in_ok-close.ensures.stood)) stood));
         counted = omega (arith, ap g.P.BoardPort.failures w.port-is, w.in_ok-close.ensures.counted, c.in_ok-found.ensures.counted, c.loop-place.invariant.counted);
         few = rw w.port-is (from_slot (λ b p. IsHushCounted before b (p + 1) found.more (board w.close.new.port) made (writes w.close.new.port)) slot bus at place
             (hush_count_close before (board c.loop-place.port) (board w.close.new.port) slot c.loop-place.more found made total (writes w.close.new.port) place.low c.in_ok-found.ensures.looked w.if-found.true
@@ -118,7 +118,7 @@ pub returns-in_err-found-clause-stood : goal.returns-in_err-found-clause-stood
 returns-in_err-found-clause-stood g c =
     let board = g.P.BoardPort.board in
     let history = g.P.BoardPort.history in
-    standing_left (board c.args.port.now) (board c.loop-place.port) c.args.bus c.loop-place.place (history c.args.port.now) (history c.loop-place.port) (history c.look.new.port) c.loop-place.more c.from_residual.result c.from_residual.ensures.0
+    standing_left (board c.args.port.now) (board c.loop-place.port) (board c.look.new.port) c.args.bus c.loop-place.place (history c.args.port.now) (history c.loop-place.port) (history c.look.new.port) c.loop-place.more c.from_residual.result c.from_residual.ensures.0
     c.in_err-found.ensures.same_history c.loop-place.invariant.standing
 
 pub returns-in_err-close-clause-stood : goal.returns-in_err-close-clause-stood
@@ -129,8 +129,8 @@ returns-in_err-close-clause-stood g c =
     let old = history c.args.port.now in
     let slot = c.slot_at-slot.result in
     let place = place_of slot c.args.bus c.loop-place.place c.slot_at-slot.ensures in
-    subst (λ b. IsHushStood before b old c.from_residual-in_err-close.result (history c.close.new.port)) place.on
-    (standing_left_close before (board c.loop-place.port) slot old (history c.loop-place.port) (history c.close.new.port) c.loop-place.more c.in_ok-found.found c.from_residual-in_err-close.result c.from_residual-in_err-close.ensures.0 place.low c.in_ok-found.ensures.looked c.if-found.true
+    subst (λ b. IsHushStood before b old c.from_residual-in_err-close.result (board c.close.new.port) (history c.close.new.port)) place.on
+    (standing_left_close before (board c.loop-place.port) (board c.close.new.port) slot old (history c.loop-place.port) (history c.close.new.port) c.loop-place.more c.in_ok-found.found c.from_residual-in_err-close.result c.from_residual-in_err-close.ensures.0 place.low c.in_ok-found.ensures.looked c.if-found.true
     (subst (λ h. IsCloseEnd (board c.loop-place.port) slot h (history c.close.new.port)) c.in_ok-found.ensures.same_history
     (subst (λ b. IsCloseEnd b slot (history c.look.new.port) (history c.close.new.port)) c.in_ok-found.ensures.same c.in_err-close.ensures.stood))
     (to_slot (λ b p. IsHushStanding before b old p c.loop-place.more (board c.loop-place.port) (history c.loop-place.port)) slot c.args.bus c.loop-place.place place c.loop-place.invariant.standing))

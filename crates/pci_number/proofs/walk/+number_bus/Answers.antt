@@ -118,7 +118,7 @@ loop-place-preserved g t c =
             (stand_wide before now slot last start walk old stood_now (history w.open.new.port) c.loop-place.more found place.low looked w.if-found.true w.if-walk-last.true stood (board w.open.new.port)
             (is_open now (board c.look.new.port) (board w.open.new.port) slot (walk.taken + 1) last w.in_ok-open.field-0 c.in_ok-found.ensures.same w.if-branch.true w.in_ok-open.ensures.opened)
             (open_ok (board c.look.new.port) now slot (walk.taken + 1) last (history c.look.new.port) stood_now (history w.open.new.port) c.in_ok-found.ensures.same c.in_ok-found.ensures.same_history w.in_ok-open.ensures.stood)
-            (history w.number_bus.new.port) w.in_ok-walk.ensures.stood (board w.put.new.port) (history w.put.new.port) w.in_ok-put.ensures.stood (board w.number_bus.new.port) w.in_ok-walk.walk w.in_ok-walk.ensures.numbered w.in_ok-walk.ensures.above w.in_ok-put.ensures.put));
+            (history w.number_bus.new.port) w.in_ok-walk.ensures.stood (board w.put.new.port) (history w.put.new.port) (board w.number_bus.new.port) w.in_ok-put.ensures.stood w.in_ok-walk.walk w.in_ok-walk.ensures.numbered w.in_ok-walk.ensures.above w.in_ok-put.ensures.put));
         above = omega (arith, ap (λ (x : Walk). x.taken) w.walk-is, w.in_ok-walk.ensures.above, c.loop-place.invariant.above);
         counted = omega (arith, ap failures w.port-is, w.in_ok-put.ensures.counted, w.in_ok-walk.ensures.counted, w.in_ok-open.ensures.counted, c.in_ok-found.ensures.counted, c.loop-place.invariant.counted);
         few = rw (w.port-is, w.walk-is) (from_slot (λ b p. IsWalkCounted before b last start (p + 1) found.more w.in_ok-walk.walk (board w.put.new.port) made (writes w.put.new.port)) slot bus at place
@@ -294,7 +294,7 @@ returns-in_err-put-clause-stood g t c =
     (stand_left_put before now slot c.args.last c.args.start walk old stood_now (history c.open.new.port) c.loop-place.more c.in_ok-found.found place.low c.in_ok-found.ensures.looked c.if-found.true c.if-walk-last.true stood (board c.open.new.port)
     (is_open now (board c.look.new.port) (board c.open.new.port) slot (walk.taken + 1) c.args.last c.in_ok-open.field-0 c.in_ok-found.ensures.same c.if-branch.true c.in_ok-open.ensures.opened)
     (open_ok (board c.look.new.port) now slot (walk.taken + 1) c.args.last (history c.look.new.port) stood_now (history c.open.new.port) c.in_ok-found.ensures.same c.in_ok-found.ensures.same_history c.in_ok-open.ensures.stood)
-    (history c.number_bus.new.port) c.in_ok-walk.ensures.stood (board c.put.new.port) (history c.put.new.port) c.in_err-put.ensures.stood c.from_residual-in_err-put.result c.from_residual-in_err-put.ensures.0)
+    (history c.number_bus.new.port) c.in_ok-walk.ensures.stood (board c.put.new.port) (history c.put.new.port) (board c.number_bus.new.port) c.in_err-put.ensures.stood c.from_residual-in_err-put.result c.from_residual-in_err-put.ensures.0)
 
 pub returns-clause-stood : goal.returns-clause-stood
 returns-clause-stood g t c =
