@@ -22,7 +22,7 @@ pub shut_spread : (low high : ℕ) (nodes : Nodes) → AreShut nodes → IsSprea
 shut_spread low high NoMore shut = tt
 shut_spread low high (Node d f image behind others) shut = inl (shut.0, shut_spread low high others shut.1)
 
-closed_shut : (nodes : Nodes) → IsClosed nodes → AreShut nodes
+pub closed_shut : (nodes : Nodes) → IsClosed nodes → AreShut nodes
 closed_shut NoMore closed = tt
 closed_shut (Node d f image behind others) closed = ((λ bridge. let show = shown image 0 0 0 (closed.0 bridge) in (show.secondary, show.subordinate)), closed_shut others closed.1)
 

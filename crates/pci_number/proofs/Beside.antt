@@ -10,6 +10,7 @@ use Rattle.number_spec.specs.Access.{nodes_behind, with_nodes}
 use Rattle.number_spec.specs.Walk.{is_rising, is_all_found}
 use Rattle.number_spec.specs.Numbered.{without_numbers}
 use Rattle.number_spec.specs.Ready.{IsReady}
+use Rattle.number_spec.specs.Spread.{IsSpread}
 use Rattle.number_spec.proofs.Kept.{same_walk}
 use Rattle.number_spec.proofs.Single.{once_on_bus}
 use Rattle.number_spec.proofs.Spread.{once_at_root}
@@ -107,10 +108,13 @@ module _ (board : Board) (root last : ℕ) (ready : IsReady board root last) whe
       ])
 
   -- bridges that are spread over the buses of the root
-  pub apart_at_root : (nodes : Nodes) → without_numbers nodes ≡ without_numbers (nodes_behind board root) → IsSingleBeside board root → IsApart (root_view board root) nodes root last
-  apart_at_root nodes same beside = λ after same_after spread. single_from after beside (λ access goes.
-      once_at_root root last after spread (rising_still after (same_after ∙ same)) access
+  pub spread_at_root : (high : ℕ) (after : Nodes) → without_numbers after ≡ without_numbers (nodes_behind board root) → IsSingleBeside board root → IsSpread root high after → IsSingle (with_nodes board root after)
+  spread_at_root high after same beside spread = single_from after beside (λ access goes.
+      once_at_root root high after spread (rising_still after same) access
       (leb-true root access.bus (and_parts (nat_le root access.bus) (list_all (λ o. nat_le o.number root || nat_lt access.bus o.number) board) goes).0))
+
+  pub apart_at_root : (nodes : Nodes) → without_numbers nodes ≡ without_numbers (nodes_behind board root) → IsSingleBeside board root → IsApart (root_view board root) nodes root last
+  apart_at_root nodes same beside = λ after same_after spread. spread_at_root last after (same_after ∙ same) beside spread
 
   -- where there is less behind the root no access has more answers
   pub fewer_answers : (first second : Nodes) → IsLessOf first second → (access : Slot) → length (answers (with_nodes board root second) access) ≤ length (answers (with_nodes board root first) access)

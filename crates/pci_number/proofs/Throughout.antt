@@ -1,18 +1,21 @@
 -- The board is single while numbers are given behind a root.
-use Rattle.std.proofs.Common.{ℕ, ◌≤◌, length, Bool, refl, sym, ◌∙◌, ap, subst, List, Result, Ok}
+use Rattle.std.proofs.Common.{ℕ, ◌≤◌, length, Bool, refl, sym, ◌∙◌, ap, subst, List, Result, Ok, ◌≡◌, ◌⊎◌, inl, inr, ◌∷◌, Err}
 use Rattle.std.specs.Result.{IsErr}
-use Rattle.number_spec.specs.Board.{Board, answers, IsSingle}
+use Rattle.number_spec.specs.Board.{Nodes, Board, answers, IsSingle}
 use Rattle.number_spec.specs.Access.{nodes_behind, with_nodes}
 use Rattle.number_spec.specs.Ready.{IsReady}
 use Rattle.number_spec.proofs.Kept.{same_walk}
 use Rattle.pci_number.specs.Steps.{IsHushed}
 use Rattle.pci_number.specs.Less.{without_own_numbers, AreShut, IsLessStep}
-use Rattle.pci_number.specs.Single.{IsHushStep, IsSingleBeside, IsSingleThroughout}
+use Rattle.pci_number.specs.Single.{IsHushStep, IsSingleBeside, EndsSingle, ClosedOrStopped, IsSingleThroughout}
+use Rattle.number_spec.specs.Room.{last_behind}
+use Rattle.pci_number.specs.Walked.{IsBusNumbered}
+use Rattle.pci_number.specs.declared.walk.Walk.{Walk}
 use Rattle.pci_number.specs.Stood.{Adds, Ends, AddsSteps}
 use Rattle.pci_number.proofs.RootView.{same_nodes}
 use Rattle.pci_number.proofs.Roots.{root_view, seen_root, behind_it, start}
-use Rattle.pci_number.proofs.Apart.{shut_spread}
-use Rattle.pci_number.proofs.Beside.{single_beside, less_is_single, apart_at_root, fewer_answers}
+use Rattle.pci_number.proofs.Apart.{shut_spread, closed_shut, numbered_spread}
+use Rattle.pci_number.proofs.Beside.{single_beside, less_is_single, spread_at_root, apart_at_root, fewer_answers}
 use Rattle.pci_number.proofs.Showing.{IsHushOk, IsHushEnd}
 use Rattle.pci_number.proofs.Standing.{IsBusOk, IsBusEnd}
 use Rattle.pci_number.proofs.Steady.{steps_as, steps_add, stops_end}
@@ -34,6 +37,16 @@ hush_step before root last ready was b step =
 still_single : (before : Board) (root last : ℕ) → IsReady before root last → IsSingle before → (was b : Board) → IsLessStep (root_view before root) (nodes_behind before root) was b → IsSingle b
 still_single before root last ready single was b step = subst IsSingle (sym step.is) (less_is_single before root last ready step.to (less_then (nodes_behind before root) step.from step.to step.start step.less) single)
 
+-- ---- whether that was done
+
+closed_there : {T E : Type 0} → (nodes : Nodes) (r : Result T E) (hushed new : List Board) → AreShut nodes → ClosedOrStopped nodes r hushed new
+closed_there nodes (Ok x) hushed new shut = shut
+closed_there nodes (Err e) hushed new shut = inl shut
+
+stopped_there : {T E : Type 0} → (nodes : Nodes) (r : Result T E) (hushed new : List Board) → IsErr r → (new ≡ hushed) ⊎ ((board : Board) × (new ≡ board ∷ hushed)) → ClosedOrStopped nodes r hushed new
+stopped_there nodes (Ok x) hushed new err ends = cc err
+stopped_there nodes (Err e) hushed new err ends = inr ends
+
 -- the closing of the bridges on the root bus stopped
 pub throughout_hush : {T E : Type 0} → (before : Board) (root last : ℕ) (old new : List Board) (r : Result T E) → IsErr r → IsHushEnd before root old new → IsReady before root last → IsSingleThroughout before root r old new
 throughout_hush before root last old new r err hush = λ ready.
@@ -43,6 +56,7 @@ throughout_hush before root last old new r err hush = λ ready.
       closed = ends.0;
       hushed = ends.1;
       hushing = steps_as R (IsHushStep before root) (hush_step before root last ready) before old ends.0 ends.1 ends.2;
+      done = stopped_there (nodes_behind ends.0 root) r ends.1 new err ends.3;
       later = λ beside. ended IsSingle r ends.1 new err (ends.1, adds_none IsSingle ends.1, ends.3);
       always = λ single. ended IsSingle r old new err (stops_end R IsSingle (still_single before root last ready single) before old new ends);
     }
@@ -50,6 +64,11 @@ throughout_hush before root last old new r err hush = λ ready.
 module _ (before mid : Board) (root last : ℕ) (bridges : Bool) (old hushed new : List Board) (hush : IsHushed before root bridges mid) (stood : IsHushOk before root old mid hushed) where
   less_stood : IsReady before root last → AddsSteps (IsLessStep (root_view before root) (nodes_behind before root)) before old mid hushed
   less_stood ready = stood (root_view before root) root last (nodes_behind before root) (sym (same_nodes root before ready.one)) (seen_root before root last ready) ready.walkable
+
+  shut_there : IsReady before root last → AreShut (nodes_behind mid root)
+  shut_there ready =
+      let h = hush (root_view before root) root last (nodes_behind before root) (sym (same_nodes root before ready.one)) (seen_root before root last ready) ready.walkable in
+      subst AreShut (sym (behind_it before mid root last h.0 ready h.1)) (closed_shut h.0 h.3)
 
   pub throughout_left : {T E : Type 0} → (r : Result T E) → IsErr r → IsBusEnd mid root last (start root) hushed new → IsReady before root last → IsSingleThroughout before root r old new
   throughout_left r err walk = λ ready.
@@ -61,6 +80,7 @@ module _ (before mid : Board) (root last : ℕ) (bridges : Bool) (old hushed new
         closed = mid;
         hushed = hushed;
         hushing = steps_as R (IsHushStep before root) (hush_step before root last ready) before old mid hushed (less_stood ready);
+        done = closed_there (nodes_behind mid root) r hushed new (shut_there ready);
         later = λ beside. ended IsSingle r hushed new err (ends beside);
         always = λ single. ended IsSingle r old new err (ends_then IsSingle old hushed new (steps_add R IsSingle (still_single before root last ready single) before old mid hushed (less_stood ready)) (ends (single_beside before root last ready single)));
       }
@@ -75,6 +95,14 @@ module _ (before mid : Board) (root last : ℕ) (bridges : Bool) (old hushed new
         closed = mid;
         hushed = hushed;
         hushing = steps_as R (IsHushStep before root) (hush_step before root last ready) before old mid hushed (less_stood ready);
+        done = shut_there ready;
         later = adds;
         always = λ single. adds_then IsSingle old hushed new (steps_add R IsSingle (still_single before root last ready single) before old mid hushed (less_stood ready)) (adds (single_beside before root last ready single));
       }
+
+pub end_single : (before mid after : Board) (root last : ℕ) (bridges : Bool) (walk : Walk) → IsHushed before root bridges mid → IsBusNumbered mid root last (start root) walk after → EndsSingle before root last after
+end_single before mid after root last bridges walk hushed numbered = λ ready beside.
+    let seen = seen_root before root last ready in
+    let h = hushed (root_view before root) root last (nodes_behind before root) (sym (same_nodes root before ready.one)) seen ready.walkable in
+    let n = numbered (root_view before root) h.0 h.1 seen (same_walk h.0 (nodes_behind before root) h.2 ∙ ready.walkable) h.3 in
+    subst IsSingle (sym n.1) (spread_at_root before root last ready (last_behind root n.0) n.0 (n.2 ∙ h.2) beside (numbered_spread last root root n.0 n.3))

@@ -1,5 +1,5 @@
 -- The board is single while numbers are given.
-use Rattle.std.specs.Prelude.{◌≡◌, ℕ, ◌+◌, ◌≤◌, true, Bool, List, Result, length}
+use Rattle.std.specs.Prelude.{◌≡◌, ℕ, ◌+◌, ◌≤◌, ◌⊎◌, true, Bool, List, ◌∷◌, Result, Ok, Err, length}
 use Rattle.pci_spec.specs.Slot.{Slot}
 use Rattle.number_spec.specs.Board.{Nodes, NoMore, Node, Board, is_type_1, answers, IsSingle}
 use Rattle.number_spec.specs.Access.{nodes_behind, with_nodes}
@@ -7,6 +7,7 @@ use Rattle.number_spec.specs.Walk.{all_after, is_walkable}
 use Rattle.number_spec.specs.Room.{shows}
 use Rattle.number_spec.specs.Numbered.{without_numbers}
 use Rattle.number_spec.specs.Spread.{IsSpread}
+use Rattle.number_spec.specs.Ready.{IsReady}
 use Rattle.pci_number.specs.Seen.{View, code, IsSeen, IsClosed}
 use Rattle.pci_number.specs.Hushing.{Rest, IsRestOf}
 use Rattle.pci_number.specs.Less.{without_own_numbers, AreShut}
@@ -61,6 +62,10 @@ IsWalkStanding before bus last start old place more walk now new =
 abbrev pub IsSingleBeside : Board → ℕ → Type 0
 IsSingleBeside before root = IsSingle (with_nodes before root NoMore)
 
+-- The board is single at the end.
+abbrev pub EndsSingle : Board → ℕ → ℕ → Board → Type 0
+EndsSingle before root last after = IsReady before root last → IsSingleBeside before root → IsSingle after
+
 -- A board that stood while the bridges on the root bus were closed, and the one before it.
 pub record IsHushStep (before : Board) (root : ℕ) (was : Board) (board : Board) : Type 0 where
   -- it is as at the start but for the bus numbers of the bridges on that bus
@@ -71,6 +76,13 @@ pub record IsHushStep (before : Board) (root : ℕ) (was : Board) (board : Board
   -- it is single if no bridge on that bus forwards anything
   pub shut : IsSingleBeside before root → AreShut (nodes_behind board root) → IsSingle board
 
+-- The bridges on the root bus were closed, or numbering stopped before that was done: no write came after it
+-- but the one at which it stopped.
+abbrev pub ClosedOrStopped : {T E : Type 0} → Nodes → Result T E → List Board → List Board → Type 0
+ClosedOrStopped nodes (Ok answer) hushed new = AreShut nodes
+ClosedOrStopped nodes (Err stop) hushed new =
+    AreShut nodes ⊎ ((new ≡ hushed) ⊎ ((board : Board) × (new ≡ board ∷ hushed)))
+
 -- The boards that stood after each write. Where numbering stopped with an error, nothing is said of the one after
 -- its last write: that may have left another number.
 pub record IsSingleThroughout {T E : Type 0} (before : Board) (root : ℕ) (answer : Result T E) (old : List Board) (new : List Board) : Type 0 where
@@ -78,6 +90,7 @@ pub record IsSingleThroughout {T E : Type 0} (before : Board) (root : ℕ) (answ
   pub closed : Board
   pub hushed : List Board
   pub hushing : AddsSteps (IsHushStep before root) before old closed hushed
+  pub done : ClosedOrStopped (nodes_behind closed root) answer hushed new
   -- each board after that is single,
   pub later : IsSingleBeside before root → AddsOrEnds IsSingle answer hushed new
   -- and each at all, if the board was single at the start

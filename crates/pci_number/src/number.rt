@@ -4,7 +4,7 @@ ghost use Rattle.pci_number.specs.Stops.{failures_at, IsStop};
 ghost use Rattle.number_spec.specs.Ready.{IsReady};
 ghost use Rattle.pci_number.specs.Answer.{Answers, Keeps};
 ghost use Rattle.pci_number.specs.Few.{IsFew};
-ghost use Rattle.pci_number.specs.Single.{IsSingleThroughout};
+ghost use Rattle.pci_number.specs.Single.{IsSingleThroughout, EndsSingle};
 
 use crate::hush::hush;
 use crate::port::BoardPort;
@@ -39,6 +39,8 @@ pub fn number<P: BoardPort>(port: &mut P, root: u8, last: u8) -> Result<Numberin
     // each board that stood is single, from when the bridges on the root bus are closed, or from the start
     ensures single { IsReady (P.board port.old) root last
         → IsSingleThroughout (P.board port.old) root result (P.history port.old) (P.history port.new) }
+    ensures end { IfOk result
+        (λ _. EndsSingle (P.board port.old) root last (P.board port.new)) }
     ensures stop { IfErr result (IsStop (P.board port.new) (P.last_write port.new)) }
     ensures counted { P.failures port.new ≡ P.failures port.old + failures_at result }
     // whatever happens, at most 8 writes are made for each bridge behind this root

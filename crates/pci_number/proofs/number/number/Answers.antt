@@ -2,7 +2,7 @@ use Rattle.std.proofs.Common.{refl, sym}
 use Rattle.pci_number.specs.declared.number.Numbering.TheVariants.{Numbered, NoBus}
 use Rattle.pci_number.proofs.Few.{few_at_hush, few_at_walk}
 use Rattle.pci_number.proofs.Roots.{kept_at_hush, kept_at_walk, kept_at_end, answer_of}
-use Rattle.pci_number.proofs.Throughout.{throughout_hush, throughout_left, throughout_done}
+use Rattle.pci_number.proofs.Throughout.{throughout_hush, throughout_left, throughout_done, end_single}
 use Rattle.pci_number.proofs.number.number.Goals as goal
 
 pub returns-in_err-hush-clause-kept : goal.returns-in_err-hush-clause-kept
@@ -88,3 +88,13 @@ returns-in-Some-clause-single g c =
     let history = g.P.BoardPort.history in
     throughout_done (board c.args.port.now) (board c.hush.new.port) c.args.root c.args.last c.in_ok-hush.field-0 (history c.args.port.now) (history c.hush.new.port) (history c.number_bus.new.port)
     c.in_ok-hush.ensures.hushed c.in_ok-hush.ensures.stood (NoBus c.in-Some.slot c.in_ok-walk.walk.taken) c.in_ok-walk.ensures.stood
+
+pub returns-in-None-clause-end : goal.returns-in-None-clause-end
+returns-in-None-clause-end g c =
+    let board = g.P.BoardPort.board in
+    end_single (board c.args.port.now) (board c.hush.new.port) (board c.number_bus.new.port) c.args.root c.args.last c.in_ok-hush.field-0 c.in_ok-walk.walk c.in_ok-hush.ensures.hushed c.in_ok-walk.ensures.numbered
+
+pub returns-in-Some-clause-end : goal.returns-in-Some-clause-end
+returns-in-Some-clause-end g c =
+    let board = g.P.BoardPort.board in
+    end_single (board c.args.port.now) (board c.hush.new.port) (board c.number_bus.new.port) c.args.root c.args.last c.in_ok-hush.field-0 c.in_ok-walk.walk c.in_ok-hush.ensures.hushed c.in_ok-walk.ensures.numbered
