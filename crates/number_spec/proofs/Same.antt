@@ -37,7 +37,7 @@ same_image a b same primary secondary subordinate =
     (set_back (set (set a 0x18 0) 0x19 0) (set (set b 0x18 0) 0x19 0) 0x1a same (third_byte a ∙ subordinate ∙ sym (third_byte b)))
     (second_byte a ∙ secondary ∙ sym (second_byte b))) primary
 
-abbrev cleared : List ℕ → List ℕ
+abbrev pub cleared : List ℕ → List ℕ
 cleared image = if is_type_1 image then with_numbers 0 0 0 image else image
 
 kind_cleared : (image : List ℕ) → is_type_1 (with_numbers 0 0 0 image) ≡ is_type_1 image
@@ -45,7 +45,7 @@ kind_cleared image =
     ap (λ n. n % 128 == 1)
     (other_byte (set (set image 0x18 0) 0x19 0) 0x1a 14 (λ is. cc is) ∙ other_byte (set image 0x18 0) 0x19 14 (λ is. cc is) ∙ other_byte image 0x18 14 (λ is. cc is))
 
-kind_stays : (image : List ℕ) → is_type_1 (cleared image) ≡ is_type_1 image
+pub kind_stays : (image : List ℕ) → is_type_1 (cleared image) ≡ is_type_1 image
 kind_stays image = elim (cases_Bool (is_type_1 image)) [
   | inr plain ↦ rw plain plain
   | inl bridge ↦ rw bridge (kind_cleared image ∙ bridge)

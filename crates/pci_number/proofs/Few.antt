@@ -1,15 +1,15 @@
 -- How many writes numbering makes, place by place.
-use Rattle.std.proofs.Common.{◌≡◌, ℕ, ◌+◌, ◌*◌, ◌<◌, ◌≤◌, inl, inr, ◌%◌, Bool, true, false, arith, refl, sym, ◌∙◌, ap, subst, List, set, get_or-set_other}
-use Rattle.std.specs.Bool.{◌==◌, if◌then◌else◌}
+use Rattle.std.proofs.Common.{◌≡◌, ℕ, ◌+◌, ◌*◌, ◌<◌, ◌≤◌, inl, inr, Bool, true, false, arith, refl, sym, ◌∙◌, ap, subst, List}
 use Rattle.std.proofs.lemmas.Bool.{both_ways, cases_Bool}
 use Rattle.pci_spec.specs.Slot.{Slot}
 use Rattle.number_spec.specs.Board.{Nodes, NoMore, Node, Board, is_type_1}
 use Rattle.number_spec.specs.Access.{nodes_behind}
 use Rattle.number_spec.specs.Walk.{is_walkable, all_after}
-use Rattle.number_spec.specs.Numbered.{with_numbers, without_numbers}
+use Rattle.number_spec.specs.Numbered.{without_numbers}
 use Rattle.number_spec.specs.Room.{shows}
 use Rattle.number_spec.proofs.Kept.{same_walk}
 use Rattle.number_spec.proofs.Roomy.{shown}
+use Rattle.number_spec.proofs.Same.{kind_stays}
 use Rattle.pci_number.specs.Seen.{View, code, IsSeen, IsRest, IsClosed}
 use Rattle.pci_number.specs.Steps.{IsLooked, Absent, There, IsPut, IsShownAt, IsHushed, IsOpened}
 use Rattle.pci_number.specs.Hushing.{Rest, IsRestOf}
@@ -17,6 +17,7 @@ use Rattle.pci_number.specs.Walked.{IsBusNumbered}
 use Rattle.pci_number.specs.Few.{bridges, bridges_on, IsFew, IsHushFew, IsOpenFew, IsBusFew}
 use Rattle.pci_number.specs.declared.look.Found.{Found}
 use Rattle.pci_number.specs.declared.walk.Walk.{Walk}
+use Rattle.pci_number.proofs.Hushing.{none_between}
 use Rattle.pci_number.proofs.Opening.{shows_another}
 use Rattle.pci_number.proofs.Reached.{rest_of}
 use Rattle.pci_number.proofs.RootView.{same_nodes}
@@ -40,17 +41,6 @@ some_on (Node d f image behind others) = elim (cases_Bool (is_type_1 image)) [
 ]
 
 -- how many doesn't hang on bus numbers
-kind_cleared : (image : List ℕ) → is_type_1 (with_numbers 0 0 0 image) ≡ is_type_1 image
-kind_cleared image =
-    ap (λ n. n % 128 == 1)
-    (get_or-set_other (set (set image 0x18 0) 0x19 0) 0x1a 14 0 0 (λ is. cc is) ∙ get_or-set_other (set image 0x18 0) 0x19 14 0 0 (λ is. cc is) ∙ get_or-set_other image 0x18 14 0 0 (λ is. cc is))
-
-kind_stays : (image : List ℕ) → is_type_1 (if is_type_1 image then with_numbers 0 0 0 image else image) ≡ is_type_1 image
-kind_stays image = elim (cases_Bool (is_type_1 image)) [
-  | inr plain ↦ rw plain plain
-  | inl bridge ↦ rw bridge (kind_cleared image ∙ bridge)
-]
-
 bridges_stay : (nodes : Nodes) → bridges (without_numbers nodes) ≡ bridges nodes
 bridges_stay NoMore = refl
 bridges_stay (Node d f image behind others) = rw (kind_stays image, bridges_stay behind, bridges_stay others) refl
@@ -81,9 +71,6 @@ hush_count_start before bus made = λ v high last nodes is seen walkable. record
   is = record { is = is; seen = seen_alone v bus 0 high last seen; past = λ never. cc never; has = rest_of nodes walkable };
   few = omega arith;
 }
-
-none_between : (P : Type 0) (bus : ℕ) → 0 < bus → bus ≤ 0 → P
-none_between P bus over within = absurd (omega (arith, over, within))
 
 pub hush_count_pass : (before now : Board) (slot : Slot) (more : Bool) (found : Found) (made total : ℕ) → slot.function ≤ 7 → IsLooked now slot more found → found.bridge ≡ false → IsHushCounted before slot.bus (code slot) more now made total → IsHushCounted before slot.bus (code slot + 1) found.more now made total
 hush_count_pass before now slot more found made total low looked none counted = λ v high last nodes is seen walkable.

@@ -24,7 +24,7 @@ or_all true = refl
 or_all false = refl
 
 -- no bus is above 0 and not above 0
-none_between : (P : Type 0) (bus : ℕ) → 0 < bus → bus ≤ 0 → P
+pub none_between : (P : Type 0) (bus : ℕ) → 0 < bus → bus ≤ 0 → P
 none_between P bus over within = absurd (omega (arith, over, within))
 
 pub hush_pass : (before now : Board) (slot : Slot) (more bridges : Bool) (found : Found) → slot.function ≤ 7 → IsLooked now slot more found → found.bridge ≡ false → IsHushing before slot.bus (code slot) more bridges now → IsHushing before slot.bus (code slot + 1) found.more bridges now
