@@ -4,3 +4,4 @@ pub mod FirstPlaces
 pub mod Inserted
 pub mod AllPlaced
 pub mod LaidOut
+pub mod Around

@@ -1,8 +1,8 @@
 -- What is laid out from 0 on.
-use Rattle.std.specs.Prelude.{ℕ, ◌≡◌, ◌≤◌, List, length, map, Option, None, Some, ⊤}
+use Rattle.std.specs.Prelude.{ℕ, ◌≡◌, ◌≤◌, ◌^◌, List, length, map, Option, None, Some, ⊤}
 use Rattle.std.specs.List.{insert}
 use Rattle.plan_spec.specs.Place.{range_from}
-use Rattle.settle_spec.specs.FirstPlace.{first_spot}
+use Rattle.settle_spec.specs.FirstPlace.{first_spot, Extent as ExtentValue}
 use Rattle.pci_base.specs.declared.range.Range.{Range}
 use Rattle.pci_base.specs.Ranges.{decoded_range_of}
 use Rattle.pci_settle.specs.declared.extent.Extent.{Extent}
@@ -20,3 +20,11 @@ abbrev pub IsLaidBy : List Range → List Range → Extent → Option ℕ → Ty
 IsLaidBy old new e None = ⊤
 IsLaidBy old new e (Some end) =
     (index : ℕ) × (index ≤ length old) × (new ≡ insert old index (range_at e (laid_first old e)))
+
+abbrev pub alignments : List ExtentValue → List ℕ
+alignments extents = map (λ (e : ExtentValue). e.alignment) extents
+
+-- an extent as the definitions have it, where it has fewer than 2^64 addresses
+abbrev pub IsAround : ExtentValue → Option Extent → Type 0
+IsAround e None = 2 ^ 64 ≤ e.size
+IsAround e (Some x) = extent_value x ≡ e

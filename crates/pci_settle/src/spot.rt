@@ -18,7 +18,7 @@ pub struct Spot {
 }
 
 /// The least multiple of an alignment from an address on; None where it is above all addresses of 64 bits.
-fn raised(from: u64, alignment: u64) -> Option<u64>
+pub fn raised(from: u64, alignment: u64) -> Option<u64>
     requires some { 0 < alignment }
     ensures { SomeIff result (raised_to alignment from < 2 ^ 64) (raised_to alignment from) }
 {

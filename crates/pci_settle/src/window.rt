@@ -1,14 +1,18 @@
 //! How large a new window is: as large as what is in it, raised to a page.
-ghost use Rattle.std.specs.Prelude.{◌<◌, ◌+◌, ◌^◌, IfOk, SomeIff, [], map, max, ◌≡◌};
-ghost use Rattle.std.specs.List.{All};
-ghost use Rattle.settle_spec.specs.Items.{laid_out, end_of as end_behind};
+ghost use Rattle.std.specs.Prelude.{◌<◌, ◌≤◌, ◌+◌, ◌^◌, IfOk, IfSome, SomeIff, [], map, max, length, ◌≡◌};
+ghost use Rattle.std.specs.List.{All, list_all};
+ghost use Rattle.pci_spec.specs.Window.{page_size};
+ghost use Rattle.plan_spec.specs.Plan.{greatest};
+ghost use Rattle.settle_spec.specs.Items.{laid_out, end_of as end_behind, extent_around};
+ghost use Rattle.pci_base.specs.WindowKinds.{kind_value};
 ghost use Rattle.pci_settle.specs.Spots.{extent_value, IsExtent, AreListed};
-ghost use Rattle.pci_settle.specs.Windows.{laid_last, IsLaidBy};
+ghost use Rattle.pci_settle.specs.Windows.{laid_last, IsLaidBy, alignments, IsAround};
 
 use crate::extent::Extent;
-use crate::spot::first_spot;
+use crate::spot::{first_spot, raised};
 use pci_base::memory::OutOfMemory;
 use pci_base::range::Range;
+use pci_base::window_kind::WindowKind;
 use std::alloc::Allocator;
 
 /// Lays an extent out from 0 on, off what is taken, and answers the end of its last address; None where that is
@@ -62,4 +66,55 @@ fn end_of<A: Allocator>(alloc: A, extents: &[Extent]) -> Result<Option<u64>, Out
         }
     }
     Ok(Some(end))
+}
+
+/// The greatest alignment of some extents and a page.
+fn alignment_around(page: u64, extents: &[Extent]) -> u64
+    ensures { result ≡ max page (greatest (alignments (map extent_value extents.now))) }
+{
+    let mut alignment = page;
+    for extent in extents {
+        alignment = later(alignment, extent.alignment);
+    }
+    alignment
+}
+
+/// Whether all of some extents may lie above 4 GB.
+fn are_wide(extents: &[Extent]) -> bool
+    ensures { result ≡ list_all (λ e. e.wide) (map extent_value extents.now) }
+{
+    for extent in extents {
+        if !extent.wide {
+            return false;
+        }
+    }
+    true
+}
+
+/// The extent of a new window around others, which may lie above 4 GB where it has upper halves and all of them may;
+/// None where it would have 2^64 addresses or more.
+pub fn extent_around<A: Allocator>(
+    alloc: A,
+    class: WindowKind,
+    upper_halves: bool,
+    extents: &[Extent],
+) -> Result<Option<Extent>, OutOfMemory>
+    requires { All IsExtent extents.now }
+    ensures around { IfOk result (IsAround
+        (extent_around (page_size (kind_value class)) upper_halves
+        (map extent_value extents.now))) }
+    ensures some { 0 < length extents.now → IfOk result (λ window. IfSome window IsExtent) }
+{
+    let page = class.page_size();
+    let Some(end) = end_of(alloc, extents)? else {
+        return Ok(None);
+    };
+    let Some(size) = raised(end, page) else {
+        return Ok(None);
+    };
+    Ok(Some(Extent {
+        size,
+        alignment: alignment_around(page, extents),
+        wide: upper_halves && are_wide(extents),
+    }))
 }

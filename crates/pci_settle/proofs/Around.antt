@@ -1,0 +1,98 @@
+-- What is around extents: a walk along them, and that there is an address where there is an extent.
+use Rattle.std.proofs.Common.{◌≡◌, ◌&&◌, ℕ, zero, suc, ◌+◌, ◌^◌, ◌<◌, ◌≤◌, max, List, [], ◌∷◌, map, length, drop, get_or, arith, ap, sym, subst, ◌∙◌, refl, true, false, Bool, Option, Some, SomeIff}
+use Rattle.std.specs.List.{list_all}
+use Rattle.std.proofs.lemmas.List.{at_drop_more, get_or-map, length-map}
+use Rattle.pci_spec.specs.Decoded.{Range as DecodedRange}
+use Rattle.pci_spec.specs.Window.{WindowKind, IoWindow, MemoryWindow, PrefetchWindow, page_size}
+use Rattle.pci_spec.proofs.Members.{in_head}
+use Rattle.plan_spec.specs.Plan.{greatest, raised_to}
+use Rattle.plan_spec.specs.Place.{range_from}
+use Rattle.plan_spec.proofs.Planning.Room.{raised}
+use Rattle.settle_spec.specs.FirstPlace.{Extent as ExtentValue, first_spot}
+use Rattle.settle_spec.specs.Items.{laid_out, end_of}
+use Rattle.settle_spec.proofs.LaidOut.{laid_keeps, greatest_more, end_behind}
+use Rattle.pci_settle.specs.declared.extent.Extent.{Extent}
+use Rattle.pci_settle.specs.Spots.{extent_value, IsExtent}
+use Rattle.pci_settle.specs.Windows.{alignments}
+
+drop_all : {X : Type 0} (n : ℕ) (xs : List X) → length xs ≤ n → drop n xs ≡ []
+drop_all zero [] past = refl
+drop_all zero (x ∷ xs) past = absurd (let no : ⊥ = omega (arith, past) in no)
+drop_all (suc n) [] past = refl
+drop_all (suc n) (x ∷ xs) past = drop_all n xs (omega (arith, past))
+
+-- what is left of the extents, as the definitions have them
+abbrev pub left : List Extent → ℕ → List ExtentValue
+left extents n = drop n (map extent_value extents)
+
+pub left_next : (extents : List Extent) (n : ℕ) (d : Extent) → n < length extents → left extents n ≡ extent_value (get_or extents n d) ∷ left extents (n + 1)
+left_next extents n d within =
+    let long = length-map extents extent_value in
+    at_drop_more (λ xs. xs) (map extent_value extents) n (extent_value d) (omega (arith, within, long))
+    ∙ ap (λ x. x ∷ left extents (n + 1)) (get_or-map extent_value extents n d (extent_value d) within)
+
+pub left_none : (extents : List Extent) (n : ℕ) → length extents ≤ n → left extents n ≡ []
+left_none extents n past = let long = length-map extents extent_value in drop_all n (map extent_value extents) (omega (arith, long, past))
+
+-- ---- the greatest alignment
+
+pub greatest_next : (extents : List Extent) (n : ℕ) (d : Extent) (a all : ℕ) → n < length extents → max a (greatest (alignments (left extents n))) ≡ all
+    → max (max a (get_or extents n d).alignment) (greatest (alignments (left extents (n + 1)))) ≡ all
+greatest_next extents n d a all within is =
+    let next : greatest (alignments (left extents n)) ≡ greatest ((get_or extents n d).alignment ∷ alignments (left extents (n + 1))) = ap (λ xs. greatest (alignments xs)) (left_next extents n d within) in
+    let more = greatest_more (get_or extents n d).alignment (alignments (left extents (n + 1))) in
+    omega (arith, is, next, more)
+
+pub greatest_all : (extents : List Extent) (n a all : ℕ) → length extents ≤ n → max a (greatest (alignments (left extents n))) ≡ all → a ≡ all
+greatest_all extents n a all past is =
+    let none : greatest (alignments (left extents n)) ≡ 0 = ap (λ xs. greatest (alignments xs)) (left_none extents n past) in
+    omega (arith, is, none)
+
+-- ---- whether all are wide
+
+abbrev pub is_wide : ExtentValue → Bool
+is_wide e = e.wide
+
+pub wide_next : (extents : List Extent) (n : ℕ) (d : Extent) (all : Bool) → n < length extents → list_all is_wide (left extents n) ≡ all → (get_or extents n d).wide ≡ true
+    → list_all is_wide (left extents (n + 1)) ≡ all
+wide_next extents n d all within is wide =
+    sym (ap (λ b. b && list_all is_wide (left extents (n + 1))) wide) ∙ sym (ap (list_all is_wide) (left_next extents n d within)) ∙ is
+
+pub wide_not : (extents : List Extent) (n : ℕ) (d : Extent) (all : Bool) → n < length extents → list_all is_wide (left extents n) ≡ all → (get_or extents n d).wide ≡ false → false ≡ all
+wide_not extents n d all within is narrow =
+    sym (ap (λ b. b && list_all is_wide (left extents (n + 1))) narrow) ∙ sym (ap (list_all is_wide) (left_next extents n d within)) ∙ is
+
+pub wide_all : (extents : List Extent) (n : ℕ) (all : Bool) → length extents ≤ n → list_all is_wide (left extents n) ≡ all → true ≡ all
+wide_all extents n all past is = sym (ap (list_all is_wide) (left_none extents n past)) ∙ is
+
+-- ---- an extent has an address, and so has what is around it
+
+some_page : (c : WindowKind) → 0 < page_size c
+some_page IoWindow = omega arith
+some_page MemoryWindow = omega arith
+some_page PrefetchWindow = omega arith
+
+some_end : (extents : List ExtentValue) → 0 < length extents → 0 < end_of (laid_out [] extents)
+some_end [] some = absurd (let no : ⊥ = omega (arith, some) in no)
+some_end (e ∷ extents) some =
+    let first : DecodedRange = range_from (first_spot 0 [] e) e.size in
+    let end = end_behind (laid_out (first ∷ []) extents) first (laid_keeps (first ∷ []) extents first (in_head first [])) in
+    omega (arith, end)
+
+pub around_some : (c : WindowKind) (extents : List Extent) (page size alignment all end : ℕ) (wide : Bool) (o : Option ℕ)
+    → page ≡ page_size c
+    → SomeIff o (end_of (laid_out [] (map extent_value extents)) < 2 ^ 64) (end_of (laid_out [] (map extent_value extents))) → o ≡ Some end
+    → size ≡ raised_to page end → alignment ≡ max page all → 0 < length extents → IsExtent (record { size = size; alignment = alignment; wide = wide })
+around_some c extents page size alignment all end wide o page_is told is size_is alignment_is some =
+    let some_one = some_page c in
+    let long = length-map extents extent_value in
+    let above = some_end (map extent_value extents) (omega (arith, some, long)) in
+    let pair : (end_of (laid_out [] (map extent_value extents)) < 2 ^ 64) × (end ≡ end_of (laid_out [] (map extent_value extents))) =
+    subst (λ x. SomeIff x (end_of (laid_out [] (map extent_value extents)) < 2 ^ 64) (end_of (laid_out [] (map extent_value extents)))) is told in
+    let end_is = pair.1 in
+    let pos : 0 < page = omega (arith, page_is, some_one) in
+    let from = (raised page end pos).from in
+    record {
+      size = omega (arith, size_is, from, end_is, above);
+      alignment = omega (arith, alignment_is, pos);
+    }
