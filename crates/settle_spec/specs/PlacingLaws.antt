@@ -1,9 +1,11 @@
 -- Laws of placing: first places are what they are said to be, and what is placed is apart.
 use Rattle.std.specs.Prelude.{◌≡◌, ◌↔◌, ℕ, ◌<◌, IsTrue, List, map, None, Some}
 use Rattle.std.specs.List.{AllPairs, Contains}
+use Rattle.std.specs.List.Sorted.{IsPermutation}
 use Rattle.pci_spec.specs.Decoded.{Range}
 use Rattle.settle_spec.specs.FirstPlace.{Extent, are_apart, is_place, first_spot, first_place, IsLeastSpot, HasNoPlace, IsFirstPlace}
-use Rattle.settle_spec.specs.Items.{Item, Placed, AllPlaced, place_all, taken_by}
+use Rattle.settle_spec.specs.Stands.{rank}
+use Rattle.settle_spec.specs.Items.{Item, Placed, AllPlaced, comes_before, in_turn, place_all, taken_by}
 
 -- There is always a least free multiple of an alignment from an address on.
 abbrev pub SpotIsLeast : Type 0
@@ -49,3 +51,24 @@ PlacedAreApart =
     → ((i : Item) → Contains items i → 0 < i.extent.alignment)
     → place_all ranges taken items ≡ AllPlaced placed
     → ArePlaced ranges taken items placed
+
+-- ---- in turn
+
+-- an item is of a lower slot, or of a lower register of the same slot
+abbrev pub HasLowerRank : Item → Item → Type 0
+HasLowerRank i j = rank i.region < rank j.region
+
+abbrev pub ComesBefore : Item → Item → Type 0
+ComesBefore i j = IsTrue (comes_before i j)
+
+-- Items in turn are the same items, each before all that follow it,
+abbrev pub TurnIsOrdered : Type 0
+TurnIsOrdered =
+    (items : List Item) → AllPairs HasLowerRank items
+    → IsPermutation items (in_turn items) × AllPairs ComesBefore (in_turn items)
+
+-- and there is no other list of them in that order.
+abbrev pub TurnIsOnly : Type 0
+TurnIsOnly =
+    (items turn : List Item) → AllPairs HasLowerRank items → IsPermutation items turn
+    → AllPairs ComesBefore turn → in_turn items ≡ turn

@@ -1,6 +1,6 @@
 //! Laws of placing. These functions do nothing: each contract is a law.
 
-ghost use Rattle.settle_spec.specs.PlacingLaws.{SpotIsLeast, PlaceIsFirst, NoPlaceIsNone, OrderIsFree, PlacedAreApart};
+ghost use Rattle.settle_spec.specs.PlacingLaws.{SpotIsLeast, PlaceIsFirst, NoPlaceIsNone, OrderIsFree, PlacedAreApart, TurnIsOrdered, TurnIsOnly};
 
 /// A first place is the least free one of the first range that has any.
 pub fn first_places_are_least()
@@ -13,4 +13,10 @@ pub fn first_places_are_least()
 /// What is placed one after another lies in ranges, and apart.
 pub fn placed_items_are_apart()
     ensures apart { PlacedAreApart }
+{}
+
+/// Items in turn are the same items in the order in which they are placed.
+pub fn items_in_turn_are_ordered()
+    ensures ordered { TurnIsOrdered }
+    ensures only { TurnIsOnly }
 {}
