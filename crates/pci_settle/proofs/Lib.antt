@@ -5,3 +5,4 @@ pub mod Inserted
 pub mod AllPlaced
 pub mod LaidOut
 pub mod Around
+pub mod Turns

@@ -1,3 +1,4 @@
 pub mod Spots
 pub mod Placings
 pub mod Windows
+pub mod Turns

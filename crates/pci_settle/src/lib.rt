@@ -7,6 +7,7 @@
 #![tactic(auto)]
 
 pub mod extent;
+pub mod item;
 pub mod placing;
 pub mod spot;
 pub mod window;

@@ -1,0 +1,21 @@
+-- The order in which items are placed, by a number that stands for slot and register.
+use Rattle.std.specs.Prelude.{◌≡◌, ℕ, ◌<◌, ◌⊎◌}
+use Rattle.settle_spec.specs.Items.{Item as ItemValue}
+use Rattle.pci_settle.specs.declared.item.Item.{Item}
+use Rattle.pci_settle.specs.Spots.{extent_value}
+
+-- an item is larger than another, or as large and of a lower number
+abbrev pub IsLarger : (Item → ℕ) → Item → Item → Type 0
+IsLarger number i j =
+    (j.extent.size < i.extent.size)
+    ⊎ ((i.extent.size ≡ j.extent.size) × (number i < number j))
+
+-- it is of a greater alignment, or comes first in the same
+abbrev pub IsInTurn : (Item → ℕ) → Item → Item → Type 0
+IsInTurn number i j =
+    (j.extent.alignment < i.extent.alignment)
+    ⊎ ((i.extent.alignment ≡ j.extent.alignment) × IsLarger number i j)
+
+-- items of the definitions with the extents of those that they stand for
+abbrev pub IsValued : (Item → ItemValue) → Type 0
+IsValued value = (i : Item) → (value i).extent ≡ extent_value i.extent
