@@ -1,7 +1,7 @@
 -- What is around extents: a walk along them, and that there is an address where there is an extent.
-use Rattle.std.proofs.Common.{◌≡◌, ◌&&◌, ℕ, zero, suc, ◌+◌, ◌^◌, ◌<◌, ◌≤◌, max, List, [], ◌∷◌, map, length, drop, get_or, arith, ap, sym, subst, ◌∙◌, refl, true, false, Bool, Option, Some, SomeIff}
+use Rattle.std.proofs.Common.{◌≡◌, ◌&&◌, ℕ, ◌+◌, ◌^◌, ◌<◌, ◌≤◌, max, List, [], ◌∷◌, map, length, drop, get_or, arith, ap, sym, subst, ◌∙◌, true, false, Bool, Option, Some, SomeIff}
 use Rattle.std.specs.List.{list_all}
-use Rattle.std.proofs.lemmas.List.{at_drop_more, get_or-map, length-map}
+use Rattle.std.proofs.lemmas.List.{length-map}
 use Rattle.pci_spec.specs.Decoded.{Range as DecodedRange}
 use Rattle.pci_spec.specs.Window.{WindowKind, IoWindow, MemoryWindow, PrefetchWindow, page_size}
 use Rattle.pci_spec.proofs.Members.{in_head}
@@ -14,38 +14,24 @@ use Rattle.settle_spec.proofs.LaidOut.{laid_keeps, greatest_more, end_behind}
 use Rattle.pci_settle.specs.declared.extent.Extent.{Extent}
 use Rattle.pci_settle.specs.Spots.{extent_value, IsExtent}
 use Rattle.pci_settle.specs.Windows.{alignments}
-
-drop_all : {X : Type 0} (n : ℕ) (xs : List X) → length xs ≤ n → drop n xs ≡ []
-drop_all zero [] past = refl
-drop_all zero (x ∷ xs) past = absurd (let no : ⊥ = omega (arith, past) in no)
-drop_all (suc n) [] past = refl
-drop_all (suc n) (x ∷ xs) past = drop_all n xs (omega (arith, past))
+use Rattle.pci_settle.proofs.Walks.{left_next, left_none}
 
 -- what is left of the extents, as the definitions have them
 abbrev pub left : List Extent → ℕ → List ExtentValue
 left extents n = drop n (map extent_value extents)
-
-pub left_next : (extents : List Extent) (n : ℕ) (d : Extent) → n < length extents → left extents n ≡ extent_value (get_or extents n d) ∷ left extents (n + 1)
-left_next extents n d within =
-    let long = length-map extents extent_value in
-    at_drop_more (λ xs. xs) (map extent_value extents) n (extent_value d) (omega (arith, within, long))
-    ∙ ap (λ x. x ∷ left extents (n + 1)) (get_or-map extent_value extents n d (extent_value d) within)
-
-pub left_none : (extents : List Extent) (n : ℕ) → length extents ≤ n → left extents n ≡ []
-left_none extents n past = let long = length-map extents extent_value in drop_all n (map extent_value extents) (omega (arith, long, past))
 
 -- ---- the greatest alignment
 
 pub greatest_next : (extents : List Extent) (n : ℕ) (d : Extent) (a all : ℕ) → n < length extents → max a (greatest (alignments (left extents n))) ≡ all
     → max (max a (get_or extents n d).alignment) (greatest (alignments (left extents (n + 1)))) ≡ all
 greatest_next extents n d a all within is =
-    let next : greatest (alignments (left extents n)) ≡ greatest ((get_or extents n d).alignment ∷ alignments (left extents (n + 1))) = ap (λ xs. greatest (alignments xs)) (left_next extents n d within) in
+    let next : greatest (alignments (left extents n)) ≡ greatest ((get_or extents n d).alignment ∷ alignments (left extents (n + 1))) = ap (λ xs. greatest (alignments xs)) (left_next extent_value extents n d within) in
     let more = greatest_more (get_or extents n d).alignment (alignments (left extents (n + 1))) in
     omega (arith, is, next, more)
 
 pub greatest_all : (extents : List Extent) (n a all : ℕ) → length extents ≤ n → max a (greatest (alignments (left extents n))) ≡ all → a ≡ all
 greatest_all extents n a all past is =
-    let none : greatest (alignments (left extents n)) ≡ 0 = ap (λ xs. greatest (alignments xs)) (left_none extents n past) in
+    let none : greatest (alignments (left extents n)) ≡ 0 = ap (λ xs. greatest (alignments xs)) (left_none extent_value extents n past) in
     omega (arith, is, none)
 
 -- ---- whether all are wide
@@ -56,14 +42,14 @@ is_wide e = e.wide
 pub wide_next : (extents : List Extent) (n : ℕ) (d : Extent) (all : Bool) → n < length extents → list_all is_wide (left extents n) ≡ all → (get_or extents n d).wide ≡ true
     → list_all is_wide (left extents (n + 1)) ≡ all
 wide_next extents n d all within is wide =
-    sym (ap (λ b. b && list_all is_wide (left extents (n + 1))) wide) ∙ sym (ap (list_all is_wide) (left_next extents n d within)) ∙ is
+    sym (ap (λ b. b && list_all is_wide (left extents (n + 1))) wide) ∙ sym (ap (list_all is_wide) (left_next extent_value extents n d within)) ∙ is
 
 pub wide_not : (extents : List Extent) (n : ℕ) (d : Extent) (all : Bool) → n < length extents → list_all is_wide (left extents n) ≡ all → (get_or extents n d).wide ≡ false → false ≡ all
 wide_not extents n d all within is narrow =
-    sym (ap (λ b. b && list_all is_wide (left extents (n + 1))) narrow) ∙ sym (ap (list_all is_wide) (left_next extents n d within)) ∙ is
+    sym (ap (λ b. b && list_all is_wide (left extents (n + 1))) narrow) ∙ sym (ap (list_all is_wide) (left_next extent_value extents n d within)) ∙ is
 
 pub wide_all : (extents : List Extent) (n : ℕ) (all : Bool) → length extents ≤ n → list_all is_wide (left extents n) ≡ all → true ≡ all
-wide_all extents n all past is = sym (ap (list_all is_wide) (left_none extents n past)) ∙ is
+wide_all extents n all past is = sym (ap (list_all is_wide) (left_none extent_value extents n past)) ∙ is
 
 -- ---- an extent has an address, and so has what is around it
 

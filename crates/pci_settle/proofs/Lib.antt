@@ -6,3 +6,4 @@ pub mod AllPlaced
 pub mod LaidOut
 pub mod Around
 pub mod Turns
+pub mod Walks

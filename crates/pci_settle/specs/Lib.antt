@@ -2,3 +2,4 @@ pub mod Spots
 pub mod Placings
 pub mod Windows
 pub mod Turns
+pub mod Lists

@@ -8,6 +8,7 @@
 
 pub mod extent;
 pub mod item;
+pub mod list;
 pub mod placing;
 pub mod spot;
 pub mod window;
