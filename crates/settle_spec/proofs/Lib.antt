@@ -4,4 +4,7 @@ pub mod SameTaken
 pub mod LaidOut
 pub mod Placed
 pub mod InTurn
+pub mod Nested
+pub mod NewWindows
+pub mod ItemsBehind
 pub mod Examples

@@ -7,3 +7,4 @@ pub mod Items
 pub mod Places
 pub mod Registers
 pub mod Writes
+pub mod WindowLaws

@@ -7,3 +7,4 @@
 #![tactic(auto)]
 
 pub mod placing_laws;
+pub mod window_laws;

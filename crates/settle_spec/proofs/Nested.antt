@@ -1,0 +1,74 @@
+-- Bridges of a system whose bus ranges nest.
+use Rattle.std.proofs.Common.{◌≡◌, ℕ, ◌<◌, ◌≤◌, inl, inr, List, true, ◌&&◌, not, arith, ap, refl}
+use Rattle.std.specs.Bool.{nat_lt, nat_le, ◌==◌}
+use Rattle.std.specs.List.{Contains}
+use Rattle.std.proofs.lemmas.Bool.{not-true, and_parts, cases_Bool, both_ways, ltb-true, leb-true, eqb-true, or_cases}
+use Rattle.pci_spec.specs.Slot.{slot_number}
+use Rattle.pci_spec.specs.Header.{primary_bus}
+use Rattle.pci_spec.specs.System.{System, Function, IsSystem, is_bridge}
+use Rattle.pci_spec.specs.Bus.{secondary, subordinate, is_behind, is_root, is_inside, are_siblings, IsNested}
+use Rattle.pci_spec.proofs.Nesting.{one_function}
+use Rattle.pci_spec.proofs.BusRanges.{root_means}
+use Rattle.plan_spec.proofs.Planning.Behind.{all_gives, is_behind_by, behind_range}
+
+module _ (roots : List ℕ) (s : System) (system : IsSystem s) (nested : IsNested roots s) where
+  pub own_end : (b : Function) → Contains s b → is_bridge b ≡ true → secondary b ≤ subordinate b
+  own_end b listed bridge =
+      leb-true (secondary b) (subordinate b)
+      (and_parts (primary_bus b.image == b.slot.bus && nat_lt b.slot.bus (secondary b)) (nat_le (secondary b) (subordinate b)) (nested.order b listed bridge)).1
+
+  -- the bus behind a bridge is behind it
+  pub at_secondary : (b : Function) (bus : ℕ) → Contains s b → is_bridge b ≡ true → secondary b ≡ bus → is_behind b bus ≡ true
+  at_secondary b bus listed bridge at = let end = own_end b listed bridge in is_behind_by b bus (omega (arith, at)) (omega (arith, at, end))
+
+  pub inside_ends : (b outer : Function) → Contains s b → Contains s outer → is_bridge b ≡ true → is_bridge outer ≡ true → is_behind outer b.slot.bus ≡ true → (secondary outer ≤ secondary b) × (subordinate b ≤ subordinate outer)
+  inside_ends b outer in_b in_outer bridge_b bridge_outer is =
+      let plain = (and_parts (is_inside b outer) _ (nested.inside b outer in_b in_outer bridge_b bridge_outer is)).0 in
+      let parts = and_parts (nat_le (secondary outer) (secondary b)) (nat_le (subordinate b) (subordinate outer)) plain in
+      (leb-true (secondary outer) (secondary b) parts.0, leb-true (subordinate b) (subordinate outer) parts.1)
+
+  -- what is behind a bridge is behind what the bridge is behind
+  pub behind_outer : (b outer : Function) (bus : ℕ) → Contains s b → Contains s outer → is_bridge b ≡ true → is_bridge outer ≡ true → is_behind outer b.slot.bus ≡ true
+      → is_behind b bus ≡ true → is_behind outer bus ≡ true
+  behind_outer b outer bus in_b in_outer bridge_b bridge_outer is behind =
+      let ends = inside_ends b outer in_b in_outer bridge_b bridge_outer is in
+      let range = behind_range b bus behind in
+      let from = ends.0 in
+      let to = ends.1 in
+      let low = range.0 in
+      let high = range.1 in
+      is_behind_by outer bus (omega (arith, from, low)) (omega (arith, to, high))
+
+  pub is_no_root : (b : Function) (bus : ℕ) → Contains s b → is_bridge b ≡ true → is_behind b bus ≡ true → is_root roots bus ≡ true → ⊥
+  is_no_root b bus listed bridge behind root =
+      let clear = all_gives (λ r. not (is_behind b r)) roots bus (nested.clear b listed bridge) ((root_means roots bus).0 root) in
+      both_ways (is_behind b bus) (not-true (is_behind b bus) clear) behind
+
+  -- what is beside the bus behind a bridge is on it
+  pub on_it : (b : Function) (bus : ℕ) → Contains s b → is_bridge b ≡ true → are_siblings roots (secondary b) bus ≡ true → secondary b ≡ bus
+  on_it b bus listed bridge beside = elim (or_cases (secondary b == bus) (is_root roots (secondary b) && is_root roots bus) beside) [
+    | inl same ↦ eqb-true (secondary b) bus same
+    | inr both ↦ absurd (is_no_root b (secondary b) listed bridge (at_secondary b (secondary b) listed bridge refl) (and_parts (is_root roots (secondary b)) (is_root roots bus) both).0)
+  ]
+
+  -- a bus behind a bridge that isn't its secondary bus has a bridge to it that is behind too
+  pub bridge_between : (b d : Function) → Contains s b → Contains s d → is_bridge b ≡ true → is_bridge d ≡ true → is_behind b (secondary d) ≡ true → secondary b < secondary d → is_behind b d.slot.bus ≡ true
+  bridge_between b d in_b in_d bridge_b bridge_d behind above = elim (cases_Bool (is_behind b d.slot.bus)) [
+    | inl fine ↦ fine
+    | inr out ↦ elim (cases_Bool (is_behind d b.slot.bus)) [
+      | inl other ↦ let from = (inside_ends b d in_b in_d bridge_b bridge_d other).0 in absurd (let no : ⊥ = omega (arith, from, above) in no)
+      | inr apart_too ↦
+          let differ : (b.slot ≡ d.slot → ⊥) = λ e.
+          let z : secondary b ≡ secondary d = ap secondary (one_function s system b d in_b in_d (ap slot_number e)) in
+          (let no : ⊥ = omega (arith, z, above) in no) in
+          let gap = nested.apart b d in_b in_d bridge_b bridge_d differ apart_too out in
+          let range = behind_range b (secondary d) behind in
+          let end = own_end d in_d bridge_d in
+          let low = range.0 in
+          let high = range.1 in
+          absurd (elim (or_cases (nat_lt (subordinate b) (secondary d)) (nat_lt (subordinate d) (secondary b)) gap) [
+            | inl left ↦ let l = ltb-true (subordinate b) (secondary d) left in (let no : ⊥ = omega (arith, l, high) in no)
+            | inr right ↦ let l = ltb-true (subordinate d) (secondary b) right in (let no : ⊥ = omega (arith, l, end, low) in no)
+          ])
+    ]
+  ]
