@@ -6,4 +6,5 @@ pub mod AllPlaced
 pub mod LaidOut
 pub mod Around
 pub mod Turns
+pub mod ItemExtents
 pub mod Walks

@@ -2,7 +2,8 @@
 use Rattle.std.specs.Prelude.{◌≡◌, ℕ, ◌<◌, ◌⊎◌}
 use Rattle.settle_spec.specs.Items.{Item as ItemValue}
 use Rattle.pci_settle.specs.declared.item.Item.{Item}
-use Rattle.pci_settle.specs.Spots.{extent_value}
+use Rattle.pci_settle.specs.declared.extent.Extent.{Extent}
+use Rattle.pci_settle.specs.Spots.{extent_value, IsExtent}
 
 -- an item is larger than another, or as large and of a lower number
 abbrev pub IsLarger : (Item → ℕ) → Item → Item → Type 0
@@ -15,6 +16,12 @@ abbrev pub IsInTurn : (Item → ℕ) → Item → Item → Type 0
 IsInTurn number i j =
     (j.extent.alignment < i.extent.alignment)
     ⊎ ((i.extent.alignment ≡ j.extent.alignment) × IsLarger number i j)
+
+abbrev pub own_extent : Item → Extent
+own_extent i = i.extent
+
+abbrev pub HasExtent : Item → Type 0
+HasExtent i = IsExtent i.extent
 
 -- items of the definitions with the extents of those that they stand for
 abbrev pub IsValued : (Item → ItemValue) → Type 0

@@ -1,14 +1,19 @@
 //! How large a new window is: as large as what is in it, raised to a page.
 ghost use Rattle.std.specs.Prelude.{◌<◌, ◌≤◌, ◌+◌, ◌^◌, IfOk, IfSome, SomeIff, [], map, max, length, ◌≡◌};
-ghost use Rattle.std.specs.List.{All, list_all};
+ghost use Rattle.std.specs.List.{All, AllPairs, list_all};
+ghost use Rattle.std.specs.List.Sorted.{IsPermutation};
 ghost use Rattle.pci_spec.specs.Window.{page_size};
 ghost use Rattle.plan_spec.specs.Plan.{greatest};
-ghost use Rattle.settle_spec.specs.Items.{laid_out, end_of as end_behind, extent_around};
+ghost use Rattle.settle_spec.specs.Items.{Item as ItemValue, in_turn, laid_out, end_of as end_behind, extent_around};
+ghost use Rattle.settle_spec.specs.PlacingLaws.{HasLowerRank};
 ghost use Rattle.pci_base.specs.WindowKinds.{kind_value};
 ghost use Rattle.pci_settle.specs.Spots.{extent_value, IsExtent, AreListed};
+ghost use Rattle.pci_settle.specs.Placings.{item_extent};
+ghost use Rattle.pci_settle.specs.Turns.{own_extent, HasExtent, IsValued};
 ghost use Rattle.pci_settle.specs.Windows.{laid_last, IsLaidBy, alignments, IsAround};
 
 use crate::extent::Extent;
+use crate::item::{Item, sort_items};
 use crate::spot::{first_spot, raised};
 use pci_base::memory::OutOfMemory;
 use pci_base::range::Range;
@@ -117,4 +122,41 @@ pub fn extent_around<A: Allocator>(
         alignment: alignment_around(page, extents),
         wide: upper_halves && are_wide(extents),
     }))
+}
+
+/// The extents of items.
+fn extents_of<A: Allocator>(alloc: A, items: &[Item]) -> Result<Vec<Extent, A>, OutOfMemory>
+    ensures { IfOk result (λ extents. extents.items ≡ map own_extent items.now) }
+{
+    let mut extents = Vec::new(alloc);
+    for item in items {
+        extents.push(item.extent)?;
+    }
+    Ok(extents)
+}
+
+/// The extent of a new window around the items of a bus. They stand in slot and register order, and are then in the
+/// order in which they are placed. None where the window would have 2^64 addresses or more.
+pub fn window_around<A: Allocator + Copy>(
+    alloc: A,
+    class: WindowKind,
+    upper_halves: bool,
+    items: &mut Vec<Item, A>,
+) -> Result<Option<Extent>, OutOfMemory>
+    requires { All HasExtent items.old.items }
+    // nothing is lost or doubled, also where there was no memory
+    ensures permutation { IsPermutation items.old.items items.new.items }
+    ensures turn { IfOk result (λ window. (value : Item → ItemValue) → IsValued value
+        → AllPairs HasLowerRank (map value items.old.items)
+        → map value items.new.items ≡ in_turn (map value items.old.items)) }
+    ensures around { IfOk result (λ window. (value : Item → ItemValue) → IsValued value
+        → AllPairs HasLowerRank (map value items.old.items)
+        → IsAround (extent_around (page_size (kind_value class)) upper_halves
+        (map item_extent (in_turn (map value items.old.items)))) window) }
+    ensures some { 0 < length items.old.items
+        → IfOk result (λ window. IfSome window IsExtent) }
+{
+    sort_items(items)?;
+    let extents = extents_of(alloc, items.as_slice())?;
+    extent_around(alloc, class, upper_halves, extents.as_slice())
 }
