@@ -7,4 +7,5 @@ pub mod InTurn
 pub mod Nested
 pub mod NewWindows
 pub mod ItemsBehind
+pub mod Room
 pub mod Examples

@@ -1,12 +1,14 @@
--- Laws of new windows where nothing stays: what is behind bridges can be gone over from the highest bus down.
-use Rattle.std.specs.Prelude.{◌≡◌, nat_lt, IsTrue, length}
+-- Laws of new windows where nothing stays: what is behind bridges can be gone over from the highest bus down, and has its
+-- places in the windows.
+use Rattle.std.specs.Prelude.{◌≡◌, ℕ, ◌+◌, ◌-◌, ◌%◌, ◌<◌, ◌≤◌, ◌⊎◌, nat_lt, Bool, IsTrue, List, [], ◌∷◌, map, length}
 use Rattle.std.specs.List.{Contains}
 use Rattle.pci_spec.specs.Window.{WindowKind}
 use Rattle.pci_spec.specs.System.{System, Function, IsSystem, is_bridge}
 use Rattle.pci_spec.specs.Bus.{secondary, IsNested}
+use Rattle.plan_spec.specs.Place.{range_from}
 use Rattle.settle_spec.specs.FirstPlace.{Extent}
 use Rattle.settle_spec.specs.Lists.{Request}
-use Rattle.settle_spec.specs.Items.{has_of, items_on, nothing, window_around, new_window}
+use Rattle.settle_spec.specs.Items.{Item, place_all, are_placed, has_of, items_on, nothing, extent_around, window_around, new_window}
 
 -- A new window is that around the items of the bus behind its bridge, whose windows are new ones in turn.
 abbrev pub WindowIsAround : Type 0
@@ -22,3 +24,19 @@ ItemsAreBehind =
     (q : Request) (s : System) (c : WindowKind) (extent : Function → Extent) (b : Function)
     → IsSystem s → IsNested q.roots s → Contains s b → IsTrue (is_bridge b)
     → has_of q s c b ≡ nat_lt 0 (length (items_on q s c nothing extent (secondary b)))
+
+-- ---- room
+
+-- an item can be placed in a window from a on: a is one of its multiples, and the window ends below 4 GB where it has to
+pub record CanBeIn (a size : ℕ) (i : Item) : Type 0 where
+  pub alignment : 0 < i.extent.alignment
+  pub multiple : a % i.extent.alignment ≡ 0
+  pub below : IsTrue i.extent.wide ⊎ (a + (size - 1) ≤ 0xffff_ffff)
+
+-- Wherever a new window is placed, all that it was made around has a place in it.
+abbrev pub NewWindowHasRoom : Type 0
+NewWindowHasRoom =
+    (page : ℕ) (wide : Bool) (items : List Item) (a size : ℕ) → 0 < page
+    → size ≡ (extent_around page wide (map (λ (i : Item). i.extent) items)).size
+    → ((i : Item) → Contains items i → CanBeIn a size i)
+    → IsTrue (are_placed (place_all (λ i. range_from a size ∷ []) [] items))
