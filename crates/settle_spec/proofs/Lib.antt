@@ -8,4 +8,5 @@ pub mod Nested
 pub mod NewWindows
 pub mod ItemsBehind
 pub mod Room
+pub mod Classes
 pub mod Examples

@@ -8,3 +8,4 @@ pub mod Places
 pub mod Registers
 pub mod Writes
 pub mod WindowLaws
+pub mod ClassLaws

@@ -6,5 +6,6 @@
 //! Bridge Architecture Specification 1.2.
 #![tactic(auto)]
 
+pub mod class_laws;
 pub mod placing_laws;
 pub mod window_laws;
