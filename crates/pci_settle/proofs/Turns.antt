@@ -16,7 +16,7 @@ use Rattle.settle_spec.specs.Stands.{rank}
 use Rattle.settle_spec.specs.FirstPlace.{Extent as ExtentValue}
 use Rattle.settle_spec.specs.Items.{Item as ItemValue, in_turn}
 use Rattle.settle_spec.specs.PlacingLaws.{HasLowerRank, ComesBefore}
-use Rattle.settle_spec.proofs.InTurn.{turn_only}
+use Rattle.settle_spec.proofs.InTurn.{turn_only, ranks_differ}
 use Rattle.pci_settle.specs.declared.item.Item.{Item}
 use Rattle.pci_settle.specs.Turns.{IsInTurn, IsValued}
 
@@ -96,5 +96,5 @@ module _ (value : Item → ItemValue) (valued : IsValued value) where
   pub turn_by_sort : (items sorted : List Item) → AllPairs HasLowerRank (map value items) → IsPermutation items sorted → AllPairs (IsInTurn number) sorted
       → map value sorted ≡ in_turn (map value items)
   turn_by_sort items sorted rise moved turn =
-      sym (turn_only (map value items) (map value sorted) rise (IsPermutation-map value items sorted moved)
+      sym (turn_only (map value items) (map value sorted) (ranks_differ (map value items) rise) (IsPermutation-map value items sorted moved)
       (pairs_map ComesBefore value sorted (λ i j d up inside. before (get_or sorted i d) (get_or sorted j d) (turn i j d up inside))))

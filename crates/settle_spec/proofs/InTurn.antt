@@ -1,5 +1,5 @@
 -- Items in turn: the same items, each before all that follow it.
-use Rattle.std.proofs.Common.{◌≡◌, ◌&&◌, ◌||◌, ℕ, ◌<◌, inl, inr, List, [], ◌∷◌, cond, ap, sym, subst, ◌∙◌, refl, true, false, Bool, arith}
+use Rattle.std.proofs.Common.{◌≡◌, ◌&&◌, ◌||◌, ℕ, inl, inr, List, [], ◌∷◌, cond, ap, sym, subst, ◌∙◌, refl, true, false, Bool, arith}
 use Rattle.std.specs.Bool.{nat_lt, ◌==◌}
 use Rattle.std.specs.List.{Contains, AllPairs}
 use Rattle.std.specs.List.Sorted.{IsPermutation}
@@ -9,7 +9,7 @@ use Rattle.std.proofs.lemmas.List.Sorted.{IsPermutation-refl, IsPermutation-sym,
 use Rattle.pci_spec.proofs.Members.{in_nil, in_head, in_tail, in_cons_cases, pairs_nil, pairs_cons, pairs_head, pairs_tail}
 use Rattle.settle_spec.specs.Stands.{rank}
 use Rattle.settle_spec.specs.Items.{Item, comes_before, put_in, in_turn}
-use Rattle.settle_spec.specs.PlacingLaws.{ComesBefore, HasLowerRank}
+use Rattle.settle_spec.specs.PlacingLaws.{ComesBefore, HasLowerRank, HasOtherRank}
 
 -- ---- the order
 
@@ -19,8 +19,8 @@ earlier a b s t q r = nat_lt b a || (a == b && (nat_lt t s || (s == t && nat_lt 
 earlier_itself : (a s q : ℕ) → earlier a a s s q q ≡ false
 earlier_itself a s q = grind (arith, nat_tests)
 
-earlier_else : (a b s t q r : ℕ) → q < r → earlier a b s t q r ≡ false → earlier b a t s r q ≡ true
-earlier_else a b s t q r less other = grind (arith, nat_tests)
+earlier_else : (a b s t q r : ℕ) → (q ≡ r → ⊥) → earlier a b s t q r ≡ false → earlier b a t s r q ≡ true
+earlier_else a b s t q r differ other = grind (arith, nat_tests)
 
 earlier_trans : (a b c s t u q r v : ℕ) → earlier a b s t q r ≡ true → earlier b c t u r v ≡ true → earlier a c s u q v ≡ true
 earlier_trans a b c s t u q r v h k = grind (arith, nat_tests)
@@ -28,7 +28,7 @@ earlier_trans a b c s t u q r v h k = grind (arith, nat_tests)
 before_itself : (i : Item) → comes_before i i ≡ false
 before_itself i = earlier_itself i.extent.alignment i.extent.size (rank i.region)
 
-before_else : (i j : Item) → HasLowerRank i j → comes_before i j ≡ false → comes_before j i ≡ true
+before_else : (i j : Item) → HasOtherRank i j → comes_before i j ≡ false → comes_before j i ≡ true
 before_else i j less other =
     earlier_else i.extent.alignment j.extent.alignment i.extent.size j.extent.size (rank i.region) (rank j.region) less other
 
@@ -56,7 +56,7 @@ turn_same (i ∷ items) =
 
 -- ---- in that order
 
-put_in_order : (i : Item) (items : List Item) → ((j : Item) → Contains items j → HasLowerRank i j) → AllPairs ComesBefore items → AllPairs ComesBefore (put_in i items)
+put_in_order : (i : Item) (items : List Item) → ((j : Item) → Contains items j → HasOtherRank i j) → AllPairs ComesBefore items → AllPairs ComesBefore (put_in i items)
 put_in_order i [] lower pairs = pairs_cons ComesBefore i [] (λ j listed. absurd (in_nil j listed)) (pairs_nil ComesBefore)
 put_in_order i (j ∷ items) lower pairs = elim (cases_Bool (comes_before i j)) [
   | inl first ↦ subst (AllPairs ComesBefore) (sym (ap (λ b. cond b (i ∷ (j ∷ items)) (j ∷ put_in i items)) first))
@@ -74,12 +74,12 @@ put_in_order i (j ∷ items) lower pairs = elim (cases_Bool (comes_before i j)) 
       (put_in_order i items (λ k listed. lower k (in_tail j items k listed)) (pairs_tail ComesBefore j items pairs)))
 ]
 
-pub turn_order : (items : List Item) → AllPairs HasLowerRank items → AllPairs ComesBefore (in_turn items)
+pub turn_order : (items : List Item) → AllPairs HasOtherRank items → AllPairs ComesBefore (in_turn items)
 turn_order [] rise = pairs_nil ComesBefore
 turn_order (i ∷ items) rise =
     put_in_order i (in_turn items)
-    (λ j listed. pairs_head HasLowerRank i items j rise (Contains-permutation (in_turn items) items j (IsPermutation-sym items (in_turn items) (turn_same items)) listed))
-    (turn_order items (pairs_tail HasLowerRank i items rise))
+    (λ j listed. pairs_head HasOtherRank i items j rise (Contains-permutation (in_turn items) items j (IsPermutation-sym items (in_turn items) (turn_same items)) listed))
+    (turn_order items (pairs_tail HasOtherRank i items rise))
 
 -- ---- and no other list is
 
@@ -115,9 +115,17 @@ one_order (i ∷ xs) (j ∷ ys) up other to back =
     (rest_in i xs ys up (λ k listed. subst (λ z. Contains (z ∷ ys) k) same (to k listed)))
     (rest_in i ys xs (subst (λ z. AllPairs ComesBefore (z ∷ ys)) same other) (λ k listed. back k (subst (λ z. Contains (z ∷ ys) k) (sym same) listed))))
 
-pub turn_only : (items turn : List Item) → AllPairs HasLowerRank items → IsPermutation items turn → AllPairs ComesBefore turn → in_turn items ≡ turn
+pub turn_only : (items turn : List Item) → AllPairs HasOtherRank items → IsPermutation items turn → AllPairs ComesBefore turn → in_turn items ≡ turn
 turn_only items turn rise moved order =
     let own = turn_same items in
     one_order (in_turn items) turn (turn_order items rise) order
     (λ k listed. Contains-permutation items turn k moved (Contains-permutation (in_turn items) items k (IsPermutation-sym items (in_turn items) own) listed))
     (λ k listed. Contains-permutation items (in_turn items) k own (Contains-permutation turn items k (IsPermutation-sym items turn moved) listed))
+
+pub turn_free : (items others : List Item) → AllPairs HasOtherRank items → AllPairs HasOtherRank others → IsPermutation items others → in_turn items ≡ in_turn others
+turn_free items others apart other_apart moved =
+    turn_only items (in_turn others) apart (IsPermutation-trans items others (in_turn others) moved (turn_same others)) (turn_order others other_apart)
+
+-- ranks that rise differ
+pub ranks_differ : (items : List Item) → AllPairs HasLowerRank items → AllPairs HasOtherRank items
+ranks_differ items rise i j d up inside = λ same. let less = rise i j d up inside in let no : ⊥ = omega (arith, same, less) in no

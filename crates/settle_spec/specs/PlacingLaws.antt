@@ -58,17 +58,27 @@ PlacedAreApart =
 abbrev pub HasLowerRank : Item → Item → Type 0
 HasLowerRank i j = rank i.region < rank j.region
 
+-- it is of another slot, or of another register
+abbrev pub HasOtherRank : Item → Item → Type 0
+HasOtherRank i j = rank i.region ≡ rank j.region → ⊥
+
 abbrev pub ComesBefore : Item → Item → Type 0
 ComesBefore i j = IsTrue (comes_before i j)
 
 -- Items in turn are the same items, each before all that follow it,
 abbrev pub TurnIsOrdered : Type 0
 TurnIsOrdered =
-    (items : List Item) → AllPairs HasLowerRank items
+    (items : List Item) → AllPairs HasOtherRank items
     → IsPermutation items (in_turn items) × AllPairs ComesBefore (in_turn items)
 
 -- and there is no other list of them in that order.
 abbrev pub TurnIsOnly : Type 0
 TurnIsOnly =
-    (items turn : List Item) → AllPairs HasLowerRank items → IsPermutation items turn
+    (items turn : List Item) → AllPairs HasOtherRank items → IsPermutation items turn
     → AllPairs ComesBefore turn → in_turn items ≡ turn
+
+-- So it doesn't matter in which order the items are listed.
+abbrev pub TurnIsFree : Type 0
+TurnIsFree =
+    (items others : List Item) → AllPairs HasOtherRank items → AllPairs HasOtherRank others
+    → IsPermutation items others → in_turn items ≡ in_turn others

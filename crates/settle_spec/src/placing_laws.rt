@@ -1,6 +1,6 @@
 //! Laws of placing. These functions do nothing: each contract is a law.
 
-ghost use Rattle.settle_spec.specs.PlacingLaws.{SpotIsLeast, PlaceIsFirst, NoPlaceIsNone, OrderIsFree, PlacedAreApart, TurnIsOrdered, TurnIsOnly};
+ghost use Rattle.settle_spec.specs.PlacingLaws.{SpotIsLeast, PlaceIsFirst, NoPlaceIsNone, OrderIsFree, PlacedAreApart, TurnIsOrdered, TurnIsOnly, TurnIsFree};
 
 /// A first place is the least free one of the first range that has any.
 pub fn first_places_are_least()
@@ -19,4 +19,5 @@ pub fn placed_items_are_apart()
 pub fn items_in_turn_are_ordered()
     ensures ordered { TurnIsOrdered }
     ensures only { TurnIsOnly }
+    ensures free { TurnIsFree }
 {}
