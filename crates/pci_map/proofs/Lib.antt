@@ -5,3 +5,7 @@ pub mod Values
 pub mod GapRanges
 pub mod Insides
 pub mod Openings
+pub mod Joins
+pub mod Merges
+pub mod Seats
+pub mod Counts

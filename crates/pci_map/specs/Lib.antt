@@ -1,3 +1,4 @@
 pub mod Values
 pub mod Gaps
 pub mod Inside
+pub mod Walk

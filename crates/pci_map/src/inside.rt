@@ -19,14 +19,14 @@ use pci_tree::region::Region;
 use pci_why::find::{record_at, region_at};
 use std::alloc::{Allocator, Global};
 
-/// What is inside a window.
+/// What stands inside a window, or on a root bus.
 #[derive(Drop)]
 pub struct Inside<A: Allocator = Global> {
-    /// The bus behind its bridge.
+    /// The bus behind its bridge, or the root bus itself.
     pub bus: u8,
-    /// The regions that belong under it, by first address, then by slot and register.
+    /// The regions that stand there, by first address, then by slot and register.
     pub regions: Vec<Region, A>,
-    /// The runs of its addresses that no region of the bus claims, rising.
+    /// The runs of a window that no region of the bus claims, rising; of a root bus none.
     pub runs: Vec<Range, A>,
 }
 

@@ -1,0 +1,65 @@
+-- The lines of a place, made of its regions and its free runs.
+use Rattle.std.specs.Prelude.{◌≡◌, ℕ, suc, nat_le, if◌then◌else◌, List, [], ◌∷◌, ◌++◌, map, take, drop}
+use Rattle.std.specs.List.{Contains}
+use Rattle.pci_spec.specs.System.{System, Space}
+use Rattle.pci_spec.specs.Decoded as decoded
+use Rattle.pci_spec.specs.Why as why
+use Rattle.map_spec.specs.Lines.{Lines, End, Free, Sits, Place, AreInside, AreAllInside, AreAllLines}
+use Rattle.map_spec.specs.MapText.{region_line, lines_text, space_lines}
+use Rattle.pci_base.specs.declared.range.Range.{Range}
+use Rattle.pci_base.specs.Ranges.{decoded_range_of}
+use Rattle.pci_tree.specs.declared.region.Region.{Region}
+use Rattle.pci_tree.specs.Regions.{IsRegionOn}
+use Rattle.pci_map.specs.Values.{part_of, value_of}
+
+-- how many of the first runs begin before an address
+unfoldable pub ahead : ℕ → List Range → ℕ
+ahead end [] = 0
+ahead end (r ∷ rs) = if nat_le end r.first then 0 else suc (ahead end rs)
+
+-- what has a line in a place itself
+pub data Entry : Type 0 where
+  Run : decoded.Range → Entry
+  At : why.Region → Entry
+
+abbrev pub entries : Lines → List Entry
+entries End = []
+entries (Free r rest) = Run r ∷ entries rest
+entries (Sits q inside rest) = At q ∷ entries rest
+
+abbrev pub run_entries : List Range → List Entry
+run_entries rs = map Run (map decoded_range_of rs)
+
+-- the regions in their order, before each the runs that begin before it
+unfoldable pub merged : Space → List Region → List Range → List Entry
+merged space [] rs = run_entries rs
+merged space (q ∷ qs) rs =
+    run_entries (take (ahead q.first rs) rs)
+    ++ (At (value_of space q) ∷ merged space qs (drop (ahead q.first rs) rs))
+
+-- a text got the lines of some regions and runs, with all that is inside
+pub record IsPlaced (s : System) (space : Space) (depth : ℕ) (all : List Entry)
+    (old new : List ℕ) : Type 0 where
+  pub lines : Lines
+  pub entries : entries lines ≡ all
+  pub inside : AreAllInside s space lines
+  pub text : new ≡ old ++ lines_text depth space lines
+
+-- a text got the line of a region, and what is inside it
+pub record IsSeated (s : System) (space : Space) (depth : ℕ) (q : Region)
+    (old new : List ℕ) : Type 0 where
+  pub inside : Lines
+  pub is : AreInside s space (part_of q) (value_of space q) inside
+  pub deeper : AreAllInside s space inside
+  pub text : new
+      ≡ old ++ (region_line depth (value_of space q) ++ lines_text (suc depth) space inside)
+
+abbrev pub AreOnBus : System → ℕ → Space → List Region → Type 0
+AreOnBus s bus space qs = (q : Region) → Contains qs q → IsRegionOn s bus space q
+
+-- a text got all lines of a space of a root bus
+pub record IsSpaceTold (s : System) (space : Space) (bus : ℕ) (place : Place)
+    (old new : List ℕ) : Type 0 where
+  pub lines : Lines
+  pub are : AreAllLines s space place lines
+  pub text : new ≡ old ++ space_lines bus space lines

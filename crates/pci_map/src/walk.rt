@@ -1,0 +1,159 @@
+//! The lines of a place, and of all that is inside it.
+ghost use Rattle.std.specs.Prelude.{◌≡◌, ◌≤◌, ◌<◌, ◌+◌, ◌++◌, length, map, take, drop, IfOk, OnOk, IfSome, MatchOption};
+ghost use Rattle.std.specs.List.{flat_map};
+ghost use Rattle.std.specs.String.{string_bytes};
+ghost use Rattle.pci_spec.specs.System.{System};
+ghost use Rattle.pci_spec.specs.Decoded.{HasRecords};
+ghost use Rattle.map_spec.specs.Lines.{OnRoot};
+ghost use Rattle.map_spec.specs.MapText.{free_line};
+ghost use Rattle.pci_base.specs.Ranges.{decoded_range_of};
+ghost use Rattle.pci_base.specs.Space.{space_of};
+ghost use Rattle.pci_tree.specs.declared.region.Part.TheVariants.{Window};
+ghost use Rattle.pci_tree.specs.Regions.{IsRegionOn};
+ghost use Rattle.pci_map.specs.Inside.{IsInside};
+ghost use Rattle.pci_map.specs.Walk.{ahead, merged, IsPlaced, IsSeated, AreOnBus, IsSpaceTold};
+
+use super::inside::{Inside, look_inside};
+use super::line::{push_heading, push_region, push_runs};
+use pci_base::memory::OutOfMemory;
+use pci_base::range::Range;
+use pci_base::space::Space;
+use pci_tree::outline::Outline;
+use pci_tree::region::{Part, Region};
+use std::alloc::{AllocError, Allocator};
+
+/// How many of the first runs begin before an address.
+fn count_before(runs: &[Range], end: u64) -> usize
+    ensures count { result ≡ ahead end runs.now }
+    // so that they can be cut off
+    ensures bound { result ≤ length runs.now }
+{
+    let mut count = 0;
+    for run in runs {
+        if end <= run.first {
+            return count;
+        }
+        count += 1;
+    }
+    count
+}
+
+/// Appends the lines of the first runs, those that begin before an address, and gives the others.
+fn push_before<'a, A: Allocator>(
+    text: &mut String<A>,
+    depth: u32,
+    space: Space,
+    runs: &'a [Range],
+    end: u64,
+) -> Result<&'a [Range], AllocError>
+    ensures rest { IfOk result (λ rest. rest.now ≡ drop (ahead end runs.now) runs.now) }
+    ensures lines { OnOk result (string_bytes text.new ≡ string_bytes text.old
+        ++ flat_map (free_line depth (space_of space)) (map decoded_range_of (take (ahead end runs.now) runs.now))) }
+{
+    let (before, rest) = runs.split_at(count_before(runs, end));
+    push_runs(text, depth, space, before)?;
+    Ok(rest)
+}
+
+/// What is inside a region of a bus, if it is a window.
+fn inside_of<A: Allocator + Copy>(
+    alloc: A,
+    outline: &Outline<A>,
+    space: Space,
+    bus: u8,
+    region: &Region,
+) -> Result<Option<Inside<A>>, OutOfMemory>
+    // so the walk ends
+    ensures deeper { IfOk result (λ o. IfSome o (λ i. bus < i.bus)) }
+    ensures inside { IfOk result (λ o. (s : System) → HasRecords s outline.now.records
+        → IsRegionOn s bus (space_of space) region.now
+        → MatchOption o (region.now.part ≡ Window → ⊥)
+        (λ i. IsInside s (space_of space) region.now i.bus i.regions.items i.runs.items
+        × (region.now.part ≡ Window))) }
+{
+    if region.part != Part::Window {
+        return Ok(None);
+    }
+    let Some(inside) = look_inside(alloc, outline, space, region)? else {
+        return Ok(None);
+    };
+    // a bridge leads to a higher bus than its own
+    if inside.bus <= bus {
+        return Ok(None);
+    }
+    Ok(Some(inside))
+}
+
+/// Appends the line of a region of a bus, and below a window's what is inside.
+#[cycle(place)]
+fn push_seat<A: Allocator + Copy, B: Allocator>(
+    alloc: A,
+    text: &mut String<B>,
+    outline: &Outline<A>,
+    space: Space,
+    bus: u8,
+    depth: u32,
+    region: &Region,
+) -> Result<(), OutOfMemory>
+    // each window leads to a higher bus, so the depth can be counted
+    requires { depth ≤ bus + 1 }
+    ensures { OnOk result ((s : System) → HasRecords s outline.now.records
+        → IsRegionOn s bus (space_of space) region.now
+        → IsSeated s (space_of space) depth region.now (string_bytes text.old) (string_bytes text.new)) }
+{
+    push_region(text, depth, space, region)?;
+    let Some(inside) = inside_of(alloc, outline, space, bus, region)? else {
+        return Ok(());
+    };
+    push_place(alloc, text, outline, space, depth + 1, &inside)
+}
+
+/// Appends the lines of what stands in a place, with what is inside each window below its line.
+#[cycle(place)]
+fn push_place<A: Allocator + Copy, B: Allocator>(
+    alloc: A,
+    text: &mut String<B>,
+    outline: &Outline<A>,
+    space: Space,
+    depth: u32,
+    place: &Inside<A>,
+) -> Result<(), OutOfMemory>
+    requires { depth ≤ place.now.bus + 1 }
+    ensures { OnOk result ((s : System) → HasRecords s outline.now.records
+        → AreOnBus s place.now.bus (space_of space) place.now.regions.items
+        → IsPlaced s (space_of space) depth
+        (merged (space_of space) place.now.regions.items place.now.runs.items)
+        (string_bytes text.old) (string_bytes text.new)) }
+{
+    let mut left = place.runs.as_slice();
+    for region in place.regions.as_slice() {
+        left = push_before(text, depth, space, left, region.first)?;
+        push_seat(alloc, text, outline, space, place.bus, depth, region)?;
+    }
+    push_runs(text, depth, space, left)?;
+    Ok(())
+}
+
+/// Appends the lines of a root bus and a space below their heading, if there are any.
+pub fn push_space<A: Allocator + Copy, B: Allocator>(
+    alloc: A,
+    text: &mut String<B>,
+    outline: &Outline<A>,
+    bus: u8,
+    space: Space,
+) -> Result<(), OutOfMemory>
+    ensures { OnOk result ((s : System) → HasRecords s outline.now.records
+        → IsSpaceTold s (space_of space) bus (OnRoot bus) (string_bytes text.old) (string_bytes text.new)) }
+{
+    let regions = outline.sorted(bus, space)?;
+    if regions.is_empty() {
+        return Ok(());
+    }
+    let place = Inside {
+        bus,
+        regions,
+        runs: Vec::new(alloc),
+    };
+    push_heading(text, bus, space)?;
+    push_place(alloc, text, outline, space, 1, &place)
+}
