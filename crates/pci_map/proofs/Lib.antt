@@ -8,4 +8,5 @@ pub mod Openings
 pub mod Joins
 pub mod Merges
 pub mod Seats
+pub mod Roots
 pub mod Counts

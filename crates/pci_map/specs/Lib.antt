@@ -2,3 +2,4 @@ pub mod Values
 pub mod Gaps
 pub mod Inside
 pub mod Walk
+pub mod Buses

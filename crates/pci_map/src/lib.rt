@@ -2,10 +2,11 @@
 //! off.
 //!
 //! ```text
-//! push_space(alloc, &mut text, &outline, bus, space)?; // `bus 00 mem`, and below it a line for each region and each free run
+//! push_roots(alloc, &mut text, &outline)?; // `bus 00 mem`, and below it a line for each region and each free run
 //! ```
 #![tactic(auto)]
 
+pub mod buses;
 pub mod gaps;
 pub mod inside;
 pub mod line;

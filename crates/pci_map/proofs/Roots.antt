@@ -1,0 +1,83 @@
+-- The lines of root buses.
+use Rattle.std.proofs.Common.{◌≡◌, ℕ, zero, suc, ◌+◌, List, [], ◌∷◌, ◌++◌, map, refl, sym, ap, ◌∙◌, subst, append-nil, arith, Bool, true, false, inl, inr, cond}
+use Rattle.std.specs.Prelude.{IsTrue, ◌↔◌}
+use Rattle.std.specs.List.{Contains, filter, flat_map, range_with_len}
+use Rattle.std.proofs.lemmas.Bool.{cases_Bool, both_ways}
+use Rattle.std.proofs.lemmas.Grind.{flat_map-append}
+use Rattle.std.proofs.lemmas.List.{append_assoc, map-append}
+use Rattle.std.proofs.lemmas.List.Elements.{Contains-append_cases, filter-append}
+use Rattle.pci_spec.specs.System.{System, Io, Memory}
+use Rattle.pci_spec.specs.Bus.{is_root}
+use Rattle.pci_spec.proofs.Members.{in_nil, in_cons_cases}
+use Rattle.pci_spec.proofs.BusRanges.{root_means}
+use Rattle.map_spec.specs.Lines.{OnRoot}
+use Rattle.map_spec.specs.Map.{Root, IsRootOf}
+use Rattle.map_spec.specs.MapText.{space_lines, root_text}
+use Rattle.pci_map.specs.Walk.{IsSpaceTold}
+use Rattle.pci_map.specs.Buses.{AreRootsTold}
+
+module _ (roots : List ℕ) (s : System) where
+  pub told_nothing : (text : List ℕ) → AreRootsTold roots s [] text text
+  told_nothing text = record { told = []; buses = refl; each = λ root has. absurd (in_nil root has); text = sym (append-nil text) }
+
+  pub told_no_root : (bus : ℕ) (text : List ℕ) → is_root roots bus ≡ false → AreRootsTold roots s (bus ∷ []) text text
+  told_no_root bus text not_root = record {
+    told = [];
+    buses = ap (λ b. cond b (bus ∷ []) []) (sym not_root);
+    each = λ root has. absurd (in_nil root has);
+    text = sym (append-nil text);
+  }
+
+  pub told_root : (bus : ℕ) (old mid new : List ℕ) → is_root roots bus ≡ true → IsSpaceTold s Io bus (OnRoot bus) old mid → IsSpaceTold s Memory bus (OnRoot bus) mid new
+      → AreRootsTold roots s (bus ∷ []) old new
+  told_root bus old mid new root io memory =
+      let one : Root = record { bus = bus; io = io.lines; memory = memory.lines } in record {
+        told = one ∷ [];
+        buses = ap (λ b. cond b (bus ∷ []) []) (sym root);
+        each = λ r has. elim (in_cons_cases one [] r has) [
+          | inl here ↦ subst (IsRootOf s) here (record { io = io.are; memory = memory.are })
+          | inr none ↦ absurd (in_nil r none)
+        ];
+        text = memory.text ∙ ap (λ t. t ++ space_lines bus Memory memory.lines) io.text
+            ∙ append_assoc old (space_lines bus Io io.lines) (space_lines bus Memory memory.lines)
+            ∙ ap (λ t. old ++ t) (sym (append-nil (root_text one)));
+      }
+
+  pub told_both : (buses more : List ℕ) (old mid new : List ℕ) → AreRootsTold roots s buses old mid → AreRootsTold roots s more mid new → AreRootsTold roots s (buses ++ more) old new
+  told_both buses more old mid new first second = record {
+    told = first.told ++ second.told;
+    buses = map-append (λ root. root.bus) first.told second.told
+        ∙ ap (λ bs. bs ++ map (λ (root : Root). root.bus) second.told) first.buses
+        ∙ ap (λ bs. filter (is_root roots) buses ++ bs) second.buses
+        ∙ sym (filter-append (is_root roots) buses more);
+    each = λ root has. elim (Contains-append_cases first.told second.told root has) [
+      | inl early ↦ first.each root early
+      | inr late ↦ second.each root late
+    ];
+    text = second.text ∙ ap (λ t. t ++ flat_map root_text second.told) first.text
+        ∙ append_assoc old (flat_map root_text first.told) (flat_map root_text second.told)
+        ∙ ap (λ t. old ++ t) (sym (flat_map-append root_text first.told second.told));
+  }
+
+one_longer : (low n : ℕ) → range_with_len low (suc n) ≡ range_with_len low n ++ (low + n) ∷ []
+one_longer low zero = ap (λ k. k ∷ []) (let e : low ≡ low + 0 = omega arith in e)
+one_longer low (suc n) = ap (λ bs. low ∷ bs) (one_longer (low + 1) n ∙ ap (λ k. range_with_len (low + 1) n ++ k ∷ []) (let e : low + 1 + n ≡ low + suc n = omega arith in e))
+
+-- one more bus
+pub told_more : (roots : List ℕ) (s : System) (k bus : ℕ) (old mid new : List ℕ) → bus ≡ k → AreRootsTold roots s (range_with_len 0 k) old mid → AreRootsTold roots s (bus ∷ []) mid new
+    → AreRootsTold roots s (range_with_len 0 (k + 1)) old new
+told_more roots s k bus old mid new is first second =
+    subst (λ bs. AreRootsTold roots s bs old new)
+    (ap (λ b. range_with_len 0 k ++ b ∷ []) (is ∙ (let z : k ≡ 0 + k = omega arith in z)) ∙ sym (one_longer 0 k) ∙ ap (range_with_len 0) (let e : suc k ≡ k + 1 = omega arith in e))
+    (told_both roots s (range_with_len 0 k) (bus ∷ []) old mid new first second)
+
+-- ---- whether a bus is one
+
+pub root_if : (roots flagged : List ℕ) (bus : ℕ) (b : Bool) → flagged ≡ roots → IsTrue b ↔ Contains flagged bus → b ≡ true → is_root roots bus ≡ true
+root_if roots flagged bus b same means is = (root_means roots bus).1 (subst (λ rs. Contains rs bus) same (means.0 is))
+
+pub root_not : (roots flagged : List ℕ) (bus : ℕ) (b : Bool) → flagged ≡ roots → IsTrue b ↔ Contains flagged bus → b ≡ false → is_root roots bus ≡ false
+root_not roots flagged bus b same means isnt = elim (cases_Bool (is_root roots bus)) [
+  | inl root ↦ absurd (both_ways b isnt (means.1 (subst (λ rs. Contains rs bus) (sym same) ((root_means roots bus).0 root))))
+  | inr none ↦ none
+]

@@ -1,0 +1,9 @@
+use Rattle.std.specs.List.{range_with_len}
+use Rattle.std.specs.String.{string_bytes}
+use Rattle.pci_spec.specs.System.{System}
+use Rattle.pci_spec.specs.Decoded.{HasRecords}
+use Rattle.pci_map.specs.Buses.{AreRootsTold}
+use Rattle.pci_map.proofs.buses.push_roots.Given as goal
+
+abbrev pub invariant-loop-bus : goal.invariant-loop-bus
+invariant-loop-bus g l = (s : System) → HasRecords s l.outline.records → AreRootsTold l.outline.roots s (range_with_len 0 l.bus) (string_bytes l.initial.text) (string_bytes l.text)
