@@ -8,5 +8,6 @@ pub mod Openings
 pub mod Joins
 pub mod Merges
 pub mod Seats
+pub mod Offs
 pub mod Roots
 pub mod Counts

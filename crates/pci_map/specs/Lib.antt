@@ -2,4 +2,5 @@ pub mod Values
 pub mod Gaps
 pub mod Inside
 pub mod Walk
+pub mod Off
 pub mod Buses

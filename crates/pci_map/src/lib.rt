@@ -3,6 +3,7 @@
 //!
 //! ```text
 //! push_roots(alloc, &mut text, &outline)?; // `bus 00 mem`, and below it a line for each region and each free run
+//! push_off(alloc, &mut text, &outline)?; // the BARs that Command does not enable
 //! ```
 #![tactic(auto)]
 
@@ -10,4 +11,5 @@ pub mod buses;
 pub mod gaps;
 pub mod inside;
 pub mod line;
+pub mod off;
 pub mod walk;
