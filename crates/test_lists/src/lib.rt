@@ -6,4 +6,6 @@ mod early;
 #[cfg(test)]
 mod judging;
 #[cfg(test)]
+mod maps;
+#[cfg(test)]
 mod reasons;
