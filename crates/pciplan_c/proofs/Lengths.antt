@@ -1,69 +1,123 @@
--- No line of a verdict is longer than 96 bytes.
-use Rattle.std.proofs.Common.{◌≡◌, ℕ, ◌≤◌, ◌<◌, List, length, refl, arith, Some}
+-- No line that says a verdict, or why there is none or no plan, is longer than 96 bytes.
+use Rattle.std.proofs.Common.{◌≡◌, ℕ, suc, ◌+◌, ◌^◌, ◌≤◌, ◌<◌, List, [], ◌∷◌, ◌++◌, length, refl, arith, Some, codes}
+use Rattle.std.specs.Fmt.{decimal}
+use Rattle.std.proofs.lemmas.Fmt.{length-decimal-le}
+use Rattle.std.proofs.lemmas.List.{length-append}
 use Rattle.pci_spec.specs.System.{Io, Memory}
 use Rattle.pci_spec.specs.Fault.{Fault, NoVendor, HeaderKind, BarType, BarMask, BarPair, RomMask, WindowMask, CapRange, CapLoop, CapCut, SlotsDiffer, StrayProbe, LoneFunction, PaletteSnoop, VgaEnable, IsaEnable, Subtractive, InReset, PowerState, BusRange, Orphan, Unreached, Clash, Split}
-use Rattle.pci_spec.specs.Line.{verdict_line}
+use Rattle.pci_spec.specs.Line.{verdict_line, fault_text, field}
+use Rattle.pci_spec.specs.Window as windows
+use Rattle.plan_spec.specs.Plan as plan
+use Rattle.plan_spec.specs.PlanLine.{plan_fault_text}
+use Rattle.pci_dump.specs.declared.read_fault.ReadFault.{ReadFault}
+use Rattle.pci_dump.specs.declared.read_fault.ReadFault.TheVariants as faults
 use Rattle.pci_function.specs.Fault.{fault_of}
 use Rattle.pci_check.specs.Audits.{outcome_line}
 use Rattle.pci_check.specs.declared.outcome.Outcome.{Outcome}
 use Rattle.pci_check.specs.declared.outcome.Outcome.TheVariants.{Yes, No}
-use Rattle.pciplan_c.specs.Refusals.{IsRefusalOf}
-use Rattle.pciplan_c.specs.Answers.{IsAnswerOf, IsTooLong, answer_text}
-use Rattle.pciplan_c.specs.declared.answer.Answer.{Answer}
-use Rattle.pciplan_c.specs.declared.answer.Answer.TheVariants.{Verdict, Refused}
+use Rattle.pci_plan.specs.Plans.{plan_fault_of}
+use Rattle.pciplan_c.specs.Refusals.{read_fault_line, read_fault_text, refusal_line, refusal_text}
+use Rattle.pciplan_c.specs.PlanAnswers.{no_plan_line, no_plan_text}
+use Rattle.pciplan_c.specs.declared.no_plan.NoPlan.{NoPlan}
+use Rattle.pciplan_c.specs.declared.no_plan.NoPlan.TheVariants.{Refused, NotAdmitted, NotPlanned}
 use Rattle.pciplan_c.specs.declared.refusal.Refusal.{Refusal}
+use Rattle.pciplan_c.specs.declared.refusal.Refusal.TheVariants.{Root, Dump, Probe}
 
--- the line of a fault has at most so many bytes
+-- the text of a fault has so many bytes
 abbrev IsShort : Fault → ℕ → Type 0
-IsShort fault bytes = length (verdict_line (Some fault)) ≡ bytes
+IsShort fault bytes = length (fault_text fault) ≡ bytes
 
-short : (fault : Fault) (bytes : ℕ) → IsShort fault bytes → bytes ≤ 96 → length (verdict_line (Some fault)) ≤ 96
+short : (fault : Fault) (bytes : ℕ) → IsShort fault bytes → bytes ≤ 60 → length (fault_text fault) ≤ 60
 short fault bytes is few = omega (arith, is, few)
 
-fault_short : (fault : Fault) → length (verdict_line (Some fault)) ≤ 96
-fault_short (NoVendor slot) = short (NoVendor slot) 23 refl (omega arith)
-fault_short (HeaderKind slot) = short (HeaderKind slot) 25 refl (omega arith)
-fault_short (BarType slot register) = short (BarType slot register) 25 refl (omega arith)
-fault_short (BarMask slot register) = short (BarMask slot register) 25 refl (omega arith)
-fault_short (BarPair slot register) = short (BarPair slot register) 25 refl (omega arith)
-fault_short (RomMask slot register) = short (RomMask slot register) 25 refl (omega arith)
-fault_short (WindowMask slot register) = short (WindowMask slot register) 28 refl (omega arith)
-fault_short (CapRange slot place) = short (CapRange slot place) 26 refl (omega arith)
-fault_short (CapLoop slot place) = short (CapLoop slot place) 25 refl (omega arith)
-fault_short (CapCut slot place) = short (CapCut slot place) 24 refl (omega arith)
-fault_short (SlotsDiffer slot) = short (SlotsDiffer slot) 26 refl (omega arith)
-fault_short (StrayProbe slot offset) = short (StrayProbe slot offset) 28 refl (omega arith)
-fault_short (LoneFunction slot) = short (LoneFunction slot) 27 refl (omega arith)
-fault_short (PaletteSnoop slot) = short (PaletteSnoop slot) 27 refl (omega arith)
-fault_short (VgaEnable slot) = short (VgaEnable slot) 24 refl (omega arith)
-fault_short (IsaEnable slot) = short (IsaEnable slot) 24 refl (omega arith)
-fault_short (Subtractive slot) = short (Subtractive slot) 26 refl (omega arith)
-fault_short (InReset slot) = short (InReset slot) 22 refl (omega arith)
-fault_short (PowerState slot) = short (PowerState slot) 25 refl (omega arith)
-fault_short (BusRange slot) = short (BusRange slot) 23 refl (omega arith)
-fault_short (Orphan slot) = short (Orphan slot) 21 refl (omega arith)
-fault_short (Unreached slot register Io address bridge) = short (Unreached slot register Io address bridge) 54 refl (omega arith)
-fault_short (Unreached slot register Memory address bridge) = short (Unreached slot register Memory address bridge) 63 refl (omega arith)
-fault_short (Clash bus Io address first first_register second second_register) = short (Clash bus Io address first first_register second second_register) 53 refl (omega arith)
-fault_short (Clash bus Memory address first first_register second second_register) = short (Clash bus Memory address first first_register second second_register) 62 refl (omega arith)
-fault_short (Split Io address first first_register second second_register) = short (Split Io address first first_register second second_register) 46 refl (omega arith)
-fault_short (Split Memory address first first_register second second_register) = short (Split Memory address first first_register second second_register) 55 refl (omega arith)
+fault_short : (fault : Fault) → length (fault_text fault) ≤ 60
+fault_short (NoVendor slot) = short (NoVendor slot) 19 refl (omega arith)
+fault_short (HeaderKind slot) = short (HeaderKind slot) 21 refl (omega arith)
+fault_short (BarType slot register) = short (BarType slot register) 21 refl (omega arith)
+fault_short (BarMask slot register) = short (BarMask slot register) 21 refl (omega arith)
+fault_short (BarPair slot register) = short (BarPair slot register) 21 refl (omega arith)
+fault_short (RomMask slot register) = short (RomMask slot register) 21 refl (omega arith)
+fault_short (WindowMask slot register) = short (WindowMask slot register) 24 refl (omega arith)
+fault_short (CapRange slot place) = short (CapRange slot place) 22 refl (omega arith)
+fault_short (CapLoop slot place) = short (CapLoop slot place) 21 refl (omega arith)
+fault_short (CapCut slot place) = short (CapCut slot place) 20 refl (omega arith)
+fault_short (SlotsDiffer slot) = short (SlotsDiffer slot) 22 refl (omega arith)
+fault_short (StrayProbe slot offset) = short (StrayProbe slot offset) 24 refl (omega arith)
+fault_short (LoneFunction slot) = short (LoneFunction slot) 23 refl (omega arith)
+fault_short (PaletteSnoop slot) = short (PaletteSnoop slot) 23 refl (omega arith)
+fault_short (VgaEnable slot) = short (VgaEnable slot) 20 refl (omega arith)
+fault_short (IsaEnable slot) = short (IsaEnable slot) 20 refl (omega arith)
+fault_short (Subtractive slot) = short (Subtractive slot) 22 refl (omega arith)
+fault_short (InReset slot) = short (InReset slot) 18 refl (omega arith)
+fault_short (PowerState slot) = short (PowerState slot) 21 refl (omega arith)
+fault_short (BusRange slot) = short (BusRange slot) 19 refl (omega arith)
+fault_short (Orphan slot) = short (Orphan slot) 17 refl (omega arith)
+fault_short (Unreached slot register Io address bridge) = short (Unreached slot register Io address bridge) 50 refl (omega arith)
+fault_short (Unreached slot register Memory address bridge) = short (Unreached slot register Memory address bridge) 59 refl (omega arith)
+fault_short (Clash bus Io address first first_register second second_register) = short (Clash bus Io address first first_register second second_register) 49 refl (omega arith)
+fault_short (Clash bus Memory address first first_register second second_register) = short (Clash bus Memory address first first_register second second_register) 58 refl (omega arith)
+fault_short (Split Io address first first_register second second_register) = short (Split Io address first first_register second second_register) 42 refl (omega arith)
+fault_short (Split Memory address first first_register second second_register) = short (Split Memory address first first_register second second_register) 51 refl (omega arith)
 
-line_short : (outcome : Outcome) → length (outcome_line outcome) ≤ 96
+-- a text that a short one ends
+ended : (head tail : List ℕ) (few most : ℕ) → length tail ≤ few → length head + few ≤ most → length (head ++ tail) ≤ most
+ended head tail few most short_tail room = let both = length-append head tail in omega (arith, both, short_tail, room)
+
+-- a line that says it
+line_length : (text : List ℕ) → length (codes "no" ++ field text ++ 10 ∷ []) ≡ length text + 4
+line_length text =
+    let end = length-append text (10 ∷ []) in
+    let here : length (codes "no" ++ field text ++ 10 ∷ []) ≡ suc (suc (suc (length (text ++ 10 ∷ [])))) = refl in
+    omega (arith, end, here)
+
+pub line_short : (outcome : Outcome) → length (outcome_line outcome) ≤ 96
 line_short Yes = let yes : length (outcome_line Yes) ≡ 4 = refl in omega (arith, yes)
-line_short (No fault) = fault_short (fault_of fault)
+line_short (No fault) =
+    let few = fault_short (fault_of fault) in
+    let line : length (verdict_line (Some (fault_of fault))) ≡ length (fault_text (fault_of fault)) + 4 = line_length (fault_text (fault_of fault)) in
+    omega (arith, few, line)
 
-long_answer : (roots dump probe line : List ℕ) (answer : Answer) → IsAnswerOf roots dump probe answer → length line < length (answer_text answer) → 96 ≤ length line
-    → (refusal : Refusal) × IsRefusalOf roots dump probe refusal
-long_answer roots dump probe line (Verdict outcome) is more enough =
-    let few = line_short outcome in
-    absurd (let impossible : ⊥ = omega (arith, few, more, enough) in impossible)
-long_answer roots dump probe line (Refused refusal) is more enough = (refusal, is)
+-- ---- why texts are refused
 
--- an answer that is too long for 96 bytes is a refusal
-pub long_is_refused : (roots dump probe line : List ℕ) (needed : ℕ) → IsTooLong roots dump probe line needed → 96 ≤ length line
-    → (refusal : Refusal) × IsRefusalOf roots dump probe refusal
-long_is_refused roots dump probe line needed t enough =
-    let count = t.count in
-    let more = t.more in
-    long_answer roots dump probe line t.answer t.answered (omega (arith, count, more)) enough
+number_short : (n : ℕ) → n < 2 ^ 64 → length (decimal n) ≤ 20
+number_short n less = length-decimal-le 20 n (omega arith) (omega (arith, less)) less
+
+said_short : (fault : ReadFault) → read_fault_line fault < 2 ^ 64 → length (read_fault_text fault) ≤ 60
+said_short faults.Io less = let bytes : length (read_fault_text faults.Io) ≡ 4 = refl in omega (arith, bytes)
+said_short faults.Memory less = let bytes : length (read_fault_text faults.Memory) ≡ 8 = refl in omega (arith, bytes)
+said_short (faults.BadSlot n) less = ended (codes "3 BadSlot ") (decimal n) 20 60 (number_short n less) (let head : length (codes "3 BadSlot ") ≡ 10 = refl in omega (arith, head))
+said_short (faults.BadTitle n) less = ended (codes "4 BadTitle ") (decimal n) 20 60 (number_short n less) (let head : length (codes "4 BadTitle ") ≡ 11 = refl in omega (arith, head))
+said_short (faults.BadLine n) less = ended (codes "5 BadLine ") (decimal n) 20 60 (number_short n less) (let head : length (codes "5 BadLine ") ≡ 10 = refl in omega (arith, head))
+said_short (faults.NoBlank n) less = ended (codes "6 NoBlank ") (decimal n) 20 60 (number_short n less) (let head : length (codes "6 NoBlank ") ≡ 10 = refl in omega (arith, head))
+said_short (faults.Order n) less = ended (codes "7 Order ") (decimal n) 20 60 (number_short n less) (let head : length (codes "7 Order ") ≡ 8 = refl in omega (arith, head))
+said_short (faults.TooMany n) less = ended (codes "8 TooMany ") (decimal n) 20 60 (number_short n less) (let head : length (codes "8 TooMany ") ≡ 10 = refl in omega (arith, head))
+said_short (faults.Ended n) less = ended (codes "9 Ended ") (decimal n) 20 60 (number_short n less) (let head : length (codes "9 Ended ") ≡ 8 = refl in omega (arith, head))
+
+pub refusal_short : (refusal : Refusal) → refusal_line refusal < 2 ^ 64 → length (refusal_text refusal) ≤ 96
+refusal_short Root less = let bytes : length (refusal_text Root) ≡ 4 = refl in omega (arith, bytes)
+refusal_short (Dump fault) less = ended (codes "dump: ") (read_fault_text fault) 60 96 (said_short fault less) (let head : length (codes "dump: ") ≡ 6 = refl in omega (arith, head))
+refusal_short (Probe fault) less = ended (codes "probe: ") (read_fault_text fault) 60 96 (said_short fault less) (let head : length (codes "probe: ") ≡ 7 = refl in omega (arith, head))
+
+-- ---- why there is no plan
+
+room_short : (class : windows.WindowKind) → length (plan_fault_text (plan.NoRoom class)) ≤ 92
+room_short windows.IoWindow = let bytes : length (plan_fault_text (plan.NoRoom windows.IoWindow)) ≡ 12 = refl in omega (arith, bytes)
+room_short windows.MemoryWindow = let bytes : length (plan_fault_text (plan.NoRoom windows.MemoryWindow)) ≡ 13 = refl in omega (arith, bytes)
+room_short windows.PrefetchWindow = let bytes : length (plan_fault_text (plan.NoRoom windows.PrefetchWindow)) ≡ 14 = refl in omega (arith, bytes)
+
+plan_fault_short : (fault : plan.PlanFault) → length (plan_fault_text fault) ≤ 92
+plan_fault_short plan.BadPools = let bytes : length (plan_fault_text plan.BadPools) ≡ 11 = refl in omega (arith, bytes)
+plan_fault_short (plan.NoWindow slot) = let bytes : length (plan_fault_text (plan.NoWindow slot)) ≡ 19 = refl in omega (arith, bytes)
+plan_fault_short (plan.NoRoom class) = room_short class
+plan_fault_short (plan.NotAccepted fault) = ended (codes "73 NotAccepted ") (fault_text fault) 60 92 (fault_short fault) (let head : length (codes "73 NotAccepted ") ≡ 15 = refl in omega (arith, head))
+
+pub no_plan_short : (why : NoPlan) → no_plan_line why < 2 ^ 64 → length (no_plan_text why) ≤ 96
+no_plan_short (Refused refusal) less = refusal_short refusal less
+no_plan_short (NotAdmitted fault) less =
+    let few = fault_short (fault_of fault) in
+    let bytes : length (verdict_line (Some (fault_of fault))) ≡ length (fault_text (fault_of fault)) + 4 = line_length (fault_text (fault_of fault)) in
+    omega (arith, few, bytes)
+no_plan_short (NotPlanned fault) less =
+    let few = plan_fault_short (plan_fault_of fault) in
+    let bytes = line_length (plan_fault_text (plan_fault_of fault)) in
+    omega (arith, few, bytes)

@@ -15,7 +15,7 @@ use Rattle.pci_function.specs.declared.fault.Fault.{Fault}
 use Rattle.pci_place.specs.Above.{system_in}
 use Rattle.pci_plan.specs.Plans.{PlanValue, IsPlanIn, plan_fault_of}
 use Rattle.pci_plan.specs.declared.plan_fault.PlanFault.{PlanFault}
-use Rattle.pciplan_c.specs.Refusals.{IsRefusalOf, refusal_text}
+use Rattle.pciplan_c.specs.Refusals.{IsRefusalOf, refusal_text, refusal_line}
 use Rattle.pciplan_c.specs.declared.no_plan.NoPlan.{NoPlan}
 use Rattle.pciplan_c.specs.declared.no_plan.NoPlan.TheVariants.{Refused, NotAdmitted, NotPlanned}
 use Rattle.pciplan_c.specs.declared.register_write.RegisterWrite.{RegisterWrite}
@@ -44,6 +44,12 @@ no_plan_text (Refused refusal) = refusal_text refusal
 no_plan_text (NotAdmitted fault) = verdict_line (Some (fault_of fault))
 no_plan_text (NotPlanned fault) =
     codes "no" ++ field (plan_fault_text (plan_fault_of fault)) ++ 10 ∷ []
+
+-- the line of a text that it names, or 0 where it names none
+abbrev pub no_plan_line : NoPlan → ℕ
+no_plan_line (Refused refusal) = refusal_line refusal
+no_plan_line (NotAdmitted fault) = 0
+no_plan_line (NotPlanned fault) = 0
 
 abbrev pub no_plan_status : NoPlan → ℕ
 no_plan_status (Refused refusal) = 2

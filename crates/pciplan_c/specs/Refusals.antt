@@ -21,6 +21,24 @@ read_fault_text (faults.Order n) = codes "7 Order " ++ decimal n
 read_fault_text (faults.TooMany n) = codes "8 TooMany " ++ decimal n
 read_fault_text (faults.Ended n) = codes "9 Ended " ++ decimal n
 
+-- the line that a fault of a text names, or 0 where it names none
+abbrev pub read_fault_line : ReadFault → ℕ
+read_fault_line faults.Io = 0
+read_fault_line faults.Memory = 0
+read_fault_line (faults.BadSlot n) = n
+read_fault_line (faults.BadTitle n) = n
+read_fault_line (faults.BadLine n) = n
+read_fault_line (faults.NoBlank n) = n
+read_fault_line (faults.Order n) = n
+read_fault_line (faults.TooMany n) = n
+read_fault_line (faults.Ended n) = n
+
+-- the line that a refusal names
+abbrev pub refusal_line : Refusal → ℕ
+refusal_line Root = 0
+refusal_line (Dump fault) = read_fault_line fault
+refusal_line (Probe fault) = read_fault_line fault
+
 -- the message of a refusal
 abbrev pub refusal_text : Refusal → List ℕ
 refusal_text Root = codes "root"

@@ -5,7 +5,6 @@ ghost use Rattle.pci_check.specs.declared.outcome.Outcome.TheVariants.{Yes, No};
 ghost use Rattle.pciplan_c.specs.Answers.{IsTold, IsTooLong};
 ghost use Rattle.pciplan_c.specs.Endings.{ArePut, AreTooMany, IsNoPlanTold, IsNoPlanTooLong};
 ghost use Rattle.pciplan_c.specs.PlanAnswers.{pools_of};
-ghost use Rattle.pciplan_c.specs.Refusals.{IsRefusalOf};
 ghost use Rattle.pciplan_c.specs.declared.answer.Answer.TheVariants.{Verdict, Refused};
 ghost use Rattle.pciplan_c.specs.declared.refusal.Refusal.{Refusal};
 
@@ -24,8 +23,7 @@ use std::alloc::Global;
 /// `line_used` is its length.
 ///
 /// It answers 3 where a growth was refused; then nothing was changed. It answers 4 where `line` is too short; then `line`
-/// wasn't changed, and `line_used` is the length that is needed. With 96 bytes of `line` or more it isn't answered to two
-/// texts that have a verdict.
+/// wasn't changed, and `line_used` is the length that is needed. With 96 bytes of `line` or more it isn't answered.
 #[unsafe(no_mangle)]
 pub extern "C" fn pciplan_check(
     alloc: Global,
@@ -48,9 +46,7 @@ pub extern "C" fn pciplan_check(
     ensures memory { result ≡ 3 → (line.new ≡ line.old) × (line_used.new ≡ line_used.old) }
     ensures room { result ≡ 4
         → (line.new ≡ line.old) × IsTooLong roots.now dump.now probe.now line.old line_used.new }
-    // so with 96 bytes it is called once, but for texts that are refused
-    ensures enough { result ≡ 4 → 96 ≤ length line.old
-        → (refusal : Refusal) × IsRefusalOf roots.now dump.now probe.now refusal }
+    ensures enough { 96 ≤ length line.old → result ≤ 3 }
     ensures known { result ≤ 4 }
 {
     match check_into(alloc, dump, probe, roots, line) {
@@ -78,8 +74,8 @@ pub extern "C" fn pciplan_check(
 /// length, and `writes_used` is 0.
 ///
 /// It answers 3 where a growth was refused; then nothing was changed. It answers 4 where `writes` or `line` has no room;
-/// then both are as they were, and `writes_used` or `line_used` is what is needed, and the other one 0. `safe_from` is
-/// changed at 0 alone.
+/// then both are as they were, and `writes_used` or `line_used` is what is needed, and the other one 0. With 96 bytes of
+/// `line` or more it is `writes` that has none. `safe_from` is changed at 0 alone.
 #[unsafe(no_mangle)]
 pub extern "C" fn pciplan_plan(
     alloc: Global,
@@ -111,6 +107,8 @@ pub extern "C" fn pciplan_plan(
         × (line_used.new ≡ 0)
         ⊎ IsNoPlanTooLong roots.now dump.now probe.now (pools_of pools.now) line.old line_used.new
         × (writes_used.new ≡ 0) }
+    // so with 96 bytes of line it is the writes that have no room
+    ensures enough { result ≡ 4 → 96 ≤ length line.old → line_used.new ≡ 0 }
     // of no use without a plan
     ensures safe { 0 < result → safe_from.new ≡ safe_from.old }
     ensures known { result ≤ 4 }

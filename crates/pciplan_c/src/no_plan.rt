@@ -18,7 +18,7 @@ pub enum NoPlan {
 }
 
 impl NoPlan {
-    ghost use Rattle.pciplan_c.specs.PlanAnswers.{no_plan_status};
+    ghost use Rattle.pciplan_c.specs.PlanAnswers.{no_plan_line, no_plan_status};
 
     /// 1 where the texts or their plan have a fault, 2 where they are refused.
     pub fn status(self) -> u8
@@ -28,6 +28,17 @@ impl NoPlan {
             NoPlan::Refused(_) => 2,
             NoPlan::NotAdmitted(_) => 1,
             NoPlan::NotPlanned(_) => 1,
+        }
+    }
+
+    /// The line of a text that it names, or 0 where it names none.
+    pub fn line(self) -> u64
+        ensures { result ≡ no_plan_line self }
+    {
+        match self {
+            NoPlan::Refused(refusal) => refusal.line(),
+            NoPlan::NotAdmitted(_) => 0,
+            NoPlan::NotPlanned(_) => 0,
         }
     }
 }

@@ -1,5 +1,5 @@
 //! The plan of two texts that lie in memory.
-ghost use Rattle.std.specs.Prelude.{◌≡◌, ℕ, List, None, IfOk, IfErr, OnOk, MatchOption, MatchResult};
+ghost use Rattle.std.specs.Prelude.{◌≡◌, ◌≤◌, ℕ, List, None, IfOk, IfErr, OnOk, MatchOption, MatchResult};
 ghost use Rattle.plan_spec.specs.Plan.{Pools as PoolsValue};
 ghost use Rattle.pci_spec.specs.Text.{IsTextOf};
 ghost use Rattle.pci_dump.specs.ReadFault.{IsTextFault};
@@ -190,11 +190,16 @@ pub enum HeldBack {
 }
 
 /// Puts why there is no plan into a line.
+#[tactic(auto, using(crate::proofs::Lengths::no_plan_short))]
 fn tell<A: Allocator>(alloc: A, why: NoPlan, line: &mut [u8]) -> Result<Ending, HeldBack>
     ensures told { IfOk result (IsToldOf why line.old line.new) }
     ensures quiet { IfErr result (λ _. line.new ≡ line.old) }
     ensures room { IfErr result (IsTooLongFor why line.old) }
+    ensures short { IfErr result
+        (λ held. (needed : ℕ) → held ≡ HeldBack.Line needed → needed ≤ 96) }
 {
+    // Read for its range: a line number has at most 20 digits.
+    let _line = why.line();
     let text = match format!(in alloc; "{why}") {
         Ok(text) => text,
         Err(_) => return Err(HeldBack::Memory),
@@ -229,6 +234,9 @@ pub fn plan_into<A: Allocator + Copy>(
     ensures line { IfErr result (λ _. line.new ≡ line.old) }
     ensures room { IfErr result
         (IsHeldBack roots.now dump.now probe.now (pools_of pools.now) writes.old line.old) }
+    // so 96 bytes always have room
+    ensures short { IfErr result
+        (λ held. (needed : ℕ) → held ≡ HeldBack.Line needed → needed ≤ 96) }
 {
     let steps = match plan_texts(alloc, dump, probe, roots, pools) {
         Ok(steps) => steps,

@@ -1,5 +1,5 @@
 //! The verdict on two texts that lie in memory.
-ghost use Rattle.std.specs.Prelude.{◌≡◌, ℕ, IfOk, IfErr};
+ghost use Rattle.std.specs.Prelude.{◌≡◌, ◌≤◌, ℕ, length, IfOk, IfErr};
 ghost use Rattle.pciplan_c.specs.Answers.{IsAnswerOf, IsTold, IsTooLong, answer_text};
 
 use crate::answer::{Answer, Withheld};
@@ -20,10 +20,14 @@ struct Told<A: Allocator> {
 }
 
 /// A refusal with its message.
+#[tactic(auto, using(crate::proofs::Lengths::refusal_short))]
 fn refused<A: Allocator>(alloc: A, refusal: Refusal) -> Result<Told<A>, OutOfMemory>
     ensures answer { IfOk result (λ told. told.answer ≡ Answer.Refused refusal) }
     ensures text { IfOk result (λ told. told.text.items ≡ answer_text told.answer) }
+    ensures short { IfOk result (λ told. length told.text.items ≤ 96) }
 {
+    // Read for its range: a line number has at most 20 digits.
+    let _line = refusal.line();
     match format!(in alloc; "{refusal}") {
         Ok(text) => Ok(Told {
             answer: Answer::Refused(refusal),
@@ -34,6 +38,7 @@ fn refused<A: Allocator>(alloc: A, refusal: Refusal) -> Result<Told<A>, OutOfMem
 }
 
 /// The answer to two texts and a list of root buses, with its text.
+#[tactic(auto, using(crate::proofs::Lengths::line_short))]
 fn answer_to<A: Allocator + Copy>(
     alloc: A,
     dump: &[u8],
@@ -42,6 +47,7 @@ fn answer_to<A: Allocator + Copy>(
 ) -> Result<Told<A>, OutOfMemory>
     ensures answer { IfOk result (λ told. IsAnswerOf roots.now dump.now probe.now told.answer) }
     ensures text { IfOk result (λ told. told.text.items ≡ answer_text told.answer) }
+    ensures short { IfOk result (λ told. length told.text.items ≤ 96) }
 {
     let Some(roots) = Roots::of(roots) else {
         return refused(alloc, Refusal::Root);
@@ -87,6 +93,9 @@ pub fn check_into<A: Allocator + Copy>(
     ensures quiet { IfErr result (λ _. line.new ≡ line.old) }
     ensures room { IfErr result (λ why. (needed : ℕ) → why ≡ Withheld.NoRoom needed
         → IsTooLong roots.now dump.now probe.now line.old needed) }
+    // so 96 bytes always have room
+    ensures short { IfErr result
+        (λ why. (needed : ℕ) → why ≡ Withheld.NoRoom needed → needed ≤ 96) }
 {
     let told = match answer_to(alloc, dump, probe, roots) {
         Ok(told) => told,
