@@ -2,3 +2,4 @@ pub mod Refusals
 pub mod Answers
 pub mod PlanAnswers
 pub mod Endings
+pub mod Stepping

@@ -1,16 +1,23 @@
 //! What C calls.
-ghost use Rattle.std.specs.Prelude.{◌≡◌, ◌⊎◌, ◌≤◌, ◌<◌, length};
+ghost use Rattle.std.specs.Prelude.{◌≡◌, ◌⊎◌, ◌≤◌, ◌<◌, length, map, Some, None};
+ghost use Rattle.std.specs.List.{slice_get};
+ghost use Rattle.pci_dump.specs.ReadFault.{IsTextFault};
+ghost use Rattle.pci_dump.specs.declared.read_fault.ReadFault.{ReadFault};
+ghost use Rattle.pci_steps.specs.Steps.{judged, steps_of};
 ghost use Rattle.pci_function.specs.declared.fault.Fault.{Fault};
 ghost use Rattle.pci_check.specs.declared.outcome.Outcome.TheVariants.{Yes, No};
 ghost use Rattle.pciplan_c.specs.Answers.{IsTold, IsTooLong};
 ghost use Rattle.pciplan_c.specs.Endings.{ArePut, AreTooMany, IsNoPlanTold, IsNoPlanTooLong};
-ghost use Rattle.pciplan_c.specs.PlanAnswers.{pools_of};
+ghost use Rattle.pciplan_c.specs.PlanAnswers.{pools_of, value_of};
+ghost use Rattle.pciplan_c.specs.Stepping.{IsStartPut, IsStartTooLong, answer_number, said_of, shown_by, step_value};
 ghost use Rattle.pciplan_c.specs.declared.answer.Answer.TheVariants.{Verdict, Refused};
 ghost use Rattle.pciplan_c.specs.declared.refusal.Refusal.{Refusal};
 
 use crate::answer::{Answer, Withheld};
 use crate::planning::{Ending, HeldBack, plan_into};
 use crate::register_write::{PoolsOfC, RegisterWrite};
+use crate::starting::{NoStart, start_into};
+use crate::stepping::{RegisterStep, judge, step_at};
 use crate::verdict::check_into;
 use pci_check::outcome::Outcome;
 use std::alloc::Global;
@@ -141,5 +148,93 @@ pub extern "C" fn pciplan_plan(
             *line_used = needed;
             4
         }
+    }
+}
+
+/// What a plan of this dump starts from: the registers that are compared before the first write.
+///
+/// It answers 0 and puts them, with what they show in the dump, at the front of `registers`; `registers_used` is how
+/// many they are. It answers 2 where the dump is no text; `registers_used` is 0 then. It answers 3 where a growth was
+/// refused; then nothing was changed. It answers 4 where `registers` has no room; then `registers_used` is what is
+/// needed. But for 0 `registers` is as it was.
+#[unsafe(no_mangle)]
+pub extern "C" fn pciplan_start(
+    alloc: Global,
+    dump: &[u8],
+    registers: &mut [RegisterWrite],
+    registers_used: &mut usize,
+) -> u8
+    ensures start { result ≡ 0
+        → IsStartPut dump.now registers.old registers.new registers_used.new }
+    ensures refused { result ≡ 2
+        → (fault : ReadFault) × IsTextFault dump.now fault × (registers_used.new ≡ 0) }
+    ensures memory { result ≡ 3 → registers_used.new ≡ registers_used.old }
+    ensures room { result ≡ 4 → IsStartTooLong dump.now registers.old registers_used.new }
+    ensures quiet { 0 < result → registers.new ≡ registers.old }
+    ensures known { (result ≡ 0) ⊎ (2 ≤ result) × (result ≤ 4) }
+{
+    match start_into(alloc, dump, registers) {
+        Ok(count) => {
+            *registers_used = count;
+            0
+        }
+        Err(NoStart::Dump(_)) => {
+            *registers_used = 0;
+            2
+        }
+        Err(NoStart::Memory) => 3,
+        Err(NoStart::Registers(needed)) => {
+            *registers_used = needed;
+            4
+        }
+    }
+}
+
+/// The n-th access, from 0 on, by which a plan's writes are made: each of `registers`, which `pciplan_start` put, is
+/// compared, then each write is made and read back.
+///
+/// It answers 1 and puts the access into `step`, or 0 where there are no more; then `step` is as it was.
+#[unsafe(no_mangle)]
+pub extern "C" fn pciplan_step(
+    registers: &[RegisterWrite],
+    writes: &[RegisterWrite],
+    n: usize,
+    step: &mut RegisterStep,
+) -> u8
+    ensures step { result ≡ 1
+        → slice_get (steps_of (map value_of registers.now) (map value_of writes.now)) n
+        ≡ Some (step_value step.new) }
+    ensures none { result ≡ 0
+        → (slice_get (steps_of (map value_of registers.now) (map value_of writes.now)) n ≡ None)
+        × (step.new ≡ step.old) }
+    ensures known { result ≤ 1 }
+{
+    match step_at(registers, writes, n) {
+        Some(next) => {
+            *step = next;
+            1
+        }
+        None => 0,
+    }
+}
+
+/// What follows from an access that was made. `answered` is 0 where it failed; `shown` is what a read showed, and of no
+/// matter for a write.
+///
+/// It answers 0 where the next access is to be made, else the number of the fault that ends them: 80 where a register
+/// that is compared shows another value, 81 where the access failed, 82 where a write reads back otherwise. The slot and
+/// the offset that 80 names, and how many writes stand at 81 and 82, are those of `step`.
+#[unsafe(no_mangle)]
+pub extern "C" fn pciplan_judge(step: &RegisterStep, answered: u8, shown: u32) -> u8
+    ensures number { result
+        ≡ answer_number (judged (step_value step.now) (shown_by answered shown)) }
+    // so the fault's slot and offset, or its count of writes, are those of the access
+    ensures says { said_of (step_value step.now) result
+        ≡ judged (step_value step.now) (shown_by answered shown) }
+{
+    if answered == 0 {
+        judge(step, None)
+    } else {
+        judge(step, Some(shown))
     }
 }

@@ -26,7 +26,7 @@ use pci_tree::roots::Roots;
 use std::alloc::Allocator;
 
 /// The dump of a text.
-fn read<A: Allocator>(alloc: A, text: &[u8]) -> Result<Dump<A>, Refused<ReadFault>>
+pub fn read<A: Allocator>(alloc: A, text: &[u8]) -> Result<Dump<A>, Refused<ReadFault>>
     ensures ok { IfOk result (IsTextOf text.now) }
     ensures fault { IfErr result
         (λ why. (fault : ReadFault) → why ≡ Refused.Fault fault → IsTextFault text.now fault) }
