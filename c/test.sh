@@ -13,13 +13,14 @@ trap 'rm -rf "$built"' EXIT
 compiled() {
     out=$1
     shift
-    ${CC:-cc} -std=c11 -Wall -Wextra -O2 -I"$here/include" -I"$here/capture" -I"$here/number" -o "$built/$out" "$@"
+    ${CC:-cc} -std=c11 -Wall -Wextra -O2 -I"$here/include" -I"$here/capture" -I"$here/number" \
+        -I"$here/apply" -o "$built/$out" "$@"
 }
 
 # What firmware takes is compiled with no header but the compiler's own.
 headers=$(${CC:-cc} -print-file-name=include)
-for part in capture/pciplan_capture number/pciplan_number memory/pciplan_fixed_memory processor/pciplan_supported \
-    example/pciplan_bring_up; do
+for part in capture/pciplan_capture number/pciplan_number apply/pciplan_apply memory/pciplan_fixed_memory \
+    processor/pciplan_supported example/pciplan_bring_up; do
     compiled "${part##*_}.o" -ffreestanding -nostdinc -isystem "$headers" -c "$here/$part.c"
 done
 
@@ -56,8 +57,10 @@ for memory in pciplan_memory pciplan_fixed_memory; do
     printf '%s: ' "$memory"
     "$built/$memory"
 done
-compiled bring_up "$here/test/pciplan_bring_up_test.c" "$here/test/pciplan_board.c" "$built/up.o" "$built/number.o" \
-    "$built/capture.o" "$built/supported.o" "$built/memory.o" "$library"
+compiled put "$here/test/pciplan_apply_test.c" "$built/apply.o" "$built/capture.o" "$built/memory.o" "$library"
+"$built/put"
+compiled bring_up "$here/test/pciplan_bring_up_test.c" "$here/test/pciplan_board.c" "$built/up.o" "$built/apply.o" \
+    "$built/number.o" "$built/capture.o" "$built/supported.o" "$built/memory.o" "$library"
 "$built/bring_up"
 compiled stack "$here/test/pciplan_stack_test.c" "$here/memory/pciplan_memory.c" "$library"
 "$built/stack" old.dump old.probe

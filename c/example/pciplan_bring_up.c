@@ -1,13 +1,14 @@
 /* From power-on to a board whose devices have addresses, over the hooks of configuration access of pciplan_capture.h.
    Nothing uses the board's functions meanwhile. */
 #include "pciplan.h"
+#include "pciplan_apply.h"
 #include "pciplan_capture.h"
 #include "pciplan_number.h"
 
-enum { FUNCTIONS = 64, TEXT = FUNCTIONS * PCIPLAN_CAPTURED, WRITES = FUNCTIONS * 11 };
+enum { FUNCTIONS = 64, TEXT = FUNCTIONS * PCIPLAN_CAPTURED, REGISTERS = FUNCTIONS * 10, WRITES = FUNCTIONS * 11 };
 
 static uint8_t dump[TEXT], probe[TEXT];
-static struct pciplan_write writes[WRITES];
+static struct pciplan_write registers[REGISTERS], writes[WRITES];
 static char line[PCIPLAN_LINE + 1];
 
 static uint8_t *text; /* where the text goes that is captured */
@@ -47,16 +48,13 @@ static const char *said(uint8_t status, size_t length)
     return status == PCIPLAN_YES ? NULL : line;
 }
 
-/* Makes the first writes, so many of them. */
-static const char *made(size_t count, size_t safe_from)
+/* Puts the plan's writes, so many of them, onto the board that the dump is of. */
+static const char *put(size_t of_dump, size_t count, size_t safe_from)
 {
-    for (size_t i = 0; i < count; i++) {
-        const struct pciplan_write *w = &writes[i];
-        pciplan_config_write(w->bus, w->device, w->function, w->offset, w->width, w->value);
-        if (pciplan_config_read(w->bus, w->device, w->function, w->offset, w->width) != w->value)
-            return i + 1 < safe_from ? "a write doesn't stay, before a stop is safe" : "a write doesn't stay";
-    }
-    return NULL;
+    struct pciplan_applied applied = pciplan_apply(dump, of_dump, registers, REGISTERS, writes, count);
+    if (applied.status == PCIPLAN_YES)
+        return NULL;
+    return applied.made < safe_from ? "the plan isn't put, and a stop isn't safe yet" : "the plan isn't put";
 }
 
 /* Null where all went well, else what didn't: in a line with its end, what the library says of the board. */
@@ -85,7 +83,7 @@ const char *pciplan_bring_up(const struct pciplan_pools *pools)
                           (uint8_t *)line, PCIPLAN_LINE, &length);
     fault = said(status, length);
     if (fault == NULL)
-        fault = made(count, safe_from);
+        fault = put(of_dump, count, safe_from);
     if (fault != NULL)
         return fault;
 

@@ -13,7 +13,7 @@ trap 'rm -rf "$built"' EXIT
 headers=$(gcc -print-file-name=include)
 compiled() {
     gcc -std=c11 -Wall -Wextra -O2 -ffreestanding -nostdinc -isystem "$headers" -I"$c/include" -I"$c/capture" \
-        -I"$c/number" -fno-pic -fno-pie -fno-stack-protector -fcf-protection=none -mno-red-zone \
+        -I"$c/number" -I"$c/apply" -fno-pic -fno-pie -fno-stack-protector -fcf-protection=none -mno-red-zone \
         -fno-asynchronous-unwind-tables -c -o "$built/$1" "$2"
 }
 
@@ -21,12 +21,14 @@ compiled start.o "$here/start.S"
 compiled firmware.o "$here/firmware.c"
 compiled example.o "$c/example/pciplan_bring_up.c"
 compiled number.o "$c/number/pciplan_number.c"
+compiled apply.o "$c/apply/pciplan_apply.c"
 compiled capture.o "$c/capture/pciplan_capture.c"
 compiled supported.o "$c/processor/pciplan_supported.c"
 compiled memory.o "$c/memory/pciplan_fixed_memory.c"
 cd "$built"
 gcc -nostdlib -static -no-pie -Wl,-T,"$here/image.ld" -Wl,--build-id=none -Wl,--no-warn-rwx-segments \
-    -Wl,--gc-sections -Wl,-z,max-page-size=4096 -o image.elf start.o firmware.o example.o number.o capture.o supported.o memory.o "$library" -lgcc
+    -Wl,--gc-sections -Wl,-z,max-page-size=4096 -o image.elf start.o firmware.o example.o number.o apply.o capture.o \
+    supported.o memory.o "$library" -lgcc
 objcopy -O binary image.elf image.bin
 
 # The ROM: the image, and in the last 4 KB what the processor does after reset.

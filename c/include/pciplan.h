@@ -1,4 +1,5 @@
-/* The verdict and the plan of pciplan, from C: link crates/pciplan_c/out/libpciplan_c.a, which `rt lib` makes there.
+/* The verdict and the plan of pciplan, and the accesses that put a plan onto a machine, from C: link
+   crates/pciplan_c/out/libpciplan_c.a, which `rt lib` makes there.
 
    The library holds no state, keeps nothing between calls, starts no thread and touches no file. Besides memcpy, memmove,
    memset and the compiler's own __umodti3 (libgcc has it) it needs the three functions of memory at the end;
@@ -16,12 +17,12 @@
      256 KB of c/memory/pciplan_fixed_memory.c hold a check of 512 functions or a plan of 64; a plan of 128 takes 300 KB
      there.
    - Texts of at most 1,042 bytes a function, of at most 4,096 functions. A plan has at most 9 writes for a device and 11
-     for a bridge.
+     for a bridge; it compares 8 registers of a device and 10 of a bridge.
    - It may be called again while it runs, from another thread or an interrupt, if the three functions of memory may be.
 
    What the caller has to uphold, which nothing checks: each pointer is to as many bytes as its length says, and isn't
    null, even where the length is 0; they stay as they are during the call; what is written to (line, line_used,
-   writes, writes_used, safe_from) overlaps nothing else that is handed in. */
+   writes, writes_used, safe_from, registers, registers_used, access) overlaps nothing else that is handed in. */
 #ifndef PCIPLAN_H
 #define PCIPLAN_H
 
@@ -92,6 +93,48 @@ uint8_t pciplan_plan(const uint8_t *dump, size_t dump_len,
                      struct pciplan_write *writes, size_t writes_len, size_t *writes_used,
                      size_t *safe_from,
                      uint8_t *line, size_t line_len, size_t *line_used);
+
+/* What a plan of this dump starts from: the registers that are compared before its first write, with what they show in the
+   dump. Of each function, the lowest slot first, they are Command and then the address registers by rising offset.
+
+   At YES they stand at the front of registers, and *registers_used of them count; what follows them isn't changed. At
+   REFUSED the dump is no text (pciplan_check says why); registers isn't changed, and *registers_used is 0. At MEMORY
+   nothing is changed. At SHORT registers isn't, and *registers_used, above registers_len, is how many there are. It
+   doesn't answer NO. */
+uint8_t pciplan_start(const uint8_t *dump, size_t dump_len,
+                      struct pciplan_write *registers, size_t registers_len, size_t *registers_used);
+
+enum pciplan_kind {
+    PCIPLAN_COMPARE = 0,  /* the register is read, and is to show the value */
+    PCIPLAN_MAKE = 1,     /* the value is written to it */
+    PCIPLAN_READ_BACK = 2 /* it was just written, is read, and is to show the value */
+};
+
+/* An access by which a plan is put onto a machine: its register and value, how many of the plan's writes stand where it is
+   the last access, and its kind. */
+struct pciplan_access {
+    struct pciplan_write at;
+    size_t done;
+    uint8_t kind;
+};
+
+/* The n-th access, from 0 on: each of registers is compared, then each of writes is made and read back. 1, with *access; or
+   0 where there are no more, and *access isn't changed. It takes no memory. */
+uint8_t pciplan_step(const struct pciplan_write *registers, size_t registers_len,
+                     const struct pciplan_write *writes, size_t writes_len,
+                     size_t n, struct pciplan_access *access);
+
+/* Why an access was the last one. */
+enum pciplan_fault {
+    PCIPLAN_FAULT_CHANGED = 80, /* a register that is compared shows another value */
+    PCIPLAN_FAULT_PORT = 81,    /* the access failed */
+    PCIPLAN_FAULT_STUCK = 82    /* a write reads back otherwise */
+};
+
+/* What follows from an access: YES where the next one is to be made, else a fault, which is one of access->at, with
+   access->done writes made. answered is 0 where the access failed; shown is what a read showed, and of no matter for a
+   write. It takes no memory. c/apply/pciplan_apply.c makes all accesses by these calls. */
+uint8_t pciplan_judge(const struct pciplan_access *access, uint8_t answered, uint32_t shown);
 
 /* What the library calls for memory. A block that was handed out is the library's until it is given back, and so lies
    apart from all else. It begins at a multiple of align, a power of two.

@@ -1,5 +1,5 @@
-/* Measures how much stack a check and a plan of a sound machine use: pciplan_stack_test DUMP PROBE. Each runs on a stack of its
-   own, whose bytes were painted before. */
+/* Measures how much stack a check and a plan of a sound machine use, and what it starts from: pciplan_stack_test DUMP PROBE.
+   Each runs on a stack of its own, whose bytes were painted before. */
 #define _XOPEN_SOURCE 700
 #include <stdio.h>
 #include <stdlib.h>
@@ -56,6 +56,12 @@ static void plan(void)
                           line, sizeof line, &used);
 }
 
+static void start(void)
+{
+    size_t count;
+    status = pciplan_start(dump, dump_len, writes, WRITES, &count);
+}
+
 /* The bytes of the stack that a call used, which has to answer YES. */
 static size_t stack_of(void (*call)(void))
 {
@@ -79,7 +85,7 @@ static size_t stack_of(void (*call)(void))
 
 int main(int count, char **words)
 {
-    size_t of_check, of_plan;
+    size_t of_check, of_plan, of_start;
 
     if (count != 3)
         stop("usage: pciplan_stack_test DUMP PROBE");
@@ -87,6 +93,7 @@ int main(int count, char **words)
     probe_len = text_of(words[2], probe);
     of_check = stack_of(check);
     of_plan = stack_of(plan);
-    printf("a check used %zu bytes of stack, a plan %zu\n", of_check, of_plan);
-    return of_check > CHECK_NEEDS || of_plan > PLAN_NEEDS;
+    of_start = stack_of(start);
+    printf("a check used %zu bytes of stack, a plan %zu, its start %zu\n", of_check, of_plan, of_start);
+    return of_check > CHECK_NEEDS || of_plan > PLAN_NEEDS || of_start > CHECK_NEEDS;
 }
