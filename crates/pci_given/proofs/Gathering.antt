@@ -11,7 +11,7 @@ use Rattle.pci_base.specs.declared.range.Range.{Range}
 use Rattle.pci_tree.specs.Ranges.{Holds, Covers, IsCanonical}
 use Rattle.pci_tree.specs.Passing.{IsPush}
 use Rattle.pci_tree.proofs.Passing.{covers_push, canonical_push, push_meet, below_next}
-use Rattle.pci_tree.proofs.RangeLists.{covers_at, found_at}
+use Rattle.pci_tree.proofs.RangeLists.{found_at}
 use Rattle.pci_given.specs.Gathered.{IsGathered, IsCommon, IsJoined}
 
 pub none_covered : (a : ℕ) → Covers [] a → ⊥
@@ -121,7 +121,7 @@ in_front ss n a within (k, s, inside, at, has) =
     let less : k < n = omega (arith, inside, size) in
     (k, s, omega (arith, less, within), sym (get_or-take n ss k s less) ∙ at, has)
 
-covers_take : (ss : List Range) (n k a : ℕ) (s : Range) → k < n → k < length ss → n ≤ length ss → get_or ss k s ≡ s → Holds s a → Covers (take n ss) a
+pub covers_take : (ss : List Range) (n k a : ℕ) (s : Range) → k < n → k < length ss → n ≤ length ss → get_or ss k s ≡ s → Holds s a → Covers (take n ss) a
 covers_take ss n k a s less inside within at has =
     let size : length (take n ss) ≡ n = length-take-le n ss within in
     (k, s, omega (arith, less, size), get_or-take n ss k s less ∙ at, has)

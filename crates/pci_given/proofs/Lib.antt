@@ -1,3 +1,4 @@
 pub mod Gathering
 pub mod Pieces
 pub mod Parts
+pub mod Outsides

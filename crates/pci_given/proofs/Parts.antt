@@ -9,7 +9,7 @@ use Rattle.std.proofs.lemmas.List.{take_more}
 use Rattle.std.proofs.lemmas.List.Elements.{All-push}
 use Rattle.pci_spec.specs.System.{Space, IsAddress}
 use Rattle.pci_base.specs.declared.range.Range.{Range}
-use Rattle.pci_tree.specs.Ranges.{Holds, Covers, IsCanonical}
+use Rattle.pci_tree.specs.Ranges.{Holds, Covers}
 use Rattle.pci_tree.specs.Reaches.{IsWhole}
 use Rattle.pci_tree.proofs.Passing.{covers_push}
 use Rattle.given_spec.specs.Given.{Given, starts_in, starts, sends, is_for, ranges_said, HostRange as SpecRange}

@@ -1,11 +1,11 @@
 -- The ports of a VGA adapter, KB by KB.
-use Rattle.std.proofs.Common.{◌≡◌, ℕ, ◌+◌, ◌*◌, ◌/◌, ◌%◌, ◌^◌, ◌<◌, ◌≤◌, ◌⊎◌, List, [], ◌∷◌, ◌++◌, length, Bool, true, false, ◌&&◌, ◌||◌, nat_le, nat_lt, inl, inr, arith, subst, sym, ◌∙◌, ap, refl}
-use Rattle.std.specs.Prelude.{◌↔◌, IsTrue}
+use Rattle.std.proofs.Common.{◌≡◌, ℕ, ◌+◌, ◌*◌, ◌%◌, ◌<◌, ◌≤◌, ◌⊎◌, List, [], ◌∷◌, ◌++◌, ◌&&◌, ◌||◌, nat_le, inl, inr, arith, subst, sym, ◌∙◌, ap, refl}
+use Rattle.std.specs.Prelude.{IsTrue}
 use Rattle.std.proofs.lemmas.Bool.{cases_lt, or_cases, and_parts, and_from, leb-true, le-leb}
 use Rattle.std.proofs.Math.Bool.{or-true}
 use Rattle.std.proofs.lemmas.List.{length-append}
 use Rattle.pci_base.specs.declared.range.Range.{Range}
-use Rattle.pci_tree.specs.Ranges.{Holds, Covers, IsCanonical}
+use Rattle.pci_tree.specs.Ranges.{Covers}
 use Rattle.pci_tree.proofs.Passing.{covers_push, canonical_push}
 use Rattle.given_spec.specs.Given.{is_vga_port}
 use Rattle.pci_given.specs.Legacy.{ArePorts}

@@ -2,3 +2,4 @@ pub mod Gathered
 pub mod Values
 pub mod Legacy
 pub mod Sent
+pub mod Outside

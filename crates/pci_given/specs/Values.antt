@@ -1,5 +1,5 @@
 -- What is given, as the definitions have it.
-use Rattle.std.specs.Prelude.{List, map, Option}
+use Rattle.std.specs.Prelude.{map}
 use Rattle.std.specs.Option.{option_map}
 use Rattle.given_spec.specs.Given as spec
 use Rattle.pci_given.specs.declared.given.HostRange.{HostRange}

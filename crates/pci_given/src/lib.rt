@@ -5,4 +5,5 @@
 pub mod gather;
 pub mod given;
 pub mod legacy;
+pub mod outside;
 pub mod sent;

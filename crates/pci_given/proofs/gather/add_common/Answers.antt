@@ -1,4 +1,4 @@
-use Rattle.std.proofs.Common.{◌≡◌, ◌+◌, arith, get_or, length, refl}
+use Rattle.std.proofs.Common.{arith, get_or}
 use Rattle.std.proofs.lemmas.List.{get_or_default}
 use Rattle.pci_base.specs.declared.range.Range.{Range}
 use Rattle.pci_given.proofs.Gathering.{start_common, more_common, end_common, whole_common}

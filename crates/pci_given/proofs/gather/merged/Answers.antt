@@ -1,4 +1,4 @@
-use Rattle.std.proofs.Common.{◌≡◌, ◌+◌, ◌<◌, ◌≤◌, arith, get_or, length, refl, subst, sym, ap, ◌∙◌, []}
+use Rattle.std.proofs.Common.{◌≡◌, ◌+◌, arith, get_or, length, subst, sym, ap, ◌∙◌}
 use Rattle.std.proofs.lemmas.Bool.{ltb-true, ltb-false}
 use Rattle.std.proofs.lemmas.List.{get_or_default}
 use Rattle.pci_base.specs.declared.range.Range.{Range}

@@ -1,4 +1,4 @@
-use Rattle.std.proofs.Common.{arith, subst, sym, refl}
+use Rattle.std.proofs.Common.{subst, sym, refl}
 use Rattle.pci_given.specs.Legacy.{ArePorts}
 use Rattle.pci_given.proofs.Pieces.{no_ports, more_ports}
 use Rattle.pci_given.proofs.legacy.ports.Goals as goal
