@@ -2,3 +2,4 @@ pub mod Gathering
 pub mod Pieces
 pub mod Parts
 pub mod Outsides
+pub mod Bridging

@@ -3,3 +3,4 @@ pub mod Values
 pub mod Legacy
 pub mod Sent
 pub mod Outside
+pub mod Passed

@@ -6,4 +6,5 @@ pub mod gather;
 pub mod given;
 pub mod legacy;
 pub mod outside;
+pub mod passed;
 pub mod sent;
