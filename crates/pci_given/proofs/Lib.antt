@@ -1,5 +1,6 @@
 pub mod Gathering
 pub mod Pieces
 pub mod Parts
+pub mod Claiming
 pub mod Outsides
 pub mod Bridging

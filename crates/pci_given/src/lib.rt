@@ -2,6 +2,7 @@
 //! of bridges.
 #![tactic(auto)]
 
+pub mod claim;
 pub mod gather;
 pub mod given;
 pub mod legacy;
