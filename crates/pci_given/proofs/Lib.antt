@@ -4,3 +4,4 @@ pub mod Parts
 pub mod Claiming
 pub mod Outsides
 pub mod Bridging
+pub mod Linking

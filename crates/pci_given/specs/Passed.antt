@@ -1,18 +1,20 @@
 -- What a bridge passes, with what is given.
-use Rattle.std.specs.Prelude.{ℕ, ◌≤◌, ◌↔◌, Bool, ◌&&◌, ◌||◌, IsTrue, List, map}
+use Rattle.std.specs.Prelude.{◌≡◌, ℕ, ◌≤◌, ◌↔◌, Bool, ◌&&◌, ◌||◌, true, IsTrue, List, map}
 use Rattle.std.specs.Option.{is_some}
 use Rattle.std.specs.List.{All, list_any}
 use Rattle.pci_spec.specs.Slot.{Slot, same_slot}
 use Rattle.pci_spec.specs.Window.{WindowKind}
-use Rattle.pci_spec.specs.System.{Space, window_space}
+use Rattle.pci_spec.specs.System.{Space, Function, window_space, is_bridge}
+use Rattle.pci_spec.specs.Decoded.{record_of, IsDecodable}
 use Rattle.pci_base.specs.declared.range.Range.{Range}
-use Rattle.pci_base.specs.Space.{is_on}
+use Rattle.pci_base.specs.Space.{is_on, is_prefetch}
 use Rattle.pci_function.specs.declared.record.Record.{Record}
 use Rattle.pci_function.specs.Values.{record_value}
 use Rattle.pci_tree.specs.Passes.{record_passes}
 use Rattle.pci_tree.specs.Ranges.{Covers, IsCanonical}
 use Rattle.given_spec.specs.Given.{Given, legacy_holds}
 use Rattle.given_spec.specs.Given as spec
+use Rattle.given_spec.specs.Claims.{passes}
 use Rattle.pci_given.specs.declared.given.LegacyBridge.{LegacyBridge}
 use Rattle.pci_given.specs.Values.{legacy_value}
 
@@ -42,3 +44,10 @@ passes_with given kind a r =
 pub record ArePassed (given : Given) (kind : WindowKind) (r : Record) (out : List Range) : Type 0 where
   pub canonical : IsCanonical out
   pub exact : (a : ℕ) → Covers out a ↔ IsTrue (passes_with given kind a r)
+
+-- the addresses of regions that each bridge with the record passes
+abbrev pub IsPassedBy : Given → WindowKind → Record → List Range → Type 0
+IsPassedBy given kind r out =
+    (f : Function) → IsDecodable f → is_bridge f ≡ true → record_value r ≡ record_of f
+    → (a : ℕ) → Covers out a
+    ↔ IsTrue (passes given (window_space kind) (is_prefetch kind) a f)

@@ -5,7 +5,7 @@ ghost use Rattle.pci_base.specs.Space.{space_of, is_on};
 ghost use Rattle.pci_base.specs.WindowKinds.{kind_value};
 ghost use Rattle.pci_tree.specs.Reaches.{HasSpans};
 ghost use Rattle.pci_given.specs.Values.{given_value};
-ghost use Rattle.pci_given.specs.Passed.{ArePiecesOf, ArePassed};
+ghost use Rattle.pci_given.specs.Passed.{ArePiecesOf, ArePassed, IsPassedBy};
 
 use super::gather::gathered;
 use super::given::{Given, LegacyBridge};
@@ -55,8 +55,10 @@ pub fn passed_with<A: Allocator + Copy>(
 ) -> Result<Vec<Range, A>, OutOfMemory>
     // of an empty window no address could be told
     requires { HasSpans function.now }
-    ensures { IfOk result
+    ensures record { IfOk result
         (λ v. ArePassed (given_value given.now) (kind_value kind) function.now v.items) }
+    ensures bridge { IfOk result
+        (λ v. IsPassedBy (given_value given.now) (kind_value kind) function.now v.items) }
 {
     let mut ranges = passed_by(alloc, function, kind)?;
     let space = Space::of(kind);

@@ -5,13 +5,14 @@ use Rattle.pci_spec.specs.System.{Space}
 use Rattle.pci_base.specs.Space.{is_on}
 use Rattle.pci_base.specs.WindowKinds.{kind_value}
 use Rattle.pci_given.specs.Values.{given_value}
-use Rattle.pci_given.specs.Passed.{ArePiecesOf}
+use Rattle.pci_given.specs.Passed.{ArePiecesOf, ArePassed, IsPassedBy}
 use Rattle.pci_given.proofs.Bridging.{passed_both, passed_windows}
+use Rattle.pci_given.proofs.Linking.{passed_by_bridge}
 use Rattle.pci_given.proofs.passed.passed_with.Goals as goal
 use Rattle.pci_given.proofs.passed.passed_with.Goals.{then-is_bridge_on+in_ok-legacy+in_ok-extend_from_slice, else-is_bridge_on}
 
-pub returns : goal.returns
-returns g c = elim c.if-is_bridge_on.branch [
+pub returns-clause-record : goal.returns-clause-record
+returns-clause-record g c = elim c.if-is_bridge_on.branch [
   | then-is_bridge_on+in_ok-legacy+in_ok-extend_from_slice w ↦
       IfOk-weaker c.gathered.result _ _
       (λ v is. passed_both (given_value c.args.given.now) (kind_value c.args.kind) c.args.function.now c.in_ok-ranges.ranges.items c.in_ok-ranges.ensures.canonical c.in_ok-ranges.ensures.exact
@@ -28,3 +29,8 @@ returns g c = elim c.if-is_bridge_on.branch [
       (ap (λ v. v.items) w.ranges-is) is)
       c.gathered.ensures
 ]
+
+pub returns-clause-bridge : goal.returns-clause-bridge
+returns-clause-bridge g c =
+    IfOk-weaker c.gathered.result (λ v. ArePassed (given_value c.args.given.now) (kind_value c.args.kind) c.args.function.now v.items) _
+    (λ v is. passed_by_bridge (given_value c.args.given.now) (kind_value c.args.kind) c.args.function.now v.items is) (returns-clause-record g c)
