@@ -5,3 +5,4 @@ pub mod Claiming
 pub mod Outsides
 pub mod Bridging
 pub mod Linking
+pub mod Missing

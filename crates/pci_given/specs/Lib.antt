@@ -5,3 +5,4 @@ pub mod Sent
 pub mod Claim
 pub mod Outside
 pub mod Passed
+pub mod Missed

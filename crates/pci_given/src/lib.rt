@@ -6,6 +6,7 @@ pub mod claim;
 pub mod gather;
 pub mod given;
 pub mod legacy;
+pub mod missed;
 pub mod outside;
 pub mod passed;
 pub mod sent;
