@@ -18,9 +18,9 @@ use Rattle.pci_tree.specs.Ranges.{Holds, Covers, IsCanonical}
 use Rattle.given_spec.specs.Given.{Given, legacy_holds}
 use Rattle.pci_given.specs.declared.given.LegacyBridge.{LegacyBridge}
 use Rattle.pci_given.specs.Values.{legacy_value}
-use Rattle.pci_given.specs.Gathered.{IsGathered}
+use Rattle.pci_given.specs.Gathered.{IsGathered, IsCommon}
 use Rattle.pci_given.specs.Legacy.{ArePieces}
-use Rattle.pci_given.specs.Passed.{is_piece_at, ArePiecesOf, legacy_passes, ArePassed}
+use Rattle.pci_given.specs.Passed.{is_piece_at, ArePiecesOf, legacy_passes, ArePassed, passes_with, IsPassedOnWith}
 use Rattle.pci_given.proofs.Gathering.{none_covered}
 use Rattle.pci_given.proofs.Parts.{any_more}
 
@@ -134,3 +134,13 @@ module _ (given : Given) (kind : WindowKind) (r : Record) (windows : List Range)
           ])),
     );
   }
+
+-- what is passed of some ranges
+pub passed_of : (given : Given) (kind : WindowKind) (r : Record) (above passed out : List Range) → ArePassed given kind r passed → IsCommon above passed out → IsPassedOnWith given kind above r out
+passed_of given kind r above passed out are is = record {
+  canonical = is.canonical;
+  exact = λ a. (
+    λ (h : Covers out a). (let both = (is.exact a).0 h in (both.0, (are.exact a).0 both.1)),
+    λ (h : Covers above a × IsTrue (passes_with given kind a r)). (is.exact a).1 (h.0, (are.exact a).1 h.1),
+  );
+}

@@ -1,13 +1,11 @@
 -- What a bridge's record passes is what the bridge passes.
-use Rattle.std.proofs.Common.{◌≡◌, ℕ, List, Bool, true, ◌&&◌, ◌||◌, subst, sym, ◌∙◌, ap, refl}
-use Rattle.std.specs.Prelude.{◌↔◌, IsTrue}
+use Rattle.std.proofs.Common.{◌≡◌, ℕ, List, true, ◌&&◌, ◌||◌, sym, ◌∙◌, ap}
+use Rattle.std.specs.Prelude.{IsTrue}
 use Rattle.std.specs.Option.{is_some}
 use Rattle.std.specs.List.{list_any}
-use Rattle.pci_spec.specs.Header.{command}
 use Rattle.pci_spec.specs.Window.{WindowKind}
 use Rattle.pci_spec.specs.Slot.{Slot}
 use Rattle.pci_spec.specs.System.{Function, Space, window_space, is_bridge, is_space_on}
-use Rattle.pci_spec.specs.System as system
 use Rattle.pci_spec.specs.Decoded.{record_of, IsDecodable}
 use Rattle.pci_spec.specs.Decoded as decoded
 use Rattle.pci_base.specs.declared.range.Range.{Range}

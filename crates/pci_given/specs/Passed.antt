@@ -51,3 +51,9 @@ IsPassedBy given kind r out =
     (f : Function) → IsDecodable f → is_bridge f ≡ true → record_value r ≡ record_of f
     → (a : ℕ) → Covers out a
     ↔ IsTrue (passes given (window_space kind) (is_prefetch kind) a f)
+
+-- the addresses of some ranges that a bridge passes
+pub record IsPassedOnWith (given : Given) (kind : WindowKind) (above : List Range) (r : Record)
+    (out : List Range) : Type 0 where
+  pub canonical : IsCanonical out
+  pub exact : (a : ℕ) → Covers out a ↔ (Covers above a × IsTrue (passes_with given kind a r))

@@ -3,11 +3,12 @@ ghost use Rattle.std.specs.Prelude.{◌≡◌, ◌↔◌, ◌&&◌, ℕ, IfOk};
 ghost use Rattle.std.specs.Option.{is_some};
 ghost use Rattle.pci_base.specs.Space.{space_of, is_on};
 ghost use Rattle.pci_base.specs.WindowKinds.{kind_value};
+ghost use Rattle.pci_tree.specs.Ranges.{IsCanonical};
 ghost use Rattle.pci_tree.specs.Reaches.{HasSpans};
 ghost use Rattle.pci_given.specs.Values.{given_value};
-ghost use Rattle.pci_given.specs.Passed.{ArePiecesOf, ArePassed, IsPassedBy};
+ghost use Rattle.pci_given.specs.Passed.{ArePiecesOf, ArePassed, IsPassedBy, IsPassedOnWith};
 
-use super::gather::gathered;
+use super::gather::{common, gathered};
 use super::given::{Given, LegacyBridge};
 use super::legacy::pieces;
 use pci_base::memory::OutOfMemory;
@@ -67,4 +68,21 @@ pub fn passed_with<A: Allocator + Copy>(
         ranges.extend_from_slice(&legacy)?;
     }
     gathered(ranges)
+}
+
+/// What a bridge passes of the addresses that get to its own bus: what gets to the bus behind it.
+pub fn passed_on<A: Allocator + Copy>(
+    alloc: A,
+    given: &Given<'_>,
+    above: &[Range],
+    function: &Record,
+    kind: WindowKind,
+) -> Result<Vec<Range, A>, OutOfMemory>
+    requires canonical { IsCanonical above.now }
+    requires spans { HasSpans function.now }
+    ensures { IfOk result (λ v. IsPassedOnWith (given_value given.now) (kind_value kind) above.now
+        function.now v.items) }
+{
+    let passed = passed_with(alloc, given, function, kind)?;
+    common(alloc, above, &passed)
 }

@@ -5,7 +5,7 @@ use Rattle.pci_spec.specs.System.{Space}
 use Rattle.pci_base.specs.Space.{is_on}
 use Rattle.pci_base.specs.WindowKinds.{kind_value}
 use Rattle.pci_given.specs.Values.{given_value}
-use Rattle.pci_given.specs.Passed.{ArePiecesOf, ArePassed, IsPassedBy}
+use Rattle.pci_given.specs.Passed.{ArePiecesOf, ArePassed}
 use Rattle.pci_given.proofs.Bridging.{passed_both, passed_windows}
 use Rattle.pci_given.proofs.Linking.{passed_by_bridge}
 use Rattle.pci_given.proofs.passed.passed_with.Goals as goal
