@@ -1,5 +1,5 @@
 //! Claims of a bus: what one region answers, and the least address that two of them answer.
-ghost use Rattle.std.specs.Prelude.{◌≡◌, ◌≤◌, ℕ, MatchOption};
+ghost use Rattle.std.specs.Prelude.{ℕ, MatchOption};
 ghost use Rattle.pci_tree.specs.Ranges.{Covers, IsCanonical};
 ghost use Rattle.pci_given.specs.Claim.{IsLeastCommon};
 

@@ -1,5 +1,5 @@
 //! What a bridge passes, by its windows and its legacy parts.
-ghost use Rattle.std.specs.Prelude.{◌≡◌, ◌↔◌, ◌&&◌, ℕ, IfOk};
+ghost use Rattle.std.specs.Prelude.{◌≡◌, ◌&&◌, IfOk};
 ghost use Rattle.std.specs.Option.{is_some};
 ghost use Rattle.pci_base.specs.Space.{space_of, is_on};
 ghost use Rattle.pci_base.specs.WindowKinds.{kind_value};

@@ -6,7 +6,6 @@ use Rattle.pci_spec.specs.Slot.{Slot}
 use Rattle.pci_spec.specs.System.{System, Space}
 use Rattle.pci_spec.specs.Decoded as decoded
 use Rattle.pci_spec.specs.Why as why
-use Rattle.pci_spec.specs.Why.{IsRegionIn, IsRun, AreRuns}
 use Rattle.pci_spec.proofs.Members.{in_map_from, pairs_nil}
 use Rattle.map_spec.specs.Lines.{Lines, End, Free, Sits, OnRoot, Inside, IsClaimedOn, AreLinesAt, AreInside}
 use Rattle.map_spec.specs.MapText.{bus_heading, region_line, lines_text, space_lines}

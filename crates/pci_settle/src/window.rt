@@ -1,5 +1,5 @@
 //! How large a new window is: as large as what is in it, raised to a page.
-ghost use Rattle.std.specs.Prelude.{◌<◌, ◌≤◌, ◌+◌, ◌^◌, IfOk, IfSome, SomeIff, [], map, max, length, ◌≡◌};
+ghost use Rattle.std.specs.Prelude.{◌<◌, ◌+◌, ◌^◌, IfOk, IfSome, SomeIff, [], map, max, length, ◌≡◌};
 ghost use Rattle.std.specs.List.{All, AllPairs, list_all};
 ghost use Rattle.std.specs.List.Sorted.{IsPermutation};
 ghost use Rattle.pci_spec.specs.Window.{page_size};

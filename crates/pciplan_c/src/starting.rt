@@ -1,7 +1,5 @@
 //! What a plan starts from, register by register, as C compares it.
 ghost use Rattle.std.specs.Prelude.{◌≡◌, map, IfOk, IfErr};
-ghost use Rattle.pci_spec.specs.Text.{IsTextOf};
-ghost use Rattle.pci_dump.specs.ReadFault.{IsTextFault};
 ghost use Rattle.pci_steps.specs.Steps.{all_shown};
 ghost use Rattle.pciplan_c.specs.PlanAnswers.{value_of};
 ghost use Rattle.pciplan_c.specs.Stepping.{IsStartPut, IsNoStart, IsNoDump, AreShown};
