@@ -34,10 +34,10 @@ use Rattle.pci_map.proofs.GapRanges.{covers_has, covers_from, gaps_to, gaps_from
 
 -- ---- windows and what they claim
 
-window_claims_of : (b : Function) (k : WindowKind) (space : Space) (a : ℕ) → Claims b (system.Window k) space a → IsTrue (window_claims b k a)
+pub window_claims_of : (b : Function) (k : WindowKind) (space : Space) (a : ℕ) → Claims b (system.Window k) space a → IsTrue (window_claims b k a)
 window_claims_of b k space a c = and_from (is_space_on b (window_space k)) (holds k b.image b.probe a) c.enabled c.decodes
 
-claims_of : (b : Function) (k : WindowKind) (space : Space) (a : ℕ) → IsTrue (is_bridge b) → window_space k ≡ space → IsAddress space a → IsTrue (window_claims b k a) → Claims b (system.Window k) space a
+pub claims_of : (b : Function) (k : WindowKind) (space : Space) (a : ℕ) → IsTrue (is_bridge b) → window_space k ≡ space → IsAddress space a → IsTrue (window_claims b k a) → Claims b (system.Window k) space a
 claims_of b k space a bridge maps address claims =
     let both = and_parts (is_space_on b (window_space k)) (holds k b.image b.probe a) claims in
     record { there = bridge; enabled = both.0; maps = maps; address = address; decodes = both.1 }

@@ -11,3 +11,6 @@ pub mod Seats
 pub mod Offs
 pub mod Roots
 pub mod Counts
+pub mod Ups
+pub mod Firsts
+pub mod Lefts

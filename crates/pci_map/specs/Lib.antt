@@ -4,3 +4,4 @@ pub mod Inside
 pub mod Walk
 pub mod Off
 pub mod Buses
+pub mod Left

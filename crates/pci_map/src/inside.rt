@@ -31,7 +31,7 @@ pub struct Inside<A: Allocator = Global> {
 }
 
 /// Whether a region has an address.
-fn has(region: &Region, address: u64) -> bool
+pub fn has(region: &Region, address: u64) -> bool
     ensures { result ≡ is_in region.now address }
 {
     region.first <= address && address <= region.last

@@ -10,6 +10,7 @@
 pub mod buses;
 pub mod gaps;
 pub mod inside;
+pub mod left;
 pub mod line;
 pub mod off;
 pub mod walk;

@@ -1,0 +1,112 @@
+-- The first window of a bridge that has an address.
+use Rattle.std.proofs.Common.{◌≡◌, ℕ, refl, sym, ap, ◌∙◌, subst, inl, inr, not, true, false, Option, None, Some}
+use Rattle.std.specs.Option.{is_some}
+use Rattle.std.specs.Prelude.{IsTrue, MatchOption, nat_le}
+use Rattle.std.specs.List.{Contains}
+use Rattle.std.proofs.lemmas.Bool.{cases_Bool, and_parts, and_from, false≢true, leb-true}
+use Rattle.pci_spec.specs.Slot.{Slot}
+use Rattle.pci_spec.specs.Registers.{IO_BASE, MEMORY_BASE, PREFETCHABLE_BASE}
+use Rattle.pci_spec.specs.Window.{WindowKind, IoWindow, MemoryWindow, PrefetchWindow, window_register}
+use Rattle.pci_spec.specs.System.{System, Function, Space, Io, Memory, Claims, IsAddress, window_claims, window_space, is_bridge, register_of}
+use Rattle.pci_spec.specs.System as system
+use Rattle.pci_spec.specs.Why.{IsRegionIn}
+use Rattle.pci_spec.proofs.Regions.{part_same}
+use Rattle.map_spec.specs.Lines.{is_first_window}
+use Rattle.pci_tree.specs.declared.region.Region.{Region}
+use Rattle.pci_why.specs.Fits.{told}
+use Rattle.pci_why.specs.Found.{IsFoundIn}
+use Rattle.pci_why.proofs.Evidences.{region_in}
+use Rattle.pci_map.specs.Values.{value_of}
+use Rattle.pci_map.specs.Inside.{is_in}
+use Rattle.pci_map.specs.Left.{NoneHas, IsHolding, IsFirst}
+use Rattle.pci_map.proofs.Values.{part_is}
+use Rattle.pci_map.proofs.Insides.{window_claims_of, claims_of}
+
+-- what is found at a slot and a register is a region
+pub found_region : (s : System) (slot : Slot) (reg : ℕ) (space : Space) (q : Region) → IsFoundIn s slot reg space q → IsRegionIn s (value_of space q)
+found_region s slot reg space q found =
+    subst (λ p. IsRegionIn s (told q p space)) (sym (part_is found.f found.part space q found.is)) (region_in s found.f found.part space q found.listed found.is)
+
+module _ (s : System) (unique : (f g : Function) → Contains s f → Contains s g → f.slot ≡ g.slot → f ≡ g)
+    (b : Function) (listed : Contains s b) (bridge : IsTrue (is_bridge b)) (slot : Slot) (named : b.slot ≡ slot) (a : ℕ) where
+  module _ (k : WindowKind) (space : Space) (w : Region) (found : IsFoundIn s slot (window_register k) space w) where
+    same : found.f ≡ b
+    same = unique found.f b found.listed listed (sym found.is.slot ∙ found.slot_is ∙ sym named)
+
+    register : register_of b found.part ≡ window_register k
+    register = ap (λ f. register_of f found.part) (sym same) ∙ sym found.is.register ∙ found.register
+
+    claims_at : (x : ℕ) → IsTrue (is_in w x) → Claims b found.part space x
+    claims_at x has =
+        let parts = and_parts (nat_le w.first x) (nat_le x w.last) has in
+        subst (λ f. Claims f found.part space x) same ((found.is.claims x).0 (leb-true w.first x parts.0, leb-true x w.last parts.1))
+
+    part_found : IsTrue (is_in w a) → found.part ≡ system.Window k
+    part_found has = part_same b found.part (system.Window k) (claims_at a has).there bridge register
+
+    claims_it : IsTrue (is_in w a) → IsTrue (window_claims b k a)
+    claims_it has = window_claims_of b k space a (subst (λ p. Claims b p space a) (part_found has) (claims_at a has))
+
+    first_is : IsTrue (is_in w a) → IsTrue (is_first_window space k a b) → IsFirst s space b a w
+    first_is has first = record {
+      is = found_region s slot (window_register k) space w found;
+      slot = named ∙ sym found.slot_is;
+      kind = k;
+      window = part_is found.f found.part space w found.is ∙ part_found has;
+      first = first;
+    }
+
+  not_it : (k : WindowKind) (space : Space) → NoneHas s slot (window_register k) space a → window_space k ≡ space → IsAddress space a → IsTrue (window_claims b k a) → ⊥
+  not_it k space none maps address claims = none b (system.Window k) listed named refl (claims_of b k space a bridge maps address claims)
+
+  abbrev Answer : Space → Option Region → Type 0
+  Answer space o = MatchOption o ((kind : WindowKind) → IsTrue (is_first_window space kind a b) → ⊥) (λ w. IsFirst s space b a w)
+
+  io_none : NoneHas s slot IO_BASE Io a → IsAddress Io a → (kind : WindowKind) → IsTrue (is_first_window Io kind a b) → ⊥
+  io_none none address IoWindow first = not_it IoWindow Io none refl address first
+  io_none none address MemoryWindow first = false≢true first
+  io_none none address PrefetchWindow first = false≢true first
+
+  pub io_first : (o : Option Region) → IsAddress Io a → IsHolding s slot IO_BASE Io a o → Answer Io o
+  io_first None address none = io_none none address
+  io_first (Some w) address (found, has) = first_is IoWindow Io w found has (claims_it IoWindow Io w found has)
+
+  pub memory_first : (w : Region) → IsHolding s slot MEMORY_BASE Memory a (Some w) → Answer Memory (Some w)
+  memory_first w (found, has) = first_is MemoryWindow Memory w found has (claims_it MemoryWindow Memory w found has)
+
+  memory_none : NoneHas s slot MEMORY_BASE Memory a → NoneHas s slot PREFETCHABLE_BASE Memory a → IsAddress Memory a → (kind : WindowKind) → IsTrue (is_first_window Memory kind a b) → ⊥
+  memory_none none other address IoWindow first = false≢true first
+  memory_none none other address MemoryWindow first = not_it MemoryWindow Memory none refl address first
+  memory_none none other address PrefetchWindow first =
+      not_it PrefetchWindow Memory other refl address (and_parts (window_claims b PrefetchWindow a) (not (window_claims b MemoryWindow a)) first).0
+
+  pub prefetch_first : (o : Option Region) → IsAddress Memory a → NoneHas s slot MEMORY_BASE Memory a → IsHolding s slot PREFETCHABLE_BASE Memory a o → Answer Memory o
+  prefetch_first None address none other = memory_none none other address
+  prefetch_first (Some w) address none (found, has) =
+      first_is PrefetchWindow Memory w found has (and_from (window_claims b PrefetchWindow a) (not (window_claims b MemoryWindow a)) (claims_it PrefetchWindow Memory w found has)
+      (elim (cases_Bool (window_claims b MemoryWindow a)) [
+        | inl memory ↦ absurd (not_it MemoryWindow Memory none refl address memory)
+        | inr isnt ↦ ap not isnt
+      ]))
+
+  -- of a space that is told in other words
+  pub io_any : (space : Space) (o : Option Region) → space ≡ Io → IsAddress space a → IsHolding s slot IO_BASE space a o → Answer space o
+  io_any space o is address holding =
+      subst (λ sp. Answer sp o) (sym is) (io_first o (subst (λ sp. IsAddress sp a) is address) (subst (λ sp. IsHolding s slot IO_BASE sp a o) is holding))
+
+  memory_some : (o : Option Region) → is_some o ≡ true → IsHolding s slot MEMORY_BASE Memory a o → Answer Memory o
+  memory_some None some holding = absurd (false≢true some)
+  memory_some (Some w) some holding = memory_first w holding
+
+  pub memory_any : (space : Space) (o : Option Region) → space ≡ Memory → is_some o ≡ true → IsHolding s slot MEMORY_BASE space a o → Answer space o
+  memory_any space o is some holding = subst (λ sp. Answer sp o) (sym is) (memory_some o some (subst (λ sp. IsHolding s slot MEMORY_BASE sp a o) is holding))
+
+  prefetch_some : (m o : Option Region) → is_some m ≡ false → IsAddress Memory a → IsHolding s slot MEMORY_BASE Memory a m → IsHolding s slot PREFETCHABLE_BASE Memory a o → Answer Memory o
+  prefetch_some None o none address memory holding = prefetch_first o address memory holding
+  prefetch_some (Some w) o none address memory holding = absurd (false≢true (sym none))
+
+  pub prefetch_any : (space : Space) (m o : Option Region) → space ≡ Memory → is_some m ≡ false → IsAddress space a → IsHolding s slot MEMORY_BASE space a m
+      → IsHolding s slot PREFETCHABLE_BASE space a o → Answer space o
+  prefetch_any space m o is none address memory holding =
+      subst (λ sp. Answer sp o) (sym is) (prefetch_some m o none (subst (λ sp. IsAddress sp a) is address) (subst (λ sp. IsHolding s slot MEMORY_BASE sp a m) is memory)
+      (subst (λ sp. IsHolding s slot PREFETCHABLE_BASE sp a o) is holding))

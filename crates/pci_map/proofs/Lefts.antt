@@ -1,0 +1,118 @@
+-- Whether a region is left, by the window that it belongs under.
+use Rattle.std.proofs.Common.{◌≡◌, ℕ, ◌<◌, ◌≤◌, List, [], ◌∷◌, refl, sym, ap, ◌∙◌, subst, arith, Bool, true, false, not}
+use Rattle.std.specs.Prelude.{IsTrue}
+use Rattle.std.specs.List.{Contains}
+use Rattle.std.proofs.Math.Nat.{le_antisymm}
+use Rattle.std.proofs.lemmas.Bool.{false≢true, and_parts, both_ways}
+use Rattle.pci_spec.specs.Slot.{Slot}
+use Rattle.pci_spec.specs.Window.{WindowKind, IoWindow, MemoryWindow, PrefetchWindow}
+use Rattle.pci_spec.specs.System.{System, Function, Space, Io, Memory, Claims, IsAddress, register_of, is_prefetchable_part, window_claims}
+use Rattle.pci_spec.specs.System as system
+use Rattle.pci_spec.specs.Bus.{IsNested, secondary}
+use Rattle.pci_spec.specs.Decoded.{InRange}
+use Rattle.pci_spec.specs.Why as why
+use Rattle.pci_spec.specs.Why.{IsRegionIn}
+use Rattle.pci_spec.proofs.BusRanges.{bus_order_means}
+use Rattle.map_spec.specs.Lines.{is_first_window, BelongsUnder}
+use Rattle.map_spec.specs.Map.{HasWay, IsLeft}
+use Rattle.map_spec.proofs.Having.{window_has_space}
+use Rattle.pci_tree.specs.declared.region.Region.{Region}
+use Rattle.pci_map.specs.Values.{value_of}
+use Rattle.pci_map.specs.Left.{IsBridgeAbove, IsFirst, IsLeftIf}
+
+-- one function with one slot
+abbrev pub AreOne : System → Type 0
+AreOne s = (f g : Function) → Contains s f → Contains s g → f.slot ≡ g.slot → f ≡ g
+
+-- ---- regions of one part
+
+module _ (s : System) (unique : AreOne s) where
+  module _ (p q : why.Region) (ip : IsRegionIn s p) (iq : IsRegionIn s q) (slot : p.slot ≡ q.slot) (part : p.part ≡ q.part) (space : p.space ≡ q.space) where
+    same : ip.f ≡ iq.f
+    same = unique ip.f iq.f ip.listed iq.listed (ip.slot ∙ slot ∙ sym iq.slot)
+
+    inside : (a : ℕ) → InRange p.range a → InRange q.range a
+    inside a has =
+        (iq.claims a).1 (subst (λ f. Claims f q.part q.space a) same (subst (λ x. Claims ip.f x q.space a) part (subst (λ sp. Claims ip.f p.part sp a) space ((ip.claims a).0 has))))
+
+  pub region_same : (p q : why.Region) → IsRegionIn s p → IsRegionIn s q → p.slot ≡ q.slot → p.part ≡ q.part → p.space ≡ q.space → p ≡ q
+  region_same p q ip iq slot part space =
+      let one : ip.f ≡ iq.f = same p q ip iq slot part space in
+      let first_to = inside p q ip iq slot part space p.range.first (omega arith, ip.some) in
+      let last_to = inside p q ip iq slot part space p.range.last (ip.some, omega arith) in
+      let first_back = inside q p iq ip (sym slot) (sym part) (sym space) q.range.first (omega arith, iq.some) in
+      let last_back = inside q p iq ip (sym slot) (sym part) (sym space) q.range.last (iq.some, omega arith) in
+      let register : p.register ≡ q.register = sym ip.register ∙ ap (λ f. register_of f p.part) one ∙ ap (register_of iq.f) part ∙ iq.register in
+      let prefetchable : p.prefetchable ≡ q.prefetchable = sym ip.prefetchable ∙ ap (λ f. is_prefetchable_part f p.part) one ∙ ap (is_prefetchable_part iq.f) part ∙ iq.prefetchable in
+      let first : p.range.first ≡ q.range.first = le_antisymm first_back.0 first_to.0 in
+      let last : p.range.last ≡ q.range.last = le_antisymm last_to.1 last_back.1 in
+      λ i. record { slot = slot i; register = register i; part = part i; space = space i; prefetchable = prefetchable i; range = record { first = first i; last = last i } }
+
+-- a region begins at an address of its space
+pub first_address : (s : System) (space : Space) (q : Region) → IsRegionIn s (value_of space q) → IsAddress space q.first
+first_address s space q of = ((of.claims q.first).0 (omega arith, of.some)).address
+
+-- ---- first windows
+
+kinds : (space : Space) (k l : WindowKind) (a : ℕ) (b : Function) → IsTrue (is_first_window space k a b) → IsTrue (is_first_window space l a b) → k ≡ l
+kinds Io IoWindow IoWindow a b x y = refl
+kinds Io IoWindow MemoryWindow a b x y = absurd (false≢true y)
+kinds Io IoWindow PrefetchWindow a b x y = absurd (false≢true y)
+kinds Io MemoryWindow l a b x y = absurd (false≢true x)
+kinds Io PrefetchWindow l a b x y = absurd (false≢true x)
+kinds Memory IoWindow l a b x y = absurd (false≢true x)
+kinds Memory MemoryWindow IoWindow a b x y = absurd (false≢true y)
+kinds Memory MemoryWindow MemoryWindow a b x y = refl
+kinds Memory MemoryWindow PrefetchWindow a b x y =
+    absurd (both_ways (not (window_claims b MemoryWindow a)) (ap not x) (and_parts (window_claims b PrefetchWindow a) (not (window_claims b MemoryWindow a)) y).1)
+kinds Memory PrefetchWindow IoWindow a b x y = absurd (false≢true y)
+kinds Memory PrefetchWindow MemoryWindow a b x y =
+    absurd (both_ways (not (window_claims b MemoryWindow a)) (ap not y) (and_parts (window_claims b PrefetchWindow a) (not (window_claims b MemoryWindow a)) x).1)
+kinds Memory PrefetchWindow PrefetchWindow a b x y = refl
+
+module _ (roots : List ℕ) (s : System) (space : Space) (q : Region) (x : Slot) (above : IsBridgeAbove roots s q.slot.bus x) where
+  abbrev v : why.Region
+  v = value_of space q
+
+  -- the bridge that a region belongs under
+  the_bridge : AreOne s → (p : why.Region) (under : BelongsUnder s p v) → under.b ≡ above.b
+  the_bridge unique p under = unique under.b above.b under.listed above.leads.0 (above.only under.b (under.listed, under.bridge, under.leads) ∙ sym above.named)
+
+  pub left_none : AreOne s → ((kind : WindowKind) → IsTrue (is_first_window space kind q.first above.b) → ⊥) → IsLeft roots s v
+  left_none unique none [] way = above.off_root way
+  left_none unique none (p ∷ windows) (is, under, way) = none under.kind (subst (λ f. IsTrue (is_first_window space under.kind q.first f)) (the_bridge unique p under) under.first)
+
+  module _ (w : Region) (first : IsFirst s space above.b q.first w) where
+    the_window : AreOne s → (p : why.Region) → IsRegionIn s p → IsRegionIn s v → BelongsUnder s p v → p ≡ value_of space w
+    the_window unique p is of under =
+        let bridge = the_bridge unique p under in
+        let kind : under.kind ≡ first.kind = kinds space under.kind first.kind q.first above.b (subst (λ f. IsTrue (is_first_window space under.kind q.first f)) bridge under.first) first.first in
+        region_same s unique p (value_of space w) is first.is (sym under.slot ∙ ap (λ (f : Function). f.slot) bridge ∙ first.slot) (under.window ∙ ap system.Window kind ∙ sym first.window)
+        (window_has_space s p v is under)
+
+    left_below : AreOne s → IsRegionIn s v → IsLeft roots s (value_of space w) → IsLeft roots s v
+    left_below unique of left [] way = above.off_root way
+    left_below unique of left (p ∷ windows) (is, under, way) = left windows (subst (λ z. HasWay roots s z windows) (the_window unique p is of under) way)
+
+    under_it : BelongsUnder s (value_of space w) v
+    under_it = record {
+      b = above.b;
+      listed = above.leads.0;
+      bridge = above.leads.1;
+      slot = first.slot;
+      leads = above.leads.2;
+      kind = first.kind;
+      window = first.window;
+      first = first.first;
+    }
+
+    pub as_window : AreOne s → IsRegionIn s v → (left : Bool) → IsLeftIf roots s (value_of space w) left → IsLeftIf roots s v left
+    as_window unique of true left = left_below unique of left
+    as_window unique of false (windows, way) = (value_of space w ∷ windows, (first.is, under_it, way))
+
+    -- a bridge stands on a lower bus
+    pub not_above : IsNested roots s → q.slot.bus ≤ w.slot.bus → ⊥
+    not_above nested low =
+        let rises : above.b.slot.bus < secondary above.b = ((bus_order_means above.b).0 (nested.order above.b above.leads.0 above.leads.1)).1 in
+        let bus : above.b.slot.bus ≡ w.slot.bus = ap (λ (y : Slot). y.bus) first.slot in
+        let leads = above.leads.2 in omega (arith, rises, bus, leads, low)
