@@ -14,3 +14,4 @@ pub mod Counts
 pub mod Ups
 pub mod Firsts
 pub mod Lefts
+pub mod Tolds

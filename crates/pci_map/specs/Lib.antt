@@ -5,3 +5,4 @@ pub mod Walk
 pub mod Off
 pub mod Buses
 pub mod Left
+pub mod Unreached

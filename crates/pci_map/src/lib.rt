@@ -13,4 +13,5 @@ pub mod inside;
 pub mod left;
 pub mod line;
 pub mod off;
+pub mod unreached;
 pub mod walk;

@@ -1,0 +1,281 @@
+-- The lines of regions that are left.
+use Rattle.std.proofs.Common.{◌≡◌, ℕ, suc, ◌<◌, ◌≤◌, ◌+◌, zero, List, [], ◌∷◌, ◌++◌, map, take, length, get_or, refl, sym, ap, ◌∙◌, subst, inl, inr, ◌⊎◌, arith, codes, append-nil, Bool, true, false}
+use Rattle.std.specs.List.{Contains, flat_map}
+use Rattle.std.proofs.lemmas.Grind.{flat_map-append}
+use Rattle.std.proofs.lemmas.Bool.{false≢true, cases_lt}
+use Rattle.std.proofs.lemmas.List.{append_assoc, map_more, take_all}
+use Rattle.std.proofs.lemmas.List.Elements.{Contains-append_cases, Contains-append_left, Contains-append_right, Contains-get_or}
+use Rattle.pci_spec.specs.Slot.{Slot, slot_number}
+use Rattle.pci_spec.specs.Text.{hex_byte, slot_text}
+use Rattle.pci_spec.specs.System.{System, Function, Space, Io, Memory, register_of, has_part, space_of}
+use Rattle.pci_spec.specs.System as system
+use Rattle.pci_spec.specs.Bus.{IsNested}
+use Rattle.pci_spec.specs.Decoded.{HasRecords}
+use Rattle.pci_spec.specs.Decoded as decoded
+use Rattle.pci_spec.specs.Why.{Region, IsRegionIn}
+use Rattle.pci_spec.proofs.Members.{in_nil, in_head, in_cons_cases, IsMade, in_map_to, in_map_from, pairs_nil, pairs_cons, pairs_append, pairs_head, pairs_tail}
+use Rattle.pci_spec.proofs.Regions.{part_same, register_of-lt}
+use Rattle.map_spec.specs.Lines.{region_number}
+use Rattle.map_spec.specs.Map.{HasWay, IsLeft}
+use Rattle.map_spec.specs.MapText.{part_name, region_line, unreached_text}
+use Rattle.pci_function.specs.declared.record.Record.{Record}
+use Rattle.pci_function.specs.Values.{record_value}
+use Rattle.pci_tree.specs.Outline.{Tree, RiseBySlot}
+use Rattle.pci_tree.specs.Ways.{slots_of}
+use Rattle.pci_tree.proofs.Lifting.{Has, record_for, same_slot_of, one_function}
+use Rattle.pci_tree.specs.declared.region.Region as outline
+use Rattle.pci_why.specs.Found.{IsFoundIn, NoneClaims}
+use Rattle.pci_map.specs.Values.{value_of}
+use Rattle.pci_map.specs.Off.{section}
+use Rattle.pci_map.specs.Left.{IsTreeOf}
+use Rattle.pci_map.specs.Unreached.{IsAt, IsAtRegister, IsBelow, IsOf, IsAmong, AreLeftTold, AreUnreachedTold}
+use Rattle.pci_map.proofs.Firsts.{found_region}
+use Rattle.pci_map.proofs.Lefts.{AreOne, region_same}
+use Rattle.pci_map.proofs.Offs.{IsSet, extent_set, section_of}
+
+-- the systems that have an outline's records
+pub tree_of : (t : Tree) (s : System) (rs : List Record) → map record_value rs ≡ t.records → RiseBySlot rs → IsNested t.roots s → HasRecords s t.records → IsTreeOf t s
+tree_of t s rs same rising nested has = record {
+  records = has;
+  nested = nested;
+  one = λ f g in_f in_g e. one_function s rs f g (subst (λ (xs : List decoded.Record). HasRecords s xs) (sym same) has) rising in_f in_g e;
+}
+
+-- ---- a register has one region
+
+there_is : (s : System) (q : Region) (is : IsRegionIn s q) → system.Claims is.f q.part q.space q.range.first
+there_is s q is = (is.claims q.range.first).0 (omega arith, is.some)
+
+pub one_at : (s : System) → AreOne s → (p q : Region) → IsRegionIn s p → IsRegionIn s q → p.slot ≡ q.slot → p.register ≡ q.register → p ≡ q
+one_at s unique p q ip iq slot register =
+    let same : ip.f ≡ iq.f = unique ip.f iq.f ip.listed iq.listed (ip.slot ∙ slot ∙ sym iq.slot) in
+    let p_there = there_is s p ip in
+    let q_there = there_is s q iq in
+    let registers : register_of iq.f p.part ≡ register_of iq.f q.part = ap (λ f. register_of f p.part) (sym same) ∙ ip.register ∙ register ∙ sym iq.register in
+    let part : p.part ≡ q.part = part_same iq.f p.part q.part (subst (λ f. has_part f p.part ≡ true) same p_there.there) q_there.there registers in
+    let space : p.space ≡ q.space = sym p_there.maps ∙ ap (λ f. space_of f p.part) same ∙ ap (space_of iq.f) part ∙ q_there.maps in
+    region_same s unique p q ip iq slot part space
+
+pub register_low : (s : System) (q : Region) → IsRegionIn s q → q.register < 64
+register_low s q is = subst (λ n. n < 64) is.register (register_of-lt is.f q.part (there_is s q is).there)
+
+-- a record stands behind those before it
+before : (rs : List Record) (k : ℕ) (r x : Record) → RiseBySlot rs → k < length rs → get_or rs k r ≡ r → Contains (take k rs) x → slot_number x.slot < slot_number r.slot
+before [] k r x rise lt at has = absurd (let no : ⊥ = omega (arith, lt) in no)
+before (y ∷ rs) zero r x rise lt at has = absurd (in_nil x has)
+before (y ∷ rs) (suc k) r x rise lt at has = elim (in_cons_cases y (take k rs) x has) [
+  | inl here ↦ subst (λ (z : Record). slot_number z.slot < slot_number r.slot) here
+      (pairs_head (λ (v w : Record). slot_number v.slot < slot_number w.slot) y rs r rise (subst (λ z. Contains rs z) at (Contains-get_or rs k r (omega (arith, lt)))))
+  | inr later ↦ before rs k r x (pairs_tail (λ (v w : Record). slot_number v.slot < slot_number w.slot) y rs rise) (omega (arith, lt)) at later
+]
+
+abbrev IsLess : Region → Region → Type 0
+IsLess p q = region_number p < region_number q
+
+module _ (roots : List ℕ) (s : System) where
+  pub told_none : (P : Region → Type 0) (text : List ℕ) → ((q : Region) → IsRegionIn s q → IsLeft roots s q → P q → ⊥) → AreLeftTold roots s P text text
+  told_none P text none = record {
+    told = [];
+    regions = λ q has. absurd (in_nil q has);
+    left = λ q has. absurd (in_nil q has);
+    among = λ q has. absurd (in_nil q has);
+    complete = λ q is left p. absurd (none q is left p);
+    rising = pairs_nil IsLess;
+    text = sym (append-nil text);
+  }
+
+  in_one : (P : Region → Type 0) (q p : Region) → P q → Contains (q ∷ []) p → P p
+  in_one P q p holds has = elim (in_cons_cases q [] p has) [
+    | inl here ↦ subst P here holds
+    | inr none ↦ absurd (in_nil p none)
+  ]
+
+  told_one : (P : Region → Type 0) (q : Region) (old new : List ℕ) → IsRegionIn s q → IsLeft roots s q → P q → ((p : Region) → IsRegionIn s p → P p → p ≡ q) → new ≡ old ++ region_line 1 q
+      → AreLeftTold roots s P old new
+  told_one P q old new is left holds only text = record {
+    told = q ∷ [];
+    regions = λ p has. in_one (IsRegionIn s) q p is has;
+    left = λ p has. in_one (IsLeft roots s) q p left has;
+    among = λ p has. in_one P q p holds has;
+    complete = λ p of left_p holds_p. subst (λ z. Contains (q ∷ []) z) (sym (only p of holds_p)) (in_head q []);
+    rising = pairs_cons IsLess q [] (λ p has. absurd (in_nil p has)) (pairs_nil IsLess);
+    text = text ∙ ap (λ t. old ++ t) (sym (append-nil (region_line 1 q)));
+  }
+
+  -- lines of some, and behind them those of others
+  pub told_join : (P Q R : Region → Type 0) (old mid new : List ℕ) → AreLeftTold roots s P old mid → AreLeftTold roots s Q mid new
+      → ((p q : Region) → IsRegionIn s p → IsRegionIn s q → P p → Q q → region_number p < region_number q)
+      → ((q : Region) → P q → R q) → ((q : Region) → Q q → R q) → ((q : Region) → IsRegionIn s q → R q → P q ⊎ Q q) → AreLeftTold roots s R old new
+  told_join P Q R old mid new first second order from_p from_q parts = record {
+    told = first.told ++ second.told;
+    regions = λ q has. elim (Contains-append_cases first.told second.told q has) [
+      | inl early ↦ first.regions q early
+      | inr late ↦ second.regions q late
+    ];
+    left = λ q has. elim (Contains-append_cases first.told second.told q has) [
+      | inl early ↦ first.left q early
+      | inr late ↦ second.left q late
+    ];
+    among = λ q has. elim (Contains-append_cases first.told second.told q has) [
+      | inl early ↦ from_p q (first.among q early)
+      | inr late ↦ from_q q (second.among q late)
+    ];
+    complete = λ q is left holds. elim (parts q is holds) [
+      | inl early ↦ Contains-append_left first.told second.told q (first.complete q is left early)
+      | inr late ↦ Contains-append_right first.told second.told q (second.complete q is left late)
+    ];
+    rising = pairs_append IsLess first.told second.told first.rising second.rising
+        (λ p q in_p in_q. order p q (first.regions p in_p) (second.regions q in_q) (first.among p in_p) (second.among q in_q));
+    text = second.text ∙ ap (λ t. t ++ flat_map (region_line 1) second.told) first.text
+        ∙ append_assoc old (flat_map (region_line 1) first.told) (flat_map (region_line 1) second.told)
+        ∙ ap (λ t. old ++ t) (sym (flat_map-append (region_line 1) first.told second.told));
+  }
+
+  pub told_same : (P Q : Region → Type 0) (old new : List ℕ) → AreLeftTold roots s P old new → ((q : Region) → IsRegionIn s q → P q → Q q) → ((q : Region) → IsRegionIn s q → Q q → P q)
+      → AreLeftTold roots s Q old new
+  told_same P Q old new told to from = record {
+    told = told.told;
+    regions = told.regions;
+    left = told.left;
+    among = λ q has. to q (told.regions q has) (told.among q has);
+    complete = λ q is left holds. told.complete q is left (from q is holds);
+    rising = told.rising;
+    text = told.text;
+  }
+
+  -- ---- at a slot and a register
+
+  module _ (unique : AreOne s) (slot : Slot) (reg : ℕ) where
+    pub none_found : (space : Space) (text : List ℕ) → NoneClaims s slot reg space → AreLeftTold roots s (IsAt slot reg space) text text
+    none_found space text none = told_none (IsAt slot reg space) text
+        (λ q is left at. none is.f q.part q.range.first is.listed (is.slot ∙ at.0) (is.register ∙ at.1) (subst (λ sp. system.Claims is.f q.part sp q.range.first) at.2 (there_is s q is)))
+
+    module _ (space : Space) (q : outline.Region) (found : IsFoundIn s slot reg space q) where
+      abbrev v : Region
+      v = value_of space q
+
+      pub is_region : IsRegionIn s v
+      is_region = found_region s slot reg space q found
+
+      same_found : (p : Region) → IsRegionIn s p → IsAt slot reg space p → p ≡ v
+      same_found p is at = one_at s unique p v is is_region (at.0 ∙ sym found.slot_is) (at.1 ∙ sym found.register)
+
+      pub found_reached : (text : List ℕ) → (windows : List Region) × HasWay roots s v windows → AreLeftTold roots s (IsAt slot reg space) text text
+      found_reached text way = told_none (IsAt slot reg space) text (λ p is left at. subst (IsLeft roots s) (same_found p is at) left way.0 way.1)
+
+      pub found_left : (old new : List ℕ) → IsLeft roots s v → new ≡ old ++ region_line 1 v → AreLeftTold roots s (IsAt slot reg space) old new
+      found_left old new left text = told_one (IsAt slot reg space) v old new is_region left (found.slot_is, found.register, refl) same_found text
+
+    cases_space : (space : Space) → (space ≡ Io) ⊎ (space ≡ Memory)
+    cases_space Io = inl refl
+    cases_space Memory = inr refl
+
+    abbrev is_io : Space → Bool
+    is_io Io = true
+    is_io Memory = false
+
+    -- no register has regions of both spaces
+    pub both_spaces : (old mid new : List ℕ) → AreLeftTold roots s (IsAt slot reg Io) old mid → AreLeftTold roots s (IsAt slot reg Memory) mid new → AreLeftTold roots s (IsAtRegister slot reg) old new
+    both_spaces old mid new io memory =
+        told_join (IsAt slot reg Io) (IsAt slot reg Memory) (IsAtRegister slot reg) old mid new io memory
+        (λ p q ip iq at_p at_q. (
+        let same : p ≡ q = one_at s unique p q ip iq (at_p.0 ∙ sym at_q.0) (at_p.1 ∙ sym at_q.1) in
+        absurd (false≢true (sym (ap is_io (sym at_p.2 ∙ ap (λ (z : Region). z.space) same ∙ at_q.2))))))
+        (λ q at. (at.0, at.1)) (λ q at. (at.0, at.1))
+        (λ q is at. elim (cases_space q.space) [
+          | inl io ↦ inl (at.0, at.1, io)
+          | inr memory ↦ inr (at.0, at.1, memory)
+        ])
+
+  -- ---- at the registers of a function
+
+  pub below_none : (slot : Slot) (text : List ℕ) → AreLeftTold roots s (IsBelow slot 0) text text
+  below_none slot text = told_none (IsBelow slot 0) text (λ q is left at. (let low = at.1 in omega (arith, low)))
+
+  below_cases : (q : Region) (slot : Slot) (k : ℕ) → q.slot ≡ slot → q.register < k + 1 → IsBelow slot k q ⊎ IsAtRegister slot k q
+  below_cases q slot k at low = elim (cases_lt q.register k) [
+    | inl less ↦ inl (at, less)
+    | inr not_less ↦ inr (at, omega (arith, low, not_less))
+  ]
+
+  pub one_register : (slot : Slot) (k : ℕ) (old mid new : List ℕ) → AreLeftTold roots s (IsBelow slot k) old mid → AreLeftTold roots s (IsAtRegister slot k) mid new
+      → AreLeftTold roots s (IsBelow slot (k + 1)) old new
+  one_register slot k old mid new first second =
+      told_join (IsBelow slot k) (IsAtRegister slot k) (IsBelow slot (k + 1)) old mid new first second
+      (λ p q ip iq at_p at_q. (
+      let low = at_p.1 in
+      let here = at_q.1 in
+      let slots : slot_number p.slot ≡ slot_number q.slot = ap slot_number (at_p.0 ∙ sym at_q.0) in omega (arith, low, here, slots)))
+      (λ q at. (at.0, let low = at.1 in omega (arith, low))) (λ q at. (at.0, let here = at.1 in omega (arith, here)))
+      (λ q is at. below_cases q slot k at.0 at.1)
+
+  pub all_registers : (slot : Slot) (old new : List ℕ) → AreLeftTold roots s (IsBelow slot 64) old new → AreLeftTold roots s (IsOf slot) old new
+  all_registers slot old new told = told_same (IsBelow slot 64) (IsOf slot) old new told (λ q is at. at.0) (λ q is at. (at, register_low s q is))
+
+  -- ---- of some functions
+
+  pub among_none : (text : List ℕ) → AreLeftTold roots s (IsAmong []) text text
+  among_none text = told_none (IsAmong []) text (λ q is left at. in_nil q.slot at)
+
+  one_function_more : (slots : List Slot) (slot : Slot) (old mid new : List ℕ) → ((x : Slot) → Contains slots x → slot_number x < slot_number slot) → AreLeftTold roots s (IsAmong slots) old mid
+      → AreLeftTold roots s (IsOf slot) mid new → AreLeftTold roots s (IsAmong (slots ++ slot ∷ [])) old new
+  one_function_more slots slot old mid new above first second =
+      told_join (IsAmong slots) (IsOf slot) (IsAmong (slots ++ slot ∷ [])) old mid new first second
+      (λ p q ip iq at_p at_q. (
+      let less = above p.slot at_p in
+      let low = register_low s p ip in
+      let same : slot_number q.slot ≡ slot_number slot = ap slot_number at_q in omega (arith, less, low, same)))
+      (λ q at. Contains-append_left slots (slot ∷ []) q.slot at)
+      (λ q at. Contains-append_right slots (slot ∷ []) q.slot (subst (λ x. Contains (slot ∷ []) x) (sym at) (in_head slot [])))
+      (λ q is at. elim (Contains-append_cases slots (slot ∷ []) q.slot at) [
+        | inl early ↦ inl early
+        | inr late ↦ inr (elim (in_cons_cases slot [] q.slot late) [
+          | inl here ↦ sym here
+          | inr none ↦ absurd (in_nil q.slot none)
+        ])
+      ])
+
+  earlier_slots : (rs : List Record) (k : ℕ) (r : Record) (x : Slot) → RiseBySlot rs → k < length rs → get_or rs k r ≡ r → Contains (slots_of (take k rs)) x → slot_number x < slot_number r.slot
+  earlier_slots rs k r x rise lt at has =
+      let made : IsMade (λ (z : Record). z.slot) (take k rs) x = in_map_to (λ (z : Record). z.slot) (take k rs) x has in
+      subst (λ y. slot_number y < slot_number r.slot) made.is (before rs k r made.from rise lt at made.has)
+
+  pub next_function : (rs : List Record) (k : ℕ) (r : Record) (old mid new : List ℕ) → RiseBySlot rs → k < length rs → get_or rs k r ≡ r → AreLeftTold roots s (IsAmong (slots_of (take k rs))) old mid
+      → AreLeftTold roots s (IsOf r.slot) mid new → AreLeftTold roots s (IsAmong (slots_of (take (k + 1) rs))) old new
+  next_function rs k r old mid new rise lt at first second =
+      subst (λ xs. AreLeftTold roots s (IsAmong xs) old new)
+      (ap (λ (z : Record). slots_of (take k rs) ++ z.slot ∷ []) (sym at) ∙ sym (map_more (λ (z : Record). z.slot) rs k r lt))
+      (one_function_more (slots_of (take k rs)) r.slot old mid new (λ x has. earlier_slots rs k r x rise lt at has) first second)
+
+  pub all_functions : (rs : List Record) (k : ℕ) (old new : List ℕ) → Has s rs → length rs ≤ k → AreLeftTold roots s (IsAmong (slots_of (take k rs))) old new → AreLeftTold roots s (IsRegionIn s) old new
+  all_functions rs k old new has past told =
+      told_same (IsAmong (slots_of (take k rs))) (IsRegionIn s) old new told (λ q is at. is) (λ q is of. (
+      let own = record_for s rs is.f has is.listed in
+      let slot : own.0.slot ≡ q.slot = same_slot_of own.0 is.f own.1.same ∙ is.slot in
+      subst (λ (xs : List Record). Contains (slots_of xs) q.slot) (sym (take_all k rs past)) (subst (λ x. Contains (slots_of rs) x) slot (in_map_from (λ (z : Record). z.slot) rs own.0 own.1.has))))
+
+-- ---- below the heading
+
+abbrev whole : List (List ℕ) → List ℕ
+whole lines = flat_map (λ text. text) lines
+
+lines_of : (qs : List Region) → flat_map (region_line 1) qs ≡ whole (map (region_line 1) qs)
+lines_of [] = refl
+lines_of (q ∷ qs) = ap (λ t. region_line 1 q ++ t) (lines_of qs)
+
+line_set : (qs : List Region) (line : List ℕ) → Contains (map (region_line 1) qs) line → IsSet line
+line_set qs line has =
+    let made : IsMade (region_line 1) qs line = in_map_to (region_line 1) qs line has in
+    subst IsSet made.is (extent_set made.from.space made.from.range (part_name made.from.part made.from.prefetchable ∷ slot_text made.from.slot ∷ hex_byte made.from.register ∷ []))
+
+unreached_section : (qs : List Region) → section (codes "unreached") (flat_map (region_line 1) qs) ≡ unreached_text qs
+unreached_section qs = ap (section (codes "unreached")) (lines_of qs) ∙ section_of (codes "unreached") (map (region_line 1) qs) (line_set qs)
+
+pub told_section : (roots : List ℕ) (s : System) (empty below text old new : List ℕ) → empty ≡ [] → AreLeftTold roots s (IsRegionIn s) empty below → text ≡ below
+    → new ≡ old ++ section (codes "unreached") text → AreUnreachedTold roots s old new
+told_section roots s empty below text old new none told same pushed = record {
+  told = told.told;
+  are = record { regions = told.regions; left = told.left; complete = λ q is left. told.complete q is left is; rising = told.rising };
+  text = pushed ∙ ap (λ t. old ++ section (codes "unreached") t) (same ∙ told.text ∙ ap (λ t. t ++ flat_map (region_line 1) told.told) none)
+      ∙ ap (λ t. old ++ t) (unreached_section told.told);
+}
