@@ -15,3 +15,4 @@ pub mod Ups
 pub mod Firsts
 pub mod Lefts
 pub mod Tolds
+pub mod MapTexts

@@ -1,9 +1,8 @@
-//! The address map of an outline: which enabled region stands where, what of each window is free, and which BARs are
-//! off.
+//! The address map of an outline: which enabled region stands where, what of each window is free, which regions no way
+//! leads to, and which BARs are off.
 //!
 //! ```text
-//! push_roots(alloc, &mut text, &outline)?; // `bus 00 mem`, and below it a line for each region and each free run
-//! push_off(alloc, &mut text, &outline)?; // the BARs that Command does not enable
+//! let text = map_text(alloc, &outline)?; // `bus 00 mem`, and below it a line for each region and each free run
 //! ```
 #![tactic(auto)]
 
@@ -13,5 +12,6 @@ pub mod inside;
 pub mod left;
 pub mod line;
 pub mod off;
+pub mod text;
 pub mod unreached;
 pub mod walk;
