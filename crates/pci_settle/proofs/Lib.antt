@@ -8,3 +8,4 @@ pub mod Around
 pub mod Turns
 pub mod ItemExtents
 pub mod Walks
+pub mod OwnItems

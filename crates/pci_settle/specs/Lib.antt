@@ -3,3 +3,4 @@ pub mod Placings
 pub mod Windows
 pub mod Turns
 pub mod Lists
+pub mod Own

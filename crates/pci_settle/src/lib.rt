@@ -9,6 +9,7 @@
 pub mod extent;
 pub mod item;
 pub mod list;
+pub mod own;
 pub mod placing;
 pub mod spot;
 pub mod window;

@@ -48,7 +48,7 @@ fn laid_next<A: Allocator>(
 }
 
 /// The greater of two addresses.
-fn later(a: u64, b: u64) -> u64
+pub fn later(a: u64, b: u64) -> u64
     ensures { result ≡ max a b }
 {
     if a < b { b } else { a }

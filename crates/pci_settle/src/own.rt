@@ -1,0 +1,214 @@
+//! What of a function is placed in a class where nothing stands: BARs, the new window of a bridge, and a ROM that is on.
+ghost use Rattle.std.specs.Prelude.{◌≡◌, ◌≤◌, ◌<◌, ◌++◌, OnOk, IfOk, IfSome, IsTrue, map};
+ghost use Rattle.std.specs.List.{All};
+ghost use Rattle.plan_spec.specs.Plan.{greatest};
+ghost use Rattle.settle_spec.specs.Lists as lists;
+ghost use Rattle.pci_base.specs.WindowKinds.{kind_value};
+ghost use Rattle.pci_place.specs.Pools.{pools_value};
+ghost use Rattle.pci_settle.specs.Lists.{root_range_value, lists_value};
+ghost use Rattle.pci_settle.specs.Own.{last_of, AreTerms, pools_to, class_of, is_left_bar, is_own_bar, IsSpanned, IsSized, bar_item, bar_items, rom_item, rom_items, window_items, record_items, AreItemsOf};
+
+use crate::extent::Extent;
+use crate::item::{Item, Part};
+use crate::list::{Lists, RootRange};
+use crate::window::later;
+use pci_base::memory::OutOfMemory;
+use pci_base::offset::BASE_ADDRESS;
+use pci_base::range::Range;
+use pci_base::window_kind::WindowKind;
+use pci_function::record::Record;
+use pci_image::bar::{Bar, BarKind};
+use pci_image::rom::Rom;
+use pci_place::above::Above;
+use pci_place::class::class_of_bar;
+use pci_place::pools::Pools;
+use std::alloc::Allocator;
+
+/// What the lists of ranges tell of classes.
+#[derive(Clone, Copy, Debug, PartialEq, Eq)]
+pub struct Terms {
+    /// Whether there is a range of I/O: without one, I/O BARs are left.
+    pub has_io: bool,
+    /// The last address of prefetchable memory; None where it has no range, and prefetchable BARs are memory.
+    pub prefetch_last: Option<u64>,
+}
+
+/// The greatest last address of some ranges.
+fn greatest_last(list: &[RootRange]) -> u64
+    ensures { result ≡ greatest (map (λ r. r.range.last) (map root_range_value list.now)) }
+{
+    let mut last = 0;
+    for one in list {
+        last = later(last, one.range.last);
+    }
+    last
+}
+
+impl Terms {
+    /// The terms of some lists.
+    pub fn of(lists: &Lists) -> Terms
+        ensures { AreTerms (lists_value lists.now) result }
+    {
+        Terms {
+            has_io: !lists.io.is_empty(),
+            prefetch_last: if lists.pref.is_empty() {
+                None
+            } else {
+                Some(greatest_last(lists.pref))
+            },
+        }
+    }
+}
+
+/// Pools of which the prefetchable one ends at an address.
+fn pools_to(last: u64) -> Pools
+    ensures { pools_value result ≡ pools_to last }
+{
+    let none = Range { first: 0, last: 0 };
+    Pools {
+        io: none,
+        mem: none,
+        pref: Range { first: 0, last },
+    }
+}
+
+/// The class of a BAR with these windows above it: without a range of prefetchable memory it is never prefetchable.
+fn class_of(bar: &Bar, above: Above, terms: Terms) -> WindowKind
+    ensures { kind_value result ≡ class_of bar.now above terms.prefetch_last }
+{
+    match terms.prefetch_last {
+        Some(last) => class_of_bar(bar, above, &pools_to(last)),
+        None if bar.kind == BarKind::Io => WindowKind::Io,
+        None => WindowKind::Memory,
+    }
+}
+
+/// Whether an I/O BAR is left: there is no range of I/O, or a bridge above it has no I/O window.
+fn is_left_bar(bar: &Bar, above: Above, terms: Terms) -> bool
+    ensures { result ≡ is_left_bar bar.now above terms.has_io }
+{
+    bar.kind == BarKind::Io && !(terms.has_io && above.io)
+}
+
+/// Whether a BAR is placed in a class.
+fn is_own_bar(bar: &Bar, class: WindowKind, above: Above, terms: Terms) -> bool
+    ensures { result ≡ is_own_bar (kind_value class) above terms bar.now }
+{
+    !is_left_bar(bar, above, terms) && class_of(bar, above, terms) == class
+}
+
+/// The item of a BAR, whose size is its alignment.
+fn bar_item(function: usize, bar: &Bar) -> Item
+    requires { IsSized bar.now }
+    ensures { result ≡ bar_item function bar.now }
+{
+    let size = bar.last - bar.first + 1;
+    Item {
+        function,
+        part: Part::Bar((bar.reg - BASE_ADDRESS) / 4),
+        extent: Extent {
+            size,
+            alignment: size,
+            wide: bar.kind == BarKind::Mem64,
+        },
+    }
+}
+
+/// The item of a ROM, which is never above 4 GB.
+fn rom_item(function: usize, rom: &Rom) -> Item
+    requires { IsSpanned rom.now.first rom.now.last }
+    ensures { result ≡ rom_item function rom.now }
+{
+    let size = rom.last - rom.first + 1;
+    Item {
+        function,
+        part: Part::Rom,
+        extent: Extent {
+            size,
+            alignment: size,
+            wide: false,
+        },
+    }
+}
+
+/// Adds the BARs of a class.
+fn add_bars<A: Allocator>(
+    items: &mut Vec<Item, A>,
+    function: usize,
+    bars: &[Bar],
+    class: WindowKind,
+    above: Above,
+    terms: Terms,
+) -> Result<(), OutOfMemory>
+    requires { All IsSized bars.now }
+    ensures { OnOk result (items.new.items
+        ≡ items.old.items ++ bar_items function (kind_value class) above terms bars.now) }
+{
+    for bar in bars {
+        if is_own_bar(bar, class, above, terms) {
+            items.push(bar_item(function, bar))?;
+        }
+    }
+    Ok(())
+}
+
+/// Adds a ROM that is on, if the class is that of memory.
+fn add_rom<A: Allocator>(
+    items: &mut Vec<Item, A>,
+    function: usize,
+    rom: Option<Rom>,
+    class: WindowKind,
+) -> Result<(), OutOfMemory>
+    requires { IfSome rom (λ rom. IsSpanned rom.first rom.last) }
+    ensures { OnOk result
+        (items.new.items ≡ items.old.items ++ rom_items function (kind_value class) rom) }
+{
+    if let Some(rom) = rom {
+        if rom.on && class == WindowKind::Memory {
+            items.push(rom_item(function, &rom))?;
+        }
+    }
+    Ok(())
+}
+
+/// Adds the new window of a bridge, where it has one.
+fn add_window<A: Allocator>(
+    items: &mut Vec<Item, A>,
+    function: usize,
+    window: Option<Extent>,
+) -> Result<(), OutOfMemory>
+    ensures { OnOk result
+        (items.new.items ≡ items.old.items ++ window_items function window) }
+{
+    if let Some(extent) = window {
+        items.push(Item {
+            function,
+            part: Part::Window,
+            extent,
+        })?;
+    }
+    Ok(())
+}
+
+/// Adds the items of a function in a class where nothing stands, in the order of their registers: BARs but those of I/O
+/// that are left, the new window that it has as a bridge, and a ROM that is on.
+pub fn add_items<A: Allocator>(
+    items: &mut Vec<Item, A>,
+    function: usize,
+    record: &Record,
+    class: WindowKind,
+    above: Above,
+    terms: Terms,
+    window: Option<Extent>,
+) -> Result<(), OutOfMemory>
+    requires bars { All IsSized «record».now.bars.items }
+    requires rom { IfSome «record».now.rom (λ rom. IsSpanned rom.first rom.last) }
+    ensures items { OnOk result (items.new.items ≡ items.old.items
+        ++ record_items function (kind_value class) above terms window «record».now) }
+    // they are those of the definitions, whatever system the record is of
+    ensures exact { AreItemsOf function (kind_value class) above terms window «record».now }
+{
+    add_bars(items, function, record.bars.as_slice(), class, above, terms)?;
+    add_window(items, function, window)?;
+    add_rom(items, function, record.rom, class)
+}
