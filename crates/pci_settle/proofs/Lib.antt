@@ -9,3 +9,5 @@ pub mod Turns
 pub mod ItemExtents
 pub mod Walks
 pub mod OwnItems
+pub mod Sized
+pub mod OnBus

@@ -4,3 +4,4 @@ pub mod Windows
 pub mod Turns
 pub mod Lists
 pub mod Own
+pub mod Buses

@@ -6,6 +6,7 @@
 //! In the comments "Bridge 1.2" is the PCI-to-PCI Bridge Architecture Specification 1.2.
 #![tactic(auto)]
 
+pub mod bus;
 pub mod extent;
 pub mod item;
 pub mod list;

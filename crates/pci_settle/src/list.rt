@@ -64,7 +64,7 @@ pub fn ranges_of<A: Allocator>(
 }
 
 /// Whether a bus is a root.
-fn is_root(roots: &Roots, bus: u8) -> bool
+pub fn is_root(roots: &Roots, bus: u8) -> bool
     ensures { result ≡ is_root (buses_of roots.now) bus }
 {
     roots.has(bus)

@@ -1,0 +1,40 @@
+-- What records have to place on a bus in a class where nothing stands.
+use Rattle.std.specs.Prelude.{◌≡◌, ℕ, if◌then◌else◌, IsTrue, List, [], map, Option, None, Some, slice_index_or}
+use Rattle.std.specs.List.{Contains, flat_map}
+use Rattle.std.specs.List.Sorted.{IsPermutation}
+use Rattle.pci_spec.specs.Window.{WindowKind}
+use Rattle.pci_spec.specs.System.{System, Function, is_bridge}
+use Rattle.pci_spec.specs.Bus.{secondary, are_siblings}
+use Rattle.settle_spec.specs.FirstPlace.{Extent as ExtentValue}
+use Rattle.settle_spec.specs.Lists.{Request}
+use Rattle.settle_spec.specs.Items.{Item as ItemValue, has_of, items_of, nothing}
+use Rattle.pci_function.specs.declared.record.Bridge.{Bridge}
+use Rattle.pci_settle.specs.declared.extent.Extent.{Extent}
+use Rattle.pci_settle.specs.declared.item.Item.{Item}
+use Rattle.pci_settle.specs.declared.own.Terms.{Terms}
+use Rattle.pci_settle.specs.Own.{AreTerms, IsWindowOf, item_value}
+
+abbrev pub window_behind : List (Option Extent) → Option Bridge → Option Extent
+window_behind windows None = None
+window_behind windows (Some b) = slice_index_or windows b.secondary None
+
+-- Nothing stands, and the table has the new windows of the bridges of a bus, by the bus behind each.
+pub record AreBehind (q : Request) (s : System) (c : WindowKind) (extent : Function → ExtentValue) (bus : ℕ)
+    (t : Terms) (windows : List (Option Extent)) : Type 0 where
+  pub anew : IsTrue q.anew
+  pub terms : AreTerms q.lists t
+  pub each : (f : Function) → Contains s f → IsTrue (are_siblings q.roots bus f.slot.bus)
+      → IsTrue (is_bridge f)
+      → IsWindowOf (has_of q s c f) (extent f) (slice_index_or windows (secondary f) None)
+
+-- the items of a function, where it stands on the bus
+abbrev pub items_beside : Request → System → WindowKind → (Function → ExtentValue) → ℕ → Function → List ItemValue
+items_beside q s c extent bus f =
+    if are_siblings q.roots bus f.slot.bus then items_of q s c nothing extent f else []
+
+-- then these are the items of the bus
+abbrev pub AreOnBus : List ℕ → System → WindowKind → Terms → List (Option Extent) → ℕ → List Item → Type 0
+AreOnBus roots s c t windows bus items =
+    (q : Request) (extent : Function → ExtentValue) → q.roots ≡ roots
+    → AreBehind q s c extent bus t windows
+    → IsPermutation (map (item_value s c) items) (flat_map (items_beside q s c extent bus) s)
