@@ -6,3 +6,5 @@ pub mod Outsides
 pub mod Bridging
 pub mod Linking
 pub mod Missing
+pub mod Walking
+pub mod Reaching

@@ -33,7 +33,7 @@ unsent_of given space root sent r (Some a) is least = record {
 }
 
 -- the root that the bridges of a path lead from
-root_of : (s : System) (from : ℕ) (bridges : List Function) (to : ℕ) (path : List Slot) (root : ℕ) → Leads s from bridges to → map (λ f. f.slot) bridges ≡ path → IsRootOf path to root
+pub root_of : (s : System) (from : ℕ) (bridges : List Function) (to : ℕ) (path : List Slot) (root : ℕ) → Leads s from bridges to → map (λ f. f.slot) bridges ≡ path → IsRootOf path to root
     → from ≡ root
 root_of s from [] to path root leads e is = leads ∙ is.none (ap length (sym e))
 root_of s from (b ∷ bridges) to path root (has, bridge, on, rest) e is =

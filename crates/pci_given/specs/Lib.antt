@@ -6,3 +6,4 @@ pub mod Claim
 pub mod Outside
 pub mod Passed
 pub mod Missed
+pub mod Reached

@@ -9,4 +9,5 @@ pub mod legacy;
 pub mod missed;
 pub mod outside;
 pub mod passed;
+pub mod reach;
 pub mod sent;
