@@ -8,3 +8,5 @@ pub mod Linking
 pub mod Missing
 pub mod Walking
 pub mod Reaching
+pub mod Stopping
+pub mod Unreaching

@@ -40,7 +40,7 @@ root_of s from (b ∷ bridges) to path root (has, bridge, on, rest) e is =
     let first : IsRootOf (b.slot ∷ map (λ (f : Function). f.slot) bridges) to root = subst (λ p. IsRootOf p to root) (sym e) is in
     sym on ∙ first.some (omega arith) b.slot
 
-abbrev range : Region → Range
+abbrev pub range : Region → Range
 range r = record { first = r.first; last = r.last }
 
 -- where no function has its slot

@@ -7,3 +7,4 @@ pub mod Outside
 pub mod Passed
 pub mod Missed
 pub mod Reached
+pub mod Stopped

@@ -11,3 +11,4 @@ pub mod outside;
 pub mod passed;
 pub mod reach;
 pub mod sent;
+pub mod unreached;

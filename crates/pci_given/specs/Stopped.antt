@@ -1,0 +1,51 @@
+-- The first bridge on the way to a region that doesn't pass all that is sent of it.
+use Rattle.std.specs.Prelude.{◌≡◌, ℕ, ◌<◌, false, List, length, take}
+use Rattle.std.specs.List.{All, HoldsAt}
+use Rattle.pci_spec.specs.Slot.{Slot}
+use Rattle.pci_spec.specs.Window.{WindowKind}
+use Rattle.pci_spec.specs.System.{System, Space, window_space}
+use Rattle.pci_base.specs.declared.range.Range.{Range}
+use Rattle.pci_function.specs.declared.record.Record.{Record}
+use Rattle.pci_tree.specs.declared.region.Region.{Region}
+use Rattle.pci_tree.specs.Outline.{Tree}
+use Rattle.pci_tree.specs.Ranges.{Holds}
+use Rattle.pci_tree.specs.Regions.{IsRegionOn}
+use Rattle.pci_check.specs.Trees.{HasTree}
+use Rattle.pci_check.specs.Stops.{is_of_window}
+use Rattle.given_spec.specs.Given.{Given}
+use Rattle.given_spec.specs.Fault.{IsUnreached}
+use Rattle.given_spec.specs.AllFaults.{IsUnreachedOf}
+use Rattle.pci_given.specs.Outside.{IsSent}
+use Rattle.pci_given.specs.Reached.{PassesAt}
+
+-- the bridge whose record has the slot passes each address of a range that is sent to a root
+abbrev pub PassesSent : Given → WindowKind → List Record → ℕ → Range → Slot → Type 0
+PassesSent given kind records root range slot =
+    (a : ℕ) → Holds range a → IsSent given (window_space kind) root a
+    → PassesAt given kind records a slot
+
+-- the first slot of a path whose bridge doesn't, and the least address that it doesn't pass
+pub record IsFirstStop (given : Given) (kind : WindowKind) (records : List Record) (root : ℕ)
+    (range : Range) (path : List Slot) (bridge : Slot) (a : ℕ) : Type 0 where
+  pub place : ℕ
+  pub within : place < length path
+  pub at : HoldsAt (λ slot. slot ≡ bridge) path place
+  pub before : All (PassesSent given kind records root range) (take place path)
+  pub held : Holds range a
+  pub sent : IsSent given (window_space kind) root a
+  pub stopped : PassesAt given kind records a bridge → ⊥
+  pub least : (b : ℕ) → b < a → Holds range b → IsSent given (window_space kind) root b
+      → PassesAt given kind records b bridge
+
+-- in each system with the tree that has the region, a BAR or a ROM, it has no fault 60
+abbrev pub IsNeverUnreached : Given → Tree → Space → Region → Type 0
+IsNeverUnreached given t space r =
+    (s : System) → HasTree t s → (bus : ℕ) → IsRegionOn s bus space r → is_of_window r.part ≡ false
+    → (sp : Space) (a : ℕ) (bridge : Slot)
+    → IsUnreached given t.roots s r.slot r.reg sp a bridge → ⊥
+
+-- in each such system a list of all faults names the region with this address and this bridge
+abbrev pub IsUnreachedLine : Given → Tree → Space → Region → ℕ → Slot → Type 0
+IsUnreachedLine given t space r a bridge =
+    (s : System) → HasTree t s → (bus : ℕ) → IsRegionOn s bus space r → is_of_window r.part ≡ false
+    → IsUnreachedOf given t.roots s r.slot r.reg space a bridge

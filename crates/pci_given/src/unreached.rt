@@ -1,0 +1,97 @@
+//! Unreached regions: a BAR or a ROM that is enabled, and has an address that the host sends to the root above it and
+//! that a bridge on the way from there doesn't pass.
+ghost use Rattle.std.specs.Prelude.{MatchOption, IfOk};
+ghost use Rattle.std.specs.List.{All};
+ghost use Rattle.pci_base.specs.Space.{space_of};
+ghost use Rattle.pci_base.specs.WindowKinds.{kind_value};
+ghost use Rattle.pci_tree.specs.Outline.{RiseBySlot};
+ghost use Rattle.pci_tree.specs.Reaches.{HasSpans};
+ghost use Rattle.pci_given.specs.Values.{given_value};
+ghost use Rattle.pci_given.specs.Stopped.{PassesSent, IsFirstStop, IsNeverUnreached, IsUnreachedLine};
+
+use super::given::Given;
+use super::missed::least_missed;
+use super::outside::root_above;
+use super::passed::passed_with;
+use super::sent::sent_to;
+use pci_base::memory::OutOfMemory;
+use pci_base::range::Range;
+use pci_base::slot::Slot;
+use pci_base::space::Space;
+use pci_base::window_kind::WindowKind;
+use pci_function::record::Record;
+use pci_tree::outline::Outline;
+use pci_tree::region::Region;
+use pci_why::find::record_at;
+use std::alloc::Allocator;
+
+/// A bridge, and an address that it doesn't pass.
+#[derive(Clone, Copy, Debug, PartialEq, Eq)]
+pub struct Stop {
+    pub bridge: Slot,
+    pub address: u64,
+}
+
+/// The first bridge of a path that doesn't pass all that the host sends of a range to the root, and the least address that
+/// it doesn't pass.
+fn first_stop<A: Allocator + Copy>(
+    alloc: A,
+    given: &Given<'_>,
+    records: &[Record],
+    path: &[Slot],
+    root: u8,
+    range: Range,
+    kind: WindowKind,
+) -> Result<Option<Stop>, OutOfMemory>
+    // found by halving
+    requires rising { RiseBySlot records.now }
+    // of an empty window no address could be told
+    requires spans { All HasSpans records.now }
+    ensures { IfOk result (λ o. MatchOption o
+        (All (PassesSent (given_value given.now) (kind_value kind) records.now root range) path.now)
+        (λ stop. IsFirstStop (given_value given.now) (kind_value kind) records.now root range path.now
+        stop.bridge stop.address)) }
+{
+    let sent = sent_to(alloc, given, Space::of(kind), root)?;
+    for slot in path {
+        if let Some(bridge) = record_at(records, *slot) {
+            let passed = passed_with(alloc, given, bridge, kind)?;
+            if let Some(address) = least_missed(range, &sent, &passed) {
+                return Ok(Some(Stop {
+                    bridge: *slot,
+                    address,
+                }));
+            }
+        }
+    }
+    Ok(None)
+}
+
+/// What a fault 60 of a BAR or a ROM names: the first bridge on the way to it that doesn't pass all that the host sends of
+/// it, and the least address that this bridge doesn't pass. None where there is no such bridge.
+pub fn first_stop_of<A: Allocator + Copy>(
+    alloc: A,
+    given: &Given<'_>,
+    outline: &Outline<A>,
+    region: &Region,
+    space: Space,
+) -> Result<Option<Stop>, OutOfMemory>
+    ensures { IfOk result (λ o. MatchOption o
+        (IsNeverUnreached (given_value given.now) outline.now (space_of space) region.now)
+        (λ stop. IsUnreachedLine (given_value given.now) outline.now (space_of space) region.now
+        stop.address stop.bridge)) }
+{
+    match outline.path(region.slot) {
+        None => Ok(None),
+        Some(bridges) => {
+            let path = bridges.as_slice();
+            let root = root_above(path, region.slot.bus());
+            let range = Range {
+                first: region.first,
+                last: region.last,
+            };
+            let kind = space.kind(region.prefetch);
+            first_stop(alloc, given, outline.records(), path, root, range, kind)
+        }
+    }
+}
