@@ -10,3 +10,4 @@ pub mod Walking
 pub mod Reaching
 pub mod Stopping
 pub mod Unreaching
+pub mod Clashing

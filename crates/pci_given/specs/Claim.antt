@@ -1,10 +1,68 @@
--- What two lists of ranges have in common.
-use Rattle.std.specs.Prelude.{ℕ, ◌<◌, List}
+-- Claims of a bus, and what two lists of ranges have in common.
+use Rattle.std.specs.Prelude.{◌≡◌, ℕ, ◌<◌, ◌≤◌, ◌↔◌, List}
+use Rattle.pci_spec.specs.Slot.{Slot}
+use Rattle.pci_spec.specs.System.{System, Space, IsSystem}
 use Rattle.pci_base.specs.declared.range.Range.{Range}
-use Rattle.pci_tree.specs.Ranges.{Covers}
+use Rattle.pci_tree.specs.declared.region.Region.{Region}
+use Rattle.pci_tree.specs.Ranges.{Covers, IsCanonical}
+use Rattle.pci_tree.specs.Regions.{IsRegionOn}
+use Rattle.given_spec.specs.Given.{Given}
+use Rattle.given_spec.specs.Claims.{Gets, ClaimsOnBus}
+use Rattle.given_spec.specs.Fault.{IsClash}
+use Rattle.pci_given.specs.Reached.{IsAccessReach}
 
 -- the least address that both lists have
 pub record IsLeastCommon (rs ss : List Range) (a : ℕ) : Type 0 where
   pub first : Covers rs a
   pub second : Covers ss a
   pub least : (b : ℕ) → b < a → Covers rs b → Covers ss b → ⊥
+
+-- a region of a bus, named by its slot and register, and addresses that it answers there
+pub record Claimed : Type 0 where
+  pub slot : Slot
+  pub register : ℕ
+  pub pieces : List Range
+
+-- they are just those of the space that it claims, and at which an access gets to the bus
+abbrev pub IsClaimOn : Given → List ℕ → System → ℕ → Space → Claimed → Type 0
+IsClaimOn given roots s bus space c =
+    (a : ℕ) → Covers c.pieces a
+    ↔ (Gets given roots s space a bus × ClaimsOnBus given s bus space a c.slot c.register)
+
+-- the two clash at the address
+abbrev pub IsClashOfBoth : Given → List ℕ → System → ℕ → Space → Claimed → Claimed → ℕ → Type 0
+IsClashOfBoth given roots s bus space c d a =
+    IsClash given roots s bus space a c.slot c.register d.slot d.register
+
+-- on no bus where these are their claims they clash
+abbrev pub HaveNoClash : Claimed → Claimed → Type 0
+HaveNoClash c d =
+    (given : Given) (roots : List ℕ) (s : System) (bus : ℕ) (space : Space)
+    → IsClaimOn given roots s bus space c → IsClaimOn given roots s bus space d
+    → (a : ℕ) → IsClashOfBoth given roots s bus space c d a → ⊥
+
+-- they clash at the address, and at no lower one
+pub record IsLeastClash (given : Given) (roots : List ℕ) (s : System) (bus : ℕ) (space : Space)
+    (c d : Claimed) (a : ℕ) : Type 0 where
+  pub there : IsClashOfBoth given roots s bus space c d a
+  pub least : (b : ℕ) → IsClashOfBoth given roots s bus space c d b → a ≤ b
+
+-- on each bus where these are their claims
+abbrev pub IsClashFrom : Claimed → Claimed → ℕ → Type 0
+IsClashFrom c d a =
+    (given : Given) (roots : List ℕ) (s : System) (bus : ℕ) (space : Space)
+    → IsClaimOn given roots s bus space c → IsClaimOn given roots s bus space d
+    → IsLeastClash given roots s bus space c d a
+
+-- the addresses of a region
+abbrev pub IsOwnOf : Region → List Range → Type 0
+IsOwnOf r out =
+    IsCanonical out × ((a : ℕ) → Covers out a ↔ ((r.first ≤ a) × (a ≤ r.last)))
+
+-- the claim of a region on each bus to which those addresses get
+pub record IsClaimOfRegion (r : Region) (reach : List Range) (c : Claimed) : Type 0 where
+  pub slot : c.slot ≡ r.slot
+  pub register : c.register ≡ r.reg
+  pub exact : (given : Given) (roots : List ℕ) (s : System) (bus : ℕ) (space : Space) → IsSystem s
+      → IsRegionOn s bus space r → IsAccessReach given roots s space bus reach
+      → IsClaimOn given roots s bus space c

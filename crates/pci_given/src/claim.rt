@@ -1,10 +1,70 @@
 //! Claims of a bus: what one region answers, and the least address that two of them answer.
-ghost use Rattle.std.specs.Prelude.{ℕ, MatchOption};
+ghost use Rattle.std.specs.Prelude.{◌≡◌, ◌↔◌, ℕ, IsTrue, MatchOption, IfOk};
 ghost use Rattle.pci_tree.specs.Ranges.{Covers, IsCanonical};
-ghost use Rattle.pci_given.specs.Claim.{IsLeastCommon};
+ghost use Rattle.given_spec.specs.Claims.{is_window_register, are_window_and_legacy, may_share};
+ghost use Rattle.pci_given.specs.Claim.{IsLeastCommon, HaveNoClash, IsClashFrom, IsOwnOf, IsClaimOfRegion};
 
+use super::gather::common;
+use pci_base::memory::OutOfMemory;
+use pci_base::offset::{BRIDGE_CONTROL, IO_BASE, MEMORY_BASE, PREFETCHABLE_BASE};
 use pci_base::range::Range;
+use pci_base::slot::Slot;
 use pci_tree::ranges::least_from;
+use pci_tree::region::Region;
+use std::alloc::{Allocator, Global};
+use std::marker::Model;
+
+/// What one region of a bus answers of the accesses of a space that get there.
+#[derive(Drop)]
+pub struct Claim<A: Allocator = Global> {
+    slot: Slot,
+    /// The register that names the region: legacy parts are named by Bridge Control.
+    reg: u8,
+    pieces: Vec<Range, A>,
+}
+
+impl<A: Allocator> Model for Claim<A> {
+    ghost use Rattle.pci_tree.specs.Ranges.{IsCanonical};
+    ghost use Rattle.pci_given.specs.Claim.{Claimed};
+
+    ghost Value = { Claimed };
+
+    ghost view = { λ c. record { slot = c.slot; register = c.reg; pieces = c.pieces.items } };
+
+    ghost invariant = { λ c. IsCanonical c.pieces.items };
+}
+
+/// The addresses of a region, as a list.
+fn own<A: Allocator>(alloc: A, region: &Region) -> Result<Vec<Range, A>, OutOfMemory>
+    ensures { IfOk result (λ v. IsOwnOf region.now v.items) }
+{
+    let mut out = Vec::new(alloc);
+    if region.first <= region.last {
+        out.push(Range {
+            first: region.first,
+            last: region.last,
+        })?;
+    }
+    Ok(out)
+}
+
+/// What a BAR, a ROM or a window answers of the addresses that get to its bus.
+pub fn claim_of<A: Allocator + Copy>(
+    alloc: A,
+    region: &Region,
+    reach: &[Range],
+) -> Result<Claim<A>, OutOfMemory>
+    requires { IsCanonical reach.now }
+    ensures { IfOk result (λ c. IsClaimOfRegion region.now reach.now c) }
+{
+    let own = own(alloc, region)?;
+    let pieces = common(alloc, &own, reach)?;
+    Ok(Claim {
+        slot: region.slot,
+        reg: region.reg,
+        pieces,
+    })
+}
 
 /// The least address that two lists have in common.
 pub fn least_common(rs: &[Range], ss: &[Range]) -> Option<u64>
@@ -21,4 +81,49 @@ pub fn least_common(rs: &[Range], ss: &[Range]) -> Option<u64>
         }
     }
     None
+}
+
+/// Whether a register of a bridge names a window.
+fn is_window_register(reg: u8) -> bool
+    ensures { result ≡ is_window_register reg }
+{
+    reg == IO_BASE || reg == MEMORY_BASE || reg == PREFETCHABLE_BASE
+}
+
+/// Whether two registers name a window and a legacy part.
+fn are_window_and_legacy(window: u8, legacy: u8) -> bool
+    ensures { result ≡ are_window_and_legacy window legacy }
+{
+    is_window_register(window) && legacy == BRIDGE_CONTROL
+}
+
+/// Whether two regions may answer one address: a window and the legacy part of one bridge, which lead to one bus.
+fn may_share(first: Slot, first_reg: u8, second: Slot, second_reg: u8) -> bool
+    ensures { result ≡ may_share first first_reg second second_reg }
+{
+    first == second
+        && (are_window_and_legacy(first_reg, second_reg)
+            || are_window_and_legacy(second_reg, first_reg))
+}
+
+/// Whether two names are of one region.
+fn is_same(first: Slot, first_reg: u8, second: Slot, second_reg: u8) -> bool
+    ensures { IsTrue result ↔ ((first ≡ second) × (first_reg ≡ second_reg)) }
+{
+    first == second && first_reg == second_reg
+}
+
+/// The least address at which two regions of a bus clash: both answer it, and they may not share it. None where they
+/// don't clash.
+pub fn least_clash<A: Allocator>(first: &Claim<A>, second: &Claim<A>) -> Option<u64>
+    ensures { MatchOption result (HaveNoClash first.now second.now)
+        (λ a. IsClashFrom first.now second.now a) }
+{
+    if is_same(first.slot, first.reg, second.slot, second.reg) {
+        return None;
+    }
+    if may_share(first.slot, first.reg, second.slot, second.reg) {
+        return None;
+    }
+    least_common(&first.pieces, &second.pieces)
 }
