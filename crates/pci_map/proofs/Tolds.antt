@@ -7,7 +7,7 @@ use Rattle.std.proofs.lemmas.List.{append_assoc, map_more, take_all}
 use Rattle.std.proofs.lemmas.List.Elements.{Contains-append_cases, Contains-append_left, Contains-append_right, Contains-get_or}
 use Rattle.pci_spec.specs.Slot.{Slot, slot_number}
 use Rattle.pci_spec.specs.Text.{hex_byte, slot_text}
-use Rattle.pci_spec.specs.System.{System, Function, Space, Io, Memory, register_of, has_part, space_of}
+use Rattle.pci_spec.specs.System.{System, Space, Io, Memory, register_of, has_part, space_of}
 use Rattle.pci_spec.specs.System as system
 use Rattle.pci_spec.specs.Bus.{IsNested}
 use Rattle.pci_spec.specs.Decoded.{HasRecords}

@@ -40,7 +40,7 @@ use Rattle.pci_settle.specs.declared.own.Terms.{Terms}
 use Rattle.pci_settle.specs.Lists.{root_range_value}
 use Rattle.pci_settle.proofs.Walks.{left_next, left_none}
 use Rattle.pci_settle.specs.Own as own
-use Rattle.pci_settle.specs.Own.{last_of, AreTerms, code_pools, is_left_bar, is_own_bar, bar_item, bar_items, rom_item, rom_items, window_items, record_items, part_value, item_value, IsWindowOf, IsAsked}
+use Rattle.pci_settle.specs.Own.{last_of, code_pools, is_left_bar, is_own_bar, bar_item, bar_items, rom_item, rom_items, window_items, record_items, item_value, IsWindowOf, IsAsked}
 
 -- ---- lists
 

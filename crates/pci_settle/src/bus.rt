@@ -1,5 +1,5 @@
 //! What is placed on a bus in a class where nothing stands.
-ghost use Rattle.std.specs.Prelude.{◌≡◌, IfOk, None, slice_index_or};
+ghost use Rattle.std.specs.Prelude.{◌≡◌, IfOk, None};
 ghost use Rattle.pci_spec.specs.Bus.{are_siblings};
 ghost use Rattle.pci_tree.specs.Roots.{buses_of};
 ghost use Rattle.pci_base.specs.WindowKinds.{kind_value};

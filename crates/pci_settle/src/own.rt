@@ -1,12 +1,12 @@
 //! What of a function is placed in a class where nothing stands: BARs, the new window of a bridge, and a ROM that is on.
-ghost use Rattle.std.specs.Prelude.{◌≡◌, ◌≤◌, ◌<◌, ◌++◌, OnOk, IfOk, IfSome, IsTrue, map};
+ghost use Rattle.std.specs.Prelude.{◌≡◌, ◌<◌, ◌++◌, OnOk, IfSome, map};
 ghost use Rattle.std.specs.List.{All};
 ghost use Rattle.plan_spec.specs.Plan.{greatest};
 ghost use Rattle.settle_spec.specs.Lists as lists;
 ghost use Rattle.pci_base.specs.WindowKinds.{kind_value};
 ghost use Rattle.pci_place.specs.Pools.{pools_value};
 ghost use Rattle.pci_settle.specs.Lists.{root_range_value, lists_value};
-ghost use Rattle.pci_settle.specs.Own.{last_of, AreTerms, pools_to, class_of, is_left_bar, is_own_bar, IsSpanned, IsSized, bar_item, bar_items, rom_item, rom_items, window_items, record_items, AreItemsOf};
+ghost use Rattle.pci_settle.specs.Own.{AreTerms, pools_to, class_of, is_left_bar, is_own_bar, IsSpanned, IsSized, bar_item, bar_items, rom_item, rom_items, window_items, record_items, AreItemsOf};
 
 use crate::extent::Extent;
 use crate::item::{Item, Part};
