@@ -24,7 +24,7 @@ no_rom true e = omega (arith, e)
 no_rom false e = omega (arith, e)
 
 -- no region that address registers show is named by Bridge Control
-not_legacy : (f : Function) (part : Part) → system.register_of f part ≡ 0x3e → ⊥
+pub not_legacy : (f : Function) (part : Part) → system.register_of f part ≡ 0x3e → ⊥
 not_legacy f (Bar n) e = omega (arith, e)
 not_legacy f Rom e = no_rom (layout f.image == 1) e
 not_legacy f (Window IoWindow) e = omega (arith, e)

@@ -11,3 +11,4 @@ pub mod Reaching
 pub mod Stopping
 pub mod Unreaching
 pub mod Clashing
+pub mod Legacies

@@ -25,7 +25,7 @@ on_record : (r : Record) (f : Function) (space : Space) → record_value r ≡ r
 on_record r f space e = on_same f space ∙ ap (λ (x : decoded.Record). is_on x.command space) (sym e)
 
 -- the legacy part
-legacy_same : (given : Given) (space : Space) (a : ℕ) (r : Record) (f : Function) → record_value r ≡ record_of f → legacy_claims given space a f ≡ legacy_passes given space a r
+pub legacy_same : (given : Given) (space : Space) (a : ℕ) (r : Record) (f : Function) → record_value r ≡ record_of f → legacy_claims given space a f ≡ legacy_passes given space a r
 legacy_same given space a r f e =
     ap (λ b. b && is_space_on f space && list_any (is_piece_at f.slot space a) given.legacy) (sym (same_bridge r f e))
     ∙ ap (λ b. is_some r.bridge && b && list_any (is_piece_at f.slot space a) given.legacy) (on_record r f space e)

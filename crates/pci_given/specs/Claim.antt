@@ -1,14 +1,20 @@
 -- Claims of a bus, and what two lists of ranges have in common.
-use Rattle.std.specs.Prelude.{◌≡◌, ℕ, ◌<◌, ◌≤◌, ◌↔◌, List}
+use Rattle.std.specs.Prelude.{◌≡◌, ℕ, ◌<◌, ◌≤◌, ◌↔◌, IsTrue, List}
+use Rattle.std.specs.List.{Contains}
 use Rattle.pci_spec.specs.Slot.{Slot}
-use Rattle.pci_spec.specs.System.{System, Space, IsSystem}
+use Rattle.pci_spec.specs.Registers.{BRIDGE_CONTROL}
+use Rattle.pci_spec.specs.System.{System, Function, Space, IsSystem}
+use Rattle.pci_spec.specs.Decoded.{record_of}
 use Rattle.pci_base.specs.declared.range.Range.{Range}
+use Rattle.pci_function.specs.declared.record.Record.{Record}
+use Rattle.pci_function.specs.Values.{record_value}
 use Rattle.pci_tree.specs.declared.region.Region.{Region}
 use Rattle.pci_tree.specs.Ranges.{Covers, IsCanonical}
 use Rattle.pci_tree.specs.Regions.{IsRegionOn}
 use Rattle.given_spec.specs.Given.{Given}
 use Rattle.given_spec.specs.Claims.{Gets, ClaimsOnBus}
 use Rattle.given_spec.specs.Fault.{IsClash}
+use Rattle.pci_given.specs.Passed.{legacy_passes}
 use Rattle.pci_given.specs.Reached.{IsAccessReach}
 
 -- the least address that both lists have
@@ -66,3 +72,17 @@ pub record IsClaimOfRegion (r : Region) (reach : List Range) (c : Claimed) : Typ
   pub exact : (given : Given) (roots : List ℕ) (s : System) (bus : ℕ) (space : Space) → IsSystem s
       → IsRegionOn s bus space r → IsAccessReach given roots s space bus reach
       → IsClaimOn given roots s bus space c
+
+-- the addresses of a space that the legacy parts of the bridge with the record answer
+pub record IsLegacyOf (given : Given) (space : Space) (r : Record) (out : List Range) : Type 0 where
+  pub canonical : IsCanonical out
+  pub exact : (a : ℕ) → Covers out a ↔ IsTrue (legacy_passes given space a r)
+
+-- the claim of the legacy parts on the bus of each function with the record, where those addresses get to it
+pub record IsClaimOfLegacy (given : Given) (space : Space) (r : Record) (reach : List Range)
+    (c : Claimed) : Type 0 where
+  pub slot : c.slot ≡ r.slot
+  pub register : c.register ≡ BRIDGE_CONTROL
+  pub exact : (roots : List ℕ) (s : System) (f : Function) → IsSystem s → Contains s f
+      → record_value r ≡ record_of f → IsAccessReach given roots s space f.slot.bus reach
+      → IsClaimOn given roots s f.slot.bus space c

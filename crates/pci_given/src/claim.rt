@@ -1,14 +1,20 @@
 //! Claims of a bus: what one region answers, and the least address that two of them answer.
 ghost use Rattle.std.specs.Prelude.{◌≡◌, ◌↔◌, ℕ, IsTrue, MatchOption, IfOk};
+ghost use Rattle.pci_base.specs.Space.{space_of};
 ghost use Rattle.pci_tree.specs.Ranges.{Covers, IsCanonical};
 ghost use Rattle.given_spec.specs.Claims.{is_window_register, are_window_and_legacy, may_share};
-ghost use Rattle.pci_given.specs.Claim.{IsLeastCommon, HaveNoClash, IsClashFrom, IsOwnOf, IsClaimOfRegion};
+ghost use Rattle.pci_given.specs.Values.{given_value};
+ghost use Rattle.pci_given.specs.Claim.{IsLeastCommon, HaveNoClash, IsClashFrom, IsOwnOf, IsClaimOfRegion, IsLegacyOf, IsClaimOfLegacy};
 
-use super::gather::common;
+use super::gather::{common, gathered};
+use super::given::Given;
+use super::passed::{is_bridge_on, pieces_of};
 use pci_base::memory::OutOfMemory;
 use pci_base::offset::{BRIDGE_CONTROL, IO_BASE, MEMORY_BASE, PREFETCHABLE_BASE};
 use pci_base::range::Range;
 use pci_base::slot::Slot;
+use pci_base::space::Space;
+use pci_function::record::Record;
 use pci_tree::ranges::least_from;
 use pci_tree::region::Region;
 use std::alloc::{Allocator, Global};
@@ -62,6 +68,43 @@ pub fn claim_of<A: Allocator + Copy>(
     Ok(Claim {
         slot: region.slot,
         reg: region.reg,
+        pieces,
+    })
+}
+
+/// The addresses of a space that the legacy parts of a function answer, which has to be a bridge for that.
+fn legacy_of<A: Allocator + Copy>(
+    alloc: A,
+    given: &Given<'_>,
+    function: &Record,
+    space: Space,
+) -> Result<Vec<Range, A>, OutOfMemory>
+    ensures { IfOk result (λ v. IsLegacyOf (given_value given.now) (space_of space) function.now v.items) }
+{
+    if is_bridge_on(function, space) {
+        gathered(pieces_of(alloc, given.legacy, function.slot, space)?)
+    } else {
+        Ok(Vec::new(alloc))
+    }
+}
+
+/// What the legacy parts of a bridge answer of the addresses of a space that get to its bus.
+pub fn legacy_claim_of<A: Allocator + Copy>(
+    alloc: A,
+    given: &Given<'_>,
+    function: &Record,
+    space: Space,
+    reach: &[Range],
+) -> Result<Claim<A>, OutOfMemory>
+    requires { IsCanonical reach.now }
+    ensures { IfOk result (λ c. IsClaimOfLegacy (given_value given.now) (space_of space) function.now
+        reach.now c) }
+{
+    let own = legacy_of(alloc, given, function, space)?;
+    let pieces = common(alloc, &own, reach)?;
+    Ok(Claim {
+        slot: function.slot,
+        reg: BRIDGE_CONTROL,
         pieces,
     })
 }

@@ -21,7 +21,7 @@ use pci_tree::reach::passed_by;
 use std::alloc::Allocator;
 
 /// The addresses of a space that the legacy parts of the bridge at a slot have.
-fn pieces_of<A: Allocator + Copy>(
+pub fn pieces_of<A: Allocator + Copy>(
     alloc: A,
     legacy: &[LegacyBridge],
     slot: Slot,
@@ -40,7 +40,7 @@ fn pieces_of<A: Allocator + Copy>(
 }
 
 /// Whether a function is a bridge that answers accesses of a space.
-fn is_bridge_on(function: &Record, space: Space) -> bool
+pub fn is_bridge_on(function: &Record, space: Space) -> bool
     ensures { result ≡ (is_some function.now.bridge && is_on function.now.command (space_of space)) }
 {
     function.bridge.is_some() && space.is_on(function.command)
