@@ -24,8 +24,8 @@ pub enum Numbering {
 /// Numbers the buses behind a root bus, from `root` + 1 to `last`, depth first in the order of devices and functions
 /// (Bridge 1.2, 3.2.5.2 to 3.2.5.4). First the bridges on the root bus are made to forward nothing. Of each bridge
 /// bytes 18h to 1Ah alone are written, one at a time, where that changes them; each is read back. Once those on the
-/// root bus forward nothing, at most one node answers each access after every write, and from the start on if it was
-/// so at the start.
+/// root bus forward nothing, at most one node answers each access after every write, as long as that holds behind the
+/// other roots; and from the start on if it was so at the start.
 ///
 /// # Errors
 ///
