@@ -22,6 +22,10 @@ pub four_same : (xs ys : List ℕ) → length xs ≡ 64 → length ys ≡ 64 →
 four_same xs ys lx ly a b c d =
     sym (take_all 64 xs (omega (arith, lx))) ∙ same_more xs ys 48 16 (same_more xs ys 32 16 (same_more xs ys 16 16 a b) c) d ∙ take_all 64 ys (omega (arith, ly))
 
+-- all 48 are the same
+pub three_same : (xs ys : List ℕ) → length xs ≡ 48 → length ys ≡ 48 → slice_range xs 0 16 ≡ slice_range ys 0 16 → slice_range xs 16 32 ≡ slice_range ys 16 32 → slice_range xs 32 48 ≡ slice_range ys 32 48 → xs ≡ ys
+three_same xs ys lx ly a b c = sym (take_all 48 xs (omega (arith, lx))) ∙ same_more xs ys 32 16 (same_more xs ys 16 16 a b) c ∙ take_all 48 ys (omega (arith, ly))
+
 -- fewer are the same too
 same_less : (xs ys : List ℕ) (m n : ℕ) → m ≤ n → take n xs ≡ take n ys → take m xs ≡ take m ys
 same_less xs ys m n less same = sym (take-take m n xs less) ∙ ap (take m) same ∙ take-take m n ys less

@@ -1,18 +1,16 @@
 -- A line of values by its places, and by its cells.
-use Rattle.std.proofs.Common.{◌≡◌, replicate, inl, inr, ℕ, zero, suc, ◌+◌, ◌-◌, ◌*◌, ◌/◌, ◌%◌, ◌<◌, ◌≤◌, List, [], ◌∷◌, ◌++◌, refl, arith, sym, ◌∙◌, ap, subst, length, get_or, take, drop, append-nil}
+use Rattle.std.proofs.Common.{◌≡◌, replicate, inl, inr, ℕ, zero, suc, ◌+◌, ◌-◌, ◌*◌, ◌/◌, ◌%◌, ◌<◌, List, [], ◌∷◌, ◌++◌, refl, arith, sym, ◌∙◌, ap, subst, length, get_or, take, drop, append-nil}
 use Rattle.std.proofs.Common.{Bool, true, false, cond}
 use Rattle.std.specs.Prelude.{nat_lt, ◌==◌}
 use Rattle.pci_spec.specs.Number.{each_from}
 use Rattle.pci_spec.proofs.Bits.{each_from-at}
 use Rattle.std.proofs.lemmas.Bool.{cases_lt, ltb-true, eqb-true, false≢true}
 use Rattle.std.specs.List.{flat_map, slice_index, slice_range}
-use Rattle.std.proofs.lemmas.List.{length-take, length-drop, take-append-drop, take-take, drop-take, drop_more, drop_all, take_at, get_or_at, nil_from_length, get_or_past, get_or-take, get_or-drop}
+use Rattle.std.proofs.lemmas.List.{length-take, take-append-drop, take-take, drop-take, drop_more, drop_all, take_at, get_or_at, nil_from_length, get_or_past, get_or-take, get_or-drop}
 use Rattle.pci_spec.specs.Text.{hex_digit}
 use Rattle.pci_spec.specs.Form.{Fits, row_cells, row_text}
-use Rattle.pci_spec.proofs.Forms.{spaced, row_of, small_take, small_drop}
-use Rattle.std.specs.Int.{from_le_bytes, w64}
-use Rattle.std.proofs.lemmas.Nat.{le_bytes_8}
-use Rattle.pci_dump.specs.declared.row.TheConstants.{HEADS, ZEROS}
+use Rattle.pci_spec.proofs.Forms.{spaced, row_of}
+use Rattle.pci_dump.specs.declared.row.TheConstants.{HEADS}
 use Rattle.pci_dump.specs.Value.{IsValueAt, AreValues, AreSmall}
 
 later : (k : ℕ) (x y z : ℕ) (cells : List ℕ) (v : ℕ) → IsValueAt (x ∷ y ∷ z ∷ cells) (3 * suc k) v → IsValueAt cells (3 * k) v
@@ -174,35 +172,6 @@ no_row row line h none f = let p = row_places row line h f in none p.values p.ea
 pub zeros_there : (cells : List ℕ) → cells ≡ flat_map spaced (replicate 16 0) → AreValues cells (replicate 16 0) 16
 zeros_there cells e = subst (λ (t : List ℕ). AreValues t (replicate 16 0) 16) (append-nil (flat_map spaced (replicate 16 0)) ∙ sym e) (placed (replicate 16 0) [] (small_zeros 16))
 
-same_eight : (xs ys : List ℕ) → length xs ≡ 8 → length ys ≡ 8 → AreSmall xs → AreSmall ys → from_le_bytes w64 xs ≡ from_le_bytes w64 ys → xs ≡ ys
-same_eight xs ys lx ly sx sy e = sym (le_bytes_8 xs (from_le_bytes w64 xs) lx sx refl) ∙ le_bytes_8 ys (from_le_bytes w64 xs) ly sy e
-
 -- a beginning with some elements more
 pub take_on : (xs : List ℕ) (n m : ℕ) → take (n + m) xs ≡ take n xs ++ take m (drop n xs)
 take_on xs n m = sym (take-append-drop n (take (n + m) xs)) ∙ (λ i. take-take n (n + m) xs (omega arith) i ++ drop-take n m xs i)
-
-eight_long : (xs : List ℕ) (n : ℕ) → n + 8 ≤ length xs → length (take 8 (drop n xs)) ≡ 8
-eight_long xs n within = let t = length-take 8 (drop n xs) in let d = length-drop n xs in omega (arith, t, d, within)
-
--- eight bytes more are the same, as they are as a number
-pub same_eight_more : (xs ys : List ℕ) (n : ℕ) → n + 8 ≤ length xs → n + 8 ≤ length ys → AreSmall xs → AreSmall ys → take n xs ≡ take n ys
-    → from_le_bytes w64 (slice_range xs n (n + 8)) ≡ from_le_bytes w64 (slice_range ys n (n + 8)) → take (n + 8) xs ≡ take (n + 8) ys
-same_eight_more xs ys n wx wy sx sy same e =
-    let eight : n + 8 - n ≡ 8 = omega arith in
-    let next : take 8 (drop n xs) ≡ take 8 (drop n ys) =
-    same_eight (take 8 (drop n xs)) (take 8 (drop n ys)) (eight_long xs n wx) (eight_long ys n wy) (small_take 8 (drop n xs) (small_drop n xs sx)) (small_take 8 (drop n ys) (small_drop n ys sy))
-    (subst (λ (k : ℕ). from_le_bytes w64 (take k (drop n xs)) ≡ from_le_bytes w64 (take k (drop n ys))) eight e) in
-    take_on xs n 8 ∙ (λ i. same i ++ next i) ∙ sym (take_on ys n 8)
-
-abbrev is_small_zero : ℕ → Bool
-is_small_zero k = nat_lt (get_or ZEROS k 0) 256
-
-all_small : each_from 0 48 is_small_zero ≡ true
-unfolding each_from
-all_small = refl
-
-pub ZEROS_small : AreSmall ZEROS
-ZEROS_small k = elim (cases_lt k 48) [
-  | inl below ↦ ltb-true (get_or ZEROS k 0) 256 (each_from-at 0 48 is_small_zero all_small k (omega arith) (omega (arith, below)))
-  | inr past ↦ let z = get_or_past ZEROS k 0 past in omega (arith, z)
-]

@@ -1,10 +1,10 @@
 //! Lines of sixteen bytes.
 ghost use Rattle.std.specs.Prelude.{◌≡◌, ◌<◌, ◌≤◌, ◌+◌, ◌*◌, slice_index, replicate, true, false, ℕ, List, length, IsTrue};
-ghost use Rattle.std.specs.Int.{from_le_bytes, w64};
+ghost use Rattle.std.specs.List.{slice_range};
 ghost use Rattle.pci_spec.specs.Form.{Fits, row_cells, row_text};
 ghost use Rattle.pci_dump.specs.Value.{AreValues, AreSmall};
 
-use super::lanes::{are_zero, bytes_of, digits_of, either_of, non_spaces};
+use super::lanes::{are_zero, bytes_of, difference, digits_of, either_of, non_spaces};
 use std::simd::prelude::*;
 
 /// How many bytes the line of a row has: its offset, sixteen bytes, and its end.
@@ -23,17 +23,6 @@ static HEADS: [u32; 16] = [
 /// A line's cells where all values are 0.
 static ZEROS: [u8; 48] = *b" 00 00 00 00 00 00 00 00 00 00 00 00 00 00 00 00";
 
-/// Eight bytes as one number, to compare them at once.
-#[inline(always)]
-fn eight(bytes: &[u8]) -> u64
-    requires { length bytes.now ≡ 8 }
-    ensures { result ≡ from_le_bytes w64 bytes.now }
-{
-    u64::from_le_bytes([
-        bytes[0], bytes[1], bytes[2], bytes[3], bytes[4], bytes[5], bytes[6], bytes[7],
-    ])
-}
-
 /// Four bytes as one number, to compare them at once.
 #[inline(always)]
 fn head_of(line: &[u8]) -> u32
@@ -44,19 +33,27 @@ fn head_of(line: &[u8]) -> u32
     u32::from_le_bytes([line[0], line[1], line[2], line[3]])
 }
 
+/// Whether the first sixteen of a line's cells are those of zeros.
+#[inline(always)]
+pub(crate) fn begin_zeros(cells: &[u8]) -> bool
+    requires { 16 ≤ length cells.now }
+    ensures { result ≡ true → slice_range cells.now 0 16 ≡ slice_range ZEROS 0 16 }
+{
+    are_zero(difference(&cells[0..16], &ZEROS[0..16]))
+}
+
 /// Whether sixteen times 00 stand there, each after a space.
 #[inline(always)]
 fn are_zeros(cells: &[u8]) -> bool
     requires { length cells.now ≡ 48 }
     ensures { result ≡ true → cells.now ≡ ZEROS }
 {
-    for part in 0..6 {
-        let at = 8 * part;
-        if eight(&cells[at..at + 8]) != eight(&ZEROS[at..at + 8]) {
-            return false;
-        }
+    if !begin_zeros(cells) {
+        return false;
     }
-    true
+    let second = difference(&cells[16..32], &ZEROS[16..32]);
+    let third = difference(&cells[32..48], &ZEROS[32..48]);
+    are_zero(either_of(second, third))
 }
 
 /// Sixteen bytes, each after a space, all at once: their spaces, upper and lower digits are every third cell.

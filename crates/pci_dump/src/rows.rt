@@ -6,7 +6,7 @@ ghost use Rattle.pci_dump.specs.Row.{IsRowRead};
 ghost use Rattle.pci_dump.specs.BlockFault.{RowStops, RestStops};
 
 use super::parse::BlockFault;
-use super::row::{ROW_LEN, ROW_OF_ZEROS, row_into};
+use super::row::{ROW_LEN, ROW_OF_ZEROS, begin_zeros, row_into};
 use super::tail::{FIRST_ROW, are_last_zeros, put_last_zeros};
 use pci_base::digit::digit_of;
 use pci_base::image::IMAGE_LEN;
@@ -40,11 +40,14 @@ fn part_of_row(part: &[u8], row: u8) -> BlockFault
     }
 }
 
-/// Whether the lines from a row on are tried as one: from 40h on, while there are two.
-fn may_be_last(row: u8) -> bool
+/// Whether the lines from a row on are tried as one: from 40h on, while there are two, where the
+/// row begins with zeros.
+#[inline(always)]
+fn may_be_last(lines: &[u8], row: u8) -> bool
+    requires { 52 ≤ length lines.now }
     ensures { IsTrue result → (4 ≤ row) × (row < 15) }
 {
-    (FIRST_ROW..15).contains(&row)
+    begin_zeros(&lines[3..]) && (FIRST_ROW..15).contains(&row)
 }
 
 /// The sixteen lines of bytes and the empty line. At a stop the image may hold some of them.
@@ -56,12 +59,12 @@ pub(crate) fn image_into(bytes: &[u8], image: &mut [u8; IMAGE_LEN]) -> Result<()
 {
     let mut rest = bytes;
     for row in 0..16u8 {
-        if may_be_last(row) && are_last_zeros(rest, row) {
-            put_last_zeros(image, row);
-            return Ok(());
-        }
         if rest.len() < ROW_LEN {
             return Err(part_of_row(rest, row));
+        }
+        if may_be_last(rest, row) && are_last_zeros(rest, row) {
+            put_last_zeros(image, row);
+            return Ok(());
         }
         let (line, next) = rest.split_at(ROW_LEN);
         if !read_row(line, row, image) {
