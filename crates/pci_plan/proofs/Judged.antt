@@ -1,14 +1,12 @@
--- A planned system that is judged, and the plan that is made of it.
-use Rattle.std.proofs.Common.{◌≡◌, ℕ, suc, ◌^◌, ◌<◌, ◌⊎◌, inl, inr, List, [], ◌∷◌, Bool, true, false, cond, Option, None, Some, refl, arith, sym, ◌∙◌, ap, subst, map, length}
-use Rattle.std.specs.Prelude.{count_by, IfOk, Result, Ok, Err}
-use Rattle.pci_base.specs.declared.memory.OutOfMemory.{OutOfMemory}
+-- The plan that is made of a planned system.
+use Rattle.std.proofs.Common.{◌≡◌, ℕ, suc, ◌^◌, ◌<◌, ◌⊎◌, inl, inr, List, [], ◌∷◌, Bool, true, false, cond, refl, arith, sym, ◌∙◌, ap, subst, map, length}
+use Rattle.std.specs.Prelude.{count_by}
 use Rattle.std.specs.List.{All, AllZip, filter}
 use Rattle.std.specs.List.Sorted.{IsStrictlyIncreasing}
 use Rattle.std.proofs.lemmas.List.Sums.{length-filter}
 use Rattle.pci_spec.specs.Text.{Block, slots_of}
 use Rattle.pci_spec.specs.System.{System, Function, IsSystem, function_of, system_of}
 use Rattle.pci_spec.specs.Sound.{IsSound}
-use Rattle.pci_spec.specs.Fault.{IsThere}
 use Rattle.pci_spec.specs.Decoded.{IsDecodable}
 use Rattle.pci_spec.specs.Machine.{Write}
 use Rattle.plan_spec.specs.Plan.{Pools}
@@ -18,42 +16,18 @@ use Rattle.plan_spec.specs.Planning.Plannable.{IsPlannable}
 use Rattle.plan_spec.specs.Planning.Promise.{IsFinal}
 use Rattle.plan_spec.specs.Planning.PlanWrites.{closing_writes, plan_writes}
 use Rattle.plan_spec.specs.Planning.Safety.{is_on}
-use Rattle.pci_spec.proofs.Pairing.{same_length, in-of_there}
-use Rattle.pci_spec.proofs.Sounding.{sound_without_faults}
+use Rattle.pci_spec.proofs.Pairing.{same_length}
 use Rattle.plan_spec.proofs.Planning.Whole.{moved_system}
 use Rattle.plan_spec.proofs.Planning.Planned.{moved_decodable}
 use Rattle.plan_spec.proofs.Planning.PlanStands.{olds_of, count_closing, safe_from_is, plan_stands}
 use Rattle.plan_spec.proofs.Planning.Plannings.{tables_of_plannable, final_by_numbers}
 use Rattle.plan_spec.proofs.Planning.RomsOnLayout.{roms_on_is_sound}
 use Rattle.plan_spec.proofs.Planning.ShownSystem.{switched_on}
-use Rattle.pci_tree.specs.Admission.{Admission, IsAdmitted, IsOutlineFor}
-use Rattle.pci_tree.specs.Outline.{Tree}
-use Rattle.pci_function.specs.Fault.{fault_of}
-use Rattle.pci_function.specs.declared.fault.Fault.{Fault}
-use Rattle.pci_check.specs.Judgement.{IsJudgement}
-use Rattle.pci_check.proofs.Verdicts.{fault_is_first}
+use Rattle.pci_tree.specs.Admission.{Admission, IsAdmitted}
 use Rattle.pci_place.specs.Above.{system_in}
-use Rattle.pci_plan.specs.Plans.{IsPlanValue, IsPlanIn, IsUnsoundIf}
+use Rattle.pci_plan.specs.Plans.{IsPlanValue, IsPlanIn}
 use Rattle.pci_plan.specs.Writes.{is_image_on, block_changes}
 use Rattle.pci_plan.proofs.WriteLists.{writes_by_blocks}
-
--- what is judged not to be free of faults isn't sound
-pub judged_unsound : (a : Admission) (t : Tree) → IsOutlineFor a t → (o : Option Fault) → IsJudgement t o → IsUnsoundIf o a.roots (system_of a.dump a.probe)
-judged_unsound a t is None judgement = tt
-judged_unsound a t is (Some fault) judgement = (fault_is_first a t is.roots is.records is.admitted (Some fault) fault refl judgement).1
-
--- nor is what isn't admitted
-pub refused_unsound : (roots : List ℕ) (dump probe : List Block) (fault : Fault) → IsSystem (system_of dump probe) → slots_of dump ≡ slots_of probe → IsThere roots dump probe (fault_of fault)
-    → IsSound roots (system_of dump probe) → ⊥
-refused_unsound roots dump probe fault system same there sound = (sound_without_faults roots (system_of dump probe) system).0 sound (fault_of fault) (in-of_there roots dump probe (fault_of fault) same there)
-
-pub judged_result : (roots others : List ℕ) (dump probe lent : List Block) (t : Tree) → roots ≡ others → lent ≡ probe → IsOutlineFor record { roots = roots; dump = dump; probe = lent } t
-    → (r : Result (Option Fault) OutOfMemory) → IfOk r (λ o. IsJudgement t o) → IfOk r (λ o. IsUnsoundIf o others (system_of dump probe))
-judged_result roots others dump probe lent t er ep is (Ok o) judgement =
-    subst (λ rs. IsUnsoundIf o rs (system_of dump probe)) er (subst (λ ps. IsUnsoundIf o roots (system_of dump ps)) ep (judged_unsound record { roots = roots; dump = dump; probe = lent } t is o judgement))
-judged_result roots others dump probe lent t er ep is (Err e) judgement = tt
-
--- ---- the plan
 
 kept_count : (on : Bool) (b : Block) (f : Function) (bs : List Block) (fs : List Function) → length bs ≡ length fs → length (cond on (b ∷ bs) bs) ≡ length (cond on (f ∷ fs) fs)
 kept_count true b f bs fs same = ap suc same

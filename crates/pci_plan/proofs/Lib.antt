@@ -9,6 +9,7 @@ pub mod Compares
 pub mod Makes
 pub mod WriteLists
 pub mod Judged
+pub mod Numberings
 pub mod AllPlaces
 pub mod Refusing
 pub mod PlanFaults

@@ -5,3 +5,4 @@ pub mod Making
 pub mod ApplyText
 pub mod Plans
 pub mod Applying
+pub mod Numbered

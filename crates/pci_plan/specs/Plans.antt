@@ -1,5 +1,5 @@
 -- What a plan of the code stands for.
-use Rattle.std.specs.Prelude.{◌≡◌, ℕ, ◌≤◌, List, length, map, Option, None, Some}
+use Rattle.std.specs.Prelude.{◌≡◌, ℕ, ◌≤◌, List, length, map}
 use Rattle.std.specs.List.{AllZip, sum}
 use Rattle.pci_spec.specs.Text.{Block, slots_of}
 use Rattle.pci_spec.specs.System.{System, IsSystem, system_of}
@@ -12,7 +12,6 @@ use Rattle.plan_spec.specs.Planning.PlanWrites.{closing_writes, plan_writes, mos
 use Rattle.pci_base.specs.WindowKinds.{kind_value}
 use Rattle.pci_tree.specs.Admission.{Admission, IsAdmitted}
 use Rattle.pci_function.specs.Fault.{fault_of}
-use Rattle.pci_function.specs.declared.fault.Fault.{Fault}
 use Rattle.pci_place.specs.Above.{system_in}
 use Rattle.pci_place.specs.Pools.{pools_value}
 use Rattle.pci_place.specs.declared.pools.Pools.{Pools}
@@ -66,8 +65,3 @@ plan_fault_of (NotAccepted fault) = plan.NotAccepted (fault_of fault)
 abbrev pub IsFaultOf : Admission → Pools → PlanFault → Type 0
 IsFaultOf a pools fault =
     IsPlanFaultOf a.roots (system_in a) (pools_value pools) (plan_fault_of fault)
-
--- a fault that is named means that the system isn't sound
-abbrev pub IsUnsoundIf : Option Fault → List ℕ → System → Type 0
-IsUnsoundIf None roots s = Unit {0}
-IsUnsoundIf (Some fault) roots s = IsSound roots s → ⊥

@@ -1,13 +1,12 @@
 //! Planning: places for everything, and the writes that lead there.
-ghost use Rattle.std.specs.Prelude.{◌≡◌, ◌↔◌, ◌⊎◌, IfOk, IsTrue, IsFalse, IfErr, OnOk, MatchOption, length, count_by, Err};
+ghost use Rattle.std.specs.Prelude.{◌≡◌, None, ◌↔◌, ◌⊎◌, IfOk, IsTrue, IsFalse, IfErr, OnOk, MatchOption, length, count_by, Err};
 ghost use Rattle.pci_spec.specs.Slot.{Slot as SlotValue};
-ghost use Rattle.pci_spec.specs.Text.{slots_of};
-ghost use Rattle.pci_spec.specs.System.{IsSystem, system_of};
 ghost use Rattle.std.specs.List.{All};
 ghost use Rattle.std.specs.List.Sorted.{IsStrictlyIncreasing};
 ghost use Rattle.pci_spec.specs.Decoded.{IsDecodable};
-ghost use Rattle.pci_tree.specs.Admission.{IsAdmitted, IsOutlineFor};
-ghost use Rattle.pci_tree.specs.Refusals.{IsPairRefusal};
+ghost use Rattle.pci_tree.specs.Admission.{IsAdmitted};
+ghost use Rattle.pci_tree.specs.Survey.{IsOutlineOf};
+ghost use Rattle.pci_tree.specs.Refusals.{IsRefusalOf};
 ghost use Rattle.pci_tree.specs.Roots.{buses_of};
 ghost use Rattle.pci_spec.specs.Sound.{IsSound};
 ghost use Rattle.pci_spec.specs.Window.{WindowKind as KindValue};
@@ -19,8 +18,10 @@ ghost use Rattle.pci_place.specs.Above.{AreAboves, system_in};
 ghost use Rattle.pci_place.specs.Needs.{AreAllNeeds};
 ghost use Rattle.pci_place.specs.Places.{HasPlaces};
 ghost use Rattle.pci_plan.specs.Writes.{is_image_on};
-ghost use Rattle.pci_plan.specs.Plans.{IsPlanIn, IsFaultOf, IsUnsoundIf};
+ghost use Rattle.pci_plan.specs.Numbered.{AreNewHeaders, IsNewSurvey};
+ghost use Rattle.pci_plan.specs.Plans.{IsPlanIn, IsFaultOf};
 
+use super::numbered::{Numbered, number_all};
 use super::plan::Plan;
 use super::plan_fault::PlanFault;
 use super::planned::planned_dump;
@@ -31,18 +32,18 @@ use pci_base::window_kind::{ByKind, WindowKind};
 use pci_check::check::check;
 use pci_check::judge::judge;
 use pci_check::verdict::Verdict;
-use pci_dump::dump::Dump;
 use pci_function::fault::Fault;
+use pci_image::register::HEADER_LEN;
 use pci_place::above::{Above, aboves};
 use pci_place::lacking::first_lacking;
 use pci_place::need::{Needs, needs_of};
 use pci_place::place::{Places, place_class};
 use pci_place::pools::Pools;
 use pci_place::room::has_room;
-use pci_tree::admit::outline_of;
 use pci_tree::admitted::Admitted;
 use pci_tree::outline::Outline;
 use pci_tree::roots::Roots;
+use pci_tree::survey::Survey;
 use std::alloc::Allocator;
 
 /// Puts into `needs` what the buses need of each class.
@@ -177,24 +178,17 @@ fn roots_of<A: Allocator>(admitted: &Admitted<A>) -> Roots
     admitted.outline().roots()
 }
 
-/// Puts the outline of a dump with a probe into a place. What makes it moves its table of 4 KB several times, in a frame
-/// that is let go before the outline is judged.
+/// Puts the outline of a survey into a place. What makes it moves its table of 4 KB several times, in a frame that is let go
+/// before the outline is judged.
 #[inline(never)]
 fn outline_into<A: Allocator>(
-    alloc: A,
-    dump: &Dump<A>,
-    probe: &Dump<A>,
-    roots: Roots,
+    survey: Survey<A>,
     place: &mut Option<Outline<A>>,
 ) -> Result<(), Refused<Fault>>
-    ensures outline { OnOk result (MatchOption place.new ⊥ (IsOutlineFor record {
-      roots = buses_of roots;
-      dump = dump.now;
-      probe = probe.now;
-    })) }
-    ensures refused { IfErr result (IsPairRefusal (buses_of roots) dump.now probe.now) }
+    ensures outline { OnOk result (MatchOption place.new ⊥ (IsOutlineOf survey)) }
+    ensures refused { IfErr result (IsRefusalOf survey) }
 {
-    match outline_of(alloc, dump, probe, roots) {
+    match survey.finish() {
         Ok(outline) => {
             *place = Some(outline);
             Ok(())
@@ -203,22 +197,24 @@ fn outline_into<A: Allocator>(
     }
 }
 
-/// The first fault of a dump with the probe, where it isn't accepted.
+/// The first fault of the planned system, which has none.
 #[inline(never)]
 fn judged<A: Allocator + Copy>(
     alloc: A,
     admitted: &Admitted<A>,
-    dump: &Dump<A>,
-    roots: Roots,
+    pools: &Pools,
+    survey: Survey<A>,
 ) -> Result<Option<Fault>, OutOfMemory>
-    requires system { IsSystem (system_of dump.now admitted.now.probe) }
-    requires slots { slots_of dump.now ≡ slots_of admitted.now.probe }
-    requires roots { buses_of roots ≡ admitted.now.roots }
-    ensures { IfOk result
-        (λ o. IsUnsoundIf o admitted.now.roots (system_of dump.now admitted.now.probe)) }
+    requires plannable { CanBePlanned admitted.now.roots (system_in admitted.now)
+        (pools_value pools.now) }
+    requires survey { IsNewSurvey admitted.now (pools_value pools.now) survey }
+    ensures { IfOk result (λ o. o ≡ None) }
 {
+    // What was planned, and from what: the contract speaks of these alone.
+    let _roots = roots_of(admitted);
+    let _last = pools.pref.last;
     let mut place = None;
-    match outline_into(alloc, dump, admitted.probe(), roots, &mut place) {
+    match outline_into(survey, &mut place) {
         Ok(()) => {}
         Err(Refused::Fault(fault)) => return Ok(Some(fault)),
         Err(Refused::Memory) => return Err(OutOfMemory),
@@ -241,47 +237,47 @@ fn safe_from<A: Allocator + Copy>(alloc: A, admitted: &Admitted<A>) -> Result<us
     }
 }
 
-/// The plan of what can be planned, by what the buses need.
-fn made_by<'a, A: Allocator + Copy>(
+/// All functions with everything at its place, by what the buses need.
+fn numbered_by<A: Allocator + Copy>(
     alloc: A,
-    admitted: &'a Admitted<A>,
+    admitted: &Admitted<A>,
     pools: &Pools,
     aboves: &[Above; BUSES],
     needs: &ByKind<Needs>,
-) -> Result<Plan<'a, A>, OutOfMemory>
+) -> Result<Numbered<A>, OutOfMemory>
     requires plannable { CanBePlanned admitted.now.roots (system_in admitted.now)
         (pools_value pools.now) }
     requires aboves { AreAboves (system_in admitted.now) aboves.now }
     requires needs { AreAllNeeds admitted.now.roots (system_in admitted.now)
         (pools_value pools.now) needs.now }
-    ensures { IfOk result (IsPlanIn admitted.entry.now (pools_value pools.now)) }
+    ensures headers { IfOk result
+        (λ n. AreNewHeaders admitted.now (pools_value pools.now) n.headers.items) }
+    ensures survey { IfOk result (λ n. IsNewSurvey admitted.now (pools_value pools.now) n.survey) }
 {
-    // Read for what it says of the system and the roots.
-    let _roots = roots_of(admitted);
-    let _last = pools.pref.last;
     let places = all_places(alloc, admitted, pools, aboves, needs)?;
-    let dump = planned_dump(alloc, admitted, pools, needs, places.as_slice())?;
-    let writes = writes_between(alloc, admitted.dump().blocks(), dump.blocks())?;
-    let safe_from = safe_from(alloc, admitted)?;
-    Ok(Plan::of(admitted, dump, writes, safe_from))
+    number_all(alloc, admitted, pools, needs, places.as_slice())
 }
 
-/// The plan, or the class that doesn't fit its pool.
+/// All functions with everything at its place, or the class that doesn't fit its pool.
 ///
 /// It has a frame of its own: what the buses need takes 12 KB of stack, and is let go before the plan is judged.
 #[inline(never)]
-fn made<'a, A: Allocator + Copy>(
+fn placed<A: Allocator + Copy>(
     alloc: A,
-    admitted: &'a Admitted<A>,
+    admitted: &Admitted<A>,
     pools: &Pools,
     aboves: &[Above; BUSES],
-) -> Result<Plan<'a, A>, Refused<PlanFault>>
+) -> Result<Numbered<A>, Refused<PlanFault>>
     requires good { IsFalse (are_bad (pools_value pools.now)) }
     requires windows { (slot : SlotValue) → LacksWindow (system_in admitted.now) slot → ⊥ }
     requires aboves { AreAboves (system_in admitted.now) aboves.now }
-    ensures planned { IfOk result (IsPlanIn admitted.entry.now (pools_value pools.now)) }
+    ensures plannable { OnOk result (CanBePlanned admitted.now.roots (system_in admitted.now)
+        (pools_value pools.now)) }
+    ensures headers { IfOk result
+        (λ n. AreNewHeaders admitted.now (pools_value pools.now) n.headers.items) }
+    ensures survey { IfOk result (λ n. IsNewSurvey admitted.now (pools_value pools.now) n.survey) }
     ensures fault { (f : PlanFault) → (result ≡ Err (Refused.Fault f))
-        ↔ IsFaultOf admitted.entry.now pools.now f }
+        ↔ IsFaultOf admitted.now pools.now f }
 {
     // Read for what it says of the system.
     let _roots = roots_of(admitted);
@@ -295,10 +291,32 @@ fn made<'a, A: Allocator + Copy>(
         None => {}
         Some(class) => return Err(Refused::Fault(PlanFault::NoRoom(class))),
     }
-    match made_by(alloc, admitted, pools, aboves, &needs) {
-        Ok(plan) => Ok(plan),
+    match numbered_by(alloc, admitted, pools, aboves, &needs) {
+        Ok(numbered) => Ok(numbered),
         Err(OutOfMemory) => Err(Refused::Memory),
     }
+}
+
+/// The plan by which all functions have these headers.
+fn made<'a, A: Allocator + Copy>(
+    alloc: A,
+    admitted: &'a Admitted<A>,
+    pools: &Pools,
+    headers: Vec<[u8; HEADER_LEN], A>,
+) -> Result<Plan<'a, A>, OutOfMemory>
+    requires plannable { CanBePlanned admitted.now.roots (system_in admitted.now)
+        (pools_value pools.now) }
+    requires headers { AreNewHeaders admitted.now (pools_value pools.now) headers.items }
+    ensures { IfOk result (IsPlanIn admitted.entry.now (pools_value pools.now)) }
+{
+    // Read for what it says of the system and the roots.
+    let _roots = roots_of(admitted);
+    let _last = pools.pref.last;
+    let safe_from = safe_from(alloc, admitted)?;
+    let dump = planned_dump(alloc, admitted, pools, headers.as_slice())?;
+    drop(headers);
+    let writes = writes_between(alloc, admitted.dump().blocks(), dump.blocks())?;
+    Ok(Plan::of(admitted, dump, writes, safe_from))
 }
 
 /// Gives every implemented BAR and ROM a place in the pool of its class, every window just what stands behind it, and
@@ -323,19 +341,24 @@ pub fn plan<'a, A: Allocator + Copy>(
     if pools.are_bad() {
         return Err(Refused::Fault(PlanFault::BadPools));
     }
-    let roots = roots_of(admitted);
+    // Read for what it says of the system.
+    let _roots = roots_of(admitted);
     let aboves = aboves(admitted);
     match first_lacking(admitted, &aboves) {
         None => {}
         Some(slot) => return Err(Refused::Fault(PlanFault::NoWindow(slot))),
     }
-    let plan = match made(alloc, admitted, pools, &aboves) {
-        Ok(plan) => plan,
+    let Numbered { headers, survey } = match placed(alloc, admitted, pools, &aboves) {
+        Ok(numbered) => numbered,
         Err(why) => return Err(why),
     };
-    match judged(alloc, admitted, plan.dump(), roots) {
-        Ok(None) => Ok(plan),
-        Ok(Some(fault)) => Err(Refused::Fault(PlanFault::NotAccepted(fault))),
+    match judged(alloc, admitted, pools, survey) {
+        Ok(None) => {}
+        Ok(Some(fault)) => return Err(Refused::Fault(PlanFault::NotAccepted(fault))),
+        Err(OutOfMemory) => return Err(Refused::Memory),
+    }
+    match made(alloc, admitted, pools, headers) {
+        Ok(plan) => Ok(plan),
         Err(OutOfMemory) => Err(Refused::Memory),
     }
 }

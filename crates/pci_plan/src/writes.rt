@@ -47,6 +47,9 @@ fn command_write(slot: Slot, command: u16) -> Write
     }
 }
 
+/// The most writes of a function: a bridge's two to Command and nine to address registers.
+const WRITES_MOST: usize = 11;
+
 /// Closes what is on, the highest slot first.
 fn add_closing<A: Allocator>(writes: &mut Vec<Write, A>, start: &[Block]) -> Result<(), OutOfMemory>
     ensures { OnOk result (map write_value writes.new.items
@@ -113,7 +116,9 @@ pub fn writes_between<A: Allocator>(
     ensures { IfOk result
         (λ v. map write_value v.items ≡ plan_writes (block_changes start.now planned.now)) }
 {
-    let mut writes = Vec::new(alloc);
+    let Ok(mut writes) = Vec::with_capacity(alloc, start.len().saturating_mul(WRITES_MOST)) else {
+        return Err(OutOfMemory);
+    };
     add_closing(&mut writes, start)?;
     for i in 0..start.len() {
         add_registers(&mut writes, &start[i], &planned[i])?;

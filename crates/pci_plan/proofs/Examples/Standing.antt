@@ -1,5 +1,5 @@
 -- What is said of soundness behind a port: of a sound system whatever it is, and of one that can't be sound.
-use Rattle.std.proofs.Common.{◌≡◌, ℕ, zero, ◌<◌, ◌≤◌, inl, inr, List, [], ◌∷◌, refl, Bool, true, false, map, arith, sym, ◌∙◌, ap, lit<}
+use Rattle.std.proofs.Common.{◌≡◌, ℕ, ◌<◌, ◌≤◌, inl, inr, List, [], ◌∷◌, refl, Bool, true, false, map, arith, sym, ◌∙◌, ap, lit<}
 use Rattle.std.proofs.lemmas.Bool.{both_ways}
 use Rattle.pci_spec.specs.Number.{byte_at, number_at, has_bit}
 use Rattle.pci_spec.specs.Header.{command}
@@ -12,7 +12,7 @@ use Rattle.pci_spec.proofs.KeptBits.{command_is_writable}
 use Rattle.pci_spec.proofs.Examples.Samples.{put, zeros, write}
 use Rattle.pci_plan.specs.Applying.{AreSound, HasImages, AreSoundAfter, AreSoundWhileReadBack}
 use Rattle.pci_plan.proofs.Examples.Behind.{open_at, here, image}
-use Rattle.pci_plan.proofs.Examples.Making.{first, fixed, none_of_fixed, writes}
+use Rattle.pci_plan.proofs.Examples.Making.{fixed, none_of_fixed, writes}
 
 abbrev host : List ℕ
 host = 0 ∷ []

@@ -1,25 +1,33 @@
-use Rattle.std.proofs.Common.{Ok, Err, refl}
-use Rattle.plan_spec.specs.PlanPromise.{CanBePlanned}
-use Rattle.pci_base.specs.declared.memory.Refused.TheVariants as refusals
-use Rattle.pci_place.specs.Above.{system_in}
+use Rattle.std.proofs.Common.{◌≡◌, ◌^◌, ◌<◌, List, map, sym, ◌∙◌, ap, subst, arith}
+use Rattle.pci_spec.specs.Text.{Block}
+use Rattle.pci_spec.specs.Machine.{Write}
+use Rattle.plan_spec.specs.Planning.PlanWrites.{plan_writes}
 use Rattle.pci_place.specs.Pools.{pools_value}
-use Rattle.pci_plan.specs.declared.plan_fault.PlanFault.TheVariants.{NoRoom}
-use Rattle.pci_plan.proofs.PlanFaults.{refused_by, not_refused, memory_is_none, plan_is_none}
+use Rattle.pci_plan.specs.Plans.{IsPlanIn}
+use Rattle.pci_plan.specs.Writes.{write_value, block_changes}
+use Rattle.pci_plan.proofs.Judged.{plan_kept, plan_made}
 use Rattle.pci_plan.proofs.planning.made.Goals as goal
 
-pub returns-in-Some-clause-fault : goal.returns-in-Some-clause-fault
-returns-in-Some-clause-fault g c =
-    refused_by c.args.admitted.now c.args.pools.now c.roots_of-roots.ensures.admitted.system (Err (refusals.Fault (NoRoom c.in-Some.class))) (NoRoom c.in-Some.class) refl
-    (c.requires.good, c.requires.windows, c.in-Some.ensures)
-
-pub returns-in-Ok-clause-fault : goal.returns-in-Ok-clause-fault
-returns-in-Ok-clause-fault g c =
+pub of-requires : goal.of-requires
+of-requires g c =
     let a = c.args.admitted.now in
-    let can : CanBePlanned a.roots (system_in a) (pools_value c.args.pools.now) = record { good = c.requires.good; windows = c.requires.windows; room = c.in-None.ensures } in
-    not_refused a c.args.pools.now can (Ok c.in-Ok.plan) (plan_is_none (Ok c.in-Ok.plan) c.in-Ok.plan refl)
+    let facts = c.roots_of-roots.ensures in
+    let dump : List Block = c.in_ok-dump.dump in
+    let ws : List Write = map write_value c.in_ok-writes.writes.items in
+    let small : c.args.pools.now.pref.last < 2 ^ 64 = omega arith in
+    let are : ws ≡ plan_writes (block_changes a.dump dump) =
+    c.in_ok-writes.ensures ∙ ap (λ xs. plan_writes (block_changes xs c.blocks-3.result.now)) (c.blocks-2.ensures.value ∙ c.dump.ensures) ∙ ap (λ xs. plan_writes (block_changes a.dump xs)) c.blocks-3.ensures.value in
+    plan_kept a facts.admitted facts.decodable facts.rising (pools_value c.args.pools.now) small c.requires.plannable dump c.in_ok-dump.ensures.slots c.in_ok-dump.ensures.planned ws are c.in_ok-safe_from.safe_from c.in_ok-safe_from.ensures
 
-pub returns-in-Err-clause-fault : goal.returns-in-Err-clause-fault
-returns-in-Err-clause-fault g c =
+pub returns : goal.returns
+returns g c =
     let a = c.args.admitted.now in
-    let can : CanBePlanned a.roots (system_in a) (pools_value c.args.pools.now) = record { good = c.requires.good; windows = c.requires.windows; room = c.in-None.ensures } in
-    not_refused a c.args.pools.now can (Err refusals.Memory) (memory_is_none (Err refusals.Memory) refl)
+    let facts = c.roots_of-roots.ensures in
+    let dump : List Block = c.in_ok-dump.dump in
+    let ws : List Write = map write_value c.in_ok-writes.writes.items in
+    let small : c.args.pools.now.pref.last < 2 ^ 64 = omega arith in
+    let are : ws ≡ plan_writes (block_changes a.dump dump) =
+    c.in_ok-writes.ensures ∙ ap (λ xs. plan_writes (block_changes xs c.blocks-3.result.now)) (c.blocks-2.ensures.value ∙ c.dump.ensures) ∙ ap (λ xs. plan_writes (block_changes a.dump xs)) c.blocks-3.ensures.value in
+    subst (IsPlanIn a (pools_value c.args.pools.now)) (sym c.of.ensures)
+    (plan_made a facts.admitted facts.decodable facts.rising (pools_value c.args.pools.now) small c.requires.plannable dump c.in_ok-dump.ensures.slots c.in_ok-dump.ensures.planned ws are c.in_ok-safe_from.safe_from c.in_ok-safe_from.ensures
+    c.in_ok-dump.ensures.titles)

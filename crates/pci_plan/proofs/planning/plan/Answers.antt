@@ -8,10 +8,10 @@ pub returns-in-Some-clause-fault : goal.returns-in-Some-clause-fault
 returns-in-Some-clause-fault g c =
     refused_by c.args.admitted.now c.args.pools.now c.roots_of-roots.ensures.admitted.system (Err (refusals.Fault (NoWindow c.in-Some.slot))) (NoWindow c.in-Some.slot) refl (sym c.are_bad.ensures ∙ c.if-are_bad.false, c.in-Some.ensures)
 
-pub returns-in-Ok-None-clause-fault : goal.returns-in-Ok-None-clause-fault
-returns-in-Ok-None-clause-fault g c =
-    not_refused c.args.admitted.now c.args.pools.now c.in-Ok.ensures.planned.possible (Ok c.in-Ok.plan) (plan_is_none (Ok c.in-Ok.plan) c.in-Ok.plan refl)
+pub returns-in-Ok-made-clause-fault : goal.returns-in-Ok-made-clause-fault
+returns-in-Ok-made-clause-fault g c =
+    not_refused c.args.admitted.now c.args.pools.now c.in-Ok.ensures.plannable (Ok c.in-Ok-made.plan) (plan_is_none (Ok c.in-Ok-made.plan) c.in-Ok-made.plan refl)
 
-pub returns-clause-fault : goal.returns-clause-fault
-returns-clause-fault g c =
-    not_refused c.args.admitted.now c.args.pools.now c.in-Ok.ensures.planned.possible (Err refusals.Memory) (memory_is_none (Err refusals.Memory) refl)
+pub returns-in-Err-made-clause-fault : goal.returns-in-Err-made-clause-fault
+returns-in-Err-made-clause-fault g c =
+    not_refused c.args.admitted.now c.args.pools.now c.in-Ok.ensures.plannable (Err refusals.Memory) (memory_is_none (Err refusals.Memory) refl)

@@ -41,7 +41,7 @@ returns g c =
     let second : take c.loop-i-2.i all ≡ all = take_all c.loop-i-2.i all (omega (arith, count)) in
     c.loop-i-2.invariant
     ∙ ap (λ ws. ws ++ flat_map opening_of (take c.loop-i-2.i all)) c.loop-i.invariant
-    ∙ ap (λ ws. (ws ++ flat_map registers_of (take c.loop-i.i all)) ++ flat_map opening_of (take c.loop-i-2.i all)) (c.in_ok-add_closing.ensures ∙ ap (λ ws. map write_value ws ++ closing_writes (block_changes start start)) c.new-writes.ensures.items)
+    ∙ ap (λ ws. (ws ++ flat_map registers_of (take c.loop-i.i all)) ++ flat_map opening_of (take c.loop-i-2.i all)) (c.in_ok-add_closing.ensures ∙ ap (λ ws. map write_value ws ++ closing_writes (block_changes start start)) c.in-Ok.ensures.items)
     ∙ ap (λ xs. (closing_writes (block_changes start start) ++ flat_map registers_of xs) ++ flat_map opening_of (take c.loop-i-2.i all)) first
     ∙ ap (λ xs. (closing_writes (block_changes start start) ++ register_writes all) ++ flat_map opening_of xs) second
     ∙ ap (λ ws. (ws ++ register_writes all) ++ opening_writes all) (closing_same start planned c.requires)
