@@ -4,3 +4,4 @@ pub mod Comparing
 pub mod Making
 pub mod Applying
 pub mod Standing
+pub mod Headers
