@@ -1,1 +1,3 @@
 pub mod Fake
+pub mod Tree
+pub mod Stood

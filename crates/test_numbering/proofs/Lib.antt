@@ -1,0 +1,2 @@
+pub mod Firsts
+pub mod Nearest
