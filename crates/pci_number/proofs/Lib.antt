@@ -13,6 +13,7 @@ pub mod RootView
 pub mod Roots
 pub mod Again
 pub mod Left
+pub mod Calls
 pub mod Few
 pub mod Stood
 pub mod Steady

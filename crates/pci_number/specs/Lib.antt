@@ -11,3 +11,4 @@ pub mod Answer
 pub mod Again
 pub mod Left
 pub mod Few
+pub mod Calls

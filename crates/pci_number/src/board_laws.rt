@@ -1,6 +1,7 @@
 //! Laws of what numbering leaves. These functions do nothing: each contract is a law.
 
 ghost use Rattle.pci_number.specs.Again.{NumbersStand};
+ghost use Rattle.pci_number.specs.Calls.{RootsGetNumbers, RootsHaveNoBusFault, RootsGetSingle};
 ghost use Rattle.pci_number.specs.Left.{OneRootIsNumbered, AloneHasNoBusFault};
 
 /// Numbered again up to the same last bus, the same is answered and the same numbers stand.
@@ -13,4 +14,13 @@ pub fn numbers_stand()
 pub fn numbered_root_has_no_bus_fault()
     ensures one { OneRootIsNumbered }
     ensures alone { AloneHasNoBusFault }
+{}
+
+/// Where the last bus of each root is below the next root, and numbering answers `Numbered` for one root after another, in
+/// whatever order, each bridge of the board has its numbers in the end, what a walk then lists has none of the faults of
+/// bus numbers, and at most one node answers each access.
+pub fn roots_are_numbered_one_by_one()
+    ensures numbers { RootsGetNumbers }
+    ensures no_fault { RootsHaveNoBusFault }
+    ensures single { RootsGetSingle }
 {}

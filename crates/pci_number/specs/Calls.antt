@@ -1,0 +1,49 @@
+-- A board of several roots, each numbered by a call.
+use Rattle.std.specs.Prelude.{◌≡◌, ◌↔◌, ℕ, ◌<◌, IsTrue, List, [], ◌∷◌, None, map}
+use Rattle.std.specs.List.{Contains}
+use Rattle.std.specs.List.Sorted.{IsStrictlyIncreasing}
+use Rattle.pci_spec.specs.System.{System}
+use Rattle.pci_spec.specs.NestingLaws.{HasNoBusFault}
+use Rattle.number_spec.specs.Board.{Root, Board, IsSingle}
+use Rattle.number_spec.specs.Walk.{is_walkable}
+use Rattle.number_spec.specs.Listed.{IsListing, HasNumbers}
+use Rattle.pci_number.specs.Answer.{named_by, Answers}
+use Rattle.pci_number.specs.declared.number.Numbering.{Numbering}
+
+-- The last bus of each root is below the next root, and a walk over each bus behind them finds all that is there.
+pub record AreReady (last : ℕ → ℕ) (board : Board) : Type 0 where
+  pub rising : IsStrictlyIncreasing (map (λ root. root.number) board)
+  pub apart : (root other : Root) → Contains board root → Contains board other
+      → root.number < other.number → last root.number < other.number
+  pub walkable : (root : Root) → Contains board root → IsTrue (is_walkable root.nodes)
+
+-- The roots are numbered one after another, and each call answers that each bridge has its numbers.
+abbrev pub AreNumbered : (ℕ → ℕ) → List ℕ → Board → Board → Type 0
+AreNumbered last [] before after = after ≡ before
+AreNumbered last (root ∷ roots) before after =
+    (mid : Board) × (answer : Numbering) × Answers before root (last root) answer mid
+    × (named_by answer ≡ None) × AreNumbered last roots mid after
+
+-- these are the roots of a board, in whatever order
+abbrev pub AreItsRoots : List ℕ → Board → Type 0
+AreItsRoots roots board =
+    (n : ℕ) → Contains roots n ↔ Contains (map (λ root. root.number) board) n
+
+-- Where each root is numbered by a call, each bridge of the board has its numbers,
+abbrev pub RootsGetNumbers : Type 0
+RootsGetNumbers =
+    (last : ℕ → ℕ) (roots : List ℕ) (before after : Board) → AreReady last before
+    → AreItsRoots roots before → AreNumbered last roots before after → HasNumbers last after
+
+-- what a walk then lists has no bus-range fault and no orphan,
+abbrev pub RootsHaveNoBusFault : Type 0
+RootsHaveNoBusFault =
+    (last : ℕ → ℕ) (roots : List ℕ) (before after : Board) (s : System) → AreReady last before
+    → AreItsRoots roots before → AreNumbered last roots before after → IsListing after s
+    → HasNoBusFault (map (λ root. root.number) before) s
+
+-- and at most one node answers each access.
+abbrev pub RootsGetSingle : Type 0
+RootsGetSingle =
+    (last : ℕ → ℕ) (roots : List ℕ) (before after : Board) → AreReady last before
+    → AreItsRoots roots before → AreNumbered last roots before after → IsSingle after
