@@ -46,8 +46,8 @@ pub record IsRead (board : Board) (access : Slot) (offset : ℕ) (value : ℕ) :
   pub byte : (place : ℕ × Place) → answers board access ≡ place ∷ []
       → value ≡ byte_at (image_of board place) offset
 
--- What a write of a byte leaves: the node that answers may have another byte there, and all else is kept.
--- Which byte it has then is for it to say: it may have bits that no write changes.
+-- What a write of a byte leaves: the node that answers may have another byte there, and all else is
+-- kept. Which byte it has then is for it to say: it may have bits that no write changes.
 pub record IsWritten (before : Board) (access : Slot) (offset : ℕ) (after : Board) : Type 0 where
   pub nothing : answers before access ≡ [] → after ≡ before
   pub byte : (place : ℕ × Place) → answers before access ≡ place ∷ []

@@ -1,11 +1,12 @@
--- A board, and the nodes on it that answer an access to configuration space (Bridge 1.2, 3.1.2.1.2).
+-- A board, and the nodes on it that answer an access to configuration space (Bridge 1.2,
+-- 3.1.2.1.2).
 use Rattle.std.specs.Prelude.{ℕ, ◌==◌, ◌≤◌, nat_lt, nat_le, Bool, ◌&&◌, ◌||◌, if◌then◌else◌, List, [], ◌∷◌, ◌++◌, map, length}
 use Rattle.std.specs.List.{list_all, filter, flat_map}
 use Rattle.pci_spec.specs.Slot.{Slot}
 use Rattle.pci_spec.specs.Header.{layout, secondary_bus, subordinate_bus}
 
--- The nodes on one bus, one after the other: each has a device number, a function number and an image,
--- then come the nodes on its other side, and those that follow it on its bus.
+-- The nodes on one bus, one after the other: each has a device number, a function number and an
+-- image, then come the nodes on its other side, and those that follow it on its bus.
 pub data Nodes : Type 0 where
   NoMore : Nodes
   Node : ℕ → ℕ → List ℕ → Nodes → Nodes → Nodes
@@ -18,8 +19,8 @@ pub record Root : Type 0 where
 abbrev pub Board : Type 0
 Board = List Root
 
--- the place of a node, from the first node on a bus on: it is this one, or it is on this one's other side,
--- or it is among those that follow
+-- the place of a node, from the first node on a bus on: it is this one, or it is on this one's
+-- other side, or it is among those that follow
 pub data Place : Type 0 where
   Here : Place
   Behind : Place → Place
@@ -40,8 +41,9 @@ on_bus (Node device function image behind others) access =
 abbrev pub passes_on : List ℕ → ℕ → Bool
 passes_on image bus = nat_lt (secondary_bus image) bus && nat_le bus (subordinate_bus image)
 
--- The nodes that answer an access to a bus other than this one. Each bridge on this bus looks at it: on
--- its secondary bus the nodes there answer, further on the bridges there look at it, else it ends here.
+-- The nodes that answer an access to a bus other than this one. Each bridge on this bus looks at
+-- it: on its secondary bus the nodes there answer, further on the bridges there look at it, else it
+-- ends here.
 abbrev pub behind_bridges : Nodes → Slot → List Place
 behind_bridges NoMore access = []
 behind_bridges (Node device function image behind others) access =

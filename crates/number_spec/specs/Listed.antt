@@ -8,8 +8,8 @@ use Rattle.number_spec.specs.Walk.{walk}
 use Rattle.number_spec.specs.Numbered.{IsNumbered}
 use Rattle.number_spec.specs.NoBus.{first_without}
 
--- A function is that of a node that the walk finds behind a root: it has the slot of the access that the
--- node answers, and its image.
+-- A function is that of a node that the walk finds behind a root: it has the slot of the access
+-- that the node answers, and its image.
 pub record IsOf (root : Root) (place : Place) (f : Function) : Type 0 where
   pub found : Contains (walk root.nodes root.nodes) place
   pub slot : f.slot ≡ access_of root.number root.nodes place
@@ -23,7 +23,8 @@ pub record IsListing (board : Board) (s : System) : Type 0 where
       → (place : Place) → Contains (walk root.nodes root.nodes) place
       → (f : Function) × Contains s f × IsOf root place f
 
--- Behind each root each bridge has its numbers, up to a last bus of that root. No root has a bus of another.
+-- Behind each root each bridge has its numbers, up to a last bus of that root. No root has a bus of
+-- another.
 pub record HasNumbers (last : ℕ → ℕ) (board : Board) : Type 0 where
   pub rising : IsStrictlyIncreasing (map (λ root. root.number) board)
   pub apart : (root other : Root) → Contains board root → Contains board other

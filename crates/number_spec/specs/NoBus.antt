@@ -10,8 +10,8 @@ abbrev pub first_of : Option Slot → Option Slot → Option Slot
 first_of (Some slot) other = Some slot
 first_of None other = other
 
--- the first bridge in the order of the walk that has no bus on its other side, of those on a bus and
--- behind it
+-- the first bridge in the order of the walk that has no bus on its other side, of those on a bus
+-- and behind it
 abbrev pub first_without : ℕ → Nodes → Option Slot
 first_without bus NoMore = None
 first_without bus (Node device function image behind others) =

@@ -18,8 +18,8 @@ without_numbers (Node device function image behind others) =
     Node device function (if is_type_1 image then with_numbers 0 0 0 image else image)
     (without_numbers behind) (without_numbers others)
 
--- the secondary bus numbers of the bridges that a walk comes to, in its order: a bridge before what is
--- behind it, and nothing behind one without a bus
+-- the secondary bus numbers of the bridges that a walk comes to, in its order: a bridge before what
+-- is behind it, and nothing behind one without a bus
 abbrev pub secondaries : Nodes → List ℕ
 secondaries NoMore = []
 secondaries (Node device function image behind others) =
@@ -27,8 +27,8 @@ secondaries (Node device function image behind others) =
     then secondary_bus image ∷ (if has_bus image then secondaries behind else []) else [])
     ++ secondaries others
 
--- the secondary bus number of the n-th bridge behind a root: where it would be above the last bus, the
--- bridge has none
+-- the secondary bus number of the n-th bridge behind a root: where it would be above the last bus,
+-- the bridge has none
 abbrev pub number_of : ℕ → ℕ → ℕ → ℕ
 number_of root last n = if nat_le (root + n) last then root + n else 0
 
@@ -37,8 +37,8 @@ abbrev pub greatest : ℕ → List ℕ → ℕ
 greatest n [] = n
 greatest n (m ∷ more) = greatest (max n m) more
 
--- whether a bridge shows the bus that it is on, and the greatest secondary bus number of a bridge behind it
--- or its own; one without a bus shows 0 in all three
+-- whether a bridge shows the bus that it is on, and the greatest secondary bus number of a bridge
+-- behind it or its own; one without a bus shows 0 in all three
 abbrev pub has_range : ℕ → List ℕ → Nodes → Bool
 has_range bus image behind =
     if has_bus image
@@ -53,12 +53,13 @@ have_ranges bus (Node device function image behind others) =
     (not (is_type_1 image) || has_range bus image behind)
     && (not (has_bus image) || have_ranges (secondary_bus image) behind) && have_ranges bus others
 
--- The nodes behind a root are numbered, up to a last bus. Of what is behind a bridge without a bus nothing
--- more is said: no access gets there.
+-- The nodes behind a root are numbered, up to a last bus. Of what is behind a bridge without a bus
+-- nothing more is said: no access gets there.
 pub record IsNumbered (root : ℕ) (last : ℕ) (before : Nodes) (after : Nodes) : Type 0 where
   -- they are the same nodes with the same images, but for the bus numbers of bridges
   pub same : without_numbers before ≡ without_numbers after
   -- the n-th bridge has the n-th bus above the root
-  pub order : secondaries after ≡ map (number_of root last) (range_with_len 1 (length (secondaries after)))
+  pub order : secondaries after
+      ≡ map (number_of root last) (range_with_len 1 (length (secondaries after)))
   -- and shows the bus that it is on, and the last bus that it leads to
   pub ranges : IsTrue (have_ranges root after)

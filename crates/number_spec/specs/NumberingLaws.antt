@@ -16,7 +16,8 @@ use Rattle.number_spec.specs.NoBus.{first_without}
 use Rattle.number_spec.specs.Listed.{IsListing, HasNumbers}
 use Rattle.number_spec.specs.Reached.{reached, only_bridges_lead}
 
--- The bridges whose numbers are in order are those that the walk comes to, where it finds all nodes.
+-- The bridges whose numbers are in order are those that the walk comes to, where it finds all
+-- nodes.
 abbrev pub WalkIsInOrder : Type 0
 WalkIsInOrder =
     (nodes : Nodes) → IsTrue (is_walkable nodes)
@@ -29,8 +30,8 @@ SameIsWalkable =
     (before after : Nodes) → without_numbers before ≡ without_numbers after
     → is_walkable before ≡ is_walkable after
 
--- Where the nodes behind a root are numbered, and no two on a bus have one device and function, each access
--- is answered by one node at most.
+-- Where the nodes behind a root are numbered, and no two on a bus have one device and function,
+-- each access is answered by one node at most.
 abbrev pub NumberedIsSingle : Type 0
 NumberedIsSingle =
     (root last : ℕ) (before after : Nodes) → IsTrue (is_rising after)
@@ -56,15 +57,16 @@ SpreadIsSingle =
     (root high : ℕ) (nodes : Nodes) → IsTrue (is_rising nodes) → IsSpread root high nodes
     → IsSingle (record { number = root; nodes = nodes } ∷ [])
 
--- Numbers don't hang on those that were there: where the same nodes are numbered twice, a walk comes to the
--- same nodes with the same images,
+-- Numbers don't hang on those that were there: where the same nodes are numbered twice, a walk
+-- comes to the same nodes with the same images,
 abbrev pub NumbersAreOne : Type 0
 NumbersAreOne =
     (root last : ℕ) (first second after again : Nodes)
     → without_numbers first ≡ without_numbers second → IsNumbered root last first after
     → IsNumbered root last second again → reached after ≡ reached again
 
--- and where each bridge has a bus, and there is nothing behind what is no bridge, all nodes are the same.
+-- and where each bridge has a bus, and there is nothing behind what is no bridge, all nodes are the
+-- same.
 abbrev pub AllNumbersAreOne : Type 0
 AllNumbersAreOne =
     (root last : ℕ) (first second after again : Nodes)
@@ -72,8 +74,8 @@ AllNumbersAreOne =
     → IsNumbered root last second again → first_without root after ≡ None
     → IsTrue (only_bridges_lead after) → after ≡ again
 
--- Where each bridge has its numbers, the bus ranges of the functions that a walk lists nest, with the
--- board's roots.
+-- Where each bridge has its numbers, the bus ranges of the functions that a walk lists nest, with
+-- the board's roots.
 abbrev pub ListedIsNested : Type 0
 ListedIsNested =
     (last : ℕ → ℕ) (board : Board) (s : System) → HasNumbers last board → IsListing board s
@@ -91,7 +93,8 @@ RootsAreSingle =
     (board : Board) → IsStrictlyIncreasing (map (λ root. root.number) board)
     → ((root : Root) → Contains board root → IsSingle (root ∷ [])) → IsSingle board
 
--- Each node that the walk finds answers one access, that to its bus, device and function, and no other.
+-- Each node that the walk finds answers one access, that to its bus, device and function, and no
+-- other.
 abbrev pub FoundAnswersOnce : Type 0
 FoundAnswersOnce =
     (root last : ℕ) (before after : Nodes) → IsNumbered root last before after

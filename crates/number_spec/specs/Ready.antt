@@ -5,9 +5,10 @@ use Rattle.number_spec.specs.Board.{Board}
 use Rattle.number_spec.specs.Walk.{is_walkable}
 use Rattle.number_spec.specs.Access.{nodes_behind}
 
--- The buses from a root to a last one are this root's: one root has the number, and none has one of the
--- others. A walk over each bus behind it finds all that is there.
+-- The buses from a root to a last one are this root's: one root has the number, and none has one of
+-- the others. A walk over each bus behind it finds all that is there.
 pub record IsReady (board : Board) (root : ℕ) (last : ℕ) : Type 0 where
   pub one : length (filter (λ other. other.number == root) board) ≡ 1
-  pub apart : IsTrue (list_all (λ other. nat_le other.number root || nat_lt last other.number) board)
+  pub apart : IsTrue
+      (list_all (λ other. nat_le other.number root || nat_lt last other.number) board)
   pub walkable : IsTrue (is_walkable (nodes_behind board root))

@@ -17,9 +17,10 @@ shows image primary secondary subordinate =
     primary_bus image == primary && secondary_bus image == secondary
     && subordinate_bus image == subordinate
 
--- Whether the bridges on a bus have their numbers, where those up to `taken` are in use. The first bridge
--- takes the next number, those behind it take the numbers after that, and it leads to the last of these
--- and to as many more as it has room for. The bridges that follow on its bus take the numbers after that.
+-- Whether the bridges on a bus have their numbers, where those up to `taken` are in use. The first
+-- bridge takes the next number, those behind it take the numbers after that, and it leads to the
+-- last of these and to as many more as it has room for. The bridges that follow on its bus take the
+-- numbers after that.
 abbrev pub have_numbers : (List ℕ → ℕ) → ℕ → ℕ → ℕ → Nodes → Bool
 have_numbers room last bus taken NoMore = true
 have_numbers room last bus taken (Node device function image behind others) =
@@ -30,9 +31,10 @@ have_numbers room last bus taken (Node device function image behind others) =
     else shows image 0 0 0 && have_numbers room last bus taken others)
     else have_numbers room last bus taken others
 
--- The nodes behind a root are numbered, up to a last bus, with room for so many more buses behind each
--- bridge, by its image. Of what is behind a bridge without a bus nothing more is said.
-pub record IsNumberedWithRoom (room : List ℕ → ℕ) (root : ℕ) (last : ℕ) (before : Nodes) (after : Nodes) : Type 0 where
+-- The nodes behind a root are numbered, up to a last bus, with room for so many more buses behind
+-- each bridge, by its image. Of what is behind a bridge without a bus nothing more is said.
+pub record IsNumberedWithRoom (room : List ℕ → ℕ) (root : ℕ) (last : ℕ) (before : Nodes)
+    (after : Nodes) : Type 0 where
   -- they are the same nodes with the same images, but for the bus numbers of bridges
   pub same : without_numbers before ≡ without_numbers after
   pub numbers : IsTrue (have_numbers room last root root after)

@@ -5,11 +5,13 @@ use Rattle.pci_spec.specs.Registers.{HEADER_TYPE}
 use Rattle.pci_spec.specs.Header.{vendor_id, secondary_bus}
 use Rattle.number_spec.specs.Board.{Nodes, NoMore, Node, Place, Here, Behind, Next, is_type_1}
 
--- whether function 0 of a device is on a bus, with bit 7 of its header type: the device has more functions
+-- whether function 0 of a device is on a bus, with bit 7 of its header type: the device has more
+-- functions
 abbrev pub has_more : Nodes → ℕ → Bool
 has_more NoMore device = false
 has_more (Node d function image behind others) device =
-    (d == device && function == 0 && has_bit (byte_at image HEADER_TYPE) 7) || has_more others device
+    (d == device && function == 0 && has_bit (byte_at image HEADER_TYPE) 7)
+    || has_more others device
 
 -- whether the walk over a bus looks for a function of a device
 abbrev pub is_found : Nodes → ℕ → ℕ → Bool
@@ -19,8 +21,9 @@ is_found bus device function = function == 0 || has_more bus device
 abbrev pub has_bus : List ℕ → Bool
 has_bus image = is_type_1 image && not (secondary_bus image == 0)
 
--- The places that the walk comes to, in its order: on a bus by device and function, which is how its nodes
--- stand, and a bridge before what is behind it. The first argument is all of the bus that the nodes are on.
+-- The places that the walk comes to, in its order: on a bus by device and function, which is how
+-- its nodes stand, and a bridge before what is behind it. The first argument is all of the bus that
+-- the nodes are on.
 abbrev pub walk : Nodes → Nodes → List Place
 walk bus NoMore = []
 walk bus (Node device function image behind others) =

@@ -2,8 +2,9 @@
 
 ghost use Rattle.number_spec.specs.NumberingLaws.{WalkIsInOrder, SameIsWalkable, NumberedIsSingle, RoomyIsSingle, SpreadIsSingle, RootsAreSingle, NoRoomIsInOrder, FoundAnswersOnce, RoomyAnswersOnce, NumbersAreOne, AllNumbersAreOne, ListedIsNested, ListedHasNoBusFault};
 
-/// On a board whose bridges are numbered in the order of the walk each access is answered once at most,
-/// and also where numbers are kept free, while they are given, or where there are several roots.
+/// On a board whose bridges are numbered in the order of the walk each access is answered once at
+/// most, and also where numbers are kept free, while they are given, or where there are several
+/// roots.
 pub fn numbered_boards_are_single()
     ensures single { NumberedIsSingle }
     ensures roomy { RoomyIsSingle }
@@ -11,7 +12,8 @@ pub fn numbered_boards_are_single()
     ensures roots { RootsAreSingle }
 {}
 
-/// Where no number is kept free the bridges have the numbers above their root in the order of the walk.
+/// Where no number is kept free the bridges have the numbers above their root in the order of the
+/// walk.
 pub fn bridges_are_numbered_in_order()
     ensures walk { WalkIsInOrder }
     ensures same { SameIsWalkable }
@@ -24,7 +26,8 @@ pub fn numbers_are_determined()
     ensures all { AllNumbersAreOne }
 {}
 
-/// What a walk of a numbered board lists has bus ranges that nest, and none of the faults of bus numbers.
+/// What a walk of a numbered board lists has bus ranges that nest, and none of the faults of bus
+/// numbers.
 pub fn listed_functions_nest()
     ensures nested { ListedIsNested }
     ensures no_fault { ListedHasNoBusFault }

@@ -7,12 +7,14 @@ use Rattle.number_spec.specs.Ready.{IsReady}
 use Rattle.pci_number.specs.Answer.{named_by, Answers}
 use Rattle.pci_number.specs.declared.number.Numbering.{Numbering}
 
-pub record IsStanding (root : ℕ) (first : Numbering) (after : Board) (second : Numbering) (again : Board) : Type 0 where
+pub record IsStanding (root : ℕ) (first : Numbering) (after : Board) (second : Numbering)
+    (again : Board) : Type 0 where
   pub answer : second ≡ first
   -- each node that a walk comes to has the image that it had
   pub reached : reached (nodes_behind again root) ≡ reached (nodes_behind after root)
   -- where each bridge has its numbers, and only bridges lead further, that is the whole board
-  pub all : named_by first ≡ None → IsTrue (only_bridges_lead (nodes_behind after root)) → again ≡ after
+  pub all : named_by first ≡ None → IsTrue (only_bridges_lead (nodes_behind after root))
+      → again ≡ after
 
 -- Where a board that may be numbered is numbered and numbered again, the numbers stand.
 abbrev pub NumbersStand : Type 0

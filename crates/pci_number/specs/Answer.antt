@@ -20,7 +20,8 @@ highest_of (Numbered highest) = highest
 highest_of (NoBus slot highest) = highest
 
 -- Behind the root the bridges are numbered; behind the others all is kept.
-pub record IsAnswer (before : Board) (root : ℕ) (last : ℕ) (answer : Numbering) (after : Board) : Type 0 where
+pub record IsAnswer (before : Board) (root : ℕ) (last : ℕ) (answer : Numbering)
+    (after : Board) : Type 0 where
   pub others : after ≡ with_nodes before root (nodes_behind after root)
   pub numbered : IsNumbered root last (nodes_behind before root) (nodes_behind after root)
   -- the first bridge without a number is the one that is named
@@ -30,7 +31,8 @@ pub record IsAnswer (before : Board) (root : ℕ) (last : ℕ) (answer : Numberi
 
 -- the same as long as the board is one that can be numbered
 abbrev pub Answers : Board → ℕ → ℕ → Numbering → Board → Type 0
-Answers before root last answer after = IsReady before root last → IsAnswer before root last answer after
+Answers before root last answer after = IsReady before root last
+    → IsAnswer before root last answer after
 
 -- Behind the root all but bus numbers is kept, and behind the others all.
 pub record IsBoardKept (before : Board) (root : ℕ) (after : Board) : Type 0 where

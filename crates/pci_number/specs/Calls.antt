@@ -10,7 +10,8 @@ use Rattle.number_spec.specs.Listed.{IsListing, HasNumbers}
 use Rattle.pci_number.specs.Answer.{named_by, Answers}
 use Rattle.pci_number.specs.declared.number.Numbering.{Numbering}
 
--- The last bus of each root is below the next root, and a walk over each bus behind them finds all that is there.
+-- The last bus of each root is below the next root, and a walk over each bus behind them finds all
+-- that is there.
 pub record AreReady (last : ℕ → ℕ) (board : Board) : Type 0 where
   pub rising : IsStrictlyIncreasing (map (λ root. root.number) board)
   pub apart : (root other : Root) → Contains board root → Contains board other

@@ -11,7 +11,8 @@ pub record Rest : Type 0 where
   pub nodes : Nodes
   pub device : ℕ
 
-pub record IsRestOf (now : Board) (bus : ℕ) (place : ℕ) (high : ℕ) (last : ℕ) (more : Bool) (rest : Rest) : Type 0 where
+pub record IsRestOf (now : Board) (bus : ℕ) (place : ℕ) (high : ℕ) (last : ℕ) (more : Bool)
+    (rest : Rest) : Type 0 where
   pub is : now ≡ rest.view.fill rest.nodes
   pub seen : IsSeen rest.view bus place high last
   pub past : more ≡ true → rest.device * 8 + 1 ≤ place

@@ -28,8 +28,8 @@ IsLess image new =
     (subordinate_bus new ≡ 0)
     × ((secondary_bus new ≡ secondary_bus image) ⊎ (secondary_bus new ≡ 0))
 
--- The nodes on a bus are as they were but for bus numbers of bridges on it, and no access gets more answers
--- from behind them.
+-- The nodes on a bus are as they were but for bus numbers of bridges on it, and no access gets more
+-- answers from behind them.
 pub record IsLessOf (nodes : Nodes) (after : Nodes) : Type 0 where
   pub same : without_numbers after ≡ without_numbers nodes
   pub own : without_own_numbers after ≡ without_own_numbers nodes
@@ -46,17 +46,19 @@ pub record IsLessStep (v : View) (nodes : Nodes) (was : Board) (now : Board) : T
   pub less : IsLessOf from to
 
 -- While a bridge is closed it forwards less at each write.
-abbrev pub IsCloseStood : {T E : Type 0} → Board → Slot → List Board → Result T E → Board → List Board → Type 0
+abbrev pub IsCloseStood : {T E : Type 0} → Board → Slot → List Board → Result T E → Board
+    → List Board → Type 0
 IsCloseStood before slot old result now new =
     (v : View) (high last : ℕ) (image : List ℕ) (behind others : Nodes)
     → before ≡ v.fill (Node slot.device slot.function image behind others)
     → IsSeen v slot.bus (code slot) high last → all_after slot.device slot.function others ≡ true
     → is_type_1 image ≡ true
-    → StepsOrEnds (IsLessStep v (Node slot.device slot.function image behind others)) result before old
-    now new
+    → StepsOrEnds (IsLessStep v (Node slot.device slot.function image behind others)) result
+    before old now new
 
 -- While the bridges on a bus are closed they forward less at each write.
-abbrev pub IsHushStood : {T E : Type 0} → Board → ℕ → List Board → Result T E → Board → List Board → Type 0
+abbrev pub IsHushStood : {T E : Type 0} → Board → ℕ → List Board → Result T E → Board
+    → List Board → Type 0
 IsHushStood before bus old result now new =
     (v : View) (high last : ℕ) (nodes : Nodes) → before ≡ v.fill nodes
     → IsSeen v bus 0 high last → is_walkable nodes ≡ true

@@ -18,8 +18,8 @@ pub record View : Type 0 where
 abbrev pub code : Slot → ℕ
 code slot = slot.device * 8 + slot.function
 
--- The nodes that are left out are the last ones of a bus, from a place on. They alone answer there, and what
--- is behind them alone answers on the buses above `high`, up to `last`.
+-- The nodes that are left out are the last ones of a bus, from a place on. They alone answer there,
+-- and what is behind them alone answers on the buses above `high`, up to `last`.
 pub record IsSeen (v : View) (bus : ℕ) (from : ℕ) (high : ℕ) (last : ℕ) : Type 0 where
   pub here : (nodes : Nodes) (access : Slot) → access.bus ≡ bus → from ≤ code access
       → answers (v.fill nodes) access ≡ map v.at (on_bus nodes access)
@@ -35,8 +35,8 @@ pub record IsSeen (v : View) (bus : ℕ) (from : ℕ) (high : ℕ) (last : ℕ) 
 abbrev pub IsKeptBut : ℕ → List ℕ → List ℕ → Type 0
 IsKeptBut offset image after = (after ≡ image) ⊎ ((kept : ℕ) × (after ≡ set image offset kept))
 
--- The last nodes of a bus from a place on, each found by a walk: a function above 0 is one of the device
--- that had function 0, and had it as the first of more.
+-- The last nodes of a bus from a place on, each found by a walk: a function above 0 is one of the
+-- device that had function 0, and had it as the first of more.
 abbrev pub IsRest : ℕ → ℕ → Bool → Nodes → Type 0
 IsRest place device more NoMore = Unit {0}
 IsRest place device more (Node d f image behind others) =

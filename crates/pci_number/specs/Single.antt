@@ -14,14 +14,16 @@ use Rattle.pci_number.specs.Less.{without_own_numbers, AreShut}
 use Rattle.pci_number.specs.Stood.{Adds, AddsOrEnds, AddsSteps}
 use Rattle.pci_number.specs.declared.walk.Walk.{Walk}
 
--- The board is single with these nodes where their bridges are spread over the buses above `high`, up to `last`.
+-- The board is single with these nodes where their bridges are spread over the buses above `high`,
+-- up to `last`.
 abbrev pub IsApart : View → Nodes → ℕ → ℕ → Type 0
 IsApart v nodes high last =
     (after : Nodes) → without_numbers after ≡ without_numbers nodes → IsSpread high last after
     → IsSingle (v.fill after)
 
 -- A bridge that forwards nothing gets a bus.
-abbrev pub IsShowStood : {T E : Type 0} → Board → Slot → ℕ → List Board → Result T E → List Board → Type 0
+abbrev pub IsShowStood : {T E : Type 0} → Board → Slot → ℕ → List Board → Result T E
+    → List Board → Type 0
 IsShowStood before slot bus old result new =
     (v : View) (high last : ℕ) (image : List ℕ) (behind others : Nodes)
     → before ≡ v.fill (Node slot.device slot.function image behind others)
@@ -32,7 +34,8 @@ IsShowStood before slot bus old result new =
     → AddsOrEnds IsSingle result old new
 
 -- The same, and the bridges on that bus are closed.
-abbrev pub IsOpenStood : {T E : Type 0} → Board → Slot → ℕ → ℕ → List Board → Result T E → List Board → Type 0
+abbrev pub IsOpenStood : {T E : Type 0} → Board → Slot → ℕ → ℕ → List Board → Result T E
+    → List Board → Type 0
 IsOpenStood before slot bus last old result new =
     (v : View) (high : ℕ) (image : List ℕ) (behind others : Nodes)
     → before ≡ v.fill (Node slot.device slot.function image behind others)
@@ -43,14 +46,16 @@ IsOpenStood before slot bus last old result new =
     → AddsOrEnds IsSingle result old new
 
 -- The bridges on a bus, which are closed, and those behind them get their numbers.
-abbrev pub IsBusStood : {T E : Type 0} → Board → ℕ → ℕ → Walk → List Board → Result T E → List Board → Type 0
+abbrev pub IsBusStood : {T E : Type 0} → Board → ℕ → ℕ → Walk → List Board → Result T E
+    → List Board → Type 0
 IsBusStood before bus last start old result new =
     (v : View) (nodes : Nodes) → before ≡ v.fill nodes
     → IsSeen v bus 0 start.taken last → is_walkable nodes ≡ true → IsClosed nodes
     → IsApart v nodes start.taken last → AddsOrEnds IsSingle result old new
 
 -- the walk over a bus under way
-abbrev pub IsWalkStanding : Board → ℕ → ℕ → Walk → List Board → ℕ → Bool → Walk → Board → List Board → Type 0
+abbrev pub IsWalkStanding : Board → ℕ → ℕ → Walk → List Board → ℕ → Bool → Walk → Board
+    → List Board → Type 0
 IsWalkStanding before bus last start old place more walk now new =
     (v : View) (nodes : Nodes) → before ≡ v.fill nodes
     → IsSeen v bus 0 start.taken last → is_walkable nodes ≡ true → IsClosed nodes
@@ -64,28 +69,31 @@ IsSingleBeside before root = IsSingle (with_nodes before root NoMore)
 
 -- The board is single at the end.
 abbrev pub EndsSingle : Board → ℕ → ℕ → Board → Type 0
-EndsSingle before root last after = IsReady before root last → IsSingleBeside before root → IsSingle after
+EndsSingle before root last after = IsReady before root last → IsSingleBeside before root
+    → IsSingle after
 
 -- A board that stood while the bridges on the root bus were closed, and the one before it.
 pub record IsHushStep (before : Board) (root : ℕ) (was : Board) (board : Board) : Type 0 where
   -- it is as at the start but for the bus numbers of the bridges on that bus
   pub others : board ≡ with_nodes before root (nodes_behind board root)
-  pub own : without_own_numbers (nodes_behind board root) ≡ without_own_numbers (nodes_behind before root)
+  pub own : without_own_numbers (nodes_behind board root)
+      ≡ without_own_numbers (nodes_behind before root)
   -- no access has more answers than on the one before it
   pub fewer : (access : Slot) → length (answers board access) ≤ length (answers was access)
   -- it is single if no bridge on that bus forwards anything
   pub shut : IsSingleBeside before root → AreShut (nodes_behind board root) → IsSingle board
 
--- The bridges on the root bus were closed, or numbering stopped before that was done: no write came after it
--- but the one at which it stopped.
+-- The bridges on the root bus were closed, or numbering stopped before that was done: no write came
+-- after it but the one at which it stopped.
 abbrev pub ClosedOrStopped : {T E : Type 0} → Nodes → Result T E → List Board → List Board → Type 0
 ClosedOrStopped nodes (Ok answer) hushed new = AreShut nodes
 ClosedOrStopped nodes (Err stop) hushed new =
     AreShut nodes ⊎ ((new ≡ hushed) ⊎ ((board : Board) × (new ≡ board ∷ hushed)))
 
--- The boards that stood after each write. Where numbering stopped with an error, nothing is said of the one after
--- its last write: that may have left another number.
-pub record IsSingleThroughout {T E : Type 0} (before : Board) (root : ℕ) (answer : Result T E) (old : List Board) (new : List Board) : Type 0 where
+-- The boards that stood after each write. Where numbering stopped with an error, nothing is said of
+-- the one after its last write: that may have left another number.
+pub record IsSingleThroughout {T E : Type 0} (before : Board) (root : ℕ) (answer : Result T E)
+    (old : List Board) (new : List Board) : Type 0 where
   -- those that stood until the bridges on the root bus were closed
   pub closed : Board
   pub hushed : List Board

@@ -14,10 +14,12 @@ Adds P old new = (added : List Board) × (new ≡ added ++ old) × Each P added
 -- The same, but that of one last board nothing is said: its write may not have been taken.
 abbrev pub Ends : (Board → Type 0) → List Board → List Board → Type 0
 Ends P old new =
-    (taken : List Board) × Adds P old taken × ((new ≡ taken) ⊎ ((board : Board) × (new ≡ board ∷ taken)))
+    (taken : List Board) × Adds P old taken
+    × ((new ≡ taken) ⊎ ((board : Board) × (new ≡ board ∷ taken)))
 
 -- the one where all was done, the other where an error came
-abbrev pub AddsOrEnds : {T E : Type 0} → (Board → Type 0) → Result T E → List Board → List Board → Type 0
+abbrev pub AddsOrEnds : {T E : Type 0} → (Board → Type 0) → Result T E → List Board → List Board
+    → Type 0
 AddsOrEnds P (Ok x) old new = Adds P old new
 AddsOrEnds P (Err e) old new = Ends P old new
 
@@ -37,8 +39,8 @@ abbrev pub EachStep : (Board → Board → Type 0) → Board → List Board → 
 EachStep R before [] = Unit {0}
 EachStep R before (board ∷ boards) = R (latest before boards) board × EachStep R before boards
 
--- Boards have come to those that stood, from one to another, and this is said of each that has and of the one
--- before it.
+-- Boards have come to those that stood, from one to another, and this is said of each that has and
+-- of the one before it.
 abbrev pub AddsSteps : (Board → Board → Type 0) → Board → List Board → Board → List Board → Type 0
 AddsSteps R before old now new =
     (added : List Board) × (new ≡ added ++ old) × EachStep R before added
@@ -50,6 +52,7 @@ EndsSteps R before old new =
     (now : Board) × (taken : List Board) × AddsSteps R before old now taken
     × ((new ≡ taken) ⊎ ((board : Board) × (new ≡ board ∷ taken)))
 
-abbrev pub StepsOrEnds : {T E : Type 0} → (Board → Board → Type 0) → Result T E → Board → List Board → Board → List Board → Type 0
+abbrev pub StepsOrEnds : {T E : Type 0} → (Board → Board → Type 0) → Result T E → Board
+    → List Board → Board → List Board → Type 0
 StepsOrEnds R (Ok x) before old now new = AddsSteps R before old now new
 StepsOrEnds R (Err e) before old now new = EndsSteps R before old new

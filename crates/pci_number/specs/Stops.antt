@@ -27,7 +27,8 @@ abbrev pub number_write : Slot → ℕ → ℕ → Write
 number_write slot offset number =
     record { slot = slot; offset = offset; width = 1; value = number }
 
--- what a stop says of the board and of the last write: the number was written last, and is not what is read there
+-- what a stop says of the board and of the last write: the number was written last, and is not what
+-- is read there
 abbrev pub IsStop : Board → Option Write → Stop → Type 0
 IsStop board last_write Port = Unit {0}
 IsStop board last_write (Stuck told) =

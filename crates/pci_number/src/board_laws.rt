@@ -9,16 +9,17 @@ pub fn numbers_stand()
     ensures stand { NumbersStand }
 {}
 
-/// Where numbering answers `Numbered`, the root is numbered and the others are as they were. Of a board with no other
-/// root what a walk then lists has none of the faults of bus numbers.
+/// Where numbering answers `Numbered`, the root is numbered and the others are as they were. Of a
+/// board with no other root what a walk then lists has none of the faults of bus numbers.
 pub fn numbered_root_has_no_bus_fault()
     ensures one { OneRootIsNumbered }
     ensures alone { AloneHasNoBusFault }
 {}
 
-/// Where the last bus of each root is below the next root, and numbering answers `Numbered` for one root after another, in
-/// whatever order, each bridge of the board has its numbers in the end, what a walk then lists has none of the faults of
-/// bus numbers, and at most one node answers each access.
+/// Where the last bus of each root is below the next root, and numbering answers `Numbered` for one
+/// root after another, in whatever order, each bridge of the board has its numbers in the end, what
+/// a walk then lists has none of the faults of bus numbers, and at most one node answers each
+/// access.
 pub fn roots_are_numbered_one_by_one()
     ensures numbers { RootsGetNumbers }
     ensures no_fault { RootsHaveNoBusFault }

@@ -12,13 +12,13 @@ use crate::stop::Stop;
 use pci_base::offset::{PRIMARY_BUS, SECONDARY_BUS, SUBORDINATE_BUS};
 use pci_base::slot::Slot;
 
-/// Makes a bridge forward nothing. The subordinate number goes first: with it, a secondary number of 0 would forward
-/// each bus up to it.
+/// Makes a bridge forward nothing. The subordinate number goes first: with it, a secondary number
+/// of 0 would forward each bus up to it.
 fn close<P: BoardPort>(port: &mut P, slot: Slot) -> Result<(), Stop>
     ensures closed { OnOk result (IsShownAt (P.board port.old) slot 0 0 0 (P.board port.new)) }
     ensures left { OnErr result (IsLeftAt (P.board port.old) slot (P.board port.new)) }
-    ensures stood { IsCloseStood (P.board port.old) slot (P.history port.old) result (P.board port.new)
-        (P.history port.new) }
+    ensures stood { IsCloseStood (P.board port.old) slot (P.history port.old) result
+        (P.board port.new) (P.history port.new) }
     ensures stop { IfErr result (IsStop (P.board port.new) (P.last_write port.new)) }
     ensures counted { P.failures port.new ≡ P.failures port.old + failures_at result }
     ensures few { P.writes port.new ≤ P.writes port.old + 3 }
@@ -34,8 +34,8 @@ pub fn hush<P: BoardPort>(port: &mut P, bus: u8) -> Result<bool, Stop>
     ensures hushed { IfOk result
         (λ bridges. IsHushed (P.board port.old) bus bridges (P.board port.new)) }
     ensures left { OnErr result (IsHushLeft (P.board port.old) bus (P.board port.new)) }
-    ensures stood { IsHushStood (P.board port.old) bus (P.history port.old) result (P.board port.new)
-        (P.history port.new) }
+    ensures stood { IsHushStood (P.board port.old) bus (P.history port.old) result
+        (P.board port.new) (P.history port.new) }
     ensures stop { IfErr result (IsStop (P.board port.new) (P.last_write port.new)) }
     ensures counted { P.failures port.new ≡ P.failures port.old + failures_at result }
     ensures few { IsHushFew (P.board port.old) bus (P.writes port.old) (P.writes port.new) }

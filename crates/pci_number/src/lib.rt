@@ -1,5 +1,6 @@
-//! Bus numbers for a board that has none: `number::number` gives them over any port to the board's configuration
-//! space (`port::BoardPort`), depth first in the order of devices and functions (Bridge 1.2, 3.2.5.2 to 3.2.5.4).
+//! Bus numbers for a board that has none: `number::number` gives them over any port to the board's
+//! configuration space (`port::BoardPort`), depth first in the order of devices and functions
+//! (Bridge 1.2, 3.2.5.2 to 3.2.5.4).
 #![tactic(auto)]
 
 pub mod board_laws;

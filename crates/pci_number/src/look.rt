@@ -31,7 +31,8 @@ pub fn slot_at(bus: u8, place: u16) -> Slot
     }
 }
 
-/// Looks whether a bridge is at a slot. Functions above 0 are looked at where function 0 said that there are more.
+/// Looks whether a bridge is at a slot. Functions above 0 are looked at where function 0 said that
+/// there are more.
 pub fn look<P: BoardPort>(port: &mut P, slot: Slot, more: bool) -> Result<Found, AccessFailed>
     ensures looked { IfOk result (IsLooked (P.board port.old) slot more) }
     ensures same { P.board port.new ≡ P.board port.old }

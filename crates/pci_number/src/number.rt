@@ -15,30 +15,37 @@ use pci_base::slot::Slot;
 /// What numbering answers.
 #[derive(Clone, Copy, Debug, PartialEq, Eq)]
 pub enum Numbering {
-    /// Each bridge has its numbers. The greatest is `highest`, or the root where there is no bridge.
+    /// Each bridge has its numbers. The greatest is `highest`, or the root where there is no
+    /// bridge.
     Numbered { highest: u8 },
-    /// The numbers ran out: `slot` is the first bridge that has none. It and all after it forward nothing.
+    /// The numbers ran out: `slot` is the first bridge that has none. It and all after it forward
+    /// nothing.
     NoBus { slot: Slot, highest: u8 },
 }
 
-/// Numbers the buses behind a root bus, from `root` + 1 to `last`, depth first in the order of devices and functions
-/// (Bridge 1.2, 3.2.5.2 to 3.2.5.4). First the bridges on the root bus are made to forward nothing. Of each bridge
-/// bytes 18h to 1Ah alone are written, one at a time, where that changes them; each is read back. Once those on the
-/// root bus forward nothing, at most one node answers each access after every write, as long as that holds behind the
-/// other roots; and from the start on if it was so at the start.
+/// Numbers the buses behind a root bus, from `root` + 1 to `last`, depth first in the order of
+/// devices and functions (Bridge 1.2, 3.2.5.2 to 3.2.5.4). First the bridges on the root bus are
+/// made to forward nothing. Of each bridge bytes 18h to 1Ah alone are written, one at a time, where
+/// that changes them; each is read back. Once those on the root bus forward nothing, at most one
+/// node answers each access after every write, as long as that holds behind the other roots; and
+/// from the start on if it was so at the start.
 ///
 /// # Errors
 ///
-/// `Stuck` where a write read back otherwise, `Port` where an access failed. That write was the last one, and it may
-/// have left a number with which two nodes answer an access.
+/// `Stuck` where a write read back otherwise, `Port` where an access failed. Nothing is written after
+/// that. Of the board that is left then, bus numbers behind this root alone are others than before;
+/// each board before the last write is as said above, and of the one after it nothing is said: the
+/// bridge may have kept another number, with which two nodes answer an access.
 pub fn number<P: BoardPort>(port: &mut P, root: u8, last: u8) -> Result<Numbering, Stop>
     ensures answer { IfOk result
         (λ answer. Answers (P.board port.old) root last answer (P.board port.new)) }
     // whatever happens, bytes 18h to 1Ah of bridges behind this root alone are changed
     ensures kept { Keeps (P.board port.old) root last (P.board port.new) }
-    // each board that stood is single, from when the bridges on the root bus are closed, or from the start
+    // each board that stood is single, from when the bridges on the root bus are closed, or from
+    // the start
     ensures single { IsReady (P.board port.old) root last
-        → IsSingleThroughout (P.board port.old) root result (P.history port.old) (P.history port.new) }
+        → IsSingleThroughout (P.board port.old) root result (P.history port.old)
+        (P.history port.new) }
     ensures end { IfOk result
         (λ _. EndsSingle (P.board port.old) root last (P.board port.new)) }
     ensures stop { IfErr result (IsStop (P.board port.new) (P.last_write port.new)) }

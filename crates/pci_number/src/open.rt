@@ -17,7 +17,8 @@ fn show<P: BoardPort>(port: &mut P, slot: Slot, behind: u8) -> Result<(), Stop>
     ensures shown { OnOk result
         (IsShownAt (P.board port.old) slot slot.bus behind behind (P.board port.new)) }
     ensures left { OnErr result (IsLeftAt (P.board port.old) slot (P.board port.new)) }
-    ensures stood { IsShowStood (P.board port.old) slot behind (P.history port.old) result (P.history port.new) }
+    ensures stood { IsShowStood (P.board port.old) slot behind (P.history port.old) result
+        (P.history port.new) }
     ensures stop { IfErr result (IsStop (P.board port.new) (P.last_write port.new)) }
     ensures counted { P.failures port.new ≡ P.failures port.old + failures_at result }
     ensures few { P.writes port.new ≤ P.writes port.old + 3 }
@@ -28,16 +29,20 @@ fn show<P: BoardPort>(port: &mut P, slot: Slot, behind: u8) -> Result<(), Stop>
     Ok(())
 }
 
-/// Gives a bridge a bus, for that one alone until the bridges there forward nothing: two of them could show the same old
-/// numbers. Then what comes next is behind it. Whether there are bridges there.
+/// Gives a bridge a bus, for that one alone until the bridges there forward nothing: two of them
+/// could show the same old numbers. Then what comes next is behind it. Whether there are bridges
+/// there.
 pub fn open<P: BoardPort>(port: &mut P, slot: Slot, behind: u8, last: u8) -> Result<bool, Stop>
     ensures opened { IfOk result
         (λ bridges. IsOpened (P.board port.old) slot behind last bridges (P.board port.new)) }
-    ensures left { OnErr result (IsOpenLeft (P.board port.old) slot behind last (P.board port.new)) }
-    ensures stood { IsOpenStood (P.board port.old) slot behind last (P.history port.old) result (P.history port.new) }
+    ensures left { OnErr result (IsOpenLeft (P.board port.old) slot behind last
+        (P.board port.new)) }
+    ensures stood { IsOpenStood (P.board port.old) slot behind last (P.history port.old) result
+        (P.history port.new) }
     ensures stop { IfErr result (IsStop (P.board port.new) (P.last_write port.new)) }
     ensures counted { P.failures port.new ≡ P.failures port.old + failures_at result }
-    ensures few { IsOpenFew (P.board port.old) slot behind last (P.writes port.old) (P.writes port.new) }
+    ensures few { IsOpenFew (P.board port.old) slot behind last (P.writes port.old)
+        (P.writes port.new) }
 {
     show(port, slot, behind)?;
     if !hush(port, behind)? {

@@ -11,7 +11,8 @@ use pci_base::slot::Slot;
 #[derive(Clone, Copy, Debug, PartialEq, Eq)]
 pub struct AccessFailed;
 
-/// A way to the configuration space of a board. Nothing is said of an access that several nodes answer.
+/// A way to the configuration space of a board. Nothing is said of an access that several nodes
+/// answer.
 pub trait BoardPort {
     // The board: the nodes behind each root, with their images.
     ghost board: { Self → Board };

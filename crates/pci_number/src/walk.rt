@@ -43,10 +43,12 @@ pub fn number_bus<P: BoardPort>(port: &mut P, bus: u8, last: u8, start: Walk) ->
         (λ walk. IsBusNumbered (P.board port.old) bus last start walk (P.board port.new)) }
     ensures above { IfOk result (λ walk. start.taken ≤ walk.taken) }
     ensures left { OnErr result (IsBusLeft (P.board port.old) bus last start (P.board port.new)) }
-    ensures stood { IsBusStood (P.board port.old) bus last start (P.history port.old) result (P.history port.new) }
+    ensures stood { IsBusStood (P.board port.old) bus last start (P.history port.old) result
+        (P.history port.new) }
     ensures stop { IfErr result (IsStop (P.board port.new) (P.last_write port.new)) }
     ensures counted { P.failures port.new ≡ P.failures port.old + failures_at result }
-    ensures few { IsBusFew (P.board port.old) bus last start (P.writes port.old) (P.writes port.new) }
+    ensures few { IsBusFew (P.board port.old) bus last start (P.writes port.old)
+        (P.writes port.new) }
 {
     let mut walk = start;
     let mut more = false;
