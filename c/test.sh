@@ -32,6 +32,12 @@ done
 compiled number "$here/test/pciplan_number_test.c" "$here/test/pciplan_board.c" "$built/number.o" "$built/capture.o"
 printf 'number: '
 "$built/number"
+# The writes are those that crates/test_numbering makes on the same boards.
+compiled told "$here/test/pciplan_number_told.c" "$here/test/pciplan_board.c" "$built/number.o"
+boards=$here/../crates/test_numbering
+"$built/told" <"$boards/stdin" | cmp - "$boards/stdout"
+"$built/number" 40 | cmp - "$boards/stdin"
+printf 'number: %u writes and answers as in crates/test_numbering\n' "$(grep -vc @ "$boards/stdout")"
 # The code that docs/C.md shows, but for what the tests print, is of the example.
 flat() {
     tr -s ' \n' ' '

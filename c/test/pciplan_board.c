@@ -1,5 +1,6 @@
 #include "pciplan_board.h"
 
+#include <stdio.h>
 #include <string.h>
 
 enum { PLACES = 256 };
@@ -141,4 +142,45 @@ int board_is_single(struct board *b, unsigned first, unsigned last)
             return 0;
     }
     return 1;
+}
+
+void board_add_slot(struct node *n)
+{
+    n->image[0x06] = 0x10;
+    n->image[0x34] = 0x40;
+    n->image[0x40] = 0x10;
+    n->image[0x43] = 0x01;
+    n->image[0x54] = 0x40;
+}
+
+const char *board_add_text(struct board *b, const char *at, int bus)
+{
+    while (*at != 0 && *at != '\n' && *at != ']' && *at != '@') {
+        unsigned device, function, number[3] = {0, 0, 0};
+        int index;
+        if (*at == ' ') {
+            at++;
+            continue;
+        }
+        sscanf(at, "%2x.%1x", &device, &function);
+        index = board_add(b, bus, device * 8 + function, strchr(" ]\n", at[4]) == NULL);
+        for (int i = 0; function != 0 && i < b->count; i++)
+            if (b->nodes[i].bus == bus && b->nodes[i].place == device * 8)
+                b->nodes[i].image[0x0e] |= 0x80;
+        at += 4;
+        if (*at == '+')
+            board_add_slot(&b->nodes[index]);
+        at += *at == '+';
+        b->nodes[index].takes = *at != '!';
+        at += *at == '!';
+        if (*at == '(') {
+            sscanf(at, "(%2x%2x%2x)", &number[0], &number[1], &number[2]);
+            at += 8;
+        }
+        for (unsigned i = 0; i < 3; i++)
+            b->nodes[index].image[0x18 + i] = (uint8_t)number[i];
+        if (*at == '[')
+            at = board_add_text(b, at + 1, index) + 1;
+    }
+    return at;
 }

@@ -28,6 +28,13 @@ void board_add_root(struct board *b, uint8_t root);
 /* Adds a node where none is: on bus -2 - r of root r, or behind a bridge. Its index. */
 int board_add(struct board *b, int bus, unsigned place, int is_bridge);
 
+/* Makes a node a PCI Express port with a hot-plug slot: a capability at 40h. */
+void board_add_slot(struct node *n);
+
+/* Adds to a bus the nodes of a text: 01.0 is a device, 01.0[ .. ] a bridge with what is behind it. Before the bracket may
+   stand + (a hot-plug slot), ! (it takes no numbers), and (000509), the numbers that it has. Where the list ends. */
+const char *board_add_text(struct board *b, const char *at, int bus);
+
 /* The list of the nodes on a bus as `board_add` names it. */
 int *board_list(struct board *b, int bus);
 

@@ -1,4 +1,5 @@
-/* Numbers boards in memory and judges each stop: worked examples, and boards made by rule. */
+/* Numbers boards in memory and judges each stop: worked examples, and boards made by rule. With a number as its word it
+   prints so many of these boards, and numbers none. */
 #include <stdio.h>
 #include <stdlib.h>
 #include <string.h>
@@ -201,16 +202,6 @@ static unsigned random_below(unsigned end)
     return (unsigned)(state >> 33) % end;
 }
 
-/* A PCI Express capability at 40h, of a port with a hot-plug slot. */
-static void add_slot(struct node *n)
-{
-    n->image[0x06] = 0x10;
-    n->image[0x34] = 0x40;
-    n->image[0x40] = 0x10;
-    n->image[0x43] = 0x01;
-    n->image[0x54] = 0x40;
-}
-
 static int add_bridge(int bus, unsigned place, unsigned junk)
 {
     int index = board_add(&board, bus, place, 1);
@@ -220,7 +211,7 @@ static int add_bridge(int bus, unsigned place, unsigned junk)
     for (unsigned offset = 0x18; junk != 0 && offset <= 0x1a; offset++)
         n->image[offset] = (uint8_t)random_below(junk);
     if (random_below(4) == 0)
-        add_slot(n);
+        board_add_slot(n);
     return index;
 }
 
@@ -333,37 +324,6 @@ static const struct example examples[] = {
     {"1c.0+[00.0]1c.4[]", 0xff, 2, PCIPLAN_NUMBERED, 4, 5, 0, "00:1c.0 00 01 03;00:1c.4 00 04 04;"},
 };
 
-/* Adds the nodes of an example's list to a bus. Where it ends. */
-static const char *add_list(const char *at, int bus)
-{
-    while (*at != 0 && *at != ']') {
-        unsigned device, function, number[3] = {0, 0, 0};
-        int index;
-        if (*at == ' ') {
-            at++;
-            continue;
-        }
-        sscanf(at, "%2x.%1x", &device, &function);
-        index = board_add(&board, bus, device * 8 + function, at[4] != 0 && at[4] != ' ' && at[4] != ']');
-        for (int i = 0; function != 0 && i < board.count; i++)
-            if (board.nodes[i].bus == bus && board.nodes[i].place == device * 8)
-                board.nodes[i].image[0x0e] |= 0x80;
-        at += 4;
-        if (*at == '+')
-            add_slot(&board.nodes[index]);
-        at += *at == '+';
-        if (*at == '(') {
-            sscanf(at, "(%2x%2x%2x)", &number[0], &number[1], &number[2]);
-            at += 8;
-        }
-        for (unsigned i = 0; i < 3; i++)
-            board.nodes[index].image[0x18 + i] = (uint8_t)number[i];
-        if (*at == '[')
-            at = add_list(at + 1, index) + 1;
-    }
-    return at;
-}
-
 static void print_numbers(char *text, int list, unsigned bus)
 {
     for (int i = list; i != NO_NODE; i = board.nodes[i].next) {
@@ -384,7 +344,7 @@ static void judge_examples(void)
         char text[1000] = "";
         board_empty(&board);
         board_add_root(&board, 0);
-        add_list(x->board, -2);
+        board_add_text(&board, x->board, -2);
         answer = numbered(0, x->last, x->spare);
         print_numbers(text, board.on_root[0], 0);
         if (answer.status != x->status || answer.highest != x->highest || answer.writes != x->writes ||
@@ -392,16 +352,55 @@ static void judge_examples(void)
             stop("a worked example isn't answered so");
         board_empty(&board);
         board_add_root(&board, 0);
-        add_list(x->board, -2);
+        board_add_text(&board, x->board, -2);
         if (judge(0, x->last, x->spare) != x->status)
             stop("a worked example isn't answered so");
     }
 }
 
-int main(void)
+static void print_list(int list)
+{
+    for (int i = list; i != NO_NODE; i = board.nodes[i].next) {
+        const struct node *n = &board.nodes[i];
+        printf(" %02x.%x", n->place / 8u, n->place % 8u);
+        if (!is_bridge_node(n))
+            continue;
+        printf("%s%s(%02x%02x%02x)[", has_slot(n) ? "+" : "", n->takes ? "" : "!", n->image[0x18], n->image[0x19],
+               n->image[0x1a]);
+        print_list(n->first);
+        printf(" ]");
+    }
+}
+
+/* Boards made by rule, as pciplan_number_told.c and crates/test_numbering read them: the last bus, then the board. In each
+   fifth board a bridge takes no number. */
+static void print_boards(unsigned count)
+{
+    for (which = 0; which < count; which++) {
+        make_board();
+
+        int index = (int)random_below((unsigned)board.count);
+        while (index < board.count && !is_bridge_node(&board.nodes[index]))
+            index++;
+        if (which % 5 == 4 && index < board.count)
+            board.nodes[index].takes = 0;
+        printf("%02x", random_below(3) == 0 ? random_below(30) : 0xff);
+        for (int r = 0; r < board.roots; r++) {
+            printf(" @%02x", board.root[r]);
+            print_list(board.on_root[r]);
+        }
+        printf("\n");
+    }
+}
+
+int main(int argc, char **argv)
 {
     unsigned count[3] = {0, 0, 0};
 
+    if (argc > 1) {
+        print_boards((unsigned)atoi(argv[1]));
+        return 0;
+    }
     judge_examples();
     judge_by_rule(count);
     printf("%u examples; %u roots numbered, %u whose numbers ran out, %u with a bridge that takes none: each stop judged\n",

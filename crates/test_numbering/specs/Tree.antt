@@ -1,4 +1,5 @@
--- Boards as trees in memory, and what an access reads and writes of them: the first node that answers does.
+-- Boards as trees in memory, and what an access reads and writes of them: the first node that
+-- answers does.
 use Rattle.std.specs.Prelude.{◌≡◌, ℕ, nat_lt, Bool, true, false, ◌&&◌, Option, Some, None, List, [], ◌∷◌}
 use Rattle.std.specs.List.{list_all}
 use Rattle.pci_spec.specs.Number.{byte_at}

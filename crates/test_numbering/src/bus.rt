@@ -20,7 +20,8 @@ pub struct Function {
 
 impl Function {
     fn is_at(&self, access: Slot) -> bool
-        ensures { result ≡ (self.now.device == access.device && self.now.function == access.function) }
+        ensures { result
+            ≡ (self.now.device == access.device && self.now.function == access.function) }
     {
         self.device == access.dev() && self.function == access.fun()
     }
@@ -69,7 +70,8 @@ pub enum Bus {
 impl Bus {
     /// The byte at an offset of the first node on this bus that answers an access.
     pub fn byte_here(&self, access: Slot, offset: u8) -> Option<u8>
-        ensures { result ≡ first_byte (nodes_of self.now) (on_bus (nodes_of self.now) access) offset }
+        ensures { result
+            ≡ first_byte (nodes_of self.now) (on_bus (nodes_of self.now) access) offset }
     {
         match self {
             Bus::Empty => None,

@@ -1,0 +1,155 @@
+//! What numbering answered, and the numbers that a board has, as text.
+use crate::bus::Bus;
+use crate::roots::Roots;
+use crate::text::{byte_of, roots_of};
+use crate::tree::Tree;
+use pci_base::offset::{PRIMARY_BUS, SECONDARY_BUS, SUBORDINATE_BUS};
+use pci_base::slot::Slot;
+use pci_number::number::{Numbering, number};
+use pci_number::{NotTaken, Stop};
+use std::alloc::{AllocError, Global};
+
+/// A line with the last bus and a board, then each write and each answer where each root is numbered
+/// in turn, up to the bus before the next root.
+pub fn board_told(alloc: Global, line: &str) -> Result<String, AllocError> {
+    let mut text = format!(in alloc; "{line}\n")?;
+    match line.split_once(' ') {
+        Some((word, board)) => match roots_of(alloc, board)? {
+            Some(roots) => push_board(alloc, word, roots, &mut text)?,
+            None => text.push_str("no board\n")?,
+        },
+        None => text.push_str("no board\n")?,
+    }
+    Ok(text)
+}
+
+fn push_board(
+    alloc: Global,
+    word: &str,
+    roots: Roots,
+    text: &mut String,
+) -> Result<(), AllocError> {
+    let mut numbers = Vec::new(alloc);
+    push_root_numbers(&roots, &mut numbers)?;
+    let last = byte_of(&mut word.as_bytes().iter()).unwrap_or(0xff);
+    match Tree::new(alloc, roots) {
+        Some(mut tree) => {
+            for i in 0..numbers.len() {
+                let end = end_of(&numbers, i).min(last);
+                push_call(alloc, &mut tree, numbers[i], end, text)?;
+            }
+            Ok(())
+        }
+        None => text.push_str("roots that don't rise\n"),
+    }
+}
+
+/// The bus before the next root.
+fn end_of(numbers: &[u8], i: usize) -> u8 {
+    match numbers.get(i.saturating_add(1)) {
+        Some(next) => next.saturating_sub(1),
+        None => 0xff,
+    }
+}
+
+fn push_root_numbers(roots: &Roots, numbers: &mut Vec<u8>) -> Result<(), AllocError> {
+    match roots {
+        Roots::NoRoots => Ok(()),
+        Roots::First(number, _, rest) => {
+            numbers.push(*number)?;
+            push_root_numbers(rest, numbers)
+        }
+    }
+}
+
+/// Numbers what is behind a root: each write, by the slot, the offset and the number, and the
+/// answer.
+fn push_call(
+    alloc: Global,
+    tree: &mut Tree,
+    root: u8,
+    last: u8,
+    text: &mut String,
+) -> Result<(), AllocError> {
+    let made = tree.stood.len();
+    let answer = number(tree, root, last);
+    for i in made..tree.stood.len() {
+        let NotTaken {
+            slot,
+            offset,
+            number,
+        } = tree.stood[i].written;
+        let line = format!(in alloc; "{slot} {offset:02x} {number:02x}\n")?;
+        text.push_str(&line)?;
+    }
+    let answer = answer_text(alloc, answer)?;
+    text.push_str(&answer)?;
+    text.push('\n')
+}
+
+/// An answer.
+pub fn answer_text(alloc: Global, answer: Result<Numbering, Stop>) -> Result<String, AllocError> {
+    match answer {
+        Ok(numbering) => numbering_text(alloc, numbering),
+        Err(stop) => stop_text(alloc, stop),
+    }
+}
+
+fn numbering_text(alloc: Global, numbering: Numbering) -> Result<String, AllocError> {
+    match numbering {
+        Numbering::Numbered { highest } => format!(in alloc; "numbered {highest:02x}"),
+        Numbering::NoBus { slot, highest } => format!(in alloc; "no bus {slot} {highest:02x}"),
+    }
+}
+
+fn stop_text(alloc: Global, stop: Stop) -> Result<String, AllocError> {
+    match stop {
+        Stop::Stuck(told) => {
+            let slot = told.slot;
+            format!(in alloc; "stuck {slot}")
+        }
+        Stop::Port => format!(in alloc; "port"),
+    }
+}
+
+/// The numbers of each bridge, in the order of the walk: its slot, then primary, secondary and
+/// subordinate bus.
+pub fn numbers_text(alloc: Global, roots: &Roots) -> Result<String, AllocError> {
+    let mut text = String::new(alloc);
+    push_roots(alloc, roots, &mut text)?;
+    Ok(text)
+}
+
+fn push_roots(alloc: Global, roots: &Roots, text: &mut String) -> Result<(), AllocError> {
+    match roots {
+        Roots::NoRoots => Ok(()),
+        Roots::First(number, bus, rest) => {
+            push_bus(alloc, bus, *number, text)?;
+            push_roots(alloc, rest, text)
+        }
+    }
+}
+
+fn push_bus(alloc: Global, bus: &Bus, number: u8, text: &mut String) -> Result<(), AllocError> {
+    match bus {
+        Bus::Empty => Ok(()),
+        Bus::Holds(function, behind, others) => {
+            if function.is_bridge() {
+                let slot = Slot::new(
+                    number,
+                    function.device,
+                    function.function,
+                ).unwrap_or_default();
+                let primary = function.image[usize::from(PRIMARY_BUS)];
+                let secondary = function.image[usize::from(SECONDARY_BUS)];
+                let subordinate = function.image[usize::from(SUBORDINATE_BUS)];
+                let line = format!(in alloc;
+                    "{slot} {primary:02x} {secondary:02x} {subordinate:02x};"
+                )?;
+                text.push_str(&line)?;
+                push_bus(alloc, behind, secondary, text)?;
+            }
+            push_bus(alloc, others, number, text)
+        }
+    }
+}
