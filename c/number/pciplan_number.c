@@ -48,6 +48,14 @@ static unsigned next_bridge(uint8_t bus, unsigned place)
     return place;
 }
 
+/* Whether the port of a PCI Express capability has a slot, and that is Hot-Plug Capable. */
+static int has_hot_plug(struct bridge b, unsigned at)
+{
+    return at + SLOT_CAPABILITIES < 256 &&
+           (read_at(b.bus, b.place, (uint8_t)(at + EXPRESS_FLAGS), 2) & SLOT_IMPLEMENTED) != 0 &&
+           (read_at(b.bus, b.place, (uint8_t)(at + SLOT_CAPABILITIES), 4) & HOT_PLUG_CAPABLE) != 0;
+}
+
 static int has_hot_plug_slot(struct bridge b)
 {
     unsigned at = 0;
@@ -56,11 +64,8 @@ static int has_hot_plug_slot(struct bridge b)
         at = read_at(b.bus, b.place, CAPABILITIES, 1) & 0xfc;
     for (unsigned n = 0; at >= 0x40 && n < MOST_CAPABILITIES; n++) {
         uint32_t id = read_at(b.bus, b.place, (uint8_t)at, 1);
-        if (id == HOT_PLUG_CONTROLLER)
+        if (id == HOT_PLUG_CONTROLLER || (id == EXPRESS && has_hot_plug(b, at)))
             return 1;
-        if (id == EXPRESS && at + SLOT_CAPABILITIES < 256)
-            return (read_at(b.bus, b.place, (uint8_t)(at + EXPRESS_FLAGS), 2) & SLOT_IMPLEMENTED) != 0 &&
-                   (read_at(b.bus, b.place, (uint8_t)(at + SLOT_CAPABILITIES), 4) & HOT_PLUG_CAPABLE) != 0;
         at = read_at(b.bus, b.place, (uint8_t)(at + 1), 1) & 0xfc;
     }
     return 0;
