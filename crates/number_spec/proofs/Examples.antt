@@ -5,3 +5,4 @@ pub mod Walks
 pub mod Numbers
 pub mod Rooms
 pub mod Accesses
+pub mod Spares

@@ -7,5 +7,6 @@ pub mod Roots
 pub mod Spread
 pub mod Kept
 pub mod Same
+pub mod Spare
 pub mod Listed
 pub mod Examples

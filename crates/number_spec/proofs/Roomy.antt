@@ -1,15 +1,16 @@
 -- Bridges that take the next number each, one after the other.
 use Rattle.std.proofs.Common.{◌≡◌, ℕ, ◌+◌, ◌<◌, ◌≤◌, ◌⊎◌, inl, inr, List, [], ◌∷◌, ◌++◌, Bool, true, false, ◌&&◌, ◌||◌, not, arith, refl, sym, ◌∙◌, ap, subst, length, min}
 use Rattle.std.specs.Bool.{nat_lt, ◌==◌, if◌then◌else◌}
-use Rattle.std.proofs.lemmas.Bool.{and_parts, and_from, both_ways, eqb-true, eq-eqb, ne_eqb, ltb-true, ltb-false, cases_Bool}
+use Rattle.std.proofs.lemmas.Bool.{and_parts, and_from, both_ways, eqb-true, eq-eqb, ne_eqb, ltb-true, ltb-false, cases_lt, cases_Bool}
 use Rattle.std.proofs.lemmas.List.{length-append}
 use Rattle.pci_spec.specs.Header.{primary_bus, secondary_bus, subordinate_bus}
 use Rattle.number_spec.specs.Board.{Nodes, NoMore, Node, is_type_1}
 use Rattle.number_spec.specs.Walk.{has_bus}
 use Rattle.number_spec.specs.Numbered.{secondaries, number_of, greatest, has_range, have_ranges}
 use Rattle.number_spec.specs.Room.{last_behind, shows, have_numbers}
+use Rattle.number_spec.specs.NumberingLaws.{NoRoomIsInOrder}
 use Rattle.number_spec.proofs.Single.{IsRanged, outside_is_idle, low_to_high}
-use Rattle.number_spec.proofs.InOrder.{top, IsRun, of_device, of_closed, of_open, number_or_none, greatest_of_run}
+use Rattle.number_spec.proofs.InOrder.{top, IsRun, of_device, of_closed, of_open, number_or_none, greatest_of_run, run_is}
 
 -- what a bridge shows, number by number
 pub record Shows (image : List ℕ) (p : ℕ) (s : ℕ) (u : ℕ) : Type 0 where
@@ -181,3 +182,9 @@ in_order root last n bus taken (Node d f image behind others) used h = elim (tur
             (λ leads. absurd (both_ways _ none leads)) more.ranges;
       }
 ]
+
+pub no_room_is_in_order : NoRoomIsInOrder
+no_room_is_in_order root last before after numbered =
+    let none_used : IsUsed root last 0 root = elim (cases_lt last root) [ inl above ↦ inr (omega arith, omega arith) | inr below ↦ inl (omega arith, below) ] in
+    let is = in_order root last 0 root root after none_used numbered.numbers in
+    record { same = numbered.same; order = run_is root last 0 (secondaries after) is.run; ranges = is.ranges }

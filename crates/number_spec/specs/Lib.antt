@@ -3,6 +3,7 @@ pub mod Access
 pub mod Walk
 pub mod Numbered
 pub mod Room
+pub mod Spare
 pub mod Reached
 pub mod Listed
 pub mod NoBus

@@ -9,8 +9,9 @@ use Rattle.pci_spec.specs.Bus.{IsNested}
 use Rattle.pci_spec.specs.NestingLaws.{HasNoBusFault}
 use Rattle.number_spec.specs.Board.{Nodes, Root, Board, Place, is_type_1, image_at, access_of, answers, IsSingle}
 use Rattle.number_spec.specs.Walk.{is_rising, is_walkable, walk}
-use Rattle.number_spec.specs.Numbered.{without_numbers, secondaries, IsNumbered}
+use Rattle.number_spec.specs.Numbered.{with_numbers, without_numbers, secondaries, IsNumbered}
 use Rattle.number_spec.specs.Room.{IsNumberedWithRoom}
+use Rattle.number_spec.specs.Spare.{spare_room}
 use Rattle.number_spec.specs.Spread.{IsSpread}
 use Rattle.number_spec.specs.NoBus.{first_without}
 use Rattle.number_spec.specs.Listed.{IsListing, HasNumbers}
@@ -50,6 +51,18 @@ abbrev pub NoRoomIsInOrder : Type 0
 NoRoomIsInOrder =
     (root last : ℕ) (before after : Nodes) → IsNumberedWithRoom (λ image. 0) root last before after
     → IsNumbered root last before after
+
+-- Nor is any where it is said to keep none free behind hot-plug slots.
+abbrev pub NoSpareIsInOrder : Type 0
+NoSpareIsInOrder =
+    (root last : ℕ) (before after : Nodes)
+    → IsNumberedWithRoom (spare_room 0) root last before after → IsNumbered root last before after
+
+-- How many are kept free behind a bridge doesn't hang on its bus numbers.
+abbrev pub SpareStays : Type 0
+SpareStays =
+    (spare : ℕ) (image : List ℕ) (primary secondary subordinate : ℕ)
+    → spare_room spare (with_numbers primary secondary subordinate image) ≡ spare_room spare image
 
 -- So it is while the numbers are given.
 abbrev pub SpreadIsSingle : Type 0

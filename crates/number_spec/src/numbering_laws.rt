@@ -1,6 +1,6 @@
 //! Laws of numbering. These functions do nothing: each contract is a law.
 
-ghost use Rattle.number_spec.specs.NumberingLaws.{WalkIsInOrder, SameIsWalkable, NumberedIsSingle, RoomyIsSingle, SpreadIsSingle, RootsAreSingle, NoRoomIsInOrder, FoundAnswersOnce, RoomyAnswersOnce, NumbersAreOne, AllNumbersAreOne, ListedIsNested, ListedHasNoBusFault};
+ghost use Rattle.number_spec.specs.NumberingLaws.{WalkIsInOrder, SameIsWalkable, NumberedIsSingle, RoomyIsSingle, SpreadIsSingle, RootsAreSingle, NoRoomIsInOrder, NoSpareIsInOrder, SpareStays, FoundAnswersOnce, RoomyAnswersOnce, NumbersAreOne, AllNumbersAreOne, ListedIsNested, ListedHasNoBusFault};
 
 /// On a board whose bridges are numbered in the order of the walk each access is answered once at
 /// most, and also where numbers are kept free, while they are given, or where there are several
@@ -18,6 +18,14 @@ pub fn bridges_are_numbered_in_order()
     ensures walk { WalkIsInOrder }
     ensures same { SameIsWalkable }
     ensures order { NoRoomIsInOrder }
+{}
+
+/// What is kept free behind hot-plug slots is room in which no number is given. Where it is none,
+/// the bridges have the numbers above their root, and it doesn't hang on the numbers that a bridge
+/// has.
+pub fn spare_buses_are_room()
+    ensures none { NoSpareIsInOrder }
+    ensures stays { SpareStays }
 {}
 
 /// The numbers of a board hang on its nodes alone, and not on the numbers that were there before.
