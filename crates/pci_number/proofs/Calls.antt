@@ -1,7 +1,7 @@
 -- What is behind each root after a call for each.
-use Rattle.std.proofs.Common.{◌≡◌, ◌≢◌, ℕ, suc, ◌+◌, ◌<◌, ◌⊎◌, inl, inr, List, [], ◌∷◌, true, false, ◌&&◌, ◌||◌, arith, refl, sym, ◌∙◌, ap, subst, None, length, map}
+use Rattle.std.proofs.Common.{◌≡◌, ℕ, ◌+◌, ◌<◌, ◌⊎◌, inl, inr, List, [], ◌∷◌, true, false, ◌||◌, arith, refl, sym, ◌∙◌, ap, subst, length, map}
 use Rattle.std.specs.Bool.{◌==◌, nat_le, nat_lt, if◌then◌else◌}
-use Rattle.std.specs.List.{Contains, AllPairs, filter, list_all}
+use Rattle.std.specs.List.{Contains, AllPairs, filter}
 use Rattle.std.specs.List.Sorted.{IsStrictlyIncreasing}
 use Rattle.std.proofs.lemmas.Bool.{and_parts, eqb-true, eqb-false, eq-eqb, ne_eqb, le-leb, lt-ltb, or_left, or_right, cases_Bool, cases_lt}
 use Rattle.std.proofs.lemmas.List.Kept.{AllPairs-from_increasing}
@@ -19,7 +19,7 @@ use Rattle.number_spec.proofs.Kept.{same_walk}
 use Rattle.number_spec.proofs.Listed.{listed_has_no_bus_fault}
 use Rattle.number_spec.proofs.Roots.{roots_single}
 use Rattle.number_spec.proofs.Single.{single}
-use Rattle.pci_number.specs.Answer.{named_by, IsAnswer}
+use Rattle.pci_number.specs.Answer.{IsAnswer}
 use Rattle.pci_number.specs.Left.{IsRootNumbered}
 use Rattle.pci_number.specs.Calls.{AreReady, AreNumbered, AreItsRoots, RootsGetNumbers, RootsHaveNoBusFault, RootsGetSingle}
 use Rattle.pci_number.specs.declared.number.Numbering.{Numbering}

@@ -24,3 +24,4 @@ pub mod Showing
 pub mod Standing
 pub mod Beside
 pub mod Throughout
+pub mod Examples

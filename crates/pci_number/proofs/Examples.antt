@@ -1,0 +1,2 @@
+-- Worked examples: what the definitions of numbering's steps say of small boards.
+pub mod Closings
