@@ -2,6 +2,7 @@ pub mod FirstSpot
 pub mod FirstPlace
 pub mod SameTaken
 pub mod LaidOut
+pub mod MoreTaken
 pub mod Placed
 pub mod InTurn
 pub mod Nested

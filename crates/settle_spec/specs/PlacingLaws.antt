@@ -1,9 +1,9 @@
 -- Laws of placing: first places are what they are said to be, and what is placed is apart.
-use Rattle.std.specs.Prelude.{◌≡◌, ◌↔◌, ℕ, ◌<◌, IsTrue, List, map, None, Some}
+use Rattle.std.specs.Prelude.{◌≡◌, ◌↔◌, ℕ, ◌<◌, ◌≤◌, IsTrue, List, map, None, Some}
 use Rattle.std.specs.List.{AllPairs, Contains}
 use Rattle.std.specs.List.Sorted.{IsPermutation}
 use Rattle.pci_spec.specs.Decoded.{Range}
-use Rattle.settle_spec.specs.FirstPlace.{Extent, are_apart, is_place, first_spot, first_place, IsLeastSpot, HasNoPlace, IsFirstPlace}
+use Rattle.settle_spec.specs.FirstPlace.{Extent, are_apart, is_place, first_spot, first_place, IsLeastSpot, HasNoPlace, IsFirstIn, IsFirstPlace}
 use Rattle.settle_spec.specs.Stands.{rank}
 use Rattle.settle_spec.specs.Items.{Item, Placed, AllPlaced, comes_before, in_turn, place_all, taken_by}
 
@@ -32,6 +32,32 @@ OrderIsFree =
     (ranges xs ys : List Range) (e : Extent) → 0 < e.alignment
     → ((t : Range) → Contains xs t ↔ Contains ys t)
     → first_place ranges xs e ≡ first_place ranges ys e
+
+-- ---- when more is taken
+
+-- what is taken stays so
+abbrev pub TakesMore : List Range → List Range → Type 0
+TakesMore taken more = (t : Range) → Contains taken t → Contains more t
+
+-- an extent is as aligned as another, no smaller and no wider
+pub record NeedsNoLess (e d : Extent) : Type 0 where
+  pub alignment : d.alignment ≡ e.alignment
+  pub size : e.size ≤ d.size
+  pub wide : IsTrue d.wide → IsTrue e.wide
+
+-- It has no place before the first one that the other had in a range when less was taken,
+abbrev pub NoPlaceIsBefore : Type 0
+NoPlaceIsBefore =
+    (r : Range) (taken more : List Range) (e d : Extent) (a : ℕ) → TakesMore taken more
+    → NeedsNoLess e d → IsFirstIn r taken e a → (b : ℕ) → IsTrue (is_place r more d b) → a ≤ b
+
+-- and none in a range that had none. So a search can go on where the last one ended.
+abbrev pub NoneStaysNone : Type 0
+NoneStaysNone =
+    (r : Range) (taken more : List Range) (e d : Extent) → TakesMore taken more
+    → NeedsNoLess e d → HasNoPlace r taken e → HasNoPlace r more d
+
+-- ---- of many items
 
 abbrev pub AreApart : Placed → Placed → Type 0
 AreApart p q = IsTrue (are_apart (taken_by p.item p.at) (taken_by q.item q.at))

@@ -1,6 +1,6 @@
 //! Laws of placing. These functions do nothing: each contract is a law.
 
-ghost use Rattle.settle_spec.specs.PlacingLaws.{SpotIsLeast, PlaceIsFirst, NoPlaceIsNone, OrderIsFree, PlacedAreApart, TurnIsOrdered, TurnIsOnly, TurnIsFree};
+ghost use Rattle.settle_spec.specs.PlacingLaws.{SpotIsLeast, PlaceIsFirst, NoPlaceIsNone, OrderIsFree, NoPlaceIsBefore, NoneStaysNone, PlacedAreApart, TurnIsOrdered, TurnIsOnly, TurnIsFree};
 
 /// A first place is the least free one of the first range that has any.
 pub fn first_places_are_least()
@@ -8,6 +8,12 @@ pub fn first_places_are_least()
     ensures first { PlaceIsFirst }
     ensures none { NoPlaceIsNone }
     ensures order { OrderIsFree }
+{}
+
+/// Where more is taken, what needs no less has no place before the first one that there was.
+pub fn later_places_are_not_before()
+    ensures before { NoPlaceIsBefore }
+    ensures none { NoneStaysNone }
 {}
 
 /// What is placed one after another lies in ranges, and apart.
