@@ -1,7 +1,7 @@
 -- Items get their places one after another: those so far, and the rest with these taken.
 use Rattle.std.proofs.Common.{◌≡◌, ℕ, zero, suc, ◌+◌, ◌<◌, ◌≤◌, inl, inr, List, [], ◌∷◌, ◌++◌, map, length, take, drop, set, get_or, arith, ap, sym, subst, ◌∙◌, refl, Option, None, Some}
 use Rattle.std.specs.List.{All, Contains, insert}
-use Rattle.std.proofs.lemmas.List.{at_drop_more, get_or-map, length-map, length-set, length-take, take-set-le, take_all}
+use Rattle.std.proofs.lemmas.List.{at_drop_more, length-set, length-take, take-set-le, take_all}
 use Rattle.std.proofs.lemmas.Grind.{take_at_read, get_or-set_at}
 use Rattle.pci_spec.specs.Decoded.{Range as DecodedRange}
 use Rattle.pci_spec.proofs.Members.{in_head, in_tail, in_cons_cases}
@@ -11,9 +11,10 @@ use Rattle.settle_spec.specs.Items.{Item, Placed, Placing, AllPlaced, Lacks, and
 use Rattle.settle_spec.proofs.SameTaken.{HaveSame, same_places}
 use Rattle.pci_base.specs.declared.range.Range.{Range}
 use Rattle.pci_base.specs.Ranges.{decoded_range_of}
-use Rattle.pci_settle.specs.declared.extent.Extent.{Extent}
-use Rattle.pci_settle.specs.Spots.{extent_value, IsExtent, AreListed, range_at, IsTakenBy}
-use Rattle.pci_settle.specs.Placings.{item_extent, at_places, lacks_first, placing_of}
+use Rattle.pci_settle.specs.declared.spot.Spot.{Spot}
+use Rattle.pci_settle.specs.declared.placing.Wanted.{Wanted}
+use Rattle.pci_settle.specs.Spots.{extent_value, AreListed, range_at, IsPutIn}
+use Rattle.pci_settle.specs.Placings.{item_extent, at_places, lacks_first, placing_of, HasList, IsWanted, AreWanted}
 
 -- ---- some items placed before others
 
@@ -72,23 +73,15 @@ drop_all zero (i ∷ items) past = absurd (let no : ⊥ = omega (arith, past) in
 drop_all (suc n) [] past = refl
 drop_all (suc n) (i ∷ items) past = drop_all n items (omega (arith, past))
 
-pub record IsSoFar (rs start : List DecodedRange) (extents : List Extent) (taken : List Range) (places : List ℕ) (n : ℕ) : Type 0 where
+pub record IsSoFar (lists : List (List Range)) (start : List DecodedRange) (wanted : List Wanted) (taken : List Range) (places : List ℕ) (n : ℕ) : Type 0 where
   pub listed : AreListed taken
-  pub count : length places ≡ length extents
-  pub so_far : (items : List Item) → map item_extent items ≡ map extent_value extents
-      → place_all (λ i. rs) start items ≡ and_all (at_places (take n items) (take n places)) (place_all (λ i. rs) (map decoded_range_of taken) (drop n items))
+  pub count : length places ≡ length wanted
+  pub so_far : (ranges : Item → List DecodedRange) (items : List Item) → AreWanted lists ranges items wanted
+      → place_all ranges start items ≡ and_all (at_places (take n items) (take n places)) (place_all ranges (map decoded_range_of taken) (drop n items))
 
-pub so_far_none : (rs : List DecodedRange) (extents : List Extent) (taken : List Range) (places : List ℕ) → AreListed taken → length places ≡ length extents
-    → IsSoFar rs (map decoded_range_of taken) extents taken places 0
-so_far_none rs extents taken places listed count = record { listed = listed; count = count; so_far = λ items are. refl }
-
--- the extent of an item is that of the table
-extent_at : (items : List Item) (extents : List Extent) → map item_extent items ≡ map extent_value extents → (n : ℕ) → n < length extents → (i : Item) (e : Extent) → item_extent (get_or items n i) ≡ extent_value (get_or extents n e)
-extent_at items extents are n within i e =
-    let long : length items ≡ length extents = sym (length-map items item_extent) ∙ ap length are ∙ length-map extents extent_value in
-    sym (get_or-map item_extent items n i (item_extent i) (omega (arith, within, long)))
-    ∙ ap (λ xs. get_or xs n (item_extent i)) are
-    ∙ get_or-map extent_value extents n e (item_extent i) within
+pub so_far_none : (lists : List (List Range)) (wanted : List Wanted) (taken : List Range) (places : List ℕ) → AreListed taken → length places ≡ length wanted
+    → IsSoFar lists (map decoded_range_of taken) wanted taken places 0
+so_far_none lists wanted taken places listed count = record { listed = listed; count = count; so_far = λ ranges items are. refl }
 
 in_drop : (n : ℕ) (items : List Item) (i : Item) → Contains (drop n items) i → Contains items i
 in_drop zero items i listed = listed
@@ -96,12 +89,13 @@ in_drop (suc n) [] i listed = listed
 in_drop (suc n) (j ∷ items) i listed = in_tail j items i (in_drop n items i listed)
 
 -- so it is lawful
-lawful_item : (items : List Item) (extents : List Extent) → map item_extent items ≡ map extent_value extents → All IsExtent extents → (e : Extent) → (i : Item) → Contains items i → 0 < i.extent.alignment
-lawful_item items extents are lawful e i (k, less, here) =
-    let long : length items ≡ length extents = sym (length-map items item_extent) ∙ ap length are ∙ length-map extents extent_value in
-    let within : k < length extents = omega (arith, less, long) in
-    let same : i.extent ≡ extent_value (get_or extents k e) = ap item_extent (sym here) ∙ extent_at items extents are k within i e in
-    subst (λ x. 0 < x.alignment) (sym same) (lawful k e within).alignment
+lawful_item : (lists : List (List Range)) (ranges : Item → List DecodedRange) (items : List Item) (wanted : List Wanted) (n : ℕ) → AreWanted lists ranges items wanted → All (HasList n) wanted
+    → (w : Wanted) (i : Item) → Contains items i → 0 < i.extent.alignment
+lawful_item lists ranges items wanted n are lawful w i (k, less, here) =
+    let long = are.count in
+    let within : k < length wanted = omega (arith, less, long) in
+    let same : i.extent ≡ extent_value (get_or wanted k w).extent = ap item_extent (sym here) ∙ (are.each k i w within).extent in
+    subst (λ x. 0 < x.alignment) (sym same) (lawful k w within).extent.alignment
 
 take_table : (places : List ℕ) (n a : ℕ) → n < length places → take (n + 1) (set places n a) ≡ take n places ++ a ∷ []
 take_table places n a within =
@@ -110,13 +104,14 @@ take_table places n a within =
     ∙ ap (λ xs. xs ++ get_or (set places n a) n 0 ∷ []) (take-set-le n places n a (omega arith))
     ∙ ap (λ x. take n places ++ x ∷ []) (get_or-set_at places n n a 0 refl within)
 
-module _ (rs start : List DecodedRange) (extents : List Extent) (taken : List Range) (places : List ℕ) (n : ℕ) (is : IsSoFar rs start extents taken places n)
-    (lawful : All IsExtent extents) (within : n < length extents) (e : Extent) (items : List Item) (x : Item) (are : map item_extent items ≡ map extent_value extents) where
-  long : length items ≡ length extents
-  long = sym (length-map items item_extent) ∙ ap length are ∙ length-map extents extent_value
+-- the ranges of a list
+abbrev pub ranges_at : List (List Range) → Wanted → List DecodedRange
+ranges_at lists w = map decoded_range_of (get_or lists w.list [])
 
+module _ (lists : List (List Range)) (start : List DecodedRange) (wanted : List Wanted) (taken : List Range) (places : List ℕ) (n : ℕ) (is : IsSoFar lists start wanted taken places n)
+    (within : n < length wanted) (e : Wanted) (ranges : Item → List DecodedRange) (items : List Item) (x : Item) (are : AreWanted lists ranges items wanted) where
   inside : n < length items
-  inside = let same = long in omega (arith, same, within)
+  inside = let same = are.count in omega (arith, same, within)
 
   abbrev next : Item
   next = get_or items n x
@@ -127,70 +122,72 @@ module _ (rs start : List DecodedRange) (extents : List Extent) (taken : List Ra
   abbrev so : List Placed
   so = at_places (take n items) (take n places)
 
-  -- what the next item gets, before it is known
-  next_is : (o : Option ℕ) → o ≡ first_place rs now (extent_value (get_or extents n e))
-      → place_all (λ i. rs) start items ≡ and_all so (place_next next o (λ b. place_all (λ i. rs) (taken_by next b ∷ now) (drop (n + 1) items)))
-  next_is o found =
-      is.so_far items are
-      ∙ ap (and_all so) (at_drop_more (λ xs. place_all (λ i. rs) now xs) items n x inside)
-      ∙ ap (λ p. and_all so (place_next next p (λ b. place_all (λ i. rs) (taken_by next b ∷ now) (drop (n + 1) items))))
-      (ap (first_place rs now) (extent_at items extents are n within x e) ∙ sym found)
+  own : IsWanted lists ranges next (get_or wanted n e)
+  own = are.each n x e within
 
-  pub lacks_next : None ≡ first_place rs now (extent_value (get_or extents n e)) → place_all (λ i. rs) start items ≡ lacks_first (drop n items)
+  -- what the next item gets, before it is known
+  next_is : (o : Option ℕ) → o ≡ first_place (ranges_at lists (get_or wanted n e)) now (extent_value (get_or wanted n e).extent)
+      → place_all ranges start items ≡ and_all so (place_next next o (λ b. place_all ranges (taken_by next b ∷ now) (drop (n + 1) items)))
+  next_is o found =
+      is.so_far ranges items are
+      ∙ ap (and_all so) (at_drop_more (λ xs. place_all ranges now xs) items n x inside)
+      ∙ ap (λ p. and_all so (place_next next p (λ b. place_all ranges (taken_by next b ∷ now) (drop (n + 1) items))))
+      (ap (λ rs. first_place rs now next.extent) own.list ∙ ap (first_place (ranges_at lists (get_or wanted n e)) now) own.extent ∙ sym found)
+
+  pub lacks_next : None ≡ first_place (ranges_at lists (get_or wanted n e)) now (extent_value (get_or wanted n e).extent) → place_all ranges start items ≡ lacks_first (drop n items)
   lacks_next none = next_is None none ∙ all_lack so next ∙ sym (at_drop_more lacks_first items n x inside)
 
-  pub places_next : (a : ℕ) → Some a ≡ first_place rs now (extent_value (get_or extents n e)) → (new : List Range) → IsTakenBy taken new (get_or extents n e) (Some a)
-      → place_all (λ i. rs) start items ≡ and_all (at_places (take (n + 1) items) (take (n + 1) (set places n a))) (place_all (λ i. rs) (map decoded_range_of new) (drop (n + 1) items))
-  places_next a found new (index, low, put) =
+  pub places_next : (count : ℕ) → All (HasList count) wanted → (s : Spot) → Some s.at ≡ first_place (ranges_at lists (get_or wanted n e)) now (extent_value (get_or wanted n e).extent)
+      → (new : List Range) → IsPutIn taken new (get_or wanted n e).extent s
+      → place_all ranges start items ≡ and_all (at_places (take (n + 1) items) (take (n + 1) (set places n s.at))) (place_all ranges (map decoded_range_of new) (drop (n + 1) items))
+  places_next count lawful s found new put =
+      let a = s.at in
       let same : HaveSame (taken_by next a ∷ now) (map decoded_range_of new) =
-      subst (λ (y : ExtentValue). HaveSame (range_from a y.size ∷ now) (map decoded_range_of new)) (sym (extent_at items extents are n within x e))
-      (subst (λ ys. HaveSame (decoded_range_of (range_at (get_or extents n e) a) ∷ now) (map decoded_range_of ys)) (sym put) (put_same taken index (range_at (get_or extents n e) a) low)) in
+      subst (λ (y : ExtentValue). HaveSame (range_from a y.size ∷ now) (map decoded_range_of new)) (sym own.extent)
+      (subst (λ ys. HaveSame (decoded_range_of (range_at (get_or wanted n e).extent a) ∷ now) (map decoded_range_of ys)) (sym put.put) (put_same taken s.index (range_at (get_or wanted n e).extent a) put.between.within)) in
       let some : n < length places = (let count = is.count in omega (arith, count, within)) in
       let even : length (take n items) ≡ length (take n places) =
       (let l = length-take n items in let m = length-take n places in let less = inside in omega (arith, l, m, less, some)) in
       next_is (Some a) found
-      ∙ ap (λ r. and_all so (and_placed next a r)) (same_places (λ i. rs) (drop (n + 1) items) (taken_by next a ∷ now) (map decoded_range_of new)
-      (λ i listed. lawful_item items extents are lawful e i (in_drop (n + 1) items i listed)) same)
-      ∙ sym (all_append so (record { item = next; at = a }) (place_all (λ i. rs) (map decoded_range_of new) (drop (n + 1) items)))
-      ∙ ap (λ ps. and_all ps (place_all (λ i. rs) (map decoded_range_of new) (drop (n + 1) items)))
+      ∙ ap (λ r. and_all so (and_placed next a r)) (same_places ranges (drop (n + 1) items) (taken_by next a ∷ now) (map decoded_range_of new)
+      (λ i listed. lawful_item lists ranges items wanted count are lawful e i (in_drop (n + 1) items i listed)) same)
+      ∙ sym (all_append so (record { item = next; at = a }) (place_all ranges (map decoded_range_of new) (drop (n + 1) items)))
+      ∙ ap (λ ps. and_all ps (place_all ranges (map decoded_range_of new) (drop (n + 1) items)))
       (sym (at_append (take n items) (take n places) next a even)
       ∙ ap (λ xs. at_places xs (take n places ++ a ∷ [])) (sym (take_at_read items n x inside).1)
       ∙ ap (at_places (take (n + 1) items)) (sym (take_table places n a some)))
 
-no_items : (items : List Item) (extents : List Extent) → map item_extent items ≡ map extent_value extents → length items ≡ length extents
-no_items items extents are = sym (length-map items item_extent) ∙ ap length are ∙ length-map extents extent_value
-
-pub so_far_next : (rs start : List DecodedRange) (extents : List Extent) (taken : List Range) (places : List ℕ) (n : ℕ)
-    → IsSoFar rs start extents taken places n → All IsExtent extents → n < length extents → (e : Extent) (a : ℕ)
-    → Some a ≡ first_place rs (map decoded_range_of taken) (extent_value (get_or extents n e))
-    → (new : List Range) → AreListed new → IsTakenBy taken new (get_or extents n e) (Some a)
-    → IsSoFar rs start extents new (set places n a) (n + 1)
-so_far_next rs start extents taken places n is lawful within e a found new listed put = record {
+pub so_far_next : (lists : List (List Range)) (start : List DecodedRange) (wanted : List Wanted) (taken : List Range) (places : List ℕ) (n count : ℕ)
+    → IsSoFar lists start wanted taken places n → All (HasList count) wanted → n < length wanted → (e : Wanted) (s : Spot)
+    → Some s.at ≡ first_place (ranges_at lists (get_or wanted n e)) (map decoded_range_of taken) (extent_value (get_or wanted n e).extent)
+    → (new : List Range) → AreListed new → IsPutIn taken new (get_or wanted n e).extent s
+    → IsSoFar lists start wanted new (set places n s.at) (n + 1)
+so_far_next lists start wanted taken places n count is lawful within e s found new listed put = record {
   listed = listed;
-  count = length-set places n a ∙ is.count;
-  so_far = λ items are. by_items items are;
+  count = length-set places n s.at ∙ is.count;
+  so_far = λ ranges items are. by_items ranges items are;
 }
   where
-    by_items : (items : List Item) → map item_extent items ≡ map extent_value extents
-        → place_all (λ i. rs) start items ≡ and_all (at_places (take (n + 1) items) (take (n + 1) (set places n a))) (place_all (λ i. rs) (map decoded_range_of new) (drop (n + 1) items))
-    by_items [] are = absurd (let long = no_items [] extents are in let no : ⊥ = omega (arith, long, within) in no)
-    by_items (x ∷ items) are = places_next rs start extents taken places n is lawful within e (x ∷ items) x are a found new put
+    by_items : (ranges : Item → List DecodedRange) (items : List Item) → AreWanted lists ranges items wanted
+        → place_all ranges start items ≡ and_all (at_places (take (n + 1) items) (take (n + 1) (set places n s.at))) (place_all ranges (map decoded_range_of new) (drop (n + 1) items))
+    by_items ranges [] are = absurd (let long = are.count in let no : ⊥ = omega (arith, long, within) in no)
+    by_items ranges (x ∷ items) are = places_next lists start wanted taken places n is within e ranges (x ∷ items) x are count lawful s found new put
 
-pub so_far_lacks : (rs start : List DecodedRange) (extents : List Extent) (taken : List Range) (places : List ℕ) (n : ℕ)
-    → IsSoFar rs start extents taken places n → All IsExtent extents → n < length extents → (e : Extent)
-    → None ≡ first_place rs (map decoded_range_of taken) (extent_value (get_or extents n e))
-    → (items : List Item) → map item_extent items ≡ map extent_value extents → place_all (λ i. rs) start items ≡ placing_of items places (Some n)
-so_far_lacks rs start extents taken places n is lawful within e none [] are = absurd (let long = no_items [] extents are in let no : ⊥ = omega (arith, long, within) in no)
-so_far_lacks rs start extents taken places n is lawful within e none (x ∷ items) are = lacks_next rs start extents taken places n is lawful within e (x ∷ items) x are none
+pub so_far_lacks : (lists : List (List Range)) (start : List DecodedRange) (wanted : List Wanted) (taken : List Range) (places : List ℕ) (n : ℕ)
+    → IsSoFar lists start wanted taken places n → n < length wanted → (e : Wanted)
+    → None ≡ first_place (ranges_at lists (get_or wanted n e)) (map decoded_range_of taken) (extent_value (get_or wanted n e).extent)
+    → (ranges : Item → List DecodedRange) (items : List Item) → AreWanted lists ranges items wanted → place_all ranges start items ≡ placing_of items places (Some n)
+so_far_lacks lists start wanted taken places n is within e none ranges [] are = absurd (let long = are.count in let no : ⊥ = omega (arith, long, within) in no)
+so_far_lacks lists start wanted taken places n is within e none ranges (x ∷ items) are = lacks_next lists start wanted taken places n is within e ranges (x ∷ items) x are none
 
-pub so_far_all : (rs start : List DecodedRange) (extents : List Extent) (taken : List Range) (places : List ℕ) (n : ℕ)
-    → IsSoFar rs start extents taken places n → length extents ≤ n
-    → (items : List Item) → map item_extent items ≡ map extent_value extents → place_all (λ i. rs) start items ≡ placing_of items places None
-so_far_all rs start extents taken places n is past items are =
-    let long = no_items items extents are in
+pub so_far_all : (lists : List (List Range)) (start : List DecodedRange) (wanted : List Wanted) (taken : List Range) (places : List ℕ) (n : ℕ)
+    → IsSoFar lists start wanted taken places n → length wanted ≤ n
+    → (ranges : Item → List DecodedRange) (items : List Item) → AreWanted lists ranges items wanted → place_all ranges start items ≡ placing_of items places None
+so_far_all lists start wanted taken places n is past ranges items are =
+    let long = are.count in
     let count = is.count in
-    is.so_far items are
-    ∙ ap (λ xs. and_all (at_places (take n items) (take n places)) (place_all (λ i. rs) (map decoded_range_of taken) xs)) (drop_all n items (omega (arith, long, past)))
+    is.so_far ranges items are
+    ∙ ap (λ xs. and_all (at_places (take n items) (take n places)) (place_all ranges (map decoded_range_of taken) xs)) (drop_all n items (omega (arith, long, past)))
     ∙ all_placed (at_places (take n items) (take n places))
     ∙ ap (λ xs. AllPlaced (at_places xs (take n places))) (take_all n items (omega (arith, long, past)))
     ∙ ap (λ xs. AllPlaced (at_places items xs)) (take_all n places (omega (arith, count, past)))

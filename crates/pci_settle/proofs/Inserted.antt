@@ -9,12 +9,12 @@ use Rattle.pci_settle.specs.declared.spot.Spot.{Spot}
 use Rattle.pci_settle.specs.Spots.{AreInOrder, AreListed, IsBetween, range_at}
 
 -- an element of the new list is an old one below the index, the new one, or an old one from the index on
-data Where (xs ys : List Range) (y : Range) (index : ℕ) (k : ℕ) : Type 0 where
+pub data Where (xs ys : List Range) (y : Range) (index : ℕ) (k : ℕ) : Type 0 where
   Under : k < index → ((d : Range) → get_or ys k d ≡ get_or xs k d) → Where xs ys y index k
   At : k ≡ index → ((d : Range) → get_or ys k d ≡ y) → Where xs ys y index k
   Over : (j : ℕ) → k ≡ j + 1 → index ≤ j → ((d : Range) → get_or ys k d ≡ get_or xs j d) → Where xs ys y index k
 
-find_where : (xs : List Range) (y : Range) (index k : ℕ) → index ≤ length xs → Where xs (insert xs index y) y index k
+pub find_where : (xs : List Range) (y : Range) (index k : ℕ) → index ≤ length xs → Where xs (insert xs index y) y index k
 find_where xs y index k within = elim (cases_lt k index) [
   | inl under ↦ Under under (λ d. get_or-insert_below xs index y d k under within)
   | inr from ↦ elim (cases_lt index k) [

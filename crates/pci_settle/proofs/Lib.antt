@@ -1,8 +1,10 @@
 pub mod Raised
 pub mod Spots
 pub mod FirstPlaces
+pub mod Starts
 pub mod Inserted
 pub mod AllPlaced
+pub mod Cursors
 pub mod LaidOut
 pub mod Around
 pub mod Turns

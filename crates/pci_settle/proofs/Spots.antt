@@ -1,5 +1,5 @@
 -- The walk along what is taken: no free place lies below the address that it has come to.
-use Rattle.std.proofs.Common.{◌≡◌, ◌⊎◌, ℕ, ◌+◌, ◌-◌, ◌%◌, ◌^◌, ◌<◌, ◌≤◌, inl, inr, List, map, length, get_or, arith, sym, subst, true, Option, None, Some, IfNone}
+use Rattle.std.proofs.Common.{◌≡◌, ◌⊎◌, ℕ, ◌+◌, ◌-◌, ◌%◌, ◌^◌, ◌<◌, ◌≤◌, max, inl, inr, List, map, length, get_or, arith, sym, subst, refl, true, Option, None, Some, IfNone}
 use Rattle.std.specs.Bool.{IsTrue, nat_lt, nat_le, ◌==◌}
 use Rattle.std.specs.List.{Contains}
 use Rattle.std.proofs.lemmas.Bool.{cases_lt, and_parts, and_from, or_cases, or_left, or_right, ltb-true, lt-ltb, leb-true, le-leb, eqb-true, eq-eqb}
@@ -14,7 +14,8 @@ use Rattle.settle_spec.specs.FirstPlace.{Extent as ExtentValue, are_apart, is_fr
 use Rattle.pci_base.specs.declared.range.Range.{Range}
 use Rattle.pci_base.specs.Ranges.{decoded_range_of}
 use Rattle.pci_settle.specs.declared.extent.Extent.{Extent}
-use Rattle.pci_settle.specs.Spots.{extent_value, IsExtent, AreInOrder, IsSpotAt}
+use Rattle.pci_settle.specs.declared.spot.Spot.{Spot}
+use Rattle.pci_settle.specs.Spots.{extent_value, IsExtent, AreInOrder, IsSpotAt, IsReached}
 
 -- what an index past the end is read as
 abbrev pub no_range : Range
@@ -66,16 +67,32 @@ pub record IsAlong (taken : List Range) (low : ℕ) (e : Extent) (at index : ℕ
   pub least : (b : ℕ) → IsTrue (is_spot low (map decoded_range_of taken) (extent_value e) b) → at ≤ b
   pub below : (k : ℕ) (d : Range) → k < index → (get_or taken k d).last < at
 
-pub along_start : (taken : List Range) (low : ℕ) (e : Extent) (at : ℕ) → IsExtent e → at ≡ raised_to e.alignment low → IsAlong taken low e at 0
-along_start taken low e at extent is =
-    let r = raised e.alignment low extent.alignment in
-    subst (λ n. IsAlong taken low e n 0) (sym is)
+pub along_from : (taken : List Range) (low : ℕ) (e : Extent) (s : Spot) (at : ℕ) → IsExtent e → IsReached taken low e s → at ≡ raised_to e.alignment (max low s.at) → IsAlong taken low e at s.index
+along_from taken low e s at extent reached is =
+    let r = raised e.alignment (max low s.at) extent.alignment in
+    let from = r.from in
+    subst (λ n. IsAlong taken low e n s.index) (sym is)
     (record {
       multiple = r.multiple;
-      from = r.from;
-      least = λ b spot. let free = spot_gives taken low (extent_value e) b spot in r.least b free.multiple free.from;
-      below = λ k d less. absurd (let no : ⊥ = omega (arith, less) in no);
+      from = omega (arith, from);
+      least = λ b spot.
+          let free = spot_gives taken low (extent_value e) b spot in
+          let up = reached.least b spot in
+          let lower = free.from in
+          r.least b free.multiple (omega (arith, up, lower));
+      below = λ k d less. let under = reached.below k d less in omega (arith, under, from);
     })
+
+-- where that is above 64 bits there is none in 64 bits
+pub from_too_high : (taken : List Range) (low : ℕ) (e : Extent) (s : Spot) → IsExtent e → IsReached taken low e s → (raised_to e.alignment (max low s.at) < 2 ^ 64 → ⊥)
+    → (b : ℕ) → IsTrue (is_spot low (map decoded_range_of taken) (extent_value e) b) → 2 ^ 64 ≤ b + (e.size - 1)
+from_too_high taken low e s extent reached high b spot =
+    let along = along_from taken low e s (raised_to e.alignment (max low s.at)) extent reached refl in
+    let up = along.least b spot in
+    elim (cases_lt (raised_to e.alignment (max low s.at)) (2 ^ 64)) [
+      | inl under ↦ absurd (high under)
+      | inr above ↦ omega (arith, up, above)
+    ]
 
 -- a range that is below the address is passed
 pub along_passed : (taken : List Range) (low : ℕ) (e : Extent) (at index : ℕ) → IsAlong taken low e at index → index < length taken → (d : Range) → (get_or taken index d).last < at → IsAlong taken low e at (index + 1)

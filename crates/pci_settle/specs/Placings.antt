@@ -1,10 +1,42 @@
--- Items at the places of a table.
-use Rattle.std.specs.Prelude.{ℕ, List, [], ◌∷◌, drop, Option, None, Some}
+-- Items at the places of a table, each of them wanted in one of many lists of ranges.
+use Rattle.std.specs.Prelude.{ℕ, ◌≡◌, ◌<◌, List, [], ◌∷◌, map, length, drop, slice_index_or, Option, None, Some}
+use Rattle.pci_spec.specs.Decoded.{Range as DecodedRange}
 use Rattle.settle_spec.specs.FirstPlace.{Extent}
 use Rattle.settle_spec.specs.Items.{Item, Placed, Placing, AllPlaced, Lacks}
+use Rattle.pci_base.specs.declared.range.Range.{Range}
+use Rattle.pci_base.specs.Ranges.{decoded_range_of}
+use Rattle.pci_settle.specs.declared.placing.Wanted.{Wanted}
+use Rattle.pci_settle.specs.declared.placing.Cursor.{Cursor}
+use Rattle.pci_settle.specs.Spots.{extent_value, IsExtent, IsStart}
 
 abbrev pub item_extent : Item → Extent
 item_extent i = i.extent
+
+-- ---- what is wanted
+
+-- there is such a list
+pub record HasList (lists : ℕ) (w : Wanted) : Type 0 where
+  pub extent : IsExtent w.extent
+  pub list : w.list < lists
+
+-- an item has this extent, and the ranges of this list
+pub record IsWanted (lists : List (List Range)) (ranges : Item → List DecodedRange) (i : Item)
+    (w : Wanted) : Type 0 where
+  pub extent : i.extent ≡ extent_value w.extent
+  pub list : ranges i ≡ map decoded_range_of (slice_index_or lists w.list [])
+
+pub record AreWanted (lists : List (List Range)) (ranges : Item → List DecodedRange)
+    (items : List Item) (wanted : List Wanted) : Type 0 where
+  pub count : length items ≡ length wanted
+  pub each : (k : ℕ) (i : Item) (w : Wanted) → k < length wanted
+      → IsWanted lists ranges (slice_index_or items k i) (slice_index_or wanted k w)
+
+-- a list can be searched for this extent from there on
+pub record IsCursor (ranges taken : List Range) (c : Cursor) : Type 0 where
+  pub extent : IsExtent c.extent
+  pub start : IsStart ranges taken c.extent c.start
+
+-- ---- places
 
 -- each item with its place
 abbrev pub at_places : List Item → List ℕ → List Placed

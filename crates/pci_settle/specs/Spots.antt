@@ -1,12 +1,13 @@
 -- Free places, by the list of what is taken.
-use Rattle.std.specs.Prelude.{ℕ, ◌≡◌, ◌<◌, ◌≤◌, ◌^◌, List, length, map, slice_index_or, Option, None, Some}
+use Rattle.std.specs.Prelude.{ℕ, ◌≡◌, ◌<◌, ◌≤◌, ◌^◌, Bool, true, false, if◌then◌else◌, IsTrue, List, length, map, slice_index_or, Option, None, Some}
 use Rattle.std.specs.List.{insert}
 use Rattle.plan_spec.specs.Place.{range_from}
-use Rattle.settle_spec.specs.FirstPlace.{Extent as ExtentValue, IsLeastSpot}
+use Rattle.settle_spec.specs.FirstPlace.{Extent as ExtentValue, is_spot, first_in, IsLeastSpot}
 use Rattle.pci_base.specs.declared.range.Range.{Range}
 use Rattle.pci_base.specs.Ranges.{decoded_range_of}
 use Rattle.pci_settle.specs.declared.extent.Extent.{Extent}
 use Rattle.pci_settle.specs.declared.spot.Spot.{Spot}
+use Rattle.pci_settle.specs.declared.spot.Start.{Start}
 
 -- the extent as the definitions have it
 abbrev pub extent_value : Extent → ExtentValue
@@ -41,6 +42,27 @@ abbrev pub place_of : Option Spot → Option ℕ
 place_of None = None
 place_of (Some s) = Some s.at
 
+abbrev pub place_if : Bool → ℕ → Option ℕ
+place_if found a = if found then Some a else None
+
+-- ---- how far a search has come
+
+-- no free place from an address on is below that of a spot, and what is taken before its index is
+pub record IsReached (taken : List Range) (low : ℕ) (e : Extent) (s : Spot) : Type 0 where
+  pub least : (b : ℕ) → IsTrue (is_spot low (map decoded_range_of taken) (extent_value e) b) → s.at ≤ b
+  pub within : s.index ≤ length taken
+  pub below : (k : ℕ) (d : Range) → k < s.index → (slice_index_or taken k d).last < s.at
+
+-- ranges before have no place, and in this one the search has come to a spot
+pub record IsStart (ranges taken : List Range) (e : Extent) (s : Start) : Type 0 where
+  pub before : (k : ℕ) (d : Range) → k < s.range
+      → first_in (decoded_range_of (slice_index_or ranges k d)) (map decoded_range_of taken)
+      (extent_value e) ≡ None
+  pub reached : (d : Range) → s.range < length ranges
+      → IsReached taken (slice_index_or ranges s.range d).first e s.spot
+
+-- ---- what is taken
+
 -- ranges by rising first addresses, none of them backward
 pub record AreListed (taken : List Range) : Type 0 where
   pub order : AreInOrder taken
@@ -51,8 +73,12 @@ pub record AreListed (taken : List Range) : Type 0 where
 abbrev pub range_at : Extent → ℕ → Range
 range_at e a = record { first = a; last = (range_from a e.size).last }
 
--- what is taken once a place was given: it too, where there is one
-abbrev pub IsTakenBy : List Range → List Range → Extent → Option ℕ → Type 0
-IsTakenBy old new e None = new ≡ old
-IsTakenBy old new e (Some a) =
-    (index : ℕ) × (index ≤ length old) × (new ≡ insert old index (range_at e a))
+-- what is taken once a place was given: it too, between what lies below it and what lies above
+pub record IsPutIn (old new : List Range) (e : Extent) (s : Spot) : Type 0 where
+  pub between : IsBetween old e s
+  pub put : new ≡ insert old s.index (range_at e s.at)
+
+-- the same, where there is one
+abbrev pub IsTakenBy : List Range → List Range → Extent → Spot → Bool → Type 0
+IsTakenBy old new e s true = IsPutIn old new e s
+IsTakenBy old new e s false = new ≡ old

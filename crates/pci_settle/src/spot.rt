@@ -1,10 +1,10 @@
 //! The first free place in ranges of addresses.
-ghost use Rattle.std.specs.Prelude.{ℕ, ◌≡◌, ◌≤◌, ◌<◌, ◌+◌, ◌^◌, IfSome, IfNone, IsTrue, map, SomeIff};
+ghost use Rattle.std.specs.Prelude.{ℕ, ◌≡◌, ◌≤◌, ◌<◌, ◌+◌, ◌^◌, IfSome, IfNone, IsTrue, List, map, SomeIff};
 ghost use Rattle.settle_spec.specs.FirstPlace.{is_spot, ends_in as place_ends_in, first_in, first_place as place_in_ranges};
 ghost use Rattle.plan_spec.specs.Plan.{raised_to};
 ghost use Rattle.plan_spec.specs.Place.{range_from};
 ghost use Rattle.pci_base.specs.Ranges.{decoded_range_of};
-ghost use Rattle.pci_settle.specs.Spots.{extent_value, IsExtent, AreInOrder, IsBetween, IsSpotAt, place_of};
+ghost use Rattle.pci_settle.specs.Spots.{extent_value, IsExtent, AreInOrder, IsBetween, IsSpotAt, place_of, place_if, IsReached, IsStart};
 
 use crate::extent::Extent;
 use pci_base::range::Range;
@@ -15,6 +15,37 @@ pub struct Spot {
     pub at: u64,
     /// How many of the ranges that are taken lie below it.
     pub index: usize,
+}
+
+/// How far a search along ranges has come: those before have no place, and in this one none is below the spot.
+#[derive(Clone, Copy, Debug, PartialEq, Eq)]
+pub struct Start {
+    /// Which of the ranges.
+    pub range: usize,
+    pub spot: Spot,
+}
+
+impl Spot {
+    /// No place is below address 0.
+    fn lowest() -> Spot
+        ensures lowest { result.at ≡ 0 }
+        ensures index { result.index ≡ 0 }
+    {
+        Spot { at: 0, index: 0 }
+    }
+}
+
+impl Start {
+    /// From where on nothing has been searched yet.
+    pub fn first() -> Start
+        ensures { (ranges taken : List Range) → (extent : Extent)
+            → IsStart ranges taken extent result }
+    {
+        Start {
+            range: 0,
+            spot: Spot::lowest(),
+        }
+    }
 }
 
 /// The least multiple of an alignment from an address on; None where it is above all addresses of 64 bits.
@@ -39,6 +70,34 @@ fn behind(range: Range, alignment: u64) -> Option<u64>
     raised(range.last.checked_add(1)?, alignment)
 }
 
+/// The first free place from an address on, of which `from` says that it isn't below it; None where it would end
+/// above all addresses of 64 bits.
+fn next_spot(taken: &[Range], low: u64, from: Spot, extent: Extent) -> Option<Spot>
+    requires extent { IsExtent extent }
+    requires order { AreInOrder taken.now }
+    requires reached { IsReached taken.now low extent from }
+    ensures found { IfSome result (IsSpotAt taken.now low extent) }
+    ensures none { IfNone result ((b : ℕ)
+        → IsTrue (is_spot low (map decoded_range_of taken.now) (extent_value extent) b)
+        → 2 ^ 64 ≤ (range_from b extent.size).last) }
+{
+    let mut at = raised(low.max(from.at), extent.alignment)?;
+    for index in from.index..taken.len() {
+        let range = taken[index];
+        if extent.last_from(at)? < range.first {
+            return Some(Spot { at, index });
+        }
+        if at <= range.last {
+            at = behind(range, extent.alignment)?;
+        }
+    }
+    extent.last_from(at)?;
+    Some(Spot {
+        at,
+        index: taken.len(),
+    })
+}
+
 /// The first free place from an address on; None where it would end above all addresses of 64 bits.
 pub fn first_spot(taken: &[Range], low: u64, extent: Extent) -> Option<Spot>
     requires extent { IsExtent extent }
@@ -48,20 +107,7 @@ pub fn first_spot(taken: &[Range], low: u64, extent: Extent) -> Option<Spot>
         → IsTrue (is_spot low (map decoded_range_of taken.now) (extent_value extent) b)
         → 2 ^ 64 ≤ (range_from b extent.size).last) }
 {
-    let mut at = raised(low, extent.alignment)?;
-    for (index, range) in taken.iter().enumerate() {
-        if extent.last_from(at)? < range.first {
-            return Some(Spot { at, index });
-        }
-        if at <= range.last {
-            at = behind(*range, extent.alignment)?;
-        }
-    }
-    extent.last_from(at)?;
-    Some(Spot {
-        at,
-        index: taken.len(),
-    })
+    next_spot(taken, low, Spot::lowest(), extent)
 }
 
 /// Whether an extent from `at` on ends in a range, and below 4 GB where it isn't wide.
@@ -74,15 +120,16 @@ fn ends_in(range: Range, extent: Extent, at: u64) -> bool
     last <= range.last && (extent.wide || last <= 0xffff_ffff)
 }
 
-/// The first place in a range.
-fn spot_in(range: Range, taken: &[Range], extent: Extent) -> Option<Spot>
+/// The first place in a range, of which `from` says that it isn't below it.
+fn spot_in(range: Range, taken: &[Range], from: Spot, extent: Extent) -> Option<Spot>
     requires extent { IsExtent extent }
     requires order { AreInOrder taken.now }
+    requires reached { IsReached taken.now range.first extent from }
     ensures place { place_of result ≡ first_in (decoded_range_of range)
         (map decoded_range_of taken.now) (extent_value extent) }
-    ensures between { IfSome result (IsBetween taken.now extent) }
+    ensures spot { IfSome result (IsSpotAt taken.now range.first extent) }
 {
-    let spot = first_spot(taken, range.first, extent)?;
+    let spot = next_spot(taken, range.first, from, extent)?;
     if ends_in(range, extent, spot.at) {
         Some(spot)
     } else {
@@ -90,18 +137,25 @@ fn spot_in(range: Range, taken: &[Range], extent: Extent) -> Option<Spot>
     }
 }
 
-/// The first place in the first range that has one.
-pub fn first_place(ranges: &[Range], taken: &[Range], extent: Extent) -> Option<Spot>
+/// Whether a range has a place from `start` on; `start` goes to the first one of the first range that has any.
+pub fn first_place(ranges: &[Range], taken: &[Range], extent: Extent, start: &mut Start) -> bool
     requires extent { IsExtent extent }
     requires order { AreInOrder taken.now }
-    ensures place { place_of result ≡ place_in_ranges (map decoded_range_of ranges.now)
+    requires start { IsStart ranges.now taken.now extent start.old }
+    ensures place { place_if result start.new.spot.at
+        ≡ place_in_ranges (map decoded_range_of ranges.now)
         (map decoded_range_of taken.now) (extent_value extent) }
-    ensures between { IfSome result (IsBetween taken.now extent) }
+    ensures between { IsTrue result → IsBetween taken.now extent start.new.spot }
+    // no place is before it, so that the next search can go on there
+    ensures start { IsStart ranges.now taken.now extent start.new }
 {
-    for range in ranges {
-        if let Some(spot) = spot_in(*range, taken, extent) {
-            return Some(spot);
+    let mut from = start.spot;
+    for index in start.range..ranges.len() {
+        if let Some(spot) = spot_in(ranges[index], taken, from, extent) {
+            *start = Start { range: index, spot };
+            return true;
         }
+        from = Spot::lowest();
     }
-    None
+    false
 }

@@ -1,11 +1,20 @@
 -- Where the walk goes on, where it ends, and where it would leave 64 bits.
-use Rattle.std.proofs.Common.{◌+◌, subst, sym, arith}
-use Rattle.pci_settle.proofs.Spots.{no_range, IsAlong, along_start, along_passed, along_behind, behind_too_high, along_ends, all_above, along_all, none_by}
-use Rattle.pci_settle.proofs.spot.first_spot.Goals as goal
-use Rattle.pci_settle.proofs.spot.first_spot.Goals.{then-at-range+in_ok-at-2, else-at-range}
+use Rattle.std.proofs.Common.{rules, ◌≡◌, ◌+◌, ◌^◌, ◌<◌, ◌∙◌, max, ap, subst, sym, arith}
+use Rattle.plan_spec.specs.Plan.{raised_to}
+use Rattle.pci_settle.proofs.Spots.{no_range, IsAlong, along_from, from_too_high, along_passed, along_behind, behind_too_high, along_ends, all_above, along_all, none_by}
+use Rattle.pci_settle.proofs.spot.next_spot.Goals as goal
+use Rattle.pci_settle.proofs.spot.next_spot.Goals.{then-at-range+in_ok-at-2, else-at-range}
 
 pub loop-index-init : goal.loop-index-init
-loop-index-init c = along_start _ _ _ _ c.requires.extent c.in_ok-at.ensures.1
+loop-index-init c =
+    let is : c.max.result ≡ max c.args.low c.args.from.at = search rules in
+    along_from _ _ _ _ _ c.requires.extent c.requires.reached (c.in_ok-at.ensures.1 ∙ ap (raised_to c.args.extent.alignment) is)
+
+pub returns-in_err-at-clause-none : goal.returns-in_err-at-clause-none
+returns-in_err-at-clause-none c =
+    let is : c.max.result ≡ max c.args.low c.args.from.at = search rules in
+    none_by _ _ (from_too_high _ _ _ _ c.requires.extent c.requires.reached
+    (subst (λ n. raised_to c.args.extent.alignment n < 2 ^ 64 → ⊥) is c.in_err-at.ensures))
 
 pub returns-then-branch-range-clause-found : goal.returns-then-branch-range-clause-found
 returns-then-branch-range-clause-found c =

@@ -1,0 +1,179 @@
+-- Where the search for an extent goes on stays so when more is taken.
+use Rattle.std.proofs.Common.{◌≡◌, ℕ, zero, suc, ◌+◌, ◌<◌, ◌≤◌, inl, inr, List, [], ◌∷◌, ◌++◌, map, length, set, get_or, arith, ap, sym, subst, ◌∙◌, true, false, Bool, Option, None, Some}
+use Rattle.std.specs.List.{All, Contains, insert}
+use Rattle.std.proofs.lemmas.Bool.{cases_eq, true≢false, false≢true}
+use Rattle.std.proofs.lemmas.List.{length-append, length-map, get_or-map, length-set, get_or-set_same, get_or-set_other}
+use Rattle.std.proofs.lemmas.List.Elements.{All-append}
+use Rattle.std.proofs.lemmas.List.Edits.{length-insert}
+use Rattle.pci_spec.proofs.Members.{in_tail}
+use Rattle.settle_spec.specs.FirstPlace.{first_place}
+use Rattle.settle_spec.specs.Items.{Item, place_all}
+use Rattle.settle_spec.specs.PlacingLaws.{TakesMore}
+use Rattle.settle_spec.proofs.MoreTaken.{same_extent, less_spot, none_in}
+use Rattle.pci_spec.specs.Decoded.{Range as DecodedRange}
+use Rattle.pci_base.specs.declared.range.Range.{Range}
+use Rattle.pci_base.specs.Ranges.{decoded_range_of}
+use Rattle.pci_settle.specs.declared.extent.Extent.{Extent}
+use Rattle.pci_settle.specs.declared.spot.Spot.{Spot}
+use Rattle.pci_settle.specs.declared.spot.Start.{Start}
+use Rattle.pci_settle.specs.declared.placing.Wanted.{Wanted}
+use Rattle.pci_settle.specs.declared.placing.Cursor.{Cursor}
+use Rattle.pci_settle.specs.Spots.{extent_value, IsExtent, AreListed, range_at, place_if, IsPutIn, IsTakenBy, IsReached, IsStart}
+use Rattle.pci_settle.specs.Placings.{HasList, AreWanted, IsCursor, placing_of}
+use Rattle.pci_settle.proofs.Inserted.{Where, Under, At, Over, find_where}
+use Rattle.pci_settle.proofs.AllPlaced.{put_same, IsSoFar, so_far_none, so_far_next, so_far_lacks, ranges_at}
+
+module _ (old new : List Range) (d : Extent) (at : Spot) (listed : AreListed old) (put : IsPutIn old new d at) where
+  takes_more : TakesMore (map decoded_range_of old) (map decoded_range_of new)
+  takes_more t has =
+      subst (λ xs. Contains (map decoded_range_of xs) t) (sym put.put)
+      ((put_same old at.index (range_at d at.at) put.between.within).to t (in_tail (decoded_range_of (range_at d at.at)) (map decoded_range_of old) t has))
+
+  below_stays : (s : Spot) → s.index ≤ length old → ((k : ℕ) (c : Range) → k < s.index → (get_or old k c).last < s.at)
+      → (k : ℕ) (c : Range) → k < s.index → (get_or (insert old at.index (range_at d at.at)) k c).last < s.at
+  below_stays s within below k c less = elim (find_where old (range_at d at.at) at.index k put.between.within) [
+    | Under under is ↦ subst (λ (x : Range). x.last < s.at) (sym (is c)) (below k c less)
+    | At here is ↦
+        let inside : k < length old = omega (arith, less, within) in
+        let above = put.between.above k c (omega (arith, here)) inside in
+        let forward = listed.forward k c inside in
+        let under = below k c less in
+        subst (λ (x : Range). x.last < s.at) (sym (is c)) (omega (arith, above, forward, under))
+    | Over j over low is ↦ subst (λ (x : Range). x.last < s.at) (sym (is c)) (below j c (omega (arith, over, less)))
+  ]
+
+  reached_stays : (low : ℕ) (e : Extent) (s : Spot) → IsReached old low e s → IsReached new low e s
+  reached_stays low e s is = record {
+    least = λ b spot. is.least b (less_spot low (map decoded_range_of old) (map decoded_range_of new) (extent_value e) (extent_value e) b takes_more (same_extent (extent_value e)) spot);
+    within =
+        let long : length new ≡ length old + 1 = ap length put.put ∙ length-insert old at.index (range_at d at.at) put.between.within in
+        let within = is.within in
+        omega (arith, long, within);
+    below = subst (λ xs. (k : ℕ) (c : Range) → k < s.index → (get_or xs k c).last < s.at) (sym put.put) (below_stays s is.within is.below);
+  }
+
+  pub start_stays : (ranges : List Range) (e : Extent) (s : Start) → IsExtent e → IsStart ranges old e s → IsStart ranges new e s
+  start_stays ranges e s extent is = record {
+    before = λ k c less.
+        none_in (decoded_range_of (get_or ranges k c)) (map decoded_range_of old) (map decoded_range_of new) (extent_value e) (extent_value e) extent.alignment takes_more (same_extent (extent_value e)) (is.before k c less);
+    reached = λ c within. reached_stays (get_or ranges s.range c).first e s.spot (is.reached c within);
+  }
+
+-- ---- of all lists
+
+-- each list has its cursor
+pub record AreCursors (lists : List (List Range)) (taken : List Range) (cursors : List Cursor) : Type 0 where
+  pub count : length cursors ≡ length lists
+  pub each : (k : ℕ) (d : Cursor) → k < length lists → IsCursor (get_or lists k []) taken (get_or cursors k d)
+
+pub cursors_first : (lists : List (List Range)) (taken : List Range) (cursors : List Cursor) → length cursors ≡ length lists
+    → ((ranges taken : List Range) → All (IsCursor ranges taken) cursors) → AreCursors lists taken cursors
+cursors_first lists taken cursors count each = record {
+  count = count;
+  each = λ k d within. each (get_or lists k []) taken k d (omega (arith, within, count));
+}
+
+pub cursors_next : (lists : List (List Range)) (old new : List Range) (d : Extent) (at : Spot) (cursors : List Cursor) (n : ℕ) (c : Cursor) → AreListed old → IsPutIn old new d at
+    → AreCursors lists old cursors → n < length lists → IsCursor (get_or lists n []) new c → AreCursors lists new (set cursors n c)
+cursors_next lists old new d at cursors n c listed put are within is = record {
+  count = length-set cursors n c ∙ are.count;
+  each = λ k x less.
+      let count = are.count in
+      elim (cases_eq k n) [
+        | inl same ↦ subst (λ m. IsCursor (get_or lists m []) new (get_or (set cursors n c) m x)) (sym same)
+            (subst (IsCursor (get_or lists n []) new) (sym (get_or-set_same cursors n c x (omega (arith, within, count)))) is)
+        | inr other ↦
+            let was = are.each k x less in
+            subst (IsCursor (get_or lists k []) new) (sym (get_or-set_other cursors n k c x other))
+            (record { extent = was.extent; start = start_stays old new d at listed put (get_or lists k []) _ _ was.extent was.start })
+      ];
+}
+
+-- items so far have their places, and the searches for more can go on
+pub record IsPlacing (lists : List (List Range)) (start : List DecodedRange) (wanted : List Wanted) (taken : List Range) (places : List ℕ) (cursors : List Cursor) (n : ℕ) : Type 0 where
+  pub so_far : IsSoFar lists start wanted taken places n
+  pub search : AreCursors lists taken cursors
+
+pub placing_none : (lists : List (List Range)) (wanted : List Wanted) (taken : List Range) (places : List ℕ) (cursors : List Cursor) → AreListed taken → length places ≡ length wanted
+    → length cursors ≡ length lists → ((ranges taken : List Range) → All (IsCursor ranges taken) cursors)
+    → IsPlacing lists (map decoded_range_of taken) wanted taken places cursors 0
+placing_none lists wanted taken places cursors listed count long each = record {
+  so_far = so_far_none lists wanted taken places listed count;
+  search = cursors_first lists taken cursors long each;
+}
+
+pub placing_next : (lists : List (List Range)) (start : List DecodedRange) (wanted : List Wanted) (taken : List Range) (places : List ℕ) (cursors : List Cursor) (n : ℕ)
+    → IsPlacing lists start wanted taken places cursors n → All (HasList (length lists)) wanted → n < length wanted → (w : Wanted) (s : Start)
+    → Some s.spot.at ≡ first_place (ranges_at lists (get_or wanted n w)) (map decoded_range_of taken) (extent_value (get_or wanted n w).extent)
+    → (new : List Range) → AreListed new → IsPutIn taken new (get_or wanted n w).extent s.spot
+    → IsStart (get_or lists (get_or wanted n w).list []) new (get_or wanted n w).extent s
+    → IsPlacing lists start wanted new (set places n s.spot.at) (set cursors (get_or wanted n w).list (record { extent = (get_or wanted n w).extent; start = s })) (n + 1)
+placing_next lists start wanted taken places cursors n is lawful within w s found new listed put begun = record {
+  so_far = so_far_next lists start wanted taken places n (length lists) is.so_far lawful within w s.spot found new listed put;
+  search = cursors_next lists taken new (get_or wanted n w).extent s.spot cursors (get_or wanted n w).list _ is.so_far.listed put is.search (lawful n w within).list
+      (record { extent = (lawful n w within).extent; start = begun });
+}
+
+-- ---- the next item, where its list is one of a table
+
+pub none_if : (found : Bool) (a : ℕ) (o : Option ℕ) → found ≡ false → place_if found a ≡ o → None ≡ o
+none_if true a o is same = absurd (true≢false is)
+none_if false a o is same = same
+
+pub some_if : (found : Bool) (a : ℕ) (o : Option ℕ) → found ≡ true → place_if found a ≡ o → Some a ≡ o
+some_if true a o is same = same
+some_if false a o is same = absurd (false≢true is)
+
+module _ {V : Type 0} (f : V → List Range) (lists : List V) (start : List DecodedRange) (wanted : List Wanted) (taken : List Range) (places : List ℕ) (cursors : List Cursor) (n : ℕ)
+    (is : IsPlacing (map f lists) start wanted taken places cursors n) (lawful : All (HasList (length lists)) wanted) (within : n < length wanted) (w : Wanted)
+    (v : V) (ranges : List Range) (v_is : v ≡ get_or lists (get_or wanted n w).list v) (ranges_are : ranges ≡ f v) where
+  abbrev own : Wanted
+  own = get_or wanted n w
+
+  inside : own.list < length lists
+  inside = (lawful n w within).list
+
+  here : ranges ≡ get_or (map f lists) own.list []
+  here = ranges_are ∙ ap f v_is ∙ sym (get_or-map f lists own.list v [] inside)
+
+  lawful_too : All (HasList (length (map f lists))) wanted
+  lawful_too = subst (λ m. All (HasList m) wanted) (sym (length-map lists f)) lawful
+
+  pub start_here : (c : Cursor) → c ≡ get_or cursors own.list c → (s : Start) → ((rs ts : List Range) → IsCursor rs ts c → IsStart rs ts own.extent s) → IsStart ranges taken own.extent s
+  start_here c c_is s begins =
+      begins ranges taken
+      (subst (λ rs. IsCursor rs taken c) (sym here)
+      (subst (IsCursor (get_or (map f lists) own.list []) taken) (sym c_is) (is.search.each own.list c (let long = length-map lists f in let less = inside in omega (arith, long, less)))))
+
+  pub lacks_here : (found : Bool) (a : ℕ) → found ≡ false → place_if found a ≡ first_place (map decoded_range_of ranges) (map decoded_range_of taken) (extent_value own.extent)
+      → (rs : Item → List DecodedRange) (items : List Item) → AreWanted (map f lists) rs items wanted → place_all rs start items ≡ placing_of items places (Some n)
+  lacks_here found a not place =
+      so_far_lacks (map f lists) start wanted taken places n is.so_far within w
+      (subst (λ rs. None ≡ first_place (map decoded_range_of rs) (map decoded_range_of taken) (extent_value own.extent)) here (none_if found a _ not place))
+
+  pub next_here : (s : Start) (found : Bool) → found ≡ true → place_if found s.spot.at ≡ first_place (map decoded_range_of ranges) (map decoded_range_of taken) (extent_value own.extent)
+      → (new : List Range) → AreListed new → IsTakenBy taken new own.extent s.spot found → IsStart ranges new own.extent s
+      → IsPlacing (map f lists) start wanted new (set places n s.spot.at) (set cursors own.list (record { extent = own.extent; start = s })) (n + 1)
+  next_here s found so place new listed put begun =
+      placing_next (map f lists) start wanted taken places cursors n is lawful_too within w s
+      (subst (λ rs. Some s.spot.at ≡ first_place (map decoded_range_of rs) (map decoded_range_of taken) (extent_value own.extent)) here (some_if found s.spot.at _ so place))
+      new listed (subst (IsTakenBy taken new own.extent s.spot) so put) (subst (λ rs. IsStart rs new own.extent s) here begun)
+
+-- ---- before any is placed
+
+pub record AreFirst (cursors : List Cursor) (n : ℕ) : Type 0 where
+  pub count : length cursors ≡ n
+  pub each : (ranges taken : List Range) → All (IsCursor ranges taken) cursors
+
+pub first_none : (cursors : List Cursor) → cursors ≡ [] → AreFirst cursors 0
+first_none cursors none = record { count = ap length none; each = λ ranges taken. subst (All (IsCursor ranges taken)) (sym none) (λ k d less. absurd (let no : ⊥ = omega (arith, less) in no)) }
+
+pub first_more : (old new : List Cursor) (c : Cursor) (n : ℕ) → AreFirst old n → ((ranges taken : List Range) → IsCursor ranges taken c) → new ≡ old ++ c ∷ [] → AreFirst new (n + 1)
+first_more old new c n are is put = record {
+  count = let long = length-append old (c ∷ []) in let count = are.count in let more = ap length put in omega (arith, long, count, more);
+  each = λ ranges taken. subst (All (IsCursor ranges taken)) (sym put) (All-append (IsCursor ranges taken) old (c ∷ []) (are.each ranges taken) (one (IsCursor ranges taken) c (is ranges taken)));
+}
+  where
+    one : (P : Cursor → Type 0) (c : Cursor) → P c → All P (c ∷ [])
+    one P c here zero d less = here
+    one P c here (suc k) d less = absurd (let no : ⊥ = omega (arith, less) in no)
