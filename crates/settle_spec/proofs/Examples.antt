@@ -1,2 +1,3 @@
 -- Worked examples: what the definitions of settling say of small trees, one module a subject.
 pub mod Settlings
+pub mod NewWindows

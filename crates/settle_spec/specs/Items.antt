@@ -10,7 +10,7 @@ use Rattle.plan_spec.specs.Plan.{bridges_above, greatest, raised_to, same_class,
 use Rattle.plan_spec.specs.Place.{range_from}
 use Rattle.settle_spec.specs.FirstPlace.{Extent, first_spot, first_place}
 use Rattle.settle_spec.specs.Lists.{Request}
-use Rattle.settle_spec.specs.Parts.{Region, regions, regions_of, addresses, class_in, same_space}
+use Rattle.settle_spec.specs.Parts.{Region, regions, regions_of, addresses, bridge_over, class_in, same_space}
 use Rattle.settle_spec.specs.Stands.{rank, window_region, region_space, stands}
 
 -- what is to be placed
@@ -143,6 +143,15 @@ window_within q s c (suc depth) b =
 -- buses rise on the way down, so 256 of them are all
 abbrev pub new_window : Request → System → WindowKind → Function → Extent
 new_window q s c b = window_within q s c 256 b
+
+-- that of a bridge where a BAR or ROM of the class is behind it
+abbrev pub window_over : Request → System → WindowKind → Option Function → Option Extent
+window_over q s c None = None
+window_over q s c (Some b) = if has_of q s c b then Some (new_window q s c b) else None
+
+-- the new window through which a bus is reached
+abbrev pub window_to : Request → System → WindowKind → ℕ → Option Extent
+window_to q s c bus = window_over q s c (bridge_over s bus)
 
 -- ---- what keeps its place
 

@@ -1,12 +1,13 @@
 -- Laws of new windows where nothing stays: what is behind bridges can be gone over from the highest bus down, and has its
--- places in the windows.
-use Rattle.std.specs.Prelude.{◌≡◌, ℕ, ◌+◌, ◌-◌, ◌%◌, ◌<◌, ◌≤◌, ◌⊎◌, nat_lt, Bool, IsTrue, List, [], ◌∷◌, map, length}
+-- places in the windows; and of windows that are as large as all of memory.
+use Rattle.std.specs.Prelude.{◌≡◌, ℕ, ◌+◌, ◌-◌, ◌%◌, ◌^◌, ◌<◌, ◌≤◌, ◌⊎◌, nat_lt, Bool, IsTrue, List, [], ◌∷◌, map, length}
 use Rattle.std.specs.List.{Contains}
 use Rattle.pci_spec.specs.Window.{WindowKind}
 use Rattle.pci_spec.specs.System.{System, Function, IsSystem, is_bridge}
 use Rattle.pci_spec.specs.Bus.{secondary, IsNested}
 use Rattle.plan_spec.specs.Place.{range_from}
-use Rattle.settle_spec.specs.FirstPlace.{Extent}
+use Rattle.pci_spec.specs.Decoded.{Range}
+use Rattle.settle_spec.specs.FirstPlace.{Extent, is_place}
 use Rattle.settle_spec.specs.Lists.{Request}
 use Rattle.settle_spec.specs.Items.{Item, place_all, are_placed, has_of, items_on, nothing, extent_around, window_around, new_window}
 
@@ -40,3 +41,18 @@ NewWindowHasRoom =
     → size ≡ (extent_around page wide (map (λ (i : Item). i.extent) items)).size
     → ((i : Item) → Contains items i → CanBeIn a size i)
     → IsTrue (are_placed (place_all (λ i. range_from a size ∷ []) [] items))
+
+-- ---- all of memory
+
+-- a range has 2^64 addresses, from 0 on, and none of them is taken
+pub record IsAllOfMemory (r : Range) (taken : List Range) : Type 0 where
+  pub first : r.first ≡ 0
+  pub last : r.last + 1 ≡ 2 ^ 64
+  pub free : (t : Range) → Contains taken t → t.first < 2 ^ 64 → ⊥
+
+-- What has 2^64 addresses or more has a place only where it has no more than that, in a range of all of them, at 0.
+abbrev pub AllNeedsAll : Type 0
+AllNeedsAll =
+    (r : Range) (taken : List Range) (e : Extent) (a : ℕ) → r.last < 2 ^ 64 → 2 ^ 64 ≤ e.size
+    → IsTrue (is_place r taken e a)
+    → (e.size ≡ 2 ^ 64) × (a ≡ 0) × IsAllOfMemory r taken
