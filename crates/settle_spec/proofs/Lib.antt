@@ -9,6 +9,7 @@ pub mod Nested
 pub mod NewWindows
 pub mod ItemsBehind
 pub mod Room
+pub mod Moved
 pub mod BridgeOver
 pub mod AllOfMemory
 pub mod Classes

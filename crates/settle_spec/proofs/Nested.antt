@@ -2,7 +2,7 @@
 use Rattle.std.proofs.Common.{◌≡◌, ℕ, ◌<◌, ◌≤◌, inl, inr, List, true, ◌&&◌, not, arith, ap, refl}
 use Rattle.std.specs.Bool.{nat_lt, nat_le, ◌==◌}
 use Rattle.std.specs.List.{Contains}
-use Rattle.std.proofs.lemmas.Bool.{not-true, and_parts, cases_Bool, both_ways, ltb-true, leb-true, eqb-true, or_cases}
+use Rattle.std.proofs.lemmas.Bool.{not-true, and_parts, cases_Bool, cases_eq, both_ways, ltb-true, leb-true, eqb-true, or_cases}
 use Rattle.pci_spec.specs.Slot.{slot_number}
 use Rattle.pci_spec.specs.Header.{primary_bus}
 use Rattle.pci_spec.specs.System.{System, Function, IsSystem, is_bridge}
@@ -10,6 +10,7 @@ use Rattle.pci_spec.specs.Bus.{secondary, subordinate, is_behind, is_root, is_in
 use Rattle.pci_spec.proofs.Nesting.{one_function}
 use Rattle.pci_spec.proofs.BusRanges.{root_means}
 use Rattle.plan_spec.proofs.Planning.Behind.{all_gives, is_behind_by, behind_range}
+use Rattle.plan_spec.proofs.Planning.Safe.{order_of}
 
 module _ (roots : List ℕ) (s : System) (system : IsSystem s) (nested : IsNested roots s) where
   pub own_end : (b : Function) → Contains s b → is_bridge b ≡ true → secondary b ≤ subordinate b
@@ -71,4 +72,27 @@ module _ (roots : List ℕ) (s : System) (system : IsSystem s) (nested : IsNeste
             | inr right ↦ let l = ltb-true (subordinate d) (secondary b) right in (let no : ⊥ = omega (arith, l, end, low) in no)
           ])
     ]
+  ]
+
+  -- one bridge alone leads to a bus
+  pub one_bridge : (b c : Function) → Contains s b → Contains s c → is_bridge b ≡ true → is_bridge c ≡ true → secondary b ≡ secondary c → b ≡ c
+  one_bridge b c in_b in_c bridge_b bridge_c same = elim (cases_eq (slot_number b.slot) (slot_number c.slot)) [
+    | inl one ↦ one_function s system b c in_b in_c one
+    | inr differ ↦
+        let up_b = order_of roots s nested b in_b bridge_b in
+        let up_c = order_of roots s nested c in_c bridge_c in
+        absurd (elim (cases_Bool (is_behind c b.slot.bus)) [
+          | inl behind ↦ let low = (behind_range c b.slot.bus behind).0 in (let no : ⊥ = omega (arith, low, up_b, same) in no)
+          | inr off ↦ elim (cases_Bool (is_behind b c.slot.bus)) [
+            | inl behind ↦ let low = (behind_range b c.slot.bus behind).0 in (let no : ⊥ = omega (arith, low, up_c, same) in no)
+            | inr out ↦
+                let gap = nested.apart b c in_b in_c bridge_b bridge_c (λ e. differ (ap slot_number e)) off out in
+                let end_b = own_end b in_b bridge_b in
+                let end_c = own_end c in_c bridge_c in
+                elim (or_cases (nat_lt (subordinate b) (secondary c)) (nat_lt (subordinate c) (secondary b)) gap) [
+                  | inl left ↦ let l = ltb-true (subordinate b) (secondary c) left in (let no : ⊥ = omega (arith, l, end_b, same) in no)
+                  | inr right ↦ let l = ltb-true (subordinate c) (secondary b) right in (let no : ⊥ = omega (arith, l, end_c, same) in no)
+                ]
+          ]
+        ])
   ]
