@@ -1,3 +1,4 @@
 pub mod Ranges
 pub mod Legacy
 pub mod Clashes
+pub mod Lines

@@ -3,3 +3,4 @@ pub mod Nothing
 pub mod Judging
 pub mod Naming
 pub mod Taken
+pub mod Numbers

@@ -5,3 +5,5 @@ pub mod Sound
 pub mod AllFaults
 pub mod Words
 pub mod Laws
+pub mod Line
+pub mod Numbered

@@ -6,3 +6,4 @@
 #![tactic(auto)]
 
 pub mod given_laws;
+pub mod list_laws;
