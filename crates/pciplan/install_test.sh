@@ -372,7 +372,7 @@ offers() {
 
 quiet 'bash takes its completion' bash -n $names/pciplan.bash
 if command -v bash >/dev/null; then
-    offers "''" 'show check faults size plan probe'
+    offers "''" 'show check faults map size plan probe'
     for command in $commands; do
         offers "$command ''" FILES
         offers "$command dump.txt probe.txt ''" \

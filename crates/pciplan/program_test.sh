@@ -95,7 +95,7 @@ case_of 'plan: nothing to plan' 0 '' '' plan empty.txt empty.txt $pools
 case_of 'plan: no' 1 "no 70 BadPools$lf" '' \
     plan dump.txt probe.txt --io 2-1 --mem e0000000-efffffff --pref f0000000-ffffffff
 
-# dumps of machines, each with its verdict, its listing, and what sizing it finds, which is its probe
+# dumps of machines, each with its verdict, its map, its listing, and what sizing it finds, which is its probe
 for machine in desk old port roots; do
     roots=00
     [ $machine = roots ] && roots=00,40
@@ -103,6 +103,10 @@ for machine in desk old port roots; do
     [ "$text" = "yes$lf" ]
     judged=$?
     case_of "$machine: check" $judged "$text" '' check --root $roots $machine.dump $machine.probe
+    # what isn't admitted has the line of the verdict in the place of a map
+    [ $judged -eq 1 ] || text_of $machine.map
+    case_of "$machine: map" $judged "$text" '' map --root $roots $machine.dump $machine.probe
+    text_of $machine.check
     # the list begins with the fault that the verdict names
     text=${text#no }
     [ $machine = desk ] && text="${text}52 VgaEnable 01:00.0$lf"
@@ -192,7 +196,7 @@ case_of 'a fault of both' 2 '' "pciplan: dump: 9 Ended 1$lf" check cut.txt cut.t
 
 # texts that can't be opened or read
 # shellcheck disable=SC2086
-for command in show check faults size "plan $pools"; do
+for command in show check faults map size "plan $pools"; do
     name=${command%% *}
     case_of "$name: no dump" 4 '' "pciplan: dump: 1 Io$lf" $command missing.txt probe.txt
     case_of "$name: no probe" 4 '' "pciplan: probe: 1 Io$lf" $command dump.txt missing.txt
@@ -305,7 +309,7 @@ got=$?
 : >err
 compare 'probe: remarks where standard error is closed' 0 "$text" '' $got
 if [ -w /dev/full ]; then
-    for command in show check faults size; do
+    for command in show check faults map size; do
         ./pciplan $command dump.txt probe.txt 2>err >/dev/full
         got=$?
         : >out

@@ -5,13 +5,14 @@ _pciplan() {
     local word=${COMP_WORDS[COMP_CWORD]} options said=' ' texts=0 ended='' at
     COMPREPLY=()
     if [ "$COMP_CWORD" -eq 1 ]; then
-        mapfile -t COMPREPLY < <(compgen -W 'show check faults size plan probe' -- "$word")
+        mapfile -t COMPREPLY < <(compgen -W 'show check faults map size plan probe' -- "$word")
         return
     fi
     case ${COMP_WORDS[1]} in
     show | size) options='' ;;
     check) options='--root' ;;
     faults) options='--model --root --why' ;;
+    map) options='--model --root' ;;
     plan) options='--io --mem --pref --root --why --writes' ;;
     probe) options='--exact --least' ;;
     *) return ;;

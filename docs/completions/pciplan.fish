@@ -15,7 +15,7 @@ end
 # Whether one of the two texts is still wanted, and the cursor doesn't stand in an option's own word.
 function __pciplan_wants_text
     set -l words (commandline -opc)
-    contains -- "$words[2]" show check faults size plan probe; or return
+    contains -- "$words[2]" show check faults map size plan probe; or return
     set -e words[1..2]
     set -l valued --root --model --io --mem --pref
     set -l texts 0
@@ -38,11 +38,12 @@ complete -c pciplan -n __pciplan_wants_text -F
 complete -c pciplan -n __pciplan_wants_command -a show -d 'List what each function decodes to'
 complete -c pciplan -n __pciplan_wants_command -a check -d 'Judge a dump and its probe'
 complete -c pciplan -n __pciplan_wants_command -a faults -d 'List all faults at once'
+complete -c pciplan -n __pciplan_wants_command -a map -d 'Print the address map'
 complete -c pciplan -n __pciplan_wants_command -a size -d 'Print the probe that sizing would read'
 complete -c pciplan -n __pciplan_wants_command -a plan -d 'Plan the addresses of a board'
 complete -c pciplan -n __pciplan_wants_command -a probe -d 'Derive the probe from what Linux sized'
-complete -c pciplan -n '__pciplan_takes root check faults plan' -l root -x -d 'Buses on which accesses of the host start'
-complete -c pciplan -n '__pciplan_takes model faults' -l model -x -d 'Words by which functions are taken'
+complete -c pciplan -n '__pciplan_takes root check faults map plan' -l root -x -d 'Buses on which accesses of the host start'
+complete -c pciplan -n '__pciplan_takes model faults map' -l model -x -d 'Words by which functions are taken'
 complete -c pciplan -n '__pciplan_takes io plan' -l io -x -d 'Pool of I/O addresses'
 complete -c pciplan -n '__pciplan_takes mem plan' -l mem -x -d 'Pool of memory addresses'
 complete -c pciplan -n '__pciplan_takes pref plan' -l pref -x -d 'Pool of prefetchable memory addresses'

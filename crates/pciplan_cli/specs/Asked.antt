@@ -64,6 +64,9 @@ IsTaskOf (asked.Check root) t = (roots : Roots) × AreRootsOf root roots × (t �
 IsTaskOf (asked.Faults root model why) t =
     (roots : Roots) × (words : Option Words) × AreRootsOf root roots × AreWordsOf model words
     × (t ≡ task.Faults roots words why)
+IsTaskOf (asked.Map root model) t =
+    (roots : Roots) × (words : Option Words) × AreRootsOf root roots × AreWordsOf model words
+    × (t ≡ task.Map roots words)
 IsTaskOf asked.Size t = t ≡ task.Size
 IsTaskOf (asked.Plan words) t = IsPlanningOf words t
 IsTaskOf (asked.Probe exact least) t =
@@ -79,12 +82,15 @@ HasIo words = HasRoots words × ((pool : Range) × IsPoolWord words.io.now pool)
 abbrev pub HasMem : PlanWords → Type 0
 HasMem words = HasIo words × ((pool : Range) × IsPoolWord words.mem.now pool)
 
--- the first word that is none, of the root list and then the words of `--model` or the pools of I/O, memory and prefetchable memory; or two options of
--- which one alone may be said
+-- the first word that is none, of the root list and then the words of `--model` or the pools of I/O, memory and
+-- prefetchable memory; or two options of which one alone may be said
 abbrev pub IsRefusedFor : Asked → Failure → Type 0
 IsRefusedFor (asked.Check root) Root = HasNoRoots root
 IsRefusedFor (asked.Faults root model why) Root = HasNoRoots root
 IsRefusedFor (asked.Faults root model why) Model =
+    ((roots : Roots) × AreRootsOf root roots) × HasNoWords model
+IsRefusedFor (asked.Map root model) Root = HasNoRoots root
+IsRefusedFor (asked.Map root model) Model =
     ((roots : Roots) × AreRootsOf root roots) × HasNoWords model
 IsRefusedFor (asked.Plan words) Root = HasNoRoots words.root
 IsRefusedFor (asked.Plan words) (Pool Io) = HasRoots words × HasNoPool words.io.now

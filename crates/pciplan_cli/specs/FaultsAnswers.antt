@@ -6,9 +6,6 @@ use Rattle.pci_spec.specs.System.{system_of}
 use Rattle.pci_spec.specs.Fault.{Fault}
 use Rattle.pci_spec.specs.FaultLines.{AreAllFaults}
 use Rattle.pci_spec.specs.FaultsText.{fault_line, yes_line, IsFaultsText}
-use Rattle.model_spec.specs.TakenDumps.{AreTakenAs}
-use Rattle.pci_model.specs.declared.words.Words.{Words}
-use Rattle.pci_model.specs.WordsValue.{words_value}
 use Rattle.pci_check.specs.Audits.{AreSound}
 use Rattle.pci_faults.specs.FirstLine.{IsFirstLine}
 use Rattle.pci_tree.specs.Outline.{Tree}
@@ -35,11 +32,3 @@ pub record AreTold (roots : List ℕ) (why : Bool) (dump probe : List Block)
   pub text : List ℕ
   pub is : IsFaultsText roots (system_of dump probe) why faults text
   pub line : answer ≡ list_answer faults text
-
--- the same of a dump and its probe as words take them, where there are words
-abbrev pub AreToldBy : Option Words → List ℕ → Bool → List Block → List Block → Answer → Type 0
-AreToldBy None roots why dump probe answer = AreTold roots why dump probe answer
-AreToldBy (Some words) roots why dump probe answer =
-    (taken : List Block) × (taken_probe : List Block)
-    × AreTakenAs (words_value words) dump probe taken taken_probe
-    × AreTold roots why taken taken_probe answer

@@ -2,6 +2,8 @@ pub mod Statuses
 pub mod Answers
 pub mod PlanAnswers
 pub mod FaultsAnswers
+pub mod MapAnswers
+pub mod TakenAnswers
 pub mod ModelWords
 pub mod PoolWords
 pub mod RootWords

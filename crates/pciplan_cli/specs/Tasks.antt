@@ -14,10 +14,12 @@ use Rattle.pci_tree.specs.Roots.{buses_of}
 use Rattle.pci_place.specs.Pools.{pools_value}
 use Rattle.pci_check.specs.Audits.{IsDumpOf}
 use Rattle.pciplan_cli.specs.Answers.{Answer, IsShown, IsChecked, IsSized, IsTold}
-use Rattle.pciplan_cli.specs.FaultsAnswers.{AreToldBy}
+use Rattle.pciplan_cli.specs.FaultsAnswers.{AreTold}
+use Rattle.pciplan_cli.specs.MapAnswers.{IsMapped}
 use Rattle.pciplan_cli.specs.PlanAnswers.{IsPlanned}
 use Rattle.pciplan_cli.specs.ProbeAnswers.{probe_answer}
 use Rattle.pciplan_cli.specs.Statuses.{status_of}
+use Rattle.pciplan_cli.specs.TakenAnswers.{IsAnswerBy}
 use Rattle.pciplan_cli.specs.declared.invocation.Invocation.{Invocation}
 use Rattle.pciplan_cli.specs.declared.invocation.Task.{Task}
 use Rattle.pciplan_cli.specs.declared.invocation.Task.TheVariants as task
@@ -42,7 +44,8 @@ pub record IsAnswerTo {B : Type 0} (IsSecond : Option (List ℕ) → List B → 
 abbrev pub IsPairAnswer : Task → List Block → List Block → Answer → Type 0
 IsPairAnswer task.Show = IsShown
 IsPairAnswer (task.Check roots) = IsChecked (buses_of roots)
-IsPairAnswer (task.Faults roots words why) = AreToldBy words (buses_of roots) why
+IsPairAnswer (task.Faults roots words why) = IsAnswerBy words (AreTold (buses_of roots) why)
+IsPairAnswer (task.Map roots words) = IsAnswerBy words (IsMapped (buses_of roots))
 IsPairAnswer task.Size = IsSized
 IsPairAnswer (task.Plan pools writes why roots) =
     IsPlanned record {

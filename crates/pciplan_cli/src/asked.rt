@@ -93,6 +93,10 @@ pub fn task_of(asked: &Asked<'_>) -> Result<Task, Failure>
             words: words_of(*model)?,
             why: *why,
         }),
+        Asked::Map { root, model } => Ok(Task::Map {
+            roots: roots_of(*root).ok_or(Failure::Root)?,
+            words: words_of(*model)?,
+        }),
         Asked::Size => Ok(Task::Size),
         Asked::Plan(words) => planning_of(words),
         Asked::Probe { exact, least } => Ok(Task::Probe {

@@ -1,19 +1,19 @@
 //! Lists all faults of a dump and its probe.
-ghost use Rattle.std.specs.Prelude.{map, Some, IfOk};
+ghost use Rattle.std.specs.Prelude.{map, IfOk};
 ghost use Rattle.std.specs.String.{string_bytes};
 ghost use Rattle.pci_function.specs.Fault.{fault_of};
 ghost use Rattle.pci_tree.specs.Roots.{buses_of};
 ghost use Rattle.pciplan_cli.specs.Answers.{answer_of};
-ghost use Rattle.pciplan_cli.specs.FaultsAnswers.{AreTold, AreToldBy, IsListText};
+ghost use Rattle.pciplan_cli.specs.FaultsAnswers.{AreTold, IsListText};
+ghost use Rattle.pciplan_cli.specs.TakenAnswers.{IsAnswerBy};
 
 use crate::reply::{Reply, Text};
+use crate::taking::taken;
 use pci_base::memory::OutOfMemory;
 use pci_dump::dump::Dump;
 use pci_faults::every::all_faults;
 use pci_function::fault::Fault;
-use pci_model::take::taken_by;
 use pci_model::words::Words;
-use pci_pair::pair::first_difference;
 use pci_tree::outline::Outline;
 use pci_tree::roots::Roots;
 use pci_why::list::{plain_text, reasoned_text};
@@ -56,25 +56,6 @@ fn faults_pair<A: Allocator + Copy>(
     })
 }
 
-/// The same of a dump and its probe as words take them. Two that list other slots are taken as they are.
-fn faults_taken<A: Allocator + Copy>(
-    alloc: A,
-    dump: &Dump<A>,
-    probe: &Dump<A>,
-    roots: Roots,
-    words: Words,
-    why: bool,
-) -> Result<Reply<A>, OutOfMemory>
-    ensures { IfOk result (λ reply. AreToldBy (Some words) (buses_of roots) why dump.now probe.now
-        (answer_of reply)) }
-{
-    if first_difference(dump.blocks(), probe.blocks()).is_some() {
-        return faults_pair(alloc, dump, probe, roots, why);
-    }
-    let taken = taken_by(alloc, dump, probe, words)?;
-    faults_pair(alloc, &taken.dump, &taken.probe, roots, why)
-}
-
 /// All faults of a dump and its probe with these root buses, with reasons or without: as words take them, where there are
 /// words.
 pub fn faults_by<A: Allocator + Copy>(
@@ -85,11 +66,11 @@ pub fn faults_by<A: Allocator + Copy>(
     words: Option<Words>,
     why: bool,
 ) -> Result<Reply<A>, OutOfMemory>
-    ensures { IfOk result
-        (λ reply. AreToldBy words (buses_of roots) why dump.now probe.now (answer_of reply)) }
+    ensures { IfOk result (λ reply. IsAnswerBy words (AreTold (buses_of roots) why) dump.now
+        probe.now (answer_of reply)) }
 {
-    match words {
+    match taken(alloc, dump, probe, words)? {
         None => faults_pair(alloc, dump, probe, roots, why),
-        Some(words) => faults_taken(alloc, dump, probe, roots, words, why),
+        Some(taken) => faults_pair(alloc, &taken.dump, &taken.probe, roots, why),
     }
 }

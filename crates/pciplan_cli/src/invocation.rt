@@ -30,6 +30,11 @@ pub enum Task {
         words: Option<Words>,
         why: bool,
     },
+    /// Prints the map of the same system.
+    Map {
+        roots: Roots,
+        words: Option<Words>,
+    },
     /// Sizes every function of a machine of the two texts.
     Size,
     /// Plans them in these pools, with these root buses: the planned dump, or the writes that lead there. Where a class

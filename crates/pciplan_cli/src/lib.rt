@@ -14,6 +14,7 @@ pub mod asked;
 pub mod failure;
 pub mod faulting;
 pub mod invocation;
+pub mod mapping;
 pub mod model_words;
 pub mod opened;
 pub mod planning;
@@ -25,6 +26,7 @@ pub mod root_list;
 pub mod run;
 pub mod shortage_line;
 pub mod sizing;
+pub mod taking;
 
 pub use failure::Failure;
 pub use invocation::{Invocation, Task};

@@ -75,9 +75,12 @@ fn unread(task: Task) -> Failure
 {
     match task {
         Task::Probe { .. } => Failure::Sizes(ReadFault::Io),
-        Task::Show | Task::Check { .. } | Task::Faults { .. } | Task::Size | Task::Plan { .. } => {
-            Failure::Probe(ReadFault::Io)
-        }
+        Task::Show
+        | Task::Check { .. }
+        | Task::Faults { .. }
+        | Task::Map { .. }
+        | Task::Size
+        | Task::Plan { .. } => Failure::Probe(ReadFault::Io),
     }
 }
 

@@ -7,6 +7,7 @@ ghost use Rattle.pciplan_cli.specs.Tasks.{HasFailed, IsAnswerOf, IsAnswered, IsB
 use crate::failure::{Failure, report};
 use crate::faulting::faults_by;
 use crate::invocation::{Invocation, Task};
+use crate::mapping::map_by;
 use crate::planning::plan_pair;
 use crate::probing::derive;
 use crate::reply::{Reply, Text, done, refused, send};
@@ -121,6 +122,7 @@ fn pair_reply<A: Allocator + Copy>(
     match task {
         Task::Show => show_pair(alloc, &dump, &probe),
         Task::Faults { roots, words, why } => faults_by(alloc, &dump, &probe, roots, words, why),
+        Task::Map { roots, words } => map_by(alloc, &dump, &probe, roots, words),
         Task::Size => size_pair(alloc, &dump, &probe),
         Task::Plan {
             pools,

@@ -31,10 +31,16 @@ listing =
     with_rule (with_rule (with_rule (with_paths (codes "faults")) (option_rule (codes "root")))
     (option_rule (codes "model"))) (flag_rule (codes "why"))
 
+abbrev pub mapping : App
+mapping =
+    with_rule (with_rule (with_paths (codes "map")) (option_rule (codes "root")))
+    (option_rule (codes "model"))
+
 abbrev pub planning : App
-planning = with_rule (with_rule (with_rule (with_rule (with_rule (with_rule (with_paths (codes "plan"))
-    (pool_rule (codes "io"))) (pool_rule (codes "mem"))) (pool_rule (codes "pref"))) (flag_rule (codes "writes")))
-    (flag_rule (codes "why"))) (option_rule (codes "root"))
+planning =
+    with_rule (with_rule (with_rule (with_rule (with_rule (with_rule (with_paths (codes "plan"))
+    (pool_rule (codes "io"))) (pool_rule (codes "mem"))) (pool_rule (codes "pref")))
+    (flag_rule (codes "writes"))) (flag_rule (codes "why"))) (option_rule (codes "root"))
 
 abbrev pub probing : App
 probing =
@@ -50,9 +56,9 @@ program = record (new_app (codes "pciplan")) {
 
 abbrev pub commands : App
 commands =
-    with_subcommand (with_subcommand (with_subcommand
+    with_subcommand (with_subcommand (with_subcommand (with_subcommand
     (with_subcommand (with_subcommand (with_subcommand program (with_paths (codes "show")).top)
-    checking.top) listing.top) (with_paths (codes "size")).top) planning.top) probing.top
+    checking.top) listing.top) mapping.top) (with_paths (codes "size")).top) planning.top) probing.top
 
 -- what the words of a command line say, which no fault of usage refuses
 pub record IsGiven (words : List Text) (asked : Asked) (dump second : Text) : Type 0 where

@@ -3,7 +3,7 @@ use Rattle.std.specs.Prelude.{◌≡◌, Bool, true, false, List, Option, None, 
 use Rattle.std.specs.Borrow.{Bor}
 use Rattle.clap.specs.Words.{Row, Text, first_of, one_of}
 use Rattle.pciplan_words.specs.declared.asked.Asked.{Asked}
-use Rattle.pciplan_words.specs.declared.asked.Asked.TheVariants.{Show, Check, Faults, Size, Plan, Probe}
+use Rattle.pciplan_words.specs.declared.asked.Asked.TheVariants.{Show, Check, Faults, Map, Size, Plan, Probe}
 use Rattle.pciplan_words.specs.declared.asked.PlanWords.{PlanWords}
 
 -- the word of an option or a path, where it has one
@@ -33,6 +33,9 @@ IsAsked name rows (Check root) =
 IsAsked name rows (Faults root model why) =
     (name ≡ codes "faults") × (first_of (codes "root") rows ≡ word_of root)
     × (first_of (codes "model") rows ≡ word_of model) × IsFlag (one_of (codes "why") rows) why
+IsAsked name rows (Map root model) =
+    (name ≡ codes "map") × (first_of (codes "root") rows ≡ word_of root)
+    × (first_of (codes "model") rows ≡ word_of model)
 IsAsked name rows Size = name ≡ codes "size"
 IsAsked name rows (Plan words) = (name ≡ codes "plan") × HasPlanWords rows words
 IsAsked name rows (Probe exact least) =

@@ -31,6 +31,11 @@ pub enum Asked<'a> {
         model: Option<&'a str>,
         why: bool,
     },
+    /// The address map, with the same two lists.
+    Map {
+        root: Option<&'a str>,
+        model: Option<&'a str>,
+    },
     /// The sizing run.
     Size,
     /// The plan.

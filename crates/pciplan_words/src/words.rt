@@ -3,7 +3,7 @@ ghost use Rattle.std.specs.Prelude.{◌≡◌, ◌≢◌, ◌⊎◌, List, ℕ, 
 ghost use Rattle.clap.specs.Words.{app_of, found_of, kind_of, rows_of, rule_of};
 ghost use Rattle.clap.specs.declared.error.kind.ErrorKind.{ErrorKind};
 ghost use Rattle.clap.specs.declared.builder.command.Command.TheViews.{out-Command};
-ghost use Rattle.pciplan_words.specs.CommandLines.{flag_rule, pool_rule, with_paths, listing, planning, probing, commands, IsGiven, HasNoLine};
+ghost use Rattle.pciplan_words.specs.CommandLines.{flag_rule, option_rule, pool_rule, with_paths, listing, mapping, planning, probing, commands, IsGiven, HasNoLine};
 ghost use Rattle.pciplan_words.specs.CommandWords.{HasPlanWords, IsAsked, IsSaid};
 ghost use Rattle.pciplan_words.specs.declared.asked.Asked.{Asked};
 ghost use Rattle.pciplan_words.specs.declared.asked.PlanWords.{PlanWords};
@@ -81,7 +81,15 @@ fn pool_arg<'a>(alloc: Global, name: &'a str) -> Arg<'a>
     ensures rule { rule_of result ≡ pool_rule name.now }
     ensures local { result.global ≡ false }
 {
-    Arg::new(alloc, name).long(name).required(true)
+    word_arg(alloc, name).required(true)
+}
+
+/// The option of this name, which takes a word.
+fn word_arg<'a>(alloc: Global, name: &'a str) -> Arg<'a>
+    ensures rule { rule_of result ≡ option_rule name.now }
+    ensures local { result.global ≡ false }
+{
+    Arg::new(alloc, name).long(name)
 }
 
 /// The option of this name, which takes no word.
@@ -98,9 +106,19 @@ fn faults_command<'a>(alloc: Global) -> Result<Command<'a>, AllocError>
     ensures local { IfOk result (λ command. (out-Command command).has_globals ≡ false) }
 {
     of_texts(alloc, "faults")?
-        .arg(Arg::new(alloc, ROOT).long(ROOT))?
-        .arg(Arg::new(alloc, MODEL).long(MODEL))?
+        .arg(word_arg(alloc, ROOT))?
+        .arg(word_arg(alloc, MODEL))?
         .arg(flag_arg(alloc, WHY))
+}
+
+/// `pciplan map DUMP PROBE [--root LIST] [--model WORDS]`.
+fn map_command<'a>(alloc: Global) -> Result<Command<'a>, AllocError>
+    ensures app { IfOk result (λ command. app_of command ≡ mapping) }
+    ensures local { IfOk result (λ command. (out-Command command).has_globals ≡ false) }
+{
+    of_texts(alloc, "map")?
+        .arg(word_arg(alloc, ROOT))?
+        .arg(word_arg(alloc, MODEL))
 }
 
 /// `pciplan plan DUMP PROBE --io A-B --mem A-B --pref A-B [--writes] [--why] [--root LIST]`.
@@ -114,7 +132,7 @@ fn plan_command<'a>(alloc: Global) -> Result<Command<'a>, AllocError>
         .arg(pool_arg(alloc, PREF))?
         .arg(flag_arg(alloc, WRITES))?
         .arg(flag_arg(alloc, WHY))?
-        .arg(Arg::new(alloc, ROOT).long(ROOT))
+        .arg(word_arg(alloc, ROOT))
 }
 
 /// `pciplan probe DUMP SIZES [--exact] [--least]`.
@@ -128,7 +146,7 @@ fn probe_command<'a>(alloc: Global) -> Result<Command<'a>, AllocError>
 }
 
 /// `pciplan show DUMP PROBE`, `pciplan check [--root LIST] DUMP PROBE`, `pciplan size DUMP PROBE`, and `pciplan faults`,
-/// `pciplan plan` and `pciplan probe`.
+/// `pciplan map`, `pciplan plan` and `pciplan probe`.
 fn command<'a>(alloc: Global) -> Result<Command<'a>, AllocError>
     ensures { IfOk result (λ command. app_of command ≡ commands) }
 {
@@ -136,8 +154,9 @@ fn command<'a>(alloc: Global) -> Result<Command<'a>, AllocError>
         .no_binary_name(true)
         .subcommand_required(true)
         .subcommand(of_texts(alloc, "show")?)?
-        .subcommand(of_texts(alloc, "check")?.arg(Arg::new(alloc, ROOT).long(ROOT))?)?
+        .subcommand(of_texts(alloc, "check")?.arg(word_arg(alloc, ROOT))?)?
         .subcommand(faults_command(alloc)?)?
+        .subcommand(map_command(alloc)?)?
         .subcommand(of_texts(alloc, "size")?)?
         .subcommand(plan_command(alloc)?)?
         .subcommand(probe_command(alloc)?)
@@ -174,6 +193,10 @@ fn asked_of<'a>(name: &str, found: &ArgMatches<'a>) -> Option<Asked<'a>>
             root: found.get_str(ROOT),
             model: found.get_str(MODEL),
             why: found.get_flag(WHY),
+        }),
+        "map" => Some(Asked::Map {
+            root: found.get_str(ROOT),
+            model: found.get_str(MODEL),
         }),
         "size" => Some(Asked::Size),
         "plan" => Some(Asked::Plan(plan_words(found)?)),

@@ -14,6 +14,13 @@ returns-in-faults c = (
   flag_there (found_of c.args.found.now) (codes "why") c.get_flag.result c.get_flag.ensures.none c.get_flag.ensures.value c.get_flag.ensures.other,
 )
 
+pub returns-in-map : goal.returns-in-map
+returns-in-map c = (
+  search rules,
+  word_there (found_of c.args.found.now) (codes "root") c.get_str-in-map.result c.get_str-in-map.ensures,
+  word_there (found_of c.args.found.now) (codes "model") c.get_str-in-map-2.result c.get_str-in-map-2.ensures,
+)
+
 pub returns-in-probe : goal.returns-in-probe
 returns-in-probe c = (
   search rules,

@@ -1,27 +1,21 @@
-use Rattle.std.proofs.Common.{rules, ◌≡◌, codes, false}
 use Rattle.std.proofs.lemmas.Result.{IfOk-weaker}
-use Rattle.clap.specs.Words.{rule_of}
-use Rattle.pciplan_words.specs.CommandLines.{option_rule}
 use Rattle.pciplan_words.proofs.CommandLines.{local_arg, with_arg}
 use Rattle.pciplan_words.proofs.words.plan_command.Goals as goal
 
 pub returns-clause-app : goal.returns-clause-app
 returns-clause-app c =
-    let root_is : rule_of c.long.result ≡ option_rule (codes "root") = search rules in
-    let root_local : c.long.result.global ≡ false = search rules in
     let io = with_arg c.in_ok-arg.ensures c.in_ok-of_texts.ensures.app c.pool_arg.ensures.rule c.pool_arg.ensures.local in
     let mem = with_arg c.in_ok-arg-2.ensures io c.pool_arg-2.ensures.rule c.pool_arg-2.ensures.local in
     let pref = with_arg c.in_ok-arg-3.ensures mem c.pool_arg-3.ensures.rule c.pool_arg-3.ensures.local in
     let writes = with_arg c.in_ok-arg-4.ensures pref c.flag_arg.ensures.rule c.flag_arg.ensures.local in
     let why = with_arg c.in_ok-arg-5.ensures writes c.flag_arg-2.ensures.rule c.flag_arg-2.ensures.local in
-    IfOk-weaker c.arg-6.result _ _ (λ command adds. with_arg adds why root_is root_local) c.arg-6.ensures
+    IfOk-weaker c.arg-6.result _ _ (λ command adds. with_arg adds why c.word_arg.ensures.rule c.word_arg.ensures.local) c.arg-6.ensures
 
 pub returns-clause-local : goal.returns-clause-local
 returns-clause-local c =
-    let root_local : c.long.result.global ≡ false = search rules in
     let io = local_arg c.in_ok-arg.ensures c.in_ok-of_texts.ensures.local c.pool_arg.ensures.local in
     let mem = local_arg c.in_ok-arg-2.ensures io c.pool_arg-2.ensures.local in
     let pref = local_arg c.in_ok-arg-3.ensures mem c.pool_arg-3.ensures.local in
     let writes = local_arg c.in_ok-arg-4.ensures pref c.flag_arg.ensures.local in
     let why = local_arg c.in_ok-arg-5.ensures writes c.flag_arg-2.ensures.local in
-    IfOk-weaker c.arg-6.result _ _ (λ command adds. local_arg adds why root_local) c.arg-6.ensures
+    IfOk-weaker c.arg-6.result _ _ (λ command adds. local_arg adds why c.word_arg.ensures.local) c.arg-6.ensures
