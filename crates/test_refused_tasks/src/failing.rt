@@ -40,6 +40,31 @@ fn run_on_pieces(
     Answer { status, out, err }
 }
 
+/// Whether a run ended with this message, or with an answer and its status.
+fn is_told(got: &Answer, message: &[u8], status: u8) -> bool {
+    match got.status {
+        4 => got.out.is_empty() && got.err.as_slice() == message,
+        other => other == status && got.err.is_empty(),
+    }
+}
+
+/// Asserts that a task whose read of a text fails, whichever it is, tells that and nothing else, and answers with this
+/// status where none does.
+pub fn tells_failed_reads(rt: &(impl Abort + AllocGlobal), task: Task, texts: &Texts, status: u8) {
+    for at in 1..16u64 {
+        let dump = with_failing_read(rt, task, texts, at, 0);
+        assert!(rt;
+            is_told(&dump, b"pciplan: dump: 1 Io\n".as_slice(), status),
+            "{at}"
+        );
+        let probe = with_failing_read(rt, task, texts, 0, at);
+        assert!(rt;
+            is_told(&probe, b"pciplan: probe: 1 Io\n".as_slice(), status),
+            "{at}"
+        );
+    }
+}
+
 /// What a task answers, whose answer goes to a writer.
 fn with_writer(rt: &impl AllocGlobal, task: Task, texts: &Texts, writer: Narrow) -> Answer {
     let mut writer = writer;

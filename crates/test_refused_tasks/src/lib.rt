@@ -14,6 +14,8 @@ mod program;
 #[cfg(test)]
 mod refused_lists;
 #[cfg(test)]
+mod refused_maps;
+#[cfg(test)]
 mod refused_plans;
 #[cfg(test)]
 mod refused_probes;

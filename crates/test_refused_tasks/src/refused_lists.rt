@@ -1,6 +1,5 @@
 //! Lists of all faults where a read, a write or a growth fails.
-use crate::failing::{leaves_beginnings, with_failing_read};
-use crate::program::Answer;
+use crate::failing::{leaves_beginnings, tells_failed_reads};
 use crate::refused_tasks::is_refused_in_turn;
 use pci_model::words::Words;
 use pci_tree::roots::Roots;
@@ -80,26 +79,9 @@ fn a_writer_that_fails_holds_a_beginning_of_the_list(rt: HostRuntime) -> Result<
     Ok(())
 }
 
-/// Whether a run ended with this message, or with a list.
-fn is_told(got: &Answer, message: &[u8]) -> bool {
-    match got.status {
-        4 => got.out.is_empty() && got.err.as_slice() == message,
-        1 => got.err.is_empty(),
-        _ => false,
-    }
-}
-
 #[test]
 fn a_read_that_fails_leaves_no_list(rt: HostRuntime) -> Result<(), Fail> {
     let texts = judged(rt.alloc())?;
-    for at in 1..16u64 {
-        let dump = with_failing_read(&rt, task(), &texts, at, 0);
-        assert!(rt; is_told(&dump, b"pciplan: dump: 1 Io\n".as_slice()), "{at}");
-        let probe = with_failing_read(&rt, task(), &texts, 0, at);
-        assert!(rt;
-            is_told(&probe, b"pciplan: probe: 1 Io\n".as_slice()),
-            "{at}"
-        );
-    }
+    tells_failed_reads(&rt, task(), &texts, 1);
     Ok(())
 }
