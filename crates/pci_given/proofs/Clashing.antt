@@ -1,7 +1,6 @@
 -- Claims of a bus, and where two of them clash.
-use Rattle.std.proofs.Common.{◌≡◌, ℕ, ◌≤◌, ◌↔◌, List, Bool, true, false, Option, Some, None, inl, inr, arith, subst, sym, ◌∙◌, ap, refl}
+use Rattle.std.proofs.Common.{◌≡◌, ℕ, ◌≤◌, ◌↔◌, List, Bool, true, false, Option, Some, None, arith, subst, sym, ◌∙◌, ap, refl}
 use Rattle.std.specs.Prelude.{◌==◌, MatchOption}
-use Rattle.std.proofs.lemmas.Bool.{cases_lt, both_ways}
 use Rattle.pci_spec.specs.Slot.{Slot}
 use Rattle.pci_spec.specs.Header.{layout, rom_place}
 use Rattle.pci_spec.specs.Window.{IoWindow, MemoryWindow, PrefetchWindow}
@@ -13,9 +12,10 @@ use Rattle.pci_tree.specs.declared.region.Region.{Region}
 use Rattle.pci_tree.specs.Ranges.{Covers}
 use Rattle.pci_tree.specs.Regions.{IsRegionOn}
 use Rattle.given_spec.specs.Given.{Given}
-use Rattle.given_spec.specs.Claims.{Own, Legacy, Gets, ClaimsOnBus, may_share}
+use Rattle.given_spec.specs.Claims.{Own, Legacy, Gets, ClaimsOnBus}
 use Rattle.pci_given.specs.Gathered.{IsCommon}
-use Rattle.pci_given.specs.Claim.{IsLeastCommon, Claimed, HaveNoClash, IsClashFrom, IsClaimOfRegion}
+use Rattle.pci_given.specs.Claim.{Claimed, IsClaimOn, IsClashOfBoth, HaveNoClash, IsClashFrom, IsClaimOfRegion}
+use Rattle.pci_given.specs.Clashes.{AreAtOdds, IsLeastAtOdds}
 
 -- ---- names of regions
 
@@ -71,24 +71,21 @@ region_claim r reach own pieces held is = record {
 pub no_clash_of_one : (c d : Claimed) → (c.slot ≡ d.slot) × (c.register ≡ d.register) → HaveNoClash c d
 no_clash_of_one c d same given roots s bus space is_c is_d a clash = clash.differ same
 
-pub no_clash_of_shared : (c d : Claimed) → may_share c.slot c.register d.slot d.register ≡ true → HaveNoClash c d
-no_clash_of_shared c d share given roots s bus space is_c is_d a clash = both_ways _ clash.apart share
+-- regions that clash answer an address that they may not share
+odds_of : (c d : Claimed) (given : Given) (roots : List ℕ) (s : System) (bus : ℕ) (space : Space) → IsClaimOn given roots s bus space c → IsClaimOn given roots s bus space d
+    → (a : ℕ) → IsClashOfBoth given roots s bus space c d a → AreAtOdds c d a
+odds_of c d given roots s bus space is_c is_d a clash = record {
+  first = (is_c a).1 (clash.gets, clash.claims_first);
+  second = (is_d a).1 (clash.gets, clash.claims_second);
+  apart = clash.apart;
+}
 
-pub no_clash_apart : (c d : Claimed) → ((a : ℕ) → Covers c.pieces a → Covers d.pieces a → ⊥) → HaveNoClash c d
-no_clash_apart c d none given roots s bus space is_c is_d a clash = none a ((is_c a).1 (clash.gets, clash.claims_first)) ((is_d a).1 (clash.gets, clash.claims_second))
-
-pub clash_from : (c d : Claimed) (a : ℕ) → ((c.slot ≡ d.slot) × (c.register ≡ d.register) → ⊥) → may_share c.slot c.register d.slot d.register ≡ false → IsLeastCommon c.pieces d.pieces a → IsClashFrom c d a
-clash_from c d a differ apart is given roots s bus space is_c is_d =
-    let one = (is_c a).0 is.first in
-    let other = (is_d a).0 is.second in record {
-      there = record { gets = one.0; claims_first = one.1; claims_second = other.1; differ = differ; apart = apart };
-      least = λ b clash. elim (cases_lt b a) [
-        | inl less ↦ absurd (is.least b less ((is_c b).1 (clash.gets, clash.claims_first)) ((is_d b).1 (clash.gets, clash.claims_second)))
-        | inr le ↦ le
-      ];
+pub clash_answer : (c d : Claimed) → ((c.slot ≡ d.slot) × (c.register ≡ d.register) → ⊥) → (o : Option ℕ)
+    → MatchOption o ((a : ℕ) → AreAtOdds c d a → ⊥) (λ a. IsLeastAtOdds c d a) → MatchOption o (HaveNoClash c d) (λ a. IsClashFrom c d a)
+clash_answer c d differ None none = λ given roots s bus space is_c is_d a clash. none a (odds_of c d given roots s bus space is_c is_d a clash)
+clash_answer c d differ (Some a) is = λ given roots s bus space is_c is_d.
+    let one = (is_c a).0 is.there.first in
+    let other = (is_d a).0 is.there.second in record {
+      there = record { gets = one.0; claims_first = one.1; claims_second = other.1; differ = differ; apart = is.there.apart };
+      least = λ b clash. is.least b (odds_of c d given roots s bus space is_c is_d b clash);
     }
-
-pub clash_answer : (c d : Claimed) → ((c.slot ≡ d.slot) × (c.register ≡ d.register) → ⊥) → may_share c.slot c.register d.slot d.register ≡ false → (o : Option ℕ)
-    → MatchOption o ((a : ℕ) → Covers c.pieces a → Covers d.pieces a → ⊥) (λ a. IsLeastCommon c.pieces d.pieces a) → MatchOption o (HaveNoClash c d) (λ a. IsClashFrom c d a)
-clash_answer c d differ apart None none = no_clash_apart c d none
-clash_answer c d differ apart (Some a) is = clash_from c d a differ apart is

@@ -12,3 +12,8 @@ pub mod Stopping
 pub mod Unreaching
 pub mod Clashing
 pub mod Legacies
+pub mod Making
+pub mod BusClaiming
+pub mod Odds
+pub mod ClashNaming
+pub mod AllClashing

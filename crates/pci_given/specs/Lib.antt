@@ -3,6 +3,8 @@ pub mod Values
 pub mod Legacy
 pub mod Sent
 pub mod Claim
+pub mod BusClaims
+pub mod Clashes
 pub mod Outside
 pub mod Passed
 pub mod Missed

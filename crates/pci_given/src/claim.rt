@@ -1,9 +1,12 @@
 //! Claims of a bus: what one region answers, and the least address that two of them answer.
 ghost use Rattle.std.specs.Prelude.{◌≡◌, ◌↔◌, ℕ, IsTrue, MatchOption, IfOk};
+ghost use Rattle.pci_spec.specs.JudgingLaws.{region_number};
 ghost use Rattle.pci_base.specs.Space.{space_of};
 ghost use Rattle.pci_tree.specs.Ranges.{Covers, IsCanonical};
 ghost use Rattle.given_spec.specs.Claims.{is_window_register, are_window_and_legacy, may_share};
 ghost use Rattle.pci_given.specs.Values.{given_value};
+ghost use Rattle.pci_given.specs.BusClaims.{number_of};
+ghost use Rattle.pci_given.specs.Clashes.{AreAtOdds, IsLeastAtOdds};
 ghost use Rattle.pci_given.specs.Claim.{IsLeastCommon, HaveNoClash, IsClashFrom, IsOwnOf, IsClaimOfRegion, IsLegacyOf, IsClaimOfLegacy};
 
 use super::gather::{common, gathered};
@@ -38,6 +41,45 @@ impl<A: Allocator> Model for Claim<A> {
     ghost view = { λ c. record { slot = c.slot; register = c.reg; pieces = c.pieces.items } };
 
     ghost invariant = { λ c. IsCanonical c.pieces.items };
+}
+
+impl<A: Allocator> Claim<A> {
+    /// The slot of its function.
+    pub fn slot(&self) -> Slot
+        ensures { result ≡ self.now.slot }
+    {
+        self.slot
+    }
+
+    /// The byte offset of the register that names the region.
+    pub fn reg(&self) -> u8
+        ensures { result ≡ self.now.register }
+    {
+        self.reg
+    }
+
+    /// The addresses that it answers: ranges that rise, with an address between each two.
+    pub fn pieces(&self) -> &[Range]
+        ensures value { result.now ≡ self.now.pieces }
+        // least addresses are looked for in them by halving
+        ensures canonical { IsCanonical result.now }
+    {
+        &self.pieces
+    }
+
+    /// Its place in the order of slots and registers, below 2^24.
+    pub fn number(&self) -> u32
+        ensures { result ≡ number_of self.now }
+    {
+        place(self.slot, self.reg)
+    }
+}
+
+/// The place of a region in the order of slots and registers, below 2^24.
+fn place(slot: Slot, reg: u8) -> u32
+    ensures { result ≡ region_number slot reg }
+{
+    u32::from(slot.number()) * 256 + u32::from(reg)
 }
 
 /// The addresses of a region, as a list.
@@ -156,6 +198,17 @@ fn is_same(first: Slot, first_reg: u8, second: Slot, second_reg: u8) -> bool
     first == second && first_reg == second_reg
 }
 
+/// The least address that two claims answer and may not share.
+pub fn least_at_odds<A: Allocator>(first: &Claim<A>, second: &Claim<A>) -> Option<u64>
+    ensures { MatchOption result ((a : ℕ) → AreAtOdds first.now second.now a → ⊥)
+        (λ a. IsLeastAtOdds first.now second.now a) }
+{
+    if may_share(first.slot, first.reg, second.slot, second.reg) {
+        return None;
+    }
+    least_common(&first.pieces, &second.pieces)
+}
+
 /// The least address at which two regions of a bus clash: both answer it, and they may not share it. None where they
 /// don't clash.
 pub fn least_clash<A: Allocator>(first: &Claim<A>, second: &Claim<A>) -> Option<u64>
@@ -165,8 +218,5 @@ pub fn least_clash<A: Allocator>(first: &Claim<A>, second: &Claim<A>) -> Option<
     if is_same(first.slot, first.reg, second.slot, second.reg) {
         return None;
     }
-    if may_share(first.slot, first.reg, second.slot, second.reg) {
-        return None;
-    }
-    least_common(&first.pieces, &second.pieces)
+    least_at_odds(first, second)
 }

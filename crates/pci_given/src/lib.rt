@@ -2,7 +2,9 @@
 //! of bridges.
 #![tactic(auto)]
 
+pub mod bus_claims;
 pub mod claim;
+pub mod clash_lines;
 pub mod gather;
 pub mod given;
 pub mod legacy;

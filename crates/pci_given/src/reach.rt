@@ -1,9 +1,10 @@
 //! What gets to a bus: what the host sends to the root above it, and each bridge on the way from there passes.
-ghost use Rattle.std.specs.Prelude.{map, MatchOption, IfOk};
+ghost use Rattle.std.specs.Prelude.{map, MatchOption, IfOk, IfSome};
 ghost use Rattle.std.specs.List.{All, Contains};
 ghost use Rattle.pci_base.specs.Space.{space_of};
 ghost use Rattle.pci_base.specs.WindowKinds.{kind_value};
 ghost use Rattle.pci_tree.specs.Outline.{RiseBySlot};
+ghost use Rattle.pci_tree.specs.Ranges.{IsCanonical};
 ghost use Rattle.pci_tree.specs.Reaches.{HasSpans};
 ghost use Rattle.pci_given.specs.Values.{given_value};
 ghost use Rattle.pci_given.specs.Reached.{IsReachAlong, IsReachInEach, IsAccessReachInEach};
@@ -56,7 +57,10 @@ pub fn reach_of<A: Allocator + Copy>(
     slot: Slot,
     kind: WindowKind,
 ) -> Result<Option<Vec<Range, A>>, OutOfMemory>
-    ensures { IfOk result (λ o. MatchOption o (Contains (map (λ r. r.slot) outline.now.records) slot → ⊥)
+    // claims are cut down to them by halving
+    ensures canonical { IfOk result (λ o. IfSome o (λ v. IsCanonical v.items)) }
+    ensures exact { IfOk result (λ o. MatchOption o
+        (Contains (map (λ r. r.slot) outline.now.records) slot → ⊥)
         (λ v. IsReachInEach (given_value given.now) outline.now (kind_value kind) slot.bus v.items)) }
 {
     match outline.path(slot) {
@@ -79,7 +83,10 @@ pub fn access_reach<A: Allocator + Copy>(
     slot: Slot,
     space: Space,
 ) -> Result<Option<Vec<Range, A>>, OutOfMemory>
-    ensures { IfOk result (λ o. MatchOption o (Contains (map (λ r. r.slot) outline.now.records) slot → ⊥)
+    // claims are cut down to them by halving
+    ensures canonical { IfOk result (λ o. IfSome o (λ v. IsCanonical v.items)) }
+    ensures exact { IfOk result (λ o. MatchOption o
+        (Contains (map (λ r. r.slot) outline.now.records) slot → ⊥)
         (λ v. IsAccessReachInEach (given_value given.now) outline.now (space_of space) slot.bus
         v.items)) }
 {

@@ -13,8 +13,8 @@ use Rattle.pci_given.proofs.reach.reach_of.Goals as goal
 pub reach_along-requires-clause-spans : goal.reach_along-requires-clause-spans
 reach_along-requires-clause-spans g c = have_spans c.records.result.now c.records.ensures.lawful
 
-pub returns-in_ok-reach-in-Some : goal.returns-in_ok-reach-in-Some
-returns-in_ok-reach-in-Some g c s has =
+pub returns-in_ok-reach-in-Some-clause-exact : goal.returns-in_ok-reach-in-Some-clause-exact
+returns-in_ok-reach-in-Some-clause-exact g c s has =
     reach_with (given_value c.args.given.now) (kind_value c.args.kind) c.args.outline.now.roots s c.records.result.now c.as_slice-path.result.now c.args.slot.bus c.root_above-root.result c.in_ok-reach-in-Some.reach.items
     (subst (λ (rs : List decoded.Record). HasRecords s rs) (sym c.records.ensures.value) has) c.records.ensures.rising
     (subst (λ (path : List Slot). IsPathTo c.args.outline.now.roots s path c.args.slot.bus) (sym c.as_slice-path.ensures.value) (c.in-Some.ensures s has))

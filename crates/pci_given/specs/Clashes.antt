@@ -1,0 +1,122 @@
+-- The clashes of the claims of a bus, and all clashes of a system.
+use Rattle.std.specs.Prelude.{◌≡◌, ℕ, ◌<◌, ◌≤◌, ◌⊎◌, nat_le, if◌then◌else◌, false, IsTrue, List, [], Option, None, Some, MatchOption, length, map, slice_index_or}
+use Rattle.std.specs.List.{AllPairs, Contains}
+use Rattle.pci_spec.specs.System.{System}
+use Rattle.pci_spec.specs.System as system
+use Rattle.pci_spec.specs.Fault as plain
+use Rattle.pci_spec.specs.Order.{precedes}
+use Rattle.pci_base.specs.declared.space.Space.{Space}
+use Rattle.pci_function.specs.declared.fault.Fault.{Fault}
+use Rattle.pci_function.specs.declared.fault.Fault.TheVariants.{Clash}
+use Rattle.pci_function.specs.Fault.{fault_of}
+use Rattle.pci_tree.specs.Ranges.{Covers}
+use Rattle.pci_tree.specs.Outline.{Tree}
+use Rattle.pci_check.specs.Trees.{HasTree}
+use Rattle.pci_faults.specs.declared.shares.Share.{Share}
+use Rattle.pci_faults.specs.Lines.{AreAdded}
+use Rattle.given_spec.specs.Given.{Given}
+use Rattle.given_spec.specs.Claims.{may_share}
+use Rattle.given_spec.specs.Fault.{Known, fault_number}
+use Rattle.given_spec.specs.Fault as spec
+use Rattle.given_spec.specs.AllFaults.{IsClashOf, IsNamed, judging_key}
+use Rattle.pci_given.specs.Claim.{Claimed}
+
+-- ---- two claims
+
+-- both answer an address that they may not share
+pub record AreAtOdds (c d : Claimed) (a : ℕ) : Type 0 where
+  pub first : Covers c.pieces a
+  pub second : Covers d.pieces a
+  pub apart : may_share c.slot c.register d.slot d.register ≡ false
+
+-- the least such address
+pub record IsLeastAtOdds (c d : Claimed) (a : ℕ) : Type 0 where
+  pub there : AreAtOdds c d a
+  pub least : (b : ℕ) → AreAtOdds c d b → a ≤ b
+
+-- ---- claims by slot and register
+
+-- where a list has no claim
+abbrev pub nobody : Claimed
+nobody = record { slot = record { bus = 0; device = 0; function = 0 }; register = 0; pieces = [] }
+
+abbrev pub claim_at : List Claimed → ℕ → Claimed
+claim_at claims k = slice_index_or claims k nobody
+
+-- two claims of a list, one before the other, are at odds about an address
+pub record AreClashing (claims : List Claimed) (a first second : ℕ) : Type 0 where
+  pub within : second < length claims
+  pub before : first < second
+  pub odds : AreAtOdds (claim_at claims first) (claim_at claims second) a
+
+-- of the first so many claims: the least address about which one is at odds with the second, and the first that is
+pub record IsLeastClashBelow (n : ℕ) (claims : List Claimed) (s : Share) : Type 0 where
+  pub below : s.first < n
+  pub there : AreClashing claims s.address s.first s.second
+  pub least : (a first : ℕ) → first < n → AreClashing claims a first s.second
+      → (s.address < a) ⊎ ((s.address ≡ a) × (s.first ≤ first))
+
+-- one was found, or there is none
+abbrev pub IsFoundBelow : ℕ → List Claimed → ℕ → Option Share → Type 0
+IsFoundBelow n claims second found =
+    MatchOption found ((a first : ℕ) → first < n → AreClashing claims a first second → ⊥)
+    (λ s. (s.second ≡ second) × IsLeastClashBelow n claims s)
+
+-- the one with the lesser address; of two with one address the one that was found before
+abbrev pub lesser : Option Share → Share → Share
+lesser None share = share
+lesser (Some found) share = if nat_le found.address share.address then found else share
+
+-- each of the first so many claims that is at odds with one before it, with the least address and the first of those
+pub record AreClashesBelow (n : ℕ) (claims : List Claimed) (shares : List Share) : Type 0 where
+  pub each : (s : Share) → Contains shares s
+      → (s.second < n) × IsLeastClashBelow s.second claims s
+  pub complete : (s : Share) → s.second < n → IsLeastClashBelow s.second claims s
+      → Contains shares s
+  pub rising : AllPairs (λ s t. s.second < t.second) shares
+
+-- of all of them
+abbrev pub AreClashes : List Claimed → List Share → Type 0
+AreClashes claims shares = AreClashesBelow (length claims) claims shares
+
+-- ---- faults
+
+-- the fault that two claims of a bus are at odds
+abbrev pub told : ℕ → Space → List Claimed → Share → Fault
+told bus space claims s =
+    Clash bus space s.address (claim_at claims s.first).slot (claim_at claims s.first).register
+    (claim_at claims s.second).slot (claim_at claims s.second).register
+
+-- the fault is a clash that a list of all names, on a bus and in a space that are meant
+abbrev pub IsClashLine : (ℕ → system.Space → Type 0) → Given → List ℕ → System → plain.Fault
+    → Type 0
+IsClashLine At given roots s
+    (plain.Clash bus space address first first_register second second_register) =
+    At bus space
+    × IsClashOf given roots s bus space address first first_register second second_register
+IsClashLine At given roots s fault = ⊥
+
+-- they come behind those of a list, in each system with the tree
+abbrev pub AreClashesAdded : (ℕ → system.Space → Type 0) → Given → Tree → List Fault → List Fault
+    → Type 0
+AreClashesAdded At given t before after =
+    AreAdded t (IsClashLine At given t.roots) before after
+
+-- of one bus and space
+abbrev pub IsOnBusIn : ℕ → system.Space → ℕ → system.Space → Type 0
+IsOnBusIn bus space b sp = (b ≡ bus) × (sp ≡ space)
+
+-- just the faults of a number that a list of all names, in its order
+pub record AreAllNumbered (number : ℕ) (given : Given) (roots : List ℕ) (s : System)
+    (faults : List spec.Fault) : Type 0 where
+  pub each : (f : spec.Fault) → Contains faults f
+      → IsNamed given roots s f × (fault_number f ≡ number)
+  pub complete : (f : spec.Fault) → IsNamed given roots s f → fault_number f ≡ number
+      → Contains faults f
+  pub rising : AllPairs (λ f g. IsTrue (precedes (judging_key f) (judging_key g))) faults
+
+-- all clashes, in each system with the tree
+abbrev pub AreAllClashes : Given → Tree → List Fault → Type 0
+AreAllClashes given t list =
+    (s : System) → HasTree t s
+    → AreAllNumbered 61 given t.roots s (map (λ f. Known (fault_of f)) list)
