@@ -1,12 +1,12 @@
 -- Buses that are kept free behind hot-plug slots.
-use Rattle.std.proofs.Common.{◌≡◌, ◌≢◌, ℕ, zero, suc, ◌+◌, ◌≤◌, inl, inr, List, true, false, ◌&&◌, ◌||◌, arith, refl, sym, ◌∙◌, ap, subst, min, set, get_or-set_other}
-use Rattle.std.specs.Bool.{◌==◌, nat_lt, nat_le, if◌then◌else◌}
+use Rattle.std.proofs.Common.{◌≡◌, ◌≢◌, ℕ, zero, suc, ◌+◌, ◌≤◌, inl, inr, List, true, arith, refl, sym, ◌∙◌, ap, set, get_or-set_other}
+use Rattle.std.specs.Bool.{nat_le, if◌then◌else◌}
 use Rattle.std.proofs.lemmas.Bool.{cases_Bool, leb-true}
 use Rattle.pci_spec.specs.Number.{byte_at}
 use Rattle.pci_spec.specs.Capability.{pointer_at, pointer}
 use Rattle.pci_spec.specs.Header.{subordinate_bus}
-use Rattle.number_spec.specs.Board.{Nodes, NoMore, Node, is_type_1}
-use Rattle.number_spec.specs.Room.{last_behind, have_numbers}
+use Rattle.number_spec.specs.Board.{Nodes, NoMore, Node}
+use Rattle.number_spec.specs.Room.{have_numbers}
 use Rattle.number_spec.specs.Numbered.{with_numbers}
 use Rattle.number_spec.specs.Spare.{is_hot_plug, leads_to_slot, has_hot_plug_slot, spare_room}
 use Rattle.number_spec.specs.NumberingLaws.{NoSpareIsInOrder, SpareStays}

@@ -1,5 +1,5 @@
 //! What all functions hold when everything is placed: their headers, function by function, and a survey of them.
-ghost use Rattle.std.specs.Prelude.{◌≡◌, ◌<◌, ℕ, Some, IfOk, take, drop, ◌++◌, length};
+ghost use Rattle.std.specs.Prelude.{◌≡◌, ◌<◌, Some, IfOk, take, drop, ◌++◌, length};
 ghost use Rattle.std.specs.List.{slice_get};
 ghost use Rattle.pci_spec.specs.System.{Function as FunctionValue};
 ghost use Rattle.pci_spec.specs.Window.{WindowKind as KindValue};

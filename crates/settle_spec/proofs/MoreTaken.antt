@@ -1,7 +1,6 @@
 -- When more is taken, what needs no less has no place that wasn't there before.
 use Rattle.std.proofs.Common.{◌≡◌, ◌||◌, ℕ, ◌+◌, ◌-◌, ◌%◌, ◌<◌, ◌≤◌, inl, inr, List, arith, sym, subst, refl, ◌∙◌, true, None}
 use Rattle.std.specs.Bool.{IsTrue, nat_le}
-use Rattle.std.specs.List.{Contains}
 use Rattle.std.proofs.lemmas.Bool.{true≢false, and_parts, and_from, or_cases, or_left, or_right, leb-true, le-leb, false_from_ne_true}
 use Rattle.pci_spec.specs.Decoded.{Range}
 use Rattle.settle_spec.specs.FirstPlace.{Extent, is_spot, ends_in, is_place, first_in, HasNoPlace, IsFirstIn}
