@@ -30,7 +30,8 @@ use Rattle.given_spec.specs.Fault.{Known, Outside, fault_number}
 use Rattle.given_spec.specs.Fault as spec
 use Rattle.given_spec.specs.AllFaults.{IsNamed, judging_key}
 use Rattle.given_spec.proofs.Naming.{named_register}
-use Rattle.pci_given.specs.Clashes.{IsClashLine, IsOnBusIn, AreClashesAdded, AreAllNumbered, AreAllClashes}
+use Rattle.pci_given.specs.Clashes.{IsClashLine, IsOnBusIn, AreClashesAdded, AreAllClashes}
+use Rattle.given_spec.specs.Numbered.{AreAllNumbered}
 use Rattle.pci_given.proofs.Making.{rise_in_order}
 
 abbrev pub Where : Type 1

@@ -1,10 +1,9 @@
 -- The clashes of the claims of a bus, and all clashes of a system.
-use Rattle.std.specs.Prelude.{◌≡◌, ℕ, ◌<◌, ◌≤◌, ◌⊎◌, nat_le, if◌then◌else◌, false, IsTrue, List, [], Option, None, Some, MatchOption, length, map, slice_index_or}
+use Rattle.std.specs.Prelude.{◌≡◌, ℕ, ◌<◌, ◌≤◌, ◌⊎◌, nat_le, if◌then◌else◌, false, List, [], Option, None, Some, MatchOption, length, map, slice_index_or}
 use Rattle.std.specs.List.{AllPairs, Contains}
 use Rattle.pci_spec.specs.System.{System}
 use Rattle.pci_spec.specs.System as system
 use Rattle.pci_spec.specs.Fault as plain
-use Rattle.pci_spec.specs.Order.{precedes}
 use Rattle.pci_base.specs.declared.space.Space.{Space}
 use Rattle.pci_function.specs.declared.fault.Fault.{Fault}
 use Rattle.pci_function.specs.declared.fault.Fault.TheVariants.{Clash}
@@ -16,9 +15,10 @@ use Rattle.pci_faults.specs.declared.shares.Share.{Share}
 use Rattle.pci_faults.specs.Lines.{AreAdded}
 use Rattle.given_spec.specs.Given.{Given}
 use Rattle.given_spec.specs.Claims.{may_share}
-use Rattle.given_spec.specs.Fault.{Known, fault_number}
+use Rattle.given_spec.specs.Fault.{Known}
 use Rattle.given_spec.specs.Fault as spec
-use Rattle.given_spec.specs.AllFaults.{IsClashOf, IsNamed, judging_key}
+use Rattle.given_spec.specs.AllFaults.{IsClashOf}
+use Rattle.given_spec.specs.Numbered.{AreAllNumbered}
 use Rattle.pci_given.specs.Claim.{Claimed}
 
 -- ---- two claims
@@ -105,15 +105,6 @@ AreClashesAdded At given t before after =
 -- of one bus and space
 abbrev pub IsOnBusIn : ℕ → system.Space → ℕ → system.Space → Type 0
 IsOnBusIn bus space b sp = (b ≡ bus) × (sp ≡ space)
-
--- just the faults of a number that a list of all names, in its order
-pub record AreAllNumbered (number : ℕ) (given : Given) (roots : List ℕ) (s : System)
-    (faults : List spec.Fault) : Type 0 where
-  pub each : (f : spec.Fault) → Contains faults f
-      → IsNamed given roots s f × (fault_number f ≡ number)
-  pub complete : (f : spec.Fault) → IsNamed given roots s f → fault_number f ≡ number
-      → Contains faults f
-  pub rising : AllPairs (λ f g. IsTrue (precedes (judging_key f) (judging_key g))) faults
 
 -- all clashes, in each system with the tree
 abbrev pub AreAllClashes : Given → Tree → List Fault → Type 0
