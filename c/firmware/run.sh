@@ -1,8 +1,17 @@
 #!/bin/sh
 # Builds the firmware with the library of crates/pciplan_c/out, and runs it as the only firmware of an emulated PC with a
-# bridge, a display and two `edu` devices: c/firmware/run.sh, from anywhere. It needs gcc, binutils and qemu-system-x86_64.
-# Its status is 0 where the devices answer at their places.
+# display and two `edu` devices, one of them behind a bridge: c/firmware/run.sh, from anywhere. `c/firmware/run.sh q35` takes
+# a PC of PCI Express, where that bridge stands behind a root port. Words behind the machine are handed to QEMU, as
+# `c/firmware/run.sh pc -device e1000`. It needs gcc, binutils and qemu-system-x86_64. Its status is 0 where the devices
+# answer at their places.
 set -e
+machine=${1-pc}
+[ $# = 0 ] || shift
+case $machine in
+pc) bridges='-device pci-bridge,id=behind,chassis_nr=1,addr=3' ;;
+q35) bridges='-device pcie-root-port,id=above,chassis=1,addr=3 -device pcie-pci-bridge,id=behind,bus=above' ;;
+*) echo 'usage: c/firmware/run.sh [pc|q35 [WORD..]]' >&2; exit 2 ;;
+esac
 here=$(cd "$(dirname "$0")" && pwd)
 c=$here/..
 library=$c/../crates/pciplan_c/out/libpciplan_c.a
@@ -41,7 +50,8 @@ objcopy -O binary -j .text reset.elf reset.bin
 { cat image.bin; head -c $(((rom - 4) * 1024 - size)) /dev/zero; cat reset.bin; } >rom.bin
 
 status=0
-qemu-system-x86_64 -machine pc -cpu Nehalem -m 256 -nodefaults -display none -serial stdio -bios rom.bin \
-    -device isa-debug-exit,iobase=0xf4,iosize=1 -device pci-bridge,id=behind,chassis_nr=1,addr=3 \
-    -device edu,bus=behind,addr=1 -device edu,addr=4 -device bochs-display,addr=5 || status=$?
+# shellcheck disable=SC2086 # the words of the bridges are one each
+qemu-system-x86_64 -machine "$machine" -cpu Nehalem -m 256 -nodefaults -display none -serial stdio -bios rom.bin \
+    -device isa-debug-exit,iobase=0xf4,iosize=1 $bridges \
+    -device edu,bus=behind,addr=1 -device edu,addr=4 -device bochs-display,addr=5 "$@" || status=$?
 [ $status = 1 ]
