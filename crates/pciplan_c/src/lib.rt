@@ -17,6 +17,8 @@ pub mod planning;
 pub mod put;
 pub mod refusal;
 pub mod register_write;
+#[cfg(test)]
+mod start_tests;
 pub mod starting;
 pub mod stepping;
 #[cfg(test)]

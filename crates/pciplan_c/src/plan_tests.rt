@@ -72,7 +72,7 @@ fn writes() -> [RegisterWrite; 7] {
 }
 
 /// A write that is none.
-const NONE: RegisterWrite = RegisterWrite {
+pub const NONE: RegisterWrite = RegisterWrite {
     bus: 0xa5,
     device: 0xa5,
     function: 0xa5,
@@ -138,7 +138,7 @@ fn a_plan_is_put_as_a_whole_or_not_at_all(rt: HostRuntime) -> Result<(), Fail> {
 }
 
 /// More growths than a call here asks for.
-const MANY: u64 = 1000;
+pub const MANY: u64 = 1000;
 
 #[test]
 fn a_plan_that_is_refused_a_growth_says_just_that(rt: HostRuntime) -> Result<(), Fail> {
