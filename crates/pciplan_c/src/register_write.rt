@@ -45,7 +45,9 @@ pub fn writes_of<A: Allocator>(
 ) -> Result<Vec<RegisterWrite, A>, OutOfMemory>
     ensures { IfOk result (λ all. map value_of all.items ≡ map write_value writes.now) }
 {
-    let mut all = Vec::new(alloc);
+    let Ok(mut all) = Vec::with_capacity(alloc, writes.len()) else {
+        return Err(OutOfMemory);
+    };
     for write in writes {
         all.push(RegisterWrite::of(write))?;
     }
