@@ -1,5 +1,5 @@
 //! Clashes: two regions of one bus that claim an address which gets there.
-ghost use Rattle.std.specs.Prelude.{IfOk, MatchOption};
+ghost use Rattle.std.specs.Prelude.{MatchOption};
 ghost use Rattle.pci_spec.specs.System.{Space as SpaceValue, Io, Memory};
 ghost use Rattle.pci_tree.specs.Outline.{Tree};
 ghost use Rattle.pci_base.specs.Space.{space_of};
@@ -8,7 +8,6 @@ ghost use Rattle.pci_check.specs.Clashes.{NoneClashOn, IsClashFaultOn, IsClashFa
 
 use super::reached::Reached;
 use super::sweep::{Overlap, first_overlap};
-use pci_base::memory::OutOfMemory;
 use pci_base::space::Space;
 use pci_function::fault::Fault;
 use pci_tree::region::Region;
@@ -20,23 +19,23 @@ fn clash_in<A: Allocator + Copy>(
     bus: u8,
     space: Space,
     regions: &mut Vec<Region, A>,
-) -> Result<Option<Fault>, OutOfMemory>
-    ensures { IfOk result (λ o. (t : Tree) → AreReachesOf t reached.now
+) -> Option<Fault>
+    ensures { (t : Tree) → AreReachesOf t reached.now
         → AreListed t bus (space_of space) regions.old.items
-        → MatchOption o (NoneClashOn t bus (space_of space))
-        (λ fault. IsClashFaultOn t bus (space_of space) fault)) }
+        → MatchOption result (NoneClashOn t bus (space_of space))
+        (λ fault. IsClashFaultOn t bus (space_of space) fault) }
 {
     // Two regions meet where any access gets, so what gets furthest decides.
     let allowed = reached.ranges(bus, space.furthest());
-    match first_overlap(regions, allowed)? {
-        None => Ok(None),
+    match first_overlap(regions, allowed) {
+        None => None,
         Some(
             Overlap {
                 address,
                 first,
                 second,
             },
-        ) => Ok(Some(Fault::Clash {
+        ) => Some(Fault::Clash {
             bus,
             space,
             address,
@@ -44,7 +43,7 @@ fn clash_in<A: Allocator + Copy>(
             first_reg: first.reg,
             second: second.slot,
             second_reg: second.reg,
-        })),
+        }),
     }
 }
 
@@ -54,15 +53,15 @@ pub fn first_clash<A: Allocator + Copy>(
     bus: u8,
     io: &mut Vec<Region, A>,
     memory: &mut Vec<Region, A>,
-) -> Result<Option<Fault>, OutOfMemory>
+) -> Option<Fault>
     // of each tree that these belong to, as no outline is handed in
-    ensures { IfOk result (λ o. (t : Tree) → AreReachesOf t reached.now
+    ensures { (t : Tree) → AreReachesOf t reached.now
         → AreListed t bus Io io.old.items → AreListed t bus Memory memory.old.items
-        → MatchOption o ((space : SpaceValue) → NoneClashOn t bus space)
-        (λ fault. IsClashFaultOnBus t bus fault)) }
+        → MatchOption result ((space : SpaceValue) → NoneClashOn t bus space)
+        (λ fault. IsClashFaultOnBus t bus fault) }
 {
-    if let Some(fault) = clash_in(reached, bus, Space::Io, io)? {
-        return Ok(Some(fault));
+    if let Some(fault) = clash_in(reached, bus, Space::Io, io) {
+        return Some(fault);
     }
     clash_in(reached, bus, Space::Mem, memory)
 }

@@ -35,7 +35,7 @@ fn first_on_buses<A: Allocator + Copy>(
             return Ok(Some(fault));
         }
         if clash.is_none() {
-            clash = first_clash(reached, bus as u8, &mut io, &mut memory)?;
+            clash = first_clash(reached, bus as u8, &mut io, &mut memory);
         }
     }
     Ok(clash)

@@ -50,7 +50,7 @@ fn split_in<A: Allocator + Copy>(
 {
     let mut regions = of_roots(alloc, outline, roots, space)?;
     let whole = [space.whole()];
-    match first_overlap(&mut regions, &whole)? {
+    match first_overlap(&mut regions, &whole) {
         None => Ok(None),
         Some(
             Overlap {

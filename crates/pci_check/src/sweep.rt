@@ -1,5 +1,5 @@
 //! Of regions sorted by first address: the least address that two of them claim, and the two least that do.
-ghost use Rattle.std.specs.Prelude.{◌<◌, ◌≤◌, ◌↔◌, ◌⊎◌, ℕ, length, IsTrue, IfOk, IfSome, OnOk, MatchOption};
+ghost use Rattle.std.specs.Prelude.{◌<◌, ◌≤◌, ◌↔◌, ◌⊎◌, ℕ, length, IsTrue, IfSome, MatchOption};
 ghost use Rattle.std.specs.List.Sorted.{IsNonDecreasingBy, IsPermutation};
 ghost use Rattle.pci_spec.specs.JudgingLaws.{region_number};
 ghost use Rattle.pci_tree.specs.declared.region.Region.{Region};
@@ -7,7 +7,6 @@ ghost use Rattle.pci_tree.specs.Ranges.{Covers, IsCanonical};
 ghost use Rattle.pci_tree.specs.Regions.{region_number as number_of};
 ghost use Rattle.pci_check.specs.Sweep.{Spans, Reaches, IsLeastMet, IsTwice, IsLeastTwice, Follows, IsLesser, IsClaimant, IsLeastClaimant, AreTwoLeast, StandByFirst, AreDistinct, IsUnshared, IsFirstOverlap};
 
-use pci_base::memory::OutOfMemory;
 use pci_base::range::Range;
 use pci_base::slot::Slot;
 use pci_tree::ranges::least_from;
@@ -138,15 +137,12 @@ fn two_least(regions: &[Region], a: u64) -> Option<(usize, usize)>
     }
 }
 
-/// Sorts regions by first address.
-fn sort<A: Allocator>(regions: &mut Vec<Region, A>) -> Result<(), OutOfMemory>
+/// Sorts regions by first address, in place.
+fn sort<A: Allocator>(regions: &mut Vec<Region, A>)
     ensures permutation { IsPermutation regions.old.items regions.new.items }
-    ensures sorted { OnOk result (IsNonDecreasingBy (λ r. r.first) regions.new.items) }
+    ensures sorted { IsNonDecreasingBy (λ r. r.first) regions.new.items }
 {
-    match regions.sort_by_key(|region| region.first) {
-        Ok(()) => Ok(()),
-        Err(_) => Err(OutOfMemory),
-    }
+    regions.sort_unstable_by_key(|region| region.first);
 }
 
 /// An address that two regions claim, and which they are.
@@ -162,26 +158,26 @@ pub struct Overlap {
 pub fn first_overlap<A: Allocator>(
     regions: &mut Vec<Region, A>,
     allowed: &[Range],
-) -> Result<Option<Overlap>, OutOfMemory>
+) -> Option<Overlap>
     // looked up by halving, so these have to rise; regions are sorted here
     requires { IsCanonical allowed.now }
-    ensures { IfOk result (λ o. MatchOption o
+    ensures { MatchOption result
         (AreDistinct regions.old.items → (a : ℕ) → IsUnshared regions.old.items allowed.now a)
-        (λ v. IsFirstOverlap regions.old.items allowed.now v.address v.first v.second)) }
+        (λ v. IsFirstOverlap regions.old.items allowed.now v.address v.first v.second) }
 {
     if regions.len() < 2 {
-        return Ok(None);
+        return None;
     }
-    sort(regions)?;
+    sort(regions);
     match first_shared_address(regions, allowed) {
-        None => Ok(None),
+        None => None,
         Some(address) => match two_least(regions, address) {
-            None => Ok(None),
-            Some((first, second)) => Ok(Some(Overlap {
+            None => None,
+            Some((first, second)) => Some(Overlap {
                 address,
                 first: regions[first],
                 second: regions[second],
-            })),
+            }),
         },
     }
 }

@@ -4,7 +4,7 @@ use Rattle.pci_check.specs.Stops.{AreHomeInEach}
 use Rattle.pci_check.proofs.Homes.{all_home}
 use Rattle.pci_check.proofs.Clashing.{IsAnswerBelow, answer_more, answer_kept, none_below}
 use Rattle.pci_check.proofs.Judges.{answer_on_buses}
-use Rattle.pci_check.proofs.judge.first_on_buses.Goals.{then-is_none+in_ok-clash, else-is_none}
+use Rattle.pci_check.proofs.judge.first_on_buses.Goals.{then-is_none, else-is_none}
 use Rattle.pci_check.proofs.judge.first_on_buses.Goals as goal
 
 pub returns-in-Some : goal.returns-in-Some
@@ -14,10 +14,10 @@ pub loop-bus-preserved : goal.loop-bus-preserved
 loop-bus-preserved g c = record {
   home = below_more (AreHomeInEach c.args.outline.now) c.loop-bus.bus c.loop-bus.invariant.home (rw c.in_default.is at c.first_unreached.ensures);
   clash = elim c.if-is_none.branch [
-    | then-is_none+in_ok-clash w ↦ subst (IsAnswerBelow c.args.outline.now (c.loop-bus.bus + 1)) (sym w.clash-is)
+    | then-is_none w ↦ subst (IsAnswerBelow c.args.outline.now (c.loop-bus.bus + 1)) (sym w.clash-is)
         (answer_more c.args.outline.now c.loop-bus.bus _
         (none_below c.args.outline.now c.loop-bus.bus c.loop-bus.clash (c.is_none.ensures ∙ ap not w.if-is_none.true) c.loop-bus.invariant.clash)
-        (w.in_ok-clash.ensures c.args.outline.now c.requires.reached c.in_ok-io.ensures c.in_ok-memory.ensures))
+        (w.first_clash-clash.ensures c.args.outline.now c.requires.reached c.in_ok-io.ensures c.in_ok-memory.ensures))
     | else-is_none w ↦ subst (IsAnswerBelow c.args.outline.now (c.loop-bus.bus + 1)) (sym w.clash-is)
         (answer_kept c.args.outline.now c.loop-bus.bus c.loop-bus.clash (c.is_none.ensures ∙ ap not w.if-is_none.false) c.loop-bus.invariant.clash)
   ];
