@@ -7,6 +7,7 @@ pub mod Roots
 pub mod Spread
 pub mod Kept
 pub mod Same
+pub mod SameRoom
 pub mod Spare
 pub mod Listed
 pub mod Examples

@@ -2,6 +2,7 @@
 use Rattle.std.proofs.Common.{◌≡◌, ◌≢◌, ℕ, ◌+◌, ◌<◌, ◌≤◌, ◌⊎◌, inl, inr, List, [], ◌∷◌, true, false, ◌&&◌, not, arith, refl, sym, ◌∙◌, ap, subst, length, map, max, None}
 use Rattle.std.specs.Bool.{nat_le, nat_lt, ◌==◌, if◌then◌else◌}
 use Rattle.std.specs.List.{AllPairs, Contains}
+use Rattle.std.specs.List.Sorted.{IsStrictlyIncreasing}
 use Rattle.std.proofs.lemmas.Bool.{and_parts, and_from, or_left, or_right, both_ways, eqb-false, eq-eqb, ne_eqb, le-leb, leb-true, lt-ltb, not-true, cases_Bool, cases_lt, false_from_ne_true}
 use Rattle.std.proofs.lemmas.List.Kept.{AllPairs-from_increasing}
 use Rattle.std.proofs.lemmas.List.Elements.{Contains-append_left, Contains-append_right}
@@ -17,9 +18,12 @@ use Rattle.number_spec.specs.Board.{Nodes, NoMore, Node, Root, Board, Place, Her
 use Rattle.number_spec.specs.Walk.{has_bus, is_found, walk}
 use Rattle.number_spec.specs.Numbered.{secondaries, have_ranges, IsNumbered}
 use Rattle.number_spec.specs.NoBus.{first_of, first_without}
-use Rattle.number_spec.specs.Listed.{IsOf, IsListing, HasNumbers}
+use Rattle.number_spec.specs.Room.{last_behind, have_numbers, IsNumberedWithRoom}
+use Rattle.number_spec.specs.Listed.{IsOf, IsListing, HasNumbers, HasRoomyNumbers}
+use Rattle.number_spec.specs.NumberingLaws.{ListedIsNested, ListedHasNoBusFault, RoomyIsNested, RoomyHasNoBusFault}
 use Rattle.number_spec.proofs.Single.{IsRanged}
 use Rattle.number_spec.proofs.InOrder.{top, run_from, ranged}
+use Rattle.number_spec.proofs.Roomy.{Plain, Opened, Closed, turn, within_last, within_top}
 use Rattle.number_spec.proofs.Found.{chosen, in_rest, in_first, first_found, no_next_first, walked_behind}
 use Rattle.number_spec.proofs.Same.{ranges_of, opened_range, both_none, first_device}
 
@@ -142,6 +146,32 @@ full_root root last nodes numbered none =
       | inl above ↦ wide root root (max root last) root nodes (omega arith) (no_room (top root last 0) high root root nodes (omega (arith, above)) all)
       | inr below ↦ wide root high (max root last) root nodes (omega arith) (subst (λ n. IsFull n high root nodes) (omega (arith, below)) all)
     ]
+
+-- the same where there is room behind bridges
+roomy_full : (room : List ℕ → ℕ) (last bus taken : ℕ) (nodes : Nodes) → have_numbers room last bus taken nodes ≡ true → first_without bus nodes ≡ None → IsFull taken (last_behind taken nodes) bus nodes
+roomy_full room last bus taken NoMore h none = omega arith
+roomy_full room last bus taken (Node d f image behind others) h none = elim (turn room last bus taken d f image behind others h) [
+  | Plain plain no_bus rest ↦ inl (plain, rw no_bus (roomy_full room last bus taken others rest (sym (first_device bus d f image behind others plain) ∙ none)))
+  | Opened bridge leads left numbers inside rest ↦
+      let nones = both_none (first_without (secondary_bus image) behind) (first_without bus others) (sym (of_leading bus d f image behind others leads) ∙ none) in
+      let inner = roomy_full room last (taken + 1) (taken + 1) behind inside (subst (λ s. first_without s behind ≡ None) numbers.secondary nones.0) in
+      let within = within_last room last (taken + 1) (taken + 1) behind inside (omega (arith, left)) in
+      let up = rising (taken + 1) (last_behind (taken + 1) behind) (taken + 1) behind inner in
+      let whole = wide (taken + 1) (last_behind (taken + 1) behind) (subordinate_bus image) (taken + 1) behind (omega (arith, numbers.subordinate, within)) inner in
+      inr (
+        bridge,
+        numbers.primary,
+        omega (arith, numbers.secondary),
+        omega (arith, numbers.secondary, numbers.subordinate, up, within),
+        subst (λ s. IsFull s (subordinate_bus image) s behind) (sym numbers.secondary) whole,
+        rw leads (roomy_full room last bus (subordinate_bus image) others rest nones.1),
+      )
+  | Closed bridge no_bus over numbers rest ↦ absurd (both_ways (has_bus image) no_bus (none_without bus d f image behind others bridge none))
+]
+
+roomy_root : (room : List ℕ → ℕ) (root last : ℕ) (nodes : Nodes) → IsNumberedWithRoom room root last nodes nodes → first_without root nodes ≡ None → IsFull root (max root last) root nodes
+roomy_root room root last nodes numbered none =
+    wide root (last_behind root nodes) (max root last) root nodes (within_top room last root root nodes numbered.numbers) (roomy_full room last root root nodes numbered.numbers none)
 
 -- ---- where a node is
 
@@ -363,7 +393,13 @@ record Stands (root : Root) (f : Function) : Type 0 where
   place : Place
   is : IsOf root place f
 
-module _ (last : ℕ → ℕ) (board : Board) (s : System) (numbers : HasNumbers last board) (lists : IsListing board s) where
+-- behind each root each bridge has a range
+record IsFullBoard (last : ℕ → ℕ) (board : Board) : Type 0 where
+  rising : IsStrictlyIncreasing (map (λ root. root.number) board)
+  apart : (root other : Root) → Contains board root → Contains board other → root.number < other.number → last root.number < other.number
+  full : (root : Root) → Contains board root → IsFull root.number (max root.number (last root.number)) root.number root.nodes
+
+module _ (last : ℕ → ℕ) (board : Board) (s : System) (numbers : IsFullBoard last board) (lists : IsListing board s) where
   abbrev roots : List ℕ
   roots = map (λ root. root.number) board
 
@@ -371,7 +407,7 @@ module _ (last : ℕ → ℕ) (board : Board) (s : System) (numbers : HasNumbers
   high root = max root.number (last root.number)
 
   is_full : (root : Root) → Contains board root → IsFull root.number (high root) root.number root.nodes
-  is_full root has = full_root root.number (last root.number) root.nodes (numbers.numbered root has) (numbers.none root has)
+  is_full root has = numbers.full root has
 
   bridge_at : (root : Root) (b : Function) (p : Place) → IsOf root p b → is_bridge b ≡ true → is_type_1 (image_at root.nodes p) ≡ true
   bridge_at root b p it one = ap is_type_1 (sym it.image) ∙ one
@@ -498,8 +534,36 @@ module _ (last : ℕ → ℕ) (board : Board) (s : System) (numbers : HasNumbers
             (y.0, (y.1, one, leads), (λ c to. only_one y.0 c y.1 to.0 one to.1 (leads ∙ sym to.2)))
       ]
 
-  pub listed_is_nested : IsNested roots s
-  listed_is_nested = record { order = in_order; inside = inside_it; apart = apart_from; clear = clear_of; one = led_to }
+  full_is_nested : IsNested roots s
+  full_is_nested = record { order = in_order; inside = inside_it; apart = apart_from; clear = clear_of; one = led_to }
 
-  pub listed_has_no_bus_fault : HasNoBusFault roots s
-  listed_has_no_bus_fault = no_bus_fault_where_nested roots s listed_is_nested
+  full_has_no_bus_fault : HasNoBusFault roots s
+  full_has_no_bus_fault = no_bus_fault_where_nested roots s full_is_nested
+
+-- ---- where bridges have their numbers
+
+from_numbers : (last : ℕ → ℕ) (board : Board) → HasNumbers last board → IsFullBoard last board
+from_numbers last board numbers = record {
+  rising = numbers.rising;
+  apart = numbers.apart;
+  full = λ root has. full_root root.number (last root.number) root.nodes (numbers.numbered root has) (numbers.none root has);
+}
+
+from_roomy : (room : List ℕ → ℕ) (last : ℕ → ℕ) (board : Board) → HasRoomyNumbers room last board → IsFullBoard last board
+from_roomy room last board numbers = record {
+  rising = numbers.rising;
+  apart = numbers.apart;
+  full = λ root has. roomy_root room root.number (last root.number) root.nodes (numbers.numbered root has) (numbers.none root has);
+}
+
+pub listed_is_nested : ListedIsNested
+listed_is_nested last board s numbers lists = full_is_nested last board s (from_numbers last board numbers) lists
+
+pub listed_has_no_bus_fault : ListedHasNoBusFault
+listed_has_no_bus_fault last board s numbers lists = full_has_no_bus_fault last board s (from_numbers last board numbers) lists
+
+pub roomy_is_nested : RoomyIsNested
+roomy_is_nested room last board s numbers lists = full_is_nested last board s (from_roomy room last board numbers) lists
+
+pub roomy_has_no_bus_fault : RoomyHasNoBusFault
+roomy_has_no_bus_fault room last board s numbers lists = full_has_no_bus_fault last board s (from_roomy room last board numbers) lists

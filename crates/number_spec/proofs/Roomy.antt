@@ -1,5 +1,5 @@
 -- Bridges that take the next number each, one after the other.
-use Rattle.std.proofs.Common.{◌≡◌, ℕ, ◌+◌, ◌<◌, ◌≤◌, ◌⊎◌, inl, inr, List, [], ◌∷◌, ◌++◌, Bool, true, false, ◌&&◌, ◌||◌, not, arith, refl, sym, ◌∙◌, ap, subst, length, min}
+use Rattle.std.proofs.Common.{◌≡◌, ℕ, ◌+◌, ◌<◌, ◌≤◌, ◌⊎◌, inl, inr, List, [], ◌∷◌, ◌++◌, Bool, true, false, ◌&&◌, ◌||◌, not, arith, refl, sym, ◌∙◌, ap, subst, length, max, min}
 use Rattle.std.specs.Bool.{nat_lt, ◌==◌, if◌then◌else◌}
 use Rattle.std.proofs.lemmas.Bool.{and_parts, and_from, both_ways, eqb-true, eq-eqb, ne_eqb, ltb-true, ltb-false, cases_lt, cases_Bool}
 use Rattle.std.proofs.lemmas.List.{length-append}
@@ -32,12 +32,12 @@ pub closed : (image : List ℕ) → is_type_1 image ≡ true → secondary_bus i
 closed image bridge none = let zeros = eq-eqb (secondary_bus image) 0 none in rw (bridge, zeros) refl
 
 -- a node on a bus: a device, a bridge with the next number, or a bridge for which none is left
-data Turn (room : List ℕ → ℕ) (last : ℕ) (bus : ℕ) (taken : ℕ) (image : List ℕ) (behind : Nodes) (others : Nodes) : Type 0 where
+pub data Turn (room : List ℕ → ℕ) (last : ℕ) (bus : ℕ) (taken : ℕ) (image : List ℕ) (behind : Nodes) (others : Nodes) : Type 0 where
   Plain : is_type_1 image ≡ false → has_bus image ≡ false → have_numbers room last bus taken others ≡ true → Turn room last bus taken image behind others
   Opened : is_type_1 image ≡ true → has_bus image ≡ true → taken < last → Shows image bus (taken + 1) (min last (last_behind (taken + 1) behind + room image)) → have_numbers room last (taken + 1) (taken + 1) behind ≡ true → have_numbers room last bus (subordinate_bus image) others ≡ true → Turn room last bus taken image behind others
   Closed : is_type_1 image ≡ true → has_bus image ≡ false → last ≤ taken → Shows image 0 0 0 → have_numbers room last bus taken others ≡ true → Turn room last bus taken image behind others
 
-turn : (room : List ℕ → ℕ) (last bus taken device function : ℕ) (image : List ℕ) (behind others : Nodes) → have_numbers room last bus taken (Node device function image behind others) ≡ true → Turn room last bus taken image behind others
+pub turn : (room : List ℕ → ℕ) (last bus taken device function : ℕ) (image : List ℕ) (behind others : Nodes) → have_numbers room last bus taken (Node device function image behind others) ≡ true → Turn room last bus taken image behind others
 turn room last bus taken device function image behind others h = elim (cases_Bool (is_type_1 image)) [
   | inr plain ↦ Plain plain (rw plain refl) (rw plain at h)
   | inl bridge ↦
@@ -72,6 +72,17 @@ within_last room last bus taken (Node d f image behind others) h low = elim (tur
   | Opened bridge leads left numbers inside rest ↦ rw (behind_opened taken d f image behind others leads)
       (within_last room last bus (subordinate_bus image) others rest (omega (arith, numbers.subordinate)))
   | Closed bridge none over numbers rest ↦ rw (behind_closed taken d f image behind others none) (within_last room last bus taken others rest low)
+]
+
+-- nor above the greatest number in use
+pub within_top : (room : List ℕ → ℕ) (last bus taken : ℕ) (nodes : Nodes) → have_numbers room last bus taken nodes ≡ true → last_behind taken nodes ≤ max taken last
+within_top room last bus taken NoMore h = omega arith
+within_top room last bus taken (Node d f image behind others) h = elim (turn room last bus taken d f image behind others h) [
+  | Plain plain none rest ↦ rw (behind_closed taken d f image behind others none) (within_top room last bus taken others rest)
+  | Opened bridge leads left numbers inside rest ↦
+      let more = within_top room last bus (subordinate_bus image) others rest in
+      rw (behind_opened taken d f image behind others leads) (omega (arith, numbers.subordinate, more))
+  | Closed bridge none over numbers rest ↦ rw (behind_closed taken d f image behind others none) (within_top room last bus taken others rest)
 ]
 
 -- buses up to a higher one

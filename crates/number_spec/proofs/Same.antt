@@ -31,7 +31,7 @@ third_byte image = other_byte (set image 0x18 0) 0x19 0x1a (λ is. cc is) ∙ ot
 second_byte : (image : List ℕ) → byte_at (set image 0x18 0) 0x19 ≡ secondary_bus image
 second_byte image = other_byte image 0x18 0x19 (λ is. cc is)
 
-same_image : (a b : List ℕ) → with_numbers 0 0 0 a ≡ with_numbers 0 0 0 b → primary_bus a ≡ primary_bus b → secondary_bus a ≡ secondary_bus b → subordinate_bus a ≡ subordinate_bus b → a ≡ b
+pub same_image : (a b : List ℕ) → with_numbers 0 0 0 a ≡ with_numbers 0 0 0 b → primary_bus a ≡ primary_bus b → secondary_bus a ≡ secondary_bus b → subordinate_bus a ≡ subordinate_bus b → a ≡ b
 same_image a b same primary secondary subordinate =
     set_back a b 0x18 (set_back (set a 0x18 0) (set b 0x18 0) 0x19
     (set_back (set (set a 0x18 0) 0x19 0) (set (set b 0x18 0) 0x19 0) 0x1a same (third_byte a ∙ subordinate ∙ sym (third_byte b)))
@@ -51,19 +51,19 @@ kind_stays image = elim (cases_Bool (is_type_1 image)) [
   | inl bridge ↦ rw bridge (kind_cleared image ∙ bridge)
 ]
 
-same_kind : (a b : List ℕ) → cleared a ≡ cleared b → is_type_1 b ≡ is_type_1 a
+pub same_kind : (a b : List ℕ) → cleared a ≡ cleared b → is_type_1 b ≡ is_type_1 a
 same_kind a b same = sym (kind_stays b) ∙ ap is_type_1 (sym same) ∙ kind_stays a
 
 -- ---- node by node
 
-record Pieces (d : ℕ) (f : ℕ) (image : List ℕ) (behind : Nodes) (others : Nodes) (e : ℕ) (g : ℕ) (new : List ℕ) (below : Nodes) (more : Nodes) : Type 0 where
-  same_device : d ≡ e
-  same_function : f ≡ g
-  same_image : cleared image ≡ cleared new
-  same_behind : without_numbers behind ≡ without_numbers below
-  same_others : without_numbers others ≡ without_numbers more
+pub record Pieces (d : ℕ) (f : ℕ) (image : List ℕ) (behind : Nodes) (others : Nodes) (e : ℕ) (g : ℕ) (new : List ℕ) (below : Nodes) (more : Nodes) : Type 0 where
+  pub same_device : d ≡ e
+  pub same_function : f ≡ g
+  pub same_image : cleared image ≡ cleared new
+  pub same_behind : without_numbers behind ≡ without_numbers below
+  pub same_others : without_numbers others ≡ without_numbers more
 
-pieces : (d f : ℕ) (image : List ℕ) (behind others : Nodes) (e g : ℕ) (new : List ℕ) (below more : Nodes) → without_numbers (Node d f image behind others) ≡ without_numbers (Node e g new below more) → Pieces d f image behind others e g new below more
+pub pieces : (d f : ℕ) (image : List ℕ) (behind others : Nodes) (e g : ℕ) (new : List ℕ) (below more : Nodes) → without_numbers (Node d f image behind others) ≡ without_numbers (Node e g new below more) → Pieces d f image behind others e g new below more
 pieces d f image behind others e g new below more same = record { same_device = cc same; same_function = cc same; same_image = cc same; same_behind = cc same; same_others = cc same }
 
 -- what a bridge shows, by whether it has a bus
@@ -212,7 +212,7 @@ no_nodes (Node d f image behind others) is = absurd (cc is)
 pub first_device : (bus d f : ℕ) (image : List ℕ) (behind others : Nodes) → is_type_1 image ≡ false → first_without bus (Node d f image behind others) ≡ first_without bus others
 first_device bus d f image behind others plain = rw plain refl
 
-all_reached : (bus : ℕ) (nodes : Nodes) → first_without bus nodes ≡ None → only_bridges_lead nodes ≡ true → reached nodes ≡ nodes
+pub all_reached : (bus : ℕ) (nodes : Nodes) → first_without bus nodes ≡ None → only_bridges_lead nodes ≡ true → reached nodes ≡ nodes
 all_reached bus NoMore none lead = refl
 all_reached bus (Node d f image behind others) none lead =
     let outer = and_parts ((is_type_1 image || is_none behind) && only_bridges_lead behind) (only_bridges_lead others) lead in
@@ -236,7 +236,7 @@ all_reached bus (Node d f image behind others) none lead =
     ]
 
 -- nothing is left out where nothing is missing
-nothing_left : (nodes : Nodes) → without_numbers (reached nodes) ≡ without_numbers nodes → reached nodes ≡ nodes
+pub nothing_left : (nodes : Nodes) → without_numbers (reached nodes) ≡ without_numbers nodes → reached nodes ≡ nodes
 nothing_left NoMore alike = refl
 nothing_left (Node d f image behind others) alike =
     let p = pieces d f image (if has_bus image then reached behind else NoMore) (reached others) d f image behind others alike in

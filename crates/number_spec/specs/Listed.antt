@@ -1,11 +1,12 @@
 -- The functions that a walk over a board lists, and a board on which each bridge has its numbers.
-use Rattle.std.specs.Prelude.{◌≡◌, ℕ, ◌<◌, None, map}
+use Rattle.std.specs.Prelude.{◌≡◌, ℕ, ◌<◌, List, None, map}
 use Rattle.std.specs.List.{Contains}
 use Rattle.std.specs.List.Sorted.{IsStrictlyIncreasing}
 use Rattle.pci_spec.specs.System.{Function, System}
 use Rattle.number_spec.specs.Board.{Root, Board, Place, access_of, image_at}
 use Rattle.number_spec.specs.Walk.{walk}
 use Rattle.number_spec.specs.Numbered.{IsNumbered}
+use Rattle.number_spec.specs.Room.{IsNumberedWithRoom}
 use Rattle.number_spec.specs.NoBus.{first_without}
 
 -- A function is that of a node that the walk finds behind a root: it has the slot of the access
@@ -23,8 +24,18 @@ pub record IsListing (board : Board) (s : System) : Type 0 where
       → (place : Place) → Contains (walk root.nodes root.nodes) place
       → (f : Function) × Contains s f × IsOf root place f
 
--- Behind each root each bridge has its numbers, up to a last bus of that root. No root has a bus of
--- another.
+-- Behind each root each bridge has its numbers, up to a last bus of that root, and there is room
+-- behind it. No root has a bus of another.
+pub record HasRoomyNumbers (room : List ℕ → ℕ) (last : ℕ → ℕ) (board : Board) : Type 0 where
+  pub rising : IsStrictlyIncreasing (map (λ root. root.number) board)
+  pub apart : (root other : Root) → Contains board root → Contains board other
+      → root.number < other.number → last root.number < other.number
+  pub numbered : (root : Root) → Contains board root
+      → IsNumberedWithRoom room root.number (last root.number) root.nodes root.nodes
+  -- no bridge is without a number
+  pub none : (root : Root) → Contains board root → first_without root.number root.nodes ≡ None
+
+-- The same where no room is kept.
 pub record HasNumbers (last : ℕ → ℕ) (board : Board) : Type 0 where
   pub rising : IsStrictlyIncreasing (map (λ root. root.number) board)
   pub apart : (root other : Root) → Contains board root → Contains board other

@@ -9,12 +9,12 @@ use Rattle.pci_spec.specs.Bus.{IsNested}
 use Rattle.pci_spec.specs.NestingLaws.{HasNoBusFault}
 use Rattle.number_spec.specs.Board.{Nodes, Root, Board, Place, is_type_1, image_at, access_of, answers, IsSingle}
 use Rattle.number_spec.specs.Walk.{is_rising, is_walkable, walk}
-use Rattle.number_spec.specs.Numbered.{with_numbers, without_numbers, secondaries, IsNumbered}
+use Rattle.number_spec.specs.Numbered.{without_numbers, secondaries, IsNumbered}
 use Rattle.number_spec.specs.Room.{IsNumberedWithRoom}
-use Rattle.number_spec.specs.Spare.{spare_room}
+use Rattle.number_spec.specs.Spare.{IsSteady, spare_room}
 use Rattle.number_spec.specs.Spread.{IsSpread}
 use Rattle.number_spec.specs.NoBus.{first_without}
-use Rattle.number_spec.specs.Listed.{IsListing, HasNumbers}
+use Rattle.number_spec.specs.Listed.{IsListing, HasNumbers, HasRoomyNumbers}
 use Rattle.number_spec.specs.Reached.{reached, only_bridges_lead}
 
 -- The bridges whose numbers are in order are those that the walk comes to, where it finds all
@@ -60,9 +60,7 @@ NoSpareIsInOrder =
 
 -- How many are kept free behind a bridge doesn't hang on its bus numbers.
 abbrev pub SpareStays : Type 0
-SpareStays =
-    (spare : ℕ) (image : List ℕ) (primary secondary subordinate : ℕ)
-    → spare_room spare (with_numbers primary secondary subordinate image) ≡ spare_room spare image
+SpareStays = (spare : ℕ) → IsSteady (spare_room spare)
 
 -- So it is while the numbers are given.
 abbrev pub SpreadIsSingle : Type 0
@@ -87,6 +85,23 @@ AllNumbersAreOne =
     → IsNumbered root last second again → first_without root after ≡ None
     → IsTrue (only_bridges_lead after) → after ≡ again
 
+-- The same where numbers are kept free,
+abbrev pub RoomyNumbersAreOne : Type 0
+RoomyNumbersAreOne =
+    (room : List ℕ → ℕ) → IsSteady room → (root last : ℕ) (first second after again : Nodes)
+    → without_numbers first ≡ without_numbers second
+    → IsNumberedWithRoom room root last first after
+    → IsNumberedWithRoom room root last second again → reached after ≡ reached again
+
+-- of the walk and of all nodes.
+abbrev pub AllRoomyNumbersAreOne : Type 0
+AllRoomyNumbersAreOne =
+    (room : List ℕ → ℕ) → IsSteady room → (root last : ℕ) (first second after again : Nodes)
+    → without_numbers first ≡ without_numbers second
+    → IsNumberedWithRoom room root last first after
+    → IsNumberedWithRoom room root last second again → first_without root after ≡ None
+    → IsTrue (only_bridges_lead after) → after ≡ again
+
 -- Where each bridge has its numbers, the bus ranges of the functions that a walk lists nest, with
 -- the board's roots.
 abbrev pub ListedIsNested : Type 0
@@ -98,6 +113,19 @@ ListedIsNested =
 abbrev pub ListedHasNoBusFault : Type 0
 ListedHasNoBusFault =
     (last : ℕ → ℕ) (board : Board) (s : System) → HasNumbers last board → IsListing board s
+    → HasNoBusFault (map (λ root. root.number) board) s
+
+-- The same where numbers are kept free.
+abbrev pub RoomyIsNested : Type 0
+RoomyIsNested =
+    (room : List ℕ → ℕ) (last : ℕ → ℕ) (board : Board) (s : System)
+    → HasRoomyNumbers room last board → IsListing board s
+    → IsNested (map (λ root. root.number) board) s
+
+abbrev pub RoomyHasNoBusFault : Type 0
+RoomyHasNoBusFault =
+    (room : List ℕ → ℕ) (last : ℕ → ℕ) (board : Board) (s : System)
+    → HasRoomyNumbers room last board → IsListing board s
     → HasNoBusFault (map (λ root. root.number) board) s
 
 -- A board whose roots rise is single where each of them alone is.

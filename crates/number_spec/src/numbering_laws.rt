@@ -1,6 +1,6 @@
 //! Laws of numbering. These functions do nothing: each contract is a law.
 
-ghost use Rattle.number_spec.specs.NumberingLaws.{WalkIsInOrder, SameIsWalkable, NumberedIsSingle, RoomyIsSingle, SpreadIsSingle, RootsAreSingle, NoRoomIsInOrder, NoSpareIsInOrder, SpareStays, FoundAnswersOnce, RoomyAnswersOnce, NumbersAreOne, AllNumbersAreOne, ListedIsNested, ListedHasNoBusFault};
+ghost use Rattle.number_spec.specs.NumberingLaws.{WalkIsInOrder, SameIsWalkable, NumberedIsSingle, RoomyIsSingle, SpreadIsSingle, RootsAreSingle, NoRoomIsInOrder, NoSpareIsInOrder, SpareStays, FoundAnswersOnce, RoomyAnswersOnce, NumbersAreOne, AllNumbersAreOne, RoomyNumbersAreOne, AllRoomyNumbersAreOne, ListedIsNested, ListedHasNoBusFault, RoomyIsNested, RoomyHasNoBusFault};
 
 /// On a board whose bridges are numbered in the order of the walk each access is answered once at
 /// most, and also where numbers are kept free, while they are given, or where there are several
@@ -32,6 +32,8 @@ pub fn spare_buses_are_room()
 pub fn numbers_are_determined()
     ensures reached { NumbersAreOne }
     ensures all { AllNumbersAreOne }
+    ensures roomy { RoomyNumbersAreOne }
+    ensures all_roomy { AllRoomyNumbersAreOne }
 {}
 
 /// What a walk of a numbered board lists has bus ranges that nest, and none of the faults of bus
@@ -39,6 +41,8 @@ pub fn numbers_are_determined()
 pub fn listed_functions_nest()
     ensures nested { ListedIsNested }
     ensures no_fault { ListedHasNoBusFault }
+    ensures roomy { RoomyIsNested }
+    ensures no_roomy_fault { RoomyHasNoBusFault }
 {}
 
 /// On a numbered board each node that the walk finds answers exactly one access.
