@@ -372,8 +372,8 @@ static void print_list(int list)
     }
 }
 
-/* Boards made by rule, as pciplan_number_told.c and crates/test_numbering read them: the last bus, then the board. In each
-   fifth board a bridge takes no number. */
+/* Boards made by rule, as pciplan_number_told.c and crates/test_numbering read them: the last bus, how many are kept free
+   behind hot-plug slots, then the board. In each fifth board a bridge takes no number. */
 static void print_boards(unsigned count)
 {
     for (which = 0; which < count; which++) {
@@ -384,7 +384,7 @@ static void print_boards(unsigned count)
             index++;
         if (which % 5 == 4 && index < board.count)
             board.nodes[index].takes = 0;
-        printf("%02x", random_below(3) == 0 ? random_below(30) : 0xff);
+        printf("%02x %02x", random_below(3) == 0 ? random_below(30) : 0xff, which % 4);
         for (int r = 0; r < board.roots; r++) {
             printf(" @%02x", board.root[r]);
             print_list(board.on_root[r]);

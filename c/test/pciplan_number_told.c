@@ -1,6 +1,6 @@
 /* Numbers the boards of standard input, and prints each write and each answer: what crates/test_numbering prints of the same
-   boards. A line has the last bus and the board; @00 begins a root, and each root is numbered up to the bus before the next
-   one. */
+   boards. A line has the last bus, how many are kept free behind hot-plug slots, and the board; @00 begins a root, and
+   each root is numbered up to the bus before the next one. */
 #include <stdio.h>
 #include <stdlib.h>
 
@@ -63,12 +63,13 @@ int main(void)
     static char line[10000];
 
     while (fgets(line, sizeof line, stdin) != NULL) {
-        unsigned last = (unsigned)strtoul(line, NULL, 16);
+        char *at;
+        unsigned last = (unsigned)strtoul(line, &at, 16), spare = (unsigned)strtoul(at, &at, 16);
         printf("%s", line);
-        read_board(line + 2);
+        read_board(at);
         for (int r = 0; r < board.roots; r++) {
             unsigned end = r + 1 < board.roots ? board.root[r + 1] - 1u : 0xff;
-            print_answer(pciplan_number(board.root[r], (uint8_t)(last < end ? last : end), 0));
+            print_answer(pciplan_number(board.root[r], (uint8_t)(last < end ? last : end), (uint8_t)spare));
         }
     }
     return 0;

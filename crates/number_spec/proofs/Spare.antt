@@ -36,7 +36,7 @@ module _ (image : List ℕ) (p s u : ℕ) where
 
   kind_stays : (place : ℕ) → 0x40 ≤ place → is_hot_plug new place ≡ is_hot_plug image place
   kind_stays place beyond =
-      rw (byte_beyond image p s u place beyond, byte_beyond image p s u (place + 2 + 0) (omega (arith, beyond)), byte_beyond image p s u (place + 2 + 1) (omega (arith, beyond)), byte_beyond image p s u (place + 0x14 + 0) (omega (arith, beyond)), byte_beyond image p s u (place + 0x14 + 1) (omega (arith, beyond)), byte_beyond image p s u (place + 0x14 + 2) (omega (arith, beyond)), byte_beyond image p s u (place + 0x14 + 3) (omega (arith, beyond))) refl
+      rw (byte_beyond image p s u place beyond, byte_beyond image p s u (place + 3) (omega (arith, beyond)), byte_beyond image p s u (place + 0x14) (omega (arith, beyond))) refl
 
   leads_stays : (count place : ℕ) → leads_to_slot new count place ≡ leads_to_slot image count place
   leads_stays zero place = refl

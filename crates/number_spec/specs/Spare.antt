@@ -1,7 +1,7 @@
 -- Bus numbers that are kept free behind a bridge with a hot-plug slot (Bridge 1.2, 3.2.5.4; PCI
 -- Express Base 3.0, 7.8.2 and 7.8.9; SHPC 1.0).
 use Rattle.std.specs.Prelude.{◌≡◌, ℕ, zero, suc, ◌+◌, ◌==◌, nat_lt, nat_le, Bool, false, ◌&&◌, ◌||◌, if◌then◌else◌, List}
-use Rattle.pci_spec.specs.Number.{number_at, has_bit}
+use Rattle.pci_spec.specs.Number.{byte_at, has_bit}
 use Rattle.pci_spec.specs.Capability.{pointer_at, pointer, capability_id}
 use Rattle.number_spec.specs.Numbered.{with_numbers}
 
@@ -12,19 +12,28 @@ HOT_PLUG_CONTROLLER = 0x0c
 abbrev pub EXPRESS : ℕ
 EXPRESS = 0x10
 
+-- where the upper byte of PCI Express Capabilities, and Slot Capabilities, stand in a PCI Express
+-- capability
+abbrev pub EXPRESS_CAPABILITIES_HIGH : ℕ
+EXPRESS_CAPABILITIES_HIGH = 3
+
+abbrev pub SLOT_CAPABILITIES : ℕ
+SLOT_CAPABILITIES = 0x14
+
 -- The most places that a list can have without coming to one twice: each fourth byte behind the
 -- header.
 abbrev pub MOST_PLACES : ℕ
 MOST_PLACES = 48
 
 -- whether a capability is that of a hot-plug slot: a hot-plug controller, or a PCI Express port
--- with a slot (Slot Implemented) that is Hot-Plug Capable, as its Slot Capabilities say where they
--- begin within the 256 bytes
+-- with a slot (Slot Implemented, bit 8) that is Hot-Plug Capable (bit 6), as its Slot Capabilities
+-- say where they begin within the 256 bytes
 abbrev pub is_hot_plug : List ℕ → ℕ → Bool
 is_hot_plug image place =
     capability_id image place == HOT_PLUG_CONTROLLER
-    || (capability_id image place == EXPRESS && nat_lt (place + 0x14) 256
-    && has_bit (number_at image (place + 2) 2) 8 && has_bit (number_at image (place + 0x14) 4) 6)
+    || (capability_id image place == EXPRESS && nat_lt (place + SLOT_CAPABILITIES) 256
+    && has_bit (byte_at image (place + EXPRESS_CAPABILITIES_HIGH)) 0
+    && has_bit (byte_at image (place + SLOT_CAPABILITIES)) 6)
 
 -- Whether one of so many places of a capabilities list is, from a place on. A place inside the
 -- header ends it.

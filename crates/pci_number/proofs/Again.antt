@@ -1,19 +1,21 @@
 -- A second numbering answers and leaves the same.
 use Rattle.std.proofs.Common.{◌≡◌, ℕ, suc, inl, inr, [], ◌∷◌, true, ◌||◌, refl, sym, ◌∙◌, ap, subst, length}
-use Rattle.std.specs.Bool.{nat_le, nat_lt, ◌==◌, if◌then◌else◌}
+use Rattle.std.specs.Bool.{nat_le, nat_lt, ◌==◌}
 use Rattle.std.specs.List.{filter, list_all}
 use Rattle.std.proofs.lemmas.Bool.{and_parts, eqb-true, eq-eqb, cases_Bool}
-use Rattle.pci_spec.specs.Header.{secondary_bus, subordinate_bus}
+use Rattle.pci_spec.specs.Header.{secondary_bus}
 use Rattle.number_spec.specs.Board.{Nodes, NoMore, Node, Board}
 use Rattle.number_spec.specs.Access.{nodes_behind, with_nodes}
 use Rattle.number_spec.specs.Walk.{has_bus}
 use Rattle.number_spec.specs.Numbered.{without_numbers}
 use Rattle.number_spec.specs.Room.{last_behind}
+use Rattle.number_spec.specs.Spare.{spare_room}
 use Rattle.number_spec.specs.NoBus.{first_without}
 use Rattle.number_spec.specs.Ready.{IsReady}
 use Rattle.number_spec.specs.Reached.{reached}
 use Rattle.number_spec.proofs.Kept.{same_walk}
-use Rattle.number_spec.proofs.Same.{numbers_are_one, all_numbers_are_one}
+use Rattle.number_spec.proofs.SameRoom.{last_reached, roomy_numbers_are_one, all_roomy_numbers_are_one}
+use Rattle.number_spec.proofs.Spare.{spare_stays}
 use Rattle.pci_number.specs.Answer.{named_by, highest_of, IsAnswer}
 use Rattle.pci_number.specs.Again.{IsStanding, NumbersStand}
 use Rattle.pci_number.specs.declared.number.Numbering.{Numbering}
@@ -57,33 +59,29 @@ first_reached bus (Node d f image behind others) = elim (cases_Bool (has_bus ima
   | inr none ↦ rw (none, first_reached bus others) refl
 ]
 
-last_reached : (bus : ℕ) (nodes : Nodes) → last_behind bus (reached nodes) ≡ last_behind bus nodes
-last_reached bus NoMore = refl
-last_reached bus (Node d f image behind others) = last_reached (if has_bus image then subordinate_bus image else bus) others
-
 same_numbering : (a b : Numbering) → named_by a ≡ named_by b → highest_of a ≡ highest_of b → a ≡ b
 same_numbering (Numbered n) (Numbered m) named highest = ap Numbered highest
 same_numbering (Numbered n) (NoBus slot m) named highest = absurd (cc named)
 same_numbering (NoBus slot n) (Numbered m) named highest = absurd (cc named)
 same_numbering (NoBus slot n) (NoBus other m) named highest = cc
 
-stands : (root last : ℕ) (before after again : Board) (first second : Numbering) → IsReady after root last → IsAnswer before root last first after → IsAnswer after root last second again → IsStanding root first after second again
-stands root last before after again first second ready a b =
+stands : (spare root last : ℕ) (before after again : Board) (first second : Numbering) → IsReady after root last → IsAnswer spare before root last first after → IsAnswer spare after root last second again → IsStanding root first after second again
+stands spare root last before after again first second ready a b =
     let nodes = nodes_behind after root in
     let more = nodes_behind again root in
-    let one = numbers_are_one root last (nodes_behind before root) nodes nodes more a.numbered.same a.numbered b.numbered in
+    let one = roomy_numbers_are_one (spare_room spare) (spare_stays spare) root last (nodes_behind before root) nodes nodes more a.numbered.same a.numbered b.numbered in
     record {
       answer = same_numbering second first
           (b.without ∙ sym (first_reached root more) ∙ ap (first_without root) (sym one) ∙ first_reached root nodes ∙ sym a.without)
           (b.highest ∙ sym (last_reached root more) ∙ ap (last_behind root) (sym one) ∙ last_reached root nodes ∙ sym a.highest);
       reached = sym one;
       all = λ none lead.
-          let same = all_numbers_are_one root last (nodes_behind before root) nodes nodes more a.numbered.same a.numbered b.numbered (sym a.without ∙ none) lead in
+          let same = all_roomy_numbers_are_one (spare_room spare) (spare_stays spare) root last (nodes_behind before root) nodes nodes more a.numbered.same a.numbered b.numbered (sym a.without ∙ none) lead in
           b.others ∙ ap (with_nodes after root) (sym same) ∙ same_nodes root after ready.one;
     }
 
 pub numbers_stand : NumbersStand
-numbers_stand root last before after again first second ready first_answers second_answers =
+numbers_stand spare root last before after again first second ready first_answers second_answers =
     let a = first_answers ready in
     let ready_after = ready_stays before after root last ready a.others a.numbered.same in
-    stands root last before after again first second ready_after a (second_answers ready_after)
+    stands spare root last before after again first second ready_after a (second_answers ready_after)

@@ -31,8 +31,16 @@ closed_spread low high nodes closed = shut_spread low high nodes (closed_shut no
 
 -- ---- bridges that have their numbers
 
-pub numbered_spread : (last bus taken : ℕ) (nodes : Nodes) → have_numbers (λ i. 0) last bus taken nodes ≡ true → IsSpread taken (last_behind taken nodes) nodes
-numbered_spread last bus taken nodes numbers = ranged_is_spread taken (last_behind taken nodes) nodes (roomy (λ i. 0) last bus taken nodes numbers)
+pub numbered_spread : (room : List ℕ → ℕ) (last bus taken : ℕ) (nodes : Nodes) → have_numbers room last bus taken nodes ≡ true → IsSpread taken (last_behind taken nodes) nodes
+numbered_spread room last bus taken nodes numbers = ranged_is_spread taken (last_behind taken nodes) nodes (roomy room last bus taken nodes numbers)
+
+-- up to a higher bus
+pub spread_more : (low high top : ℕ) (nodes : Nodes) → high ≤ top → IsSpread low high nodes → IsSpread low top nodes
+spread_more low high top NoMore less spread = tt
+spread_more low high top (Node d f image behind others) less spread = elim spread [
+  | inl shut ↦ inl (shut.0, spread_more low high top others less shut.1)
+  | inr leads ↦ inr (leads.0, omega (arith, leads.1, less), leads.2, spread_more (max (secondary_bus image) (subordinate_bus image)) high top others less leads.3)
+]
 
 -- ---- one bridge that leads to a bus, and those that follow
 

@@ -1,5 +1,5 @@
 -- What is behind each root after a call for each.
-use Rattle.std.proofs.Common.{◌≡◌, ℕ, ◌+◌, ◌<◌, ◌⊎◌, inl, inr, List, [], ◌∷◌, true, false, ◌||◌, arith, refl, sym, ◌∙◌, ap, subst, length, map}
+use Rattle.std.proofs.Common.{◌≡◌, ℕ, ◌<◌, ◌⊎◌, inl, inr, List, [], ◌∷◌, true, false, ◌||◌, arith, refl, sym, ◌∙◌, ap, subst, length, map}
 use Rattle.std.specs.Bool.{◌==◌, nat_le, nat_lt, if◌then◌else◌}
 use Rattle.std.specs.List.{Contains, AllPairs, filter}
 use Rattle.std.specs.List.Sorted.{IsStrictlyIncreasing}
@@ -11,13 +11,14 @@ use Rattle.pci_spec.specs.NestingLaws.{HasNoBusFault}
 use Rattle.number_spec.specs.Board.{Nodes, Root, Board, IsSingle}
 use Rattle.number_spec.specs.Access.{nodes_behind, with_nodes}
 use Rattle.number_spec.specs.Walk.{is_rising, is_all_found, is_walkable}
-use Rattle.number_spec.specs.Numbered.{secondaries}
+use Rattle.number_spec.specs.Room.{last_behind}
+use Rattle.number_spec.specs.Spare.{spare_room}
 use Rattle.number_spec.specs.Ready.{IsReady}
-use Rattle.number_spec.specs.Listed.{HasNumbers}
-use Rattle.number_spec.proofs.InOrder.{top, run_from, ranged}
+use Rattle.number_spec.specs.Listed.{HasRoomyNumbers}
 use Rattle.number_spec.proofs.Kept.{same_walk}
-use Rattle.number_spec.proofs.Listed.{listed_has_no_bus_fault}
+use Rattle.number_spec.proofs.Listed.{roomy_has_no_bus_fault}
 use Rattle.number_spec.proofs.Roots.{roots_single}
+use Rattle.number_spec.proofs.Roomy.{roomy}
 use Rattle.number_spec.proofs.Single.{single}
 use Rattle.pci_number.specs.Answer.{IsAnswer}
 use Rattle.pci_number.specs.Left.{IsRootNumbered}
@@ -65,7 +66,7 @@ there (first ∷ rest) r rises has = elim (in_cons_cases first rest r has) [
 
 -- ---- before a call and after it
 
-module _ (last : ℕ → ℕ) where
+module _ (spare : ℕ) (last : ℕ → ℕ) where
   ready_at : (board : Board) (n : ℕ) → AreReady last board → Contains (numbers board) n → IsReady board n (last n)
   ready_at board n ready has =
       let rises = AllPairs-from_increasing (numbers board) ready.rising in
@@ -88,7 +89,7 @@ module _ (last : ℕ → ℕ) where
     | inr other ↦ rw (other, numbers_stay n nodes rest) refl
   ]
 
-  module _ (board mid : Board) (n : ℕ) (answer : Numbering) (ready : AreReady last board) (has_it : Contains (numbers board) n) (a : IsAnswer board n (last n) answer mid) where
+  module _ (board mid : Board) (n : ℕ) (answer : Numbering) (ready : AreReady last board) (has_it : Contains (numbers board) n) (a : IsAnswer spare board n (last n) answer mid) where
     same_numbers : numbers mid ≡ numbers board
     same_numbers = ap numbers a.others ∙ numbers_stay n (nodes_behind mid n) board
 
@@ -126,9 +127,9 @@ module _ (last : ℕ → ℕ) where
   record IsEnd (before after : Board) : Type 0 where
     ready : AreReady last after
     same : numbers after ≡ numbers before
-    numbered : (r : Root) → Contains after r → IsRootNumbered (last r.number) r
+    numbered : (r : Root) → Contains after r → IsRootNumbered spare (last r.number) r
 
-  calls : (roots : List ℕ) (board after : Board) → AreReady last board → ((n : ℕ) → Contains roots n → Contains (numbers board) n) → ((r : Root) → Contains board r → Contains roots r.number ⊎ IsRootNumbered (last r.number) r) → AreNumbered last roots board after → IsEnd board after
+  calls : (roots : List ℕ) (board after : Board) → AreReady last board → ((n : ℕ) → Contains roots n → Contains (numbers board) n) → ((r : Root) → Contains board r → Contains roots r.number ⊎ IsRootNumbered spare (last r.number) r) → AreNumbered spare last roots board after → IsEnd board after
   calls [] board after ready within each done = record {
     ready = subst (AreReady last) (sym done) ready;
     same = ap numbers done;
@@ -143,8 +144,8 @@ module _ (last : ℕ → ℕ) where
       let same = same_numbers board mid n answer ready has a in
       let end = calls roots mid after (still_ready board mid n answer ready has a)
       (λ m in_roots. subst (λ ns. Contains ns m) (sym same) (within m (in_tail n roots m in_roots)))
-      (λ r in_mid. elim (one_root_is_numbered n (last n) board mid answer ready_here done.2 done.3 r in_mid) [
-        | inl it ↦ inr (subst (λ m. IsRootNumbered (last m) r) (sym it.0) it.1)
+      (λ r in_mid. elim (one_root_is_numbered spare n (last n) board mid answer ready_here done.2 done.3 r in_mid) [
+        | inl it ↦ inr (subst (λ m. IsRootNumbered spare (last m) r) (sym it.0) it.1)
         | inr other ↦ elim (each r other.1) [
           | inl in_roots ↦ elim (in_cons_cases n roots r.number in_roots) [ inl is ↦ absurd (other.0 (sym is)) | inr more ↦ inl more ]
           | inr is ↦ inr is
@@ -152,11 +153,11 @@ module _ (last : ℕ → ℕ) where
       ]) done.4 in
       record { ready = end.ready; same = end.same ∙ same; numbered = end.numbered }
 
-  module _ (roots : List ℕ) (before after : Board) (ready : AreReady last before) (its : AreItsRoots roots before) (done : AreNumbered last roots before after) where
+  module _ (roots : List ℕ) (before after : Board) (ready : AreReady last before) (its : AreItsRoots roots before) (done : AreNumbered spare last roots before after) where
     the_end : IsEnd before after
     the_end = calls roots before after ready (λ n has. (its n).0 has) (λ r has. inl ((its r.number).1 (in_map_from (λ (x : Root). x.number) before r has))) done
 
-    has_numbers : HasNumbers last after
+    has_numbers : HasRoomyNumbers (spare_room spare) last after
     has_numbers = record {
       rising = the_end.ready.rising;
       apart = the_end.ready.apart;
@@ -167,17 +168,16 @@ module _ (last : ℕ → ℕ) where
     is_single : IsSingle after
     is_single = roots_single after the_end.ready.rising (λ r has.
         let n = (the_end.numbered r has).numbered in
-        single r.number (top r.number (last r.number) 0) (top r.number (last r.number) (0 + length (secondaries r.nodes))) r.nodes
-        (ranged r.number (last r.number) 0 r.number r.nodes (secondaries r.nodes) refl (run_from r.number (last r.number) 0 (secondaries r.nodes) n.order) n.ranges)
+        single r.number r.number (last_behind r.number r.nodes) r.nodes (roomy (spare_room spare) (last r.number) r.number r.number r.nodes n.numbers)
         (and_parts (is_rising r.nodes) (is_all_found r.nodes r.nodes) (the_end.ready.walkable r has)).0)
 
 pub roots_get_numbers : RootsGetNumbers
-roots_get_numbers last roots before after ready its done = has_numbers last roots before after ready its done
+roots_get_numbers spare last roots before after ready its done = has_numbers spare last roots before after ready its done
 
 pub roots_have_no_bus_fault : RootsHaveNoBusFault
-roots_have_no_bus_fault last roots before after s ready its done lists =
-    subst (λ ns. HasNoBusFault ns s) (the_end last roots before after ready its done).same
-    (listed_has_no_bus_fault last after s (has_numbers last roots before after ready its done) lists)
+roots_have_no_bus_fault spare last roots before after s ready its done lists =
+    subst (λ ns. HasNoBusFault ns s) (the_end spare last roots before after ready its done).same
+    (roomy_has_no_bus_fault (spare_room spare) last after s (has_numbers spare last roots before after ready its done) lists)
 
 pub roots_get_single : RootsGetSingle
-roots_get_single last roots before after ready its done = is_single last roots before after ready its done
+roots_get_single spare last roots before after ready its done = is_single spare last roots before after ready its done

@@ -11,9 +11,9 @@ use Rattle.number_spec.proofs.Kept.{same_walk}
 use Rattle.number_spec.proofs.Roomy.{shown}
 use Rattle.number_spec.proofs.Same.{kind_stays}
 use Rattle.pci_number.specs.Seen.{View, code, IsSeen, IsRest, IsClosed}
-use Rattle.pci_number.specs.Steps.{IsLooked, Absent, There, IsPut, IsShownAt, IsHushed, IsOpened}
+use Rattle.pci_number.specs.Steps.{IsLooked, Absent, There, IsShownAt, IsHushed, IsOpened}
 use Rattle.pci_number.specs.Hushing.{Rest, IsRestOf}
-use Rattle.pci_number.specs.Walked.{IsBusNumbered}
+use Rattle.pci_number.specs.Spare.{IsLed}
 use Rattle.pci_number.specs.Few.{bridges, bridges_on, IsFew, IsHushFew, IsOpenFew, IsBusFew}
 use Rattle.pci_number.specs.declared.look.Found.{Found}
 use Rattle.pci_number.specs.declared.walk.Walk.{Walk}
@@ -23,7 +23,7 @@ use Rattle.pci_number.proofs.Reached.{rest_of}
 use Rattle.pci_number.proofs.RootView.{same_nodes}
 use Rattle.pci_number.proofs.Roots.{root_view, seen_root, start}
 use Rattle.pci_number.proofs.Views.{next, inside, seen_next, seen_on, seen_alone, seen_inside, device_is_idle, above_is_idle}
-use Rattle.pci_number.proofs.Walking.{one_more}
+use Rattle.pci_number.proofs.Walking.{one_more, IsBegun}
 
 -- ---- how many bridges there are
 
@@ -246,72 +246,40 @@ opening : (now : Board) (slot : Slot) (last : ℕ) (walk : Walk) (more : Bool) (
 opening now slot last walk more nodes made total opened_by b left few = few b.view walk.taken b.image b.behind b.others b.is b.seen b.alone b.bridge b.closed b.inner (omega arith) (omega (arith, left))
 
 -- a bridge with no bridges on the bus behind it
-pub walk_count_alone : (before now later : Board) (slot : Slot) (last : ℕ) (start walk : Walk) (more : Bool) (found : Found) (made total opened_by : ℕ) → slot.function ≤ 7 → IsLooked now slot more found → found.bridge ≡ true → walk.taken < last → IsOpened now slot (walk.taken + 1) last false later → IsOpenFew now slot (walk.taken + 1) last total opened_by → IsWalkCounted before slot.bus last start (code slot) more walk now made total → IsWalkCounted before slot.bus last start (code slot + 1) found.more (one_more walk) later made opened_by
-walk_count_alone before now later slot last start walk more found made total opened_by low looked one left gets few counted = λ v nodes is seen walkable closed.
+-- so many writes are made until all behind a bridge have their numbers, as it is seen from the bus
+abbrev pub IsBegunFew : Board → Slot → ℕ → ℕ → ℕ → ℕ → Type 0
+IsBegunFew now slot last taken total far_by = (view : View) (image : List ℕ) (behind others : Nodes) → now ≡ view.fill (Node slot.device slot.function image behind others) → IsSeen view slot.bus (code slot) taken last → all_after slot.device slot.function others ≡ true → is_type_1 image ≡ true → IsClosed others → is_walkable behind ≡ true → far_by ≤ total + 4 + 8 * bridges behind
+
+pub begun_few_alone : (now : Board) (slot : Slot) (last : ℕ) (walk : Walk) (total opened_by : ℕ) → walk.taken < last → IsOpenFew now slot (walk.taken + 1) last total opened_by → IsBegunFew now slot last walk.taken total opened_by
+begun_few_alone now slot last walk total opened_by left few = λ view image behind others is seen alone bridge closed walkable.
+    omega (arith, few view walk.taken image behind others is seen alone bridge closed walkable (omega arith) (omega (arith, left)), some_on behind)
+
+pub begun_few_wide : (now mid : Board) (slot : Slot) (last : ℕ) (walk : Walk) (total opened_by far_by : ℕ) → walk.taken < last → IsOpened now slot (walk.taken + 1) last true mid → IsOpenFew now slot (walk.taken + 1) last total opened_by → IsBusFew mid (walk.taken + 1) last (one_more walk) opened_by far_by → IsBegunFew now slot last walk.taken total far_by
+begun_few_wide now mid slot last walk total opened_by far_by left gets few bus = λ view image behind others is seen alone bridge closed walkable.
+    let o = gets view walk.taken image behind others is seen alone bridge closed walkable (omega arith) (omega (arith, left)) in
+    let seen_behind = seen_inside view slot.bus (code slot) walk.taken last slot.bus (walk.taken + 1) last slot.device slot.function o.0 others seen (o.3.kind ∙ bridge) o.5 (omega arith) (omega (arith, left)) (omega arith) closed in
+    let behind_it = bus (inside view slot.device slot.function o.0 others) o.1 o.2 seen_behind (same_walk o.1 behind o.4 ∙ walkable) o.6 in
+    omega (arith, few view walk.taken image behind others is seen alone bridge closed walkable (omega arith) (omega (arith, left)), behind_it, same_bridges o.1 behind o.4, same_on o.1 behind o.4)
+
+pub walk_count_led : (before now far later : Board) (slot : Slot) (spare last : ℕ) (start walk after_behind after : Walk) (more : Bool) (found : Found) (made total far_by put_by : ℕ) → slot.function ≤ 7 → IsLooked now slot more found → found.bridge ≡ true → walk.taken < last → IsBegun spare now far slot last walk after_behind → IsLed far slot after_behind.taken last spare after.taken later → after_behind.taken ≤ after.taken → IsBegunFew now slot last walk.taken total far_by → put_by ≤ far_by + 1 → IsWalkCounted before slot.bus last start (code slot) more walk now made total → IsWalkCounted before slot.bus last start (code slot + 1) found.more after later made put_by
+walk_count_led before now far later slot spare last start walk after_behind after more found made total far_by put_by low looked one left begun led above far_few put_few counted = λ v nodes is seen walkable closed.
     let b = count_at now slot last walk.taken more found nodes made total low looked one (counted v nodes is seen walkable closed) in
     let d = slot.device in
     let f = slot.function in
-    let o = gets b.view walk.taken b.image b.behind b.others b.is b.seen b.alone b.bridge b.closed b.inner (omega arith) (omega (arith, left)) in
+    let a = begun b.view b.image b.behind b.others b.is b.seen b.alone b.bridge b.closed b.inner in
+    let p = led b.view walk.taken last a.new a.nodes b.others a.is b.seen b.alone a.within in
+    let numbers = shows_another a.new p.0 slot.bus (walk.taken + 1) a.leads after.taken a.numbers p.2 p.3 in
+    let up : walk.taken + 1 ≤ after.taken = omega (arith, a.above, above) in
     record {
-      rest = record { view = next b.view d f o.0 o.1; nodes = b.others; device = b.device };
-      is = record {
-        is = o.2;
-        seen = seen_next b.view slot.bus (code slot) (code slot + 1) walk.taken (walk.taken + 1) last d f o.0 o.1 b.seen (omega arith) (omega arith) (omega arith) (λ bus over within. above_is_idle o.0 slot.bus (walk.taken + 1) (walk.taken + 1) bus o.5 (omega arith) over);
-        past = λ more_are. omega (arith, b.past more_are);
-        has = b.has;
-      };
-      closed = b.closed;
-      few = omega (arith, b.few, opening now slot last walk found.more nodes made total opened_by b left few, some_on b.behind);
-    }
-
--- what a bridge is that was opened, with the writes behind it
-record Inner (slot : Slot) (last : ℕ) (taken : ℕ) (view : View) (others : Nodes) (mid : Board) (behind : Nodes) : Type 0 where
-  new : List ℕ
-  nodes : Nodes
-  is : mid ≡ view.fill (Node slot.device slot.function new nodes others)
-  same : without_numbers nodes ≡ without_numbers behind
-  numbers : shows new slot.bus (taken + 1) last ≡ true
-  seen : IsSeen (inside view slot.device slot.function new others) (taken + 1) 0 (taken + 1) last
-  walkable : is_walkable nodes ≡ true
-  closed : IsClosed nodes
-
-inner_of : (now mid : Board) (slot : Slot) (last : ℕ) (walk : Walk) (more : Bool) (nodes : Nodes) (made total : ℕ) (b : CountAt now slot last walk.taken more nodes made total) → walk.taken < last → IsOpened now slot (walk.taken + 1) last true mid → Inner slot last walk.taken b.view b.others mid b.behind
-inner_of now mid slot last walk more nodes made total b left gets =
-    let o = gets b.view walk.taken b.image b.behind b.others b.is b.seen b.alone b.bridge b.closed b.inner (omega arith) (omega (arith, left)) in
-    record {
-      new = o.0;
-      nodes = o.1;
-      is = o.2;
-      same = o.4;
-      numbers = o.5;
-      seen = seen_inside b.view slot.bus (code slot) walk.taken last slot.bus (walk.taken + 1) last slot.device slot.function o.0 b.others b.seen (o.3.kind ∙ b.bridge) o.5 (omega arith) (omega (arith, left)) (omega arith) b.closed;
-      walkable = same_walk o.1 b.behind o.4 ∙ b.inner;
-      closed = o.6;
-    }
-
-behind_it : (mid : Board) (slot : Slot) (last : ℕ) (walk : Walk) (view : View) (others behind : Nodes) (i : Inner slot last walk.taken view others mid behind) (opened_by numbered_by : ℕ) → IsBusFew mid (walk.taken + 1) last (one_more walk) opened_by numbered_by → numbered_by + 3 * bridges_on behind ≤ opened_by + 8 * bridges behind
-behind_it mid slot last walk view others behind i opened_by numbered_by bus =
-    omega (arith, bus (inside view slot.device slot.function i.new others) i.nodes i.is i.seen i.walkable i.closed, same_bridges i.nodes behind i.same, same_on i.nodes behind i.same)
-
-pub walk_count_wide : (before now mid far later : Board) (slot : Slot) (last : ℕ) (start walk after : Walk) (more : Bool) (found : Found) (made total opened_by numbered_by put_by : ℕ) → slot.function ≤ 7 → IsLooked now slot more found → found.bridge ≡ true → walk.taken < last → IsOpened now slot (walk.taken + 1) last true mid → IsBusNumbered mid (walk.taken + 1) last (one_more walk) after far → walk.taken + 1 ≤ after.taken → IsPut far slot 0x1a after.taken later → IsOpenFew now slot (walk.taken + 1) last total opened_by → IsBusFew mid (walk.taken + 1) last (one_more walk) opened_by numbered_by → put_by ≤ numbered_by + 1 → IsWalkCounted before slot.bus last start (code slot) more walk now made total → IsWalkCounted before slot.bus last start (code slot + 1) found.more after later made put_by
-walk_count_wide before now mid far later slot last start walk after more found made total opened_by numbered_by put_by low looked one left gets bus above put few bus_few put_few counted = λ v nodes is seen walkable closed.
-    let b = count_at now slot last walk.taken more found nodes made total low looked one (counted v nodes is seen walkable closed) in
-    let d = slot.device in
-    let f = slot.function in
-    let i = inner_of now mid slot last walk found.more nodes made total b left gets in
-    let r = bus (inside b.view d f i.new b.others) i.nodes i.is i.seen i.walkable i.closed in
-    let p = put b.view walk.taken last i.new r.0 b.others r.1 b.seen b.alone in
-    let numbers = shows_another i.new p.0 slot.bus (walk.taken + 1) last after.taken i.numbers p.2 p.3 in
-    record {
-      rest = record { view = next b.view d f p.0 r.0; nodes = b.others; device = b.device };
+      rest = record { view = next b.view d f p.0 a.nodes; nodes = b.others; device = b.device };
       is = record {
         is = p.1;
-        seen = seen_next b.view slot.bus (code slot) (code slot + 1) walk.taken after.taken last d f p.0 r.0 b.seen (omega arith) (omega arith) (omega (arith, above)) (λ to over within. above_is_idle p.0 slot.bus (walk.taken + 1) after.taken to numbers above over);
+        seen = seen_next b.view slot.bus (code slot) (code slot + 1) walk.taken after.taken last d f p.0 a.nodes b.seen (omega arith) (omega arith) (omega (arith, up)) (λ to over within. above_is_idle p.0 slot.bus (walk.taken + 1) after.taken to numbers up over);
         past = λ more_are. omega (arith, b.past more_are);
         has = b.has;
       };
       closed = b.closed;
-      few = omega (arith, b.few, opening now slot last walk found.more nodes made total opened_by b left few, behind_it mid slot last walk b.view b.others b.behind i opened_by numbered_by bus_few, put_few);
+      few = omega (arith, b.few, far_few b.view b.image b.behind b.others b.is b.seen b.alone b.bridge b.closed b.inner, put_few);
     }
 
 -- ---- where it stops
@@ -326,11 +294,10 @@ walk_few_open before now slot last start walk more found made total opened_by lo
     let b = count_at now slot last walk.taken more found nodes made total low looked one (counted v nodes is seen walkable closed) in
     omega (arith, b.few, opening now slot last walk found.more nodes made total opened_by b left few, some_on b.behind, some_on b.others)
 
-pub walk_few_bus : (before now mid : Board) (slot : Slot) (last : ℕ) (start walk : Walk) (more : Bool) (found : Found) (made total opened_by numbered_by put_by : ℕ) → slot.function ≤ 7 → IsLooked now slot more found → found.bridge ≡ true → walk.taken < last → IsOpened now slot (walk.taken + 1) last true mid → IsOpenFew now slot (walk.taken + 1) last total opened_by → IsBusFew mid (walk.taken + 1) last (one_more walk) opened_by numbered_by → put_by ≤ numbered_by + 1 → IsWalkCounted before slot.bus last start (code slot) more walk now made total → IsBusFew before slot.bus last start made put_by
-walk_few_bus before now mid slot last start walk more found made total opened_by numbered_by put_by low looked one left gets few bus_few put_few counted = λ v nodes is seen walkable closed.
+pub walk_few_led : (before now : Board) (slot : Slot) (last : ℕ) (start walk : Walk) (more : Bool) (found : Found) (made total far_by put_by : ℕ) → slot.function ≤ 7 → IsLooked now slot more found → found.bridge ≡ true → IsBegunFew now slot last walk.taken total far_by → put_by ≤ far_by + 1 → IsWalkCounted before slot.bus last start (code slot) more walk now made total → IsBusFew before slot.bus last start made put_by
+walk_few_led before now slot last start walk more found made total far_by put_by low looked one far_few put_few counted = λ v nodes is seen walkable closed.
     let b = count_at now slot last walk.taken more found nodes made total low looked one (counted v nodes is seen walkable closed) in
-    let i = inner_of now mid slot last walk found.more nodes made total b left gets in
-    omega (arith, b.few, opening now slot last walk found.more nodes made total opened_by b left few, behind_it mid slot last walk b.view b.others b.behind i opened_by numbered_by bus_few, put_few, some_on b.others)
+    omega (arith, b.few, far_few b.view b.image b.behind b.others b.is b.seen b.alone b.bridge b.closed b.inner, put_few, some_on b.others)
 
 -- ---- behind a root
 

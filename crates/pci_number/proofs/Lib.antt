@@ -22,6 +22,8 @@ pub mod Closing
 pub mod Apart
 pub mod Showing
 pub mod Standing
+pub mod Behind
 pub mod Beside
 pub mod Throughout
+pub mod Spares
 pub mod Examples

@@ -2,16 +2,15 @@
 use Rattle.std.proofs.Common.{◌≡◌, ℕ, inl, inr, List, [], ◌∷◌, ◌++◌, Bool, true, false, arith, refl, sym, ◌∙◌, ap, subst, map, None}
 use Rattle.std.specs.Bool.{◌==◌}
 use Rattle.std.specs.List.{flat_map}
-use Rattle.std.proofs.lemmas.Bool.{eq-eqb, ne_eqb, cases_lt}
+use Rattle.std.proofs.lemmas.Bool.{eq-eqb, ne_eqb}
 use Rattle.pci_spec.specs.Slot.{Slot}
 use Rattle.number_spec.specs.Board.{Nodes, Root, Board, Place, at_root, image_at}
 use Rattle.number_spec.specs.Access.{nodes_behind, with_byte, with_nodes}
-use Rattle.number_spec.specs.Numbered.{secondaries, without_numbers, IsNumbered}
-use Rattle.number_spec.specs.Room.{have_numbers, last_behind}
+use Rattle.number_spec.specs.Numbered.{without_numbers}
+use Rattle.number_spec.specs.Room.{last_behind, IsNumberedWithRoom}
+use Rattle.number_spec.specs.Spare.{spare_room}
 use Rattle.number_spec.specs.NoBus.{first_without}
 use Rattle.number_spec.specs.Ready.{IsReady}
-use Rattle.number_spec.proofs.InOrder.{run_is}
-use Rattle.number_spec.proofs.Roomy.{IsUsed, in_order}
 use Rattle.number_spec.proofs.Kept.{same_walk}
 use Rattle.pci_number.specs.Seen.{View, IsSeen}
 use Rattle.pci_number.specs.Steps.{IsHushed, IsHushLeft}
@@ -75,27 +74,21 @@ kept_at_walk before mid after root last bridges hushed left = λ ready.
     let w = left (root_view before root) h.0 h.1 seen (same_walk h.0 (nodes_behind before root) h.2 ∙ ready.walkable) h.3 in
     kept before after root last w.0 ready w.1 (w.2 ∙ h.2)
 
-in_order_of : (root last : ℕ) (before after : Nodes) → without_numbers before ≡ without_numbers after → have_numbers (λ image. 0) last root root after ≡ true → IsNumbered root last before after
-in_order_of root last before after same numbers =
-    let none_used : IsUsed root last 0 root = elim (cases_lt last root) [ inl above ↦ inr (omega arith, omega arith) | inr below ↦ inl (omega arith, below) ] in
-    let is = in_order root last 0 root root after none_used numbers in
-    record { same = same; order = run_is root last 0 (secondaries after) is.run; ranges = is.ranges }
-
-pub answer_of : (before mid after : Board) (root last : ℕ) (bridges : Bool) (walk : Walk) (answer : Numbering) → IsHushed before root bridges mid → IsBusNumbered mid root last (start root) walk after → named_by answer ≡ walk.without → highest_of answer ≡ walk.taken → IsReady before root last → IsAnswer before root last answer after
-answer_of before mid after root last bridges walk answer hushed numbered names highest = λ ready.
+pub answer_of : (spare : ℕ) (before mid after : Board) (root last : ℕ) (bridges : Bool) (walk : Walk) (answer : Numbering) → IsHushed before root bridges mid → IsBusNumbered spare mid root last (start root) walk after → named_by answer ≡ walk.without → highest_of answer ≡ walk.taken → IsReady before root last → IsAnswer spare before root last answer after
+answer_of spare before mid after root last bridges walk answer hushed numbered names highest = λ ready.
     let seen = seen_root before root last ready in
     let h = hushed (root_view before root) root last (nodes_behind before root) (sym (same_nodes root before ready.one)) seen ready.walkable in
     let n = numbered (root_view before root) h.0 h.1 seen (same_walk h.0 (nodes_behind before root) h.2 ∙ ready.walkable) h.3 in
     let there = behind_it before after root last n.0 ready n.1 in
     record {
       others = n.1 ∙ ap (with_nodes before root) (sym there);
-      numbered = subst (IsNumbered root last (nodes_behind before root)) (sym there) (in_order_of root last (nodes_behind before root) n.0 (sym (n.2 ∙ h.2)) n.3);
+      numbered = subst (IsNumberedWithRoom (spare_room spare) root last (nodes_behind before root)) (sym there) (record { same = sym (n.2 ∙ h.2); numbers = n.3 });
       without = names ∙ n.5 ∙ ap (first_without root) (sym there);
       highest = highest ∙ n.4 ∙ ap (last_behind root) (sym there);
     }
 
-pub kept_at_end : (before mid after : Board) (root last : ℕ) (bridges : Bool) (walk : Walk) → IsHushed before root bridges mid → IsBusNumbered mid root last (start root) walk after → IsReady before root last → IsBoardKept before root after
-kept_at_end before mid after root last bridges walk hushed numbered = λ ready.
+pub kept_at_end : (spare : ℕ) (before mid after : Board) (root last : ℕ) (bridges : Bool) (walk : Walk) → IsHushed before root bridges mid → IsBusNumbered spare mid root last (start root) walk after → IsReady before root last → IsBoardKept before root after
+kept_at_end spare before mid after root last bridges walk hushed numbered = λ ready.
     let seen = seen_root before root last ready in
     let h = hushed (root_view before root) root last (nodes_behind before root) (sym (same_nodes root before ready.one)) seen ready.walkable in
     let n = numbered (root_view before root) h.0 h.1 seen (same_walk h.0 (nodes_behind before root) h.2 ∙ ready.walkable) h.3 in

@@ -8,12 +8,12 @@ use Rattle.number_spec.specs.Board.{Nodes, Node, Board, is_type_1, IsSingle}
 use Rattle.number_spec.specs.Walk.{is_walkable, all_after}
 use Rattle.number_spec.specs.Numbered.{without_numbers}
 use Rattle.number_spec.specs.Room.{shows}
+use Rattle.number_spec.specs.Spare.{spare_room}
 use Rattle.number_spec.specs.Spread.{IsSpread}
 use Rattle.number_spec.proofs.Kept.{same_walk}
-use Rattle.number_spec.proofs.Roomy.{within_last}
 use Rattle.pci_number.specs.Seen.{View, code, IsSeen, IsRest, IsClosed, has_bridges}
-use Rattle.pci_number.specs.Steps.{IsLooked, Absent, There, IsAlike, IsPut, IsOpened}
-use Rattle.pci_number.specs.Walked.{IsBusNumbered}
+use Rattle.pci_number.specs.Steps.{IsLooked, Absent, There, IsAlike, IsOpened}
+use Rattle.pci_number.specs.Spare.{IsLed}
 use Rattle.pci_number.specs.Single.{IsApart, IsBusStood, IsWalkStanding}
 use Rattle.pci_number.specs.Stood.{Adds, Ends, IsOneMore}
 use Rattle.pci_number.specs.declared.look.Found.{Found}
@@ -22,8 +22,8 @@ use Rattle.pci_number.proofs.Bytes.{alike_itself, alike_subordinate, alike_then}
 use Rattle.pci_number.proofs.Opening.{shows_another}
 use Rattle.pci_number.proofs.Reached.{rest_of}
 use Rattle.pci_number.proofs.Views.{next, inside, seen_next, seen_on, seen_inside, device_is_idle, above_is_idle, same_others}
-use Rattle.pci_number.proofs.Walking.{one_more}
-use Rattle.pci_number.proofs.Apart.{shut_from, closed_spread, numbered_spread, spread_lead, single_with, apart_next, apart_inside}
+use Rattle.pci_number.proofs.Walking.{one_more, IsBegun}
+use Rattle.pci_number.proofs.Apart.{shut_from, closed_spread, numbered_spread, spread_more, spread_lead, single_with, apart_next, apart_inside}
 use Rattle.pci_number.proofs.Showing.{IsOpenOk}
 use Rattle.pci_number.proofs.Stood.{adds_none, adds_then, adds_more, ends_one, ends_same, ends_then, ended}
 
@@ -67,23 +67,23 @@ stand_pass before now slot last start walk old new more found low looked none st
     ]
 
 -- a walk that came to a bridge
-record Bridge (now : Board) (slot : Slot) (last : ℕ) (walk : Walk) (old new : List Board) (more : Bool) : Type 0 where
-  view : View
-  image : List ℕ
-  behind : Nodes
-  others : Nodes
-  device : ℕ
-  is : now ≡ view.fill (Node slot.device slot.function image behind others)
-  seen : IsSeen view slot.bus (code slot) walk.taken last
-  bridge : is_type_1 image ≡ true
-  inner : is_walkable behind ≡ true
-  alone : all_after slot.device slot.function others ≡ true
-  past : more ≡ true → device * 8 ≤ code slot
-  has : IsRest (code slot + 1) device more others
-  shut : shows image 0 0 0 ≡ true
-  closed : IsClosed others
-  apart : IsApart view (Node slot.device slot.function image behind others) walk.taken last
-  stood : Adds IsSingle old new
+pub record Bridge (now : Board) (slot : Slot) (last : ℕ) (walk : Walk) (old new : List Board) (more : Bool) : Type 0 where
+  pub view : View
+  pub image : List ℕ
+  pub behind : Nodes
+  pub others : Nodes
+  pub device : ℕ
+  pub is : now ≡ view.fill (Node slot.device slot.function image behind others)
+  pub seen : IsSeen view slot.bus (code slot) walk.taken last
+  pub bridge : is_type_1 image ≡ true
+  pub inner : is_walkable behind ≡ true
+  pub alone : all_after slot.device slot.function others ≡ true
+  pub past : more ≡ true → device * 8 ≤ code slot
+  pub has : IsRest (code slot + 1) device more others
+  pub shut : shows image 0 0 0 ≡ true
+  pub closed : IsClosed others
+  pub apart : IsApart view (Node slot.device slot.function image behind others) walk.taken last
+  pub stood : Adds IsSingle old new
 
 at_bridge : (before now : Board) (slot : Slot) (last : ℕ) (start walk : Walk) (old new : List Board) (more : Bool) (found : Found) → slot.function ≤ 7 → IsLooked now slot more found → found.bridge ≡ true → IsWalkStanding before slot.bus last start old (code slot) more walk now new → (v : View) (nodes : Nodes) → before ≡ v.fill nodes → IsSeen v slot.bus 0 start.taken last → is_walkable nodes ≡ true → IsClosed nodes → IsApart v nodes start.taken last → Bridge now slot last walk old new found.more
 at_bridge before now slot last start walk old new more found low looked one standing v nodes is seen walkable closed apart =
@@ -164,35 +164,19 @@ stand_given before now later slot last start walk walk_after old new newer more 
       n.stood,
     )
 
-opened_here : (now : Board) (slot : Slot) (last : ℕ) (walk : Walk) (old new : List Board) (more : Bool) (b : Bridge now slot last walk old new more) (bridges : Bool) (later : Board) → walk.taken < last → IsOpened now slot (walk.taken + 1) last bridges later → (shown_now : List ℕ) × (behind : Nodes) × (later ≡ b.view.fill (Node slot.device slot.function shown_now behind b.others)) × IsAlike b.image shown_now × (without_numbers behind ≡ without_numbers b.behind) × (shows shown_now slot.bus (walk.taken + 1) (if bridges then last else walk.taken + 1) ≡ true) × IsClosed behind × (has_bridges behind ≡ bridges)
+pub opened_here : (now : Board) (slot : Slot) (last : ℕ) (walk : Walk) (old new : List Board) (more : Bool) (b : Bridge now slot last walk old new more) (bridges : Bool) (later : Board) → walk.taken < last → IsOpened now slot (walk.taken + 1) last bridges later → (shown_now : List ℕ) × (behind : Nodes) × (later ≡ b.view.fill (Node slot.device slot.function shown_now behind b.others)) × IsAlike b.image shown_now × (without_numbers behind ≡ without_numbers b.behind) × (shows shown_now slot.bus (walk.taken + 1) (if bridges then last else walk.taken + 1) ≡ true) × IsClosed behind × (has_bridges behind ≡ bridges)
 opened_here now slot last walk old new more b bridges later left gets = gets b.view walk.taken b.image b.behind b.others b.is b.seen b.alone b.bridge b.closed b.inner (omega arith) (omega (arith, left))
 
-stood_here : (now : Board) (slot : Slot) (last : ℕ) (walk : Walk) (old new newer : List Board) (more : Bool) (b : Bridge now slot last walk old new more) → walk.taken < last → IsOpenOk now slot (walk.taken + 1) last new newer → Adds IsSingle old newer
+pub stood_here : (now : Board) (slot : Slot) (last : ℕ) (walk : Walk) (old new newer : List Board) (more : Bool) (b : Bridge now slot last walk old new more) → walk.taken < last → IsOpenOk now slot (walk.taken + 1) last new newer → Adds IsSingle old newer
 stood_here now slot last walk old new newer more b left gets =
     adds_then IsSingle old new newer b.stood (gets b.view walk.taken b.image b.behind b.others b.is b.seen b.alone b.bridge b.shut b.closed b.inner (omega arith) (omega (arith, left)) b.apart)
 
-pub stand_alone : (before now later : Board) (slot : Slot) (last : ℕ) (start walk : Walk) (old new newer : List Board) (more : Bool) (found : Found) → slot.function ≤ 7 → IsLooked now slot more found → found.bridge ≡ true → walk.taken < last → IsOpened now slot (walk.taken + 1) last false later → IsOpenOk now slot (walk.taken + 1) last new newer → IsWalkStanding before slot.bus last start old (code slot) more walk now new → IsWalkStanding before slot.bus last start old (code slot + 1) found.more (one_more walk) later newer
-stand_alone before now later slot last start walk old new newer more found low looked one left gets stood standing = stand_given before now later slot last start walk (one_more walk) old new newer more found low looked one left standing (λ b.
-    let o = opened_here now slot last walk old new found.more b false later left gets in
-    record {
-      shown_now = o.0;
-      nodes = o.1;
-      is = o.2;
-      alike = o.3;
-      same = o.4;
-      numbers = o.5;
-      above = omega arith;
-      within = omega (arith, left);
-      inner = closed_spread (walk.taken + 1) (walk.taken + 1) o.1 o.6;
-      stood = stood_here now slot last walk old new newer found.more b left stood;
-    })
-
 -- what is seen behind it, and that the board is single with that
-seen_there : (now : Board) (slot : Slot) (last : ℕ) (walk : Walk) (old new : List Board) (more : Bool) (b : Bridge now slot last walk old new more) (shown_now : List ℕ) → walk.taken < last → IsAlike b.image shown_now → shows shown_now slot.bus (walk.taken + 1) last ≡ true → IsSeen (inside b.view slot.device slot.function shown_now b.others) (walk.taken + 1) 0 (walk.taken + 1) last
+pub seen_there : (now : Board) (slot : Slot) (last : ℕ) (walk : Walk) (old new : List Board) (more : Bool) (b : Bridge now slot last walk old new more) (shown_now : List ℕ) → walk.taken < last → IsAlike b.image shown_now → shows shown_now slot.bus (walk.taken + 1) last ≡ true → IsSeen (inside b.view slot.device slot.function shown_now b.others) (walk.taken + 1) 0 (walk.taken + 1) last
 seen_there now slot last walk old new more b shown_now left alike numbers =
     seen_inside b.view slot.bus (code slot) walk.taken last slot.bus (walk.taken + 1) last slot.device slot.function shown_now b.others b.seen (alike.kind ∙ b.bridge) numbers (omega arith) (omega (arith, left)) (omega arith) b.closed
 
-apart_there : (now : Board) (slot : Slot) (last : ℕ) (walk : Walk) (old new : List Board) (more : Bool) (b : Bridge now slot last walk old new more) (shown_now : List ℕ) (nodes : Nodes) → walk.taken < last → IsAlike b.image shown_now → without_numbers nodes ≡ without_numbers b.behind → shows shown_now slot.bus (walk.taken + 1) last ≡ true → IsApart (inside b.view slot.device slot.function shown_now b.others) nodes (walk.taken + 1) last
+pub apart_there : (now : Board) (slot : Slot) (last : ℕ) (walk : Walk) (old new : List Board) (more : Bool) (b : Bridge now slot last walk old new more) (shown_now : List ℕ) (nodes : Nodes) → walk.taken < last → IsAlike b.image shown_now → without_numbers nodes ≡ without_numbers b.behind → shows shown_now slot.bus (walk.taken + 1) last ≡ true → IsApart (inside b.view slot.device slot.function shown_now b.others) nodes (walk.taken + 1) last
 apart_there now slot last walk old new more b shown_now nodes left alike same numbers =
     apart_inside b.view walk.taken last (walk.taken + 1) last slot.device slot.function b.image shown_now b.behind nodes b.others b.bridge alike same b.apart (λ after spread.
     spread_lead walk.taken last slot.bus (walk.taken + 1) last slot.device slot.function shown_now after b.others numbers (omega arith) (omega (arith, left)) (omega arith) (inr spread) (closed_spread _ last b.others b.closed))
@@ -223,42 +207,36 @@ module _ (before now : Board) (slot : Slot) (last : ℕ) (start walk : Walk) (ol
         (bus (inside b.view slot.device slot.function o.0 b.others) o.1 o.2 (seen_there now slot last walk old new found.more b o.0 left o.3 o.5) (same_walk o.1 b.behind o.4 ∙ b.inner) o.6
         (apart_there now slot last walk old new found.more b o.0 o.1 left o.3 o.4 o.5)))
 
-    bus_stood : (b : Bridge now slot last walk old new found.more) → IsBusOk mid (walk.taken + 1) last (one_more walk) newer newest → Adds IsSingle old newest
-    bus_stood b bus =
-        let o = opened_here now slot last walk old new found.more b true mid left gets in
-        adds_then IsSingle old newer newest (stood_here now slot last walk old new newer found.more b left stood)
-        (bus (inside b.view slot.device slot.function o.0 b.others) o.1 o.2 (seen_there now slot last walk old new found.more b o.0 left o.3 o.5) (same_walk o.1 b.behind o.4 ∙ b.inner) o.6
-        (apart_there now slot last walk old new found.more b o.0 o.1 left o.3 o.4 o.5))
+  -- the bridge leads on
+  module _ (spare : ℕ) (far : Board) (inside : Walk) (begun : IsBegun spare now far slot last walk inside) (newest : List Board) (far_stood : (b : Bridge now slot last walk old new found.more) → Adds IsSingle old newest) (later : Board) (final : List Board) (put_stood : IsOneMore far newest later final) where
+    pub stand_left_led : {T E : Type 0} → (r : Result T E) → IsErr r → IsBusStood before slot.bus last start old r final
+    stand_left_led r err = λ v nodes is seen walkable closed apart.
+        let b = at_bridge before now slot last start walk old new more found low looked one standing v nodes is seen walkable closed apart in
+        ended IsSingle r old final err (ends_one IsSingle far old newest later final (far_stood b) put_stood)
 
-    module _ (bus : IsBusOk mid (walk.taken + 1) last (one_more walk) newer newest) (later : Board) (final : List Board) (far : Board) (put_stood : IsOneMore far newest later final) where
-      pub stand_left_put : {T E : Type 0} → (r : Result T E) → IsErr r → IsBusStood before slot.bus last start old r final
-      stand_left_put r err = λ v nodes is seen walkable closed apart.
-          let b = at_bridge before now slot last start walk old new more found low looked one standing v nodes is seen walkable closed apart in
-          ended IsSingle r old final err (ends_one IsSingle far old newest later final (bus_stood b bus) put_stood)
-
-      pub stand_wide : (after : Walk) → IsBusNumbered mid (walk.taken + 1) last (one_more walk) after far → walk.taken + 1 ≤ after.taken → IsPut far slot 0x1a after.taken later → IsWalkStanding before slot.bus last start old (code slot + 1) found.more after later final
-      stand_wide after numbered above put = stand_given before now later slot last start walk after old new final more found low looked one left standing (λ b.
-          let o = opened_here now slot last walk old new found.more b true mid left gets in
-          let r = numbered (inside b.view slot.device slot.function o.0 b.others) o.1 o.2 (seen_there now slot last walk old new found.more b o.0 left o.3 o.5) (same_walk o.1 b.behind o.4 ∙ b.inner) o.6 in
-          let p = put b.view walk.taken last o.0 r.0 b.others r.1 b.seen b.alone in
-          let alike = alike_then b.image o.0 p.0 o.3 (alike_subordinate o.0 p.0 p.2) in
-          let numbers : shows p.0 slot.bus (walk.taken + 1) after.taken ≡ true = shows_another o.0 p.0 slot.bus (walk.taken + 1) last after.taken o.5 p.2 p.3 in
-          let within : after.taken ≤ last = omega (arith, r.4, within_last (λ i. 0) last (walk.taken + 1) (walk.taken + 1) r.0 r.3 (omega (arith, left))) in
-          let inner : IsSpread (walk.taken + 1) after.taken r.0 = subst (λ n. IsSpread (walk.taken + 1) n r.0) (sym r.4) (numbered_spread last (walk.taken + 1) (walk.taken + 1) r.0 r.3) in
-          record {
-            shown_now = p.0;
-            nodes = r.0;
-            is = p.1;
-            alike = alike;
-            same = r.2 ∙ o.4;
-            numbers = numbers;
-            above = above;
-            within = within;
-            inner = inner;
-            stood = adds_more IsSingle far old newest later final (bus_stood b bus) put_stood
-                (single_with b.view walk.taken last slot.device slot.function b.image p.0 b.behind r.0 b.others b.bridge alike (r.2 ∙ o.4) b.apart
-                (spread_lead walk.taken last slot.bus (walk.taken + 1) after.taken slot.device slot.function p.0 r.0 b.others numbers (omega arith) (omega (arith, left)) within (inr inner) (closed_spread _ last b.others b.closed)) later p.1);
-          })
+    pub stand_led : (after : Walk) → IsLed far slot inside.taken last spare after.taken later → inside.taken ≤ after.taken → IsWalkStanding before slot.bus last start old (code slot + 1) found.more after later final
+    stand_led after led above = stand_given before now later slot last start walk after old new final more found low looked one left standing (λ b.
+        let a = begun b.view b.image b.behind b.others b.is b.seen b.alone b.bridge b.closed b.inner in
+        let p = led b.view walk.taken last a.new a.nodes b.others a.is b.seen b.alone a.within in
+        let alike = alike_then b.image a.new p.0 a.alike (alike_subordinate a.new p.0 p.2) in
+        let numbers : shows p.0 slot.bus (walk.taken + 1) after.taken ≡ true = shows_another a.new p.0 slot.bus (walk.taken + 1) a.leads after.taken a.numbers p.2 p.3 in
+        let within : after.taken ≤ last = omega (arith, p.4) in
+        let up_to : IsSpread (walk.taken + 1) inside.taken a.nodes = subst (λ n. IsSpread (walk.taken + 1) n a.nodes) (sym a.end) (numbered_spread (spare_room spare) last (walk.taken + 1) (walk.taken + 1) a.nodes a.inner) in
+        let inner = spread_more (walk.taken + 1) inside.taken after.taken a.nodes above up_to in
+        record {
+          shown_now = p.0;
+          nodes = a.nodes;
+          is = p.1;
+          alike = alike;
+          same = a.same;
+          numbers = numbers;
+          above = omega (arith, a.above, above);
+          within = within;
+          inner = inner;
+          stood = adds_more IsSingle far old newest later final (far_stood b) put_stood
+              (single_with b.view walk.taken last slot.device slot.function b.image p.0 b.behind a.nodes b.others b.bridge alike a.same b.apart
+              (spread_lead walk.taken last slot.bus (walk.taken + 1) after.taken slot.device slot.function p.0 a.nodes b.others numbers (omega arith) (omega (arith, left)) within (inr inner) (closed_spread _ last b.others b.closed)) later p.1);
+        })
 
 -- ---- where it stops, or is done
 

@@ -9,6 +9,7 @@ use Rattle.pci_number.specs.Steps.{IsHushed}
 use Rattle.pci_number.specs.Less.{without_own_numbers, AreShut, IsLessStep}
 use Rattle.pci_number.specs.Single.{IsHushStep, IsSingleBeside, EndsSingle, ClosedOrStopped, IsSingleThroughout}
 use Rattle.number_spec.specs.Room.{last_behind}
+use Rattle.number_spec.specs.Spare.{spare_room}
 use Rattle.pci_number.specs.Walked.{IsBusNumbered}
 use Rattle.pci_number.specs.declared.walk.Walk.{Walk}
 use Rattle.pci_number.specs.Stood.{Adds, Ends, AddsSteps}
@@ -100,9 +101,9 @@ module _ (before mid : Board) (root last : ℕ) (bridges : Bool) (old hushed new
         always = λ single. adds_then IsSingle old hushed new (steps_add R IsSingle (still_single before root last ready single) before old mid hushed (less_stood ready)) (adds (single_beside before root last ready single));
       }
 
-pub end_single : (before mid after : Board) (root last : ℕ) (bridges : Bool) (walk : Walk) → IsHushed before root bridges mid → IsBusNumbered mid root last (start root) walk after → EndsSingle before root last after
-end_single before mid after root last bridges walk hushed numbered = λ ready beside.
+pub end_single : (spare : ℕ) (before mid after : Board) (root last : ℕ) (bridges : Bool) (walk : Walk) → IsHushed before root bridges mid → IsBusNumbered spare mid root last (start root) walk after → EndsSingle before root last after
+end_single spare before mid after root last bridges walk hushed numbered = λ ready beside.
     let seen = seen_root before root last ready in
     let h = hushed (root_view before root) root last (nodes_behind before root) (sym (same_nodes root before ready.one)) seen ready.walkable in
     let n = numbered (root_view before root) h.0 h.1 seen (same_walk h.0 (nodes_behind before root) h.2 ∙ ready.walkable) h.3 in
-    subst IsSingle (sym n.1) (spread_at_root before root last ready (last_behind root n.0) n.0 (n.2 ∙ h.2) beside (numbered_spread last root root n.0 n.3))
+    subst IsSingle (sym n.1) (spread_at_root before root last ready (last_behind root n.0) n.0 (n.2 ∙ h.2) beside (numbered_spread (spare_room spare) last root root n.0 n.3))

@@ -19,6 +19,6 @@ pub record IsStanding (root : ℕ) (first : Numbering) (after : Board) (second :
 -- Where a board that may be numbered is numbered and numbered again, the numbers stand.
 abbrev pub NumbersStand : Type 0
 NumbersStand =
-    (root last : ℕ) (before after again : Board) (first second : Numbering)
-    → IsReady before root last → Answers before root last first after
-    → Answers after root last second again → IsStanding root first after second again
+    (spare root last : ℕ) (before after again : Board) (first second : Numbering)
+    → IsReady before root last → Answers spare before root last first after
+    → Answers spare after root last second again → IsStanding root first after second again

@@ -3,8 +3,9 @@ use Rattle.std.specs.Prelude.{◌≡◌, ℕ, Option, Some, None}
 use Rattle.pci_spec.specs.Slot.{Slot}
 use Rattle.number_spec.specs.Board.{Board}
 use Rattle.number_spec.specs.Access.{nodes_behind, with_nodes}
-use Rattle.number_spec.specs.Numbered.{without_numbers, IsNumbered}
-use Rattle.number_spec.specs.Room.{last_behind}
+use Rattle.number_spec.specs.Numbered.{without_numbers}
+use Rattle.number_spec.specs.Room.{last_behind, IsNumberedWithRoom}
+use Rattle.number_spec.specs.Spare.{spare_room}
 use Rattle.number_spec.specs.NoBus.{first_without}
 use Rattle.number_spec.specs.Ready.{IsReady}
 use Rattle.pci_number.specs.declared.number.Numbering.{Numbering}
@@ -19,20 +20,22 @@ abbrev pub highest_of : Numbering → ℕ
 highest_of (Numbered highest) = highest
 highest_of (NoBus slot highest) = highest
 
--- Behind the root the bridges are numbered; behind the others all is kept.
-pub record IsAnswer (before : Board) (root : ℕ) (last : ℕ) (answer : Numbering)
+-- Behind the root the bridges are numbered, with so many numbers kept free behind each that has a
+-- hot-plug slot; behind the others all is kept.
+pub record IsAnswer (spare : ℕ) (before : Board) (root : ℕ) (last : ℕ) (answer : Numbering)
     (after : Board) : Type 0 where
   pub others : after ≡ with_nodes before root (nodes_behind after root)
-  pub numbered : IsNumbered root last (nodes_behind before root) (nodes_behind after root)
+  pub numbered : IsNumberedWithRoom (spare_room spare) root last (nodes_behind before root)
+      (nodes_behind after root)
   -- the first bridge without a number is the one that is named
   pub without : named_by answer ≡ first_without root (nodes_behind after root)
   -- the greatest number is the last bus that a bridge leads to, or the root
   pub highest : highest_of answer ≡ last_behind root (nodes_behind after root)
 
 -- the same as long as the board is one that can be numbered
-abbrev pub Answers : Board → ℕ → ℕ → Numbering → Board → Type 0
-Answers before root last answer after = IsReady before root last
-    → IsAnswer before root last answer after
+abbrev pub Answers : ℕ → Board → ℕ → ℕ → Numbering → Board → Type 0
+Answers spare before root last answer after = IsReady before root last
+    → IsAnswer spare before root last answer after
 
 -- Behind the root all but bus numbers is kept, and behind the others all.
 pub record IsBoardKept (before : Board) (root : ℕ) (after : Board) : Type 0 where

@@ -6,7 +6,8 @@ use Rattle.pci_spec.specs.System.{System}
 use Rattle.pci_spec.specs.NestingLaws.{HasNoBusFault}
 use Rattle.number_spec.specs.Board.{Root, Board, IsSingle}
 use Rattle.number_spec.specs.Walk.{is_walkable}
-use Rattle.number_spec.specs.Listed.{IsListing, HasNumbers}
+use Rattle.number_spec.specs.Spare.{spare_room}
+use Rattle.number_spec.specs.Listed.{IsListing, HasRoomyNumbers}
 use Rattle.pci_number.specs.Answer.{named_by, Answers}
 use Rattle.pci_number.specs.declared.number.Numbering.{Numbering}
 
@@ -19,11 +20,11 @@ pub record AreReady (last : ℕ → ℕ) (board : Board) : Type 0 where
   pub walkable : (root : Root) → Contains board root → IsTrue (is_walkable root.nodes)
 
 -- The roots are numbered one after another, and each call answers that each bridge has its numbers.
-abbrev pub AreNumbered : (ℕ → ℕ) → List ℕ → Board → Board → Type 0
-AreNumbered last [] before after = after ≡ before
-AreNumbered last (root ∷ roots) before after =
-    (mid : Board) × (answer : Numbering) × Answers before root (last root) answer mid
-    × (named_by answer ≡ None) × AreNumbered last roots mid after
+abbrev pub AreNumbered : ℕ → (ℕ → ℕ) → List ℕ → Board → Board → Type 0
+AreNumbered spare last [] before after = after ≡ before
+AreNumbered spare last (root ∷ roots) before after =
+    (mid : Board) × (answer : Numbering) × Answers spare before root (last root) answer mid
+    × (named_by answer ≡ None) × AreNumbered spare last roots mid after
 
 -- these are the roots of a board, in whatever order
 abbrev pub AreItsRoots : List ℕ → Board → Type 0
@@ -33,18 +34,18 @@ AreItsRoots roots board =
 -- Where each root is numbered by a call, each bridge of the board has its numbers,
 abbrev pub RootsGetNumbers : Type 0
 RootsGetNumbers =
-    (last : ℕ → ℕ) (roots : List ℕ) (before after : Board) → AreReady last before
-    → AreItsRoots roots before → AreNumbered last roots before after → HasNumbers last after
+    (spare : ℕ) (last : ℕ → ℕ) (roots : List ℕ) (before after : Board) → AreReady last before
+    → AreItsRoots roots before → AreNumbered spare last roots before after → HasRoomyNumbers (spare_room spare) last after
 
 -- what a walk then lists has no bus-range fault and no orphan,
 abbrev pub RootsHaveNoBusFault : Type 0
 RootsHaveNoBusFault =
-    (last : ℕ → ℕ) (roots : List ℕ) (before after : Board) (s : System) → AreReady last before
-    → AreItsRoots roots before → AreNumbered last roots before after → IsListing after s
+    (spare : ℕ) (last : ℕ → ℕ) (roots : List ℕ) (before after : Board) (s : System) → AreReady last before
+    → AreItsRoots roots before → AreNumbered spare last roots before after → IsListing after s
     → HasNoBusFault (map (λ root. root.number) before) s
 
 -- and at most one node answers each access.
 abbrev pub RootsGetSingle : Type 0
 RootsGetSingle =
-    (last : ℕ → ℕ) (roots : List ℕ) (before after : Board) → AreReady last before
-    → AreItsRoots roots before → AreNumbered last roots before after → IsSingle after
+    (spare : ℕ) (last : ℕ → ℕ) (roots : List ℕ) (before after : Board) → AreReady last before
+    → AreItsRoots roots before → AreNumbered spare last roots before after → IsSingle after

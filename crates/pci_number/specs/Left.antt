@@ -5,29 +5,39 @@ use Rattle.pci_spec.specs.System.{System}
 use Rattle.pci_spec.specs.NestingLaws.{HasNoBusFault}
 use Rattle.number_spec.specs.Board.{Nodes, Root, Board}
 use Rattle.number_spec.specs.Numbered.{IsNumbered}
+use Rattle.number_spec.specs.Room.{IsNumberedWithRoom}
+use Rattle.number_spec.specs.Spare.{spare_room}
 use Rattle.number_spec.specs.NoBus.{first_without}
+use Rattle.number_spec.specs.Access.{nodes_behind}
 use Rattle.number_spec.specs.Ready.{IsReady}
 use Rattle.number_spec.specs.Listed.{IsListing}
 use Rattle.pci_number.specs.Answer.{named_by, Answers}
 use Rattle.pci_number.specs.declared.number.Numbering.{Numbering}
 
 -- each bridge behind a root has its numbers
-pub record IsRootNumbered (last : ℕ) (root : Root) : Type 0 where
-  pub numbered : IsNumbered root.number last root.nodes root.nodes
+pub record IsRootNumbered (spare last : ℕ) (root : Root) : Type 0 where
+  pub numbered : IsNumberedWithRoom (spare_room spare) root.number last root.nodes root.nodes
   pub none : first_without root.number root.nodes ≡ None
 
 -- A root of the board that is left is the one that was numbered, or another as it was.
 abbrev pub OneRootIsNumbered : Type 0
 OneRootIsNumbered =
-    (root last : ℕ) (before after : Board) (answer : Numbering) → IsReady before root last
-    → Answers before root last answer after → named_by answer ≡ None
+    (spare root last : ℕ) (before after : Board) (answer : Numbering) → IsReady before root last
+    → Answers spare before root last answer after → named_by answer ≡ None
     → (r : Root) → Contains after r
-    → ((r.number ≡ root) × IsRootNumbered last r) ⊎ ((r.number ≢ root) × Contains before r)
+    → ((r.number ≡ root) × IsRootNumbered spare last r) ⊎ ((r.number ≢ root) × Contains before r)
 
 -- What a walk lists of a board with one root has no bus-range fault and no orphan.
 abbrev pub AloneHasNoBusFault : Type 0
 AloneHasNoBusFault =
-    (root last : ℕ) (nodes : Nodes) (after : Board) (answer : Numbering) (s : System)
+    (spare root last : ℕ) (nodes : Nodes) (after : Board) (answer : Numbering) (s : System)
     → IsReady (record { number = root; nodes = nodes } ∷ []) root last
-    → Answers (record { number = root; nodes = nodes } ∷ []) root last answer after
+    → Answers spare (record { number = root; nodes = nodes } ∷ []) root last answer after
     → named_by answer ≡ None → IsListing after s → HasNoBusFault (root ∷ []) s
+
+-- Where none are kept free, the n-th bridge behind the root has the n-th number.
+abbrev pub NoneFreeInOrder : Type 0
+NoneFreeInOrder =
+    (root last : ℕ) (before after : Board) (answer : Numbering) → IsReady before root last
+    → Answers 0 before root last answer after
+    → IsNumbered root last (nodes_behind before root) (nodes_behind after root)

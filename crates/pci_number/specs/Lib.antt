@@ -12,3 +12,4 @@ pub mod Again
 pub mod Left
 pub mod Few
 pub mod Calls
+pub mod Spare

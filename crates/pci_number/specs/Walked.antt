@@ -5,6 +5,7 @@ use Rattle.number_spec.specs.Board.{Nodes, Board}
 use Rattle.number_spec.specs.Walk.{is_walkable}
 use Rattle.number_spec.specs.Numbered.{without_numbers}
 use Rattle.number_spec.specs.Room.{last_behind, have_numbers}
+use Rattle.number_spec.specs.Spare.{spare_room}
 use Rattle.number_spec.specs.NoBus.{first_of, first_without}
 use Rattle.pci_number.specs.Seen.{View, IsSeen, IsClosed}
 use Rattle.pci_number.specs.declared.walk.Walk.{Walk}
@@ -13,13 +14,14 @@ use Rattle.pci_number.specs.declared.walk.Walk.{Walk}
 abbrev pub named : Option Slot → Slot → Option Slot
 named without slot = first_of without (Some slot)
 
--- The bridges on a bus and behind it have their numbers, and all else is kept.
-abbrev pub IsBusNumbered : Board → ℕ → ℕ → Walk → Walk → Board → Type 0
-IsBusNumbered before bus last start walk after =
+-- The bridges on a bus and behind it have their numbers, with so many kept free, and all else is
+-- kept.
+abbrev pub IsBusNumbered : ℕ → Board → ℕ → ℕ → Walk → Walk → Board → Type 0
+IsBusNumbered spare before bus last start walk after =
     (v : View) (nodes : Nodes) → before ≡ v.fill nodes
     → IsSeen v bus 0 start.taken last → is_walkable nodes ≡ true → IsClosed nodes
     → (whole : Nodes) × (after ≡ v.fill whole) × (without_numbers whole ≡ without_numbers nodes)
-    × (have_numbers (λ image. 0) last bus start.taken whole ≡ true)
+    × (have_numbers (spare_room spare) last bus start.taken whole ≡ true)
     × (walk.taken ≡ last_behind start.taken whole)
     × (walk.without ≡ first_of start.without (first_without bus whole))
 

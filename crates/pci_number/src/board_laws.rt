@@ -2,7 +2,7 @@
 
 ghost use Rattle.pci_number.specs.Again.{NumbersStand};
 ghost use Rattle.pci_number.specs.Calls.{RootsGetNumbers, RootsHaveNoBusFault, RootsGetSingle};
-ghost use Rattle.pci_number.specs.Left.{OneRootIsNumbered, AloneHasNoBusFault};
+ghost use Rattle.pci_number.specs.Left.{OneRootIsNumbered, AloneHasNoBusFault, NoneFreeInOrder};
 
 /// Numbered again up to the same last bus, the same is answered and the same numbers stand.
 pub fn numbers_stand()
@@ -14,6 +14,12 @@ pub fn numbers_stand()
 pub fn numbered_root_has_no_bus_fault()
     ensures one { OneRootIsNumbered }
     ensures alone { AloneHasNoBusFault }
+{}
+
+/// Where no numbers are kept free, the n-th bridge behind the root, in the order of the walk, has
+/// the n-th number above it.
+pub fn numbers_are_in_order()
+    ensures order { NoneFreeInOrder }
 {}
 
 /// Where the last bus of each root is below the next root, and numbering answers `Numbered` for one

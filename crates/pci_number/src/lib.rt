@@ -5,11 +5,13 @@
 
 pub mod board_laws;
 mod hush;
+mod lead;
 mod look;
 pub mod number;
 mod open;
 pub mod port;
 mod put;
+mod spare;
 pub mod stop;
 mod walk;
 

@@ -15,8 +15,8 @@ use pci_base::slot::Slot;
 /// What numbering answers.
 #[derive(Clone, Copy, Debug, PartialEq, Eq)]
 pub enum Numbering {
-    /// Each bridge has its numbers. The greatest is `highest`, or the root where there is no
-    /// bridge.
+    /// Each bridge has its numbers. The last bus that one leads to is `highest`, or the root where
+    /// there is no bridge.
     Numbered { highest: u8 },
     /// The numbers ran out: `slot` is the first bridge that has none. It and all after it forward
     /// nothing.
@@ -24,7 +24,8 @@ pub enum Numbering {
 }
 
 /// Numbers the buses behind a root bus, from `root` + 1 to `last`, depth first in the order of
-/// devices and functions (Bridge 1.2, 3.2.5.2 to 3.2.5.4). First the bridges on the root bus are
+/// devices and functions (Bridge 1.2, 3.2.5.2 to 3.2.5.4). Behind each bridge with a hot-plug slot
+/// `spare` numbers more are kept free, as far as there are any, for what is plugged in later. First the bridges on the root bus are
 /// made to forward nothing. Of each bridge bytes 18h to 1Ah alone are written, one at a time, where
 /// that changes them; each is read back. Once those on the root bus forward nothing, at most one
 /// node answers each access after every write, as long as that holds behind the other roots; and
@@ -36,9 +37,9 @@ pub enum Numbering {
 /// that. Of the board that is left then, bus numbers behind this root alone are others than before;
 /// each board before the last write is as said above, and of the one after it nothing is said: the
 /// bridge may have kept another number, with which two nodes answer an access.
-pub fn number<P: BoardPort>(port: &mut P, root: u8, last: u8) -> Result<Numbering, Stop>
+pub fn number<P: BoardPort>(port: &mut P, root: u8, last: u8, spare: u8) -> Result<Numbering, Stop>
     ensures answer { IfOk result
-        (λ answer. Answers (P.board port.old) root last answer (P.board port.new)) }
+        (λ answer. Answers spare (P.board port.old) root last answer (P.board port.new)) }
     // whatever happens, bytes 18h to 1Ah of bridges behind this root alone are changed
     ensures kept { Keeps (P.board port.old) root last (P.board port.new) }
     // each board that stood is single, from when the bridges on the root bus are closed, or from
@@ -58,7 +59,7 @@ pub fn number<P: BoardPort>(port: &mut P, root: u8, last: u8) -> Result<Numberin
         taken: root,
         without: None,
     };
-    let walk = number_bus(port, root, last, start)?;
+    let walk = number_bus(port, root, last, spare, start)?;
     match walk.without {
         None => Ok(Numbering::Numbered {
             highest: walk.taken,

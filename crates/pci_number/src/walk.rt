@@ -5,12 +5,11 @@ ghost use Rattle.pci_number.specs.Walked.{IsBusNumbered, IsBusLeft, named};
 ghost use Rattle.pci_number.specs.Few.{IsBusFew};
 ghost use Rattle.pci_number.specs.Single.{IsBusStood};
 
+use crate::lead::lead_to;
 use crate::look::{PLACES, look, slot_at};
 use crate::open::open;
 use crate::port::BoardPort;
-use crate::put::put;
 use crate::stop::Stop;
-use pci_base::offset::SUBORDINATE_BUS;
 use pci_base::slot::Slot;
 
 /// How far a walk is: the greatest number in use, and the first bridge for which none was left.
@@ -36,11 +35,18 @@ impl Walk {
     }
 }
 
-/// Numbers the bridges on a bus, which forward nothing, and those behind them.
-pub fn number_bus<P: BoardPort>(port: &mut P, bus: u8, last: u8, start: Walk) -> Result<Walk, Stop>
+/// Numbers the bridges on a bus, which forward nothing, and those behind them, and keeps `spare`
+/// numbers free behind each with a hot-plug slot.
+pub fn number_bus<P: BoardPort>(
+    port: &mut P,
+    bus: u8,
+    last: u8,
+    spare: u8,
+    start: Walk,
+) -> Result<Walk, Stop>
     requires above { bus ≤ start.taken }
     ensures numbered { IfOk result
-        (λ walk. IsBusNumbered (P.board port.old) bus last start walk (P.board port.new)) }
+        (λ walk. IsBusNumbered spare (P.board port.old) bus last start walk (P.board port.new)) }
     ensures above { IfOk result (λ walk. start.taken ≤ walk.taken) }
     ensures left { OnErr result (IsBusLeft (P.board port.old) bus last start (P.board port.new)) }
     ensures stood { IsBusStood (P.board port.old) bus last start (P.history port.old) result
@@ -60,9 +66,9 @@ pub fn number_bus<P: BoardPort>(port: &mut P, bus: u8, last: u8, start: Walk) ->
             if walk.taken < last {
                 walk.taken += 1;
                 if open(port, slot, walk.taken, last)? {
-                    walk = number_bus(port, walk.taken, last, walk)?;
-                    put(port, slot, SUBORDINATE_BUS, walk.taken)?;
+                    walk = number_bus(port, walk.taken, last, spare, walk)?;
                 }
+                walk.taken = lead_to(port, slot, walk.taken, last, spare)?;
             } else {
                 walk = walk.and_without(slot);
             }

@@ -9,10 +9,11 @@ use pci_number::number::number;
 use std::alloc::AllocError;
 use std::test::Fail;
 
-/// A board, the calls by root and last bus, and what comes of them.
+/// A board, the calls by root, last bus and how many are kept free behind hot-plug slots, and what
+/// comes of them.
 struct Example {
     board: &'static str,
-    calls: &'static [(u8, u8)],
+    calls: &'static [(u8, u8, u8)],
     answers: &'static str,
     writes: usize,
     /// After so many writes and from there on, at most one node answers each access.
@@ -20,10 +21,10 @@ struct Example {
     numbers: &'static str,
 }
 
-const EXAMPLES: [Example; 7] = [
+const EXAMPLES: [Example; 8] = [
     Example {
         board: "@00 01.0 02.0",
-        calls: &[(0x00, 0xff)],
+        calls: &[(0x00, 0xff, 0)],
         answers: "numbered 00;",
         writes: 0,
         single_from: 0,
@@ -31,7 +32,7 @@ const EXAMPLES: [Example; 7] = [
     },
     Example {
         board: "@00 01.0[ 00.0 ]",
-        calls: &[(0x00, 0xff)],
+        calls: &[(0x00, 0xff, 0)],
         answers: "numbered 01;",
         writes: 2,
         single_from: 0,
@@ -39,7 +40,7 @@ const EXAMPLES: [Example; 7] = [
     },
     Example {
         board: "@00 01.0[ 00.0[ 00.0 ] 01.0[ 00.0 ] ] 02.0[ ]",
-        calls: &[(0x00, 0xff)],
+        calls: &[(0x00, 0xff, 0)],
         answers: "numbered 04;",
         writes: 12,
         single_from: 0,
@@ -47,7 +48,7 @@ const EXAMPLES: [Example; 7] = [
     },
     Example {
         board: "@00 01.0[ 00.0[ 00.0 ] 01.0[ 00.0 ] ] 02.0[ ]",
-        calls: &[(0x00, 0x03)],
+        calls: &[(0x00, 0x03, 0)],
         answers: "no bus 00:02.0 03;",
         writes: 9,
         single_from: 0,
@@ -55,7 +56,7 @@ const EXAMPLES: [Example; 7] = [
     },
     Example {
         board: "@00 01.0(000509)[ 00.0 ] 02.0(000505)[ 00.0 ]",
-        calls: &[(0x00, 0xff)],
+        calls: &[(0x00, 0xff, 0)],
         answers: "numbered 02;",
         writes: 8,
         single_from: 4,
@@ -63,15 +64,23 @@ const EXAMPLES: [Example; 7] = [
     },
     Example {
         board: "@00 01.0[ 00.0(010707)[ 00.0 ] 01.0(010707)[ 00.0 ] ]",
-        calls: &[(0x00, 0xff)],
+        calls: &[(0x00, 0xff, 0)],
         answers: "numbered 03;",
         writes: 16,
         single_from: 0,
         numbers: "00:01.0 00 01 03;01:00.0 01 02 02;01:01.0 01 03 03;",
     },
     Example {
+        board: "@00 1c.0+[ 00.0 ] 1c.4[ ]",
+        calls: &[(0x00, 0xff, 2)],
+        answers: "numbered 04;",
+        writes: 5,
+        single_from: 0,
+        numbers: "00:1c.0 00 01 03;00:1c.4 00 04 04;",
+    },
+    Example {
         board: "@00 01.0[ 00.0 ] @40 00.0(004141)[ 00.0 ]",
-        calls: &[(0x00, 0x3f), (0x40, 0xff)],
+        calls: &[(0x00, 0x3f, 0), (0x40, 0xff, 0)],
         answers: "numbered 01;numbered 41;",
         writes: 7,
         single_from: 0,
@@ -108,8 +117,8 @@ fn is_single_from(start: &Roots, tree: &Tree, from: usize) -> bool {
 /// Numbers the board behind each root in turn. The answers.
 fn answers_of(rt: &HostRuntime, example: &Example, tree: &mut Tree) -> Result<String, AllocError> {
     let mut answers = String::new(rt.alloc());
-    for (root, last) in example.calls {
-        let answer = answer_text(rt.alloc(), number(tree, *root, *last))?;
+    for (root, last, spare) in example.calls {
+        let answer = answer_text(rt.alloc(), number(tree, *root, *last, *spare))?;
         answers.push_str(&answer)?;
         answers.push(';')?;
     }

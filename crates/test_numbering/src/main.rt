@@ -1,5 +1,5 @@
-//! Numbers boards in memory: for each line of standard input, the last bus and the board, prints
-//! each write and each answer. `stdin` has boards made by rule, `stdout` what the C routine of
+//! Numbers boards in memory: for each line of standard input, the last bus, how many are kept free
+//! behind hot-plug slots, and the board, prints each write and each answer. `stdin` has boards made by rule, `stdout` what the C routine of
 //! c/number does on them as well. The tests are of worked boards. The ports are proved to keep a
 //! port's laws: one to a board of any tree, one to a board with one bridge.
 #![tactic(auto)]

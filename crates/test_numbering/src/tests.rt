@@ -14,7 +14,7 @@ fn bridge() -> Slot {
 #[test]
 fn a_bare_bridge_gets_its_numbers_by_two_writes(rt: HostRuntime) {
     let mut port = OneBridge::new(rt.alloc(), 0, 0, 0, NONE);
-    assert!(rt; number(&mut port, 0, 0xff) == Ok(Numbering::Numbered { highest: 1 }));
+    assert!(rt; number(&mut port, 0, 0xff, 0) == Ok(Numbering::Numbered { highest: 1 }));
     assert_eq!(rt; port.numbers(), [0, 1, 1]);
     assert_eq!(rt; port.made(), 2);
 }
@@ -22,7 +22,7 @@ fn a_bare_bridge_gets_its_numbers_by_two_writes(rt: HostRuntime) {
 #[test]
 fn old_numbers_are_closed_first(rt: HostRuntime) {
     let mut port = OneBridge::new(rt.alloc(), 0, 5, 9, NONE);
-    assert!(rt; number(&mut port, 0, 0xff) == Ok(Numbering::Numbered { highest: 1 }));
+    assert!(rt; number(&mut port, 0, 0xff, 0) == Ok(Numbering::Numbered { highest: 1 }));
     assert_eq!(rt; port.numbers(), [0, 1, 1]);
     assert_eq!(rt; port.made(), 4);
 }
@@ -34,7 +34,7 @@ fn without_a_number_a_bridge_is_closed_and_named(rt: HostRuntime) {
         slot: bridge(),
         highest: 0,
     });
-    assert!(rt; number(&mut port, 0, 0) == answer);
+    assert!(rt; number(&mut port, 0, 0, 0) == answer);
     assert_eq!(rt; port.numbers(), [0, 0, 0]);
     assert_eq!(rt; port.made(), 3);
 }
@@ -47,6 +47,6 @@ fn a_number_that_is_not_taken_stops_it(rt: HostRuntime) {
         offset: 0x19,
         number: 1,
     }));
-    assert!(rt; number(&mut port, 0, 0xff) == stop);
+    assert!(rt; number(&mut port, 0, 0xff, 0) == stop);
     assert_eq!(rt; port.made(), 1);
 }

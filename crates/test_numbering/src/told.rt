@@ -9,13 +9,13 @@ use pci_number::number::{Numbering, number};
 use pci_number::{NotTaken, Stop};
 use std::alloc::{AllocError, Global};
 
-/// A line with the last bus and a board, then each write and each answer where each root is numbered
-/// in turn, up to the bus before the next root.
+/// A line with the last bus, how many are kept free behind hot-plug slots, and a board; then each
+/// write and each answer where each root is numbered in turn, up to the bus before the next root.
 pub fn board_told(alloc: Global, line: &str) -> Result<String, AllocError> {
     let mut text = format!(in alloc; "{line}\n")?;
-    match line.split_once(' ') {
-        Some((word, board)) => match roots_of(alloc, board)? {
-            Some(roots) => push_board(alloc, word, roots, &mut text)?,
+    match split(line) {
+        Some((last, spare, board)) => match roots_of(alloc, board)? {
+            Some(roots) => push_board(alloc, last, spare, roots, &mut text)?,
             None => text.push_str("no board\n")?,
         },
         None => text.push_str("no board\n")?,
@@ -23,20 +23,29 @@ pub fn board_told(alloc: Global, line: &str) -> Result<String, AllocError> {
     Ok(text)
 }
 
+/// The two numbers of a line, and its board.
+fn split(line: &str) -> Option<(u8, u8, &str)> {
+    let (last, rest) = line.split_once(' ')?;
+    let (spare, board) = rest.split_once(' ')?;
+    let last = byte_of(&mut last.as_bytes().iter())?;
+    let spare = byte_of(&mut spare.as_bytes().iter())?;
+    Some((last, spare, board))
+}
+
 fn push_board(
     alloc: Global,
-    word: &str,
+    last: u8,
+    spare: u8,
     roots: Roots,
     text: &mut String,
 ) -> Result<(), AllocError> {
     let mut numbers = Vec::new(alloc);
     push_root_numbers(&roots, &mut numbers)?;
-    let last = byte_of(&mut word.as_bytes().iter()).unwrap_or(0xff);
     match Tree::new(alloc, roots) {
         Some(mut tree) => {
             for i in 0..numbers.len() {
                 let end = end_of(&numbers, i).min(last);
-                push_call(alloc, &mut tree, numbers[i], end, text)?;
+                push_call(alloc, &mut tree, numbers[i], end, spare, text)?;
             }
             Ok(())
         }
@@ -69,10 +78,11 @@ fn push_call(
     tree: &mut Tree,
     root: u8,
     last: u8,
+    spare: u8,
     text: &mut String,
 ) -> Result<(), AllocError> {
     let made = tree.stood.len();
-    let answer = number(tree, root, last);
+    let answer = number(tree, root, last, spare);
     for i in made..tree.stood.len() {
         let NotTaken {
             slot,

@@ -6,7 +6,7 @@ use Rattle.pci_number.proofs.walk.+number_bus.Given as goal
 
 abbrev pub invariant-loop-place : goal.invariant-loop-place
 invariant-loop-place g l = record {
-  walking : IsWalking (g.P.BoardPort.board l.initial.port) l.bus l.last l.fn.start l.place l.more l.walk (g.P.BoardPort.board l.port);
+  walking : IsWalking l.spare (g.P.BoardPort.board l.initial.port) l.bus l.last l.fn.start l.place l.more l.walk (g.P.BoardPort.board l.port);
   standing : IsWalkStanding (g.P.BoardPort.board l.initial.port) l.bus l.last l.fn.start (g.P.BoardPort.history l.initial.port) l.place l.more l.walk (g.P.BoardPort.board l.port) (g.P.BoardPort.history l.port);
   above : l.fn.start.taken ≤ l.walk.taken;
   counted : g.P.BoardPort.failures l.port ≡ g.P.BoardPort.failures l.initial.port;

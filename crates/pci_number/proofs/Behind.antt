@@ -1,0 +1,47 @@
+-- A bridge behind which all have their numbers, whether there are bridges behind it or not.
+use Rattle.std.proofs.Common.{◌≡◌, ℕ, ◌+◌, ◌<◌, ◌≤◌, Bool, true, false, arith, ◌∙◌, List}
+use Rattle.pci_spec.specs.Slot.{Slot}
+use Rattle.number_spec.specs.Board.{Board, IsSingle}
+use Rattle.number_spec.proofs.Kept.{same_walk}
+use Rattle.pci_number.specs.Steps.{IsOpened}
+use Rattle.pci_number.specs.Few.{IsOpenFew, IsBusFew}
+use Rattle.pci_number.specs.Walked.{IsBusNumbered}
+use Rattle.pci_number.specs.Stood.{Adds}
+use Rattle.pci_number.specs.declared.walk.Walk.{Walk}
+use Rattle.pci_number.proofs.Few.{IsBegunFew, begun_few_alone, begun_few_wide}
+use Rattle.pci_number.proofs.Showing.{IsOpenOk}
+use Rattle.pci_number.proofs.Standing.{Bridge, IsBusOk, opened_here, stood_here, seen_there, apart_there}
+use Rattle.pci_number.proofs.Stood.{adds_then}
+use Rattle.pci_number.proofs.Views.{inside}
+use Rattle.pci_number.proofs.Walking.{one_more, IsBegun, begun_alone, begun_wide}
+
+-- what is known where it leads on: of the board, of the writes that were made, of the boards that stood, of failures
+pub record Behind (spare : ℕ) (now far : Board) (slot : Slot) (last : ℕ) (walk after : Walk) (total far_by : ℕ) (old new newest : List Board) (more : Bool) (failed far_failed : ℕ) : Type 0 where
+  pub begun : IsBegun spare now far slot last walk after
+  pub few : IsBegunFew now slot last walk.taken total far_by
+  pub stood : (b : Bridge now slot last walk old new more) → Adds IsSingle old newest
+  pub above : walk.taken + 1 ≤ after.taken
+  pub counted : far_failed ≡ failed
+
+module _ (spare : ℕ) (now mid : Board) (slot : Slot) (last : ℕ) (walk : Walk) (total opened_by : ℕ) (old new newer : List Board) (more : Bool) (failed : ℕ) (left : walk.taken < last) (opened_few : IsOpenFew now slot (walk.taken + 1) last total opened_by) (opened_ok : IsOpenOk now slot (walk.taken + 1) last new newer) where
+  pub behind_alone : (opened_failed : ℕ) → IsOpened now slot (walk.taken + 1) last false mid → opened_failed ≡ failed → Behind spare now mid slot last walk (one_more walk) total opened_by old new newer more failed opened_failed
+  behind_alone opened_failed gets none_failed = record {
+    begun = begun_alone spare now mid slot last walk left gets;
+    few = begun_few_alone now slot last walk total opened_by left opened_few;
+    stood = λ b. stood_here now slot last walk old new newer more b left opened_ok;
+    above = omega arith;
+    counted = none_failed;
+  }
+
+  pub behind_wide : (far : Board) (after : Walk) (far_by far_failed : ℕ) (newest : List Board) → IsOpened now slot (walk.taken + 1) last true mid → IsBusNumbered spare mid (walk.taken + 1) last (one_more walk) after far → walk.taken + 1 ≤ after.taken → IsBusFew mid (walk.taken + 1) last (one_more walk) opened_by far_by → IsBusOk mid (walk.taken + 1) last (one_more walk) newer newest → far_failed ≡ failed → Behind spare now far slot last walk after total far_by old new newest more failed far_failed
+  behind_wide far after far_by far_failed newest gets bus up bus_few bus_ok none_failed = record {
+    begun = begun_wide spare now mid far slot last walk after left gets bus up;
+    few = begun_few_wide now mid slot last walk total opened_by far_by left gets opened_few bus_few;
+    stood = λ b.
+        let o = opened_here now slot last walk old new more b true mid left gets in
+        adds_then IsSingle old newer newest (stood_here now slot last walk old new newer more b left opened_ok)
+        (bus_ok (inside b.view slot.device slot.function o.0 b.others) o.1 o.2 (seen_there now slot last walk old new more b o.0 left o.3 o.5) (same_walk o.1 b.behind o.4 ∙ b.inner) o.6
+        (apart_there now slot last walk old new more b o.0 o.1 left o.3 o.4 o.5));
+    above = up;
+    counted = none_failed;
+  }
