@@ -155,7 +155,7 @@ walked_behind all d f image behind place has = elim (chosen (is_found all d f) (
   | inr none ↦ absurd (in_nil (Behind place) none.1)
 ]
 
-found_there : (low high bus : ℕ) (all nodes : Nodes) (place : Place) → IsRanged low high nodes → Contains (walk all nodes) place → IsAnswered low high bus nodes place (access_of bus nodes place)
+pub found_there : (low high bus : ℕ) (all nodes : Nodes) (place : Place) → IsRanged low high nodes → Contains (walk all nodes) place → IsAnswered low high bus nodes place (access_of bus nodes place)
 found_there low high bus all NoMore place ranged has = absurd (in_nil place has)
 found_there low high bus all (Node d f image behind others) Here ranged has =
     inl (refl, Contains-append_left (if d == d && f == f then Here ∷ [] else []) (map Next (on_bus others (record { bus = bus; device = d; function = f }))) Here (let e = eq-eqb d d refl in let g = eq-eqb f f refl in rw (e, g) (in_head Here [])))
@@ -193,11 +193,11 @@ found_there low high bus all (Node d f image behind others) (Behind place) range
 -- ---- at a root
 
 -- a place with the number of its root
-abbrev with_number : Root → Place → ℕ × Place
+abbrev pub with_number : Root → Place → ℕ × Place
 with_number root place = (root.number, place)
 
 -- what answers at one root answers on the board, and back
-to_one_root : (root : Root) (access : Slot) (place : Place) → Contains (answers (root ∷ []) access) (root.number, place) → Contains (at_root root access) place
+pub to_one_root : (root : Root) (access : Slot) (place : Place) → Contains (answers (root ∷ []) access) (root.number, place) → Contains (at_root root access) place
 to_one_root root access place has =
     let whole : ℕ × Place = (root.number, place) in
     let found = in_flat_map_to (λ r. map (with_number r) (at_root r access)) (filter (goes_to (root ∷ []) access.bus) (root ∷ [])) whole has in
@@ -206,7 +206,7 @@ to_one_root root access place has =
     let made = in_map_to (with_number root) (at_root root access) whole piece in
     subst (Contains (at_root root access)) (ap (λ (x : ℕ × Place). x.1) made.is) made.has
 
-from_one_root : (root : Root) (access : Slot) (place : Place) → root.number ≤ access.bus → Contains (at_root root access) place → Contains (answers (root ∷ []) access) (root.number, place)
+pub from_one_root : (root : Root) (access : Slot) (place : Place) → root.number ≤ access.bus → Contains (at_root root access) place → Contains (answers (root ∷ []) access) (root.number, place)
 from_one_root root access place from has =
     in_flat_map_from (λ r. map (with_number r) (at_root r access)) (filter (goes_to (root ∷ []) access.bus) (root ∷ [])) root (with_number root place)
     (in_filter_from (goes_to (root ∷ []) access.bus) (root ∷ []) root (in_head root []) (goes_alone root access from))

@@ -10,4 +10,6 @@ pub mod Same
 pub mod SameRoom
 pub mod Spare
 pub mod Listed
+pub mod Among
+pub mod Enough
 pub mod Examples

@@ -66,10 +66,10 @@ IsFull low high bus (Node d f image behind others) =
     ⊎ ((is_type_1 image ≡ true) × (primary_bus image ≡ bus) × (low < secondary_bus image) × (secondary_bus image ≤ subordinate_bus image)
     × IsFull (secondary_bus image) (subordinate_bus image) (secondary_bus image) behind × IsFull (subordinate_bus image) high bus others)
 
-of_leading : (bus d f : ℕ) (image : List ℕ) (behind others : Nodes) → has_bus image ≡ true → first_without bus (Node d f image behind others) ≡ first_of (first_without (secondary_bus image) behind) (first_without bus others)
+pub of_leading : (bus d f : ℕ) (image : List ℕ) (behind others : Nodes) → has_bus image ≡ true → first_without bus (Node d f image behind others) ≡ first_of (first_without (secondary_bus image) behind) (first_without bus others)
 of_leading bus d f image behind others leads = rw leads refl
 
-none_without : (bus d f : ℕ) (image : List ℕ) (behind others : Nodes) → is_type_1 image ≡ true → first_without bus (Node d f image behind others) ≡ None → has_bus image ≡ true
+pub none_without : (bus d f : ℕ) (image : List ℕ) (behind others : Nodes) → is_type_1 image ≡ true → first_without bus (Node d f image behind others) ≡ None → has_bus image ≡ true
 none_without bus d f image behind others bridge none = elim (cases_Bool (has_bus image)) [
   | inl leads ↦ leads
   | inr closed ↦ absurd (cc (rw bridge at (rw closed at none)))

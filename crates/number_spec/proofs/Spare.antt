@@ -1,5 +1,5 @@
 -- Buses that are kept free behind hot-plug slots.
-use Rattle.std.proofs.Common.{◌≡◌, ◌≢◌, ℕ, zero, suc, ◌+◌, ◌≤◌, inl, inr, List, true, arith, refl, sym, ◌∙◌, ap, set, get_or-set_other}
+use Rattle.std.proofs.Common.{◌≡◌, ◌≢◌, ℕ, zero, suc, ◌+◌, ◌≤◌, inl, inr, List, arith, refl, sym, ◌∙◌, ap, get_or-set_other}
 use Rattle.std.specs.Bool.{nat_le, if◌then◌else◌}
 use Rattle.std.proofs.lemmas.Bool.{cases_Bool, leb-true}
 use Rattle.pci_spec.specs.Number.{byte_at}

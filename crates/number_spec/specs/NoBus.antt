@@ -1,5 +1,5 @@
--- The first bridge that got no bus number.
-use Rattle.std.specs.Prelude.{ℕ, if◌then◌else◌, Option, Some, None}
+-- The first bridge that got no bus number, and how many bridges want one.
+use Rattle.std.specs.Prelude.{ℕ, ◌+◌, if◌then◌else◌, Option, Some, None}
 use Rattle.pci_spec.specs.Slot.{Slot}
 use Rattle.pci_spec.specs.Header.{secondary_bus}
 use Rattle.number_spec.specs.Board.{Nodes, NoMore, Node, is_type_1}
@@ -18,3 +18,9 @@ first_without bus (Node device function image behind others) =
     first_of (if has_bus image then first_without (secondary_bus image) behind
     else if is_type_1 image then Some (record { bus = bus; device = device; function = function })
     else None) (first_without bus others)
+
+-- how many bridges there are on a bus and behind it
+abbrev pub bridges : Nodes → ℕ
+bridges NoMore = 0
+bridges (Node device function image behind others) =
+    if is_type_1 image then 1 + bridges behind + bridges others else bridges others

@@ -1,5 +1,5 @@
 -- Laws of numbering.
-use Rattle.std.specs.Prelude.{◌≡◌, ◌↔◌, ℕ, IsTrue, List, [], ◌∷◌, None, map}
+use Rattle.std.specs.Prelude.{◌≡◌, ◌↔◌, ℕ, ◌+◌, ◌≤◌, IsTrue, List, [], ◌∷◌, None, map}
 use Rattle.std.specs.List.{Contains, filter}
 use Rattle.std.specs.List.Sorted.{IsStrictlyIncreasing}
 use Rattle.pci_spec.specs.Slot.{Slot}
@@ -8,12 +8,14 @@ use Rattle.pci_spec.specs.System.{System}
 use Rattle.pci_spec.specs.Bus.{IsNested}
 use Rattle.pci_spec.specs.NestingLaws.{HasNoBusFault}
 use Rattle.number_spec.specs.Board.{Nodes, Root, Board, Place, is_type_1, image_at, access_of, answers, IsSingle}
+use Rattle.number_spec.specs.Access.{nodes_behind}
 use Rattle.number_spec.specs.Walk.{is_rising, is_walkable, walk}
 use Rattle.number_spec.specs.Numbered.{without_numbers, secondaries, IsNumbered}
 use Rattle.number_spec.specs.Room.{IsNumberedWithRoom}
 use Rattle.number_spec.specs.Spare.{IsSteady, spare_room}
 use Rattle.number_spec.specs.Spread.{IsSpread}
-use Rattle.number_spec.specs.NoBus.{first_without}
+use Rattle.number_spec.specs.NoBus.{first_without, bridges}
+use Rattle.number_spec.specs.Ready.{IsReady}
 use Rattle.number_spec.specs.Listed.{IsListing, HasNumbers, HasRoomyNumbers}
 use Rattle.number_spec.specs.Reached.{reached, only_bridges_lead}
 
@@ -153,3 +155,20 @@ RoomyAnswersOnce =
     → (access : Slot)
     → Contains (answers (record { number = root; nodes = after } ∷ []) access) (root, place)
     ↔ (access ≡ access_of root after place)
+
+-- So it does among other roots, whatever is behind them.
+abbrev pub AmongRootsAnswersOnce : Type 0
+AmongRootsAnswersOnce =
+    (room : List ℕ → ℕ) (board : Board) (root last : ℕ) → IsReady board root last
+    → IsNumberedWithRoom room root last (nodes_behind board root) (nodes_behind board root)
+    → (place : Place) → Contains (walk (nodes_behind board root) (nodes_behind board root)) place
+    → (access : Slot)
+    → Contains (answers board access) (root, place)
+    ↔ (access ≡ access_of root (nodes_behind board root) place)
+
+-- Where no numbers are kept free, each bridge has its numbers exactly where there are as many
+-- numbers as bridges.
+abbrev pub EnoughForAll : Type 0
+EnoughForAll =
+    (root last : ℕ) (before after : Nodes) → root ≤ last → IsNumbered root last before after
+    → (first_without root after ≡ None) ↔ (root + bridges after ≤ last)

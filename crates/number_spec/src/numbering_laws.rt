@@ -1,6 +1,6 @@
 //! Laws of numbering. These functions do nothing: each contract is a law.
 
-ghost use Rattle.number_spec.specs.NumberingLaws.{WalkIsInOrder, SameIsWalkable, NumberedIsSingle, RoomyIsSingle, SpreadIsSingle, RootsAreSingle, NoRoomIsInOrder, NoSpareIsInOrder, SpareStays, FoundAnswersOnce, RoomyAnswersOnce, NumbersAreOne, AllNumbersAreOne, RoomyNumbersAreOne, AllRoomyNumbersAreOne, ListedIsNested, ListedHasNoBusFault, RoomyIsNested, RoomyHasNoBusFault};
+ghost use Rattle.number_spec.specs.NumberingLaws.{WalkIsInOrder, SameIsWalkable, NumberedIsSingle, RoomyIsSingle, SpreadIsSingle, RootsAreSingle, NoRoomIsInOrder, NoSpareIsInOrder, SpareStays, FoundAnswersOnce, RoomyAnswersOnce, AmongRootsAnswersOnce, EnoughForAll, NumbersAreOne, AllNumbersAreOne, RoomyNumbersAreOne, AllRoomyNumbersAreOne, ListedIsNested, ListedHasNoBusFault, RoomyIsNested, RoomyHasNoBusFault};
 
 /// On a board whose bridges are numbered in the order of the walk each access is answered once at
 /// most, and also where numbers are kept free, while they are given, or where there are several
@@ -45,8 +45,16 @@ pub fn listed_functions_nest()
     ensures no_roomy_fault { RoomyHasNoBusFault }
 {}
 
-/// On a numbered board each node that the walk finds answers exactly one access.
+/// On a numbered board each node that the walk finds answers exactly one access, also where there
+/// are other roots.
 pub fn nodes_that_are_found_answer_once()
     ensures once { FoundAnswersOnce }
     ensures roomy { RoomyAnswersOnce }
+    ensures among { AmongRootsAnswersOnce }
+{}
+
+/// Where no number is kept free, a bridge is without one exactly where there are more bridges than
+/// numbers.
+pub fn numbers_run_out_where_bridges_are_more()
+    ensures enough { EnoughForAll }
 {}

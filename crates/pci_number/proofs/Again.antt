@@ -43,7 +43,7 @@ apart_stays root last nodes (r ∷ roots) apart =
       | inr other ↦ let first = parts.0 in rw (other, first) rest
     ]
 
-ready_stays : (before after : Board) (root last : ℕ) → IsReady before root last → after ≡ with_nodes before root (nodes_behind after root) → without_numbers (nodes_behind before root) ≡ without_numbers (nodes_behind after root) → IsReady after root last
+pub ready_stays : (before after : Board) (root last : ℕ) → IsReady before root last → after ≡ with_nodes before root (nodes_behind after root) → without_numbers (nodes_behind before root) ≡ without_numbers (nodes_behind after root) → IsReady after root last
 ready_stays before after root last ready others same = record {
   one = ap (λ b. length (filter (λ other. other.number == root) b)) others ∙ count_stays root (nodes_behind after root) before ∙ ready.one;
   apart = subst (λ b. list_all (λ other. nat_le other.number root || nat_lt last other.number) b ≡ true) (sym others) (apart_stays root last (nodes_behind after root) before ready.apart);

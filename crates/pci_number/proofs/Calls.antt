@@ -1,20 +1,22 @@
 -- What is behind each root after a call for each.
-use Rattle.std.proofs.Common.{◌≡◌, ℕ, ◌<◌, ◌⊎◌, inl, inr, List, [], ◌∷◌, true, false, ◌||◌, arith, refl, sym, ◌∙◌, ap, subst, length, map}
+use Rattle.std.proofs.Common.{◌≡◌, ◌↔◌, ℕ, ◌<◌, ◌⊎◌, inl, inr, List, [], ◌∷◌, true, false, ◌||◌, arith, refl, sym, ◌∙◌, ap, subst, length, map}
 use Rattle.std.specs.Bool.{◌==◌, nat_le, nat_lt, if◌then◌else◌}
 use Rattle.std.specs.List.{Contains, AllPairs, filter}
 use Rattle.std.specs.List.Sorted.{IsStrictlyIncreasing}
 use Rattle.std.proofs.lemmas.Bool.{and_parts, eqb-true, eqb-false, eq-eqb, ne_eqb, le-leb, lt-ltb, or_left, or_right, cases_Bool, cases_lt}
 use Rattle.std.proofs.lemmas.List.Kept.{AllPairs-from_increasing}
+use Rattle.pci_spec.specs.Slot.{Slot}
 use Rattle.pci_spec.proofs.BusRanges.{all_from}
 use Rattle.pci_spec.proofs.Members.{in_nil, in_cons_cases, in_head, in_tail, in_map_to, in_map_from, pairs_head, pairs_tail}
 use Rattle.pci_spec.specs.NestingLaws.{HasNoBusFault}
-use Rattle.number_spec.specs.Board.{Nodes, Root, Board, IsSingle}
+use Rattle.number_spec.specs.Board.{Nodes, Root, Board, Place, answers, access_of, IsSingle}
 use Rattle.number_spec.specs.Access.{nodes_behind, with_nodes}
-use Rattle.number_spec.specs.Walk.{is_rising, is_all_found, is_walkable}
-use Rattle.number_spec.specs.Room.{last_behind}
+use Rattle.number_spec.specs.Walk.{is_rising, is_all_found, is_walkable, walk}
+use Rattle.number_spec.specs.Room.{last_behind, IsNumberedWithRoom}
 use Rattle.number_spec.specs.Spare.{spare_room}
 use Rattle.number_spec.specs.Ready.{IsReady}
 use Rattle.number_spec.specs.Listed.{HasRoomyNumbers}
+use Rattle.number_spec.proofs.Among.{among_roots_answers_once}
 use Rattle.number_spec.proofs.Kept.{same_walk}
 use Rattle.number_spec.proofs.Listed.{roomy_has_no_bus_fault}
 use Rattle.number_spec.proofs.Roots.{roots_single}
@@ -22,7 +24,7 @@ use Rattle.number_spec.proofs.Roomy.{roomy}
 use Rattle.number_spec.proofs.Single.{single}
 use Rattle.pci_number.specs.Answer.{IsAnswer}
 use Rattle.pci_number.specs.Left.{IsRootNumbered}
-use Rattle.pci_number.specs.Calls.{AreReady, AreNumbered, AreItsRoots, RootsGetNumbers, RootsHaveNoBusFault, RootsGetSingle}
+use Rattle.pci_number.specs.Calls.{AreReady, AreNumbered, AreItsRoots, RootsGetNumbers, RootsHaveNoBusFault, RootsGetSingle, RootsAnswerOnce}
 use Rattle.pci_number.specs.declared.number.Numbering.{Numbering}
 use Rattle.pci_number.proofs.Left.{one_root_is_numbered}
 
@@ -181,3 +183,15 @@ roots_have_no_bus_fault spare last roots before after s ready its done lists =
 
 pub roots_get_single : RootsGetSingle
 roots_get_single spare last roots before after ready its done = is_single spare last roots before after ready its done
+
+-- each node that the walk finds among these answers one access
+abbrev IsOnceAt : Board → ℕ → Nodes → Type 0
+IsOnceAt board number nodes = (place : Place) → Contains (walk nodes nodes) place → (access : Slot) → Contains (answers board access) (number, place) ↔ (access ≡ access_of number nodes place)
+
+pub roots_answer_once : RootsAnswerOnce
+roots_answer_once spare last roots before after ready its done root has =
+    let end = the_end spare last roots before after ready its done in
+    let is = there after root (AllPairs-from_increasing (numbers after) end.ready.rising) has in
+    let ready_there = ready_at spare last after root.number end.ready (in_map_from (λ (x : Root). x.number) after root has) in
+    subst (λ (nodes : Nodes). IsNumberedWithRoom (spare_room spare) root.number (last root.number) nodes nodes → IsOnceAt after root.number nodes) is
+    (among_roots_answers_once (spare_room spare) after root.number (last root.number) ready_there) (end.numbered root has).numbered

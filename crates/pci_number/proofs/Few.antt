@@ -7,6 +7,7 @@ use Rattle.number_spec.specs.Access.{nodes_behind}
 use Rattle.number_spec.specs.Walk.{is_walkable, all_after}
 use Rattle.number_spec.specs.Numbered.{without_numbers}
 use Rattle.number_spec.specs.Room.{shows}
+use Rattle.number_spec.specs.NoBus.{bridges}
 use Rattle.number_spec.proofs.Kept.{same_walk}
 use Rattle.number_spec.proofs.Roomy.{shown}
 use Rattle.number_spec.proofs.Same.{kind_stays}
@@ -14,7 +15,7 @@ use Rattle.pci_number.specs.Seen.{View, code, IsSeen, IsRest, IsClosed}
 use Rattle.pci_number.specs.Steps.{IsLooked, Absent, There, IsShownAt, IsHushed, IsOpened}
 use Rattle.pci_number.specs.Hushing.{Rest, IsRestOf}
 use Rattle.pci_number.specs.Spare.{IsLed}
-use Rattle.pci_number.specs.Few.{bridges, bridges_on, IsFew, IsHushFew, IsOpenFew, IsBusFew}
+use Rattle.pci_number.specs.Few.{bridges_on, IsFew, IsHushFew, IsOpenFew, IsBusFew}
 use Rattle.pci_number.specs.declared.look.Found.{Found}
 use Rattle.pci_number.specs.declared.walk.Walk.{Walk}
 use Rattle.pci_number.proofs.Hushing.{none_between}

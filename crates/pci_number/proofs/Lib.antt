@@ -27,3 +27,4 @@ pub mod Beside
 pub mod Throughout
 pub mod Spares
 pub mod Examples
+pub mod Once

@@ -2,10 +2,11 @@
 use Rattle.std.specs.Prelude.{◌≡◌, ◌↔◌, ℕ, ◌<◌, IsTrue, List, [], ◌∷◌, None, map}
 use Rattle.std.specs.List.{Contains}
 use Rattle.std.specs.List.Sorted.{IsStrictlyIncreasing}
+use Rattle.pci_spec.specs.Slot.{Slot}
 use Rattle.pci_spec.specs.System.{System}
 use Rattle.pci_spec.specs.NestingLaws.{HasNoBusFault}
-use Rattle.number_spec.specs.Board.{Root, Board, IsSingle}
-use Rattle.number_spec.specs.Walk.{is_walkable}
+use Rattle.number_spec.specs.Board.{Root, Board, Place, answers, access_of, IsSingle}
+use Rattle.number_spec.specs.Walk.{is_walkable, walk}
 use Rattle.number_spec.specs.Spare.{spare_room}
 use Rattle.number_spec.specs.Listed.{IsListing, HasRoomyNumbers}
 use Rattle.pci_number.specs.Answer.{named_by, Answers}
@@ -35,17 +36,30 @@ AreItsRoots roots board =
 abbrev pub RootsGetNumbers : Type 0
 RootsGetNumbers =
     (spare : ℕ) (last : ℕ → ℕ) (roots : List ℕ) (before after : Board) → AreReady last before
-    → AreItsRoots roots before → AreNumbered spare last roots before after → HasRoomyNumbers (spare_room spare) last after
+    → AreItsRoots roots before → AreNumbered spare last roots before after
+    → HasRoomyNumbers (spare_room spare) last after
 
 -- what a walk then lists has no bus-range fault and no orphan,
 abbrev pub RootsHaveNoBusFault : Type 0
 RootsHaveNoBusFault =
-    (spare : ℕ) (last : ℕ → ℕ) (roots : List ℕ) (before after : Board) (s : System) → AreReady last before
+    (spare : ℕ) (last : ℕ → ℕ) (roots : List ℕ) (before after : Board) (s : System)
+    → AreReady last before
     → AreItsRoots roots before → AreNumbered spare last roots before after → IsListing after s
     → HasNoBusFault (map (λ root. root.number) before) s
 
--- and at most one node answers each access.
+-- at most one node answers each access,
 abbrev pub RootsGetSingle : Type 0
 RootsGetSingle =
     (spare : ℕ) (last : ℕ → ℕ) (roots : List ℕ) (before after : Board) → AreReady last before
     → AreItsRoots roots before → AreNumbered spare last roots before after → IsSingle after
+
+-- and each node that the walk finds answers one access, and no other.
+abbrev pub RootsAnswerOnce : Type 0
+RootsAnswerOnce =
+    (spare : ℕ) (last : ℕ → ℕ) (roots : List ℕ) (before after : Board) → AreReady last before
+    → AreItsRoots roots before → AreNumbered spare last roots before after
+    → (root : Root) → Contains after root
+    → (place : Place) → Contains (walk root.nodes root.nodes) place
+    → (access : Slot)
+    → Contains (answers after access) (root.number, place)
+    ↔ (access ≡ access_of root.number root.nodes place)

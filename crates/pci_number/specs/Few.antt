@@ -4,17 +4,12 @@ use Rattle.pci_spec.specs.Slot.{Slot}
 use Rattle.number_spec.specs.Board.{Nodes, NoMore, Node, Board, is_type_1}
 use Rattle.number_spec.specs.Access.{nodes_behind}
 use Rattle.number_spec.specs.Walk.{all_after, is_walkable}
+use Rattle.number_spec.specs.NoBus.{bridges}
 use Rattle.number_spec.specs.Ready.{IsReady}
 use Rattle.pci_number.specs.Seen.{View, code, IsSeen, IsClosed}
 use Rattle.pci_number.specs.declared.walk.Walk.{Walk}
 
--- how many bridges there are on a bus and behind it
-abbrev pub bridges : Nodes → ℕ
-bridges NoMore = 0
-bridges (Node device function image behind others) =
-    if is_type_1 image then 1 + bridges behind + bridges others else bridges others
-
--- how many of them are on the bus itself
+-- how many bridges there are on the bus itself
 abbrev pub bridges_on : Nodes → ℕ
 bridges_on NoMore = 0
 bridges_on (Node device function image behind others) =

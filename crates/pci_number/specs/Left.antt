@@ -1,13 +1,15 @@
 -- What numbering leaves behind each root, where it answers that each bridge has its numbers.
-use Rattle.std.specs.Prelude.{◌≡◌, ◌≢◌, ℕ, ◌⊎◌, [], ◌∷◌, None}
+use Rattle.std.specs.Prelude.{◌≡◌, ◌≢◌, ◌↔◌, ℕ, ◌+◌, ◌≤◌, ◌⊎◌, [], ◌∷◌, None}
 use Rattle.std.specs.List.{Contains}
+use Rattle.pci_spec.specs.Slot.{Slot}
 use Rattle.pci_spec.specs.System.{System}
 use Rattle.pci_spec.specs.NestingLaws.{HasNoBusFault}
-use Rattle.number_spec.specs.Board.{Nodes, Root, Board}
+use Rattle.number_spec.specs.Board.{Nodes, Root, Board, Place, answers, access_of}
+use Rattle.number_spec.specs.Walk.{walk}
 use Rattle.number_spec.specs.Numbered.{IsNumbered}
 use Rattle.number_spec.specs.Room.{IsNumberedWithRoom}
 use Rattle.number_spec.specs.Spare.{spare_room}
-use Rattle.number_spec.specs.NoBus.{first_without}
+use Rattle.number_spec.specs.NoBus.{first_without, bridges}
 use Rattle.number_spec.specs.Access.{nodes_behind}
 use Rattle.number_spec.specs.Ready.{IsReady}
 use Rattle.number_spec.specs.Listed.{IsListing}
@@ -41,3 +43,21 @@ NoneFreeInOrder =
     (root last : ℕ) (before after : Board) (answer : Numbering) → IsReady before root last
     → Answers 0 before root last answer after
     → IsNumbered root last (nodes_behind before root) (nodes_behind after root)
+
+-- With none kept free, a bridge is without one exactly where there are more bridges than numbers.
+abbrev pub NoneFreeRunOut : Type 0
+NoneFreeRunOut =
+    (root last : ℕ) (before after : Board) (answer : Numbering) → root ≤ last
+    → IsReady before root last → Answers 0 before root last answer after
+    → (named_by answer ≡ None) ↔ (root + bridges (nodes_behind before root) ≤ last)
+
+-- Each node that the walk finds behind the root answers one access, that to its bus, device and
+-- function, and no other, whatever is behind other roots.
+abbrev pub FoundAnswersOnce : Type 0
+FoundAnswersOnce =
+    (spare root last : ℕ) (before after : Board) (answer : Numbering) → IsReady before root last
+    → Answers spare before root last answer after
+    → (place : Place) → Contains (walk (nodes_behind after root) (nodes_behind after root)) place
+    → (access : Slot)
+    → Contains (answers after access) (root, place)
+    ↔ (access ≡ access_of root (nodes_behind after root) place)

@@ -6,6 +6,7 @@ use Rattle.number_spec.specs.NumberingLaws.{FoundAnswersOnce, RoomyAnswersOnce}
 use Rattle.number_spec.proofs.InOrder.{top, run_from, ranged}
 use Rattle.number_spec.proofs.Roomy.{roomy}
 use Rattle.number_spec.proofs.Found.{answers_once}
+use Rattle.number_spec.proofs.Among.{among_roots_answers_once}
 use Rattle.number_spec.proofs.numbering_laws.nodes_that_are_found_answer_once.Goals as goal
 
 found_answers_once : FoundAnswersOnce
@@ -22,3 +23,6 @@ returns-clause-once c = found_answers_once
 
 pub returns-clause-roomy : goal.returns-clause-roomy
 returns-clause-roomy c = roomy_answers_once
+
+pub returns-clause-among : goal.returns-clause-among
+returns-clause-among c = among_roots_answers_once
