@@ -17,6 +17,24 @@ compiled() {
         -I"$here/apply" -o "$built/$out" "$@"
 }
 
+# told PREFIX PROGRAM WORD..: runs a program, and prints what it says behind a prefix.
+told() {
+    prefix=$1
+    shift
+    says=$("$@") || { echo "$prefix$says"; exit 1; }
+    printf '%s%s\n' "$prefix" "$says" | tee -a "$built/said"
+}
+
+# shows PATTERN: what docs/C.md shows of the lines of this pattern is what the tests printed. How much stack there is
+# depends on the compiler.
+shows() {
+    sed -n '/^## The tests/,$s/^    //p' "$here/../docs/C.md" >"$built/shown"
+    for lines in shown said; do
+        grep "$1" "$built/$lines" | grep -v 'stack\|captured\|^\.\.$' >"$built/$lines.figures"
+    done
+    cmp "$built/shown.figures" "$built/said.figures" || { echo 'docs/C.md shows other figures'; exit 1; }
+}
+
 # What firmware takes is compiled with no header but the compiler's own.
 headers=$(${CC:-cc} -print-file-name=include)
 for part in capture/pciplan_capture number/pciplan_number apply/pciplan_apply memory/pciplan_fixed_memory \
@@ -26,18 +44,17 @@ done
 
 compiled capture "$here/test/pciplan_capture_test.c" "$built/capture.o"
 for machine in desk old port roots; do
-    printf '%s: ' "$machine"
-    "$built/capture" "$machines/$machine.dump" "$machines/$machine.probe"
+    told "$machine: " "$built/capture" "$machines/$machine.dump" "$machines/$machine.probe"
 done
 compiled number "$here/test/pciplan_number_test.c" "$here/test/pciplan_board.c" "$built/number.o" "$built/capture.o"
-printf 'number: '
-"$built/number"
+told 'number: ' "$built/number"
 # The writes are those that crates/test_numbering makes on the same boards.
 compiled told "$here/test/pciplan_number_told.c" "$here/test/pciplan_board.c" "$built/number.o"
 boards=$here/../crates/test_numbering
 "$built/told" <"$boards/stdin" | cmp - "$boards/stdout"
 "$built/number" 40 | cmp - "$boards/stdin"
-printf 'number: %u writes and answers as in crates/test_numbering\n' "$(grep -vc @ "$boards/stdout")"
+told "number: $(grep -vc @ "$boards/stdout")" echo ' writes and answers as in crates/test_numbering'
+shows '^number'
 # The code that docs/C.md shows, but for what the tests print, is of the example.
 flat() {
     tr -s ' \n' ' '
@@ -60,13 +77,13 @@ cd "$machines"
 for memory in pciplan_memory pciplan_fixed_memory; do
     compiled "$memory" -Wl,--wrap=rattle_alloc,--wrap=rattle_realloc \
         "$here/test/pciplan_test.c" "$here/memory/$memory.c" "$library"
-    printf '%s: ' "$memory"
-    "$built/$memory"
+    told "$memory: " "$built/$memory"
 done
 compiled put "$here/test/pciplan_apply_test.c" "$built/apply.o" "$built/capture.o" "$built/memory.o" "$library"
-"$built/put"
+told '' "$built/put"
 compiled bring_up "$here/test/pciplan_bring_up_test.c" "$here/test/pciplan_board.c" "$built/up.o" "$built/apply.o" \
     "$built/number.o" "$built/capture.o" "$built/supported.o" "$built/memory.o" "$library"
-"$built/bring_up"
+told '' "$built/bring_up"
 compiled stack "$here/test/pciplan_stack_test.c" "$here/memory/pciplan_memory.c" "$library"
-"$built/stack" old.dump old.probe
+told '' "$built/stack" old.dump old.probe
+shows .

@@ -33,7 +33,8 @@ struct pciplan_numbered {
    First the bridges of the root bus are made to forward nothing: that is safe_from writes. From then on, and from the
    first write on where that held before, at most one function answers each configuration access behind root, wherever
    it stops, if each number is taken or left as it was. Meanwhile nothing may use what is behind the bridges, and no
-   other access may come between. */
+   other access may come between. It keeps a list of the bridges above, 255 of them at most, and calls nothing that calls
+   itself: 1 KB of stack is enough, and what the hooks need; c/test.sh measures it. */
 struct pciplan_numbered pciplan_number(uint8_t root, uint8_t last, uint8_t spare);
 
 #ifdef __cplusplus

@@ -4,7 +4,7 @@
 
 #include <stdint.h>
 
-enum { NODES = 160, ROOTS = 3, NO_NODE = -1 };
+enum { NODES = 260, ROOTS = 3, NO_NODE = -1 };
 
 struct node {
     int bus;         /* the bridge that it is behind, or -2 - r on root r */

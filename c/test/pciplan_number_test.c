@@ -1,5 +1,6 @@
-/* Numbers boards in memory and judges each stop: worked examples, and boards made by rule. With a number as its word it
-   prints so many of these boards, and numbers none. */
+/* Numbers boards in memory and judges each stop: worked examples, rows of bridges, and boards made by rule. It measures the
+   stack that numbering uses beside the hooks. With a number as its word it prints so many of these boards and a row, and
+   numbers none. */
 #include <stdio.h>
 #include <stdlib.h>
 #include <string.h>
@@ -8,7 +9,10 @@
 #include "pciplan_capture.h"
 #include "pciplan_number.h"
 
-enum { BOARDS = 2000, MOST_BRIDGES = 40, NEVER = -1 };
+enum { BOARDS = 2000, MOST_NODES = 160, MOST_BRIDGES = 40, NEVER = -1 };
+
+/* What pciplan_number.h says that it needs at most. */
+enum { STACK_NEEDS = 1024 };
 
 static struct board board;
 static unsigned which;               /* the board, in messages */
@@ -17,6 +21,8 @@ static int writes, last_double;      /* so many were made, and the last stop at 
 static int last_written, is_refused; /* the node that was written last, and whether a number wasn't taken */
 static uint8_t listed[256][256];
 static int listed_count, at_title;
+static char *deepest; /* the frame of a hook that lay deepest */
+static long stack;    /* the most that numbering used above it */
 static char title[8];
 static unsigned title_used;
 
@@ -26,11 +32,18 @@ static void stop(const char *why)
     exit(1);
 }
 
+static void note_stack(char *frame)
+{
+    if (frame < deepest)
+        deepest = frame;
+}
+
 uint32_t pciplan_config_read(uint8_t bus, uint8_t device, uint8_t function, uint8_t offset, uint8_t width)
 {
     int index, count = board_answers(&board, bus, device * 8u + function, &index, 1);
     uint32_t value = 0;
 
+    note_stack(__builtin_frame_address(0));
     if (count > 1)
         stop("a read is answered twice");
     for (unsigned i = 0; i < width; i++)
@@ -42,6 +55,7 @@ void pciplan_config_write(uint8_t bus, uint8_t device, uint8_t function, uint8_t
 {
     int index;
 
+    note_stack(__builtin_frame_address(0));
     if (board_answers(&board, bus, device * 8u + function, &index, 1) != 1)
         stop("a write isn't answered by one function");
     if (!is_bridge_node(&board.nodes[index]) || offset < 0x18 || offset > 0x1a || width != 1)
@@ -93,7 +107,9 @@ static struct pciplan_numbered numbered(int r, uint8_t last, uint8_t spare)
     was_single = board_is_single(&board, first_bus, last_bus);
     writes = is_refused = 0;
     last_double = was_single ? NEVER : 0;
+    char *from = deepest = __builtin_frame_address(0);
     answer = pciplan_number(board.root[r], last, spare);
+    stack = from - deepest > stack ? from - deepest : stack;
     if (answer.writes != writes)
         stop("the writes aren't counted");
     if (last_double >= (int)answer.safe_from)
@@ -230,7 +246,7 @@ static unsigned add_device(int *buses, int *bus_count, unsigned most_bridges, un
     unsigned device = random_below(32), functions = random_below(3) == 0 ? 1 + random_below(4) : 1, bridges = 0;
     int function_0 = NO_NODE;
 
-    if (has_device(bus, device) || board.count + 4 > NODES)
+    if (has_device(bus, device) || board.count + 4 > MOST_NODES)
         return 0;
     for (unsigned i = 0, function = 0; i < functions && function < 8; i++, function += 1 + random_below(2)) {
         int is_bridge = bridges < most_bridges && random_below(2) == 0;
@@ -252,7 +268,7 @@ static unsigned add_device(int *buses, int *bus_count, unsigned most_bridges, un
 static void make_board(void)
 {
     static const unsigned junk_below[] = {0, 4, 16, 64, 256};
-    int buses[NODES + ROOTS], bus_count = 0;
+    int buses[MOST_NODES + ROOTS], bus_count = 0;
     unsigned wanted = random_below(MOST_BRIDGES + 1), bridges = 0, junk = junk_below[random_below(5)];
     int roots = 1 + (int)random_below(ROOTS);
 
@@ -263,6 +279,29 @@ static void make_board(void)
     }
     for (unsigned n = 0; n < 3 * MOST_BRIDGES; n++)
         bridges += add_device(buses, &bus_count, wanted - bridges, junk);
+}
+
+/* So many bridges, one behind the other, and a device behind the last one. */
+static void make_row(unsigned bridges)
+{
+    int bus = -2;
+
+    board_empty(&board);
+    board_add_root(&board, 0);
+    for (unsigned i = 0; i < bridges; i++)
+        bus = board_add(&board, bus, 1 * 8, 1);
+    board_add(&board, bus, 0, 0);
+}
+
+/* As many as there are numbers, and one more. */
+static void judge_rows(void)
+{
+    make_row(255);
+    if (judge(0, 0xff, 0) != PCIPLAN_NUMBERED)
+        stop("a row has no numbers");
+    make_row(256);
+    if (judge(0, 0xff, 0) != PCIPLAN_NO_BUS)
+        stop("a row has too many numbers");
 }
 
 /* One of the bridges behind root r takes no number: nothing more is written once one reads back otherwise. */
@@ -373,7 +412,8 @@ static void print_list(int list)
 }
 
 /* Boards made by rule, as pciplan_number_told.c and crates/test_numbering read them: the last bus, how many are kept free
-   behind hot-plug slots, then the board. In each fifth board a bridge takes no number. */
+   behind hot-plug slots, then the board. In each fifth board a bridge takes no number. A row with one bridge too many comes
+   last. */
 static void print_boards(unsigned count)
 {
     for (which = 0; which < count; which++) {
@@ -391,6 +431,10 @@ static void print_boards(unsigned count)
         }
         printf("\n");
     }
+    make_row(256);
+    printf("ff 00 @00");
+    print_list(board.on_root[0]);
+    printf("\n");
 }
 
 int main(int argc, char **argv)
@@ -402,9 +446,12 @@ int main(int argc, char **argv)
         return 0;
     }
     judge_examples();
+    judge_rows();
     judge_by_rule(count);
-    printf("%u examples; %u roots numbered, %u whose numbers ran out, %u with a bridge that takes none: each stop judged\n",
+    printf("%u examples, rows of 255 and 256 bridges; %u roots numbered, %u whose numbers ran out, %u with a bridge that takes"
+           " none: each stop judged\n",
            (unsigned)(sizeof examples / sizeof *examples), count[PCIPLAN_NUMBERED], count[PCIPLAN_NO_BUS],
            count[PCIPLAN_STUCK]);
-    return 0;
+    printf("number: %ld bytes of stack, beside the hooks\n", stack);
+    return stack > STACK_NEEDS;
 }
