@@ -1,7 +1,8 @@
 #!/bin/sh
 # Runs the commands that pages show, as they stand there: in a block that is indented by four spaces, each line that
 # begins with `$ ` is a command, those behind it that begin with `> ` go on with it, and the others are what it prints on
-# both of its outputs. Blocks that don't begin with `$ ` aren't run.
+# both of its outputs. Blocks that don't begin with `$ ` aren't run. The Rattle that docs/APPLYING.md shows is looked for in
+# the crate that proves it.
 #
 # Usage: pages_test.sh PROGRAM [PAGE..]; README.md and docs/USING.md if none is said.
 set -u
@@ -44,5 +45,19 @@ for page; do
         fi
     done
 done
+flat() {
+    tr -s ' \n' ' '
+}
+proved=$(flat <"$here/../test_stops/src/firmware.rt")
+awk '/^```rust/ { shows = 1; next } /^```/ && shows { shows = 0; print "@" } shows' "$here/../../docs/APPLYING.md" |
+    flat | tr '@' '\n' >../shown
+while read -r block; do
+    name="APPLYING.md: $(printf '%.60s' "$block")"
+    case $block in '') continue ;; esac
+    case $proved in
+    *"$block"*) echo "ok: $name"; passed=$((passed + 1)) ;;
+    *) echo "DIFFERS: $name"; failed=$((failed + 1)) ;;
+    esac
+done <../shown
 echo "$passed passed, $failed failed"
 [ "$failed" -eq 0 ]
