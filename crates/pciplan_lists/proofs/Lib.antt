@@ -1,0 +1,5 @@
+mod HexWords
+mod PoolWords
+mod Without
+mod RangeWords
+mod ListWords

@@ -1,0 +1,2 @@
+pub mod PoolWords
+pub mod ListWords

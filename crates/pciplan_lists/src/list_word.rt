@@ -1,0 +1,49 @@
+//! Lists of ranges among the words.
+ghost use Rattle.std.specs.Prelude.{◌≡◌, ◌≢◌, ◌++◌, ◌<◌, List, slice_index, EachIndex, IfOk, IfSome, IsSomeAnd};
+ghost use Rattle.pci_settle.specs.declared.list.RootRange.{RootRange};
+ghost use Rattle.pciplan_lists.specs.ListWords.{IsListWord, behind};
+
+use crate::range_word::range_of_word;
+use pci_base::memory::OutOfMemory;
+use pci_settle::list::RootRange;
+use std::alloc::Allocator;
+
+/// The word of a list that has no range.
+const NONE: &str = "none";
+
+/// What stands before the first comma, and what stands behind it where there is one.
+fn first_of(list: &str) -> (&str, Option<&str>)
+    ensures parts { list.now ≡ result.0.now ++ behind result.1 }
+    ensures first { EachIndex result.0.now (λ i. slice_index result.0.now i ≢ 44) }
+{
+    match list.split_once(',') {
+        Some((first, more)) => (first, Some(more)),
+        None => (list, None),
+    }
+}
+
+/// The ranges of a list, in its order: `none`, or words of ranges that are joined by commas. There are none of any other
+/// word.
+pub fn list_of_word<A: Allocator>(
+    alloc: A,
+    word: &str,
+) -> Result<Option<Vec<RootRange, A>>, OutOfMemory>
+    ensures word { IfOk result (λ found. IfSome found (λ list. IsListWord word.now list.items)) }
+    ensures only { (list : List RootRange) → IsListWord word.now list
+        → IfOk result (λ found. IsSomeAnd found (λ v. v.items ≡ list)) }
+{
+    let mut list = Vec::new(alloc);
+    if word == NONE {
+        return Ok(Some(list));
+    }
+    let mut left = Some(word);
+    'parts: while let Some(text) = left {
+        let (first, more) = first_of(text);
+        let Some(range) = range_of_word(first) else {
+            return Ok(None);
+        };
+        list.push(range)?;
+        left = more;
+    }
+    Ok(Some(list))
+}
