@@ -3,3 +3,4 @@ mod PoolWords
 mod Without
 mod RangeWords
 mod ListWords
+mod HostLists

@@ -1,2 +1,3 @@
+pub mod HostLists
 pub mod PoolWords
 pub mod ListWords

@@ -7,6 +7,7 @@
 //! ```
 #![tactic(auto)]
 
+pub mod host_list;
 pub mod list_word;
 pub mod pool_word;
 pub mod range_word;

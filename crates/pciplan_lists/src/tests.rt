@@ -1,7 +1,9 @@
+use crate::host_list::is_good_host_list;
 use crate::list_word::list_of_word;
 use pci_base::memory::OutOfMemory;
 use pci_base::range::Range;
 use pci_settle::list::RootRange;
+use pci_tree::roots::Roots;
 use std::alloc::Global;
 
 /// Words of lists, and their ranges: the root bus or None, the first and the last address.
@@ -74,6 +76,28 @@ const OTHERS: [&str; 40] = [
     "1-2;3-4",
 ];
 
+/// Lists of what the host sends to the root buses 00 and 40, and whether they are taken.
+const HOST_LISTS: [(&str, bool); 18] = [
+    ("none", true),
+    ("1000-1fff", true),
+    ("0-ffffffffffffffff", true),
+    ("1-1", true),
+    ("2-1", false),
+    ("00:2-1", false),
+    ("40:1-2", true),
+    ("41:1-2", false),
+    ("1-2,3-4", true),
+    ("1-2,2-3", false),
+    ("3-4,1-3", false),
+    ("1-8,2-3", false),
+    ("1-2,5-5,2-2", false),
+    ("00:1-2,40:1-2", true),
+    ("00:1-2,00:2-3", false),
+    ("1-2,40:2-3", false),
+    ("40:2-3,1-2", false),
+    ("00:1-2,40:1-2,3-4,41:5-6", false),
+];
+
 /// The ranges as the table has them.
 fn same(list: &[RootRange], ranges: &[(Option<u8>, u64, u64)]) -> bool {
     list.len() == ranges.len()
@@ -114,5 +138,17 @@ fn other_words_are_refused(rt: HostRuntime) {
             Err(OutOfMemory) => false,
         };
         assert!(rt; is_refused, "{word}");
+    }
+}
+
+#[test]
+fn lists_of_what_the_host_sends_are_taken_or_refused(rt: HostRuntime) {
+    let roots = Roots::of(&[0x00, 0x40]).unwrap_or(Roots::host());
+    for (word, is_taken) in HOST_LISTS {
+        let taken = match list_of_word(rt.alloc(), word) {
+            Ok(Some(list)) => Some(is_good_host_list(&roots, &list)),
+            _ => None,
+        };
+        assert!(rt; taken == Some(is_taken), "{word}");
     }
 }
