@@ -1,7 +1,5 @@
 mod Sizes
 mod PlainWrites
-mod HexWords
-mod PoolWords
 mod RootWords
 mod ModelWords
 mod Invocations

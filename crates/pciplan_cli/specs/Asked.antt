@@ -11,8 +11,8 @@ use Rattle.pci_probe.specs.declared.assuming.Assuming.TheVariants.{Nothing, Disa
 use Rattle.pci_tree.specs.Roots.{buses_of}
 use Rattle.pci_tree.specs.declared.roots.Roots.{Roots}
 use Rattle.pciplan_cli.specs.ModelWords.{IsModelWord}
-use Rattle.pciplan_cli.specs.PoolWords.{IsPoolWord, HasNoPool}
 use Rattle.pciplan_cli.specs.RootWords.{IsRootWord}
+use Rattle.pciplan_lists.specs.PoolWords.{IsPoolWord, HasNoPool}
 use Rattle.pciplan_words.specs.declared.asked.Asked.{Asked}
 use Rattle.pciplan_words.specs.declared.asked.Asked.TheVariants as asked
 use Rattle.pciplan_words.specs.declared.asked.PlanWords.{PlanWords}

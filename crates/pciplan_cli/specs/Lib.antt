@@ -5,7 +5,6 @@ pub mod FaultsAnswers
 pub mod MapAnswers
 pub mod TakenAnswers
 pub mod ModelWords
-pub mod PoolWords
 pub mod RootWords
 pub mod Asked
 pub mod Invocations

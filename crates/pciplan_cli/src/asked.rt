@@ -3,18 +3,18 @@ ghost use Rattle.std.specs.Prelude.{◌≡◌, true, MatchOption, MatchResult};
 ghost use Rattle.pciplan_words.specs.declared.asked.Asked.{Asked};
 ghost use Rattle.pciplan_cli.specs.declared.failure.Failure.{Failure};
 ghost use Rattle.pciplan_cli.specs.Asked.{AreRootsOf, AreWordsOf, HasNoRoots, HasNoWords, IsAssumingOf, IsTaskOf, IsRefusedFor};
-ghost use Rattle.pciplan_cli.specs.PoolWords.{HasNoPool, IsPoolWord};
+ghost use Rattle.pciplan_lists.specs.PoolWords.{HasNoPool, IsPoolWord};
 
 use crate::failure::{Failure, PoolOption};
 use crate::invocation::Task;
 use crate::model_words::words_of_list;
-use crate::pool_word::pool_of_word;
 use crate::root_list::roots_of_list;
 use pci_base::range::Range;
 use pci_model::words::Words;
 use pci_place::pools::Pools;
 use pci_probe::assuming::Assuming;
 use pci_tree::roots::Roots;
+use pciplan_lists::pool_word::pool_of_word;
 use pciplan_words::asked::{Asked, PlanWords};
 
 /// The root buses of the word of `--root`, bus 00 alone where there is none.

@@ -18,7 +18,6 @@ pub mod mapping;
 pub mod model_words;
 pub mod opened;
 pub mod planning;
-pub mod pool_word;
 pub mod probing;
 pub mod program;
 pub mod reply;
