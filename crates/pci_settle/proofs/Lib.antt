@@ -11,5 +11,6 @@ pub mod Turns
 pub mod ItemExtents
 pub mod Walks
 pub mod OwnItems
+pub mod Ranks
 pub mod Sized
 pub mod OnBus

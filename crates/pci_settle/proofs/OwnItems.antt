@@ -182,7 +182,7 @@ module _ (q : Request) (s : System) (c : WindowKind) (extent : Function → Exte
       value_same c (function_in s k) f (Bar ((bar.reg - 0x10) / 4)) (Bar n) (span bar.first bar.last) (size_of f (Bar n)) (span bar.first bar.last) (size_of f (Bar n)) _ _
       asked.here (ap Bar (register_place bar.reg n (ap (λ (x : DecodedBar). x.register) e))) size size (kind_wide f bar n e)
 
-  bars_are : map (item_value s c) (bar_items k c above t r.bars.items) ≡ map value_of (filter is_mine (filter (is_part q s f) (header_bars f)))
+  pub bars_are : map (item_value s c) (bar_items k c above t r.bars.items) ≡ map value_of (filter is_mine (filter (is_part q s f) (header_bars f)))
   bars_are =
       let all = range_with_len 0 (bar_count (layout f.image)) in
       map_twice (item_value s c) (bar_item k) (filter (is_own_bar c above t) r.bars.items)
@@ -258,17 +258,20 @@ module _ (q : Request) (s : System) (c : WindowKind) (extent : Function → Exte
       ∙ ap (λ xs. map value_of (filter is_mine (filter (is_part q s f) (header_bars f))) ++ xs) (roms_are r.rom (rom_of s f r asked.is) ∙ sym others_are)
       ∙ sym (kept ∙ split)
 
+  pub values_are : map (item_value s c) (record_items k c above t window r)
+      ≡ map (item_value s c) (bar_items k c above t r.bars.items) ++ (map (item_value s c) (window_items k window) ++ map (item_value s c) (rom_items k c r.rom))
+  values_are =
+      map-append (item_value s c) (bar_items k c above t r.bars.items) (window_items k window ++ rom_items k c r.rom)
+      ∙ ap (λ xs. map (item_value s c) (bar_items k c above t r.bars.items) ++ xs) (map-append (item_value s c) (window_items k window) (rom_items k c r.rom))
+
   pub items_are : IsPermutation (map (item_value s c) (record_items k c above t window r)) (items_of q s c nothing extent f)
   items_are =
       let bars = map (item_value s c) (bar_items k c above t r.bars.items) in
       let windows = map (item_value s c) (window_items k window) in
       let roms = map (item_value s c) (rom_items k c r.rom) in
-      let left : map (item_value s c) (record_items k c above t window r) ≡ bars ++ (windows ++ roms) =
-      map-append (item_value s c) (bar_items k c above t r.bars.items) (window_items k window ++ rom_items k c r.rom)
-      ∙ ap (λ xs. bars ++ xs) (map-append (item_value s c) (window_items k window) (rom_items k c r.rom)) in
       let right : bars ++ (roms ++ windows) ≡ items_of q s c nothing extent f =
       sym (append_assoc bars roms windows)
       ∙ ap (λ xs. xs ++ windows) mine_are
       ∙ ap (λ xs. mine ++ xs) (windows_are window asked.new ∙ ap value_window (window_test (is_bridge f) (has_of q s c f))) in
-      subst (λ xs. IsPermutation xs (items_of q s c nothing extent f)) (sym left)
+      subst (λ xs. IsPermutation xs (items_of q s c nothing extent f)) (sym values_are)
       (subst (IsPermutation (bars ++ (windows ++ roms))) right (IsPermutation-append_right bars (windows ++ roms) (roms ++ windows) (IsPermutation-append_comm windows roms)))

@@ -1,7 +1,6 @@
 -- What records have to place on a bus in a class where nothing stands.
-use Rattle.std.specs.Prelude.{◌≡◌, ℕ, if◌then◌else◌, IsTrue, List, [], map, Option, None, Some, slice_index_or}
-use Rattle.std.specs.List.{Contains, flat_map}
-use Rattle.std.specs.List.Sorted.{IsPermutation}
+use Rattle.std.specs.Prelude.{◌≡◌, ℕ, if◌then◌else◌, IsTrue, IfSome, List, [], map, Option, None, Some, slice_index_or}
+use Rattle.std.specs.List.{All, Contains, flat_map}
 use Rattle.pci_spec.specs.Window.{WindowKind}
 use Rattle.pci_spec.specs.System.{System, Function, is_bridge}
 use Rattle.pci_spec.specs.Bus.{secondary, are_siblings}
@@ -12,11 +11,16 @@ use Rattle.pci_function.specs.declared.record.Bridge.{Bridge}
 use Rattle.pci_settle.specs.declared.extent.Extent.{Extent}
 use Rattle.pci_settle.specs.declared.item.Item.{Item}
 use Rattle.pci_settle.specs.declared.own.Terms.{Terms}
-use Rattle.pci_settle.specs.Own.{AreTerms, IsWindowOf, item_value}
+use Rattle.pci_settle.specs.Spots.{IsExtent}
+use Rattle.pci_settle.specs.Own.{AreTerms, IsWindowOf, AreByRank, item_value}
 
 abbrev pub window_behind : List (Option Extent) → Option Bridge → Option Extent
 window_behind windows None = None
 window_behind windows (Some b) = slice_index_or windows b.secondary None
+
+-- each window of a table has an address, and an alignment
+abbrev pub AreWindows : List (Option Extent) → Type 0
+AreWindows windows = All (λ window. IfSome window IsExtent) windows
 
 -- Nothing stands, and the table has the new windows of the bridges of a bus, by the bus behind each.
 pub record AreBehind (q : Request) (s : System) (c : WindowKind) (extent : Function → ExtentValue) (bus : ℕ)
@@ -32,9 +36,9 @@ abbrev pub items_beside : Request → System → WindowKind → (Function → Ex
 items_beside q s c extent bus f =
     if are_siblings q.roots bus f.slot.bus then items_of q s c nothing extent f else []
 
--- then these are the items of the bus
+-- then these are the items of the bus, by rising slots and registers
 abbrev pub AreOnBus : List ℕ → System → WindowKind → Terms → List (Option Extent) → ℕ → List Item → Type 0
 AreOnBus roots s c t windows bus items =
     (q : Request) (extent : Function → ExtentValue) → q.roots ≡ roots
     → AreBehind q s c extent bus t windows
-    → IsPermutation (map (item_value s c) items) (flat_map (items_beside q s c extent bus) s)
+    → AreByRank (map (item_value s c) items) (flat_map (items_beside q s c extent bus) s)

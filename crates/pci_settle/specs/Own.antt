@@ -1,6 +1,6 @@
 -- What a record has to place in a class where nothing stands.
 use Rattle.std.specs.Prelude.{◌≡◌, ℕ, ◌+◌, ◌-◌, ◌/◌, ◌<◌, ◌≤◌, ◌^◌, Bool, false, ◌&&◌, not, if◌then◌else◌, IsTrue, List, [], ◌∷◌, ◌++◌, map, Option, None, Some}
-use Rattle.std.specs.List.{filter}
+use Rattle.std.specs.List.{AllPairs, filter}
 use Rattle.std.specs.List.Sorted.{IsPermutation}
 use Rattle.pci_spec.specs.Registers.{BASE_ADDRESS}
 use Rattle.pci_spec.specs.Window.{WindowKind, IoWindow, MemoryWindow}
@@ -11,6 +11,7 @@ use Rattle.settle_spec.specs.FirstPlace.{Extent as ExtentValue}
 use Rattle.settle_spec.specs.Lists.{RootRange, Lists, Request}
 use Rattle.settle_spec.specs.Parts.{is_empty}
 use Rattle.settle_spec.specs.Items.{Item as ItemValue, has_of, items_of, nothing}
+use Rattle.settle_spec.specs.PlacingLaws.{HasLowerRank}
 use Rattle.pci_image.specs.declared.bar.Bar.{Bar as CodeBar}
 use Rattle.pci_image.specs.declared.rom.Rom.{Rom as CodeRom}
 use Rattle.pci_function.specs.declared.record.Record.{Record}
@@ -141,10 +142,15 @@ pub record IsAsked (q : Request) (s : System) (c : WindowKind) (extent : Functio
   pub over : IsAbove s f.slot.bus above
   pub new : IsWindowOf (is_bridge f && has_of q s c f) (extent f) window
 
+-- the items of a list, by rising slots and registers
+pub record AreByRank (items all : List ItemValue) : Type 0 where
+  pub same : IsPermutation items all
+  pub rising : AllPairs HasLowerRank items
+
 -- then its items are those of the function
 abbrev pub AreItemsOf : ℕ → WindowKind → Above → Terms → Option Extent → Record → Type 0
 AreItemsOf k c above t window r =
     (q : Request) (s : System) (extent : Function → ExtentValue) (f : Function)
     → IsAsked q s c extent f k above t window r
-    → IsPermutation (map (item_value s c) (record_items k c above t window r))
+    → AreByRank (map (item_value s c) (record_items k c above t window r))
     (items_of q s c nothing extent f)

@@ -1,10 +1,12 @@
 //! What is placed on a bus in a class where nothing stands.
 ghost use Rattle.std.specs.Prelude.{◌≡◌, IfOk, None};
+ghost use Rattle.std.specs.List.{All};
 ghost use Rattle.pci_spec.specs.Bus.{are_siblings};
 ghost use Rattle.pci_tree.specs.Roots.{buses_of};
 ghost use Rattle.pci_base.specs.WindowKinds.{kind_value};
 ghost use Rattle.pci_place.specs.Above.{AreAboves, system_in};
-ghost use Rattle.pci_settle.specs.Buses.{window_behind, AreOnBus};
+ghost use Rattle.pci_settle.specs.Buses.{window_behind, AreWindows, AreOnBus};
+ghost use Rattle.pci_settle.specs.Turns.{HasExtent};
 
 use crate::extent::Extent;
 use crate::item::Item;
@@ -48,8 +50,10 @@ pub fn items_on<A: Allocator, B: Allocator>(
     windows: &[Option<Extent>; BUSES],
 ) -> Result<Vec<Item, A>, OutOfMemory>
     requires { AreAboves (system_in admitted.now) aboves.now }
-    ensures { IfOk result (λ items. AreOnBus admitted.now.roots (system_in admitted.now)
+    ensures items { IfOk result (λ items. AreOnBus admitted.now.roots (system_in admitted.now)
         (kind_value class) terms windows.now bus items.items) }
+    // a window around them is laid out from what has addresses and alignments
+    ensures lawful { AreWindows windows.now → IfOk result (λ items. All HasExtent items.items) }
 {
     let outline = admitted.outline();
     let roots = outline.roots();
