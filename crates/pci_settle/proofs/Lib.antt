@@ -14,3 +14,5 @@ pub mod OwnItems
 pub mod Ranks
 pub mod Sized
 pub mod OnBus
+pub mod NewWindows
+pub mod PutWindows

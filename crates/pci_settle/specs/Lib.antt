@@ -5,3 +5,4 @@ pub mod Turns
 pub mod Lists
 pub mod Own
 pub mod Buses
+pub mod NewWindows

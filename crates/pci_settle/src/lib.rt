@@ -10,6 +10,7 @@ pub mod bus;
 pub mod extent;
 pub mod item;
 pub mod list;
+pub mod new_window;
 pub mod own;
 pub mod placing;
 pub mod spot;

@@ -1,0 +1,276 @@
+-- The new windows of bridges, in one pass over the records from the highest slot down.
+use Rattle.std.proofs.Common.{◌≡◌, ℕ, ◌+◌, ◌-◌, ◌%◌, ◌^◌, ◌<◌, ◌≤◌, inl, inr, List, length, map, set, replicate, get_or, refl, Bool, true, false, cond, ◌&&◌, arith, sym, ◌∙◌, ap, subst, Option, Some, None}
+use Rattle.std.specs.Bool.{nat_lt, ◌==◌, if◌then◌else◌}
+use Rattle.std.specs.Option.{is_some, IfSome, option_map}
+use Rattle.std.specs.List.{Contains, slice_get}
+use Rattle.std.proofs.lemmas.Bool.{cases_Bool, cases_eq, cases_lt, both_ways, not-false, and_parts, eqb-true, lt-ltb, le-ltb}
+use Rattle.std.proofs.lemmas.List.{length-set, get_or-replicate, get_or-set_same, get_or-set_other, get_or_past}
+use Rattle.std.proofs.lemmas.List.Elements.{All-contains, All-replicate}
+use Rattle.std.proofs.lemmas.Option.{slice_get_within, slice_get-get_or, slice_get_read, get_or_from_slice_get}
+use Rattle.pci_spec.specs.Slot.{slot_number}
+use Rattle.pci_spec.specs.Window.{WindowKind, PrefetchWindow, bounds_at, page_size, has_window, is_wide_window}
+use Rattle.pci_spec.specs.System.{System, Function, IsFunction, IsSystem, is_bridge}
+use Rattle.pci_spec.specs.Bus.{secondary, IsNested}
+use Rattle.pci_spec.specs.Decoded.{HasRecords, decoded_window, optional_window}
+use Rattle.pci_spec.specs.Decoded as decoded
+use Rattle.plan_spec.specs.Plan.{same_class}
+use Rattle.plan_spec.proofs.Planning.Safe.{slots_of, order_of}
+use Rattle.plan_spec.proofs.Planning.AllItems.{slots_rise}
+use Rattle.settle_spec.specs.FirstPlace.{Extent as ExtentValue}
+use Rattle.settle_spec.specs.Lists.{Request}
+use Rattle.settle_spec.specs.Parts.{bridge_over}
+use Rattle.settle_spec.specs.Items.{Item as ItemValue, has_of, items_on, nothing, extent_around, new_window, window_over, window_to}
+use Rattle.settle_spec.proofs.Nested.{on_it, one_bridge}
+use Rattle.settle_spec.proofs.NewWindows.{window_is_around}
+use Rattle.settle_spec.proofs.ItemsBehind.{items_are_behind}
+use Rattle.settle_spec.proofs.BridgeOver.{over_leads, none_leads}
+use Rattle.pci_function.specs.declared.record.Bridge.{Bridge}
+use Rattle.pci_function.specs.declared.record.Record.{Record}
+use Rattle.pci_function.specs.Values.{record_value}
+use Rattle.pci_tree.proofs.Lifting.{same_bridge}
+use Rattle.pci_tree.proofs.RegionParts.{same_bridge_of}
+use Rattle.pci_place.specs.Above.{is_wide_in}
+use Rattle.pci_place.specs.Items.{function_in, no_function}
+use Rattle.pci_place.specs.Records.{IsRecordOf}
+use Rattle.pci_place.proofs.Records.{FunctionAt, same_count, function_at}
+use Rattle.pci_settle.specs.declared.extent.Extent.{Extent}
+use Rattle.pci_settle.specs.declared.own.Terms.{Terms}
+use Rattle.pci_settle.specs.Spots.{extent_value, IsExtent}
+use Rattle.pci_settle.specs.Placings.{item_extent}
+use Rattle.pci_settle.specs.Own.{IsWindowOf}
+use Rattle.pci_settle.specs.Buses.{AreWindows, AreBehind}
+use Rattle.pci_settle.specs.NewWindows.{around_bus, IsEntry, IsPut, IsAnew, window_in, AreNewWindows}
+
+-- ---- upper halves
+
+-- a prefetchable window that isn't there shows none
+absent_is_narrow : (probe : List ℕ) → has_window PrefetchWindow probe ≡ false → is_wide_window PrefetchWindow probe ≡ false
+absent_is_narrow probe absent =
+    let zero = not-false _ absent in
+    let one = (and_parts _ _ zero).0 in
+    let two = (and_parts _ _ one).0 in
+    let base = eqb-true (bounds_at PrefetchWindow probe).base 0 (and_parts ((bounds_at PrefetchWindow probe).base == 0) _ two).0 in
+    ap (λ n. n % 16 == 1) base
+
+wide_window : (image probe : List ℕ) → is_wide_in (optional_window PrefetchWindow image probe) ≡ is_wide_window PrefetchWindow probe
+wide_window image probe = elim (cases_Bool (has_window PrefetchWindow probe)) [
+  | inl there ↦ rw there refl
+  | inr absent ↦ ap (λ b. is_wide_in (if b then Some (decoded_window PrefetchWindow image probe) else None)) absent ∙ sym (absent_is_narrow probe absent)
+]
+
+-- ---- the table
+
+-- the table has the windows of the functions from place k on, and nothing where no bridge leads
+pub record AreWindowsFrom (roots : List ℕ) (s : System) (c : WindowKind) (t : Terms) (k : ℕ) (windows : List (Option Extent)) : Type 0 where
+  pub size : length windows ≡ 256
+  pub each : (q : Request) → IsAnew q roots t → (j : ℕ) (g : Function) → k ≤ j → slice_get s j ≡ Some g → is_bridge g ≡ true
+      → IsWindowOf (has_of q s c g) (new_window q s c g) (get_or windows (secondary g) None)
+  pub none : (bus : ℕ) → bridge_over s bus ≡ None → get_or windows bus None ≡ None
+  pub lawful : AreWindows windows
+
+empty_at : (bus : ℕ) → ◌≡◌ {A = Option Extent} (get_or (replicate 256 None) bus None) None
+empty_at bus = elim (cases_lt bus 256) [
+  | inl inside ↦ get_or-replicate 256 bus None None inside
+  | inr past ↦ get_or_past (replicate 256 None) bus None past
+]
+
+entry_is : (there : Bool) (e : ExtentValue) (o : Option Extent) → IsWindowOf there e o → option_map extent_value o ≡ cond there (Some e) None
+entry_is there e None off = sym (ap (λ b. cond b (Some e) None) off)
+entry_is there e (Some x) (is, same) = ap (λ y. Some y) same ∙ sym (ap (λ b. cond b (Some e) None) is)
+
+at_place : (s : System) (f : Function) → (listed : Contains s f) → slice_get s listed.0 ≡ Some f
+at_place s f listed = slice_get-get_or s listed.0 f listed.1 ∙ ap (λ y. Some y) listed.2
+
+-- a function on a higher bus comes later
+comes_later : (s : System) → IsSystem s → (k j : ℕ) (f g : Function) → slice_get s k ≡ Some f → slice_get s j ≡ Some g → f.slot.bus < g.slot.bus → k < j
+comes_later s system k j f g at_k at_j up = elim (cases_lt k j) [
+  | inl later ↦ later
+  | inr before ↦ elim (cases_eq j k) [
+    | inl same ↦
+        let one : Some g ≡ Some f = sym at_j ∙ ap (slice_get s) same ∙ at_k in
+        let function : g ≡ f = cc in
+        let bus : g.slot.bus ≡ f.slot.bus = ap (λ (x : Function). x.slot.bus) function in
+        absurd (let no : ⊥ = omega (arith, up, bus) in no)
+    | inr differ ↦
+        let pair : slot_number (get_or s j g).slot < slot_number (get_or s k g).slot = slots_rise s system j k g (omega (arith, before, differ)) (slice_get_within s k f at_k) in
+        let less = subst (λ (x : Function). slot_number x.slot < slot_number (get_or s k g).slot) (get_or_from_slice_get s j g g at_j) pair in
+        let both = subst (λ (x : Function). slot_number g.slot < slot_number x.slot) (get_or_from_slice_get s k f g at_k) less in
+        let slot = slots_of s system f (k, slice_get_within s k f at_k, get_or_from_slice_get s k f f at_k) in
+        let device = slot.1 in
+        let function = slot.2 in
+        absurd (let no : ⊥ = omega (arith, up, both, device, function) in no)
+  ]
+]
+
+module _ (roots : List ℕ) (s : System) (system : IsSystem s) (nested : IsNested roots s) (c : WindowKind) (t : Terms) where
+  pub windows_none : (k : ℕ) → length s ≤ k → AreWindowsFrom roots s c t k (replicate 256 None)
+  windows_none k past = record {
+    size = refl;
+    each = λ q anew j g up at bridge. (let within = slice_get_within s j g at in absurd (let no : ⊥ = omega (arith, past, up, within) in no));
+    none = λ bus over. empty_at bus;
+    lawful = All-replicate (λ o. IfSome o IsExtent) 256 None tt;
+  }
+
+  nested_for : (q : Request) → IsAnew q roots t → IsNested q.roots s
+  nested_for q anew = subst (λ xs. IsNested xs s) (sym anew.rooted) nested
+
+  -- ---- the next function
+
+  module _ (k : ℕ) (f : Function) (r : Record) (at : slice_get s k ≡ Some f) (is : IsRecordOf s f r) (old : List (Option Extent)) (was : AreWindowsFrom roots s c t (k + 1) old) where
+    -- what isn't it comes later
+    later_of : (j : ℕ) (g : Function) → k ≤ j → slice_get s j ≡ Some g → (g ≡ f → ⊥) → k + 1 ≤ j
+    later_of j g up at_j other = elim (cases_eq j k) [
+      | inl same ↦ absurd (let one : Some g ≡ Some f = sym at_j ∙ ap (slice_get s) same ∙ at in let function : g ≡ f = cc in other function)
+      | inr differ ↦ omega (arith, up, differ)
+    ]
+
+    -- one that is no bridge has no window
+    pub windows_same : r.bridge ≡ None → AreWindowsFrom roots s c t k old
+    windows_same none = record {
+      size = was.size;
+      each = λ q anew j g up at_j bridge.
+          was.each q anew j g
+          (later_of j g up at_j (λ here. both_ways (is_bridge f) (sym (same_bridge r f is.value) ∙ ap is_some none) (ap is_bridge (sym here) ∙ bridge))) at_j bridge;
+      none = was.none;
+      lawful = was.lawful;
+    }
+
+    module _ (b : Bridge) (there : r.bridge ≡ Some b) where
+      is_one : is_bridge f ≡ true
+      is_one = sym (same_bridge r f is.value) ∙ ap is_some there
+
+      leads_to : b.secondary ≡ secondary f
+      leads_to = ap (λ (x : decoded.Bridge). x.secondary) (same_bridge_of r f b is.value there)
+
+      pub secondary_small : b.secondary < 256
+      secondary_small = let small = (All-contains IsFunction s f system.each is.listed).image.bytes 0x19 in let to = leads_to in omega (arith, to, small)
+
+      -- the windows on the bus behind it are in the table
+      are_behind : (q : Request) → IsAnew q roots t → AreBehind q s c (new_window q s c) b.secondary t old
+      are_behind q anew =
+          subst (λ bus. AreBehind q s c (new_window q s c) bus t old) (sym leads_to) record {
+            anew = anew.anew;
+            terms = anew.terms;
+            each = λ g listed beside bridge. (
+                let j = listed.0 in
+                let at_j : slice_get s j ≡ Some g = at_place s g listed in
+                let on = on_it q.roots s system (nested_for q anew) f g.slot.bus is.listed is_one beside in
+                let order = order_of roots s nested f is.listed is_one in
+                let later = comes_later s system k j f g at at_j (omega (arith, on, order)) in
+                was.each q anew j g (omega (arith, later)) at_j bridge);
+          }
+
+      around_is : (q : Request) (e : Function → ExtentValue) → around_bus q s c e b ≡ extent_around (page_size c) (same_class c PrefetchWindow && is_wide_window PrefetchWindow f.probe) (map item_extent (items_on q s c nothing e (secondary f)))
+      around_is q e =
+          ap (λ n. extent_around (page_size c) (same_class c PrefetchWindow && is_wide_in b.windows.pref) (map item_extent (items_on q s c nothing e n))) leads_to
+          ∙ ap (λ w. extent_around (page_size c) (same_class c PrefetchWindow && w) (map item_extent (items_on q s c nothing e (secondary f))))
+          (ap (λ (x : decoded.Bridge). is_wide_in x.windows.prefetch) (same_bridge_of r f b is.value there) ∙ wide_window f.image f.probe)
+
+      new_is : (q : Request) → IsAnew q roots t → around_bus q s c (new_window q s c) b ≡ new_window q s c f
+      new_is q anew = around_is q (new_window q s c) ∙ sym (window_is_around q s c system (nested_for q anew) f is.listed is_one)
+
+      abbrev behind : Request → List ItemValue
+      behind q = items_on q s c nothing (new_window q s c) b.secondary
+
+      has_is : (q : Request) → IsAnew q roots t → has_of q s c f ≡ nat_lt 0 (length (behind q))
+      has_is q anew =
+          items_are_behind q s c (new_window q s c) system (nested_for q anew) f is.listed is_one
+          ∙ ap (λ n. nat_lt 0 (length (items_on q s c nothing (new_window q s c) n))) (sym leads_to)
+
+      entry_for : (q : Request) → IsAnew q roots t → (entry : Option Extent) → IsEntry (behind q) (around_bus q s c (new_window q s c) b) entry → IsWindowOf (has_of q s c f) (new_window q s c f) entry
+      entry_for q anew None empty = has_is q anew ∙ le-ltb 0 (length (behind q)) (omega (arith, empty))
+      entry_for q anew (Some x) (some, same) = (has_is q anew ∙ lt-ltb 0 (length (behind q)) some, same ∙ new_is q anew)
+
+      -- its window is put into the table
+      pub windows_more : (new : List (Option Extent)) → IsPut roots s c t b old new true → AreWindows new → AreWindowsFrom roots s c t k new
+      windows_more new is_put lawful =
+          let size = was.size in
+          let small = secondary_small in
+          let put : new ≡ set old (secondary f) is_put.entry = is_put.put ∙ ap (λ n. set old n is_put.entry) leads_to in
+          let here : get_or new (secondary f) None ≡ is_put.entry = ap (λ xs. get_or xs (secondary f) None) put ∙ get_or-set_same old (secondary f) is_put.entry None (let to = leads_to in omega (arith, size, small, to)) in
+          let other : (bus : ℕ) → (bus ≡ secondary f → ⊥) → get_or new bus None ≡ get_or old bus None = λ bus differ.
+          ap (λ xs. get_or xs bus None) put ∙ get_or-set_other old (secondary f) bus is_put.entry None differ in
+          record {
+            size = ap length put ∙ length-set old (secondary f) is_put.entry ∙ was.size;
+            each = λ q anew j g up at_j bridge. elim (cases_eq (secondary g) (secondary f)) [
+              | inl same ↦
+                  let listed : Contains s g = (j, slice_get_within s j g at_j, get_or_from_slice_get s j g g at_j) in
+                  let one : g ≡ f = one_bridge roots s system nested g f listed is.listed bridge is_one same in
+                  let entry = entry_for q anew is_put.entry (is_put.is q (new_window q s c) anew.rooted (are_behind q anew)) in
+                  subst (λ (x : Function). IsWindowOf (has_of q s c x) (new_window q s c x) (get_or new (secondary x) None)) (sym one)
+                  (subst (IsWindowOf (has_of q s c f) (new_window q s c f)) (sym here) entry)
+              | inr differ ↦
+                  subst (IsWindowOf (has_of q s c g) (new_window q s c g)) (sym (other (secondary g) differ))
+                  (was.each q anew j g (later_of j g up at_j (λ same. differ (ap secondary same))) at_j bridge)
+            ];
+            none = λ bus over. other bus (λ same. none_leads s bus over f (is.listed, is_one, sym same)) ∙ was.none bus over;
+            lawful = lawful;
+          }
+
+      -- it is too large
+      pub too_large : (new : List (Option Extent)) → IsPut roots s c t b old new false → AreNewWindows roots s c t new (Some k)
+      too_large new is_put q anew =
+          let large = is_put.1 q (new_window q s c) anew.rooted (are_behind q anew) in
+          let some = large.some in
+          let here : f ≡ function_in s k = sym (get_or_from_slice_get s k f no_function at) in
+          let has : has_of q s c f ≡ true = has_is q anew ∙ lt-ltb 0 (length (behind q)) some in
+          let size : 2 ^ 64 ≤ (new_window q s c f).size = subst (λ (e : ExtentValue). 2 ^ 64 ≤ e.size) (new_is q anew) large.large in
+          record {
+            within = slice_get_within s k f at;
+            bridge = subst (λ x. is_bridge x ≡ true) here is_one;
+            behind = subst (λ x. has_of q s c x ≡ true) here has;
+            large = subst (λ x. 2 ^ 64 ≤ (new_window q s c x).size) here size;
+            above = λ j up within bridge.
+                subst (λ xs. IsWindowOf (has_of q s c (function_in s j)) (new_window q s c (function_in s j)) (get_or xs (secondary (function_in s j)) None)) (sym is_put.0)
+                (was.each q anew j (function_in s j) (omega (arith, up)) (slice_get-get_or s j no_function within) bridge);
+          }
+
+  -- ---- the records, from the last to the first
+
+  module _ (records : List Record) (has : HasRecords s (map record_value records)) (done : ℕ) (r : Record) (less : done < length records) (read : r ≡ get_or records (length records - 1 - done) r)
+      (old : List (Option Extent)) (was : AreWindowsFrom roots s c t (length s - done) old) where
+    abbrev place : ℕ
+    place = length records - 1 - done
+
+    here : FunctionAt s r place
+    here = function_at s records has place r (slice_get_read records (length records) place r refl (omega (arith, less)) read)
+
+    before : AreWindowsFrom roots s c t (place + 1) old
+    before =
+        let count = same_count s records has in
+        let from : length s - done ≡ place + 1 = omega (arith, count, less) in
+        subst (λ n. AreWindowsFrom roots s c t n old) from was
+
+    next : place ≡ length s - (done + 1)
+    next = let count = same_count s records has in omega (arith, count, less)
+
+    pub step_same : r.bridge ≡ None → AreWindowsFrom roots s c t (length s - (done + 1)) old
+    step_same none = subst (λ n. AreWindowsFrom roots s c t n old) next (windows_same place here.f r here.at here.is old before none)
+
+    pub step_put : (b : Bridge) → r.bridge ≡ Some b → (new : List (Option Extent)) → IsPut roots s c t b old new true → AreWindows new → AreWindowsFrom roots s c t (length s - (done + 1)) new
+    step_put b there new put lawful = subst (λ n. AreWindowsFrom roots s c t n new) next (windows_more place here.f r here.at here.is old before b there new put lawful)
+
+    pub step_large : (b : Bridge) → r.bridge ≡ Some b → (new : List (Option Extent)) → IsPut roots s c t b old new false → AreNewWindows roots s c t new (Some place)
+    step_large b there new put = too_large place here.f r here.at here.is old before b there new put
+
+  -- ---- all functions
+
+  over_bus : (windows : List (Option Extent)) → AreWindowsFrom roots s c t 0 windows → (q : Request) → IsAnew q roots t → (bus : ℕ) → window_in windows bus ≡ window_to q s c bus
+  over_bus windows was q anew bus = by (bridge_over s bus) refl
+    where
+      by : (o : Option Function) → bridge_over s bus ≡ o → window_in windows bus ≡ window_to q s c bus
+      by None over = ap (option_map extent_value) (was.none bus over) ∙ sym (ap (window_over q s c) over)
+      by (Some f) over =
+          let leads = over_leads s bus f over in
+          let own = was.each q anew leads.0.0 f (omega arith) (at_place s f leads.0) leads.1 in
+          ap (window_in windows) (sym leads.2) ∙ entry_is (has_of q s c f) (new_window q s c f) (get_or windows (secondary f) None) own ∙ sym (ap (window_over q s c) over)
+
+  pub whole_windows : (windows : List (Option Extent)) → AreWindowsFrom roots s c t 0 windows → AreNewWindows roots s c t windows None
+  whole_windows windows was q anew = record {
+    over = λ bus small. over_bus windows was q anew bus;
+    behind = λ bus. record {
+      anew = anew.anew;
+      terms = anew.terms;
+      each = λ f listed beside bridge. was.each q anew listed.0 f (omega arith) (at_place s f listed) bridge;
+    };
+  }

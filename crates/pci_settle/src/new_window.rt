@@ -1,0 +1,100 @@
+//! The new windows of bridges in a class where nothing stands: each is as large as what is placed on the bus behind.
+ghost use Rattle.std.specs.Prelude.{◌≡◌, ◌&&◌, IfOk};
+ghost use Rattle.pci_spec.specs.Window.{PrefetchWindow};
+ghost use Rattle.plan_spec.specs.Plan.{same_class};
+ghost use Rattle.pci_base.specs.WindowKinds.{kind_value};
+ghost use Rattle.pci_place.specs.Above.{AreAboves, system_in, is_wide_in};
+ghost use Rattle.pci_settle.specs.Buses.{AreWindows};
+ghost use Rattle.pci_settle.specs.NewWindows.{IsPut, AreNewWindows};
+
+use crate::bus::items_on;
+use crate::extent::Extent;
+use crate::own::Terms;
+use crate::window::window_around;
+use pci_base::memory::OutOfMemory;
+use pci_base::slot::BUSES;
+use pci_base::window_kind::WindowKind;
+use pci_function::record::Bridge;
+use pci_image::window::Windows;
+use pci_place::above::Above;
+use pci_tree::admitted::Admitted;
+use std::alloc::Allocator;
+
+/// Whether the window of a class can lie above 4 GB: a prefetchable one with upper halves.
+fn has_upper_halves(class: WindowKind, windows: &Windows) -> bool
+    ensures { result ≡ (same_class (kind_value class) PrefetchWindow
+        && is_wide_in windows.now.pref) }
+{
+    match windows.pref {
+        Some(window) => class == WindowKind::Prefetchable && window.wide(),
+        None => false,
+    }
+}
+
+/// Puts the new window of a bridge into the table, at the bus behind it: None where that has no item. False where the
+/// window would have 2^64 addresses or more.
+fn put_window<A: Allocator + Copy, B: Allocator>(
+    alloc: A,
+    admitted: &Admitted<B>,
+    bridge: &Bridge,
+    class: WindowKind,
+    aboves: &[Above; BUSES],
+    terms: Terms,
+    windows: &mut [Option<Extent>; BUSES],
+) -> Result<bool, OutOfMemory>
+    requires above { AreAboves (system_in admitted.now) aboves.now }
+    requires lawful { AreWindows windows.old }
+    ensures put { IfOk result (IsPut admitted.now.roots (system_in admitted.now)
+        (kind_value class) terms bridge.now windows.old windows.new) }
+    ensures lawful { AreWindows windows.new }
+{
+    let bus = bridge.secondary;
+    let mut items = items_on(alloc, admitted, bus, class, aboves, terms, windows)?;
+    if items.is_empty() {
+        windows[bus as usize] = None;
+        return Ok(true);
+    }
+    let upper_halves = has_upper_halves(class, &bridge.windows);
+    match window_around(alloc, class, upper_halves, &mut items)? {
+        Some(window) => {
+            windows[bus as usize] = Some(window);
+            Ok(true)
+        }
+        None => Ok(false),
+    }
+}
+
+/// Puts into `windows` the new window of a class over each bus behind a bridge, None where nothing of the class is
+/// behind. What is behind a bridge has higher slots than the bridge, so one pass from the highest slot down finds
+/// the windows on a bus before the one over it.
+///
+/// The answer is None where all windows have fewer than 2^64 addresses. Else it is the index of a bridge whose window
+/// has that many or more: the last such one in slot order, and the table has the windows of all bridges after it.
+pub fn new_windows<A: Allocator + Copy, B: Allocator>(
+    alloc: A,
+    admitted: &Admitted<B>,
+    class: WindowKind,
+    aboves: &[Above; BUSES],
+    terms: Terms,
+    windows: &mut [Option<Extent>; BUSES],
+) -> Result<Option<usize>, OutOfMemory>
+    // the class of a BAR hangs on the windows of the bridges above it
+    requires { AreAboves (system_in admitted.now) aboves.now }
+    ensures windows { IfOk result (AreNewWindows admitted.now.roots (system_in admitted.now)
+        (kind_value class) terms windows.new) }
+    // what is in the table has addresses and an alignment, also where there was no memory for all
+    ensures lawful { AreWindows windows.new }
+{
+    *windows = [None; BUSES];
+    let outline = admitted.outline();
+    let records = outline.records();
+    for done in 0..records.len() {
+        let function = records.len() - 1 - done;
+        if let Some(bridge) = &records[function].bridge {
+            if !put_window(alloc, admitted, bridge, class, aboves, terms, windows)? {
+                return Ok(Some(function));
+            }
+        }
+    }
+    Ok(None)
+}
