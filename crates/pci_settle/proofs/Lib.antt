@@ -13,6 +13,7 @@ pub mod Walks
 pub mod OwnItems
 pub mod Ranks
 pub mod Sized
+pub mod Anew
 pub mod OnBus
 pub mod NewWindows
 pub mod PutWindows

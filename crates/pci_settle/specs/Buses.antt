@@ -6,7 +6,7 @@ use Rattle.pci_spec.specs.System.{System, Function, is_bridge}
 use Rattle.pci_spec.specs.Bus.{secondary, are_siblings}
 use Rattle.settle_spec.specs.FirstPlace.{Extent as ExtentValue}
 use Rattle.settle_spec.specs.Lists.{Request}
-use Rattle.settle_spec.specs.Items.{Item as ItemValue, has_of, items_of, nothing}
+use Rattle.settle_spec.specs.Items.{Item as ItemValue, has_of, items_of, items_on, nothing, stays}
 use Rattle.pci_function.specs.declared.record.Bridge.{Bridge}
 use Rattle.pci_settle.specs.declared.extent.Extent.{Extent}
 use Rattle.pci_settle.specs.declared.item.Item.{Item}
@@ -42,3 +42,10 @@ AreOnBus roots s c t windows bus items =
     (q : Request) (extent : Function → ExtentValue) → q.roots ≡ roots
     → AreBehind q s c extent bus t windows
     → AreByRank (map (item_value s c) items) (flat_map (items_beside q s c extent bus) s)
+
+-- and in turn these are, as nothing stays
+abbrev pub AreInTurn : List ℕ → System → WindowKind → Terms → List (Option Extent) → ℕ → List Item → Type 0
+AreInTurn roots s c t windows bus items =
+    (q : Request) (extent : Function → ExtentValue) → q.roots ≡ roots
+    → AreBehind q s c extent bus t windows
+    → map (item_value s c) items ≡ items_on q s c (stays q s) extent bus

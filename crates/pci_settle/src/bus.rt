@@ -5,11 +5,11 @@ ghost use Rattle.pci_spec.specs.Bus.{are_siblings};
 ghost use Rattle.pci_tree.specs.Roots.{buses_of};
 ghost use Rattle.pci_base.specs.WindowKinds.{kind_value};
 ghost use Rattle.pci_place.specs.Above.{AreAboves, system_in};
-ghost use Rattle.pci_settle.specs.Buses.{window_behind, AreWindows, AreOnBus};
+ghost use Rattle.pci_settle.specs.Buses.{window_behind, AreWindows, AreOnBus, AreInTurn};
 ghost use Rattle.pci_settle.specs.Turns.{HasExtent};
 
 use crate::extent::Extent;
-use crate::item::Item;
+use crate::item::{Item, sort_items};
 use crate::list::is_root;
 use crate::own::{Terms, add_items};
 use pci_base::memory::OutOfMemory;
@@ -73,5 +73,27 @@ pub fn items_on<A: Allocator, B: Allocator>(
             )?;
         }
     }
+    Ok(items)
+}
+
+/// The items of a bus in a class in the order in which they are placed, where nothing stands: `windows` has the new window
+/// over each bus.
+pub fn items_in_turn<A: Allocator + Copy, B: Allocator>(
+    alloc: A,
+    admitted: &Admitted<B>,
+    bus: u8,
+    class: WindowKind,
+    aboves: &[Above; BUSES],
+    terms: Terms,
+    windows: &[Option<Extent>; BUSES],
+) -> Result<Vec<Item, A>, OutOfMemory>
+    requires { AreAboves (system_in admitted.now) aboves.now }
+    ensures turn { IfOk result (λ items. AreInTurn admitted.now.roots (system_in admitted.now)
+        (kind_value class) terms windows.now bus items.items) }
+    // places are looked for by sizes and alignments
+    ensures lawful { AreWindows windows.now → IfOk result (λ items. All HasExtent items.items) }
+{
+    let mut items = items_on(alloc, admitted, bus, class, aboves, terms, windows)?;
+    sort_items(&mut items)?;
     Ok(items)
 }
