@@ -20,7 +20,7 @@ use Rattle.pci_settle.specs.declared.placing.Wanted.{Wanted}
 use Rattle.pci_settle.specs.declared.placing.Cursor.{Cursor}
 use Rattle.pci_settle.specs.Spots.{extent_value, IsExtent, AreListed, range_at, place_if, IsPutIn, IsTakenBy, IsReached, IsStart}
 use Rattle.pci_settle.specs.Placings.{HasList, AreWanted, IsCursor, placing_of}
-use Rattle.pci_settle.proofs.Inserted.{Where, Under, At, Over, find_where}
+use Rattle.pci_settle.proofs.Inserted.{Under, At, Over, find_where}
 use Rattle.pci_settle.proofs.AllPlaced.{put_same, IsSoFar, so_far_none, so_far_next, so_far_lacks, ranges_at}
 
 module _ (old new : List Range) (d : Extent) (at : Spot) (listed : AreListed old) (put : IsPutIn old new d at) where
