@@ -1,7 +1,7 @@
 -- The first window of a bridge that has an address.
-use Rattle.std.proofs.Common.{◌≡◌, ℕ, refl, sym, ap, ◌∙◌, subst, inl, inr, not, true, false, Option, None, Some}
+use Rattle.std.proofs.Common.{◌≡◌, ℕ, List, refl, sym, ap, ◌∙◌, subst, inl, inr, not, true, false, Option, None, Some}
 use Rattle.std.specs.Option.{is_some}
-use Rattle.std.specs.Prelude.{IsTrue, MatchOption, nat_le}
+use Rattle.std.specs.Prelude.{IsTrue, nat_le}
 use Rattle.std.specs.List.{Contains}
 use Rattle.std.proofs.lemmas.Bool.{cases_Bool, and_parts, and_from, false≢true, leb-true}
 use Rattle.pci_spec.specs.Slot.{Slot}
@@ -18,7 +18,9 @@ use Rattle.pci_why.specs.Found.{IsFoundIn}
 use Rattle.pci_why.proofs.Evidences.{region_in}
 use Rattle.pci_map.specs.Values.{value_of}
 use Rattle.pci_map.specs.Inside.{is_in}
-use Rattle.pci_map.specs.Left.{NoneHas, IsHolding, IsFirst}
+use Rattle.pci_map.specs.Left.{NoneHas, IsFirst}
+use Rattle.pci_map.specs.Ways.{IsHolding, IsHoldingAt, IsFirstJudged, IsFirstAt}
+use Rattle.pci_map.specs.declared.left.Judged.{Judged}
 use Rattle.pci_map.proofs.Values.{part_is}
 use Rattle.pci_map.proofs.Insides.{window_claims_of, claims_of}
 
@@ -59,20 +61,10 @@ module _ (s : System) (unique : (f g : Function) → Contains s f → Contains s
   not_it : (k : WindowKind) (space : Space) → NoneHas s slot (window_register k) space a → window_space k ≡ space → IsAddress space a → IsTrue (window_claims b k a) → ⊥
   not_it k space none maps address claims = none b (system.Window k) listed named refl (claims_of b k space a bridge maps address claims)
 
-  abbrev Answer : Space → Option Region → Type 0
-  Answer space o = MatchOption o ((kind : WindowKind) → IsTrue (is_first_window space kind a b) → ⊥) (λ w. IsFirst s space b a w)
-
   io_none : NoneHas s slot IO_BASE Io a → IsAddress Io a → (kind : WindowKind) → IsTrue (is_first_window Io kind a b) → ⊥
   io_none none address IoWindow first = not_it IoWindow Io none refl address first
   io_none none address MemoryWindow first = false≢true first
   io_none none address PrefetchWindow first = false≢true first
-
-  pub io_first : (o : Option Region) → IsAddress Io a → IsHolding s slot IO_BASE Io a o → Answer Io o
-  io_first None address none = io_none none address
-  io_first (Some w) address (found, has) = first_is IoWindow Io w found has (claims_it IoWindow Io w found has)
-
-  pub memory_first : (w : Region) → IsHolding s slot MEMORY_BASE Memory a (Some w) → Answer Memory (Some w)
-  memory_first w (found, has) = first_is MemoryWindow Memory w found has (claims_it MemoryWindow Memory w found has)
 
   memory_none : NoneHas s slot MEMORY_BASE Memory a → NoneHas s slot PREFETCHABLE_BASE Memory a → IsAddress Memory a → (kind : WindowKind) → IsTrue (is_first_window Memory kind a b) → ⊥
   memory_none none other address IoWindow first = false≢true first
@@ -80,33 +72,42 @@ module _ (s : System) (unique : (f g : Function) → Contains s f → Contains s
   memory_none none other address PrefetchWindow first =
       not_it PrefetchWindow Memory other refl address (and_parts (window_claims b PrefetchWindow a) (not (window_claims b MemoryWindow a)) first).0
 
-  pub prefetch_first : (o : Option Region) → IsAddress Memory a → NoneHas s slot MEMORY_BASE Memory a → IsHolding s slot PREFETCHABLE_BASE Memory a o → Answer Memory o
-  prefetch_first None address none other = memory_none none other address
-  prefetch_first (Some w) address none (found, has) =
-      first_is PrefetchWindow Memory w found has (and_from (window_claims b PrefetchWindow a) (not (window_claims b MemoryWindow a)) (claims_it PrefetchWindow Memory w found has)
-      (elim (cases_Bool (window_claims b MemoryWindow a)) [
-        | inl memory ↦ absurd (not_it MemoryWindow Memory none refl address memory)
-        | inr isnt ↦ ap not isnt
-      ]))
+  module _ (roots : List ℕ) where
+    first_of : (k : WindowKind) (space : Space) (w : Judged) (h : IsHolding roots s slot (window_register k) space a w) → IsTrue (is_first_window space k a b) → IsFirstJudged roots s space b a w
+    first_of k space w h first = record { first = first_is k space w.window h.is.found h.has first; judged = h.is.judged }
 
-  -- of a space that is told in other words
-  pub io_any : (space : Space) (o : Option Region) → space ≡ Io → IsAddress space a → IsHolding s slot IO_BASE space a o → Answer space o
-  io_any space o is address holding =
-      subst (λ sp. Answer sp o) (sym is) (io_first o (subst (λ sp. IsAddress sp a) is address) (subst (λ sp. IsHolding s slot IO_BASE sp a o) is holding))
+    claims_of_held : (k : WindowKind) (space : Space) (w : Judged) → IsHolding roots s slot (window_register k) space a w → IsTrue (window_claims b k a)
+    claims_of_held k space w h = claims_it k space w.window h.is.found h.has
 
-  memory_some : (o : Option Region) → is_some o ≡ true → IsHolding s slot MEMORY_BASE Memory a o → Answer Memory o
-  memory_some None some holding = absurd (false≢true some)
-  memory_some (Some w) some holding = memory_first w holding
+    io_first : (o : Option Judged) → IsAddress Io a → IsHoldingAt roots s slot IO_BASE Io a o → IsFirstAt roots s Io b a o
+    io_first None address none = io_none none address
+    io_first (Some w) address h = first_of IoWindow Io w h (claims_of_held IoWindow Io w h)
 
-  pub memory_any : (space : Space) (o : Option Region) → space ≡ Memory → is_some o ≡ true → IsHolding s slot MEMORY_BASE space a o → Answer space o
-  memory_any space o is some holding = subst (λ sp. Answer sp o) (sym is) (memory_some o some (subst (λ sp. IsHolding s slot MEMORY_BASE sp a o) is holding))
+    memory_first : (o : Option Judged) → is_some o ≡ true → IsHoldingAt roots s slot MEMORY_BASE Memory a o → IsFirstAt roots s Memory b a o
+    memory_first None some h = absurd (false≢true some)
+    memory_first (Some w) some h = first_of MemoryWindow Memory w h (claims_of_held MemoryWindow Memory w h)
 
-  prefetch_some : (m o : Option Region) → is_some m ≡ false → IsAddress Memory a → IsHolding s slot MEMORY_BASE Memory a m → IsHolding s slot PREFETCHABLE_BASE Memory a o → Answer Memory o
-  prefetch_some None o none address memory holding = prefetch_first o address memory holding
-  prefetch_some (Some w) o none address memory holding = absurd (false≢true (sym none))
+    none_held : (o : Option Judged) → is_some o ≡ false → IsHoldingAt roots s slot MEMORY_BASE Memory a o → NoneHas s slot MEMORY_BASE Memory a
+    none_held None none h = h
+    none_held (Some w) none h = absurd (false≢true (sym none))
 
-  pub prefetch_any : (space : Space) (m o : Option Region) → space ≡ Memory → is_some m ≡ false → IsAddress space a → IsHolding s slot MEMORY_BASE space a m
-      → IsHolding s slot PREFETCHABLE_BASE space a o → Answer space o
-  prefetch_any space m o is none address memory holding =
-      subst (λ sp. Answer sp o) (sym is) (prefetch_some m o none (subst (λ sp. IsAddress sp a) is address) (subst (λ sp. IsHolding s slot MEMORY_BASE sp a m) is memory)
-      (subst (λ sp. IsHolding s slot PREFETCHABLE_BASE sp a o) is holding))
+    prefetch_first : (o : Option Judged) → IsAddress Memory a → NoneHas s slot MEMORY_BASE Memory a → IsHoldingAt roots s slot PREFETCHABLE_BASE Memory a o → IsFirstAt roots s Memory b a o
+    prefetch_first None address none other = memory_none none other address
+    prefetch_first (Some w) address none h =
+        first_of PrefetchWindow Memory w h (and_from (window_claims b PrefetchWindow a) (not (window_claims b MemoryWindow a)) (claims_of_held PrefetchWindow Memory w h)
+        (elim (cases_Bool (window_claims b MemoryWindow a)) [
+          | inl memory ↦ absurd (not_it MemoryWindow Memory none refl address memory)
+          | inr isnt ↦ ap not isnt
+        ]))
+
+    -- of a space that is told in other words
+    pub io_any : (space : Space) (o : Option Judged) → space ≡ Io → IsAddress space a → IsHoldingAt roots s slot IO_BASE Io a o → IsFirstAt roots s space b a o
+    io_any space o is address h = subst (λ sp. IsFirstAt roots s sp b a o) (sym is) (io_first o (subst (λ sp. IsAddress sp a) is address) h)
+
+    pub memory_any : (space : Space) (o : Option Judged) → space ≡ Memory → is_some o ≡ true → IsHoldingAt roots s slot MEMORY_BASE Memory a o → IsFirstAt roots s space b a o
+    memory_any space o is some h = subst (λ sp. IsFirstAt roots s sp b a o) (sym is) (memory_first o some h)
+
+    pub prefetch_any : (space : Space) (m o : Option Judged) → space ≡ Memory → is_some m ≡ false → IsAddress space a → IsHoldingAt roots s slot MEMORY_BASE Memory a m
+        → IsHoldingAt roots s slot PREFETCHABLE_BASE Memory a o → IsFirstAt roots s space b a o
+    prefetch_any space m o is none address memory h =
+        subst (λ sp. IsFirstAt roots s sp b a o) (sym is) (prefetch_first o (subst (λ sp. IsAddress sp a) is address) (none_held m none memory) h)

@@ -1,24 +1,26 @@
 -- Whether a region is left, by the window that it belongs under.
-use Rattle.std.proofs.Common.{◌≡◌, ℕ, ◌<◌, ◌≤◌, List, [], ◌∷◌, refl, sym, ap, ◌∙◌, subst, arith, Bool, true, false, not}
+use Rattle.std.proofs.Common.{◌≡◌, ℕ, List, [], ◌∷◌, refl, sym, ap, ◌∙◌, subst, arith, Bool, true, false, not, ◌<◌, length, get_or, Option, None, Some}
 use Rattle.std.specs.Prelude.{IsTrue}
 use Rattle.std.specs.List.{Contains}
 use Rattle.std.proofs.Math.Nat.{le_antisymm}
+use Rattle.std.proofs.lemmas.List.{get_or_read}
 use Rattle.std.proofs.lemmas.Bool.{false≢true, and_parts, both_ways}
 use Rattle.pci_spec.specs.Slot.{Slot}
 use Rattle.pci_spec.specs.Window.{WindowKind, IoWindow, MemoryWindow, PrefetchWindow}
 use Rattle.pci_spec.specs.System.{System, Function, Space, Io, Memory, Claims, IsAddress, register_of, is_prefetchable_part, window_claims}
 use Rattle.pci_spec.specs.System as system
-use Rattle.pci_spec.specs.Bus.{IsNested, secondary}
 use Rattle.pci_spec.specs.Decoded.{InRange}
 use Rattle.pci_spec.specs.Why as why
 use Rattle.pci_spec.specs.Why.{IsRegionIn}
-use Rattle.pci_spec.proofs.BusRanges.{bus_order_means}
 use Rattle.map_spec.specs.Lines.{is_first_window, BelongsUnder}
 use Rattle.map_spec.specs.Map.{HasWay, IsLeft}
 use Rattle.map_spec.proofs.Having.{window_has_space}
 use Rattle.pci_tree.specs.declared.region.Region.{Region}
 use Rattle.pci_map.specs.Values.{value_of}
 use Rattle.pci_map.specs.Left.{IsBridgeAbove, IsFirst, IsLeftIf}
+use Rattle.pci_map.specs.Ways.{IsFirstJudged, AreAbove, IsWayTo, AreWays}
+use Rattle.pci_map.specs.declared.left.Judged.{Judged}
+use Rattle.pci_map.specs.declared.left.Windows.{Windows}
 
 -- one function with one slot
 abbrev pub AreOne : System → Type 0
@@ -70,49 +72,63 @@ kinds Memory PrefetchWindow MemoryWindow a b x y =
     absurd (both_ways (not (window_claims b MemoryWindow a)) (ap not y) (and_parts (window_claims b PrefetchWindow a) (not (window_claims b MemoryWindow a)) x).1)
 kinds Memory PrefetchWindow PrefetchWindow a b x y = refl
 
-module _ (roots : List ℕ) (s : System) (space : Space) (q : Region) (x : Slot) (above : IsBridgeAbove roots s q.slot.bus x) where
+-- what stands in the table for a bus
+pub way_here : (roots : List ℕ) (s : System) (ways : List (Option Windows)) (bus : ℕ) (x o : Option Windows) → bus < length ways → x ≡ get_or ways bus x → x ≡ o → AreWays roots s ways → IsWayTo roots s bus o
+way_here roots s ways bus x o lt at is so = subst (IsWayTo roots s bus) (sym (get_or_read ways bus x lt at None) ∙ is) (so bus lt)
+
+module _ (roots : List ℕ) (s : System) (space : Space) (q : Region) where
   abbrev v : why.Region
   v = value_of space q
 
-  -- the bridge that a region belongs under
-  the_bridge : AreOne s → (p : why.Region) (under : BelongsUnder s p v) → under.b ≡ above.b
-  the_bridge unique p under = unique under.b above.b under.listed above.leads.0 (above.only under.b (under.listed, under.bridge, under.leads) ∙ sym above.named)
+  on_bus : (bus : ℕ) (is : IsRegionIn s v) → q.slot.bus ≡ bus → is.f.slot.bus ≡ bus
+  on_bus bus is on = ap (λ (y : Slot). y.bus) is.slot ∙ on
 
-  pub left_none : AreOne s → ((kind : WindowKind) → IsTrue (is_first_window space kind q.first above.b) → ⊥) → IsLeft roots s v
-  left_none unique none [] way = above.off_root way
-  left_none unique none (p ∷ windows) (is, under, way) = none under.kind (subst (λ f. IsTrue (is_first_window space under.kind q.first f)) (the_bridge unique p under) under.first)
+  pub root_way : (bus : ℕ) → IsWayTo roots s bus None → IsRegionIn s v → q.slot.bus ≡ bus → IsLeftIf roots s v false
+  root_way bus way is on = ([], subst (Contains roots) (sym on) (way is.f is.listed (on_bus bus is on)))
 
-  module _ (w : Region) (first : IsFirst s space above.b q.first w) where
-    the_window : AreOne s → (p : why.Region) → IsRegionIn s p → IsRegionIn s v → BelongsUnder s p v → p ≡ value_of space w
-    the_window unique p is of under =
-        let bridge = the_bridge unique p under in
-        let kind : under.kind ≡ first.kind = kinds space under.kind first.kind q.first above.b (subst (λ f. IsTrue (is_first_window space under.kind q.first f)) bridge under.first) first.first in
-        region_same s unique p (value_of space w) is first.is (sym under.slot ∙ ap (λ (f : Function). f.slot) bridge ∙ first.slot) (under.window ∙ ap system.Window kind ∙ sym first.window)
-        (window_has_space s p v is under)
+  pub windows_above : (bus : ℕ) (ws : Windows) → IsWayTo roots s bus (Some ws) → IsRegionIn s v → q.slot.bus ≡ bus → AreAbove roots s bus ws
+  windows_above bus ws way is on = way is.f is.listed (on_bus bus is on)
 
-    left_below : AreOne s → IsRegionIn s v → IsLeft roots s (value_of space w) → IsLeft roots s v
-    left_below unique of left [] way = above.off_root way
-    left_below unique of left (p ∷ windows) (is, under, way) = left windows (subst (λ z. HasWay roots s z windows) (the_window unique p is of under) way)
+  module _ (bus a : ℕ) (on : q.slot.bus ≡ bus) (at : q.first ≡ a) (x : Slot) (above : IsBridgeAbove roots s bus x) where
+    -- the bridge that a region belongs under
+    the_bridge : AreOne s → (p : why.Region) (under : BelongsUnder s p v) → under.b ≡ above.b
+    the_bridge unique p under = unique under.b above.b under.listed above.leads.0 (above.only under.b (under.listed, under.bridge, under.leads ∙ on) ∙ sym above.named)
 
-    under_it : BelongsUnder s (value_of space w) v
-    under_it = record {
-      b = above.b;
-      listed = above.leads.0;
-      bridge = above.leads.1;
-      slot = first.slot;
-      leads = above.leads.2;
-      kind = first.kind;
-      window = first.window;
-      first = first.first;
-    }
+    first_there : AreOne s → (p : why.Region) (under : BelongsUnder s p v) → IsTrue (is_first_window space under.kind a above.b)
+    first_there unique p under =
+        subst (λ n. IsTrue (is_first_window space under.kind n above.b)) at (subst (λ f. IsTrue (is_first_window space under.kind q.first f)) (the_bridge unique p under) under.first)
 
-    pub as_window : AreOne s → IsRegionIn s v → (left : Bool) → IsLeftIf roots s (value_of space w) left → IsLeftIf roots s v left
-    as_window unique of true left = left_below unique of left
-    as_window unique of false (windows, way) = (value_of space w ∷ windows, (first.is, under_it, way))
+    pub left_none : AreOne s → ((kind : WindowKind) → IsTrue (is_first_window space kind a above.b) → ⊥) → IsLeft roots s v
+    left_none unique none [] way = above.off_root (subst (Contains roots) on way)
+    left_none unique none (p ∷ windows) (is, under, way) = none under.kind (first_there unique p under)
 
-    -- a bridge stands on a lower bus
-    pub not_above : IsNested roots s → q.slot.bus ≤ w.slot.bus → ⊥
-    not_above nested low =
-        let rises : above.b.slot.bus < secondary above.b = ((bus_order_means above.b).0 (nested.order above.b above.leads.0 above.leads.1)).1 in
-        let bus : above.b.slot.bus ≡ w.slot.bus = ap (λ (y : Slot). y.bus) first.slot in
-        let leads = above.leads.2 in omega (arith, rises, bus, leads, low)
+    module _ (w : Region) (first : IsFirst s space above.b a w) where
+      the_window : AreOne s → (p : why.Region) → IsRegionIn s p → IsRegionIn s v → BelongsUnder s p v → p ≡ value_of space w
+      the_window unique p is of under =
+          let kind : under.kind ≡ first.kind = kinds space under.kind first.kind a above.b (first_there unique p under) first.first in
+          region_same s unique p (value_of space w) is first.is (sym under.slot ∙ ap (λ (f : Function). f.slot) (the_bridge unique p under) ∙ first.slot)
+          (under.window ∙ ap system.Window kind ∙ sym first.window) (window_has_space s p v is under)
+
+      left_below : AreOne s → IsRegionIn s v → IsLeft roots s (value_of space w) → IsLeft roots s v
+      left_below unique of left [] way = above.off_root (subst (Contains roots) on way)
+      left_below unique of left (p ∷ windows) (is, under, way) = left windows (subst (λ z. HasWay roots s z windows) (the_window unique p is of under) way)
+
+      under_it : BelongsUnder s (value_of space w) v
+      under_it = record {
+        b = above.b;
+        listed = above.leads.0;
+        bridge = above.leads.1;
+        slot = first.slot;
+        leads = above.leads.2 ∙ sym on;
+        kind = first.kind;
+        window = first.window;
+        first = subst (λ n. IsTrue (is_first_window space first.kind n above.b)) (sym at) first.first;
+      }
+
+      pub as_window : AreOne s → IsRegionIn s v → (left : Bool) → IsLeftIf roots s (value_of space w) left → IsLeftIf roots s v left
+      as_window unique of true left = left_below unique of left
+      as_window unique of false (windows, way) = (value_of space w ∷ windows, (first.is, under_it, way))
+
+    -- a region is left as the window that it belongs under is
+    pub as_judged : AreOne s → IsRegionIn s v → (w : Judged) → IsFirstJudged roots s space above.b a w → IsLeftIf roots s v w.left
+    as_judged unique of w is = as_window w.window is.first unique of w.left is.judged

@@ -1,16 +1,19 @@
 -- The lines of regions that are left.
 use Rattle.std.proofs.Common.{◌≡◌, ℕ, suc, ◌<◌, ◌≤◌, ◌+◌, zero, List, [], ◌∷◌, ◌++◌, map, take, length, get_or, refl, sym, ap, ◌∙◌, subst, inl, inr, ◌⊎◌, arith, codes, append-nil, Bool, true, false}
-use Rattle.std.specs.List.{Contains, flat_map}
+use Rattle.std.specs.Prelude.{◌==◌, ◌*◌}
+use Rattle.std.specs.List.{All, Contains, flat_map}
 use Rattle.std.proofs.lemmas.Grind.{flat_map-append}
 use Rattle.std.proofs.lemmas.Bool.{false≢true, cases_lt}
 use Rattle.std.proofs.lemmas.List.{append_assoc, map_more, take_all}
-use Rattle.std.proofs.lemmas.List.Elements.{Contains-append_cases, Contains-append_left, Contains-append_right, Contains-get_or}
+use Rattle.std.proofs.lemmas.List.Elements.{Contains-append_cases, Contains-append_left, Contains-append_right, Contains-get_or, All-contains}
 use Rattle.pci_spec.specs.Slot.{Slot, slot_number}
 use Rattle.pci_spec.specs.Text.{hex_byte, slot_text}
-use Rattle.pci_spec.specs.System.{System, Space, Io, Memory, register_of, has_part, space_of}
+use Rattle.pci_spec.specs.Header.{layout, rom_place}
+use Rattle.pci_spec.specs.Window.{IoWindow, MemoryWindow, PrefetchWindow}
+use Rattle.pci_spec.specs.System.{System, Function, Space, Io, Memory, register_of, has_part, space_of}
 use Rattle.pci_spec.specs.System as system
 use Rattle.pci_spec.specs.Bus.{IsNested}
-use Rattle.pci_spec.specs.Decoded.{HasRecords}
+use Rattle.pci_spec.specs.Decoded.{HasRecords, IsDecodable}
 use Rattle.pci_spec.specs.Decoded as decoded
 use Rattle.pci_spec.specs.Why.{Region, IsRegionIn}
 use Rattle.pci_spec.proofs.Members.{in_nil, in_head, in_cons_cases, IsMade, in_map_to, in_map_from, pairs_nil, pairs_cons, pairs_append, pairs_head, pairs_tail}
@@ -22,13 +25,16 @@ use Rattle.pci_function.specs.declared.record.Record.{Record}
 use Rattle.pci_function.specs.Values.{record_value}
 use Rattle.pci_tree.specs.Outline.{Tree, RiseBySlot}
 use Rattle.pci_tree.specs.Ways.{slots_of}
-use Rattle.pci_tree.proofs.Lifting.{Has, record_for, same_slot_of, one_function}
+use Rattle.pci_tree.specs.Regions.{IsLawful, regions_of}
+use Rattle.pci_tree.proofs.Lifting.{Has, record_for, function_for, same_slot_of, one_function}
+use Rattle.pci_tree.proofs.RegionParts.{regions_are}
 use Rattle.pci_tree.specs.declared.region.Region as outline
 use Rattle.pci_why.specs.Found.{IsFoundIn, NoneClaims}
+use Rattle.pci_why.proofs.Founds.{found_in_record, none_in_record}
 use Rattle.pci_map.specs.Values.{value_of}
 use Rattle.pci_map.specs.Off.{section}
 use Rattle.pci_map.specs.Left.{IsTreeOf}
-use Rattle.pci_map.specs.Unreached.{IsAt, IsAtRegister, IsBelow, IsOf, IsAmong, AreLeftTold, AreUnreachedTold}
+use Rattle.pci_map.specs.Unreached.{AreFoundBy, IsRecordIn, IsAt, IsAtRegister, IsBelow, IsOf, IsAmong, AreLeftTold, AreUnreachedTold}
 use Rattle.pci_map.proofs.Firsts.{found_region}
 use Rattle.pci_map.proofs.Lefts.{AreOne, region_same}
 use Rattle.pci_map.proofs.Offs.{IsSet, extent_set, section_of}
@@ -58,6 +64,39 @@ one_at s unique p q ip iq slot register =
 
 pub register_low : (s : System) (q : Region) → IsRegionIn s q → q.register < 64
 register_low s q is = subst (λ n. n < 64) is.register (register_of-lt is.f q.part (there_is s q is).there)
+
+four_of_rom : (bridge : Bool) → (n : ℕ) × (rom_place bridge ≡ 4 * n)
+four_of_rom true = (14, refl)
+four_of_rom false = (12, refl)
+
+four_of : (f : Function) (part : system.Part) → (n : ℕ) × (register_of f part ≡ 4 * n)
+four_of f (system.Bar n) = (n + 4, omega arith)
+four_of f system.Rom = four_of_rom (layout f.image == 1)
+four_of f (system.Window IoWindow) = (7, refl)
+four_of f (system.Window MemoryWindow) = (8, refl)
+four_of f (system.Window PrefetchWindow) = (9, refl)
+
+-- the registers of regions begin at every fourth byte
+register_quad : (s : System) (q : Region) → IsRegionIn s q → (n : ℕ) × (q.register ≡ 4 * n)
+register_quad s q is = let four = four_of is.f q.part in (four.0, sym is.register ∙ four.1)
+
+-- ---- the regions of a record
+
+pub record_in : (s : System) (rs : List Record) (k : ℕ) (r : Record) → Has s rs → RiseBySlot rs → All IsLawful rs → k < length rs → get_or rs k r ≡ r → IsRecordIn s r
+record_in s rs k r are rising lawful lt at = record { records = rs; are = are; rising = rising; lawful = lawful; has = subst (Contains rs) at (Contains-get_or rs k r lt) }
+
+lawful_in : (s : System) (r : Record) (is : IsRecordIn s r) → IsLawful r
+lawful_in s r is = All-contains IsLawful is.records r is.lawful is.has
+
+pub found_by : (s : System) (r : Record) (space : Space) (qs : List outline.Region) → qs ≡ regions_of r space → IsRecordIn s r → AreFoundBy s r.slot space qs
+found_by s r space qs same is = record {
+  found = λ reg q listed. (
+      let own = function_for s is.records r is.are is.has in
+      let has : Contains (regions_of r space) q = subst (λ xs. Contains xs q) same listed.0 in
+      let part = regions_are r own.0 space q (All-contains IsDecodable s own.0 is.are.decodable own.1) own.2 (lawful_in s r is) has in
+      found_in_record s is.records r r.slot reg space q is.are is.rising is.has refl (lawful_in s r is) record { has = has; register = listed.1; some = part.1.some });
+  none = λ reg none. none_in_record s is.records r r.slot reg space is.are is.rising is.has refl (lawful_in s r is) (λ q here. none q (subst (λ xs. Contains xs q) (sym same) here.has, here.register));
+}
 
 -- a record stands behind those before it
 before : (rs : List Record) (k : ℕ) (r x : Record) → RiseBySlot rs → k < length rs → get_or rs k r ≡ r → Contains (take k rs) x → slot_number x.slot < slot_number r.slot
@@ -192,22 +231,26 @@ module _ (roots : List ℕ) (s : System) where
   pub below_none : (slot : Slot) (text : List ℕ) → AreLeftTold roots s (IsBelow slot 0) text text
   below_none slot text = told_none (IsBelow slot 0) text (λ q is left at. (let low = at.1 in omega (arith, low)))
 
-  below_cases : (q : Region) (slot : Slot) (k : ℕ) → q.slot ≡ slot → q.register < k + 1 → IsBelow slot k q ⊎ IsAtRegister slot k q
-  below_cases q slot k at low = elim (cases_lt q.register k) [
-    | inl less ↦ inl (at, less)
-    | inr not_less ↦ inr (at, omega (arith, low, not_less))
-  ]
+  below_cases : (q : Region) (slot : Slot) (k : ℕ) → IsRegionIn s q → q.slot ≡ slot → q.register < 4 * (k + 1) → IsBelow slot (4 * k) q ⊎ IsAtRegister slot (4 * k) q
+  below_cases q slot k is at low =
+      let quad = register_quad s q is in
+      let n = quad.0 in
+      let four = quad.1 in elim (cases_lt n k) [
+        | inl less ↦ inl (at, omega (arith, less, four))
+        | inr not_less ↦ inr (at, omega (arith, low, not_less, four))
+      ]
 
-  pub one_register : (slot : Slot) (k : ℕ) (old mid new : List ℕ) → AreLeftTold roots s (IsBelow slot k) old mid → AreLeftTold roots s (IsAtRegister slot k) mid new
-      → AreLeftTold roots s (IsBelow slot (k + 1)) old new
+  -- the next register of four bytes
+  pub one_register : (slot : Slot) (k : ℕ) (old mid new : List ℕ) → AreLeftTold roots s (IsBelow slot (4 * k)) old mid → AreLeftTold roots s (IsAtRegister slot (4 * k)) mid new
+      → AreLeftTold roots s (IsBelow slot (4 * (k + 1))) old new
   one_register slot k old mid new first second =
-      told_join (IsBelow slot k) (IsAtRegister slot k) (IsBelow slot (k + 1)) old mid new first second
+      told_join (IsBelow slot (4 * k)) (IsAtRegister slot (4 * k)) (IsBelow slot (4 * (k + 1))) old mid new first second
       (λ p q ip iq at_p at_q. (
       let low = at_p.1 in
       let here = at_q.1 in
       let slots : slot_number p.slot ≡ slot_number q.slot = ap slot_number (at_p.0 ∙ sym at_q.0) in omega (arith, low, here, slots)))
       (λ q at. (at.0, let low = at.1 in omega (arith, low))) (λ q at. (at.0, let here = at.1 in omega (arith, here)))
-      (λ q is at. below_cases q slot k at.0 at.1)
+      (λ q is at. below_cases q slot k is at.0 at.1)
 
   pub all_registers : (slot : Slot) (old new : List ℕ) → AreLeftTold roots s (IsBelow slot 64) old new → AreLeftTold roots s (IsOf slot) old new
   all_registers slot old new told = told_same (IsBelow slot 64) (IsOf slot) old new told (λ q is at. at.0) (λ q is at. (at, register_low s q is))

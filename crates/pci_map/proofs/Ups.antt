@@ -1,72 +1,74 @@
 -- The bridge that leads to a bus.
-use Rattle.std.proofs.Common.{◌≡◌, ℕ, suc, ◌-◌, List, [], ◌∷◌, map, length, refl, sym, ap, ◌∙◌, subst, arith, inl, inr, false, Option, None, Some}
-use Rattle.std.specs.Prelude.{slice_get}
+use Rattle.std.proofs.Common.{◌≡◌, ℕ, ◌<◌, ◌≤◌, ◌+◌, List, [], ◌∷◌, ◌++◌, length, get_or, refl, sym, ap, ◌∙◌, subst, arith, inl, inr, false, Option, None, Some}
 use Rattle.std.specs.List.{Contains}
-use Rattle.std.proofs.lemmas.Bool.{cases_Bool}
-use Rattle.std.proofs.lemmas.Option.{none-some}
+use Rattle.std.proofs.lemmas.Bool.{cases_Bool, cases_lt}
+use Rattle.std.proofs.lemmas.List.{get_or_append_left, get_or_push, length_push}
 use Rattle.pci_spec.specs.Slot.{Slot}
-use Rattle.pci_spec.specs.System.{System, Function, Leads}
+use Rattle.pci_spec.specs.System.{System, Function}
 use Rattle.pci_spec.specs.Bus.{IsNested, LeadsTo, is_root, secondary}
-use Rattle.pci_spec.specs.Decoded.{HasRecords, Record, record_of}
-use Rattle.pci_spec.proofs.Members.{in_map_from}
-use Rattle.pci_spec.proofs.BusRanges.{root_means}
-use Rattle.pci_tree.specs.Outline.{IsPathTo}
-use Rattle.pci_map.specs.Left.{IsBridgeAbove}
+use Rattle.pci_spec.proofs.BusRanges.{root_means, bus_order_means}
+use Rattle.pci_function.specs.declared.record.Record.{Record}
+use Rattle.pci_tree.specs.Ways.{bus_behind, IsBridgeIn, LeadsAt}
+use Rattle.pci_tree.proofs.Lifting.{Has, record_for, function_for, same_bridge, same_secondary, same_slot_of}
+use Rattle.pci_tree.proofs.Ways.{bridge_at}
+use Rattle.pci_map.specs.Left.{HasAbove}
+use Rattle.pci_map.specs.Ways.{AreWindowsOf, IsWayTo, AreWays}
+use Rattle.pci_map.specs.declared.left.Windows.{Windows}
 
-abbrev slots : List Function → List Slot
-slots bs = map (λ f. f.slot) bs
+off_root : (roots : List ℕ) (bus : ℕ) → (Contains roots bus → ⊥) → is_root roots bus ≡ false
+off_root roots bus off = elim (cases_Bool (is_root roots bus)) [
+  | inl root ↦ absurd (off ((root_means roots bus).0 root))
+  | inr none ↦ none
+]
 
-abbrev last_of : List Slot → Option Slot
-last_of xs = slice_get xs (length xs - 1)
+module _ (roots : List ℕ) (s : System) (rs : List Record) (has : Has s rs) (bus : ℕ) where
+  -- a bridge that leads to the bus has a record that does
+  pub not_led : ((b : Record) → IsBridgeIn rs b → bus_behind b ≡ bus → ⊥) → (b : Function) → LeadsTo s b bus → ⊥
+  not_led none b (listed, bridge, leads) =
+      let own = record_for s rs b has listed in
+      none own.0 record { has = own.1.has; is = same_bridge own.0 b own.1.same ∙ bridge } (same_secondary own.0 b own.1.same bridge ∙ leads)
 
--- the last of some bridges leads where they do
-ends : (s : System) (from : ℕ) (b : Function) (bs : List Function) (to : ℕ) → Leads s from (b ∷ bs) to → (l : Function) × LeadsTo s l to × (last_of (slots (b ∷ bs)) ≡ Some l.slot)
-ends s from b [] to (has, bridge, on, rest) = (b, (has, bridge, rest), refl)
-ends s from b (c ∷ bs) to (has, bridge, on, rest) =
-    let more = ends s (secondary b) c bs to rest in
-    let e : length (slots (b ∷ c ∷ bs)) - 1 ≡ suc (length (slots (c ∷ bs)) - 1) = omega arith in
-    (more.0, more.1, ap (slice_get (slots (b ∷ c ∷ bs))) e ∙ more.2)
+  -- where none does, the bus is a root or has no function
+  pub none_above : IsNested roots s → (Contains roots bus → ⊥) → ((b : Record) → IsBridgeIn rs b → bus_behind b ≡ bus → ⊥) → HasAbove roots s bus None
+  none_above nested off none f listed on =
+      let off_f : Contains roots f.slot.bus → ⊥ = λ root. off (subst (Contains roots) on root) in
+      let one = nested.one f listed (off_root roots f.slot.bus off_f) in
+      absurd (not_led none one.0 (subst (LeadsTo s one.0) on one.1))
 
-abbrev from_some : Slot → Option Slot → Slot
-from_some d None = d
-from_some d (Some x) = x
-
-no_function : (s : System) (records : List Record) (f : Function) → HasRecords s records → Contains s f → Contains (map (λ (r : Record). r.slot) records) f.slot
-no_function s records f has listed =
-    in_map_from (λ (r : Record). r.slot) records (record_of f) (subst (λ (rs : List Record). Contains rs (record_of f)) has.same (in_map_from record_of s f listed))
-
--- each function has a record
-pub has_slot : (s : System) (records : List Record) (slot : Slot) (f : Function) → HasRecords s records → Contains s f → f.slot ≡ slot → (Contains (map (λ (r : Record). r.slot) records) slot → ⊥) → ⊥
-has_slot s records slot f has listed at none = none (subst (λ x. Contains (map (λ (r : Record). r.slot) records) x) at (no_function s records f has listed))
-
-module _ (roots : List ℕ) (s : System) (xs : List Slot) (bus : ℕ) (p : IsPathTo roots s xs bus) where
-  root_of : (bs : List Function) → Leads s p.root bs bus → slots bs ≡ xs → last_of xs ≡ None → Contains roots bus
-  root_of [] leads named none = subst (Contains roots) leads p.starts
-  root_of (b ∷ bs) leads named none =
-      let e = ends s p.root b bs bus leads in
-      absurd (none-some e.0.slot (sym none ∙ ap last_of (sym named) ∙ e.2))
-
-  pub is_on_root : last_of xs ≡ None → Contains roots bus
-  is_on_root none = root_of p.bridges p.leads p.named none
-
-  above_of : (bs : List Function) → Leads s p.root bs bus → slots bs ≡ xs → bs ≡ p.bridges → (x : Slot) → last_of xs ≡ Some x → (f : Function) → Contains s f → f.slot.bus ≡ bus → IsNested roots s
-      → IsBridgeAbove roots s bus x
-  above_of [] leads named is x some f listed on nested = absurd (none-some x (ap last_of named ∙ some))
-  above_of (b ∷ bs) leads named is x some f listed on nested =
-      let e = ends s p.root b bs bus leads in
-      let named_last : e.0.slot ≡ x = ap (from_some x) (sym e.2 ∙ ap last_of named ∙ some) in
-      let off : Contains roots bus → ⊥ = λ root. (let only = p.only bus [] root refl in let none : 0 ≡ length (b ∷ bs) = ap length (only.1 ∙ sym is) in omega (arith, none)) in
-      let not_root : is_root roots f.slot.bus ≡ false = elim (cases_Bool (is_root roots f.slot.bus)) [
-        | inl root ↦ absurd (off (subst (Contains roots) on ((root_means roots f.slot.bus).0 root)))
-        | inr none ↦ none
-      ] in
-      let one = nested.one f listed not_root in record {
+  pub some_above : IsNested roots s → (Contains roots bus → ⊥) → (k : ℕ) (r : Record) → LeadsAt rs bus k → r ≡ get_or rs k r → HasAbove roots s bus (Some r.slot)
+  some_above nested off k r leads at f listed on =
+      let off_f : Contains roots f.slot.bus → ⊥ = λ root. off (subst (Contains roots) on root) in
+      let one = nested.one f listed (off_root roots f.slot.bus off_f) in
+      let bridge : IsBridgeIn rs r × (bus_behind r ≡ bus) = subst (λ (x : Record). IsBridgeIn rs x × (bus_behind x ≡ bus)) (sym at) (bridge_at rs bus k r leads) in
+      let own = function_for s rs r has bridge.0.has in
+      let yes = sym (same_bridge r own.0 own.2) ∙ bridge.0.is in
+      let there : LeadsTo s own.0 bus = (own.1, yes, sym (same_secondary r own.0 own.2 yes) ∙ bridge.1) in record {
         off_root = off;
-        b = e.0;
-        leads = e.1;
-        named = named_last;
-        only = λ c leads_c. one.2 c (subst (LeadsTo s c) (sym on) leads_c) ∙ sym (one.2 e.0 (subst (LeadsTo s e.0) (sym on) e.1)) ∙ named_last;
+        b = own.0;
+        leads = there;
+        named = sym (same_slot_of r own.0 own.2);
+        only = λ c leads_c. one.2 c (subst (LeadsTo s c) (sym on) leads_c) ∙ sym (one.2 own.0 (subst (LeadsTo s own.0) (sym on) there)) ∙ sym (same_slot_of r own.0 own.2);
       }
 
-  pub bridge_is : (x : Slot) → last_of xs ≡ Some x → (f : Function) → Contains s f → f.slot.bus ≡ bus → IsNested roots s → IsBridgeAbove roots s bus x
-  bridge_is x some f listed on nested = above_of p.bridges p.leads p.named refl x some f listed on nested
+-- ---- the windows above a bus
+
+module _ (roots : List ℕ) (s : System) where
+  -- a bridge stands on a lower bus than the one that it leads to
+  pub low_way : (bus : ℕ) (b : Slot) → IsNested roots s → HasAbove roots s bus (Some b) → bus ≤ b.bus → IsWayTo roots s bus None
+  low_way bus b nested has low f listed on =
+      let above = has f listed on in
+      let rises : above.b.slot.bus < secondary above.b = ((bus_order_means above.b).0 (nested.order above.b above.leads.0 above.leads.1)).1 in
+      let same : above.b.slot.bus ≡ b.bus = ap (λ (y : Slot). y.bus) above.named in
+      let leads = above.leads.2 in absurd (omega (arith, rises, same, leads, low))
+
+  pub this_way : (bus : ℕ) (b : Slot) (ws : Windows) → HasAbove roots s bus (Some b) → AreWindowsOf roots s b ws → IsWayTo roots s bus (Some ws)
+  this_way bus b ws has are f listed on = record { slot = b; bridge = has f listed on; windows = are }
+
+  pub one_way_more : (ways new : List (Option Windows)) (way : Option Windows) → new ≡ ways ++ way ∷ [] → AreWays roots s ways → IsWayTo roots s (length ways) way → AreWays roots s new
+  one_way_more ways new way is so here bus within = (
+      let lt : bus < length ways + 1 = subst (λ n. bus < n) (ap length is ∙ length_push ways way) within in elim (cases_lt bus (length ways)) [
+        | inl low ↦ subst (IsWayTo roots s bus) (sym (ap (λ xs. get_or xs bus None) is ∙ get_or_append_left ways (way ∷ []) None bus low)) (so bus low)
+        | inr ge ↦ (let same : length ways ≡ bus = omega (arith, ge, lt) in
+            subst (λ m. IsWayTo roots s m (get_or new m None)) same
+            (subst (IsWayTo roots s (length ways)) (sym (ap (λ xs. get_or xs (length ways) None) is ∙ get_or_push ways way None (length ways) refl)) here))
+      ])

@@ -3,7 +3,7 @@ use Rattle.std.specs.Prelude.{◌≡◌, ℕ, Bool, IsTrue, List, Option, MatchO
 use Rattle.std.specs.List.{Contains}
 use Rattle.pci_spec.specs.Slot.{Slot}
 use Rattle.pci_spec.specs.Window.{WindowKind}
-use Rattle.pci_spec.specs.System.{System, Function, Space, Claims, IsAddress, register_of, is_bridge}
+use Rattle.pci_spec.specs.System.{System, Function, Space, Claims, register_of}
 use Rattle.pci_spec.specs.System as system
 use Rattle.pci_spec.specs.Bus.{IsNested, LeadsTo}
 use Rattle.pci_spec.specs.Decoded.{HasRecords}
@@ -12,9 +12,7 @@ use Rattle.map_spec.specs.Lines.{is_first_window}
 use Rattle.map_spec.specs.Map.{HasWay, IsLeft}
 use Rattle.pci_tree.specs.declared.region.Region as outline
 use Rattle.pci_tree.specs.Outline.{Tree}
-use Rattle.pci_why.specs.Found.{IsFoundIn}
 use Rattle.pci_map.specs.Values.{part_of, value_of}
-use Rattle.pci_map.specs.Inside.{is_in}
 
 -- a system with an outline's records: its bridges nest, and no two of its functions have one slot
 pub record IsTreeOf (t : Tree) (s : System) : Type 0 where
@@ -30,23 +28,17 @@ pub record IsBridgeAbove (roots : List ℕ) (s : System) (bus : ℕ) (slot : Slo
   pub named : b.slot ≡ slot
   pub only : (c : Function) → LeadsTo s c bus → c.slot ≡ slot
 
--- that bridge, where the bus of a function isn't a root
-abbrev pub HasAbove : List ℕ → System → Slot → Option Slot → Type 0
-HasAbove roots s slot o =
-    (f : Function) → Contains s f → f.slot ≡ slot
-    → MatchOption o (Contains roots slot.bus) (λ b. IsBridgeAbove roots s slot.bus b)
+-- that bridge, where a bus has functions and isn't a root
+abbrev pub HasAbove : List ℕ → System → ℕ → Option Slot → Type 0
+HasAbove roots s bus o =
+    (f : Function) → Contains s f → f.slot.bus ≡ bus
+    → MatchOption o (Contains roots bus) (λ b. IsBridgeAbove roots s bus b)
 
 -- no part that this register names claims the address
 abbrev pub NoneHas : System → Slot → ℕ → Space → ℕ → Type 0
 NoneHas s slot reg space a =
     (f : Function) (part : system.Part) → Contains s f → f.slot ≡ slot
     → register_of f part ≡ reg → Claims f part space a → ⊥
-
--- the region at a slot and a register, where it has an address
-abbrev pub IsHolding : System → Slot → ℕ → Space → ℕ → Option outline.Region → Type 0
-IsHolding s slot reg space a o =
-    MatchOption o (NoneHas s slot reg space a)
-    (λ w. IsFoundIn s slot reg space w × IsTrue (is_in w a))
 
 -- the first window of a bridge that has an address
 pub record IsFirst (s : System) (space : Space) (b : Function) (a : ℕ) (w : outline.Region) : Type 0 where
@@ -55,12 +47,6 @@ pub record IsFirst (s : System) (space : Space) (b : Function) (a : ℕ) (w : ou
   pub kind : WindowKind
   pub window : part_of w ≡ system.Window kind
   pub first : IsTrue (is_first_window space kind a b)
-
-abbrev pub HasFirst : System → Slot → Space → ℕ → Option outline.Region → Type 0
-HasFirst s slot space a o =
-    (b : Function) → Contains s b → IsTrue (is_bridge b) → b.slot ≡ slot → IsAddress space a
-    → MatchOption o ((kind : WindowKind) → IsTrue (is_first_window space kind a b) → ⊥)
-    (λ w. IsFirst s space b a w)
 
 -- the region is left, or windows lead to it
 abbrev pub IsLeftIf : List ℕ → System → Region → Bool → Type 0

@@ -5,4 +5,5 @@ pub mod Walk
 pub mod Off
 pub mod Buses
 pub mod Left
+pub mod Ways
 pub mod Unreached

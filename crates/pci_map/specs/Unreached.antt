@@ -1,12 +1,38 @@
 -- The lines of regions that no way leads to.
-use Rattle.std.specs.Prelude.{◌≡◌, ℕ, ◌<◌, List, ◌++◌}
-use Rattle.std.specs.List.{AllPairs, Contains, flat_map}
+use Rattle.std.specs.Prelude.{◌≡◌, ℕ, ◌<◌, List, ◌++◌, map}
+use Rattle.std.specs.List.{All, AllPairs, Contains, flat_map}
 use Rattle.pci_spec.specs.Slot.{Slot}
 use Rattle.pci_spec.specs.System.{System, Space}
+use Rattle.pci_spec.specs.Decoded.{HasRecords}
 use Rattle.pci_spec.specs.Why.{Region, IsRegionIn}
 use Rattle.map_spec.specs.Lines.{region_number}
 use Rattle.map_spec.specs.Map.{IsLeft, AreLeft}
 use Rattle.map_spec.specs.MapText.{region_line, unreached_text}
+use Rattle.pci_function.specs.declared.record.Record.{Record}
+use Rattle.pci_function.specs.Values.{record_value}
+use Rattle.pci_tree.specs.declared.region.Region as outline
+use Rattle.pci_tree.specs.Regions.{IsLawful}
+use Rattle.pci_tree.specs.Outline.{RiseBySlot}
+use Rattle.pci_why.specs.Found.{IsFoundIn, NoneClaims}
+
+-- a region of a list at a register
+abbrev pub IsListedAt : List outline.Region → ℕ → outline.Region → Type 0
+IsListedAt qs reg q = Contains qs q × (q.reg ≡ reg)
+
+-- a list by which the region of a function and space at each register is found
+pub record AreFoundBy (s : System) (slot : Slot) (space : Space)
+    (qs : List outline.Region) : Type 0 where
+  pub found : (reg : ℕ) (q : outline.Region) → IsListedAt qs reg q → IsFoundIn s slot reg space q
+  pub none : (reg : ℕ) → ((q : outline.Region) → IsListedAt qs reg q → ⊥)
+      → NoneClaims s slot reg space
+
+-- the record of a function of a system
+pub record IsRecordIn (s : System) (r : Record) : Type 0 where
+  pub records : List Record
+  pub are : HasRecords s (map record_value records)
+  pub rising : RiseBySlot records
+  pub lawful : All IsLawful records
+  pub has : Contains records r
 
 -- where a region is named
 abbrev pub IsAt : Slot → ℕ → Space → Region → Type 0

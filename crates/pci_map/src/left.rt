@@ -1,100 +1,80 @@
 //! Whether a region is left: no windows lead to it from a root bus.
-ghost use Rattle.std.specs.Prelude.{◌<◌, IfOk};
-ghost use Rattle.pci_spec.specs.System.{System};
-ghost use Rattle.pci_spec.specs.Decoded.{HasRecords};
+ghost use Rattle.std.specs.Prelude.{◌≡◌, ℕ, ◌<◌, length, List};
+ghost use Rattle.pci_spec.specs.Slot.{Slot as SlotValue};
+ghost use Rattle.pci_spec.specs.System.{System, Space as SpaceValue, IsAddress};
 ghost use Rattle.pci_spec.specs.Why.{IsRegionIn};
 ghost use Rattle.pci_base.specs.Space.{space_of};
+ghost use Rattle.pci_tree.specs.Outline.{Tree};
+ghost use Rattle.pci_tree.specs.declared.region.Region.{Region as RegionValue};
 ghost use Rattle.pci_map.specs.Values.{value_of};
-ghost use Rattle.pci_map.specs.Left.{IsTreeOf, HasAbove, IsHolding, HasFirst, IsLeftIf};
+ghost use Rattle.pci_map.specs.Left.{IsTreeOf, IsLeftIf};
+ghost use Rattle.pci_map.specs.Ways.{IsJudgedAt, IsHoldingAt, AreAbove, IsFirstAt, AreWays};
 
 use super::inside::has;
-use pci_base::memory::OutOfMemory;
-use pci_base::offset::{IO_BASE, MEMORY_BASE, PREFETCHABLE_BASE};
-use pci_base::slot::Slot;
 use pci_base::space::Space;
-use pci_tree::outline::Outline;
 use pci_tree::region::Region;
-use pci_why::find::region_at;
-use std::alloc::Allocator;
 
-/// The bridge that leads to the bus of a function, or None where that is a root.
-fn bridge_above<A: Allocator + Copy>(outline: &Outline<A>, slot: Slot) -> Option<Slot>
-    ensures { (s : System) → IsTreeOf outline.now s → HasAbove outline.now.roots s slot result }
-{
-    let Some(path) = outline.path(slot) else {
-        return None;
-    };
-    match path.as_slice().last() {
-        None => None,
-        Some(bridge) => Some(*bridge),
-    }
+/// A window of a bridge, and whether it is left.
+#[derive(Clone, Copy)]
+pub struct Judged {
+    pub window: Region,
+    pub left: bool,
 }
 
-/// The region at a slot and register, where it has an address.
-fn region_with<A: Allocator + Copy>(
-    alloc: A,
-    outline: &Outline<A>,
-    slot: Slot,
-    reg: u8,
-    space: Space,
-    address: u64,
-) -> Result<Option<Region>, OutOfMemory>
-    ensures { IfOk result (λ o. (s : System) → HasRecords s outline.now.records
-        → IsHolding s slot reg (space_of space) address o) }
+/// The windows of the bridge that leads to a bus: those that claim an address.
+#[derive(Clone, Copy)]
+pub struct Windows {
+    pub io: Option<Judged>,
+    pub memory: Option<Judged>,
+    pub prefetchable: Option<Judged>,
+}
+
+/// A window, where it has an address.
+fn holding(judged: Option<Judged>, address: u64) -> Option<Judged>
+    ensures { (roots : List ℕ) (s : System) (slot : SlotValue) (reg : ℕ) (space : SpaceValue)
+        → IsJudgedAt roots s slot reg space judged → IsHoldingAt roots s slot reg space address result }
 {
-    let Some(region) = region_at(alloc, outline, slot, reg, space)? else {
-        return Ok(None);
+    let Some(judged) = judged else {
+        return None;
     };
-    if !has(&region, address) {
-        return Ok(None);
+    if !has(&judged.window, address) {
+        return None;
     }
-    Ok(Some(region))
+    Some(judged)
 }
 
 /// The first window of a bridge, by register, that has an address.
-fn first_window<A: Allocator + Copy>(
-    alloc: A,
-    outline: &Outline<A>,
-    bridge: Slot,
-    space: Space,
-    address: u64,
-) -> Result<Option<Region>, OutOfMemory>
-    ensures { IfOk result (λ o. (s : System) → IsTreeOf outline.now s
-        → HasFirst s bridge (space_of space) address o) }
+fn first_window(windows: &Windows, space: Space, address: u64) -> Option<Judged>
+    ensures { (t : Tree) (s : System) (bus : ℕ) → IsTreeOf t s
+        → (above : AreAbove t.roots s bus windows.now) → IsAddress (space_of space) address
+        → IsFirstAt t.roots s (space_of space) above.bridge.b address result }
 {
     match space {
-        Space::Io => region_with(alloc, outline, bridge, IO_BASE, space, address),
+        Space::Io => holding(windows.io, address),
         Space::Mem => {
-            let memory = region_with(alloc, outline, bridge, MEMORY_BASE, space, address)?;
+            let memory = holding(windows.memory, address);
             if memory.is_some() {
-                return Ok(memory);
+                return memory;
             }
-            region_with(alloc, outline, bridge, PREFETCHABLE_BASE, space, address)
+            holding(windows.prefetchable, address)
         }
     }
 }
 
-/// Whether a region is left: its bus is no root, and no window of the bridge there holds its first address, or the
-/// first that does is left itself.
-pub fn is_left<A: Allocator + Copy>(
-    alloc: A,
-    outline: &Outline<A>,
-    space: Space,
-    region: &Region,
-) -> Result<bool, OutOfMemory>
-    ensures { IfOk result (λ left. (s : System) → IsTreeOf outline.now s
-        → IsRegionIn s (value_of (space_of space) region.now)
-        → IsLeftIf outline.now.roots s (value_of (space_of space) region.now) left) }
+/// Whether a region of a bus with this first address is left: the bus is no root, and no window of the bridge there holds
+/// the address, or the first that does is left itself. Of each bus that is no root the windows above it are given.
+pub fn is_left(ways: &[Option<Windows>], bus: u8, space: Space, address: u64) -> bool
+    requires { bus < length ways.now }
+    ensures { (t : Tree) (s : System) (q : RegionValue) → IsTreeOf t s → AreWays t.roots s ways.now
+        → IsRegionIn s (value_of (space_of space) q) → q.slot.bus ≡ bus → q.first ≡ address
+        → IsLeftIf t.roots s (value_of (space_of space) q) result }
 {
-    let Some(bridge) = bridge_above(outline, region.slot) else {
-        return Ok(false);
-    };
-    let Some(window) = first_window(alloc, outline, bridge, space, region.first)? else {
-        return Ok(true);
-    };
-    // a bridge leads to a higher bus than its own
-    if region.slot.bus() <= window.slot.bus() {
-        return Ok(true);
+    let way = &ways[bus as usize];
+    match way {
+        None => false,
+        Some(windows) => match first_window(windows, space, address) {
+            None => true,
+            Some(judged) => judged.left,
+        },
     }
-    is_left(alloc, outline, space, &window)
 }

@@ -15,3 +15,4 @@ pub mod off;
 pub mod text;
 pub mod unreached;
 pub mod walk;
+pub mod ways;

@@ -1,28 +1,23 @@
-use Rattle.std.proofs.Common.{ap, sym, ◌∙◌, ◌≡◌, true, false}
+use Rattle.std.proofs.Common.{ap, sym, ◌∙◌, true, false}
 use Rattle.std.specs.Option.{is_some}
-use Rattle.std.proofs.lemmas.Result.{IfOk-weaker}
+use Rattle.pci_spec.specs.Registers.{IO_BASE, MEMORY_BASE, PREFETCHABLE_BASE}
+use Rattle.pci_spec.specs.System.{Io, Memory}
 use Rattle.pci_base.specs.Space.{space_of}
 use Rattle.pci_map.proofs.Firsts.{io_any, memory_any, prefetch_any}
 use Rattle.pci_map.proofs.left.first_window.Goals as goal
 
 pub returns-in-Io : goal.returns-in-Io
-returns-in-Io g c =
-    IfOk-weaker c.region_with.result _ _
-    (λ o holding s tree b listed bridge named address.
-    io_any s tree.one b listed bridge c.args.bridge named c.args.address (space_of c.args.space) o (ap space_of c.in-Io.is) address (holding s tree.records))
-    c.region_with.ensures
+returns-in-Io c = λ t s bus tree above address.
+    io_any s tree.one above.bridge.b above.bridge.leads.0 above.bridge.leads.1 above.slot above.bridge.named c.args.address t.roots (space_of c.args.space) c.holding.result (ap space_of c.in-Io.is) address
+    (c.holding.ensures t.roots s above.slot IO_BASE Io above.windows.io)
 
 pub returns-then-is_some : goal.returns-then-is_some
-returns-then-is_some g c = λ s tree b listed bridge named address.
-    let some : is_some c.in_ok-memory-in-Mem.memory ≡ true = sym c.is_some.ensures ∙ c.if-is_some.true in
-    memory_any s tree.one b listed bridge c.args.bridge named c.args.address (space_of c.args.space) c.in_ok-memory-in-Mem.memory (ap space_of c.in-Mem.is) some
-    (c.in_ok-memory-in-Mem.ensures s tree.records)
+returns-then-is_some c = λ t s bus tree above address.
+    memory_any s tree.one above.bridge.b above.bridge.leads.0 above.bridge.leads.1 above.slot above.bridge.named c.args.address t.roots (space_of c.args.space) c.holding-memory.result (ap space_of c.in-Mem.is)
+    (sym c.is_some.ensures ∙ c.if-is_some.true) (c.holding-memory.ensures t.roots s above.slot MEMORY_BASE Memory above.windows.memory)
 
 pub returns-else-is_some : goal.returns-else-is_some
-returns-else-is_some g c =
-    IfOk-weaker c.region_with-in-Mem-2.result _ _
-    (λ o holding s tree b listed bridge named address. (
-    let none : is_some c.in_ok-memory-in-Mem.memory ≡ false = sym c.is_some.ensures ∙ c.if-is_some.false in
-    prefetch_any s tree.one b listed bridge c.args.bridge named c.args.address (space_of c.args.space) c.in_ok-memory-in-Mem.memory o (ap space_of c.in-Mem.is) none address
-    (c.in_ok-memory-in-Mem.ensures s tree.records) (holding s tree.records)))
-    c.region_with-in-Mem-2.ensures
+returns-else-is_some c = λ t s bus tree above address.
+    prefetch_any s tree.one above.bridge.b above.bridge.leads.0 above.bridge.leads.1 above.slot above.bridge.named c.args.address t.roots (space_of c.args.space) c.holding-memory.result c.holding-in-Mem.result
+    (ap space_of c.in-Mem.is) (sym c.is_some.ensures ∙ c.if-is_some.false) address (c.holding-memory.ensures t.roots s above.slot MEMORY_BASE Memory above.windows.memory)
+    (c.holding-in-Mem.ensures t.roots s above.slot PREFETCHABLE_BASE Memory above.windows.prefetchable)

@@ -1,19 +1,21 @@
-use Rattle.std.proofs.Common.{rules, ◌≡◌, subst}
+use Rattle.std.proofs.Common.{rules, ◌≡◌, ◌*◌, subst, sym}
 use Rattle.std.specs.String.{string_bytes}
-use Rattle.pci_map.specs.Unreached.{IsBelow, AreLeftTold}
+use Rattle.pci_spec.specs.System.{Io, Memory}
+use Rattle.pci_map.specs.Unreached.{AreFoundBy, IsBelow, AreLeftTold}
 use Rattle.pci_map.proofs.Tolds.{below_none, one_register, all_registers}
 use Rattle.pci_map.proofs.unreached.push_left_of.Goals as goal
 
-pub loop-reg-init : goal.loop-reg-init
-loop-reg-init g c = λ s tree. below_none c.args.outline.now.roots s c.args.slot (string_bytes c.args.text.now)
+pub loop-register-init : goal.loop-register-init
+loop-register-init g c = λ t s tree ways is. below_none t.roots s c.args.function.now.slot (string_bytes c.args.text.now)
 
-pub loop-reg-preserved : goal.loop-reg-preserved
-loop-reg-preserved g c = λ s tree.
-    one_register c.args.outline.now.roots s c.args.slot c.loop-reg.reg (string_bytes c.args.text.now) (string_bytes c.loop-reg.text) (string_bytes c.push_left_at.new.text)
-    (c.loop-reg.invariant s tree) (c.in_ok-push_left_at.ensures s tree)
+pub loop-register-preserved : goal.loop-register-preserved
+loop-register-preserved g c = λ t s tree ways is.
+    one_register t.roots s c.args.function.now.slot c.loop-register.register (string_bytes c.args.text.now) (string_bytes c.loop-register.text) (string_bytes c.push_left_at.new.text)
+    (c.loop-register.invariant t s tree ways is) (c.in_ok-push_left_at.ensures t s tree ways (subst (AreFoundBy s c.args.function.now.slot Io) (sym c.as_slice.ensures.value) (c.in_ok-io.ensures s is))
+    (subst (AreFoundBy s c.args.function.now.slot Memory) (sym c.as_slice-in-loop-register.ensures.value) (c.in_ok-memory.ensures s is)))
 
 pub returns : goal.returns
-returns g c = λ s tree.
-    let end : c.loop-reg.reg ≡ 64 = search rules in
-    all_registers c.args.outline.now.roots s c.args.slot (string_bytes c.args.text.now) (string_bytes c.loop-reg.text)
-    (subst (λ n. AreLeftTold c.args.outline.now.roots s (IsBelow c.args.slot n) (string_bytes c.args.text.now) (string_bytes c.loop-reg.text)) end (c.loop-reg.invariant s tree))
+returns g c = λ t s tree ways is.
+    let end : c.loop-register.register ≡ 16 = search rules in
+    all_registers t.roots s c.args.function.now.slot (string_bytes c.args.text.now) (string_bytes c.loop-register.text)
+    (subst (λ n. AreLeftTold t.roots s (IsBelow c.args.function.now.slot (4 * n)) (string_bytes c.args.text.now) (string_bytes c.loop-register.text)) end (c.loop-register.invariant t s tree ways is))

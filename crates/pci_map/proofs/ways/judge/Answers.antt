@@ -1,0 +1,23 @@
+use Rattle.std.proofs.Common.{subst, refl, ap, sym, ◌∙◌, Option}
+use Rattle.std.specs.Prelude.{MatchOption}
+use Rattle.pci_spec.specs.Slot.{Slot}
+use Rattle.pci_base.specs.Space.{space_of}
+use Rattle.pci_tree.specs.declared.region.Region.{Region}
+use Rattle.pci_why.specs.Found.{NoneClaims, IsFoundIn}
+use Rattle.pci_map.proofs.Firsts.{found_region}
+use Rattle.pci_map.proofs.ways.judge.Goals as goal
+
+pub returns-in_default : goal.returns-in_default
+returns-in_default g c = λ s tree ways.
+    subst (λ (o : Option Region). MatchOption o (NoneClaims s c.args.slot c.args.reg (space_of c.args.space)) (λ q. IsFoundIn s c.args.slot c.args.reg (space_of c.args.space) q)) c.in_default.is
+    (c.in_ok-window.ensures.found s tree.records)
+
+pub returns : goal.returns
+returns g c = λ s tree ways.
+    let q : Region = c.in-Some.window in
+    let space = space_of c.args.space in
+    let found = subst (λ (o : Option Region). MatchOption o (NoneClaims s c.args.slot c.args.reg space) (λ q. IsFoundIn s c.args.slot c.args.reg space q)) c.in-Some.is
+    (c.in_ok-window.ensures.found s tree.records) in record {
+      found = found;
+      judged = c.is_left-left.ensures c.args.outline.now s q tree ways (found_region s c.args.slot c.args.reg space q found) (ap (λ (x : Slot). x.bus) found.slot_is ∙ sym c.bus.ensures) refl;
+    }

@@ -1,0 +1,71 @@
+-- The windows above each bus, with whether they are left.
+use Rattle.std.specs.Prelude.{ℕ, ◌<◌, ◌≡◌, IsTrue, List, length, slice_index_or, Option, None, MatchOption}
+use Rattle.std.specs.List.{Contains}
+use Rattle.pci_spec.specs.Registers.{IO_BASE, MEMORY_BASE, PREFETCHABLE_BASE}
+use Rattle.pci_spec.specs.Slot.{Slot}
+use Rattle.pci_spec.specs.Window.{WindowKind}
+use Rattle.pci_spec.specs.System.{System, Function, Space, Io, Memory}
+use Rattle.map_spec.specs.Lines.{is_first_window}
+use Rattle.pci_why.specs.Found.{IsFoundIn, NoneClaims}
+use Rattle.pci_map.specs.Values.{value_of}
+use Rattle.pci_map.specs.Inside.{is_in}
+use Rattle.pci_map.specs.Left.{IsBridgeAbove, NoneHas, IsFirst, IsLeftIf}
+use Rattle.pci_map.specs.declared.left.Judged.{Judged}
+use Rattle.pci_map.specs.declared.left.Windows.{Windows}
+
+-- the window at a slot and a register, with whether it is left
+pub record IsJudged (roots : List ℕ) (s : System) (slot : Slot) (reg : ℕ) (space : Space)
+    (w : Judged) : Type 0 where
+  pub found : IsFoundIn s slot reg space w.window
+  pub judged : IsLeftIf roots s (value_of space w.window) w.left
+
+-- that window, where one there claims an address
+abbrev pub IsJudgedAt : List ℕ → System → Slot → ℕ → Space → Option Judged → Type 0
+IsJudgedAt roots s slot reg space o =
+    MatchOption o (NoneClaims s slot reg space) (λ w. IsJudged roots s slot reg space w)
+
+-- that window, which has an address
+pub record IsHolding (roots : List ℕ) (s : System) (slot : Slot) (reg : ℕ) (space : Space)
+    (a : ℕ) (w : Judged) : Type 0 where
+  pub is : IsJudged roots s slot reg space w
+  pub has : IsTrue (is_in w.window a)
+
+-- that window, where it has an address
+abbrev pub IsHoldingAt : List ℕ → System → Slot → ℕ → Space → ℕ → Option Judged → Type 0
+IsHoldingAt roots s slot reg space a o =
+    MatchOption o (NoneHas s slot reg space a) (λ w. IsHolding roots s slot reg space a w)
+
+-- the first window of a bridge that has an address, with whether it is left
+pub record IsFirstJudged (roots : List ℕ) (s : System) (space : Space) (b : Function) (a : ℕ)
+    (w : Judged) : Type 0 where
+  pub first : IsFirst s space b a w.window
+  pub judged : IsLeftIf roots s (value_of space w.window) w.left
+
+-- that window, where one has the address
+abbrev pub IsFirstAt : List ℕ → System → Space → Function → ℕ → Option Judged → Type 0
+IsFirstAt roots s space b a o =
+    MatchOption o ((kind : WindowKind) → IsTrue (is_first_window space kind a b) → ⊥)
+    (λ w. IsFirstJudged roots s space b a w)
+
+-- the windows of the bridge at a slot
+pub record AreWindowsOf (roots : List ℕ) (s : System) (slot : Slot) (ws : Windows) : Type 0 where
+  pub io : IsJudgedAt roots s slot IO_BASE Io ws.io
+  pub memory : IsJudgedAt roots s slot MEMORY_BASE Memory ws.memory
+  pub prefetchable : IsJudgedAt roots s slot PREFETCHABLE_BASE Memory ws.prefetchable
+
+-- the windows of the bridge that leads to a bus, which is no root
+pub record AreAbove (roots : List ℕ) (s : System) (bus : ℕ) (ws : Windows) : Type 0 where
+  pub slot : Slot
+  pub bridge : IsBridgeAbove roots s bus slot
+  pub windows : AreWindowsOf roots s slot ws
+
+-- those windows, where the bus has functions and isn't a root
+abbrev pub IsWayTo : List ℕ → System → ℕ → Option Windows → Type 0
+IsWayTo roots s bus o =
+    (f : Function) → Contains s f → f.slot.bus ≡ bus
+    → MatchOption o (Contains roots bus) (λ ws. AreAbove roots s bus ws)
+
+-- those above each bus before an end
+abbrev pub AreWays : List ℕ → System → List (Option Windows) → Type 0
+AreWays roots s ways =
+    (bus : ℕ) → bus < length ways → IsWayTo roots s bus (slice_index_or ways bus None)

@@ -1,0 +1,143 @@
+//! The windows above each bus, and which of them are left: found from the roots down.
+ghost use Rattle.std.specs.Prelude.{◌≡◌, ◌<◌, length, map, IfOk};
+ghost use Rattle.pci_spec.specs.System.{System};
+ghost use Rattle.pci_spec.specs.Bus.{IsNested};
+ghost use Rattle.pci_spec.specs.Decoded.{HasRecords};
+ghost use Rattle.pci_base.specs.Space.{space_of};
+ghost use Rattle.pci_function.specs.Values.{record_value};
+ghost use Rattle.pci_tree.specs.Roots.{buses_of};
+ghost use Rattle.pci_tree.specs.Ways.{IsBridgeToBus};
+ghost use Rattle.pci_map.specs.Left.{IsTreeOf, HasAbove};
+ghost use Rattle.pci_map.specs.Ways.{IsJudgedAt, AreWindowsOf, IsWayTo, AreWays};
+
+use super::left::{Judged, Windows, is_left};
+use pci_base::memory::OutOfMemory;
+use pci_base::offset::{IO_BASE, MEMORY_BASE, PREFETCHABLE_BASE};
+use pci_base::slot::{BUSES, Slot};
+use pci_base::space::Space;
+use pci_function::record::Record;
+use pci_tree::outline::Outline;
+use pci_tree::roots::Roots;
+use pci_why::find::region_at;
+use std::alloc::Allocator;
+
+/// At each bus the index of the bridge that leads there.
+fn bridge_to_bus(records: &[Record]) -> [Option<usize>; BUSES]
+    ensures { IsBridgeToBus records.now result }
+{
+    let mut bridge_to_bus = [None; BUSES];
+    for (index, function) in records.iter().enumerate() {
+        if let Some(bridge) = function.bridge {
+            bridge_to_bus[bridge.secondary as usize] = Some(index);
+        }
+    }
+    bridge_to_bus
+}
+
+/// The bridge that leads to a bus, or None where that is a root.
+fn bridge_above(
+    records: &[Record],
+    bridge_to_bus: &[Option<usize>; BUSES],
+    roots: &Roots,
+    bus: u8,
+) -> Option<Slot>
+    requires { IsBridgeToBus records.now bridge_to_bus.now }
+    ensures { (s : System) → HasRecords s (map record_value records.now)
+        → IsNested (buses_of roots.now) s → HasAbove (buses_of roots.now) s bus result }
+{
+    if roots.has(bus) {
+        return None;
+    }
+    match bridge_to_bus[bus as usize] {
+        None => None,
+        Some(index) => Some(records[index].slot),
+    }
+}
+
+/// The window at a slot and register, where it claims an address, by the windows above lower buses.
+fn judge<A: Allocator + Copy>(
+    alloc: A,
+    outline: &Outline<A>,
+    ways: &[Option<Windows>],
+    slot: Slot,
+    reg: u8,
+    space: Space,
+) -> Result<Option<Judged>, OutOfMemory>
+    requires { slot.bus < length ways.now }
+    ensures { IfOk result (λ o. (s : System) → IsTreeOf outline.now s
+        → AreWays outline.now.roots s ways.now
+        → IsJudgedAt outline.now.roots s slot reg (space_of space) o) }
+{
+    let Some(window) = region_at(alloc, outline, slot, reg, space)? else {
+        return Ok(None);
+    };
+    let left = is_left(ways, slot.bus(), space, window.first);
+    Ok(Some(Judged { window, left }))
+}
+
+/// The windows of a bridge, by those above lower buses.
+fn windows_of<A: Allocator + Copy>(
+    alloc: A,
+    outline: &Outline<A>,
+    ways: &[Option<Windows>],
+    bridge: Slot,
+) -> Result<Windows, OutOfMemory>
+    requires { bridge.bus < length ways.now }
+    ensures { IfOk result (λ w. (s : System) → IsTreeOf outline.now s
+        → AreWays outline.now.roots s ways.now → AreWindowsOf outline.now.roots s bridge w) }
+{
+    let io = judge(alloc, outline, ways, bridge, IO_BASE, Space::Io)?;
+    let memory = judge(alloc, outline, ways, bridge, MEMORY_BASE, Space::Mem)?;
+    let prefetchable = judge(alloc, outline, ways, bridge, PREFETCHABLE_BASE, Space::Mem)?;
+    Ok(Windows {
+        io,
+        memory,
+        prefetchable,
+    })
+}
+
+/// The windows above the next bus, by those above lower ones.
+fn next_way<A: Allocator + Copy>(
+    alloc: A,
+    outline: &Outline<A>,
+    ways: &[Option<Windows>],
+    above: Option<Slot>,
+) -> Result<Option<Windows>, OutOfMemory>
+    ensures { IfOk result (λ o. (s : System) → IsTreeOf outline.now s
+        → AreWays outline.now.roots s ways.now
+        → HasAbove outline.now.roots s (length ways.now) above
+        → IsWayTo outline.now.roots s (length ways.now) o) }
+{
+    let Some(bridge) = above else {
+        return Ok(None);
+    };
+    // a bridge leads to a higher bus than its own
+    if ways.len() <= bridge.bus() as usize {
+        return Ok(None);
+    }
+    let windows = windows_of(alloc, outline, ways, bridge)?;
+    Ok(Some(windows))
+}
+
+/// At each bus that is no root the windows of the bridge that leads there.
+pub fn find_ways<A: Allocator + Copy>(
+    alloc: A,
+    outline: &Outline<A>,
+) -> Result<Vec<Option<Windows>, A>, OutOfMemory>
+    ensures size { IfOk result (λ v. length v.items ≡ 256) }
+    ensures ways { IfOk result (λ v. (s : System) → IsTreeOf outline.now s
+        → AreWays outline.now.roots s v.items) }
+{
+    let records = outline.records();
+    let roots = outline.roots();
+    let bridge_to_bus = bridge_to_bus(records);
+    let Ok(mut ways) = Vec::with_capacity(alloc, BUSES) else {
+        return Err(OutOfMemory);
+    };
+    for bus in 0..BUSES {
+        let above = bridge_above(records, &bridge_to_bus, &roots, bus as u8);
+        let way = next_way(alloc, outline, ways.as_slice(), above)?;
+        ways.push(way)?;
+    }
+    Ok(ways)
+}
