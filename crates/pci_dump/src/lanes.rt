@@ -23,12 +23,12 @@ pub(crate) fn digits_of(cells: u8x16) -> (u8x16, u8x16)
         → slice_index result.0 k ≡ d }
     ensures zero { AreZero result.1 ↔ AreDigits cells }
 {
-    let number = cells - u8x16::splat(48);
-    let is_number = number.simd_lt(u8x16::splat(10));
-    let is_letter = (cells - u8x16::splat(97)).simd_lt(u8x16::splat(6));
-    let numbers = is_number.select(number, cells - u8x16::splat(87));
-    let others = (is_number | is_letter).select(u8x16::splat(0), u8x16::splat(255));
-    (numbers, others)
+    // 0 to 9 where a number stands, 16 and more for each other byte
+    let numbers = (cells + u8x16::splat(198)).saturating_sub(u8x16::splat(6)) + u8x16::splat(16);
+    // 10 to 15 where a letter stands, 16 and more for each other byte
+    let letters = (cells - u8x16::splat(97)).simd_min(u8x16::splat(245)) + u8x16::splat(10);
+    let digits = numbers.simd_min(letters);
+    (digits, digits & u8x16::splat(0xf0))
 }
 
 /// The bytes of these upper and lower halves.

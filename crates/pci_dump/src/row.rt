@@ -56,7 +56,8 @@ fn are_zeros(cells: &[u8]) -> bool
     are_zero(either_of(second, third))
 }
 
-/// Sixteen bytes, each after a space, all at once: their spaces, upper and lower digits are every third cell.
+/// Sixteen bytes, each after a space, all at once. Their spaces, upper and lower digits are every third cell, and no two
+/// of a kind have one lane: so they are taken where they stand, and put in order at the end.
 #[inline(always)]
 fn values_into(cells: &[u8], values: &mut [u8]) -> bool
     requires cells { length cells.now ≡ 48 }
@@ -69,20 +70,34 @@ fn values_into(cells: &[u8], values: &mut [u8]) -> bool
     let b = u8x16::from_slice(&cells[16..32]);
     let c = u8x16::from_slice(&cells[32..48]);
     let spaces = a
-        .shuffle(b, [0, 3, 6, 9, 12, 15, 18, 21, 24, 27, 30, 0, 0, 0, 0, 0])
-        .shuffle(c, [0, 1, 2, 3, 4, 5, 6, 7, 8, 9, 10, 17, 20, 23, 26, 29]);
+        .shuffle(b, [0, 1, 18, 3, 4, 21, 6, 7, 24, 9, 10, 27, 12, 13, 30, 15])
+        .shuffle(c, [0, 17, 2, 3, 20, 5, 6, 23, 8, 9, 26, 11, 12, 29, 14, 15]);
     let high = a
-        .shuffle(b, [1, 4, 7, 10, 13, 16, 19, 22, 25, 28, 31, 0, 0, 0, 0, 0])
-        .shuffle(c, [0, 1, 2, 3, 4, 5, 6, 7, 8, 9, 10, 18, 21, 24, 27, 30]);
+        .shuffle(
+            b,
+            [16, 1, 2, 19, 4, 5, 22, 7, 8, 25, 10, 11, 28, 13, 14, 31],
+        )
+        .shuffle(c, [0, 1, 18, 3, 4, 21, 6, 7, 24, 9, 10, 27, 12, 13, 30, 15]);
     let low = a
-        .shuffle(b, [2, 5, 8, 11, 14, 17, 20, 23, 26, 29, 0, 0, 0, 0, 0, 0])
-        .shuffle(c, [0, 1, 2, 3, 4, 5, 6, 7, 8, 9, 16, 19, 22, 25, 28, 31]);
-    let (upper, not_upper) = digits_of(high);
-    let (lower, not_lower) = digits_of(low);
-    let not_digits = either_of(not_upper, not_lower);
+        .shuffle(b, [0, 17, 2, 3, 20, 5, 6, 23, 8, 9, 26, 11, 12, 29, 14, 15])
+        .shuffle(
+            c,
+            [16, 1, 2, 19, 4, 5, 22, 7, 8, 25, 10, 11, 28, 13, 14, 31],
+        );
+    let (high_digits, not_high) = digits_of(high);
+    let (low_digits, not_low) = digits_of(low);
+    let not_digits = either_of(not_high, not_low);
     if !are_zero(either_of(non_spaces(spaces), not_digits)) {
         return false;
     }
+    let upper = high_digits.shuffle(
+        high_digits,
+        [1, 4, 7, 10, 13, 0, 3, 6, 9, 12, 15, 2, 5, 8, 11, 14],
+    );
+    let lower = low_digits.shuffle(
+        low_digits,
+        [2, 5, 8, 11, 14, 1, 4, 7, 10, 13, 0, 3, 6, 9, 12, 15],
+    );
     bytes_of(upper, lower).copy_to_slice(values);
     true
 }

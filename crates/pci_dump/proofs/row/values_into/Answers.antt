@@ -22,4 +22,4 @@ returns-clause-yes c = λ yes.
     let digits = c.either_of-not_digits.ensures.zero.0 all.1 in
     subst (λ (v : List ℕ). AreValues cells v 16) (sym (put_chunk_whole c.args.values.now c.bytes_of.result (c.requires.values ∙ sym c.bytes_of.ensures.long)))
     (values_there cells _ _ _ c.digits_of.result.0 c.digits_of-2.result.0 c.bytes_of.result s h l (c.non_spaces.ensures.zero.0 all.0) (c.digits_of.ensures.zero.0 digits.0)
-    (c.digits_of-2.ensures.zero.0 digits.1) c.digits_of.ensures.each c.digits_of-2.ensures.each c.bytes_of.ensures.each)
+    (c.digits_of-2.ensures.zero.0 digits.1) c.digits_of.ensures.long c.digits_of-2.ensures.long c.digits_of.ensures.each c.digits_of-2.ensures.each c.bytes_of.ensures.each)
