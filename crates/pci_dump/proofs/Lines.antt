@@ -96,6 +96,13 @@ rows_long row (suc n) = let a = length-append (row_cells row) (rows_cells (row +
 pub rest_long : length rest_cells ≡ 833
 rest_long = let a = length-append (rows_cells 0 16) (Fixed 10 ∷ []) in let b = rows_long 0 16 in omega (arith, a, b)
 
+-- what is left after some lines
+pub rest_is : (bytes image rest : List ℕ) (row : ℕ) → row ≤ 16 → length image ≡ 256 → AreSmall (take (16 * row) image) → bytes ≡ rows_text 0 row (take (16 * row) image) ++ rest → rest ≡ drop (52 * row) bytes
+rest_is bytes image rest row h long small so_far =
+    let rows = rows_text 0 row (take (16 * row) image) in
+    let l : length rows ≡ 52 * row = fits_length (rows_cells 0 row) rows (rows_fit image row h long small) ∙ rows_long 0 row in
+    sym (ap (λ (t : List ℕ). drop (52 * row) t) so_far ∙ drop_at rows rest (52 * row) l)
+
 -- the empty line
 pub blank_ends : (bytes image rest : List ℕ) → length image ≡ 256 → AreSmall (take (16 * 16) image) → bytes ≡ rows_text 0 16 (take (16 * 16) image) ++ rest → rest ≡ [] → RestStops bytes (Ended 16)
 blank_ends bytes image rest long small so_far none =
@@ -157,7 +164,8 @@ pub first_left : (rest : List ℕ) (c : ℕ) → Some c ≡ slice_get rest 0 →
 first_left [] c e = absurd cc
 first_left (x ∷ rest) c e = let same : x ≡ c = cc in λ i. same i ∷ rest
 
--- a loop over all rows has come to the sixteenth
-pub at_end : (row : ℕ) (bytes image rest : List ℕ) → row ≡ 16 → AreSmall (take (16 * row) image) → bytes ≡ rows_text 0 row (take (16 * row) image) ++ rest
-    → AreSmall (take (16 * 16) image) × (bytes ≡ rows_text 0 16 (take (16 * 16) image) ++ rest)
-at_end row bytes image rest e small so_far = (subst (λ (r : ℕ). AreSmall (take (16 * r) image)) e small, subst (λ (r : ℕ). bytes ≡ rows_text 0 r (take (16 * r) image) ++ rest) e so_far)
+-- a loop over rows has come to its last
+pub at_end : (row last : ℕ) (bytes image rest : List ℕ) → row ≡ last → AreSmall (take (16 * row) image) → bytes ≡ rows_text 0 row (take (16 * row) image) ++ rest
+    → AreSmall (take (16 * last) image) × (bytes ≡ rows_text 0 last (take (16 * last) image) ++ rest)
+at_end row last bytes image rest e small so_far =
+    (subst (λ (r : ℕ). AreSmall (take (16 * r) image)) e small, subst (λ (r : ℕ). bytes ≡ rows_text 0 r (take (16 * r) image) ++ rest) e so_far)

@@ -1,13 +1,13 @@
 -- The last lines of a block where they hold zeros alone.
-use Rattle.std.proofs.Common.{◌≡◌, replicate, ℕ, zero, suc, ◌+◌, ◌-◌, ◌*◌, ◌<◌, ◌≤◌, List, [], ◌∷◌, ◌++◌, refl, arith, sym, ◌∙◌, ap, subst, length, take, drop, append_assoc}
+use Rattle.std.proofs.Common.{◌≡◌, replicate, ℕ, zero, suc, ◌+◌, ◌-◌, ◌*◌, ◌<◌, ◌≤◌, List, [], ◌∷◌, ◌++◌, refl, arith, sym, ◌∙◌, ap, subst, length, get_or, take, drop, append_assoc}
 use Rattle.std.specs.List.{slice_range}
-use Rattle.std.proofs.lemmas.List.{length-take, length-drop, take-append-drop, take-take, take-append-le, drop-append-le, drop_at, take_all}
+use Rattle.std.proofs.lemmas.List.{length-take, length-drop, take-append-drop, take-append-le, drop-append-le, drop-drop, drop_at, drop_more, take_all, take-replicate, drop-replicate}
 use Rattle.pci_spec.specs.Form.{Fixed, rows_cells, row_text, rows_text}
 use Rattle.pci_spec.proofs.Forms.{fits_append, fits_length, fits_rows, small_append}
-use Rattle.pci_dump.specs.declared.tail.TheConstants.{ZERO_LINES}
+use Rattle.pci_dump.specs.LastZeros.{HasZeros}
 use Rattle.pci_dump.specs.Value.{AreSmall}
 use Rattle.pci_dump.proofs.Values.{take_on, small_zeros}
-use Rattle.pci_dump.proofs.Lines.{rest_long}
+use Rattle.pci_dump.proofs.Lines.{rest_long, rest_is}
 
 -- some more are the same
 pub same_more : (xs ys : List ℕ) (n k : ℕ) → take n xs ≡ take n ys → slice_range xs n (n + k) ≡ slice_range ys n (n + k) → take (n + k) xs ≡ take (n + k) ys
@@ -16,59 +16,46 @@ same_more xs ys n k same e =
     let next : take k (drop n xs) ≡ take k (drop n ys) = subst (λ (j : ℕ). take j (drop n xs) ≡ take j (drop n ys)) many e in
     take_on xs n k ∙ (λ i. same i ++ next i) ∙ sym (take_on ys n k)
 
--- all 64 are the same
-pub four_same : (xs ys : List ℕ) → length xs ≡ 64 → length ys ≡ 64 → slice_range xs 0 16 ≡ slice_range ys 0 16 → slice_range xs 16 32 ≡ slice_range ys 16 32 → slice_range xs 32 48 ≡ slice_range ys 32 48
-    → slice_range xs 48 64 ≡ slice_range ys 48 64 → xs ≡ ys
-four_same xs ys lx ly a b c d =
-    sym (take_all 64 xs (omega (arith, lx))) ∙ same_more xs ys 48 16 (same_more xs ys 32 16 (same_more xs ys 16 16 a b) c) d ∙ take_all 64 ys (omega (arith, ly))
-
 -- all 48 are the same
 pub three_same : (xs ys : List ℕ) → length xs ≡ 48 → length ys ≡ 48 → slice_range xs 0 16 ≡ slice_range ys 0 16 → slice_range xs 16 32 ≡ slice_range ys 16 32 → slice_range xs 32 48 ≡ slice_range ys 32 48 → xs ≡ ys
 three_same xs ys lx ly a b c = sym (take_all 48 xs (omega (arith, lx))) ∙ same_more xs ys 32 16 (same_more xs ys 16 16 a b) c ∙ take_all 48 ys (omega (arith, ly))
 
--- fewer are the same too
-same_less : (xs ys : List ℕ) (m n : ℕ) → m ≤ n → take n xs ≡ take n ys → take m xs ≡ take m ys
-same_less xs ys m n less same = sym (take-take m n xs less) ∙ ap (take m) same ∙ take-take m n ys less
-
--- all are the same, where the last 64 are, and those before them
-pub whole_same : (xs ys : List ℕ) (n len : ℕ) → len ≡ length ys → 64 ≤ len → n ≤ len → len < n + 64 → take n xs ≡ take n ys → slice_range xs (len - 64) len ≡ slice_range ys (len - 64) len → take len xs ≡ ys
-whole_same xs ys n len long enough within near same last =
-    let m = len - 64 in
-    let sum : m + 64 ≡ len = omega (arith, enough) in
-    let last_same : slice_range xs m (m + 64) ≡ slice_range ys m (m + 64) = subst (λ (j : ℕ). slice_range xs m j ≡ slice_range ys m j) (sym sum) last in
-    let all : take (m + 64) xs ≡ take (m + 64) ys = same_more xs ys m 64 (same_less xs ys m n (omega (arith, near)) same) last_same in
-    subst (λ (j : ℕ). take j xs ≡ take j ys) sum all ∙ take_all len ys (omega (arith, long))
-
-zero_lines_at : (k : ℕ) → k < 11 → drop (52 * k) ZERO_LINES ≡ rows_text (4 + k) (12 - k) (replicate (16 * (12 - k)) 0) ++ 10 ∷ []
+-- no line yet, and the empty line
+pub zeros_start : (bytes : List ℕ) → 833 ≤ length bytes → get_or bytes 832 0 ≡ 10 → HasZeros bytes 16 0
 unfolding rows_text
-zero_lines_at zero below = refl
-zero_lines_at (suc zero) below = refl
-zero_lines_at (suc (suc zero)) below = refl
-zero_lines_at (suc (suc (suc zero))) below = refl
-zero_lines_at (suc (suc (suc (suc zero)))) below = refl
-zero_lines_at (suc (suc (suc (suc (suc zero))))) below = refl
-zero_lines_at (suc (suc (suc (suc (suc (suc zero)))))) below = refl
-zero_lines_at (suc (suc (suc (suc (suc (suc (suc zero))))))) below = refl
-zero_lines_at (suc (suc (suc (suc (suc (suc (suc (suc zero)))))))) below = refl
-zero_lines_at (suc (suc (suc (suc (suc (suc (suc (suc (suc zero))))))))) below = refl
-zero_lines_at (suc (suc (suc (suc (suc (suc (suc (suc (suc (suc zero)))))))))) below = refl
-zero_lines_at (suc (suc (suc (suc (suc (suc (suc (suc (suc (suc (suc k))))))))))) below = absurd (let no : ⊥ = omega (arith, below) in no)
+zeros_start bytes enough e = drop_more bytes 832 0 (omega (arith, enough)) ∙ ap (λ (x : ℕ). x ∷ drop 833 bytes) e
 
-zero_lines : (k row : ℕ) → k ≡ row - 4 → 4 ≤ row → row < 15 → drop (52 * k) ZERO_LINES ≡ rows_text row (16 - row) (replicate (16 * (16 - row)) 0) ++ 10 ∷ []
-zero_lines k row e low high =
-    let r : 4 + k ≡ row = omega (arith, e, low) in
-    let n : 12 - k ≡ 16 - row = omega (arith, e, low) in
-    zero_lines_at k (omega (arith, e, high)) ∙ (λ i. rows_text (r i) (n i) (replicate (16 * n i) 0) ++ 10 ∷ [])
+zero_rows : (row n : ℕ) → rows_text row (suc n) (replicate (16 * suc n) 0) ≡ row_text row (replicate 16 0) ++ rows_text (row + 1) n (replicate (16 * n) 0)
+unfolding rows_text
+zero_rows row n =
+    let less : 16 * suc n - 16 ≡ 16 * n = omega arith in
+    let front : take 16 (replicate (16 * suc n) 0) ≡ replicate 16 0 = take-replicate 16 (16 * suc n) 0 (omega arith) in
+    let back : drop 16 (replicate (16 * suc n) 0) ≡ replicate (16 * n) 0 = drop-replicate 16 (16 * suc n) 0 ∙ ap (λ (k : ℕ). replicate k 0) less in
+    λ i. row_text row (front i) ++ rows_text (row + 1) n (back i)
 
-pub last_lines : (k row : ℕ) (bytes : List ℕ) → k ≡ row - 4 → 4 ≤ row → row < 15 → take (length (slice_range ZERO_LINES (52 * k) 625)) bytes ≡ slice_range ZERO_LINES (52 * k) 625
-    → bytes ≡ (rows_text row (16 - row) (replicate (16 * (16 - row)) 0) ++ 10 ∷ []) ++ drop (833 - 52 * row) bytes
-last_lines k row bytes e low high same =
-    let lines = slice_range ZERO_LINES (52 * k) 625 in
-    let all : length ZERO_LINES ≡ 625 = refl in
-    let d = length-drop (52 * k) ZERO_LINES in
-    let whole : lines ≡ drop (52 * k) ZERO_LINES = take_all (625 - 52 * k) (drop (52 * k) ZERO_LINES) (omega (arith, all, d)) in
-    let many : length lines ≡ 833 - 52 * row = ap length whole ∙ (let m : length (drop (52 * k) ZERO_LINES) ≡ 833 - 52 * row = omega (arith, all, d, e, low, high) in m) in
-    sym (take-append-drop (length lines) bytes) ∙ (λ i. (same ∙ whole ∙ zero_lines k row e low high) i ++ drop (many i) bytes)
+-- one line more
+zeros_more : (bytes : List ℕ) (row n : ℕ) → HasZeros bytes (row + 1) n → slice_range bytes (52 * row) (52 * row + 52) ≡ row_text row (replicate 16 0) → HasZeros bytes row (suc n)
+zeros_more bytes row n so_far line =
+    let many : 52 * row + 52 - 52 * row ≡ 52 = omega arith in
+    let next : 52 * row + 52 ≡ 52 * (row + 1) = omega arith in
+    let first : take 52 (drop (52 * row) bytes) ≡ row_text row (replicate 16 0) = ap (λ (k : ℕ). take k (drop (52 * row) bytes)) (sym many) ∙ line in
+    let after : drop 52 (drop (52 * row) bytes) ≡ drop (52 * (row + 1)) bytes = drop-drop 52 (52 * row) bytes ∙ ap (λ (k : ℕ). drop k bytes) next in
+    let zeros : List ℕ = rows_text (row + 1) n (replicate (16 * n) 0) in
+    sym (take-append-drop 52 (drop (52 * row) bytes)) ∙ (λ i. first i ++ (after ∙ so_far) i)
+    ∙ sym (append_assoc (row_text row (replicate 16 0)) (zeros ++ 10 ∷ []) (drop 833 bytes))
+    ∙ ap (λ (t : List ℕ). t ++ drop 833 bytes) (sym (append_assoc (row_text row (replicate 16 0)) zeros (10 ∷ [])) ∙ ap (λ (t : List ℕ). t ++ 10 ∷ []) (sym (zero_rows row n)))
+
+-- the same by other names
+pub zeros_at : (bytes : List ℕ) (row other n m : ℕ) → HasZeros bytes row n → row ≡ other → n ≡ m → HasZeros bytes other m
+zeros_at bytes row other n m h e f = subst (λ (k : ℕ). HasZeros bytes other k) f (subst (λ (r : ℕ). HasZeros bytes r n) e h)
+
+-- a loop from the last line up
+pub zeros_next : (bytes : List ℕ) (count row at : ℕ) → count < 16 → row ≡ 15 - count → at ≡ 52 * row → HasZeros bytes (16 - count) count → slice_range bytes at (at + 52) ≡ row_text row (replicate 16 0) → HasZeros bytes (16 - (count + 1)) (count + 1)
+zeros_next bytes count row at few e f so_far line =
+    let r : 16 - count ≡ row + 1 = omega (arith, e, few) in
+    let s : row ≡ 16 - (count + 1) = omega (arith, e, few) in
+    let t : suc count ≡ count + 1 = omega arith in
+    zeros_at bytes row (16 - (count + 1)) (suc count) (count + 1) (zeros_more bytes row count (zeros_at bytes (16 - count) (row + 1) count count so_far r refl) (subst (λ (k : ℕ). slice_range bytes k (k + 52) ≡ row_text row (replicate 16 0)) f line)) s t
 
 -- lines one after the other
 rows_join : (row n m : ℕ) (a b : List ℕ) → length a ≡ 16 * n → rows_text row (n + m) (a ++ b) ≡ rows_text row n a ++ rows_text (row + n) m b
@@ -98,13 +85,14 @@ behind_lines bytes image more long small e =
     e ∙ ap (λ (t : List ℕ). lines ++ t) (sym (ap (λ (t : List ℕ). drop 833 t) e ∙ drop_at lines more 833 l))
 
 -- an image whose last rows are zeros is one of bytes
-pub zeroed : (row : ℕ) (old new : List ℕ) → row < 15 → length old ≡ 256 → AreSmall (take (16 * row) old) → new ≡ take (16 * row) old ++ replicate (16 * (16 - row)) 0 → AreSmall new
+pub zeroed : (row : ℕ) (old new : List ℕ) → row < 16 → length old ≡ 256 → AreSmall (take (16 * row) old) → new ≡ take (16 * row) old ++ replicate (16 * (16 - row)) 0 → AreSmall new
 zeroed row old new high long small e = subst AreSmall (sym e) (small_append (take (16 * row) old) (replicate (16 * (16 - row)) 0) small (small_zeros (16 * (16 - row))))
 
-pub last_there : (row : ℕ) (bytes old new rest more : List ℕ) → row < 15 → length old ≡ 256 → length new ≡ 256 → AreSmall (take (16 * row) old) → bytes ≡ rows_text 0 row (take (16 * row) old) ++ rest
-    → rest ≡ (rows_text row (16 - row) (replicate (16 * (16 - row)) 0) ++ 10 ∷ []) ++ more → new ≡ take (16 * row) old ++ replicate (16 * (16 - row)) 0
+pub last_there : (row : ℕ) (bytes old new rest : List ℕ) → row < 16 → length old ≡ 256 → length new ≡ 256 → AreSmall (take (16 * row) old) → bytes ≡ rows_text 0 row (take (16 * row) old) ++ rest → HasZeros bytes row (16 - row) → new ≡ take (16 * row) old ++ replicate (16 * (16 - row)) 0
     → bytes ≡ (rows_text 0 16 new ++ 10 ∷ []) ++ drop 833 bytes
-last_there row bytes old new rest more high long many small so_far lines e =
+last_there row bytes old new rest high long many small so_far zeros_left e =
+    let more : List ℕ = drop 833 bytes in
+    let lines : rest ≡ (rows_text row (16 - row) (replicate (16 * (16 - row)) 0) ++ 10 ∷ []) ++ more = rest_is bytes old rest row (omega (arith, high)) long small so_far ∙ zeros_left in
     let before : List ℕ = take (16 * row) old in
     let zeros : List ℕ = replicate (16 * (16 - row)) 0 in
     let z : 0 + row ≡ row = omega arith in

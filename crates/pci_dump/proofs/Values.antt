@@ -6,11 +6,11 @@ use Rattle.pci_spec.specs.Number.{each_from}
 use Rattle.pci_spec.proofs.Bits.{each_from-at}
 use Rattle.std.proofs.lemmas.Bool.{cases_lt, ltb-true, eqb-true, false≢true}
 use Rattle.std.specs.List.{flat_map, slice_index, slice_range}
-use Rattle.std.proofs.lemmas.List.{length-take, take-append-drop, take-take, drop-take, drop_more, drop_all, take_at, get_or_at, nil_from_length, get_or_past, get_or-take, get_or-drop}
+use Rattle.std.proofs.lemmas.List.{length-take, take-append-drop, take-take, drop-take, drop_more, drop_all, take_at, get_or_at, nil_from_length, get_or_past, get_or-take, get_or-drop, take_all}
 use Rattle.pci_spec.specs.Text.{hex_digit}
 use Rattle.pci_spec.specs.Form.{Fits, row_cells, row_text}
 use Rattle.pci_spec.proofs.Forms.{spaced, row_of}
-use Rattle.pci_dump.specs.declared.row.TheConstants.{HEADS}
+use Rattle.pci_dump.specs.declared.row.TheConstants.{HEADS, ZERO_VALUES}
 use Rattle.pci_dump.specs.Value.{IsValueAt, AreValues, AreSmall}
 
 later : (k : ℕ) (x y z : ℕ) (cells : List ℕ) (v : ℕ) → IsValueAt (x ∷ y ∷ z ∷ cells) (3 * suc k) v → IsValueAt cells (3 * k) v
@@ -171,6 +171,21 @@ no_row row line h none f = let p = row_places row line h f in none p.values p.ea
 -- a line of zeros
 pub zeros_there : (cells : List ℕ) → cells ≡ flat_map spaced (replicate 16 0) → AreValues cells (replicate 16 0) 16
 zeros_there cells e = subst (λ (t : List ℕ). AreValues t (replicate 16 0) 16) (append-nil (flat_map spaced (replicate 16 0)) ∙ sym e) (placed (replicate 16 0) [] (small_zeros 16))
+
+-- a whole line of zeros
+pub zero_row : (row : ℕ) (line : List ℕ) → length line ≡ 52 → row < 16 → IsHeadOf row (get_or line 0 0) (get_or line 1 0) (get_or line 2 0) (get_or line 3 0) → slice_range line 4 52 ≡ ZERO_VALUES → line ≡ row_text row (replicate 16 0)
+zero_row row [] l h head e = absurd (let no : ⊥ = omega (arith, l) in no)
+zero_row row (a ∷ []) l h head e = absurd (let no : ⊥ = omega (arith, l) in no)
+zero_row row (a ∷ b ∷ []) l h head e = absurd (let no : ⊥ = omega (arith, l) in no)
+zero_row row (a ∷ b ∷ c ∷ []) l h head e = absurd (let no : ⊥ = omega (arith, l) in no)
+zero_row row (a ∷ b ∷ c ∷ d ∷ rest) l h head e =
+    let digits = row_digits row h in
+    let first : a ≡ hex_digit (16 * row / 16) = head.first ∙ sym digits.0 in
+    let second : b ≡ hex_digit (16 * row % 16) = head.second ∙ sym digits.1 in
+    let third : c ≡ 58 = head.third in
+    let fourth : d ≡ 32 = head.fourth in
+    let all : rest ≡ ZERO_VALUES = sym (take_all 48 rest (omega (arith, l))) ∙ e in
+    λ i. first i ∷ second i ∷ third i ∷ fourth i ∷ all i
 
 -- a beginning with some elements more
 pub take_on : (xs : List ℕ) (n m : ℕ) → take (n + m) xs ≡ take n xs ++ take m (drop n xs)

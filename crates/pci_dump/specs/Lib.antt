@@ -1,6 +1,7 @@
 pub mod ReadFault
 pub mod Value
 pub mod Row
+pub mod LastZeros
 pub mod Lane
 pub mod TitleRun
 pub mod BlockFault

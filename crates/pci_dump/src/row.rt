@@ -23,6 +23,9 @@ static HEADS: [u32; 16] = [
 /// A line's cells where all values are 0.
 static ZEROS: [u8; 48] = *b" 00 00 00 00 00 00 00 00 00 00 00 00 00 00 00 00";
 
+/// A line's bytes from its first value on where all values are 0.
+static ZERO_VALUES: [u8; 48] = *b"00 00 00 00 00 00 00 00 00 00 00 00 00 00 00 00\n";
+
 /// Four bytes as one number, to compare them at once.
 #[inline(always)]
 fn head_of(line: &[u8]) -> u32
@@ -35,7 +38,7 @@ fn head_of(line: &[u8]) -> u32
 
 /// Whether the first sixteen of a line's cells are those of zeros.
 #[inline(always)]
-pub(crate) fn begin_zeros(cells: &[u8]) -> bool
+fn begin_zeros(cells: &[u8]) -> bool
     requires { 16 ≤ length cells.now }
     ensures { result ≡ true → slice_range cells.now 0 16 ≡ slice_range ZEROS 0 16 }
 {
@@ -54,6 +57,28 @@ fn are_zeros(cells: &[u8]) -> bool
     let second = difference(&cells[16..32], &ZEROS[16..32]);
     let third = difference(&cells[32..48], &ZEROS[32..48]);
     are_zero(either_of(second, third))
+}
+
+/// Whether a line's bytes from its first value on are those of zeros.
+#[inline(always)]
+fn are_zero_values(values: &[u8]) -> bool
+    requires { length values.now ≡ 48 }
+    ensures { result ≡ true → values.now ≡ ZERO_VALUES }
+{
+    let first = difference(&values[0..16], &ZERO_VALUES[0..16]);
+    let second = difference(&values[16..32], &ZERO_VALUES[16..32]);
+    let third = difference(&values[32..48], &ZERO_VALUES[32..48]);
+    are_zero(either_of(first, either_of(second, third)))
+}
+
+/// Whether a line is that of a row whose bytes are all 0.
+#[inline(always)]
+pub(crate) fn is_zero_row(line: &[u8], row: u8) -> bool
+    requires line { length line.now ≡ 52 }
+    requires row { row < 16 }
+    ensures { IsTrue result → line.now ≡ row_text row (replicate 16 0) }
+{
+    head_of(line) == HEADS[usize::from(row)] && are_zero_values(&line[4..52])
 }
 
 /// Sixteen bytes, each after a space, all at once. Their spaces, upper and lower digits are every third cell, and no two

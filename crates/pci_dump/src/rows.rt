@@ -1,13 +1,13 @@
 //! The lines after a slot line.
-ghost use Rattle.std.specs.Prelude.{◌≡◌, ◌<◌, ◌≤◌, ◌++◌, ◌∷◌, [], length, drop, false, IsTrue, OnOk, IfErr};
+ghost use Rattle.std.specs.Prelude.{◌≡◌, ◌<◌, ◌++◌, ◌∷◌, [], length, drop, false, IsTrue, OnOk, IfErr};
 ghost use Rattle.pci_spec.specs.Form.{Fits, row_cells, rows_text};
 ghost use Rattle.pci_dump.specs.Value.{AreSmall};
 ghost use Rattle.pci_dump.specs.Row.{IsRowRead};
 ghost use Rattle.pci_dump.specs.BlockFault.{RowStops, RestStops};
 
 use super::parse::BlockFault;
-use super::row::{ROW_LEN, ROW_OF_ZEROS, begin_zeros, row_into};
-use super::tail::{FIRST_ROW, are_last_zeros, put_last_zeros};
+use super::row::{ROW_LEN, ROW_OF_ZEROS, row_into};
+use super::tail::{first_of_last_zeros, put_last_zeros};
 use pci_base::digit::digit_of;
 use pci_base::image::IMAGE_LEN;
 
@@ -40,16 +40,6 @@ fn part_of_row(part: &[u8], row: u8) -> BlockFault
     }
 }
 
-/// Whether the lines from a row on are tried as one: from 40h on, while there are two, where the
-/// row begins with zeros.
-#[inline(always)]
-fn may_be_last(lines: &[u8], row: u8) -> bool
-    requires { 52 ≤ length lines.now }
-    ensures { IsTrue result → (4 ≤ row) × (row < 15) }
-{
-    begin_zeros(&lines[3..]) && (FIRST_ROW..15).contains(&row)
-}
-
 /// The sixteen lines of bytes and the empty line. At a stop the image may hold some of them.
 pub(crate) fn image_into(bytes: &[u8], image: &mut [u8; IMAGE_LEN]) -> Result<(), BlockFault>
     ensures ok { OnOk result
@@ -57,20 +47,21 @@ pub(crate) fn image_into(bytes: &[u8], image: &mut [u8; IMAGE_LEN]) -> Result<()
     ensures image { OnOk result ((length image.new ≡ 256) × AreSmall image.new) }
     ensures err { IfErr result (λ stop. RestStops bytes.now stop) }
 {
+    let zeros = first_of_last_zeros(bytes);
     let mut rest = bytes;
-    for row in 0..16u8 {
+    for row in 0..zeros {
         if rest.len() < ROW_LEN {
             return Err(part_of_row(rest, row));
-        }
-        if may_be_last(rest, row) && are_last_zeros(rest, row) {
-            put_last_zeros(image, row);
-            return Ok(());
         }
         let (line, next) = rest.split_at(ROW_LEN);
         if !read_row(line, row, image) {
             return Err(BlockFault::BadLine(row));
         }
         rest = next;
+    }
+    if zeros < 16 {
+        put_last_zeros(image, zeros);
+        return Ok(());
     }
     match rest.first() {
         None => Err(BlockFault::Ended(16)),

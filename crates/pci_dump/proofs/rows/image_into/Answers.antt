@@ -28,32 +28,36 @@ loop-row-preserved c =
 
 pub returns-in-None-clause-err : goal.returns-in-None-clause-err
 returns-in-None-clause-err c =
-    let all = at_end _ _ _ _ (omega arith) c.loop-row.invariant.small c.loop-row.invariant.so_far in
+    let all = at_end _ 16 _ _ _ (omega arith) c.loop-row.invariant.small c.loop-row.invariant.so_far in
     blank_ends _ _ _ c.loop-row.invariant.long all.0 all.1 (none_left _ c.in-None.ensures.value)
 
 pub returns-in-Some-eq10-clause-ok : goal.returns-in-Some-eq10-clause-ok
 returns-in-Some-eq10-clause-ok c =
-    let all = at_end _ _ _ _ (omega arith) c.loop-row.invariant.small c.loop-row.invariant.so_far in
+    let all = at_end _ 16 _ _ _ (omega arith) c.loop-row.invariant.small c.loop-row.invariant.so_far in
     let first = first_left _ _ c.in-Some-eq10.ensures.value in
     blank_there _ _ _ c.loop-row.invariant.long all.0 all.1 (first ∙ ap (λ (x : ℕ). x ∷ drop 1 c.loop-row.rest.now) c.in-Some-eq10.field-0-test)
 
 pub returns-in-Some-clause-err : goal.returns-in-Some-clause-err
 returns-in-Some-clause-err c =
-    let all = at_end _ _ _ _ (omega arith) c.loop-row.invariant.small c.loop-row.invariant.so_far in
+    let all = at_end _ 16 _ _ _ (omega arith) c.loop-row.invariant.small c.loop-row.invariant.so_far in
     blank_stops _ _ _ _ c.loop-row.invariant.long all.0 all.1 (first_left _ _ c.in-Some.ensures.value) c.in-Some.field-0-test.1
 
 pub returns-in-Some-eq10-clause-image : goal.returns-in-Some-eq10-clause-image
 returns-in-Some-eq10-clause-image c =
-    let all = at_end _ _ _ _ (omega arith) c.loop-row.invariant.small c.loop-row.invariant.so_far in
+    let all = at_end _ 16 _ _ _ (omega arith) c.loop-row.invariant.small c.loop-row.invariant.so_far in
     (c.loop-row.invariant.long, subst AreSmall (whole_image _ c.loop-row.invariant.long) all.0)
 
-pub returns-then-are_last_zeros-clause-ok : goal.returns-then-are_last_zeros-clause-ok
-returns-then-are_last_zeros-clause-ok c =
-    let row = c.may_be_last.ensures c.if-may_be_last.true in
-    last_there c.loop-row.row c.args.bytes.now c.loop-row.image c.put_last_zeros.new.image c.loop-row.rest.now _ row.1 c.loop-row.invariant.long c.put_last_zeros.array_long c.loop-row.invariant.small c.loop-row.invariant.so_far
-    (c.are_last_zeros.ensures c.if-are_last_zeros.true) c.put_last_zeros.ensures
+pub returns-then-zeros-lt16-clause-ok : goal.returns-then-zeros-lt16-clause-ok
+returns-then-zeros-lt16-clause-ok c =
+    let zeros = c.first_of_last_zeros-zeros.result in
+    let below = c.if-zeros-lt16.true in
+    let all = at_end _ zeros _ _ _ (omega arith) c.loop-row.invariant.small c.loop-row.invariant.so_far in
+    last_there zeros c.args.bytes.now c.loop-row.image c.put_last_zeros.new.image c.loop-row.rest.now below c.loop-row.invariant.long c.put_last_zeros.array_long all.0 all.1
+    (c.first_of_last_zeros-zeros.ensures.zeros below) c.put_last_zeros.ensures
 
-pub returns-then-are_last_zeros-clause-image : goal.returns-then-are_last_zeros-clause-image
-returns-then-are_last_zeros-clause-image c =
-    let row = c.may_be_last.ensures c.if-may_be_last.true in
-    (c.put_last_zeros.array_long, zeroed c.loop-row.row c.loop-row.image c.put_last_zeros.new.image row.1 c.loop-row.invariant.long c.loop-row.invariant.small c.put_last_zeros.ensures)
+pub returns-then-zeros-lt16-clause-image : goal.returns-then-zeros-lt16-clause-image
+returns-then-zeros-lt16-clause-image c =
+    let zeros = c.first_of_last_zeros-zeros.result in
+    let below = c.if-zeros-lt16.true in
+    let all = at_end _ zeros _ _ _ (omega arith) c.loop-row.invariant.small c.loop-row.invariant.so_far in
+    (c.put_last_zeros.array_long, zeroed zeros c.loop-row.image c.put_last_zeros.new.image below c.loop-row.invariant.long all.0 c.put_last_zeros.ensures)
