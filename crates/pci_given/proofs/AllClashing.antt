@@ -46,6 +46,24 @@ IsOnBus n b sp = b ≡ n
 abbrev pub IsAnywhere : Where
 IsAnywhere b sp = Unit {0}
 
+pub not_both_spaces : (bus n : ℕ) (sp : Space) → IsOnBusIn bus Io n sp → IsOnBusIn bus Memory n sp → ⊥
+not_both_spaces bus n sp io memory = io_is_not_memory (sym io.1 ∙ memory.1)
+
+pub either_space : (bus n : ℕ) (sp : Space) → IsOnBus bus n sp ↔ (IsOnBusIn bus Io n sp ⊎ IsOnBusIn bus Memory n sp)
+either_space bus n sp = (
+  λ on. elim sp as (λ sp. IsOnBusIn bus Io n sp ⊎ IsOnBusIn bus Memory n sp) [ Io ↦ inl (on, refl) | Memory ↦ inr (on, refl) ],
+  λ at. elim at [ inl io ↦ io.0 | inr memory ↦ memory.0 ],
+)
+
+pub not_below_and_on : (bus n : ℕ) (sp : Space) → IsBelow bus n sp → IsOnBus bus n sp → ⊥
+not_below_and_on bus n sp below on = let no : ⊥ = omega (arith, below, on) in no
+
+pub below_or_on : (bus n : ℕ) (sp : Space) → IsBelow (bus + 1) n sp ↔ (IsBelow bus n sp ⊎ IsOnBus bus n sp)
+below_or_on bus n sp = (
+  λ below. elim (cases_eq n bus) [ inl same ↦ inr same | inr differ ↦ inl (omega (arith, below, differ)) ],
+  λ one. elim one [ inl below ↦ omega (arith, below) | inr on ↦ omega (arith, on) ],
+)
+
 -- ---- lines by bus and space
 
 at_key : (k : ℕ) (xs ys : List ℕ) → xs ≡ ys → get_or xs k 0 ≡ get_or ys k 0
@@ -97,22 +115,14 @@ module _ (given : Given) (t : Tree) where
 
   pub both_spaces : (bus : ℕ) (a b c : List Fault) → AreClashesAdded (IsOnBusIn bus Io) given t a b → AreClashesAdded (IsOnBusIn bus Memory) given t b c → AreClashesAdded (IsOnBus bus) given t a c
   both_spaces bus a b c one two = lines_both (IsOnBusIn bus Io) (IsOnBusIn bus Memory) (IsOnBus bus)
-      (λ n sp io memory. io_is_not_memory (sym io.1 ∙ memory.1))
-      (λ n sp. (
-        λ on. elim sp as (λ sp. IsOnBusIn bus Io n sp ⊎ IsOnBusIn bus Memory n sp) [ Io ↦ inl (on, refl) | Memory ↦ inr (on, refl) ],
-        λ at. elim at [ inl io ↦ io.0 | inr memory ↦ memory.0 ],
-      )) a b c one two
+      (not_both_spaces bus) (either_space bus) a b c one two
 
   pub no_bus : (list : List Fault) → AreClashesAdded (IsBelow 0) given t list list
   no_bus list = added_none t (IsClashLine (IsBelow 0) given t.roots) list (λ s tree f line. none_line given t.roots s f line)
 
   pub one_bus_more : (n : ℕ) (a b c : List Fault) → AreClashesAdded (IsBelow n) given t a b → AreClashesAdded (IsOnBus n) given t b c → AreClashesAdded (IsBelow (n + 1)) given t a c
   one_bus_more n a b c one two = lines_both (IsBelow n) (IsOnBus n) (IsBelow (n + 1))
-      (λ m sp below on. (let no : ⊥ = omega (arith, below, on) in no))
-      (λ m sp. (
-        λ below. elim (cases_eq m n) [ inl same ↦ inr same | inr differ ↦ inl (omega (arith, below, differ)) ],
-        λ one. elim one [ inl below ↦ omega (arith, below) | inr on ↦ omega (arith, on) ],
-      )) a b c one two
+      (not_below_and_on n) (below_or_on n) a b c one two
 
   pub all_buses : (a b : List Fault) → AreClashesAdded (IsBelow 256) given t a b → AreClashesAdded IsAnywhere given t a b
   all_buses a b added = added_same t (IsClashLine (IsBelow 256) given t.roots) (IsClashLine IsAnywhere given t.roots) a b

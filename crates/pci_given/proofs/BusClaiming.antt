@@ -38,12 +38,12 @@ region_numbered : (reach : List Range) (r : Region) (c : Claimed) → IsClaimOfR
 region_numbered reach r c is = number_same c.slot r.slot c.register r.reg is.slot is.register
 
 pub no_region : (reach : List Range) → AreRegionClaims [] reach []
-no_region reach = made_none (λ (r : Region) c. IsClaimOfRegion r reach c) (λ r. Unit {0}) number_of_region (region_numbered reach)
+no_region reach = made_none (λ (r : Region) c. IsClaimOfRegion r reach c) (λ r. Unit {0}) number_of_region number_of (region_numbered reach)
 
 pub one_region_more : (reach : List Range) (regions : List Region) (i : ℕ) (r : Region) (claims : List Claimed) (c : Claimed) → i < length regions → r ≡ get_or regions i r
     → AreRegionClaims (take i regions) reach claims → IsClaimOfRegion r reach c → AreRegionClaims (take (i + 1) regions) reach (claims ++ c ∷ [])
 one_region_more reach regions i r claims c within at made is =
-    made_more (λ (r : Region) c. IsClaimOfRegion r reach c) (λ r. Unit {0}) number_of_region (region_numbered reach) regions i r claims within at made c is
+    made_more (λ (r : Region) c. IsClaimOfRegion r reach c) (λ r. Unit {0}) number_of_region number_of (region_numbered reach) regions i r claims within at made c is
 
 module _ (given : Given) (space : Space) (records : List Record) (reach : List Range) where
   abbrev IsHere : Slot → Type 0
@@ -56,7 +56,7 @@ module _ (given : Given) (space : Space) (records : List Record) (reach : List R
   legacy_numbered slot c (r, at, is) = number_same c.slot slot c.register 0x3e (is.slot ∙ at.1) is.register
 
   pub no_legacy : (claims : List Claimed) → AreLegacyAdded given space records reach [] claims claims
-  no_legacy claims = record { more = []; appended = sym (append-nil claims); made = made_none (IsLegacyClaimAt given space records reach) IsHere place legacy_numbered }
+  no_legacy claims = record { more = []; appended = sym (append-nil claims); made = made_none (IsLegacyClaimAt given space records reach) IsHere place number_of legacy_numbered }
 
   module _ (slots : List Slot) (i : ℕ) (slot : Slot) (before mid : List Claimed) (within : i < length slots) (at : slot ≡ get_or slots i slot)
       (added : AreLegacyAdded given space records reach (take i slots) before mid) where
@@ -65,14 +65,14 @@ module _ (given : Given) (space : Space) (records : List Record) (reach : List R
     one_legacy_more r c after here is pushed = record {
       more = added.more ++ c ∷ [];
       appended = pushed ∙ ap (λ (l : List Claimed). l ++ c ∷ []) added.appended ∙ append_assoc before added.more (c ∷ []);
-      made = made_more (IsLegacyClaimAt given space records reach) IsHere place legacy_numbered slots i slot added.more within at added.made c (r, here, is);
+      made = made_more (IsLegacyClaimAt given space records reach) IsHere place number_of legacy_numbered slots i slot added.more within at added.made c (r, here, is);
     }
 
     pub no_legacy_more : ((r : Record) → IsBridgeAt records space slot r → ⊥) → AreLegacyAdded given space records reach (take (i + 1) slots) before mid
     no_legacy_more none = record {
       more = added.more;
       appended = added.appended;
-      made = made_less (IsLegacyClaimAt given space records reach) IsHere place legacy_numbered slots i slot added.more within at added.made (λ (r, here). none r here);
+      made = made_less (IsLegacyClaimAt given space records reach) IsHere place number_of legacy_numbered slots i slot added.more within at added.made (λ (r, here). none r here);
     }
 
 -- no record has the slot

@@ -1,4 +1,4 @@
--- Lists of claims that are made of other things one by one, and lists that are put in order.
+-- Lists that are made of other things one by one, and lists that are put in order.
 use Rattle.std.proofs.Common.{◌≡◌, ℕ, ◌+◌, ◌<◌, inl, inr, List, [], ◌∷◌, ◌++◌, length, get_or, map, take, sym, ◌∙◌, ap, subst, arith, eqb, refl}
 use Rattle.std.specs.List.{AllPairs, Contains, IsDistinct}
 use Rattle.std.specs.List.Sorted.{IsPermutation, IsNonDecreasing, IsNonDecreasingBy}
@@ -11,8 +11,7 @@ use Rattle.std.proofs.lemmas.List.Kept.{AllPairs-from_increasing}
 use Rattle.std.proofs.lemmas.List.Sorted.{IsPermutation-map}
 use Rattle.std.proofs.lemmas.Map.Keys.{IsDistinct-from_apart, IsDistinct-IsPermutation, IsStrictlyIncreasing-from_distinct}
 use Rattle.pci_spec.proofs.Members.{in_nil, pairs_nil}
-use Rattle.pci_given.specs.Claim.{Claimed}
-use Rattle.pci_given.specs.BusClaims.{number_of, AreMade}
+use Rattle.pci_given.specs.Made.{AreMade}
 
 -- ---- pairs of a list with one more
 
@@ -32,22 +31,22 @@ pairs_last R xs x y pairs (k, within, at) =
 
 -- ---- one more thing
 
-module _ {X : Type 0} (IsOf : X → Claimed → Type 0) (HasOne : X → Type 0) (number : X → ℕ) (numbered : (x : X) (c : Claimed) → IsOf x c → number_of c ≡ number x) where
-  pub made_none : AreMade IsOf HasOne number [] []
+module _ {X Y : Type 0} (IsOf : X → Y → Type 0) (HasOne : X → Type 0) (number : X → ℕ) (place : Y → ℕ) (numbered : (x : X) (y : Y) → IsOf x y → place y ≡ number x) where
+  pub made_none : AreMade IsOf HasOne number place [] []
   made_none = record {
     each = λ c has. absurd (in_nil c has);
     complete = λ x has. absurd (in_nil x has);
-    rising = λ up. pairs_nil (λ c d. number_of c < number_of d);
+    rising = λ up. pairs_nil (λ c d. place c < place d);
   }
 
-  module _ (xs : List X) (i : ℕ) (x : X) (claims : List Claimed) (within : i < length xs) (at : x ≡ get_or xs i x) (made : AreMade IsOf HasOne number (take i xs) claims) where
+  module _ (xs : List X) (i : ℕ) (x : X) (claims : List Y) (within : i < length xs) (at : x ≡ get_or xs i x) (made : AreMade IsOf HasOne number place (take i xs) claims) where
     split : take (i + 1) xs ≡ take i xs ++ x ∷ []
     split = take_more xs i x within ∙ ap (λ y. take i xs ++ y ∷ []) (sym at)
 
     before : (y : X) → Contains (take i xs) y → Contains (take (i + 1) xs) y
     before y has = subst (λ l. Contains l y) (sym split) (Contains-append_left (take i xs) (x ∷ []) y has)
 
-    pub made_more : (c : Claimed) → IsOf x c → AreMade IsOf HasOne number (take (i + 1) xs) (claims ++ c ∷ [])
+    pub made_more : (c : Y) → IsOf x c → AreMade IsOf HasOne number place (take (i + 1) xs) (claims ++ c ∷ [])
     made_more c is = record {
       each = λ d has. elim (Contains-push_cases claims c d has) [
         | inl old ↦ (let (y, there, of) = made.each d old in (y, before y there, of))
@@ -59,7 +58,7 @@ module _ {X : Type 0} (IsOf : X → Claimed → Type 0) (HasOne : X → Type 0) 
       ];
       rising = λ up.
           let all = subst (AllPairs (λ v w. number v < number w)) split up in
-          all_pairs_push (λ d e. number_of d < number_of e) claims c (made.rising (pairs_before (λ v w. number v < number w) (take i xs) x all)) (λ k d inside.
+          all_pairs_push (λ d e. place d < place e) claims c (made.rising (pairs_before (λ v w. number v < number w) (take i xs) x all)) (λ k d inside.
           let (y, there, of) = made.each (get_or claims k d) (Contains-get_or claims k d inside) in
           let less = pairs_last (λ v w. number v < number w) (take i xs) x y all there in
           let one = numbered y (get_or claims k d) of in
@@ -68,7 +67,7 @@ module _ {X : Type 0} (IsOf : X → Claimed → Type 0) (HasOne : X → Type 0) 
     }
 
     -- it has none
-    pub made_less : (HasOne x → ⊥) → AreMade IsOf HasOne number (take (i + 1) xs) claims
+    pub made_less : (HasOne x → ⊥) → AreMade IsOf HasOne number place (take (i + 1) xs) claims
     made_less none = record {
       each = λ d has. (let (y, there, of) = made.each d has in (y, before y there, of));
       complete = λ y has one. elim (Contains-push_cases (take i xs) x y (subst (λ l. Contains l y) split has)) [

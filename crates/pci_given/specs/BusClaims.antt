@@ -17,6 +17,7 @@ use Rattle.pci_check.specs.Trees.{HasTree}
 use Rattle.given_spec.specs.Given.{Given}
 use Rattle.given_spec.specs.Claims.{ClaimsOnBus}
 use Rattle.pci_given.specs.Claim.{Claimed, IsClaimOn, IsClaimOfRegion, IsClaimOfLegacy}
+use Rattle.pci_given.specs.Made.{AreMade}
 
 -- the place of a claim in the order of slots and registers
 abbrev pub number_of : Claimed → ℕ
@@ -37,19 +38,11 @@ AreClaimsInEach given t bus space claims =
 
 -- ---- how they are made
 
--- claims of some things, of each that has one, in their order where the things rise
-pub record AreMade {X : Type 0} (IsOf : X → Claimed → Type 0) (HasOne : X → Type 0)
-    (number : X → ℕ) (xs : List X) (claims : List Claimed) : Type 0 where
-  pub each : (c : Claimed) → Contains claims c → (x : X) × Contains xs x × IsOf x c
-  pub complete : (x : X) → Contains xs x → HasOne x
-      → (c : Claimed) × Contains claims c × IsOf x c
-  pub rising : AllPairs (λ x y. number x < number y) xs
-      → AllPairs (λ c d. number_of c < number_of d) claims
-
 -- each region has one
 abbrev pub AreRegionClaims : List Region → List Range → List Claimed → Type 0
 AreRegionClaims regions reach claims =
-    AreMade (λ r c. IsClaimOfRegion r reach c) (λ r. Unit {0}) number_of_region regions claims
+    AreMade (λ r c. IsClaimOfRegion r reach c) (λ r. Unit {0}) number_of_region number_of regions
+    claims
 
 -- the record is of a bridge at the slot that answers accesses of the space
 abbrev pub IsBridgeAt : List Record → Space → Slot → Record → Type 0
@@ -66,7 +59,7 @@ abbrev pub AreLegacyClaims : Given → Space → List Record → List Range → 
 AreLegacyClaims given space records reach slots claims =
     AreMade (IsLegacyClaimAt given space records reach)
     (λ slot. (r : Record) × IsBridgeAt records space slot r)
-    (λ slot. region_number slot BRIDGE_CONTROL) slots claims
+    (λ slot. region_number slot BRIDGE_CONTROL) number_of slots claims
 
 -- they come behind others
 pub record AreLegacyAdded (given : Given) (space : Space) (records : List Record)

@@ -3,6 +3,7 @@ pub mod Values
 pub mod Legacy
 pub mod Sent
 pub mod Claim
+pub mod Made
 pub mod BusClaims
 pub mod Clashes
 pub mod Outside
