@@ -17,3 +17,4 @@ pub mod BusClaiming
 pub mod Odds
 pub mod ClashNaming
 pub mod AllClashing
+pub mod Listing

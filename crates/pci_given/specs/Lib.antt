@@ -11,3 +11,4 @@ pub mod Passed
 pub mod Missed
 pub mod Reached
 pub mod Stopped
+pub mod BarsAndRoms

@@ -76,7 +76,7 @@ impl<A: Allocator> Claim<A> {
 }
 
 /// The place of a region in the order of slots and registers, below 2^24.
-fn place(slot: Slot, reg: u8) -> u32
+pub fn place(slot: Slot, reg: u8) -> u32
     ensures { result ≡ region_number slot reg }
 {
     u32::from(slot.number()) * 256 + u32::from(reg)

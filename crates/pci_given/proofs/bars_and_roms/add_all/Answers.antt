@@ -1,0 +1,17 @@
+use Rattle.std.proofs.Common.{◌≡◌, subst, arith}
+use Rattle.pci_given.specs.BarsAndRoms.{AreBarsAndRomsAdded}
+use Rattle.pci_given.proofs.AllClashing.{IsBelow}
+use Rattle.pci_given.proofs.Listing.{no_bus, one_bus_more, all_buses}
+use Rattle.pci_given.proofs.bars_and_roms.add_all.Goals as goal
+
+pub loop-bus-init : goal.loop-bus-init
+loop-bus-init g c = no_bus c.args.outline.now c.args.out.now.items
+
+pub loop-bus-preserved : goal.loop-bus-preserved
+loop-bus-preserved g c = one_bus_more c.args.outline.now c.loop-bus.bus c.args.out.now.items c.loop-bus.out.items c.add_on.new.out.items c.loop-bus.invariant c.in_ok-add_on.ensures
+
+pub returns : goal.returns
+returns g c =
+    let all : c.loop-bus.bus ≡ 256 = omega arith in
+    all_buses c.args.outline.now c.args.out.now.items c.loop-bus.out.items
+    (subst (λ n. AreBarsAndRomsAdded (IsBelow n) c.args.outline.now c.args.out.now.items c.loop-bus.out.items) all c.loop-bus.invariant)
