@@ -18,3 +18,5 @@ pub mod Odds
 pub mod ClashNaming
 pub mod AllClashing
 pub mod Listing
+pub mod Lining
+pub mod OutsideLining

@@ -12,3 +12,4 @@ pub mod Missed
 pub mod Reached
 pub mod Stopped
 pub mod BarsAndRoms
+pub mod OutsideLines

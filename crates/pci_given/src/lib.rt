@@ -11,6 +11,7 @@ pub mod given;
 pub mod legacy;
 pub mod missed;
 pub mod outside;
+pub mod outside_lines;
 pub mod passed;
 pub mod reach;
 pub mod sent;
