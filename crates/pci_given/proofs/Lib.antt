@@ -20,3 +20,4 @@ pub mod AllClashing
 pub mod Listing
 pub mod Lining
 pub mod OutsideLining
+pub mod UnreachedLining

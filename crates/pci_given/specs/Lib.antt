@@ -13,3 +13,4 @@ pub mod Reached
 pub mod Stopped
 pub mod BarsAndRoms
 pub mod OutsideLines
+pub mod UnreachedLines

@@ -16,3 +16,4 @@ pub mod passed;
 pub mod reach;
 pub mod sent;
 pub mod unreached;
+pub mod unreached_lines;

@@ -1,0 +1,53 @@
+//! All unreached regions: one fault for each BAR or ROM with an address that the host sends to the root above it and that
+//! a bridge on the way from there doesn't pass.
+ghost use Rattle.std.specs.Prelude.{IfOk};
+ghost use Rattle.pci_given.specs.Values.{given_value};
+ghost use Rattle.pci_given.specs.UnreachedLines.{AreUnreachedLines, AreAllUnreached};
+
+use super::bars_and_roms::{BarOrRom, bars_and_roms};
+use super::given::Given;
+use super::unreached::first_stop_of;
+use pci_base::memory::OutOfMemory;
+use pci_function::fault::Fault;
+use pci_tree::outline::Outline;
+use std::alloc::Allocator;
+
+/// The faults 60 of some BARs and ROMs, in their order.
+fn unreached_among<A: Allocator + Copy>(
+    alloc: A,
+    given: &Given<'_>,
+    outline: &Outline<A>,
+    list: &[BarOrRom],
+) -> Result<Vec<Fault, A>, OutOfMemory>
+    ensures { IfOk result (λ v. AreUnreachedLines (given_value given.now) outline.now list.now v.items) }
+{
+    let mut out = Vec::new(alloc);
+    for one in list {
+        let region = &one.region;
+        if let Some(stop) = first_stop_of(alloc, given, outline, region, one.space)? {
+            out.push(Fault::Unreached {
+                slot: region.slot,
+                reg: region.reg,
+                space: one.space,
+                address: stop.address,
+                bridge: stop.bridge,
+            })?;
+        }
+    }
+    Ok(out)
+}
+
+/// All unreached regions of the systems with these records and root buses, with what is given: 60 of each BAR or ROM that
+/// is enabled, and has an address that the host sends to the root above it and that a bridge on the way from there doesn't
+/// pass, with the first such bridge and the least address that this one doesn't pass. They stand in the order in which
+/// judging looks for them.
+pub fn all_unreached<A: Allocator + Copy>(
+    alloc: A,
+    given: &Given<'_>,
+    outline: &Outline<A>,
+) -> Result<Vec<Fault, A>, OutOfMemory>
+    ensures { IfOk result (λ v. AreAllUnreached (given_value given.now) outline.now v.items) }
+{
+    let list = bars_and_roms(alloc, outline)?;
+    unreached_among(alloc, given, outline, &list)
+}
