@@ -1,21 +1,13 @@
 -- All clashes of a system: bus by bus, and in order.
-use Rattle.std.proofs.Common.{rules, ◌≡◌, ℕ, ◌+◌, ◌<◌, ◌^◌, ◌⊎◌, inl, inr, List, [], ◌++◌, length, get_or, map, refl, sym, ◌∙◌, ap, subst, arith}
+use Rattle.std.proofs.Common.{rules, ◌≡◌, ℕ, ◌+◌, ◌<◌, ◌^◌, ◌⊎◌, inl, inr, List, [], ◌++◌, get_or, refl, sym, ◌∙◌, ap, subst, arith}
 use Rattle.std.specs.Prelude.{◌↔◌}
-use Rattle.std.specs.List.{AllPairs, Contains}
 use Rattle.std.specs.List.Sorted.{IsPermutation, IsNonDecreasingBy}
-use Rattle.std.specs.Bool.{IsTrue}
 use Rattle.std.proofs.lemmas.Bool.{cases_eq}
-use Rattle.std.proofs.lemmas.List.Elements.{Contains-get_or}
-use Rattle.std.proofs.lemmas.List.Sorted.{Contains-permutation, IsPermutation-sym}
 use Rattle.pci_spec.specs.Slot.{Slot, IsSlot}
 use Rattle.pci_spec.specs.System.{System, Space, Io, Memory, IsSystem, IsAddress}
 use Rattle.pci_spec.specs.Fault.{Clash}
 use Rattle.pci_spec.specs.Fault as plain
-use Rattle.pci_spec.specs.Order.{precedes}
-use Rattle.pci_spec.specs.Order as order
-use Rattle.pci_spec.proofs.Members.{in_map_to, in_map_from, pairs_map}
 use Rattle.pci_spec.proofs.Firsts.{slot_of, space_key-same}
-use Rattle.pci_spec.proofs.FirstLines.{same_precedes}
 use Rattle.pci_check.proofs.Clashing.{io_is_not_memory}
 use Rattle.pci_function.specs.declared.fault.Fault.{Fault}
 use Rattle.pci_function.specs.Fault.{fault_of}
@@ -23,16 +15,14 @@ use Rattle.pci_tree.specs.Outline.{Tree}
 use Rattle.pci_faults.specs.Order.{place_of}
 use Rattle.pci_faults.specs.Lines.{AreJust}
 use Rattle.pci_faults.proofs.Adding.{AreApart, added_none, added_both, added_same}
-use Rattle.pci_faults.proofs.Places.{IsRegion, IsSpelled, looked_for_before, one_key}
+use Rattle.pci_faults.proofs.Places.{IsRegion, IsSpelled}
 use Rattle.given_spec.specs.Given.{Given}
 use Rattle.given_spec.specs.Claims.{Own, Legacy, ClaimsOnBus}
-use Rattle.given_spec.specs.Fault.{Known, Outside, fault_number}
-use Rattle.given_spec.specs.Fault as spec
-use Rattle.given_spec.specs.AllFaults.{IsNamed, judging_key}
+use Rattle.given_spec.specs.Fault.{Known, fault_number}
+use Rattle.given_spec.specs.AllFaults.{IsNamed}
 use Rattle.given_spec.proofs.Naming.{named_register}
 use Rattle.pci_given.specs.Clashes.{IsClashLine, IsOnBusIn, AreClashesAdded, AreAllClashes}
-use Rattle.given_spec.specs.Numbered.{AreAllNumbered}
-use Rattle.pci_given.proofs.Making.{rise_in_order}
+use Rattle.pci_given.proofs.Numbering.{AreLinesOf, all_numbered}
 
 abbrev pub Where : Type 1
 Where = ℕ → Space → Type 0
@@ -93,7 +83,7 @@ module _ (given : Given) (roots : List ℕ) (s : System) where
   moved_line A B to f line = absurd (search rules)
 
   -- a bus has a number below 256
-  low_bus : IsSystem s → (bus : ℕ) (space : Space) (a : ℕ) (slot : Slot) (register : ℕ) → ClaimsOnBus given s bus space a slot register → IsSlot slot × (bus < 256)
+  pub low_bus : IsSystem s → (bus : ℕ) (space : Space) (a : ℕ) (slot : Slot) (register : ℕ) → ClaimsOnBus given s bus space a slot register → IsSlot slot × (bus < 256)
   low_bus system bus space a slot register claims =
       let is : IsSlot slot = subst IsSlot claims.3 (slot_of s system claims.0 claims.2) in
       let on = claims.4 in
@@ -135,11 +125,11 @@ address_small Io a h = omega (arith, h)
 address_small Memory a h = h
 
 module _ (given : Given) (roots : List ℕ) (s : System) (system : IsSystem s) where
-  address_of : (bus : ℕ) (space : Space) (a : ℕ) (slot : Slot) (register : ℕ) → ClaimsOnBus given s bus space a slot register → a < 2 ^ 64
+  pub address_of : (bus : ℕ) (space : Space) (a : ℕ) (slot : Slot) (register : ℕ) → ClaimsOnBus given s bus space a slot register → a < 2 ^ 64
   address_of bus space a slot register (f, Own part, listed, at, on, named, claims) = address_small space a claims.address
   address_of bus space a slot register (f, Legacy, listed, at, on, named, claims) = address_small space a claims.address
 
-  region_of : (bus : ℕ) (space : Space) (a : ℕ) (slot : Slot) (register : ℕ) → ClaimsOnBus given s bus space a slot register → IsRegion slot register
+  pub region_of : (bus : ℕ) (space : Space) (a : ℕ) (slot : Slot) (register : ℕ) → ClaimsOnBus given s bus space a slot register → IsRegion slot register
   region_of bus space a slot register claims = record {
     slot = (low_bus given roots s system bus space a slot register claims).0;
     register = named_register given s bus space a slot register claims;
@@ -161,39 +151,11 @@ module _ (given : Given) (roots : List ℕ) (s : System) (system : IsSystem s) w
   line_named (plain.Split space a f r g q) line number = absurd (let no : ⊥ = omega (arith, number) in no)
   line_named f line number = absurd (search rules)
 
-  module _ (xs ys : List Fault) (just : AreJust (IsClashLine IsAnywhere given roots s) xs) (moved : IsPermutation xs ys) (sorted : IsNonDecreasingBy (λ f. place_of (fault_of f)) ys) where
-    abbrev known : Fault → spec.Fault
-    known f = Known (fault_of f)
-
-    line_in : (f : Fault) → Contains ys f → IsClashLine IsAnywhere given roots s (fault_of f)
-    line_in f has = just.each f (Contains-permutation ys xs f (IsPermutation-sym xs ys moved) has)
-
-    rise : AllPairs (λ f g. place_of (fault_of f) < place_of (fault_of g)) ys
-    rise = rise_in_order (λ (f : Fault). place_of (fault_of f)) xs ys (λ i j d less within same.
-        let inside : i < length xs = omega (arith, less, within) in
-        just.distinct i j d less within (one_key (fault_of (get_or xs i d)) (fault_of (get_or xs j d))
-        (spelled (fault_of (get_or xs i d)) (just.each (get_or xs i d) (Contains-get_or xs i d inside)))
-        (spelled (fault_of (get_or xs j d)) (just.each (get_or xs j d) (Contains-get_or xs j d within))) same)) moved sorted
-
-    complete_of : (f : spec.Fault) → IsNamed given roots s f → fault_number f ≡ 61 → Contains (map known ys) f
-    complete_of (Known f) named number =
-        let found = just.complete f (line_named f named number) in
-        subst (λ (x : plain.Fault). Contains (map known ys) (Known x)) found.2 (in_map_from known ys found.0 (Contains-permutation xs ys found.0 moved found.1))
-    complete_of (Outside slot register space a) named number = absurd (let no : ⊥ = omega (arith, number) in no)
-
-    pub all_numbered : AreAllNumbered 61 given roots s (map known ys)
-    all_numbered = record {
-      each = λ f has. (let made = in_map_to known ys f has in
-          subst (λ (x : spec.Fault). IsNamed given roots s x × (fault_number x ≡ 61)) made.is (named_line (fault_of made.from) (line_in made.from made.has)));
-      complete = complete_of;
-      rising = pairs_map (λ f g. IsTrue (precedes (judging_key f) (judging_key g))) known ys (λ i j d less within.
-          let at = λ (k : ℕ) (inside : k < length ys). spelled (fault_of (get_or ys k d)) (line_in (get_or ys k d) (Contains-get_or ys k d inside)) in
-          same_precedes 1 1 (order.judging_key (fault_of (get_or ys i d))) (order.judging_key (fault_of (get_or ys j d))) refl
-          (looked_for_before (fault_of (get_or ys i d)) (fault_of (get_or ys j d)) (at i (omega (arith, less, within))) (at j within) (rise i j d less within)));
-    }
+  lines : AreLinesOf 61 given roots s (IsClashLine IsAnywhere given roots s)
+  lines = record { inside = λ e. (let no : ⊥ = omega (arith, e) in no); spelled = spelled; named = named_line; line = line_named }
 
 pub all_clashes_are : (given : Given) (t : Tree) (none xs ys : List Fault) → none ≡ [] → AreClashesAdded IsAnywhere given t none xs → IsPermutation xs ys
     → IsNonDecreasingBy (λ f. place_of (fault_of f)) ys → AreAllClashes given t ys
 all_clashes_are given t none xs ys empty added moved sorted s tree =
     let is : xs ≡ added.more = added.appended ∙ ap (λ (l : List Fault). l ++ added.more) empty in
-    all_numbered given t.roots s tree.system xs ys (subst (AreJust (IsClashLine IsAnywhere given t.roots s)) (sym is) (added.just s tree)) moved sorted
+    all_numbered 61 given t.roots s (IsClashLine IsAnywhere given t.roots s) (lines given t.roots s tree.system) xs ys (subst (AreJust (IsClashLine IsAnywhere given t.roots s)) (sym is) (added.just s tree)) moved sorted

@@ -9,6 +9,7 @@ use Rattle.std.proofs.lemmas.List.Elements.{Contains-append_left, Contains-appen
 use Rattle.std.proofs.lemmas.List.Sorted.{Contains-permutation, IsPermutation-sym}
 use Rattle.pci_spec.specs.Slot.{Slot, slot_number}
 use Rattle.pci_spec.specs.System.{System, Function, Space, is_bridge, is_space_on}
+use Rattle.pci_spec.specs.Bus.{IsNested}
 use Rattle.pci_spec.specs.Decoded.{record_of}
 use Rattle.pci_spec.proofs.Members.{in_nil, in_filter_to, in_filter_from, in_map_to, in_map_from, pairs_append, pairs_filter, pairs_map, pairs_nil}
 use Rattle.pci_spec.proofs.Regions.{register_of-lt}
@@ -27,9 +28,10 @@ use Rattle.given_spec.specs.Claims.{Own, Legacy, ClaimsOnBus}
 use Rattle.pci_given.specs.Passed.{is_piece_at}
 use Rattle.pci_given.specs.Reached.{IsAccessReach}
 use Rattle.pci_given.specs.Claim.{Claimed, IsClaimOn, IsClaimOfRegion, IsClaimOfLegacy}
-use Rattle.pci_given.specs.BusClaims.{number_of, AreRegionClaims, IsBridgeAt, IsLegacyClaimAt, AreLegacyClaims, AreLegacyAdded, AreBridgesOf, AreClaimsOn}
+use Rattle.pci_given.specs.BusClaims.{number_of, AreRegionClaims, IsBridgeAt, IsLegacyClaimAt, AreLegacyClaims, AreLegacyAdded, AreBridgesOf, IsNamedOn, AreClaimsOn}
 use Rattle.pci_given.proofs.Clashing.{not_legacy}
 use Rattle.pci_given.proofs.Linking.{legacy_same}
+use Rattle.pci_given.proofs.Rooted.{sent_there}
 use Rattle.pci_given.proofs.Making.{made_none, made_more, made_less, rise_in_order}
 
 -- ---- claims that are made one by one
@@ -159,11 +161,13 @@ module _ (given : Given) (t : Tree) (s : System) (tree : HasTree t s) (bus : ℕ
       | inr legacy ↦ in_nil legacy.f.slot (subst (λ l. Contains l legacy.f.slot) no_bridges legacy.has)
     ]);
     rising = pairs_nil (λ c d. number_of c < number_of d);
+    named = λ c has. absurd (in_nil c has);
+    sent = λ root c has. absurd (in_nil c has);
   }
 
   module _ (records : List Record) (has : Has s records) (rise : RiseBySlot records) (reach : List Range) (gets : IsAccessReach given t.roots s space bus reach)
       (own more claims : List Claimed) (regional : AreRegionClaims regions reach own) (legacy : AreLegacyClaims given space records reach here more)
-      (moved : IsPermutation (own ++ more) claims) (sorted : IsNonDecreasingBy number_of claims) where
+      (moved : IsPermutation (own ++ more) claims) (sorted : IsNonDecreasingBy number_of claims) (nested : IsNested t.roots s) where
     region_claims : (c : Claimed) → Contains own c → IsClaimOn given t.roots s bus space c
     region_claims c in_own =
         let (r, there, of) = regional.each c in_own in
@@ -213,12 +217,44 @@ module _ (given : Given) (t : Tree) (s : System) (tree : HasTree t s) (bus : ℕ
         let other = legal.register in
         not_legacy region.f region.part (let is : c.register ≡ 0x3e = omega (arith, same, low, register, named, other) in sym register ∙ sym named ∙ is)
 
+    in_either : (c : Claimed) → Contains claims c → Contains own c ⊎ Contains more c
+    in_either c in_claims = Contains-append_cases own more c (Contains-permutation claims (own ++ more) c (IsPermutation-sym (own ++ more) claims moved) in_claims)
+
+    each_is : (c : Claimed) → Contains claims c → IsClaimOn given t.roots s bus space c
+    each_is c in_claims = elim (in_either c in_claims) [ inl region ↦ region_claims c region | inr part ↦ legacy_claim c part ]
+
+    region_named : (c : Claimed) → Contains own c → IsNamedOn s bus c
+    region_named c in_own =
+        let (r, there, of) = regional.each c in_own in
+        let region = are.each r there in
+        let some = region.is.some in
+        let low = register_of-lt region.f region.part ((region.is.claims r.first).0 (omega arith, some)).there in
+        let register = region.is.register in
+        let named = of.register in
+        record {
+          f = region.f;
+          listed = region.listed;
+          slot = sym (of.slot ∙ region.is.slot);
+          on_bus = ap (λ (x : Slot). x.bus) (of.slot ∙ region.is.slot) ∙ region.on_bus;
+          register = omega (arith, low, register, named);
+        }
+
+    legacy_named : (c : Claimed) → Contains more c → IsNamedOn s bus c
+    legacy_named c in_more =
+        let (slot, there, (r, at, of)) = legacy.each c in_more in
+        let place = bridge_at slot there in
+        let named = of.register in
+        record {
+          f = place.f;
+          listed = place.listed;
+          slot = place.at ∙ sym (of.slot ∙ at.1);
+          on_bus = ap (λ (x : Slot). x.bus) (of.slot ∙ at.1) ∙ place.on_bus;
+          register = omega (arith, named);
+        }
+
     pub claims_are : AreClaimsOn given t.roots s bus space claims
     claims_are = record {
-      each = λ c in_claims. elim (Contains-append_cases own more c (Contains-permutation claims (own ++ more) c (IsPermutation-sym (own ++ more) claims moved) in_claims)) [
-        | inl region ↦ region_claims c region
-        | inr part ↦ legacy_claim c part
-      ];
+      each = each_is;
       complete = λ slot register a claims_it. elim (claimant slot register a claims_it) [
         | inl region ↦ region_has slot register region
         | inr part ↦ legacy_has slot register a part
@@ -227,4 +263,6 @@ module _ (given : Given) (t : Tree) (s : System) (tree : HasTree t s) (bus : ℕ
           (λ i j d less within e. (let up = regional.rising are.rising i j d less within in let no : ⊥ = omega (arith, up, e) in no))
           (λ i j d less within e. (let up = legacy.rising bridges_rise i j d less within in let no : ⊥ = omega (arith, up, e) in no))
           (λ c d in_own in_more. apart c d in_own in_more)) moved sorted;
+      named = λ c in_claims. elim (in_either c in_claims) [ inl region ↦ region_named c region | inr part ↦ legacy_named c part ];
+      sent = λ root c in_claims a covers. sent_there given t.roots s nested bus root space a ((each_is c in_claims a).0 covers).0;
     }

@@ -13,11 +13,17 @@ pub mod Unreaching
 pub mod Clashing
 pub mod Legacies
 pub mod Making
+pub mod Rooted
 pub mod BusClaiming
 pub mod Odds
+pub mod Telling
 pub mod ClashNaming
+pub mod Numbering
 pub mod AllClashing
 pub mod Listing
 pub mod Lining
 pub mod OutsideLining
 pub mod UnreachedLining
+pub mod RootClaims
+pub mod SplitNaming
+pub mod AllSplitting

@@ -1,4 +1,4 @@
--- Claims of a list that are at odds.
+-- Where claims of a list meet.
 use Rattle.std.proofs.Common.{◌≡◌, ℕ, ◌+◌, ◌<◌, ◌≤◌, ◌⊎◌, inl, inr, List, [], ◌∷◌, ◌++◌, length, get_or, Option, None, Some, Bool, true, false, if◌then◌else◌, refl, sym, ◌∙◌, ap, subst, arith}
 use Rattle.std.specs.Prelude.{MatchOption, nat_le}
 use Rattle.std.specs.List.{Contains}
@@ -6,10 +6,12 @@ use Rattle.std.proofs.lemmas.Bool.{cases_lt, cases_eq, both_ways, leb-true, leb-
 use Rattle.std.proofs.lemmas.List.Elements.{Contains-get_or, Contains-push, Contains-push_cases, Contains-append_left}
 use Rattle.std.proofs.lemmas.List.Quantifiers.{all_pairs_push}
 use Rattle.pci_tree.specs.Ranges.{Covers}
+use Rattle.pci_faults.specs.declared.shares.Among.{Among}
+use Rattle.pci_faults.specs.declared.shares.Among.TheVariants.{Bus, Roots}
 use Rattle.pci_faults.specs.declared.shares.Share.{Share}
 use Rattle.given_spec.specs.Claims.{may_share}
 use Rattle.pci_given.specs.Claim.{Claimed, IsLeastCommon}
-use Rattle.pci_given.specs.Clashes.{AreAtOdds, IsLeastAtOdds, claim_at, AreClashing, IsLeastClashBelow, IsFoundBelow, lesser, AreClashesBelow}
+use Rattle.pci_given.specs.Clashes.{AreAtOdds, IsLeastAtOdds, AreOnTwoBuses, Meet, IsLeastOfTwo, claim_at, AreMeeting, IsLeastBelow, IsFoundBelow, lesser, AreMeetingsBelow}
 
 -- ---- two claims
 
@@ -25,87 +27,100 @@ odds_answer c d apart (Some a) is = record {
   least = λ b odds. elim (cases_lt b a) [ inl less ↦ absurd (is.least b less odds.first odds.second) | inr le ↦ le ];
 }
 
+pub of_a_bus : (bus : ℕ) (c d : Claimed) (o : Option ℕ) → MatchOption o ((a : ℕ) → AreAtOdds c d a → ⊥) (λ a. IsLeastAtOdds c d a)
+    → MatchOption o ((a : ℕ) → AreAtOdds c d a → ⊥) (λ a. IsLeastOfTwo (Bus bus) c d a)
+of_a_bus bus c d None none = none
+of_a_bus bus c d (Some a) is = record { there = is.there; least = is.least }
+
+pub of_two_buses : (c d : Claimed) → (c.slot.bus ≡ d.slot.bus → ⊥) → (o : Option ℕ) → MatchOption o ((a : ℕ) → Covers c.pieces a → Covers d.pieces a → ⊥) (λ a. IsLeastCommon c.pieces d.pieces a)
+    → MatchOption o ((a : ℕ) → AreOnTwoBuses c d a → ⊥) (λ a. IsLeastOfTwo Roots c d a)
+of_two_buses c d differ None none = λ a two. none a two.first two.second
+of_two_buses c d differ (Some a) is = record {
+  there = record { first = is.first; second = is.second; buses = differ };
+  least = λ b two. elim (cases_lt b a) [ inl less ↦ absurd (is.least b less two.first two.second) | inr le ↦ le ];
+}
+
 -- ---- one claim and those before it
 
-module _ (claims : List Claimed) (i : ℕ) where
-  abbrev odds_with : (k a : ℕ) → Type 0
-  odds_with k a = AreAtOdds (claim_at claims k) (claim_at claims i) a
+module _ (among : Among) (claims : List Claimed) (i : ℕ) where
+  abbrev meets_with : (k a : ℕ) → Type 0
+  meets_with k a = Meet among (claim_at claims k) (claim_at claims i) a
 
-  odds_of : (a first second : ℕ) → second ≡ i → AreClashing claims a first second → odds_with first a
-  odds_of a first second at clash = subst (λ n. AreAtOdds (claim_at claims first) (claim_at claims n) a) at clash.odds
+  meets_of : (a first second : ℕ) → second ≡ i → AreMeeting among claims a first second → meets_with first a
+  meets_of a first second at meeting = subst (λ n. Meet among (claim_at claims first) (claim_at claims n) a) at meeting.meet
 
-  pub none_before : IsFoundBelow 0 claims i None
+  pub none_before : IsFoundBelow among 0 claims i None
   none_before = λ a first less. absurd (let no : ⊥ = omega (arith, less) in no)
 
   module _ (k : ℕ) (before : k < i) (within : i < length claims) where
-    pub still_found : (found : Option Share) → ((a : ℕ) → odds_with k a → ⊥) → IsFoundBelow k claims i found → IsFoundBelow (k + 1) claims i found
-    still_found None none was = λ a first less clash. elim (cases_eq first k) [
-      | inl same ↦ none a (subst (λ n. odds_with n a) same clash.odds)
-      | inr differ ↦ was a first (omega (arith, less, differ)) clash
+    pub still_found : (found : Option Share) → ((a : ℕ) → meets_with k a → ⊥) → IsFoundBelow among k claims i found → IsFoundBelow among (k + 1) claims i found
+    still_found None none was = λ a first less meeting. elim (cases_eq first k) [
+      | inl same ↦ none a (subst (λ n. meets_with n a) same meeting.meet)
+      | inr differ ↦ was a first (omega (arith, less, differ)) meeting
     ]
     still_found (Some s) none (at, is) = (
       at,
       record {
         below = let low = is.below in omega (arith, low);
         there = is.there;
-        least = λ a first less clash. elim (cases_eq first k) [
-          | inl same ↦ absurd (none a (subst (λ n. odds_with n a) same (odds_of a first s.second at clash)))
-          | inr differ ↦ is.least a first (omega (arith, less, differ)) clash
+        least = λ a first less meeting. elim (cases_eq first k) [
+          | inl same ↦ absurd (none a (subst (λ n. meets_with n a) same (meets_of a first s.second at meeting)))
+          | inr differ ↦ is.least a first (omega (arith, less, differ)) meeting
         ];
       },
     )
 
-    module _ (a : ℕ) (least : IsLeastAtOdds (claim_at claims k) (claim_at claims i) a) where
+    module _ (a : ℕ) (least : IsLeastOfTwo among (claim_at claims k) (claim_at claims i) a) where
       abbrev this : Share
       this = record { address = a; first = k; second = i }
 
-      no_less : (b first : ℕ) → first ≡ k → AreClashing claims b first i → (a < b) ⊎ ((a ≡ b) × (k ≤ first))
-      no_less b first same clash =
-          let le : a ≤ b = least.least b (subst (λ n. odds_with n b) same clash.odds) in
+      no_less : (b first : ℕ) → first ≡ k → AreMeeting among claims b first i → (a < b) ⊎ ((a ≡ b) × (k ≤ first))
+      no_less b first same meeting =
+          let le : a ≤ b = least.least b (subst (λ n. meets_with n b) same meeting.meet) in
           elim (cases_eq a b) [ inl e ↦ inr (e, omega (arith, same)) | inr differ ↦ inl (omega (arith, le, differ)) ]
 
-      clash_here : AreClashing claims a k i
-      clash_here = record { within = within; before = before; odds = least.there }
+      meeting_here : AreMeeting among claims a k i
+      meeting_here = record { within = within; before = before; meet = least.there }
 
-      first_found : IsFoundBelow k claims i None → IsFoundBelow (k + 1) claims i (Some this)
+      first_found : IsFoundBelow among k claims i None → IsFoundBelow among (k + 1) claims i (Some this)
       first_found was = (
         refl,
         record {
           below = omega arith;
-          there = clash_here;
-          least = λ b first less clash. elim (cases_eq first k) [
-            | inl same ↦ no_less b first same clash
-            | inr differ ↦ absurd (was b first (omega (arith, less, differ)) clash)
+          there = meeting_here;
+          least = λ b first less meeting. elim (cases_eq first k) [
+            | inl same ↦ no_less b first same meeting
+            | inr differ ↦ absurd (was b first (omega (arith, less, differ)) meeting)
           ];
         },
       )
 
       -- what was found before has no greater address
-      old_found : (s : Share) → s.address ≤ a → IsFoundBelow k claims i (Some s) → IsFoundBelow (k + 1) claims i (Some s)
+      old_found : (s : Share) → s.address ≤ a → IsFoundBelow among k claims i (Some s) → IsFoundBelow among (k + 1) claims i (Some s)
       old_found s le (at, is) = (
         at,
         record {
           below = let low = is.below in omega (arith, low);
           there = is.there;
-          least = λ b first less clash. elim (cases_eq first k) [
-            | inr differ ↦ is.least b first (omega (arith, less, differ)) clash
+          least = λ b first less meeting. elim (cases_eq first k) [
+            | inr differ ↦ is.least b first (omega (arith, less, differ)) meeting
             | inl same ↦
-                let low : a ≤ b = least.least b (subst (λ n. odds_with n b) same (odds_of b first s.second at clash)) in
+                let low : a ≤ b = least.least b (subst (λ n. meets_with n b) same (meets_of b first s.second at meeting)) in
                 let before_it = is.below in
                 elim (cases_eq s.address b) [ inl e ↦ inr (e, omega (arith, same, before_it)) | inr other ↦ inl (omega (arith, le, low, other)) ]
           ];
         },
       )
 
-      new_found : (s : Share) → a < s.address → IsFoundBelow k claims i (Some s) → IsFoundBelow (k + 1) claims i (Some this)
+      new_found : (s : Share) → a < s.address → IsFoundBelow among k claims i (Some s) → IsFoundBelow among (k + 1) claims i (Some this)
       new_found s low (at, is) = (
         refl,
         record {
           below = omega arith;
-          there = clash_here;
-          least = λ b first less clash. elim (cases_eq first k) [
-            | inl same ↦ no_less b first same clash
-            | inr differ ↦ elim (is.least b first (omega (arith, less, differ)) (subst (λ n. AreClashing claims b first n) (sym at) clash)) [
+          there = meeting_here;
+          least = λ b first less meeting. elim (cases_eq first k) [
+            | inl same ↦ no_less b first same meeting
+            | inr differ ↦ elim (is.least b first (omega (arith, less, differ)) (subst (λ n. AreMeeting among claims b first n) (sym at) meeting)) [
               | inl more ↦ inl (omega (arith, low, more))
               | inr (e, _) ↦ inl (omega (arith, low, e))
             ]
@@ -113,11 +128,11 @@ module _ (claims : List Claimed) (i : ℕ) where
         },
       )
 
-      chosen : (s : Share) (b : Bool) → nat_le s.address a ≡ b → IsFoundBelow k claims i (Some s) → IsFoundBelow (k + 1) claims i (Some (if b then s else this))
+      chosen : (s : Share) (b : Bool) → nat_le s.address a ≡ b → IsFoundBelow among k claims i (Some s) → IsFoundBelow among (k + 1) claims i (Some (if b then s else this))
       chosen s true e was = old_found s (leb-true s.address a e) was
       chosen s false e was = new_found s (leb-false s.address a e) was
 
-      pub found_more : (found : Option Share) → IsFoundBelow k claims i found → IsFoundBelow (k + 1) claims i (Some (lesser found this))
+      pub found_more : (found : Option Share) → IsFoundBelow among k claims i found → IsFoundBelow among (k + 1) claims i (Some (lesser found this))
       found_more None was = first_found was
       found_more (Some s) was = chosen s (nat_le s.address a) refl was
 
@@ -130,12 +145,12 @@ same_share s t address first second =
     ∙ ap (λ n. record { address = t.address; first = t.first; second = n }) second
 
 -- of one claim there is one
-one_clash : (claims : List Claimed) (s t : Share) → s.second ≡ t.second → IsLeastClashBelow s.second claims s → IsLeastClashBelow t.second claims t → s ≡ t
-one_clash claims s t same of_s of_t =
+one_meeting : (among : Among) (claims : List Claimed) (s t : Share) → s.second ≡ t.second → IsLeastBelow among s.second claims s → IsLeastBelow among t.second claims t → s ≡ t
+one_meeting among claims s t same of_s of_t =
     let low_s = of_s.below in
     let low_t = of_t.below in
-    let one = of_s.least t.address t.first (omega (arith, low_t, same)) (subst (λ n. AreClashing claims t.address t.first n) (sym same) of_t.there) in
-    let other = of_t.least s.address s.first (omega (arith, low_s, same)) (subst (λ n. AreClashing claims s.address s.first n) same of_s.there) in
+    let one = of_s.least t.address t.first (omega (arith, low_t, same)) (subst (λ n. AreMeeting among claims t.address t.first n) (sym same) of_t.there) in
+    let other = of_t.least s.address s.first (omega (arith, low_s, same)) (subst (λ n. AreMeeting among claims s.address s.first n) same of_s.there) in
     let address : s.address ≡ t.address = elim one [
       | inl less ↦ elim other [ inl more ↦ omega (arith, less, more) | inr (e, low) ↦ sym e ]
       | inr (e, low) ↦ e
@@ -149,33 +164,33 @@ one_clash claims s t same of_s of_t =
     ] in
     same_share s t address first same
 
-pub no_clashes : (claims : List Claimed) → AreClashesBelow 0 claims []
-no_clashes claims = record {
+pub no_meetings : (among : Among) (claims : List Claimed) → AreMeetingsBelow among 0 claims []
+no_meetings among claims = record {
   each = λ s (k, less, is). absurd (let none : ⊥ = omega (arith, less) in none);
   complete = λ s less. absurd (let none : ⊥ = omega (arith, less) in none);
   rising = λ j k d up less. absurd (let none : ⊥ = omega (arith, less) in none);
 }
 
-module _ (i : ℕ) (claims : List Claimed) (shares : List Share) (below : AreClashesBelow i claims shares) where
-  pub clash_none : IsFoundBelow i claims i None → AreClashesBelow (i + 1) claims shares
-  clash_none none = record {
+module _ (among : Among) (i : ℕ) (claims : List Claimed) (shares : List Share) (below : AreMeetingsBelow among i claims shares) where
+  pub meeting_none : IsFoundBelow among i claims i None → AreMeetingsBelow among (i + 1) claims shares
+  meeting_none none = record {
     each = λ s has. (let was = below.each s has in let low = was.0 in (omega (arith, low), was.1));
     complete = λ s less is. elim (cases_eq s.second i) [
-      | inl same ↦ (let low = is.below in absurd (none s.address s.first (omega (arith, low, same)) (subst (λ n. AreClashing claims s.address s.first n) same is.there)))
+      | inl same ↦ (let low = is.below in absurd (none s.address s.first (omega (arith, low, same)) (subst (λ n. AreMeeting among claims s.address s.first n) same is.there)))
       | inr differ ↦ below.complete s (omega (arith, less, differ)) is
     ];
     rising = below.rising;
   }
 
-  pub clash_more : (s : Share) → IsFoundBelow i claims i (Some s) → AreClashesBelow (i + 1) claims (shares ++ s ∷ [])
-  clash_more s (at, found) =
-      let is : IsLeastClashBelow s.second claims s = subst (λ n. IsLeastClashBelow n claims s) (sym at) found in record {
+  pub meeting_more : (s : Share) → IsFoundBelow among i claims i (Some s) → AreMeetingsBelow among (i + 1) claims (shares ++ s ∷ [])
+  meeting_more s (at, found) =
+      let is : IsLeastBelow among s.second claims s = subst (λ n. IsLeastBelow among n claims s) (sym at) found in record {
         each = λ t has. elim (Contains-push_cases shares s t has) [
           | inl old ↦ (let was = below.each t old in let low = was.0 in (omega (arith, low), was.1))
-          | inr same ↦ subst (λ (x : Share). (x.second < i + 1) × IsLeastClashBelow x.second claims x) same (omega (arith, at), is)
+          | inr same ↦ subst (λ (x : Share). (x.second < i + 1) × IsLeastBelow among x.second claims x) same (omega (arith, at), is)
         ];
         complete = λ t less has. elim (cases_eq t.second i) [
-          | inl same ↦ subst (λ (x : Share). Contains (shares ++ s ∷ []) x) (one_clash claims s t (omega (arith, at, same)) is has) (Contains-push shares s)
+          | inl same ↦ subst (λ (x : Share). Contains (shares ++ s ∷ []) x) (one_meeting among claims s t (omega (arith, at, same)) is has) (Contains-push shares s)
           | inr differ ↦ Contains-append_left shares (s ∷ []) t (below.complete t (omega (arith, less, differ)) has)
         ];
         rising = all_pairs_push (λ x y. x.second < y.second) shares s below.rising

@@ -4,7 +4,7 @@ use Rattle.std.specs.Option.{is_some}
 use Rattle.std.specs.List.{AllPairs, Contains, filter}
 use Rattle.pci_spec.specs.Slot.{Slot}
 use Rattle.pci_spec.specs.Registers.{BRIDGE_CONTROL}
-use Rattle.pci_spec.specs.System.{System, Space, is_bridge}
+use Rattle.pci_spec.specs.System.{System, Function, Space, is_bridge}
 use Rattle.pci_spec.specs.Decoded.{HasRecords}
 use Rattle.pci_spec.specs.JudgingLaws.{region_number}
 use Rattle.pci_base.specs.declared.range.Range.{Range}
@@ -12,9 +12,10 @@ use Rattle.pci_base.specs.Space.{is_on}
 use Rattle.pci_function.specs.declared.record.Record.{Record}
 use Rattle.pci_tree.specs.declared.region.Region.{Region}
 use Rattle.pci_tree.specs.Regions.{region_number as number_of_region}
+use Rattle.pci_tree.specs.Ranges.{Covers}
 use Rattle.pci_tree.specs.Outline.{Tree}
 use Rattle.pci_check.specs.Trees.{HasTree}
-use Rattle.given_spec.specs.Given.{Given}
+use Rattle.given_spec.specs.Given.{Given, starts}
 use Rattle.given_spec.specs.Claims.{ClaimsOnBus}
 use Rattle.pci_given.specs.Claim.{Claimed, IsClaimOn, IsClaimOfRegion, IsClaimOfLegacy}
 use Rattle.pci_given.specs.Made.{AreMade}
@@ -23,6 +24,14 @@ use Rattle.pci_given.specs.Made.{AreMade}
 abbrev pub number_of : Claimed → ℕ
 number_of c = region_number c.slot c.register
 
+-- the claim has the slot of a function of the bus, and an offset for its register
+pub record IsNamedOn (s : System) (bus : ℕ) (c : Claimed) : Type 0 where
+  pub f : Function
+  pub listed : Contains s f
+  pub slot : f.slot ≡ c.slot
+  pub on_bus : c.slot.bus ≡ bus
+  pub register : c.register < 256
+
 -- of each region of the bus that claims an address of the space there is one claim, by slot and register
 pub record AreClaimsOn (given : Given) (roots : List ℕ) (s : System) (bus : ℕ) (space : Space)
     (claims : List Claimed) : Type 0 where
@@ -30,6 +39,11 @@ pub record AreClaimsOn (given : Given) (roots : List ℕ) (s : System) (bus : �
   pub complete : (slot : Slot) (register a : ℕ) → ClaimsOnBus given s bus space a slot register
       → (c : Claimed) × Contains claims c × (c.slot ≡ slot) × (c.register ≡ register)
   pub rising : AllPairs (λ c d. number_of c < number_of d) claims
+  -- also of a claim that answers no address
+  pub named : (c : Claimed) → Contains claims c → IsNamedOn s bus c
+  -- no bridge leads to a root bus, so what gets there is what the host sends to it
+  pub sent : Contains roots bus → (c : Claimed) → Contains claims c → (a : ℕ) → Covers c.pieces a
+      → IsTrue (starts given space bus a)
 
 -- in each system with the tree
 abbrev pub AreClaimsInEach : Given → Tree → ℕ → Space → List Claimed → Type 0

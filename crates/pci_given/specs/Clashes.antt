@@ -1,22 +1,23 @@
--- The clashes of the claims of a bus, and all clashes of a system.
-use Rattle.std.specs.Prelude.{◌≡◌, ℕ, ◌<◌, ◌≤◌, ◌⊎◌, nat_le, if◌then◌else◌, false, List, [], Option, None, Some, MatchOption, length, map, slice_index_or}
+-- Where claims of a list meet, and all clashes of a system.
+use Rattle.std.specs.Prelude.{◌≡◌, ◌≢◌, ℕ, ◌<◌, ◌≤◌, ◌⊎◌, nat_le, if◌then◌else◌, false, List, [], Option, None, Some, MatchOption, length, map, slice_index_or}
 use Rattle.std.specs.List.{AllPairs, Contains}
 use Rattle.pci_spec.specs.System.{System}
 use Rattle.pci_spec.specs.System as system
 use Rattle.pci_spec.specs.Fault as plain
 use Rattle.pci_base.specs.declared.space.Space.{Space}
 use Rattle.pci_function.specs.declared.fault.Fault.{Fault}
-use Rattle.pci_function.specs.declared.fault.Fault.TheVariants.{Clash}
+use Rattle.pci_function.specs.declared.fault.Fault.TheVariants.{Clash, Split}
 use Rattle.pci_function.specs.Fault.{fault_of}
 use Rattle.pci_tree.specs.Ranges.{Covers}
 use Rattle.pci_tree.specs.Outline.{Tree}
 use Rattle.pci_check.specs.Trees.{HasTree}
+use Rattle.pci_faults.specs.declared.shares.Among.{Among}
+use Rattle.pci_faults.specs.declared.shares.Among.TheVariants.{Bus, Roots}
 use Rattle.pci_faults.specs.declared.shares.Share.{Share}
 use Rattle.pci_faults.specs.Lines.{AreAdded}
 use Rattle.given_spec.specs.Given.{Given}
 use Rattle.given_spec.specs.Claims.{may_share}
 use Rattle.given_spec.specs.Fault.{Known}
-use Rattle.given_spec.specs.Fault as spec
 use Rattle.given_spec.specs.AllFaults.{IsClashOf}
 use Rattle.given_spec.specs.Numbered.{AreAllNumbered}
 use Rattle.pci_given.specs.Claim.{Claimed}
@@ -34,6 +35,22 @@ pub record IsLeastAtOdds (c d : Claimed) (a : ℕ) : Type 0 where
   pub there : AreAtOdds c d a
   pub least : (b : ℕ) → AreAtOdds c d b → a ≤ b
 
+-- both answer an address, on two buses
+pub record AreOnTwoBuses (c d : Claimed) (a : ℕ) : Type 0 where
+  pub first : Covers c.pieces a
+  pub second : Covers d.pieces a
+  pub buses : c.slot.bus ≢ d.slot.bus
+
+-- two of a bus meet where they are at odds, two of the root buses where they are on two of them
+abbrev pub Meet : Among → Claimed → Claimed → ℕ → Type 0
+Meet (Bus bus) c d a = AreAtOdds c d a
+Meet Roots c d a = AreOnTwoBuses c d a
+
+-- the least address at which they meet
+pub record IsLeastOfTwo (among : Among) (c d : Claimed) (a : ℕ) : Type 0 where
+  pub there : Meet among c d a
+  pub least : (b : ℕ) → Meet among c d b → a ≤ b
+
 -- ---- claims by slot and register
 
 -- where a list has no claim
@@ -43,49 +60,56 @@ nobody = record { slot = record { bus = 0; device = 0; function = 0 }; register 
 abbrev pub claim_at : List Claimed → ℕ → Claimed
 claim_at claims k = slice_index_or claims k nobody
 
--- two claims of a list, one before the other, are at odds about an address
-pub record AreClashing (claims : List Claimed) (a first second : ℕ) : Type 0 where
+-- two claims of a list, one before the other, meet at an address
+pub record AreMeeting (among : Among) (claims : List Claimed) (a first second : ℕ) : Type 0 where
   pub within : second < length claims
   pub before : first < second
-  pub odds : AreAtOdds (claim_at claims first) (claim_at claims second) a
+  pub meet : Meet among (claim_at claims first) (claim_at claims second) a
 
--- of the first so many claims: the least address about which one is at odds with the second, and the first that is
-pub record IsLeastClashBelow (n : ℕ) (claims : List Claimed) (s : Share) : Type 0 where
+-- of the first so many claims: the least address at which one meets the second, and the first that does
+pub record IsLeastBelow (among : Among) (n : ℕ) (claims : List Claimed) (s : Share) : Type 0 where
   pub below : s.first < n
-  pub there : AreClashing claims s.address s.first s.second
-  pub least : (a first : ℕ) → first < n → AreClashing claims a first s.second
+  pub there : AreMeeting among claims s.address s.first s.second
+  pub least : (a first : ℕ) → first < n → AreMeeting among claims a first s.second
       → (s.address < a) ⊎ ((s.address ≡ a) × (s.first ≤ first))
 
 -- one was found, or there is none
-abbrev pub IsFoundBelow : ℕ → List Claimed → ℕ → Option Share → Type 0
-IsFoundBelow n claims second found =
-    MatchOption found ((a first : ℕ) → first < n → AreClashing claims a first second → ⊥)
-    (λ s. (s.second ≡ second) × IsLeastClashBelow n claims s)
+abbrev pub IsFoundBelow : Among → ℕ → List Claimed → ℕ → Option Share → Type 0
+IsFoundBelow among n claims second found =
+    MatchOption found ((a first : ℕ) → first < n → AreMeeting among claims a first second → ⊥)
+    (λ s. (s.second ≡ second) × IsLeastBelow among n claims s)
 
 -- the one with the lesser address; of two with one address the one that was found before
 abbrev pub lesser : Option Share → Share → Share
 lesser None share = share
 lesser (Some found) share = if nat_le found.address share.address then found else share
 
--- each of the first so many claims that is at odds with one before it, with the least address and the first of those
-pub record AreClashesBelow (n : ℕ) (claims : List Claimed) (shares : List Share) : Type 0 where
+-- each of the first so many claims that meets one before it, with the least address and the first of those
+pub record AreMeetingsBelow (among : Among) (n : ℕ) (claims : List Claimed)
+    (shares : List Share) : Type 0 where
   pub each : (s : Share) → Contains shares s
-      → (s.second < n) × IsLeastClashBelow s.second claims s
-  pub complete : (s : Share) → s.second < n → IsLeastClashBelow s.second claims s
+      → (s.second < n) × IsLeastBelow among s.second claims s
+  pub complete : (s : Share) → s.second < n → IsLeastBelow among s.second claims s
       → Contains shares s
   pub rising : AllPairs (λ s t. s.second < t.second) shares
 
 -- of all of them
-abbrev pub AreClashes : List Claimed → List Share → Type 0
-AreClashes claims shares = AreClashesBelow (length claims) claims shares
+abbrev pub AreMeetings : Among → List Claimed → List Share → Type 0
+AreMeetings among claims shares = AreMeetingsBelow among (length claims) claims shares
 
 -- ---- faults
 
--- the fault that two claims of a bus are at odds
-abbrev pub told : ℕ → Space → List Claimed → Share → Fault
-told bus space claims s =
-    Clash bus space s.address (claim_at claims s.first).slot (claim_at claims s.first).register
-    (claim_at claims s.second).slot (claim_at claims s.second).register
+-- the fault that two claims meet
+abbrev pub fault_at : Among → Space → ℕ → Claimed → Claimed → Fault
+fault_at (Bus bus) space address first second =
+    Clash bus space address first.slot first.register second.slot second.register
+fault_at Roots space address first second =
+    Split space address first.slot first.register second.slot second.register
+
+-- the fault that claims of a list meet
+abbrev pub told : Among → Space → List Claimed → Share → Fault
+told among space claims s =
+    fault_at among space s.address (claim_at claims s.first) (claim_at claims s.second)
 
 -- the fault is a clash that a list of all names, on a bus and in a space that are meant
 abbrev pub IsClashLine : (ℕ → system.Space → Type 0) → Given → List ℕ → System → plain.Fault

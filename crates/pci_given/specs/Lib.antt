@@ -6,6 +6,7 @@ pub mod Claim
 pub mod Made
 pub mod BusClaims
 pub mod Clashes
+pub mod Splits
 pub mod Outside
 pub mod Passed
 pub mod Missed

@@ -1,19 +1,20 @@
 //! All clashes: one for each region that answers an address with one before it on its bus.
-ghost use Rattle.std.specs.Prelude.{◌≡◌, ◌<◌, ◌≤◌, ◌++◌, length, map, IfOk, OnOk};
+ghost use Rattle.std.specs.Prelude.{◌≡◌, ◌<◌, ◌≤◌, ◌++◌, ℕ, length, map, IfOk, OnOk, MatchOption};
 ghost use Rattle.pci_base.specs.Space.{space_of};
 ghost use Rattle.pci_faults.specs.Shares.{AreWithin};
+ghost use Rattle.pci_faults.specs.declared.shares.Among.TheVariants.{Roots};
 ghost use Rattle.pci_given.specs.Values.{given_value};
 ghost use Rattle.pci_given.specs.BusClaims.{AreBridgesOf};
-ghost use Rattle.pci_given.specs.Clashes.{IsFoundBelow, lesser, AreClashes, told, AreClashesAdded, IsOnBusIn, AreAllClashes};
+ghost use Rattle.pci_given.specs.Clashes.{AreOnTwoBuses, Meet, IsLeastOfTwo, IsFoundBelow, lesser, AreMeetings, told, AreClashesAdded, IsOnBusIn, AreAllClashes};
 
 use super::bus_claims::claims_among;
-use super::claim::{Claim, least_at_odds};
+use super::claim::{Claim, least_at_odds, least_common};
 use super::given::Given;
 use pci_base::memory::OutOfMemory;
 use pci_base::slot::{BUSES, Slot};
 use pci_base::space::Space;
 use pci_faults::order::sort;
-use pci_faults::shares::Share;
+use pci_faults::shares::{Among, Share};
 use pci_function::fault::Fault;
 use pci_tree::outline::Outline;
 use std::alloc::Allocator;
@@ -28,22 +29,46 @@ fn lesser(found: Option<Share>, share: Share) -> Share
     }
 }
 
-/// The least address about which the claim at `i` is at odds with one of those before it, and the first of these, `found`
-/// being what those before the one at `from` have.
-fn clash_from<A: Allocator>(
+/// The least address that two claims answer, where they are on two buses.
+fn least_of_buses<A: Allocator>(first: &Claim<A>, second: &Claim<A>) -> Option<u64>
+    ensures { MatchOption result ((a : ℕ) → AreOnTwoBuses first.now second.now a → ⊥)
+        (λ a. IsLeastOfTwo Roots first.now second.now a) }
+{
+    if first.slot().bus() == second.slot().bus() {
+        return None;
+    }
+    least_common(first.pieces(), second.pieces())
+}
+
+/// The least address at which two claims meet: two of a bus where they may not share it, two of the root buses where they
+/// are on two of them.
+fn least_meeting<A: Allocator>(among: Among, first: &Claim<A>, second: &Claim<A>) -> Option<u64>
+    ensures { MatchOption result ((a : ℕ) → Meet among first.now second.now a → ⊥)
+        (λ a. IsLeastOfTwo among first.now second.now a) }
+{
+    match among {
+        Among::Bus(_) => least_at_odds(first, second),
+        Among::Roots => least_of_buses(first, second),
+    }
+}
+
+/// The least address at which the claim at `i` meets one of those before it, and the first of these, `found` being what
+/// those before the one at `from` have.
+fn meeting_from<A: Allocator>(
     claims: &[Claim<A>],
+    among: Among,
     from: usize,
     i: usize,
     found: Option<Share>,
 ) -> Option<Share>
     requires index { i < length claims.now }
     requires begin { from ≤ i }
-    requires found { IsFoundBelow from claims.now i found }
-    ensures { IsFoundBelow i claims.now i result }
+    requires found { IsFoundBelow among from claims.now i found }
+    ensures { IsFoundBelow among i claims.now i result }
 {
     let mut found = found;
     for k in from..i {
-        if let Some(address) = least_at_odds(&claims[k], &claims[i]) {
+        if let Some(address) = least_meeting(among, &claims[k], &claims[i]) {
             let share = Share {
                 address,
                 first: k,
@@ -55,54 +80,68 @@ fn clash_from<A: Allocator>(
     found
 }
 
-/// For each claim that is at odds with one before it the least address about which it is, and the first of those before it
-/// that answer this one. The claims stand by slot and register.
-fn clashes<A: Allocator + Copy>(alloc: A, claims: &[Claim<A>]) -> Result<Vec<Share, A>, OutOfMemory>
+/// For each claim that meets one before it the least address at which it does, and the first of those before it that answer
+/// this one. The claims stand by slot and register.
+pub fn meetings<A: Allocator + Copy>(
+    alloc: A,
+    claims: &[Claim<A>],
+    among: Among,
+) -> Result<Vec<Share, A>, OutOfMemory>
     ensures within { IfOk result (λ v. AreWithin (length claims.now) v.items) }
-    ensures exact { IfOk result (λ v. AreClashes claims.now v.items) }
+    ensures exact { IfOk result (λ v. AreMeetings among claims.now v.items) }
 {
     let mut out = Vec::new(alloc);
     for i in 0..claims.len() {
-        if let Some(share) = clash_from(claims, 0, i, None) {
+        if let Some(share) = meeting_from(claims, among, 0, i, None) {
             out.push(share)?;
         }
     }
     Ok(out)
 }
 
-/// The fault that two claims of a bus are at odds.
-fn fault<A: Allocator>(claims: &[Claim<A>], bus: u8, space: Space, share: Share) -> Fault
+/// The fault that two claims of a list meet.
+fn fault<A: Allocator>(claims: &[Claim<A>], among: Among, space: Space, share: Share) -> Fault
     requires first { share.first < length claims.now }
     requires second { share.second < length claims.now }
-    ensures { result ≡ told bus space claims.now share }
+    ensures { result ≡ told among space claims.now share }
 {
     let first = &claims[share.first];
     let second = &claims[share.second];
-    Fault::Clash {
-        bus,
-        space,
-        address: share.address,
-        first: first.slot(),
-        first_reg: first.reg(),
-        second: second.slot(),
-        second_reg: second.reg(),
+    match among {
+        Among::Bus(bus) => Fault::Clash {
+            bus,
+            space,
+            address: share.address,
+            first: first.slot(),
+            first_reg: first.reg(),
+            second: second.slot(),
+            second_reg: second.reg(),
+        },
+        Among::Roots => Fault::Split {
+            space,
+            address: share.address,
+            first: first.slot(),
+            first_reg: first.reg(),
+            second: second.slot(),
+            second_reg: second.reg(),
+        },
     }
 }
 
-/// Adds the faults of claims that are at odds.
-fn add_told<A: Allocator + Copy>(
+/// Adds the faults of claims that meet.
+pub fn add_told<A: Allocator + Copy>(
     out: &mut Vec<Fault, A>,
     claims: &[Claim<A>],
-    bus: u8,
+    among: Among,
     space: Space,
     shares: &[Share],
 ) -> Result<(), OutOfMemory>
     requires { AreWithin (length claims.now) shares.now }
     ensures { OnOk result
-        (out.new.items ≡ out.old.items ++ map (told bus space claims.now) shares.now) }
+        (out.new.items ≡ out.old.items ++ map (told among space claims.now) shares.now) }
 {
     for share in shares {
-        out.push(fault(claims, bus, space, *share))?;
+        out.push(fault(claims, among, space, *share))?;
     }
     Ok(())
 }
@@ -122,8 +161,9 @@ fn add_clashes_in<A: Allocator + Copy>(
         outline.now out.old.items out.new.items) }
 {
     let claims = claims_among(alloc, given, outline, bridges, bus, space)?;
-    let shares = clashes(alloc, &claims)?;
-    add_told(out, &claims, bus, space, &shares)
+    let among = Among::Bus(bus);
+    let shares = meetings(alloc, &claims, among)?;
+    add_told(out, &claims, among, space, &shares)
 }
 
 /// Adds the clashes of a bus.

@@ -15,5 +15,6 @@ pub mod outside_lines;
 pub mod passed;
 pub mod reach;
 pub mod sent;
+pub mod split_lines;
 pub mod unreached;
 pub mod unreached_lines;

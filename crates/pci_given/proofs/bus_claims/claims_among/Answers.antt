@@ -38,6 +38,7 @@ returns g c s tree =
     (subst (λ (l : List Slot). AreLegacyClaims given space c.records-records.result.now c.in-Some-2.reach.items l added.more) c.deref-5.ensures.value
     (subst (λ (l : List Range). AreLegacyClaims given space c.records-records.result.now l c.deref-5.result.now added.more) c.deref-6.ensures.value added.made))
     (subst (λ (l : List Claimed). IsPermutation l c.sort.new.claims.items) added.appended c.in_ok-sort.ensures.permutation) c.in_ok-sort.ensures.sorted
+    (c.records-records.ensures.nested s tree.records)
 
 pub region_claims-requires : goal.region_claims-requires
 region_claims-requires g c = subst (λ (l : List Range). IsCanonical l) (sym c.deref-4.ensures.value) (rw c.in-Some-2.is at c.in_ok-reach.ensures.canonical)

@@ -1,9 +1,10 @@
 use Rattle.std.proofs.Common.{List, ◌++◌, map, subst, ap, ◌∙◌}
 use Rattle.std.proofs.lemmas.Result.{on_ok_weaker}
+use Rattle.pci_faults.specs.declared.shares.Among.TheVariants.{Bus}
 use Rattle.pci_faults.specs.declared.shares.Share.{Share}
 use Rattle.pci_given.specs.Values.{given_value}
 use Rattle.pci_given.specs.Claim.{Claimed}
-use Rattle.pci_given.specs.Clashes.{AreClashes, told}
+use Rattle.pci_given.specs.Clashes.{AreMeetings, told}
 use Rattle.pci_given.proofs.ClashNaming.{clashes_added}
 use Rattle.pci_given.proofs.clash_lines.add_clashes_in.Goals as goal
 
@@ -11,6 +12,6 @@ pub returns : goal.returns
 returns g c = on_ok_weaker c.add_told.result
     (λ appended. clashes_added (given_value c.args.given.now) c.args.outline.now c.args.bus c.args.space c.in_ok-claims.claims.items c.in_ok-shares.shares.items c.args.out.now.items c.add_told.new.out.items
     c.in_ok-claims.ensures
-    (subst (λ (l : List Claimed). AreClashes l c.in_ok-shares.shares.items) c.deref.ensures.value c.in_ok-shares.ensures.exact)
-    (appended ∙ ap (λ (l : List Claimed). c.args.out.now.items ++ map (told c.args.bus c.args.space l) c.deref-3.result.now) c.deref-2.ensures.value
-    ∙ ap (λ (l : List Share). c.args.out.now.items ++ map (told c.args.bus c.args.space c.in_ok-claims.claims.items) l) c.deref-3.ensures.value)) c.add_told.ensures
+    (subst (λ (l : List Claimed). AreMeetings (Bus c.args.bus) l c.in_ok-shares.shares.items) c.deref.ensures.value c.in_ok-shares.ensures.exact)
+    (appended ∙ ap (λ (l : List Claimed). c.args.out.now.items ++ map (told (Bus c.args.bus) c.args.space l) c.deref-3.result.now) c.deref-2.ensures.value
+    ∙ ap (λ (l : List Share). c.args.out.now.items ++ map (told (Bus c.args.bus) c.args.space c.in_ok-claims.claims.items) l) c.deref-3.ensures.value)) c.add_told.ensures

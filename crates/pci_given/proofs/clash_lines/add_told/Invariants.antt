@@ -3,4 +3,4 @@ use Rattle.pci_given.specs.Clashes.{told}
 use Rattle.pci_given.proofs.clash_lines.add_told.Given as goal
 
 abbrev pub invariant-loop-share : goal.invariant-loop-share
-invariant-loop-share g l = l.out.items ≡ l.fn.out.items ++ map (told l.bus l.space l.claims) (take l.share-index l.shares)
+invariant-loop-share g l = l.out.items ≡ l.fn.out.items ++ map (told l.among l.space l.claims) (take l.share-index l.shares)

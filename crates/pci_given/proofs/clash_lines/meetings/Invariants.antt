@@ -1,10 +1,10 @@
 use Rattle.std.proofs.Common.{length}
 use Rattle.pci_faults.specs.Shares.{AreWithin}
-use Rattle.pci_given.specs.Clashes.{AreClashesBelow}
-use Rattle.pci_given.proofs.clash_lines.clashes.Given as goal
+use Rattle.pci_given.specs.Clashes.{AreMeetingsBelow}
+use Rattle.pci_given.proofs.clash_lines.meetings.Given as goal
 
 abbrev pub invariant-loop-i : goal.invariant-loop-i
 invariant-loop-i g l = record {
   within : AreWithin (length l.claims) l.out.items;
-  exact : AreClashesBelow l.i l.claims l.out.items;
+  exact : AreMeetingsBelow l.among l.i l.claims l.out.items;
 }

@@ -1,0 +1,17 @@
+use Rattle.std.proofs.Common.{List, ◌++◌, map, subst, ap, ◌∙◌}
+use Rattle.std.proofs.lemmas.Result.{on_ok_weaker}
+use Rattle.pci_faults.specs.declared.shares.Among.TheVariants.{Roots}
+use Rattle.pci_faults.specs.declared.shares.Share.{Share}
+use Rattle.pci_given.specs.Values.{given_value}
+use Rattle.pci_given.specs.Claim.{Claimed}
+use Rattle.pci_given.specs.Clashes.{AreMeetings, told}
+use Rattle.pci_given.proofs.SplitNaming.{splits_added}
+use Rattle.pci_given.proofs.split_lines.add_splits_in.Goals as goal
+
+pub returns : goal.returns
+returns g c = on_ok_weaker c.add_told.result
+    (λ appended. splits_added (given_value c.args.given.now) c.args.outline.now c.args.space c.in_ok-claims.claims.items c.in_ok-shares.shares.items c.args.out.now.items c.add_told.new.out.items
+    c.in_ok-claims.ensures
+    (subst (λ (l : List Claimed). AreMeetings Roots l c.in_ok-shares.shares.items) c.deref.ensures.value c.in_ok-shares.ensures.exact)
+    (appended ∙ ap (λ (l : List Claimed). c.args.out.now.items ++ map (told Roots c.args.space l) c.deref-3.result.now) c.deref-2.ensures.value
+    ∙ ap (λ (l : List Share). c.args.out.now.items ++ map (told Roots c.args.space c.in_ok-claims.claims.items) l) c.deref-3.ensures.value)) c.add_told.ensures

@@ -1,0 +1,92 @@
+//! All splits: one for each region of a root bus that answers an address with one before it on another root.
+ghost use Rattle.std.specs.Prelude.{IfOk, OnOk};
+ghost use Rattle.pci_base.specs.Space.{space_of};
+ghost use Rattle.pci_given.specs.Values.{given_value};
+ghost use Rattle.pci_given.specs.BusClaims.{AreBridgesOf};
+ghost use Rattle.pci_given.specs.Splits.{AreRootClaimsInEach, AreSplitsAdded, IsIn, AreAllSplits};
+
+use super::bus_claims::claims_among;
+use super::claim::Claim;
+use super::clash_lines::{add_told, meetings};
+use super::given::Given;
+use pci_base::memory::OutOfMemory;
+use pci_base::slot::{BUSES, Slot};
+use pci_base::space::Space;
+use pci_faults::order::sort;
+use pci_faults::shares::Among;
+use pci_function::fault::Fault;
+use pci_tree::outline::Outline;
+use std::alloc::Allocator;
+
+/// The claims of all root buses in a space by slot and register, `bridges` being the slots of all bridges.
+fn claims_of_roots<A: Allocator + Copy>(
+    alloc: A,
+    given: &Given<'_>,
+    outline: &Outline<A>,
+    bridges: &[Slot],
+    space: Space,
+) -> Result<Vec<Claim<A>, A>, OutOfMemory>
+    requires { AreBridgesOf outline.now bridges.now }
+    ensures { IfOk result (λ v. AreRootClaimsInEach (given_value given.now) outline.now
+        (space_of space) v.items) }
+{
+    let roots = outline.roots();
+    let mut all = Vec::new(alloc);
+    for bus in 0..BUSES {
+        if roots.has(bus as u8) {
+            let mut claims = claims_among(alloc, given, outline, bridges, bus as u8, space)?;
+            all.append(&mut claims)?;
+        }
+    }
+    Ok(all)
+}
+
+/// Adds the splits of a space, `bridges` being the slots of all bridges.
+fn add_splits_in<A: Allocator + Copy>(
+    alloc: A,
+    out: &mut Vec<Fault, A>,
+    given: &Given<'_>,
+    outline: &Outline<A>,
+    bridges: &[Slot],
+    space: Space,
+) -> Result<(), OutOfMemory>
+    requires { AreBridgesOf outline.now bridges.now }
+    ensures { OnOk result (AreSplitsAdded (IsIn (space_of space)) (given_value given.now)
+        outline.now out.old.items out.new.items) }
+{
+    let claims = claims_of_roots(alloc, given, outline, bridges, space)?;
+    let shares = meetings(alloc, &claims, Among::Roots)?;
+    add_told(out, &claims, Among::Roots, space, &shares)
+}
+
+/// Adds the splits of both spaces.
+fn add_splits<A: Allocator + Copy>(
+    alloc: A,
+    out: &mut Vec<Fault, A>,
+    given: &Given<'_>,
+    outline: &Outline<A>,
+) -> Result<(), OutOfMemory>
+    ensures { OnOk result (AreSplitsAdded (λ sp. Unit {0}) (given_value given.now) outline.now
+        out.old.items out.new.items) }
+{
+    let bridges = outline.bridges()?;
+    add_splits_in(alloc, out, given, outline, &bridges, Space::Io)?;
+    add_splits_in(alloc, out, given, outline, &bridges, Space::Mem)
+}
+
+/// All splits of the systems with these records and root buses, with what is given: 62 of each BAR, ROM, window or legacy
+/// part on a root bus that answers an address with one before it, by slot and register, on another root, where accesses to
+/// it start on both; with the least such address and the first region that answers it. They stand in the order in which
+/// judging looks for them.
+pub fn all_splits<A: Allocator + Copy>(
+    alloc: A,
+    given: &Given<'_>,
+    outline: &Outline<A>,
+) -> Result<Vec<Fault, A>, OutOfMemory>
+    ensures { IfOk result (λ v. AreAllSplits (given_value given.now) outline.now v.items) }
+{
+    let mut faults = Vec::new(alloc);
+    add_splits(alloc, &mut faults, given, outline)?;
+    sort(&mut faults)?;
+    Ok(faults)
+}
