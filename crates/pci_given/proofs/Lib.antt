@@ -27,3 +27,4 @@ pub mod UnreachedLining
 pub mod RootClaims
 pub mod SplitNaming
 pub mod AllSplitting
+pub mod Joining

@@ -15,3 +15,4 @@ pub mod Stopped
 pub mod BarsAndRoms
 pub mod OutsideLines
 pub mod UnreachedLines
+pub mod AllLines

@@ -2,6 +2,7 @@
 //! of bridges.
 #![tactic(auto)]
 
+pub mod all_lines;
 pub mod bars_and_roms;
 pub mod bus_claims;
 pub mod claim;

@@ -1,0 +1,6 @@
+use Rattle.std.proofs.Common.{◌≡◌, ◌++◌, map, take}
+use Rattle.pci_given.specs.declared.all_lines.JudgingFault.TheVariants.{OutsideHost}
+use Rattle.pci_given.proofs.all_lines.add_outside.Given as goal
+
+abbrev pub invariant-loop-one : goal.invariant-loop-one
+invariant-loop-one g l = l.faults.items ≡ l.fn.faults.items ++ map (λ o. OutsideHost o) (take l.one-index l.outside)

@@ -1,0 +1,22 @@
+-- All faults of judging of a system, with what is given.
+use Rattle.std.specs.Prelude.{List, map}
+use Rattle.pci_spec.specs.System.{System}
+use Rattle.pci_function.specs.Fault.{fault_of}
+use Rattle.pci_tree.specs.Outline.{Tree}
+use Rattle.pci_check.specs.Trees.{HasTree}
+use Rattle.given_spec.specs.Given.{Given}
+use Rattle.given_spec.specs.Fault as spec
+use Rattle.given_spec.specs.AllFaults.{AreAllOfJudging}
+use Rattle.pci_given.specs.declared.all_lines.JudgingFault.{JudgingFault}
+use Rattle.pci_given.specs.declared.all_lines.JudgingFault.TheVariants.{OutsideHost, Known}
+use Rattle.pci_given.specs.OutsideLines.{outside_of}
+
+-- the fault, as the definitions have it
+abbrev pub judged_of : JudgingFault → spec.Fault
+judged_of (OutsideHost outside) = outside_of outside
+judged_of (Known fault) = spec.Known (fault_of fault)
+
+-- all of judging, in each system with the tree
+abbrev pub AreAllLines : Given → Tree → List JudgingFault → Type 0
+AreAllLines given t list =
+    (s : System) → HasTree t s → AreAllOfJudging given t.roots s (map judged_of list)

@@ -1,0 +1,73 @@
+//! All faults of judging, with what is given.
+ghost use Rattle.std.specs.Prelude.{◌≡◌, ◌++◌, map, IfOk, OnOk};
+ghost use Rattle.pci_given.specs.declared.all_lines.JudgingFault.TheVariants.{OutsideHost, Known};
+ghost use Rattle.pci_given.specs.Values.{given_value};
+ghost use Rattle.pci_given.specs.AllLines.{AreAllLines};
+
+use super::clash_lines::all_clashes;
+use super::given::Given;
+use super::outside_lines::{Outside, all_outside};
+use super::split_lines::all_splits;
+use super::unreached_lines::all_unreached;
+use pci_base::memory::OutOfMemory;
+use pci_function::fault::Fault;
+use pci_tree::outline::Outline;
+use std::alloc::Allocator;
+
+/// A fault of judging, with what is given.
+#[derive(Clone, Copy, Debug, PartialEq, Eq)]
+pub enum JudgingFault {
+    /// 63.
+    OutsideHost(Outside),
+    /// 60, 61 or 62.
+    Known(Fault),
+}
+
+/// Adds faults 63.
+fn add_outside<A: Allocator>(
+    faults: &mut Vec<JudgingFault, A>,
+    outside: &[Outside],
+) -> Result<(), OutOfMemory>
+    ensures { OnOk result
+        (faults.new.items ≡ faults.old.items ++ map (λ o. OutsideHost o) outside.now) }
+{
+    for one in outside {
+        faults.push(JudgingFault::OutsideHost(*one))?;
+    }
+    Ok(())
+}
+
+/// Adds faults of the other numbers.
+fn add_known<A: Allocator>(
+    faults: &mut Vec<JudgingFault, A>,
+    known: &[Fault],
+) -> Result<(), OutOfMemory>
+    ensures { OnOk result (faults.new.items ≡ faults.old.items ++ map (λ f. Known f) known.now) }
+{
+    for fault in known {
+        faults.push(JudgingFault::Known(*fault))?;
+    }
+    Ok(())
+}
+
+/// All faults of judging of the systems with these records and root buses, with what is given: 63, as [`all_outside`] tells
+/// them, then 60, 61 and 62, as [`all_unreached`], [`all_clashes`] and [`all_splits`] do. They stand in the order in which
+/// judging looks for them.
+pub fn all_of_judging<A: Allocator + Copy>(
+    alloc: A,
+    given: &Given<'_>,
+    outline: &Outline<A>,
+) -> Result<Vec<JudgingFault, A>, OutOfMemory>
+    ensures { IfOk result (λ v. AreAllLines (given_value given.now) outline.now v.items) }
+{
+    let outside = all_outside(alloc, given, outline)?;
+    let unreached = all_unreached(alloc, given, outline)?;
+    let clashes = all_clashes(alloc, given, outline)?;
+    let splits = all_splits(alloc, given, outline)?;
+    let mut faults = Vec::new(alloc);
+    add_outside(&mut faults, &outside)?;
+    add_known(&mut faults, &unreached)?;
+    add_known(&mut faults, &clashes)?;
+    add_known(&mut faults, &splits)?;
+    Ok(faults)
+}
