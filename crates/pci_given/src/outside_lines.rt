@@ -1,5 +1,5 @@
-//! All regions outside the host's ranges: one fault for each BAR or ROM with an address to which no access starts on the
-//! root above it.
+//! All regions outside the host's ranges: one fault for each BAR or ROM with an address to which no access starts on
+//! the root above it.
 ghost use Rattle.std.specs.Prelude.{IfOk};
 ghost use Rattle.pci_given.specs.Values.{given_value};
 ghost use Rattle.pci_given.specs.OutsideLines.{AreOutsideLines, AreAllOutside};
@@ -30,7 +30,8 @@ fn outside_among<A: Allocator + Copy>(
     outline: &Outline<A>,
     list: &[BarOrRom],
 ) -> Result<Vec<Outside, A>, OutOfMemory>
-    ensures { IfOk result (λ v. AreOutsideLines (given_value given.now) outline.now list.now v.items) }
+    ensures { IfOk result
+        (λ v. AreOutsideLines (given_value given.now) outline.now list.now v.items) }
 {
     let mut out = Vec::new(alloc);
     for one in list {
@@ -47,9 +48,9 @@ fn outside_among<A: Allocator + Copy>(
     Ok(out)
 }
 
-/// All faults 63 of the systems with these records and root buses, with what is given: of each BAR or ROM that is enabled,
-/// and has an address to which no access starts on the root above it, with the least such address. They stand in the order
-/// in which judging looks for them.
+/// All faults 63 of the systems with these records and root buses, with what is given: of each BAR or ROM that is
+/// enabled, and has an address to which no access starts on the root above it, with the least such address. They stand
+/// in the order in which judging looks for them.
 pub fn all_outside<A: Allocator + Copy>(
     alloc: A,
     given: &Given<'_>,

@@ -1,5 +1,5 @@
-//! All unreached regions: one fault for each BAR or ROM with an address that the host sends to the root above it and that
-//! a bridge on the way from there doesn't pass.
+//! All unreached regions: one fault for each BAR or ROM with an address that the host sends to the root above it and
+//! that a bridge on the way from there doesn't pass.
 ghost use Rattle.std.specs.Prelude.{IfOk};
 ghost use Rattle.pci_given.specs.Values.{given_value};
 ghost use Rattle.pci_given.specs.UnreachedLines.{AreUnreachedLines, AreAllUnreached};
@@ -19,7 +19,8 @@ fn unreached_among<A: Allocator + Copy>(
     outline: &Outline<A>,
     list: &[BarOrRom],
 ) -> Result<Vec<Fault, A>, OutOfMemory>
-    ensures { IfOk result (λ v. AreUnreachedLines (given_value given.now) outline.now list.now v.items) }
+    ensures { IfOk result
+        (λ v. AreUnreachedLines (given_value given.now) outline.now list.now v.items) }
 {
     let mut out = Vec::new(alloc);
     for one in list {
@@ -37,10 +38,10 @@ fn unreached_among<A: Allocator + Copy>(
     Ok(out)
 }
 
-/// All unreached regions of the systems with these records and root buses, with what is given: 60 of each BAR or ROM that
-/// is enabled, and has an address that the host sends to the root above it and that a bridge on the way from there doesn't
-/// pass, with the first such bridge and the least address that this one doesn't pass. They stand in the order in which
-/// judging looks for them.
+/// All unreached regions of the systems with these records and root buses, with what is given: 60 of each BAR or ROM
+/// that is enabled, and has an address that the host sends to the root above it and that a bridge on the way from there
+/// doesn't pass, with the first such bridge and the least address that this one doesn't pass. They stand in the order
+/// in which judging looks for them.
 pub fn all_unreached<A: Allocator + Copy>(
     alloc: A,
     given: &Given<'_>,
