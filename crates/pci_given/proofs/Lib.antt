@@ -28,3 +28,4 @@ pub mod RootClaims
 pub mod SplitNaming
 pub mod AllSplitting
 pub mod Joining
+pub mod VgaBridges

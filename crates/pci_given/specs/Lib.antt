@@ -16,3 +16,4 @@ pub mod BarsAndRoms
 pub mod OutsideLines
 pub mod UnreachedLines
 pub mod AllLines
+pub mod Vga

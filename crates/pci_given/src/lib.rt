@@ -19,3 +19,4 @@ pub mod sent;
 pub mod split_lines;
 pub mod unreached;
 pub mod unreached_lines;
+pub mod vga;

@@ -1,0 +1,22 @@
+-- Bridges with legacy parts, by their blocks.
+use Rattle.std.specs.Prelude.{List, [], map}
+use Rattle.std.specs.List.{filter}
+use Rattle.pci_spec.specs.Text.{Block}
+use Rattle.pci_spec.specs.System.{Function}
+use Rattle.given_spec.specs.Given as spec
+use Rattle.given_spec.specs.Words as words
+use Rattle.given_spec.specs.Words.{has_legacy, legacy_bridge}
+use Rattle.pci_given.specs.declared.vga.VgaWord.{VgaWord}
+use Rattle.pci_given.specs.declared.vga.VgaWord.TheVariants.{Vga, Vga16}
+
+abbrev pub word_value : VgaWord → words.VgaWord
+word_value Vga = words.Vga
+word_value Vga16 = words.Vga16
+
+-- a function whose registers read back nothing: no read back says what its legacy part is
+abbrev pub shown_by : Block → Function
+shown_by b = record { slot = b.slot; image = b.image; probe = [] }
+
+abbrev pub legacy_bridges_shown : words.VgaWord → List Block → List spec.LegacyBridge
+legacy_bridges_shown word blocks =
+    map (λ b. legacy_bridge word (shown_by b)) (filter (λ b. has_legacy (shown_by b)) blocks)
