@@ -1,0 +1,95 @@
+//! The lines of all faults of judging of a board, with what is given.
+use pci_dump::dump::Dump;
+use pci_dump::reader::read_dump;
+use pci_dump::std_streams::Incoming;
+use pci_given::all_lines::{JudgingFault, all_of_judging};
+use pci_given::given::{Given, HostRange};
+use pci_given::vga::{VgaWord, legacy_bridges, set_vga_aside};
+use pci_tree::admit::admit_with;
+use pci_tree::outline::Outline;
+use pci_tree::roots::Roots;
+use std::alloc::Global;
+use test_support::board::{Function, Texts, texts_of};
+
+/// What a test gives beside a board.
+#[derive(Clone, Copy)]
+pub struct Said<'a> {
+    pub vga: Option<VgaWord>,
+    pub io: Option<&'a [HostRange]>,
+    pub memory: Option<&'a [HostRange]>,
+}
+
+/// Nothing.
+pub const NOTHING: Said<'static> = Said {
+    vga: None,
+    io: None,
+    memory: None,
+};
+
+/// A dump whose bridges have no VGA Enable.
+fn without_vga(alloc: Global, dump: &Dump) -> Option<Dump> {
+    let mut out = Dump::empty(alloc);
+    for block in dump.blocks() {
+        let mut block = block.copy();
+        set_vga_aside(&mut block.image);
+        out.push(block).ok()?;
+    }
+    Some(out)
+}
+
+/// Appends a fault's line; of 63 its number, name, slot, register and address.
+fn push_line(lines: &mut String, fault: &JudgingFault) -> Option<()> {
+    match fault {
+        JudgingFault::OutsideHost(outside) => {
+            let (slot, reg, address) = (outside.slot, outside.reg, outside.address);
+            writeln!(lines, "63 Outside {slot} {reg:02x} {address:x}").ok()
+        }
+        JudgingFault::Known(fault) => writeln!(lines, "{fault}").ok(),
+    }
+}
+
+/// The lines of all faults of judging.
+fn lines_with(alloc: Global, given: &Given<'_>, outline: &Outline) -> Option<String> {
+    let faults = all_of_judging(alloc, given, outline).ok()?;
+    let mut lines = String::new(alloc);
+    for fault in faults.iter() {
+        push_line(&mut lines, fault)?;
+    }
+    Some(lines)
+}
+
+fn lines_of(alloc: Global, texts: &Texts, roots: Roots, said: Said<'_>) -> Option<String> {
+    let read = read_dump(alloc, &mut Incoming::new(texts.dump.as_bytes())).ok()?;
+    let probe = read_dump(alloc, &mut Incoming::new(texts.probe.as_bytes())).ok()?;
+    let (dump, legacy) = match said.vga {
+        None => (read, Vec::new(alloc)),
+        Some(word) => (
+            without_vga(alloc, &read)?,
+            legacy_bridges(alloc, &read, word).ok()?,
+        ),
+    };
+    let admitted = admit_with(alloc, dump, probe, roots).ok()?;
+    let given = Given {
+        io: said.io,
+        memory: said.memory,
+        legacy: &legacy,
+    };
+    lines_with(alloc, &given, admitted.outline())
+}
+
+/// Whether all faults of judging of a board, with what is said, have these lines.
+pub fn has_lines(
+    alloc: Global,
+    board: &[Function],
+    roots: &[u8],
+    said: Said<'_>,
+    wanted: &str,
+) -> bool {
+    match (texts_of(alloc, board), Roots::of(roots)) {
+        (Ok(texts), Some(roots)) => match lines_of(alloc, &texts, roots, said) {
+            Some(lines) => lines.as_str() == wanted,
+            None => false,
+        },
+        _ => false,
+    }
+}
