@@ -20,7 +20,7 @@ pub mod window_kind;
 pub use failures::Failures;
 pub use image::Image;
 pub use memory::{OutOfMemory, Refused};
-pub use range::Range;
+pub use range::{Range, RootRange};
 pub use slot::Slot;
 pub use space::{Address, Space};
 pub use window_kind::{ByKind, WindowKind};

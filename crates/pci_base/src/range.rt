@@ -8,3 +8,10 @@ pub struct Range {
     pub first: u64,
     pub last: u64,
 }
+
+/// A range, and the root bus that alone has it: None where all have it.
+#[derive(Clone, Copy, Debug, PartialEq, Eq)]
+pub struct RootRange {
+    pub root: Option<u8>,
+    pub range: Range,
+}
