@@ -28,8 +28,9 @@ checking = with_rule (with_paths (codes "check")) (option_rule (codes "root"))
 
 abbrev pub listing : App
 listing =
-    with_rule (with_rule (with_rule (with_paths (codes "faults")) (option_rule (codes "root")))
-    (option_rule (codes "model"))) (flag_rule (codes "why"))
+    with_rule (with_rule (with_rule (with_rule (with_rule (with_paths (codes "faults"))
+    (option_rule (codes "root"))) (option_rule (codes "model"))) (option_rule (codes "host-io")))
+    (option_rule (codes "host-mem"))) (flag_rule (codes "why"))
 
 abbrev pub mapping : App
 mapping =

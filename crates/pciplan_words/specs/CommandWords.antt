@@ -4,6 +4,7 @@ use Rattle.std.specs.Borrow.{Bor}
 use Rattle.clap.specs.Words.{Row, Text, first_of, one_of}
 use Rattle.pciplan_words.specs.declared.asked.Asked.{Asked}
 use Rattle.pciplan_words.specs.declared.asked.Asked.TheVariants.{Show, Check, Faults, Map, Size, Plan, Probe}
+use Rattle.pciplan_words.specs.declared.asked.FaultsWords.{FaultsWords}
 use Rattle.pciplan_words.specs.declared.asked.PlanWords.{PlanWords}
 
 -- the word of an option or a path, where it has one
@@ -15,6 +16,14 @@ pub record IsFlag (text : Option Text) (flag : Bool) : Type 0 where
   pub none : text ≡ None → flag ≡ false
   pub yes : text ≡ Some (codes "true") → flag ≡ true
   pub no : text ≡ Some (codes "false") → flag ≡ false
+
+-- the words of the options of `faults`
+pub record HasFaultsWords (rows : List Row) (words : FaultsWords) : Type 0 where
+  pub root : first_of (codes "root") rows ≡ word_of words.root
+  pub model : first_of (codes "model") rows ≡ word_of words.model
+  pub host_io : first_of (codes "host-io") rows ≡ word_of words.host_io
+  pub host_mem : first_of (codes "host-mem") rows ≡ word_of words.host_mem
+  pub why : IsFlag (one_of (codes "why") rows) words.why
 
 -- the words of the options of `plan`
 pub record HasPlanWords (rows : List Row) (words : PlanWords) : Type 0 where
@@ -30,9 +39,7 @@ abbrev pub IsAsked : Text → List Row → Asked → Type 0
 IsAsked name rows Show = name ≡ codes "show"
 IsAsked name rows (Check root) =
     (name ≡ codes "check") × (first_of (codes "root") rows ≡ word_of root)
-IsAsked name rows (Faults root model why) =
-    (name ≡ codes "faults") × (first_of (codes "root") rows ≡ word_of root)
-    × (first_of (codes "model") rows ≡ word_of model) × IsFlag (one_of (codes "why") rows) why
+IsAsked name rows (Faults words) = (name ≡ codes "faults") × HasFaultsWords rows words
 IsAsked name rows (Map root model) =
     (name ≡ codes "map") × (first_of (codes "root") rows ≡ word_of root)
     × (first_of (codes "model") rows ≡ word_of model)

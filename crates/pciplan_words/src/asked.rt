@@ -15,6 +15,21 @@ pub struct PlanWords<'a> {
     pub why: bool,
 }
 
+/// The words of the options of `faults`.
+#[derive(Clone, Copy)]
+pub struct FaultsWords<'a> {
+    /// The list of root buses, where there is one.
+    pub root: Option<&'a str>,
+    /// The words by which functions are taken, where there are any.
+    pub model: Option<&'a str>,
+    /// The list of I/O addresses that the host sends to its root buses, where it is said.
+    pub host_io: Option<&'a str>,
+    /// The list of memory addresses that the host sends to its root buses, where it is said.
+    pub host_mem: Option<&'a str>,
+    /// Whether what stands behind each fault is asked for.
+    pub why: bool,
+}
+
 /// The task that is asked for, with the words of its options.
 #[derive(Clone, Copy)]
 pub enum Asked<'a> {
@@ -24,14 +39,9 @@ pub enum Asked<'a> {
     Check {
         root: Option<&'a str>,
     },
-    /// All faults at once, with the list of root buses and the words by which functions are taken, where there are any, and
-    /// whether what stands behind each is asked for.
-    Faults {
-        root: Option<&'a str>,
-        model: Option<&'a str>,
-        why: bool,
-    },
-    /// The address map, with the same two lists.
+    /// All faults at once.
+    Faults(FaultsWords<'a>),
+    /// The address map, with the list of root buses and the words by which functions are taken, where there are any.
     Map {
         root: Option<&'a str>,
         model: Option<&'a str>,

@@ -4,12 +4,12 @@ ghost use Rattle.clap.specs.Words.{app_of, found_of, kind_of, rows_of, rule_of};
 ghost use Rattle.clap.specs.declared.error.kind.ErrorKind.{ErrorKind};
 ghost use Rattle.clap.specs.declared.builder.command.Command.TheViews.{out-Command};
 ghost use Rattle.pciplan_words.specs.CommandLines.{flag_rule, option_rule, pool_rule, with_paths, listing, mapping, planning, probing, commands, IsGiven, HasNoLine};
-ghost use Rattle.pciplan_words.specs.CommandWords.{HasPlanWords, IsAsked, IsSaid};
+ghost use Rattle.pciplan_words.specs.CommandWords.{HasFaultsWords, HasPlanWords, IsAsked, IsSaid};
 ghost use Rattle.pciplan_words.specs.declared.asked.Asked.{Asked};
 ghost use Rattle.pciplan_words.specs.declared.asked.PlanWords.{PlanWords};
 ghost use Rattle.pciplan_words.specs.declared.asked.WordsFault.{WordsFault};
 
-use crate::asked::{Asked, Given, PlanWords, WordsFault};
+use crate::asked::{Asked, FaultsWords, Given, PlanWords, WordsFault};
 use clap::{Arg, ArgAction, ArgMatches, Command};
 use std::alloc::{AllocError, Global};
 
@@ -23,6 +23,11 @@ const ROOT: &str = "root";
 
 /// The name of the option that lists the words by which functions are taken.
 const MODEL: &str = "model";
+
+/// The names of the options that list the addresses that the host sends to its root buses, of I/O and of memory.
+const HOST_IO: &str = "host-io";
+
+const HOST_MEM: &str = "host-mem";
 
 /// The name of the option that asks for what stands behind faults.
 const WHY: &str = "why";
@@ -100,7 +105,7 @@ fn flag_arg<'a>(alloc: Global, name: &'a str) -> Arg<'a>
     Arg::new(alloc, name).long(name).action(ArgAction::SetTrue)
 }
 
-/// `pciplan faults DUMP PROBE [--root LIST] [--model WORDS] [--why]`.
+/// `pciplan faults DUMP PROBE [--root LIST] [--model WORDS] [--host-io LIST] [--host-mem LIST] [--why]`.
 fn faults_command<'a>(alloc: Global) -> Result<Command<'a>, AllocError>
     ensures app { IfOk result (λ command. app_of command ≡ listing) }
     ensures local { IfOk result (λ command. (out-Command command).has_globals ≡ false) }
@@ -108,6 +113,8 @@ fn faults_command<'a>(alloc: Global) -> Result<Command<'a>, AllocError>
     of_texts(alloc, "faults")?
         .arg(word_arg(alloc, ROOT))?
         .arg(word_arg(alloc, MODEL))?
+        .arg(word_arg(alloc, HOST_IO))?
+        .arg(word_arg(alloc, HOST_MEM))?
         .arg(flag_arg(alloc, WHY))
 }
 
@@ -162,6 +169,19 @@ fn command<'a>(alloc: Global) -> Result<Command<'a>, AllocError>
         .subcommand(probe_command(alloc)?)
 }
 
+/// The words of the options of `faults`.
+fn faults_words<'a>(found: &ArgMatches<'a>) -> FaultsWords<'a>
+    ensures { HasFaultsWords (rows_of (found_of found.now)) result }
+{
+    FaultsWords {
+        root: found.get_str(ROOT),
+        model: found.get_str(MODEL),
+        host_io: found.get_str(HOST_IO),
+        host_mem: found.get_str(HOST_MEM),
+        why: found.get_flag(WHY),
+    }
+}
+
 /// The words of the options of `plan`.
 fn plan_words<'a>(found: &ArgMatches<'a>) -> Option<PlanWords<'a>>
     ensures { MatchOption result
@@ -189,11 +209,7 @@ fn asked_of<'a>(name: &str, found: &ArgMatches<'a>) -> Option<Asked<'a>>
         "check" => Some(Asked::Check {
             root: found.get_str(ROOT),
         }),
-        "faults" => Some(Asked::Faults {
-            root: found.get_str(ROOT),
-            model: found.get_str(MODEL),
-            why: found.get_flag(WHY),
-        }),
+        "faults" => Some(Asked::Faults(faults_words(found))),
         "map" => Some(Asked::Map {
             root: found.get_str(ROOT),
             model: found.get_str(MODEL),

@@ -6,14 +6,6 @@ use Rattle.pciplan_words.proofs.words.asked_of.Goals as goal
 pub returns-in-check : goal.returns-in-check
 returns-in-check c = (search rules, word_there (found_of c.args.found.now) (codes "root") c.get_str.result c.get_str.ensures)
 
-pub returns-in-faults : goal.returns-in-faults
-returns-in-faults c = (
-  search rules,
-  word_there (found_of c.args.found.now) (codes "root") c.get_str-in-faults.result c.get_str-in-faults.ensures,
-  word_there (found_of c.args.found.now) (codes "model") c.get_str-in-faults-2.result c.get_str-in-faults-2.ensures,
-  flag_there (found_of c.args.found.now) (codes "why") c.get_flag.result c.get_flag.ensures.none c.get_flag.ensures.value c.get_flag.ensures.other,
-)
-
 pub returns-in-map : goal.returns-in-map
 returns-in-map c = (
   search rules,
@@ -24,6 +16,6 @@ returns-in-map c = (
 pub returns-in-probe : goal.returns-in-probe
 returns-in-probe c = (
   search rules,
-  flag_there (found_of c.args.found.now) (codes "exact") c.get_flag-in-probe.result c.get_flag-in-probe.ensures.none c.get_flag-in-probe.ensures.value c.get_flag-in-probe.ensures.other,
-  flag_there (found_of c.args.found.now) (codes "least") c.get_flag-in-probe-2.result c.get_flag-in-probe-2.ensures.none c.get_flag-in-probe-2.ensures.value c.get_flag-in-probe-2.ensures.other,
+  flag_there (found_of c.args.found.now) (codes "exact") c.get_flag.result c.get_flag.ensures.none c.get_flag.ensures.value c.get_flag.ensures.other,
+  flag_there (found_of c.args.found.now) (codes "least") c.get_flag-in-probe.result c.get_flag-in-probe.ensures.none c.get_flag-in-probe.ensures.value c.get_flag-in-probe.ensures.other,
 )
