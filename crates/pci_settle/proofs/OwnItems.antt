@@ -34,7 +34,7 @@ use Rattle.pci_place.proofs.Parts.{bars_in, bars_of, rom_of, bar_span, rom_there
 use Rattle.pci_place.proofs.ClassOf.{kind_io, kind_wide, class_is}
 use Rattle.pci_place.proofs.Owned.{map_twice, no_rom, lacking_above}
 use Rattle.pci_settle.specs.declared.extent.Extent.{Extent}
-use Rattle.pci_settle.specs.declared.list.RootRange.{RootRange as CodeRange}
+use Rattle.pci_base.specs.declared.range.RootRange.{RootRange as CodeRange}
 use Rattle.pci_settle.specs.declared.item.Part.TheVariants as parts
 use Rattle.pci_settle.specs.declared.own.Terms.{Terms}
 use Rattle.pci_settle.specs.Lists.{root_range_value}

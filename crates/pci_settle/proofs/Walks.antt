@@ -7,7 +7,7 @@ use Rattle.settle_spec.specs.FirstPlace.{are_apart}
 use Rattle.settle_spec.specs.Lists as lists
 use Rattle.pci_base.specs.declared.range.Range.{Range as CodeRange}
 use Rattle.pci_base.specs.Ranges.{decoded_range_of}
-use Rattle.pci_settle.specs.declared.list.RootRange.{RootRange}
+use Rattle.pci_base.specs.declared.range.RootRange.{RootRange}
 use Rattle.pci_settle.specs.Lists.{root_range_value}
 
 -- what an index past the end is read as

@@ -2,7 +2,7 @@
 use Rattle.std.specs.Prelude.{map}
 use Rattle.settle_spec.specs.Lists as lists
 use Rattle.pci_base.specs.Ranges.{decoded_range_of}
-use Rattle.pci_settle.specs.declared.list.RootRange.{RootRange}
+use Rattle.pci_base.specs.declared.range.RootRange.{RootRange}
 use Rattle.pci_settle.specs.declared.list.Lists.{Lists}
 
 abbrev pub root_range_value : RootRange → lists.RootRange

@@ -10,7 +10,7 @@ ghost use Rattle.pci_base.specs.Ranges.{decoded_range_of};
 ghost use Rattle.pci_settle.specs.Lists.{root_range_value, lists_value};
 
 use pci_base::memory::OutOfMemory;
-use pci_base::range::Range;
+use pci_base::range::{Range, RootRange};
 use pci_tree::roots::Roots;
 use std::alloc::Allocator;
 
@@ -18,13 +18,6 @@ use std::alloc::Allocator;
 const IO_LAST: u64 = 0xffff;
 
 const MEMORY_LAST: u64 = 0xffff_ffff;
-
-/// A range, and the root bus that alone has it: None where all have it.
-#[derive(Clone, Copy, Debug, PartialEq, Eq)]
-pub struct RootRange {
-    pub root: Option<u8>,
-    pub range: Range,
-}
 
 /// A list of ranges for each class: what comes earlier is taken first.
 #[derive(Clone, Copy, Debug)]

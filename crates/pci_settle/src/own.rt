@@ -10,11 +10,11 @@ ghost use Rattle.pci_settle.specs.Own.{AreTerms, pools_to, class_of, is_left_bar
 
 use crate::extent::Extent;
 use crate::item::{Item, Part};
-use crate::list::{Lists, RootRange};
+use crate::list::Lists;
 use crate::window::later;
 use pci_base::memory::OutOfMemory;
 use pci_base::offset::BASE_ADDRESS;
-use pci_base::range::Range;
+use pci_base::range::{Range, RootRange};
 use pci_base::window_kind::WindowKind;
 use pci_function::record::Record;
 use pci_image::bar::{Bar, BarKind};

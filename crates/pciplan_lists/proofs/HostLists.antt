@@ -3,7 +3,7 @@ use Rattle.std.proofs.Common.{◌≡◌, ℕ, ◌≤◌, List, get_or, Option, N
 use Rattle.std.specs.Prelude.{◌↔◌, ◌==◌, IsTrue, slice_get}
 use Rattle.std.proofs.lemmas.Bool.{and_parts, and_from, eqb-true, eq-eqb, leb-true, le-leb}
 use Rattle.std.proofs.lemmas.Option.{get_or_from_slice_get}
-use Rattle.pciplan_lists.specs.declared.root_range.RootRange.{RootRange}
+use Rattle.pci_base.specs.declared.range.RootRange.{RootRange}
 use Rattle.pciplan_lists.specs.HostLists.{ShareBus, Meet, IsGoodRange}
 
 pub share_first : (other : Option ℕ) → ShareBus None other

@@ -1,7 +1,7 @@
 -- Lists of ranges: what is read of one, and that nothing else has its word.
 use Rattle.std.proofs.Common.{◌≡◌, ◌≢◌, ℕ, List, [], ◌∷◌, ◌++◌, length, get_or, drop, Option, None, Some, Bor, codes, refl, sym, ◌∙◌, ap, subst, arith}
 use Rattle.std.proofs.lemmas.List.{append_assoc, append-nil}
-use Rattle.pciplan_lists.specs.declared.root_range.RootRange.{RootRange}
+use Rattle.pci_base.specs.declared.range.RootRange.{RootRange}
 use Rattle.pciplan_lists.specs.ListWords.{IsRangeWord, AreRanges, IsListWord, bus_text, behind}
 use Rattle.pciplan_lists.proofs.RangeWords.{without_comma}
 use Rattle.pciplan_lists.proofs.Without.{Without, IsBehind, cut_same, without_one, not_without}

@@ -3,7 +3,7 @@ use Rattle.std.proofs.Common.{◌≡◌, ◌≢◌, ℕ, ◌<◌, ◌/◌, ◌%�
 use Rattle.std.proofs.lemmas.Str.Pattern.{IsSplitOnceResult, split_after, split_parts}
 use Rattle.pci_base.specs.declared.range.Range.{Range}
 use Rattle.pci_spec.specs.Text.{hex_byte, hex_digit}
-use Rattle.pciplan_lists.specs.declared.root_range.RootRange.{RootRange}
+use Rattle.pci_base.specs.declared.range.RootRange.{RootRange}
 use Rattle.pciplan_lists.specs.PoolWords.{IsAddressWord, IsPoolWord}
 use Rattle.pciplan_lists.specs.ListWords.{IsRangeWord, bus_text}
 use Rattle.pciplan_lists.proofs.HexWords.{no_digit}

@@ -2,7 +2,7 @@
 use Rattle.std.specs.Prelude.{◌≡◌, ℕ, ◌<◌, ◌≤◌, List, Option, Some, IsTrue, slice_get}
 use Rattle.std.specs.List.{Contains}
 use Rattle.given_spec.specs.Given.{HostRange, is_for, sends}
-use Rattle.pciplan_lists.specs.declared.root_range.RootRange.{RootRange}
+use Rattle.pci_base.specs.declared.range.RootRange.{RootRange}
 
 -- a range as the definitions of what is given have it
 abbrev pub host_range_of : RootRange → HostRange

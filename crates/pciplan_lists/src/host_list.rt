@@ -3,7 +3,7 @@ ghost use Rattle.std.specs.Prelude.{◌↔◌, ◌<◌, IsTrue, length};
 ghost use Rattle.pci_tree.specs.Roots.{buses_of};
 ghost use Rattle.pciplan_lists.specs.HostLists.{ShareBus, Meet, IsGoodRange, MeetsEarlier, IsGoodHostList};
 
-use crate::root_range::RootRange;
+use pci_base::range::RootRange;
 use pci_tree::roots::Roots;
 
 /// Whether a bus has two ranges: one of them is of all buses, or both are of one.

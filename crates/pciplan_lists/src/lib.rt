@@ -11,6 +11,5 @@ pub mod host_list;
 pub mod list_word;
 pub mod pool_word;
 pub mod range_word;
-pub mod root_range;
 #[cfg(test)]
 mod tests;

@@ -1,11 +1,11 @@
 //! Lists of ranges among the words.
 ghost use Rattle.std.specs.Prelude.{◌≡◌, ◌≢◌, ◌++◌, ◌<◌, List, slice_index, EachIndex, IfOk, IfSome, IsSomeAnd};
-ghost use Rattle.pciplan_lists.specs.declared.root_range.RootRange.{RootRange};
+ghost use Rattle.pci_base.specs.declared.range.RootRange.{RootRange};
 ghost use Rattle.pciplan_lists.specs.ListWords.{IsListWord, behind};
 
 use crate::range_word::range_of_word;
-use crate::root_range::RootRange;
 use pci_base::memory::OutOfMemory;
+use pci_base::range::RootRange;
 use std::alloc::Allocator;
 
 /// The word of a list that has no range.

@@ -1,12 +1,12 @@
 //! A range of a list among the words.
 ghost use Rattle.std.specs.Prelude.{◌≡◌, ◌<◌, ℕ, Some, IfSome};
 ghost use Rattle.pci_spec.specs.Text.{hex_byte};
-ghost use Rattle.pciplan_lists.specs.declared.root_range.RootRange.{RootRange};
+ghost use Rattle.pci_base.specs.declared.range.RootRange.{RootRange};
 ghost use Rattle.pciplan_lists.specs.ListWords.{IsRangeWord};
 
 use crate::pool_word::pool_of_word;
-use crate::root_range::RootRange;
 use pci_base::digit::digit_value;
+use pci_base::range::RootRange;
 
 /// A bus of two lower-case hex digits.
 fn bus_of_word(word: &str) -> Option<u8>

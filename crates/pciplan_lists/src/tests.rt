@@ -1,8 +1,7 @@
 use crate::host_list::is_good_host_list;
 use crate::list_word::list_of_word;
-use crate::root_range::RootRange;
 use pci_base::memory::OutOfMemory;
-use pci_base::range::Range;
+use pci_base::range::{Range, RootRange};
 use pci_tree::roots::Roots;
 use std::alloc::Global;
 

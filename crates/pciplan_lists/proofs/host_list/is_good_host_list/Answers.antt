@@ -3,7 +3,7 @@ use Rattle.std.specs.Prelude.{IsTrue, slice_get}
 use Rattle.std.proofs.lemmas.Bool.{iff_false}
 use Rattle.std.proofs.lemmas.Option.{slice_get_within}
 use Rattle.pci_tree.specs.Roots.{buses_of}
-use Rattle.pciplan_lists.specs.declared.root_range.RootRange.{RootRange}
+use Rattle.pci_base.specs.declared.range.RootRange.{RootRange}
 use Rattle.pciplan_lists.specs.HostLists.{IsGoodRange, IsGoodHostList, MeetsEarlier}
 use Rattle.pciplan_lists.proofs.HostLists.{good_there}
 use Rattle.pciplan_lists.proofs.host_list.is_good_host_list.Goals as goal

@@ -1,7 +1,7 @@
 use Rattle.std.proofs.Common.{◌≡◌, ℕ, ◌<◌, Some}
 use Rattle.std.specs.Prelude.{slice_get}
 use Rattle.pci_tree.specs.Roots.{buses_of}
-use Rattle.pciplan_lists.specs.declared.root_range.RootRange.{RootRange}
+use Rattle.pci_base.specs.declared.range.RootRange.{RootRange}
 use Rattle.pciplan_lists.specs.HostLists.{IsGoodRange, MeetsEarlier}
 use Rattle.pciplan_lists.proofs.host_list.is_good_host_list.Given as goal
 

@@ -1,6 +1,6 @@
 use Rattle.std.proofs.Common.{◌≡◌, ℕ, ◌<◌, Some}
 use Rattle.std.specs.Prelude.{slice_get}
-use Rattle.pciplan_lists.specs.declared.root_range.RootRange.{RootRange}
+use Rattle.pci_base.specs.declared.range.RootRange.{RootRange}
 use Rattle.pciplan_lists.specs.HostLists.{Meet}
 use Rattle.pciplan_lists.proofs.host_list.meets_earlier.Given as goal
 
