@@ -7,3 +7,4 @@ pub mod Words
 pub mod Laws
 pub mod Line
 pub mod Numbered
+pub mod FaultLines

@@ -1,5 +1,6 @@
 -- How faults are printed, with what is given.
-use Rattle.std.specs.Prelude.{List, ℕ, ◌++◌, codes}
+use Rattle.std.specs.Prelude.{List, ℕ, [], ◌∷◌, ◌++◌, codes}
+use Rattle.std.specs.List.{flat_map}
 use Rattle.pci_spec.specs.Line.{two_digits, field, region_field, place_field}
 use Rattle.pci_spec.specs.Line as plain
 use Rattle.given_spec.specs.Fault.{Fault, Known, Outside, fault_number}
@@ -18,3 +19,12 @@ fault_fields (Outside slot register space address) =
 -- a fault's number, name and fields
 abbrev pub fault_text : Fault → List ℕ
 fault_text fault = two_digits (fault_number fault) ++ field (fault_name fault) ++ fault_fields fault
+
+-- a fault's line
+abbrev pub fault_line : Fault → List ℕ
+fault_line fault = fault_text fault ++ 10 ∷ []
+
+-- the text of a list of all: a line for each, and `yes` where there is none
+abbrev pub list_text : List Fault → List ℕ
+list_text [] = codes "yes" ++ 10 ∷ []
+list_text (fault ∷ rest) = flat_map fault_line (fault ∷ rest)

@@ -29,3 +29,4 @@ pub mod SplitNaming
 pub mod AllSplitting
 pub mod Joining
 pub mod VgaBridges
+pub mod EveryGiven

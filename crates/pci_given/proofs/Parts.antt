@@ -13,7 +13,7 @@ use Rattle.pci_tree.specs.Ranges.{Holds, Covers}
 use Rattle.pci_tree.specs.Reaches.{IsWhole}
 use Rattle.pci_tree.proofs.Passing.{covers_push}
 use Rattle.given_spec.specs.Given.{Given, starts_in, starts, sends, is_for, ranges_said, HostRange as SpecRange}
-use Rattle.pci_given.specs.declared.given.HostRange.{HostRange}
+use Rattle.pci_base.specs.declared.range.RootRange.{RootRange}
 use Rattle.pci_given.specs.Values.{host_value}
 use Rattle.pci_given.specs.Gathered.{IsGathered}
 use Rattle.pci_given.specs.Sent.{IsPartAt, ArePartsOf, IsSentTo}
@@ -48,7 +48,7 @@ no_parts space root = record {
   exact = λ a. (λ (h : Covers [] a). absurd (none_covered a h), λ (h : IsAddress space a × (false ≡ true)). (let no = h.1 in absurd cc));
 }
 
-pub one_part_more : (ranges : List HostRange) (i : ℕ) (r : HostRange) (space : Space) (root : ℕ) (out new : List Range) (m : Range) → ArePartsOf (take i ranges) space root out
+pub one_part_more : (ranges : List RootRange) (i : ℕ) (r : RootRange) (space : Space) (root : ℕ) (out new : List Range) (m : Range) → ArePartsOf (take i ranges) space root out
     → i < length ranges → r ≡ get_or ranges i r → new ≡ out ++ m ∷ [] → (m.first ≤ m.last) × ((a : ℕ) → Holds m a ↔ IsPartAt r space root a)
     → ArePartsOf (take (i + 1) ranges) space root new
 one_part_more ranges i r space root out new m is within at e part = subst (λ xs. ArePartsOf (take (i + 1) ranges) space root xs) (sym e) record {
@@ -65,7 +65,7 @@ one_part_more ranges i r space root out new m is within at e part = subst (λ xs
   );
 }
 
-pub no_part_more : (ranges : List HostRange) (i : ℕ) (r : HostRange) (space : Space) (root : ℕ) (out : List Range) → ArePartsOf (take i ranges) space root out
+pub no_part_more : (ranges : List RootRange) (i : ℕ) (r : RootRange) (space : Space) (root : ℕ) (out : List Range) → ArePartsOf (take i ranges) space root out
     → i < length ranges → r ≡ get_or ranges i r → ((a : ℕ) → IsPartAt r space root a → ⊥) → ArePartsOf (take (i + 1) ranges) space root out
 no_part_more ranges i r space root out is within at none = record {
   lawful = is.lawful;
@@ -80,36 +80,34 @@ no_part_more ranges i r space root out is within at none = record {
 
 -- ---- a range by itself
 
-pub part_is : (range : HostRange) (space : Space) (root : ℕ) (whole : Range) → is_for range.root root ≡ true → ((a : ℕ) → Holds whole a ↔ IsAddress space a)
-    → (a : ℕ) → (Holds whole a × ((range.first ≤ a) × (a ≤ range.last))) ↔ IsPartAt range space root a
+pub part_is : (range : RootRange) (space : Space) (root : ℕ) (whole : Range) → is_for range.root root ≡ true → ((a : ℕ) → Holds whole a ↔ IsAddress space a)
+    → (a : ℕ) → (Holds whole a × Holds range.range a) ↔ IsPartAt range space root a
 part_is range space root whole for exact a = (
-  λ (h : Holds whole a × ((range.first ≤ a) × (a ≤ range.last))). ((exact a).0 h.0, and_from _ _ (and_from _ _ for (le-leb _ _ h.1.0)) (le-leb _ _ h.1.1)),
+  λ (h : Holds whole a × Holds range.range a). ((exact a).0 h.0, and_from _ _ (and_from _ _ for (le-leb _ _ h.1.0)) (le-leb _ _ h.1.1)),
   λ (h : IsPartAt range space root a).
       let p = and_parts _ _ h.1 in
       let q = and_parts _ _ p.0 in
       ((exact a).1 h.0, (leb-true _ _ q.1, leb-true _ _ p.1)),
 )
 
-pub met_part : (range : HostRange) (space : Space) (root : ℕ) (whole of : Range) (o : Option Range) → is_for range.root root ≡ true → ((a : ℕ) → Holds whole a ↔ IsAddress space a)
-    → of.first ≡ range.first → of.last ≡ range.last
-    → MatchOption o ((a : ℕ) → Holds whole a → Holds of a → ⊥) (λ m. (m.first ≤ m.last) × ((a : ℕ) → Holds m a ↔ (Holds whole a × Holds of a)))
+pub met_part : (range : RootRange) (space : Space) (root : ℕ) (whole : Range) (o : Option Range) → is_for range.root root ≡ true → ((a : ℕ) → Holds whole a ↔ IsAddress space a)
+    → MatchOption o ((a : ℕ) → Holds whole a → Holds range.range a → ⊥) (λ m. (m.first ≤ m.last) × ((a : ℕ) → Holds m a ↔ (Holds whole a × Holds range.range a)))
     → MatchOption o ((a : ℕ) → IsPartAt range space root a → ⊥) (λ m. (m.first ≤ m.last) × ((a : ℕ) → Holds m a ↔ IsPartAt range space root a))
-met_part range space root whole of None for exact first last none = λ a h.
-    let p = (part_is range space root whole for exact a).1 h in none a p.0 (let held = p.1 in omega (arith, held, first), let held = p.1 in omega (arith, held, last))
-met_part range space root whole of (Some m) for exact first last met = (
+met_part range space root whole None for exact none = λ a h. let p = (part_is range space root whole for exact a).1 h in none a p.0 p.1
+met_part range space root whole (Some m) for exact met = (
   met.0,
   λ a. (
-    λ (h : Holds m a). (let p = (met.1 a).0 h in (part_is range space root whole for exact a).0 (p.0, (let held = p.1 in omega (arith, held, first), let held = p.1 in omega (arith, held, last)))),
-    λ (h : IsPartAt range space root a). (let p = (part_is range space root whole for exact a).1 h in (met.1 a).1 (p.0, (let held = p.1 in omega (arith, held, first), let held = p.1 in omega (arith, held, last)))),
+    λ (h : Holds m a). (part_is range space root whole for exact a).0 ((met.1 a).0 h),
+    λ (h : IsPartAt range space root a). (met.1 a).1 ((part_is range space root whole for exact a).1 h),
   ),
 )
 
-pub part_for : (range : HostRange) (space : Space) (root a : ℕ) → IsPartAt range space root a → is_for range.root root ≡ true
+pub part_for : (range : RootRange) (space : Space) (root a : ℕ) → IsPartAt range space root a → is_for range.root root ≡ true
 part_for range space root a h = (and_parts _ _ (and_parts _ _ h.1).0).0
 
 -- ---- all of them
 
-pub sent_gathered : (given : Given) (space : Space) (root : ℕ) (ranges : List HostRange) (parts out : List Range) → ranges_said given space ≡ Some (map host_value ranges)
+pub sent_gathered : (given : Given) (space : Space) (root : ℕ) (ranges : List RootRange) (parts out : List Range) → ranges_said given space ≡ Some (map host_value ranges)
     → ArePartsOf ranges space root parts → IsGathered parts out → IsSentTo given space root out
 sent_gathered given space root ranges parts out said are is = record {
   canonical = is.canonical;

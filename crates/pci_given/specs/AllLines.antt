@@ -7,16 +7,16 @@ use Rattle.pci_check.specs.Trees.{HasTree}
 use Rattle.given_spec.specs.Given.{Given}
 use Rattle.given_spec.specs.Fault as spec
 use Rattle.given_spec.specs.AllFaults.{AreAllOfJudging}
-use Rattle.pci_given.specs.declared.all_lines.JudgingFault.{JudgingFault}
-use Rattle.pci_given.specs.declared.all_lines.JudgingFault.TheVariants.{OutsideHost, Known}
+use Rattle.pci_given.specs.declared.any_fault.AnyFault.{AnyFault}
+use Rattle.pci_given.specs.declared.any_fault.AnyFault.TheVariants.{OutsideHost, Known}
 use Rattle.pci_given.specs.OutsideLines.{outside_of}
 
 -- the fault, as the definitions have it
-abbrev pub judged_of : JudgingFault → spec.Fault
+abbrev pub judged_of : AnyFault → spec.Fault
 judged_of (OutsideHost outside) = outside_of outside
 judged_of (Known fault) = spec.Known (fault_of fault)
 
 -- all of judging, in each system with the tree
-abbrev pub AreAllLines : Given → Tree → List JudgingFault → Type 0
+abbrev pub AreAllLines : Given → Tree → List AnyFault → Type 0
 AreAllLines given t list =
     (s : System) → HasTree t s → AreAllOfJudging given t.roots s (map judged_of list)

@@ -2,12 +2,12 @@
 use Rattle.std.specs.Prelude.{map}
 use Rattle.std.specs.Option.{option_map}
 use Rattle.given_spec.specs.Given as spec
-use Rattle.pci_given.specs.declared.given.HostRange.{HostRange}
+use Rattle.pci_base.specs.declared.range.RootRange.{RootRange}
 use Rattle.pci_given.specs.declared.given.LegacyBridge.{LegacyBridge}
 use Rattle.pci_given.specs.declared.given.Given.{Given}
 
-abbrev pub host_value : HostRange → spec.HostRange
-host_value r = record { root = r.root; first = r.first; last = r.last }
+abbrev pub host_value : RootRange → spec.HostRange
+host_value r = record { root = r.root; first = r.range.first; last = r.range.last }
 
 abbrev pub legacy_value : LegacyBridge → spec.LegacyBridge
 legacy_value b = record { slot = b.slot; is_wide = b.is_wide }

@@ -1,9 +1,10 @@
 //! All faults of judging, with what is given.
 ghost use Rattle.std.specs.Prelude.{◌≡◌, ◌++◌, map, IfOk, OnOk};
-ghost use Rattle.pci_given.specs.declared.all_lines.JudgingFault.TheVariants.{OutsideHost, Known};
+ghost use Rattle.pci_given.specs.declared.any_fault.AnyFault.TheVariants.{OutsideHost, Known};
 ghost use Rattle.pci_given.specs.Values.{given_value};
 ghost use Rattle.pci_given.specs.AllLines.{AreAllLines};
 
+use super::any_fault::AnyFault;
 use super::clash_lines::all_clashes;
 use super::given::Given;
 use super::outside_lines::{Outside, all_outside};
@@ -14,38 +15,29 @@ use pci_function::fault::Fault;
 use pci_tree::outline::Outline;
 use std::alloc::Allocator;
 
-/// A fault of judging, with what is given.
-#[derive(Clone, Copy, Debug, PartialEq, Eq)]
-pub enum JudgingFault {
-    /// 63.
-    OutsideHost(Outside),
-    /// 60, 61 or 62.
-    Known(Fault),
-}
-
 /// Adds faults 63.
 fn add_outside<A: Allocator>(
-    faults: &mut Vec<JudgingFault, A>,
+    faults: &mut Vec<AnyFault, A>,
     outside: &[Outside],
 ) -> Result<(), OutOfMemory>
     ensures { OnOk result
         (faults.new.items ≡ faults.old.items ++ map (λ o. OutsideHost o) outside.now) }
 {
     for one in outside {
-        faults.push(JudgingFault::OutsideHost(*one))?;
+        faults.push(AnyFault::OutsideHost(*one))?;
     }
     Ok(())
 }
 
 /// Adds faults of the other numbers.
-fn add_known<A: Allocator>(
-    faults: &mut Vec<JudgingFault, A>,
+pub fn add_known<A: Allocator>(
+    faults: &mut Vec<AnyFault, A>,
     known: &[Fault],
 ) -> Result<(), OutOfMemory>
     ensures { OnOk result (faults.new.items ≡ faults.old.items ++ map (λ f. Known f) known.now) }
 {
     for fault in known {
-        faults.push(JudgingFault::Known(*fault))?;
+        faults.push(AnyFault::Known(*fault))?;
     }
     Ok(())
 }
@@ -57,7 +49,7 @@ pub fn all_of_judging<A: Allocator + Copy>(
     alloc: A,
     given: &Given<'_>,
     outline: &Outline<A>,
-) -> Result<Vec<JudgingFault, A>, OutOfMemory>
+) -> Result<Vec<AnyFault, A>, OutOfMemory>
     ensures { IfOk result (λ v. AreAllLines (given_value given.now) outline.now v.items) }
 {
     let outside = all_outside(alloc, given, outline)?;

@@ -1,13 +1,6 @@
 //! What is given.
+use pci_base::range::RootRange;
 use pci_base::slot::Slot;
-
-/// Addresses from `first` to `last`, both of them too, that the host sends to one root bus, or to each.
-#[derive(Clone, Copy, Debug, PartialEq, Eq)]
-pub struct HostRange {
-    pub root: Option<u8>,
-    pub first: u64,
-    pub last: u64,
-}
 
 /// A bridge with legacy parts, which answer for a VGA adapter behind it (Bridge 1.2, 3.2.5.18).
 #[derive(Clone, Copy, Debug, PartialEq, Eq)]
@@ -17,10 +10,11 @@ pub struct LegacyBridge {
     pub is_wide: bool,
 }
 
-/// What is given beside a system. Where no ranges are said of a space, the host sends all of it to each root bus.
+/// What is given beside a system: the ranges of each space that the host sends to its root buses, and the bridges with
+/// legacy parts. Where no ranges are said of a space, the host sends all of it to each root bus.
 #[derive(Clone, Copy, Debug)]
 pub struct Given<'a> {
-    pub io: Option<&'a [HostRange]>,
-    pub memory: Option<&'a [HostRange]>,
+    pub io: Option<&'a [RootRange]>,
+    pub memory: Option<&'a [RootRange]>,
     pub legacy: &'a [LegacyBridge],
 }

@@ -3,10 +3,12 @@
 #![tactic(auto)]
 
 pub mod all_lines;
+pub mod any_fault;
 pub mod bars_and_roms;
 pub mod bus_claims;
 pub mod claim;
 pub mod clash_lines;
+pub mod every;
 pub mod gather;
 pub mod given;
 pub mod legacy;
@@ -17,6 +19,7 @@ pub mod passed;
 pub mod reach;
 pub mod sent;
 pub mod split_lines;
+pub mod text;
 pub mod unreached;
 pub mod unreached_lines;
 pub mod vga;

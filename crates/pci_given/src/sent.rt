@@ -9,9 +9,9 @@ ghost use Rattle.pci_given.specs.Values.{host_value, given_value};
 ghost use Rattle.pci_given.specs.Sent.{IsSentTo, IsPartAt, ArePartsOf};
 
 use super::gather::gathered;
-use super::given::{Given, HostRange};
+use super::given::Given;
 use pci_base::memory::OutOfMemory;
-use pci_base::range::Range;
+use pci_base::range::{Range, RootRange};
 use pci_base::space::Space;
 use pci_tree::ranges::meet;
 use std::alloc::Allocator;
@@ -27,17 +27,13 @@ fn is_for(said: Option<u8>, root: u8) -> bool
 }
 
 /// The part of a range that is of a space and for a root bus.
-fn part_of(range: HostRange, space: Space, root: u8) -> Option<Range>
+fn part_of(range: RootRange, space: Space, root: u8) -> Option<Range>
     ensures { MatchOption result ((a : ℕ) → IsPartAt range (space_of space) root a → ⊥)
         (λ m. (m.first ≤ m.last)
         × ((a : ℕ) → Holds m a ↔ IsPartAt range (space_of space) root a)) }
 {
     if is_for(range.root, root) {
-        let of = Range {
-            first: range.first,
-            last: range.last,
-        };
-        meet(space.whole(), of)
+        meet(space.whole(), range.range)
     } else {
         None
     }
@@ -46,7 +42,7 @@ fn part_of(range: HostRange, space: Space, root: u8) -> Option<Range>
 /// The parts of ranges that are of a space and for a root bus.
 fn parts<A: Allocator>(
     alloc: A,
-    ranges: &[HostRange],
+    ranges: &[RootRange],
     space: Space,
     root: u8,
 ) -> Result<Vec<Range, A>, OutOfMemory>
@@ -62,7 +58,7 @@ fn parts<A: Allocator>(
 }
 
 /// The ranges that are said of a space.
-fn ranges_said<'a>(given: &Given<'a>, space: Space) -> Option<&'a [HostRange]>
+fn ranges_said<'a>(given: &Given<'a>, space: Space) -> Option<&'a [RootRange]>
     ensures { ranges_said (given_value given.now) (space_of space)
         ≡ option_map (λ rs. map host_value rs.now) result }
 {

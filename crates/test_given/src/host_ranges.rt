@@ -1,25 +1,23 @@
 //! Boards beside the ranges of addresses that the host sends to their root buses.
 use crate::judged::{NOTHING, Said, has_lines};
-use pci_given::given::HostRange;
+use pci_base::range::{Range, RootRange};
 use std::alloc::Global;
 use std::test::Fail;
 use test_support::board::{Function, device};
 
 /// Addresses that the host sends to each root bus.
-const fn to_each(first: u64, last: u64) -> HostRange {
-    HostRange {
+const fn to_each(first: u64, last: u64) -> RootRange {
+    RootRange {
         root: None,
-        first,
-        last,
+        range: Range { first, last },
     }
 }
 
 /// Addresses that the host sends to one root bus.
-const fn to(root: u8, first: u64, last: u64) -> HostRange {
-    HostRange {
+const fn to(root: u8, first: u64, last: u64) -> RootRange {
+    RootRange {
         root: Some(root),
-        first,
-        last,
+        range: Range { first, last },
     }
 }
 
@@ -28,7 +26,7 @@ fn has(
     alloc: Global,
     board: &[Function],
     roots: &[u8],
-    memory: &[HostRange],
+    memory: &[RootRange],
     wanted: &str,
 ) -> bool {
     let said = Said {

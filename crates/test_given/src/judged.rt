@@ -1,9 +1,10 @@
 //! The lines of all faults of judging of a board, with what is given.
+use pci_base::range::RootRange;
 use pci_dump::dump::Dump;
 use pci_dump::reader::read_dump;
 use pci_dump::std_streams::Incoming;
-use pci_given::all_lines::{JudgingFault, all_of_judging};
-use pci_given::given::{Given, HostRange};
+use pci_given::all_lines::{AnyFault, all_of_judging};
+use pci_given::given::Given;
 use pci_given::vga::{VgaWord, legacy_bridges, set_vga_aside};
 use pci_tree::admit::admit_with;
 use pci_tree::outline::Outline;
@@ -15,8 +16,8 @@ use test_support::board::{Function, Texts, texts_of};
 #[derive(Clone, Copy)]
 pub struct Said<'a> {
     pub vga: Option<VgaWord>,
-    pub io: Option<&'a [HostRange]>,
-    pub memory: Option<&'a [HostRange]>,
+    pub io: Option<&'a [RootRange]>,
+    pub memory: Option<&'a [RootRange]>,
 }
 
 /// Nothing.
@@ -38,13 +39,13 @@ fn without_vga(alloc: Global, dump: &Dump) -> Option<Dump> {
 }
 
 /// Appends a fault's line; of 63 its number, name, slot, register and address.
-fn push_line(lines: &mut String, fault: &JudgingFault) -> Option<()> {
+fn push_line(lines: &mut String, fault: &AnyFault) -> Option<()> {
     match fault {
-        JudgingFault::OutsideHost(outside) => {
+        AnyFault::OutsideHost(outside) => {
             let (slot, reg, address) = (outside.slot, outside.reg, outside.address);
             writeln!(lines, "63 Outside {slot} {reg:02x} {address:x}").ok()
         }
-        JudgingFault::Known(fault) => writeln!(lines, "{fault}").ok(),
+        AnyFault::Known(fault) => writeln!(lines, "{fault}").ok(),
     }
 }
 

@@ -1,5 +1,5 @@
 use Rattle.std.proofs.Common.{◌≡◌, ◌++◌, map, take}
-use Rattle.pci_given.specs.declared.all_lines.JudgingFault.TheVariants.{Known}
+use Rattle.pci_given.specs.declared.any_fault.AnyFault.TheVariants.{Known}
 use Rattle.pci_given.proofs.all_lines.add_known.Given as goal
 
 abbrev pub invariant-loop-fault : goal.invariant-loop-fault

@@ -1,5 +1,5 @@
 use Rattle.std.proofs.Common.{◌≡◌, ◌++◌, map, take}
-use Rattle.pci_given.specs.declared.all_lines.JudgingFault.TheVariants.{OutsideHost}
+use Rattle.pci_given.specs.declared.any_fault.AnyFault.TheVariants.{OutsideHost}
 use Rattle.pci_given.proofs.all_lines.add_outside.Given as goal
 
 abbrev pub invariant-loop-one : goal.invariant-loop-one

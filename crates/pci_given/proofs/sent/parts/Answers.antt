@@ -1,7 +1,7 @@
 use Rattle.std.proofs.Common.{◌≡◌, ◌+◌, [], arith, ap, get_or, subst, sym, take, ◌∙◌, None}
 use Rattle.std.proofs.lemmas.List.{get_or_default, take_all}
 use Rattle.pci_base.specs.Space.{space_of}
-use Rattle.pci_given.specs.declared.given.HostRange.{HostRange}
+use Rattle.pci_base.specs.declared.range.RootRange.{RootRange}
 use Rattle.pci_given.specs.Sent.{ArePartsOf}
 use Rattle.pci_given.proofs.Parts.{no_parts, one_part_more, no_part_more}
 use Rattle.pci_given.proofs.sent.parts.Goals as goal
@@ -12,8 +12,8 @@ loop-range-init g c = subst (λ xs. ArePartsOf [] (space_of c.args.space) c.args
 
 pub loop-range-preserved : goal.loop-range-preserved
 loop-range-preserved g c =
-    let r : HostRange = get_or c.args.ranges.now c.loop-range.range-index record { root = None; first = 0; last = 0 } in
-    let at : r ≡ get_or c.args.ranges.now c.loop-range.range-index r = get_or_default c.args.ranges.now c.loop-range.range-index record { root = None; first = 0; last = 0 } r (omega arith) in
+    let r : RootRange = get_or c.args.ranges.now c.loop-range.range-index record { root = None; range = record { first = 0; last = 0 } } in
+    let at : r ≡ get_or c.args.ranges.now c.loop-range.range-index r = get_or_default c.args.ranges.now c.loop-range.range-index record { root = None; range = record { first = 0; last = 0 } } r (omega arith) in
     elim c.match-part_of.branch [
       | in-Some+in_ok-push w ↦ one_part_more c.args.ranges.now c.loop-range.range-index r (space_of c.args.space) c.args.root c.loop-range.out.items _ w.in-Some.m c.loop-range.invariant
           (omega arith) at (ap (λ v. v.items) w.out-is ∙ w.in_ok-push.ensures.items) w.in-Some.ensures

@@ -1,0 +1,88 @@
+-- All faults of a dump and its probe, with what is given, by those of judging or of an earlier phase.
+use Rattle.std.proofs.Common.{◌≡◌, ℕ, ◌<◌, List, [], ◌∷◌, map, inl, inr, refl, sym, ap, subst, ◌∙◌}
+use Rattle.std.specs.Prelude.{◌↔◌}
+use Rattle.std.specs.List.{Contains}
+use Rattle.pci_spec.specs.Text.{Block}
+use Rattle.pci_spec.specs.System.{system_of}
+use Rattle.pci_spec.specs.Fault.{fault_number}
+use Rattle.pci_spec.specs.Fault as plain
+use Rattle.pci_spec.specs.Order.{IsFirstThere}
+use Rattle.pci_spec.specs.FaultLines as plain_lines
+use Rattle.pci_spec.proofs.Members.{in_head}
+use Rattle.pci_spec.proofs.Pairing.{in-of_there}
+use Rattle.pci_function.specs.declared.fault.Fault as code
+use Rattle.pci_function.specs.Fault.{fault_of}
+use Rattle.pci_tree.specs.Admission.{Admission, IsOutlineFor}
+use Rattle.pci_tree.specs.Outline.{Tree}
+use Rattle.pci_early.specs.Lists.{BeginsWith}
+use Rattle.pci_check.proofs.FirstOfAll.{none_early}
+use Rattle.pci_faults.proofs.EveryFault.{early_alone}
+use Rattle.given_spec.specs.Given.{Given}
+use Rattle.given_spec.specs.Fault as spec
+use Rattle.given_spec.specs.AllFaults.{AreAllOfJudging}
+use Rattle.given_spec.specs.FaultLines.{AreAllFaults, AreSound}
+use Rattle.given_spec.proofs.Naming.{empty_where_none_fails}
+use Rattle.pci_given.specs.declared.any_fault.AnyFault.{AnyFault}
+use Rattle.pci_given.specs.declared.any_fault.AnyFault.TheVariants.{Known}
+use Rattle.pci_given.specs.AllLines.{judged_of, AreAllLines}
+
+-- what stands of the list
+pub record IsEvery (given : Given) (roots : List ℕ) (dump probe : List Block) (list : List AnyFault) : Type 0 where
+  pub all : AreAllFaults given roots dump probe (map judged_of list)
+  pub none : (list ≡ []) ↔ AreSound given roots dump probe
+
+no_fault : (list : List AnyFault) → map judged_of list ≡ [] → list ≡ []
+no_fault [] e = refl
+no_fault (f ∷ rest) e = absurd (let no : ⊥ = cc in no)
+
+-- ---- of judging
+
+pub every_of_judging : (given : Given) (a : Admission) (o : Tree) (list : List AnyFault) → IsOutlineFor a o → AreAllLines given o list → IsEvery given a.roots a.dump a.probe list
+every_of_judging given a o list outline lines =
+    let admitted = outline.admitted in
+    let s = system_of a.dump a.probe in
+    let all = subst (λ roots. AreAllOfJudging given roots s (map judged_of list)) outline.roots (lines s record { system = admitted.system; records = outline.records }) in
+    let empty = empty_where_none_fails given a.roots s (map judged_of list) admitted.system admitted.nested all in
+    record {
+      all = inr record {
+        none_earlier = λ fault early there. none_early a.roots s admitted.nested admitted.profile admitted.chains fault early (in-of_there a.roots a.dump a.probe fault admitted.slots there);
+        all = all;
+      };
+      none = (
+        λ none. let sound = empty.0 (ap (map judged_of) none) in record {
+          slots = admitted.slots;
+          sound = record { single = sound.0; home = sound.1; nested = admitted.nested; profile = admitted.profile; chains = admitted.chains };
+        },
+        λ are. no_fault list (empty.1 (are.sound.single, are.sound.home)),
+      );
+    }
+
+-- ---- of an earlier phase
+
+known_values : (list : List code.Fault) → map judged_of (map (λ f. Known f) list) ≡ map (λ f. spec.Known f) (map fault_of list)
+known_values [] = refl
+known_values (f ∷ rest) = ap (λ l. spec.Known (fault_of f) ∷ l) (known_values rest)
+
+none_known : (list : List code.Fault) → map (λ f. Known f) list ≡ [] → map fault_of list ≡ []
+none_known [] e = refl
+none_known (f ∷ rest) e = absurd (let no : ⊥ = cc in no)
+
+pub every_of_early : (given : Given) (roots : List ℕ) (dump probe : List Block) (first : plain.Fault) (early : List code.Fault) (list : List AnyFault) → IsFirstThere roots dump probe first
+    → fault_number first < 60 → plain_lines.AreAllFaults roots dump probe (map fault_of early) → BeginsWith first (map fault_of early)
+    → list ≡ map (λ f. Known f) early → IsEvery given roots dump probe list
+every_of_early given roots dump probe first early list is low all (rest, begins) same =
+    let alone = early_alone roots dump probe first early is low all (rest, begins) in
+    let phase = alone.early first (subst (λ (l : List plain.Fault). Contains l first) (sym begins) (in_head first rest)) in
+    record {
+      all = inl record {
+        early = map fault_of early;
+        some = alone.some;
+        before = alone.early;
+        all = all;
+        are = ap (map judged_of) same ∙ known_values early;
+      };
+      none = (
+        λ none. absurd (alone.some (none_known early (sym same ∙ none))),
+        λ are. absurd (none_early roots (system_of dump probe) are.sound.nested are.sound.profile are.sound.chains first phase (in-of_there roots dump probe first are.slots is.there)),
+      );
+    }
