@@ -1,5 +1,5 @@
 -- What the changes of images are for.
-use Rattle.std.proofs.Common.{◌≡◌, ℕ, zero, suc, ◌+◌, ◌*◌, ◌/◌, ◌%◌, ◌<◌, List, length, set, false, refl, sym, ◌∙◌, arith}
+use Rattle.std.proofs.Common.{◌≡◌, ℕ, zero, suc, ◌+◌, ◌*◌, ◌/◌, ◌%◌, ◌==◌, ◌<◌, List, length, set, false, refl, sym, ◌∙◌, arith}
 use Rattle.std.specs.Int.{bit_at}
 use Rattle.std.proofs.lemmas.Bool.{both_ways, ne_eqb}
 use Rattle.std.proofs.Math.Bool.{and-false}
@@ -79,10 +79,12 @@ length_cleared : (offset count : ℕ) (image : List ℕ) → length (cleared off
 length_cleared offset zero image = refl
 length_cleared offset (suc count) image = length-set (cleared offset count image) (offset + count) 0 ∙ length_cleared offset count image
 
+pub device_is_none : (image : List ℕ) → length image ≡ 256 → (layout (as_device image) == 1) ≡ false
+device_is_none image full =
+    let long = length_cleared PRIMARY_BUS 28 image in
+    let low : byte_at (as_device image) HEADER_TYPE ≡ byte_at image HEADER_TYPE / 128 * 128 =
+    get_or-set_same (cleared PRIMARY_BUS 28 image) HEADER_TYPE _ 0 (omega (arith, full, long)) in
+    ne_eqb (layout (as_device image)) 1 (λ same. omega (arith, same, low))
+
 pub device_leads_nowhere : (f : Function) → IsImage f.image → is_bridge (without_buses f) ≡ false
-device_leads_nowhere f is =
-    let full = is.full in
-    let long = length_cleared PRIMARY_BUS 28 f.image in
-    let low : byte_at (as_device f.image) HEADER_TYPE ≡ byte_at f.image HEADER_TYPE / 128 * 128 =
-    get_or-set_same (cleared PRIMARY_BUS 28 f.image) HEADER_TYPE _ 0 (omega (arith, full, long)) in
-    ne_eqb (layout (as_device f.image)) 1 (λ same. omega (arith, same, low))
+device_leads_nowhere f is = device_is_none f.image is.full

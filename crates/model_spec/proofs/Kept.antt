@@ -1,11 +1,11 @@
 -- What words leave as it is.
-use Rattle.std.proofs.Common.{◌≡◌, ℕ, List, [], ◌∷◌, Bool, ◌&&◌, refl, ◌∙◌, ap, inl, inr, map}
+use Rattle.std.proofs.Common.{◌≡◌, ℕ, List, [], ◌∷◌, Bool, ◌&&◌, refl, ◌∙◌, ap, inl, inr, map, is_some}
 use Rattle.std.specs.Bool.{if◌then◌else◌}
 use Rattle.std.proofs.lemmas.Bool.{cases_Bool}
 use Rattle.pci_spec.specs.Slot.{Slot}
 use Rattle.pci_spec.specs.System.{Function, System}
 use Rattle.model_spec.specs.Words.{Words, no_words}
-use Rattle.model_spec.specs.Taken.{IsTaken, IsWhere, AreTaken, is_ide, is_unnumbered, with_image, bridge_aside, reset_aside, parts_aside}
+use Rattle.model_spec.specs.Taken.{IsTaken, IsWhere, AreTaken, is_ide, is_unnumbered, with_image, bridge_aside, reset_aside, parts_aside, vga_aside_by, has_legacy_by}
 
 -- ---- no words
 
@@ -32,10 +32,13 @@ at_slot f test image = elim (cases_Bool test) [ inl on ↦ rw on refl | inr off 
 bridge_slot : (w : Words) (slots : List Slot) (f : Function) → (bridge_aside w slots f).slot ≡ f.slot
 bridge_slot w slots f = at_slot (reset_aside w slots f) _ _ ∙ at_slot f _ _
 
-parts_slot : (w : Words) (f : Function) → (parts_aside w f).slot ≡ f.slot
-parts_slot w f = elim (cases_Bool (w.ide && is_ide f.image)) [
+vga_slot : (w : Words) (f : Function) → (vga_aside_by w f).slot ≡ f.slot
+vga_slot w f = elim (cases_Bool (is_some w.vga)) [ inl counts ↦ rw counts refl | inr other ↦ rw other refl ]
+
+parts_slot : (w : Words) (legacy : Bool) (f : Function) → (parts_aside w legacy f).slot ≡ f.slot
+parts_slot w legacy f = elim (cases_Bool (w.ide && is_ide f.image)) [
   | inl ide ↦ rw ide refl
-  | inr other ↦ elim (cases_Bool (w.unnumbered && is_unnumbered f)) [ inl bare ↦ rw (other, bare) refl | inr neither ↦ rw (other, neither) refl ]
+  | inr other ↦ elim (cases_Bool (w.unnumbered && is_unnumbered legacy f)) [ inl bare ↦ rw (other, bare) refl | inr neither ↦ rw (other, neither) refl ]
 ]
 
 kept_slot : (Condition : Type 0) (f changed g : Function) → IsWhere Condition f changed g → changed.slot ≡ f.slot → g.slot ≡ f.slot
@@ -45,8 +48,8 @@ kept_slot Condition f changed g (inr (fails, is)) same = ap (λ x. x.slot) is
 taken_slot : (w : Words) (slots : List Slot) (f h : Function) → IsTaken w slots f h → h.slot ≡ f.slot
 taken_slot w slots f h taken =
     let b = bridge_aside w slots taken.g in
-    kept_slot _ b _ h taken.parts (parts_slot w b) ∙ bridge_slot w slots taken.g
-    ∙ kept_slot _ f _ taken.g taken.power refl
+    kept_slot _ b _ h taken.parts (parts_slot w (has_legacy_by w f) b) ∙ bridge_slot w slots taken.g
+    ∙ kept_slot _ (vga_aside_by w f) _ taken.g taken.power refl ∙ vga_slot w f
 
 pub slots_same : (w : Words) (slots : List Slot) (s t : System) → AreTaken w slots s t → map (λ f. f.slot) t ≡ map (λ f. f.slot) s
 slots_same w slots [] [] taken = refl

@@ -1,3 +1,4 @@
 pub mod Changes
 pub mod Examples
 pub mod Kept
+pub mod NoVga

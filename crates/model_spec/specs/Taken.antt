@@ -11,6 +11,7 @@ use Rattle.pci_spec.specs.Bus.{is_behind}
 use Rattle.pci_spec.specs.Decoded.{Bridge, DecodedBar, DecodedRom, DecodedWindow, DecodedWindows, Record, record_of}
 use Rattle.pci_spec.specs.Fault.{Fault, IsIn, IsNotInD0, controls_bridge, is_subtractive_bridge}
 use Rattle.pci_spec.specs.Order.{Phase, Profile, Place, phase_key, phase_of}
+use Rattle.given_spec.specs.Words.{has_legacy, vga_aside}
 use Rattle.model_spec.specs.Words.{Words}
 use Rattle.model_spec.specs.Bytes.{as_device, device_read_backs, out_of_reset, positive, switched_off, without_bars}
 
@@ -26,6 +27,16 @@ is_anyone_behind slots b = list_any (λ slot. is_behind b slot.bus) slots
 -- a function with another image
 abbrev pub with_image : Function → List ℕ → Function
 with_image f image = record { slot = f.slot; image = image; probe = f.probe }
+
+-- ---- vga
+
+-- a bridge without VGA Enable, where its legacy part is given beside the system (Bridge 1.2, 3.2.5.18)
+abbrev pub vga_aside_by : Words → Function → Function
+vga_aside_by w f = if is_some w.vga then vga_aside f else f
+
+-- whether a function has a legacy part that is given
+abbrev pub has_legacy_by : Words → Function → Bool
+has_legacy_by w f = is_some w.vga && has_legacy f
 
 -- ---- power
 
@@ -87,6 +98,10 @@ has_open_window command w =
     (has_bit command 0 && is_open w.io)
     || (has_bit command 1 && (is_some w.memory.range || is_open w.prefetch))
 
+-- whether a legacy part claims addresses, by Command
+abbrev pub has_open_legacy : Bool → ℕ → Bool
+has_open_legacy legacy command = legacy && (has_bit command 0 || has_bit command 1)
+
 abbrev pub has_numbers : Bridge → Bool
 has_numbers b = not (b.primary == 0 && b.secondary == 0 && b.subordinate == 0)
 
@@ -94,15 +109,16 @@ abbrev pub is_rom_on : Option DecodedRom → Bool
 is_rom_on None = false
 is_rom_on (Some rom) = rom.on
 
--- whether a record is of a bridge that nobody gave bus numbers: they are 0, none of its windows claims an address, and
--- its ROM is off
-abbrev pub is_unnumbered_bridge : Record → Option Bridge → Bool
-is_unnumbered_bridge r None = false
-is_unnumbered_bridge r (Some b) =
-    not (has_numbers b) && not (has_open_window r.command b.windows) && not (is_rom_on r.rom)
+-- whether a record is of a bridge that nobody gave bus numbers: they are 0, neither one of its windows nor its legacy
+-- part, where it has one, claims an address, and its ROM is off
+abbrev pub is_unnumbered_bridge : Bool → Record → Option Bridge → Bool
+is_unnumbered_bridge legacy r None = false
+is_unnumbered_bridge legacy r (Some b) =
+    not (has_numbers b) && not (has_open_window r.command b.windows)
+    && not (has_open_legacy legacy r.command) && not (is_rom_on r.rom)
 
-abbrev pub is_unnumbered : Function → Bool
-is_unnumbered f = is_unnumbered_bridge (record_of f) (record_of f).bridge
+abbrev pub is_unnumbered : Bool → Function → Bool
+is_unnumbered legacy f = is_unnumbered_bridge legacy (record_of f) (record_of f).bridge
 
 -- a bridge as a device with its BARs: it leads to no bus
 abbrev pub without_buses : Function → Function
@@ -111,22 +127,25 @@ without_buses f =
 
 -- ---- all of them
 
-abbrev pub parts_aside : Words → Function → Function
-parts_aside w f =
+-- of a function that has a legacy part, or has none
+abbrev pub parts_aside : Words → Bool → Function → Function
+parts_aside w legacy f =
     if w.ide && is_ide f.image then without_channels f
-    else if w.unnumbered && is_unnumbered f then without_buses f else f
+    else if w.unnumbered && is_unnumbered legacy f then without_buses f else f
 
 -- a function is another one where a condition holds, and else itself
 abbrev pub IsWhere : Type 0 → Function → Function → Function → Type 0
 IsWhere Condition f changed g = (Condition × (g ≡ changed)) ⊎ ((Condition → ⊥) × (g ≡ f))
 
 -- The function h is how f is taken. What is wrong with it by itself is told before all else: `power` leaves a function be
--- whose registers or list don't decode, `ide` and `unnumbered` one that has any fault by itself.
+-- whose registers or list don't decode, `ide` and `unnumbered` one that has any fault by itself. VGA Enable is left aside
+-- first, so that it is no such fault where a word for it counts.
 pub record IsTaken (w : Words) (slots : List Slot) (f h : Function) : Type 0 where
   pub g : Function
-  pub power : IsWhere (IsTrue w.power × IsAsleep f) f (with_image f (switched_off f.image)) g
+  pub power : IsWhere (IsTrue w.power × IsAsleep (vga_aside_by w f)) (vga_aside_by w f)
+      (with_image (vga_aside_by w f) (switched_off (vga_aside_by w f).image)) g
   pub parts : IsWhere (HasNoneBefore Place (bridge_aside w slots g)) (bridge_aside w slots g)
-      (parts_aside w (bridge_aside w slots g)) h
+      (parts_aside w (has_legacy_by w f) (bridge_aside w slots g)) h
 
 -- the same of each function of a system
 abbrev pub AreTaken : Words → List Slot → System → System → Type 0

@@ -1,13 +1,13 @@
 -- Laws of what words take.
-use Rattle.std.specs.Prelude.{◌≡◌, ℕ, IsFalse, List, map}
+use Rattle.std.specs.Prelude.{◌≡◌, ℕ, IsTrue, IsFalse, List, map, is_some}
 use Rattle.pci_spec.specs.Slot.{Slot}
 use Rattle.pci_spec.specs.Number.{IsImage}
-use Rattle.pci_spec.specs.Registers.{SECONDARY_BUS_RESET}
+use Rattle.pci_spec.specs.Registers.{SECONDARY_BUS_RESET, VGA_ENABLE}
 use Rattle.pci_spec.specs.System.{System, Function, Space, Part, Claims, is_bridge}
 use Rattle.pci_spec.specs.Fault.{IsNotInD0, controls_bridge, is_subtractive_bridge}
 use Rattle.model_spec.specs.Words.{Words, no_words}
 use Rattle.model_spec.specs.Bytes.{out_of_reset, positive, switched_off}
-use Rattle.model_spec.specs.Taken.{AreTaken, with_image, without_buses}
+use Rattle.model_spec.specs.Taken.{AreTaken, IsTaken, with_image, without_buses}
 
 -- Without words a system is taken as it is.
 abbrev pub NoWordsChangeNothing : Type 0
@@ -45,3 +45,9 @@ PositiveIs = (image : List ℕ) → IsImage image → IsFalse (is_subtractive_br
 -- What was an unnumbered bridge is none: it leads to no bus, and has no bus numbers.
 abbrev pub DeviceLeadsNowhere : Type 0
 DeviceLeadsNowhere = (f : Function) → IsImage f.image → IsFalse (is_bridge (without_buses f))
+
+-- What is taken with a word for legacy parts has no VGA Enable, whatever other words count.
+abbrev pub TakenHasNoVgaEnable : Type 0
+TakenHasNoVgaEnable =
+    (w : Words) (slots : List Slot) (f h : Function) → IsImage f.image → IsTrue (is_some w.vga)
+    → IsTaken w slots f h → IsFalse (controls_bridge h.image VGA_ENABLE)

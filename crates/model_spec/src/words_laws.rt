@@ -1,6 +1,6 @@
 //! Laws of words. These functions do nothing: each contract is a law.
 
-ghost use Rattle.model_spec.specs.WordsLaws.{NoWordsChangeNothing, SlotsAreKept, OffClaimsNothing, OffShowsNoState, OutOfResetIs, PositiveIs, DeviceLeadsNowhere};
+ghost use Rattle.model_spec.specs.WordsLaws.{NoWordsChangeNothing, SlotsAreKept, OffClaimsNothing, OffShowsNoState, OutOfResetIs, PositiveIs, DeviceLeadsNowhere, TakenHasNoVgaEnable};
 
 /// Without words a system is taken as it is.
 pub fn no_words_change_nothing()
@@ -20,4 +20,9 @@ pub fn changes_do_what_they_are_for()
     ensures reset { OutOfResetIs }
     ensures positive { PositiveIs }
     ensures device { DeviceLeadsNowhere }
+{}
+
+/// What is taken with a word for legacy parts is no bridge with VGA Enable.
+pub fn taken_functions_have_no_vga_enable()
+    ensures none { TakenHasNoVgaEnable }
 {}

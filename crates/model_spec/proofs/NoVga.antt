@@ -1,0 +1,147 @@
+-- What is taken with a word for legacy parts has no VGA Enable.
+use Rattle.std.proofs.Common.{◌≡◌, ℕ, zero, suc, ◌+◌, ◌*◌, ◌/◌, ◌%◌, ◌==◌, List, [], ◌∷◌, length, set, Bool, true, false, ◌&&◌, not, sym, ◌∙◌, ap, subst, inl, inr, arith}
+use Rattle.std.specs.Int.{bit_at}
+use Rattle.std.proofs.lemmas.Bool.{and_left, both_ways, cases_Bool, cases_eq, cases_lt, cond_both, ne_eqb, true_from_ne_false}
+use Rattle.std.proofs.Math.Bool.{and-false}
+use Rattle.std.proofs.lemmas.List.{get_or-set_same, get_or-set_other, get_or_past, length-set}
+use Rattle.pci_spec.specs.Number.{byte_at, has_bit, IsImage}
+use Rattle.pci_spec.specs.Registers.{COMMAND, STATUS, INTERFACE, HEADER_TYPE, BRIDGE_CONTROL, SECONDARY_BUS_RESET, VGA_ENABLE}
+use Rattle.pci_spec.specs.Header.{bridge_control, layout}
+use Rattle.pci_spec.specs.Slot.{Slot}
+use Rattle.pci_spec.specs.System.{Function}
+use Rattle.pci_spec.specs.Decoded.{DecodedBar}
+use Rattle.pci_spec.specs.Fault.{controls_bridge, is_subtractive_bridge}
+use Rattle.given_spec.specs.Words.{without_vga}
+use Rattle.model_spec.specs.Words.{Words}
+use Rattle.model_spec.specs.Bytes.{cleared, out_of_reset, positive, switched_off, width_of, without_bars}
+use Rattle.model_spec.specs.Taken.{IsWhere, bridge_aside, compatible_bars, has_legacy_by, is_anyone_behind, is_ide, is_unnumbered, parts_aside, reset_aside, vga_aside_by, with_image, without_channels}
+use Rattle.model_spec.specs.WordsLaws.{TakenHasNoVgaEnable}
+use Rattle.model_spec.proofs.Changes.{device_is_none}
+
+-- an image of 256 bytes without VGA Enable
+record IsOff (image : List ℕ) : Type 0 where
+  full : length image ≡ 256
+  off : controls_bridge image VGA_ENABLE ≡ false
+
+-- the header and the bit are what they were
+still_off : (image changed : List ℕ) → byte_at changed HEADER_TYPE ≡ byte_at image HEADER_TYPE
+    → has_bit (bridge_control changed) VGA_ENABLE ≡ has_bit (bridge_control image) VGA_ENABLE
+    → controls_bridge image VGA_ENABLE ≡ false → controls_bridge changed VGA_ENABLE ≡ false
+still_off image changed kind bit off =
+    ap (λ n. n % 128 == 1 && has_bit (bridge_control changed) VGA_ENABLE) kind ∙ ap (λ b. layout image == 1 && b) bit ∙ off
+
+-- ---- each change
+
+start_off : (image : List ℕ) → IsImage image → IsOff (without_vga image)
+start_off image is = cond_both (controls_bridge image VGA_ENABLE) _ image (λ x. IsOff x)
+    (λ on.
+    let full = is.full in
+    let control = byte_at image BRIDGE_CONTROL in
+    let new = set image BRIDGE_CONTROL (control / 16 * 16 + control % 8) in
+    let low : byte_at new BRIDGE_CONTROL ≡ control / 16 * 16 + control % 8 = get_or-set_same image BRIDGE_CONTROL _ 0 (omega (arith, full)) in
+    let none : has_bit (bridge_control new) VGA_ENABLE ≡ false = ne_eqb (bit_at (bridge_control new) 3) 1 (λ one. omega (arith, one, low)) in
+    record { full = length-set image BRIDGE_CONTROL _ ∙ full; off = rw none (and-false _) })
+    (λ off. record { full = is.full; off = off })
+
+off_at : (image : List ℕ) (k : ℕ) → (k ≡ COMMAND → ⊥) → (k ≡ STATUS → ⊥) → byte_at (switched_off image) k ≡ byte_at image k
+off_at image k command status =
+    get_or-set_other (set image COMMAND (byte_at image COMMAND / 4 * 4)) STATUS k _ 0 status ∙ get_or-set_other image COMMAND k _ 0 command
+
+switched_stays_off : (image : List ℕ) → IsOff image → IsOff (switched_off image)
+switched_stays_off image is =
+    let low = off_at image BRIDGE_CONTROL (λ e. cc e) (λ e. cc e) in
+    let high = off_at image (BRIDGE_CONTROL + 1) (λ e. cc e) (λ e. cc e) in
+    let control : bridge_control (switched_off image) ≡ bridge_control image = omega (arith, low, high) in
+    record {
+      full = length-set (set image COMMAND (byte_at image COMMAND / 4 * 4)) STATUS _ ∙ length-set image COMMAND _ ∙ is.full;
+      off = still_off image (switched_off image) (off_at image HEADER_TYPE (λ e. cc e) (λ e. cc e)) (ap (λ n. has_bit n VGA_ENABLE) control) is.off;
+    }
+
+reset_stays_off : (image : List ℕ) → IsOff image → IsOff (out_of_reset image)
+reset_stays_off image is =
+    let kind : byte_at (out_of_reset image) HEADER_TYPE ≡ byte_at image HEADER_TYPE = get_or-set_other image BRIDGE_CONTROL HEADER_TYPE _ 0 (λ e. cc e) in
+    let high : byte_at (out_of_reset image) (BRIDGE_CONTROL + 1) ≡ byte_at image (BRIDGE_CONTROL + 1) = get_or-set_other image BRIDGE_CONTROL (BRIDGE_CONTROL + 1) _ 0 (λ e. omega (arith, e)) in
+    let full = is.full in
+    let control = byte_at image BRIDGE_CONTROL in
+    let low : byte_at (out_of_reset image) BRIDGE_CONTROL ≡ control / 128 * 128 + control % 64 = get_or-set_same image BRIDGE_CONTROL _ 0 (omega (arith, full)) in
+    let bit : bit_at (bridge_control (out_of_reset image)) 3 ≡ bit_at (bridge_control image) 3 = omega (arith, low, high) in
+    record {
+      full = length-set image BRIDGE_CONTROL _ ∙ full;
+      off = still_off image (out_of_reset image) kind (ap (λ n. n == 1) bit) is.off;
+    }
+
+positive_stays_off : (image : List ℕ) → IsOff image → IsOff (positive image)
+positive_stays_off image is =
+    let low : byte_at (positive image) BRIDGE_CONTROL ≡ byte_at image BRIDGE_CONTROL = get_or-set_other image INTERFACE BRIDGE_CONTROL 0 0 (λ e. cc e) in
+    let high : byte_at (positive image) (BRIDGE_CONTROL + 1) ≡ byte_at image (BRIDGE_CONTROL + 1) = get_or-set_other image INTERFACE (BRIDGE_CONTROL + 1) 0 0 (λ e. cc e) in
+    let control : bridge_control (positive image) ≡ bridge_control image = omega (arith, low, high) in
+    record {
+      full = length-set image INTERFACE 0 ∙ is.full;
+      off = still_off image (positive image) (get_or-set_other image INTERFACE HEADER_TYPE 0 0 (λ e. cc e)) (ap (λ n. has_bit n VGA_ENABLE) control) is.off;
+    }
+
+bridge_stays_off : (w : Words) (slots : List Slot) (g : Function) → IsOff g.image → IsOff (bridge_aside w slots g).image
+bridge_stays_off w slots g is =
+    let r = reset_aside w slots g in
+    let reset : IsOff r.image = cond_both (w.reset && controls_bridge g.image SECONDARY_BUS_RESET && not (is_anyone_behind slots g)) (with_image g (out_of_reset g.image)) g (λ x. IsOff x.image)
+    (λ on. reset_stays_off g.image is) (λ other. is) in
+    cond_both (w.subtractive && is_subtractive_bridge r.image && not (is_anyone_behind slots r)) (with_image r (positive r.image)) r (λ x. IsOff x.image)
+    (λ on. positive_stays_off r.image reset) (λ other. reset)
+
+-- ---- what becomes a device, or stays one
+
+-- a layout of 0 stays where bytes are cleared
+zero_stays : (image : List ℕ) (k : ℕ) → layout image ≡ 0 → layout (set image k 0) ≡ 0
+zero_stays image k device = elim (cases_eq HEADER_TYPE k) [
+  | inl same ↦ elim (cases_lt k (length image)) [
+    | inl within ↦ ap (λ n. n % 128) (ap (λ j. byte_at (set image k 0) j) same ∙ get_or-set_same image k 0 0 within)
+    | inr past ↦ ap (λ n. n % 128) (get_or_past (set image k 0) HEADER_TYPE 0 (omega (arith, past, same, length-set image k 0)))
+  ]
+  | inr other ↦ ap (λ n. n % 128) (get_or-set_other image k HEADER_TYPE 0 0 other) ∙ device
+]
+
+cleared_stays : (offset count : ℕ) (image : List ℕ) → layout image ≡ 0 → layout (cleared offset count image) ≡ 0
+cleared_stays offset zero image device = device
+cleared_stays offset (suc count) image device = zero_stays (cleared offset count image) (offset + count) (cleared_stays offset count image device)
+
+bars_stay : (bars : List DecodedBar) (image : List ℕ) → layout image ≡ 0 → layout (without_bars bars image) ≡ 0
+bars_stay [] image device = device
+bars_stay (bar ∷ bars) image device = bars_stay bars (cleared bar.register (width_of bar.kind) image) (cleared_stays bar.register (width_of bar.kind) image device)
+
+zero_is_no_bridge : (n : ℕ) → n ≡ 0 → (n == 1) ≡ false
+zero_is_no_bridge n device = ne_eqb n 1 (λ one. omega (arith, device, one))
+
+is_controller : (f : Function) → is_ide f.image ≡ true → layout f.image ≡ 0
+is_controller f ide = elim (cases_eq (layout f.image) 0) [
+  | inl device ↦ device
+  | inr other ↦ absurd (both_ways (is_ide f.image) (and_left _ _ (ne_eqb (layout f.image) 0 other)) ide)
+]
+
+parts_stay_off : (w : Words) (legacy : Bool) (f : Function) → IsOff f.image → controls_bridge (parts_aside w legacy f).image VGA_ENABLE ≡ false
+parts_stay_off w legacy f is = elim (cases_Bool (w.ide && is_ide f.image)) [
+  | inl channels ↦ (
+      let ide : is_ide f.image ≡ true = true_from_ne_false _ (λ no. both_ways (w.ide && is_ide f.image) (ap (λ b. w.ide && b) no ∙ and-false w.ide) channels) in
+      let device = bars_stay (compatible_bars f) f.image (is_controller f ide) in
+      rw channels (and_left _ _ (zero_is_no_bridge (layout (without_channels f).image) device))
+      )
+  | inr other ↦ elim (cases_Bool (w.unnumbered && is_unnumbered legacy f)) [
+    | inl bare ↦ rw (other, bare) (and_left _ _ (device_is_none f.image is.full))
+    | inr numbered ↦ rw (other, numbered) is.off
+  ]
+]
+
+-- ---- all of them
+
+-- what is so with a change and without it is so
+where_either : (Q : Function → Type 0) (Condition : Type 0) (f changed g : Function) → IsWhere Condition f changed g → Q changed → Q f → Q g
+where_either Q Condition f changed g (inl (holds, is)) with_it without_it = subst Q (sym is) with_it
+where_either Q Condition f changed g (inr (fails, is)) with_it without_it = subst Q (sym is) without_it
+
+pub taken_has_no_vga_enable : TakenHasNoVgaEnable
+taken_has_no_vga_enable w slots f h is counts taken =
+    let start = vga_aside_by w f in
+    let start_is : IsOff start.image = rw counts (start_off f.image is) in
+    let g_is : IsOff taken.g.image = where_either (λ x. IsOff x.image) _ start _ taken.g taken.power (switched_stays_off start.image start_is) start_is in
+    let b = bridge_aside w slots taken.g in
+    let b_is : IsOff b.image = bridge_stays_off w slots taken.g g_is in
+    where_either (λ x. controls_bridge x.image VGA_ENABLE ≡ false) _ b _ h taken.parts (parts_stay_off w (has_legacy_by w f) b b_is) b_is.off

@@ -1,0 +1,5 @@
+use Rattle.model_spec.proofs.NoVga.{taken_has_no_vga_enable}
+use Rattle.model_spec.proofs.words_laws.taken_functions_have_no_vga_enable.Goals as goal
+
+pub returns : goal.returns
+returns c = record { none = taken_has_no_vga_enable }
