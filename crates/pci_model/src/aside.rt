@@ -10,14 +10,18 @@ ghost use Rattle.model_spec.specs.Bytes.{cleared, width_of, without_bars};
 ghost use Rattle.model_spec.specs.Taken as taken;
 ghost use Rattle.pci_model.specs.WordsValue.{words_value};
 
-use super::bytes::{clear, make_device, make_device_read_backs, make_positive, take_out_of_reset};
+use super::bytes::{
+    clear, make_device, make_device_read_backs, make_positive, set_vga_aside, take_out_of_reset,
+};
 use super::words::Words;
 use pci_base::image::Image;
 use pci_base::offset::INTERFACE;
 use pci_base::slot::Slot;
 use pci_base::space::Space;
 use pci_function::examine::examine;
-use pci_function::profile::{SECONDARY_BUS_RESET, controls_bridge, is_subtractive_bridge};
+use pci_function::profile::{
+    SECONDARY_BUS_RESET, VGA_ENABLE, controls_bridge, is_subtractive_bridge,
+};
 use pci_function::record::{Bridge, Record};
 use pci_image::bar::{Bar, BarKind};
 use pci_image::header::{class_code, layout};
@@ -30,6 +34,26 @@ const IDE_CONTROLLER: u32 = 0x0101;
 const PRIMARY_CHANNEL_END: u8 = 0x18;
 
 const CHANNELS_END: u8 = 0x20;
+
+/// Whether a function has a legacy part that is given beside the system.
+pub fn has_legacy(image: &Image, words: Words) -> bool
+    ensures { (slot : SlotValue) (probe : List ℕ) → result ≡ taken.has_legacy_by (words_value words) record
+        { slot = slot; image = image.now.0; probe = probe } }
+{
+    words.vga.is_some() && controls_bridge(image, VGA_ENABLE)
+}
+
+/// Leaves VGA Enable aside, where a word for legacy parts counts.
+pub fn vga_aside(image: &mut Image, words: Words)
+    ensures { (slot : SlotValue) (probe : List ℕ)
+        → record { slot = slot; image = image.new.0; probe = probe }
+        ≡ taken.vga_aside_by (words_value words) record
+        { slot = slot; image = image.old.0; probe = probe } }
+{
+    if words.vga.is_some() {
+        set_vga_aside(image);
+    }
+}
 
 /// Leaves a bridge's reset and its subtractive decoding aside, where these count and nothing is listed behind it.
 pub fn bridge_aside(image: &mut Image, is_anyone_behind: bool, words: Words)
@@ -116,6 +140,13 @@ fn has_open_window(command: u16, windows: &Windows) -> bool
         || (Space::Mem.is_on(command) && (windows.mem.range().is_some() || is_open(windows.pref)))
 }
 
+/// Whether a legacy part claims addresses, by Command.
+fn has_open_legacy(legacy: bool, command: u16) -> bool
+    ensures { result ≡ taken.has_open_legacy legacy command }
+{
+    legacy && (Space::Io.is_on(command) || Space::Mem.is_on(command))
+}
+
 /// Whether a bridge has bus numbers.
 fn has_numbers(bridge: &Bridge) -> bool
     ensures { result ≡ taken.has_numbers (bridge_value bridge.now) }
@@ -123,10 +154,10 @@ fn has_numbers(bridge: &Bridge) -> bool
     !(bridge.primary == 0 && bridge.secondary == 0 && bridge.subordinate == 0)
 }
 
-/// Whether a record is of a bridge that nobody gave bus numbers, of which no window claims an address, and whose ROM is
-/// off.
-fn is_unnumbered(function: &Record) -> bool
-    ensures { result ≡ taken.is_unnumbered_bridge (record_value function.now)
+/// Whether a record is of a bridge that nobody gave bus numbers, of which neither a window nor its legacy part, where it
+/// has one, claims an address, and whose ROM is off.
+fn is_unnumbered(function: &Record, legacy: bool) -> bool
+    ensures { result ≡ taken.is_unnumbered_bridge legacy (record_value function.now)
         (record_value function.now).bridge }
 {
     let is_rom_on = match function.rom {
@@ -137,17 +168,19 @@ fn is_unnumbered(function: &Record) -> bool
         None => false,
         Some(bridge) => !has_numbers(&bridge)
             && !has_open_window(function.command, &bridge.windows)
+            && !has_open_legacy(legacy, function.command)
             && !is_rom_on,
     }
 }
 
-/// Leaves the channels of an IDE controller and an unnumbered bridge's buses aside, where these count.
-pub fn parts_aside(slot: Slot, image: &mut Image, probe: &mut Image, words: Words)
+/// Leaves the channels of an IDE controller and an unnumbered bridge's buses aside, where these count, of a function that
+/// has a legacy part, or has none.
+pub fn parts_aside(slot: Slot, image: &mut Image, probe: &mut Image, legacy: bool, words: Words)
     ensures { taken.IsWhere
         (taken.HasNoneBefore Place record
         { slot = slot; image = image.old.0; probe = probe.old.0 })
         record { slot = slot; image = image.old.0; probe = probe.old.0 }
-        (taken.parts_aside (words_value words) record
+        (taken.parts_aside (words_value words) legacy record
         { slot = slot; image = image.old.0; probe = probe.old.0 })
         record { slot = slot; image = image.new.0; probe = probe.new.0 } }
 {
@@ -159,7 +192,7 @@ pub fn parts_aside(slot: Slot, image: &mut Image, probe: &mut Image, words: Word
         let interface = image.u8(INTERFACE);
         leave_channels_out(&decoded.bars, interface, image);
         leave_channels_out(&decoded.bars, interface, probe);
-    } else if words.unnumbered && is_unnumbered(&decoded) {
+    } else if words.unnumbered && is_unnumbered(&decoded, legacy) {
         make_device(image);
         make_device_read_backs(probe);
     }

@@ -1,11 +1,13 @@
 //! Images with some of their bytes changed.
 ghost use Rattle.std.specs.Prelude.{◌≡◌, ◌+◌, ◌≤◌};
+ghost use Rattle.given_spec.specs.Words.{without_vga};
 ghost use Rattle.model_spec.specs.Bytes as bytes;
 
 use pci_base::image::Image;
 use pci_base::offset::{
     BRIDGE_CONTROL, BRIDGE_EXPANSION_ROM, COMMAND, HEADER_TYPE, INTERFACE, PRIMARY_BUS, STATUS,
 };
+use pci_function::profile::{VGA_ENABLE, controls_bridge};
 
 /// The bytes of a bridge's numbers and windows, 18h to 33h (Bridge 1.2, 3.2.5).
 const BRIDGE_REGISTERS: u8 = 28;
@@ -31,6 +33,16 @@ pub fn switch_off(image: &mut Image)
     let status = image.u8(STATUS);
     image.0[usize::from(COMMAND)] = command / 4 * 4;
     image.0[usize::from(STATUS)] = status / 32 * 32 + status % 16;
+}
+
+/// Clears VGA Enable of a bridge.
+pub fn set_vga_aside(image: &mut Image)
+    ensures { image.new.0 ≡ without_vga image.old.0 }
+{
+    if controls_bridge(image, VGA_ENABLE) {
+        let control = image.u8(BRIDGE_CONTROL);
+        image.0[usize::from(BRIDGE_CONTROL)] = control / 16 * 16 + control % 8;
+    }
 }
 
 /// Bridge Control without Secondary Bus Reset (Bridge 1.2, 3.2.5.18).

@@ -8,7 +8,7 @@ ghost use Rattle.model_spec.specs.Taken.{IsTaken, is_anyone_behind};
 ghost use Rattle.model_spec.specs.TakenDumps.{AreTakenAs};
 ghost use Rattle.pci_model.specs.WordsValue.{words_value};
 
-use super::aside::{bridge_aside, parts_aside};
+use super::aside::{bridge_aside, has_legacy, parts_aside, vga_aside};
 use super::power::take_asleep;
 use super::words::Words;
 use pci_base::image::Image;
@@ -57,10 +57,12 @@ fn take(slot: Slot, image: &mut Image, probe: &mut Image, blocks: &[Block], word
         record { slot = slot; image = image.old.0; probe = probe.old.0 }
         record { slot = slot; image = image.new.0; probe = probe.new.0 } }
 {
+    let legacy = has_legacy(image, words);
+    vga_aside(image, words);
     take_asleep(slot, image, probe, words);
     let behind = is_anyone_behind(blocks, image);
     bridge_aside(image, behind, words);
-    parts_aside(slot, image, probe, words);
+    parts_aside(slot, image, probe, legacy, words);
 }
 
 /// Takes a function of a dump, by its two blocks.

@@ -1,5 +1,14 @@
 //! The words by which a user says how functions are to be taken.
 
+/// How many bits of an I/O address the legacy part of a bridge decodes.
+#[derive(Clone, Copy, Debug, PartialEq, Eq)]
+pub enum VgaWord {
+    /// 16 where its Bridge Control says so, else 10.
+    Vga,
+    /// 16, whatever it says.
+    Vga16,
+}
+
 /// Which words count.
 #[derive(Clone, Copy, Debug, PartialEq, Eq)]
 pub struct Words {
@@ -13,4 +22,6 @@ pub struct Words {
     pub subtractive: bool,
     /// A bridge without bus numbers leads nowhere, where none of its windows claims an address.
     pub unnumbered: bool,
+    /// A bridge may have VGA Enable set: its legacy part is given beside the system (Bridge 1.2, 3.2.5.18).
+    pub vga: Option<VgaWord>,
 }

@@ -1,4 +1,4 @@
-use Rattle.std.proofs.Common.{◌≡◌, List, map, refl, sym, ◌∙◌, ap, inl, inr, true, false, ◌&&◌}
+use Rattle.std.proofs.Common.{◌≡◌, List, map, refl, sym, ◌∙◌, ap, inl, inr, false, ◌&&◌}
 use Rattle.std.proofs.Math.Bool.{and-false}
 use Rattle.pci_spec.specs.System.{Function}
 use Rattle.pci_spec.specs.Order.{Place}
@@ -30,7 +30,7 @@ returns-then-is_ide c =
     let none : HasNoneBefore Place f = λ fault low is. clear_alone 4 f fault c.in-Ok.ensures.clear low low is in
     inl (
       none,
-      channels_aside (words_value c.args.words) f (record_value c.in-Ok.decoded) c.in-Ok.ensures.decoded.same c.if-words.true (sym c.is_ide.ensures ∙ c.if-is_ide.true) _ _
+      channels_aside (words_value c.args.words) c.args.legacy f (record_value c.in-Ok.decoded) c.in-Ok.ensures.decoded.same c.if-words.true (sym c.is_ide.ensures ∙ c.if-is_ide.true) _ _
           (c.leave_channels_out.ensures ∙ ap (λ (bs : List Bar). without_bars (filter (λ bar. is_compatible c.u8-interface.result bar.register) (map decoded_bar_of bs)) f.image) c.deref.ensures.0
           ∙ ap (λ n. without_bars (filter (λ bar. is_compatible n bar.register) bars) f.image) c.u8-interface.ensures)
           (c.leave_channels_out-then-is_ide.ensures ∙ ap (λ (bs : List Bar). without_bars (filter (λ bar. is_compatible c.u8-interface.result bar.register) (map decoded_bar_of bs)) f.probe) c.deref-then-is_ide.ensures.0
@@ -47,7 +47,7 @@ returns-then-is_unnumbered c =
     ] in
     inl (
       none,
-      buses_aside (words_value c.args.words) f (record_value c.in-Ok.decoded) c.in-Ok.ensures.decoded.same other c.if-words-2.true
+      buses_aside (words_value c.args.words) c.args.legacy f (record_value c.in-Ok.decoded) c.in-Ok.ensures.decoded.same other c.if-words-2.true
           (sym c.is_unnumbered.ensures ∙ c.if-is_unnumbered.true) _ _ c.make_device.ensures c.make_device_read_backs.ensures,
     )
 
@@ -60,8 +60,8 @@ returns-else-words-2 c =
       | else-words-via-then-words+else-is_ide w ↦ (let no : is_ide f.image ≡ false = sym w.is_ide.ensures ∙ w.if-is_ide.false in rw no (and-false c.args.words.ide))
       | else-words-via-else-words w ↦ (let no : c.args.words.ide ≡ false = w.if-words.false in rw no refl)
     ] in
-    let numbered : (c.args.words.unnumbered && is_unnumbered_bridge r r.bridge) ≡ false = elim c.else-words-2.branch [
-      | else-words-2-via-then-words-2+else-is_unnumbered w ↦ (let no : is_unnumbered_bridge r r.bridge ≡ false = sym w.is_unnumbered.ensures ∙ w.if-is_unnumbered.false in rw no (and-false c.args.words.unnumbered))
+    let numbered : (c.args.words.unnumbered && is_unnumbered_bridge c.args.legacy r r.bridge) ≡ false = elim c.else-words-2.branch [
+      | else-words-2-via-then-words-2+else-is_unnumbered w ↦ (let no : is_unnumbered_bridge c.args.legacy r r.bridge ≡ false = sym w.is_unnumbered.ensures ∙ w.if-is_unnumbered.false in rw no (and-false c.args.words.unnumbered))
       | else-words-2-via-else-words-2 w ↦ (let no : c.args.words.unnumbered ≡ false = w.if-words-2.false in rw no refl)
     ] in
-    inl (none, nothing_aside (words_value c.args.words) f r c.in-Ok.ensures.decoded.same other numbered)
+    inl (none, nothing_aside (words_value c.args.words) c.args.legacy f r c.in-Ok.ensures.decoded.same other numbered)

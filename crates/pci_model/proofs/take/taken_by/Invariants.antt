@@ -1,4 +1,3 @@
-use Rattle.std.proofs.Common.{take}
 use Rattle.pci_model.specs.WordsValue.{words_value}
 use Rattle.pci_model.proofs.Takes.{AreTakenSoFar}
 use Rattle.pci_model.proofs.take.taken_by.Given as goal
