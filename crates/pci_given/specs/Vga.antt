@@ -6,12 +6,6 @@ use Rattle.pci_spec.specs.System.{Function}
 use Rattle.given_spec.specs.Given as spec
 use Rattle.given_spec.specs.Words as words
 use Rattle.given_spec.specs.Words.{has_legacy, legacy_bridge}
-use Rattle.pci_given.specs.declared.vga.VgaWord.{VgaWord}
-use Rattle.pci_given.specs.declared.vga.VgaWord.TheVariants.{Vga, Vga16}
-
-abbrev pub word_value : VgaWord → words.VgaWord
-word_value Vga = words.Vga
-word_value Vga16 = words.Vga16
 
 -- a function whose registers read back nothing: no read back says what its legacy part is
 abbrev pub shown_by : Block → Function

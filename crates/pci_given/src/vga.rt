@@ -5,9 +5,10 @@ ghost use Rattle.pci_spec.specs.Number.{has_bit};
 ghost use Rattle.pci_spec.specs.Header.{bridge_control};
 ghost use Rattle.pci_spec.specs.Text.{Block as BlockValue, slots_of};
 ghost use Rattle.pci_spec.specs.System.{system_of};
-ghost use Rattle.given_spec.specs.Words.{is_wide_by, has_legacy, legacy_bridge, legacy_bridges, without_vga};
+ghost use Rattle.given_spec.specs.Words.{is_wide_by, has_legacy, legacy_bridge, legacy_bridges};
+ghost use Rattle.pci_model.specs.WordsValue.{vga_value};
 ghost use Rattle.pci_given.specs.Values.{legacy_value};
-ghost use Rattle.pci_given.specs.Vga.{word_value, shown_by};
+ghost use Rattle.pci_given.specs.Vga.{shown_by};
 
 use super::given::LegacyBridge;
 use pci_base::image::Image;
@@ -16,23 +17,15 @@ use pci_base::offset::BRIDGE_CONTROL;
 use pci_dump::block::Block;
 use pci_dump::dump::Dump;
 use pci_function::profile::{VGA_ENABLE, controls_bridge};
+use pci_model::words::VgaWord;
 use std::alloc::Allocator;
-
-/// How many bits of an I/O address the legacy part of a bridge decodes.
-#[derive(Clone, Copy, Debug, PartialEq, Eq)]
-pub enum VgaWord {
-    /// 16 where its Bridge Control says so, else 10.
-    Vga,
-    /// 16, whatever it says.
-    Vga16,
-}
 
 /// VGA 16-bit Decode, of Bridge Control.
 const VGA_16_BIT_DECODE: u8 = 4;
 
 /// Whether the legacy part of a bridge decodes 16 bits.
 fn is_wide(bridge: &Image, word: VgaWord) -> bool
-    ensures { result ≡ is_wide_by (word_value word)
+    ensures { result ≡ is_wide_by (vga_value word)
         (has_bit (bridge_control bridge.now.0) VGA_16_BIT_DECODE) }
 {
     match word {
@@ -44,7 +37,7 @@ fn is_wide(bridge: &Image, word: VgaWord) -> bool
 /// The legacy part of a function, where it is a bridge with VGA Enable.
 fn legacy_part(block: &Block, word: VgaWord) -> Option<LegacyBridge>
     ensures { option_map legacy_value result ≡ (if has_legacy (shown_by block.now)
-        then Some (legacy_bridge (word_value word) (shown_by block.now)) else None) }
+        then Some (legacy_bridge (vga_value word) (shown_by block.now)) else None) }
 {
     if !controls_bridge(&block.image, VGA_ENABLE) {
         return None;
@@ -63,7 +56,7 @@ pub fn legacy_bridges<A: Allocator, B: Allocator>(
 ) -> Result<Vec<LegacyBridge, A>, OutOfMemory>
     // of any read backs
     ensures { IfOk result (λ v. (probe : List BlockValue) → slots_of dump.now ≡ slots_of probe
-        → map legacy_value v.items ≡ legacy_bridges (word_value word) (system_of dump.now probe)) }
+        → map legacy_value v.items ≡ legacy_bridges (vga_value word) (system_of dump.now probe)) }
 {
     let mut out = Vec::new(alloc);
     for block in dump.blocks() {
@@ -72,14 +65,4 @@ pub fn legacy_bridges<A: Allocator, B: Allocator>(
         }
     }
     Ok(out)
-}
-
-/// Clears VGA Enable of a bridge.
-pub fn set_vga_aside(image: &mut Image)
-    ensures { image.new.0 ≡ without_vga image.old.0 }
-{
-    if controls_bridge(image, VGA_ENABLE) {
-        let control = image.u8(BRIDGE_CONTROL);
-        image.0[usize::from(BRIDGE_CONTROL)] = control / 16 * 16 + control % 8;
-    }
 }

@@ -50,7 +50,7 @@ fn a_bar_above_what_the_host_sends_is_outside(rt: HostRuntime) -> Result<(), Fai
             &board,
             &[0],
             &memory,
-            "63 Outside 00:01.0 10 8080000000\n"
+            "63 Outside 00:01.0 10 mem 0000008080000000\n"
         )
     );
     Ok(())
@@ -66,7 +66,7 @@ fn the_least_address_outside_is_told(rt: HostRuntime) -> Result<(), Fail> {
             &board,
             &[0],
             &memory,
-            "63 Outside 00:01.0 10 e0000000\n"
+            "63 Outside 00:01.0 10 mem 00000000e0000000\n"
         )
     );
     Ok(())
@@ -93,7 +93,7 @@ fn where_it_is_sent_to_one_root_the_other_bar_is_outside(rt: HostRuntime) -> Res
         to(0, 0xe000_0000, 0xefff_ffff),
         to(0x40, 0xf000_0000, 0xffff_ffff),
     ];
-    let line = "63 Outside 40:01.0 10 e0000000\n";
+    let line = "63 Outside 40:01.0 10 mem 00000000e0000000\n";
     assert!(rt; has(rt.alloc(), &on_two_roots(), &[0, 0x40], &memory, line));
     Ok(())
 }

@@ -3,9 +3,11 @@ use pci_base::range::RootRange;
 use pci_dump::dump::Dump;
 use pci_dump::reader::read_dump;
 use pci_dump::std_streams::Incoming;
-use pci_given::all_lines::{AnyFault, all_of_judging};
+use pci_given::all_lines::all_of_judging;
 use pci_given::given::Given;
-use pci_given::vga::{VgaWord, legacy_bridges, set_vga_aside};
+use pci_given::vga::legacy_bridges;
+use pci_model::bytes::set_vga_aside;
+use pci_model::words::VgaWord;
 use pci_tree::admit::admit_with;
 use pci_tree::outline::Outline;
 use pci_tree::roots::Roots;
@@ -38,23 +40,12 @@ fn without_vga(alloc: Global, dump: &Dump) -> Option<Dump> {
     Some(out)
 }
 
-/// Appends a fault's line; of 63 its number, name, slot, register and address.
-fn push_line(lines: &mut String, fault: &AnyFault) -> Option<()> {
-    match fault {
-        AnyFault::OutsideHost(outside) => {
-            let (slot, reg, address) = (outside.slot, outside.reg, outside.address);
-            writeln!(lines, "63 Outside {slot} {reg:02x} {address:x}").ok()
-        }
-        AnyFault::Known(fault) => writeln!(lines, "{fault}").ok(),
-    }
-}
-
 /// The lines of all faults of judging.
 fn lines_with(alloc: Global, given: &Given<'_>, outline: &Outline) -> Option<String> {
     let faults = all_of_judging(alloc, given, outline).ok()?;
     let mut lines = String::new(alloc);
     for fault in faults.iter() {
-        push_line(&mut lines, fault)?;
+        writeln!(lines, "{fault}").ok()?;
     }
     Some(lines)
 }

@@ -1,6 +1,6 @@
 //! Boards with bridges that have VGA Enable (Bridge 1.2, 3.2.5.18).
 use crate::judged::{NOTHING, Said, has_lines};
-use pci_given::vga::VgaWord;
+use pci_model::words::VgaWord;
 use std::alloc::Global;
 use std::test::Fail;
 use test_support::board::{Function, Register, bridge, device};
