@@ -1,7 +1,11 @@
 -- Lines of bytes one after the other.
-use Rattle.std.proofs.Common.{◌≡◌, None, Some, ℕ, zero, suc, ◌+◌, ◌*◌, ◌/◌, ◌%◌, ◌<◌, ◌≤◌, List, [], ◌∷◌, ◌++◌, refl, arith, sym, ◌∙◌, ap, subst, length, take, drop, append_assoc, append-nil, map}
+use Rattle.std.proofs.Common.{◌≡◌, None, Some, ℕ, zero, suc, ◌+◌, ◌-◌, ◌*◌, ◌/◌, ◌%◌, ◌<◌, ◌≤◌, List, [], ◌∷◌, ◌++◌, refl, arith, sym, ◌∙◌, ap, subst, length, get_or, take, drop, append_assoc, append-nil, map}
 use Rattle.std.specs.Prelude.{slice_get}
-use Rattle.std.proofs.lemmas.List.{length-append, length-take, drop_at, take_all, take-append-le, drop-append-le, length-drop}
+use Rattle.std.specs.List.{slice_range}
+use borrow.Rule.Slice.PartMut.{put_mid}
+use Rattle.std.proofs.lemmas.List.{length-append, length-take, drop_at, drop_more, drop-drop, take_all, take-append-le, drop-append-le, length-drop}
+use Rattle.std.proofs.lemmas.List.Folds.{drop_split}
+use Rattle.std.proofs.lemmas.Slice.{take-put_mid, drop-put_mid}
 use Rattle.pci_spec.specs.Text.{hex_digit, line_ends}
 use Rattle.pci_spec.specs.Form.{Cell, Fixed, Fits, Breaks, Leaves, BreaksIn, value_cells, row_cells, rows_cells, rest_cells, row_text, rows_text, ends_in}
 use Rattle.pci_spec.proofs.Forms.{fits_append, fits_length, fits_rows, fits_row, filler, ends_of, line_ends_append, AreSmall, small_append}
@@ -9,6 +13,7 @@ use Rattle.pci_spec.proofs.Faults.{rows_ends, row_front, breaks_in_row, breaks_i
 use Rattle.pci_dump.specs.declared.parse.BlockFault.{BlockFault}
 use Rattle.pci_dump.specs.declared.parse.BlockFault.TheVariants.{BadSlot, BadTitle, BadLine, NoBlank, Order, Ended, EndedFirst}
 use Rattle.pci_dump.specs.BlockFault.{RowStops, RestStops}
+use Rattle.pci_dump.specs.Row.{IsRowRead}
 
 pub row_long : (row : ℕ) → length (row_cells row) ≡ 52
 unfolding value_cells
@@ -169,3 +174,31 @@ pub at_end : (row last : ℕ) (bytes image rest : List ℕ) → row ≡ last →
     → AreSmall (take (16 * last) image) × (bytes ≡ rows_text 0 last (take (16 * last) image) ++ rest)
 at_end row last bytes image rest e small so_far =
     (subst (λ (r : ℕ). AreSmall (take (16 * r) image)) e small, subst (λ (r : ℕ). bytes ≡ rows_text 0 r (take (16 * r) image) ++ rest) e so_far)
+
+-- a line that is read into its place
+pub read_there : (row from : ℕ) (line old values : List ℕ) → row < 16 → from ≡ row → length old ≡ 256 → length values ≡ 16 → AreSmall values → line ≡ row_text row values → IsRowRead row line old (put_mid (16 * from) (16 * from + 16 - 16 * from) old values)
+read_there row from line old values high same long many small text = record {
+  values = values;
+  long = many;
+  small = small;
+  text = text;
+  written = take-put_mid (16 * from) (16 * from + 16 - 16 * from) old values (16 * row + 16) (omega (arith, same, many)) (omega (arith, same, high, long)) ∙ ap (λ (k : ℕ). take (16 * k) old ++ values) same;
+  kept = drop-put_mid (16 * from) (16 * from + 16 - 16 * from) old values (16 * row + 16) (omega (arith, same)) (omega (arith, same, high, long)) (omega (arith, many));
+}
+
+-- a line at its place, and what is left behind it
+pub line_cut : (bytes : List ℕ) (row from : ℕ) → from ≡ row → drop (52 * row) bytes ≡ slice_range bytes (52 * from) (52 * from + 52) ++ drop (52 * (row + 1)) bytes
+line_cut bytes row from same =
+    let at : 52 * row ≡ 52 * from = omega (arith, same) in
+    let end : 52 * from + 52 ≡ 52 * (row + 1) = omega (arith, same) in
+    ap (λ (k : ℕ). drop k bytes) at ∙ drop_split bytes (52 * from) (52 * from + 52) (omega arith) ∙ ap (λ (k : ℕ). slice_range bytes (52 * from) (52 * from + 52) ++ drop k bytes) end
+
+pub line_long : (bytes : List ℕ) (row from : ℕ) → 833 ≤ length bytes → row < 16 → from ≡ row → length (slice_range bytes (52 * from) (52 * from + 52)) ≡ 52
+line_long bytes row from enough high same =
+    let a = length-take (52 * from + 52 - 52 * from) (drop (52 * from) bytes) in
+    let b = length-drop (52 * from) bytes in
+    omega (arith, a, b, enough, high, same)
+
+-- what stands behind sixteen lines
+pub blank_at : (bytes : List ℕ) → 833 ≤ length bytes → drop (52 * 16) bytes ≡ get_or bytes 832 0 ∷ drop 1 (drop (52 * 16) bytes)
+blank_at bytes enough = drop_more bytes 832 0 (omega (arith, enough)) ∙ ap (λ (t : List ℕ). get_or bytes 832 0 ∷ t) (sym (drop-drop 1 832 bytes))

@@ -2,6 +2,7 @@
 use Rattle.std.proofs.Common.{◌≡◌, replicate, ℕ, zero, suc, ◌+◌, ◌-◌, ◌*◌, ◌<◌, ◌≤◌, List, [], ◌∷◌, ◌++◌, refl, arith, sym, ◌∙◌, ap, subst, length, get_or, take, drop, append_assoc}
 use Rattle.std.specs.List.{slice_range}
 use Rattle.std.proofs.lemmas.List.{length-take, length-drop, take-append-drop, take-append-le, drop-append-le, drop-drop, drop_at, drop_more, take_all, take-replicate, drop-replicate}
+use Rattle.std.proofs.Math.Seq.{drop-append-add}
 use Rattle.pci_spec.specs.Form.{Fixed, rows_cells, row_text, rows_text}
 use Rattle.pci_spec.proofs.Forms.{fits_append, fits_length, fits_rows, small_append}
 use Rattle.pci_dump.specs.LastZeros.{HasZeros}
@@ -104,3 +105,25 @@ last_there row bytes old new rest high long many small so_far zeros_left e =
     let first = rows_text 0 row before in
     behind_lines bytes new more many (zeroed row old new high long small e)
     (so_far ∙ ap (λ (x : List ℕ). first ++ x) lines ∙ sym (append_assoc first (last ++ 10 ∷ []) more) ∙ ap (λ (x : List ℕ). x ++ more) (sym (append_assoc first last (10 ∷ [])) ∙ ap (λ (x : List ℕ). x ++ 10 ∷ []) (sym all)))
+
+-- zeros that are put from one row on are there from a later one on
+pub zeros_behind : (row : ℕ) (old new : List ℕ) → 4 ≤ row → length old ≡ 256 → new ≡ take (16 * 4) old ++ replicate (16 * (16 - 4)) 0 → drop (16 * row) new ≡ replicate (16 * (16 - row)) 0
+zeros_behind row old new behind long e =
+    let front : List ℕ = take 64 old in
+    let more : ℕ = 16 * row - 64 in
+    let t = length-take 64 old in
+    let at : 16 * row ≡ length front + more = omega (arith, t, long, behind) in
+    let many : 192 - more ≡ 16 * (16 - row) = omega (arith, behind) in
+    (λ i. drop (at i) (e i)) ∙ drop-append-add front (replicate 192 0) more ∙ drop-replicate more 192 0 ∙ ap (λ (k : ℕ). replicate k 0) many
+
+-- they stay there while rows before them are read
+pub zeros_kept : (row zeros n : ℕ) (old new : List ℕ) → row < zeros → drop (16 * row + 16) new ≡ drop (16 * row + 16) old → drop (16 * zeros) old ≡ replicate n 0 → drop (16 * zeros) new ≡ replicate n 0
+zeros_kept row zeros n old new before kept e =
+    let more : ℕ = 16 * zeros - (16 * row + 16) in
+    let at : 16 * row + 16 + more ≡ 16 * zeros = omega (arith, before) in
+    let there : (xs : List ℕ) → drop more (drop (16 * row + 16) xs) ≡ drop (16 * zeros) xs = λ xs. drop-drop more (16 * row + 16) xs ∙ ap (λ (k : ℕ). drop k xs) at in
+    sym (there new) ∙ ap (λ (t : List ℕ). drop more t) kept ∙ there old ∙ e
+
+-- an image by its first rows and the zeros behind them
+pub zeros_last : (row n : ℕ) (image : List ℕ) → drop (16 * row) image ≡ replicate n 0 → image ≡ take (16 * row) image ++ replicate n 0
+zeros_last row n image e = sym (take-append-drop (16 * row) image) ∙ ap (λ (t : List ℕ). take (16 * row) image ++ t) e

@@ -5,9 +5,9 @@ ghost use Rattle.pci_dump.specs.Value.{AreSmall};
 ghost use Rattle.pci_dump.specs.Row.{IsRowRead};
 ghost use Rattle.pci_dump.specs.BlockFault.{RowStops, RestStops};
 
-use super::parse::BlockFault;
+use super::parse::{BlockFault, LINES_LEN};
 use super::row::{ROW_LEN, ROW_OF_ZEROS, row_into};
-use super::tail::{first_of_last_zeros, put_last_zeros};
+use super::tail::last_zeros_into;
 use pci_base::digit::digit_of;
 use pci_base::image::IMAGE_LEN;
 
@@ -47,9 +47,34 @@ pub(crate) fn image_into(bytes: &[u8], image: &mut [u8; IMAGE_LEN]) -> Result<()
     ensures image { OnOk result ((length image.new ≡ 256) × AreSmall image.new) }
     ensures err { IfErr result (λ stop. RestStops bytes.now stop) }
 {
-    let zeros = first_of_last_zeros(bytes);
-    let mut rest = bytes;
+    if bytes.len() < LINES_LEN {
+        return last_image_into(bytes, image);
+    }
+    let zeros = last_zeros_into(bytes, image);
     for row in 0..zeros {
+        let at = ROW_LEN * usize::from(row);
+        if !read_row(&bytes[at..at + ROW_LEN], row, image) {
+            return Err(BlockFault::BadLine(row));
+        }
+    }
+    if zeros < 16 {
+        return Ok(());
+    }
+    if bytes[LINES_LEN - 1] != b'\n' {
+        return Err(BlockFault::NoBlank);
+    }
+    Ok(())
+}
+
+/// The same near the input's end.
+fn last_image_into(bytes: &[u8], image: &mut [u8; IMAGE_LEN]) -> Result<(), BlockFault>
+    ensures ok { OnOk result
+        (bytes.now ≡ (rows_text 0 16 image.new ++ 10 ∷ []) ++ drop 833 bytes.now) }
+    ensures image { OnOk result ((length image.new ≡ 256) × AreSmall image.new) }
+    ensures err { IfErr result (λ stop. RestStops bytes.now stop) }
+{
+    let mut rest = bytes;
+    for row in 0..16 {
         if rest.len() < ROW_LEN {
             return Err(part_of_row(rest, row));
         }
@@ -58,10 +83,6 @@ pub(crate) fn image_into(bytes: &[u8], image: &mut [u8; IMAGE_LEN]) -> Result<()
             return Err(BlockFault::BadLine(row));
         }
         rest = next;
-    }
-    if zeros < 16 {
-        put_last_zeros(image, zeros);
-        return Ok(());
     }
     match rest.first() {
         None => Err(BlockFault::Ended(16)),

@@ -1,63 +1,80 @@
-use Rattle.std.proofs.Common.{arith, ◌∙◌, ℕ, [], ◌∷◌, ap, drop, subst}
-use Rattle.pci_dump.proofs.Lines.{rows_start, row_more, small_more, part_stops, line_stops, blank_ends, blank_stops, blank_there, at_end, none_left, first_left, whole_image}
-use Rattle.pci_dump.proofs.Tails.{last_there, zeroed}
+use Rattle.std.proofs.Common.{arith, ap, ◌≡◌, ◌∙◌, ◌*◌, ◌+◌, ◌-◌, ◌<◌, ◌++◌, ◌∷◌, [], ℕ, List, get_or, take, drop, subst}
+use Rattle.pci_spec.specs.Form.{rows_text}
+use Rattle.std.specs.List.{slice_range}
 use Rattle.pci_dump.specs.Value.{AreSmall}
+use Rattle.pci_dump.proofs.Lines.{rows_start, row_more, small_more, line_cut, line_long, line_stops, blank_at, blank_there, blank_stops, at_end, whole_image}
+use Rattle.pci_dump.proofs.Tails.{zeros_kept, zeros_last, last_there, zeroed}
 use Rattle.pci_dump.proofs.rows.image_into.Goals as goal
 
 pub loop-row-init : goal.loop-row-init
-loop-row-init c = record { long = c.told-image; small = (λ k. omega arith); so_far = rows_start c.args.bytes.now [] }
-
-pub returns-then-rest-lt-ROW_LEN-clause-err : goal.returns-then-rest-lt-ROW_LEN-clause-err
-returns-then-rest-lt-ROW_LEN-clause-err c = part_stops _ _ _ _ _ (omega arith) c.loop-row.invariant.long c.loop-row.invariant.small c.loop-row.invariant.so_far c.part_of_row.ensures
+loop-row-init c = record { long = c.last_zeros_into-zeros.array_long; small = (λ k. omega arith); so_far = rows_start c.args.bytes.now []; zeros = c.last_zeros_into-zeros.ensures.image }
 
 pub returns-then-not-read_row-clause-err : goal.returns-then-not-read_row-clause-err
-returns-then-not-read_row-clause-err c = (
-  omega arith,
-  line_stops _ _ _ c.split_at.result.0.now c.split_at.result.1.now _ (omega arith) c.loop-row.invariant.long c.loop-row.invariant.small c.loop-row.invariant.so_far c.split_at.ensures.by_index.0 c.split_at.ensures.front_len
-      (c.read_row.ensures.no c.if-not-read_row.true),
-)
+returns-then-not-read_row-clause-err c =
+    let bytes = c.args.bytes.now in
+    let row = c.loop-row.row in
+    let from = c.from-at.result in
+    let before = c.loop-row-test.true in
+    let most = c.last_zeros_into-zeros.ensures.within in
+    let high : row < 16 = omega (arith, before, most) in
+    let enough = c.if-bytes-lt-LINES_LEN.false in (
+      high,
+      line_stops bytes c.loop-row.image (drop (52 * row) bytes) (slice_range bytes (52 * from) (52 * from + 52)) (drop (52 * (row + 1)) bytes) row high c.loop-row.invariant.long c.loop-row.invariant.small c.loop-row.invariant.so_far
+          (line_cut bytes row from c.from-at.ensures) (line_long bytes row from enough high c.from-at.ensures) (c.read_row.ensures.no c.if-not-read_row.true),
+    )
 
 pub loop-row-preserved : goal.loop-row-preserved
 loop-row-preserved c =
+    let bytes = c.args.bytes.now in
+    let row = c.loop-row.row in
+    let from = c.from-at.result in
+    let before = c.loop-row-test.true in
+    let most = c.last_zeros_into-zeros.ensures.within in
+    let high : row < 16 = omega (arith, before, most) in
     let read = c.read_row.ensures.yes c.if-not-read_row.false in
     record {
       long = c.read_row.array_long;
       small = small_more _ _ _ _ c.loop-row.invariant.small read.small read.written;
-      so_far = row_more _ _ _ _ _ _ _ _ (omega arith) c.loop-row.invariant.long read.long c.loop-row.invariant.so_far c.split_at.ensures.by_index.0 read.text read.written;
+      so_far = row_more bytes c.loop-row.image c.read_row.new.image read.values (drop (52 * row) bytes) (slice_range bytes (52 * from) (52 * from + 52)) (drop (52 * (row + 1)) bytes) row high c.loop-row.invariant.long read.long c.loop-row.invariant.so_far
+          (line_cut bytes row from c.from-at.ensures) read.text read.written;
+      zeros = λ below. zeros_kept row c.last_zeros_into-zeros.result _ c.loop-row.image c.read_row.new.image before read.kept (c.loop-row.invariant.zeros below);
     }
-
-pub returns-in-None-clause-err : goal.returns-in-None-clause-err
-returns-in-None-clause-err c =
-    let all = at_end _ 16 _ _ _ (omega arith) c.loop-row.invariant.small c.loop-row.invariant.so_far in
-    blank_ends _ _ _ c.loop-row.invariant.long all.0 all.1 (none_left _ c.in-None.ensures.value)
-
-pub returns-in-Some-eq10-clause-ok : goal.returns-in-Some-eq10-clause-ok
-returns-in-Some-eq10-clause-ok c =
-    let all = at_end _ 16 _ _ _ (omega arith) c.loop-row.invariant.small c.loop-row.invariant.so_far in
-    let first = first_left _ _ c.in-Some-eq10.ensures.value in
-    blank_there _ _ _ c.loop-row.invariant.long all.0 all.1 (first ∙ ap (λ (x : ℕ). x ∷ drop 1 c.loop-row.rest.now) c.in-Some-eq10.field-0-test)
-
-pub returns-in-Some-clause-err : goal.returns-in-Some-clause-err
-returns-in-Some-clause-err c =
-    let all = at_end _ 16 _ _ _ (omega arith) c.loop-row.invariant.small c.loop-row.invariant.so_far in
-    blank_stops _ _ _ _ c.loop-row.invariant.long all.0 all.1 (first_left _ _ c.in-Some.ensures.value) c.in-Some.field-0-test.1
-
-pub returns-in-Some-eq10-clause-image : goal.returns-in-Some-eq10-clause-image
-returns-in-Some-eq10-clause-image c =
-    let all = at_end _ 16 _ _ _ (omega arith) c.loop-row.invariant.small c.loop-row.invariant.so_far in
-    (c.loop-row.invariant.long, subst AreSmall (whole_image _ c.loop-row.invariant.long) all.0)
 
 pub returns-then-zeros-lt16-clause-ok : goal.returns-then-zeros-lt16-clause-ok
 returns-then-zeros-lt16-clause-ok c =
-    let zeros = c.first_of_last_zeros-zeros.result in
+    let zeros = c.last_zeros_into-zeros.result in
+    let image = c.loop-row.image in
     let below = c.if-zeros-lt16.true in
-    let all = at_end _ zeros _ _ _ (omega arith) c.loop-row.invariant.small c.loop-row.invariant.so_far in
-    last_there zeros c.args.bytes.now c.loop-row.image c.put_last_zeros.new.image c.loop-row.rest.now below c.loop-row.invariant.long c.put_last_zeros.array_long all.0 all.1
-    (c.first_of_last_zeros-zeros.ensures.zeros below) c.put_last_zeros.ensures
+    let all = at_end _ zeros _ image _ (omega arith) c.loop-row.invariant.small c.loop-row.invariant.so_far in
+    last_there zeros c.args.bytes.now image image (drop (52 * c.loop-row.row) c.args.bytes.now) below c.loop-row.invariant.long c.loop-row.invariant.long all.0 all.1 (c.last_zeros_into-zeros.ensures.zeros below)
+    (zeros_last zeros (16 * (16 - zeros)) image (c.loop-row.invariant.zeros below))
 
 pub returns-then-zeros-lt16-clause-image : goal.returns-then-zeros-lt16-clause-image
 returns-then-zeros-lt16-clause-image c =
-    let zeros = c.first_of_last_zeros-zeros.result in
+    let zeros = c.last_zeros_into-zeros.result in
+    let image = c.loop-row.image in
     let below = c.if-zeros-lt16.true in
-    let all = at_end _ zeros _ _ _ (omega arith) c.loop-row.invariant.small c.loop-row.invariant.so_far in
-    (c.put_last_zeros.array_long, zeroed zeros c.loop-row.image c.put_last_zeros.new.image below c.loop-row.invariant.long all.0 c.put_last_zeros.ensures)
+    let all = at_end _ zeros _ image _ (omega arith) c.loop-row.invariant.small c.loop-row.invariant.so_far in
+    (c.loop-row.invariant.long, zeroed zeros image image below c.loop-row.invariant.long all.0 (zeros_last zeros (16 * (16 - zeros)) image (c.loop-row.invariant.zeros below)))
+
+pub returns-then-bytes-ne10-clause-err : goal.returns-then-bytes-ne10-clause-err
+returns-then-bytes-ne10-clause-err c =
+    let bytes = c.args.bytes.now in
+    let most = c.last_zeros_into-zeros.ensures.within in
+    let past = c.loop-row-test.false in
+    let all = at_end c.loop-row.row 16 bytes c.loop-row.image (drop (52 * c.loop-row.row) bytes) (omega arith) c.loop-row.invariant.small c.loop-row.invariant.so_far in
+    let rest = ap (λ (k : ℕ). drop (52 * k) bytes) (let e : c.loop-row.row ≡ 16 = omega arith in e) in
+    blank_stops bytes c.loop-row.image (drop (52 * 16) bytes) (get_or bytes 832 0) c.loop-row.invariant.long all.0 (subst (λ (t : List ℕ). bytes ≡ rows_text 0 16 (take (16 * 16) c.loop-row.image) ++ t) rest all.1) (blank_at bytes c.if-bytes-lt-LINES_LEN.false) c.if-bytes-ne10.true
+
+pub returns-clause-ok : goal.returns-clause-ok
+returns-clause-ok c =
+    let bytes = c.args.bytes.now in
+    let all = at_end c.loop-row.row 16 bytes c.loop-row.image (drop (52 * c.loop-row.row) bytes) (omega arith) c.loop-row.invariant.small c.loop-row.invariant.so_far in
+    let rest = ap (λ (k : ℕ). drop (52 * k) bytes) (let e : c.loop-row.row ≡ 16 = omega arith in e) in
+    blank_there bytes c.loop-row.image (drop (52 * 16) bytes) c.loop-row.invariant.long all.0 (subst (λ (t : List ℕ). bytes ≡ rows_text 0 16 (take (16 * 16) c.loop-row.image) ++ t) rest all.1)
+    (blank_at bytes c.if-bytes-lt-LINES_LEN.false ∙ ap (λ (x : ℕ). x ∷ drop 1 (drop (52 * 16) bytes)) c.if-bytes-ne10.false)
+
+pub returns-clause-image : goal.returns-clause-image
+returns-clause-image c =
+    let all = at_end c.loop-row.row 16 _ c.loop-row.image _ (omega arith) c.loop-row.invariant.small c.loop-row.invariant.so_far in
+    (c.loop-row.invariant.long, subst AreSmall (whole_image _ c.loop-row.invariant.long) all.0)
