@@ -106,15 +106,15 @@ last_there row bytes old new rest high long many small so_far zeros_left e =
     behind_lines bytes new more many (zeroed row old new high long small e)
     (so_far ∙ ap (λ (x : List ℕ). first ++ x) lines ∙ sym (append_assoc first (last ++ 10 ∷ []) more) ∙ ap (λ (x : List ℕ). x ++ more) (sym (append_assoc first last (10 ∷ [])) ∙ ap (λ (x : List ℕ). x ++ 10 ∷ []) (sym all)))
 
+past_front : (front : List ℕ) (at more n : ℕ) → at ≡ length front + more → drop at (front ++ replicate n 0) ≡ replicate (n - more) 0
+past_front front at more n e = ap (λ (k : ℕ). drop k (front ++ replicate n 0)) e ∙ drop-append-add front (replicate n 0) more ∙ drop-replicate more n 0
+
 -- zeros that are put from one row on are there from a later one on
 pub zeros_behind : (row : ℕ) (old new : List ℕ) → 4 ≤ row → length old ≡ 256 → new ≡ take (16 * 4) old ++ replicate (16 * (16 - 4)) 0 → drop (16 * row) new ≡ replicate (16 * (16 - row)) 0
 zeros_behind row old new behind long e =
-    let front : List ℕ = take 64 old in
-    let more : ℕ = 16 * row - 64 in
     let t = length-take 64 old in
-    let at : 16 * row ≡ length front + more = omega (arith, t, long, behind) in
-    let many : 192 - more ≡ 16 * (16 - row) = omega (arith, behind) in
-    (λ i. drop (at i) (e i)) ∙ drop-append-add front (replicate 192 0) more ∙ drop-replicate more 192 0 ∙ ap (λ (k : ℕ). replicate k 0) many
+    let many : 192 - (16 * row - 64) ≡ 16 * (16 - row) = omega (arith, behind) in
+    ap (λ (t : List ℕ). drop (16 * row) t) e ∙ past_front (take 64 old) (16 * row) (16 * row - 64) 192 (omega (arith, t, long, behind)) ∙ ap (λ (k : ℕ). replicate k 0) many
 
 -- they stay there while rows before them are read
 pub zeros_kept : (row zeros n : ℕ) (old new : List ℕ) → row < zeros → drop (16 * row + 16) new ≡ drop (16 * row + 16) old → drop (16 * zeros) old ≡ replicate n 0 → drop (16 * zeros) new ≡ replicate n 0

@@ -16,9 +16,12 @@ pub fn slot_of(text: &[u8]) -> Option<Slot>
     let bus_high = digit_value(text[0])?;
     let bus_low = digit_value(text[1])?;
     let dev_high = digit_value(text[3])?;
+    if dev_high >= 2 {
+        return None;
+    }
     let dev_low = digit_value(text[4])?;
     let fun = digit_value(text[6])?;
-    if text[2] != b':' || text[5] != b'.' || dev_high >= 2 || fun >= 8 {
+    if fun >= 8 || text[2] != b':' || text[5] != b'.' {
         return None;
     }
     Slot::new(bus_high * 16 + bus_low, dev_high * 16 + dev_low, fun)
