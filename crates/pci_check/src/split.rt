@@ -1,5 +1,5 @@
 //! Splits: two regions on two root buses that claim one address.
-ghost use Rattle.std.specs.Prelude.{◌≡◌, IfOk, MatchOption};
+ghost use Rattle.std.specs.Prelude.{◌≡◌, ◌++◌, IfOk, MatchOption};
 ghost use Rattle.pci_tree.specs.Roots.{buses_of};
 ghost use Rattle.pci_base.specs.Space.{space_of};
 ghost use Rattle.pci_check.specs.Clashes.{AreRootsListed, NoneSplitIn, IsSplitFaultIn, NoneSplit, IsSplitFault};
@@ -13,6 +13,23 @@ use pci_tree::outline::Outline;
 use pci_tree::region::Region;
 use pci_tree::roots::Roots;
 use std::alloc::Allocator;
+
+/// One list behind another; the second itself where the first is empty, as with one root bus.
+fn joined<A: Allocator>(
+    all: Vec<Region, A>,
+    more: Vec<Region, A>,
+) -> Result<Vec<Region, A>, OutOfMemory>
+    ensures { IfOk result (λ v. v.items ≡ all.items ++ more.items) }
+{
+    if all.is_empty() {
+        return Ok(more);
+    }
+    let mut all = all;
+    match all.extend_from_slice(more.as_slice()) {
+        Ok(()) => Ok(all),
+        Err(_) => Err(OutOfMemory),
+    }
+}
 
 /// The regions of all root buses that claim some address of a space.
 pub fn of_roots<A: Allocator + Copy>(
@@ -28,10 +45,7 @@ pub fn of_roots<A: Allocator + Copy>(
     for bus in 0..BUSES {
         if roots.has(bus as u8) {
             let regions = outline.regions(bus as u8, space)?;
-            match all.extend_from_slice(regions.as_slice()) {
-                Ok(()) => {}
-                Err(_) => return Err(OutOfMemory),
-            }
+            all = joined(all, regions)?;
         }
     }
     Ok(all)

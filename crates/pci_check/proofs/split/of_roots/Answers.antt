@@ -1,10 +1,10 @@
-use Rattle.std.proofs.Common.{◌≡◌, ◌+◌, List, ℕ, ◌++◌, subst, sym, ◌∙◌, ap, arith}
+use Rattle.std.proofs.Common.{◌≡◌, ◌+◌, List, ℕ, subst, sym, ◌∙◌, ap, arith}
 use Rattle.std.specs.List.{Contains}
 use Rattle.std.proofs.lemmas.Bool.{iff_false}
 use Rattle.pci_tree.specs.declared.region.Region.{Region}
 use Rattle.pci_base.specs.Space.{space_of}
 use Rattle.pci_check.proofs.Splitting.{AreRootsListedBelow, roots_none, roots_skip, roots_more, roots_listed}
-use Rattle.pci_check.proofs.split.of_roots.Goals.{then-has+in_ok-regions+in-Ok, else-has}
+use Rattle.pci_check.proofs.split.of_roots.Goals.{then-has+in_ok-regions+in_ok-all, else-has}
 use Rattle.pci_check.proofs.split.of_roots.Goals as goal
 
 pub loop-bus-init : goal.loop-bus-init
@@ -12,9 +12,9 @@ loop-bus-init g c = subst (λ (items : List Region). AreRootsListedBelow c.args.
 
 pub loop-bus-preserved : goal.loop-bus-preserved
 loop-bus-preserved g c = elim c.if-has.branch [
-  | then-has+in_ok-regions+in-Ok w ↦
+  | then-has+in_ok-regions+in_ok-all w ↦
       subst (λ (items : List Region). AreRootsListedBelow c.args.outline.now (space_of c.args.space) (c.loop-bus.bus + 1) items)
-      (sym (ap (λ v. v.items) w.all-is ∙ w.in-Ok.ensures.items ∙ ap (λ (more : List Region). c.loop-bus.all.items ++ more) w.as_slice.ensures.value))
+      (sym (ap (λ v. v.items) w.all-is ∙ w.in_ok-all.ensures))
       (roots_more c.args.outline.now (space_of c.args.space) c.loop-bus.bus c.loop-bus.all.items w.in_ok-regions.regions.items
       (subst (λ (roots : List ℕ). Contains roots c.loop-bus.bus) c.requires (c.has.ensures.0 w.if-has.true)) c.loop-bus.invariant
       w.in_ok-regions.ensures)
