@@ -8,6 +8,7 @@ pub mod Recorded
 pub mod Lifting
 pub mod Regions
 pub mod RegionParts
+pub mod RegionCounts
 pub mod RegionOrder
 pub mod BusParts
 pub mod Outlines

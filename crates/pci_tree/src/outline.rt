@@ -1,5 +1,5 @@
 //! The outline of a system: its records in slot order, its root buses, and who is where and how one gets there.
-ghost use Rattle.std.specs.Prelude.{◌≡◌, ◌<◌, ℕ, map, length, IfOk, OnOk, MatchOption, MatchResult, slice_index_or, List};
+ghost use Rattle.std.specs.Prelude.{◌≡◌, ◌<◌, ◌-◌, ◌^◌, ℕ, map, length, min, IfOk, OnOk, MatchOption, MatchResult, slice_index_or, List};
 ghost use Rattle.std.specs.List.{All, AllPairs, Contains, filter, flat_map};
 ghost use Rattle.std.specs.List.Sorted.{IsPermutation};
 ghost use Rattle.pci_spec.specs.System.{System, is_bridge, window_space};
@@ -23,7 +23,7 @@ use super::bus::{has_slot, on_bus};
 use super::buses::first_place_fault;
 use super::path::{bridge_to_bus, is_led_to, path};
 use super::reach::{Reach, reaches};
-use super::region::{Region, add_regions};
+use super::region::{Region, add_regions, count_regions};
 use super::roots::Roots;
 use arrayvec::ArrayVec;
 use pci_base::memory::OutOfMemory;
@@ -220,6 +220,18 @@ fn bridges_among<A: Allocator>(alloc: A, records: &[Record]) -> Result<Vec<Slot,
     Ok(bridges)
 }
 
+/// How many regions some records have, as far as that is a `usize`.
+fn room_for(records: &[Record], space: Space) -> usize
+    ensures { result ≡ min
+        (length (flat_map (λ r. regions_of r (space_of space)) records.now)) (2 ^ 64 - 1) }
+{
+    let mut room: usize = 0;
+    for function in records {
+        room = room.saturating_add(count_regions(function, space));
+    }
+    room
+}
+
 /// The regions of some records, in their order.
 fn regions_among<A: Allocator>(
     alloc: A,
@@ -229,7 +241,7 @@ fn regions_among<A: Allocator>(
     ensures { IfOk result
         (λ v. v.items ≡ flat_map (λ r. regions_of r (space_of space)) records.now) }
 {
-    let Ok(mut regions) = Vec::with_capacity(alloc, records.len()) else {
+    let Ok(mut regions) = Vec::with_capacity(alloc, room_for(records, space)) else {
         return Err(OutOfMemory);
     };
     for function in records {

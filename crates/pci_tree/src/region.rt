@@ -1,8 +1,10 @@
 //! The regions of a function: its enabled BARs, windows and ROM, each with the addresses that it claims.
-ghost use Rattle.std.specs.Prelude.{◌≡◌, ◌++◌, OnOk};
+ghost use Rattle.std.specs.Prelude.{◌≡◌, ◌≤◌, ◌++◌, OnOk, length};
+ghost use Rattle.std.specs.List.{count_by};
+ghost use Rattle.std.specs.Option.{is_some};
 ghost use Rattle.pci_base.specs.WindowKinds.{kind_value};
 ghost use Rattle.pci_base.specs.Space.{space_of};
-ghost use Rattle.pci_tree.specs.Regions.{space_in, same_space, bar_regions, kind_regions, bridge_regions, rom_regions, regions_of};
+ghost use Rattle.pci_tree.specs.Regions.{space_in, same_space, is_bar_of, bar_regions, kind_regions, bridge_regions, rom_regions, regions_of, window_in};
 
 use super::window::range_of;
 use pci_base::memory::OutOfMemory;
@@ -159,4 +161,61 @@ pub fn add_regions<A: Allocator>(
         add_rom(out, function.slot, function.rom, space)?;
     }
     Ok(())
+}
+
+/// How many BARs map into a space.
+fn count_bars(bars: &[Bar], space: Space) -> usize
+    ensures value { result ≡ count_by (is_bar_of (space_of space)) bars.now }
+    ensures most { result ≤ length bars.now }
+{
+    bars.iter().filter(|bar| maps_into(bar.kind, space)).count()
+}
+
+/// Whether a window is open.
+fn is_open(windows: &Windows, kind: WindowKind) -> bool
+    ensures { result ≡ is_some (window_in (kind_value kind) windows.now) }
+{
+    range_of(windows.get(kind)).is_some()
+}
+
+/// How many windows of a function are open in a space.
+fn count_windows(function: &Record, space: Space) -> usize
+    ensures value { result
+        ≡ length (bridge_regions function.now.slot (space_of space) function.now.bridge) }
+    ensures most { result ≤ 2 }
+{
+    let Some(bridge) = function.bridge else {
+        return 0;
+    };
+    let windows = &bridge.windows;
+    match space {
+        Space::Io => usize::from(is_open(windows, WindowKind::Io)),
+        Space::Mem => {
+            usize::from(is_open(windows, WindowKind::Memory))
+                + usize::from(is_open(windows, WindowKind::Prefetchable))
+        }
+    }
+}
+
+/// How many ROMs of a function are on in a space: none, or one.
+fn count_roms(function: &Record, space: Space) -> usize
+    ensures value { result
+        ≡ length (rom_regions function.now.slot (space_of space) function.now.rom) }
+    ensures most { result ≤ 1 }
+{
+    match (function.rom, space) {
+        (Some(rom), Space::Mem) if rom.on => 1,
+        _ => 0,
+    }
+}
+
+/// How many regions a function has in a space.
+#[tactic(auto, using(crate::proofs::RegionCounts::counted))]
+pub fn count_regions(function: &Record, space: Space) -> usize
+    ensures { result ≡ length (regions_of function.now (space_of space)) }
+{
+    if !space.is_on(function.command) {
+        return 0;
+    }
+    count_bars(&function.bars, space) + count_windows(function, space) + count_roms(function, space)
 }
