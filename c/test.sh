@@ -1,8 +1,8 @@
 #!/bin/sh
 # Captures the machines of machines/ from their registers, and numbers boards in memory; then builds the library and the
-# C test over both memories, runs it, and measures the stack that a call uses: c/test.sh, from anywhere. The library takes
-# a proof to build: `c/test.sh --built` takes it as `rt lib` left it, and says so where it isn't there; `c/test.sh
-# --capture` leaves it out.
+# C test over both memories, runs it, and measures how much a call uses of the array and of the stack: c/test.sh, from
+# anywhere. The library takes a proof to build: `c/test.sh --built` takes it as `rt lib` left it, and says so where it
+# isn't there; `c/test.sh --capture` leaves it out.
 set -e
 here=$(cd "$(dirname "$0")" && pwd)
 machines=$here/../machines
@@ -79,6 +79,9 @@ for memory in pciplan_memory pciplan_fixed_memory; do
         "$here/test/pciplan_test.c" "$here/memory/$memory.c" "$library"
     told "$memory: " "$built/$memory"
 done
+compiled used -Wl,--wrap=rattle_alloc,--wrap=rattle_realloc \
+    "$here/test/pciplan_memory_test.c" "$built/memory.o" "$library"
+told '' "$built/used"
 compiled put "$here/test/pciplan_apply_test.c" "$built/apply.o" "$built/capture.o" "$built/memory.o" "$library"
 told '' "$built/put"
 compiled bring_up "$here/test/pciplan_bring_up_test.c" "$here/test/pciplan_board.c" "$built/up.o" "$built/apply.o" \
