@@ -1,14 +1,17 @@
 -- Lists of ranges that grow at their end.
-use Rattle.std.proofs.Common.{◌≡◌, ℕ, ◌+◌, ◌<◌, ◌≤◌, List, [], ◌∷◌, ◌++◌, length, get_or, take, sym, ap, subst, inl, inr, ◌⊎◌, arith}
-use Rattle.std.specs.Prelude.{◌↔◌}
+use Rattle.std.proofs.Common.{◌≡◌, ℕ, ◌+◌, ◌<◌, ◌≤◌, List, [], ◌∷◌, ◌++◌, length, get_or, take, sym, ap, subst, inl, inr, ◌⊎◌, arith, max, min, true, false, Option, None, Some}
+use Rattle.std.specs.Prelude.{◌↔◌, MatchOption}
+use Rattle.std.specs.Option.{is_some}
 use Rattle.std.specs.List.{Contains}
 use Rattle.std.proofs.lemmas.List.{get_or-take, take_more, length-take-le}
 use Rattle.std.proofs.lemmas.List.Quantifiers.{Any-push, all_pairs_push}
 use Rattle.std.proofs.lemmas.List.Elements.{All-push, Contains-push_cases, Contains-append_left}
+use Rattle.std.proofs.lemmas.Bool.{le-leb}
+use Rattle.std.proofs.lemmas.Bool.Decides.{leb_tells}
 use Rattle.pci_base.specs.declared.range.Range.{Range}
 use Rattle.pci_tree.specs.declared.forwarded.Forwarded.{Forwarded}
 use Rattle.pci_tree.specs.Ranges.{Holds, Covers, IsCanonical}
-use Rattle.pci_tree.specs.Passing.{Passes, IsPush, IsReach}
+use Rattle.pci_tree.specs.Passing.{Passes, IsPush, IsReach, has_common}
 use Rattle.pci_tree.proofs.RangeLists.{covers_at, found_at}
 
 pub covers_push : (rs : List Range) (m : Range) (a : ℕ) → Covers (rs ++ m ∷ []) a ↔ (Covers rs a ⊎ Holds m a)
@@ -94,3 +97,20 @@ reach_more rs mid out i z forwarded within so step = subst (λ xs. IsReach xs fo
     ],
   );
 })
+
+-- there is a meet where two ranges have an address in common
+common_some : (r w m : Range) → m.first ≤ m.last → ((a : ℕ) → Holds m a ↔ (Holds r a × Holds w a)) → has_common r w ≡ true
+common_some r w m lawful exact =
+    let first : Holds r m.first × Holds w m.first = (exact m.first).0 (omega arith, lawful) in
+    le-leb (max r.first w.first) (min r.last w.last) (omega (arith, first))
+
+common_none : (r w : Range) → ((a : ℕ) → Holds r a → Holds w a → ⊥) → has_common r w ≡ false
+common_none r w apart = elim (leb_tells (max r.first w.first) (min r.last w.last)) [
+  | inl meets ↦ absurd (apart (max r.first w.first) (omega (arith, meets.1), omega (arith, meets.1)) (omega (arith, meets.1), omega (arith, meets.1)))
+  | inr misses ↦ misses.0
+]
+
+pub met : (r w : Range) (m : Option Range) → MatchOption m ((a : ℕ) → Holds r a → Holds w a → ⊥) (λ m. (m.first ≤ m.last) × ((a : ℕ) → Holds m a ↔ (Holds r a × Holds w a)))
+    → is_some m ≡ has_common r w
+met r w None apart = sym (common_none r w apart)
+met r w (Some m) both = sym (common_some r w m both.0 both.1)

@@ -1,5 +1,5 @@
 -- What a bridge passes.
-use Rattle.std.specs.Prelude.{ℕ, ◌+◌, ◌<◌, ◌≤◌, ◌⊎◌, ◌↔◌, List, Option, None, Some}
+use Rattle.std.specs.Prelude.{ℕ, ◌+◌, ◌<◌, ◌≤◌, ◌⊎◌, ◌↔◌, Bool, nat_le, max, min, List, [], ◌∷◌, Option, None, Some}
 use Rattle.pci_base.specs.declared.range.Range.{Range}
 use Rattle.pci_tree.specs.declared.forwarded.Forwarded.{Forwarded}
 use Rattle.pci_tree.specs.declared.forwarded.Forwarded.TheVariants.{Nothing, One, Two}
@@ -16,6 +16,16 @@ abbrev pub IsPassed : Forwarded → Type 0
 IsPassed Nothing = Unit {0}
 IsPassed (One r) = r.first ≤ r.last
 IsPassed (Two r s) = (r.first ≤ r.last) × (s.first ≤ s.last) × (r.last + 1 < s.first)
+
+-- the ranges of what passes
+abbrev pub ranges_of : Forwarded → List Range
+ranges_of Nothing = []
+ranges_of (One r) = r ∷ []
+ranges_of (Two r s) = r ∷ s ∷ []
+
+-- two ranges have an address in common
+abbrev pub has_common : Range → Range → Bool
+has_common r s = nat_le (max r.first s.first) (min r.last s.last)
 
 -- there is a range, and it has the address
 abbrev pub HoldsSome : Option Range → ℕ → Type 0

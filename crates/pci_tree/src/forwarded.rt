@@ -1,7 +1,8 @@
 //! The addresses that a bridge passes, and what it leaves of a list of ranges.
-ghost use Rattle.std.specs.Prelude.{◌+◌, ◌<◌, ◌≤◌, ◌↔◌, ◌⊎◌, ℕ, IfOk, OnOk, IfSome};
+ghost use Rattle.std.specs.Prelude.{◌≡◌, ◌+◌, ◌-◌, ◌^◌, ◌<◌, ◌≤◌, ◌↔◌, ◌⊎◌, ℕ, length, min, IfOk, OnOk, IfSome};
+ghost use Rattle.std.specs.List.{filter, flat_map};
 ghost use Rattle.pci_tree.specs.Ranges.{Holds, Covers, IsCanonical};
-ghost use Rattle.pci_tree.specs.Passing.{Passes, IsPassed, HoldsSome, IsPush, IsReach};
+ghost use Rattle.pci_tree.specs.Passing.{Passes, IsPassed, HoldsSome, IsPush, IsReach, has_common, ranges_of};
 
 use super::ranges::meet;
 use pci_base::memory::OutOfMemory;
@@ -90,6 +91,37 @@ fn add_passed<A: Allocator>(
     Ok(())
 }
 
+/// Whether two ranges have an address in common.
+fn is_met(r: Range, w: Range) -> bool
+    ensures { result ≡ has_common r w }
+{
+    meet(r, w).is_some()
+}
+
+/// How many ranges a bridge passes of one.
+fn count_passed(r: Range, forwarded: Forwarded) -> usize
+    ensures { result ≡ length (filter (has_common r) (ranges_of forwarded)) }
+{
+    match forwarded {
+        Forwarded::Nothing => 0,
+        Forwarded::One(w) => usize::from(is_met(r, w)),
+        Forwarded::Two(v, w) => usize::from(is_met(r, v)) + usize::from(is_met(r, w)),
+    }
+}
+
+/// How many ranges a bridge passes of some, as far as that is a `usize`.
+fn room_for(rs: &[Range], forwarded: Forwarded) -> usize
+    ensures { result ≡ min
+        (length (flat_map (λ r. filter (has_common r) (ranges_of forwarded)) rs.now))
+        (2 ^ 64 - 1) }
+{
+    let mut room: usize = 0;
+    for r in rs {
+        room = room.saturating_add(count_passed(*r, forwarded));
+    }
+    room
+}
+
 /// What a bridge passes of the addresses that get to its own bus.
 pub fn passed_on<A: Allocator>(
     alloc: A,
@@ -102,7 +134,9 @@ pub fn passed_on<A: Allocator>(
     // it rises with gaps again, so that the next bridge down may pass it on
     ensures { IfOk result (λ out. IsReach rs.now forwarded out.items) }
 {
-    let mut out = Vec::new(alloc);
+    let Ok(mut out) = Vec::with_capacity(alloc, room_for(rs, forwarded)) else {
+        return Err(OutOfMemory);
+    };
     for r in rs {
         add_passed(&mut out, *r, forwarded)?;
     }

@@ -135,7 +135,9 @@ pub fn reaches<A: Allocator + Copy>(
         → IsReachOf records.now (buses_of roots.now) (kind_value kind) bus
         (slice_index_or v.items bus d)) }
 {
-    let mut out = Vec::new(alloc);
+    let Ok(mut out) = Vec::with_capacity(alloc, BUSES) else {
+        return Err(OutOfMemory);
+    };
     for bus in 0..BUSES {
         let ranges = reach_of_bus(
             alloc,
