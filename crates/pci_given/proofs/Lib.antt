@@ -10,6 +10,7 @@ pub mod Walking
 pub mod Reaching
 pub mod Stopping
 pub mod Unreaching
+pub mod Homes
 pub mod Clashing
 pub mod Legacies
 pub mod Making

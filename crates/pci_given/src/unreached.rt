@@ -6,6 +6,7 @@ ghost use Rattle.pci_base.specs.Space.{space_of};
 ghost use Rattle.pci_base.specs.WindowKinds.{kind_value};
 ghost use Rattle.pci_tree.specs.Outline.{RiseBySlot};
 ghost use Rattle.pci_tree.specs.Reaches.{HasSpans};
+ghost use Rattle.pci_check.specs.Stops.{AreReachesOf, AlwaysNested};
 ghost use Rattle.pci_given.specs.Values.{given_value};
 ghost use Rattle.pci_given.specs.Stopped.{PassesSent, IsFirstStop, IsNeverUnreached, IsUnreachedLine};
 
@@ -19,6 +20,8 @@ use pci_base::range::Range;
 use pci_base::slot::Slot;
 use pci_base::space::Space;
 use pci_base::window_kind::WindowKind;
+use pci_check::reached::Reached;
+use pci_check::unreached::is_lost;
 use pci_function::record::Record;
 use pci_tree::outline::Outline;
 use pci_tree::region::Region;
@@ -93,5 +96,29 @@ pub fn first_stop_of<A: Allocator + Copy>(
             let kind = space.kind(region.prefetch);
             first_stop(alloc, given, outline.records(), path, root, range, kind)
         }
+    }
+}
+
+/// The same, `reached` being what windows alone let to each bus.
+pub fn stop_of_lost<A: Allocator + Copy>(
+    alloc: A,
+    given: &Given<'_>,
+    outline: &Outline<A>,
+    reached: &Reached<A>,
+    region: &Region,
+    space: Space,
+) -> Result<Option<Stop>, OutOfMemory>
+    requires reached { AreReachesOf outline.now reached.now }
+    requires nested { AlwaysNested outline.now }
+    ensures { IfOk result (λ o. MatchOption o
+        (IsNeverUnreached (given_value given.now) outline.now (space_of space) region.now)
+        (λ stop. IsUnreachedLine (given_value given.now) outline.now (space_of space) region.now
+        stop.address stop.bridge)) }
+{
+    // what the windows on the way pass isn't stopped, so that few ways are walked
+    if is_lost(region, reached, space, region.slot.bus()) {
+        first_stop_of(alloc, given, outline, region, space)
+    } else {
+        Ok(None)
     }
 }

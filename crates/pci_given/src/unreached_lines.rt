@@ -1,13 +1,15 @@
 //! All unreached regions: one fault for each BAR or ROM with an address that the host sends to the root above it and
 //! that a bridge on the way from there doesn't pass.
 ghost use Rattle.std.specs.Prelude.{IfOk};
+ghost use Rattle.pci_check.specs.Stops.{AreReachesOf, AlwaysNested};
 ghost use Rattle.pci_given.specs.Values.{given_value};
 ghost use Rattle.pci_given.specs.UnreachedLines.{AreUnreachedLines, AreAllUnreached};
 
 use super::bars_and_roms::{BarOrRom, bars_and_roms};
 use super::given::Given;
-use super::unreached::first_stop_of;
+use super::unreached::stop_of_lost;
 use pci_base::memory::OutOfMemory;
+use pci_check::reached::Reached;
 use pci_function::fault::Fault;
 use pci_tree::outline::Outline;
 use std::alloc::Allocator;
@@ -17,15 +19,18 @@ fn unreached_among<A: Allocator + Copy>(
     alloc: A,
     given: &Given<'_>,
     outline: &Outline<A>,
+    reached: &Reached<A>,
     list: &[BarOrRom],
 ) -> Result<Vec<Fault, A>, OutOfMemory>
+    requires reached { AreReachesOf outline.now reached.now }
+    requires nested { AlwaysNested outline.now }
     ensures { IfOk result
         (λ v. AreUnreachedLines (given_value given.now) outline.now list.now v.items) }
 {
     let mut out = Vec::new(alloc);
     for one in list {
         let region = &one.region;
-        if let Some(stop) = first_stop_of(alloc, given, outline, region, one.space)? {
+        if let Some(stop) = stop_of_lost(alloc, given, outline, reached, region, one.space)? {
             out.push(Fault::Unreached {
                 slot: region.slot,
                 reg: region.reg,
@@ -50,5 +55,6 @@ pub fn all_unreached<A: Allocator + Copy>(
     ensures { IfOk result (λ v. AreAllUnreached (given_value given.now) outline.now v.items) }
 {
     let list = bars_and_roms(alloc, outline)?;
-    unreached_among(alloc, given, outline, &list)
+    let reached = Reached::of(outline)?;
+    unreached_among(alloc, given, outline, &reached, &list)
 }

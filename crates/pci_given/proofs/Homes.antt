@@ -1,0 +1,34 @@
+-- A region that the windows on the way pass isn't unreached.
+use Rattle.std.proofs.Common.{◌≡◌, ◌<◌, ◌∙◌, true, false, arith, ap, subst}
+use Rattle.std.specs.Prelude.{◌||◌}
+use Rattle.std.proofs.lemmas.Bool.{both_ways}
+use Rattle.pci_spec.specs.System.{Function, Space, Claims, IsPassedTo, is_prefetchable_part}
+use Rattle.pci_spec.specs.Slot.{Slot}
+use Rattle.pci_spec.specs.System as system
+use Rattle.pci_spec.proofs.Firsts.{same_region, slot_of}
+use Rattle.pci_spec.proofs.Verdicts.{passed_by_each}
+use Rattle.pci_tree.specs.declared.region.Region.{Region}
+use Rattle.pci_tree.specs.Outline.{Tree}
+use Rattle.pci_check.specs.Stops.{Reaches, AreReachesOf, AlwaysNested, IsReachedAt}
+use Rattle.given_spec.specs.Given.{Given, legacy_claims}
+use Rattle.given_spec.specs.Claims.{passes}
+use Rattle.pci_given.specs.Stopped.{IsNeverUnreached}
+
+pub never_where_reached : (given : Given) (t : Tree) (reaches : Reaches) (space : Space) (r : Region) → AlwaysNested t → AreReachesOf t reaches → IsReachedAt reaches space r.slot.bus r
+    → IsNeverUnreached given t space r
+never_where_reached given t reaches space r nested are home s tree bus on no_window sp a bridge u =
+    let first : Claims on.f on.part space r.first = (on.is.claims r.first).0 (omega arith, on.is.some) in
+    let one = same_region s tree.system u.f on.f u.part on.part sp space a r.first u.listed on.listed (u.named.0 ∙ on.is.slot) (u.named.1 ∙ on.is.register) u.claims first in
+    let claims : Claims on.f on.part space a = subst (λ (x : Space). Claims on.f on.part x a) one.2 (subst (λ p. Claims on.f p sp a) one.1 (subst (λ f. Claims f u.part sp a) one.0 u.claims)) in
+    let slot = slot_of s tree.system on.f on.listed in
+    let at : r.slot.bus ≡ on.f.slot.bus = ap (λ (x : Slot). x.bus) on.is.slot in
+    let small : r.slot.bus < 256 = omega (arith, slot, at) in
+    let passed : IsPassedTo t.roots s space r.prefetch a r.slot.bus = (((are s tree space r.prefetch r.slot.bus small).exact a).0 (home no_window a ((on.is.claims a).1 claims))).1 in
+    let pass : system.passes space r.prefetch a u.b ≡ true =
+    passed_by_each t.roots s tree.system (nested s tree) space r.prefetch a u.root r.slot.bus u.bridges u.is_root u.leads passed u.b u.on_the_way in
+    let also : passes given space r.prefetch a u.b ≡ true = ap (λ x. x || legacy_claims given space a u.b) pass in
+    let stops : passes given space (is_prefetchable_part on.f on.part) a u.b ≡ false =
+    subst (λ (f : Function). passes given space (is_prefetchable_part f on.part) a u.b ≡ false) one.0
+    (subst (λ p. passes given space (is_prefetchable_part u.f p) a u.b ≡ false) one.1
+    (subst (λ (x : Space). passes given x (is_prefetchable_part u.f u.part) a u.b ≡ false) one.2 u.stops)) in
+    both_ways _ stops (subst (λ prefetch. passes given space prefetch a u.b ≡ true) on.is.prefetch also)
