@@ -47,3 +47,34 @@ common_here rs ss i a z can within none is low = record {
         ]
       ]);
 }
+
+-- ---- one list below another
+
+up_to_the_last : (rs : List Range) (m j : ℕ) (z : Range) → IsCanonical rs → m + 1 ≡ length rs → j < length rs → (get_or rs j z).last ≤ (get_or rs m z).last
+up_to_the_last rs m j z can end inside = elim (cases_order j m) [
+  | inl e ↦ (let same : (get_or rs j z).last ≡ (get_or rs m z).last = ap (λ n. (get_or rs n z).last) e in omega (arith, same))
+  | inr n ↦ elim n [
+    | inl lt ↦ (let gap = can.apart j m z lt (omega (arith, end)) in let own = can.each m z (omega (arith, end)) in omega (arith, gap, own))
+    | inr gt ↦ absurd (let no : ⊥ = omega (arith, gt, inside, end) in no)
+  ]
+]
+
+from_the_first : (ss : List Range) (k : ℕ) (z : Range) → IsCanonical ss → k < length ss → (get_or ss 0 z).first ≤ (get_or ss k z).first
+from_the_first ss k z can inside = elim (cases_order 0 k) [
+  | inl e ↦ (let same : (get_or ss 0 z).first ≡ (get_or ss k z).first = ap (λ n. (get_or ss n z).first) e in omega (arith, same))
+  | inr n ↦ elim n [
+    | inl lt ↦ (let gap = can.apart 0 k z lt inside in let own = can.each 0 z (omega (arith, inside)) in omega (arith, gap, own))
+    | inr gt ↦ absurd (let no : ⊥ = omega (arith, gt) in no)
+  ]
+]
+
+pub apart_by_ends : (rs ss : List Range) (m : ℕ) (y z : Range) → IsCanonical rs → IsCanonical ss → m + 1 ≡ length rs → (get_or rs m y).last < (get_or ss 0 z).first → NoneCommon rs ss
+apart_by_ends rs ss m y z can_rs can_ss end less a (j, x, in_rs, at_j, has_j) (k, w, in_ss, at_k, has_k) =
+    let held : Holds (get_or rs j y) a = found_at rs a j x y in_rs at_j has_j in
+    let other : Holds (get_or ss k z) a = found_at ss a k w z in_ss at_k has_k in
+    let high = up_to_the_last rs m j y can_rs end in_rs in
+    let low = from_the_first ss k z can_ss in_ss in
+    let no : ⊥ = omega (arith, held, other, high, low, less) in no
+
+pub apart_around : (rs ss : List Range) → NoneCommon ss rs → NoneCommon rs ss
+apart_around rs ss apart a h both = apart a both h

@@ -17,6 +17,10 @@ use Rattle.given_spec.specs.Fault.{IsClash}
 use Rattle.pci_given.specs.Passed.{legacy_passes}
 use Rattle.pci_given.specs.Reached.{IsAccessReach}
 
+-- the two lists have no address in common
+abbrev pub AreApart : List Range → List Range → Type 0
+AreApart rs ss = (a : ℕ) → Covers rs a → Covers ss a → ⊥
+
 -- the least address that both lists have
 pub record IsLeastCommon (rs ss : List Range) (a : ℕ) : Type 0 where
   pub first : Covers rs a

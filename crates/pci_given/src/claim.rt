@@ -7,7 +7,7 @@ ghost use Rattle.given_spec.specs.Claims.{is_window_register, are_window_and_leg
 ghost use Rattle.pci_given.specs.Values.{given_value};
 ghost use Rattle.pci_given.specs.BusClaims.{number_of};
 ghost use Rattle.pci_given.specs.Clashes.{AreAtOdds, IsLeastAtOdds};
-ghost use Rattle.pci_given.specs.Claim.{IsLeastCommon, HaveNoClash, IsClashFrom, IsOwnOf, IsClaimOfRegion, IsLegacyOf, IsClaimOfLegacy};
+ghost use Rattle.pci_given.specs.Claim.{AreApart, IsLeastCommon, HaveNoClash, IsClashFrom, IsOwnOf, IsClaimOfRegion, IsLegacyOf, IsClaimOfLegacy};
 
 use super::gather::{common, gathered};
 use super::given::Given;
@@ -151,6 +151,18 @@ pub fn legacy_claim_of<A: Allocator + Copy>(
     })
 }
 
+/// Whether one list ends before another begins, or one is empty.
+fn is_below(rs: &[Range], ss: &[Range]) -> bool
+    requires first { IsCanonical rs.now }
+    requires second { IsCanonical ss.now }
+    ensures { IsTrue result → AreApart rs.now ss.now }
+{
+    if rs.is_empty() || ss.is_empty() {
+        return true;
+    }
+    rs[rs.len() - 1].last < ss[0].first
+}
+
 /// The least address that two lists have in common.
 pub fn least_common(rs: &[Range], ss: &[Range]) -> Option<u64>
     requires first { IsCanonical rs.now }
@@ -158,6 +170,10 @@ pub fn least_common(rs: &[Range], ss: &[Range]) -> Option<u64>
     ensures { MatchOption result ((a : ℕ) → Covers rs.now a → Covers ss.now a → ⊥)
         (λ a. IsLeastCommon rs.now ss.now a) }
 {
+    // so it is for most lists that are compared
+    if is_below(rs, ss) || is_below(ss, rs) {
+        return None;
+    }
     for r in rs {
         if let Some(a) = least_from(ss, r.first) {
             if a <= r.last {
