@@ -4,12 +4,12 @@ use pci_dump::dump::Dump;
 use pci_dump::reader::read_dump;
 use pci_dump::std_streams::Incoming;
 use pci_given::all_lines::all_of_judging;
+use pci_given::any_fault::AnyFault;
 use pci_given::given::Given;
 use pci_given::vga::legacy_bridges;
 use pci_model::bytes::set_vga_aside;
 use pci_model::words::VgaWord;
 use pci_tree::admit::admit_with;
-use pci_tree::outline::Outline;
 use pci_tree::roots::Roots;
 use std::alloc::Global;
 use test_support::board::{Function, Texts, texts_of};
@@ -40,19 +40,14 @@ fn without_vga(alloc: Global, dump: &Dump) -> Option<Dump> {
     Some(out)
 }
 
-/// The lines of all faults of judging.
-fn lines_with(alloc: Global, given: &Given<'_>, outline: &Outline) -> Option<String> {
-    let faults = all_of_judging(alloc, given, outline).ok()?;
-    let mut lines = String::new(alloc);
-    for fault in faults.iter() {
-        writeln!(lines, "{fault}").ok()?;
-    }
-    Some(lines)
-}
-
-fn lines_of(alloc: Global, texts: &Texts, roots: Roots, said: Said<'_>) -> Option<String> {
-    let read = read_dump(alloc, &mut Incoming::new(texts.dump.as_bytes())).ok()?;
-    let probe = read_dump(alloc, &mut Incoming::new(texts.probe.as_bytes())).ok()?;
+/// All faults of judging of a dump and its probe, with what is said.
+pub fn faults_of(
+    alloc: Global,
+    read: Dump,
+    probe: Dump,
+    roots: Roots,
+    said: Said<'_>,
+) -> Option<Vec<AnyFault>> {
     let (dump, legacy) = match said.vga {
         None => (read, Vec::new(alloc)),
         Some(word) => (
@@ -66,7 +61,24 @@ fn lines_of(alloc: Global, texts: &Texts, roots: Roots, said: Said<'_>) -> Optio
         memory: said.memory,
         legacy: &legacy,
     };
-    lines_with(alloc, &given, admitted.outline())
+    all_of_judging(alloc, &given, admitted.outline()).ok()
+}
+
+/// The lines of faults.
+pub fn lines(alloc: Global, faults: &[AnyFault]) -> Option<String> {
+    let mut lines = String::new(alloc);
+    for fault in faults {
+        writeln!(lines, "{fault}").ok()?;
+    }
+    Some(lines)
+}
+
+/// The lines of all faults of judging.
+fn lines_of(alloc: Global, texts: &Texts, roots: Roots, said: Said<'_>) -> Option<String> {
+    let read = read_dump(alloc, &mut Incoming::new(texts.dump.as_bytes())).ok()?;
+    let probe = read_dump(alloc, &mut Incoming::new(texts.probe.as_bytes())).ok()?;
+    let faults = faults_of(alloc, read, probe, roots, said)?;
+    lines(alloc, &faults)
 }
 
 /// Whether all faults of judging of a board, with what is said, have these lines.

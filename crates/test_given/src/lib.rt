@@ -3,8 +3,18 @@
 #![tactic(auto)]
 
 #[cfg(test)]
+mod by_rule;
+#[cfg(test)]
 mod host_ranges;
 #[cfg(test)]
 mod judged;
 #[cfg(test)]
 mod legacy_parts;
+#[cfg(test)]
+mod made;
+#[cfg(test)]
+mod regions;
+#[cfg(test)]
+mod slow_and_fast;
+#[cfg(test)]
+mod slow_judge;
