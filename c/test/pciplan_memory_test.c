@@ -88,7 +88,7 @@ static void add(unsigned bus, unsigned place, const struct function *f)
 
 /* ---- functions */
 
-enum { COMMAND = 0x04, MEMORY_ON = 0x02, LAYOUT = 0x0e, MANY = 0x80, ROM = 0x30, ROM_ON = 0x01 };
+enum { COMMAND = 0x04, IO_ON = 0x01, MEMORY_ON = 0x02, LAYOUT = 0x0e, MANY = 0x80, ROM = 0x30, ROM_ON = 0x01 };
 
 /* A function whose registers show 0, but for what says what it is. */
 static struct function blank(uint8_t layout)
@@ -100,11 +100,11 @@ static struct function blank(uint8_t layout)
     return f;
 }
 
-/* A bridge on bus 0 with one bus behind it, and windows of all three kinds. */
-static struct function bridge(unsigned secondary)
+/* A bridge with windows of all three kinds, which begin at 0 and are of the least width. */
+static struct function bridge(unsigned primary, unsigned secondary, unsigned subordinate)
 {
     struct function f = blank(1);
-    put(f.image, 0x19, 2, secondary * 0x101);
+    put(f.image, 0x18, 3, primary | secondary << 8 | subordinate << 16);
     put(f.sizes, 0x1c, 2, 0xf0f0);
     put(f.sizes, 0x20, 4, 0xfff0fff0);
     put(f.image, 0x24, 4, 0x00010001);
@@ -133,6 +133,20 @@ static struct function with_bars(unsigned kind)
     return f;
 }
 
+/* A function with a BAR of each class: 256 ports, and the most of both kinds of memory that the pools have room for. */
+static struct function wide(void)
+{
+    struct function f = blank(0);
+    f.image[COMMAND] = IO_ON | MEMORY_ON;
+    f.image[0x10] = 0x01;
+    put(f.sizes, 0x10, 4, 0xffffff01);
+    put(f.sizes, 0x14, 4, 0xc0000000);
+    f.image[0x18] = 0x0c;
+    put(f.sizes, 0x18, 4, 0x0000000c);
+    put(f.sizes, 0x1c, 4, 0xffffff80);
+    return f;
+}
+
 static uint32_t window_of(unsigned secondary)
 {
     return 0x80000000 + secondary * 0x100000;
@@ -144,7 +158,7 @@ static uint32_t window_of(unsigned secondary)
 static void set_up(void)
 {
     for (unsigned n = 1; n <= CHECKED / (BEHIND + 1); n++) {
-        struct function f = bridge(n);
+        struct function f = bridge(0, n, n);
         uint32_t page = window_of(n) >> 16;
         f.image[COMMAND] = MEMORY_ON;
         put(f.image, 0x1c, 2, 0x00f0);
@@ -168,7 +182,7 @@ static void set_up(void)
 static void plain(void)
 {
     for (unsigned n = 1; n <= PLANNED / (BEHIND + 1); n++) {
-        struct function f = bridge(n);
+        struct function f = bridge(0, n, n);
         add(0, (n - 1) * PER_DEVICE, &f);
     }
     for (unsigned n = 1; n <= PLANNED / (BEHIND + 1); n++)
@@ -189,6 +203,18 @@ static void one_bus(void)
         put(f.sizes, ROM, 4, 0xfffff800);
         add(0, place, &f);
     }
+}
+
+/* Bridges in a row, one function at its end, and all that gets there through windows of all of them, which are open. */
+static void row(void)
+{
+    for (unsigned n = 1; n < PLANNED; n++) {
+        struct function f = bridge(n - 1, n, PLANNED - 1);
+        f.image[COMMAND] = IO_ON | MEMORY_ON;
+        add(n - 1, 0, &f);
+    }
+    struct function f = wide();
+    add(PLANNED - 1, 0, &f);
 }
 
 /* ---- calls */
@@ -222,6 +248,7 @@ static const struct board boards[] = {
     {"a check of 512 functions", "check", set_up, check, CHECKED},
     {"a plan of 128", "plain", plain, plan, PLANNED},
     {"a plan of 128 on one bus, each with six BARs and a ROM", "one_bus", one_bus, plan, PLANNED},
+    {"a plan of 128 in a row of bridges, all windows open", "row", row, plan, PLANNED},
 };
 
 enum { BOARDS = sizeof boards / sizeof boards[0] };
