@@ -16,8 +16,6 @@ use Rattle.pci_tree.specs.Outline.{Tree}
 use Rattle.pci_check.specs.Audits.{AreSound}
 use Rattle.pci_faults.specs.FirstLine.{IsFirstLine}
 use Rattle.pci_faults.specs.Phases.{AreOfJudging, AreEarly}
-use Rattle.pci_function.specs.declared.fault.Fault as code
-use Rattle.pci_function.specs.Fault.{fault_of}
 use Rattle.pciplan_cli.specs.Answers.{Answer}
 use Rattle.pciplan_cli.specs.FaultsAnswers.{IsListText, list_answer, AreTold}
 
@@ -77,17 +75,17 @@ text_is roots dump probe faults (Some t) true text all (late, outline) is =
     subst (λ r. IsReasonedText r s faults text) outline.roots reasoned
 
 -- no fault is a yes
-pub line_is : (items : List code.Fault) (empty : Bool) (text remarks : List ℕ) → empty ≡ (length items == 0) → remarks ≡ []
-    → record { status = if not empty then 1 else 0; text = text; remarks = remarks } ≡ list_answer (map fault_of items) text
-line_is [] empty text remarks e none = λ i. record { status = if not (e i) then 1 else 0; text = text; remarks = none i }
-line_is (f ∷ rest) empty text remarks e none =
-    let some : (length (f ∷ rest) == 0) ≡ false = search (arith) in
+pub line_is : {X Y : Type 0} (f : X → Y) (items : List X) (empty : Bool) (text remarks : List ℕ) → empty ≡ (length items == 0) → remarks ≡ []
+    → record { status = if not empty then 1 else 0; text = text; remarks = remarks } ≡ list_answer (map f items) text
+line_is f [] empty text remarks e none = λ i. record { status = if not (e i) then 1 else 0; text = text; remarks = none i }
+line_is f (x ∷ rest) empty text remarks e none =
+    let some : (length (x ∷ rest) == 0) ≡ false = search (arith) in
     λ i. record { status = if not ((e ∙ some) i) then 1 else 0; text = text; remarks = none i }
 
 -- a list of faults is empty where that of their values is
-pub none_of_items : (items : List code.Fault) (P : Type 0) → (items ≡ []) ↔ P → (map fault_of items ≡ []) ↔ P
-none_of_items [] P both = (λ e. both.0 refl, λ p. refl)
-none_of_items (f ∷ rest) P both = (λ e. absurd (let no : ⊥ = cc in no), λ p. absurd (let none = both.1 p in let no : ⊥ = cc in no))
+pub none_of_items : {X Y : Type 0} (f : X → Y) (items : List X) (P : Type 0) → (items ≡ []) ↔ P → (map f items ≡ []) ↔ P
+none_of_items f [] P both = (λ e. both.0 refl, λ p. refl)
+none_of_items f (x ∷ rest) P both = (λ e. absurd (let no : ⊥ = cc in no), λ p. absurd (let none = both.1 p in let no : ⊥ = cc in no))
 
 pub told : (roots : List ℕ) (dump probe : List Block) (faults : List Fault) (judged : Option Tree) (why : Bool) (text : List ℕ) (answer : Answer)
     → AreAllFaults roots dump probe faults → IsFirstLine roots dump probe faults → (faults ≡ []) ↔ AreSound roots dump probe → IsJudgedOf roots dump probe faults judged

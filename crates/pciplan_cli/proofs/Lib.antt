@@ -5,3 +5,4 @@ mod ModelWords
 mod Invocations
 mod Tasks
 pub mod Faults
+mod FaultsAsked

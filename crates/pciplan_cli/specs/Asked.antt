@@ -1,17 +1,13 @@
 -- The task that a command line asks for, and the word that it is refused for.
-use Rattle.std.specs.Prelude.{◌≡◌, ℕ, ◌∷◌, [], Bool, true, false, List, Option, None, Some}
-use Rattle.std.specs.Borrow.{Bor}
+use Rattle.std.specs.Prelude.{◌≡◌, Bool, true, false, Option}
 use Rattle.pci_base.specs.declared.range.Range.{Range}
 use Rattle.pci_place.specs.declared.pools.Pools.{Pools}
-use Rattle.model_spec.specs.Words as model
 use Rattle.pci_model.specs.declared.words.Words.{Words}
-use Rattle.pci_model.specs.WordsValue.{words_value}
 use Rattle.pci_probe.specs.declared.assuming.Assuming.{Assuming}
 use Rattle.pci_probe.specs.declared.assuming.Assuming.TheVariants.{Nothing, Disabled, Any}
-use Rattle.pci_tree.specs.Roots.{buses_of}
 use Rattle.pci_tree.specs.declared.roots.Roots.{Roots}
-use Rattle.pciplan_cli.specs.ModelWords.{IsModelWord}
-use Rattle.pciplan_cli.specs.RootWords.{IsRootWord}
+use Rattle.pciplan_cli.specs.FaultsAsked.{IsFaultsOf, AreFaultsRefused}
+use Rattle.pciplan_cli.specs.OptionWords.{AreRootsOf, AreWordsOf, HasNoRoots, HasNoWords}
 use Rattle.pciplan_lists.specs.PoolWords.{IsPoolWord, HasNoPool}
 use Rattle.pciplan_words.specs.declared.asked.Asked.{Asked}
 use Rattle.pciplan_words.specs.declared.asked.Asked.TheVariants as asked
@@ -21,25 +17,6 @@ use Rattle.pciplan_cli.specs.declared.invocation.Task.TheVariants as task
 use Rattle.pciplan_cli.specs.declared.failure.PoolOption.TheVariants.{Io, Mem, Pref}
 use Rattle.pciplan_cli.specs.declared.failure.Failure.{Failure}
 use Rattle.pciplan_cli.specs.declared.failure.Failure.TheVariants.{Usage, Root, Model, Pool}
-
--- the roots of the word of `--root`: bus 00 alone where there is none
-abbrev pub AreRootsOf : Option (Bor (List ℕ)) → Roots → Type 0
-AreRootsOf None roots = buses_of roots ≡ 0 ∷ []
-AreRootsOf (Some word) roots = IsRootWord word.now (buses_of roots)
-
-abbrev pub HasNoRoots : Option (Bor (List ℕ)) → Type 0
-HasNoRoots None = ⊥
-HasNoRoots (Some word) = (buses : List ℕ) → IsRootWord word.now buses → ⊥
-
--- the words of the list of `--model`: none where there is no list
-abbrev pub AreWordsOf : Option (Bor (List ℕ)) → Option Words → Type 0
-AreWordsOf None words = words ≡ None
-AreWordsOf (Some list) None = ⊥
-AreWordsOf (Some list) (Some words) = IsModelWord list.now (words_value words)
-
-abbrev pub HasNoWords : Option (Bor (List ℕ)) → Type 0
-HasNoWords None = ⊥
-HasNoWords (Some list) = (words : model.Words) → IsModelWord list.now words → ⊥
 
 -- the planning that the words ask for: each pool is that of its own option
 pub record IsPlanningOf (words : PlanWords) (planning : Task) : Type 0 where
@@ -61,9 +38,7 @@ IsAssumingOf false false assuming = assuming ≡ Disabled
 abbrev pub IsTaskOf : Asked → Task → Type 0
 IsTaskOf asked.Show t = t ≡ task.Show
 IsTaskOf (asked.Check root) t = (roots : Roots) × AreRootsOf root roots × (t ≡ task.Check roots)
-IsTaskOf (asked.Faults root model why) t =
-    (roots : Roots) × (words : Option Words) × AreRootsOf root roots × AreWordsOf model words
-    × (t ≡ task.Faults roots words why)
+IsTaskOf (asked.Faults words) t = IsFaultsOf words t
 IsTaskOf (asked.Map root model) t =
     (roots : Roots) × (words : Option Words) × AreRootsOf root roots × AreWordsOf model words
     × (t ≡ task.Map roots words)
@@ -82,13 +57,11 @@ HasIo words = HasRoots words × ((pool : Range) × IsPoolWord words.io.now pool)
 abbrev pub HasMem : PlanWords → Type 0
 HasMem words = HasIo words × ((pool : Range) × IsPoolWord words.mem.now pool)
 
--- the first word that is none, of the root list and then the words of `--model` or the pools of I/O, memory and
--- prefetchable memory; or two options of which one alone may be said
+-- the first word that is none, of the root list and then the words of `--model` and what the host sends, or the pools of
+-- I/O, memory and prefetchable memory; or two options of which one alone may be said
 abbrev pub IsRefusedFor : Asked → Failure → Type 0
 IsRefusedFor (asked.Check root) Root = HasNoRoots root
-IsRefusedFor (asked.Faults root model why) Root = HasNoRoots root
-IsRefusedFor (asked.Faults root model why) Model =
-    ((roots : Roots) × AreRootsOf root roots) × HasNoWords model
+IsRefusedFor (asked.Faults words) failure = AreFaultsRefused words failure
 IsRefusedFor (asked.Map root model) Root = HasNoRoots root
 IsRefusedFor (asked.Map root model) Model =
     ((roots : Roots) × AreRootsOf root roots) × HasNoWords model

@@ -18,7 +18,7 @@ IsListText (Some judged) true faults text = IsReasonedTextOf judged faults text
 IsListText _ _ faults text = text ≡ yes_line faults ++ flat_map fault_line faults
 
 -- a list of no fault is a yes
-abbrev pub list_answer : List Fault → List ℕ → Answer
+abbrev pub list_answer : {X : Type 0} → List X → List ℕ → Answer
 list_answer [] text = done text
 list_answer (fault ∷ rest) text = refused text
 

@@ -27,6 +27,6 @@ IsRefusedFor words Memory = ⊤
 IsRefusedFor words Usage = HasNoLine words ⊎ IsRefusedLine words Usage
 IsRefusedFor words failure = IsRefusedLine words failure
 
--- the words are refused: they are no command line, or a word of one is no root list, no list of words or no pool, or it has both options of `probe`
+-- the words are refused: they are no command line, or a word of one is none, or two options exclude each other
 abbrev pub HasBadWords : List (List ℕ) → Type 0
 HasBadWords words = (failure : Failure) × IsRefusedFor words failure × (status_of failure ≡ 2)

@@ -4,8 +4,11 @@ pub mod PlanAnswers
 pub mod FaultsAnswers
 pub mod MapAnswers
 pub mod TakenAnswers
+pub mod GivenAnswers
 pub mod ModelWords
 pub mod RootWords
+pub mod OptionWords
+pub mod FaultsAsked
 pub mod Asked
 pub mod Invocations
 pub mod Opened

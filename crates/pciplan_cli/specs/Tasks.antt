@@ -15,6 +15,7 @@ use Rattle.pci_place.specs.Pools.{pools_value}
 use Rattle.pci_check.specs.Audits.{IsDumpOf}
 use Rattle.pciplan_cli.specs.Answers.{Answer, IsShown, IsChecked, IsSized, IsTold}
 use Rattle.pciplan_cli.specs.FaultsAnswers.{AreTold}
+use Rattle.pciplan_cli.specs.GivenAnswers.{IsAnswerGiven}
 use Rattle.pciplan_cli.specs.MapAnswers.{IsMapped}
 use Rattle.pciplan_cli.specs.PlanAnswers.{IsPlanned}
 use Rattle.pciplan_cli.specs.ProbeAnswers.{probe_answer}
@@ -45,6 +46,8 @@ abbrev pub IsPairAnswer : Task → List Block → List Block → Answer → Type
 IsPairAnswer task.Show = IsShown
 IsPairAnswer (task.Check roots) = IsChecked (buses_of roots)
 IsPairAnswer (task.Faults roots words why) = IsAnswerBy words (AreTold (buses_of roots) why)
+IsPairAnswer (task.FaultsGiven roots words host) =
+    IsAnswerGiven words host (buses_of roots)
 IsPairAnswer (task.Map roots words) = IsAnswerBy words (IsMapped (buses_of roots))
 IsPairAnswer task.Size = IsSized
 IsPairAnswer (task.Plan pools writes why roots) =

@@ -4,6 +4,7 @@ ghost use Rattle.pciplan_cli.specs.Statuses.{status_of, words_failure};
 ghost use Rattle.pciplan_cli.specs.declared.failure.Failure.{Failure};
 
 use pci_base::memory::OutOfMemory;
+use pci_base::space::Space;
 use pci_dump::read_fault::ReadFault;
 use pci_dump::streams::Sink;
 use pci_dump::write::write_all;
@@ -28,6 +29,10 @@ pub enum Failure {
     Root,
     /// The list of words by which functions are taken is none.
     Model,
+    /// The list of what the host sends to its root buses in a space is none, or none that it can send.
+    Host(Space),
+    /// Reasons are asked for where something is given beside the system.
+    Why,
     /// The word of an option's pool is none.
     Pool(PoolOption),
     /// The text of the dump has a fault, or can't be read.
@@ -49,6 +54,9 @@ impl fmt::Display for Failure {
             Failure::Usage => write!(f, "usage"),
             Failure::Root => write!(f, "root"),
             Failure::Model => write!(f, "model"),
+            Failure::Host(Space::Io) => write!(f, "host --host-io"),
+            Failure::Host(Space::Mem) => write!(f, "host --host-mem"),
+            Failure::Why => write!(f, "why"),
             Failure::Pool(PoolOption::Io) => write!(f, "pool --io"),
             Failure::Pool(PoolOption::Mem) => write!(f, "pool --mem"),
             Failure::Pool(PoolOption::Pref) => write!(f, "pool --pref"),
@@ -71,7 +79,8 @@ impl Failure {
         ensures { result ≡ status_of self }
     {
         match self {
-            Failure::Usage | Failure::Root | Failure::Model | Failure::Pool(_) => 2,
+            Failure::Usage | Failure::Root | Failure::Model | Failure::Host(_) => 2,
+            Failure::Why | Failure::Pool(_) => 2,
             Failure::Dump(fault) | Failure::Probe(fault) | Failure::Sizes(fault) => match fault {
                 ReadFault::Io => 4,
                 ReadFault::Memory => 3,

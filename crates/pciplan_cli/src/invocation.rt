@@ -6,6 +6,7 @@ ghost use Rattle.pciplan_cli.specs.declared.failure.Failure.{Failure};
 
 use crate::asked::task_of;
 use crate::failure::{Failure, report};
+use pci_base::range::RootRange;
 use pci_dump::streams::Sink;
 use pci_model::words::Words;
 use pci_place::pools::Pools;
@@ -14,8 +15,16 @@ use pci_tree::roots::Roots;
 use pciplan_words::words::words_given;
 use std::alloc::Global;
 
+/// The ranges that the host sends to its root buses, of I/O and of memory; None of a space of which nothing is said: it
+/// sends all of it to each.
+#[derive(Drop)]
+pub struct HostLists {
+    pub io: Option<Vec<RootRange>>,
+    pub mem: Option<Vec<RootRange>>,
+}
+
 /// What is to be done with a dump and its probe.
-#[derive(Clone, Copy, Debug, PartialEq, Eq)]
+#[derive(Drop)]
 pub enum Task {
     /// Lists what the functions decode to.
     Show,
@@ -29,6 +38,13 @@ pub enum Task {
         roots: Roots,
         words: Option<Words>,
         why: bool,
+    },
+    /// Lists all faults of the same system, with what is given beside it: the bridges with legacy parts, where the words
+    /// take VGA Enable, and what the host sends to its root buses.
+    FaultsGiven {
+        roots: Roots,
+        words: Option<Words>,
+        host: HostLists,
     },
     /// Prints the map of the same system.
     Map {
@@ -70,14 +86,15 @@ fn invocation_of(alloc: Global, words: &[&str]) -> Result<Invocation, Failure>
 {
     let given = words_given(alloc, words)?;
     Ok(Invocation {
-        task: task_of(&given.asked)?,
+        task: task_of(alloc, &given.asked)?,
         dump: String::from_str(alloc, given.dump)?,
         probe: String::from_str(alloc, given.second)?,
     })
 }
 
 /// Reads the words after the program's name. Where they make no command line it writes the message to `err`
-/// and answers the status: 2 for a fault of usage, then of the root list, and then of the words of `--model` or of a pool, 3 at want of memory.
+/// and answers the status: 2 for a fault of usage, then of the root list, then of the words of `--model`, of what the host
+/// sends or of a pool, and then for reasons that aren't told; 3 at want of memory.
 pub fn start<E: Sink>(alloc: Global, words: &[&str], err: &mut E) -> Result<Invocation, u8>
     ensures line { IfOk result (IsInvocationOf (map (λ w. w.now) words.now)) }
     ensures refused { IfErr result (λ status. (failure : Failure)

@@ -13,10 +13,13 @@
 pub mod asked;
 pub mod failure;
 pub mod faulting;
+pub mod faulting_given;
+pub mod faults_asked;
 pub mod invocation;
 pub mod mapping;
 pub mod model_words;
 pub mod opened;
+pub mod option_words;
 pub mod planning;
 pub mod probing;
 pub mod program;

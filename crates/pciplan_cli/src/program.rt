@@ -69,15 +69,16 @@ fn line_of<E: Sink>(
 }
 
 /// The second text of a task can't be read.
-fn unread(task: Task) -> Failure
+fn unread(task: &Task) -> Failure
     ensures { (dump_left probe_left : Option (List ℕ)) → HasDump dump_left
-        → IsFailureOf task dump_left probe_left result }
+        → IsFailureOf task.now dump_left probe_left result }
 {
     match task {
         Task::Probe { .. } => Failure::Sizes(ReadFault::Io),
         Task::Show
         | Task::Check { .. }
         | Task::Faults { .. }
+        | Task::FaultsGiven { .. }
         | Task::Map { .. }
         | Task::Size
         | Task::Plan { .. } => Failure::Probe(ReadFault::Io),
@@ -85,9 +86,9 @@ fn unread(task: Task) -> Failure
 }
 
 /// Why there is no answer where the second text couldn't be opened: that, unless the dump has a failure.
-fn without_second<A: Allocator, D: Source>(alloc: A, task: Task, dump: &mut D) -> Failure
+fn without_second<A: Allocator, D: Source>(alloc: A, task: &Task, dump: &mut D) -> Failure
     ensures { (probe_left : Option (List ℕ))
-        → IsFailureOf task (D.left dump.old) probe_left result }
+        → IsFailureOf task.now (D.left dump.old) probe_left result }
 {
     match read_dump(alloc, dump) {
         Ok(_) => unread(task),
@@ -125,7 +126,7 @@ pub fn carry_out<A: Allocator + Copy, D: Opening, P: Opening, O: Sink, E: Sink>(
         return report(err, Failure::Dump(ReadFault::Io));
     }
     if probe.open(line.probe.as_str()).is_err() {
-        return report(err, without_second(alloc, line.task, dump));
+        return report(err, without_second(alloc, &line.task, dump));
     }
     run(alloc, line, dump, probe, out, err)
 }

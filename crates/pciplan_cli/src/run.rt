@@ -6,6 +6,7 @@ ghost use Rattle.pciplan_cli.specs.Tasks.{HasFailed, IsAnswerOf, IsAnswered, IsB
 
 use crate::failure::{Failure, report};
 use crate::faulting::faults_by;
+use crate::faulting_given::faults_given;
 use crate::invocation::{Invocation, Task};
 use crate::mapping::map_by;
 use crate::planning::plan_pair;
@@ -112,24 +113,29 @@ fn derive_texts<A: Allocator + Copy, D: Source, S: Source>(
 /// What a task that takes a whole dump and a whole probe answers to them.
 fn pair_reply<A: Allocator + Copy>(
     alloc: A,
-    task: Task,
+    task: &Task,
     dump: Dump<A>,
     probe: Dump<A>,
 ) -> Result<Reply<A>, OutOfMemory>
-    requires { IsOfWholePair task }
-    ensures { IfOk result (λ reply. IsPairAnswer task dump probe (answer_of reply)) }
+    requires { IsOfWholePair task.now }
+    ensures { IfOk result (λ reply. IsPairAnswer task.now dump probe (answer_of reply)) }
 {
     match task {
         Task::Show => show_pair(alloc, &dump, &probe),
-        Task::Faults { roots, words, why } => faults_by(alloc, &dump, &probe, roots, words, why),
-        Task::Map { roots, words } => map_by(alloc, &dump, &probe, roots, words),
+        Task::Faults { roots, words, why } => {
+            faults_by(alloc, &dump, &probe, *roots, *words, *why)
+        }
+        Task::FaultsGiven { roots, words, host } => {
+            faults_given(alloc, &dump, &probe, *roots, *words, host)
+        }
+        Task::Map { roots, words } => map_by(alloc, &dump, &probe, *roots, *words),
         Task::Size => size_pair(alloc, &dump, &probe),
         Task::Plan {
             pools,
             writes,
             why,
             roots,
-        } => plan_pair(alloc, dump, probe, &pools, writes, why, roots),
+        } => plan_pair(alloc, dump, probe, pools, *writes, *why, *roots),
         Task::Check { .. } | Task::Probe { .. } => unreachable!(),
     }
 }
@@ -137,14 +143,14 @@ fn pair_reply<A: Allocator + Copy>(
 /// What such a task answers to two texts.
 fn pair_texts<A: Allocator + Copy, D: Source, P: Source>(
     alloc: A,
-    task: Task,
+    task: &Task,
     dump: &mut D,
     probe: &mut P,
 ) -> Result<Reply<A>, Failure>
-    requires { IsOfWholePair task }
+    requires { IsOfWholePair task.now }
     ensures reply { IfOk result
-        (λ reply. IsAnswerOf task (D.left dump.old) (P.left probe.old) (answer_of reply)) }
-    ensures failure { IfErr result (IsFailureOf task (D.left dump.old) (P.left probe.old)) }
+        (λ reply. IsAnswerOf task.now (D.left dump.old) (P.left probe.old) (answer_of reply)) }
+    ensures failure { IfErr result (IsFailureOf task.now (D.left dump.old) (P.left probe.old)) }
     ensures failed { IfErr result (λ failure. status_of failure ≡ 4
         → (D.failures dump.new ≡ D.failures dump.old + 1)
         ⊎ (P.failures probe.new ≡ P.failures probe.old + 1)) }
@@ -157,20 +163,20 @@ fn pair_texts<A: Allocator + Copy, D: Source, P: Source>(
 /// What a task answers to two texts. A fault of the dump's text goes before one of the second.
 fn reply_to<A: Allocator + Copy, D: Source, S: Source>(
     alloc: A,
-    task: Task,
+    task: &Task,
     dump: &mut D,
     second: &mut S,
 ) -> Result<Reply<A>, Failure>
     ensures reply { IfOk result
-        (λ reply. IsAnswerOf task (D.left dump.old) (S.left second.old) (answer_of reply)) }
-    ensures failure { IfErr result (IsFailureOf task (D.left dump.old) (S.left second.old)) }
+        (λ reply. IsAnswerOf task.now (D.left dump.old) (S.left second.old) (answer_of reply)) }
+    ensures failure { IfErr result (IsFailureOf task.now (D.left dump.old) (S.left second.old)) }
     ensures failed { IfErr result (λ failure. status_of failure ≡ 4
         → (D.failures dump.new ≡ D.failures dump.old + 1)
         ⊎ (S.failures second.new ≡ S.failures second.old + 1)) }
 {
     match task {
-        Task::Check { roots } => check_texts(alloc, roots, dump, second),
-        Task::Probe { assuming } => derive_texts(alloc, assuming, dump, second),
+        Task::Check { roots } => check_texts(alloc, *roots, dump, second),
+        Task::Probe { assuming } => derive_texts(alloc, *assuming, dump, second),
         _ => pair_texts(alloc, task, dump, second),
     }
 }
@@ -204,7 +210,7 @@ pub fn run<A: Allocator + Copy, D: Source, P: Source, O: Sink, E: Sink>(
         (P.failures probe.old) (P.failures probe.new) (O.failures out.old) (O.failures out.new) }
     ensures known { result ≤ 4 }
 {
-    match reply_to(alloc, line.task, dump, probe) {
+    match reply_to(alloc, &line.task, dump, probe) {
         Ok(reply) => match send(out, err, &reply) {
             Ok(()) => reply.status(),
             Err(Failed) => report(err, Failure::Io),

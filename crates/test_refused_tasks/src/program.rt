@@ -22,11 +22,11 @@ pub fn line_of(rt: &impl AllocGlobal, task: Task) -> Invocation {
     }
 }
 
-/// What a task answers to two texts, where it grows by `alloc`.
+/// What a line's task answers to two texts, where it grows by `alloc`.
 pub fn run_by<A: Allocator + Copy>(
     rt: &impl AllocGlobal,
     alloc: A,
-    task: Task,
+    line: &Invocation,
     dump: &str,
     probe: &str,
 ) -> Answer {
@@ -34,7 +34,7 @@ pub fn run_by<A: Allocator + Copy>(
     let mut err = Vec::new(rt.alloc());
     let status = run(
         alloc,
-        &line_of(rt, task),
+        line,
         &mut Incoming::new(dump.as_bytes()),
         &mut Incoming::new(probe.as_bytes()),
         &mut Outgoing::new(&mut out),
@@ -44,8 +44,8 @@ pub fn run_by<A: Allocator + Copy>(
 }
 
 /// The same with all the memory that it asks for.
-pub fn run_task(rt: &impl AllocGlobal, task: Task, dump: &str, probe: &str) -> Answer {
-    run_by(rt, rt.alloc(), task, dump, probe)
+pub fn run_line(rt: &impl AllocGlobal, line: &Invocation, dump: &str, probe: &str) -> Answer {
+    run_by(rt, rt.alloc(), line, dump, probe)
 }
 
 /// What a line of words answers to two texts.

@@ -1,9 +1,11 @@
 //! Lists of all faults where a read, a write or a growth fails.
 use crate::failing::{leaves_beginnings, tells_failed_reads};
+use crate::program::line_of;
 use crate::refused_tasks::is_refused_in_turn;
-use pci_model::words::Words;
+use pci_base::range::{Range, RootRange};
+use pci_model::words::{VgaWord, Words};
 use pci_tree::roots::Roots;
-use pciplan_cli::invocation::Task;
+use pciplan_cli::invocation::{HostLists, Task};
 use std::alloc::{AllocError, Global};
 use std::test::Fail;
 use test_support::board::{Texts, bridge, device, texts_of};
@@ -22,13 +24,37 @@ fn task_by(words: Option<Words>) -> Task {
     }
 }
 
-/// All words there are.
+/// A list with what is given: what the host sends of memory, and bridges with legacy parts.
+fn task_given(alloc: Global) -> Result<Task, AllocError> {
+    let mut sent = Vec::new(alloc);
+    sent.push(RootRange {
+        root: None,
+        range: Range {
+            first: 0,
+            last: 0xe0ff_ffff,
+        },
+    })?;
+    Ok(Task::FaultsGiven {
+        roots: Roots::host(),
+        words: Some(Words {
+            vga: Some(VgaWord::Vga),
+            ..ALL_WORDS
+        }),
+        host: HostLists {
+            io: None,
+            mem: Some(sent),
+        },
+    })
+}
+
+/// All words but that for legacy parts.
 const ALL_WORDS: Words = Words {
     ide: true,
     power: true,
     reset: true,
     subtractive: true,
     unnumbered: true,
+    vga: None,
 };
 
 /// A bridge that is off above a BAR, a clash, and a BAR that is off.
@@ -54,34 +80,64 @@ fn misplaced(alloc: Global) -> Result<Texts, AllocError> {
 #[test]
 fn a_list_that_is_refused_a_growth_says_just_that(rt: HostRuntime) -> Result<(), Fail> {
     let texts = judged(rt.alloc())?;
-    assert!(rt; is_refused_in_turn(&rt, task(), &texts));
+    assert!(rt; is_refused_in_turn(&rt, &line_of(&rt, task()), &texts));
     Ok(())
 }
 
 #[test]
 fn so_does_one_of_an_earlier_phase(rt: HostRuntime) -> Result<(), Fail> {
     let texts = misplaced(rt.alloc())?;
-    assert!(rt; is_refused_in_turn(&rt, task(), &texts));
+    assert!(rt; is_refused_in_turn(&rt, &line_of(&rt, task()), &texts));
     Ok(())
 }
 
 #[test]
 fn so_does_one_by_words(rt: HostRuntime) -> Result<(), Fail> {
     let texts = judged(rt.alloc())?;
-    assert!(rt; is_refused_in_turn(&rt, task_by(Some(ALL_WORDS)), &texts));
+    assert!(rt; is_refused_in_turn(&rt, &line_of(&rt, task_by(Some(ALL_WORDS))), &texts));
     Ok(())
 }
 
 #[test]
 fn a_writer_that_fails_holds_a_beginning_of_the_list(rt: HostRuntime) -> Result<(), Fail> {
     let texts = judged(rt.alloc())?;
-    leaves_beginnings(&rt, task(), &texts, 7, &[0, 1, 100, 300]);
+    leaves_beginnings(&rt, &line_of(&rt, task()), &texts, 7, &[0, 1, 100, 300]);
     Ok(())
 }
 
 #[test]
 fn a_read_that_fails_leaves_no_list(rt: HostRuntime) -> Result<(), Fail> {
     let texts = judged(rt.alloc())?;
-    tells_failed_reads(&rt, task(), &texts, 1);
+    tells_failed_reads(&rt, &line_of(&rt, task()), &texts, 1);
+    Ok(())
+}
+
+/// Two bridges with legacy parts, and a BAR outside of what the host sends.
+fn given(alloc: Global) -> Result<Texts, AllocError> {
+    let closed = [(0x20, 0x0000_fff0, 0xfff0_fff0), (0x3c, 0x0008_0000, 0)];
+    let board = [
+        bridge("00:01.0", 3, (0, 1, 1), &closed),
+        bridge("00:02.0", 3, (0, 2, 2), &closed),
+        device("00:03.0", 2, &[(0x10, 0xe100_0000, 0xfff0_0000)]),
+    ];
+    texts_of(alloc, &board)
+}
+
+#[test]
+fn so_does_one_with_what_is_given(rt: HostRuntime) -> Result<(), Fail> {
+    for texts in [given(rt.alloc())?, misplaced(rt.alloc())?] {
+        assert!(rt; is_refused_in_turn(&rt, &line_of(&rt, task_given(rt.alloc())?), &texts));
+    }
+    Ok(())
+}
+
+#[test]
+fn with_what_is_given_a_read_or_a_write_that_fails_leaves_no_more(
+    rt: HostRuntime,
+) -> Result<(), Fail> {
+    let texts = given(rt.alloc())?;
+    let line = line_of(&rt, task_given(rt.alloc())?);
+    leaves_beginnings(&rt, &line, &texts, 7, &[0, 1, 100]);
+    tells_failed_reads(&rt, &line, &texts, 1);
     Ok(())
 }

@@ -1,4 +1,5 @@
 //! The program's plans, with the first growth refused, then with the second, and so on until no refusal is met.
+use crate::program::line_of;
 use crate::refused_tasks::is_refused_in_turn;
 use pci_base::range::Range;
 use pci_place::pools::Pools;
@@ -24,7 +25,7 @@ fn a_plan_that_is_refused_a_growth_says_just_that(rt: HostRuntime) -> Result<(),
                 why: true,
                 roots: Roots::host(),
             };
-            assert!(rt; is_refused_in_turn(&rt, task, &texts));
+            assert!(rt; is_refused_in_turn(&rt, &line_of(&rt, task), &texts));
         }
     }
     Ok(())
@@ -50,6 +51,6 @@ fn a_shortage_that_is_refused_a_growth_says_just_that(rt: HostRuntime) -> Result
         why: true,
         roots: Roots::host(),
     };
-    assert!(rt; is_refused_in_turn(&rt, task, &texts));
+    assert!(rt; is_refused_in_turn(&rt, &line_of(&rt, task), &texts));
     Ok(())
 }

@@ -1,5 +1,6 @@
 //! Deriving a probe where a read, a write or a growth fails.
 use crate::failing::{leaves_beginnings, with_failing_read};
+use crate::program::line_of;
 use crate::refused_tasks::is_refused_in_turn;
 use pci_probe::assuming::Assuming;
 use pciplan_cli::invocation::Task;
@@ -9,9 +10,11 @@ use std::test::Fail;
 use test_support::board::{Texts, device, texts_of};
 
 /// A probe in which read backs may be assumed.
-const TASK: Task = Task::Probe {
-    assuming: Assuming::Disabled,
-};
+fn task() -> Task {
+    Task::Probe {
+        assuming: Assuming::Disabled,
+    }
+}
 
 /// Appends a block of sizes, with its first line.
 fn push_sizes(text: &mut String, slot: &str, first: &str) -> Result<(), AllocError> {
@@ -41,8 +44,8 @@ fn example(alloc: Global) -> Result<Texts, AllocError> {
 #[test]
 fn a_probe_that_is_refused_a_growth_says_just_that(rt: HostRuntime) -> Result<(), Fail> {
     let texts = example(rt.alloc())?;
-    assert!(rt; is_refused_in_turn(&rt, TASK, &texts));
-    leaves_beginnings(&rt, TASK, &texts, 7, &[0, 1, 100, 300]);
+    assert!(rt; is_refused_in_turn(&rt, &line_of(&rt, task()), &texts));
+    leaves_beginnings(&rt, &line_of(&rt, task()), &texts, 7, &[0, 1, 100, 300]);
     Ok(())
 }
 
@@ -55,7 +58,7 @@ fn a_probe_is_derived_of_what_can_be_read(rt: HostRuntime) -> Result<(), Fail> {
             (at, 0, b"pciplan: dump: 1 Io\n".as_slice()),
             (0, at, b"pciplan: sizes: 1 Io\n".as_slice()),
         ] {
-            let got = with_failing_read(&rt, TASK, &texts, dump_fails, sizes_fail);
+            let got = with_failing_read(&rt, &line_of(&rt, task()), &texts, dump_fails, sizes_fail);
             if got.status == 4 {
                 failed = failed.max(sizes_fail);
                 assert!(rt; got.out.is_empty(), "{at}");

@@ -14,6 +14,6 @@ returns g c =
     let found = c.in_ok-found.found in
     let items = found.faults.items in
     told roots c.args.dump.now c.args.probe.now (map fault_of items) found.judged c.args.why (string_bytes c.in_ok-text.text) _ c.in_ok-found.ensures.all
-    c.in_ok-found.ensures.first (none_of_items items (AreSound roots c.args.dump.now c.args.probe.now) c.in_ok-found.ensures.none) c.in_ok-found.ensures.judged
+    c.in_ok-found.ensures.first (none_of_items fault_of items (AreSound roots c.args.dump.now c.args.probe.now) c.in_ok-found.ensures.none) c.in_ok-found.ensures.judged
     (subst (λ all. IsListText found.judged c.args.why (map fault_of all) (string_bytes c.in_ok-text.text)) c.as_slice-faults.ensures.value c.in_ok-text.ensures)
-    (line_is items c.is_empty.result (string_bytes c.in_ok-text.text) (string_bytes c.new.result) (c.is_empty.ensures ∙ ap (λ all. length all == 0) c.as_slice-faults.ensures.value) c.new.ensures.bytes)
+    (line_is fault_of items c.is_empty.result (string_bytes c.in_ok-text.text) (string_bytes c.new.result) (c.is_empty.ensures ∙ ap (λ all. length all == 0) c.as_slice-faults.ensures.value) c.new.ensures.bytes)

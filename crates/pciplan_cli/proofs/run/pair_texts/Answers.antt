@@ -4,7 +4,7 @@ use Rattle.pciplan_cli.proofs.run.pair_texts.Goals as goal
 
 pub returns-clause-reply : goal.returns-clause-reply
 returns-clause-reply g c =
-    pair_answered c.args.task c.requires (g.D.Source.left c.args.dump.now) (g.P.Source.left c.args.probe.now) _ record {
+    pair_answered c.args.task.now c.requires (g.D.Source.left c.args.dump.now) (g.P.Source.left c.args.probe.now) _ record {
       dump = c.in_ok-dump.dump;
       second = c.in_ok-probe.probe;
       dump_text = dump_read (g.D.Source.left c.args.dump.now) c.read_dump.result (Ok c.in_ok-dump.dump) c.in_ok-dump.ensures.cases c.read_dump.ensures.ok c.read_dump.ensures.only;

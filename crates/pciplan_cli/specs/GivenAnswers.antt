@@ -1,0 +1,47 @@
+-- What the program answers where all faults of two texts are to be listed, with what is given beside them.
+use Rattle.std.specs.Prelude.{◌≡◌, ◌↔◌, ℕ, List, [], Option, None, Some, option_map, map}
+use Rattle.pci_spec.specs.Text.{Block}
+use Rattle.pci_spec.specs.System.{System, system_of}
+use Rattle.given_spec.specs.Given.{Given, LegacyBridge}
+use Rattle.given_spec.specs.Fault.{Fault}
+use Rattle.given_spec.specs.FaultLines.{AreAllFaults, AreSound}
+use Rattle.given_spec.specs.Line.{list_text}
+use Rattle.given_spec.specs.Words.{VgaWord, legacy_bridges}
+use Rattle.pci_given.specs.Values.{host_value}
+use Rattle.pci_model.specs.declared.words.Words.{Words}
+use Rattle.pci_model.specs.WordsValue.{words_value}
+use Rattle.pciplan_cli.specs.Answers.{Answer}
+use Rattle.pciplan_cli.specs.FaultsAnswers.{list_answer}
+use Rattle.pciplan_cli.specs.TakenAnswers.{IsAnswerBy}
+use Rattle.pciplan_cli.specs.declared.invocation.HostLists.{HostLists}
+
+-- the bridges with legacy parts by a word: those of which the dump shows VGA Enable, where there is one
+abbrev pub legacy_by : Option VgaWord → System → List LegacyBridge
+legacy_by None s = []
+legacy_by (Some word) s = legacy_bridges word s
+
+abbrev pub vga_of : Option Words → Option VgaWord
+vga_of None = None
+vga_of (Some words) = (words_value words).vga
+
+-- What is given beside a dump: what the host sends, and its bridges with legacy parts. What reads back tells nothing of
+-- these, so the dump stands for the probe too.
+abbrev pub given_of : HostLists → Option Words → List Block → Given
+given_of host words dump = record {
+  io = option_map (λ list. map host_value list.items) host.io;
+  memory = option_map (λ list. map host_value list.items) host.mem;
+  legacy = legacy_by (vga_of words) (system_of dump dump);
+}
+
+-- all of them, none exactly where the two are sound
+pub record AreToldGiven (given : Given) (roots : List ℕ) (dump probe : List Block)
+    (answer : Answer) : Type 0 where
+  pub faults : List Fault
+  pub all : AreAllFaults given roots dump probe faults
+  pub none : (faults ≡ []) ↔ AreSound given roots dump probe
+  pub line : answer ≡ list_answer faults (list_text faults)
+
+-- `faults` with what is given: of the two as words take them, beside what the dump as it is gives
+abbrev pub IsAnswerGiven : Option Words → HostLists → List ℕ → List Block → List Block → Answer → Type 0
+IsAnswerGiven words host roots dump probe answer =
+    IsAnswerBy words (AreToldGiven (given_of host words dump) roots) dump probe answer

@@ -1,0 +1,96 @@
+//! Lists all faults of a dump and its probe, with what is given beside them.
+ghost use Rattle.std.specs.Prelude.{◌≡◌, map, option_map, IfOk};
+ghost use Rattle.pci_spec.specs.System.{system_of};
+ghost use Rattle.pci_tree.specs.Roots.{buses_of};
+ghost use Rattle.pci_given.specs.Values.{given_value, host_value, legacy_value};
+ghost use Rattle.pciplan_cli.specs.Answers.{answer_of};
+ghost use Rattle.pciplan_cli.specs.GivenAnswers.{AreToldGiven, IsAnswerGiven, legacy_by, vga_of};
+
+use crate::invocation::HostLists;
+use crate::reply::{Reply, Text};
+use crate::taking::taken;
+use pci_base::memory::OutOfMemory;
+use pci_base::range::RootRange;
+use pci_dump::dump::Dump;
+use pci_given::every::all_faults;
+use pci_given::given::{Given, LegacyBridge};
+use pci_given::text::list_text;
+use pci_given::vga::legacy_bridges;
+use pci_model::words::Words;
+use pci_tree::roots::Roots;
+use std::alloc::Allocator;
+
+/// The bridges of a dump with legacy parts, where the words take VGA Enable.
+fn legacy_by<A: Allocator, B: Allocator>(
+    alloc: A,
+    dump: &Dump<B>,
+    words: Option<Words>,
+) -> Result<Vec<LegacyBridge, A>, OutOfMemory>
+    ensures { IfOk result (λ legacy. map legacy_value legacy.items
+        ≡ legacy_by (vga_of words) (system_of dump.now dump.now)) }
+{
+    match words {
+        None => Ok(Vec::new(alloc)),
+        Some(words) => match words.vga {
+            None => Ok(Vec::new(alloc)),
+            Some(word) => legacy_bridges(alloc, dump, word),
+        },
+    }
+}
+
+/// The ranges that are said of a space.
+fn ranges_of(list: &Option<Vec<RootRange>>) -> Option<&[RootRange]>
+    ensures { option_map (λ ranges. map host_value ranges.now) result
+        ≡ option_map (λ v. map host_value v.items) list.now }
+{
+    match list {
+        None => None,
+        Some(list) => Some(list.as_slice()),
+    }
+}
+
+/// All faults of a dump and its probe with these root buses, with what is given.
+fn given_pair<A: Allocator + Copy>(
+    alloc: A,
+    dump: &Dump<A>,
+    probe: &Dump<A>,
+    roots: Roots,
+    given: &Given<'_>,
+) -> Result<Reply<A>, OutOfMemory>
+    ensures { IfOk result (λ reply. AreToldGiven (given_value given.now) (buses_of roots) dump.now
+        probe.now (answer_of reply)) }
+{
+    let found = all_faults(alloc, dump, probe, roots, given)?;
+    let faults = found.as_slice();
+    let text = list_text(alloc, faults)?;
+    Ok(Reply {
+        refused: !faults.is_empty(),
+        text: Text::Lines(text),
+        remarks: String::new(alloc),
+    })
+}
+
+/// All faults of a dump and its probe with these root buses, as words take them, with what the host sends and the bridges
+/// with legacy parts.
+pub fn faults_given<A: Allocator + Copy>(
+    alloc: A,
+    dump: &Dump<A>,
+    probe: &Dump<A>,
+    roots: Roots,
+    words: Option<Words>,
+    host: &HostLists,
+) -> Result<Reply<A>, OutOfMemory>
+    ensures { IfOk result (λ reply. IsAnswerGiven words host.now (buses_of roots) dump.now
+        probe.now (answer_of reply)) }
+{
+    let legacy = legacy_by(alloc, dump, words)?;
+    let given = Given {
+        io: ranges_of(&host.io),
+        memory: ranges_of(&host.mem),
+        legacy: &legacy,
+    };
+    match taken(alloc, dump, probe, words)? {
+        None => given_pair(alloc, dump, probe, roots, &given),
+        Some(taken) => given_pair(alloc, &taken.dump, &taken.probe, roots, &given),
+    }
+}
