@@ -111,6 +111,17 @@ for machine in desk old port roots; do
     text=${text#no }
     [ $machine = desk ] && text="${text}52 VgaEnable 01:00.0$lf"
     case_of "$machine: faults" $judged "$text" '' faults --root $roots $machine.dump $machine.probe
+    # by all words, and by ports of 16 bits
+    case $machine in
+    desk) text="61 Clash bus 00 io 000013b0 00:02.0 3e 00:03.0 1c$lf" judged=1 ;;
+    port) text="26 WindowMask 00:06.0 1c$lf" judged=1 ;;
+    *) text="yes$lf" judged=0 ;;
+    esac
+    case_of "$machine: faults by all words" $judged "$text" '' \
+        faults --root $roots --model all $machine.dump $machine.probe
+    if [ $machine = desk ]; then
+        case_of "$machine: faults by ports of 16 bits" 0 "yes$lf" '' faults --model vga16 desk.dump desk.probe
+    fi
     text_of $machine.show
     refused=0
     [ $machine = port ] && refused=1
