@@ -11,7 +11,7 @@ _pciplan() {
     case ${COMP_WORDS[1]} in
     show | size) options='' ;;
     check) options='--root' ;;
-    faults) options='--model --root --why' ;;
+    faults) options='--host-io --host-mem --model --root --why' ;;
     map) options='--model --root' ;;
     plan) options='--io --mem --pref --root --why --writes' ;;
     probe) options='--exact --least' ;;
@@ -22,7 +22,7 @@ _pciplan() {
     for ((at = 2; at < COMP_CWORD; at++)); do
         case $ended${COMP_WORDS[at]} in
         --) ended=. ;;
-        --root | --model | --io | --mem | --pref)
+        --root | --model | --host-io | --host-mem | --io | --mem | --pref)
             said+="${COMP_WORDS[at]} "
             [ "${COMP_WORDS[at + 1]}" != = ] || at=$((at + 1))
             at=$((at + 1))

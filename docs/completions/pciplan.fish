@@ -17,7 +17,7 @@ function __pciplan_wants_text
     set -l words (commandline -opc)
     contains -- "$words[2]" show check faults map size plan probe; or return
     set -e words[1..2]
-    set -l valued --root --model --io --mem --pref
+    set -l valued --root --model --host-io --host-mem --io --mem --pref
     set -l texts 0
     set -l before ''
     for word in $words
@@ -44,6 +44,8 @@ complete -c pciplan -n __pciplan_wants_command -a plan -d 'Plan the addresses of
 complete -c pciplan -n __pciplan_wants_command -a probe -d 'Derive the probe from what Linux sized'
 complete -c pciplan -n '__pciplan_takes root check faults map plan' -l root -x -d 'Buses on which accesses of the host start'
 complete -c pciplan -n '__pciplan_takes model faults map' -l model -x -d 'Words by which functions are taken'
+complete -c pciplan -n '__pciplan_takes host-io faults' -l host-io -x -d 'I/O addresses that the host sends'
+complete -c pciplan -n '__pciplan_takes host-mem faults' -l host-mem -x -d 'Memory addresses that the host sends'
 complete -c pciplan -n '__pciplan_takes io plan' -l io -x -d 'Pool of I/O addresses'
 complete -c pciplan -n '__pciplan_takes mem plan' -l mem -x -d 'Pool of memory addresses'
 complete -c pciplan -n '__pciplan_takes pref plan' -l pref -x -d 'Pool of prefetchable memory addresses'
