@@ -204,7 +204,7 @@ awk '
                 print command " " $at ($(at + 1) ~ /^[A-Z]/ ? "=" : "")
     }' "$page" | sort >synopsis
 commands=$(grep -v ' ' synopsis)
-options=$(sed -n 's/^.* \(--[a-z]*\).*$/\1/p' synopsis | sort -u)
+options=$(sed -n 's/^.* \(--[a-z-]*\).*$/\1/p' synopsis | sort -u)
 cp synopsis wanted
 
 awk '
@@ -217,7 +217,7 @@ awk '
             for (option = 1; option <= count; option++)
                 rows[$at " " words[option]] = words[option]
     }
-    /^ *--[a-z]+( \| --[a-z]+)*\)$/ { gsub(/[|)]/, ""); for (at = 1; at <= NF; at++) valued[$at] }
+    /^ *--[a-z-]+( \| --[a-z-]+)*\)$/ { gsub(/[|)]/, ""); for (at = 1; at <= NF; at++) valued[$at] }
     END { for (row in rows) print row (rows[row] in valued ? "=" : "") }' $names/pciplan.bash | sort >got
 same 'bash has the commands and options of the page'
 
@@ -280,7 +280,7 @@ same 'the program takes the commands and options of the page, and no other of th
 words=$top/crates/pciplan_words/src/words.rt
 {
     sed -n 's/.*of_texts(alloc, "\([a-z]*\)").*/\1/p' "$words"
-    sed -n 's/^const [A-Z]*: &str = "\([a-z]*\)";$/--\1/p' "$words"
+    sed -n 's/^const [A-Z_]*: &str = "\([a-z-]*\)";$/--\1/p' "$words"
 } | sort >got
 tr ' ' '\n' <synopsis | tr -d = | sort -u >wanted
 same 'the page has the names of the definitions'
@@ -376,7 +376,7 @@ if command -v bash >/dev/null; then
     for command in $commands; do
         offers "$command ''" FILES
         offers "$command dump.txt probe.txt ''" \
-            "$(sed -n "s/^$command \(--[a-z]*\).*/\1/p" synopsis | tr '\n' ' ' | sed 's/ $//')"
+            "$(sed -n "s/^$command \(--[a-z-]*\).*/\1/p" synopsis | tr '\n' ' ' | sed 's/ $//')"
     done
     offers 's' 'show size'
     offers 'check --r' '--root'
