@@ -1,2 +1,3 @@
 pub mod NoPlans
 pub mod Lengths
+pub mod PlanWrites

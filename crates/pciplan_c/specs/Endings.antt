@@ -8,6 +8,8 @@ use Rattle.pciplan_c.specs.declared.register_write.RegisterWrite.{RegisterWrite}
 use Rattle.pciplan_c.specs.declared.planning.Ending.{Ending}
 use Rattle.pciplan_c.specs.declared.planning.Ending.TheVariants as ends
 use Rattle.pciplan_c.specs.declared.planning.HeldBack.{HeldBack}
+use Rattle.pciplan_c.specs.declared.planning.NotPut.{NotPut}
+use Rattle.pciplan_c.specs.declared.planning.NotPut.TheVariants as not_put
 use Rattle.pciplan_c.specs.declared.planning.HeldBack.TheVariants.{Memory, Writes, Line}
 
 -- the writes of a plan stand at the front of the array
@@ -26,6 +28,13 @@ pub record AreTooMany (roots dump probe : List ℕ) (pools : Pools) (array : Lis
   pub planned : ArePlanned roots dump probe pools writes safe_from
   pub number : needed ≡ length writes
   pub more : length array < needed
+
+-- why no writes are put
+abbrev pub IsNotPut : List ℕ → List ℕ → List ℕ → Pools → List RegisterWrite → NotPut → Type 0
+IsNotPut roots dump probe pools array (not_put.NoPlan why) = IsNoPlanOf roots dump probe pools why
+IsNotPut roots dump probe pools array not_put.Memory = Unit {0}
+IsNotPut roots dump probe pools array (not_put.Writes needed) =
+    AreTooMany roots dump probe pools array needed
 
 -- why there is no plan stands at the front of the line
 pub record IsNoPlanTold (roots dump probe : List ℕ) (pools : Pools) (status : ℕ) (old new : List ℕ)

@@ -3,3 +3,4 @@ pub mod Answers
 pub mod PlanAnswers
 pub mod Endings
 pub mod Stepping
+pub mod WritesPut

@@ -5,15 +5,15 @@ ghost use Rattle.pci_spec.specs.Text.{IsTextOf};
 ghost use Rattle.pci_dump.specs.ReadFault.{IsTextFault};
 ghost use Rattle.pci_tree.specs.Refusals.{IsPairRefusal};
 ghost use Rattle.pci_tree.specs.Roots.{buses_of};
-ghost use Rattle.pciplan_c.specs.PlanAnswers.{AreTexts, IsNoPlanOf, ArePlanned, pools_of};
-ghost use Rattle.pciplan_c.specs.Endings.{IsToldOf, IsTooLongFor, IsEnding, IsHeldBack};
+ghost use Rattle.pciplan_c.specs.PlanAnswers.{AreTexts, IsNoPlanOf, pools_of};
+ghost use Rattle.pciplan_c.specs.Endings.{ArePut, IsNotPut, IsToldOf, IsTooLongFor, IsEnding, IsHeldBack};
 
 use crate::answer::Withheld;
 use crate::held::Bytes;
 use crate::no_plan::NoPlan;
 use crate::put::put;
 use crate::refusal::Refusal;
-use crate::register_write::{PoolsOfC, RegisterWrite, writes_of};
+use crate::register_write::{PoolsOfC, RegisterWrite, put_writes};
 use pci_base::memory::{OutOfMemory, Refused};
 use pci_dump::dump::Dump;
 use pci_dump::read_fault::ReadFault;
@@ -104,42 +104,55 @@ fn admit_texts<A: Allocator + Copy>(
     }
 }
 
-/// The writes of a plan, and from how many on a stop leaves a sound system.
-#[derive(Drop)]
-struct Steps<A: Allocator> {
-    writes: Vec<RegisterWrite, A>,
+/// How many writes of a plan were put, and from how many on a stop leaves a sound system.
+#[derive(Clone, Copy)]
+struct Steps {
+    count: usize,
     safe_from: usize,
 }
 
-/// The steps of a plan of what is admitted.
-fn steps_of<A: Allocator + Copy>(
+/// Why no writes are put.
+#[derive(Clone, Copy)]
+enum NotPut {
+    /// There is no plan.
+    NoPlan(NoPlan),
+    /// A growth was refused.
+    Memory,
+    /// The array has room for fewer writes than these.
+    Writes(usize),
+}
+
+/// Puts the writes of a plan of what is admitted at the front of `writes`. No list of them is made beside the plan's own.
+fn put_plan<A: Allocator + Copy>(
     alloc: A,
     admitted: &Admitted<A>,
     pools: &PoolsOfC,
-) -> Result<Steps<A>, Refused<NoPlan>>
+    writes: &mut [RegisterWrite],
+) -> Result<Steps, NotPut>
     // of all texts that these dumps are of
-    ensures planned { IfOk result (λ s. (roots dump probe : List ℕ)
+    ensures put { IfOk result (λ s. (roots dump probe : List ℕ)
         → AreTexts roots dump probe admitted.now
-        → ArePlanned roots dump probe (pools_of pools.now) s.writes.items s.safe_from) }
-    ensures why { IfErr result (λ why. (no : NoPlan) (roots dump probe : List ℕ)
-        → AreTexts roots dump probe admitted.now → why ≡ Refused.Fault no
-        → IsNoPlanOf roots dump probe (pools_of pools.now) no) }
+        → ArePut roots dump probe (pools_of pools.now) writes.old writes.new s.count s.safe_from) }
+    ensures quiet { IfErr result (λ _. writes.new ≡ writes.old) }
+    ensures why { IfErr result (λ why. (roots dump probe : List ℕ)
+        → AreTexts roots dump probe admitted.now
+        → IsNotPut roots dump probe (pools_of pools.now) writes.old why) }
 {
     // Read for what it says of what was admitted.
     let _outline = admitted.outline();
     let plan = match plan(alloc, admitted, &pools.pools()) {
         Ok(plan) => plan,
-        Err(Refused::Fault(fault)) => return Err(Refused::Fault(NoPlan::NotPlanned(fault))),
-        Err(Refused::Memory) => return Err(Refused::Memory),
+        Err(Refused::Fault(fault)) => return Err(NotPut::NoPlan(NoPlan::NotPlanned(fault))),
+        Err(Refused::Memory) => return Err(NotPut::Memory),
     };
     let safe_from = plan.safe_from();
-    match writes_of(alloc, plan.writes()) {
-        Ok(writes) => Ok(Steps { writes, safe_from }),
-        Err(OutOfMemory) => Err(Refused::Memory),
+    match put_writes(plan.writes(), writes) {
+        Ok(count) => Ok(Steps { count, safe_from }),
+        Err(needed) => Err(NotPut::Writes(needed)),
     }
 }
 
-/// Plans two texts, in a frame that is let go before it is told what came of it.
+/// Plans two texts and puts the writes, in a frame that is let go before it is told what came of it.
 #[inline(never)]
 fn plan_texts<A: Allocator + Copy>(
     alloc: A,
@@ -147,23 +160,26 @@ fn plan_texts<A: Allocator + Copy>(
     probe: &[u8],
     roots: &[u8],
     pools: &PoolsOfC,
-) -> Result<Steps<A>, Refused<NoPlan>>
-    ensures planned { IfOk result (λ s. ArePlanned roots.now dump.now probe.now
-        (pools_of pools.now) s.writes.items s.safe_from) }
-    ensures why { IfErr result (λ why. (no : NoPlan) → why ≡ Refused.Fault no
-        → IsNoPlanOf roots.now dump.now probe.now (pools_of pools.now) no) }
+    writes: &mut [RegisterWrite],
+) -> Result<Steps, NotPut>
+    ensures put { IfOk result (λ s. ArePut roots.now dump.now probe.now
+        (pools_of pools.now) writes.old writes.new s.count s.safe_from) }
+    ensures quiet { IfErr result (λ _. writes.new ≡ writes.old) }
+    ensures why { IfErr result
+        (IsNotPut roots.now dump.now probe.now (pools_of pools.now) writes.old) }
 {
     let Ok(mut place) = empty_place(alloc) else {
-        return Err(Refused::Memory);
+        return Err(NotPut::Memory);
     };
     match admit_texts(alloc, dump, probe, roots, &mut place) {
         Ok(()) => {}
-        Err(why) => return Err(why),
+        Err(Refused::Fault(no)) => return Err(NotPut::NoPlan(no)),
+        Err(Refused::Memory) => return Err(NotPut::Memory),
     }
     let Some(admitted) = place.as_ref().as_ref() else {
         unreachable!();
     };
-    match steps_of(alloc, admitted, pools) {
+    match put_plan(alloc, admitted, pools, writes) {
         Ok(steps) => Ok(steps),
         Err(why) => Err(why),
     }
@@ -238,15 +254,10 @@ pub fn plan_into<A: Allocator + Copy>(
     ensures short { IfErr result
         (λ held. (needed : ℕ) → held ≡ HeldBack.Line needed → needed ≤ 96) }
 {
-    let steps = match plan_texts(alloc, dump, probe, roots, pools) {
-        Ok(steps) => steps,
-        Err(Refused::Fault(why)) => return tell(alloc, why, line),
-        Err(Refused::Memory) => return Err(HeldBack::Memory),
-    };
-    let safe_from = steps.safe_from;
-    match put(steps.writes.as_slice(), writes) {
-        Ok(count) => Ok(Ending::Plan { count, safe_from }),
-        Err(Withheld::Memory) => Err(HeldBack::Memory),
-        Err(Withheld::NoRoom(needed)) => Err(HeldBack::Writes(needed)),
+    match plan_texts(alloc, dump, probe, roots, pools, writes) {
+        Ok(Steps { count, safe_from }) => Ok(Ending::Plan { count, safe_from }),
+        Err(NotPut::NoPlan(why)) => tell(alloc, why, line),
+        Err(NotPut::Memory) => Err(HeldBack::Memory),
+        Err(NotPut::Writes(needed)) => Err(HeldBack::Writes(needed)),
     }
 }

@@ -1,8 +1,9 @@
 //! Writes and pools as C has them.
-ghost use Rattle.std.specs.Prelude.{◌≡◌, map, IfOk};
+ghost use Rattle.std.specs.Prelude.{◌≡◌, ◌<◌, map, length, IfOk, IfErr};
 ghost use Rattle.pci_place.specs.Pools.{pools_value};
 ghost use Rattle.pci_plan.specs.Writes.{write_value};
 ghost use Rattle.pciplan_c.specs.PlanAnswers.{pools_of, value_of};
+ghost use Rattle.pciplan_c.specs.WritesPut.{AreWritesPut};
 
 use pci_base::memory::OutOfMemory;
 use pci_base::range::Range;
@@ -52,6 +53,28 @@ pub fn writes_of<A: Allocator>(
         all.push(RegisterWrite::of(write))?;
     }
     Ok(all)
+}
+
+/// Puts the writes of a plan at the front of an array, and answers how many they are.
+///
+/// # Errors
+///
+/// How many they are, where the array has room for fewer. It stays as it was.
+pub fn put_writes(writes: &[Write], array: &mut [RegisterWrite]) -> Result<usize, usize>
+    ensures put { IfOk result (AreWritesPut writes.now array.old array.new) }
+    ensures quiet { IfErr result (λ _. array.new ≡ array.old) }
+    // so that a caller can make room and call again
+    ensures needed { IfErr result
+        (λ needed. (needed ≡ length writes.now) × (length array.old < needed)) }
+{
+    let count = writes.len();
+    if array.len() < count {
+        return Err(count);
+    }
+    for i in 0..count {
+        array[i] = RegisterWrite::of(&writes[i]);
+    }
+    Ok(count)
 }
 
 /// A pool of addresses for I/O, memory and prefetchable memory, both ends of each inclusive.
