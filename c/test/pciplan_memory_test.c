@@ -88,7 +88,8 @@ static void add(unsigned bus, unsigned place, const struct function *f)
 
 /* ---- functions */
 
-enum { COMMAND = 0x04, IO_ON = 0x01, MEMORY_ON = 0x02, LAYOUT = 0x0e, MANY = 0x80, ROM = 0x30, ROM_ON = 0x01 };
+enum { COMMAND = 0x04, IO_ON = 0x01, MEMORY_ON = 0x02, LAYOUT = 0x0e, MANY = 0x80 };
+enum { ROM = 0x30, BRIDGE_ROM = 0x38, ROM_ON = 0x01 };
 
 /* A function whose registers show 0, but for what says what it is. */
 static struct function blank(uint8_t layout)
@@ -217,6 +218,28 @@ static void row(void)
     add(PLANNED - 1, 0, &f);
 }
 
+/* Bridges on one bus with nothing behind them, each with two BARs, a ROM that is on and windows that are open far away,
+   so that a plan writes to each of their registers. */
+static void changed(void)
+{
+    for (unsigned place = 0; place < PLANNED; place++) {
+        struct function f = bridge(0, place + 1, place + 1);
+        f.image[LAYOUT] |= MANY;
+        f.image[COMMAND] = IO_ON | MEMORY_ON;
+        put(f.sizes, 0x10, 4, 0xffff0000);
+        put(f.sizes, 0x14, 4, 0xffff0000);
+        put(f.image, 0x1c, 2, 0x0101);
+        put(f.sizes, 0x1c, 2, 0xf1f1);
+        put(f.image, 0x28, 4, 1);
+        put(f.image, 0x2c, 4, 1);
+        put(f.image, 0x30, 4, 0x00010001);
+        put(f.sizes, 0x30, 4, 0xffffffff);
+        f.image[BRIDGE_ROM] = ROM_ON;
+        put(f.sizes, BRIDGE_ROM, 4, 0xfffff800);
+        add(0, place, &f);
+    }
+}
+
 /* ---- calls */
 
 static const uint8_t root[] = {0x00};
@@ -249,6 +272,7 @@ static const struct board boards[] = {
     {"a plan of 128", "plain", plain, plan, PLANNED},
     {"a plan of 128 on one bus, each with six BARs and a ROM", "one_bus", one_bus, plan, PLANNED},
     {"a plan of 128 in a row of bridges, all windows open", "row", row, plan, PLANNED},
+    {"a plan of 128 bridges on one bus, each of them changed", "changed", changed, plan, PLANNED},
 };
 
 enum { BOARDS = sizeof boards / sizeof boards[0] };
