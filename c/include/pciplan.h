@@ -15,7 +15,8 @@
      nothing was found that does so, and pciplan_plan needs 80 KB (docs/C.md).
    - Memory: a check holds some 340 bytes a function at once, a plan some 1,860 and 17 KB more; lists grow by doubling. The
      256 KB of c/memory/pciplan_fixed_memory.c hold a check of 512 functions or a plan of 128, also where these stand on one
-     bus, each with six BARs and a ROM, or in a row of bridges, or where each gets all of its writes.
+     bus, each with six BARs and a ROM, or are bridges in a row, or on one bus with all of their writes (c/test.sh measures
+     these).
    - Texts of at most 1,042 bytes a function, of at most 4,096 functions. A plan has at most 9 writes for a device and 11
      for a bridge; it compares 8 registers of a device and 10 of a bridge.
    - It may be called again while it runs, from another thread or an interrupt, if the three functions of memory may be.
