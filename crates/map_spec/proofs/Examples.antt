@@ -1,3 +1,4 @@
 pub mod Samples
 pub mod Texts
 pub mod FirstWindows
+pub mod Places

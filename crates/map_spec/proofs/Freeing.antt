@@ -1,11 +1,13 @@
--- The runs of a window are just what is free of it.
-use Rattle.std.proofs.Common.{ℕ, List, get_or, subst, sym}
+-- The runs of a place are just what is free there.
+use Rattle.std.proofs.Common.{◌≡◌, ℕ, List, [], ◌∷◌, get_or, refl, subst, sym, arith}
 use Rattle.std.specs.Prelude.{◌↔◌}
 use Rattle.std.specs.List.{Any}
-use Rattle.pci_spec.specs.System.{System, Space}
+use Rattle.std.proofs.lemmas.Bool.{false≢true}
+use Rattle.pci_spec.specs.System.{System, Space, Io, Memory}
 use Rattle.pci_spec.specs.Decoded.{Range, InRange}
 use Rattle.pci_spec.specs.Why.{Region, IsRun, AreRuns}
-use Rattle.map_spec.specs.Lines.{Inside, Lines, runs_at, AreLinesAt, IsFreeIn}
+use Rattle.given_spec.specs.Given.{Given, nothing_given}
+use Rattle.map_spec.specs.Lines.{OnRoot, Inside, Lines, runs_at, AreLinesAt, IsFreeIn, IsFreeOn}
 
 runs_have : (P : ℕ → Type 0) (rs : List Range) (a : ℕ) → AreRuns P rs → Any (λ r. InRange r a) rs ↔ P a
 runs_have P rs a are = (
@@ -13,6 +15,23 @@ runs_have P rs a are = (
   λ p. are.complete a p,
 )
 
-pub run_is_free : (s : System) (space : Space) (w : Region) (lines : Lines) (a : ℕ) → AreLinesAt s space (Inside w) lines
-    → Any (λ r. InRange r a) (runs_at lines) ↔ IsFreeIn s w a
-run_is_free s space w lines a are = runs_have (IsFreeIn s w) (runs_at lines) a are.free
+module _ (given : Given) (roots : List ℕ) (s : System) (space : Space) (lines : Lines) (a : ℕ) where
+  pub run_is_free : (w : Region) → AreLinesAt given roots s space (Inside w) lines → Any (λ r. InRange r a) (runs_at lines) ↔ IsFreeIn s w a
+  run_is_free w are = runs_have (IsFreeIn s w) (runs_at lines) a are.free
+
+  pub run_on_root : (bus : ℕ) → AreLinesAt given roots s space (OnRoot bus) lines → Any (λ r. InRange r a) (runs_at lines) ↔ IsFreeOn given s bus space a
+  run_on_root bus are = runs_have (IsFreeOn given s bus space) (runs_at lines) a are.free
+
+-- ---- with nothing given
+
+none_free : (s : System) (bus : ℕ) (space : Space) (a : ℕ) → IsFreeOn nothing_given s bus space a → ⊥
+none_free s bus Io a free = false≢true free.said
+none_free s bus Memory a free = false≢true free.said
+
+no_run : (P : ℕ → Type 0) (rs : List Range) → ((a : ℕ) → P a → ⊥) → AreRuns P rs → rs ≡ []
+no_run P [] none are = refl
+no_run P (r ∷ rs) none are =
+    let first = are.each 0 r (omega arith) in absurd (none r.first (first.each r.first (omega arith, first.some)))
+
+pub no_run_on_root : (roots : List ℕ) (s : System) (space : Space) (bus : ℕ) (lines : Lines) → AreLinesAt nothing_given roots s space (OnRoot bus) lines → runs_at lines ≡ []
+no_run_on_root roots s space bus lines are = no_run (IsFreeOn nothing_given s bus space) (runs_at lines) (none_free s bus space) are.free

@@ -1,12 +1,12 @@
 -- Which regions have a line.
 use Rattle.std.proofs.Common.{◌≡◌, ℕ, ◌<◌, List, [], ◌∷◌, ◌++◌, sym, ap, subst, inl, inr, ◌∙◌, not, refl, arith}
-use Rattle.std.specs.Prelude.{IsTrue}
+use Rattle.std.specs.Prelude.{IsTrue, true}
 use Rattle.std.specs.List.{Contains, flat_map, range_with_len}
 use Rattle.std.proofs.lemmas.Bool.{and_parts, false≢true}
 use Rattle.std.proofs.lemmas.List.Elements.{Contains-append_cases, Contains-append_left, Contains-append_right}
 use Rattle.pci_spec.specs.Slot.{Slot, slot_number}
 use Rattle.pci_spec.specs.Window.{WindowKind, IoWindow, MemoryWindow, PrefetchWindow, holds}
-use Rattle.pci_spec.specs.System.{System, Space, Io, Memory, Part, Bar, Rom, Window, IsSystem, IsAddress, Function, Claims, Decodes, window_claims, window_space, space_of, is_space_on}
+use Rattle.pci_spec.specs.System.{System, Space, Io, Memory, Part, Bar, Rom, Window, IsSystem, IsAddress, Function, Claims, Decodes, window_claims, window_space, space_of, register_of, is_space_on, is_window}
 use Rattle.pci_spec.specs.Bus.{is_root}
 use Rattle.pci_spec.specs.Decoded.{InRange}
 use Rattle.pci_spec.specs.Why.{Region, IsRegionIn}
@@ -14,34 +14,37 @@ use Rattle.pci_spec.proofs.Members.{in_nil, in_cons_cases, in_head, in_tail, IsM
 use Rattle.pci_spec.proofs.BusRanges.{root_means}
 use Rattle.pci_spec.proofs.Firsts.{slot_of}
 use Rattle.pci_spec.proofs.Nesting.{one_function}
-use Rattle.map_spec.specs.Lines.{is_first_window, BelongsUnder, Place, OnRoot, Inside, Lines, End, Free, Sits, regions_at, all_regions, AreLinesAt, AreInside, AreAllInside, AreAllLines}
+use Rattle.pci_spec.proofs.Regions.{part_same}
+use Rattle.given_spec.specs.Given.{Given}
+use Rattle.map_spec.specs.Lines.{is_first_window, BelongsUnder, IsOutOfPlace, Place, OnRoot, Inside, Lines, End, Free, Sits, regions_at, all_regions, AreLinesAt, AreInside, AreAllInside, AreAllLines}
 use Rattle.map_spec.specs.Map.{Root, Map, HasWay, IsMap, regions_on, regions_in}
-
--- a region of a space
-abbrev IsOf : System → Space → Region → Type 0
-IsOf s space q = IsRegionIn s q × (q.space ≡ space)
+use Rattle.map_spec.specs.MapLaws.{WindowsAreInPlace}
 
 -- ---- each line is of a region
 
-module _ (s : System) (space : Space) where
-  inside_of : (part : Part) (w q : Region) (lines : Lines) → AreInside s space part w lines → Contains (regions_at lines) q → IsOf s space q
+module _ (given : Given) (roots : List ℕ) (s : System) (space : Space) where
+  -- a region of a space, in its place
+  abbrev IsOf : Region → Type 0
+  IsOf q = IsRegionIn s q × (q.space ≡ space) × (IsOutOfPlace given roots s q → ⊥)
+
+  inside_of : (part : Part) (w q : Region) (lines : Lines) → AreInside given roots s space part w lines → Contains (regions_at lines) q → IsOf q
   inside_of (Bar n) w q lines none has = absurd (in_nil q (subst (λ ls. Contains (regions_at ls) q) none has))
   inside_of Rom w q lines none has = absurd (in_nil q (subst (λ ls. Contains (regions_at ls) q) none has))
-  inside_of (Window kind) w q lines are has = (are.regions q has, are.of_space q has)
+  inside_of (Window kind) w q lines are has = (are.regions q has, are.of_space q has, are.within q has)
 
-  pub line_of_region : (lines : Lines) (q : Region) → ((p : Region) → Contains (regions_at lines) p → IsOf s space p) → AreAllInside s space lines → Contains (all_regions lines) q → IsOf s space q
+  pub line_of_region : (lines : Lines) (q : Region) → ((p : Region) → Contains (regions_at lines) p → IsOf p) → AreAllInside given roots s space lines → Contains (all_regions lines) q → IsOf q
   line_of_region End q here inside has = absurd (in_nil q has)
   line_of_region (Free r rest) q here inside has = line_of_region rest q here inside has
   line_of_region (Sits p below rest) q here inside has = elim (in_cons_cases p (all_regions below ++ all_regions rest) q has) [
-    | inl first ↦ subst (IsOf s space) first (here p (in_head p (regions_at rest)))
+    | inl first ↦ subst (IsOf) first (here p (in_head p (regions_at rest)))
     | inr later ↦ elim (Contains-append_cases (all_regions below) (all_regions rest) q later) [
       | inl within ↦ line_of_region below q (λ z there. inside_of p.part p z below inside.0 there) inside.1 within
       | inr behind ↦ line_of_region rest q (λ z there. here z (in_tail p (regions_at rest) z there)) inside.2 behind
     ]
   ]
 
-  pub line_in_place : (place : Place) (lines : Lines) (q : Region) → AreAllLines s space place lines → Contains (all_regions lines) q → IsOf s space q
-  line_in_place place lines q are has = line_of_region lines q (λ p there. (are.0.regions p there, are.0.of_space p there)) are.1 has
+  pub line_in_place : (place : Place) (lines : Lines) (q : Region) → AreAllLines given roots s space place lines → Contains (all_regions lines) q → IsOf q
+  line_in_place place lines q are has = line_of_region lines q (λ p there. (are.0.regions p there, are.0.of_space p there, are.0.within p there)) are.1 has
 
   -- what stands in a place has a line there
   pub stands_there : (lines : Lines) (q : Region) → Contains (regions_at lines) q → Contains (all_regions lines) q
@@ -53,18 +56,18 @@ module _ (s : System) (space : Space) where
   ]
 
   -- what belongs under a window that has a line has one
-  pub below_window : (lines : Lines) (w q : Region) (kind : WindowKind) → w.part ≡ Window kind → AreAllInside s space lines → Contains (all_regions lines) w
-      → IsRegionIn s q → q.space ≡ space → BelongsUnder s w q → Contains (all_regions lines) q
-  below_window End w q kind window inside has is same under = absurd (in_nil w has)
-  below_window (Free r rest) w q kind window inside has is same under = below_window rest w q kind window inside has is same under
-  below_window (Sits p below rest) w q kind window inside has is same under = elim (in_cons_cases p (all_regions below ++ all_regions rest) w has) [
+  pub below_window : (lines : Lines) (w q : Region) (kind : WindowKind) → w.part ≡ Window kind → AreAllInside given roots s space lines → Contains (all_regions lines) w
+      → IsOf q → BelongsUnder s w q → Contains (all_regions lines) q
+  below_window End w q kind window inside has of under = absurd (in_nil w has)
+  below_window (Free r rest) w q kind window inside has of under = below_window rest w q kind window inside has of under
+  below_window (Sits p below rest) w q kind window inside has of under = elim (in_cons_cases p (all_regions below ++ all_regions rest) w has) [
     | inl first ↦ (
-        let here : AreLinesAt s space (Inside p) below = subst (λ part. AreInside s space part p below) (ap (λ (z : Region). z.part) first ∙ window) inside.0 in
-        let there : Contains (regions_at below) q = here.complete q is same (subst (λ z. BelongsUnder s z q) (sym first) under) in
+        let here : AreLinesAt given roots s space (Inside p) below = subst (λ part. AreInside given roots s space part p below) (ap (λ (z : Region). z.part) first ∙ window) inside.0 in
+        let there : Contains (regions_at below) q = here.complete q of.0 of.1 (subst (λ z. BelongsUnder s z q) (sym first) under) of.2 in
         in_tail p (all_regions below ++ all_regions rest) q (Contains-append_left (all_regions below) (all_regions rest) q (stands_there below q there)))
     | inr later ↦ in_tail p (all_regions below ++ all_regions rest) q (elim (Contains-append_cases (all_regions below) (all_regions rest) w later) [
-      | inl within ↦ Contains-append_left (all_regions below) (all_regions rest) q (below_window below w q kind window inside.1 within is same under)
-      | inr behind ↦ Contains-append_right (all_regions below) (all_regions rest) q (below_window rest w q kind window inside.2 behind is same under)
+      | inl within ↦ Contains-append_left (all_regions below) (all_regions rest) q (below_window below w q kind window inside.1 within of under)
+      | inr behind ↦ Contains-append_right (all_regions below) (all_regions rest) q (below_window rest w q kind window inside.2 behind of under)
     ])
   ]
 
@@ -113,56 +116,87 @@ window_holds s w q system is of under =
       decodes = subst (λ part. Decodes is.f part q.range.first) (sym under.window) both.1;
     }
 
+-- BARs and ROMs are at other registers
+pub windows_in_place : WindowsAreInPlace
+windows_in_place given roots s q system is window out =
+    let o = out.outside in
+    let same : o.f ≡ is.f = one_function s system o.f is.f o.listed is.listed (ap slot_number (o.named.0 ∙ sym is.slot)) in
+    let claims = subst (λ (f : Function). Claims f o.part q.space out.address) same o.claims in
+    let part : o.part ≡ q.part = part_same is.f o.part q.part claims.there (first_claimed s q is).there (ap (λ f. register_of f o.part) (sym same) ∙ o.named.1 ∙ sym is.register) in
+    false≢true (sym o.no_window ∙ ap is_window part ∙ window)
+
 -- ---- the regions of a map
 
-on_side : (s : System) (space : Space) (place : Place) (lines : Lines) (w q : Region) → AreAllLines s space place lines → IsRegionIn s w → IsRegionIn s q → BelongsUnder s w q
-    → Contains (all_regions lines) w → Contains (all_regions lines) q
-on_side s space place lines w q are is of under has =
-    let here = line_in_place s space place lines w are has in
-    below_window s space lines w q under.kind under.window are.1 has of (sym (window_has_space s w q is under) ∙ here.1) under
+module _ (given : Given) (roots : List ℕ) (s : System) where
+  abbrev pub IsInPlace : Region → Type 0
+  IsInPlace q = IsOutOfPlace given roots s q → ⊥
 
-module _ (roots : List ℕ) (s : System) (m : Map) (is : IsMap roots s m) where
-  pub of_region : (q : Region) → Contains (regions_in m) q → IsRegionIn s q
-  of_region q has = elim (Contains-append_cases (flat_map regions_on m.roots) m.unreached q has) [
-    | inl on ↦ (
+  on_side : (space : Space) (place : Place) (lines : Lines) (w q : Region) → AreAllLines given roots s space place lines → IsRegionIn s w → IsRegionIn s q → IsInPlace q → BelongsUnder s w q
+      → Contains (all_regions lines) w → Contains (all_regions lines) q
+  on_side space place lines w q are is of in_place under has =
+      let here = line_in_place given roots s space place lines w are has in
+      below_window given roots s space lines w q under.kind under.window are.1 has (of, sym (window_has_space s w q is under) ∙ here.1, in_place) under
+
+  module _ (m : Map) (is : IsMap given roots s m) where
+    -- what has a line on or below a root bus
+    pub on_roots : (q : Region) → Contains (flat_map regions_on m.roots) q → IsRegionIn s q × IsInPlace q
+    on_roots q on =
         let piece : IsInPiece regions_on m.roots q = in_flat_map_to regions_on m.roots q on in
         let root = is.each piece.of piece.has in
         elim (Contains-append_cases (all_regions piece.of.io) (all_regions piece.of.memory) q piece.piece) [
-          | inl io ↦ (line_in_place s Io (OnRoot piece.of.bus) piece.of.io q root.io io).0
-          | inr memory ↦ (line_in_place s Memory (OnRoot piece.of.bus) piece.of.memory q root.memory memory).0
+          | inl io ↦ (let of = line_in_place given roots s Io (OnRoot piece.of.bus) piece.of.io q root.io io in (of.0, of.2))
+          | inr memory ↦ (let of = line_in_place given roots s Memory (OnRoot piece.of.bus) piece.of.memory q root.memory memory in (of.0, of.2))
+        ]
+
+    pub of_region : (q : Region) → Contains (regions_in m) q → IsRegionIn s q
+    of_region q has = elim (Contains-append_cases (flat_map regions_on m.roots) (m.outside ++ m.unreached) q has) [
+      | inl on ↦ (on_roots q on).0
+      | inr aside ↦ elim (Contains-append_cases m.outside m.unreached q aside) [
+        | inl outside ↦ is.outside.regions q outside
+        | inr left ↦ is.left.regions q left
+      ]
+    ]
+
+    pub outside_alone : (q : Region) → Contains m.outside q → (Contains (flat_map regions_on m.roots) q → ⊥) × (Contains m.unreached q → ⊥)
+    outside_alone q has = (
+      λ on. (on_roots q on).1 (is.outside.hold q has),
+      λ left. (is.left.hold q left).within (is.outside.hold q has),
+    )
+
+    -- the root bus of a number
+    root_at : (bus : ℕ) → bus < 256 → Contains roots bus → IsMade (λ (root : Root). root.bus) m.roots bus
+    root_at bus small has =
+        in_map_to (λ (root : Root). root.bus) m.roots bus
+        (subst (λ xs. Contains xs bus) (sym is.buses) (in_filter_from (is_root roots) (range_with_len 0 256) bus (in_range_from 0 256 bus (omega arith) (omega arith)) ((root_means roots bus).1 has)))
+
+    on_root : (q : Region) (space : Space) → IsSystem s → IsRegionIn s q → IsInPlace q → q.space ≡ space → Contains roots q.slot.bus → Contains (flat_map regions_on m.roots) q
+    on_root q Io system of in_place at has =
+        let made = root_at q.slot.bus (subst (λ (slot : Slot). slot.bus < 256) of.slot (slot_of s system of.f of.listed).0) has in
+        in_flat_map_from regions_on m.roots made.from q made.has (Contains-append_left (all_regions made.from.io) (all_regions made.from.memory) q
+        (stands_there given roots s Io made.from.io q ((is.each made.from made.has).io.0.complete q of at (sym made.is) in_place)))
+    on_root q Memory system of in_place at has =
+        let made = root_at q.slot.bus (subst (λ (slot : Slot). slot.bus < 256) of.slot (slot_of s system of.f of.listed).0) has in
+        in_flat_map_from regions_on m.roots made.from q made.has (Contains-append_right (all_regions made.from.io) (all_regions made.from.memory) q
+        (stands_there given roots s Memory made.from.memory q ((is.each made.from made.has).memory.0.complete q of at (sym made.is) in_place)))
+
+    -- what windows lead to from a root has a line below one
+    pub with_way : (windows : List Region) (q : Region) → IsSystem s → IsRegionIn s q → IsInPlace q → HasWay roots s q windows → Contains (flat_map regions_on m.roots) q
+    with_way [] q system of in_place way = on_root q q.space system of in_place refl way
+    with_way (w ∷ windows) q system of in_place way =
+        let window : is_window w.part ≡ true = ap is_window way.1.window in
+        let above : Contains (flat_map regions_on m.roots) w = with_way windows w system way.0 (windows_in_place given roots s w system way.0 window) way.2 in
+        let piece : IsInPiece regions_on m.roots w = in_flat_map_to regions_on m.roots w above in
+        let root = is.each piece.of piece.has in
+        in_flat_map_from regions_on m.roots piece.of q piece.has (elim (Contains-append_cases (all_regions piece.of.io) (all_regions piece.of.memory) w piece.piece) [
+          | inl io ↦ Contains-append_left (all_regions piece.of.io) (all_regions piece.of.memory) q (on_side Io (OnRoot piece.of.bus) piece.of.io w q root.io way.0 of in_place way.1 io)
+          | inr memory ↦ Contains-append_right (all_regions piece.of.io) (all_regions piece.of.memory) q (on_side Memory (OnRoot piece.of.bus) piece.of.memory w q root.memory way.0 of in_place way.1 memory)
         ])
-    | inr left ↦ is.left.regions q left
-  ]
 
-  -- the root bus of a number
-  root_at : (bus : ℕ) → bus < 256 → Contains roots bus → IsMade (λ (root : Root). root.bus) m.roots bus
-  root_at bus small has =
-      in_map_to (λ (root : Root). root.bus) m.roots bus
-      (subst (λ xs. Contains xs bus) (sym is.buses) (in_filter_from (is_root roots) (range_with_len 0 256) bus (in_range_from 0 256 bus (omega arith) (omega arith)) ((root_means roots bus).1 has)))
-
-  on_root : (q : Region) (space : Space) → IsSystem s → IsRegionIn s q → q.space ≡ space → Contains roots q.slot.bus → Contains (flat_map regions_on m.roots) q
-  on_root q Io system of at has =
-      let made = root_at q.slot.bus (subst (λ (slot : Slot). slot.bus < 256) of.slot (slot_of s system of.f of.listed).0) has in
-      in_flat_map_from regions_on m.roots made.from q made.has (Contains-append_left (all_regions made.from.io) (all_regions made.from.memory) q
-      (stands_there s Io made.from.io q ((is.each made.from made.has).io.0.complete q of at (sym made.is))))
-  on_root q Memory system of at has =
-      let made = root_at q.slot.bus (subst (λ (slot : Slot). slot.bus < 256) of.slot (slot_of s system of.f of.listed).0) has in
-      in_flat_map_from regions_on m.roots made.from q made.has (Contains-append_right (all_regions made.from.io) (all_regions made.from.memory) q
-      (stands_there s Memory made.from.memory q ((is.each made.from made.has).memory.0.complete q of at (sym made.is))))
-
-  -- what windows lead to from a root has a line below one
-  pub with_way : (windows : List Region) (q : Region) → IsSystem s → IsRegionIn s q → HasWay roots s q windows → Contains (flat_map regions_on m.roots) q
-  with_way [] q system of way = on_root q q.space system of refl way
-  with_way (w ∷ windows) q system of way =
-      let above : Contains (flat_map regions_on m.roots) w = with_way windows w system way.0 way.2 in
-      let piece : IsInPiece regions_on m.roots w = in_flat_map_to regions_on m.roots w above in
-      let root = is.each piece.of piece.has in
-      in_flat_map_from regions_on m.roots piece.of q piece.has (elim (Contains-append_cases (all_regions piece.of.io) (all_regions piece.of.memory) w piece.piece) [
-        | inl io ↦ Contains-append_left (all_regions piece.of.io) (all_regions piece.of.memory) q (on_side s Io (OnRoot piece.of.bus) piece.of.io w q root.io way.0 of way.1 io)
-        | inr memory ↦ Contains-append_right (all_regions piece.of.io) (all_regions piece.of.memory) q (on_side s Memory (OnRoot piece.of.bus) piece.of.memory w q root.memory way.0 of way.1 memory)
-      ])
-
-  pub not_missed : (q : Region) → IsSystem s → IsRegionIn s q → (Contains (regions_in m) q → ⊥) → ⊥
-  not_missed q system of missed =
-      missed (Contains-append_right (flat_map regions_on m.roots) m.unreached q (is.left.complete q of (λ windows way.
-      missed (Contains-append_left (flat_map regions_on m.roots) m.unreached q (with_way windows q system of way)))))
+    pub not_missed : (q : Region) → IsSystem s → IsRegionIn s q → (Contains (regions_in m) q → ⊥) → ⊥
+    not_missed q system of missed =
+        let aside : Contains (m.outside ++ m.unreached) q → ⊥ = λ has. missed (Contains-append_right (flat_map regions_on m.roots) (m.outside ++ m.unreached) q has) in
+        let in_place : IsInPlace q = λ out. aside (Contains-append_left m.outside m.unreached q (is.outside.complete q of out)) in
+        aside (Contains-append_right m.outside m.unreached q (is.left.complete q of record {
+          left = λ windows way. missed (Contains-append_left (flat_map regions_on m.roots) (m.outside ++ m.unreached) q (with_way windows q system of in_place way));
+          within = in_place;
+        }))

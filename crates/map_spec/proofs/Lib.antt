@@ -1,3 +1,4 @@
 pub mod Having
 pub mod Freeing
+pub mod Nothing
 pub mod Examples

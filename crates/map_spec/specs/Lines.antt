@@ -1,12 +1,15 @@
--- The lines of a map: which regions stand in which place, and what of a window is free (Bridge 1.2, chapter 4).
+-- The lines of a map: which regions stand in which place, and what of a place is free (Bridge 1.2, chapter 4).
 use Rattle.std.specs.Prelude.{◌≡◌, ◌⊎◌, ℕ, ◌+◌, ◌*◌, ◌<◌, Bool, false, ◌&&◌, not, IsTrue, List, [], ◌∷◌, ◌++◌}
+use Rattle.std.specs.Option.{is_some}
 use Rattle.std.specs.List.{AllPairs, Contains}
 use Rattle.pci_spec.specs.Slot.{slot_number}
 use Rattle.pci_spec.specs.Window.{WindowKind, IoWindow, MemoryWindow, PrefetchWindow}
-use Rattle.pci_spec.specs.System.{System, Function, Space, Io, Memory, Part, Bar, Rom, Window, Claims, is_bridge, window_claims}
+use Rattle.pci_spec.specs.System.{System, Function, Space, Io, Memory, Part, Bar, Rom, Window, IsAddress, Claims, is_bridge, window_claims}
 use Rattle.pci_spec.specs.Bus.{secondary}
 use Rattle.pci_spec.specs.Decoded.{Range, InRange}
 use Rattle.pci_spec.specs.Why.{Region, IsRegionIn, AreRuns}
+use Rattle.given_spec.specs.Given.{Given, ranges_said, starts}
+use Rattle.given_spec.specs.Fault.{IsOutside}
 
 -- ---- places
 
@@ -41,6 +44,11 @@ abbrev pub StandsAt : System → Place → Region → Type 0
 StandsAt s (OnRoot bus) q = q.slot.bus ≡ bus
 StandsAt s (Inside w) q = BelongsUnder s w q
 
+-- A BAR or a ROM has an address to which no access of the host starts on the root above it: its line is at no place.
+pub record IsOutOfPlace (given : Given) (roots : List ℕ) (s : System) (q : Region) : Type 0 where
+  pub address : ℕ
+  pub outside : IsOutside given roots s q.slot q.register q.space address
+
 -- an enabled region of a bus claims an address
 pub record IsClaimedOn (s : System) (bus : ℕ) (space : Space) (a : ℕ) : Type 0 where
   pub f : Function
@@ -55,10 +63,18 @@ pub record IsFreeIn (s : System) (w : Region) (a : ℕ) : Type 0 where
   pub unclaimed : (b : Function) → Contains s b → b.slot ≡ w.slot
       → IsClaimedOn s (secondary b) w.space a → ⊥
 
--- what of a place is free; of a root bus nothing, as the host's ranges aren't known
-abbrev pub IsFreeAt : System → Place → ℕ → Type 0
-IsFreeAt s (OnRoot bus) a = ⊥
-IsFreeAt s (Inside w) a = IsFreeIn s w a
+-- an address that the host sends to a root bus, by the list that is said of its space, and that no enabled region of the
+-- bus claims
+pub record IsFreeOn (given : Given) (s : System) (bus : ℕ) (space : Space) (a : ℕ) : Type 0 where
+  pub said : IsTrue (is_some (ranges_said given space))
+  pub address : IsAddress space a
+  pub sent : IsTrue (starts given space bus a)
+  pub unclaimed : IsClaimedOn s bus space a → ⊥
+
+-- what of a place is free
+abbrev pub IsFreeAt : Given → System → Space → Place → ℕ → Type 0
+IsFreeAt given s space (OnRoot bus) a = IsFreeOn given s bus space a
+IsFreeAt given s space (Inside w) a = IsFreeIn s w a
 
 -- ---- lines
 
@@ -112,28 +128,32 @@ abbrev pub IsBefore : Mark → Mark → Type 0
 IsBefore m n = (m.first < n.first) ⊎ ((m.first ≡ n.first) × (m.number < n.number))
 
 -- just the regions of a space that stand in a place and the greatest runs of what is free there, in order
-pub record AreLinesAt (s : System) (space : Space) (place : Place) (lines : Lines) : Type 0 where
+pub record AreLinesAt (given : Given) (roots : List ℕ) (s : System) (space : Space)
+    (place : Place) (lines : Lines) : Type 0 where
   pub regions : (q : Region) → Contains (regions_at lines) q → IsRegionIn s q
   pub of_space : (q : Region) → Contains (regions_at lines) q → q.space ≡ space
   pub stand : (q : Region) → Contains (regions_at lines) q → StandsAt s place q
+  pub within : (q : Region) → Contains (regions_at lines) q → IsOutOfPlace given roots s q → ⊥
   pub complete : (q : Region) → IsRegionIn s q → q.space ≡ space → StandsAt s place q
-      → Contains (regions_at lines) q
-  pub free : AreRuns (IsFreeAt s place) (runs_at lines)
+      → (IsOutOfPlace given roots s q → ⊥) → Contains (regions_at lines) q
+  pub free : AreRuns (IsFreeAt given s space place) (runs_at lines)
   pub rising : AllPairs IsBefore (marks lines)
 
 -- what is inside a region: only a window has something inside
-abbrev pub AreInside : System → Space → Part → Region → Lines → Type 0
-AreInside s space (Bar n) q lines = lines ≡ End
-AreInside s space Rom q lines = lines ≡ End
-AreInside s space (Window kind) q lines = AreLinesAt s space (Inside q) lines
+abbrev pub AreInside : Given → List ℕ → System → Space → Part → Region → Lines → Type 0
+AreInside given roots s space (Bar n) q lines = lines ≡ End
+AreInside given roots s space Rom q lines = lines ≡ End
+AreInside given roots s space (Window kind) q lines = AreLinesAt given roots s space (Inside q) lines
 
 -- inside each region of some lines, all the way down
-abbrev pub AreAllInside : System → Space → Lines → Type 0
-AreAllInside s space End = Unit {0}
-AreAllInside s space (Free r rest) = AreAllInside s space rest
-AreAllInside s space (Sits q inside rest) =
-    AreInside s space q.part q inside × AreAllInside s space inside × AreAllInside s space rest
+abbrev pub AreAllInside : Given → List ℕ → System → Space → Lines → Type 0
+AreAllInside given roots s space End = Unit {0}
+AreAllInside given roots s space (Free r rest) = AreAllInside given roots s space rest
+AreAllInside given roots s space (Sits q inside rest) =
+    AreInside given roots s space q.part q inside × AreAllInside given roots s space inside
+    × AreAllInside given roots s space rest
 
 -- the lines of a place, with all that is inside
-abbrev pub AreAllLines : System → Space → Place → Lines → Type 0
-AreAllLines s space place lines = AreLinesAt s space place lines × AreAllInside s space lines
+abbrev pub AreAllLines : Given → List ℕ → System → Space → Place → Lines → Type 0
+AreAllLines given roots s space place lines =
+    AreLinesAt given roots s space place lines × AreAllInside given roots s space lines

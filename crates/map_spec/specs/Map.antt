@@ -1,10 +1,12 @@
--- The map of a system: the lines of each root bus, and the regions that are left.
+-- The map of a system, with what is given: the lines of each root bus, the regions that are out of place, and those that
+-- are left.
 use Rattle.std.specs.Prelude.{◌≡◌, ℕ, ◌<◌, List, [], ◌∷◌, ◌++◌, map}
 use Rattle.std.specs.List.{AllPairs, Contains, filter, flat_map, range_with_len}
 use Rattle.pci_spec.specs.System.{System, Io, Memory}
 use Rattle.pci_spec.specs.Bus.{is_root}
 use Rattle.pci_spec.specs.Why.{Region, IsRegionIn}
-use Rattle.map_spec.specs.Lines.{BelongsUnder, OnRoot, Lines, all_regions, AreAllLines, region_number}
+use Rattle.given_spec.specs.Given.{Given}
+use Rattle.map_spec.specs.Lines.{BelongsUnder, IsOutOfPlace, OnRoot, Lines, all_regions, AreAllLines, region_number}
 
 -- a root bus, with the lines of its two spaces
 pub record Root : Type 0 where
@@ -14,6 +16,7 @@ pub record Root : Type 0 where
 
 pub record Map : Type 0 where
   pub roots : List Root
+  pub outside : List Region
   pub unreached : List Region
 
 -- A region has a place on a root bus, or below: windows lead to it from a root, each belonging under the next one of
@@ -30,25 +33,31 @@ IsLeft roots s q = (windows : List Region) → HasWay roots s q windows → ⊥
 abbrev pub root_buses : List ℕ → List ℕ
 root_buses roots = filter (is_root roots) (range_with_len 0 256)
 
-pub record IsRootOf (s : System) (root : Root) : Type 0 where
-  pub io : AreAllLines s Io (OnRoot root.bus) root.io
-  pub memory : AreAllLines s Memory (OnRoot root.bus) root.memory
+pub record IsRootOf (given : Given) (roots : List ℕ) (s : System) (root : Root) : Type 0 where
+  pub io : AreAllLines given roots s Io (OnRoot root.bus) root.io
+  pub memory : AreAllLines given roots s Memory (OnRoot root.bus) root.memory
 
--- just the regions that are left, by slot and register
-pub record AreLeft (roots : List ℕ) (s : System) (qs : List Region) : Type 0 where
+-- a region that is left, and isn't out of place
+pub record IsOnlyLeft (given : Given) (roots : List ℕ) (s : System) (q : Region) : Type 0 where
+  pub left : IsLeft roots s q
+  pub within : IsOutOfPlace given roots s q → ⊥
+
+-- just the regions of which P holds, by slot and register
+pub record AreListed (P : Region → Type 0) (s : System) (qs : List Region) : Type 0 where
   pub regions : (q : Region) → Contains qs q → IsRegionIn s q
-  pub left : (q : Region) → Contains qs q → IsLeft roots s q
-  pub complete : (q : Region) → IsRegionIn s q → IsLeft roots s q → Contains qs q
+  pub hold : (q : Region) → Contains qs q → P q
+  pub complete : (q : Region) → IsRegionIn s q → P q → Contains qs q
   pub rising : AllPairs (λ p q. region_number p < region_number q) qs
 
-pub record IsMap (roots : List ℕ) (s : System) (m : Map) : Type 0 where
+pub record IsMap (given : Given) (roots : List ℕ) (s : System) (m : Map) : Type 0 where
   pub buses : map (λ root. root.bus) m.roots ≡ root_buses roots
-  pub each : (root : Root) → Contains m.roots root → IsRootOf s root
-  pub left : AreLeft roots s m.unreached
+  pub each : (root : Root) → Contains m.roots root → IsRootOf given roots s root
+  pub outside : AreListed (IsOutOfPlace given roots s) s m.outside
+  pub left : AreListed (IsOnlyLeft given roots s) s m.unreached
 
--- the regions that have a line
+-- the regions that have a line on or below a root bus
 abbrev pub regions_on : Root → List Region
 regions_on root = all_regions root.io ++ all_regions root.memory
 
 abbrev pub regions_in : Map → List Region
-regions_in m = flat_map regions_on m.roots ++ m.unreached
+regions_in m = flat_map regions_on m.roots ++ (m.outside ++ m.unreached)

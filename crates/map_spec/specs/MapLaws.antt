@@ -1,35 +1,70 @@
 -- Laws of maps.
-use Rattle.std.specs.Prelude.{ℕ, ◌↔◌, List}
-use Rattle.std.specs.List.{Any, Contains}
-use Rattle.pci_spec.specs.System.{System, Space, IsSystem}
+use Rattle.std.specs.Prelude.{◌≡◌, ℕ, ◌↔◌, IsTrue, List, []}
+use Rattle.std.specs.List.{Any, Contains, flat_map}
+use Rattle.pci_spec.specs.System.{System, Space, IsSystem, is_window}
 use Rattle.pci_spec.specs.Decoded.{InRange}
 use Rattle.pci_spec.specs.Why.{Region, IsRegionIn}
-use Rattle.map_spec.specs.Lines.{Inside, Lines, runs_at, regions_at, AreLinesAt, IsFreeIn}
-use Rattle.map_spec.specs.Map.{Map, IsMap, regions_in}
+use Rattle.given_spec.specs.Given.{Given, nothing_given}
+use Rattle.map_spec.specs.Lines.{OnRoot, Inside, Lines, runs_at, regions_at, AreLinesAt, IsFreeIn, IsFreeOn, IsOutOfPlace}
+use Rattle.map_spec.specs.Map.{Map, IsMap, regions_on, regions_in}
 
 -- A line of a region is one of an enabled region that claims an address.
 abbrev pub LinesAreOfRegions : Type 0
 LinesAreOfRegions =
-    (roots : List ℕ) (s : System) (m : Map) (q : Region) → IsMap roots s m
+    (given : Given) (roots : List ℕ) (s : System) (m : Map) (q : Region) → IsMap given roots s m
     → Contains (regions_in m) q → IsRegionIn s q
 
 -- No enabled region that claims an address is without a line.
 abbrev pub NoRegionIsMissed : Type 0
 NoRegionIsMissed =
-    (roots : List ℕ) (s : System) (m : Map) (q : Region) → IsSystem s → IsMap roots s m
-    → IsRegionIn s q → (Contains (regions_in m) q → ⊥) → ⊥
+    (given : Given) (roots : List ℕ) (s : System) (m : Map) (q : Region) → IsSystem s
+    → IsMap given roots s m → IsRegionIn s q → (Contains (regions_in m) q → ⊥) → ⊥
+
+-- A region that has a line under `outside` has none on or below a root bus, and none under `unreached`.
+abbrev pub OutsideStandsAlone : Type 0
+OutsideStandsAlone =
+    (given : Given) (roots : List ℕ) (s : System) (m : Map) (q : Region) → IsMap given roots s m
+    → Contains m.outside q
+    → (Contains (flat_map regions_on m.roots) q → ⊥) × (Contains m.unreached q → ⊥)
+
+-- No window is out of place.
+abbrev pub WindowsAreInPlace : Type 0
+WindowsAreInPlace =
+    (given : Given) (roots : List ℕ) (s : System) (q : Region) → IsSystem s → IsRegionIn s q
+    → IsTrue (is_window q.part) → IsOutOfPlace given roots s q → ⊥
 
 -- The first address of a region that stands under a window is one of the window's.
 abbrev pub WindowsHoldWhatIsInside : Type 0
 WindowsHoldWhatIsInside =
-    (s : System) (space : Space) (w q : Region) (lines : Lines) → IsSystem s → IsRegionIn s w
-    → AreLinesAt s space (Inside w) lines → Contains (regions_at lines) q
-    → InRange w.range q.range.first
+    (given : Given) (roots : List ℕ) (s : System) (space : Space) (w q : Region) (lines : Lines)
+    → IsSystem s → IsRegionIn s w → AreLinesAt given roots s space (Inside w) lines
+    → Contains (regions_at lines) q → InRange w.range q.range.first
 
 -- An address has a line `free` under a window exactly where the window holds it and no enabled region of the bridge's
 -- secondary bus claims it.
 abbrev pub FreeLinesAreExact : Type 0
 FreeLinesAreExact =
-    (s : System) (space : Space) (w : Region) (lines : Lines) (a : ℕ)
-    → AreLinesAt s space (Inside w) lines
+    (given : Given) (roots : List ℕ) (s : System) (space : Space) (w : Region) (lines : Lines)
+    (a : ℕ) → AreLinesAt given roots s space (Inside w) lines
     → (Any (λ r. InRange r a) (runs_at lines) ↔ IsFreeIn s w a)
+
+-- An address has a line `free` on a root bus exactly where a list is said of its space, the host sends it there by that,
+-- and no enabled region of the bus claims it.
+abbrev pub FreeOnRootsIsExact : Type 0
+FreeOnRootsIsExact =
+    (given : Given) (roots : List ℕ) (s : System) (space : Space) (bus : ℕ) (lines : Lines)
+    (a : ℕ) → AreLinesAt given roots s space (OnRoot bus) lines
+    → (Any (λ r. InRange r a) (runs_at lines) ↔ IsFreeOn given s bus space a)
+
+-- ---- with nothing given
+
+-- Nothing is out of place.
+abbrev pub NothingIsOutside : Type 0
+NothingIsOutside =
+    (roots : List ℕ) (s : System) (m : Map) → IsMap nothing_given roots s m → m.outside ≡ []
+
+-- A root bus has no line `free`.
+abbrev pub NothingIsFreeOnRoots : Type 0
+NothingIsFreeOnRoots =
+    (roots : List ℕ) (s : System) (space : Space) (bus : ℕ) (lines : Lines)
+    → AreLinesAt nothing_given roots s space (OnRoot bus) lines → runs_at lines ≡ []

@@ -8,6 +8,7 @@ use Rattle.pci_spec.specs.Line.{space_text, field, byte_field}
 use Rattle.pci_spec.specs.Decoded.{Range, DecodedBar}
 use Rattle.pci_spec.specs.Listing.{words, range_text, kind_space}
 use Rattle.pci_spec.specs.Why.{Region, amount_text, address_count, off_bars}
+use Rattle.given_spec.specs.Given.{Given}
 use Rattle.map_spec.specs.Lines.{Lines, End, Free, Sits}
 use Rattle.map_spec.specs.Map.{Root, Map, IsMap}
 
@@ -58,12 +59,15 @@ space_lines bus space (Sits q inside rest) =
 abbrev pub root_text : Root → List ℕ
 root_text root = space_lines root.bus Io root.io ++ space_lines root.bus Memory root.memory
 
--- ---- what isn't reached, and what is off
+-- ---- what is out of place, what isn't reached, and what is off
 
 -- some lines below a heading, where there are any
 abbrev pub under_heading : List ℕ → List (List ℕ) → List ℕ
 under_heading heading [] = []
 under_heading heading (line ∷ lines) = heading ++ (10 ∷ flat_map (λ text. text) (line ∷ lines))
+
+abbrev pub outside_text : List Region → List ℕ
+outside_text qs = under_heading (codes "outside") (map (region_line 1) qs)
 
 abbrev pub unreached_text : List Region → List ℕ
 unreached_text qs = under_heading (codes "unreached") (map (region_line 1) qs)
@@ -84,9 +88,11 @@ off_text s = under_heading (codes "off") (flat_map off_lines_of s)
 -- ---- the whole text
 
 abbrev pub text_of : Map → System → List ℕ
-text_of m s = flat_map root_text m.roots ++ (unreached_text m.unreached ++ off_text s)
+text_of m s =
+    flat_map root_text m.roots
+    ++ (outside_text m.outside ++ (unreached_text m.unreached ++ off_text s))
 
-pub record IsMapText (roots : List ℕ) (s : System) (text : List ℕ) : Type 0 where
+pub record IsMapText (given : Given) (roots : List ℕ) (s : System) (text : List ℕ) : Type 0 where
   pub m : Map
-  pub is : IsMap roots s m
+  pub is : IsMap given roots s m
   pub says : text ≡ text_of m s

@@ -1,6 +1,6 @@
 //! Laws of maps. These functions do nothing: each contract is a law.
 
-ghost use Rattle.map_spec.specs.MapLaws.{LinesAreOfRegions, NoRegionIsMissed, WindowsHoldWhatIsInside, FreeLinesAreExact};
+ghost use Rattle.map_spec.specs.MapLaws.{LinesAreOfRegions, NoRegionIsMissed, OutsideStandsAlone, WindowsAreInPlace, WindowsHoldWhatIsInside, FreeLinesAreExact, FreeOnRootsIsExact, NothingIsOutside, NothingIsFreeOnRoots};
 
 /// Enabled regions that claim an address have lines, and nothing else has.
 pub fn regions_have_lines()
@@ -8,8 +8,25 @@ pub fn regions_have_lines()
     ensures each { NoRegionIsMissed }
 {}
 
+/// What is out of place has no other line, and no window is.
+pub fn outside_stands_alone()
+    ensures alone { OutsideStandsAlone }
+    ensures windows { WindowsAreInPlace }
+{}
+
 /// What stands under a window belongs there, and what of it is free is free.
 pub fn windows_hold_their_lines()
     ensures held { WindowsHoldWhatIsInside }
     ensures free { FreeLinesAreExact }
+{}
+
+/// What is free on a root bus is sent there, and claimed by nothing on it.
+pub fn roots_have_what_is_free()
+    ensures { FreeOnRootsIsExact }
+{}
+
+/// With nothing given a map has its root buses and what is left alone, and nothing is free on a root bus.
+pub fn nothing_given_changes_nothing()
+    ensures outside { NothingIsOutside }
+    ensures free { NothingIsFreeOnRoots }
 {}

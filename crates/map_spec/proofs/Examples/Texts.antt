@@ -60,9 +60,19 @@ rom : region_line 2 (region (slot 0 2 0) 0x30 Rom Memory false 0xfe9e0000 0xfe9e
 unfolding indent scaled_text digits
 rom = refl
 
--- regions that are left, and BARs that are off: the second function's Command enables memory alone
-left_and_off : text_of (record {
+-- a root bus on which nothing stands has a heading where something is free
+all_free : root_text (record { bus = 0x40; io = Free (range 0x1000 0x1fff) End; memory = End })
+    ≡ line (codes "bus 40 io") ++ line (codes "  00001000-00001fff 4K free")
+unfolding indent lines_text scaled_text digits
+all_free = refl
+
+-- what is out of place, regions that are left, and BARs that are off: the second function's Command enables memory alone
+aside_and_off : text_of (record {
   roots = [];
+  outside =
+      region (slot 0 1 0) 0x30 Rom Memory false 0xd0000000 0xd00fffff
+      ∷ region (slot 1 0 0) 0x18 (Bar 2) Memory true 0xd8000000 0xd80fffff
+      ∷ [];
   unreached =
       region (slot 1 0 0) 0x10 (Bar 0) Memory false 0xe0000000 0xe00000ff
       ∷ region (slot 1 0 0) 0x14 (Bar 1) Io false 0xd000 0xd0ff
@@ -72,11 +82,14 @@ left_and_off : text_of (record {
     ∷ device (slot 1 2 0) 2 ((0x10, 0xe001) ∷ (0x14, 0xe0800008) ∷ []) ((0x10, 0xffffff01) ∷ (0x14, 0xfff00008) ∷ [])
     ∷ device (slot 1 3 0) 1 ((0x10, 0xe001) ∷ (0x14, 0xe0800008) ∷ []) ((0x10, 0xffffff01) ∷ (0x14, 0xfff00008) ∷ [])
     ∷ [])
-    ≡ line (codes "unreached")
+    ≡ line (codes "outside")
+    ++ line (codes "  00000000d0000000-00000000d00fffff 1M rom 00:01.0 30")
+    ++ line (codes "  00000000d8000000-00000000d80fffff 1M bar pref 01:00.0 18")
+    ++ line (codes "unreached")
     ++ line (codes "  00000000e0000000-00000000e00000ff 256 bar 01:00.0 10")
     ++ line (codes "  0000d000-0000d0ff 256 bar 01:00.0 14")
     ++ line (codes "off")
     ++ line (codes "  0000e000-0000e0ff 256 bar 01:02.0 10")
     ++ line (codes "  00000000e0800000-00000000e08fffff 1M bar pref 01:03.0 14")
 unfolding indent scaled_text digits
-left_and_off = refl
+aside_and_off = refl
