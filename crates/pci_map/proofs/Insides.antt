@@ -1,10 +1,9 @@
 -- What is inside a window.
-use Rattle.std.proofs.Common.{◌≡◌, ℕ, ◌<◌, ◌≤◌, List, map, get_or, refl, sym, ap, ◌∙◌, subst, inl, inr, arith, true, not, Option, None, Some}
+use Rattle.std.proofs.Common.{◌≡◌, ℕ, ◌<◌, ◌≤◌, List, map, refl, sym, ap, ◌∙◌, subst, inl, inr, arith, true, not, Bool, Option, None, Some}
 use Rattle.std.specs.Prelude.{◌==◌, ◌&&◌, nat_le, IsTrue, MatchOption, MatchBool}
-use Rattle.std.specs.List.{All, AllPairs, Contains, filter}
+use Rattle.std.specs.List.{Contains, filter}
 use Rattle.std.proofs.lemmas.Bool.{cases_Bool, and_parts, and_from, both_ways, leb-true, le-leb}
 use Rattle.std.proofs.lemmas.Option.{none-some}
-use Rattle.std.proofs.lemmas.List.Elements.{Contains-get_or}
 use Rattle.pci_spec.specs.Slot.{Slot}
 use Rattle.pci_spec.specs.Registers.{MEMORY_BASE, PREFETCHABLE_BASE}
 use Rattle.pci_spec.specs.Window.{WindowKind, IoWindow, MemoryWindow, PrefetchWindow, window_register, holds}
@@ -12,25 +11,28 @@ use Rattle.pci_spec.specs.System.{System, Function, Space, Claims, IsAddress, wi
 use Rattle.pci_spec.specs.System as system
 use Rattle.pci_spec.specs.Bus.{secondary}
 use Rattle.pci_spec.specs.Why.{IsRegionIn, AreRuns}
-use Rattle.pci_spec.proofs.Members.{IsMade, in_map_to, in_map_from, in_filter_to, in_filter_from, pairs_filter, pairs_map}
+use Rattle.pci_spec.proofs.Members.{in_map_from, in_filter_to, in_filter_from, pairs_filter}
 use Rattle.pci_spec.proofs.Regions.{part_same}
-use Rattle.map_spec.specs.Lines.{is_first_window, BelongsUnder, IsClaimedOn, IsFreeIn}
+use Rattle.given_spec.specs.Given.{Given}
+use Rattle.map_spec.specs.Lines.{is_first_window, BelongsUnder, IsClaimedOn, IsFreeIn, IsOutOfPlace}
 use Rattle.map_spec.proofs.Having.{first_claims}
 use Rattle.pci_base.specs.declared.range.Range.{Range}
 use Rattle.pci_base.specs.Ranges.{decoded_range_of}
 use Rattle.pci_tree.specs.declared.region.Part.TheVariants.{Window}
 use Rattle.pci_tree.specs.declared.region.Region.{Region}
 use Rattle.pci_tree.specs.Regions.{IsRegionOn}
-use Rattle.pci_tree.specs.Ranges.{Covers}
 use Rattle.pci_tree.specs.Outline.{IsBefore, AreSortedRegionsOf}
 use Rattle.pci_why.specs.Bridges.{range_at}
 use Rattle.pci_why.specs.Found.{NoneClaims, IsFoundIn}
 use Rattle.pci_why.proofs.Runs.{runs_of}
 use Rattle.pci_map.specs.Values.{kind_at, part_at, part_of, value_of}
 use Rattle.pci_map.specs.Gaps.{gaps}
+use Rattle.pci_map.specs.Above.{AreInPlace}
 use Rattle.pci_map.specs.Inside.{is_in, is_held, IsEarlier, IsInside}
+use Rattle.pci_map.specs.Walk.{AreOnBus}
 use Rattle.pci_map.proofs.Values.{given_region}
-use Rattle.pci_map.proofs.GapRanges.{covers_has, covers_from, gaps_to, gaps_from, gaps_canonical}
+use Rattle.pci_map.proofs.Covering.{by_first, some_each, covered_claims, claimed_covers}
+use Rattle.pci_map.proofs.GapRanges.{gaps_to, gaps_from, gaps_canonical}
 
 -- ---- windows and what they claim
 
@@ -169,53 +171,35 @@ module _ (s : System) (space : Space) (w : Region) (iw : IsRegionIn s (value_of 
   -- ---- what is free
 
   module _ (bus : ℕ) (leads : secondary b ≡ bus) (qs : List Region) (sorted : AreSortedRegionsOf s bus space qs) where
-    by_first : AllPairs (λ (r t : Range). r.first ≤ t.first) (map range_at qs)
-    by_first = pairs_map (λ (r t : Range). r.first ≤ t.first) range_at qs (λ i j d lt within. elim (sorted.sorted i j d lt within) [
-      | inl low ↦ omega (arith, low)
-      | inr same ↦ (let e = same.0 in omega (arith, e))
-    ])
-
-    some_each : All (λ (r : Range). r.first ≤ r.last) (map range_at qs)
-    some_each = λ k d within. (
-        let made : IsMade range_at qs (get_or (map range_at qs) k d) = in_map_to range_at qs (get_or (map range_at qs) k d) (Contains-get_or (map range_at qs) k d within) in
-        subst (λ (r : Range). r.first ≤ r.last) made.is (sorted.each made.from made.has).is.some)
-
-    covered_claims : (a : ℕ) → Covers (map range_at qs) a → IsClaimedOn s bus space a
-    covered_claims a h =
-        let c = covers_has (map range_at qs) a h in
-        let made : IsMade range_at qs c.0 = in_map_to range_at qs c.0 c.1 in
-        let on = sorted.each made.from made.has in
-        let held : (made.from.first ≤ a) × (a ≤ made.from.last) = subst (λ (r : Range). (r.first ≤ a) × (a ≤ r.last)) (sym made.is) c.2 in
-        record { f = on.f; part = on.part; listed = on.listed; on_bus = on.on_bus; claims = (on.is.claims a).0 held }
-
-    claimed_covers : (a : ℕ) → IsClaimedOn s bus space a → Covers (map range_at qs) a
-    claimed_covers a c =
-        let found = sorted.complete c.f c.part a c.listed c.on_bus c.claims in
-        covers_from (map range_at qs) a (range_at found.q) (in_map_from range_at qs found.q found.has) ((found.is.claims a).1 c.claims)
-
     abbrev runs : List Range
     runs = gaps (range_at w) 0 (map range_at qs)
 
     pub free_runs_are : AreRuns (IsFreeIn s (value_of space w)) (map decoded_range_of runs)
-    free_runs_are = runs_of (IsFreeIn s (value_of space w)) runs (gaps_canonical (range_at w) 0 (map range_at qs) by_first some_each) (λ a. (
-      λ covered. (let at = gaps_to (range_at w) 0 (map range_at qs) a by_first some_each covered in record {
+    free_runs_are = runs_of (IsFreeIn s (value_of space w)) runs (gaps_canonical (range_at w) 0 (map range_at qs) (by_first s space bus qs sorted) (some_each s space bus qs sorted)) (λ a. (
+      λ covered. (let at = gaps_to (range_at w) 0 (map range_at qs) a (by_first s space bus qs sorted) (some_each s space bus qs sorted) covered in record {
         held = at.0;
-        unclaimed = λ c listed slot claimed. at.2 (claimed_covers a (subst (λ n. IsClaimedOn s n space a) (ap secondary (unique c b listed iw.listed (slot ∙ sym iw.slot)) ∙ leads) claimed));
+        unclaimed = λ c listed slot claimed. at.2 (claimed_covers s space bus qs sorted a (subst (λ n. IsClaimedOn s n space a) (ap secondary (unique c b listed iw.listed (slot ∙ sym iw.slot)) ∙ leads) claimed));
       }),
-      λ free. gaps_from (range_at w) 0 (map range_at qs) a free.held (omega arith) (λ covered. free.unclaimed b iw.listed iw.slot (subst (λ n. IsClaimedOn s n space a) (sym leads) (covered_claims a covered))),
+      λ free. gaps_from (range_at w) 0 (map range_at qs) a free.held (omega arith) (λ covered. free.unclaimed b iw.listed iw.slot (subst (λ n. IsClaimedOn s n space a) (sym leads) (covered_claims s space bus qs sorted a covered))),
     ))
 
-    pub inside_is : (o : Option Region) → IsEarlier s space w o → w.slot.bus < bus → IsInside s space w bus (filter (is_held w o) qs) runs
-    inside_is o early rises = record {
+    pub inside_is : (given : Given) (roots : List ℕ) (o : Option Region) (out : List Region) → IsEarlier s space w o → w.slot.bus < bus → AreInPlace given roots s space (filter (is_held w o) qs) out
+        → IsInside given roots s space w bus out runs
+    inside_is given roots o out early rises placed = record {
       rises = rises;
-      each = λ q has. sorted.each q (in_filter_to (is_held w o) qs q has).0;
-      belong = λ q has. (let kept = in_filter_to (is_held w o) qs q has in belongs bus o leads early q (sorted.each q kept.0) kept.1);
-      complete = λ v is same under. (
+      each = λ q has. sorted.each q (in_filter_to (is_held w o) qs q (placed.each q has)).0;
+      belong = λ q has. (let kept = in_filter_to (is_held w o) qs q (placed.each q has) in belongs bus o leads early q (sorted.each q kept.0) kept.1);
+      within = placed.within;
+      complete = λ v is same under in_place. (
           let on : v.slot.bus ≡ bus = sym under.leads ∙ ap secondary (unique under.b b under.listed iw.listed (under.slot ∙ sym iw.slot)) ∙ leads in
           let found = given_region s bus space qs v sorted.complete is on same in
           let kept = held_from bus o early found.0 (sorted.each found.0 found.1) (subst (λ x. BelongsUnder s (value_of space w) x) (sym found.2) under) in
-          subst (λ x. Contains (map (value_of space) (filter (is_held w o) qs)) x) found.2
-          (in_map_from (value_of space) (filter (is_held w o) qs) found.0 (in_filter_from (is_held w o) qs found.0 found.1 kept)));
-      sorted = pairs_filter IsBefore (is_held w o) qs sorted.sorted;
+          let has = placed.complete found.0 (in_filter_from (is_held w o) qs found.0 found.1 kept) (λ out_of. in_place (subst (λ x. IsOutOfPlace given roots s x) found.2 out_of)) in
+          subst (λ x. Contains (map (value_of space) out) x) found.2 (in_map_from (value_of space) out found.0 has));
+      sorted = placed.sorted (pairs_filter IsBefore (is_held w o) qs sorted.sorted);
       free = free_runs_are;
     }
+
+-- what is held of a bus is of the bus
+pub held_on : (s : System) (space : Space) (bus : ℕ) (qs : List Region) → AreSortedRegionsOf s bus space qs → (held : List Region) (keeps : Region → Bool) → held ≡ filter keeps qs → AreOnBus s bus space held
+held_on s space bus qs sorted held keeps is q has = sorted.each q (in_filter_to keeps qs q (subst (λ xs. Contains xs q) is has)).0

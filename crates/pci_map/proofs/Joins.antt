@@ -5,6 +5,7 @@ use Rattle.std.proofs.lemmas.List.{append_assoc}
 use Rattle.pci_spec.specs.System.{System, Space}
 use Rattle.pci_spec.specs.Decoded as decoded
 use Rattle.pci_spec.specs.Why as why
+use Rattle.given_spec.specs.Given.{Given}
 use Rattle.map_spec.specs.Lines.{Lines, End, Free, Sits, AreAllInside}
 use Rattle.map_spec.specs.MapText.{free_line, region_line, lines_text}
 use Rattle.pci_base.specs.declared.range.Range.{Range}
@@ -31,14 +32,14 @@ entries_free : (rs : List decoded.Range) → entries (free_lines rs) ≡ map Run
 entries_free [] = refl
 entries_free (r ∷ rs) = ap (λ es. Run r ∷ es) (entries_free rs)
 
-inside_joined : (s : System) (space : Space) (ls more : Lines) → AreAllInside s space ls → AreAllInside s space more → AreAllInside s space (joined ls more)
-inside_joined s space End more first second = second
-inside_joined s space (Free r rest) more first second = inside_joined s space rest more first second
-inside_joined s space (Sits q inside rest) more first second = (first.0, first.1, inside_joined s space rest more first.2 second)
+inside_joined : (given : Given) (roots : List ℕ) (s : System) (space : Space) (ls more : Lines) → AreAllInside given roots s space ls → AreAllInside given roots s space more → AreAllInside given roots s space (joined ls more)
+inside_joined given roots s space End more first second = second
+inside_joined given roots s space (Free r rest) more first second = inside_joined given roots s space rest more first second
+inside_joined given roots s space (Sits q inside rest) more first second = (first.0, first.1, inside_joined given roots s space rest more first.2 second)
 
-inside_free : (s : System) (space : Space) (rs : List decoded.Range) → AreAllInside s space (free_lines rs)
-inside_free s space [] = tt
-inside_free s space (r ∷ rs) = inside_free s space rs
+inside_free : (given : Given) (roots : List ℕ) (s : System) (space : Space) (rs : List decoded.Range) → AreAllInside given roots s space (free_lines rs)
+inside_free given roots s space [] = tt
+inside_free given roots s space (r ∷ rs) = inside_free given roots s space rs
 
 text_joined : (depth : ℕ) (space : Space) (ls more : Lines) → lines_text depth space (joined ls more) ≡ lines_text depth space ls ++ lines_text depth space more
 unfolding lines_text
@@ -63,36 +64,36 @@ text_seat depth space q inside = ap (λ t. region_line depth q ++ t) (append-nil
 -- ---- some lines, and those that come
 
 -- a text got some of the lines, and the others are to come
-pub record IsPartly (s : System) (space : Space) (depth : ℕ) (all coming : List Entry) (old new : List ℕ) : Type 0 where
+pub record IsPartly (given : Given) (roots : List ℕ) (s : System) (space : Space) (depth : ℕ) (all coming : List Entry) (old new : List ℕ) : Type 0 where
   pub lines : Lines
   pub so : entries lines ++ coming ≡ all
-  pub inside : AreAllInside s space lines
+  pub inside : AreAllInside given roots s space lines
   pub text : new ≡ old ++ lines_text depth space lines
 
-module _ (s : System) (space : Space) (depth : ℕ) (all : List Entry) (old : List ℕ) where
-  pub none_yet : IsPartly s space depth all all old old
+module _ (given : Given) (roots : List ℕ) (s : System) (space : Space) (depth : ℕ) (all : List Entry) (old : List ℕ) where
+  pub none_yet : IsPartly given roots s space depth all all old old
   unfolding lines_text
   none_yet = record { lines = End; so = refl; inside = tt; text = sym (append-nil old) }
 
-  more_lines : (now new : List ℕ) (more : Lines) (coming : List Entry) → IsPartly s space depth all (entries more ++ coming) old now → AreAllInside s space more
-      → new ≡ now ++ lines_text depth space more → IsPartly s space depth all coming old new
+  more_lines : (now new : List ℕ) (more : Lines) (coming : List Entry) → IsPartly given roots s space depth all (entries more ++ coming) old now → AreAllInside given roots s space more
+      → new ≡ now ++ lines_text depth space more → IsPartly given roots s space depth all coming old new
   more_lines now new more coming is inside text = record {
     lines = joined is.lines more;
     so = ap (λ es. es ++ coming) (entries_joined is.lines more) ∙ append_assoc (entries is.lines) (entries more) coming ∙ is.so;
-    inside = inside_joined s space is.lines more is.inside inside;
+    inside = inside_joined given roots s space is.lines more is.inside inside;
     text = text ∙ ap (λ t. t ++ lines_text depth space more) is.text ∙ append_assoc old (lines_text depth space is.lines) (lines_text depth space more)
         ∙ ap (λ t. old ++ t) (sym (text_joined depth space is.lines more));
   }
 
-  more_runs : (now new : List ℕ) (rs : List Range) (coming : List Entry) → IsPartly s space depth all (run_entries rs ++ coming) old now
-      → new ≡ now ++ flat_map (free_line depth space) (map decoded_range_of rs) → IsPartly s space depth all coming old new
+  more_runs : (now new : List ℕ) (rs : List Range) (coming : List Entry) → IsPartly given roots s space depth all (run_entries rs ++ coming) old now
+      → new ≡ now ++ flat_map (free_line depth space) (map decoded_range_of rs) → IsPartly given roots s space depth all coming old new
   more_runs now new rs coming is text =
       more_lines now new (free_lines (map decoded_range_of rs)) coming
-      (subst (λ es. IsPartly s space depth all (es ++ coming) old now) (sym (entries_free (map decoded_range_of rs))) is)
-      (inside_free s space (map decoded_range_of rs)) (text ∙ ap (λ t. now ++ t) (sym (text_free depth space (map decoded_range_of rs))))
+      (subst (λ es. IsPartly given roots s space depth all (es ++ coming) old now) (sym (entries_free (map decoded_range_of rs))) is)
+      (inside_free given roots s space (map decoded_range_of rs)) (text ∙ ap (λ t. now ++ t) (sym (text_free depth space (map decoded_range_of rs))))
 
-  one_seat : (now new : List ℕ) (q : Region) (coming : List Entry) → IsPartly s space depth all (At (value_of space q) ∷ coming) old now → IsSeated s space depth q now new
-      → IsPartly s space depth all coming old new
+  one_seat : (now new : List ℕ) (q : Region) (coming : List Entry) → IsPartly given roots s space depth all (At (value_of space q) ∷ coming) old now → IsSeated given roots s space depth q now new
+      → IsPartly given roots s space depth all coming old new
   one_seat now new q coming is seat =
       more_lines now new (Sits (value_of space q) seat.inside End) coming is (seat.is, seat.deeper, tt)
       (seat.text ∙ ap (λ t. now ++ t) (sym (text_seat depth space (value_of space q) seat.inside)))
@@ -100,22 +101,22 @@ module _ (s : System) (space : Space) (depth : ℕ) (all : List Entry) (old : Li
   -- one more region, with the runs before it
   pub next_seat : (now mid new : List ℕ) (q : Region) (qs here : List Region) (left before behind : List Range) (count : ℕ) → here ≡ q ∷ qs → count ≡ ahead q.first left
       → before ≡ take count left → behind ≡ drop count left
-      → IsPartly s space depth all (merged space here left) old now → mid ≡ now ++ flat_map (free_line depth space) (map decoded_range_of before)
-      → IsSeated s space depth q mid new → IsPartly s space depth all (merged space qs behind) old new
+      → IsPartly given roots s space depth all (merged space here left) old now → mid ≡ now ++ flat_map (free_line depth space) (map decoded_range_of before)
+      → IsSeated given roots s space depth q mid new → IsPartly given roots s space depth all (merged space qs behind) old new
   unfolding merged
   next_seat now mid new q qs here left before behind count is_here is_count is_before is_behind partly runs seat =
-      let split : IsPartly s space depth all (merged space (q ∷ qs) left) old now = subst (λ h. IsPartly s space depth all (merged space h left) old now) is_here partly in
-      let counted : IsPartly s space depth all (run_entries (take count left) ++ (At (value_of space q) ∷ merged space qs (drop count left))) old now =
-      subst (λ n. IsPartly s space depth all (run_entries (take n left) ++ (At (value_of space q) ∷ merged space qs (drop n left))) old now) (sym is_count) split in
+      let split : IsPartly given roots s space depth all (merged space (q ∷ qs) left) old now = subst (λ h. IsPartly given roots s space depth all (merged space h left) old now) is_here partly in
+      let counted : IsPartly given roots s space depth all (run_entries (take count left) ++ (At (value_of space q) ∷ merged space qs (drop count left))) old now =
+      subst (λ n. IsPartly given roots s space depth all (run_entries (take n left) ++ (At (value_of space q) ∷ merged space qs (drop n left))) old now) (sym is_count) split in
       let coming = At (value_of space q) ∷ merged space qs (drop count left) in
       let past = more_runs now mid (take count left) coming counted (runs ∙ ap (λ rs. now ++ flat_map (free_line depth space) (map decoded_range_of rs)) is_before) in
-      subst (λ rs. IsPartly s space depth all (merged space qs rs) old new) (sym is_behind) (one_seat mid new q (merged space qs (drop count left)) past seat)
+      subst (λ rs. IsPartly given roots s space depth all (merged space qs rs) old new) (sym is_behind) (one_seat mid new q (merged space qs (drop count left)) past seat)
 
   -- the runs behind the last region
-  pub last_runs : (now new : List ℕ) (none : List Region) (left : List Range) → none ≡ [] → IsPartly s space depth all (merged space none left) old now
-      → new ≡ now ++ flat_map (free_line depth space) (map decoded_range_of left) → IsPlaced s space depth all old new
+  pub last_runs : (now new : List ℕ) (none : List Region) (left : List Range) → none ≡ [] → IsPartly given roots s space depth all (merged space none left) old now
+      → new ≡ now ++ flat_map (free_line depth space) (map decoded_range_of left) → IsPlaced given roots s space depth all old new
   unfolding merged
   last_runs now new none left is_none partly text =
-      let split : IsPartly s space depth all (run_entries left) old now = subst (λ h. IsPartly s space depth all (merged space h left) old now) is_none partly in
-      let whole = more_runs now new left [] (subst (λ es. IsPartly s space depth all es old now) (sym (append-nil (run_entries left))) split) text in
+      let split : IsPartly given roots s space depth all (run_entries left) old now = subst (λ h. IsPartly given roots s space depth all (merged space h left) old now) is_none partly in
+      let whole = more_runs now new left [] (subst (λ es. IsPartly given roots s space depth all es old now) (sym (append-nil (run_entries left))) split) text in
       record { lines = whole.lines; entries = sym (append-nil (entries whole.lines)) ∙ whole.so; inside = whole.inside; text = whole.text }

@@ -3,6 +3,7 @@ pub mod Between
 pub mod LineTexts
 pub mod Values
 pub mod GapRanges
+pub mod Covering
 pub mod Insides
 pub mod Openings
 pub mod Joins
@@ -14,5 +15,11 @@ pub mod Counts
 pub mod Ups
 pub mod Firsts
 pub mod Lefts
+pub mod Sents
+pub mod RootsAbove
+pub mod Rows
+pub mod Places
+pub mod Frees
 pub mod Tolds
+pub mod AsideTexts
 pub mod MapTexts

@@ -9,6 +9,7 @@ use Rattle.pci_spec.specs.Bus.{IsNested, secondary}
 use Rattle.pci_spec.specs.Decoded.{record_of}
 use Rattle.pci_spec.specs.Why.{IsRegionIn}
 use Rattle.pci_spec.proofs.BusRanges.{bus_order_means}
+use Rattle.given_spec.specs.Given.{Given}
 use Rattle.pci_function.specs.declared.record.Bridge.{Bridge}
 use Rattle.pci_function.specs.declared.record.Record.{Record}
 use Rattle.pci_function.specs.Values.{record_value}
@@ -21,6 +22,7 @@ use Rattle.pci_why.specs.Bridges.{range_at}
 use Rattle.pci_why.proofs.Founds.{none_without_record}
 use Rattle.pci_map.specs.Values.{part_of, value_of}
 use Rattle.pci_map.specs.Gaps.{gaps}
+use Rattle.pci_map.specs.Above.{AreInPlace}
 use Rattle.pci_map.specs.Inside.{is_held, IsEarlier, IsInside}
 use Rattle.pci_map.proofs.Insides.{is_a_bridge, inside_is}
 
@@ -45,10 +47,10 @@ module _ (s : System) (rs : List Record) (space : Space) (w : Region) (has : Has
     pub no_bridge : r.bridge ≡ None → ⊥
     no_bridge none = false≢true (sym (ap is_some none) ∙ same_bridge r iw.f stands_for ∙ bridge_is)
 
-    pub opened : (roots : List ℕ) (b : Bridge) (o : Option Region) (qs : List Region) → IsNested roots s → r.bridge ≡ Some b → IsEarlier s space w o → AreSortedRegionsOf s b.secondary space qs
-        → IsInside s space w b.secondary (filter (is_held w o) qs) (gaps (range_at w) 0 (map range_at qs))
-    opened roots b o qs nested is early sorted =
+    pub opened : (given : Given) (roots : List ℕ) (b : Bridge) (o : Option Region) (qs out : List Region) → IsNested roots s → r.bridge ≡ Some b → IsEarlier s space w o → AreSortedRegionsOf s b.secondary space qs
+        → AreInPlace given roots s space (filter (is_held w o) qs) out → IsInside given roots s space w b.secondary out (gaps (range_at w) 0 (map range_at qs))
+    opened given roots b o qs out nested is early sorted placed =
         let leads : secondary iw.f ≡ b.secondary = sym (same_secondary r iw.f stands_for bridge_is) ∙ ap secondary_in is in
         let rises : iw.f.slot.bus < secondary iw.f = ((bus_order_means iw.f).0 (nested.order iw.f iw.listed bridge_is)).1 in
         let bus : iw.f.slot.bus ≡ w.slot.bus = ap (λ (x : Slot). x.bus) iw.slot in
-        inside_is s space w iw window one b.secondary leads qs sorted o early (omega (arith, rises, bus, leads))
+        inside_is s space w iw window one b.secondary leads qs sorted given roots o out early (omega (arith, rises, bus, leads)) placed

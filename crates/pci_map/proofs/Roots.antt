@@ -10,17 +10,18 @@ use Rattle.pci_spec.specs.System.{System, Io, Memory}
 use Rattle.pci_spec.specs.Bus.{is_root}
 use Rattle.pci_spec.proofs.Members.{in_nil, in_cons_cases}
 use Rattle.pci_spec.proofs.BusRanges.{root_means}
+use Rattle.given_spec.specs.Given.{Given}
 use Rattle.map_spec.specs.Lines.{OnRoot}
 use Rattle.map_spec.specs.Map.{Root, IsRootOf}
 use Rattle.map_spec.specs.MapText.{space_lines, root_text}
 use Rattle.pci_map.specs.Walk.{IsSpaceTold}
 use Rattle.pci_map.specs.Buses.{AreRootsTold}
 
-module _ (roots : List ℕ) (s : System) where
-  pub told_nothing : (text : List ℕ) → AreRootsTold roots s [] text text
+module _ (given : Given) (roots : List ℕ) (s : System) where
+  pub told_nothing : (text : List ℕ) → AreRootsTold given roots s [] text text
   told_nothing text = record { told = []; buses = refl; each = λ root has. absurd (in_nil root has); text = sym (append-nil text) }
 
-  pub told_no_root : (bus : ℕ) (text : List ℕ) → is_root roots bus ≡ false → AreRootsTold roots s (bus ∷ []) text text
+  pub told_no_root : (bus : ℕ) (text : List ℕ) → is_root roots bus ≡ false → AreRootsTold given roots s (bus ∷ []) text text
   told_no_root bus text not_root = record {
     told = [];
     buses = ap (λ b. cond b (bus ∷ []) []) (sym not_root);
@@ -28,14 +29,14 @@ module _ (roots : List ℕ) (s : System) where
     text = sym (append-nil text);
   }
 
-  pub told_root : (bus : ℕ) (old mid new : List ℕ) → is_root roots bus ≡ true → IsSpaceTold s Io bus (OnRoot bus) old mid → IsSpaceTold s Memory bus (OnRoot bus) mid new
-      → AreRootsTold roots s (bus ∷ []) old new
+  pub told_root : (bus : ℕ) (old mid new : List ℕ) → is_root roots bus ≡ true → IsSpaceTold given roots s Io bus (OnRoot bus) old mid → IsSpaceTold given roots s Memory bus (OnRoot bus) mid new
+      → AreRootsTold given roots s (bus ∷ []) old new
   told_root bus old mid new root io memory =
       let one : Root = record { bus = bus; io = io.lines; memory = memory.lines } in record {
         told = one ∷ [];
         buses = ap (λ b. cond b (bus ∷ []) []) (sym root);
         each = λ r has. elim (in_cons_cases one [] r has) [
-          | inl here ↦ subst (IsRootOf s) here (record { io = io.are; memory = memory.are })
+          | inl here ↦ subst (IsRootOf given roots s) here (record { io = io.are; memory = memory.are })
           | inr none ↦ absurd (in_nil r none)
         ];
         text = memory.text ∙ ap (λ t. t ++ space_lines bus Memory memory.lines) io.text
@@ -43,7 +44,7 @@ module _ (roots : List ℕ) (s : System) where
             ∙ ap (λ t. old ++ t) (sym (append-nil (root_text one)));
       }
 
-  pub told_both : (buses more : List ℕ) (old mid new : List ℕ) → AreRootsTold roots s buses old mid → AreRootsTold roots s more mid new → AreRootsTold roots s (buses ++ more) old new
+  pub told_both : (buses more : List ℕ) (old mid new : List ℕ) → AreRootsTold given roots s buses old mid → AreRootsTold given roots s more mid new → AreRootsTold given roots s (buses ++ more) old new
   told_both buses more old mid new first second = record {
     told = first.told ++ second.told;
     buses = map-append (λ root. root.bus) first.told second.told
@@ -64,12 +65,12 @@ one_longer low zero = ap (λ k. k ∷ []) (let e : low ≡ low + 0 = omega arith
 one_longer low (suc n) = ap (λ bs. low ∷ bs) (one_longer (low + 1) n ∙ ap (λ k. range_with_len (low + 1) n ++ k ∷ []) (let e : low + 1 + n ≡ low + suc n = omega arith in e))
 
 -- one more bus
-pub told_more : (roots : List ℕ) (s : System) (k bus : ℕ) (old mid new : List ℕ) → bus ≡ k → AreRootsTold roots s (range_with_len 0 k) old mid → AreRootsTold roots s (bus ∷ []) mid new
-    → AreRootsTold roots s (range_with_len 0 (k + 1)) old new
-told_more roots s k bus old mid new is first second =
-    subst (λ bs. AreRootsTold roots s bs old new)
+pub told_more : (given : Given) (roots : List ℕ) (s : System) (k bus : ℕ) (old mid new : List ℕ) → bus ≡ k → AreRootsTold given roots s (range_with_len 0 k) old mid → AreRootsTold given roots s (bus ∷ []) mid new
+    → AreRootsTold given roots s (range_with_len 0 (k + 1)) old new
+told_more given roots s k bus old mid new is first second =
+    subst (λ bs. AreRootsTold given roots s bs old new)
     (ap (λ b. range_with_len 0 k ++ b ∷ []) (is ∙ (let z : k ≡ 0 + k = omega arith in z)) ∙ sym (one_longer 0 k) ∙ ap (range_with_len 0) (let e : suc k ≡ k + 1 = omega arith in e))
-    (told_both roots s (range_with_len 0 k) (bus ∷ []) old mid new first second)
+    (told_both given roots s (range_with_len 0 k) (bus ∷ []) old mid new first second)
 
 -- ---- whether a bus is one
 

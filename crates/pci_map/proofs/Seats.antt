@@ -1,15 +1,17 @@
 -- What stands inside a window, and on a root bus.
-use Rattle.std.proofs.Common.{◌≡◌, ℕ, suc, ◌+◌, ◌<◌, List, [], ◌∷◌, ◌++◌, map, length, arith, refl, sym, ap, ◌∙◌, subst, append-nil}
+use Rattle.std.proofs.Common.{◌≡◌, ℕ, suc, ◌+◌, List, [], ◌∷◌, ◌++◌, map, take, drop, length, arith, refl, sym, ap, ◌∙◌, subst, append-nil}
 use Rattle.std.specs.List.{Contains}
 use Rattle.std.proofs.lemmas.List.{append_assoc}
 use Rattle.pci_spec.specs.Slot.{Slot}
 use Rattle.pci_spec.specs.System.{System, Space}
-use Rattle.pci_spec.specs.Decoded as decoded
 use Rattle.pci_spec.specs.Why as why
-use Rattle.pci_spec.proofs.Members.{in_map_from, pairs_nil}
-use Rattle.map_spec.specs.Lines.{Lines, End, Free, Sits, OnRoot, Inside, IsClaimedOn, AreLinesAt, AreInside}
+use Rattle.pci_spec.specs.Why.{AreRuns}
+use Rattle.pci_spec.proofs.Members.{in_map_from}
+use Rattle.given_spec.specs.Given.{Given}
+use Rattle.map_spec.specs.Lines.{Lines, End, Free, Sits, OnRoot, Inside, IsClaimedOn, IsOutOfPlace, IsFreeOn, AreLinesAt, AreInside}
 use Rattle.map_spec.specs.MapText.{bus_heading, region_line, lines_text, space_lines}
 use Rattle.pci_base.specs.declared.range.Range.{Range}
+use Rattle.pci_base.specs.Ranges.{decoded_range_of}
 use Rattle.pci_tree.specs.declared.region.Part.{Part}
 use Rattle.pci_tree.specs.declared.region.Part.TheVariants as parts
 use Rattle.pci_tree.specs.declared.region.Region.{Region}
@@ -17,11 +19,12 @@ use Rattle.pci_tree.specs.Regions.{IsRegionOn}
 use Rattle.pci_tree.specs.Outline.{AreSortedRegionsOf}
 use Rattle.pci_map.specs.Values.{part_at, part_of, value_of}
 use Rattle.pci_map.specs.Inside.{IsInside}
-use Rattle.pci_map.specs.Walk.{ahead, Entry, At, entries, merged, IsPlaced, IsSeated, IsSpaceTold}
+use Rattle.pci_map.specs.Above.{AreInPlace}
+use Rattle.pci_map.specs.Walk.{ahead, Entry, Run, At, entries, run_entries, merged, IsPlaced, IsSeated, IsSpaceTold}
 use Rattle.pci_map.proofs.Values.{told_region, given_region}
 use Rattle.pci_map.proofs.Merges.{lines_are}
 
-module _ (s : System) (space : Space) where
+module _ (given : Given) (roots : List ℕ) (s : System) (space : Space) where
   -- an enabled region of the bus claims its first address
   claims_first : (bus : ℕ) (q : Region) → IsRegionOn s bus space q → IsClaimedOn s bus space q.first
   claims_first bus q on = record {
@@ -32,13 +35,14 @@ module _ (s : System) (space : Space) where
     claims = (on.is.claims q.first).0 (omega arith, on.is.some);
   }
 
-  pub lines_inside : (w : Region) (bus : ℕ) (qs : List Region) (rs : List Range) (lines : Lines) → IsInside s space w bus qs rs → entries lines ≡ merged space qs rs
-      → AreLinesAt s space (Inside (value_of space w)) lines
+  pub lines_inside : (w : Region) (bus : ℕ) (qs : List Region) (rs : List Range) (lines : Lines) → IsInside given roots s space w bus qs rs → entries lines ≡ merged space qs rs
+      → AreLinesAt given roots s space (Inside (value_of space w)) lines
   lines_inside w bus qs rs lines inside is =
-      lines_are s space (Inside (value_of space w)) lines qs rs is
+      lines_are given roots s space (Inside (value_of space w)) lines qs rs is
       (λ q has. told_region s bus space q (inside.each q has))
       (λ q has. inside.belong q has)
-      (λ v is_in same under. inside.complete v is_in same under)
+      (λ q has. inside.within q has)
+      (λ v is_in same under in_place. inside.complete v is_in same under in_place)
       inside.free
       inside.sorted
       (λ q a has at free. (
@@ -48,26 +52,30 @@ module _ (s : System) (space : Space) where
       free.unclaimed under.b under.listed under.slot
       (subst (λ n. IsClaimedOn s n space a) (sym (under.leads ∙ q_bus)) (subst (λ n. IsClaimedOn s bus space n) (sym at) (claims_first bus q on)))))
 
-  pub lines_on_root : (bus : ℕ) (qs : List Region) (lines : Lines) → AreSortedRegionsOf s bus space qs → entries lines ≡ merged space qs [] → AreLinesAt s space (OnRoot bus) lines
-  lines_on_root bus qs lines sorted is =
-      lines_are s space (OnRoot bus) lines qs [] is
-      (λ q has. told_region s bus space q (sorted.each q has))
-      (λ q has. (let on = sorted.each q has in ap (λ (x : Slot). x.bus) on.is.slot ∙ on.on_bus))
-      (λ v is_in same at. (
-      let found = given_region s bus space qs v sorted.complete is_in at same in
-      subst (λ x. Contains (map (value_of space) qs) x) found.2 (in_map_from (value_of space) qs found.0 found.1)))
-      (record { each = λ k d within. absurd (let no : ⊥ = omega (arith, within) in no); complete = λ a free. absurd free; rising = pairs_nil (λ (r t : decoded.Range). r.last < t.first) })
-      sorted.sorted
-      (λ q a has at free. free)
+  module _ (bus : ℕ) (all qs : List Region) (rs : List Range) (sorted : AreSortedRegionsOf s bus space all) (placed : AreInPlace given roots s space all qs)
+      (free : AreRuns (IsFreeOn given s bus space) (map decoded_range_of rs)) where
+    pub lines_on_root : (lines : Lines) → entries lines ≡ merged space qs rs → AreLinesAt given roots s space (OnRoot bus) lines
+    lines_on_root lines is =
+        lines_are given roots s space (OnRoot bus) lines qs rs is
+        (λ q has. told_region s bus space q (sorted.each q (placed.each q has)))
+        (λ q has. (let on = sorted.each q (placed.each q has) in ap (λ (x : Slot). x.bus) on.is.slot ∙ on.on_bus))
+        (λ q has. placed.within q has)
+        (λ v is_in same at in_place. (
+        let found = given_region s bus space all v sorted.complete is_in at same in
+        let has = placed.complete found.0 found.1 (λ out. in_place (subst (λ x. IsOutOfPlace given roots s x) found.2 out)) in
+        subst (λ x. Contains (map (value_of space) qs) x) found.2 (in_map_from (value_of space) qs found.0 has)))
+        free
+        (placed.sorted sorted.sorted)
+        (λ q a has at is_free. is_free.unclaimed (subst (λ n. IsClaimedOn s bus space n) (sym at) (claims_first bus q (sorted.each q (placed.each q has)))))
 
   -- ---- a region, and what is inside it
 
-  none_inside : (part : Part) (reg : ℕ) (v : why.Region) → (part ≡ parts.Window → ⊥) → AreInside s space (part_at part reg) v End
+  none_inside : (part : Part) (reg : ℕ) (v : why.Region) → (part ≡ parts.Window → ⊥) → AreInside given roots s space (part_at part reg) v End
   none_inside parts.Bar reg v not_window = refl
   none_inside parts.Rom reg v not_window = refl
   none_inside parts.Window reg v not_window = absurd (not_window refl)
 
-  pub seat_alone : (depth : ℕ) (q : Region) (old new : List ℕ) → (q.part ≡ parts.Window → ⊥) → new ≡ old ++ region_line depth (value_of space q) → IsSeated s space depth q old new
+  pub seat_alone : (depth : ℕ) (q : Region) (old new : List ℕ) → (q.part ≡ parts.Window → ⊥) → new ≡ old ++ region_line depth (value_of space q) → IsSeated given roots s space depth q old new
   unfolding lines_text
   seat_alone depth q old new not_window text = record {
     inside = End;
@@ -76,13 +84,13 @@ module _ (s : System) (space : Space) where
     text = text ∙ ap (λ t. old ++ t) (sym (append-nil (region_line depth (value_of space q))));
   }
 
-  window_inside : (q : Region) (bus : ℕ) (qs : List Region) (rs : List Range) (lines : Lines) → q.part ≡ parts.Window → IsInside s space q bus qs rs → entries lines ≡ merged space qs rs
-      → AreInside s space (part_of q) (value_of space q) lines
+  window_inside : (q : Region) (bus : ℕ) (qs : List Region) (rs : List Range) (lines : Lines) → q.part ≡ parts.Window → IsInside given roots s space q bus qs rs → entries lines ≡ merged space qs rs
+      → AreInside given roots s space (part_of q) (value_of space q) lines
   window_inside q bus qs rs lines window inside is =
-      subst (λ p. AreInside s space (part_at p q.reg) (value_of space q) lines) (sym window) (lines_inside q bus qs rs lines inside is)
+      subst (λ p. AreInside given roots s space (part_at p q.reg) (value_of space q) lines) (sym window) (lines_inside q bus qs rs lines inside is)
 
-  pub seat_of_window : (depth deeper : ℕ) (q : Region) (bus : ℕ) (qs : List Region) (rs : List Range) (old mid new : List ℕ) → deeper ≡ depth + 1 → q.part ≡ parts.Window → IsInside s space q bus qs rs
-      → mid ≡ old ++ region_line depth (value_of space q) → IsPlaced s space deeper (merged space qs rs) mid new → IsSeated s space depth q old new
+  pub seat_of_window : (depth deeper : ℕ) (q : Region) (bus : ℕ) (qs : List Region) (rs : List Range) (old mid new : List ℕ) → deeper ≡ depth + 1 → q.part ≡ parts.Window → IsInside given roots s space q bus qs rs
+      → mid ≡ old ++ region_line depth (value_of space q) → IsPlaced given roots s space deeper (merged space qs rs) mid new → IsSeated given roots s space depth q old new
   seat_of_window depth deeper q bus qs rs old mid new one window inside line placed = record {
     inside = placed.lines;
     is = window_inside q bus qs rs placed.lines window inside placed.entries;
@@ -95,31 +103,38 @@ module _ (s : System) (space : Space) where
 
   -- ---- a root bus
 
-  headed : (bus : ℕ) (lines : Lines) (e : Entry) (es : List Entry) → entries lines ≡ e ∷ es → space_lines bus space lines ≡ bus_heading bus space ++ lines_text 1 space lines
-  headed bus End e es some = absurd (let n : 0 ≡ suc (length es) = ap length some in omega (arith, n))
-  headed bus (Free r rest) e es some = refl
-  headed bus (Sits q inside rest) e es some = refl
+  headed : (bus : ℕ) (lines : Lines) → (entries lines ≡ [] → ⊥) → space_lines bus space lines ≡ bus_heading bus space ++ lines_text 1 space lines
+  headed bus End some = absurd (some refl)
+  headed bus (Free r rest) some = refl
+  headed bus (Sits q inside rest) some = refl
 
-  under : (bus : ℕ) (qs : List Region) (lines : Lines) → (qs ≡ [] → ⊥) → entries lines ≡ merged space qs [] → space_lines bus space lines ≡ bus_heading bus space ++ lines_text 1 space lines
-  unfolding merged ahead
-  under bus [] lines some is = absurd (some refl)
-  under bus (q ∷ qs) lines some is = headed bus lines (At (value_of space q)) (merged space qs []) is
+  not_nil : (xs : List Entry) (e : Entry) (es : List Entry) → xs ++ e ∷ es ≡ [] → ⊥
+  not_nil [] e es none = let n : suc (length es) ≡ 0 = ap length none in omega (arith, n)
+  not_nil (x ∷ xs) e es none = let n : suc (length (xs ++ e ∷ es)) ≡ 0 = ap length none in omega (arith, n)
 
-  pub told_none : (bus : ℕ) (qs : List Region) (text : List ℕ) → AreSortedRegionsOf s bus space qs → qs ≡ [] → IsSpaceTold s space bus (OnRoot bus) text text
+  some_entries : (qs : List Region) (rs : List Range) → (qs ≡ [] → rs ≡ [] → ⊥) → merged space qs rs ≡ [] → ⊥
   unfolding merged
-  told_none bus qs text sorted none = record {
-    lines = End;
-    are = (lines_on_root bus qs End sorted (subst (λ xs. [] ≡ merged space xs []) (sym none) refl), tt);
-    text = sym (append-nil text);
-  }
+  some_entries [] [] some none = some refl refl
+  some_entries [] (r ∷ rs) some none = not_nil [] (Run (decoded_range_of r)) (run_entries rs) none
+  some_entries (q ∷ qs) rs some none = not_nil (run_entries (take (ahead q.first rs) rs)) (At (value_of space q)) (merged space qs (drop (ahead q.first rs) rs)) none
 
-  pub told_some : (bus : ℕ) (qs : List Region) (old mid new : List ℕ) → AreSortedRegionsOf s bus space qs → (qs ≡ [] → ⊥) → mid ≡ old ++ bus_heading bus space
-      → IsPlaced s space 1 (merged space qs []) mid new → IsSpaceTold s space bus (OnRoot bus) old new
-  told_some bus qs old mid new sorted some line placed = record {
-    lines = placed.lines;
-    are = (lines_on_root bus qs placed.lines sorted placed.entries, placed.inside);
-    text = placed.text
-        ∙ ap (λ t. t ++ lines_text 1 space placed.lines) line
-        ∙ append_assoc old (bus_heading bus space) (lines_text 1 space placed.lines)
-        ∙ ap (λ t. old ++ t) (sym (under bus qs placed.lines some placed.entries));
-  }
+  module _ (bus : ℕ) (all qs : List Region) (rs : List Range) (sorted : AreSortedRegionsOf s bus space all) (placed : AreInPlace given roots s space all qs)
+      (free : AreRuns (IsFreeOn given s bus space) (map decoded_range_of rs)) where
+    pub told_none : (text : List ℕ) → qs ≡ [] → rs ≡ [] → IsSpaceTold given roots s space bus (OnRoot bus) text text
+    unfolding merged
+    told_none text none no_runs = record {
+      lines = End;
+      are = (lines_on_root bus all qs rs sorted placed free End (subst (λ ts. [] ≡ merged space qs ts) (sym no_runs) (subst (λ xs. [] ≡ merged space xs []) (sym none) refl)), tt);
+      text = sym (append-nil text);
+    }
+
+    pub told_some : (old mid new : List ℕ) → (qs ≡ [] → rs ≡ [] → ⊥) → mid ≡ old ++ bus_heading bus space
+        → IsPlaced given roots s space 1 (merged space qs rs) mid new → IsSpaceTold given roots s space bus (OnRoot bus) old new
+    told_some old mid new some line is = record {
+      lines = is.lines;
+      are = (lines_on_root bus all qs rs sorted placed free is.lines is.entries, is.inside);
+      text = is.text
+          ∙ ap (λ t. t ++ lines_text 1 space is.lines) line
+          ∙ append_assoc old (bus_heading bus space) (lines_text 1 space is.lines)
+          ∙ ap (λ t. old ++ t) (sym (headed bus is.lines (λ none. some_entries qs rs some (sym is.entries ∙ none))));
+    }

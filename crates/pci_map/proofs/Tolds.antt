@@ -1,4 +1,4 @@
--- The lines of regions that are left.
+-- The lines of regions that have none at a place.
 use Rattle.std.proofs.Common.{◌≡◌, ℕ, suc, ◌<◌, ◌≤◌, ◌+◌, zero, List, [], ◌∷◌, ◌++◌, map, take, length, get_or, refl, sym, ap, ◌∙◌, subst, inl, inr, ◌⊎◌, arith, codes, append-nil, Bool, true, false}
 use Rattle.std.specs.Prelude.{◌==◌, ◌*◌}
 use Rattle.std.specs.List.{All, Contains, flat_map}
@@ -18,14 +18,15 @@ use Rattle.pci_spec.specs.Decoded as decoded
 use Rattle.pci_spec.specs.Why.{Region, IsRegionIn}
 use Rattle.pci_spec.proofs.Members.{in_nil, in_head, in_cons_cases, IsMade, in_map_to, in_map_from, pairs_nil, pairs_cons, pairs_append, pairs_head, pairs_tail}
 use Rattle.pci_spec.proofs.Regions.{part_same, register_of-lt}
-use Rattle.map_spec.specs.Lines.{region_number}
-use Rattle.map_spec.specs.Map.{HasWay, IsLeft}
-use Rattle.map_spec.specs.MapText.{part_name, region_line, unreached_text}
+use Rattle.given_spec.specs.Given.{Given}
+use Rattle.map_spec.specs.Lines.{IsOutOfPlace, region_number}
+use Rattle.map_spec.specs.Map.{IsOnlyLeft, AreListed}
+use Rattle.map_spec.specs.MapText.{part_name, region_line, outside_text, under_heading}
 use Rattle.pci_function.specs.declared.record.Record.{Record}
 use Rattle.pci_function.specs.Values.{record_value}
 use Rattle.pci_tree.specs.Outline.{Tree, RiseBySlot}
 use Rattle.pci_tree.specs.Ways.{slots_of}
-use Rattle.pci_tree.specs.Regions.{IsLawful, regions_of}
+use Rattle.pci_tree.specs.Regions.{IsLawful, IsRegionOn, regions_of}
 use Rattle.pci_tree.proofs.Lifting.{Has, record_for, function_for, same_slot_of, one_function}
 use Rattle.pci_tree.proofs.RegionParts.{regions_are}
 use Rattle.pci_tree.specs.declared.region.Region as outline
@@ -34,7 +35,7 @@ use Rattle.pci_why.proofs.Founds.{found_in_record, none_in_record}
 use Rattle.pci_map.specs.Values.{value_of}
 use Rattle.pci_map.specs.Off.{section}
 use Rattle.pci_map.specs.Left.{IsTreeOf}
-use Rattle.pci_map.specs.Unreached.{AreFoundBy, IsRecordIn, IsAt, IsAtRegister, IsBelow, IsOf, IsAmong, AreLeftTold, AreUnreachedTold}
+use Rattle.pci_map.specs.Asides.{AreFoundBy, IsRecordIn, IsAt, IsAtRegister, IsBelow, IsOf, IsAmong, AreTold, AreAsides, AreAsidesTold}
 use Rattle.pci_map.proofs.Firsts.{found_region}
 use Rattle.pci_map.proofs.Lefts.{AreOne, region_same}
 use Rattle.pci_map.proofs.Offs.{IsSet, extent_set, section_of}
@@ -108,17 +109,31 @@ before (y ∷ rs) (suc k) r x rise lt at has = elim (in_cons_cases y (take k rs)
   | inr later ↦ before rs k r x (pairs_tail (λ (v w : Record). slot_number v.slot < slot_number w.slot) y rs rise) (omega (arith, lt)) at later
 ]
 
+-- ---- what is found
+
+pub is_region : (s : System) (slot : Slot) (reg : ℕ) (space : Space) (q : outline.Region) → IsFoundIn s slot reg space q → IsRegionIn s (value_of space q)
+is_region s slot reg space q found = found_region s slot reg space q found
+
+pub found_on : (s : System) (slot : Slot) (reg : ℕ) (space : Space) (q : outline.Region) → IsFoundIn s slot reg space q → (bus : ℕ) → bus ≡ slot.bus → IsRegionOn s bus space q
+found_on s slot reg space q found bus is = record {
+  f = found.f;
+  part = found.part;
+  listed = found.listed;
+  on_bus = ap (λ (x : Slot). x.bus) (sym found.is.slot ∙ found.slot_is) ∙ sym is;
+  is = found.is;
+}
+
 abbrev IsLess : Region → Region → Type 0
 IsLess p q = region_number p < region_number q
 
-module _ (roots : List ℕ) (s : System) where
-  pub told_none : (P : Region → Type 0) (text : List ℕ) → ((q : Region) → IsRegionIn s q → IsLeft roots s q → P q → ⊥) → AreLeftTold roots s P text text
+module _ (Q : Region → Type 0) (s : System) where
+  pub told_none : (P : Region → Type 0) (text : List ℕ) → ((q : Region) → IsRegionIn s q → Q q → P q → ⊥) → AreTold Q s P text text
   told_none P text none = record {
     told = [];
     regions = λ q has. absurd (in_nil q has);
-    left = λ q has. absurd (in_nil q has);
+    hold = λ q has. absurd (in_nil q has);
     among = λ q has. absurd (in_nil q has);
-    complete = λ q is left p. absurd (none q is left p);
+    complete = λ q is holds p. absurd (none q is holds p);
     rising = pairs_nil IsLess;
     text = sym (append-nil text);
   }
@@ -129,12 +144,12 @@ module _ (roots : List ℕ) (s : System) where
     | inr none ↦ absurd (in_nil p none)
   ]
 
-  told_one : (P : Region → Type 0) (q : Region) (old new : List ℕ) → IsRegionIn s q → IsLeft roots s q → P q → ((p : Region) → IsRegionIn s p → P p → p ≡ q) → new ≡ old ++ region_line 1 q
-      → AreLeftTold roots s P old new
+  told_one : (P : Region → Type 0) (q : Region) (old new : List ℕ) → IsRegionIn s q → Q q → P q → ((p : Region) → IsRegionIn s p → P p → p ≡ q) → new ≡ old ++ region_line 1 q
+      → AreTold Q s P old new
   told_one P q old new is left holds only text = record {
     told = q ∷ [];
     regions = λ p has. in_one (IsRegionIn s) q p is has;
-    left = λ p has. in_one (IsLeft roots s) q p left has;
+    hold = λ p has. in_one Q q p left has;
     among = λ p has. in_one P q p holds has;
     complete = λ p of left_p holds_p. subst (λ z. Contains (q ∷ []) z) (sym (only p of holds_p)) (in_head q []);
     rising = pairs_cons IsLess q [] (λ p has. absurd (in_nil p has)) (pairs_nil IsLess);
@@ -142,22 +157,22 @@ module _ (roots : List ℕ) (s : System) where
   }
 
   -- lines of some, and behind them those of others
-  pub told_join : (P Q R : Region → Type 0) (old mid new : List ℕ) → AreLeftTold roots s P old mid → AreLeftTold roots s Q mid new
-      → ((p q : Region) → IsRegionIn s p → IsRegionIn s q → P p → Q q → region_number p < region_number q)
-      → ((q : Region) → P q → R q) → ((q : Region) → Q q → R q) → ((q : Region) → IsRegionIn s q → R q → P q ⊎ Q q) → AreLeftTold roots s R old new
-  told_join P Q R old mid new first second order from_p from_q parts = record {
+  pub told_join : (P S R : Region → Type 0) (old mid new : List ℕ) → AreTold Q s P old mid → AreTold Q s S mid new
+      → ((p q : Region) → IsRegionIn s p → IsRegionIn s q → P p → S q → region_number p < region_number q)
+      → ((q : Region) → P q → R q) → ((q : Region) → S q → R q) → ((q : Region) → IsRegionIn s q → R q → P q ⊎ S q) → AreTold Q s R old new
+  told_join P S R old mid new first second order from_p from_s parts = record {
     told = first.told ++ second.told;
     regions = λ q has. elim (Contains-append_cases first.told second.told q has) [
       | inl early ↦ first.regions q early
       | inr late ↦ second.regions q late
     ];
-    left = λ q has. elim (Contains-append_cases first.told second.told q has) [
-      | inl early ↦ first.left q early
-      | inr late ↦ second.left q late
+    hold = λ q has. elim (Contains-append_cases first.told second.told q has) [
+      | inl early ↦ first.hold q early
+      | inr late ↦ second.hold q late
     ];
     among = λ q has. elim (Contains-append_cases first.told second.told q has) [
       | inl early ↦ from_p q (first.among q early)
-      | inr late ↦ from_q q (second.among q late)
+      | inr late ↦ from_s q (second.among q late)
     ];
     complete = λ q is left holds. elim (parts q is holds) [
       | inl early ↦ Contains-append_left first.told second.told q (first.complete q is left early)
@@ -170,12 +185,12 @@ module _ (roots : List ℕ) (s : System) where
         ∙ ap (λ t. old ++ t) (sym (flat_map-append (region_line 1) first.told second.told));
   }
 
-  pub told_same : (P Q : Region → Type 0) (old new : List ℕ) → AreLeftTold roots s P old new → ((q : Region) → IsRegionIn s q → P q → Q q) → ((q : Region) → IsRegionIn s q → Q q → P q)
-      → AreLeftTold roots s Q old new
-  told_same P Q old new told to from = record {
+  pub told_same : (P S : Region → Type 0) (old new : List ℕ) → AreTold Q s P old new → ((q : Region) → IsRegionIn s q → P q → S q) → ((q : Region) → IsRegionIn s q → S q → P q)
+      → AreTold Q s S old new
+  told_same P S old new told to from = record {
     told = told.told;
     regions = told.regions;
-    left = told.left;
+    hold = told.hold;
     among = λ q has. to q (told.regions q has) (told.among q has);
     complete = λ q is left holds. told.complete q is left (from q is holds);
     rising = told.rising;
@@ -185,7 +200,7 @@ module _ (roots : List ℕ) (s : System) where
   -- ---- at a slot and a register
 
   module _ (unique : AreOne s) (slot : Slot) (reg : ℕ) where
-    pub none_found : (space : Space) (text : List ℕ) → NoneClaims s slot reg space → AreLeftTold roots s (IsAt slot reg space) text text
+    pub none_found : (space : Space) (text : List ℕ) → NoneClaims s slot reg space → AreTold Q s (IsAt slot reg space) text text
     none_found space text none = told_none (IsAt slot reg space) text
         (λ q is left at. none is.f q.part q.range.first is.listed (is.slot ∙ at.0) (is.register ∙ at.1) (subst (λ sp. system.Claims is.f q.part sp q.range.first) at.2 (there_is s q is)))
 
@@ -193,17 +208,14 @@ module _ (roots : List ℕ) (s : System) where
       abbrev v : Region
       v = value_of space q
 
-      pub is_region : IsRegionIn s v
-      is_region = found_region s slot reg space q found
-
       same_found : (p : Region) → IsRegionIn s p → IsAt slot reg space p → p ≡ v
-      same_found p is at = one_at s unique p v is is_region (at.0 ∙ sym found.slot_is) (at.1 ∙ sym found.register)
+      same_found p is at = one_at s unique p v is (is_region s slot reg space q found) (at.0 ∙ sym found.slot_is) (at.1 ∙ sym found.register)
 
-      pub found_reached : (text : List ℕ) → (windows : List Region) × HasWay roots s v windows → AreLeftTold roots s (IsAt slot reg space) text text
-      found_reached text way = told_none (IsAt slot reg space) text (λ p is left at. subst (IsLeft roots s) (same_found p is at) left way.0 way.1)
+      pub found_not : (text : List ℕ) → (Q v → ⊥) → AreTold Q s (IsAt slot reg space) text text
+      found_not text not = told_none (IsAt slot reg space) text (λ p is holds at. not (subst Q (same_found p is at) holds))
 
-      pub found_left : (old new : List ℕ) → IsLeft roots s v → new ≡ old ++ region_line 1 v → AreLeftTold roots s (IsAt slot reg space) old new
-      found_left old new left text = told_one (IsAt slot reg space) v old new is_region left (found.slot_is, found.register, refl) same_found text
+      pub found_one : (old new : List ℕ) → Q v → new ≡ old ++ region_line 1 v → AreTold Q s (IsAt slot reg space) old new
+      found_one old new left text = told_one (IsAt slot reg space) v old new (is_region s slot reg space q found) left (found.slot_is, found.register, refl) same_found text
 
     cases_space : (space : Space) → (space ≡ Io) ⊎ (space ≡ Memory)
     cases_space Io = inl refl
@@ -214,7 +226,7 @@ module _ (roots : List ℕ) (s : System) where
     is_io Memory = false
 
     -- no register has regions of both spaces
-    pub both_spaces : (old mid new : List ℕ) → AreLeftTold roots s (IsAt slot reg Io) old mid → AreLeftTold roots s (IsAt slot reg Memory) mid new → AreLeftTold roots s (IsAtRegister slot reg) old new
+    pub both_spaces : (old mid new : List ℕ) → AreTold Q s (IsAt slot reg Io) old mid → AreTold Q s (IsAt slot reg Memory) mid new → AreTold Q s (IsAtRegister slot reg) old new
     both_spaces old mid new io memory =
         told_join (IsAt slot reg Io) (IsAt slot reg Memory) (IsAtRegister slot reg) old mid new io memory
         (λ p q ip iq at_p at_q. (
@@ -228,7 +240,7 @@ module _ (roots : List ℕ) (s : System) where
 
   -- ---- at the registers of a function
 
-  pub below_none : (slot : Slot) (text : List ℕ) → AreLeftTold roots s (IsBelow slot 0) text text
+  pub below_none : (slot : Slot) (text : List ℕ) → AreTold Q s (IsBelow slot 0) text text
   below_none slot text = told_none (IsBelow slot 0) text (λ q is left at. (let low = at.1 in omega (arith, low)))
 
   below_cases : (q : Region) (slot : Slot) (k : ℕ) → IsRegionIn s q → q.slot ≡ slot → q.register < 4 * (k + 1) → IsBelow slot (4 * k) q ⊎ IsAtRegister slot (4 * k) q
@@ -241,8 +253,8 @@ module _ (roots : List ℕ) (s : System) where
       ]
 
   -- the next register of four bytes
-  pub one_register : (slot : Slot) (k : ℕ) (old mid new : List ℕ) → AreLeftTold roots s (IsBelow slot (4 * k)) old mid → AreLeftTold roots s (IsAtRegister slot (4 * k)) mid new
-      → AreLeftTold roots s (IsBelow slot (4 * (k + 1))) old new
+  pub one_register : (slot : Slot) (k : ℕ) (old mid new : List ℕ) → AreTold Q s (IsBelow slot (4 * k)) old mid → AreTold Q s (IsAtRegister slot (4 * k)) mid new
+      → AreTold Q s (IsBelow slot (4 * (k + 1))) old new
   one_register slot k old mid new first second =
       told_join (IsBelow slot (4 * k)) (IsAtRegister slot (4 * k)) (IsBelow slot (4 * (k + 1))) old mid new first second
       (λ p q ip iq at_p at_q. (
@@ -252,16 +264,16 @@ module _ (roots : List ℕ) (s : System) where
       (λ q at. (at.0, let low = at.1 in omega (arith, low))) (λ q at. (at.0, let here = at.1 in omega (arith, here)))
       (λ q is at. below_cases q slot k is at.0 at.1)
 
-  pub all_registers : (slot : Slot) (old new : List ℕ) → AreLeftTold roots s (IsBelow slot 64) old new → AreLeftTold roots s (IsOf slot) old new
+  pub all_registers : (slot : Slot) (old new : List ℕ) → AreTold Q s (IsBelow slot 64) old new → AreTold Q s (IsOf slot) old new
   all_registers slot old new told = told_same (IsBelow slot 64) (IsOf slot) old new told (λ q is at. at.0) (λ q is at. (at, register_low s q is))
 
   -- ---- of some functions
 
-  pub among_none : (text : List ℕ) → AreLeftTold roots s (IsAmong []) text text
+  pub among_none : (text : List ℕ) → AreTold Q s (IsAmong []) text text
   among_none text = told_none (IsAmong []) text (λ q is left at. in_nil q.slot at)
 
-  one_function_more : (slots : List Slot) (slot : Slot) (old mid new : List ℕ) → ((x : Slot) → Contains slots x → slot_number x < slot_number slot) → AreLeftTold roots s (IsAmong slots) old mid
-      → AreLeftTold roots s (IsOf slot) mid new → AreLeftTold roots s (IsAmong (slots ++ slot ∷ [])) old new
+  one_function_more : (slots : List Slot) (slot : Slot) (old mid new : List ℕ) → ((x : Slot) → Contains slots x → slot_number x < slot_number slot) → AreTold Q s (IsAmong slots) old mid
+      → AreTold Q s (IsOf slot) mid new → AreTold Q s (IsAmong (slots ++ slot ∷ [])) old new
   one_function_more slots slot old mid new above first second =
       told_join (IsAmong slots) (IsOf slot) (IsAmong (slots ++ slot ∷ [])) old mid new first second
       (λ p q ip iq at_p at_q. (
@@ -283,14 +295,14 @@ module _ (roots : List ℕ) (s : System) where
       let made : IsMade (λ (z : Record). z.slot) (take k rs) x = in_map_to (λ (z : Record). z.slot) (take k rs) x has in
       subst (λ y. slot_number y < slot_number r.slot) made.is (before rs k r made.from rise lt at made.has)
 
-  pub next_function : (rs : List Record) (k : ℕ) (r : Record) (old mid new : List ℕ) → RiseBySlot rs → k < length rs → get_or rs k r ≡ r → AreLeftTold roots s (IsAmong (slots_of (take k rs))) old mid
-      → AreLeftTold roots s (IsOf r.slot) mid new → AreLeftTold roots s (IsAmong (slots_of (take (k + 1) rs))) old new
+  pub next_function : (rs : List Record) (k : ℕ) (r : Record) (old mid new : List ℕ) → RiseBySlot rs → k < length rs → get_or rs k r ≡ r → AreTold Q s (IsAmong (slots_of (take k rs))) old mid
+      → AreTold Q s (IsOf r.slot) mid new → AreTold Q s (IsAmong (slots_of (take (k + 1) rs))) old new
   next_function rs k r old mid new rise lt at first second =
-      subst (λ xs. AreLeftTold roots s (IsAmong xs) old new)
+      subst (λ xs. AreTold Q s (IsAmong xs) old new)
       (ap (λ (z : Record). slots_of (take k rs) ++ z.slot ∷ []) (sym at) ∙ sym (map_more (λ (z : Record). z.slot) rs k r lt))
       (one_function_more (slots_of (take k rs)) r.slot old mid new (λ x has. earlier_slots rs k r x rise lt at has) first second)
 
-  pub all_functions : (rs : List Record) (k : ℕ) (old new : List ℕ) → Has s rs → length rs ≤ k → AreLeftTold roots s (IsAmong (slots_of (take k rs))) old new → AreLeftTold roots s (IsRegionIn s) old new
+  pub all_functions : (rs : List Record) (k : ℕ) (old new : List ℕ) → Has s rs → length rs ≤ k → AreTold Q s (IsAmong (slots_of (take k rs))) old new → AreTold Q s (IsRegionIn s) old new
   all_functions rs k old new has past told =
       told_same (IsAmong (slots_of (take k rs))) (IsRegionIn s) old new told (λ q is at. is) (λ q is of. (
       let own = record_for s rs is.f has is.listed in
@@ -311,14 +323,25 @@ line_set qs line has =
     let made : IsMade (region_line 1) qs line = in_map_to (region_line 1) qs line has in
     subst IsSet made.is (extent_set made.from.space made.from.range (part_name made.from.part made.from.prefetchable ∷ slot_text made.from.slot ∷ hex_byte made.from.register ∷ []))
 
-unreached_section : (qs : List Region) → section (codes "unreached") (flat_map (region_line 1) qs) ≡ unreached_text qs
-unreached_section qs = ap (section (codes "unreached")) (lines_of qs) ∙ section_of (codes "unreached") (map (region_line 1) qs) (line_set qs)
+section_told : (heading : List ℕ) (qs : List Region) → section heading (flat_map (region_line 1) qs) ≡ under_heading heading (map (region_line 1) qs)
+section_told heading qs = ap (section heading) (lines_of qs) ∙ section_of heading (map (region_line 1) qs) (line_set qs)
 
-pub told_section : (roots : List ℕ) (s : System) (empty below text old new : List ℕ) → empty ≡ [] → AreLeftTold roots s (IsRegionIn s) empty below → text ≡ below
-    → new ≡ old ++ section (codes "unreached") text → AreUnreachedTold roots s old new
-told_section roots s empty below text old new none told same pushed = record {
-  told = told.told;
-  are = record { regions = told.regions; left = told.left; complete = λ q is left. told.complete q is left is; rising = told.rising };
-  text = pushed ∙ ap (λ t. old ++ section (codes "unreached") t) (same ∙ told.text ∙ ap (λ t. t ++ flat_map (region_line 1) told.told) none)
-      ∙ ap (λ t. old ++ t) (unreached_section told.told);
+pub listed : (Q : Region → Type 0) (s : System) (old new : List ℕ) (told : AreTold Q s (IsRegionIn s) old new) → AreListed Q s told.told
+listed Q s old new told = record { regions = told.regions; hold = told.hold; complete = λ q is holds. told.complete q is holds is; rising = told.rising }
+
+below : (Q : Region → Type 0) (s : System) (empty text : List ℕ) (heading : List ℕ) (told : AreTold Q s (IsRegionIn s) empty text) → empty ≡ []
+    → section heading text ≡ under_heading heading (map (region_line 1) told.told)
+below Q s empty text heading told none = ap (section heading) (told.text ∙ ap (λ t. t ++ flat_map (region_line 1) told.told) none) ∙ section_told heading told.told
+
+pub asides_below : (given : Given) (roots : List ℕ) (s : System) (no_out out said no_left left left_said old mid new : List ℕ) → no_out ≡ [] → no_left ≡ [] → AreAsides given roots s (IsRegionIn s) no_out out no_left left
+    → said ≡ out → left_said ≡ left → mid ≡ old ++ section (codes "outside") said → new ≡ mid ++ section (codes "unreached") left_said → AreAsidesTold given roots s old new
+asides_below given roots s no_out out said no_left left left_said old mid new none nothing told is_out is_left first second = record {
+  outside = told.out.told;
+  are_outside = listed (IsOutOfPlace given roots s) s no_out out told.out;
+  unreached = told.left.told;
+  are_left = listed (IsOnlyLeft given roots s) s no_left left told.left;
+  text = second ∙ ap (λ t. mid ++ section (codes "unreached") t) is_left ∙ ap (λ t. t ++ section (codes "unreached") left) (first ∙ ap (λ t. old ++ section (codes "outside") t) is_out)
+      ∙ append_assoc old (section (codes "outside") out) (section (codes "unreached") left)
+      ∙ ap (λ t. old ++ (t ++ section (codes "unreached") left)) (below (IsOutOfPlace given roots s) s no_out out (codes "outside") told.out none)
+      ∙ ap (λ t. old ++ (outside_text told.out.told ++ t)) (below (IsOnlyLeft given roots s) s no_left left (codes "unreached") told.left nothing);
 }

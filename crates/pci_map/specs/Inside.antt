@@ -5,7 +5,8 @@ use Rattle.pci_spec.specs.Registers.{MEMORY_BASE, PREFETCHABLE_BASE}
 use Rattle.pci_spec.specs.System.{System, Space}
 use Rattle.pci_spec.specs.Why as why
 use Rattle.pci_spec.specs.Why.{IsRegionIn, AreRuns}
-use Rattle.map_spec.specs.Lines.{BelongsUnder, IsFreeIn}
+use Rattle.given_spec.specs.Given.{Given}
+use Rattle.map_spec.specs.Lines.{BelongsUnder, IsFreeIn, IsOutOfPlace}
 use Rattle.pci_base.specs.declared.range.Range.{Range}
 use Rattle.pci_base.specs.Ranges.{decoded_range_of}
 use Rattle.pci_tree.specs.Regions.{IsRegionOn}
@@ -29,15 +30,18 @@ IsEarlier s space w o =
     (MatchOption o (NoneClaims s w.slot MEMORY_BASE space)
     (λ q. IsFoundIn s w.slot MEMORY_BASE space q)) (o ≡ None)
 
--- Just the regions that belong under a window, in order, and the greatest runs of what is free of it; and the bus
--- behind its bridge, which is a higher one.
-pub record IsInside (s : System) (space : Space) (w : Region) (bus : ℕ) (regions : List Region)
-    (runs : List Range) : Type 0 where
+-- Just the regions that belong under a window and aren't out of place, in order, and the greatest runs of what is free
+-- of it; and the bus behind its bridge, which is a higher one.
+pub record IsInside (given : Given) (roots : List ℕ) (s : System) (space : Space) (w : Region)
+    (bus : ℕ) (regions : List Region) (runs : List Range) : Type 0 where
   pub rises : w.slot.bus < bus
   pub each : (q : Region) → Contains regions q → IsRegionOn s bus space q
   pub belong : (q : Region) → Contains regions q
       → BelongsUnder s (value_of space w) (value_of space q)
+  pub within : (q : Region) → Contains regions q
+      → IsOutOfPlace given roots s (value_of space q) → ⊥
   pub complete : (v : why.Region) → IsRegionIn s v → v.space ≡ space
-      → BelongsUnder s (value_of space w) v → Contains (map (value_of space) regions) v
+      → BelongsUnder s (value_of space w) v → (IsOutOfPlace given roots s v → ⊥)
+      → Contains (map (value_of space) regions) v
   pub sorted : AllPairs IsBefore regions
   pub free : AreRuns (IsFreeIn s (value_of space w)) (map decoded_range_of runs)

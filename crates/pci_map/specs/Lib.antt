@@ -6,4 +6,6 @@ pub mod Off
 pub mod Buses
 pub mod Left
 pub mod Ways
-pub mod Unreached
+pub mod Sent
+pub mod Above
+pub mod Asides

@@ -4,6 +4,7 @@ use Rattle.std.specs.List.{Contains}
 use Rattle.pci_spec.specs.System.{System, Space}
 use Rattle.pci_spec.specs.Decoded as decoded
 use Rattle.pci_spec.specs.Why as why
+use Rattle.given_spec.specs.Given.{Given}
 use Rattle.map_spec.specs.Lines.{Lines, End, Free, Sits, Place, AreInside, AreAllInside, AreAllLines}
 use Rattle.map_spec.specs.MapText.{region_line, lines_text, space_lines}
 use Rattle.pci_base.specs.declared.range.Range.{Range}
@@ -38,19 +39,19 @@ merged space (q ∷ qs) rs =
     ++ (At (value_of space q) ∷ merged space qs (drop (ahead q.first rs) rs))
 
 -- a text got the lines of some regions and runs, with all that is inside
-pub record IsPlaced (s : System) (space : Space) (depth : ℕ) (all : List Entry)
-    (old new : List ℕ) : Type 0 where
+pub record IsPlaced (given : Given) (roots : List ℕ) (s : System) (space : Space) (depth : ℕ)
+    (all : List Entry) (old new : List ℕ) : Type 0 where
   pub lines : Lines
   pub entries : entries lines ≡ all
-  pub inside : AreAllInside s space lines
+  pub inside : AreAllInside given roots s space lines
   pub text : new ≡ old ++ lines_text depth space lines
 
 -- a text got the line of a region, and what is inside it
-pub record IsSeated (s : System) (space : Space) (depth : ℕ) (q : Region)
-    (old new : List ℕ) : Type 0 where
+pub record IsSeated (given : Given) (roots : List ℕ) (s : System) (space : Space) (depth : ℕ)
+    (q : Region) (old new : List ℕ) : Type 0 where
   pub inside : Lines
-  pub is : AreInside s space (part_of q) (value_of space q) inside
-  pub deeper : AreAllInside s space inside
+  pub is : AreInside given roots s space (part_of q) (value_of space q) inside
+  pub deeper : AreAllInside given roots s space inside
   pub text : new
       ≡ old ++ (region_line depth (value_of space q) ++ lines_text (suc depth) space inside)
 
@@ -58,8 +59,8 @@ abbrev pub AreOnBus : System → ℕ → Space → List Region → Type 0
 AreOnBus s bus space qs = (q : Region) → Contains qs q → IsRegionOn s bus space q
 
 -- a text got all lines of a space of a root bus
-pub record IsSpaceTold (s : System) (space : Space) (bus : ℕ) (place : Place)
-    (old new : List ℕ) : Type 0 where
+pub record IsSpaceTold (given : Given) (roots : List ℕ) (s : System) (space : Space) (bus : ℕ)
+    (place : Place) (old new : List ℕ) : Type 0 where
   pub lines : Lines
-  pub are : AreAllLines s space place lines
+  pub are : AreAllLines given roots s space place lines
   pub text : new ≡ old ++ space_lines bus space lines

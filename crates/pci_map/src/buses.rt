@@ -3,13 +3,16 @@ ghost use Rattle.std.specs.Prelude.{◌∷◌, [], ◌<◌, OnOk};
 ghost use Rattle.std.specs.String.{string_bytes};
 ghost use Rattle.std.specs.List.{range_with_len};
 ghost use Rattle.pci_spec.specs.System.{System};
-ghost use Rattle.pci_spec.specs.Decoded.{HasRecords};
+ghost use Rattle.pci_given.specs.Values.{given_value};
+ghost use Rattle.pci_map.specs.Above.{AreSentAbove};
 ghost use Rattle.pci_map.specs.Buses.{AreRootsTold};
 
+use super::sent::Sent;
 use super::walk::push_space;
 use pci_base::memory::OutOfMemory;
 use pci_base::slot::BUSES;
 use pci_base::space::Space;
+use pci_given::given::Given;
 use pci_tree::outline::Outline;
 use std::alloc::Allocator;
 
@@ -18,16 +21,20 @@ fn push_bus<A: Allocator + Copy, B: Allocator>(
     alloc: A,
     text: &mut String<B>,
     outline: &Outline<A>,
+    given: &Given<'_>,
+    above: &[Sent<A>],
     bus: u8,
 ) -> Result<(), OutOfMemory>
-    ensures { OnOk result ((s : System) → HasRecords s outline.now.records
-        → AreRootsTold outline.now.roots s (bus ∷ []) (string_bytes text.old) (string_bytes text.new)) }
+    ensures { OnOk result ((s : System)
+        → AreSentAbove (given_value given.now) outline.now s above.now
+        → AreRootsTold (given_value given.now) outline.now.roots s (bus ∷ []) (string_bytes text.old)
+        (string_bytes text.new)) }
 {
     if !outline.roots().has(bus) {
         return Ok(());
     }
-    push_space(alloc, text, outline, bus, Space::Io)?;
-    push_space(alloc, text, outline, bus, Space::Mem)
+    push_space(alloc, text, outline, given, above, bus, Space::Io)?;
+    push_space(alloc, text, outline, given, above, bus, Space::Mem)
 }
 
 /// Appends the lines of the root buses, rising, of each the I/O space before memory.
@@ -35,12 +42,16 @@ pub fn push_roots<A: Allocator + Copy, B: Allocator>(
     alloc: A,
     text: &mut String<B>,
     outline: &Outline<A>,
+    given: &Given<'_>,
+    above: &[Sent<A>],
 ) -> Result<(), OutOfMemory>
-    ensures { OnOk result ((s : System) → HasRecords s outline.now.records
-        → AreRootsTold outline.now.roots s (range_with_len 0 256) (string_bytes text.old) (string_bytes text.new)) }
+    ensures { OnOk result ((s : System)
+        → AreSentAbove (given_value given.now) outline.now s above.now
+        → AreRootsTold (given_value given.now) outline.now.roots s (range_with_len 0 256)
+        (string_bytes text.old) (string_bytes text.new)) }
 {
     for bus in 0..BUSES {
-        push_bus(alloc, text, outline, bus as u8)?;
+        push_bus(alloc, text, outline, given, above, bus as u8)?;
     }
     Ok(())
 }

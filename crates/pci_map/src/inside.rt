@@ -3,13 +3,17 @@ ghost use Rattle.std.specs.Prelude.{◌≡◌, IfOk, MatchOption};
 ghost use Rattle.std.specs.List.{filter};
 ghost use Rattle.pci_spec.specs.System.{System};
 ghost use Rattle.pci_spec.specs.Decoded.{HasRecords};
+ghost use Rattle.given_spec.specs.Given.{Given as GivenValue};
 ghost use Rattle.pci_base.specs.Space.{space_of};
 ghost use Rattle.pci_spec.specs.Why.{IsRegionIn};
 ghost use Rattle.pci_tree.specs.declared.region.Part.TheVariants.{Window};
 ghost use Rattle.pci_map.specs.Values.{value_of};
+ghost use Rattle.pci_map.specs.Above.{AreSentAbove};
 ghost use Rattle.pci_map.specs.Inside.{is_in, is_held, IsEarlier, IsInside};
 
+use super::above::in_place;
 use super::gaps::free_runs;
+use super::sent::Sent;
 use pci_base::memory::OutOfMemory;
 use pci_base::offset::{MEMORY_BASE, PREFETCHABLE_BASE};
 use pci_base::range::Range;
@@ -24,9 +28,9 @@ use std::alloc::{Allocator, Global};
 pub struct Inside<A: Allocator = Global> {
     /// The bus behind its bridge, or the root bus itself.
     pub bus: u8,
-    /// The regions that stand there, by first address, then by slot and register.
+    /// The regions that stand there, by first address, then by slot and register: what is out of place doesn't.
     pub regions: Vec<Region, A>,
-    /// The runs of a window that no region of the bus claims, rising; of a root bus none.
+    /// The free runs of a window, or of what the host sends to a root bus, rising.
     pub runs: Vec<Range, A>,
 }
 
@@ -87,13 +91,16 @@ fn earlier<A: Allocator, B: Allocator>(
 pub fn look_inside<A: Allocator + Copy>(
     alloc: A,
     outline: &Outline<A>,
+    above: &[Sent<A>],
     space: Space,
     window: &Region,
 ) -> Result<Option<Inside<A>>, OutOfMemory>
     // an outline has no image, so this is said of every system with its records
-    ensures { IfOk result (λ o. (s : System) → HasRecords s outline.now.records
+    ensures { IfOk result (λ o. (given : GivenValue) (s : System)
+        → AreSentAbove given outline.now s above.now
         → IsRegionIn s (value_of (space_of space) window.now) → window.now.part ≡ Window
-        → MatchOption o ⊥ (λ i. IsInside s (space_of space) window.now i.bus i.regions.items i.runs.items)) }
+        → MatchOption o ⊥ (λ i. IsInside given outline.now.roots s (space_of space) window.now i.bus
+        i.regions.items i.runs.items)) }
 {
     let Some(function) = record_at(outline.records(), window.slot) else {
         return Ok(None);
@@ -109,6 +116,7 @@ pub fn look_inside<A: Allocator + Copy>(
         last: window.last,
     };
     let runs = free_runs(alloc, range, all.as_slice())?;
-    let regions = held(alloc, window, &earlier, all.as_slice())?;
+    let held = held(alloc, window, &earlier, all.as_slice())?;
+    let regions = in_place(alloc, above, space, bus, held)?;
     Ok(Some(Inside { bus, regions, runs }))
 }

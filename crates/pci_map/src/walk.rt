@@ -3,21 +3,27 @@ ghost use Rattle.std.specs.Prelude.{◌≡◌, ◌≤◌, ◌<◌, ◌+◌, ◌+
 ghost use Rattle.std.specs.List.{flat_map};
 ghost use Rattle.std.specs.String.{string_bytes};
 ghost use Rattle.pci_spec.specs.System.{System};
-ghost use Rattle.pci_spec.specs.Decoded.{HasRecords};
+ghost use Rattle.given_spec.specs.Given.{Given as GivenValue};
 ghost use Rattle.map_spec.specs.Lines.{OnRoot};
 ghost use Rattle.map_spec.specs.MapText.{free_line};
 ghost use Rattle.pci_base.specs.Ranges.{decoded_range_of};
 ghost use Rattle.pci_base.specs.Space.{space_of};
 ghost use Rattle.pci_tree.specs.declared.region.Part.TheVariants.{Window};
 ghost use Rattle.pci_tree.specs.Regions.{IsRegionOn};
+ghost use Rattle.pci_given.specs.Values.{given_value};
+ghost use Rattle.pci_map.specs.Above.{AreSentAbove};
 ghost use Rattle.pci_map.specs.Inside.{IsInside};
 ghost use Rattle.pci_map.specs.Walk.{ahead, merged, IsPlaced, IsSeated, AreOnBus, IsSpaceTold};
 
+use super::above::in_place;
+use super::gaps::free_on_root;
 use super::inside::{Inside, look_inside};
 use super::line::{push_heading, push_region, push_runs};
+use super::sent::Sent;
 use pci_base::memory::OutOfMemory;
 use pci_base::range::Range;
 use pci_base::space::Space;
+use pci_given::given::Given;
 use pci_tree::outline::Outline;
 use pci_tree::region::{Part, Region};
 use std::alloc::{AllocError, Allocator};
@@ -59,22 +65,24 @@ fn push_before<'a, A: Allocator>(
 fn inside_of<A: Allocator + Copy>(
     alloc: A,
     outline: &Outline<A>,
+    above: &[Sent<A>],
     space: Space,
     bus: u8,
     region: &Region,
 ) -> Result<Option<Inside<A>>, OutOfMemory>
     // so the walk ends
     ensures deeper { IfOk result (λ o. IfSome o (λ i. bus < i.bus)) }
-    ensures inside { IfOk result (λ o. (s : System) → HasRecords s outline.now.records
+    ensures inside { IfOk result (λ o. (given : GivenValue) (s : System)
+        → AreSentAbove given outline.now s above.now
         → IsRegionOn s bus (space_of space) region.now
         → MatchOption o (region.now.part ≡ Window → ⊥)
-        (λ i. IsInside s (space_of space) region.now i.bus i.regions.items i.runs.items
-        × (region.now.part ≡ Window))) }
+        (λ i. IsInside given outline.now.roots s (space_of space) region.now i.bus i.regions.items
+        i.runs.items × (region.now.part ≡ Window))) }
 {
     if region.part != Part::Window {
         return Ok(None);
     }
-    let Some(inside) = look_inside(alloc, outline, space, region)? else {
+    let Some(inside) = look_inside(alloc, outline, above, space, region)? else {
         return Ok(None);
     };
     // a bridge leads to a higher bus than its own
@@ -90,6 +98,7 @@ fn push_seat<A: Allocator + Copy, B: Allocator>(
     alloc: A,
     text: &mut String<B>,
     outline: &Outline<A>,
+    above: &[Sent<A>],
     space: Space,
     bus: u8,
     depth: u32,
@@ -97,15 +106,16 @@ fn push_seat<A: Allocator + Copy, B: Allocator>(
 ) -> Result<(), OutOfMemory>
     // each window leads to a higher bus, so the depth can be counted
     requires { depth ≤ bus + 1 }
-    ensures { OnOk result ((s : System) → HasRecords s outline.now.records
+    ensures { OnOk result ((given : GivenValue) (s : System)
+        → AreSentAbove given outline.now s above.now
         → IsRegionOn s bus (space_of space) region.now
-        → IsSeated s (space_of space) depth region.now (string_bytes text.old) (string_bytes text.new)) }
+        → IsSeated given outline.now.roots s (space_of space) depth region.now (string_bytes text.old) (string_bytes text.new)) }
 {
     push_region(text, depth, space, region)?;
-    let Some(inside) = inside_of(alloc, outline, space, bus, region)? else {
+    let Some(inside) = inside_of(alloc, outline, above, space, bus, region)? else {
         return Ok(());
     };
-    push_place(alloc, text, outline, space, depth + 1, &inside)
+    push_place(alloc, text, outline, above, space, depth + 1, &inside)
 }
 
 /// Appends the lines of what stands in a place, with what is inside each window below its line.
@@ -114,21 +124,23 @@ fn push_place<A: Allocator + Copy, B: Allocator>(
     alloc: A,
     text: &mut String<B>,
     outline: &Outline<A>,
+    above: &[Sent<A>],
     space: Space,
     depth: u32,
     place: &Inside<A>,
 ) -> Result<(), OutOfMemory>
     requires { depth ≤ place.now.bus + 1 }
-    ensures { OnOk result ((s : System) → HasRecords s outline.now.records
+    ensures { OnOk result ((given : GivenValue) (s : System)
+        → AreSentAbove given outline.now s above.now
         → AreOnBus s place.now.bus (space_of space) place.now.regions.items
-        → IsPlaced s (space_of space) depth
+        → IsPlaced given outline.now.roots s (space_of space) depth
         (merged (space_of space) place.now.regions.items place.now.runs.items)
         (string_bytes text.old) (string_bytes text.new)) }
 {
     let mut left = place.runs.as_slice();
     for region in place.regions.as_slice() {
         left = push_before(text, depth, space, left, region.first)?;
-        push_seat(alloc, text, outline, space, place.bus, depth, region)?;
+        push_seat(alloc, text, outline, above, space, place.bus, depth, region)?;
     }
     push_runs(text, depth, space, left)?;
     Ok(())
@@ -139,21 +151,23 @@ pub fn push_space<A: Allocator + Copy, B: Allocator>(
     alloc: A,
     text: &mut String<B>,
     outline: &Outline<A>,
+    given: &Given<'_>,
+    above: &[Sent<A>],
     bus: u8,
     space: Space,
 ) -> Result<(), OutOfMemory>
-    ensures { OnOk result ((s : System) → HasRecords s outline.now.records
-        → IsSpaceTold s (space_of space) bus (OnRoot bus) (string_bytes text.old) (string_bytes text.new)) }
+    ensures { OnOk result ((s : System)
+        → AreSentAbove (given_value given.now) outline.now s above.now
+        → IsSpaceTold (given_value given.now) outline.now.roots s (space_of space) bus (OnRoot bus)
+        (string_bytes text.old) (string_bytes text.new)) }
 {
-    let regions = outline.sorted(bus, space)?;
-    if regions.is_empty() {
+    let all = outline.sorted(bus, space)?;
+    let runs = free_on_root(alloc, given, space, bus, all.as_slice())?;
+    let regions = in_place(alloc, above, space, bus, all)?;
+    if regions.is_empty() && runs.is_empty() {
         return Ok(());
     }
-    let place = Inside {
-        bus,
-        regions,
-        runs: Vec::new(alloc),
-    };
+    let place = Inside { bus, regions, runs };
     push_heading(text, bus, space)?;
-    push_place(alloc, text, outline, space, 1, &place)
+    push_place(alloc, text, outline, above, space, 1, &place)
 }

@@ -1,9 +1,12 @@
 use Rattle.std.specs.List.{range_with_len}
 use Rattle.std.specs.String.{string_bytes}
 use Rattle.pci_spec.specs.System.{System}
-use Rattle.pci_spec.specs.Decoded.{HasRecords}
+use Rattle.pci_given.specs.Values.{given_value}
+use Rattle.pci_map.specs.Above.{AreSentAbove}
 use Rattle.pci_map.specs.Buses.{AreRootsTold}
 use Rattle.pci_map.proofs.buses.push_roots.Given as goal
 
 abbrev pub invariant-loop-bus : goal.invariant-loop-bus
-invariant-loop-bus g l = (s : System) → HasRecords s l.outline.records → AreRootsTold l.outline.roots s (range_with_len 0 l.bus) (string_bytes l.initial.text) (string_bytes l.text)
+invariant-loop-bus g l =
+    (s : System) → AreSentAbove (given_value l.given) l.outline s l.above
+    → AreRootsTold (given_value l.given) l.outline.roots s (range_with_len 0 l.bus) (string_bytes l.initial.text) (string_bytes l.text)

@@ -1,5 +1,4 @@
-use Rattle.std.proofs.Common.{ap, sym, ◌∙◌, true, false}
-use Rattle.std.specs.Option.{is_some}
+use Rattle.std.proofs.Common.{ap, sym, ◌∙◌}
 use Rattle.pci_spec.specs.Registers.{IO_BASE, MEMORY_BASE, PREFETCHABLE_BASE}
 use Rattle.pci_spec.specs.System.{Io, Memory}
 use Rattle.pci_base.specs.Space.{space_of}

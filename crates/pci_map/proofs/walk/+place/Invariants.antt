@@ -1,8 +1,9 @@
 use Rattle.std.proofs.Common.{◌+◌, ◌-◌, ◌*◌, drop}
 use Rattle.std.specs.String.{string_bytes}
 use Rattle.pci_spec.specs.System.{System}
-use Rattle.pci_spec.specs.Decoded.{HasRecords}
+use Rattle.given_spec.specs.Given.{Given}
 use Rattle.pci_base.specs.Space.{space_of}
+use Rattle.pci_map.specs.Above.{AreSentAbove}
 use Rattle.pci_map.specs.Walk.{merged, AreOnBus}
 use Rattle.pci_map.proofs.Joins.{IsPartly}
 use Rattle.pci_map.proofs.walk.+place.Given as goal
@@ -15,6 +16,6 @@ decreases-push_place g l = 2 * (256 - l.place.now.bus) + 1
 
 abbrev pub invariant-push_place-loop-region : goal.invariant-push_place-loop-region
 invariant-push_place-loop-region g l =
-    (s : System) → HasRecords s l.outline.records → AreOnBus s l.place.bus (space_of l.space) l.place.regions.items
-    → IsPartly s (space_of l.space) l.depth (merged (space_of l.space) l.place.regions.items l.place.runs.items)
+    (given : Given) (s : System) → AreSentAbove given l.outline s l.above → AreOnBus s l.place.bus (space_of l.space) l.place.regions.items
+    → IsPartly given l.outline.roots s (space_of l.space) l.depth (merged (space_of l.space) l.place.regions.items l.place.runs.items)
     (merged (space_of l.space) (drop l.region-index l.place.regions.items) l.left) (string_bytes l.initial.text) (string_bytes l.text)

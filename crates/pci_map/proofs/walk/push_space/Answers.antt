@@ -1,31 +1,43 @@
-use Rattle.std.proofs.Common.{◌≡◌, rules, subst, List, [], length}
+use Rattle.std.proofs.Common.{◌≡◌, rules, subst, sym, List, [], length}
 use Rattle.std.specs.String.{string_bytes}
 use Rattle.std.proofs.lemmas.List.{nil_from_length}
 use Rattle.std.proofs.lemmas.Result.{on_ok_weaker}
 use Rattle.pci_base.specs.Space.{space_of}
 use Rattle.pci_base.specs.declared.range.Range.{Range}
 use Rattle.pci_tree.specs.declared.region.Region.{Region}
-use Rattle.pci_map.specs.Walk.{merged, IsPlaced}
+use Rattle.pci_tree.specs.Outline.{AreSortedRegionsOf}
+use Rattle.pci_given.specs.Values.{given_value}
 use Rattle.pci_map.proofs.Seats.{told_none, told_some}
 use Rattle.pci_map.proofs.walk.push_space.Goals as goal
 
-pub returns-then-is_empty : goal.returns-then-is_empty
-returns-then-is_empty g c = λ s has.
+pub returns-then-is_empty-2 : goal.returns-then-is_empty-2
+returns-then-is_empty-2 g c = λ s above.
+    let given = given_value c.args.given.now in
+    let space = space_of c.args.space in
+    let all : List Region = c.in_ok-all.all.items in
     let qs : List Region = c.in_ok-regions.regions.items in
-    let len : length qs ≡ 0 = search rules in
-    let none : qs ≡ [] = nil_from_length qs len in
-    told_none s (space_of c.args.space) c.args.bus qs (string_bytes c.args.text.now) (c.in_ok-regions.ensures s has) none
+    let rs : List Range = c.in_ok-runs.runs.items in
+    let no_qs : length qs ≡ 0 = search rules in
+    let no_rs : length rs ≡ 0 = search rules in
+    let sorted = c.in_ok-all.ensures s above.tree.records in
+    told_none given c.args.outline.now.roots s space c.args.bus all qs rs sorted (c.in_ok-regions.ensures given c.args.outline.now s above sorted.each)
+    (c.in_ok-runs.ensures s (subst (AreSortedRegionsOf s c.args.bus space) (sym c.as_slice.ensures.value) sorted))
+    (string_bytes c.args.text.now) (nil_from_length qs no_qs) (nil_from_length rs no_rs)
 
 pub returns : goal.returns
 returns g c =
     on_ok_weaker c.push_place.result
-    (λ last s has. (
-    let qs : List Region = c.in_ok-regions.regions.items in
+    (λ last s above. (
+    let given = given_value c.args.given.now in
     let space = space_of c.args.space in
-    let sorted = c.in_ok-regions.ensures s has in
-    let mid = string_bytes c.push_heading.new.text in
-    let new = string_bytes c.push_place.new.text in
-    let some : qs ≡ [] → ⊥ = λ none. search (rules, none) in
-    told_some s space c.args.bus qs (string_bytes c.args.text.now) mid new sorted some c.in_ok-push_heading.ensures
-    (subst (λ (rs : List Range). IsPlaced s space 1 (merged space qs rs) mid new) c.new.ensures.items (last s has sorted.each))))
+    let all : List Region = c.in_ok-all.all.items in
+    let qs : List Region = c.in_ok-regions.regions.items in
+    let rs : List Range = c.in_ok-runs.runs.items in
+    let sorted = c.in_ok-all.ensures s above.tree.records in
+    let placed = c.in_ok-regions.ensures given c.args.outline.now s above sorted.each in
+    let some : qs ≡ [] → rs ≡ [] → ⊥ = λ none no_runs. search (rules, none, no_runs) in
+    told_some given c.args.outline.now.roots s space c.args.bus all qs rs sorted placed
+    (c.in_ok-runs.ensures s (subst (AreSortedRegionsOf s c.args.bus space) (sym c.as_slice.ensures.value) sorted))
+    (string_bytes c.args.text.now) (string_bytes c.push_heading.new.text) (string_bytes c.push_place.new.text) some c.in_ok-push_heading.ensures
+    (last given s above (λ q has. sorted.each q (placed.each q has)))))
     c.push_place.ensures

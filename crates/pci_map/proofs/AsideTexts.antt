@@ -1,0 +1,92 @@
+-- The lines of regions that are out of place, and of those that are only left.
+use Rattle.std.proofs.Common.{◌≡◌, ℕ, ◌+◌, ◌<◌, ◌≤◌, List, [], ◌++◌, take, length, get_or}
+use Rattle.std.specs.Prelude.{◌*◌}
+use Rattle.pci_spec.specs.Slot.{Slot}
+use Rattle.pci_spec.specs.System.{System, Space, Io, Memory}
+use Rattle.pci_spec.specs.Why.{Region, IsRegionIn}
+use Rattle.given_spec.specs.Given.{Given}
+use Rattle.map_spec.specs.Lines.{IsOutOfPlace}
+use Rattle.map_spec.specs.Map.{HasWay, IsLeft, IsOnlyLeft}
+use Rattle.map_spec.specs.MapText.{region_line}
+use Rattle.pci_function.specs.declared.record.Record.{Record}
+use Rattle.pci_tree.specs.declared.region.Region as outline
+use Rattle.pci_tree.specs.Outline.{RiseBySlot}
+use Rattle.pci_tree.specs.Ways.{slots_of}
+use Rattle.pci_tree.proofs.Lifting.{Has}
+use Rattle.pci_why.specs.Found.{IsFoundIn, NoneClaims}
+use Rattle.pci_map.specs.Values.{value_of}
+use Rattle.pci_map.specs.Asides.{IsAt, IsAtRegister, IsBelow, IsOf, IsAmong, AreAsides}
+use Rattle.pci_map.proofs.Lefts.{AreOne}
+use Rattle.pci_map.proofs.Tolds.{none_found, found_not, found_one, both_spaces, below_none, one_register, all_registers, among_none, next_function, all_functions}
+
+module _ (given : Given) (roots : List ℕ) (s : System) (unique : AreOne s) (slot : Slot) (reg : ℕ) (space : Space) where
+  pub none_aside : (out left : List ℕ) → NoneClaims s slot reg space → AreAsides given roots s (IsAt slot reg space) out out left left
+  none_aside out left none = record {
+    out = none_found (IsOutOfPlace given roots s) s unique slot reg space out none;
+    left = none_found (IsOnlyLeft given roots s) s unique slot reg space left none;
+  }
+
+  module _ (q : outline.Region) (found : IsFoundIn s slot reg space q) where
+    pub told_outside : (out new left : List ℕ) → IsOutOfPlace given roots s (value_of space q) → new ≡ out ++ region_line 1 (value_of space q) → AreAsides given roots s (IsAt slot reg space) out new left left
+    told_outside out new left is_out text = record {
+      out = found_one (IsOutOfPlace given roots s) s unique slot reg space q found out new is_out text;
+      left = found_not (IsOnlyLeft given roots s) s unique slot reg space q found left (λ only. only.within is_out);
+    }
+
+    pub told_reached : (out left : List ℕ) → (IsOutOfPlace given roots s (value_of space q) → ⊥) → (windows : List Region) × HasWay roots s (value_of space q) windows
+        → AreAsides given roots s (IsAt slot reg space) out out left left
+    told_reached out left within way = record {
+      out = found_not (IsOutOfPlace given roots s) s unique slot reg space q found out within;
+      left = found_not (IsOnlyLeft given roots s) s unique slot reg space q found left (λ only. only.left way.0 way.1);
+    }
+
+    pub told_left : (out left new : List ℕ) → (IsOutOfPlace given roots s (value_of space q) → ⊥) → IsLeft roots s (value_of space q) → new ≡ left ++ region_line 1 (value_of space q)
+        → AreAsides given roots s (IsAt slot reg space) out out left new
+    told_left out left new within is_left text = record {
+      out = found_not (IsOutOfPlace given roots s) s unique slot reg space q found out within;
+      left = found_one (IsOnlyLeft given roots s) s unique slot reg space q found left new record { left = is_left; within = within } text;
+    }
+
+-- ---- those of more
+
+module _ (given : Given) (roots : List ℕ) (s : System) where
+  pub both_spaces_aside : (unique : AreOne s) (slot : Slot) (reg : ℕ) (out mid_out new_out left mid_left new_left : List ℕ) → AreAsides given roots s (IsAt slot reg Io) out mid_out left mid_left
+      → AreAsides given roots s (IsAt slot reg Memory) mid_out new_out mid_left new_left → AreAsides given roots s (IsAtRegister slot reg) out new_out left new_left
+  both_spaces_aside unique slot reg out mid_out new_out left mid_left new_left io memory = record {
+    out = both_spaces (IsOutOfPlace given roots s) s unique slot reg out mid_out new_out io.out memory.out;
+    left = both_spaces (IsOnlyLeft given roots s) s unique slot reg left mid_left new_left io.left memory.left;
+  }
+
+  pub none_below : (slot : Slot) (out left : List ℕ) → AreAsides given roots s (IsBelow slot 0) out out left left
+  none_below slot out left = record { out = below_none (IsOutOfPlace given roots s) s slot out; left = below_none (IsOnlyLeft given roots s) s slot left }
+
+  pub one_register_aside : (slot : Slot) (k : ℕ) (out mid_out new_out left mid_left new_left : List ℕ) → AreAsides given roots s (IsBelow slot (4 * k)) out mid_out left mid_left
+      → AreAsides given roots s (IsAtRegister slot (4 * k)) mid_out new_out mid_left new_left → AreAsides given roots s (IsBelow slot (4 * (k + 1))) out new_out left new_left
+  one_register_aside slot k out mid_out new_out left mid_left new_left first second = record {
+    out = one_register (IsOutOfPlace given roots s) s slot k out mid_out new_out first.out second.out;
+    left = one_register (IsOnlyLeft given roots s) s slot k left mid_left new_left first.left second.left;
+  }
+
+  pub all_registers_aside : (slot : Slot) (out new_out left new_left : List ℕ) → AreAsides given roots s (IsBelow slot 64) out new_out left new_left → AreAsides given roots s (IsOf slot) out new_out left new_left
+  all_registers_aside slot out new_out left new_left told = record {
+    out = all_registers (IsOutOfPlace given roots s) s slot out new_out told.out;
+    left = all_registers (IsOnlyLeft given roots s) s slot left new_left told.left;
+  }
+
+  pub none_among : (out left : List ℕ) → AreAsides given roots s (IsAmong []) out out left left
+  none_among out left = record { out = among_none (IsOutOfPlace given roots s) s out; left = among_none (IsOnlyLeft given roots s) s left }
+
+  pub next_function_aside : (rs : List Record) (k : ℕ) (r : Record) (out mid_out new_out left mid_left new_left : List ℕ) → RiseBySlot rs → k < length rs → get_or rs k r ≡ r
+      → AreAsides given roots s (IsAmong (slots_of (take k rs))) out mid_out left mid_left → AreAsides given roots s (IsOf r.slot) mid_out new_out mid_left new_left
+      → AreAsides given roots s (IsAmong (slots_of (take (k + 1) rs))) out new_out left new_left
+  next_function_aside rs k r out mid_out new_out left mid_left new_left rise within at first second = record {
+    out = next_function (IsOutOfPlace given roots s) s rs k r out mid_out new_out rise within at first.out second.out;
+    left = next_function (IsOnlyLeft given roots s) s rs k r left mid_left new_left rise within at first.left second.left;
+  }
+
+  pub all_functions_aside : (rs : List Record) (k : ℕ) (out new_out left new_left : List ℕ) → Has s rs → length rs ≤ k → AreAsides given roots s (IsAmong (slots_of (take k rs))) out new_out left new_left
+      → AreAsides given roots s (IsRegionIn s) out new_out left new_left
+  all_functions_aside rs k out new_out left new_left has past told = record {
+    out = all_functions (IsOutOfPlace given roots s) s rs k out new_out has past told.out;
+    left = all_functions (IsOnlyLeft given roots s) s rs k left new_left has past told.left;
+  }

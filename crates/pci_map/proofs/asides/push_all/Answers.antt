@@ -1,0 +1,27 @@
+use Rattle.std.proofs.Common.{sym, subst, List}
+use Rattle.std.specs.String.{string_bytes}
+use Rattle.pci_spec.specs.Decoded as decoded
+use Rattle.pci_spec.specs.Decoded.{HasRecords}
+use Rattle.pci_map.specs.Ways.{AreWays}
+use Rattle.pci_map.proofs.Tolds.{record_in}
+use Rattle.pci_map.proofs.AsideTexts.{none_among, next_function_aside, all_functions_aside}
+use Rattle.pci_map.proofs.asides.push_all.Goals as goal
+
+pub loop-function-init : goal.loop-function-init
+loop-function-init g c = λ given s above. none_among given c.args.outline.now.roots s (string_bytes c.args.asides.now.outside) (string_bytes c.args.asides.now.unreached)
+
+pub loop-function-preserved : goal.loop-function-preserved
+loop-function-preserved g c = λ given s above.
+    next_function_aside given c.args.outline.now.roots s c.records-records.result.now c.loop-function.function-index c.function-item.result (string_bytes c.args.asides.now.outside)
+    (string_bytes c.loop-function.asides.outside) (string_bytes c.push_asides_of.new.asides.outside) (string_bytes c.args.asides.now.unreached) (string_bytes c.loop-function.asides.unreached)
+    (string_bytes c.push_asides_of.new.asides.unreached) c.records-records.ensures.rising c.loop-function-test.true (sym c.function-item.is)
+    (c.loop-function.invariant given s above)
+    (c.in_ok-push_asides_of.ensures given c.args.outline.now s above (subst (AreWays c.args.outline.now.roots s) (sym c.as_slice.ensures.value) (c.in_ok-ways.ensures.ways s above.tree))
+    (record_in s c.records-records.result.now c.loop-function.function-index c.function-item.result (subst (λ (rs : List decoded.Record). HasRecords s rs) (sym c.records-records.ensures.value) above.tree.records)
+    c.records-records.ensures.rising c.records-records.ensures.lawful c.loop-function-test.true (sym c.function-item.is)))
+
+pub returns : goal.returns
+returns g c = λ given s above.
+    all_functions_aside given c.args.outline.now.roots s c.records-records.result.now c.loop-function.function-index (string_bytes c.args.asides.now.outside) (string_bytes c.loop-function.asides.outside)
+    (string_bytes c.args.asides.now.unreached) (string_bytes c.loop-function.asides.unreached)
+    (subst (λ (rs : List decoded.Record). HasRecords s rs) (sym c.records-records.ensures.value) above.tree.records) c.loop-function-test.false (c.loop-function.invariant given s above)

@@ -1,0 +1,59 @@
+-- What the host sends to the root above each bus, and which regions are out of place.
+use Rattle.std.specs.Prelude.{◌≡◌, ℕ, ◌<◌, ◌⊎◌, List, None, length, slice_index_or}
+use Rattle.std.specs.List.{AllPairs, Contains}
+use Rattle.pci_spec.specs.System.{System, Function, Space, Io, Memory, Leads}
+use Rattle.given_spec.specs.Given.{Given, ranges_said}
+use Rattle.map_spec.specs.Lines.{IsOutOfPlace}
+use Rattle.pci_tree.specs.declared.region.Region.{Region}
+use Rattle.pci_tree.specs.Outline.{Tree, IsBefore}
+use Rattle.pci_map.specs.Values.{value_of}
+use Rattle.pci_map.specs.Left.{IsTreeOf}
+use Rattle.pci_map.specs.Sent.{SentRanges, AreSent}
+
+-- the one root from which bridges lead to a bus
+pub record IsRootAbove (roots : List ℕ) (s : System) (bus root : ℕ) : Type 0 where
+  pub is_root : Contains roots root
+  pub bridges : List Function
+  pub leads : Leads s root bridges bus
+  pub only : (other : ℕ) (others : List Function) → Contains roots other
+      → Leads s other others bus → other ≡ root
+
+-- at each bus with functions
+abbrev pub AreRootsAbove : List ℕ → System → List ℕ → Type 0
+AreRootsAbove roots s table =
+    (f : Function) → Contains s f
+    → IsRootAbove roots s f.slot.bus (slice_index_or table f.slot.bus 0)
+
+-- what is sent to the root above a bus
+pub record IsSentAbove (given : Given) (roots : List ℕ) (s : System) (bus : ℕ)
+    (sent : SentRanges) : Type 0 where
+  pub root : ℕ
+  pub above : IsRootAbove roots s bus root
+  pub are : AreSent given root sent
+
+-- no list is said of either space
+pub record IsNothingSaid (given : Given) (rows : List SentRanges) : Type 0 where
+  pub none : length rows ≡ 0
+  pub io : ranges_said given Io ≡ None
+  pub memory : ranges_said given Memory ≡ None
+
+-- at each bus with functions what is sent to the root above it
+pub record AreRows (given : Given) (roots : List ℕ) (s : System) (rows : List SentRanges) : Type 0 where
+  pub size : length rows ≡ 256
+  pub each : (f : Function) (d : SentRanges) → Contains s f → f.slot.bus < 256
+      → IsSentAbove given roots s f.slot.bus (slice_index_or rows f.slot.bus d)
+
+-- the same of a system with an outline's records, where a list is said at all
+pub record AreSentAbove (given : Given) (t : Tree) (s : System)
+    (above : List SentRanges) : Type 0 where
+  pub tree : IsTreeOf t s
+  pub rows : IsNothingSaid given above ⊎ AreRows given t.roots s above
+
+-- just those of some regions that aren't out of place, in their order
+pub record AreInPlace (given : Given) (roots : List ℕ) (s : System) (space : Space)
+    (qs out : List Region) : Type 0 where
+  pub each : (q : Region) → Contains out q → Contains qs q
+  pub within : (q : Region) → Contains out q → IsOutOfPlace given roots s (value_of space q) → ⊥
+  pub complete : (q : Region) → Contains qs q
+      → (IsOutOfPlace given roots s (value_of space q) → ⊥) → Contains out q
+  pub sorted : AllPairs IsBefore qs → AllPairs IsBefore out

@@ -1,0 +1,77 @@
+-- The lines of regions that have none at a place.
+use Rattle.std.specs.Prelude.{◌≡◌, ℕ, ◌<◌, List, ◌++◌, map}
+use Rattle.std.specs.List.{All, AllPairs, Contains, flat_map}
+use Rattle.pci_spec.specs.Slot.{Slot}
+use Rattle.pci_spec.specs.System.{System, Space}
+use Rattle.pci_spec.specs.Decoded.{HasRecords}
+use Rattle.pci_spec.specs.Why.{Region, IsRegionIn}
+use Rattle.given_spec.specs.Given.{Given}
+use Rattle.map_spec.specs.Lines.{IsOutOfPlace, region_number}
+use Rattle.map_spec.specs.Map.{IsOnlyLeft, AreListed}
+use Rattle.map_spec.specs.MapText.{region_line, outside_text, unreached_text}
+use Rattle.pci_function.specs.declared.record.Record.{Record}
+use Rattle.pci_function.specs.Values.{record_value}
+use Rattle.pci_tree.specs.declared.region.Region as outline
+use Rattle.pci_tree.specs.Regions.{IsLawful}
+use Rattle.pci_tree.specs.Outline.{RiseBySlot}
+use Rattle.pci_why.specs.Found.{IsFoundIn, NoneClaims}
+
+-- a region of a list at a register
+abbrev pub IsListedAt : List outline.Region → ℕ → outline.Region → Type 0
+IsListedAt qs reg q = Contains qs q × (q.reg ≡ reg)
+
+-- a list by which the region of a function and space at each register is found
+pub record AreFoundBy (s : System) (slot : Slot) (space : Space)
+    (qs : List outline.Region) : Type 0 where
+  pub found : (reg : ℕ) (q : outline.Region) → IsListedAt qs reg q → IsFoundIn s slot reg space q
+  pub none : (reg : ℕ) → ((q : outline.Region) → IsListedAt qs reg q → ⊥)
+      → NoneClaims s slot reg space
+
+-- the record of a function of a system
+pub record IsRecordIn (s : System) (r : Record) : Type 0 where
+  pub records : List Record
+  pub are : HasRecords s (map record_value records)
+  pub rising : RiseBySlot records
+  pub lawful : All IsLawful records
+  pub has : Contains records r
+
+-- where a region is named
+abbrev pub IsAt : Slot → ℕ → Space → Region → Type 0
+IsAt slot reg space q = (q.slot ≡ slot) × (q.register ≡ reg) × (q.space ≡ space)
+
+abbrev pub IsAtRegister : Slot → ℕ → Region → Type 0
+IsAtRegister slot reg q = (q.slot ≡ slot) × (q.register ≡ reg)
+
+abbrev pub IsBelow : Slot → ℕ → Region → Type 0
+IsBelow slot reg q = (q.slot ≡ slot) × (q.register < reg)
+
+abbrev pub IsOf : Slot → Region → Type 0
+IsOf slot q = q.slot ≡ slot
+
+abbrev pub IsAmong : List Slot → Region → Type 0
+IsAmong slots q = Contains slots q.slot
+
+-- a text got the lines of just those regions of which P and Q hold, by slot and register
+pub record AreTold (Q : Region → Type 0) (s : System) (P : Region → Type 0)
+    (old new : List ℕ) : Type 0 where
+  pub told : List Region
+  pub regions : (q : Region) → Contains told q → IsRegionIn s q
+  pub hold : (q : Region) → Contains told q → Q q
+  pub among : (q : Region) → Contains told q → P q
+  pub complete : (q : Region) → IsRegionIn s q → Q q → P q → Contains told q
+  pub rising : AllPairs (λ p q. region_number p < region_number q) told
+  pub text : new ≡ old ++ flat_map (region_line 1) told
+
+-- two texts got the lines of those of which P holds: one of those that are out of place, one of those that are only left
+pub record AreAsides (given : Given) (roots : List ℕ) (s : System) (P : Region → Type 0)
+    (old_outside new_outside old_unreached new_unreached : List ℕ) : Type 0 where
+  pub out : AreTold (IsOutOfPlace given roots s) s P old_outside new_outside
+  pub left : AreTold (IsOnlyLeft given roots s) s P old_unreached new_unreached
+
+-- a text got the lines of all of both, each below their heading
+pub record AreAsidesTold (given : Given) (roots : List ℕ) (s : System) (old new : List ℕ) : Type 0 where
+  pub outside : List Region
+  pub are_outside : AreListed (IsOutOfPlace given roots s) s outside
+  pub unreached : List Region
+  pub are_left : AreListed (IsOnlyLeft given roots s) s unreached
+  pub text : new ≡ old ++ (outside_text outside ++ unreached_text unreached)

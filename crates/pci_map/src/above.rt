@@ -1,0 +1,122 @@
+//! What the host sends to the root above each bus, and which regions have addresses that it doesn't send there.
+ghost use Rattle.std.specs.Prelude.{◌≡◌, map, IfOk, MatchBool};
+ghost use Rattle.std.specs.List.{Contains};
+ghost use Rattle.pci_spec.specs.System.{System, Function};
+ghost use Rattle.pci_spec.specs.Decoded.{HasRecords};
+ghost use Rattle.given_spec.specs.Given.{Given as GivenValue};
+ghost use Rattle.map_spec.specs.Lines.{IsOutOfPlace};
+ghost use Rattle.pci_base.specs.Space.{space_of};
+ghost use Rattle.pci_function.specs.Values.{record_value};
+ghost use Rattle.pci_tree.specs.Outline.{Tree};
+ghost use Rattle.pci_tree.specs.Regions.{IsRegionOn};
+ghost use Rattle.pci_given.specs.Values.{given_value};
+ghost use Rattle.pci_map.specs.Values.{value_of};
+ghost use Rattle.pci_map.specs.Walk.{AreOnBus};
+ghost use Rattle.pci_map.specs.Above.{IsRootAbove, AreRootsAbove, AreSentAbove, AreInPlace};
+
+use super::sent::Sent;
+use pci_base::memory::OutOfMemory;
+use pci_base::range::Range;
+use pci_base::slot::{BUSES, Slot};
+use pci_base::space::Space;
+use pci_function::record::Record;
+use pci_given::given::Given;
+use pci_given::outside::root_above;
+use pci_tree::outline::Outline;
+use pci_tree::region::{Part, Region};
+use std::alloc::Allocator;
+
+/// The root above the bus of a function.
+fn root_over<A: Allocator + Copy>(outline: &Outline<A>, slot: Slot) -> u8
+    ensures { (s : System) → HasRecords s outline.now.records → (f : Function) → Contains s f
+        → f.slot ≡ slot → IsRootAbove outline.now.roots s slot.bus result }
+{
+    match outline.path(slot) {
+        None => slot.bus(),
+        Some(bridges) => root_above(bridges.as_slice(), slot.bus()),
+    }
+}
+
+/// At the bus of each record of an outline the root above it.
+fn roots_above<A: Allocator + Copy>(outline: &Outline<A>, records: &[Record]) -> [u8; BUSES]
+    ensures { (s : System) → HasRecords s outline.now.records
+        → HasRecords s (map record_value records.now) → AreRootsAbove outline.now.roots s result }
+{
+    let mut roots_above = [0; BUSES];
+    for function in records {
+        roots_above[function.slot.bus() as usize] = root_over(outline, function.slot);
+    }
+    roots_above
+}
+
+/// At each bus what the host sends to the root above it; nothing at all where no list is said of either space.
+pub fn sent_above<A: Allocator + Copy>(
+    alloc: A,
+    given: &Given<'_>,
+    outline: &Outline<A>,
+) -> Result<Vec<Sent<A>, A>, OutOfMemory>
+    // an outline has no image, so this is said of every system with its records
+    ensures { IfOk result (λ v. (s : System) → HasRecords s outline.now.records
+        → AreSentAbove (given_value given.now) outline.now s v.items) }
+{
+    let records = outline.records();
+    let mut above = Vec::new(alloc);
+    if given.io.is_none() && given.memory.is_none() {
+        return Ok(above);
+    }
+    let roots_above = roots_above(outline, records);
+    for bus in 0..BUSES {
+        above.push(Sent::to(alloc, given, roots_above[bus])?)?;
+    }
+    Ok(above)
+}
+
+/// Whether a region of a bus is a BAR or a ROM with an address to which no access of the host starts on the root above.
+pub fn is_out_of_place<A: Allocator>(
+    above: &[Sent<A>],
+    space: Space,
+    bus: u8,
+    region: &Region,
+) -> bool
+    ensures { (given : GivenValue) (t : Tree) (s : System) → AreSentAbove given t s above.now
+        → IsRegionOn s bus (space_of space) region.now
+        → MatchBool result (IsOutOfPlace given t.roots s (value_of (space_of space) region.now))
+        (IsOutOfPlace given t.roots s (value_of (space_of space) region.now) → ⊥) }
+{
+    // no list is said
+    if above.len() <= bus as usize {
+        return false;
+    }
+    if region.part == Part::Window {
+        return false;
+    }
+    let range = Range {
+        first: region.first,
+        last: region.last,
+    };
+    !above[bus as usize].has_all(space, range)
+}
+
+/// The regions of a bus that aren't out of place, in their order.
+pub fn in_place<A: Allocator, B: Allocator>(
+    alloc: A,
+    above: &[Sent<B>],
+    space: Space,
+    bus: u8,
+    regions: Vec<Region, A>,
+) -> Result<Vec<Region, A>, OutOfMemory>
+    ensures { IfOk result (λ v. (given : GivenValue) (t : Tree) (s : System)
+        → AreSentAbove given t s above.now → AreOnBus s bus (space_of space) regions.items
+        → AreInPlace given t.roots s (space_of space) regions.items v.items) }
+{
+    if above.is_empty() {
+        return Ok(regions);
+    }
+    let mut out = Vec::new(alloc);
+    for region in regions.as_slice() {
+        if !is_out_of_place(above, space, bus, region) {
+            out.push(*region)?;
+        }
+    }
+    Ok(out)
+}

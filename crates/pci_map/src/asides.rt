@@ -1,0 +1,187 @@
+//! The regions that have no line at a place: those out of place, and those that are left, each below a heading.
+ghost use Rattle.std.specs.Prelude.{◌≡◌, length, IfOk, MatchOption, OnOk};
+ghost use Rattle.std.specs.String.{string_bytes};
+ghost use Rattle.pci_spec.specs.System.{System, Io, Memory};
+ghost use Rattle.pci_spec.specs.Why.{IsRegionIn};
+ghost use Rattle.given_spec.specs.Given.{Given as GivenValue};
+ghost use Rattle.pci_base.specs.Space.{space_of};
+ghost use Rattle.pci_tree.specs.Outline.{Tree};
+ghost use Rattle.pci_tree.specs.declared.region.Region.{Region as RegionValue};
+ghost use Rattle.pci_map.specs.Above.{AreSentAbove};
+ghost use Rattle.pci_map.specs.Ways.{AreWays};
+ghost use Rattle.pci_map.specs.Asides.{IsListedAt, AreFoundBy, IsRecordIn, IsAt, IsAtRegister, IsOf, AreAsides, AreAsidesTold};
+
+use super::above::is_out_of_place;
+use super::left::{Windows, is_left};
+use super::line::push_region;
+use super::off::push_section;
+use super::sent::Sent;
+use super::ways::find_ways;
+use pci_base::memory::OutOfMemory;
+use pci_base::slot::Slot;
+use pci_base::space::Space;
+use pci_function::record::Record;
+use pci_tree::outline::Outline;
+use pci_tree::region::{Region, add_regions};
+use std::alloc::{Allocator, Global};
+
+/// How many registers of four bytes a header has (PCI 3.0, 6.1).
+const REGISTERS: u8 = 16;
+
+/// The lines of regions that have none at a place, by slot and register.
+#[derive(Drop)]
+struct Asides<A: Allocator = Global> {
+    /// Those of BARs and ROMs that are out of place.
+    outside: String<A>,
+    /// Those of the others that are left.
+    unreached: String<A>,
+}
+
+/// The regions of a function and a space.
+fn regions_of<A: Allocator>(
+    alloc: A,
+    function: &Record,
+    space: Space,
+) -> Result<Vec<Region, A>, OutOfMemory>
+    ensures { IfOk result (λ v. (s : System) → IsRecordIn s function.now
+        → AreFoundBy s function.now.slot (space_of space) v.items) }
+{
+    let mut regions = Vec::new(alloc);
+    add_regions(&mut regions, function, space)?;
+    Ok(regions)
+}
+
+/// The region at a register.
+fn at_register(regions: &[Region], reg: u8) -> Option<&Region>
+    ensures { MatchOption result ((q : RegionValue) → IsListedAt regions.now reg q → ⊥)
+        (λ q. IsListedAt regions.now reg q.now) }
+{
+    for region in regions {
+        if region.reg == reg {
+            return Some(region);
+        }
+    }
+    None
+}
+
+/// Appends the line of the region of a space at a slot and a register, if it is out of place or left.
+fn push_aside_in<A: Allocator, B: Allocator>(
+    asides: &mut Asides<B>,
+    ways: &[Option<Windows>],
+    above: &[Sent<A>],
+    regions: &[Region],
+    space: Space,
+    slot: Slot,
+    reg: u8,
+) -> Result<(), OutOfMemory>
+    // bus numbers index it
+    requires { length ways.now ≡ 256 }
+    ensures { OnOk result ((given : GivenValue) (t : Tree) (s : System) → AreSentAbove given t s above.now
+        → AreWays t.roots s ways.now → AreFoundBy s slot (space_of space) regions.now
+        → AreAsides given t.roots s (IsAt slot reg (space_of space)) (string_bytes asides.old.outside)
+        (string_bytes asides.new.outside) (string_bytes asides.old.unreached) (string_bytes asides.new.unreached)) }
+{
+    let Some(region) = at_register(regions, reg) else {
+        return Ok(());
+    };
+    if is_out_of_place(above, space, slot.bus(), region) {
+        push_region(&mut asides.outside, 1, space, region)?;
+        return Ok(());
+    }
+    if !is_left(ways, slot.bus(), space, region.first) {
+        return Ok(());
+    }
+    push_region(&mut asides.unreached, 1, space, region)?;
+    Ok(())
+}
+
+/// Appends the line of the region at a slot and a register, if it is out of place or left: no register has regions of
+/// both spaces.
+fn push_aside_at<A: Allocator, B: Allocator>(
+    asides: &mut Asides<B>,
+    ways: &[Option<Windows>],
+    above: &[Sent<A>],
+    io: &[Region],
+    memory: &[Region],
+    slot: Slot,
+    reg: u8,
+) -> Result<(), OutOfMemory>
+    requires { length ways.now ≡ 256 }
+    ensures { OnOk result ((given : GivenValue) (t : Tree) (s : System) → AreSentAbove given t s above.now
+        → AreWays t.roots s ways.now → AreFoundBy s slot Io io.now → AreFoundBy s slot Memory memory.now
+        → AreAsides given t.roots s (IsAtRegister slot reg) (string_bytes asides.old.outside)
+        (string_bytes asides.new.outside) (string_bytes asides.old.unreached) (string_bytes asides.new.unreached)) }
+{
+    push_aside_in(asides, ways, above, io, Space::Io, slot, reg)?;
+    push_aside_in(asides, ways, above, memory, Space::Mem, slot, reg)
+}
+
+/// Appends the lines of the regions of a function that are out of place or left, by register.
+fn push_asides_of<A: Allocator + Copy, B: Allocator>(
+    alloc: A,
+    asides: &mut Asides<B>,
+    ways: &[Option<Windows>],
+    above: &[Sent<A>],
+    function: &Record,
+) -> Result<(), OutOfMemory>
+    requires { length ways.now ≡ 256 }
+    ensures { OnOk result ((given : GivenValue) (t : Tree) (s : System) → AreSentAbove given t s above.now
+        → AreWays t.roots s ways.now → IsRecordIn s function.now
+        → AreAsides given t.roots s (IsOf function.now.slot) (string_bytes asides.old.outside)
+        (string_bytes asides.new.outside) (string_bytes asides.old.unreached) (string_bytes asides.new.unreached)) }
+{
+    let io = regions_of(alloc, function, Space::Io)?;
+    let memory = regions_of(alloc, function, Space::Mem)?;
+    for register in 0..REGISTERS {
+        push_aside_at(
+            asides,
+            ways,
+            above,
+            io.as_slice(),
+            memory.as_slice(),
+            function.slot,
+            4 * register,
+        )?;
+    }
+    Ok(())
+}
+
+/// Appends the lines of all regions that are out of place or left, by slot and register.
+fn push_all<A: Allocator + Copy, B: Allocator>(
+    alloc: A,
+    asides: &mut Asides<B>,
+    outline: &Outline<A>,
+    above: &[Sent<A>],
+) -> Result<(), OutOfMemory>
+    ensures { OnOk result ((given : GivenValue) (s : System) → AreSentAbove given outline.now s above.now
+        → AreAsides given outline.now.roots s (IsRegionIn s) (string_bytes asides.old.outside)
+        (string_bytes asides.new.outside) (string_bytes asides.old.unreached) (string_bytes asides.new.unreached)) }
+{
+    let ways = find_ways(alloc, outline)?;
+    let records = outline.records();
+    for function in records {
+        push_asides_of(alloc, asides, ways.as_slice(), above, function)?;
+    }
+    Ok(())
+}
+
+/// Appends a line for each region that has none at a place, by slot and register: below the heading `outside` those that
+/// are out of place, and below `unreached` the others, to which windows don't lead from a root.
+pub fn push_asides<A: Allocator + Copy, B: Allocator>(
+    alloc: A,
+    text: &mut String<B>,
+    outline: &Outline<A>,
+    above: &[Sent<A>],
+) -> Result<(), OutOfMemory>
+    ensures { OnOk result ((given : GivenValue) (s : System) → AreSentAbove given outline.now s above.now
+        → AreAsidesTold given outline.now.roots s (string_bytes text.old) (string_bytes text.new)) }
+{
+    let mut asides = Asides {
+        outside: String::new(alloc),
+        unreached: String::new(alloc),
+    };
+    push_all(alloc, &mut asides, outline, above)?;
+    push_section(text, "outside", asides.outside.as_str())?;
+    push_section(text, "unreached", asides.unreached.as_str())?;
+    Ok(())
+}
