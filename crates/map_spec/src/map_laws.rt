@@ -1,6 +1,6 @@
 //! Laws of maps. These functions do nothing: each contract is a law.
 
-ghost use Rattle.map_spec.specs.MapLaws.{LinesAreOfRegions, NoRegionIsMissed, OutsideStandsAlone, WindowsAreInPlace, WindowsHoldWhatIsInside, FreeLinesAreExact, FreeOnRootsIsExact, NothingIsOutside, NothingIsFreeOnRoots};
+ghost use Rattle.map_spec.specs.MapLaws.{LinesAreOfRegions, NoRegionIsMissed, OutsideStandsAlone, WindowsAreInPlace, WindowsHoldWhatIsInside, FreeLinesAreExact, FreeOnRootsIsExact, NothingIsOutOfPlace, NothingIsOutside, AllLeftAreUnreached, NothingIsFreeOnRoots};
 
 /// Enabled regions that claim an address have lines, and nothing else has.
 pub fn regions_have_lines()
@@ -27,6 +27,8 @@ pub fn roots_have_what_is_free()
 
 /// With nothing given a map has its root buses and what is left alone, and nothing is free on a root bus.
 pub fn nothing_given_changes_nothing()
+    ensures place { NothingIsOutOfPlace }
     ensures outside { NothingIsOutside }
+    ensures left { AllLeftAreUnreached }
     ensures free { NothingIsFreeOnRoots }
 {}

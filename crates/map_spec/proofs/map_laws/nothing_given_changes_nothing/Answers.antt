@@ -1,6 +1,12 @@
 use Rattle.map_spec.proofs.Freeing.{no_run_on_root}
-use Rattle.map_spec.proofs.Nothing.{nothing_outside}
+use Rattle.map_spec.proofs.Nothing.{all_in_place, nothing_outside}
 use Rattle.map_spec.proofs.map_laws.nothing_given_changes_nothing.Goals as goal
+
+pub returns-clause-place : goal.returns-clause-place
+returns-clause-place c = λ roots s q out. all_in_place roots s q out
+
+pub returns-clause-left : goal.returns-clause-left
+returns-clause-left c = λ roots s q. (λ only. only.left, λ left. record { left = left; within = all_in_place roots s q })
 
 pub returns-clause-outside : goal.returns-clause-outside
 returns-clause-outside c = λ roots s m is. nothing_outside roots s m is
