@@ -12,7 +12,7 @@ _pciplan() {
     show | size) options='' ;;
     check) options='--root' ;;
     faults) options='--host-io --host-mem --model --root --why' ;;
-    map) options='--model --root' ;;
+    map) options='--host-io --host-mem --model --root' ;;
     plan) options='--io --mem --pref --root --why --writes' ;;
     probe) options='--exact --least' ;;
     *) return ;;

@@ -1,13 +1,13 @@
 -- The task that a command line asks for, and the word that it is refused for.
-use Rattle.std.specs.Prelude.{◌≡◌, Bool, true, false, Option}
+use Rattle.std.specs.Prelude.{◌≡◌, Bool, true, false}
 use Rattle.pci_base.specs.declared.range.Range.{Range}
 use Rattle.pci_place.specs.declared.pools.Pools.{Pools}
-use Rattle.pci_model.specs.declared.words.Words.{Words}
 use Rattle.pci_probe.specs.declared.assuming.Assuming.{Assuming}
 use Rattle.pci_probe.specs.declared.assuming.Assuming.TheVariants.{Nothing, Disabled, Any}
 use Rattle.pci_tree.specs.declared.roots.Roots.{Roots}
 use Rattle.pciplan_cli.specs.FaultsAsked.{IsFaultsOf, AreFaultsRefused}
-use Rattle.pciplan_cli.specs.OptionWords.{AreRootsOf, AreWordsOf, HasNoRoots, HasNoWords}
+use Rattle.pciplan_cli.specs.MapAsked.{IsMapOf, IsMapRefused}
+use Rattle.pciplan_cli.specs.OptionWords.{AreRootsOf, HasNoRoots}
 use Rattle.pciplan_lists.specs.PoolWords.{IsPoolWord, HasNoPool}
 use Rattle.pciplan_words.specs.declared.asked.Asked.{Asked}
 use Rattle.pciplan_words.specs.declared.asked.Asked.TheVariants as asked
@@ -16,7 +16,7 @@ use Rattle.pciplan_cli.specs.declared.invocation.Task.{Task}
 use Rattle.pciplan_cli.specs.declared.invocation.Task.TheVariants as task
 use Rattle.pciplan_cli.specs.declared.failure.PoolOption.TheVariants.{Io, Mem, Pref}
 use Rattle.pciplan_cli.specs.declared.failure.Failure.{Failure}
-use Rattle.pciplan_cli.specs.declared.failure.Failure.TheVariants.{Usage, Root, Model, Pool}
+use Rattle.pciplan_cli.specs.declared.failure.Failure.TheVariants.{Usage, Root, Pool}
 
 -- the planning that the words ask for: each pool is that of its own option
 pub record IsPlanningOf (words : PlanWords) (planning : Task) : Type 0 where
@@ -39,9 +39,7 @@ abbrev pub IsTaskOf : Asked → Task → Type 0
 IsTaskOf asked.Show t = t ≡ task.Show
 IsTaskOf (asked.Check root) t = (roots : Roots) × AreRootsOf root roots × (t ≡ task.Check roots)
 IsTaskOf (asked.Faults words) t = IsFaultsOf words t
-IsTaskOf (asked.Map root model) t =
-    (roots : Roots) × (words : Option Words) × AreRootsOf root roots × AreWordsOf model words
-    × (t ≡ task.Map roots words)
+IsTaskOf (asked.Map words) t = IsMapOf words t
 IsTaskOf asked.Size t = t ≡ task.Size
 IsTaskOf (asked.Plan words) t = IsPlanningOf words t
 IsTaskOf (asked.Probe exact least) t =
@@ -62,9 +60,7 @@ HasMem words = HasIo words × ((pool : Range) × IsPoolWord words.mem.now pool)
 abbrev pub IsRefusedFor : Asked → Failure → Type 0
 IsRefusedFor (asked.Check root) Root = HasNoRoots root
 IsRefusedFor (asked.Faults words) failure = AreFaultsRefused words failure
-IsRefusedFor (asked.Map root model) Root = HasNoRoots root
-IsRefusedFor (asked.Map root model) Model =
-    ((roots : Roots) × AreRootsOf root roots) × HasNoWords model
+IsRefusedFor (asked.Map words) failure = IsMapRefused words failure
 IsRefusedFor (asked.Plan words) Root = HasNoRoots words.root
 IsRefusedFor (asked.Plan words) (Pool Io) = HasRoots words × HasNoPool words.io.now
 IsRefusedFor (asked.Plan words) (Pool Mem) = HasIo words × HasNoPool words.mem.now

@@ -3,6 +3,7 @@ pub mod Answers
 pub mod PlanAnswers
 pub mod FaultsAnswers
 pub mod MapAnswers
+pub mod MapAsked
 pub mod TakenAnswers
 pub mod GivenAnswers
 pub mod ModelWords

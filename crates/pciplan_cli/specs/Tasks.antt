@@ -16,7 +16,7 @@ use Rattle.pci_check.specs.Audits.{IsDumpOf}
 use Rattle.pciplan_cli.specs.Answers.{Answer, IsShown, IsChecked, IsSized, IsTold}
 use Rattle.pciplan_cli.specs.FaultsAnswers.{AreTold}
 use Rattle.pciplan_cli.specs.GivenAnswers.{IsAnswerGiven}
-use Rattle.pciplan_cli.specs.MapAnswers.{IsMapped}
+use Rattle.pciplan_cli.specs.MapAnswers.{IsMapped, sent_by}
 use Rattle.pciplan_cli.specs.PlanAnswers.{IsPlanned}
 use Rattle.pciplan_cli.specs.ProbeAnswers.{probe_answer}
 use Rattle.pciplan_cli.specs.Statuses.{status_of}
@@ -48,7 +48,8 @@ IsPairAnswer (task.Check roots) = IsChecked (buses_of roots)
 IsPairAnswer (task.Faults roots words why) = IsAnswerBy words (AreTold (buses_of roots) why)
 IsPairAnswer (task.FaultsGiven roots words host) =
     IsAnswerGiven words host (buses_of roots)
-IsPairAnswer (task.Map roots words) = IsAnswerBy words (IsMapped (buses_of roots))
+IsPairAnswer (task.Map roots words host) =
+    IsAnswerBy words (IsMapped (sent_by host) (buses_of roots))
 IsPairAnswer task.Size = IsSized
 IsPairAnswer (task.Plan pools writes why roots) =
     IsPlanned record {

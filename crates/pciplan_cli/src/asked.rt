@@ -6,7 +6,8 @@ ghost use Rattle.pciplan_cli.specs.Asked.{IsAssumingOf, IsTaskOf, IsRefusedFor};
 use crate::failure::{Failure, PoolOption};
 use crate::faults_asked::faults_of;
 use crate::invocation::Task;
-use crate::option_words::{pool_of, roots_of, words_of};
+use crate::map_asked::map_of;
+use crate::option_words::{pool_of, roots_of};
 use pci_place::pools::Pools;
 use pci_probe::assuming::Assuming;
 use pciplan_words::asked::{Asked, PlanWords};
@@ -52,10 +53,7 @@ pub fn task_of(alloc: Global, asked: &Asked<'_>) -> Result<Task, Failure>
             roots: roots_of(*root).ok_or(Failure::Root)?,
         }),
         Asked::Faults(words) => faults_of(alloc, words),
-        Asked::Map { root, model } => Ok(Task::Map {
-            roots: roots_of(*root).ok_or(Failure::Root)?,
-            words: words_of(*model)?,
-        }),
+        Asked::Map(words) => map_of(alloc, words),
         Asked::Size => Ok(Task::Size),
         Asked::Plan(words) => planning_of(words),
         Asked::Probe { exact, least } => Ok(Task::Probe {

@@ -39,7 +39,7 @@ fn legacy_by<A: Allocator, B: Allocator>(
 }
 
 /// The ranges that are said of a space.
-fn ranges_of(list: &Option<Vec<RootRange>>) -> Option<&[RootRange]>
+pub fn ranges_of(list: &Option<Vec<RootRange>>) -> Option<&[RootRange]>
     ensures { option_map (λ ranges. map host_value ranges.now) result
         ≡ option_map (λ v. map host_value v.items) list.now }
 {

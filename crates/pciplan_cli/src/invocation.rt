@@ -46,10 +46,11 @@ pub enum Task {
         words: Option<Words>,
         host: HostLists,
     },
-    /// Prints the map of the same system.
+    /// Prints the map of the same system, with what the host sends to its root buses.
     Map {
         roots: Roots,
         words: Option<Words>,
+        host: HostLists,
     },
     /// Sizes every function of a machine of the two texts.
     Size,

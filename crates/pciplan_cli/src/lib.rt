@@ -16,6 +16,7 @@ pub mod faulting;
 pub mod faulting_given;
 pub mod faults_asked;
 pub mod invocation;
+mod map_asked;
 pub mod mapping;
 pub mod model_words;
 pub mod opened;

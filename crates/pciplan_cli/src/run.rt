@@ -128,7 +128,7 @@ fn pair_reply<A: Allocator + Copy>(
         Task::FaultsGiven { roots, words, host } => {
             faults_given(alloc, &dump, &probe, *roots, *words, host)
         }
-        Task::Map { roots, words } => map_by(alloc, &dump, &probe, *roots, *words),
+        Task::Map { roots, words, host } => map_by(alloc, &dump, &probe, *roots, *words, host),
         Task::Size => size_pair(alloc, &dump, &probe),
         Task::Plan {
             pools,

@@ -34,8 +34,9 @@ listing =
 
 abbrev pub mapping : App
 mapping =
-    with_rule (with_rule (with_paths (codes "map")) (option_rule (codes "root")))
-    (option_rule (codes "model"))
+    with_rule (with_rule (with_rule (with_rule (with_paths (codes "map"))
+    (option_rule (codes "root"))) (option_rule (codes "model"))) (option_rule (codes "host-io")))
+    (option_rule (codes "host-mem"))
 
 abbrev pub planning : App
 planning =

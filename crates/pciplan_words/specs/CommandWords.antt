@@ -5,6 +5,7 @@ use Rattle.clap.specs.Words.{Row, Text, first_of, one_of}
 use Rattle.pciplan_words.specs.declared.asked.Asked.{Asked}
 use Rattle.pciplan_words.specs.declared.asked.Asked.TheVariants.{Show, Check, Faults, Map, Size, Plan, Probe}
 use Rattle.pciplan_words.specs.declared.asked.FaultsWords.{FaultsWords}
+use Rattle.pciplan_words.specs.declared.asked.MapWords.{MapWords}
 use Rattle.pciplan_words.specs.declared.asked.PlanWords.{PlanWords}
 
 -- the word of an option or a path, where it has one
@@ -25,6 +26,13 @@ pub record HasFaultsWords (rows : List Row) (words : FaultsWords) : Type 0 where
   pub host_mem : first_of (codes "host-mem") rows ≡ word_of words.host_mem
   pub why : IsFlag (one_of (codes "why") rows) words.why
 
+-- the words of the options of `map`
+pub record HasMapWords (rows : List Row) (words : MapWords) : Type 0 where
+  pub root : first_of (codes "root") rows ≡ word_of words.root
+  pub model : first_of (codes "model") rows ≡ word_of words.model
+  pub host_io : first_of (codes "host-io") rows ≡ word_of words.host_io
+  pub host_mem : first_of (codes "host-mem") rows ≡ word_of words.host_mem
+
 -- the words of the options of `plan`
 pub record HasPlanWords (rows : List Row) (words : PlanWords) : Type 0 where
   pub root : first_of (codes "root") rows ≡ word_of words.root
@@ -40,9 +48,7 @@ IsAsked name rows Show = name ≡ codes "show"
 IsAsked name rows (Check root) =
     (name ≡ codes "check") × (first_of (codes "root") rows ≡ word_of root)
 IsAsked name rows (Faults words) = (name ≡ codes "faults") × HasFaultsWords rows words
-IsAsked name rows (Map root model) =
-    (name ≡ codes "map") × (first_of (codes "root") rows ≡ word_of root)
-    × (first_of (codes "model") rows ≡ word_of model)
+IsAsked name rows (Map words) = (name ≡ codes "map") × HasMapWords rows words
 IsAsked name rows Size = name ≡ codes "size"
 IsAsked name rows (Plan words) = (name ≡ codes "plan") × HasPlanWords rows words
 IsAsked name rows (Probe exact least) =

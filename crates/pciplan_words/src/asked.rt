@@ -30,31 +30,36 @@ pub struct FaultsWords<'a> {
     pub why: bool,
 }
 
+/// The words of the options of `map`.
+#[derive(Clone, Copy)]
+pub struct MapWords<'a> {
+    /// The list of root buses, where there is one.
+    pub root: Option<&'a str>,
+    /// The words by which functions are taken, where there are any.
+    pub model: Option<&'a str>,
+    /// The list of I/O addresses that the host sends to its root buses, where it is said.
+    pub host_io: Option<&'a str>,
+    /// The list of memory addresses that the host sends to its root buses, where it is said.
+    pub host_mem: Option<&'a str>,
+}
+
 /// The task that is asked for, with the words of its options.
 #[derive(Clone, Copy)]
 pub enum Asked<'a> {
     /// The listing.
     Show,
     /// The verdict, with the list of root buses where there is one.
-    Check {
-        root: Option<&'a str>,
-    },
+    Check { root: Option<&'a str> },
     /// All faults at once.
     Faults(FaultsWords<'a>),
-    /// The address map, with the list of root buses and the words by which functions are taken, where there are any.
-    Map {
-        root: Option<&'a str>,
-        model: Option<&'a str>,
-    },
+    /// The address map.
+    Map(MapWords<'a>),
     /// The sizing run.
     Size,
     /// The plan.
     Plan(PlanWords<'a>),
     /// The derived probe, whether it has to be exact, and whether the least size is taken where an enabled register has none.
-    Probe {
-        exact: bool,
-        least: bool,
-    },
+    Probe { exact: bool, least: bool },
 }
 
 /// What the words of a command line say: the task with the words of its options, and the paths of the two texts.

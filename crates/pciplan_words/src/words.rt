@@ -4,12 +4,12 @@ ghost use Rattle.clap.specs.Words.{app_of, found_of, kind_of, rows_of, rule_of};
 ghost use Rattle.clap.specs.declared.error.kind.ErrorKind.{ErrorKind};
 ghost use Rattle.clap.specs.declared.builder.command.Command.TheViews.{out-Command};
 ghost use Rattle.pciplan_words.specs.CommandLines.{flag_rule, option_rule, pool_rule, with_paths, listing, mapping, planning, probing, commands, IsGiven, HasNoLine};
-ghost use Rattle.pciplan_words.specs.CommandWords.{HasFaultsWords, HasPlanWords, IsAsked, IsSaid};
+ghost use Rattle.pciplan_words.specs.CommandWords.{HasFaultsWords, HasMapWords, HasPlanWords, IsAsked, IsSaid};
 ghost use Rattle.pciplan_words.specs.declared.asked.Asked.{Asked};
 ghost use Rattle.pciplan_words.specs.declared.asked.PlanWords.{PlanWords};
 ghost use Rattle.pciplan_words.specs.declared.asked.WordsFault.{WordsFault};
 
-use crate::asked::{Asked, FaultsWords, Given, PlanWords, WordsFault};
+use crate::asked::{Asked, FaultsWords, Given, MapWords, PlanWords, WordsFault};
 use clap::{Arg, ArgAction, ArgMatches, Command};
 use std::alloc::{AllocError, Global};
 
@@ -118,14 +118,16 @@ fn faults_command<'a>(alloc: Global) -> Result<Command<'a>, AllocError>
         .arg(flag_arg(alloc, WHY))
 }
 
-/// `pciplan map DUMP PROBE [--root LIST] [--model WORDS]`.
+/// `pciplan map DUMP PROBE [--root LIST] [--model WORDS] [--host-io LIST] [--host-mem LIST]`.
 fn map_command<'a>(alloc: Global) -> Result<Command<'a>, AllocError>
     ensures app { IfOk result (λ command. app_of command ≡ mapping) }
     ensures local { IfOk result (λ command. (out-Command command).has_globals ≡ false) }
 {
     of_texts(alloc, "map")?
         .arg(word_arg(alloc, ROOT))?
-        .arg(word_arg(alloc, MODEL))
+        .arg(word_arg(alloc, MODEL))?
+        .arg(word_arg(alloc, HOST_IO))?
+        .arg(word_arg(alloc, HOST_MEM))
 }
 
 /// `pciplan plan DUMP PROBE --io A-B --mem A-B --pref A-B [--writes] [--why] [--root LIST]`.
@@ -182,6 +184,18 @@ fn faults_words<'a>(found: &ArgMatches<'a>) -> FaultsWords<'a>
     }
 }
 
+/// The words of the options of `map`.
+fn map_words<'a>(found: &ArgMatches<'a>) -> MapWords<'a>
+    ensures { HasMapWords (rows_of (found_of found.now)) result }
+{
+    MapWords {
+        root: found.get_str(ROOT),
+        model: found.get_str(MODEL),
+        host_io: found.get_str(HOST_IO),
+        host_mem: found.get_str(HOST_MEM),
+    }
+}
+
 /// The words of the options of `plan`.
 fn plan_words<'a>(found: &ArgMatches<'a>) -> Option<PlanWords<'a>>
     ensures { MatchOption result
@@ -210,10 +224,7 @@ fn asked_of<'a>(name: &str, found: &ArgMatches<'a>) -> Option<Asked<'a>>
             root: found.get_str(ROOT),
         }),
         "faults" => Some(Asked::Faults(faults_words(found))),
-        "map" => Some(Asked::Map {
-            root: found.get_str(ROOT),
-            model: found.get_str(MODEL),
-        }),
+        "map" => Some(Asked::Map(map_words(found))),
         "size" => Some(Asked::Size),
         "plan" => Some(Asked::Plan(plan_words(found)?)),
         "probe" => Some(Asked::Probe {

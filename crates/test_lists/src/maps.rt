@@ -1,6 +1,7 @@
 //! The text of a map.
 use pci_dump::reader::read_dump;
 use pci_dump::std_streams::Incoming;
+use pci_given::given::Given;
 use pci_map::text::map_text;
 use pci_tree::admit::admit_with;
 use pci_tree::roots::Roots;
@@ -13,7 +14,12 @@ fn lines_of(alloc: Global, texts: &Texts, roots: Roots) -> Option<String> {
     let dump = read_dump(alloc, &mut Incoming::new(texts.dump.as_bytes())).ok()?;
     let probe = read_dump(alloc, &mut Incoming::new(texts.probe.as_bytes())).ok()?;
     let admitted = admit_with(alloc, dump, probe, roots).ok()?;
-    map_text(alloc, admitted.outline()).ok()
+    let given = Given {
+        io: None,
+        memory: None,
+        legacy: &[],
+    };
+    map_text(alloc, admitted.outline(), &given).ok()
 }
 
 /// Whether the lines of a board are these.

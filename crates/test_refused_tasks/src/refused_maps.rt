@@ -2,9 +2,10 @@
 use crate::failing::{leaves_beginnings, tells_failed_reads};
 use crate::program::{line_of, prints};
 use crate::refused_tasks::is_refused_in_turn;
+use pci_base::range::{Range, RootRange};
 use pci_model::words::{VgaWord, Words};
 use pci_tree::roots::Roots;
-use pciplan_cli::invocation::Task;
+use pciplan_cli::invocation::{HostLists, Task};
 use std::alloc::{AllocError, Global};
 use std::test::Fail;
 use test_support::board::{Texts, bridge, device, texts_of};
@@ -14,12 +15,36 @@ fn task_by(words: Option<Words>) -> Task {
     Task::Map {
         roots: Roots::host(),
         words,
+        host: HostLists {
+            io: None,
+            mem: None,
+        },
     }
 }
 
 /// A map of functions that are taken as they are.
 fn task() -> Task {
     task_by(None)
+}
+
+/// A map with what the host sends of memory.
+fn task_sent(alloc: Global) -> Result<Task, AllocError> {
+    let mut sent = Vec::new(alloc);
+    sent.push(RootRange {
+        root: None,
+        range: Range {
+            first: 0xe000_0800,
+            last: 0xe0ff_ffff,
+        },
+    })?;
+    Ok(Task::Map {
+        roots: Roots::host(),
+        words: None,
+        host: HostLists {
+            io: None,
+            mem: Some(sent),
+        },
+    })
 }
 
 /// Windows in a window, a BAR in the inner one, a BAR and a window that no window holds, and a BAR that is off.
@@ -82,6 +107,14 @@ fn so_does_one_by_words(rt: HostRuntime) -> Result<(), Fail> {
         vga: Some(VgaWord::Vga),
     };
     assert!(rt; is_refused_in_turn(&rt, &line_of(&rt, task_by(Some(words))), &texts));
+    Ok(())
+}
+
+#[test]
+fn so_does_one_of_what_the_host_sends(rt: HostRuntime) -> Result<(), Fail> {
+    let texts = mapped(rt.alloc())?;
+    let task = task_sent(rt.alloc())?;
+    assert!(rt; is_refused_in_turn(&rt, &line_of(&rt, task), &texts));
     Ok(())
 }
 

@@ -6,13 +6,6 @@ use Rattle.pciplan_words.proofs.words.asked_of.Goals as goal
 pub returns-in-check : goal.returns-in-check
 returns-in-check c = (search rules, word_there (found_of c.args.found.now) (codes "root") c.get_str.result c.get_str.ensures)
 
-pub returns-in-map : goal.returns-in-map
-returns-in-map c = (
-  search rules,
-  word_there (found_of c.args.found.now) (codes "root") c.get_str-in-map.result c.get_str-in-map.ensures,
-  word_there (found_of c.args.found.now) (codes "model") c.get_str-in-map-2.result c.get_str-in-map-2.ensures,
-)
-
 pub returns-in-probe : goal.returns-in-probe
 returns-in-probe c = (
   search rules,
