@@ -1,18 +1,28 @@
 -- A region that the windows on the way pass isn't unreached.
-use Rattle.std.proofs.Common.{◌≡◌, ◌<◌, ◌∙◌, true, false, arith, ap, subst}
-use Rattle.std.specs.Prelude.{◌||◌}
+use Rattle.std.proofs.Common.{rules, ◌≡◌, ℕ, ◌<◌, ◌∙◌, [], true, false, arith, ap, subst}
+use Rattle.std.specs.Prelude.{◌||◌, IsTrue}
 use Rattle.std.proofs.lemmas.Bool.{both_ways}
 use Rattle.pci_spec.specs.System.{Function, Space, Claims, IsPassedTo, is_prefetchable_part}
 use Rattle.pci_spec.specs.Slot.{Slot}
 use Rattle.pci_spec.specs.System as system
+use Rattle.pci_spec.specs.System.{System}
+use Rattle.pci_spec.specs.Fault as plain
+use Rattle.pci_spec.specs.Order.{precedes}
+use Rattle.pci_spec.proofs.Members.{in_nil, pairs_nil}
 use Rattle.pci_spec.proofs.Firsts.{same_region, slot_of}
 use Rattle.pci_spec.proofs.Verdicts.{passed_by_each}
 use Rattle.pci_tree.specs.declared.region.Region.{Region}
 use Rattle.pci_tree.specs.Outline.{Tree}
+use Rattle.pci_check.specs.Judgement.{AreHome}
+use Rattle.pci_check.specs.Trees.{HasTree}
 use Rattle.pci_check.specs.Stops.{Reaches, AreReachesOf, AlwaysNested, IsReachedAt}
 use Rattle.given_spec.specs.Given.{Given, legacy_claims}
 use Rattle.given_spec.specs.Claims.{passes}
+use Rattle.given_spec.specs.Fault.{Known, Outside, IsUnreached, fault_number}
+use Rattle.given_spec.specs.Fault as spec
+use Rattle.given_spec.specs.AllFaults.{IsNamed, judging_key}
 use Rattle.pci_given.specs.Stopped.{IsNeverUnreached}
+use Rattle.pci_given.specs.UnreachedLines.{AreAllUnreached}
 
 pub never_where_reached : (given : Given) (t : Tree) (reaches : Reaches) (space : Space) (r : Region) → AlwaysNested t → AreReachesOf t reaches → IsReachedAt reaches space r.slot.bus r
     → IsNeverUnreached given t space r
@@ -32,3 +42,32 @@ never_where_reached given t reaches space r nested are home s tree bus on no_win
     (subst (λ p. passes given space (is_prefetchable_part u.f p) a u.b ≡ false) one.1
     (subst (λ (x : Space). passes given x (is_prefetchable_part u.f u.part) a u.b ≡ false) one.2 u.stops)) in
     both_ways _ stops (subst (λ prefetch. passes given space prefetch a u.b ≡ true) on.is.prefetch also)
+
+-- ---- where windows pass all of each BAR and ROM
+
+module _ (given : Given) (t : Tree) (nested : AlwaysNested t) (home : AreHome t) where
+  never_unreached : (s : System) → HasTree t s → (slot : Slot) (register : ℕ) (space : Space) (a : ℕ) (bridge : Slot) → IsUnreached given t.roots s slot register space a bridge → ⊥
+  never_unreached s tree slot register space a bridge u =
+      let prefetch = is_prefetchable_part u.f u.part in
+      let passed : IsPassedTo t.roots s space prefetch a slot.bus =
+      subst (λ (x : Slot). IsPassedTo t.roots s space prefetch a x.bus) u.named.0 (home s tree u.f u.part space a u.listed u.no_window u.claims) in
+      let pass : system.passes space prefetch a u.b ≡ true =
+      passed_by_each t.roots s tree.system (nested s tree) space prefetch a u.root slot.bus u.bridges u.is_root u.leads passed u.b u.on_the_way in
+      both_ways _ u.stops (ap (λ x. x || legacy_claims given space a u.b) pass)
+
+  none_named : (s : System) → HasTree t s → (f : plain.Fault) → IsNamed given t.roots s (Known f) → fault_number (Known f) ≡ 60 → ⊥
+  none_named s tree (plain.Unreached slot register space a bridge) line number = never_unreached s tree slot register space a bridge line.there
+  none_named s tree (plain.Clash bus space a f r g q) line number = (let no : ⊥ = omega (arith, number) in no)
+  none_named s tree (plain.Split space a f r g q) line number = (let no : ⊥ = omega (arith, number) in no)
+  none_named s tree f line number = absurd (search rules)
+
+  never_named : (s : System) → HasTree t s → (f : spec.Fault) → IsNamed given t.roots s f → fault_number f ≡ 60 → ⊥
+  never_named s tree (Known f) named number = none_named s tree f named number
+  never_named s tree (Outside slot register space a) named number = (let no : ⊥ = omega (arith, number) in no)
+
+  pub none_unreached : AreAllUnreached given t []
+  none_unreached s tree = record {
+    each = λ f has. absurd (in_nil f has);
+    complete = λ f named number. absurd (never_named s tree f named number);
+    rising = pairs_nil (λ f g. IsTrue (precedes (judging_key f) (judging_key g)));
+  }

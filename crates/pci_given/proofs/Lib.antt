@@ -17,6 +17,7 @@ pub mod Making
 pub mod Rooted
 pub mod BusClaiming
 pub mod Odds
+pub mod Quieting
 pub mod Telling
 pub mod ClashNaming
 pub mod Numbering

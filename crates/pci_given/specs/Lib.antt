@@ -7,6 +7,7 @@ pub mod Made
 pub mod BusClaims
 pub mod Clashes
 pub mod Splits
+pub mod Quiet
 pub mod Outside
 pub mod Passed
 pub mod Missed

@@ -199,7 +199,7 @@ fn are_window_and_legacy(window: u8, legacy: u8) -> bool
 }
 
 /// Whether two regions may answer one address: a window and the legacy part of one bridge, which lead to one bus.
-fn may_share(first: Slot, first_reg: u8, second: Slot, second_reg: u8) -> bool
+pub fn may_share(first: Slot, first_reg: u8, second: Slot, second_reg: u8) -> bool
     ensures { result ≡ may_share first first_reg second second_reg }
 {
     first == second

@@ -10,6 +10,7 @@ ghost use Rattle.pci_given.specs.Clashes.{AreOnTwoBuses, Meet, IsLeastOfTwo, IsF
 use super::bus_claims::claims_among;
 use super::claim::{Claim, least_at_odds, least_common};
 use super::given::Given;
+use super::quiet::is_bus_quiet;
 use pci_base::memory::OutOfMemory;
 use pci_base::slot::{BUSES, Slot};
 use pci_base::space::Space;
@@ -160,6 +161,10 @@ fn add_clashes_in<A: Allocator + Copy>(
     ensures { OnOk result (AreClashesAdded (IsOnBusIn bus (space_of space)) (given_value given.now)
         outline.now out.old.items out.new.items) }
 {
+    // so it is on most buses, and lists of claims cost more
+    if is_bus_quiet(alloc, given, outline, bus, space)? {
+        return Ok(());
+    }
     let claims = claims_among(alloc, given, outline, bridges, bus, space)?;
     let among = Among::Bus(bus);
     let shares = meetings(alloc, &claims, among)?;

@@ -16,6 +16,7 @@ pub mod missed;
 pub mod outside;
 pub mod outside_lines;
 pub mod passed;
+pub mod quiet;
 pub mod reach;
 pub mod sent;
 pub mod split_lines;

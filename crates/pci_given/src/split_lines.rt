@@ -9,6 +9,7 @@ use super::bus_claims::claims_among;
 use super::claim::Claim;
 use super::clash_lines::{add_told, meetings};
 use super::given::Given;
+use super::quiet::are_roots_quiet;
 use pci_base::memory::OutOfMemory;
 use pci_base::slot::{BUSES, Slot};
 use pci_base::space::Space;
@@ -54,6 +55,9 @@ fn add_splits_in<A: Allocator + Copy>(
     ensures { OnOk result (AreSplitsAdded (IsIn (space_of space)) (given_value given.now)
         outline.now out.old.items out.new.items) }
 {
+    if are_roots_quiet(alloc, given, outline, space)? {
+        return Ok(());
+    }
     let claims = claims_of_roots(alloc, given, outline, bridges, space)?;
     let shares = meetings(alloc, &claims, Among::Roots)?;
     add_told(out, &claims, Among::Roots, space, &shares)

@@ -1,6 +1,7 @@
 //! All unreached regions: one fault for each BAR or ROM with an address that the host sends to the root above it and
 //! that a bridge on the way from there doesn't pass.
-ghost use Rattle.std.specs.Prelude.{IfOk};
+ghost use Rattle.std.specs.Prelude.{IfOk, IsTrue};
+ghost use Rattle.pci_check.specs.Judgement.{AreHome};
 ghost use Rattle.pci_check.specs.Stops.{AreReachesOf, AlwaysNested};
 ghost use Rattle.pci_given.specs.Values.{given_value};
 ghost use Rattle.pci_given.specs.UnreachedLines.{AreUnreachedLines, AreAllUnreached};
@@ -9,7 +10,10 @@ use super::bars_and_roms::{BarOrRom, bars_and_roms};
 use super::given::Given;
 use super::unreached::stop_of_lost;
 use pci_base::memory::OutOfMemory;
+use pci_base::slot::BUSES;
+use pci_base::space::Space;
 use pci_check::reached::Reached;
+use pci_check::unreached::first_unreached;
 use pci_function::fault::Fault;
 use pci_tree::outline::Outline;
 use std::alloc::Allocator;
@@ -43,6 +47,25 @@ fn unreached_among<A: Allocator + Copy>(
     Ok(out)
 }
 
+/// Whether the windows on the way to each BAR and ROM pass all of it.
+fn are_home<A: Allocator + Copy>(
+    outline: &Outline<A>,
+    reached: &Reached<A>,
+) -> Result<bool, OutOfMemory>
+    requires reached { AreReachesOf outline.now reached.now }
+    requires nested { AlwaysNested outline.now }
+    ensures { IfOk result (λ home. IsTrue home → AreHome outline.now) }
+{
+    for bus in 0..BUSES {
+        let io = outline.regions(bus as u8, Space::Io)?;
+        let memory = outline.regions(bus as u8, Space::Mem)?;
+        if let Some(_) = first_unreached(outline, reached, bus as u8, &io, &memory) {
+            return Ok(false);
+        }
+    }
+    Ok(true)
+}
+
 /// All unreached regions of the systems with these records and root buses, with what is given: 60 of each BAR or ROM
 /// that is enabled, and has an address that the host sends to the root above it and that a bridge on the way from there
 /// doesn't pass, with the first such bridge and the least address that this one doesn't pass. They stand in the order
@@ -54,7 +77,11 @@ pub fn all_unreached<A: Allocator + Copy>(
 ) -> Result<Vec<Fault, A>, OutOfMemory>
     ensures { IfOk result (λ v. AreAllUnreached (given_value given.now) outline.now v.items) }
 {
-    let list = bars_and_roms(alloc, outline)?;
     let reached = Reached::of(outline)?;
+    // so it is on most boards, and what is given only adds to what windows pass
+    if are_home(outline, &reached)? {
+        return Ok(Vec::new(alloc));
+    }
+    let list = bars_and_roms(alloc, outline)?;
     unreached_among(alloc, given, outline, &reached, &list)
 }

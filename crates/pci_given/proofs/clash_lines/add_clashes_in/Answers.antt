@@ -2,10 +2,12 @@ use Rattle.std.proofs.Common.{List, ◌++◌, map, subst, ap, ◌∙◌}
 use Rattle.std.proofs.lemmas.Result.{on_ok_weaker}
 use Rattle.pci_faults.specs.declared.shares.Among.TheVariants.{Bus}
 use Rattle.pci_faults.specs.declared.shares.Share.{Share}
+use Rattle.pci_base.specs.Space.{space_of}
 use Rattle.pci_given.specs.Values.{given_value}
 use Rattle.pci_given.specs.Claim.{Claimed}
 use Rattle.pci_given.specs.Clashes.{AreMeetings, told}
 use Rattle.pci_given.proofs.ClashNaming.{clashes_added}
+use Rattle.pci_given.proofs.Quieting.{no_clashes}
 use Rattle.pci_given.proofs.clash_lines.add_clashes_in.Goals as goal
 
 pub returns : goal.returns
@@ -15,3 +17,6 @@ returns g c = on_ok_weaker c.add_told.result
     (subst (λ (l : List Claimed). AreMeetings (Bus c.args.bus) l c.in_ok-shares.shares.items) c.deref.ensures.value c.in_ok-shares.ensures.exact)
     (appended ∙ ap (λ (l : List Claimed). c.args.out.now.items ++ map (told (Bus c.args.bus) c.args.space l) c.deref-3.result.now) c.deref-2.ensures.value
     ∙ ap (λ (l : List Share). c.args.out.now.items ++ map (told (Bus c.args.bus) c.args.space c.in_ok-claims.claims.items) l) c.deref-3.ensures.value)) c.add_told.ensures
+
+pub returns-then-branch : goal.returns-then-branch
+returns-then-branch g c = no_clashes (given_value c.args.given.now) c.args.outline.now c.args.bus (space_of c.args.space) c.args.out.now.items (c.in_ok-is_bus_quiet.ensures c.if-branch.true)

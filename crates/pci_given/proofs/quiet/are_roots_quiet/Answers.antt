@@ -1,0 +1,17 @@
+use Rattle.std.proofs.Common.{ℕ, List, refl, subst}
+use Rattle.std.specs.List.{Contains}
+use Rattle.std.proofs.lemmas.Result.{IfOk-weaker}
+use Rattle.pci_base.specs.Space.{space_of}
+use Rattle.pci_given.specs.declared.given.LegacyBridge.{LegacyBridge}
+use Rattle.pci_given.specs.Values.{given_value}
+use Rattle.pci_given.specs.Quiet.{AreQuiet, HasThoseOn}
+use Rattle.pci_given.proofs.Quieting.{is_quiet}
+use Rattle.pci_given.proofs.quiet.are_roots_quiet.Goals as goal
+
+pub returns : goal.returns
+returns g c = IfOk-weaker c.are_quiet.result _ _
+    (λ quiet is holds s tree. is_quiet (given_value c.args.given.now) s (Contains c.args.outline.now.roots) (space_of c.args.space) c.in_ok-regions.regions.items
+    (c.in_ok-regions.ensures s tree)
+    c.args.given.now.legacy.now c.in_ok-legacy.legacy.items refl
+    (subst (λ (roots : List ℕ). HasThoseOn (Contains roots) c.args.given.now.legacy.now c.in_ok-legacy.legacy.items) c.roots-roots.ensures c.in_ok-legacy.ensures)
+    (subst (λ (l : List LegacyBridge). AreQuiet (space_of c.args.space) c.in_ok-regions.regions.items l) c.deref.ensures.value (is holds))) c.are_quiet.ensures

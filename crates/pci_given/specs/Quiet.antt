@@ -1,0 +1,49 @@
+-- Buses on which no two regions claim an address that they may not share, whatever gets there.
+use Rattle.std.specs.Prelude.{◌≡◌, ℕ, ◌<◌, ◌≤◌, ◌⊎◌, true, false, IsTrue, List, length}
+use Rattle.std.specs.List.{Contains}
+use Rattle.pci_spec.specs.Slot.{Slot}
+use Rattle.pci_spec.specs.Registers.{BRIDGE_CONTROL}
+use Rattle.pci_spec.specs.System.{System, Space}
+use Rattle.pci_base.specs.declared.range.Range.{Range}
+use Rattle.pci_tree.specs.declared.region.Region.{Region}
+use Rattle.pci_tree.specs.Ranges.{Covers}
+use Rattle.pci_tree.specs.Outline.{Tree}
+use Rattle.pci_check.specs.Trees.{HasTree}
+use Rattle.given_spec.specs.Given.{Given, legacy_holds}
+use Rattle.given_spec.specs.Claims.{ClaimsOnBus, may_share}
+use Rattle.pci_given.specs.declared.given.LegacyBridge.{LegacyBridge}
+
+-- the region may share each address that it has of the legacy part of the bridge at a slot
+abbrev pub IsOff : Slot → List Range → Region → Type 0
+IsOff bridge pieces r =
+    (a : ℕ) → r.first ≤ a → a ≤ r.last → Covers pieces a
+    → may_share r.slot r.reg bridge BRIDGE_CONTROL ≡ true
+
+abbrev pub IsOffLegacy : Space → LegacyBridge → Region → Type 0
+IsOffLegacy space bridge r =
+    (a : ℕ) → r.first ≤ a → a ≤ r.last → IsTrue (legacy_holds bridge.is_wide space a)
+    → may_share r.slot r.reg bridge.slot BRIDGE_CONTROL ≡ true
+
+-- the list has those of some bridges that are on some buses
+abbrev pub HasThoseOn : (ℕ → Type 0) → List LegacyBridge → List LegacyBridge → Type 0
+HasThoseOn IsOne legacy out =
+    (bridge : LegacyBridge) → Contains legacy bridge → IsOne bridge.slot.bus → Contains out bridge
+
+-- the regions have no address in common, at most one bridge has a legacy part, and each region may share what it has of it
+pub record AreQuiet (space : Space) (regions : List Region) (legacy : List LegacyBridge) : Type 0 where
+  pub apart : (p q : Region) → Contains regions p → Contains regions q
+      → (p ≡ q) ⊎ ((p.last < q.first) ⊎ (q.last < p.first))
+  pub one : length legacy ≤ 1
+  pub off : (bridge : LegacyBridge) (r : Region) → Contains legacy bridge → Contains regions r
+      → IsOffLegacy space bridge r
+
+-- no two regions of some buses claim an address that they may not share
+abbrev pub IsQuiet : Given → System → (ℕ → Type 0) → Space → Type 0
+IsQuiet given s IsOne space =
+    (a b c : ℕ) (p q : Slot) (m n : ℕ) → IsOne b → IsOne c
+    → ClaimsOnBus given s b space a p m → ClaimsOnBus given s c space a q n
+    → ((p ≡ q) × (m ≡ n) → ⊥) → may_share p m q n ≡ false → ⊥
+
+-- in each system with the tree
+abbrev pub IsQuietInEach : Given → Tree → (ℕ → Type 0) → Space → Type 0
+IsQuietInEach given t IsOne space = (s : System) → HasTree t s → IsQuiet given s IsOne space

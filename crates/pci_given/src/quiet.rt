@@ -1,0 +1,178 @@
+//! Buses on which no two regions can clash: what they claim is apart, whatever of it gets there.
+ghost use Rattle.std.specs.Prelude.{◌≡◌, ◌<◌, IfOk, IsTrue};
+ghost use Rattle.std.specs.List.{All, AllPairs, Contains};
+ghost use Rattle.std.specs.List.Sorted.{IsPermutation};
+ghost use Rattle.pci_base.specs.Space.{space_of};
+ghost use Rattle.pci_tree.specs.Ranges.{IsCanonical};
+ghost use Rattle.pci_tree.specs.Roots.{buses_of};
+ghost use Rattle.pci_given.specs.Values.{given_value};
+ghost use Rattle.pci_given.specs.Quiet.{IsOff, IsOffLegacy, HasThoseOn, AreQuiet, IsQuietInEach};
+
+use super::claim::may_share;
+use super::given::{Given, LegacyBridge};
+use super::legacy::pieces;
+use pci_base::memory::OutOfMemory;
+use pci_base::offset::BRIDGE_CONTROL;
+use pci_base::range::Range;
+use pci_base::slot::Slot;
+use pci_base::space::Space;
+use pci_check::split::of_roots;
+use pci_tree::outline::Outline;
+use pci_tree::ranges::least_from;
+use pci_tree::region::Region;
+use pci_tree::roots::Roots;
+use std::alloc::Allocator;
+
+/// Whether each of some regions lies above all before it.
+fn are_apart(regions: &[Region]) -> bool
+    ensures { IsTrue result → AllPairs (λ p q. p.last < q.first) regions.now }
+{
+    let mut end: u128 = 0;
+    for region in regions {
+        if u128::from(region.first) < end {
+            return false;
+        }
+        end = end.max(u128::from(region.last) + 1);
+    }
+    true
+}
+
+/// Sorts regions by their first addresses.
+fn sort<A: Allocator>(regions: &mut Vec<Region, A>) -> Result<(), OutOfMemory>
+    ensures { IsPermutation regions.old.items regions.new.items }
+{
+    match regions.sort_by_key(|region| region.first) {
+        Ok(()) => Ok(()),
+        Err(_) => Err(OutOfMemory),
+    }
+}
+
+/// Whether a region has no address of a legacy part, or may share it.
+fn is_off(region: &Region, bridge: Slot, pieces: &[Range]) -> bool
+    requires { IsCanonical pieces.now }
+    ensures { IsTrue result → IsOff bridge pieces.now region.now }
+{
+    if may_share(region.slot, region.reg, bridge, BRIDGE_CONTROL) {
+        return true;
+    }
+    match least_from(pieces, region.first) {
+        None => true,
+        Some(a) => region.last < a,
+    }
+}
+
+/// Whether each of some regions has no address of a legacy part, or may share it.
+fn are_off_pieces(regions: &[Region], bridge: Slot, pieces: &[Range]) -> bool
+    requires { IsCanonical pieces.now }
+    ensures { IsTrue result → All (IsOff bridge pieces.now) regions.now }
+{
+    for region in regions {
+        if !is_off(region, bridge, pieces) {
+            return false;
+        }
+    }
+    true
+}
+
+/// The same, of the legacy part of a bridge.
+fn are_off<A: Allocator>(
+    alloc: A,
+    regions: &[Region],
+    bridge: LegacyBridge,
+    space: Space,
+) -> Result<bool, OutOfMemory>
+    ensures { IfOk result
+        (λ off. IsTrue off → All (IsOffLegacy (space_of space) bridge) regions.now) }
+{
+    let pieces = pieces(alloc, bridge.is_wide, space)?;
+    Ok(are_off_pieces(regions, bridge.slot, &pieces))
+}
+
+/// Whether regions and the legacy parts of bridges are seen to be apart, but for what may be shared: regions alone, or with
+/// the legacy part of one bridge.
+fn are_quiet<A: Allocator + Copy>(
+    alloc: A,
+    regions: Vec<Region, A>,
+    legacy: &[LegacyBridge],
+    space: Space,
+) -> Result<bool, OutOfMemory>
+    ensures { IfOk result
+        (λ quiet. IsTrue quiet → AreQuiet (space_of space) regions.items legacy.now) }
+{
+    let mut regions = regions;
+    sort(&mut regions)?;
+    if !are_apart(&regions) || 1 < legacy.len() {
+        return Ok(false);
+    }
+    if legacy.is_empty() {
+        return Ok(true);
+    }
+    are_off(alloc, &regions, legacy[0], space)
+}
+
+/// The bridges of a bus among those with legacy parts.
+fn legacy_on<A: Allocator>(
+    alloc: A,
+    legacy: &[LegacyBridge],
+    bus: u8,
+) -> Result<Vec<LegacyBridge, A>, OutOfMemory>
+    ensures { IfOk result (λ v. HasThoseOn (λ b. b ≡ bus) legacy.now v.items) }
+{
+    let mut out = Vec::new(alloc);
+    for bridge in legacy {
+        if bridge.slot.bus() == bus {
+            out.push(*bridge)?;
+        }
+    }
+    Ok(out)
+}
+
+/// The bridges of root buses among those with legacy parts.
+fn legacy_on_roots<A: Allocator>(
+    alloc: A,
+    legacy: &[LegacyBridge],
+    roots: &Roots,
+) -> Result<Vec<LegacyBridge, A>, OutOfMemory>
+    ensures { IfOk result (λ v. HasThoseOn (Contains (buses_of roots.now)) legacy.now v.items) }
+{
+    let mut out = Vec::new(alloc);
+    for bridge in legacy {
+        if roots.has(bridge.slot.bus()) {
+            out.push(*bridge)?;
+        }
+    }
+    Ok(out)
+}
+
+/// Whether the regions of a bus in a space are seen to be apart, so that none clash whatever gets there.
+pub fn is_bus_quiet<A: Allocator + Copy>(
+    alloc: A,
+    given: &Given<'_>,
+    outline: &Outline<A>,
+    bus: u8,
+    space: Space,
+) -> Result<bool, OutOfMemory>
+    ensures { IfOk result (λ quiet. IsTrue quiet
+        → IsQuietInEach (given_value given.now) outline.now (λ b. b ≡ bus) (space_of space)) }
+{
+    let regions = outline.regions(bus, space)?;
+    let legacy = legacy_on(alloc, given.legacy, bus)?;
+    are_quiet(alloc, regions, &legacy, space)
+}
+
+/// Whether the regions of all root buses in a space are seen to be apart, so that none are split whatever is sent there.
+pub fn are_roots_quiet<A: Allocator + Copy>(
+    alloc: A,
+    given: &Given<'_>,
+    outline: &Outline<A>,
+    space: Space,
+) -> Result<bool, OutOfMemory>
+    ensures { IfOk result (λ quiet. IsTrue quiet
+        → IsQuietInEach (given_value given.now) outline.now (Contains outline.now.roots)
+        (space_of space)) }
+{
+    let roots = outline.roots();
+    let regions = of_roots(alloc, outline, &roots, space)?;
+    let legacy = legacy_on_roots(alloc, given.legacy, &roots)?;
+    are_quiet(alloc, regions, &legacy, space)
+}
