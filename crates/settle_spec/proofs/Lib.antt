@@ -13,4 +13,5 @@ pub mod Moved
 pub mod BridgeOver
 pub mod AllOfMemory
 pub mod Classes
+pub mod Buses
 pub mod Examples

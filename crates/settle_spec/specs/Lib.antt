@@ -9,3 +9,4 @@ pub mod Registers
 pub mod Writes
 pub mod WindowLaws
 pub mod ClassLaws
+pub mod BusLaws

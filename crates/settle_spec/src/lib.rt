@@ -6,6 +6,7 @@
 //! Bridge Architecture Specification 1.2.
 #![tactic(auto)]
 
+pub mod bus_laws;
 pub mod class_laws;
 pub mod placing_laws;
 pub mod window_laws;
