@@ -24,7 +24,7 @@ module _ (q : Request) (s : System) (anew : IsTrue q.anew) where
   none_holds zero r = none_stands (length (regions q s)) r
   none_holds (suc depth) r = ap (λ b. b && has_room q s (holds_within q s depth) r.function r.part) (none_stands (length (regions q s)) r)
 
-  none_stays : (r : Region) → false ≡ stays q s r
+  pub none_stays : (r : Region) → false ≡ stays q s r
   none_stays r = sym (ap (λ b. b && list_all (λ f. holds q s (window_region (class_in q s r.function r.part) f)) (bridges_above s r.function.slot.bus)) (none_holds 256 r))
 
   pub items_anew : (c : WindowKind) (extent : Function → Extent) (bus : ℕ) → items_on q s c nothing extent bus ≡ items_on q s c (stays q s) extent bus

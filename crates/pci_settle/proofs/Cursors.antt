@@ -1,8 +1,8 @@
 -- Where the search for an extent goes on stays so when more is taken.
-use Rattle.std.proofs.Common.{◌≡◌, ℕ, zero, suc, ◌+◌, ◌<◌, ◌≤◌, inl, inr, List, [], ◌∷◌, ◌++◌, map, length, set, get_or, arith, ap, sym, subst, ◌∙◌, true, false, Bool, Option, None, Some}
+use Rattle.std.proofs.Common.{◌≡◌, ℕ, zero, suc, ◌+◌, ◌-◌, ◌^◌, ◌<◌, ◌≤◌, inl, inr, List, [], ◌∷◌, ◌++◌, map, length, set, get_or, arith, ap, sym, subst, ◌∙◌, true, false, Bool, Option, None, Some}
 use Rattle.std.specs.List.{All, Contains, insert}
 use Rattle.std.proofs.lemmas.Bool.{cases_eq, true≢false, false≢true}
-use Rattle.std.proofs.lemmas.List.{length-append, length-map, get_or-map, length-set, get_or-set_same, get_or-set_other}
+use Rattle.std.proofs.lemmas.List.{length-append, length-map, get_or-map, length-set, get_or-set_same, get_or-set_other, get_or_default}
 use Rattle.std.proofs.lemmas.List.Elements.{All-append}
 use Rattle.std.proofs.lemmas.List.Edits.{length-insert}
 use Rattle.pci_spec.proofs.Members.{in_tail}
@@ -19,7 +19,7 @@ use Rattle.pci_settle.specs.declared.spot.Start.{Start}
 use Rattle.pci_settle.specs.declared.placing.Wanted.{Wanted}
 use Rattle.pci_settle.specs.declared.placing.Cursor.{Cursor}
 use Rattle.pci_settle.specs.Spots.{extent_value, IsExtent, AreListed, range_at, place_if, IsPutIn, IsTakenBy, IsReached, IsStart}
-use Rattle.pci_settle.specs.Placings.{HasList, AreWanted, IsCursor, placing_of}
+use Rattle.pci_settle.specs.Placings.{HasList, AreWanted, AreEnding, IsCursor, placing_of}
 use Rattle.pci_settle.proofs.Inserted.{Under, At, Over, find_where}
 use Rattle.pci_settle.proofs.AllPlaced.{put_same, IsSoFar, so_far_none, so_far_next, so_far_lacks, ranges_at}
 
@@ -89,10 +89,27 @@ cursors_next lists old new d at cursors n c listed put are within is = record {
       ];
 }
 
+-- ---- where they end
+
+ends_next : (wanted : List Wanted) (places : List ℕ) (n : ℕ) → AreEnding wanted places n → n < length wanted → length places ≡ length wanted → (w : Wanted) (taken new : List Range) (s : Spot)
+    → IsPutIn taken new (get_or wanted n w).extent s → AreEnding wanted (set places n s.at) (n + 1)
+ends_next wanted places n ends within count w taken new s put k v less = elim (cases_eq k n) [
+  | inl same ↦
+      let here : get_or (set places n s.at) k 0 ≡ s.at = ap (λ m. get_or (set places n s.at) m 0) same ∙ get_or-set_same places n s.at 0 (omega (arith, within, count)) in
+      let own : get_or wanted k v ≡ get_or wanted n w = ap (λ m. get_or wanted m v) same ∙ get_or_default wanted n v w within in
+      subst (λ (x : Wanted). get_or (set places n s.at) k 0 + (x.extent.size - 1) < 2 ^ 64) (sym own)
+      (subst (λ a. a + ((get_or wanted n w).extent.size - 1) < 2 ^ 64) (sym here) put.between.ends)
+  | inr other ↦
+      subst (λ a. a + ((get_or wanted k v).extent.size - 1) < 2 ^ 64) (sym (get_or-set_other places n k s.at 0 other)) (ends k v (omega (arith, less, other)))
+]
+
+-- ---- all of it
+
 -- items so far have their places, and the searches for more can go on
 pub record IsPlacing (lists : List (List Range)) (start : List DecodedRange) (wanted : List Wanted) (taken : List Range) (places : List ℕ) (cursors : List Cursor) (n : ℕ) : Type 0 where
   pub so_far : IsSoFar lists start wanted taken places n
   pub search : AreCursors lists taken cursors
+  pub ends : AreEnding wanted places n
 
 pub placing_none : (lists : List (List Range)) (wanted : List Wanted) (taken : List Range) (places : List ℕ) (cursors : List Cursor) → AreListed taken → length places ≡ length wanted
     → length cursors ≡ length lists → ((ranges taken : List Range) → All (IsCursor ranges taken) cursors)
@@ -100,6 +117,7 @@ pub placing_none : (lists : List (List Range)) (wanted : List Wanted) (taken : L
 placing_none lists wanted taken places cursors listed count long each = record {
   so_far = so_far_none lists wanted taken places listed count;
   search = cursors_first lists taken cursors long each;
+  ends = λ k w less. absurd (let no : ⊥ = omega (arith, less) in no);
 }
 
 pub placing_next : (lists : List (List Range)) (start : List DecodedRange) (wanted : List Wanted) (taken : List Range) (places : List ℕ) (cursors : List Cursor) (n : ℕ)
@@ -112,6 +130,7 @@ placing_next lists start wanted taken places cursors n is lawful within w s foun
   so_far = so_far_next lists start wanted taken places n (length lists) is.so_far lawful within w s.spot found new listed put;
   search = cursors_next lists taken new (get_or wanted n w).extent s.spot cursors (get_or wanted n w).list _ is.so_far.listed put is.search (lawful n w within).list
       (record { extent = (lawful n w within).extent; start = begun });
+  ends = ends_next wanted places n is.ends within is.so_far.count w taken new s.spot put;
 }
 
 -- ---- the next item, where its list is one of a table

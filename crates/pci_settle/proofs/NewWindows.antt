@@ -82,7 +82,7 @@ at_place : (s : System) (f : Function) → (listed : Contains s f) → slice_get
 at_place s f listed = slice_get-get_or s listed.0 f listed.1 ∙ ap (λ y. Some y) listed.2
 
 -- a function on a higher bus comes later
-comes_later : (s : System) → IsSystem s → (k j : ℕ) (f g : Function) → slice_get s k ≡ Some f → slice_get s j ≡ Some g → f.slot.bus < g.slot.bus → k < j
+pub comes_later : (s : System) → IsSystem s → (k j : ℕ) (f g : Function) → slice_get s k ≡ Some f → slice_get s j ≡ Some g → f.slot.bus < g.slot.bus → k < j
 comes_later s system k j f g at_k at_j up = elim (cases_lt k j) [
   | inl later ↦ later
   | inr before ↦ elim (cases_eq j k) [

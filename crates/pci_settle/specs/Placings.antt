@@ -1,6 +1,7 @@
 -- Items at the places of a table, each of them wanted in one of many lists of ranges.
-use Rattle.std.specs.Prelude.{ℕ, ◌≡◌, ◌<◌, List, [], ◌∷◌, map, length, drop, slice_index_or, Option, None, Some}
+use Rattle.std.specs.Prelude.{ℕ, ◌≡◌, ◌<◌, ◌^◌, List, [], ◌∷◌, map, length, drop, slice_index_or, Option, None, Some}
 use Rattle.pci_spec.specs.Decoded.{Range as DecodedRange}
+use Rattle.plan_spec.specs.Place.{range_from}
 use Rattle.settle_spec.specs.FirstPlace.{Extent}
 use Rattle.settle_spec.specs.Items.{Item, Placed, Placing, AllPlaced, Lacks}
 use Rattle.pci_base.specs.declared.range.Range.{Range}
@@ -37,6 +38,12 @@ pub record IsCursor (ranges taken : List Range) (c : Cursor) : Type 0 where
   pub start : IsStart ranges taken c.extent c.start
 
 -- ---- places
+
+-- so many of what is wanted end in 64 bits at the places of a table
+abbrev pub AreEnding : List Wanted → List ℕ → ℕ → Type 0
+AreEnding wanted places count =
+    (k : ℕ) (w : Wanted) → k < count
+    → (range_from (slice_index_or places k 0) (slice_index_or wanted k w).extent.size).last < 2 ^ 64
 
 -- each item with its place
 abbrev pub at_places : List Item → List ℕ → List Placed

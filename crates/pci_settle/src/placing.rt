@@ -2,14 +2,14 @@
 //!
 //! They come by falling alignment and size, so those of one extent come one after another: what one of them didn't
 //! find free isn't free for the next, and its search goes on where the last one in its list was placed.
-ghost use Rattle.std.specs.Prelude.{◌≡◌, ◌<◌, IfOk, IfSome, List, length, map};
+ghost use Rattle.std.specs.Prelude.{◌≡◌, ◌<◌, IfOk, IfSome, IfNone, List, length, map};
 ghost use Rattle.std.specs.List.{All};
 ghost use Rattle.pci_spec.specs.Decoded.{Range as DecodedRange};
 ghost use Rattle.settle_spec.specs.FirstPlace.{first_place as place_in_ranges};
 ghost use Rattle.settle_spec.specs.Items.{Item, place_all as items_placed};
 ghost use Rattle.pci_base.specs.Ranges.{decoded_range_of};
 ghost use Rattle.pci_settle.specs.Spots.{extent_value, IsExtent, AreListed, IsTakenBy, IsStart, place_if};
-ghost use Rattle.pci_settle.specs.Placings.{HasList, AreWanted, IsCursor, placing_of};
+ghost use Rattle.pci_settle.specs.Placings.{HasList, AreWanted, AreEnding, IsCursor, placing_of};
 
 use crate::extent::Extent;
 use crate::spot::{Start, first_place};
@@ -117,6 +117,9 @@ pub fn place_all<A: Allocator + Copy, B: Allocator>(
         → items_placed ranges (map decoded_range_of taken.old.items) items
         ≡ placing_of items places.new lack) }
     ensures within { IfOk result (λ lack. IfSome lack (λ k. k < length wanted.now)) }
+    // so the last address of each can be told
+    ensures ends { IfOk result (λ lack. IfNone lack
+        (AreEnding wanted.now places.new (length wanted.now))) }
     ensures listed { AreListed taken.new.items }
 {
     let mut cursors = cursors_for(alloc, lists.len())?;

@@ -1,4 +1,4 @@
-use Rattle.std.proofs.Common.{◌∙◌, sym, false, Vec}
+use Rattle.std.proofs.Common.{◌∙◌, sym, arith, false, Vec}
 use Rattle.std.proofs.lemmas.List.{length-map}
 use Rattle.pci_base.specs.declared.range.Range.{Range}
 use Rattle.pci_settle.specs.declared.placing.Wanted.{Wanted}
@@ -34,3 +34,6 @@ loop-index-preserved g c =
 
 pub returns-clause-placing : goal.returns-clause-placing
 returns-clause-placing g c = so_far_all _ _ _ _ _ _ c.loop-index.invariant.so_far c.loop-index-test.false
+
+pub returns-clause-ends : goal.returns-clause-ends
+returns-clause-ends g c = λ k w less. c.loop-index.invariant.ends k w (omega (arith, less, c.loop-index-test.false))
