@@ -1,0 +1,88 @@
+-- The places of a bus, by what the search in its lists answers.
+use Rattle.std.proofs.Common.{◌≡◌, ℕ, ◌<◌, ◌≤◌, List, [], ◌++◌, map, length, take, drop, append-nil, arith, sym, ◌∙◌, ap, subst, Option, true}
+use Rattle.std.specs.Option.{IfSome, IfNone}
+use Rattle.std.specs.List.{All}
+use Rattle.std.proofs.lemmas.List.{take_all}
+use Rattle.pci_spec.specs.Decoded.{Range as DecodedRange}
+use Rattle.pci_spec.specs.System.{System, Space, IsSystem}
+use Rattle.pci_spec.specs.Bus.{is_root, IsNested}
+use Rattle.settle_spec.specs.Lists.{Lists, Request}
+use Rattle.settle_spec.specs.Items.{Item as ItemValue, Placing, place_all}
+use Rattle.settle_spec.specs.Places.{placed_of, space_items, ranges_for, placing_on}
+use Rattle.settle_spec.proofs.Buses.{placing_by_bus}
+use Rattle.pci_base.specs.declared.range.Range.{Range}
+use Rattle.pci_base.specs.Ranges.{decoded_range_of}
+use Rattle.pci_settle.specs.declared.own.Terms.{Terms}
+use Rattle.pci_settle.specs.declared.placing.Wanted.{Wanted}
+use Rattle.pci_settle.specs.Placings.{HasList, AreWanted, AreEnding, placing_of}
+use Rattle.pci_settle.specs.NewWindows.{IsAnew}
+use Rattle.pci_settled.specs.declared.candidate.Candidate.{Candidate}
+use Rattle.pci_settled.specs.declared.candidate.SpaceWindows.{SpaceWindows}
+use Rattle.pci_settled.specs.Candidates.{candidate_value, IsLawful, IsWithin, KnowsWindows, AreCandidatesOf}
+use Rattle.pci_settled.specs.Columns.{wanted_value, HasRootColumns}
+use Rattle.pci_settled.specs.BusPlaces.{bus_placing, AreWithin, ArePlacesIn, AreRootPlaces}
+use Rattle.pci_settled.proofs.Notes.{drop_none}
+use Rattle.pci_settled.proofs.Wanted.{no_candidate, are_within, are_parts, wanted_lawful, are_wanted, lacking_less, are_ending}
+use Rattle.pci_settled.proofs.Columns.{root_lists_for}
+use Rattle.pci_settled.proofs.Spaces.{none_taken}
+
+-- what a slice of a list gives back
+pub slice_back : {X : Type 0} (len : ℕ) (new old : List X) → length new ≡ length old → len ≡ length old → take len (new ++ drop (length new) old) ≡ new
+slice_back len new old same long =
+    ap (λ xs. take len (new ++ xs)) (drop_none (length new) old (omega (arith, same)))
+    ∙ ap (take len) (append-nil new)
+    ∙ take_all len new (omega (arith, same, long))
+
+module _ (roots : List ℕ) (s : System) (system : IsSystem s) (space : Space) (t : Terms) (w : SpaceWindows) (bus : ℕ) (candidates : List Candidate) (are : AreCandidatesOf roots s space t w bus candidates)
+    (rs : List ℕ) (rs_are : rs ≡ roots) (slice : List Candidate) (slice_is : slice ≡ candidates) (wanted : List Wanted) (wanted_is : wanted ≡ map (wanted_value rs s) slice) where
+  wanted_own : (q : Request) → IsAnew q roots t → wanted ≡ map (wanted_value q.roots s) candidates
+  wanted_own q anew = wanted_is ∙ ap (λ xs. map (wanted_value xs s) slice) (rs_are ∙ sym anew.rooted) ∙ ap (map (wanted_value q.roots s)) slice_is
+
+  module _ (known : KnowsWindows roots s space t w) where
+    abbrev q0 : Request
+    q0 = known.request
+
+    here : map (candidate_value s) candidates ≡ space_items q0 s space bus
+    here = are q0 known.anew known.has
+
+    pub slice_within : (count : ℕ) → length s ≡ count → All (IsWithin count) slice
+    slice_within count long = subst (All (IsWithin count)) (sym slice_is) (subst (λ n. All (IsWithin n) candidates) long (are_within q0 s system space bus candidates here))
+
+    module _ (ws : List Wanted) (ws_are : ws ≡ wanted) where
+      pub all_lawful : (count : ℕ) → 3 ≤ count → (is_root roots bus ≡ true → count ≡ 768) → All IsLawful candidates → All (HasList count) ws
+      all_lawful count some all lawful =
+          subst (All (HasList count)) (sym ws_are)
+          (wanted_lawful q0 s system space bus candidates here wanted (wanted_own q0 known.anew) count some (λ root. all (subst (λ xs. is_root xs bus ≡ true) known.anew.rooted root)) no_candidate lawful)
+
+      module _ (places : List ℕ) (lack : Option ℕ) (final : List ℕ) (final_is : final ≡ places) where
+        pub within_in : All IsLawful candidates → length places ≡ length candidates → IfSome lack (λ k. k < length ws) → IfNone lack (AreEnding ws places (length ws)) → AreWithin s candidates final lack
+        within_in lawful count less ends =
+            subst (λ ps. AreWithin s candidates ps lack) (sym final_is) record {
+              functions = are_within q0 s system space bus candidates here;
+              parts = are_parts q0 s system space bus candidates here;
+              lawful = lawful;
+              count = count;
+              lacking = lacking_less q0 s system space bus candidates here wanted (wanted_own q0 known.anew) lack (subst (λ xs. IfSome lack (λ k. k < length xs)) ws_are less);
+              ends = are_ending q0 s system space bus candidates here wanted (wanted_own q0 known.anew) places lack no_candidate (subst (λ xs. IfNone lack (AreEnding xs places (length xs))) ws_are ends);
+            }
+
+        pub places_in : (lists : List (List Range)) (taken : List Range) → taken ≡ []
+            → ((ranges : ItemValue → List DecodedRange) (items : List ItemValue) → AreWanted lists ranges items ws → place_all ranges (map decoded_range_of taken) items ≡ placing_of items places lack)
+            → ArePlacesIn roots s space t w bus lists (bus_placing s candidates final lack)
+        places_in lists taken none placing q placed anew has for =
+            let items = are q anew has in
+            let values = map (candidate_value s) candidates in
+            let want = subst (AreWanted lists (ranges_for q s placed) values) (sym ws_are) (are_wanted q s system space bus candidates items wanted (wanted_own q anew) placed lists for no_candidate) in
+            ap (λ ps. bus_placing s candidates ps lack) final_is
+            ∙ sym (placing (ranges_for q s placed) values want)
+            ∙ ap (λ ts. place_all (ranges_for q s placed) (map decoded_range_of ts) values) none
+            ∙ ap (place_all (ranges_for q s placed) []) items
+            ∙ ap (λ taken. place_all (ranges_for q s placed) taken (space_items q s space bus)) (sym (none_taken q s anew.anew space bus))
+
+pub root_places : {V : Type 0} (f : V → List Range) (roots : List ℕ) (s : System) → IsSystem s → IsNested roots s → (space : Space) (l : Lists) (t : Terms) (w : SpaceWindows) (root : ℕ) → root < 256 → is_root roots root ≡ true
+    → (rs : List ℕ) → rs ≡ roots → (all slice : List V) → slice ≡ all → HasRootColumns rs l space 256 (map f all) → (placing : Placing) → ArePlacesIn roots s space t w root (map f slice) placing → AreRootPlaces roots s space l t w root placing
+root_places f roots s system nested space l t w root low is_one rs rs_are all slice slice_is columns placing are q anew same has =
+    are q (λ over. placed_of (placing_on q s space over)) anew has
+    (root_lists_for q s l space root (map f slice) (λ over. placed_of (placing_on q s space over)) system (subst (λ xs. is_root xs root ≡ true) (sym anew.rooted) is_one) same
+    (subst (λ xs. HasRootColumns xs l space 256 (map f slice)) (rs_are ∙ sym anew.rooted) (subst (λ xs. HasRootColumns rs l space 256 (map f xs)) (sym slice_is) columns)))
+    ∙ sym (placing_by_bus q s system (subst (λ xs. IsNested xs s) (sym anew.rooted) nested) space root low)

@@ -1,0 +1,10 @@
+pub mod Added
+pub mod Spaces
+pub mod Parts
+pub mod Notes
+pub mod Wanted
+pub mod Columns
+pub mod Reached
+pub mod Buses
+pub mod SpacePlaces
+pub mod SpaceSteps

@@ -1,0 +1,38 @@
+use Rattle.std.proofs.Common.{◌++◌, ◌∷◌, [], ◌∙◌, map, sym, ap, subst, Vec}
+use Rattle.std.specs.List.{All}
+use Rattle.pci_base.specs.Space.{space_of}
+use Rattle.pci_base.specs.declared.range.Range.{Range}
+use Rattle.pci_place.specs.Above.{system_in}
+use Rattle.pci_settled.specs.Candidates.{IsWithin}
+use Rattle.pci_settled.proofs.Notes.{are_part}
+use Rattle.pci_settled.proofs.SpaceSteps.{three_are, behind_noted}
+use Rattle.pci_settled.proofs.space.place_behind.Goals as goal
+
+pub note_bus-requires : goal.note_bus-requires
+note_bus-requires g c =
+    let s = system_in c.args.admitted.now in
+    let within = c.in_ok-places.ensures.within in
+    record {
+      each = subst (λ n. All (IsWithin n) c.in_ok-places.places.candidates.items) (sym c.requires.count) within.functions;
+      parts = are_part s c.in_ok-places.places.candidates.items within.parts;
+      lawful = within.lawful;
+      count = within.count;
+      lacking = within.lacking;
+      ends = within.ends;
+    }
+
+pub returns : goal.returns
+returns g c =
+    let s = system_in c.args.admitted.now in
+    let items = λ (v : Vec Range g.row.A.Denot). v.items in
+    let column = c.in_ok-column.column in
+    record {
+      noted = behind_noted c.args.admitted.now.roots s (space_of c.args.space) c.args.terms c.args.windows.now c.args.bus c.requires.behind c.args.function c.args.table.now c.note_bus.new.table c.requires.function _
+          c.plain_window.result c.prefetch_window.result c.plain_window.ensures c.prefetch_window.ensures (map items c.as_slice.result.now)
+          (ap (map items) c.as_slice.ensures.value
+          ∙ c.in_ok-add_column.ensures
+          ∙ ap (λ xs. map items xs ++ (column.plain.items ∷ (column.wide.items ∷ (column.prefetch.items ∷ [])))) c.new-lists.ensures.items
+          ∙ three_are column.plain.items column.wide.items column.prefetch.items _ _ _ c.in_ok-column.ensures.plain c.in_ok-column.ensures.wide c.in_ok-column.ensures.prefetch)
+          _ c.in_ok-places.ensures.placing
+          (λ system. c.note_bus.ensures.noted s system (sym c.requires.count) c.in_ok-places.ensures.within.parts);
+    }

@@ -1,0 +1,43 @@
+-- The places of the items of a bus.
+use Rattle.std.specs.Prelude.{◌≡◌, ℕ, ◌<◌, List, map, length, Option, IfSome, IfNone}
+use Rattle.std.specs.List.{All}
+use Rattle.pci_spec.specs.System.{System, Space}
+use Rattle.settle_spec.specs.Lists.{Lists, Request}
+use Rattle.settle_spec.specs.Items.{Placed, Placing, place_all}
+use Rattle.settle_spec.specs.Places.{space_items, taken_at, ranges_for, placing_on}
+use Rattle.pci_base.specs.declared.range.Range.{Range}
+use Rattle.pci_settle.specs.declared.own.Terms.{Terms}
+use Rattle.pci_settle.specs.Placings.{placing_of}
+use Rattle.pci_settle.specs.NewWindows.{IsAnew}
+use Rattle.pci_settled.specs.declared.candidate.Candidate.{Candidate}
+use Rattle.pci_settled.specs.declared.candidate.SpaceWindows.{SpaceWindows}
+use Rattle.pci_settled.specs.Candidates.{candidate_value, IsWithin, IsLawful, HasPart, HasSpaceWindows}
+use Rattle.pci_settled.specs.Columns.{AreListsFor}
+use Rattle.pci_settled.specs.Places.{AreEndingAt}
+
+-- items at their places, or the first one that has none
+abbrev pub bus_placing : System → List Candidate → List ℕ → Option ℕ → Placing
+bus_placing s candidates places lack = placing_of (map (candidate_value s) candidates) places lack
+
+-- each item is a part of a function, and has an entry in the table of places
+pub record AreWithin (s : System) (candidates : List Candidate) (places : List ℕ)
+    (lack : Option ℕ) : Type 0 where
+  pub functions : All (IsWithin (length s)) candidates
+  pub parts : All (HasPart s) candidates
+  pub lawful : All IsLawful candidates
+  pub count : length places ≡ length candidates
+  pub lacking : IfSome lack (λ k. k < length candidates)
+  pub ends : IfNone lack (AreEndingAt candidates places)
+
+-- they are those in some lists of ranges, whatever is told of places on other buses
+abbrev pub ArePlacesIn : List ℕ → System → Space → Terms → SpaceWindows → ℕ → List (List Range) → Placing → Type 0
+ArePlacesIn roots s space t w bus lists placing =
+    (q : Request) (placed : ℕ → List Placed) → IsAnew q roots t → HasSpaceWindows q s space t w
+    → AreListsFor q s space placed bus lists
+    → placing ≡ place_all (ranges_for q s placed) (taken_at q s space bus) (space_items q s space bus)
+
+-- those on the roots, in lists that are asked for
+abbrev pub AreRootPlaces : List ℕ → System → Space → Lists → Terms → SpaceWindows → ℕ → Placing → Type 0
+AreRootPlaces roots s space l t w root placing =
+    (q : Request) → IsAnew q roots t → q.lists ≡ l → HasSpaceWindows q s space t w
+    → placing ≡ placing_on q s space root

@@ -1,0 +1,75 @@
+-- What is placed on a bus in a space, as the definitions have it.
+use Rattle.std.specs.Prelude.{◌≡◌, ℕ, ◌<◌, IsTrue, List, ◌++◌, map, Option}
+use Rattle.pci_spec.specs.Window.{WindowKind, IoWindow, MemoryWindow, PrefetchWindow}
+use Rattle.pci_spec.specs.System.{System, Space, Io, Memory, has_part}
+use Rattle.settle_spec.specs.Lists.{Request}
+use Rattle.settle_spec.specs.Items.{Item as ItemValue, items_on, new_window, stays}
+use Rattle.settle_spec.specs.Places.{space_items}
+use Rattle.pci_base.specs.declared.window_kind.WindowKind.{WindowKind as Class}
+use Rattle.pci_base.specs.WindowKinds.{kind_value}
+use Rattle.pci_settle.specs.declared.extent.Extent.{Extent}
+use Rattle.pci_settle.specs.declared.item.Item.{Item}
+use Rattle.pci_settle.specs.declared.own.Terms.{Terms}
+use Rattle.pci_settle.specs.Spots.{IsExtent}
+use Rattle.pci_settle.specs.Own.{item_value}
+use Rattle.pci_settle.specs.Buses.{AreWindows}
+use Rattle.pci_settle.specs.NewWindows.{IsAnew, HasNewWindows}
+use Rattle.pci_settled.specs.declared.candidate.Candidate.{Candidate}
+use Rattle.pci_settled.specs.declared.candidate.SpaceWindows.{SpaceWindows}
+
+abbrev pub of_class : Class → Item → Candidate
+of_class class i = record { class = class; item = i }
+
+abbrev pub candidate_value : System → Candidate → ItemValue
+candidate_value s c = item_value s (kind_value c.class) c.item
+
+-- it has an address, and an alignment
+abbrev pub IsLawful : Candidate → Type 0
+IsLawful c = IsExtent c.item.extent
+
+-- it is of one of so many functions
+abbrev pub IsWithin : ℕ → Candidate → Type 0
+IsWithin count c = c.item.function < count
+
+-- its function has the part
+abbrev pub HasPart : System → Candidate → Type 0
+HasPart s c =
+    IsTrue (has_part (candidate_value s c).region.function (candidate_value s c).region.part)
+
+-- ---- of a class
+
+-- to some items those of a bus in a class are added, in turn
+abbrev pub AreAddedOf : List ℕ → System → WindowKind → Terms → List (Option Extent) → ℕ → List Candidate → List Candidate → Type 0
+AreAddedOf roots s c t windows bus old new =
+    (q : Request) → IsAnew q roots t → HasNewWindows q s c t windows
+    → map (candidate_value s) new
+    ≡ map (candidate_value s) old ++ items_on q s c (stays q s) (new_window q s c) bus
+
+-- ---- of a space
+
+pub record AreSpaceWindows (w : SpaceWindows) : Type 0 where
+  pub plain : AreWindows w.plain
+  pub prefetch : AreWindows w.prefetch
+
+-- the tables have the new windows of each class of a space
+abbrev pub HasSpaceWindows : Request → System → Space → Terms → SpaceWindows → Type 0
+HasSpaceWindows q s Io t w = HasNewWindows q s IoWindow t w.plain
+HasSpaceWindows q s Memory t w =
+    HasNewWindows q s MemoryWindow t w.plain × HasNewWindows q s PrefetchWindow t w.prefetch
+
+-- they are the new windows, whatever is asked for in these terms
+abbrev pub HasWindowsIn : List ℕ → System → Space → Terms → SpaceWindows → Type 0
+HasWindowsIn roots s space t w = (q : Request) → IsAnew q roots t → HasSpaceWindows q s space t w
+
+-- something can be asked for of which they are the new windows
+pub record KnowsWindows (roots : List ℕ) (s : System) (space : Space) (t : Terms)
+    (w : SpaceWindows) : Type 0 where
+  pub request : Request
+  pub anew : IsAnew request roots t
+  pub has : HasSpaceWindows request s space t w
+
+-- the items of a bus in a space
+abbrev pub AreCandidatesOf : List ℕ → System → Space → Terms → SpaceWindows → ℕ → List Candidate → Type 0
+AreCandidatesOf roots s space t w bus candidates =
+    (q : Request) → IsAnew q roots t → HasSpaceWindows q s space t w
+    → map (candidate_value s) candidates ≡ space_items q s space bus

@@ -1,0 +1,77 @@
+-- Lists of ranges by number, three in each column: of what is plain, of what is wide, and of prefetchable memory.
+use Rattle.std.specs.Prelude.{◌≡◌, ℕ, ◌+◌, ◌*◌, ◌<◌, Bool, if◌then◌else◌, IsTrue, List, [], ◌∷◌, ◌++◌, map, length, slice_index_or, Option, None, Some}
+use Rattle.std.specs.List.{filter, Contains}
+use Rattle.pci_spec.specs.Decoded.{Range as DecodedRange}
+use Rattle.pci_spec.specs.Window.{WindowKind, IoWindow, MemoryWindow, PrefetchWindow}
+use Rattle.pci_spec.specs.System.{System, Space, Io, Memory}
+use Rattle.pci_spec.specs.Bus.{is_root}
+use Rattle.settle_spec.specs.Lists.{RootRange, Lists, Request, is_had_by}
+use Rattle.settle_spec.specs.Items.{Item as ItemValue, Placed}
+use Rattle.settle_spec.specs.Places.{space_items, ranges_for}
+use Rattle.pci_base.specs.declared.range.Range.{Range}
+use Rattle.pci_base.specs.Ranges.{decoded_range_of}
+use Rattle.pci_settle.specs.declared.placing.Wanted.{Wanted}
+use Rattle.pci_settled.specs.declared.candidate.Candidate.{Candidate}
+use Rattle.pci_settled.specs.Candidates.{candidate_value}
+
+-- ---- numbers
+
+-- which list of a column it is
+abbrev pub kind_number : WindowKind → Bool → ℕ
+kind_number IoWindow wide = 0
+kind_number MemoryWindow wide = if wide then 1 else 0
+kind_number PrefetchWindow wide = 2
+
+-- a root has a column of its own
+abbrev pub column : List ℕ → ℕ → ℕ
+column roots bus = if is_root roots bus then bus else 0
+
+abbrev pub list_number : List ℕ → ItemValue → ℕ
+list_number roots i =
+    3 * column roots i.region.function.slot.bus + kind_number i.class i.extent.wide
+
+abbrev pub wanted_value : List ℕ → System → Candidate → Wanted
+wanted_value roots s c =
+    record { extent = c.item.extent; list = list_number roots (candidate_value s c) }
+
+abbrev pub list_at : List (List Range) → ℕ → List DecodedRange
+list_at lists n = map decoded_range_of (slice_index_or lists n [])
+
+-- each item of a bus has the ranges of its list
+abbrev pub AreListsFor : Request → System → Space → (ℕ → List Placed) → ℕ → List (List Range) → Type 0
+AreListsFor q s space placed bus lists =
+    (i : ItemValue) → Contains (space_items q s space bus) i
+    → ranges_for q s placed i ≡ list_at lists (list_number q.roots i)
+
+-- ---- of roots
+
+-- the ranges of a list that a root has
+abbrev pub had : ℕ → List RootRange → List DecodedRange
+had bus list = map (λ (r : RootRange). r.range) (filter (λ r. is_had_by r.root bus) list)
+
+pub record IsMemoryColumn (l : Lists) (bus : ℕ) (plain wide prefetch : List Range) : Type 0 where
+  pub plain_is : map decoded_range_of plain ≡ had bus l.memory
+  pub wide_is : map decoded_range_of wide ≡ had bus l.memory ++ had bus l.prefetch
+  pub prefetch_is : map decoded_range_of prefetch ≡ had bus l.prefetch
+
+-- three lists have the ranges of a root in a space
+abbrev pub AreColumn : Lists → Space → ℕ → List Range → List Range → List Range → Type 0
+AreColumn l Io bus plain wide prefetch = map decoded_range_of plain ≡ had bus l.io
+AreColumn l Memory bus plain wide prefetch = IsMemoryColumn l bus plain wide prefetch
+
+abbrev pub HasColumn : Lists → Space → List (List Range) → ℕ → Type 0
+HasColumn l space lists bus =
+    AreColumn l space bus (slice_index_or lists (3 * bus) [])
+    (slice_index_or lists (3 * bus + 1) []) (slice_index_or lists (3 * bus + 2) [])
+
+-- a column for each of so many buses, with the ranges of those that are roots
+pub record HasRootColumns (roots : List ℕ) (l : Lists) (space : Space) (count : ℕ)
+    (lists : List (List Range)) : Type 0 where
+  pub size : length lists ≡ 3 * count
+  pub each : (bus : ℕ) → bus < count → IsTrue (is_root roots bus) → HasColumn l space lists bus
+
+-- ---- of a window
+
+abbrev pub range_list : Option Range → List Range
+range_list None = []
+range_list (Some r) = r ∷ []

@@ -1,0 +1,5 @@
+pub mod Candidates
+pub mod Columns
+pub mod Places
+pub mod BusPlaces
+pub mod Spaces

@@ -1,0 +1,132 @@
+//! The places of the items of one bus, in lists of ranges.
+ghost use Rattle.std.specs.Prelude.{◌≡◌, ◌<◌, ◌≤◌, IfOk, IsTrue, map, length};
+ghost use Rattle.std.specs.List.{All};
+ghost use Rattle.pci_spec.specs.System.{System};
+ghost use Rattle.pci_spec.specs.Bus.{is_root};
+ghost use Rattle.pci_spec.specs.Decoded.{HasRecords};
+ghost use Rattle.pci_base.specs.Space.{space_of};
+ghost use Rattle.pci_base.specs.WindowKinds.{kind_value};
+ghost use Rattle.pci_function.specs.Values.{record_value};
+ghost use Rattle.pci_tree.specs.Roots.{buses_of};
+ghost use Rattle.pci_place.specs.Above.{AreAboves, system_in};
+ghost use Rattle.pci_settled.specs.Candidates.{AreSpaceWindows, KnowsWindows, IsWithin};
+ghost use Rattle.pci_settled.specs.Columns.{kind_number, column, wanted_value};
+ghost use Rattle.pci_settled.specs.BusPlaces.{bus_placing, ArePlacesIn, AreWithin};
+
+use crate::candidate::{Candidate, SpaceWindows, candidates_on};
+use pci_base::memory::OutOfMemory;
+use pci_base::range::Range;
+use pci_base::slot::BUSES;
+use pci_base::space::Space;
+use pci_base::window_kind::WindowKind;
+use pci_function::record::Record;
+use pci_place::above::Above;
+use pci_settle::list::is_root;
+use pci_settle::own::Terms;
+use pci_settle::placing::{Wanted, place_all};
+use pci_tree::admitted::Admitted;
+use pci_tree::roots::Roots;
+use std::alloc::Allocator;
+
+/// The items of a bus in a space and their places.
+#[derive(Drop)]
+pub struct BusPlaces<A: Allocator> {
+    pub candidates: Vec<Candidate, A>,
+    /// The first address of each of them.
+    pub places: Vec<u64, A>,
+    /// None where all have a place, else the index of the first that has none.
+    pub lack: Option<usize>,
+}
+
+/// Which list of a column is for what is of a class, and wide or not.
+fn kind_number(class: WindowKind, wide: bool) -> usize
+    ensures exact { result ≡ kind_number (kind_value class) wide }
+    ensures few { result < 3 }
+{
+    match class {
+        WindowKind::Io => 0,
+        WindowKind::Memory => { if wide { 1 } else { 0 } }
+        WindowKind::Prefetchable => 2,
+    }
+}
+
+/// Which column is for what is on a bus: a root has one of its own.
+fn column(roots: &Roots, bus: u8) -> usize
+    ensures exact { result ≡ column (buses_of roots.now) bus }
+    ensures few { result < 256 }
+{
+    if is_root(roots, bus) {
+        usize::from(bus)
+    } else {
+        0
+    }
+}
+
+/// What is wanted for each item: its extent in the list that is for it.
+fn wanted_of<A: Allocator>(
+    alloc: A,
+    roots: &Roots,
+    records: &[Record],
+    candidates: &[Candidate],
+) -> Result<Vec<Wanted, A>, OutOfMemory>
+    requires { All (IsWithin (length records.now)) candidates.now }
+    ensures { IfOk result (λ wanted. (s : System) → HasRecords s (map record_value records.now)
+        → wanted.items ≡ map (wanted_value (buses_of roots.now) s) candidates.now) }
+{
+    let mut wanted = Vec::new(alloc);
+    for candidate in candidates {
+        let item = candidate.item;
+        let bus = records[item.function].slot.bus();
+        let list = 3 * column(roots, bus) + kind_number(candidate.class, item.extent.wide);
+        wanted.push(Wanted {
+            extent: item.extent,
+            list,
+        })?;
+    }
+    Ok(wanted)
+}
+
+/// Gives each item of a bus its first place in its list, where nothing stands: on the roots the lists are columns by bus,
+/// and elsewhere one column.
+pub fn place_bus<A: Allocator + Copy, B: Allocator>(
+    alloc: A,
+    admitted: &Admitted<B>,
+    bus: u8,
+    space: Space,
+    aboves: &[Above; BUSES],
+    terms: Terms,
+    windows: &SpaceWindows,
+    lists: &[Vec<Range, A>],
+) -> Result<BusPlaces<A>, OutOfMemory>
+    requires above { AreAboves (system_in admitted.now) aboves.now }
+    requires lawful { AreSpaceWindows windows.now }
+    requires known { KnowsWindows admitted.now.roots (system_in admitted.now) (space_of space) terms
+        windows.now }
+    requires some { 3 ≤ length lists.now }
+    requires roots { IsTrue (is_root admitted.now.roots bus) → length lists.now ≡ 768 }
+    ensures placing { IfOk result (λ places. ArePlacesIn admitted.now.roots (system_in admitted.now)
+        (space_of space) terms windows.now bus (map (λ list. list.items) lists.now)
+        (bus_placing (system_in admitted.now) places.candidates.items places.places.items places.lack)) }
+    ensures within { IfOk result (λ places. AreWithin (system_in admitted.now) places.candidates.items
+        places.places.items places.lack) }
+{
+    let candidates = candidates_on(alloc, admitted, bus, space, aboves, terms, windows)?;
+    let outline = admitted.outline();
+    let roots = outline.roots();
+    let records = outline.records();
+    let wanted = wanted_of(alloc, &roots, records, candidates.as_slice())?;
+    let mut places = vec![in alloc; 0; candidates.len()]?;
+    let mut taken = Vec::new(alloc);
+    let lack = place_all(
+        alloc,
+        lists,
+        &mut taken,
+        wanted.as_slice(),
+        places.as_mut_slice(),
+    )?;
+    Ok(BusPlaces {
+        candidates,
+        places,
+        lack,
+    })
+}

@@ -1,0 +1,13 @@
+//! The places of all items where nothing stands: on the roots in their lists of ranges, and behind a bridge in its
+//! new window.
+//!
+//! A bridge stands on a lower bus than what is behind it, so buses are gone over as they rise: what is on a bus tells the
+//! places of the windows in which other buses have theirs.
+#![tactic(auto)]
+
+pub mod bus;
+pub mod candidate;
+pub mod column;
+pub mod places;
+pub mod root;
+pub mod space;
