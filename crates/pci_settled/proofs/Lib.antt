@@ -8,3 +8,4 @@ pub mod Reached
 pub mod Buses
 pub mod SpacePlaces
 pub mod SpaceSteps
+pub mod BothSpaces

@@ -3,3 +3,4 @@ pub mod Columns
 pub mod Places
 pub mod BusPlaces
 pub mod Spaces
+pub mod Anew

@@ -5,6 +5,7 @@
 //! places of the windows in which other buses have theirs.
 #![tactic(auto)]
 
+pub mod anew;
 pub mod bus;
 pub mod candidate;
 pub mod column;

@@ -1,0 +1,149 @@
+-- The places of both spaces in one table, and what lacks one: of I/O, or else of memory.
+use Rattle.std.proofs.Common.{◌≡◌, ℕ, ◌+◌, ◌-◌, inl, inr, ◌⊎◌, List, [], ◌∷◌, ◌++◌, length, replicate, get_or, arith, refl, sym, ◌∙◌, ap, subst, Option, None, Some}
+use Rattle.std.specs.Option.{IfSome}
+use Rattle.std.proofs.lemmas.Bool.{cases_lt}
+use Rattle.std.proofs.lemmas.List.{length-append, get_or_append_left, get_or-append_right, get_or-replicate, get_or_past}
+use Rattle.std.proofs.lemmas.List.Elements.{All-replicate}
+use Rattle.std.proofs.lemmas.Option.{slice_get_within}
+use Rattle.pci_spec.specs.Window.{IoWindow, MemoryWindow, PrefetchWindow}
+use Rattle.pci_spec.specs.System.{System, Space, Io, Memory, Part, Bar, Rom, Window, space_of, window_space}
+use Rattle.settle_spec.specs.Lists.{Lists, Request}
+use Rattle.settle_spec.specs.Items.{Item as ItemValue, Placing, AllPlaced, Lacks}
+use Rattle.settle_spec.specs.Places.{placing_on, first_lack, lacking_on}
+use Rattle.pci_base.specs.declared.memory.Refused.{Refused}
+use Rattle.pci_base.specs.declared.memory.Refused.TheVariants as refused
+use Rattle.pci_base.specs.WindowKinds.{kind_value}
+use Rattle.pci_base.specs.declared.range.Range.{Range}
+use Rattle.pci_settle.specs.declared.extent.Extent.{Extent}
+use Rattle.pci_settle.specs.declared.own.Terms.{Terms}
+use Rattle.pci_settle.specs.Spots.{IsExtent}
+use Rattle.pci_settle.specs.Own.{AreTerms}
+use Rattle.pci_settle.specs.Buses.{AreWindows}
+use Rattle.pci_settle.specs.NewWindows.{IsAnew}
+use Rattle.pci_settled.specs.declared.anew.Unplaced.{Unplaced}
+use Rattle.pci_settled.specs.declared.anew.Unplaced.TheVariants as unplaced
+use Rattle.pci_settled.specs.declared.candidate.Candidate.{Candidate}
+use Rattle.pci_settled.specs.declared.candidate.SpaceWindows.{SpaceWindows}
+use Rattle.pci_settled.specs.declared.places.Places.{Places}
+use Rattle.pci_settled.specs.Candidates.{candidate_value, HasWindowsIn}
+use Rattle.pci_settled.specs.Places.{range_in}
+use Rattle.pci_settled.specs.Spaces.{HasNone, KeepsOthers, space_lack, AreSpacePlacesIn}
+use Rattle.pci_settled.specs.Anew.{IsAnewIn, IsTooLargeIn, HasPlacesIn, IsUnplacedIn, AreAllNone, AreNewPlaces, IsUnplaced}
+
+-- ---- what lacks a place
+
+first_none : (p : Placing) (other : Option ItemValue) → first_lack p None ≡ None → first_lack p other ≡ other
+first_none (AllPlaced placed) other none = refl
+first_none (Lacks i) other none = absurd (let no : ⊥ = cc in no)
+
+first_some : (p : Placing) (other : Option ItemValue) (i : ItemValue) → first_lack p None ≡ Some i → first_lack p other ≡ Some i
+first_some (AllPlaced placed) other i some = absurd (let no : ⊥ = cc in no)
+first_some (Lacks j) other i some = some
+
+lacking_memory : (q : Request) (s : System) (roots : List ℕ) → space_lack q s Io roots ≡ None → lacking_on q s roots ≡ space_lack q s Memory roots
+lacking_memory q s [] none = refl
+lacking_memory q s (root ∷ roots) none = first_none (placing_on q s Io root) (first_lack (placing_on q s Memory root) None) none
+
+lacking_io : (q : Request) (s : System) (roots : List ℕ) (i : ItemValue) → space_lack q s Io roots ≡ Some i → lacking_on q s roots ≡ Some i
+lacking_io q s [] i some = absurd (let no : ⊥ = cc in no)
+lacking_io q s (root ∷ roots) i some = first_some (placing_on q s Io root) (first_lack (placing_on q s Memory root) None) i some
+
+-- ---- of one space
+
+pub no_windows : AreWindows (replicate 256 None)
+no_windows = All-replicate (λ (o : Option Extent). IfSome o IsExtent) 256 None tt
+
+module _ (roots : List ℕ) (s : System) (space : Space) (l : Lists) (t : Terms) (terms : AreTerms l t) where
+  anew_in : (q : Request) → IsAnewIn q roots l → IsAnew q roots t
+  anew_in q anew = record { rooted = anew.rooted; anew = anew.anew; terms = subst (λ x. AreTerms x t) (sym anew.lists) terms }
+
+  pub space_placed : (w : SpaceWindows) (table : List Places) → HasWindowsIn roots s space t w → AreSpacePlacesIn roots s space l t w table None → HasPlacesIn roots s space l table
+  space_placed w table windows are q anew =
+      let placed = are q (anew_in q anew) anew.lists (windows q (anew_in q anew)) in
+      record { lack = placed.lack_is; places = placed.places }
+
+  pub space_lacks : (w : SpaceWindows) (table : List Places) (c : Candidate) → HasWindowsIn roots s space t w → AreSpacePlacesIn roots s space l t w table (Some c)
+      → (q : Request) → IsAnewIn q roots l → space_lack q s space q.roots ≡ Some (candidate_value s c)
+  space_lacks w table c windows are q anew = (are q (anew_in q anew) anew.lists (windows q (anew_in q anew))).lack_is
+
+  pub too_large : (e : Refused Unplaced) → IsTooLargeIn roots s space t e → IsUnplacedIn roots s space l e
+  too_large refused.Memory is = tt
+  too_large (refused.Fault (unplaced.Lacks x)) is = absurd is
+  too_large (refused.Fault (unplaced.TooLarge class k)) (of, is) = (of, λ q anew. is q (anew_in q anew))
+
+-- ---- a table without any place
+
+six_none : (n : ℕ) → ◌≡◌ {A = Option Range} (get_or (replicate 6 None) n None) None
+six_none n = elim (cases_lt n 6) [
+  | inl inside ↦ get_or-replicate 6 n None None inside
+  | inr past ↦ get_or_past (replicate 6 None) n None past
+]
+
+abbrev pub none_at_all : Places
+none_at_all = record { bars = replicate 6 None; rom = None; windows = record { io = None; memory = None; prefetchable = None } }
+
+none_in : (part : Part) → range_in none_at_all part ≡ None
+none_in (Bar n) = six_none n
+none_in Rom = refl
+none_in (Window IoWindow) = refl
+none_in (Window MemoryWindow) = refl
+none_in (Window PrefetchWindow) = refl
+
+pub none_first : (table : List Places) → table ≡ [] → AreAllNone table
+none_first table none k d part low = absurd (let long : length table ≡ 0 = ap length none in let no : ⊥ = omega (arith, low, long) in no)
+
+pub none_more : (old new : List Places) → AreAllNone old → new ≡ old ++ none_at_all ∷ [] → AreAllNone new
+none_more old new none put k d part low = ap (λ xs. range_in (get_or xs k d) part) put ∙ by_place
+  where
+    by_place : range_in (get_or (old ++ none_at_all ∷ []) k d) part ≡ None
+    by_place = elim (cases_lt k (length old)) [
+      | inl before ↦ ap (λ e. range_in e part) (get_or_append_left old (none_at_all ∷ []) d k before) ∙ none k d part before
+      | inr here ↦
+          let long : length new ≡ length old + 1 = ap length put ∙ length-append old (none_at_all ∷ []) in
+          let at : k ≡ length old = omega (arith, here, low, long) in
+          ap (λ n. range_in (get_or (old ++ none_at_all ∷ []) n d) part) at
+          ∙ ap (λ e. range_in e part) (get_or-append_right old (none_at_all ∷ []) (length old) (length old) d refl (omega arith) ∙ ap (λ n. get_or (none_at_all ∷ []) n d) (let z : length old - length old ≡ 0 = omega arith in z))
+          ∙ none_in part
+    ]
+
+pub has_none : (s : System) (space : Space) (table : List Places) → length table ≡ length s → AreAllNone table → HasNone s space table
+has_none s space table count none k f d part at there of = let inside = slice_get_within s k f at in none k d part (omega (arith, inside, count))
+
+-- ---- both spaces
+
+cases_space : (x : Space) → (x ≡ Io) ⊎ (x ≡ Memory)
+cases_space Io = inl refl
+cases_space Memory = inr refl
+
+not_both : (x : Space) → x ≡ Io → x ≡ Memory → ⊥
+not_both x one other = let same : Io ≡ Memory = sym one ∙ other in (let no : ⊥ = cc in no)
+
+-- what was noted of I/O says nothing of memory
+pub still_none : (s : System) (start table : List Places) → length start ≡ length s → AreAllNone start → KeepsOthers s Io start table → HasNone s Memory table
+still_none s start table count none kept k f d part at there of =
+    let inside = slice_get_within s k f at in
+    kept.others k f d part at there (λ io. not_both (space_of f part) io of) ∙ none k d part (omega (arith, inside, count))
+
+module _ (roots : List ℕ) (s : System) (l : Lists) where
+  pub both_placed : (first table : List Places) → length table ≡ length s → HasPlacesIn roots s Io l first → KeepsOthers s Memory first table → HasPlacesIn roots s Memory l table → AreNewPlaces roots s l table
+  both_placed first table count io kept memory q anew = record {
+    count = count;
+    lack = lacking_memory q s q.roots (io q anew).lack ∙ (memory q anew).lack;
+    each = λ k f d part at there. elim (cases_space (space_of f part)) [
+      | inl of ↦ kept.others k f d part at there (λ is. not_both (space_of f part) of is) ∙ (io q anew).places k f d part at there of
+      | inr of ↦ (memory q anew).places k f d part at there of
+    ];
+  }
+
+  pub io_unplaced : (e : Refused Unplaced) → IsUnplacedIn roots s Io l e → IsUnplaced roots s l e
+  io_unplaced refused.Memory is = tt
+  io_unplaced (refused.Fault (unplaced.Lacks x)) is = λ q anew. lacking_io q s q.roots (candidate_value s x) (is q anew)
+  io_unplaced (refused.Fault (unplaced.TooLarge class k)) (of, is) = λ q anew. record {
+    large = is q anew;
+    io = λ memory. absurd (not_both (window_space (kind_value class)) of memory);
+  }
+
+  pub memory_unplaced : (first : List Places) → HasPlacesIn roots s Io l first → (e : Refused Unplaced) → IsUnplacedIn roots s Memory l e → IsUnplaced roots s l e
+  memory_unplaced first io refused.Memory is = tt
+  memory_unplaced first io (refused.Fault (unplaced.Lacks x)) is = λ q anew. lacking_memory q s q.roots (io q anew).lack ∙ is q anew
+  memory_unplaced first io (refused.Fault (unplaced.TooLarge class k)) (of, is) = λ q anew. record { large = is q anew; io = λ memory. (io q anew).lack }
