@@ -53,7 +53,7 @@ module _ (q : Request) (s : System) (system : IsSystem s) (nested : IsNested q.r
   abbrev here : List Placed
   here = placed_of (placing_on q s space bus)
 
-  item_here : (p : Placed) → Contains here p → Contains (space_items q s space bus) p.item
+  pub item_here : (p : Placed) → Contains here p → Contains (space_items q s space bus) p.item
   item_here p listed =
       placed_in (ranges_for q s (λ over. placed_of (placing_on q s space over))) (taken_at q s space bus) (space_items q s space bus) p
       (subst (λ r. Contains (placed_of r) p) (placing_by_bus q s system nested space bus low) listed)

@@ -1,0 +1,2 @@
+pub mod PlacedParts
+pub mod PlacedImages

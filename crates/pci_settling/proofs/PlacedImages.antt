@@ -1,0 +1,301 @@
+-- The image with what is decoded of it at its places is the settled one.
+use Rattle.std.proofs.Common.{◌≡◌, ℕ, ◌+◌, ◌-◌, ◌*◌, ◌/◌, ◌%◌, ◌^◌, ◌<◌, inl, inr, List, [], ◌∷◌, ◌++◌, map, Bool, true, false, cond, ◌&&◌, ◌||◌, not, arith, refl, sym, ◌∙◌, ap, Option, None, Some}
+use Rattle.std.specs.Bool.{◌==◌, if◌then◌else◌}
+use Rattle.std.specs.Option.{is_some}
+use Rattle.std.specs.List.{Contains, filter, fold, range_with_len}
+use Rattle.std.proofs.lemmas.Bool.{cases_Bool, and_from, and_parts, eqb-true, lt-ltb}
+use Rattle.std.proofs.lemmas.List.Elements.{All-contains}
+use Rattle.std.proofs.lemmas.List.Folds.{fold-map}
+use Rattle.std.proofs.lemmas.List.Sums.{fold-append}
+use Rattle.pci_spec.specs.Number.{number_at}
+use Rattle.pci_spec.specs.Header.{layout, bar_count, bar_register, rom_place, rom_register}
+use Rattle.pci_spec.specs.Bar.{BarKind, IoBar, Memory32, Memory64, Reserved, bar_at, bar_kind, is_io, is_wide, type_bits, has_bar, whole_bar, first_bit}
+use Rattle.pci_spec.specs.Window.{WindowKind, IoWindow, MemoryWindow, PrefetchWindow, has_window, is_closed, closed_bounds}
+use Rattle.pci_spec.specs.Decoded.{DecodedBar, DecodedWindow, decoded_bar, decoded_window, optional_window, window_range, bridge_of}
+use Rattle.pci_spec.specs.Decoded as decoded
+use Rattle.pci_spec.specs.System.{System, Function, Part, Bar, Rom, Window, IsFunction, is_bridge, is_window, is_implemented, has_part}
+use Rattle.pci_spec.proofs.Members.{in_head, in_tail, in_range_to}
+use Rattle.pci_spec.proofs.Records.{memory_window_there}
+use Rattle.plan_spec.specs.Plan.{is_open}
+use Rattle.plan_spec.specs.Planning.Showing.{bar_value, rom_value}
+use Rattle.settle_spec.specs.Lists.{Request}
+use Rattle.settle_spec.specs.Parts.{Region, is_part, is_left, header_bars}
+use Rattle.settle_spec.specs.Items.{Placed, stays}
+use Rattle.settle_spec.specs.Places.{new_place}
+use Rattle.settle_spec.specs.Registers.{with_number, with_bounds, with_place, closed_if_open, shown, settled_image}
+use Rattle.pci_image.specs.declared.bar.Bar.{Bar as CodeBar}
+use Rattle.pci_image.specs.Bars.{decoded_kind_of, decoded_bar_of}
+use Rattle.pci_function.specs.declared.record.Bridge.{Bridge}
+use Rattle.pci_function.specs.declared.record.Record.{Record}
+use Rattle.pci_tree.proofs.Lifting.{same_bridge}
+use Rattle.pci_tree.proofs.RegionParts.{same_bridge_of}
+use Rattle.pci_place.specs.Classes.{is_wide_kind}
+use Rattle.pci_place.proofs.ClassOf.{kind_wide}
+use Rattle.pci_place.proofs.Parts.{bars_in, bars_of}
+use Rattle.pci_settle.proofs.Anew.{none_stays}
+use Rattle.pci_base.specs.declared.range.Range.{Range}
+use Rattle.pci_settled.specs.declared.places.Places.{Places}
+use Rattle.pci_settled.specs.Places.{range_in, placed_at}
+use Rattle.pci_settling.specs.Shown.{nibble, with_bar, with_window, with_optional}
+use Rattle.pci_settling.specs.Images.{where_placed, with_placed_bar, with_bars, with_bridge, with_placed_rom, with_parts, IsPlacedAnew}
+use Rattle.pci_settling.proofs.PlacedParts.{placed_is_part}
+
+-- ---- folds
+
+module _ {X Y Z : Type 0} where
+  fold_kept : (F : Z → Y → Z) (make : X → Y) (test : X → Bool) (z : Z) (xs : List X) → fold F z (map make (filter test xs)) ≡ fold (λ a x. cond (test x) (F a (make x)) a) z xs
+  fold_kept F make test z [] = refl
+  fold_kept F make test z (x ∷ xs) =
+      let G : Z → X → Z = λ a y. cond (test y) (F a (make y)) a in
+      elim (test x) as (λ b. fold F z (map make (cond b (x ∷ filter test xs) (filter test xs))) ≡ fold G (cond b (F z (make x)) z) xs) [
+        | true ↦ fold_kept F make test (F z (make x)) xs
+        | false ↦ fold_kept F make test z xs
+      ]
+
+  -- two lists of the same values, gone over in the same way
+  fold_pair : {W : Type 0} (a : X → W) (b : Y → W) (F : Z → X → Z) (G : Z → Y → Z) → ((x : X) (y : Y) → a x ≡ b y → (z : Z) → F z x ≡ G z y)
+      → (xs : List X) (ys : List Y) → map a xs ≡ map b ys → (z : Z) → fold F z xs ≡ fold G z ys
+  fold_pair a b F G same [] [] e z = refl
+  fold_pair a b F G same [] (y ∷ ys) e z = cc
+  fold_pair a b F G same (x ∷ xs) [] e z = cc
+  fold_pair a b F G same (x ∷ xs) (y ∷ ys) e z =
+      let head : a x ≡ b y = cc in
+      let tail : map a xs ≡ map b ys = cc in
+      ap (λ c. fold F c xs) (same x y head z) ∙ fold_pair a b F G same xs ys tail (G z y)
+
+module _ {X Z : Type 0} where
+  fold_same : (F G : Z → X → Z) (xs : List X) → ((x : X) → Contains xs x → (z : Z) → F z x ≡ G z x) → (z : Z) → fold F z xs ≡ fold G z xs
+  fold_same F G [] same z = refl
+  fold_same F G (x ∷ xs) same z = ap (λ a. fold F a xs) (same x (in_head x xs) z) ∙ fold_same F G xs (λ y listed. same y (in_tail x xs y listed)) (G z x)
+
+  fold_filter : (F : Z → X → Z) (test : X → Bool) (z : Z) (xs : List X) → fold F z (filter test xs) ≡ fold (λ a x. cond (test x) (F a x) a) z xs
+  fold_filter F test z [] = refl
+  fold_filter F test z (x ∷ xs) =
+      let G : Z → X → Z = λ a y. cond (test y) (F a y) a in
+      elim (test x) as (λ b. fold F z (cond b (x ∷ filter test xs) (filter test xs)) ≡ fold G (cond b (F z x) z) xs) [
+        | true ↦ fold_filter F test (F z x) xs
+        | false ↦ fold_filter F test z xs
+      ]
+
+-- ---- the low bits of a whole BAR are those of its register
+
+low_wide : (low high : ℕ) → (low + 2 ^ 32 * high) % 2 ^ 4 ≡ low % 2 ^ 4
+low_wide low high = omega arith
+
+abbrev kind_by : Bool → Bool → Bool → BarKind
+kind_by io wide narrow = if io then IoBar else if wide then Memory64 else if narrow then Memory32 else Reserved
+
+low_by : (io wide narrow : Bool) (low high : ℕ) → (if not io && wide then low + 2 ^ 32 * high else low) % 2 ^ first_bit (kind_by io wide narrow) ≡ low % 2 ^ first_bit (kind_by io wide narrow)
+low_by true wide narrow low high = refl
+low_by false true narrow low high = low_wide low high
+low_by false false narrow low high = refl
+
+low_bits : (f : Function) (n : ℕ) → whole_bar f.probe f.image n % 2 ^ first_bit (bar_kind (bar_at f.probe n)) ≡ bar_at f.image n % 2 ^ first_bit (bar_kind (bar_at f.probe n))
+low_bits f n =
+    let mask = bar_at f.probe n in
+    low_by (is_io mask) (type_bits mask == 2) (type_bits mask == 0) (bar_at f.image n) (bar_at f.image (n + 1))
+
+register_place : (register n : ℕ) → register ≡ bar_register n → (register - 0x10) / 4 ≡ n
+register_place register n at = omega (arith, at)
+
+-- ---- tests
+
+or_nothing : (a : Bool) → (a || false) ≡ a
+or_nothing true = refl
+or_nothing false = refl
+
+window_changes : (a b c : Bool) → ((a && b && not c) || (a && b)) ≡ (a && b)
+window_changes true true true = refl
+window_changes true true false = refl
+window_changes true false c = refl
+window_changes false b c = refl
+
+open_by : (a b c : Bool) → (a && b) ≡ true → (a && b && not c) ≡ not c
+open_by true true c on = refl
+open_by true false c on = cc
+open_by false b c on = cc
+
+and_false : (a : Bool) → (a && false) ≡ false
+and_false true = refl
+and_false false = refl
+
+some_range : (closed : Bool) (r : decoded.Range) → is_some (if closed then None else Some r) ≡ not closed
+some_range true r = refl
+some_range false r = refl
+
+-- a place that is shown, whether or not there is one
+by_place : {X Z : Type 0} (o : Option X) (test : Bool) (some : X → Z) (none : Z) (any : Option X → Z) → (o ≡ None → any None ≡ none) → ((x : X) → o ≡ Some x → (any (Some x) ≡ some x) × (test ≡ true))
+    → (other : Option X → Z) → other None ≡ none → ((x : X) → other (Some x) ≡ some x) → cond test (any o) none ≡ other o
+by_place None test some none any off on other first second = (elim test as (λ b. cond b (any None) none ≡ none) [ true ↦ off refl | false ↦ refl ]) ∙ sym first
+by_place (Some x) test some none any off on other first second = ap (λ b. cond b (any (Some x)) none) (on x refl).1 ∙ (on x refl).0 ∙ sym (second x)
+
+module _ (q : Request) (s : System) (f : Function) (r : Record) (image : List ℕ) (p : Places) (placed : IsPlacedAnew q s f r image p) where
+  abbrev region : Part → Region
+  region part = record { function = f; part = part }
+
+  abbrev place : Part → Option Placed
+  place part = new_place q s (region part)
+
+  abbrev step : List ℕ → Part → List ℕ
+  step im part = shown q s (region part) (place part) im
+
+  abbrev changes : Part → Bool
+  changes part = is_part q s f part || (is_window part && is_implemented f part)
+
+  abbrev step_if : List ℕ → Part → List ℕ
+  step_if im part = cond (changes part) (step im part) im
+
+  low_bus : f.slot.bus < 256
+  low_bus = (All-contains IsFunction s f placed.system.each placed.is.listed).slot.0
+
+  -- ---- BARs and the ROM
+
+  abbrev at_place : Part → Range → List ℕ → List ℕ
+  at_place (Bar n) place im =
+      with_number (if is_wide (bar_at f.probe n) then 8 else 4) (bar_register n) (bar_value f.image f.probe n place.first) im
+  at_place Rom place im = with_number 4 (rom_register (layout f.image)) (rom_value f.image place.first) im
+  at_place (Window c) place im = im
+
+  own_none : (b : Bool) (part : Part) (im : List ℕ) → is_window part ≡ false → cond b im (closed_if_open f part im) ≡ im
+  own_none true part im plain = refl
+  own_none false (Bar n) im plain = refl
+  own_none false Rom im plain = refl
+  own_none false (Window c) im plain = cc
+
+  own_some : (part : Part) (x : Placed) (im : List ℕ) → is_window part ≡ false → with_place f part x im ≡ at_place part (record { first = x.at; last = x.at + (x.item.extent.size - 1) }) im
+  own_some (Bar n) x im plain = refl
+  own_some Rom x im plain = refl
+  own_some (Window c) x im plain = cc
+
+  -- a part shows its place, where it has one
+  own_step : (part : Part) → has_part f part ≡ true → is_window part ≡ false → (im : List ℕ) → step_if im part ≡ where_placed (at_place part) (range_in p part) im
+  own_step part there plain im =
+      by_place (place part) (changes part) (λ x. with_place f part x im) im (λ o. shown q s (region part) o im)
+      (λ none. own_none (stays q s (region part)) part im plain)
+      (λ x some. (refl, ap (λ b. b || (is_window part && is_implemented f part)) (placed_is_part q s placed.system placed.nested f placed.is.listed low_bus part there plain x some)))
+      (λ o. where_placed (at_place part) (placed_at o) im) refl (λ x. sym (own_some part x im plain))
+      ∙ ap (λ o. where_placed (at_place part) o im) (sym (placed.places part there))
+
+  abbrev all : List ℕ
+  all = range_with_len 0 (bar_count (layout f.image))
+
+  abbrev bar_step : List ℕ → ℕ → List ℕ
+  bar_step im n = where_placed (at_place (Bar n)) (range_in p (Bar n)) im
+
+  -- a BAR that isn't implemented has no place
+  bar_if : (n : ℕ) → Contains all n → (im : List ℕ) → step_if im (Bar n) ≡ cond (has_bar f.probe n) (bar_step im n) im
+  bar_if n listed im =
+      let low = (in_range_to 0 (bar_count (layout f.image)) n listed).1 in
+      let same = own_step (Bar n) (lt-ltb n (bar_count (layout f.image)) (omega (arith, low))) refl im in
+      elim (cases_Bool (has_bar f.probe n)) [
+        | inl there ↦ same ∙ sym (ap (λ b. cond b (bar_step im n) im) there)
+        | inr none ↦
+            ap (λ b. cond ((b && not (is_left q s f (Bar n))) || false) (step im (Bar n)) im) none
+            ∙ sym (ap (λ b. cond b (bar_step im n) im) none)
+      ]
+
+  bar_same : (bar : CodeBar) (n : ℕ) → decoded_bar_of bar ≡ decoded_bar f.image f.probe n → (im : List ℕ) → with_placed_bar f.image p im bar ≡ bar_step im n
+  bar_same bar n e im =
+      let register : bar.reg ≡ bar_register n = ap (λ (x : DecodedBar). x.register) e in
+      let kind : decoded_kind_of bar.kind ≡ bar_kind (bar_at f.probe n) = ap (λ (x : DecodedBar). x.kind) e in
+      let shows : (o : Option Range) → where_placed (with_bar (number_at f.image bar.reg 4) bar) o im ≡ where_placed (at_place (Bar n)) o im = λ o.
+      elim o as (λ o. where_placed (with_bar (number_at f.image bar.reg 4) bar) o im ≡ where_placed (at_place (Bar n)) o im) [
+        | None ↦ refl
+        | Some x ↦
+            ap (λ k. with_number (if is_wide_kind bar.kind then 8 else 4) bar.reg (x.first + number_at f.image bar.reg 4 % 2 ^ first_bit k) im) kind
+            ∙ ap (λ w. with_number (if w then 8 else 4) bar.reg (x.first + number_at f.image bar.reg 4 % 2 ^ first_bit (bar_kind (bar_at f.probe n))) im) (kind_wide f bar n e)
+            ∙ ap (λ g. with_number (if is_wide (bar_at f.probe n) then 8 else 4) g (x.first + number_at f.image g 4 % 2 ^ first_bit (bar_kind (bar_at f.probe n))) im) register
+            ∙ ap (λ low. with_number (if is_wide (bar_at f.probe n) then 8 else 4) (bar_register n) (x.first + low) im) (sym (low_bits f n))
+      ] in
+      shows (range_in p (Bar ((bar.reg - 0x10) / 4)))
+      ∙ ap (λ m. where_placed (at_place (Bar n)) (range_in p (Bar m)) im) (register_place bar.reg n register)
+
+  bars_are : with_bars f.image p r.bars.items f.image ≡ fold step_if f.image (header_bars f)
+  bars_are =
+      fold_pair decoded_bar_of (decoded_bar f.image f.probe) (with_placed_bar f.image p) bar_step bar_same r.bars.items (bars_in f) (bars_of s f r placed.is) f.image
+      ∙ fold_filter bar_step (has_bar f.probe) f.image all
+      ∙ sym (fold_same (λ im n. step_if im (Bar n)) (λ im n. cond (has_bar f.probe n) (bar_step im n) im) all bar_if f.image)
+      ∙ sym (fold-map step_if Bar f.image all)
+
+  rom_is : (im : List ℕ) → with_placed_rom f.image p (rom_place (is_some r.bridge)) im ≡ step_if im Rom
+  rom_is im =
+      ap (λ b. with_placed_rom f.image p (rom_place b) im) (same_bridge r f placed.is.value)
+      ∙ sym (own_step Rom refl refl im)
+
+  -- ---- windows
+
+  window_off : (c : WindowKind) → is_implemented f (Window c) ≡ false → (im : List ℕ) → step_if im (Window c) ≡ im
+  window_off c off im =
+      ap (λ b. cond b (step im (Window c)) im) (window_changes (is_bridge f) (has_window c f.probe) (is_closed c f.image) ∙ off)
+
+  window_on : (c : WindowKind) → is_implemented f (Window c) ≡ true → (im : List ℕ) → with_window c (decoded_window c f.image f.probe) (range_in p (Window c)) im ≡ step_if im (Window c)
+  window_on c on im =
+      let there = (and_parts (is_bridge f) (has_window c f.probe) on).0 in
+      let w = decoded_window c f.image f.probe in
+      let opened : is_some (window_range c f.image) ≡ is_open f c =
+      some_range (is_closed c f.image) _ ∙ sym (open_by (is_bridge f) (has_window c f.probe) (is_closed c f.image) on) in
+      let each : (o : Option Placed) → with_window c w (placed_at o) im ≡ shown q s (region (Window c)) o im = λ o.
+      elim o as (λ o. with_window c w (placed_at o) im ≡ shown q s (region (Window c)) o im) [
+        | None ↦
+            ap (λ b. cond b (with_bounds c (closed_bounds c (nibble w.wide)) im) im) opened
+            ∙ ap (λ b. cond b im (closed_if_open f (Window c) im)) (none_stays q s placed.anew (region (Window c)))
+        | Some x ↦ refl
+      ] in
+      ap (λ o. with_window c w o im) (placed.places (Window c) there)
+      ∙ each (place (Window c))
+      ∙ sym (ap (λ b. cond b (step im (Window c)) im) (window_changes (is_bridge f) (has_window c f.probe) (is_closed c f.image) ∙ on))
+
+  optional_is : (c : WindowKind) → is_bridge f ≡ true → (im : List ℕ) → with_optional c (optional_window c f.image f.probe) (range_in p (Window c)) im ≡ step_if im (Window c)
+  optional_is c bridge im = elim (cases_Bool (has_window c f.probe)) [
+    | inl has ↦
+        ap (λ b. with_optional c (if b then Some (decoded_window c f.image f.probe) else None) (range_in p (Window c)) im) has
+        ∙ window_on c (and_from (is_bridge f) (has_window c f.probe) bridge has) im
+    | inr none ↦
+        ap (λ b. with_optional c (if b then Some (decoded_window c f.image f.probe) else None) (range_in p (Window c)) im) none
+        ∙ sym (window_off c (ap (λ b. is_bridge f && b) none ∙ and_false (is_bridge f)) im)
+  ]
+
+  abbrev windows_step : List ℕ → List ℕ
+  windows_step im = step_if (step_if (step_if im (Window IoWindow)) (Window MemoryWindow)) (Window PrefetchWindow)
+
+  windows_are : (o : Option Bridge) → r.bridge ≡ o → (im : List ℕ) → with_bridge p o im ≡ windows_step im
+  windows_are None e im =
+      let off : is_bridge f ≡ false = sym (same_bridge r f placed.is.value) ∙ ap is_some e in
+      let none : (c : WindowKind) → is_implemented f (Window c) ≡ false = λ c. ap (λ b. b && has_window c f.probe) off in
+      let io = window_off IoWindow (none IoWindow) im in
+      let memory = window_off MemoryWindow (none MemoryWindow) im in
+      let prefetch = window_off PrefetchWindow (none PrefetchWindow) im in
+      sym (ap (λ x. step_if (step_if x (Window MemoryWindow)) (Window PrefetchWindow)) io ∙ ap (λ x. step_if x (Window PrefetchWindow)) memory ∙ prefetch)
+  windows_are (Some b) e im =
+      let bridge : is_bridge f ≡ true = sym (same_bridge r f placed.is.value) ∙ ap is_some e in
+      let value = same_bridge_of r f b placed.is.value e in
+      let w = b.windows in
+      let io_is : w.io ≡ optional_window IoWindow f.image f.probe = ap (λ (x : decoded.Bridge). x.windows.io) value in
+      let memory_is : w.mem ≡ decoded_window MemoryWindow f.image f.probe = ap (λ (x : decoded.Bridge). x.windows.memory) value in
+      let prefetch_is : w.pref ≡ optional_window PrefetchWindow f.image f.probe = ap (λ (x : decoded.Bridge). x.windows.prefetch) value in
+      let has = memory_window_there f.image f.probe (placed.is.decodable.windows MemoryWindow (eqb-true (layout f.image) 1 bridge)) in
+      let first : (x : List ℕ) → with_optional IoWindow w.io p.windows.io x ≡ step_if x (Window IoWindow) = λ x.
+      ap (λ o. with_optional IoWindow o p.windows.io x) io_is ∙ optional_is IoWindow bridge x in
+      let second : (x : List ℕ) → with_optional MemoryWindow (Some w.mem) p.windows.memory x ≡ step_if x (Window MemoryWindow) = λ x.
+      ap (λ o. with_window MemoryWindow o p.windows.memory x) memory_is ∙ window_on MemoryWindow (and_from (is_bridge f) (has_window MemoryWindow f.probe) bridge has) x in
+      let third : (x : List ℕ) → with_optional PrefetchWindow w.pref p.windows.prefetchable x ≡ step_if x (Window PrefetchWindow) = λ x.
+      ap (λ o. with_optional PrefetchWindow o p.windows.prefetchable x) prefetch_is ∙ optional_is PrefetchWindow bridge x in
+      ap (λ x. with_optional PrefetchWindow w.pref p.windows.prefetchable (with_optional MemoryWindow (Some w.mem) p.windows.memory x)) (first im)
+      ∙ ap (λ x. with_optional PrefetchWindow w.pref p.windows.prefetchable x) (second (step_if im (Window IoWindow)))
+      ∙ third (step_if (step_if im (Window IoWindow)) (Window MemoryWindow))
+
+  -- ---- all of it
+
+  abbrev others : List Part
+  others = Window IoWindow ∷ Window MemoryWindow ∷ Window PrefetchWindow ∷ Rom ∷ []
+
+  same_parts : with_parts f.image p r ≡ settled_image q s f
+  same_parts =
+      rom_is (with_bridge p r.bridge (with_bars f.image p r.bars.items f.image))
+      ∙ ap (λ im. step_if im Rom) (windows_are r.bridge refl (with_bars f.image p r.bars.items f.image))
+      ∙ ap (λ im. step_if (windows_step im) Rom) bars_are
+      ∙ sym (fold-append step_if f.image (header_bars f) others)
+      ∙ sym (fold_kept (λ im (x : Region). shown q s x (new_place q s x) im) region changes f.image (header_bars f ++ others))
+
+  pub images_are : with_parts image p r ≡ settled_image q s f
+  images_are = ap (λ im. with_parts im p r) placed.shown ∙ same_parts

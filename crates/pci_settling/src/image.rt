@@ -1,0 +1,77 @@
+//! The image of a function with all of its parts at their places.
+ghost use Rattle.std.specs.Prelude.{◌≡◌};
+ghost use Rattle.std.specs.List.{All};
+ghost use Rattle.pci_spec.specs.System.{System, Function};
+ghost use Rattle.settle_spec.specs.Lists.{Request};
+ghost use Rattle.settle_spec.specs.Registers.{settled_image};
+ghost use Rattle.pci_settling.specs.Shown.{HasRegister};
+ghost use Rattle.pci_settling.specs.Images.{with_placed_bar, with_bars, with_windows, with_parts, IsPlacedAnew};
+
+use crate::write::{write_bar, write_rom, write_window};
+use pci_base::image::{IMAGE_LEN, Image};
+use pci_base::offset::BASE_ADDRESS;
+use pci_base::window_kind::WindowKind;
+use pci_function::record::Record;
+use pci_image::bar::Bar;
+use pci_image::register::rom_register;
+use pci_image::window::Windows;
+use pci_settled::places::Places;
+
+/// Writes a BAR at its place; where it has none it stays as it is.
+fn write_placed(bytes: &mut [u8; IMAGE_LEN], old: &Image, bar: &Bar, places: &Places)
+    requires { HasRegister bar.now }
+    ensures { bytes.new ≡ with_placed_bar old.now.0 places.now bytes.old bar.now }
+{
+    if let Some(place) = places.bars[usize::from((bar.reg - BASE_ADDRESS) / 4)] {
+        write_bar(bytes, old.u32(bar.reg), bar, place);
+    }
+}
+
+/// Writes BARs at their places.
+fn write_bars(bytes: &mut [u8; IMAGE_LEN], old: &Image, bars: &[Bar], places: &Places)
+    requires { All HasRegister bars.now }
+    ensures { bytes.new ≡ with_bars old.now.0 places.now bars.now bytes.old }
+{
+    for bar in bars {
+        write_placed(bytes, old, bar, places);
+    }
+}
+
+/// Writes the windows of a bridge at their places; one that has none is closed.
+fn write_windows(bytes: &mut [u8; IMAGE_LEN], windows: &Windows, places: &Places)
+    ensures { bytes.new ≡ with_windows places.now windows.now bytes.old }
+{
+    let (io, memory) = (places.windows.io, places.windows.memory);
+    write_window(bytes, WindowKind::Io, windows.io, io);
+    write_window(bytes, WindowKind::Memory, Some(windows.mem), memory);
+    let prefetchable = places.windows.prefetchable;
+    write_window(bytes, WindowKind::Prefetchable, windows.pref, prefetchable);
+}
+
+/// The image with what is decoded of it at these places.
+fn with_parts(record: &Record, image: &Image, places: &Places) -> Image
+    requires { All HasRegister «record».now.bars.items }
+    ensures { result.0 ≡ with_parts image.now.0 places.now «record».now }
+{
+    let mut placed = *image;
+    write_bars(&mut placed.0, image, record.bars.as_slice(), places);
+    if let Some(bridge) = &record.bridge {
+        write_windows(&mut placed.0, &bridge.windows, places);
+    }
+    if let Some(place) = places.rom {
+        let register = rom_register(record.bridge.is_some());
+        write_rom(&mut placed.0, image.u32(register), register, place);
+    }
+    placed
+}
+
+/// The image of a function with these places, where nothing stands: BARs, ROM and windows show their places, a window that
+/// has none is closed, and all other bits stay.
+pub fn settled_image(record: &Record, image: &Image, places: &Places) -> Image
+    requires { All HasRegister «record».now.bars.items }
+    ensures { (q : Request) (s : System) (f : Function)
+        → IsPlacedAnew q s f «record».now image.now.0 places.now
+        → result.0 ≡ settled_image q s f }
+{
+    with_parts(record, image, places)
+}

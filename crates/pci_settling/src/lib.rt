@@ -1,0 +1,5 @@
+//! The registers of functions once everything has its place, where nothing stands.
+#![tactic(auto)]
+
+pub mod image;
+pub mod write;
