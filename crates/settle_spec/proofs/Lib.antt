@@ -14,4 +14,5 @@ pub mod BridgeOver
 pub mod AllOfMemory
 pub mod Classes
 pub mod Buses
+pub mod Live
 pub mod Examples

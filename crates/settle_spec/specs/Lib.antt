@@ -10,3 +10,4 @@ pub mod Writes
 pub mod WindowLaws
 pub mod ClassLaws
 pub mod BusLaws
+pub mod LiveLaws
