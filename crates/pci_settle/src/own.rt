@@ -84,7 +84,7 @@ fn class_of(bar: &Bar, above: Above, terms: Terms) -> WindowKind
 }
 
 /// Whether an I/O BAR is left: there is no range of I/O, or a bridge above it has no I/O window.
-fn is_left_bar(bar: &Bar, above: Above, terms: Terms) -> bool
+pub fn is_left_bar(bar: &Bar, above: Above, terms: Terms) -> bool
     ensures { result ≡ is_left_bar bar.now above terms.has_io }
 {
     bar.kind == BarKind::Io && !(terms.has_io && above.io)

@@ -1,2 +1,3 @@
 pub mod PlacedParts
 pub mod PlacedImages
+pub mod PlacedClaims

@@ -95,7 +95,7 @@ low_bits f n =
     let mask = bar_at f.probe n in
     low_by (is_io mask) (type_bits mask == 2) (type_bits mask == 0) (bar_at f.image n) (bar_at f.image (n + 1))
 
-register_place : (register n : ℕ) → register ≡ bar_register n → (register - 0x10) / 4 ≡ n
+pub register_place : (register n : ℕ) → register ≡ bar_register n → (register - 0x10) / 4 ≡ n
 register_place register n at = omega (arith, at)
 
 -- ---- tests
@@ -104,7 +104,7 @@ or_nothing : (a : Bool) → (a || false) ≡ a
 or_nothing true = refl
 or_nothing false = refl
 
-window_changes : (a b c : Bool) → ((a && b && not c) || (a && b)) ≡ (a && b)
+pub window_changes : (a b c : Bool) → ((a && b && not c) || (a && b)) ≡ (a && b)
 window_changes true true true = refl
 window_changes true true false = refl
 window_changes true false c = refl
@@ -145,7 +145,7 @@ module _ (q : Request) (s : System) (f : Function) (r : Record) (image : List �
   abbrev step_if : List ℕ → Part → List ℕ
   step_if im part = cond (changes part) (step im part) im
 
-  low_bus : f.slot.bus < 256
+  pub low_bus : f.slot.bus < 256
   low_bus = (All-contains IsFunction s f placed.system.each placed.is.listed).slot.0
 
   -- ---- BARs and the ROM

@@ -1,5 +1,6 @@
 //! The registers of functions once everything has its place, where nothing stands.
 #![tactic(auto)]
 
+pub mod claim;
 pub mod image;
 pub mod write;
