@@ -1,3 +1,5 @@
 pub mod PlacedParts
 pub mod PlacedImages
 pub mod PlacedClaims
+pub mod Registers
+pub mod LiveBuses

@@ -1,3 +1,4 @@
 pub mod Shown
 pub mod Images
 pub mod Claims
+pub mod Live

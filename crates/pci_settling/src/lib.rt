@@ -3,4 +3,5 @@
 
 pub mod claim;
 pub mod image;
+pub mod live;
 pub mod write;

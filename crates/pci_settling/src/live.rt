@@ -1,0 +1,75 @@
+//! Which buses have a function that is live in a space once all has its place.
+ghost use Rattle.std.specs.Prelude.{◌≡◌, length};
+ghost use Rattle.std.specs.List.{All};
+ghost use Rattle.pci_base.specs.Space.{space_of};
+ghost use Rattle.pci_place.specs.Above.{AreAboves, system_in};
+ghost use Rattle.pci_settling.specs.Shown.{HasRegister};
+ghost use Rattle.pci_settling.specs.Live.{AreLiveBuses, is_live_behind, is_live_by};
+
+use crate::claim::{has_kept, is_enabled};
+use pci_base::slot::BUSES;
+use pci_base::space::Space;
+use pci_function::record::Record;
+use pci_place::above::Above;
+use pci_settle::own::Terms;
+use pci_settled::places::Places;
+use pci_tree::admitted::Admitted;
+use std::alloc::Allocator;
+
+/// Whether a function is a bridge to a bus with a live function.
+pub fn is_live_behind(live: &[bool; BUSES], record: &Record) -> bool
+    ensures { result ≡ is_live_behind live.now «record».now.bridge }
+{
+    match &record.bridge {
+        None => false,
+        Some(bridge) => live[usize::from(bridge.secondary)],
+    }
+}
+
+/// Whether a function is live: its space is enabled, and it has a BAR or ROM there, or something live behind it.
+fn is_live(
+    space: Space,
+    places: &Places,
+    above: Above,
+    terms: Terms,
+    record: &Record,
+    behind: bool,
+) -> bool
+    requires { All HasRegister «record».now.bars.items }
+    ensures { result
+        ≡ is_live_by (space_of space) places.now above terms «record».now behind }
+{
+    is_enabled(space, places, above, terms, record, behind)
+        && (has_kept(space, above, terms, record) || behind)
+}
+
+/// Which buses have a function that is live in a space, where all is placed anew. What is behind a bridge has higher slots
+/// than the bridge, so one pass from the highest slot down finds what is behind a bridge before the bridge itself.
+pub fn live_buses<A: Allocator>(
+    admitted: &Admitted<A>,
+    table: &[Places],
+    space: Space,
+    aboves: &[Above; BUSES],
+    terms: Terms,
+) -> [bool; BUSES]
+    requires above { AreAboves (system_in admitted.now) aboves.now }
+    requires count { length table.now ≡ length (system_in admitted.now) }
+    ensures { AreLiveBuses admitted.now.roots (system_in admitted.now) (space_of space) terms
+        table.now result }
+{
+    let mut live = [false; BUSES];
+    let outline = admitted.outline();
+    let records = outline.records();
+    for done in 0..records.len() {
+        let function = records.len() - 1 - done;
+        let record = &records[function];
+        let bus = usize::from(record.slot.bus());
+        let places = &table[function];
+        let above = aboves[bus];
+        let behind = is_live_behind(&live, record);
+        if is_live(space, places, above, terms, record, behind) {
+            live[bus] = true;
+        }
+    }
+    live
+}
