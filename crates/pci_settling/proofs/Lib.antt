@@ -3,3 +3,4 @@ pub mod PlacedImages
 pub mod PlacedClaims
 pub mod Registers
 pub mod LiveBuses
+pub mod Commands

@@ -4,4 +4,5 @@
 pub mod claim;
 pub mod image;
 pub mod live;
+pub mod settled;
 pub mod write;

@@ -33,7 +33,7 @@ fn upper_half(number: u64) -> u32
 }
 
 /// Writes a number of 1, 2 or 4 bytes.
-fn write(bytes: &mut [u8; IMAGE_LEN], offset: u8, width: u8, number: u32)
+pub fn write(bytes: &mut [u8; IMAGE_LEN], offset: u8, width: u8, number: u32)
     requires { IsTrue (port.is_access offset width) }
     ensures { bytes.new ≡ with_number width offset number bytes.old }
 {
