@@ -1,14 +1,11 @@
 //! What is placed on a bus in a space where nothing stands.
 ghost use Rattle.std.specs.Prelude.{◌≡◌, ◌++◌, IfOk, OnOk, map};
 ghost use Rattle.std.specs.List.{All};
-ghost use Rattle.settle_spec.specs.Lists.{Request};
-ghost use Rattle.settle_spec.specs.Places.{space_items};
 ghost use Rattle.pci_base.specs.Space.{space_of};
 ghost use Rattle.pci_base.specs.WindowKinds.{kind_value};
 ghost use Rattle.pci_place.specs.Above.{AreAboves, system_in};
 ghost use Rattle.pci_settle.specs.Buses.{AreWindows};
-ghost use Rattle.pci_settle.specs.NewWindows.{IsAnew};
-ghost use Rattle.pci_settled.specs.Candidates.{of_class, candidate_value, IsLawful, AreAddedOf, AreSpaceWindows, HasSpaceWindows, AreCandidatesOf};
+ghost use Rattle.pci_settled.specs.Candidates.{of_class, IsLawful, AreAddedOf, AreSpaceWindows, AreCandidatesOf};
 
 use pci_base::memory::OutOfMemory;
 use pci_base::slot::BUSES;

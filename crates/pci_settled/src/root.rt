@@ -1,5 +1,5 @@
 //! Places on the roots, all of which are one bus.
-ghost use Rattle.std.specs.Prelude.{◌≡◌, IfOk, IsTrue, map, length};
+ghost use Rattle.std.specs.Prelude.{IfOk, IsTrue, map};
 ghost use Rattle.pci_spec.specs.Bus.{is_root};
 ghost use Rattle.pci_base.specs.Space.{space_of};
 ghost use Rattle.pci_tree.specs.Roots.{buses_of};

@@ -9,7 +9,7 @@ use Rattle.pci_spec.specs.Header.{layout, bar_count}
 use Rattle.pci_spec.specs.Bar.{bar_at, has_bar, is_io}
 use Rattle.pci_spec.specs.Rom.{has_rom, rom_is_on}
 use Rattle.pci_spec.specs.Window.{WindowKind, IoWindow, MemoryWindow, PrefetchWindow, has_window, is_closed}
-use Rattle.pci_spec.specs.Decoded.{DecodedBar, DecodedRom, decoded_bar, decoded_rom, decoded_window, optional_window}
+use Rattle.pci_spec.specs.Decoded.{DecodedBar, DecodedRom, decoded_bar, decoded_rom, decoded_window}
 use Rattle.pci_spec.specs.Decoded as decoded
 use Rattle.pci_spec.specs.System.{System, Function, Space, Io, Memory, Part, Bar, Rom, Window, is_bridge, is_window, is_implemented, is_space_on, has_part, space_of}
 use Rattle.pci_spec.proofs.Members.{in_head, in_tail, in_range_to}

@@ -11,7 +11,7 @@ use Rattle.pci_spec.specs.Number.{number_at}
 use Rattle.pci_spec.specs.Header.{layout, bar_count, bar_register, rom_place, rom_register}
 use Rattle.pci_spec.specs.Bar.{BarKind, IoBar, Memory32, Memory64, Reserved, bar_at, bar_kind, is_io, is_wide, type_bits, has_bar, whole_bar, first_bit}
 use Rattle.pci_spec.specs.Window.{WindowKind, IoWindow, MemoryWindow, PrefetchWindow, has_window, is_closed, closed_bounds}
-use Rattle.pci_spec.specs.Decoded.{DecodedBar, DecodedWindow, decoded_bar, decoded_window, optional_window, window_range, bridge_of}
+use Rattle.pci_spec.specs.Decoded.{DecodedBar, decoded_bar, decoded_window, optional_window, window_range, bridge_of}
 use Rattle.pci_spec.specs.Decoded as decoded
 use Rattle.pci_spec.specs.System.{System, Function, Part, Bar, Rom, Window, IsFunction, is_bridge, is_window, is_implemented, has_part}
 use Rattle.pci_spec.proofs.Members.{in_head, in_tail, in_range_to}
