@@ -1,11 +1,13 @@
 -- What words leave as it is.
-use Rattle.std.proofs.Common.{◌≡◌, ℕ, List, [], ◌∷◌, Bool, ◌&&◌, refl, ◌∙◌, ap, inl, inr, map, is_some}
+use Rattle.std.proofs.Common.{◌≡◌, ℕ, List, [], ◌∷◌, Bool, false, ◌&&◌, refl, ◌∙◌, ap, inl, inr, map, is_some, None, Some}
 use Rattle.std.specs.Bool.{if◌then◌else◌}
-use Rattle.std.proofs.lemmas.Bool.{cases_Bool}
+use Rattle.std.proofs.lemmas.Bool.{and_cases, and_left, and_right, cases_Bool, or_parts}
 use Rattle.pci_spec.specs.Slot.{Slot}
-use Rattle.pci_spec.specs.System.{Function, System}
+use Rattle.pci_spec.specs.System.{Function, System, is_bridge}
+use Rattle.pci_spec.specs.Decoded.{bridge_of, record_of}
 use Rattle.model_spec.specs.Words.{Words, no_words}
-use Rattle.model_spec.specs.Taken.{IsTaken, IsWhere, AreTaken, is_ide, is_unnumbered, with_image, bridge_aside, reset_aside, parts_aside, vga_aside_by, has_legacy_by}
+use Rattle.model_spec.specs.Taken.{IsTaken, IsWhere, AreTaken, is_ide, is_unnumbered, with_image, bridge_aside, reset_aside, parts_aside, vga_aside_by, has_legacy_by, is_unnumbered_bridge}
+use Rattle.model_spec.specs.WordsLaws.{NoPartsChangeNothing}
 
 -- ---- no words
 
@@ -23,6 +25,20 @@ all_same slots [] [] taken = refl
 all_same slots [] (h ∷ t) taken = absurd taken
 all_same slots (f ∷ s) [] taken = absurd taken
 all_same slots (f ∷ s) (h ∷ t) taken = rw (taken_same slots f h taken.0, all_same slots s t taken.1) refl
+
+-- ---- functions without parts
+
+unnumbered_is_bridge : (legacy : Bool) (f : Function) → is_bridge f ≡ false → is_unnumbered legacy f ≡ false
+unnumbered_is_bridge legacy f device = ap (λ b. is_unnumbered_bridge legacy (record_of f) (if b then Some (bridge_of f.image f.probe) else None)) device
+
+pub no_parts : NoPartsChangeNothing
+no_parts w legacy f none =
+    let each = or_parts (w.ide && is_ide f.image) (w.unnumbered && is_bridge f) none in
+    let numbered : (w.unnumbered && is_unnumbered legacy f) ≡ false = elim (and_cases w.unnumbered (is_bridge f) each.1) [
+      | inl other ↦ and_left w.unnumbered (is_unnumbered legacy f) other
+      | inr device ↦ and_right w.unnumbered (is_unnumbered legacy f) (unnumbered_is_bridge legacy f device)
+    ] in
+    rw (each.0, numbered) refl
 
 -- ---- slots
 

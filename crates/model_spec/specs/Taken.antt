@@ -6,7 +6,7 @@ use Rattle.pci_spec.specs.Number.{byte_at, has_bit}
 use Rattle.pci_spec.specs.Slot.{Slot}
 use Rattle.pci_spec.specs.Registers.{INTERFACE, SECONDARY_BUS_RESET}
 use Rattle.pci_spec.specs.Header.{class_code, layout}
-use Rattle.pci_spec.specs.System.{Function, System}
+use Rattle.pci_spec.specs.System.{Function, System, is_bridge}
 use Rattle.pci_spec.specs.Bus.{is_behind}
 use Rattle.pci_spec.specs.Decoded.{Bridge, DecodedBar, DecodedRom, DecodedWindow, DecodedWindows, Record, record_of}
 use Rattle.pci_spec.specs.Fault.{Fault, IsIn, IsNotInD0, controls_bridge, is_subtractive_bridge}
@@ -127,6 +127,11 @@ without_buses f =
 
 -- ---- all of them
 
+-- whether a word counts for parts that a function can have by its header: the channels of a controller, the buses of a
+-- bridge
+abbrev pub may_have_parts_by : Words → Function → Bool
+may_have_parts_by w f = (w.ide && is_ide f.image) || (w.unnumbered && is_bridge f)
+
 -- of a function that has a legacy part, or has none
 abbrev pub parts_aside : Words → Bool → Function → Function
 parts_aside w legacy f =
@@ -144,8 +149,10 @@ pub record IsTaken (w : Words) (slots : List Slot) (f h : Function) : Type 0 whe
   pub g : Function
   pub power : IsWhere (IsTrue w.power × IsAsleep (vga_aside_by w f)) (vga_aside_by w f)
       (with_image (vga_aside_by w f) (switched_off (vga_aside_by w f).image)) g
-  pub parts : IsWhere (HasNoneBefore Place (bridge_aside w slots g)) (bridge_aside w slots g)
-      (parts_aside w (has_legacy_by w f) (bridge_aside w slots g)) h
+  pub parts : IsWhere
+      (IsTrue (may_have_parts_by w (bridge_aside w slots g))
+      × HasNoneBefore Place (bridge_aside w slots g))
+      (bridge_aside w slots g) (parts_aside w (has_legacy_by w f) (bridge_aside w slots g)) h
 
 -- the same of each function of a system
 abbrev pub AreTaken : Words → List Slot → System → System → Type 0

@@ -1,5 +1,5 @@
 -- Laws of what words take.
-use Rattle.std.specs.Prelude.{◌≡◌, ℕ, IsTrue, IsFalse, List, map, is_some}
+use Rattle.std.specs.Prelude.{◌≡◌, ℕ, Bool, IsTrue, IsFalse, List, map, is_some}
 use Rattle.pci_spec.specs.Slot.{Slot}
 use Rattle.pci_spec.specs.Number.{IsImage}
 use Rattle.pci_spec.specs.Registers.{SECONDARY_BUS_RESET, VGA_ENABLE}
@@ -7,7 +7,7 @@ use Rattle.pci_spec.specs.System.{System, Function, Space, Part, Claims, is_brid
 use Rattle.pci_spec.specs.Fault.{IsNotInD0, controls_bridge, is_subtractive_bridge}
 use Rattle.model_spec.specs.Words.{Words, no_words}
 use Rattle.model_spec.specs.Bytes.{out_of_reset, positive, switched_off}
-use Rattle.model_spec.specs.Taken.{AreTaken, IsTaken, with_image, without_buses}
+use Rattle.model_spec.specs.Taken.{AreTaken, IsTaken, may_have_parts_by, parts_aside, with_image, without_buses}
 
 -- Without words a system is taken as it is.
 abbrev pub NoWordsChangeNothing : Type 0
@@ -51,3 +51,9 @@ abbrev pub TakenHasNoVgaEnable : Type 0
 TakenHasNoVgaEnable =
     (w : Words) (slots : List Slot) (f h : Function) → IsImage f.image → IsTrue (is_some w.vga)
     → IsTaken w slots f h → IsFalse (controls_bridge h.image VGA_ENABLE)
+
+-- A function that can have no part for which a word counts is left as it is.
+abbrev pub NoPartsChangeNothing : Type 0
+NoPartsChangeNothing =
+    (w : Words) (legacy : Bool) (f : Function) → IsFalse (may_have_parts_by w f)
+    → parts_aside w legacy f ≡ f

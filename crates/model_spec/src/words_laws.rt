@@ -1,6 +1,6 @@
 //! Laws of words. These functions do nothing: each contract is a law.
 
-ghost use Rattle.model_spec.specs.WordsLaws.{NoWordsChangeNothing, SlotsAreKept, OffClaimsNothing, OffShowsNoState, OutOfResetIs, PositiveIs, DeviceLeadsNowhere, TakenHasNoVgaEnable};
+ghost use Rattle.model_spec.specs.WordsLaws.{NoWordsChangeNothing, SlotsAreKept, OffClaimsNothing, OffShowsNoState, OutOfResetIs, PositiveIs, DeviceLeadsNowhere, TakenHasNoVgaEnable, NoPartsChangeNothing};
 
 /// Without words a system is taken as it is.
 pub fn no_words_change_nothing()
@@ -25,4 +25,9 @@ pub fn changes_do_what_they_are_for()
 /// What is taken with a word for legacy parts is no bridge with VGA Enable.
 pub fn taken_functions_have_no_vga_enable()
     ensures none { TakenHasNoVgaEnable }
+{}
+
+/// A function that can have no part for which a word counts is left as it is, whatever is wrong with it.
+pub fn functions_without_parts_are_kept()
+    ensures kept { NoPartsChangeNothing }
 {}

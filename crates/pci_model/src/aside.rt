@@ -1,7 +1,8 @@
 //! What is left aside of a function.
-ghost use Rattle.std.specs.Prelude.{◌≡◌, ℕ, List, map, if◌then◌else◌};
+ghost use Rattle.std.specs.Prelude.{◌≡◌, ℕ, IsTrue, List, map, if◌then◌else◌};
 ghost use Rattle.std.specs.List.{filter};
 ghost use Rattle.pci_spec.specs.Slot.{Slot as SlotValue};
+ghost use Rattle.pci_spec.specs.Text.{IsDump, slots_of};
 ghost use Rattle.pci_spec.specs.Order.{Place};
 ghost use Rattle.pci_image.specs.Bars.{decoded_bar_of, decoded_kind_of};
 ghost use Rattle.pci_image.specs.Windows.{decoded_windows_of};
@@ -13,11 +14,13 @@ ghost use Rattle.pci_model.specs.WordsValue.{words_value};
 use super::bytes::{
     clear, make_device, make_device_read_backs, make_positive, set_vga_aside, take_out_of_reset,
 };
+use super::listed_behind::is_anyone_behind;
 use super::words::Words;
 use pci_base::image::Image;
 use pci_base::offset::INTERFACE;
 use pci_base::slot::Slot;
 use pci_base::space::Space;
+use pci_dump::block::Block;
 use pci_function::examine::examine;
 use pci_function::profile::{
     SECONDARY_BUS_RESET, VGA_ENABLE, controls_bridge, is_subtractive_bridge,
@@ -56,18 +59,21 @@ pub fn vga_aside(image: &mut Image, words: Words)
 }
 
 /// Leaves a bridge's reset and its subtractive decoding aside, where these count and nothing is listed behind it.
-pub fn bridge_aside(image: &mut Image, is_anyone_behind: bool, words: Words)
-    ensures { (slots : List SlotValue) (slot : SlotValue) (probe : List ℕ)
-        → is_anyone_behind ≡ taken.is_anyone_behind slots record
-        { slot = slot; image = image.old.0; probe = probe }
+pub fn bridge_aside(image: &mut Image, blocks: &[Block], words: Words)
+    requires { IsDump blocks.now }
+    ensures { (slot : SlotValue) (probe : List ℕ)
         → record { slot = slot; image = image.new.0; probe = probe }
-        ≡ taken.bridge_aside (words_value words) slots record
+        ≡ taken.bridge_aside (words_value words) (slots_of blocks.now) record
         { slot = slot; image = image.old.0; probe = probe } }
 {
-    if words.reset && controls_bridge(image, SECONDARY_BUS_RESET) && !is_anyone_behind {
+    // What is behind is looked for only where it counts: that is a search in the dump.
+    if words.reset
+        && controls_bridge(image, SECONDARY_BUS_RESET)
+        && !is_anyone_behind(blocks, image)
+    {
         take_out_of_reset(image);
     }
-    if words.subtractive && is_subtractive_bridge(image) && !is_anyone_behind {
+    if words.subtractive && is_subtractive_bridge(image) && !is_anyone_behind(blocks, image) {
         make_positive(image);
     }
 }
@@ -173,17 +179,31 @@ fn is_unnumbered(function: &Record, legacy: bool) -> bool
     }
 }
 
+/// Whether a word counts for parts that a function can have by its header.
+fn may_have_parts(image: &Image, words: Words) -> bool
+    ensures { (slot : SlotValue) (probe : List ℕ) → result ≡ taken.may_have_parts_by (words_value words) record
+        { slot = slot; image = image.now.0; probe = probe } }
+{
+    (words.ide && is_ide(image)) || (words.unnumbered && layout(image) == 1)
+}
+
 /// Leaves the channels of an IDE controller and an unnumbered bridge's buses aside, where these count, of a function that
 /// has a legacy part, or has none.
 pub fn parts_aside(slot: Slot, image: &mut Image, probe: &mut Image, legacy: bool, words: Words)
     ensures { taken.IsWhere
-        (taken.HasNoneBefore Place record
+        (IsTrue (taken.may_have_parts_by (words_value words) record
+        { slot = slot; image = image.old.0; probe = probe.old.0 })
+        × taken.HasNoneBefore Place record
         { slot = slot; image = image.old.0; probe = probe.old.0 })
         record { slot = slot; image = image.old.0; probe = probe.old.0 }
         (taken.parts_aside (words_value words) legacy record
         { slot = slot; image = image.old.0; probe = probe.old.0 })
         record { slot = slot; image = image.new.0; probe = probe.new.0 } }
 {
+    // Most functions have no such parts, and aren't decoded.
+    if !may_have_parts(image, words) {
+        return;
+    }
     let decoded = match examine(slot, image, probe) {
         Err(_) => return,
         Ok(decoded) => decoded,

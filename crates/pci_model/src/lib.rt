@@ -9,6 +9,7 @@
 
 pub mod aside;
 pub mod bytes;
+pub mod listed_behind;
 pub mod power;
 pub mod take;
 pub mod words;

@@ -1,10 +1,8 @@
 //! A dump and its probe as words take them.
-ghost use Rattle.std.specs.Prelude.{◌≡◌, ◌<◌, ◌≤◌, ℕ, List, length, IfOk};
-ghost use Rattle.std.specs.List.{AllWithin};
-ghost use Rattle.pci_spec.specs.Slot.{Slot as SlotValue};
+ghost use Rattle.std.specs.Prelude.{◌≡◌, IfOk};
 ghost use Rattle.pci_spec.specs.System.{function_of};
 ghost use Rattle.pci_spec.specs.Text.{IsDump, slots_of};
-ghost use Rattle.model_spec.specs.Taken.{IsTaken, is_anyone_behind};
+ghost use Rattle.model_spec.specs.Taken.{IsTaken};
 ghost use Rattle.model_spec.specs.TakenDumps.{AreTakenAs};
 ghost use Rattle.pci_model.specs.WordsValue.{words_value};
 
@@ -13,7 +11,6 @@ use super::power::take_asleep;
 use super::words::Words;
 use pci_base::image::Image;
 use pci_base::memory::OutOfMemory;
-use pci_base::offset::{SECONDARY_BUS, SUBORDINATE_BUS};
 use pci_base::slot::Slot;
 use pci_dump::block::Block;
 use pci_dump::dump::Dump;
@@ -26,30 +23,6 @@ pub struct TakenPair<A: Allocator> {
     pub probe: Dump<A>,
 }
 
-/// The index of the first block on this bus or a higher one.
-fn first_from(blocks: &[Block], bus: u8) -> usize
-    requires { IsDump blocks.now }
-    ensures bound { result ≤ length blocks.now }
-    ensures before { AllWithin (λ b. b.slot.bus < bus) blocks.now 0 result }
-    ensures after { AllWithin (λ b. bus ≤ b.slot.bus) blocks.now result (length blocks.now) }
-{
-    blocks.partition_point(|block| block.slot.bus() < bus)
-}
-
-/// Whether a function of a dump is listed on a bus behind a bridge.
-fn is_anyone_behind(blocks: &[Block], bridge: &Image) -> bool
-    requires { IsDump blocks.now }
-    ensures { (slot : SlotValue) (probe : List ℕ) → result ≡ is_anyone_behind (slots_of blocks.now) record
-        { slot = slot; image = bridge.now.0; probe = probe } }
-{
-    let first = first_from(blocks, bridge.u8(SECONDARY_BUS));
-    if blocks.len() <= first {
-        return false;
-    }
-    let block = &blocks[first];
-    block.slot.bus() <= bridge.u8(SUBORDINATE_BUS)
-}
-
 /// Takes a function of a dump.
 fn take(slot: Slot, image: &mut Image, probe: &mut Image, blocks: &[Block], words: Words)
     requires { IsDump blocks.now }
@@ -60,8 +33,7 @@ fn take(slot: Slot, image: &mut Image, probe: &mut Image, blocks: &[Block], word
     let legacy = has_legacy(image, words);
     vga_aside(image, words);
     take_asleep(slot, image, probe, words);
-    let behind = is_anyone_behind(blocks, image);
-    bridge_aside(image, behind, words);
+    bridge_aside(image, blocks, words);
     parts_aside(slot, image, probe, legacy, words);
 }
 

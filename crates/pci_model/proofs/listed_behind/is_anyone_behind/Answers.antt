@@ -3,7 +3,7 @@ use Rattle.std.proofs.lemmas.Bool.{cases_lt, le-leb, lt-leb}
 use Rattle.pci_spec.specs.Header.{secondary_bus, subordinate_bus}
 use Rattle.pci_spec.specs.Text.{Block}
 use Rattle.pci_model.proofs.Behind.{none_behind, one_behind, same_place}
-use Rattle.pci_model.proofs.take.is_anyone_behind.Goals as goal
+use Rattle.pci_model.proofs.listed_behind.is_anyone_behind.Goals as goal
 
 pub returns-then-blocks-first : goal.returns-then-blocks-first
 returns-then-blocks-first c slot probe =

@@ -2,7 +2,7 @@ use Rattle.std.proofs.Common.{rules, ltb}
 use Rattle.std.proofs.lemmas.Bool.{ltb-true, ltb-false}
 use Rattle.std.proofs.lemmas.List.Sorted.{IsPartitionPoint-from_clause}
 use Rattle.pci_model.proofs.Behind.{parted_by_bus}
-use Rattle.pci_model.proofs.take.first_from.Goals as goal
+use Rattle.pci_model.proofs.listed_behind.first_from.Goals as goal
 
 pub returns-clause-before : goal.returns-clause-before
 returns-clause-before c k d low high =
