@@ -155,8 +155,12 @@ pub fn is_bus_quiet<A: Allocator + Copy>(
     ensures { IfOk result (λ quiet. IsTrue quiet
         → IsQuietInEach (given_value given.now) outline.now (λ b. b ≡ bus) (space_of space)) }
 {
-    let regions = outline.regions(bus, space)?;
     let legacy = legacy_on(alloc, given.legacy, bus)?;
+    // whatever the regions are
+    if 1 < legacy.len() {
+        return Ok(false);
+    }
+    let regions = outline.regions(bus, space)?;
     are_quiet(alloc, regions, &legacy, space)
 }
 
