@@ -1,9 +1,13 @@
 -- The lines of regions that are out of place, and of those that are only left.
-use Rattle.std.proofs.Common.{◌≡◌, ℕ, ◌+◌, ◌<◌, ◌≤◌, List, [], ◌++◌, take, length, get_or}
-use Rattle.std.specs.Prelude.{◌*◌}
+use Rattle.std.proofs.Common.{◌≡◌, ℕ, ◌+◌, ◌<◌, ◌≤◌, List, [], ◌∷◌, ◌++◌, take, length, get_or, Bool, true, false, inl, inr, ap, sym, subst, ◌∙◌}
+use Rattle.std.specs.Prelude.{◌*◌, MatchBool}
+use Rattle.std.specs.List.{Contains}
+use Rattle.std.proofs.lemmas.List.{take_more}
+use Rattle.std.proofs.lemmas.List.Elements.{Contains-append_cases}
 use Rattle.pci_spec.specs.Slot.{Slot}
 use Rattle.pci_spec.specs.System.{System, Space, Io, Memory}
 use Rattle.pci_spec.specs.Why.{Region, IsRegionIn}
+use Rattle.pci_spec.proofs.Members.{in_nil, in_cons_cases}
 use Rattle.given_spec.specs.Given.{Given}
 use Rattle.map_spec.specs.Lines.{IsOutOfPlace}
 use Rattle.map_spec.specs.Map.{HasWay, IsLeft, IsOnlyLeft}
@@ -15,9 +19,10 @@ use Rattle.pci_tree.specs.Ways.{slots_of}
 use Rattle.pci_tree.proofs.Lifting.{Has}
 use Rattle.pci_why.specs.Found.{IsFoundIn, NoneClaims}
 use Rattle.pci_map.specs.Values.{value_of}
-use Rattle.pci_map.specs.Asides.{IsAt, IsAtRegister, IsBelow, IsOf, IsAmong, AreAsides}
+use Rattle.pci_map.specs.Asides.{AreFoundBy, IsAside, HasNoAside, IsAt, IsAtRegister, IsBelow, IsOf, IsAmong, AreAsides}
+use Rattle.pci_map.specs.Left.{IsLeftIf}
 use Rattle.pci_map.proofs.Lefts.{AreOne}
-use Rattle.pci_map.proofs.Tolds.{none_found, found_not, found_one, both_spaces, below_none, one_register, all_registers, among_none, next_function, all_functions}
+use Rattle.pci_map.proofs.Tolds.{none_of, none_found, found_not, found_one, both_spaces, below_none, one_register, all_registers, among_none, next_function, all_functions}
 
 module _ (given : Given) (roots : List ℕ) (s : System) (unique : AreOne s) (slot : Slot) (reg : ℕ) (space : Space) where
   pub none_aside : (out left : List ℕ) → NoneClaims s slot reg space → AreAsides given roots s (IsAt slot reg space) out out left left
@@ -46,6 +51,35 @@ module _ (given : Given) (roots : List ℕ) (s : System) (unique : AreOne s) (sl
       out = found_not (IsOutOfPlace given roots s) s unique slot reg space q found out within;
       left = found_one (IsOnlyLeft given roots s) s unique slot reg space q found left new record { left = is_left; within = within } text;
     }
+
+-- ---- whether there are any
+
+module _ (given : Given) (roots : List ℕ) (s : System) where
+  pub aside_if : (q : Region) (left : Bool) → (IsOutOfPlace given roots s q → ⊥) → IsLeftIf roots s q left → MatchBool left (IsAside given roots s q) (IsAside given roots s q → ⊥)
+  aside_if q true within is_left = inr is_left
+  aside_if q false within way = λ aside. elim aside [ inl out ↦ within out | inr left ↦ left way.0 way.1 ]
+
+  pub none_before : (space : Space) (qs : List outline.Region) → HasNoAside given roots s space (take 0 qs)
+  none_before space qs q has = absurd (in_nil q has)
+
+  pub none_yet : (space : Space) (qs : List outline.Region) (k : ℕ) (x : outline.Region) → k < length qs → get_or qs k x ≡ x → HasNoAside given roots s space (take k qs)
+      → (IsAside given roots s (value_of space x) → ⊥) → HasNoAside given roots s space (take (k + 1) qs)
+  none_yet space qs k x within at before none q has aside =
+      let split : take (k + 1) qs ≡ take k qs ++ x ∷ [] = take_more qs k x within ∙ ap (λ (y : outline.Region). take k qs ++ y ∷ []) at in
+      elim (Contains-append_cases (take k qs) (x ∷ []) q (subst (λ xs. Contains xs q) split has)) [
+        | inl early ↦ before q early aside
+        | inr late ↦ elim (in_cons_cases x [] q late) [
+          | inl here ↦ none (subst (λ (y : outline.Region). IsAside given roots s (value_of space y)) (sym here) aside)
+          | inr nowhere ↦ absurd (in_nil q nowhere)
+        ]
+      ]
+
+  pub no_asides : (unique : AreOne s) (slot : Slot) (io memory : List outline.Region) (out left : List ℕ) → AreFoundBy s slot Io io → AreFoundBy s slot Memory memory
+      → HasNoAside given roots s Io io → HasNoAside given roots s Memory memory → AreAsides given roots s (IsOf slot) out out left left
+  no_asides unique slot io memory out left found_io found_memory none_io none_memory = record {
+    out = none_of (IsOutOfPlace given roots s) s unique slot io memory out found_io found_memory (λ q has is_out. none_io q has (inl is_out)) (λ q has is_out. none_memory q has (inl is_out));
+    left = none_of (IsOnlyLeft given roots s) s unique slot io memory left found_io found_memory (λ q has only. none_io q has (inr only.left)) (λ q has only. none_memory q has (inr only.left));
+  }
 
 -- ---- those of more
 

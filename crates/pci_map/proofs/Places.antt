@@ -6,7 +6,7 @@ use Rattle.std.proofs.lemmas.Bool.{both_ways, false≢true, false_from_ne_true}
 use Rattle.std.proofs.lemmas.List.{take_more}
 use Rattle.std.proofs.lemmas.List.Elements.{Contains-append_cases, Contains-append_left, Contains-append_right}
 use Rattle.pci_spec.specs.Slot.{Slot}
-use Rattle.pci_spec.specs.System.{System, Function, Space, Io, Memory, Claims, Leads, is_window, register_of}
+use Rattle.pci_spec.specs.System.{System, Space, Io, Memory, Claims, Leads, is_window, register_of}
 use Rattle.pci_spec.specs.System as system
 use Rattle.pci_spec.proofs.Members.{in_nil, in_cons_cases, in_head, pairs_nil, pairs_cons, pairs_head, pairs_tail, pairs_append}
 use Rattle.pci_spec.proofs.Regions.{part_same}

@@ -35,7 +35,7 @@ use Rattle.pci_why.proofs.Founds.{found_in_record, none_in_record}
 use Rattle.pci_map.specs.Values.{value_of}
 use Rattle.pci_map.specs.Off.{section}
 use Rattle.pci_map.specs.Left.{IsTreeOf}
-use Rattle.pci_map.specs.Asides.{AreFoundBy, IsRecordIn, IsAt, IsAtRegister, IsBelow, IsOf, IsAmong, AreTold, AreAsides, AreAsidesTold}
+use Rattle.pci_map.specs.Asides.{AreFoundBy, IsListedAt, IsRecordIn, IsAt, IsAtRegister, IsBelow, IsOf, IsAmong, AreTold, AreAsides, AreAsidesTold}
 use Rattle.pci_map.proofs.Firsts.{found_region}
 use Rattle.pci_map.proofs.Lefts.{AreOne, region_same}
 use Rattle.pci_map.proofs.Offs.{IsSet, extent_set, section_of}
@@ -237,6 +237,24 @@ module _ (Q : Region → Type 0) (s : System) where
           | inl io ↦ inl (at.0, at.1, io)
           | inr memory ↦ inr (at.0, at.1, memory)
         ])
+
+  -- ---- of a function
+
+  none_of_space : (unique : AreOne s) (slot : Slot) (space : Space) (qs : List outline.Region) → AreFoundBy s slot space qs → ((q : outline.Region) → Contains qs q → Q (value_of space q) → ⊥)
+      → (q : Region) → IsRegionIn s q → q.slot ≡ slot → q.space ≡ space → Q q → ⊥
+  none_of_space unique slot space qs found none q is at same holds =
+      let listed : (x : outline.Region) → IsListedAt qs q.register x → ⊥ = λ x here.
+      none x here.0 (subst Q (same_found unique slot q.register space x (found.found q.register x here) q is (at, refl, same)) holds) in
+      found.none q.register listed is.f q.part q.range.first is.listed (is.slot ∙ at) is.register (subst (λ sp. system.Claims is.f q.part sp q.range.first) same (there_is s q is))
+
+  -- no region that its lists have is such a one
+  pub none_of : (unique : AreOne s) (slot : Slot) (io memory : List outline.Region) (text : List ℕ) → AreFoundBy s slot Io io → AreFoundBy s slot Memory memory
+      → ((q : outline.Region) → Contains io q → Q (value_of Io q) → ⊥) → ((q : outline.Region) → Contains memory q → Q (value_of Memory q) → ⊥) → AreTold Q s (IsOf slot) text text
+  none_of unique slot io memory text found_io found_memory none_io none_memory =
+      told_none (IsOf slot) text (λ q is holds at. elim (cases_space unique slot 0 q.space) [
+        | inl same ↦ none_of_space unique slot Io io found_io none_io q is at same holds
+        | inr same ↦ none_of_space unique slot Memory memory found_memory none_memory q is at same holds
+      ])
 
   -- ---- at the registers of a function
 

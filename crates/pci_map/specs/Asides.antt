@@ -1,5 +1,5 @@
 -- The lines of regions that have none at a place.
-use Rattle.std.specs.Prelude.{◌≡◌, ℕ, ◌<◌, List, ◌++◌, map}
+use Rattle.std.specs.Prelude.{◌≡◌, ◌⊎◌, ℕ, ◌<◌, List, ◌++◌, map}
 use Rattle.std.specs.List.{All, AllPairs, Contains, flat_map}
 use Rattle.pci_spec.specs.Slot.{Slot}
 use Rattle.pci_spec.specs.System.{System, Space}
@@ -7,7 +7,7 @@ use Rattle.pci_spec.specs.Decoded.{HasRecords}
 use Rattle.pci_spec.specs.Why.{Region, IsRegionIn}
 use Rattle.given_spec.specs.Given.{Given}
 use Rattle.map_spec.specs.Lines.{IsOutOfPlace, region_number}
-use Rattle.map_spec.specs.Map.{IsOnlyLeft, AreListed}
+use Rattle.map_spec.specs.Map.{IsLeft, IsOnlyLeft, AreListed}
 use Rattle.map_spec.specs.MapText.{region_line, outside_text, unreached_text}
 use Rattle.pci_function.specs.declared.record.Record.{Record}
 use Rattle.pci_function.specs.Values.{record_value}
@@ -15,6 +15,7 @@ use Rattle.pci_tree.specs.declared.region.Region as outline
 use Rattle.pci_tree.specs.Regions.{IsLawful}
 use Rattle.pci_tree.specs.Outline.{RiseBySlot}
 use Rattle.pci_why.specs.Found.{IsFoundIn, NoneClaims}
+use Rattle.pci_map.specs.Values.{value_of}
 
 -- a region of a list at a register
 abbrev pub IsListedAt : List outline.Region → ℕ → outline.Region → Type 0
@@ -34,6 +35,20 @@ pub record IsRecordIn (s : System) (r : Record) : Type 0 where
   pub rising : RiseBySlot records
   pub lawful : All IsLawful records
   pub has : Contains records r
+
+-- a region is out of place, or left
+abbrev pub IsAside : Given → List ℕ → System → Region → Type 0
+IsAside given roots s q = IsOutOfPlace given roots s q ⊎ IsLeft roots s q
+
+-- one of the regions of a space is
+abbrev pub HasAside : Given → List ℕ → System → Space → List outline.Region → Type 0
+HasAside given roots s space qs =
+    (q : outline.Region) × Contains qs q × IsAside given roots s (value_of space q)
+
+-- none of them is
+abbrev pub HasNoAside : Given → List ℕ → System → Space → List outline.Region → Type 0
+HasNoAside given roots s space qs =
+    (q : outline.Region) → Contains qs q → IsAside given roots s (value_of space q) → ⊥
 
 -- where a region is named
 abbrev pub IsAt : Slot → ℕ → Space → Region → Type 0

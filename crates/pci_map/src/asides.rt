@@ -1,5 +1,5 @@
 //! The regions that have no line at a place: those out of place, and those that are left, each below a heading.
-ghost use Rattle.std.specs.Prelude.{◌≡◌, length, IfOk, MatchOption, OnOk};
+ghost use Rattle.std.specs.Prelude.{◌≡◌, length, MatchBool, MatchOption, OnOk};
 ghost use Rattle.std.specs.String.{string_bytes};
 ghost use Rattle.pci_spec.specs.System.{System, Io, Memory};
 ghost use Rattle.pci_spec.specs.Why.{IsRegionIn};
@@ -7,9 +7,11 @@ ghost use Rattle.given_spec.specs.Given.{Given as GivenValue};
 ghost use Rattle.pci_base.specs.Space.{space_of};
 ghost use Rattle.pci_tree.specs.Outline.{Tree};
 ghost use Rattle.pci_tree.specs.declared.region.Region.{Region as RegionValue};
+ghost use Rattle.pci_why.specs.Found.{IsFoundIn};
+ghost use Rattle.pci_map.specs.Values.{value_of};
 ghost use Rattle.pci_map.specs.Above.{AreSentAbove};
 ghost use Rattle.pci_map.specs.Ways.{AreWays};
-ghost use Rattle.pci_map.specs.Asides.{IsListedAt, AreFoundBy, IsRecordIn, IsAt, IsAtRegister, IsOf, AreAsides, AreAsidesTold};
+ghost use Rattle.pci_map.specs.Asides.{IsListedAt, AreFoundBy, IsRecordIn, IsAside, HasAside, HasNoAside, IsAt, IsAtRegister, IsOf, AreAsides, AreAsidesTold};
 
 use super::above::is_out_of_place;
 use super::left::{Windows, is_left};
@@ -37,18 +39,74 @@ struct Asides<A: Allocator = Global> {
     unreached: String<A>,
 }
 
-/// The regions of a function and a space.
-fn regions_of<A: Allocator>(
-    alloc: A,
+/// Fills a list with the regions of a function and a space.
+fn find_regions<A: Allocator>(
+    regions: &mut Vec<Region, A>,
     function: &Record,
     space: Space,
-) -> Result<Vec<Region, A>, OutOfMemory>
-    ensures { IfOk result (λ v. (s : System) → IsRecordIn s function.now
-        → AreFoundBy s function.now.slot (space_of space) v.items) }
+) -> Result<(), OutOfMemory>
+    ensures { OnOk result ((s : System) → IsRecordIn s function.now
+        → AreFoundBy s function.now.slot (space_of space) regions.new.items) }
 {
-    let mut regions = Vec::new(alloc);
-    add_regions(&mut regions, function, space)?;
-    Ok(regions)
+    regions.clear();
+    add_regions(regions, function, space)
+}
+
+/// The same, of a list for each space.
+fn find_both<A: Allocator>(
+    io: &mut Vec<Region, A>,
+    memory: &mut Vec<Region, A>,
+    function: &Record,
+) -> Result<(), OutOfMemory>
+    ensures { OnOk result ((s : System) → IsRecordIn s function.now
+        → AreFoundBy s function.now.slot Io io.new.items
+        × AreFoundBy s function.now.slot Memory memory.new.items) }
+{
+    find_regions(io, function, Space::Io)?;
+    find_regions(memory, function, Space::Mem)
+}
+
+/// Whether a region is out of place or left.
+fn is_aside<A: Allocator>(
+    ways: &[Option<Windows>],
+    above: &[Sent<A>],
+    space: Space,
+    slot: Slot,
+    region: &Region,
+) -> bool
+    // bus numbers index it
+    requires { length ways.now ≡ 256 }
+    ensures { (given : GivenValue) (t : Tree) (s : System) → AreSentAbove given t s above.now
+        → AreWays t.roots s ways.now → IsFoundIn s slot region.now.reg (space_of space) region.now
+        → MatchBool result (IsAside given t.roots s (value_of (space_of space) region.now))
+        (IsAside given t.roots s (value_of (space_of space) region.now) → ⊥) }
+{
+    if is_out_of_place(above, space, slot.bus(), region) {
+        return true;
+    }
+    is_left(ways, slot.bus(), space, region.first)
+}
+
+/// Whether one of the regions of a function and a space is out of place or left.
+fn has_aside<A: Allocator>(
+    ways: &[Option<Windows>],
+    above: &[Sent<A>],
+    regions: &[Region],
+    space: Space,
+    slot: Slot,
+) -> bool
+    requires { length ways.now ≡ 256 }
+    ensures { (given : GivenValue) (t : Tree) (s : System) → AreSentAbove given t s above.now
+        → AreWays t.roots s ways.now → AreFoundBy s slot (space_of space) regions.now
+        → MatchBool result (HasAside given t.roots s (space_of space) regions.now)
+        (HasNoAside given t.roots s (space_of space) regions.now) }
+{
+    for region in regions {
+        if is_aside(ways, above, space, slot, region) {
+            return true;
+        }
+    }
+    false
 }
 
 /// The region at a register.
@@ -74,7 +132,6 @@ fn push_aside_in<A: Allocator, B: Allocator>(
     slot: Slot,
     reg: u8,
 ) -> Result<(), OutOfMemory>
-    // bus numbers index it
     requires { length ways.now ≡ 256 }
     ensures { OnOk result ((given : GivenValue) (t : Tree) (s : System) → AreSentAbove given t s above.now
         → AreWays t.roots s ways.now → AreFoundBy s slot (space_of space) regions.now
@@ -117,31 +174,45 @@ fn push_aside_at<A: Allocator, B: Allocator>(
 }
 
 /// Appends the lines of the regions of a function that are out of place or left, by register.
-fn push_asides_of<A: Allocator + Copy, B: Allocator>(
-    alloc: A,
+fn push_by_register<A: Allocator, B: Allocator>(
     asides: &mut Asides<B>,
     ways: &[Option<Windows>],
     above: &[Sent<A>],
-    function: &Record,
+    io: &[Region],
+    memory: &[Region],
+    slot: Slot,
 ) -> Result<(), OutOfMemory>
     requires { length ways.now ≡ 256 }
     ensures { OnOk result ((given : GivenValue) (t : Tree) (s : System) → AreSentAbove given t s above.now
-        → AreWays t.roots s ways.now → IsRecordIn s function.now
-        → AreAsides given t.roots s (IsOf function.now.slot) (string_bytes asides.old.outside)
+        → AreWays t.roots s ways.now → AreFoundBy s slot Io io.now → AreFoundBy s slot Memory memory.now
+        → AreAsides given t.roots s (IsOf slot) (string_bytes asides.old.outside)
         (string_bytes asides.new.outside) (string_bytes asides.old.unreached) (string_bytes asides.new.unreached)) }
 {
-    let io = regions_of(alloc, function, Space::Io)?;
-    let memory = regions_of(alloc, function, Space::Mem)?;
     for register in 0..REGISTERS {
-        push_aside_at(
-            asides,
-            ways,
-            above,
-            io.as_slice(),
-            memory.as_slice(),
-            function.slot,
-            4 * register,
-        )?;
+        push_aside_at(asides, ways, above, io, memory, slot, 4 * register)?;
+    }
+    Ok(())
+}
+
+/// The same; the registers of a function without such regions aren't gone through.
+fn push_asides_of<A: Allocator, B: Allocator>(
+    asides: &mut Asides<B>,
+    ways: &[Option<Windows>],
+    above: &[Sent<A>],
+    io: &[Region],
+    memory: &[Region],
+    slot: Slot,
+) -> Result<(), OutOfMemory>
+    requires { length ways.now ≡ 256 }
+    ensures { OnOk result ((given : GivenValue) (t : Tree) (s : System) → AreSentAbove given t s above.now
+        → AreWays t.roots s ways.now → AreFoundBy s slot Io io.now → AreFoundBy s slot Memory memory.now
+        → AreAsides given t.roots s (IsOf slot) (string_bytes asides.old.outside)
+        (string_bytes asides.new.outside) (string_bytes asides.old.unreached) (string_bytes asides.new.unreached)) }
+{
+    if has_aside(ways, above, io, Space::Io, slot)
+        || has_aside(ways, above, memory, Space::Mem, slot)
+    {
+        return push_by_register(asides, ways, above, io, memory, slot);
     }
     Ok(())
 }
@@ -158,9 +229,15 @@ fn push_all<A: Allocator + Copy, B: Allocator>(
         (string_bytes asides.new.outside) (string_bytes asides.old.unreached) (string_bytes asides.new.unreached)) }
 {
     let ways = find_ways(alloc, outline)?;
+    // These two lists serve all functions.
+    let mut io_list = Vec::new(alloc);
+    let mut memory_list = Vec::new(alloc);
     let records = outline.records();
     for function in records {
-        push_asides_of(alloc, asides, ways.as_slice(), above, function)?;
+        find_both(&mut io_list, &mut memory_list, function)?;
+        let io = io_list.as_slice();
+        let memory = memory_list.as_slice();
+        push_asides_of(asides, ways.as_slice(), above, io, memory, function.slot)?;
     }
     Ok(())
 }

@@ -2,6 +2,8 @@ use Rattle.std.proofs.Common.{sym, subst, List}
 use Rattle.std.specs.String.{string_bytes}
 use Rattle.pci_spec.specs.Decoded as decoded
 use Rattle.pci_spec.specs.Decoded.{HasRecords}
+use Rattle.pci_spec.specs.System.{Io, Memory}
+use Rattle.pci_map.specs.Asides.{AreFoundBy}
 use Rattle.pci_map.specs.Ways.{AreWays}
 use Rattle.pci_map.proofs.Tolds.{record_in}
 use Rattle.pci_map.proofs.AsideTexts.{none_among, next_function_aside, all_functions_aside}
@@ -12,13 +14,15 @@ loop-function-init g c = λ given s above. none_among given c.args.outline.now.r
 
 pub loop-function-preserved : goal.loop-function-preserved
 loop-function-preserved g c = λ given s above.
+    let is = record_in s c.records-records.result.now c.loop-function.function-index c.function-item.result (subst (λ (rs : List decoded.Record). HasRecords s rs) (sym c.records-records.ensures.value) above.tree.records)
+    c.records-records.ensures.rising c.records-records.ensures.lawful c.loop-function-test.true (sym c.function-item.is) in
     next_function_aside given c.args.outline.now.roots s c.records-records.result.now c.loop-function.function-index c.function-item.result (string_bytes c.args.asides.now.outside)
     (string_bytes c.loop-function.asides.outside) (string_bytes c.push_asides_of.new.asides.outside) (string_bytes c.args.asides.now.unreached) (string_bytes c.loop-function.asides.unreached)
     (string_bytes c.push_asides_of.new.asides.unreached) c.records-records.ensures.rising c.loop-function-test.true (sym c.function-item.is)
     (c.loop-function.invariant given s above)
     (c.in_ok-push_asides_of.ensures given c.args.outline.now s above (subst (AreWays c.args.outline.now.roots s) (sym c.as_slice.ensures.value) (c.in_ok-ways.ensures.ways s above.tree))
-    (record_in s c.records-records.result.now c.loop-function.function-index c.function-item.result (subst (λ (rs : List decoded.Record). HasRecords s rs) (sym c.records-records.ensures.value) above.tree.records)
-    c.records-records.ensures.rising c.records-records.ensures.lawful c.loop-function-test.true (sym c.function-item.is)))
+    (subst (AreFoundBy s c.function-item.result.slot Io) (sym c.as_slice-io.ensures.value) (c.in_ok-find_both.ensures s is).0)
+    (subst (AreFoundBy s c.function-item.result.slot Memory) (sym c.as_slice-memory.ensures.value) (c.in_ok-find_both.ensures s is).1))
 
 pub returns : goal.returns
 returns g c = λ given s above.
