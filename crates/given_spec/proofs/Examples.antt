@@ -2,3 +2,4 @@ pub mod Ranges
 pub mod Legacy
 pub mod Clashes
 pub mod Lines
+pub mod Reasons

@@ -1,18 +1,22 @@
 -- Laws of what is given.
-use Rattle.std.specs.Prelude.{◌≡◌, ℕ, ◌↔◌, Bool, false, IsTrue, List, []}
+use Rattle.std.specs.Prelude.{◌≡◌, ℕ, ◌↔◌, Bool, false, IsTrue, List, [], map}
 use Rattle.std.specs.List.{Contains}
 use Rattle.pci_spec.specs.Slot.{Slot}
-use Rattle.pci_spec.specs.System.{System, Function, Space, IsSystem, Leads, has_part, is_window, is_prefetchable_part}
+use Rattle.pci_spec.specs.System.{System, Function, Space, IsSystem, Leads, has_part, is_window}
 use Rattle.pci_spec.specs.System as system
 use Rattle.pci_spec.specs.Bus.{IsNested}
 use Rattle.pci_spec.specs.Fault as plain
 use Rattle.pci_spec.specs.Sound as sound
+use Rattle.pci_spec.specs.Why as why
+use Rattle.pci_spec.specs.FaultsText as faults_text
 use Rattle.given_spec.specs.Given.{Given, nothing_given, starts}
 use Rattle.given_spec.specs.Claims.{Own, Legacy, Claims, forwards, passes, Gets, IsPassedTo}
 use Rattle.given_spec.specs.Fault.{Fault, Known, IsIn, IsOutside}
 use Rattle.given_spec.specs.Sound.{IsSingle, IsHome, IsSound}
 use Rattle.given_spec.specs.AllFaults.{IsOutsideOf, AreAllOfJudging}
 use Rattle.given_spec.specs.Words.{taken_by_vga}
+use Rattle.given_spec.specs.Why.{IsWhy}
+use Rattle.given_spec.specs.FaultsText.{IsReasonedText}
 
 -- ---- with nothing given each word is the one without it
 
@@ -64,6 +68,19 @@ abbrev pub SameSound : Type 0
 SameSound =
     (roots : List ℕ) (s : System) → IsSystem s
     → IsSound nothing_given roots s ↔ sound.IsSound roots s
+
+-- the lines behind a fault
+abbrev pub SameWhy : Type 0
+SameWhy =
+    (roots : List ℕ) (s : System) (fault : plain.Fault) (lines : List ℕ)
+    → IsWhy nothing_given roots s (Known fault) lines ↔ why.IsWhy roots s fault lines
+
+-- the text of a list with reasons
+abbrev pub SameText : Type 0
+SameText =
+    (roots : List ℕ) (s : System) (faults : List plain.Fault) (text : List ℕ)
+    → IsReasonedText nothing_given roots s (map Known faults) text
+    ↔ faults_text.IsReasonedText roots s faults text
 
 -- ---- what faults are good for
 

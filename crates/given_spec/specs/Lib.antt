@@ -4,7 +4,9 @@ pub mod Fault
 pub mod Sound
 pub mod AllFaults
 pub mod Words
-pub mod Laws
 pub mod Line
 pub mod Numbered
 pub mod FaultLines
+pub mod Why
+pub mod FaultsText
+pub mod Laws

@@ -1,6 +1,6 @@
 //! Laws of what is given. These functions do nothing: each contract is a law.
 
-ghost use Rattle.given_spec.specs.Laws.{StartsAnywhere, SameClaims, NoLegacyClaims, SameForwards, SamePasses, SameGets, SamePassedTo, NoneOutside, SameFaults, SameSound, SoundWithoutFaults, EmptyWhereNoneFails, LineWhereOutside, NoVgaEnable};
+ghost use Rattle.given_spec.specs.Laws.{StartsAnywhere, SameClaims, NoLegacyClaims, SameForwards, SamePasses, SameGets, SamePassedTo, NoneOutside, SameFaults, SameSound, SameWhy, SameText, SoundWithoutFaults, EmptyWhereNoneFails, LineWhereOutside, NoVgaEnable};
 
 /// With nothing given each word is the one without it.
 pub fn nothing_given_changes_nothing()
@@ -14,6 +14,12 @@ pub fn nothing_given_changes_nothing()
     ensures outside { NoneOutside }
     ensures faults { SameFaults }
     ensures sound { SameSound }
+{}
+
+/// With nothing given reasons are those without it.
+pub fn nothing_given_changes_no_reasons()
+    ensures why { SameWhy }
+    ensures text { SameText }
 {}
 
 /// A system is sound with what is given exactly where no fault is there, and a list of all faults leaves nothing out.

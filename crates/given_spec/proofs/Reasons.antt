@@ -1,0 +1,320 @@
+-- With nothing given the lines behind a fault are those without it.
+use Rattle.std.proofs.Common.{◌≡◌, ℕ, ◌+◌, ◌<◌, ◌≤◌, List, [], ◌∷◌, ◌++◌, get_or, map, refl, sym, ◌∙◌, ap, subst, arith, Bool, true, false, ◌&&◌, not, append-nil, codes, inl, inr, Option, None, Some}
+use Rattle.std.specs.Prelude.{◌↔◌, MatchOption, MatchBool}
+use Rattle.std.specs.List.{Contains, Any, flat_map}
+use Rattle.std.proofs.lemmas.List.Elements.{All-nil, All-cons}
+use Rattle.std.proofs.lemmas.Bool.{both_ways}
+use Rattle.std.proofs.Math.Bool.{and-true}
+use Rattle.pci_spec.specs.Slot.{Slot}
+use Rattle.pci_spec.specs.System.{System, Function, Space, Io, Memory}
+use Rattle.pci_spec.specs.System as system
+use Rattle.pci_spec.specs.Bus.{is_root}
+use Rattle.pci_spec.specs.Fault.{Unreached, Clash, Split}
+use Rattle.pci_spec.specs.Fault as faults
+use Rattle.pci_spec.specs.Decoded.{Range, InRange}
+use Rattle.pci_spec.specs.Why.{IsRun, AreRuns, range_line, is_wide_part}
+use Rattle.pci_spec.specs.Why as plain
+use Rattle.pci_spec.specs.FaultsText as plain_text
+use Rattle.pci_spec.proofs.BusRanges.{root_means}
+use Rattle.given_spec.specs.Given.{nothing_given}
+use Rattle.given_spec.specs.Claims.{Own as OwnPart, Legacy as LegacyPart, Part, Claims, register_of}
+use Rattle.given_spec.specs.Fault.{Known}
+use Rattle.given_spec.specs.Laws.{SameWhy, SameText}
+use Rattle.given_spec.specs.FaultsText.{AreReasoned, yes_line, off_behind}
+use Rattle.given_spec.specs.Why.{Own, Legacy, Misses, IsBehindUnreached, IsBehindTwo, AreNamedTwo, IsEvidence, IsKnownEvidence, IsBeside, IsTaken, IsPlaceFor, IsLeastPlace, IsFit, IsFitBehind, IsAdviceFor, IsAdvice, IsKnownAdvice, is_said}
+use Rattle.given_spec.proofs.Nothing.{same_passes, same_passed_to, no_legacy_claims, not_at_control, not_shared}
+
+-- ---- runs
+
+run_same : (P Q : ℕ → Type 0) → ((a : ℕ) → P a ↔ Q a) → (r : Range) → IsRun P r → IsRun Q r
+run_same P Q same r run = record {
+  some = run.some;
+  each = λ a held. (same a).0 (run.each a held);
+  before = λ a e q. run.before a e ((same a).1 q);
+  behind = λ q. run.behind ((same (r.last + 1)).1 q);
+}
+
+runs_same : (P Q : ℕ → Type 0) → ((a : ℕ) → P a ↔ Q a) → (rs : List Range) → AreRuns P rs → AreRuns Q rs
+runs_same P Q same rs runs = record {
+  each = λ k d within. run_same P Q same (get_or rs k d) (runs.each k d within);
+  complete = λ a q. runs.complete a ((same a).1 q);
+  rising = runs.rising;
+}
+
+-- one run, where what is between two of its addresses is of it
+abbrev IsConvex : (ℕ → Type 0) → Type 0
+IsConvex P = (a b c : ℕ) → a ≤ b → b ≤ c → P a → P c → P b
+
+one_run : (P : ℕ → Type 0) → IsConvex P → (rs : List Range) → AreRuns P rs → (rs ≡ [] → ⊥) → (r : Range) × (rs ≡ r ∷ [])
+one_run P convex [] runs some = absurd (some refl)
+one_run P convex (r ∷ []) runs some = (r, refl)
+one_run P convex (r ∷ t ∷ rest) runs some =
+    let first : IsRun P r = runs.each 0 r (omega arith) in
+    let next : IsRun P t = runs.each 1 r (omega arith) in
+    let rise : r.last < t.first = runs.rising 0 1 r (omega arith) (omega arith) in
+    let low = first.some in
+    let high = next.some in
+    absurd (first.behind (convex r.last (r.last + 1) t.first (omega arith) (omega (arith, rise)) (first.each r.last (low, omega arith)) (next.each t.first (omega arith, high))))
+
+module _ (P : ℕ → Type 0) (r : Range) (some : r.first ≤ r.last) (exact : (a : ℕ) → InRange r a ↔ P a) where
+  is_run : IsRun P r
+  is_run = record {
+    some = some;
+    each = λ a held. (exact a).0 held;
+    before = λ a e p. (let held = (exact a).1 p in let low = held.0 in omega (arith, low, e));
+    behind = λ p. (let held = (exact (r.last + 1)).1 p in let high = held.1 in omega (arith, high));
+  }
+
+  just_one : AreRuns P (r ∷ [])
+  just_one = record {
+    each = All-cons (IsRun P) r [] is_run (All-nil (IsRun P));
+    complete = λ a p. (0, r, omega arith, refl, (exact a).1 p);
+    rising = λ i j d lt within. absurd (let no : ⊥ = omega (arith, lt, within) in no);
+  }
+
+-- ---- what a bridge misses
+
+misses_same : (q : plain.Region) (b : Function) (a : ℕ) → Misses nothing_given q b a ↔ plain.Misses q b a
+misses_same q b a = (
+  λ h. (h.0, sym (same_passes q.space q.prefetchable a b) ∙ h.1),
+  λ h. (h.0, same_passes q.space q.prefetchable a b ∙ h.1),
+)
+
+unreached_plain : (s : System) (q : plain.Region) (bridge : Slot) (lines : List ℕ) → IsBehindUnreached nothing_given s q bridge lines → plain.IsBehindUnreached s q bridge lines
+unreached_plain s q bridge lines h = record {
+  is = h.is;
+  b = h.b;
+  listed = h.listed;
+  named = h.named;
+  missed = h.missed;
+  runs = runs_same (Misses nothing_given q h.b) (plain.Misses q h.b) (misses_same q h.b) h.missed h.runs;
+  text = h.text;
+}
+
+plain_unreached : (s : System) (q : plain.Region) (bridge : Slot) (lines : List ℕ) → plain.IsBehindUnreached s q bridge lines → IsBehindUnreached nothing_given s q bridge lines
+plain_unreached s q bridge lines h = record {
+  is = h.is;
+  b = h.b;
+  listed = h.listed;
+  named = h.named;
+  missed = h.missed;
+  runs = runs_same (plain.Misses q h.b) (Misses nothing_given q h.b) (λ a. ((misses_same q h.b a).1, (misses_same q h.b a).0)) h.missed h.runs;
+  text = h.text;
+}
+
+-- ---- two regions
+
+abbrev InTwo : plain.Region → plain.Region → ℕ → Type 0
+InTwo p q a = InRange p.range a × InRange q.range a
+
+two_convex : (p q : plain.Region) → IsConvex (InTwo p q)
+two_convex p q a b c le up one two = (
+  (let low = one.0.0 in omega (arith, low, le), let high = two.0.1 in omega (arith, high, up)),
+  (let low = one.1.0 in omega (arith, low, le), let high = two.1.1 in omega (arith, high, up)),
+)
+
+-- an address of the one range of a list
+only : (r : Range) (a : ℕ) → Any (λ x. InRange x a) (r ∷ []) → InRange r a
+only r a (k, x, within, is, held) = (let zero_k : k ≡ 0 = omega (arith, within) in
+    let same : x ≡ r = sym is ∙ ap (λ n. get_or (r ∷ []) n x) zero_k in
+    subst (λ (y : Range). InRange y a) same held)
+
+two_plain : (s : System) (space : Space) (p q : plain.Region) (lines : List ℕ) → q.space ≡ space → IsBehindTwo nothing_given s space (Own p) (Own q) lines → plain.IsBehindTwo s p q lines
+two_plain s space p q lines at h =
+    let one = one_run (InTwo p q) (two_convex p q) h.shared h.runs h.some in
+    let runs : AreRuns (InTwo p q) (one.0 ∷ []) = subst (AreRuns (InTwo p q)) one.1 h.runs in
+    let run : IsRun (InTwo p q) one.0 = runs.each 0 one.0 (omega arith) in
+    let told : flat_map (range_line (codes "shared") space) h.shared ≡ range_line (codes "shared") q.space one.0 =
+    ap (λ rs. flat_map (range_line (codes "shared") space) rs) one.1 ∙ append-nil (range_line (codes "shared") space one.0) ∙ ap (λ sp. range_line (codes "shared") sp one.0) (sym at) in
+    record {
+      first = h.first;
+      second = h.second;
+      shared = one.0;
+      some = run.some;
+      exact = λ a. (
+        λ held. run.each a held,
+        λ both. (let there = runs.complete a both in only one.0 a there),
+      );
+      text = h.text ∙ ap (λ t. plain.region_line (codes "first") p ++ (plain.region_line (codes "second") q ++ t)) told;
+    }
+
+plain_two : (s : System) (space : Space) (p q : plain.Region) (lines : List ℕ) → q.space ≡ space → plain.IsBehindTwo s p q lines → IsBehindTwo nothing_given s space (Own p) (Own q) lines
+plain_two s space p q lines at h =
+    let told : range_line (codes "shared") q.space h.shared ≡ flat_map (range_line (codes "shared") space) (h.shared ∷ []) =
+    ap (λ sp. range_line (codes "shared") sp h.shared) at ∙ sym (append-nil (range_line (codes "shared") space h.shared)) in
+    record {
+      first = h.first;
+      second = h.second;
+      shared = h.shared ∷ [];
+      some = λ e. cc;
+      runs = just_one (InTwo p q) h.shared h.some h.exact;
+      text = h.text ∙ ap (λ t. plain.region_line (codes "first") p ++ (plain.region_line (codes "second") q ++ t)) told;
+    }
+
+abbrev PlainTwo : System → Space → Slot → ℕ → Slot → ℕ → List ℕ → Type 0
+PlainTwo s space first fr second sr lines =
+    (p : plain.Region) × (q : plain.Region) × plain.IsNamed p first fr space × plain.IsNamed q second sr space × plain.IsBehindTwo s p q lines
+
+named_two_plain : (s : System) (space : Space) (first : Slot) (fr : ℕ) (second : Slot) (sr : ℕ) (lines : List ℕ) → AreNamedTwo nothing_given s space first fr second sr lines → PlainTwo s space first fr second sr lines
+named_two_plain s space first fr second sr lines (Own p, Own q, np, nq, behind) = (p, q, np, nq, two_plain s space p q lines nq.2 behind)
+named_two_plain s space first fr second sr lines (Legacy b sp, q, np, nq, behind) = absurd (no_legacy_claims b sp behind.first.1 behind.first.2)
+named_two_plain s space first fr second sr lines (Own p, Legacy b sp, np, nq, behind) = absurd (no_legacy_claims b sp behind.second.1 behind.second.2)
+
+plain_named_two : (s : System) (space : Space) (first : Slot) (fr : ℕ) (second : Slot) (sr : ℕ) (lines : List ℕ) → PlainTwo s space first fr second sr lines → AreNamedTwo nothing_given s space first fr second sr lines
+plain_named_two s space first fr second sr lines (p, q, np, nq, behind) = (Own p, Own q, np, nq, plain_two s space p q lines nq.2 behind)
+
+evidence_same : (roots : List ℕ) (s : System) (fault : faults.Fault) (lines : List ℕ) → IsEvidence nothing_given roots s (Known fault) lines ↔ plain.IsEvidence s fault lines
+evidence_same roots s fault lines = elim fault as (λ fault. IsKnownEvidence nothing_given s fault lines ↔ plain.IsEvidence s fault lines) [
+  | Unreached slot register space a bridge ↦ (
+    λ h. (h.0, h.1, unreached_plain s h.0 bridge lines h.2),
+    λ h. (h.0, h.1, plain_unreached s h.0 bridge lines h.2),
+  )
+  | Clash bus space a first fr second sr ↦ (named_two_plain s space first fr second sr lines, plain_named_two s space first fr second sr lines)
+  | Split space a first fr second sr ↦ (named_two_plain s space first fr second sr lines, plain_named_two s space first fr second sr lines)
+  | _ ↦ (λ h. h, λ h. h)
+]
+
+-- ---- where a region would fit
+
+taken_plain : (roots : List ℕ) (s : System) (q : plain.Region) (a : ℕ) (f : Function) (part : Part) → (Contains roots q.slot.bus → ⊥) → Contains s f → IsBeside nothing_given roots q a f
+    → ((f.slot ≡ q.slot) × (register_of f part ≡ q.register) → ⊥) → Claims nothing_given f part q.space a → plain.IsTaken s q a
+taken_plain roots s q a f (OwnPart part) below listed (inl on) other claims = record { f = f; part = part; listed = listed; on_bus = on; other = other; claims = claims }
+taken_plain roots s q a f (OwnPart part) below listed (inr roots_both) other claims = absurd (below roots_both.0)
+taken_plain roots s q a f LegacyPart below listed beside other claims = absurd (no_legacy_claims f q.space a claims)
+
+-- no region of address registers is at Bridge Control
+off_control : (s : System) (q : plain.Region) → plain.IsRegionIn s q → q.register ≡ 0x3e → ⊥
+off_control s q is e = not_at_control is.f q.part (is.register ∙ e)
+
+plain_taken : (roots : List ℕ) (s : System) (q : plain.Region) (a : ℕ) → plain.IsRegionIn s q → plain.IsTaken s q a → IsTaken nothing_given roots s q a
+plain_taken roots s q a is t = record {
+  f = t.f;
+  part = OwnPart t.part;
+  listed = t.listed;
+  beside = inl t.on_bus;
+  other = t.other;
+  apart = not_shared q.slot t.f.slot q.register (system.register_of t.f t.part) (off_control s q is) (not_at_control t.f t.part);
+  claims = t.claims;
+}
+
+module _ (roots : List ℕ) (s : System) (q : plain.Region) (is : plain.IsRegionIn s q) (below : Contains roots q.slot.bus → ⊥) (wide : Bool) where
+  place_plain : (first : ℕ) → IsPlaceFor nothing_given roots s q wide first → plain.IsPlaceFor roots s q wide first
+  place_plain first p = record {
+    aligned = p.aligned;
+    fits = p.fits;
+    reached = λ a low high. (same_passed_to roots s q.space q.prefetchable a q.slot.bus).0 (p.reached a low high);
+    free = λ a low high taken. p.free a low high (plain_taken roots s q a is taken);
+  }
+
+  plain_place : (first : ℕ) → plain.IsPlaceFor roots s q wide first → IsPlaceFor nothing_given roots s q wide first
+  plain_place first p = record {
+    aligned = p.aligned;
+    fits = p.fits;
+    reached = λ a low high. (same_passed_to roots s q.space q.prefetchable a q.slot.bus).1 (p.reached a low high);
+    free = λ a low high taken. p.free a low high (taken_plain roots s q a taken.f taken.part below taken.listed taken.beside taken.other taken.claims);
+  }
+
+  least_plain : (o : Option Range) → MatchOption o ((first : ℕ) → IsPlaceFor nothing_given roots s q wide first → ⊥) (λ r. IsLeastPlace nothing_given roots s q wide r)
+      → MatchOption o ((first : ℕ) → plain.IsPlaceFor roots s q wide first → ⊥) (λ r. plain.IsLeastPlace roots s q wide r)
+  least_plain None none = λ first p. none first (plain_place first p)
+  least_plain (Some r) h = record { is = place_plain r.first h.is; size = h.size; least = λ first p. h.least first (plain_place first p) }
+
+  plain_least : (o : Option Range) → MatchOption o ((first : ℕ) → plain.IsPlaceFor roots s q wide first → ⊥) (λ r. plain.IsLeastPlace roots s q wide r)
+      → MatchOption o ((first : ℕ) → IsPlaceFor nothing_given roots s q wide first → ⊥) (λ r. IsLeastPlace nothing_given roots s q wide r)
+  plain_least None none = λ first p. none first (place_plain first p)
+  plain_least (Some r) h = record { is = plain_place r.first h.is; size = h.size; least = λ first p. h.least first (place_plain first p) }
+
+-- where a root bus has no such line
+match_same : (b : Bool) (X Y Z : Type 0) → (b ≡ false → Y → Z) → MatchBool b X Y → MatchBool b X Z
+match_same true X Y Z f h = h
+match_same false X Y Z f h = f refl h
+
+no_root : (roots : List ℕ) (bus : ℕ) → is_root roots bus ≡ false → Contains roots bus → ⊥
+no_root roots bus off has = both_ways (is_root roots bus) off ((root_means roots bus).1 has)
+
+said_of_none : (space : Space) → is_said nothing_given space ≡ false
+said_of_none Io = refl
+said_of_none Memory = refl
+
+-- no list is said, so that the root bus alone counts
+root_alone : (b : Bool) (space : Space) → b && not (is_said nothing_given space) ≡ b
+root_alone b space = ap (λ x. b && not x) (said_of_none space) ∙ and-true b
+
+fit_behind_plain : (roots : List ℕ) (s : System) (q : plain.Region) (lines : List ℕ) → plain.IsRegionIn s q → IsFitBehind nothing_given roots s (Own q) lines → plain.IsFitBehind roots s q lines
+fit_behind_plain roots s q lines is h =
+    match_same (is_root roots q.slot.bus) (lines ≡ []) (IsFit nothing_given roots s q lines) (plain.IsFit roots s q lines)
+    (λ off fit. record { f = fit.f; listed = fit.listed; slot = fit.slot; place = fit.place; exact = least_plain roots s q is (no_root roots q.slot.bus off) (is_wide_part fit.f q.part) fit.place fit.exact; text = fit.text })
+    (subst (λ b. MatchBool b (lines ≡ []) (IsFit nothing_given roots s q lines)) (root_alone (is_root roots q.slot.bus) q.space) h)
+
+plain_fit_behind : (roots : List ℕ) (s : System) (q : plain.Region) (lines : List ℕ) → plain.IsRegionIn s q → plain.IsFitBehind roots s q lines → IsFitBehind nothing_given roots s (Own q) lines
+plain_fit_behind roots s q lines is h =
+    subst (λ b. MatchBool b (lines ≡ []) (IsFit nothing_given roots s q lines)) (sym (root_alone (is_root roots q.slot.bus) q.space))
+    (match_same (is_root roots q.slot.bus) (lines ≡ []) (plain.IsFit roots s q lines) (IsFit nothing_given roots s q lines)
+    (λ off fit. record { f = fit.f; listed = fit.listed; slot = fit.slot; place = fit.place; exact = plain_least roots s q is (no_root roots q.slot.bus off) (is_wide_part fit.f q.part) fit.place fit.exact; text = fit.text })
+    h)
+
+abbrev PlainAdvice : List ℕ → System → Slot → ℕ → Space → List ℕ → Type 0
+PlainAdvice roots s slot register space lines = (q : plain.Region) × plain.IsNamed q slot register space × plain.IsRegionIn s q × plain.IsFitBehind roots s q lines
+
+advice_plain : (roots : List ℕ) (s : System) (slot : Slot) (register : ℕ) (space : Space) (lines : List ℕ) → IsAdviceFor nothing_given roots s slot register space lines → PlainAdvice roots s slot register space lines
+advice_plain roots s slot register space lines (Own q, named, is, fit) = (q, named, is, fit_behind_plain roots s q lines is fit)
+advice_plain roots s slot register space lines (Legacy b sp, named, is, fit) = absurd (no_legacy_claims b sp is.1 is.2)
+
+plain_advice : (roots : List ℕ) (s : System) (slot : Slot) (register : ℕ) (space : Space) (lines : List ℕ) → PlainAdvice roots s slot register space lines → IsAdviceFor nothing_given roots s slot register space lines
+plain_advice roots s slot register space lines (q, named, is, fit) = (Own q, named, is, plain_fit_behind roots s q lines is fit)
+
+advice_same : (roots : List ℕ) (s : System) (fault : faults.Fault) (lines : List ℕ) → IsAdvice nothing_given roots s (Known fault) lines ↔ plain.IsAdvice roots s fault lines
+advice_same roots s fault lines = elim fault as (λ fault. IsKnownAdvice nothing_given roots s fault lines ↔ plain.IsAdvice roots s fault lines) [
+  | Unreached slot register space a bridge ↦ (advice_plain roots s slot register space lines, plain_advice roots s slot register space lines)
+  | Clash bus space a first fr second sr ↦ (advice_plain roots s second sr space lines, plain_advice roots s second sr space lines)
+  | Split space a first fr second sr ↦ (
+    λ h. subst (λ b. MatchBool b (IsAdviceFor nothing_given roots s second sr space lines) (lines ≡ [])) (said_of_none space) h,
+    λ h. subst (λ b. MatchBool b (IsAdviceFor nothing_given roots s second sr space lines) (lines ≡ [])) (sym (said_of_none space)) h,
+  )
+  | _ ↦ (λ h. h, λ h. h)
+]
+
+pub same_why : SameWhy
+same_why roots s fault lines = (
+  λ h. record {
+    evidence = h.evidence;
+    advice = h.advice;
+    told = (evidence_same roots s fault h.evidence).0 h.told;
+    fits = (advice_same roots s fault h.advice).0 h.fits;
+    text = h.text;
+  },
+  λ h. record {
+    evidence = h.evidence;
+    advice = h.advice;
+    told = (evidence_same roots s fault h.evidence).1 h.told;
+    fits = (advice_same roots s fault h.advice).1 h.fits;
+    text = h.text;
+  },
+)
+
+-- ---- lists
+
+reasoned_plain : (roots : List ℕ) (s : System) (fs : List faults.Fault) (lines : List ℕ) → AreReasoned nothing_given roots s (map Known fs) lines → plain_text.AreReasoned roots s fs lines
+reasoned_plain roots s [] lines h = h
+reasoned_plain roots s (f ∷ fs) lines (behind, more, why, rest, e) = (behind, more, (same_why roots s f behind).0 why, reasoned_plain roots s fs more rest, e)
+
+plain_reasoned : (roots : List ℕ) (s : System) (fs : List faults.Fault) (lines : List ℕ) → plain_text.AreReasoned roots s fs lines → AreReasoned nothing_given roots s (map Known fs) lines
+plain_reasoned roots s [] lines h = h
+plain_reasoned roots s (f ∷ fs) lines (behind, more, why, rest, e) = (behind, more, (same_why roots s f behind).1 why, plain_reasoned roots s fs more rest, e)
+
+yes_same : (fs : List faults.Fault) → yes_line (map Known fs) ≡ plain_text.yes_line fs
+yes_same [] = refl
+yes_same (f ∷ fs) = refl
+
+off_same : (s : System) (fs : List faults.Fault) → off_behind s (map Known fs) ≡ plain_text.off_behind s fs
+off_same s [] = refl
+off_same s (f ∷ fs) = refl
+
+text_same : (s : System) (fs : List faults.Fault) (lines : List ℕ) → (yes_line (map Known fs) ++ lines) ++ off_behind s (map Known fs) ≡ (plain_text.yes_line fs ++ lines) ++ plain_text.off_behind s fs
+text_same s fs lines = ap (λ y. (y ++ lines) ++ off_behind s (map Known fs)) (yes_same fs) ∙ ap (λ o. (plain_text.yes_line fs ++ lines) ++ o) (off_same s fs)
+
+pub same_text : SameText
+same_text roots s fs text = (
+  λ h. record { lines = h.lines; reasoned = reasoned_plain roots s fs h.lines h.reasoned; is = h.is ∙ text_same s fs h.lines },
+  λ h. record { lines = h.lines; reasoned = plain_reasoned roots s fs h.lines h.reasoned; is = h.is ∙ sym (text_same s fs h.lines) },
+)

@@ -1,0 +1,258 @@
+-- What stands behind a fault of judging, with what is given: the lines that pci_spec defines, where a bridge passes what
+-- its legacy part claims, too, and where accesses start as the host sends them.
+use Rattle.std.specs.Prelude.{◌≡◌, ◌⊎◌, ℕ, ◌+◌, ◌<◌, ◌≤◌, ◌%◌, Bool, false, ◌&&◌, not, IsTrue, if◌then◌else◌, List, [], ◌∷◌, ◌++◌, map, codes, Option, Some, MatchOption, MatchBool}
+use Rattle.std.specs.Option.{is_some}
+use Rattle.std.specs.List.{Contains, filter, flat_map, list_any}
+use Rattle.pci_spec.specs.Slot.{Slot, same_slot}
+use Rattle.pci_spec.specs.Registers.{BRIDGE_CONTROL}
+use Rattle.pci_spec.specs.Text.{hex_byte, slot_text}
+use Rattle.pci_spec.specs.System.{System, Function, Space, Io, Memory, Leads, is_space_on}
+use Rattle.pci_spec.specs.Bus.{is_root}
+use Rattle.pci_spec.specs.Fault.{Unreached, Clash, Split}
+use Rattle.pci_spec.specs.Fault as faults
+use Rattle.pci_spec.specs.Decoded.{Range, InRange, decoded_windows}
+use Rattle.pci_spec.specs.Line.{space_text}
+use Rattle.pci_spec.specs.Listing.{inner_line, range_text, on_text}
+use Rattle.pci_spec.specs.Why.{AreRuns, range_line, windows_text, fits_line, address_count, place_end, is_wide_part}
+use Rattle.pci_spec.specs.Why as plain
+use Rattle.given_spec.specs.Given.{Given, HostRange, ranges_said, is_for, starts}
+use Rattle.given_spec.specs.Claims.{Part, Claims, LegacyClaims, passes, IsPassedTo, register_of, may_share}
+use Rattle.given_spec.specs.Fault.{Fault, Known, Outside}
+
+-- ---- legacy parts
+
+-- whether the legacy part of a bridge decodes 10 bits of I/O addresses
+abbrev pub is_narrow : Given → Slot → Bool
+is_narrow given slot =
+    list_any (λ entry. same_slot entry.slot slot && not entry.is_wide) given.legacy
+
+abbrev pub has_legacy_part : Given → Slot → Bool
+has_legacy_part given slot = list_any (λ entry. same_slot entry.slot slot) given.legacy
+
+-- what the line of a bridge tells of its legacy part: the word by which it decodes I/O addresses
+abbrev pub legacy_words : Given → Slot → List (List ℕ)
+legacy_words given slot =
+    if is_narrow given slot then codes "vga" ∷ []
+    else if has_legacy_part given slot then codes "vga16" ∷ [] else []
+
+-- which addresses of a space a legacy part has, by 10 bits or by 16
+abbrev pub legacy_text : Bool → Space → List ℕ
+legacy_text is_narrow Memory = codes "vga mem 00000000000a0000-00000000000bffff 128K"
+legacy_text is_narrow Io =
+    if is_narrow then codes "vga io 000003b0-000003bb,000003c0-000003df of each 1K"
+    else codes "vga16 io 000003b0-000003bb,000003c0-000003df"
+
+-- ---- regions
+
+-- a region as a line tells it: one that address registers show, or the legacy part of a bridge in a space
+pub data Region : Type 0 where
+  Own : plain.Region → Region
+  Legacy : Function → Space → Region
+
+-- it claims the address
+abbrev pub Holds : Given → Region → ℕ → Type 0
+Holds given (Own q) a = InRange q.range a
+Holds given (Legacy b space) a = LegacyClaims given b space a
+
+-- it is one of the system's, and claims an address
+abbrev pub IsRegionIn : Given → System → Region → Type 0
+IsRegionIn given s (Own q) = plain.IsRegionIn s q
+IsRegionIn given s (Legacy b space) = Contains s b × (a : ℕ) × LegacyClaims given b space a
+
+-- the region that a slot and a register name, in a space
+abbrev pub IsNamed : Region → Slot → ℕ → Space → Type 0
+IsNamed (Own q) slot register space = plain.IsNamed q slot register space
+IsNamed (Legacy b of_space) slot register space =
+    (b.slot ≡ slot) × (BRIDGE_CONTROL ≡ register) × (of_space ≡ space)
+
+abbrev pub region_line : Given → List ℕ → Region → List ℕ
+region_line given word (Own q) = plain.region_line word q
+region_line given word (Legacy b space) =
+    inner_line (word ∷ slot_text b.slot ∷ hex_byte BRIDGE_CONTROL
+    ∷ legacy_text (is_narrow given b.slot) space ∷ [])
+
+-- ---- what the host sends
+
+-- the ranges of a list that are for a root bus, in their order
+abbrev pub ranges_for : ℕ → List HostRange → List Range
+ranges_for root ranges =
+    map (λ r. record { first = r.first; last = r.last }) (filter (λ r. is_for r.root root) ranges)
+
+abbrev pub ranges_words : Space → List Range → List (List ℕ)
+ranges_words space [] = codes "none" ∷ []
+ranges_words space (r ∷ rest) = map (range_text space) (r ∷ rest)
+
+-- the line of what the host sends of a space to a root bus
+abbrev pub host_line : Space → List Range → List ℕ
+host_line space ranges =
+    inner_line (codes "host" ∷ space_text space ∷ ranges_words space ranges)
+
+-- The lines behind a region outside the host's ranges: what it needs, and what is sent to the root above it.
+pub record IsBehindOutside (given : Given) (roots : List ℕ) (s : System) (q : plain.Region)
+    (lines : List ℕ) : Type 0 where
+  pub is : plain.IsRegionIn s q
+  pub root : ℕ
+  pub is_root : Contains roots root
+  pub bridges : List Function
+  pub leads : Leads s root bridges q.slot.bus
+  pub ranges : List HostRange
+  pub said : ranges_said given q.space ≡ Some ranges
+  pub text : lines
+      ≡ plain.region_line (codes "needs") q ++ host_line q.space (ranges_for root ranges)
+
+-- ---- what a bridge misses
+
+-- whether its Command enables the space, its windows, and its legacy part
+abbrev pub bridge_line : Given → Function → Space → Bool → List ℕ
+bridge_line given b space prefetchable =
+    inner_line (codes "bridge" ∷ slot_text b.slot ∷ on_text (is_space_on b space)
+    ∷ windows_text space prefetchable (decoded_windows b.image b.probe)
+    ∷ legacy_words given b.slot)
+
+-- an address of the region doesn't pass the bridge
+abbrev pub Misses : Given → plain.Region → Function → ℕ → Type 0
+Misses given q b a = InRange q.range a × (passes given q.space q.prefetchable a b ≡ false)
+
+-- The lines behind an unreached region: what it needs, the bridge, and each run of addresses that this doesn't pass.
+pub record IsBehindUnreached (given : Given) (s : System) (q : plain.Region) (bridge : Slot)
+    (lines : List ℕ) : Type 0 where
+  pub is : plain.IsRegionIn s q
+  pub b : Function
+  pub listed : Contains s b
+  pub named : b.slot ≡ bridge
+  pub missed : List Range
+  pub runs : AreRuns (Misses given q b) missed
+  pub text : lines
+      ≡ plain.region_line (codes "needs") q ++ (bridge_line given b q.space q.prefetchable
+      ++ flat_map (range_line (codes "missed") q.space) missed)
+
+-- ---- two regions
+
+-- The lines behind two regions that claim an address: both, and each run of addresses that are of the two.
+pub record IsBehindTwo (given : Given) (s : System) (space : Space) (p q : Region)
+    (lines : List ℕ) : Type 0 where
+  pub first : IsRegionIn given s p
+  pub second : IsRegionIn given s q
+  pub shared : List Range
+  pub some : shared ≡ [] → ⊥
+  pub runs : AreRuns (λ a. Holds given p a × Holds given q a) shared
+  pub text : lines
+      ≡ region_line given (codes "first") p ++ (region_line given (codes "second") q
+      ++ flat_map (range_line (codes "shared") space) shared)
+
+abbrev pub AreNamedTwo : Given → System → Space → Slot → ℕ → Slot → ℕ → List ℕ → Type 0
+AreNamedTwo given s space first first_register second second_register lines =
+    (p : Region) × (q : Region) × IsNamed p first first_register space
+    × IsNamed q second second_register space × IsBehindTwo given s space p q lines
+
+abbrev pub IsKnownEvidence : Given → System → faults.Fault → List ℕ → Type 0
+IsKnownEvidence given s (Unreached slot register space address bridge) lines =
+    (q : plain.Region) × plain.IsNamed q slot register space
+    × IsBehindUnreached given s q bridge lines
+IsKnownEvidence given s (Clash bus space address first first_register second second_register)
+    lines =
+    AreNamedTwo given s space first first_register second second_register lines
+IsKnownEvidence given s (Split space address first first_register second second_register) lines =
+    AreNamedTwo given s space first first_register second second_register lines
+IsKnownEvidence given s fault lines = lines ≡ []
+
+-- the lines that tell with what ranges a fault is there; of others than those of judging none
+abbrev pub IsEvidence : Given → List ℕ → System → Fault → List ℕ → Type 0
+IsEvidence given roots s (Known fault) lines = IsKnownEvidence given s fault lines
+IsEvidence given roots s (Outside slot register space address) lines =
+    (q : plain.Region) × plain.IsNamed q slot register space
+    × IsBehindOutside given roots s q lines
+
+-- ---- where a region would fit
+
+-- a region that can clash with the region at the address: one of its bus, or where that is a root bus one of another to
+-- which accesses to it start, too
+abbrev pub IsBeside : Given → List ℕ → plain.Region → ℕ → Function → Type 0
+IsBeside given roots q a f =
+    (f.slot.bus ≡ q.slot.bus) ⊎ (Contains roots q.slot.bus × Contains roots f.slot.bus
+    × IsTrue (starts given q.space f.slot.bus a))
+
+-- another one claims the address, and may not share it
+pub record IsTaken (given : Given) (roots : List ℕ) (s : System) (q : plain.Region)
+    (a : ℕ) : Type 0 where
+  pub f : Function
+  pub part : Part
+  pub listed : Contains s f
+  pub beside : IsBeside given roots q a f
+  pub other : (f.slot ≡ q.slot) × (register_of f part ≡ q.register) → ⊥
+  pub apart : may_share q.slot q.register f.slot (register_of f part) ≡ false
+  pub claims : Claims given f part q.space a
+
+-- the region can stand at an address: accesses to each of its addresses start on the root above, each bridge on the way
+-- passes it, and no other region claims one that can clash with it
+pub record IsPlaceFor (given : Given) (roots : List ℕ) (s : System) (q : plain.Region)
+    (wide : Bool) (first : ℕ) : Type 0 where
+  pub aligned : first % address_count q.range ≡ 0
+  pub fits : first + address_count q.range ≤ place_end q.space wide
+  pub reached : (a : ℕ) → first ≤ a → a < first + address_count q.range
+      → IsPassedTo given roots s q.space q.prefetchable a q.slot.bus
+  pub free : (a : ℕ) → first ≤ a → a < first + address_count q.range
+      → IsTaken given roots s q a → ⊥
+
+-- the least such place, with its last address too
+pub record IsLeastPlace (given : Given) (roots : List ℕ) (s : System) (q : plain.Region)
+    (wide : Bool) (r : Range) : Type 0 where
+  pub is : IsPlaceFor given roots s q wide r.first
+  pub size : r.last + 1 ≡ r.first + address_count q.range
+  pub least : (first : ℕ) → IsPlaceFor given roots s q wide first → r.first ≤ first
+
+-- the line that tells where a region would fit, if it would
+pub record IsFit (given : Given) (roots : List ℕ) (s : System) (q : plain.Region)
+    (lines : List ℕ) : Type 0 where
+  pub f : Function
+  pub listed : Contains s f
+  pub slot : f.slot ≡ q.slot
+  pub place : Option Range
+  pub exact : MatchOption place
+      ((first : ℕ) → IsPlaceFor given roots s q (is_wide_part f q.part) first → ⊥)
+      (λ r. IsLeastPlace given roots s q (is_wide_part f q.part) r)
+  pub text : lines ≡ fits_line q.space place
+
+-- whether a list is said of a space
+abbrev pub is_said : Given → Space → Bool
+is_said given space = is_some (ranges_said given space)
+
+-- on a root bus to which all of the space is sent there is no such line, and a legacy part can't be moved
+abbrev pub IsFitBehind : Given → List ℕ → System → Region → List ℕ → Type 0
+IsFitBehind given roots s (Own q) lines =
+    MatchBool (is_root roots q.slot.bus && not (is_said given q.space)) (lines ≡ [])
+    (IsFit given roots s q lines)
+IsFitBehind given roots s (Legacy b space) lines = lines ≡ []
+
+abbrev pub IsAdviceFor : Given → List ℕ → System → Slot → ℕ → Space → List ℕ → Type 0
+IsAdviceFor given roots s slot register space lines =
+    (q : Region) × IsNamed q slot register space × IsRegionIn given s q
+    × IsFitBehind given roots s q lines
+
+abbrev pub IsKnownAdvice : Given → List ℕ → System → faults.Fault → List ℕ → Type 0
+IsKnownAdvice given roots s (Unreached slot register space address bridge) lines =
+    IsAdviceFor given roots s slot register space lines
+IsKnownAdvice given roots s (Clash bus space address first first_register second second_register)
+    lines =
+    IsAdviceFor given roots s second second_register space lines
+-- the second region stands on a root bus
+IsKnownAdvice given roots s (Split space address first first_register second second_register)
+    lines =
+    MatchBool (is_said given space)
+    (IsAdviceFor given roots s second second_register space lines) (lines ≡ [])
+IsKnownAdvice given roots s fault lines = lines ≡ []
+
+-- the line of the region that isn't sent or reached, or the second of two
+abbrev pub IsAdvice : Given → List ℕ → System → Fault → List ℕ → Type 0
+IsAdvice given roots s (Known fault) lines = IsKnownAdvice given roots s fault lines
+IsAdvice given roots s (Outside slot register space address) lines =
+    IsAdviceFor given roots s slot register space lines
+
+-- all lines behind a fault
+pub record IsWhy (given : Given) (roots : List ℕ) (s : System) (fault : Fault)
+    (lines : List ℕ) : Type 0 where
+  pub evidence : List ℕ
+  pub advice : List ℕ
+  pub told : IsEvidence given roots s fault evidence
+  pub fits : IsAdvice given roots s fault advice
+  pub text : lines ≡ evidence ++ advice
