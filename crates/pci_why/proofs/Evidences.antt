@@ -64,7 +64,7 @@ maps_of : (f : Function) (part : system.Part) (space : Space) (q : Region) → I
 maps_of f part space q is = ((is.claims q.first).0 (omega arith, is.some)).maps
 
 -- its line is the definitions'
-line_same : (word : List ℕ) (f : Function) (part : system.Part) (space : Space) (q : Region) → IsRegionOf f part space q → line_of word space q ≡ region_line word (told q part space)
+pub line_same : (word : List ℕ) (f : Function) (part : system.Part) (space : Space) (q : Region) → IsRegionOf f part space q → line_of word space q ≡ region_line word (told q part space)
 line_same word f part space q is =
     ap (λ words. inner_line (word ∷ place_words q.slot q.reg words space (range_of q)))
     (named_words f part space q.part q.reg q.prefetch is.named is.register is.prefetch (maps_of f part space q is))
@@ -82,14 +82,14 @@ region_in s f part space q listed is = record {
 
 -- ---- a bridge
 
-on_the_way : (s : System) (from : ℕ) (bridges : List Function) (to : ℕ) (b : Function) → Leads s from bridges to → Contains bridges b → Contains s b × (is_bridge b ≡ true)
+pub on_the_way : (s : System) (from : ℕ) (bridges : List Function) (to : ℕ) (b : Function) → Leads s from bridges to → Contains bridges b → Contains s b × (is_bridge b ≡ true)
 on_the_way s from [] to b leads has = absurd (in_nil b has)
 on_the_way s from (c ∷ bridges) to b (listed, is, at, more) has = elim (in_cons_cases c bridges b has) [
   | inl same ↦ (subst (Contains s) same listed, subst (λ (x : Function). is_bridge x ≡ true) same is)
   | inr later ↦ on_the_way s (secondary_bus c.image) bridges to b more later
 ]
 
-bridge_in : (b : Function) → is_bridge b ≡ true → (record_of b).bridge ≡ Some (bridge_of b.image b.probe)
+pub bridge_in : (b : Function) → is_bridge b ≡ true → (record_of b).bridge ≡ Some (bridge_of b.image b.probe)
 bridge_in b is = rw is refl
 
 -- the line of a bridge, by whether its space is on

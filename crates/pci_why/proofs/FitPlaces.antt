@@ -14,7 +14,7 @@ use Rattle.pci_why.specs.RegionLines.{range_of}
 use Rattle.pci_why.specs.Places.{IsSame, IsClear, IsFreeAt, IsLeastFree}
 use Rattle.pci_why.specs.Fits.{told}
 
-address_below_end : (space : Space) (wide : Bool) (a : ℕ) → a < place_end space wide → IsAddress space a
+pub address_below_end : (space : Space) (wide : Bool) (a : ℕ) → a < place_end space wide → IsAddress space a
 address_below_end Io wide a low = omega (arith, low)
 address_below_end Memory false a low = omega (arith, low)
 address_below_end Memory true a low = low

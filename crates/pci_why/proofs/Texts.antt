@@ -1,6 +1,13 @@
 -- Texts that grow at their end.
-use Rattle.std.proofs.Common.{◌≡◌, ℕ, List, [], ◌∷◌, ◌++◌, ap, ◌∙◌}
+use Rattle.std.proofs.Common.{◌≡◌, ℕ, List, [], ◌∷◌, ◌++◌, ap, ◌∙◌, Bool, codes}
 use Rattle.std.proofs.lemmas.List.{append_assoc}
+use Rattle.pci_spec.specs.Slot.{Slot}
+use Rattle.pci_spec.specs.Text.{slot_text}
+use Rattle.pci_spec.specs.System.{Space}
+use Rattle.pci_spec.specs.Decoded.{DecodedWindows}
+use Rattle.pci_spec.specs.Listing.{on_text}
+use Rattle.pci_spec.specs.Why.{windows_text}
+use Rattle.pci_why.specs.Bridges.{bridge_start}
 
 -- what was appended, to a text and of a text that are told in other words
 pub appended : (new old more start whole : List ℕ) → new ≡ old ++ more → old ≡ start → more ≡ whole → new ≡ start ++ whole
@@ -11,5 +18,16 @@ pub three_words : (start a b c d e f last one two three rest : List ℕ) → a �
     → last ≡ f ++ rest → last ≡ start ++ ((32 ∷ one) ++ ((32 ∷ two) ++ ((32 ∷ three) ++ rest)))
 three_words start a b c d e f last one two three rest at bt ct dt et ft gt = gt ∙ rw (ft, et, dt, ct, bt, at) (simp append_assoc)
 
+-- the same where nothing follows
+pub three_last : (start a b c d e last one two three : List ℕ) → a ≡ start ++ 32 ∷ [] → b ≡ a ++ one → c ≡ b ++ 32 ∷ [] → d ≡ c ++ two → e ≡ d ++ 32 ∷ [] → last ≡ e ++ three
+    → last ≡ start ++ ((32 ∷ one) ++ ((32 ∷ two) ++ (32 ∷ three)))
+three_last start a b c d e last one two three at bt ct dt et gt = gt ∙ rw (et, dt, ct, bt, at) (simp append_assoc)
+
 pub behind_word : (start first last word rest : List ℕ) → first ≡ start ++ word → last ≡ first ++ rest → last ≡ start ++ (word ++ rest)
 behind_word start first last word rest at more = more ∙ ap (λ t. t ++ rest) at ∙ append_assoc start word rest
+
+-- the line of a bridge, by what stands behind it
+pub line_ended : (start told last : List ℕ) (slot : Slot) (on : Bool) (space : Space) (prefetch : Bool) (windows : DecodedWindows) (rest : List ℕ)
+    → told ≡ start ++ bridge_start slot on space prefetch windows → last ≡ told ++ rest
+    → last ≡ start ++ (codes "  bridge" ++ ((32 ∷ slot_text slot) ++ ((32 ∷ on_text on) ++ ((32 ∷ windows_text space prefetch windows) ++ rest))))
+line_ended start told last slot on space prefetch windows rest begun more = more ∙ rw begun (simp append_assoc)

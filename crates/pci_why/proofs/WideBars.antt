@@ -99,6 +99,11 @@ from_wide r f (system.Bar n) space q e is wide =
 from_wide r f system.Rom space q e is wide = cc
 from_wide r f (system.Window kind) space q e is wide = cc
 
+-- so far as a record's region is of 64 bits, its part is
+pub wide_is : (r : Record) (f : Function) (part : system.Part) (space : Space) (q : Region) (wide : Bool) → record_value r ≡ record_of f → IsRegionOf f part space q → IsTrue wide ↔ IsWideIn r q
+    → wide ≡ is_wide_part f part
+wide_is r f part space q wide e is exact = same_truth wide (is_wide_part f part) (λ w. to_wide r f part space q e is (exact.0 w)) (λ w. exact.1 (from_wide r f part space q e is w))
+
 -- ---- lines
 
 nothing : (old : List ℕ) → old ≡ old ++ []
@@ -124,13 +129,12 @@ root_told roots s slot reg space q old found root =
 pub fit_told : (t : Tree) (s : System) (rs : List Record) (r : Record) (slot : Slot) (reg : ℕ) (space : Space) (q : Region) (wide : Bool) (fit : Option Range) (old new : List ℕ)
     → t.records ≡ map record_value rs → Has s rs → RiseBySlot rs → Contains rs r → r.slot ≡ slot → IsFoundIn s slot reg space q → (Contains t.roots slot.bus → ⊥) → IsTrue wide ↔ IsWideIn r q
     → IsFitFor t space q wide fit → new ≡ old ++ fits_line space (option_map decoded_range_of fit) → Appends (IsAdviceFor t.roots s slot reg space) old new
-fit_told t s rs r slot reg space q wide fit old new records is rise has at found root wide_is fits text =
+fit_told t s rs r slot reg space q wide fit old new records is rise has at found root exact fits text =
     let v = told q found.part space in
     let own = function_for s rs r is has in
     let same : own.0 ≡ found.f = one_function s rs own.0 found.f is rise own.1 found.listed (sym (same_slot_of r own.0 own.2) ∙ at ∙ sym found.slot_is ∙ found.is.slot) in
     let stands : record_value r ≡ record_of found.f = own.2 ∙ ap record_of same in
-    let wide_same : wide ≡ is_wide_part found.f found.part = same_truth wide (is_wide_part found.f found.part) (λ w. to_wide r found.f found.part space q stands found.is (wide_is.0 w))
-    (λ w. wide_is.1 (from_wide r found.f found.part space q stands found.is w)) in
+    let wide_same : wide ≡ is_wide_part found.f found.part = wide_is r found.f found.part space q wide stands found.is exact in
     let no_root : is_root t.roots q.slot.bus ≡ false = elim (cases_Bool (is_root t.roots q.slot.bus)) [
       | inl on ↦ absurd (root (subst (λ (x : Slot). Contains t.roots x.bus) found.slot_is ((root_means t.roots q.slot.bus).0 on)))
       | inr off ↦ off

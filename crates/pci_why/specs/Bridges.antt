@@ -1,8 +1,10 @@
 -- What is told of a bridge, by its record.
 use Rattle.std.specs.Prelude.{◌≡◌, ℕ, ◌↔◌, ◌++◌, ◌∷◌, Bool, IsTrue, List, [], map, codes, Option, None, Some}
 use Rattle.std.specs.List.{flat_map}
+use Rattle.pci_spec.specs.Slot.{Slot}
 use Rattle.pci_spec.specs.Text.{slot_text}
 use Rattle.pci_spec.specs.System.{Space}
+use Rattle.pci_spec.specs.Decoded.{DecodedWindows}
 use Rattle.pci_spec.specs.Decoded as decoded
 use Rattle.pci_spec.specs.Listing.{inner_line, on_text}
 use Rattle.pci_spec.specs.Why.{windows_text, range_line}
@@ -15,6 +17,12 @@ use Rattle.pci_tree.specs.declared.region.Region.{Region}
 use Rattle.pci_tree.specs.Passes.{record_passes}
 use Rattle.pci_tree.specs.Ranges.{Covers}
 use Rattle.pci_why.specs.Missed.{IsOutside}
+
+-- what the line of a bridge tells before its end
+abbrev pub bridge_start : Slot → Bool → Space → Bool → DecodedWindows → List ℕ
+bridge_start slot on space prefetch windows =
+    codes "  bridge" ++ ((32 ∷ slot_text slot) ++ ((32 ∷ on_text on)
+    ++ (32 ∷ windows_text space prefetch windows)))
 
 abbrev pub bridge_text : decoded.Record → Space → Bool → Option decoded.Bridge → List ℕ
 bridge_text r space prefetch None = []

@@ -1,20 +1,21 @@
 //! The line of a bridge, and those of the addresses that it misses.
-ghost use Rattle.std.specs.Prelude.{◌≡◌, ◌≤◌, ◌++◌, map, codes, OnOk};
+ghost use Rattle.std.specs.Prelude.{◌≡◌, ◌≤◌, ◌++◌, map, OnOk};
 ghost use Rattle.std.specs.List.{All, flat_map};
 ghost use Rattle.std.specs.String.{string_bytes};
 ghost use Rattle.pci_spec.specs.Listing.{on_text};
 ghost use Rattle.pci_spec.specs.Why.{windows_text, range_line};
 ghost use Rattle.pci_base.specs.Ranges.{decoded_range_of};
-ghost use Rattle.pci_base.specs.Space.{space_of};
+ghost use Rattle.pci_base.specs.Space.{space_of, is_on};
 ghost use Rattle.pci_image.specs.Windows.{decoded_windows_of};
 ghost use Rattle.pci_function.specs.Values.{record_value};
 ghost use Rattle.pci_tree.specs.Reaches.{HasSpans};
-ghost use Rattle.pci_why.specs.Bridges.{line_of_bridge, AreMissedTold};
+ghost use Rattle.pci_why.specs.Bridges.{bridge_start, line_of_bridge, AreMissedTold};
 
 use super::missed::outside;
 use super::region_line::push_range_line;
 use pci_base::memory::OutOfMemory;
 use pci_base::range::Range;
+use pci_base::slot::Slot;
 use pci_base::space::Space;
 use pci_function::record::Record;
 use pci_image::window::Windows;
@@ -59,8 +60,31 @@ fn on_name(on: bool) -> &'static str
     if on { "on" } else { "off" }
 }
 
-/// Appends the line of a bridge, as `bridge 00:01.0 off mem 00000000e0000000-00000000e00fffff`: whether its Command
-/// enables the space, and its windows for a region. Of another function nothing.
+/// Appends what the line of a bridge tells before its end, as
+/// `bridge 00:01.0 off mem 00000000e0000000-00000000e00fffff`: whether its Command enables the space, and its windows
+/// for a region.
+pub fn push_bridge<A: Allocator>(
+    text: &mut String<A>,
+    slot: Slot,
+    command: u16,
+    windows: &Windows,
+    space: Space,
+    prefetch: bool,
+) -> Result<(), AllocError>
+    ensures { OnOk result (string_bytes text.new ≡ string_bytes text.old ++ bridge_start slot
+        (is_on command (space_of space)) (space_of space) prefetch (decoded_windows_of windows.now)) }
+{
+    let on = on_name(space.is_on(command));
+    text.push_str("  bridge")?;
+    text.push_str(" ")?;
+    push_slot(text, slot)?;
+    text.push_str(" ")?;
+    text.push_str(on)?;
+    text.push_str(" ")?;
+    push_windows(text, windows, space, prefetch)
+}
+
+/// Appends the line of a bridge. Of another function nothing.
 pub fn push_bridge_line<A: Allocator>(
     text: &mut String<A>,
     function: &Record,
@@ -73,29 +97,30 @@ pub fn push_bridge_line<A: Allocator>(
     let Some(bridge) = function.bridge else {
         return Ok(());
     };
-    let on = on_name(space.is_on(function.command));
-    text.push_str("  bridge")?;
-    text.push_str(" ")?;
-    push_slot(text, function.slot)?;
-    text.push_str(" ")?;
-    text.push_str(on)?;
-    text.push_str(" ")?;
-    push_windows(text, &bridge.windows, space, prefetch)?;
+    push_bridge(
+        text,
+        function.slot,
+        function.command,
+        &bridge.windows,
+        space,
+        prefetch,
+    )?;
     end_line(text)
 }
 
-/// Appends a line for each of some ranges that are missed.
-fn push_ranges<A: Allocator>(
+/// Appends a line for each of some ranges, behind a word.
+pub fn push_ranges<A: Allocator>(
     text: &mut String<A>,
+    word: &'static str,
     space: Space,
     ranges: &[Range],
 ) -> Result<(), AllocError>
     requires { All (λ r. r.first ≤ r.last) ranges.now }
     ensures { OnOk result (string_bytes text.new ≡ string_bytes text.old ++ flat_map
-        (range_line (codes "missed") (space_of space)) (map decoded_range_of ranges.now)) }
+        (range_line word.now (space_of space)) (map decoded_range_of ranges.now)) }
 {
     for range in ranges {
-        push_range_line(text, "missed", space, *range)?;
+        push_range_line(text, word, space, *range)?;
     }
     Ok(())
 }
@@ -118,6 +143,6 @@ pub fn push_missed<A: Allocator + Copy, B: Allocator>(
     };
     let passed = passed_by(alloc, function, space.kind(region.prefetch))?;
     let missed = outside(alloc, range, passed.as_slice())?;
-    push_ranges(text, space, missed.as_slice())?;
+    push_ranges(text, "missed", space, missed.as_slice())?;
     Ok(())
 }

@@ -41,7 +41,7 @@ fn has_wide_bar(bars: &[Bar], reg: u8) -> bool
 }
 
 /// Whether a region of a function is a BAR of 64 bits.
-fn is_wide(function: &Record, region: &Region) -> bool
+pub fn is_wide(function: &Record, region: &Region) -> bool
     ensures { IsTrue result ↔ IsWideIn function.now region.now }
 {
     match region.part {
@@ -51,7 +51,7 @@ fn is_wide(function: &Record, region: &Region) -> bool
 }
 
 /// The number below which a region has to stand.
-fn end_of_places(space: Space, wide: bool) -> u128
+pub fn end_of_places(space: Space, wide: bool) -> u128
     ensures number { result ≡ place_end (space_of space) wide }
     ensures small { result ≤ 2 ^ 64 }
 {
@@ -94,7 +94,7 @@ fn fit_of<A: Allocator + Copy>(
 }
 
 /// Appends the line of a place, as `fits 00000000e0010000-00000000e001ffff 64K`, or `fits none`.
-fn push_fit<A: Allocator>(
+pub fn push_fit<A: Allocator>(
     text: &mut String<A>,
     space: Space,
     fit: Option<Range>,
