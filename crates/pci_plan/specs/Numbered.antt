@@ -1,12 +1,10 @@
 -- What functions hold with everything at its place, before a dump of it is made.
-use Rattle.std.specs.Prelude.{◌≡◌, ◌≢◌, ℕ, List, take, IfSome}
+use Rattle.std.specs.Prelude.{◌≡◌, ℕ, List, take}
 use Rattle.std.specs.List.{AllZip}
 use Rattle.pci_spec.specs.System.{System, Function}
-use Rattle.pci_spec.specs.Order.{phase_of}
 use Rattle.plan_spec.specs.Plan.{Pools}
 use Rattle.plan_spec.specs.Planning.Numbers.{IsPlannedFunction}
 use Rattle.pci_tree.specs.Admission.{Admission}
-use Rattle.pci_tree.specs.Survey.{Surveyed, IsSurveyOf}
 use Rattle.pci_place.specs.Above.{system_in}
 
 -- the first 64 bytes of an image with which a function has everything at its place
@@ -19,11 +17,3 @@ pub record IsNewHeader (roots : List ℕ) (s : System) (pools : Pools) (f : Func
 abbrev pub AreNewHeaders : Admission → Pools → List (List ℕ) → Type 0
 AreNewHeaders a pools headers =
     AllZip (IsNewHeader a.roots (system_in a) pools) (system_in a) headers
-
--- a survey took the functions of a system with everything at its place
-pub record IsNewSurvey (a : Admission) (pools : Pools) (v : Surveyed) : Type 0 where
-  pub system : System
-  pub planned : AllZip (IsPlannedFunction a.roots (system_in a) pools) (system_in a) system
-  pub taken : IsSurveyOf v system
-  pub roots : v.roots ≡ a.roots
-  pub no_30 : IfSome v.fault (λ e. phase_of e ≢ 0)

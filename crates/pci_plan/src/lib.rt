@@ -1,8 +1,8 @@
 //! A plan: everything at its place, and register writes that lead there and may stop anywhere.
 //!
 //! Where BARs, ROMs and windows stand is found by `pci_place`. What each function's registers hold then (`numbers`) is
-//! kept as its header, and surveyed function by function (`numbered`), so that the whole is judged before there is a dump
-//! of it. The planned dump is the start with these headers (`planned`), and the writes are read off the two: everything
+//! kept as its header (`numbered`). That what was planned is sound is a law, so it isn't judged again. The planned dump is
+//! the start with these headers (`planned`), and the writes are read off the two: everything
 //! that is on is closed from the highest slot down, then registers are written, then functions are opened from the lowest
 //! slot up (`writes`). So each beginning of the writes leaves a sound system, if the start is one; from another start each
 //! does that holds all closing writes.

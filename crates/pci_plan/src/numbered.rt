@@ -1,4 +1,4 @@
-//! What all functions hold when everything is placed: their headers, function by function, and a survey of them.
+//! What all functions hold when everything is placed: their headers, function by function.
 ghost use Rattle.std.specs.Prelude.{◌≡◌, ◌<◌, Some, IfOk, take, drop, ◌++◌, length};
 ghost use Rattle.std.specs.List.{slice_get};
 ghost use Rattle.pci_spec.specs.System.{Function as FunctionValue};
@@ -9,29 +9,19 @@ ghost use Rattle.pci_place.specs.Pools.{pools_value};
 ghost use Rattle.pci_place.specs.Above.{system_in};
 ghost use Rattle.pci_place.specs.Needs.{AreAllNeeds};
 ghost use Rattle.pci_place.specs.Places.{HasPlaces};
-ghost use Rattle.pci_plan.specs.Numbered.{AreNewHeaders, IsNewSurvey};
+ghost use Rattle.pci_plan.specs.Numbered.{AreNewHeaders};
 
 use super::numbers::Filling;
 use super::planned::filled;
 use pci_base::image::{IMAGE_LEN, Image};
 use pci_base::memory::OutOfMemory;
 use pci_base::window_kind::ByKind;
-use pci_dump::block::Block;
 use pci_image::register::HEADER_LEN;
 use pci_place::need::Needs;
 use pci_place::place::Places;
 use pci_place::pools::Pools;
 use pci_tree::admitted::Admitted;
-use pci_tree::survey::Survey;
 use std::alloc::Allocator;
-
-/// All functions with their new numbers, of which no image is kept.
-#[derive(Drop)]
-pub struct Numbered<A: Allocator> {
-    /// The first 64 bytes of each, in slot order: no others change.
-    pub headers: Vec<[u8; HEADER_LEN], A>,
-    pub survey: Survey<A>,
-}
 
 /// The header of an image (PCI 3.0, 6.1).
 fn header_of(image: &Image) -> [u8; HEADER_LEN]
@@ -88,14 +78,15 @@ fn filled_image<A: Allocator>(
     filled(&filling)
 }
 
-/// The functions of an admitted dump with their new numbers. A function's image is let go before the next is made.
-pub fn number_all<A: Allocator + Copy, B: Allocator>(
+/// The first 64 bytes of each function of an admitted dump with its new numbers, in slot order: no others change. A
+/// function's image is let go before the next is made.
+pub fn number_all<A: Allocator, B: Allocator>(
     alloc: A,
     admitted: &Admitted<B>,
     pools: &Pools,
     needs: &ByKind<Needs>,
     places: &[Places],
-) -> Result<Numbered<A>, OutOfMemory>
+) -> Result<Vec<[u8; HEADER_LEN], A>, OutOfMemory>
     requires plannable { CanBePlanned admitted.now.roots (system_in admitted.now)
         (pools_value pools.now) }
     requires needs { AreAllNeeds admitted.now.roots (system_in admitted.now)
@@ -104,27 +95,15 @@ pub fn number_all<A: Allocator + Copy, B: Allocator>(
     requires places { (c : KindValue)
         → HasPlaces admitted.now.roots (system_in admitted.now)
         (pools_value pools.now) c places.now }
-    ensures headers { IfOk result
-        (λ n. AreNewHeaders admitted.now (pools_value pools.now) n.headers.items) }
-    ensures survey { IfOk result (λ n. IsNewSurvey admitted.now (pools_value pools.now) n.survey) }
+    ensures { IfOk result
+        (λ headers. AreNewHeaders admitted.now (pools_value pools.now) headers.items) }
 {
-    let outline = admitted.outline();
-    let blocks = admitted.dump().blocks();
-    let probe = admitted.probe().blocks();
-    let Ok(mut headers) = Vec::with_capacity(alloc, blocks.len()) else {
+    let Ok(mut headers) = Vec::with_capacity(alloc, places.len()) else {
         return Err(OutOfMemory);
     };
-    let mut survey = Survey::with(alloc, outline.roots());
-    for i in 0..blocks.len() {
+    for i in 0..places.len() {
         let image = filled_image(admitted, pools, needs, places, i);
         headers.push(header_of(&image))?;
-        let start = &blocks[i];
-        let block = Block {
-            slot: start.slot,
-            title: None,
-            image,
-        };
-        survey.add(&block, &probe[i])?;
     }
-    Ok(Numbered { headers, survey })
+    Ok(headers)
 }

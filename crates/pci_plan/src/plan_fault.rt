@@ -17,7 +17,7 @@ pub enum PlanFault {
     NoWindow(Slot),
     /// 72: what is of the class doesn't fit its pool.
     NoRoom(WindowKind),
-    /// 73: the plan itself is judged, and refused. It never comes.
+    /// 73: the plan itself isn't sound. It never comes, as a law says that each is.
     NotAccepted(Fault),
 }
 

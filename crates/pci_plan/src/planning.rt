@@ -1,12 +1,10 @@
 //! Planning: places for everything, and the writes that lead there.
-ghost use Rattle.std.specs.Prelude.{◌≡◌, None, ◌↔◌, ◌⊎◌, IfOk, IsTrue, IsFalse, IfErr, OnOk, MatchOption, length, count_by, Err};
+ghost use Rattle.std.specs.Prelude.{◌≡◌, ◌↔◌, ◌⊎◌, IfOk, IsTrue, IsFalse, OnOk, MatchOption, length, count_by, Err};
 ghost use Rattle.pci_spec.specs.Slot.{Slot as SlotValue};
 ghost use Rattle.std.specs.List.{All};
 ghost use Rattle.std.specs.List.Sorted.{IsStrictlyIncreasing};
 ghost use Rattle.pci_spec.specs.Decoded.{IsDecodable};
 ghost use Rattle.pci_tree.specs.Admission.{IsAdmitted};
-ghost use Rattle.pci_tree.specs.Survey.{IsOutlineOf};
-ghost use Rattle.pci_tree.specs.Refusals.{IsRefusalOf};
 ghost use Rattle.pci_tree.specs.Roots.{buses_of};
 ghost use Rattle.pci_spec.specs.Sound.{IsSound};
 ghost use Rattle.pci_spec.specs.Window.{WindowKind as KindValue};
@@ -18,10 +16,10 @@ ghost use Rattle.pci_place.specs.Above.{AreAboves, system_in};
 ghost use Rattle.pci_place.specs.Needs.{AreAllNeeds};
 ghost use Rattle.pci_place.specs.Places.{HasPlaces};
 ghost use Rattle.pci_plan.specs.Writes.{is_image_on};
-ghost use Rattle.pci_plan.specs.Numbered.{AreNewHeaders, IsNewSurvey};
+ghost use Rattle.pci_plan.specs.Numbered.{AreNewHeaders};
 ghost use Rattle.pci_plan.specs.Plans.{IsPlanIn, IsFaultOf};
 
-use super::numbered::{Numbered, number_all};
+use super::numbered::number_all;
 use super::plan::Plan;
 use super::plan_fault::PlanFault;
 use super::planned::planned_dump;
@@ -30,9 +28,7 @@ use pci_base::memory::{OutOfMemory, Refused};
 use pci_base::slot::BUSES;
 use pci_base::window_kind::{ByKind, WindowKind};
 use pci_check::check::check;
-use pci_check::judge::judge;
 use pci_check::verdict::Verdict;
-use pci_function::fault::Fault;
 use pci_image::register::HEADER_LEN;
 use pci_place::above::{Above, aboves};
 use pci_place::lacking::first_lacking;
@@ -41,9 +37,7 @@ use pci_place::place::{Places, place_class};
 use pci_place::pools::Pools;
 use pci_place::room::has_room;
 use pci_tree::admitted::Admitted;
-use pci_tree::outline::Outline;
 use pci_tree::roots::Roots;
-use pci_tree::survey::Survey;
 use std::alloc::Allocator;
 
 /// Puts into `needs` what the buses need of each class.
@@ -178,53 +172,6 @@ fn roots_of<A: Allocator>(admitted: &Admitted<A>) -> Roots
     admitted.outline().roots()
 }
 
-/// Puts the outline of a survey into a place. What makes it moves its table of 4 KB several times, in a frame that is let go
-/// before the outline is judged.
-#[inline(never)]
-fn outline_into<A: Allocator>(
-    survey: Survey<A>,
-    place: &mut Option<Outline<A>>,
-) -> Result<(), Refused<Fault>>
-    ensures outline { OnOk result (MatchOption place.new ⊥ (IsOutlineOf survey)) }
-    ensures refused { IfErr result (IsRefusalOf survey) }
-{
-    match survey.finish() {
-        Ok(outline) => {
-            *place = Some(outline);
-            Ok(())
-        }
-        Err(why) => Err(why),
-    }
-}
-
-/// The first fault of the planned system, which has none.
-#[inline(never)]
-fn judged<A: Allocator + Copy>(
-    alloc: A,
-    admitted: &Admitted<A>,
-    pools: &Pools,
-    survey: Survey<A>,
-) -> Result<Option<Fault>, OutOfMemory>
-    requires plannable { CanBePlanned admitted.now.roots (system_in admitted.now)
-        (pools_value pools.now) }
-    requires survey { IsNewSurvey admitted.now (pools_value pools.now) survey }
-    ensures { IfOk result (λ o. o ≡ None) }
-{
-    // What was planned, and from what: the contract speaks of these alone.
-    let _roots = roots_of(admitted);
-    let _last = pools.pref.last;
-    let mut place = None;
-    match outline_into(survey, &mut place) {
-        Ok(()) => {}
-        Err(Refused::Fault(fault)) => return Ok(Some(fault)),
-        Err(Refused::Memory) => return Err(OutOfMemory),
-    }
-    match &place {
-        Some(outline) => judge(alloc, outline),
-        None => unreachable!(),
-    }
-}
-
 /// From how many writes on a stop leaves a sound system.
 fn safe_from<A: Allocator + Copy>(alloc: A, admitted: &Admitted<A>) -> Result<usize, OutOfMemory>
     ensures { IfOk result (λ n. (IsSound admitted.now.roots (system_in admitted.now) × (n ≡ 0))
@@ -237,45 +184,43 @@ fn safe_from<A: Allocator + Copy>(alloc: A, admitted: &Admitted<A>) -> Result<us
     }
 }
 
-/// All functions with everything at its place, by what the buses need.
+/// The headers of all functions with everything at its place, by what the buses need.
 fn numbered_by<A: Allocator + Copy>(
     alloc: A,
     admitted: &Admitted<A>,
     pools: &Pools,
     aboves: &[Above; BUSES],
     needs: &ByKind<Needs>,
-) -> Result<Numbered<A>, OutOfMemory>
+) -> Result<Vec<[u8; HEADER_LEN], A>, OutOfMemory>
     requires plannable { CanBePlanned admitted.now.roots (system_in admitted.now)
         (pools_value pools.now) }
     requires aboves { AreAboves (system_in admitted.now) aboves.now }
     requires needs { AreAllNeeds admitted.now.roots (system_in admitted.now)
         (pools_value pools.now) needs.now }
-    ensures headers { IfOk result
-        (λ n. AreNewHeaders admitted.now (pools_value pools.now) n.headers.items) }
-    ensures survey { IfOk result (λ n. IsNewSurvey admitted.now (pools_value pools.now) n.survey) }
+    ensures { IfOk result
+        (λ headers. AreNewHeaders admitted.now (pools_value pools.now) headers.items) }
 {
     let places = all_places(alloc, admitted, pools, aboves, needs)?;
     number_all(alloc, admitted, pools, needs, places.as_slice())
 }
 
-/// All functions with everything at its place, or the class that doesn't fit its pool.
+/// The headers of all functions with everything at its place, or the class that doesn't fit its pool.
 ///
-/// It has a frame of its own: what the buses need takes 12 KB of stack, and is let go before the plan is judged.
+/// It has a frame of its own: what the buses need takes 12 KB of stack, and is let go before the start is judged.
 #[inline(never)]
 fn placed<A: Allocator + Copy>(
     alloc: A,
     admitted: &Admitted<A>,
     pools: &Pools,
     aboves: &[Above; BUSES],
-) -> Result<Numbered<A>, Refused<PlanFault>>
+) -> Result<Vec<[u8; HEADER_LEN], A>, Refused<PlanFault>>
     requires good { IsFalse (are_bad (pools_value pools.now)) }
     requires windows { (slot : SlotValue) → LacksWindow (system_in admitted.now) slot → ⊥ }
     requires aboves { AreAboves (system_in admitted.now) aboves.now }
     ensures plannable { OnOk result (CanBePlanned admitted.now.roots (system_in admitted.now)
         (pools_value pools.now)) }
     ensures headers { IfOk result
-        (λ n. AreNewHeaders admitted.now (pools_value pools.now) n.headers.items) }
-    ensures survey { IfOk result (λ n. IsNewSurvey admitted.now (pools_value pools.now) n.survey) }
+        (λ headers. AreNewHeaders admitted.now (pools_value pools.now) headers.items) }
     ensures fault { (f : PlanFault) → (result ≡ Err (Refused.Fault f))
         ↔ IsFaultOf admitted.now pools.now f }
 {
@@ -292,7 +237,7 @@ fn placed<A: Allocator + Copy>(
         Some(class) => return Err(Refused::Fault(PlanFault::NoRoom(class))),
     }
     match numbered_by(alloc, admitted, pools, aboves, &needs) {
-        Ok(numbered) => Ok(numbered),
+        Ok(headers) => Ok(headers),
         Err(OutOfMemory) => Err(Refused::Memory),
     }
 }
@@ -326,7 +271,7 @@ fn made<'a, A: Allocator + Copy>(
 ///
 /// 70 `BadPools`, else 71 `NoWindow` of the first function by slot that has an I/O BAR behind a bridge without an I/O
 /// window, else 72 `NoRoom` of the first class that doesn't fit, I/O before memory before prefetchable memory; `Memory`
-/// (2) where a growth was refused. 73 `NotAccepted` never comes.
+/// (2) where a growth was refused. 73 `NotAccepted` never comes: that a plan is sound is a law, so none is judged.
 pub fn plan<'a, A: Allocator + Copy>(
     alloc: A,
     admitted: &'a Admitted<A>,
@@ -348,15 +293,10 @@ pub fn plan<'a, A: Allocator + Copy>(
         None => {}
         Some(slot) => return Err(Refused::Fault(PlanFault::NoWindow(slot))),
     }
-    let Numbered { headers, survey } = match placed(alloc, admitted, pools, &aboves) {
-        Ok(numbered) => numbered,
+    let headers = match placed(alloc, admitted, pools, &aboves) {
+        Ok(headers) => headers,
         Err(why) => return Err(why),
     };
-    match judged(alloc, admitted, pools, survey) {
-        Ok(None) => {}
-        Ok(Some(fault)) => return Err(Refused::Fault(PlanFault::NotAccepted(fault))),
-        Err(OutOfMemory) => return Err(Refused::Memory),
-    }
     match made(alloc, admitted, pools, headers) {
         Ok(plan) => Ok(plan),
         Err(OutOfMemory) => Err(Refused::Memory),

@@ -16,7 +16,7 @@ pub returns-in-Ok-clause-fault : goal.returns-in-Ok-clause-fault
 returns-in-Ok-clause-fault g c =
     let a = c.args.admitted.now in
     let can : CanBePlanned a.roots (system_in a) (pools_value c.args.pools.now) = record { good = c.requires.good; windows = c.requires.windows; room = c.in-None.ensures } in
-    not_refused a c.args.pools.now can (Ok c.in-Ok.numbered) (plan_is_none (Ok c.in-Ok.numbered) c.in-Ok.numbered refl)
+    not_refused a c.args.pools.now can (Ok c.in-Ok.headers) (plan_is_none (Ok c.in-Ok.headers) c.in-Ok.headers refl)
 
 pub returns-in-Err-clause-fault : goal.returns-in-Err-clause-fault
 returns-in-Err-clause-fault g c =
