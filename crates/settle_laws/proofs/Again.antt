@@ -1,0 +1,67 @@
+-- What is settled is alike to what it was, so it can be settled again, and everything gets the place that it got.
+use Rattle.std.proofs.Common.{refl, sym, Option, None, Some}
+use Rattle.std.specs.List.{AllZip, Contains}
+use Rattle.pci_spec.specs.System.{System, Function, Part}
+use Rattle.plan_spec.specs.Place.{range_from}
+use Rattle.plan_spec.proofs.PlanningLaws.{moved_is_nested, moved_has_chains}
+use Rattle.plan_spec.proofs.Planning.Moved.{secondary_same, subordinate_same}
+use Rattle.plan_spec.proofs.Planning.OtherRules.{has_rom_same}
+use Rattle.plan_spec.proofs.Planning.Whole.{moved_system}
+use Rattle.settle_spec.specs.Lists.{Request}
+use Rattle.settle_spec.specs.Items.{Placed}
+use Rattle.settle_spec.specs.Places.{new_place}
+use Rattle.settle_spec.specs.Registers.{settled, settled_function}
+use Rattle.settle_laws.specs.AgainLaws.{TakesSame}
+use Rattle.settle_laws.specs.PlacesLaws.{CanSettle}
+use Rattle.settle_laws.proofs.Alike.{IsAlike}
+use Rattle.settle_laws.proofs.AlikePlaces.{IsAlikePlaced, new_places_alike, none_lacks}
+use Rattle.settle_laws.proofs.Claimed.{rom_switch}
+use Rattle.settle_laws.proofs.KeptAside.{each_by}
+use Rattle.settle_laws.proofs.Moves.{was, moves, all_move, new_profile}
+use Rattle.settle_laws.proofs.SettledMoved.{kind_stays}
+use Rattle.settle_laws.proofs.Zipped.{BothOrNone}
+
+module _ (q : Request) (s : System) (can : CanSettle q s) where
+  pub settled_alike : (f : Function) → Contains s f → IsAlike f (settled_function q s f)
+  settled_alike f listed =
+      let g = settled_function q s f in
+      let moved = moves q s can f listed in
+      let image = (was q s can f listed).image in
+      record {
+        slot = refl;
+        probe = refl;
+        kind = sym (kind_stays q s can.system can.profile f listed);
+        secondary = λ bridge. sym (secondary_same f g moved image bridge);
+        subordinate = λ bridge. sym (subordinate_same f g moved image bridge);
+        rom = sym (has_rom_same f g moved image);
+        on = sym (rom_switch q s can f listed);
+      }
+
+  pub all_alike : AllZip IsAlike s (settled q s)
+  all_alike = each_by IsAlike (settled_function q s) s settled_alike
+
+  pub can_again : CanSettle q (settled q s)
+  can_again = record {
+    anew = can.anew;
+    lists = can.lists;
+    high = can.high;
+    system = moved_system s (settled q s) (all_move q s can) can.system;
+    nested = moved_is_nested q.roots s (settled q s) (all_move q s can) can.system can.nested;
+    profile = new_profile q s can;
+    chains = moved_has_chains s (settled q s) (all_move q s can) can.system can.chains;
+    room = none_lacks q can.anew s (settled q s) all_alike can.room;
+  }
+
+  -- the places of a part before and again
+  pub again_alike : (f : Function) (p : Part) → Contains s f → BothOrNone IsAlikePlaced (new_place q s record { function = f; part = p }) (new_place q (settled q s) record { function = settled_function q s f; part = p })
+  again_alike f p listed =
+      new_places_alike q can.anew s (settled q s) all_alike record { function = f; part = p } record { function = settled_function q s f; part = p } record { function = settled_alike f listed; part = refl }
+
+  pub places_stay : (f : Function) (p : Part) → Contains s f → TakesSame (new_place q s record { function = f; part = p }) (new_place q (settled q s) record { function = settled_function q s f; part = p })
+  places_stay f p listed = by (new_place q s record { function = f; part = p }) (new_place q (settled q s) record { function = settled_function q s f; part = p }) (again_alike f p listed)
+    where
+      by : (o n : Option Placed) → BothOrNone IsAlikePlaced o n → TakesSame o n
+      by None None both = tt
+      by None (Some y) both = absurd both
+      by (Some x) None both = absurd both
+      by (Some x) (Some y) both = (let at = both.at in let extent = both.item.extent in λ i. range_from (at i) (extent i).size)

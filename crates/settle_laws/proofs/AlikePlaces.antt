@@ -1,0 +1,164 @@
+-- In two systems that are alike everything gets the same place, where all is placed anew.
+use Rattle.std.proofs.Common.{◌≡◌, ℕ, zero, suc, List, [], ◌∷◌, ◌++◌, ◌&&◌, cond, refl, sym, ◌∙◌, ap, subst, Option, None, Some}
+use Rattle.std.specs.Bool.{IsTrue, ◌==◌, if◌then◌else◌}
+use Rattle.std.specs.List.{AllZip}
+use Rattle.pci_spec.specs.Window.{WindowKind, IoWindow, MemoryWindow, PrefetchWindow}
+use Rattle.pci_spec.specs.Decoded.{Range}
+use Rattle.pci_spec.specs.System.{System, Function, Space, Io, Memory, space_of, is_bridge}
+use Rattle.pci_spec.specs.Bus.{secondary, is_root}
+use Rattle.plan_spec.specs.Place.{range_from}
+use Rattle.settle_spec.specs.FirstPlace.{Extent, first_place}
+use Rattle.settle_spec.specs.Lists.{Request, ranges_of}
+use Rattle.settle_spec.specs.Parts.{Region, addresses, bridge_over}
+use Rattle.settle_spec.specs.Stands.{rank, window_region}
+use Rattle.settle_spec.specs.Items.{Item, Placed, Placing, AllPlaced, Lacks, and_placed, place_next, place_all, taken_by, items_on, new_window, stays}
+use Rattle.settle_spec.specs.Places.{wide_ranges, root_ranges, space_items, taken_at, placed_of, place_among, placed_range, window_ranges, ranges_for, placing_within, placing_on, new_place, first_lack, lacking_on, lacking}
+use Rattle.settle_laws.proofs.Anew.{none_stays, none_taken}
+use Rattle.settle_laws.proofs.Zipped.{BothOrNone, append_zip, find_zip}
+use Rattle.settle_laws.proofs.Alike.{IsAlike, IsAlikeRegion, bus_alike, of_bridges, space_alike}
+use Rattle.settle_laws.proofs.AlikeItems.{IsAlikeItem, rank_same, items_alike, windows_alike}
+
+pub record IsAlikePlaced (x y : Placed) : Type 0 where
+  pub item : IsAlikeItem x.item y.item
+  pub at : x.at ≡ y.at
+
+abbrev ArePlacedAlike : Placing → Placing → Type 0
+ArePlacedAlike (AllPlaced xs) (AllPlaced ys) = AllZip IsAlikePlaced xs ys
+ArePlacedAlike (AllPlaced xs) (Lacks j) = ⊥
+ArePlacedAlike (Lacks i) (AllPlaced ys) = ⊥
+ArePlacedAlike (Lacks i) (Lacks j) = IsAlikeItem i j
+
+placed_alike : (x y : Placing) → ArePlacedAlike x y → AllZip IsAlikePlaced (placed_of x) (placed_of y)
+placed_alike (AllPlaced xs) (AllPlaced ys) alike = alike
+placed_alike (AllPlaced xs) (Lacks j) alike = absurd alike
+placed_alike (Lacks i) (AllPlaced ys) alike = absurd alike
+placed_alike (Lacks i) (Lacks j) alike = tt
+
+-- ---- one after another
+
+and_alike : (i j : Item) → IsAlikeItem i j → (a : ℕ) (x y : Placing) → ArePlacedAlike x y → ArePlacedAlike (and_placed i a x) (and_placed j a y)
+and_alike i j is a (AllPlaced xs) (AllPlaced ys) alike = (record { item = is; at = refl }, alike)
+and_alike i j is a (AllPlaced xs) (Lacks k) alike = absurd alike
+and_alike i j is a (Lacks k) (AllPlaced ys) alike = absurd alike
+and_alike i j is a (Lacks k) (Lacks l) alike = alike
+
+next_alike : (i j : Item) → IsAlikeItem i j → (o : Option ℕ) (rest more : ℕ → Placing) → ((a : ℕ) → ArePlacedAlike (rest a) (more a)) → ArePlacedAlike (place_next i o rest) (place_next j o more)
+next_alike i j is None rest more same = is
+next_alike i j is (Some a) rest more same = and_alike i j is a (rest a) (more a) (same a)
+
+all_alike : (ranges others : Item → List Range) → ((i j : Item) → IsAlikeItem i j → ranges i ≡ others j) → (taken : List Range) (xs ys : List Item) → AllZip IsAlikeItem xs ys
+    → ArePlacedAlike (place_all ranges taken xs) (place_all others taken ys)
+all_alike ranges others same taken [] [] pairs = tt
+all_alike ranges others same taken [] (y ∷ ys) pairs = absurd pairs
+all_alike ranges others same taken (x ∷ xs) [] pairs = absurd pairs
+all_alike ranges others same taken (x ∷ xs) (y ∷ ys) (first, pairs) =
+    let rest = λ (a : ℕ). place_all ranges (taken_by x a ∷ taken) xs in
+    let more = λ (a : ℕ). place_all others (taken_by y a ∷ taken) ys in
+    let had = same x y first in
+    let extent = first.extent in
+    let place : first_place (ranges x) taken x.extent ≡ first_place (others y) taken y.extent = λ i. first_place (had i) taken (extent i) in
+    subst (λ o. ArePlacedAlike (place_next x (first_place (ranges x) taken x.extent) rest) (place_next y o more)) place
+    (next_alike x y first (first_place (ranges x) taken x.extent) rest more
+    (λ a. subst (λ r. ArePlacedAlike (place_all ranges (taken_by x a ∷ taken) xs) (place_all others (r ∷ taken) ys)) (ap (λ (e : Extent). range_from a e.size) extent)
+    (all_alike ranges others same (taken_by x a ∷ taken) xs ys pairs)))
+
+range_alike : (o p : Option Placed) → BothOrNone IsAlikePlaced o p → placed_range o ≡ placed_range p
+range_alike None None both = refl
+range_alike None (Some y) both = absurd both
+range_alike (Some x) None both = absurd both
+range_alike (Some x) (Some y) both =
+    let at = both.at in
+    let extent = both.item.extent in
+    λ i. range_from (at i) (extent i).size ∷ []
+
+among_alike : (r t : Region) → IsAlikeRegion r t → (xs ys : List Placed) → AllZip IsAlikePlaced xs ys → BothOrNone IsAlikePlaced (place_among r xs) (place_among t ys)
+among_alike r t is xs ys pairs =
+    find_zip IsAlikePlaced (λ (p : Placed). rank p.item.region == rank r) (λ (p : Placed). rank p.item.region == rank t)
+    (λ x y alike. let first = rank_same x.item.region y.item.region alike.item.region in let second = rank_same r t is in λ i. first i == second i) xs ys pairs
+
+module _ (q : Request) (anew : IsTrue q.anew) (s t : System) (pairs : AllZip IsAlike s t) where
+  -- ---- the ranges of an item
+
+  module _ (placed others : ℕ → List Placed) (same : (bus : ℕ) → AllZip IsAlikePlaced (placed bus) (others bus)) where
+    window_alike : (c : WindowKind) (o p : Option Function) → BothOrNone IsAlike o p → window_ranges q s placed c o ≡ window_ranges q t others c p
+    window_alike c None None both = refl
+    window_alike c None (Some d) both = absurd both
+    window_alike c (Some b) None both = absurd both
+    window_alike c (Some b) (Some d) both =
+        ap (λ x. cond x (addresses (window_region c b) ∷ []) (placed_range (place_among (window_region c b) (placed b.slot.bus)))) (none_stays q s anew (window_region c b))
+        ∙ range_alike (place_among (window_region c b) (placed b.slot.bus)) (place_among (window_region c d) (others b.slot.bus))
+        (among_alike (window_region c b) (window_region c d) record { function = both; part = refl } (placed b.slot.bus) (others b.slot.bus) (same b.slot.bus))
+        ∙ ap (λ bus. placed_range (place_among (window_region c d) (others bus))) (bus_alike b d both)
+        ∙ sym (ap (λ x. cond x (addresses (window_region c d) ∷ []) (placed_range (place_among (window_region c d) (others d.slot.bus)))) (none_stays q t anew (window_region c d)))
+
+    over_alike : (bus : ℕ) → BothOrNone IsAlike (bridge_over s bus) (bridge_over t bus)
+    over_alike bus = find_zip IsAlike (λ b. is_bridge b && secondary b == bus) (λ b. is_bridge b && secondary b == bus)
+        (λ f g is. of_bridges f g is (secondary f == bus) (secondary g == bus) (λ bridge. ap (λ n. n == bus) (is.secondary bridge))) s t pairs
+
+    ranges_alike : (i j : Item) → IsAlikeItem i j → ranges_for q s placed i ≡ ranges_for q t others j
+    ranges_alike i j is =
+        let bus = bus_alike i.region.function j.region.function is.region.function in
+        let class = is.class in
+        let extent = is.extent in
+        let over = window_alike i.class (bridge_over s i.region.function.slot.bus) (bridge_over t i.region.function.slot.bus) (over_alike i.region.function.slot.bus) in
+        let here : ranges_for q s placed i ≡ (if is_root q.roots i.region.function.slot.bus then root_ranges q i else window_ranges q t others i.class (bridge_over t i.region.function.slot.bus)) =
+        ap (λ w. if is_root q.roots i.region.function.slot.bus then root_ranges q i else w) over in
+        here ∙ (λ n. if is_root q.roots (bus n)
+        then ranges_of q (class n) (bus n) ++ (if (extent n).wide then wide_ranges q (class n) (bus n) else [])
+        else window_ranges q t others (class n) (bridge_over t (bus n)))
+
+  -- ---- the items of a space
+
+  of_class : (c : WindowKind) (bus : ℕ) → AllZip IsAlikeItem (items_on q s c (stays q s) (new_window q s c) bus) (items_on q t c (stays q t) (new_window q t c) bus)
+  of_class c bus = items_alike q anew s t pairs c (stays q s) (stays q t) (λ r u is. none_stays q s anew r ∙ sym (none_stays q t anew u)) (new_window q s c) (new_window q t c) (windows_alike q anew s t pairs c 256) bus
+
+  space_items_alike : (space : Space) (bus : ℕ) → AllZip IsAlikeItem (space_items q s space bus) (space_items q t space bus)
+  space_items_alike Io bus = of_class IoWindow bus
+  space_items_alike Memory bus =
+      append_zip IsAlikeItem (items_on q s MemoryWindow (stays q s) (new_window q s MemoryWindow) bus) (items_on q s PrefetchWindow (stays q s) (new_window q s PrefetchWindow) bus)
+      (items_on q t MemoryWindow (stays q t) (new_window q t MemoryWindow) bus) (items_on q t PrefetchWindow (stays q t) (new_window q t PrefetchWindow) bus) (of_class MemoryWindow bus) (of_class PrefetchWindow bus)
+
+  -- ---- places
+
+  placing_alike : (space : Space) (depth bus : ℕ) → ArePlacedAlike (placing_within q s space depth bus) (placing_within q t space depth bus)
+  unfolding placing_within
+  placing_alike space zero bus = tt
+  placing_alike space (suc depth) bus =
+      let placed = λ (over : ℕ). placed_of (placing_within q s space depth over) in
+      let others = λ (over : ℕ). placed_of (placing_within q t space depth over) in
+      let taken = none_taken q s anew space bus ∙ sym (none_taken q t anew space bus) in
+      subst (λ ts. ArePlacedAlike (place_all (ranges_for q s placed) (taken_at q s space bus) (space_items q s space bus)) (place_all (ranges_for q t others) ts (space_items q t space bus))) taken
+      (all_alike (ranges_for q s placed) (ranges_for q t others) (ranges_alike placed others (λ over. placed_alike (placing_within q s space depth over) (placing_within q t space depth over) (placing_alike space depth over)))
+      (taken_at q s space bus) (space_items q s space bus) (space_items q t space bus) (space_items_alike space bus))
+
+  pub new_places_alike : (r u : Region) → IsAlikeRegion r u → BothOrNone IsAlikePlaced (new_place q s r) (new_place q t u)
+  new_places_alike r u is =
+      let bus = bus_alike r.function u.function is.function in
+      let space = space_alike r.function u.function is.function r.part ∙ ap (space_of u.function) is.part in
+      let places = λ (v : System) (a : Space) (b : ℕ). placed_of (placing_on q v a b) in
+      let here = placed_alike (placing_on q s (space_of r.function r.part) r.function.slot.bus) (placing_on q t (space_of r.function r.part) r.function.slot.bus) (placing_alike (space_of r.function r.part) 256 r.function.slot.bus) in
+      let there : places t (space_of r.function r.part) r.function.slot.bus ≡ places t (space_of u.function u.part) u.function.slot.bus = λ i. places t (space i) (bus i) in
+      subst (λ ys. BothOrNone IsAlikePlaced (new_place q s r) (place_among u ys)) there
+      (among_alike r u is (places s (space_of r.function r.part) r.function.slot.bus) (places t (space_of r.function r.part) r.function.slot.bus) here)
+
+  -- ---- and what lacks room
+
+  lack_alike : (x y : Placing) → ArePlacedAlike x y → (o p : Option Item) → BothOrNone IsAlikeItem o p → BothOrNone IsAlikeItem (first_lack x o) (first_lack y p)
+  lack_alike (AllPlaced xs) (AllPlaced ys) alike o p both = both
+  lack_alike (AllPlaced xs) (Lacks j) alike o p both = absurd alike
+  lack_alike (Lacks i) (AllPlaced ys) alike o p both = absurd alike
+  lack_alike (Lacks i) (Lacks j) alike o p both = alike
+
+  lacking_alike : (roots : List ℕ) → BothOrNone IsAlikeItem (lacking_on q s roots) (lacking_on q t roots)
+  lacking_alike [] = tt
+  lacking_alike (root ∷ roots) =
+      lack_alike (placing_on q s Io root) (placing_on q t Io root) (placing_alike Io 256 root) (first_lack (placing_on q s Memory root) None) (first_lack (placing_on q t Memory root) None)
+      (lack_alike (placing_on q s Memory root) (placing_on q t Memory root) (placing_alike Memory 256 root) None None tt)
+
+  pub none_lacks : lacking q s ≡ None → lacking q t ≡ None
+  none_lacks none = by (lacking q s) (lacking q t) none (lacking_alike q.roots)
+    where
+      by : (o p : Option Item) → o ≡ None → BothOrNone IsAlikeItem o p → p ≡ None
+      by o None e both = refl
+      by None (Some y) e both = absurd both
+      by (Some x) (Some y) e both = cc

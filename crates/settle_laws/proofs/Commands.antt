@@ -1,0 +1,105 @@
+-- Command of a function on the way: what a closing write leaves of its enables, and what settling makes of them.
+use Rattle.std.proofs.Common.{◌≡◌, ℕ, ◌-◌, ◌*◌, ◌/◌, ◌%◌, refl, Bool, true, false, ◌&&◌, ◌||◌, not, arith, ◌∙◌, ap}
+use Rattle.std.specs.Bool.{if◌then◌else◌, ◌==◌}
+use Rattle.std.specs.List.{list_any}
+use Rattle.std.proofs.lemmas.Bool.{and_parts, and_from, or_left, not-true}
+use Rattle.pci_spec.specs.Number.{has_bit, IsImage}
+use Rattle.pci_spec.specs.Header.{command}
+use Rattle.pci_spec.specs.System.{System, Function, Space, Io, Memory, is_bridge, is_space_on}
+use Rattle.pci_spec.specs.Bus.{secondary}
+use Rattle.pci_spec.specs.Machine.{without_low}
+use Rattle.pci_spec.proofs.Bits.{digit, digit_of_bit}
+use Rattle.plan_spec.specs.Planning.PlanWrites.{closed_command}
+use Rattle.plan_spec.proofs.Planning.CommandFits.{command_by, command_small, enables_io, enables_memory}
+use Rattle.settle_spec.specs.Lists.{Request}
+use Rattle.settle_spec.specs.Parts.{has_left, same_space}
+use Rattle.settle_spec.specs.Registers.{settled_image, settled_function, settled_command, got_place, is_enabled_in, is_live_within}
+use Rattle.settle_spec.specs.Writes.{is_shut, closing_command}
+use Rattle.settle_laws.proofs.Numbers.{command_with}
+
+-- whether a function still enables a space once the closing writes are made
+abbrev pub is_left_on : Request → System → Space → Function → Bool
+is_left_on q s space f = not (is_shut q s f) && (not (same_space space Io && has_left q s f) && is_space_on f space)
+
+first_digit : (b : Bool) → (if b then 1 else 0) ≡ digit b
+first_digit true = refl
+first_digit false = refl
+
+second_digit : (b : Bool) → (if b then 2 else 0) ≡ 2 * digit b
+second_digit true = refl
+second_digit false = refl
+
+-- a number of its own low bits
+pub as_it_is : (n : ℕ) → n ≡ command_by n (has_bit n 0) (has_bit n 1)
+as_it_is n =
+    let a = first_digit (has_bit n 0) in
+    let b = second_digit (has_bit n 1) in
+    let c : digit (has_bit n 0) ≡ n / 1 % 2 = digit_of_bit n 0 in
+    let d : digit (has_bit n 1) ≡ n / 2 % 2 = digit_of_bit n 1 in
+    omega (arith, a, b, c, d)
+
+without_first : (n : ℕ) → n - n % 2 ≡ command_by n false (has_bit n 1)
+without_first n =
+    let b = second_digit (has_bit n 1) in
+    let d : digit (has_bit n 1) ≡ n / 2 % 2 = digit_of_bit n 1 in
+    omega (arith, b, d)
+
+without_both : (n : ℕ) → without_low 4 n ≡ command_by n false false
+without_both n = omega arith
+
+module _ (q : Request) (s : System) (f : Function) where
+  abbrev by_tests : Bool → Bool → ℕ
+  by_tests shut left = if shut then closed_command f else if left then command f.image - command f.image % 2 else command f.image
+
+  abbrev by_bits : Bool → Bool → ℕ
+  by_bits shut left = command_by (command f.image) (not shut && (not (true && left) && is_space_on f Io)) (not shut && (not (false && left) && is_space_on f Memory))
+
+  by_both : (shut left : Bool) → by_tests shut left ≡ by_bits shut left
+  by_both true left = without_both (command f.image)
+  by_both false true = without_first (command f.image)
+  by_both false false = as_it_is (command f.image)
+
+  pub closing_is : closing_command q s f ≡ command_by (command f.image) (is_left_on q s Io f) (is_left_on q s Memory f)
+  closing_is = by_both (is_shut q s f) (has_left q s f)
+
+  -- what Command enables once it is closed
+  pub on_closed : (g : Function) → command g.image ≡ closing_command q s f → (space : Space) → is_space_on g space ≡ is_left_on q s space f
+  on_closed g e Io = ap (λ n. has_bit n 0) (e ∙ closing_is) ∙ enables_io (command f.image) (is_left_on q s Io f) (is_left_on q s Memory f)
+  on_closed g e Memory = ap (λ n. has_bit n 1) (e ∙ closing_is) ∙ enables_memory (command f.image) (is_left_on q s Io f) (is_left_on q s Memory f)
+
+  pub settled_is : IsImage f.image → IsImage (settled_image q s f) → command (settled_function q s f).image ≡ settled_command q s f
+  settled_is is image = command_with (settled_command q s f) (settled_image q s f) image (command_small f is (is_enabled_in q s Io f) (is_enabled_in q s Memory f))
+
+  -- and once it is settled
+  pub on_settled : (g : Function) → command g.image ≡ settled_command q s f → (space : Space) → is_space_on g space ≡ is_enabled_in q s space f
+  on_settled g e Io = ap (λ n. has_bit n 0) e ∙ enables_io (command f.image) (is_enabled_in q s Io f) (is_enabled_in q s Memory f)
+  on_settled g e Memory = ap (λ n. has_bit n 1) e ∙ enables_memory (command f.image) (is_enabled_in q s Io f) (is_enabled_in q s Memory f)
+
+  -- the parts of what is left on
+  pub record IsLeftOn (space : Space) : Type 0 where
+    pub unshut : is_shut q s f ≡ false
+    pub unleft : not (same_space space Io && has_left q s f) ≡ true
+    pub was : is_space_on f space ≡ true
+
+  pub left_parts : (space : Space) → is_left_on q s space f ≡ true → IsLeftOn space
+  left_parts space h =
+      let outer = and_parts (not (is_shut q s f)) (not (same_space space Io && has_left q s f) && is_space_on f space) h in
+      let inner = and_parts (not (same_space space Io && has_left q s f)) (is_space_on f space) outer.1 in
+      record { unshut = not-true (is_shut q s f) outer.0; unleft = inner.0; was = inner.1 }
+
+  pub left_by : (space : Space) → IsLeftOn space → is_left_on q s space f ≡ true
+  left_by space is =
+      and_from (not (is_shut q s f)) (not (same_space space Io && has_left q s f) && is_space_on f space) (ap not is.unshut)
+      (and_from (not (same_space space Io && has_left q s f)) (is_space_on f space) is.unleft is.was)
+
+  -- what is left on is on in the settled system
+  pub left_is_enabled : (space : Space) → is_left_on q s space f ≡ true → is_enabled_in q s space f ≡ true
+  left_is_enabled space h =
+      let is = left_parts space h in
+      let behind = is_bridge f && list_any (λ g. g.slot.bus == secondary f && is_live_within q s space 256 g) s in
+      and_from (not (same_space space Io && has_left q s f)) (is_space_on f space || got_place q s space f || behind) is.unleft
+      (or_left (is_space_on f space || got_place q s space f) behind (or_left (is_space_on f space) (got_place q s space f) is.was))
+
+  -- what is on there has no BAR that is left
+  pub enabled_unleft : (space : Space) → is_enabled_in q s space f ≡ true → not (same_space space Io && has_left q s f) ≡ true
+  enabled_unleft space h = (and_parts (not (same_space space Io && has_left q s f)) _ h).0

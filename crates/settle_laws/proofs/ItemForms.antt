@@ -1,0 +1,242 @@
+-- What an item of a bus is: a BAR or ROM of a class, or a new window, and its region tells all of it.
+use Rattle.std.proofs.Common.{◌≡◌, ℕ, ◌<◌, inl, inr, List, [], ◌∷◌, map, Bool, true, false, cond, ◌&&◌, not, arith, refl, sym, ◌∙◌, ap, subst, zero, suc}
+use Rattle.std.specs.List.{Contains, filter, flat_map}
+use Rattle.std.specs.Bool.{if◌then◌else◌}
+use Rattle.std.proofs.lemmas.Bool.{and_parts, and_from, both_ways, lt-ltb, not-true}
+use Rattle.std.proofs.lemmas.List.Elements.{Contains-append_cases, Contains-append_left, Contains-append_right}
+use Rattle.std.proofs.lemmas.List.Sorted.{IsPermutation-sym, Contains-permutation}
+use Rattle.pci_spec.specs.Number.{lowest_one}
+use Rattle.pci_spec.specs.Slot.{slot_number}
+use Rattle.pci_spec.specs.Header.{layout, bar_count}
+use Rattle.pci_spec.specs.Bar.{bar_at, is_io, whole_bar}
+use Rattle.pci_spec.specs.Rom.{rom_at}
+use Rattle.pci_spec.specs.Window.{WindowKind, IoWindow, MemoryWindow, PrefetchWindow, page_size}
+use Rattle.pci_spec.specs.System.{System, Function, IsSystem, Space, Io, Memory, Part, Bar, Rom, Window, has_part, is_bridge, is_window, register_of, window_space}
+use Rattle.pci_spec.specs.Bus.{are_siblings, secondary}
+use Rattle.pci_spec.proofs.Members.{in_nil, in_cons_cases, in_head, in_flat_map_to, in_flat_map_from, IsInPiece, in_map_to, in_map_from, IsMade, in_filter_to, in_filter_from}
+use Rattle.pci_spec.proofs.Nesting.{one_function}
+use Rattle.pci_spec.proofs.Regions.{register_of-lt, part_same}
+use Rattle.plan_spec.specs.Plan.{same_class}
+use Rattle.plan_spec.specs.Planning.Placing.{IsPower}
+use Rattle.plan_spec.proofs.Planning.Placement.{step_power, power_pos}
+use Rattle.plan_spec.proofs.Planning.PlacedItems.{same_class_is}
+use Rattle.settle_spec.specs.FirstPlace.{Extent}
+use Rattle.settle_spec.specs.Lists.{Request}
+use Rattle.settle_spec.specs.Parts.{Region, is_part, parts_of, header_parts, regions_of, class_in}
+use Rattle.settle_spec.specs.Stands.{rank, window_region}
+use Rattle.settle_spec.specs.Items.{Item, in_turn, own_extent, own_item, is_own, has_of, items_of, items_on, window_around, window_within, new_window, stays}
+use Rattle.settle_spec.specs.Places.{space_items}
+use Rattle.settle_spec.proofs.InTurn.{turn_same}
+use Rattle.settle_laws.proofs.HeaderParts.{part_cases}
+use Rattle.settle_laws.proofs.Powers.{greatest_power}
+
+pub header_has : (f : Function) (p : Part) → Contains (header_parts f) p → is_window p ≡ false → has_part f p ≡ true
+header_has f p listed plain = elim (part_cases f p listed) [
+  | inl bar ↦ subst (λ o. has_part f o ≡ true) bar.is (lt-ltb bar.n (bar_count (layout f.image)) bar.inside)
+  | inr (inl window) ↦ absurd (both_ways true (ap is_window window.is ∙ plain) refl)
+  | inr (inr rom) ↦ subst (λ o. has_part f o ≡ true) rom refl
+]
+
+-- the extent of a part, by how large new windows are
+abbrev pub extent_by : (WindowKind → Function → Extent) → Function → Part → Extent
+extent_by new f (Bar n) = own_extent (record { function = f; part = Bar n })
+extent_by new f Rom = own_extent (record { function = f; part = Rom })
+extent_by new f (Window kind) = new kind f
+
+own_by_part : (new : WindowKind → Function → Extent) (f : Function) (p : Part) → is_window p ≡ false → own_extent (record { function = f; part = p }) ≡ extent_by new f p
+own_by_part new f (Bar n) plain = refl
+own_by_part new f Rom plain = refl
+own_by_part new f (Window kind) plain = absurd (both_ways true plain refl)
+
+pub own_power : (new : WindowKind → Function → Extent) (f : Function) (p : Part) → is_window p ≡ false → IsPower (extent_by new f p).alignment
+own_power new f (Bar n) plain = (lowest_one (if is_io (bar_at f.probe n) then 2 else 4) (whole_bar f.probe f.probe n), refl)
+own_power new f Rom plain = (lowest_one 0 (rom_at f.image f.probe), refl)
+own_power new f (Window kind) plain = absurd (both_ways true plain refl)
+
+-- the item of a part in a class
+abbrev pub item_by : (WindowKind → Function → Extent) → WindowKind → Function → Part → Item
+item_by new c f p = record { region = record { function = f; part = p }; class = c; extent = extent_by new f p }
+
+-- a BAR or ROM that is looked at, or the window of a bridge with one of the class behind it
+pub data IsPlaceable (q : Request) (s : System) (c : WindowKind) (f : Function) (p : Part) : Type 0 where
+  IsOwnPart : (plain : is_window p ≡ false) → (part : is_part q s f p ≡ true) → IsPlaceable q s c f p
+  IsNewWindow : (window : p ≡ Window c) → (bridge : is_bridge f ≡ true) → (has : has_of q s c f ≡ true) → IsPlaceable q s c f p
+
+pub record IsItemOf (q : Request) (s : System) (new : WindowKind → Function → Extent) (c : WindowKind) (bus : ℕ) (i : Item) : Type 0 where
+  pub f : Function
+  pub p : Part
+  pub listed : Contains s f
+  pub beside : are_siblings q.roots bus f.slot.bus ≡ true
+  pub there : has_part f p ≡ true
+  pub class : class_in q s f p ≡ c
+  pub is : item_by new c f p ≡ i
+  pub can : IsPlaceable q s c f p
+
+in_if : (b : Bool) (xs : List Item) (y : Item) → Contains (cond b xs []) y → (b ≡ true) × Contains xs y
+in_if true xs y has = (refl, has)
+in_if false xs y has = absurd (in_nil y has)
+
+module _ (q : Request) (s : System) (new : WindowKind → Function → Extent) (c : WindowKind) (keeps : Region → Bool) (bus : ℕ) where
+  abbrev kept : Region → Bool
+  kept r = is_own q s c r && not (keeps r)
+
+  abbrev opens : Function → Bool
+  opens f = is_bridge f && has_of q s c f && not (keeps (window_region c f))
+
+  abbrev window : Function → Item
+  window f = record { region = window_region c f; class = c; extent = new c f }
+
+  abbrev own : Function → List Item
+  own f = map (own_item c) (filter kept (regions_of q s f))
+
+  abbrev later : Function → List Item
+  later f = cond (opens f) (window f ∷ []) []
+
+  own_is : (f : Function) (p : Part) (r : Region) (i : Item) → record { function = f; part = p } ≡ r → is_window p ≡ false → own_item c r ≡ i → item_by new c f p ≡ i
+  own_is f p r i of plain is = sym (ap (λ e. record { region = record { function = f; part = p }; class = c; extent = e }) (own_by_part new f p plain)) ∙ ap (own_item c) of ∙ is
+
+  of_function : (f : Function) → Contains s f → are_siblings q.roots bus f.slot.bus ≡ true → (i : Item) → Contains (items_of q s c keeps (new c) f) i → IsItemOf q s new c bus i
+  of_function f listed beside i has = elim (Contains-append_cases (own f) (later f) i has) [
+    | inl here ↦
+        let made : IsMade (own_item c) (filter kept (regions_of q s f)) i = in_map_to (own_item c) (filter kept (regions_of q s f)) i here in
+        let r = made.from in
+        let chosen = in_filter_to kept (regions_of q s f) r made.has in
+        let of : IsMade (λ p. record { function = f; part = p }) (parts_of q s f) r = in_map_to (λ p. record { function = f; part = p }) (parts_of q s f) r chosen.0 in
+        let p = of.from in
+        let part = in_filter_to (is_part q s f) (header_parts f) p of.has in
+        let mine : is_own q s c record { function = f; part = p } ≡ true = ap (is_own q s c) of.is ∙ (and_parts (is_own q s c r) (not (keeps r)) chosen.1).0 in
+        let split = and_parts (not (is_window p)) (same_class c (class_in q s f p)) mine in
+        let plain = not-true (is_window p) split.0 in
+        record {
+          f = f;
+          p = p;
+          listed = listed;
+          beside = beside;
+          there = header_has f p part.0 plain;
+          class = same_class_is c (class_in q s f p) split.1;
+          is = own_is f p r i of.is plain made.is;
+          can = IsOwnPart plain part.1;
+        }
+    | inr more ↦
+        let split = in_if (opens f) (window f ∷ []) i more in
+        let same : window f ≡ i = elim (in_cons_cases (window f) [] i split.1) [ inl is ↦ is | inr none ↦ absurd (in_nil i none) ] in
+        let bridge = and_parts (is_bridge f) (has_of q s c f) (and_parts (is_bridge f && has_of q s c f) (not (keeps (window_region c f))) split.0).0 in
+        record {
+          f = f;
+          p = Window c;
+          listed = listed;
+          beside = beside;
+          there = bridge.0;
+          class = refl;
+          is = same;
+          can = IsNewWindow refl bridge.0 bridge.1;
+        }
+  ]
+
+  abbrev on_bus : Function → List Item
+  on_bus f = cond (are_siblings q.roots bus f.slot.bus) (items_of q s c keeps (new c) f) []
+
+  pub items_are : (i : Item) → Contains (items_on q s c keeps (new c) bus) i → IsItemOf q s new c bus i
+  items_are i has =
+      let all = flat_map on_bus s in
+      let piece : IsInPiece on_bus s i = in_flat_map_to on_bus s i (Contains-permutation (in_turn all) all i (IsPermutation-sym all (in_turn all) (turn_same all)) has) in
+      let split = in_if (are_siblings q.roots bus piece.of.slot.bus) (items_of q s c keeps (new c) piece.of) i piece.piece in
+      of_function piece.of piece.has split.0 i split.1
+
+  put : (f : Function) (i : Item) → Contains s f → are_siblings q.roots bus f.slot.bus ≡ true → Contains (items_of q s c keeps (new c) f) i → Contains (items_on q s c keeps (new c) bus) i
+  put f i listed beside has =
+      let all = flat_map on_bus s in
+      Contains-permutation all (in_turn all) i (turn_same all)
+      (in_flat_map_from on_bus s f i listed (subst (λ b. Contains (cond b (items_of q s c keeps (new c) f) []) i) (sym beside) has))
+
+  -- where nothing is kept, each part of the class is an item
+  module _ (none : (r : Region) → keeps r ≡ false) where
+    pub own_in : (f : Function) (p : Part) → Contains s f → are_siblings q.roots bus f.slot.bus ≡ true → Contains (header_parts f) p → is_part q s f p ≡ true → is_window p ≡ false → class_in q s f p ≡ c
+        → Contains (items_on q s c keeps (new c) bus) (item_by new c f p)
+    own_in f p listed beside there part plain class =
+        let r : Region = record { function = f; part = p } in
+        let same : same_class c (class_in q s f p) ≡ true = ap (same_class c) class ∙ itself c in
+        put f (item_by new c f p) listed beside
+        (Contains-append_left (own f) (later f) (item_by new c f p)
+        (subst (λ e. Contains (own f) (record { region = r; class = c; extent = e })) (own_by_part new f p plain)
+        (in_map_from (own_item c) (filter kept (regions_of q s f)) r
+        (in_filter_from kept (regions_of q s f) r (in_map_from (λ p. record { function = f; part = p }) (parts_of q s f) p (in_filter_from (is_part q s f) (header_parts f) p there part))
+        (and_from (is_own q s c r) (not (keeps r)) (and_from (not (is_window p)) (same_class c (class_in q s f p)) (ap not plain) same) (ap not (none r)))))))
+      where
+        itself : (d : WindowKind) → same_class d d ≡ true
+        itself IoWindow = refl
+        itself MemoryWindow = refl
+        itself PrefetchWindow = refl
+
+    pub window_in : (f : Function) → Contains s f → are_siblings q.roots bus f.slot.bus ≡ true → is_bridge f ≡ true → has_of q s c f ≡ true → Contains (items_on q s c keeps (new c) bus) (item_by new c f (Window c))
+    window_in f listed beside bridge has =
+        let now : opens f ≡ true = and_from (is_bridge f && has_of q s c f) (not (keeps (window_region c f))) (and_from (is_bridge f) (has_of q s c f) bridge has) (ap not (none (window_region c f))) in
+        put f (item_by new c f (Window c)) listed beside
+        (Contains-append_right (own f) (later f) (window f) (subst (λ b. Contains (cond b (window f ∷ []) []) (window f)) (sym now) (in_head (window f) [])))
+
+-- ---- alignments are powers of two
+
+-- those of items, where those of windows are
+pub item_power : (q : Request) (s : System) (new : WindowKind → Function → Extent) (c : WindowKind) (bus : ℕ) (i : Item) → ((b : Function) → IsPower (new c b).alignment) → IsItemOf q s new c bus i → IsPower i.extent.alignment
+item_power q s new c bus i power is = subst (λ (j : Item). IsPower j.extent.alignment) is.is (by is.can)
+  where
+    by : IsPlaceable q s c is.f is.p → IsPower (extent_by new is.f is.p).alignment
+    by (IsOwnPart plain part) = own_power new is.f is.p plain
+    by (IsNewWindow window bridge has) = subst (λ o. IsPower (extent_by new is.f o).alignment) (sym window) (power is.f)
+
+module _ (q : Request) (s : System) where
+  around_power : (c : WindowKind) (b : Function) (items : List Item) → ((i : Item) → Contains items i → IsPower i.extent.alignment) → IsPower (window_around c b items).alignment
+  around_power c b items each = greatest_power (page_size c) (map (λ (e : Extent). e.alignment) (map (λ (i : Item). i.extent) items)) (step_power c)
+      (λ x has.
+      let e : IsMade (λ (e : Extent). e.alignment) (map (λ (i : Item). i.extent) items) x = in_map_to (λ (e : Extent). e.alignment) (map (λ (i : Item). i.extent) items) x has in
+      let i : IsMade (λ (i : Item). i.extent) items e.from = in_map_to (λ (i : Item). i.extent) items e.from e.has in
+      subst IsPower (ap (λ (e : Extent). e.alignment) i.is ∙ e.is) (each i.from i.has))
+
+  window_power : (c : WindowKind) (keeps : Region → Bool) (depth : ℕ) (b : Function) → IsPower (window_within q s c depth b).alignment
+  unfolding window_within
+  window_power c keeps zero b = around_power c b [] (λ i has. absurd (in_nil i has))
+  window_power c keeps (suc depth) b =
+      around_power c b (items_on q s c nothing_kept (window_within q s c depth) (secondary b))
+      (λ i has. item_power q s (λ d. window_within q s c depth) c (secondary b) i (window_power c keeps depth) (items_are q s (λ d. window_within q s c depth) c nothing_kept (secondary b) i has))
+    where
+      nothing_kept : Region → Bool
+      nothing_kept r = false
+
+  pub new_window_power : (c : WindowKind) (b : Function) → IsPower (new_window q s c b).alignment
+  new_window_power c b = window_power c (λ r. false) 256 b
+
+  -- ---- the items of a space
+
+  pub record IsItemIn (space : Space) (bus : ℕ) (i : Item) : Type 0 where
+    pub c : WindowKind
+    pub of_space : window_space c ≡ space
+    pub of : IsItemOf q s (new_window q s) c bus i
+    pub has : Contains (items_on q s c (stays q s) (new_window q s c) bus) i
+
+  pub space_items_are : (space : Space) (bus : ℕ) (i : Item) → Contains (space_items q s space bus) i → IsItemIn space bus i
+  space_items_are Io bus i has = record { c = IoWindow; of_space = refl; of = items_are q s (new_window q s) IoWindow (stays q s) bus i has; has = has }
+  space_items_are Memory bus i has =
+      elim (Contains-append_cases (items_on q s MemoryWindow (stays q s) (new_window q s MemoryWindow) bus) (items_on q s PrefetchWindow (stays q s) (new_window q s PrefetchWindow) bus) i has) [
+        | inl plain ↦ record { c = MemoryWindow; of_space = refl; of = items_are q s (new_window q s) MemoryWindow (stays q s) bus i plain; has = plain }
+        | inr prefetch ↦ record { c = PrefetchWindow; of_space = refl; of = items_are q s (new_window q s) PrefetchWindow (stays q s) bus i prefetch; has = prefetch }
+      ]
+
+  pub item_aligned : (space : Space) (bus : ℕ) (i : Item) → Contains (space_items q s space bus) i → IsPower i.extent.alignment
+  item_aligned space bus i has = let is = space_items_are space bus i has in item_power q s (new_window q s) is.c bus i (new_window_power is.c) is.of
+
+  pub item_positive : (space : Space) (bus : ℕ) (i : Item) → Contains (space_items q s space bus) i → 0 < i.extent.alignment
+  item_positive space bus i has = power_pos i.extent.alignment (item_aligned space bus i has)
+
+  -- a rank names one item
+  pub same_rank : IsSystem s → (space : Space) (bus : ℕ) (i : Item) → IsItemIn space bus i → (f : Function) (p : Part) → Contains s f → has_part f p ≡ true → rank i.region ≡ rank record { function = f; part = p }
+      → i ≡ item_by (new_window q s) (class_in q s f p) f p
+  same_rank system space bus i is f p listed there ranks =
+      let o = is.of in
+      let own : rank record { function = o.f; part = o.p } ≡ rank record { function = f; part = p } = ap (λ (j : Item). rank j.region) o.is ∙ ranks in
+      let low = register_of-lt o.f o.p o.there in
+      let high = register_of-lt f p there in
+      let slot : slot_number o.f.slot ≡ slot_number f.slot = omega (arith, own, low, high) in
+      let one : o.f ≡ f = one_function s system o.f f o.listed listed slot in
+      let register : register_of o.f o.p ≡ register_of f p = omega (arith, own, slot) in
+      let part : o.p ≡ p = part_same f o.p p (subst (λ g. has_part g o.p ≡ true) one o.there) there (sym (ap (λ g. register_of g o.p) one) ∙ register) in
+      sym o.is ∙ sym (ap (λ c. item_by (new_window q s) c o.f o.p) o.class) ∙ ap (λ g. item_by (new_window q s) (class_in q s g o.p) g o.p) one ∙ ap (λ o. item_by (new_window q s) (class_in q s f o) f o) part

@@ -1,0 +1,137 @@
+-- What has a new place is live, and each bridge above it is enabled.
+use Rattle.std.proofs.Common.{◌≡◌, ◌&&◌, ◌||◌, ℕ, zero, suc, ◌<◌, inl, inr, true, false, not, arith, refl, sym, ◌∙◌, ap, subst, Some}
+use Rattle.std.specs.Bool.{◌==◌}
+use Rattle.std.specs.List.{Contains, list_any}
+use Rattle.std.specs.Option.{is_some}
+use Rattle.std.proofs.lemmas.Bool.{and_from, cases_eq, eq-eqb, or_left, or_right}
+use Rattle.pci_spec.specs.Window.{WindowKind}
+use Rattle.pci_spec.specs.System.{System, Function, Space, Io, Part, has_part, is_bridge, is_implemented, is_space_on, is_window, space_of, window_space}
+use Rattle.pci_spec.specs.Bus.{secondary, is_behind, LeadsTo}
+use Rattle.pci_spec.proofs.BusRanges.{root_means}
+use Rattle.plan_spec.specs.Plan.{bridges_above}
+use Rattle.plan_spec.proofs.Planning.AboveBuses.{above_to, above_from, root_or_led}
+use Rattle.plan_spec.proofs.Planning.Behind.{any_from, behind_range}
+use Rattle.plan_spec.proofs.Planning.Safe.{order_of}
+use Rattle.settle_spec.specs.Lists.{Request}
+use Rattle.settle_spec.specs.Parts.{Region, is_part, has_left, header_parts, class_in, same_space}
+use Rattle.settle_spec.specs.Stands.{region_space}
+use Rattle.settle_spec.specs.Items.{Placed}
+use Rattle.settle_spec.specs.LiveLaws.{is_live, has_live_behind}
+use Rattle.settle_spec.specs.Places.{new_place}
+use Rattle.settle_spec.specs.Registers.{changing, got_place, has_own, is_enabled_in}
+use Rattle.settle_spec.proofs.Live.{live_by_bus}
+use Rattle.settle_spec.proofs.Nested.{at_secondary, bridge_between, is_no_root, one_bridge}
+use Rattle.settle_laws.specs.PlacesLaws.{CanSettle}
+use Rattle.settle_laws.proofs.Held.{above_above, own_by, same_itself}
+use Rattle.settle_laws.proofs.ItemForms.{IsPlaceable, IsOwnPart, IsNewWindow}
+use Rattle.settle_laws.proofs.ShownParts.{in_changing, header_of}
+use Rattle.settle_laws.proofs.PartPlaces.{part_placed, new_place_is, space_of_class, IsBehindOf, behind_of}
+use Rattle.settle_laws.proofs.Unleft.{unleft, unleft_itself}
+
+module _ (q : Request) (s : System) (can : CanSettle q s) where
+  -- ---- a function with a BAR or ROM that is looked at
+
+  -- a function with a live one on the bus behind it is live, if none of its BARs is left where that counts
+  live_by_behind : (space : Space) (b f : Function) → Contains s f → LeadsTo s b f.slot.bus → is_live q s space f ≡ true → not (same_space space Io && has_left q s b) ≡ true → (is_enabled_in q s space b ≡ true) × (is_live q s space b ≡ true)
+  live_by_behind space b f listed (in_b, bridge, to) live kept =
+      let behind : has_live_behind s (is_live q s space) b ≡ true =
+      and_from (is_bridge b) (list_any (λ g. g.slot.bus == secondary b && is_live q s space g) s) bridge
+      (any_from (λ g. g.slot.bus == secondary b && is_live q s space g) s f listed (and_from (f.slot.bus == secondary b) (is_live q s space f) (eq-eqb f.slot.bus (secondary b) (sym to)) live)) in
+      let enabled : is_enabled_in q s space b ≡ true =
+      and_from (not (same_space space Io && has_left q s b)) (is_space_on b space || got_place q s space b || has_live_behind s (is_live q s space) b) kept
+      (or_right (is_space_on b space || got_place q s space b) (has_live_behind s (is_live q s space) b) behind) in (
+        enabled,
+        live_by_bus q s space can.system can.nested b in_b
+            ∙ and_from (is_enabled_in q s space b) (has_own q s space b || has_live_behind s (is_live q s space) b) enabled (or_right (has_own q s space b) (has_live_behind s (is_live q s space) b) behind),
+      )
+
+  module _ (f : Function) (p : Part) (listed : Contains s f) (there : Contains (header_parts f) p) (part : is_part q s f p ≡ true) (plain : is_window p ≡ false) where
+    abbrev space : Space
+    space = space_of f p
+
+    pub has_own_here : has_own q s space f ≡ true
+    has_own_here = own_by q s can.system can.nested f listed p space there part plain refl
+
+    got_here : got_place q s space f ≡ true
+    got_here =
+        let r : Region = record { function = f; part = p } in
+        let x = part_placed q s can f p listed there part plain in
+        any_from (λ r. same_space space (region_space r) && is_some (new_place q s r)) (changing q s f) r
+        (in_changing q s can f listed p there (or_left (is_part q s f p) (is_window p && is_implemented f p) part))
+        (and_from (same_space space (space_of f p)) (is_some (new_place q s r)) (same_itself space) (ap is_some x.1))
+
+    enabled_here : is_enabled_in q s space f ≡ true
+    enabled_here =
+        let behind = has_live_behind s (is_live q s space) f in
+        and_from (not (same_space space Io && has_left q s f)) (is_space_on f space || got_place q s space f || behind) (unleft_itself q s can.system can.nested f space has_own_here)
+        (or_left (is_space_on f space || got_place q s space f) behind (or_right (is_space_on f space) (got_place q s space f) got_here))
+
+    pub live_here : is_live q s space f ≡ true
+    live_here =
+        live_by_bus q s space can.system can.nested f listed
+        ∙ and_from (is_enabled_in q s space f) (has_own q s space f || has_live_behind s (is_live q s space) f) enabled_here (or_left (has_own q s space f) (has_live_behind s (is_live q s space) f) has_own_here)
+
+  -- ---- bridges above
+
+  -- bridges above what is live are, if none of their BARs is left where that counts
+  live_above : (n : ℕ) (space : Space) (g b : Function) → g.slot.bus < n → Contains s g → is_live q s space g ≡ true → Contains (bridges_above s g.slot.bus) b
+      → ((d : Function) → Contains (bridges_above s g.slot.bus) d → not (same_space space Io && has_left q s d) ≡ true) → is_live q s space b ≡ true
+  live_above zero space g b less listed live above kept = absurd (let no : ⊥ = omega (arith, less) in no)
+  live_above (suc n) space g b less listed live above kept = elim (root_or_led q.roots s can.system can.nested g listed) [
+    | inl root ↦ (let is = above_to s g.slot.bus b above in absurd (is_no_root q.roots s can.system can.nested b g.slot.bus is.listed is.bridge is.behind ((root_means q.roots g.slot.bus).1 root)))
+    | inr (d, leader) ↦
+        let is = above_to s g.slot.bus b above in
+        let to = leader.leads in
+        let up = order_of q.roots s can.nested d leader.listed leader.bridge in
+        let in_d = above_from s g.slot.bus d record { listed = leader.listed; bridge = leader.bridge; behind = at_secondary q.roots s can.system can.nested d g.slot.bus leader.listed leader.bridge to } in
+        let live_d = (live_by_behind space d g listed (leader.listed, leader.bridge, to) live (kept d in_d)).1 in
+        elim (cases_eq (secondary b) (secondary d)) [
+          | inl same ↦ subst (λ x. is_live q s space x ≡ true) (sym (one_bridge q.roots s can.system can.nested b d is.listed leader.listed is.bridge leader.bridge same)) live_d
+          | inr differ ↦
+              let behind = subst (λ bus. is_behind b bus ≡ true) (sym to) is.behind in
+              let low = (behind_range b (secondary d) behind).0 in
+              let between = bridge_between q.roots s can.system can.nested b d is.listed leader.listed is.bridge leader.bridge behind (omega (arith, low, differ)) in
+              live_above n space d b (omega (arith, less, to, up)) leader.listed live_d (above_from s d.slot.bus b record { listed = is.listed; bridge = is.bridge; behind = between })
+              (λ e in_e. kept e (above_above q s can.system can.nested g d e in_d in_e))
+        ]
+  ]
+
+  -- ---- what has a new place
+
+  -- it serves a BAR or ROM, and lives
+  pub record IsServing (space : Space) (f : Function) : Type 0 where
+    pub for : Function
+    pub own : has_own q s space for ≡ true
+    pub up : (d : Function) → Contains (bridges_above s f.slot.bus) d → Contains (bridges_above s for.slot.bus) d
+    pub live : is_live q s space f ≡ true
+
+  serves_own : (f : Function) (p : Part) → Contains s f → Contains (header_parts f) p → is_part q s f p ≡ true → is_window p ≡ false → IsServing (space_of f p) f
+  serves_own f p listed there part plain = record { for = f; own = has_own_here f p listed there part plain; up = λ d has. has; live = live_here f p listed there part plain }
+
+  serves_behind : (c : WindowKind) (f : Function) → IsBehindOf q s can c f → IsServing (window_space c) f
+  serves_behind c f is =
+      let space = space_of is.f is.p in
+      let same : space ≡ window_space c = sym (space_of_class q s can.anew is.f is.p) ∙ ap window_space is.class in
+      let own = has_own_here is.f is.p is.listed is.there is.part is.plain in
+      subst (λ sp. IsServing sp f) same record {
+        for = is.f;
+        own = own;
+        up = λ d has. above_above q s can.system can.nested is.f f d is.above has;
+        live = live_above (suc is.f.slot.bus) space is.f f (omega arith) is.listed (live_here is.f is.p is.listed is.there is.part is.plain) is.above
+            (λ d has. unleft q s can.system can.nested is.f d space own has);
+      }
+
+  pub serves : (f : Function) (p : Part) → Contains s f → has_part f p ≡ true → (x : Placed) → new_place q s record { function = f; part = p } ≡ Some x → IsServing (space_of f p) f
+  serves f p listed there x placed = by (new_place_is q s can f p listed there x placed).placeable
+    where
+      by : IsPlaceable q s (class_in q s f p) f p → IsServing (space_of f p) f
+      by (IsOwnPart plain part) = serves_own f p listed (header_of q s can f listed p there) part plain
+      by (IsNewWindow window bridge has) =
+          let of = serves_behind (class_in q s f p) f (behind_of q s can (class_in q s f p) f listed bridge has) in
+          subst (λ sp. IsServing sp f) (space_of_class q s can.anew f p) of
+
+  -- the bridge that leads to its bus is enabled
+  pub enabled_over : (space : Space) (f b : Function) → Contains s f → IsServing space f → LeadsTo s b f.slot.bus → is_enabled_in q s space b ≡ true
+  enabled_over space f b listed is leads =
+      let above = above_from s f.slot.bus b record { listed = leads.0; bridge = leads.1; behind = at_secondary q.roots s can.system can.nested b f.slot.bus leads.0 leads.1 leads.2 } in
+      (live_by_behind space b f listed leads is.live (unleft q s can.system can.nested is.for b space is.own (is.up b above))).0

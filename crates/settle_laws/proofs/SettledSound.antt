@@ -1,0 +1,159 @@
+-- What settling comes to is sound: at most one region claims an address, and each is reached.
+use Rattle.std.proofs.Common.{◌≡◌, ◌&&◌, ℕ, inl, inr, Bool, true, false, refl, sym, ◌∙◌, ap, subst}
+use Rattle.std.specs.List.{Contains}
+use Rattle.std.proofs.lemmas.Bool.{and_parts, and_from, both_ways, or_cases, or_left, or_right}
+use Rattle.pci_spec.specs.Header.{rom_register}
+use Rattle.pci_spec.specs.Window.{WindowKind, IoWindow, MemoryWindow, PrefetchWindow, holds}
+use Rattle.pci_spec.specs.Decoded.{InRange}
+use Rattle.pci_spec.specs.System.{System, Function, Space, Io, Memory, Part, Bar, Rom, Window, Claims, is_bridge, is_prefetchable_part, is_space_on, is_window, space_of, window_space, window_claims, passes, register_of}
+use Rattle.pci_spec.specs.Bus.{LeadsTo}
+use Rattle.pci_spec.specs.Sound.{IsSingle, IsHome, IsSound}
+use Rattle.pci_spec.proofs.Members.{in_map_to, IsMade}
+use Rattle.pci_spec.proofs.WindowLaws.{held, window_holds_its_pages}
+use Rattle.plan_spec.specs.Plan.{same_class}
+use Rattle.plan_spec.specs.Planning.Layout.{range_of, AreBeside, AreTwo, LieApart}
+use Rattle.plan_spec.specs.Planning.Ranges.{Ranges}
+use Rattle.plan_spec.proofs.PlanningLaws.{moved_is_nested, moved_has_chains}
+use Rattle.plan_spec.proofs.Planning.Home.{home_by_steps}
+use Rattle.plan_spec.proofs.Planning.LaidOut.{place_of_claim}
+use Rattle.plan_spec.proofs.Planning.Moved.{secondary_same}
+use Rattle.plan_spec.proofs.Planning.Single.{single_by_ranges}
+use Rattle.settle_spec.specs.Lists.{Request}
+use Rattle.settle_spec.specs.Parts.{class_in}
+use Rattle.settle_spec.specs.Items.{taken_by}
+use Rattle.settle_spec.specs.Registers.{settled, settled_function}
+use Rattle.settle_laws.specs.PlacesLaws.{CanSettle}
+use Rattle.settle_laws.proofs.Claimed.{bridge_stays, new_decodable, window_place, claimed, passed_over}
+use Rattle.settle_laws.proofs.InWindows.{are_apart}
+use Rattle.settle_laws.proofs.Moves.{was, moves, all_move, new_profile}
+use Rattle.settle_laws.proofs.PartPlaces.{prefetch_of_class, space_of_class}
+use Rattle.settle_laws.proofs.SettledMoved.{kind_stays}
+
+-- a window of this class passes what may use it
+passes_by : (c : WindowKind) (space : Space) (prefetchable : Bool) (a : ℕ) (b : Function) → window_space c ≡ space → (c ≡ PrefetchWindow → prefetchable ≡ true) → window_claims b c a ≡ true → passes space prefetchable a b ≡ true
+passes_by c space prefetchable a b at may h = subst (λ sp. passes sp prefetchable a b ≡ true) at (by c may h)
+  where
+    by : (c : WindowKind) → (c ≡ PrefetchWindow → prefetchable ≡ true) → window_claims b c a ≡ true → passes (window_space c) prefetchable a b ≡ true
+    by IoWindow may h = h
+    by MemoryWindow may h = or_left (window_claims b MemoryWindow a) (prefetchable && window_claims b PrefetchWindow a) h
+    by PrefetchWindow may h = or_right (window_claims b MemoryWindow a) (prefetchable && window_claims b PrefetchWindow a) (and_from prefetchable (window_claims b PrefetchWindow a) (may refl) h)
+
+record IsPassedBy (space : Space) (prefetchable : Bool) (a : ℕ) (b : Function) : Type 0 where
+  class : WindowKind
+  at : window_space class ≡ space
+  may : class ≡ PrefetchWindow → prefetchable ≡ true
+  claims : window_claims b class a ≡ true
+
+no_prefetch : (c : WindowKind) → same_class PrefetchWindow c ≡ false → {P : Type 0} → c ≡ PrefetchWindow → P
+no_prefetch c differ e = absurd (both_ways (same_class PrefetchWindow c) differ (ap (same_class PrefetchWindow) e))
+
+passed_by : (space : Space) (prefetchable : Bool) (a : ℕ) (b : Function) → passes space prefetchable a b ≡ true → IsPassedBy space prefetchable a b
+passed_by Io prefetchable a b h = record { class = IoWindow; at = refl; may = λ e. no_prefetch IoWindow refl e; claims = h }
+passed_by Memory prefetchable a b h = elim (or_cases (window_claims b MemoryWindow a) (prefetchable && window_claims b PrefetchWindow a) h) [
+  | inl plain ↦ record { class = MemoryWindow; at = refl; may = λ e. no_prefetch MemoryWindow refl e; claims = plain }
+  | inr other ↦ (let parts = and_parts prefetchable (window_claims b PrefetchWindow a) other in record { class = PrefetchWindow; at = refl; may = λ e. parts.0; claims = parts.1 })
+]
+
+module _ (q : Request) (s : System) (can : CanSettle q s) where
+  abbrev now : Function → Function
+  now f = settled_function q s f
+
+  -- a bridge that leads to a bus did so before
+  led_before : (b : Function) (bus : ℕ) → Contains s b → LeadsTo (settled q s) (now b) bus → LeadsTo s b bus
+  led_before b bus listed (in_t, bridge, to) =
+      let was_bridge : is_bridge b ≡ true = sym (bridge_stays q s can b listed) ∙ bridge in
+      (listed, was_bridge, sym (secondary_same b (now b) (moves q s can b listed) (was q s can b listed).image was_bridge) ∙ to)
+
+  -- parts keep their spaces and their registers
+  same_space : (f : Function) (p : Part) → space_of f p ≡ space_of (now f) p
+  same_space f (Bar n) = refl
+  same_space f Rom = refl
+  same_space f (Window kind) = refl
+
+  same_register : (f : Function) (p : Part) → Contains s f → register_of (now f) p ≡ register_of f p
+  same_register f (Bar n) listed = refl
+  same_register f Rom listed = ap rom_register (kind_stays q s can.system can.profile f listed)
+  same_register f (Window kind) listed = refl
+
+  -- ---- home
+
+  part_prefetch : (f : Function) (p : Part) → is_window p ≡ false → class_in q s f p ≡ PrefetchWindow → is_prefetchable_part (now f) p ≡ true
+  part_prefetch f (Bar n) plain e = (prefetch_of_class q s can.anew f n e).0
+  part_prefetch f Rom plain e = no_prefetch MemoryWindow refl e
+  part_prefetch f (Window kind) plain e = absurd (both_ways true plain refl)
+
+  first_step : (f b : Function) (p : Part) (space : Space) (a : ℕ) → Contains s f → Contains s b → is_window p ≡ false → Claims (now f) p space a → LeadsTo s b f.slot.bus → passes space (is_prefetchable_part (now f) p) a (now b) ≡ true
+  first_step f b p space a in_f in_b plain claim leads =
+      let range = (place_of_claim (now f) p space a (new_decodable q s can f in_f) claim).range in
+      passes_by (class_in q s f p) space (is_prefetchable_part (now f) p) a (now b) (space_of_class q s can.anew f p ∙ same_space f p ∙ claim.maps) (part_prefetch f p plain)
+      (passed_over q s can f b p a in_f (claimed q s can f p space a in_f claim) range leads)
+
+  next_step : (b d : Function) (space : Space) (prefetchable : Bool) (a : ℕ) → Contains s b → Contains s d → is_bridge b ≡ true → passes space prefetchable a (now b) ≡ true → LeadsTo s d b.slot.bus → passes space prefetchable a (now d) ≡ true
+  next_step b d space prefetchable a in_b in_d bridge passed leads =
+      let by = passed_by space prefetchable a (now b) passed in
+      let c = by.class in
+      let h = (and_parts (is_space_on (now b) (window_space c)) (holds c (now b).image b.probe a) by.claims).1 in
+      let there = (held c (now b).image b.probe a h).there in
+      passes_by c space prefetchable a (now d) by.at by.may
+      (passed_over q s can b d (Window c) a in_b (window_place q s can b in_b c a bridge h) ((window_holds_its_pages c (now b).image b.probe a there).0 h) leads)
+
+  abbrev of_old : (g : Function) → Contains (settled q s) g → IsMade now s g
+  of_old g has = in_map_to now s g has
+
+  home : IsHome q.roots (settled q s)
+  home = home_by_steps q.roots (settled q s) (moved_is_nested q.roots s (settled q s) (all_move q s can) can.system can.nested)
+      (λ g c p space a in_g plain claim leads.
+      let f : IsMade now s g = of_old g in_g in
+      let b : IsMade now s c = of_old c leads.0 in
+      let claim_f : Claims (now f.from) p space a = subst (λ x. Claims x p space a) (sym f.is) claim in
+      let leads_b : LeadsTo (settled q s) (now b.from) f.from.slot.bus = subst (λ x. LeadsTo (settled q s) x f.from.slot.bus) (sym b.is) (subst (λ (x : Function). LeadsTo (settled q s) c x.slot.bus) (sym f.is) leads) in
+      subst (λ x. passes space (is_prefetchable_part g p) a x ≡ true) b.is
+      (subst (λ x. passes space (is_prefetchable_part x p) a (now b.from) ≡ true) f.is
+      (first_step f.from b.from p space a f.has b.has plain claim_f (led_before b.from f.from.slot.bus b.has leads_b))))
+      (λ g c space prefetchable a in_g bridge passed leads.
+      let f : IsMade now s g = of_old g in_g in
+      let b : IsMade now s c = of_old c leads.0 in
+      let bridge_f : is_bridge f.from ≡ true = sym (bridge_stays q s can f.from f.has) ∙ ap is_bridge f.is ∙ bridge in
+      let leads_b : LeadsTo (settled q s) (now b.from) f.from.slot.bus = subst (λ x. LeadsTo (settled q s) x f.from.slot.bus) (sym b.is) (subst (λ (x : Function). LeadsTo (settled q s) c x.slot.bus) (sym f.is) leads) in
+      subst (λ x. passes space prefetchable a x ≡ true) b.is
+      (next_step f.from b.from space prefetchable a f.has b.has bridge_f (ap (passes space prefetchable a) f.is ∙ passed) (led_before b.from f.from.slot.bus b.has leads_b)))
+
+  -- ---- single
+
+  abbrev ranges : Ranges
+  ranges = record { first = λ f p space. (range_of f p).first; last = λ f p space. (range_of f p).last }
+
+  regions_apart : (f g : Function) (p r : Part) (space : Space) (a : ℕ) → Contains s f → Contains s g → AreBeside q.roots (now f) (now g) → Claims (now f) p space a → Claims (now g) r space a → AreTwo (now f) p (now g) r
+      → LieApart (range_of (now f) p) (range_of (now g) r)
+  regions_apart f g p r space a in_f in_g beside claim_f claim_g two =
+      let x = claimed q s can f p space a in_f claim_f in
+      let y = claimed q s can g r space a in_g claim_g in
+      subst (λ v. LieApart v (range_of (now g) r)) (sym x.shown) (subst (LieApart (taken_by x.at.item x.at.at)) (sym y.shown)
+      (are_apart q s can f g p r in_f in_g x.there y.there (same_space f p ∙ claim_f.maps ∙ sym claim_g.maps ∙ sym (same_space g r)) beside (two_before two) x.at y.at x.placed y.placed))
+    where
+      two_before : AreTwo (now f) p (now g) r → AreTwo f p g r
+      two_before (inl slots) = inl slots
+      two_before (inr differ) = inr (λ e. differ (same_register f p in_f ∙ e ∙ sym (same_register g r in_g)))
+
+  single : IsSingle q.roots (settled q s)
+  single = single_by_ranges q.roots (settled q s) ranges
+      (λ g p space a in_g claim.
+      let f : IsMade now s g = of_old g in_g in
+      subst (λ (x : Function). InRange (range_of x p) a) f.is (place_of_claim (now f.from) p space a (new_decodable q s can f.from f.has) (subst (λ x. Claims x p space a) (sym f.is) claim)).range)
+      (λ g h p r space a in_g in_h beside claim_g claim_h two.
+      let f : IsMade now s g = of_old g in_g in
+      let e : IsMade now s h = of_old h in_h in
+      subst (λ x. LieApart (range_of x p) (range_of h r)) f.is (subst (λ x. LieApart (range_of (now f.from) p) (range_of x r)) e.is
+      (regions_apart f.from e.from p r space a f.has e.has
+      (subst (λ x. AreBeside q.roots x (now e.from)) (sym f.is) (subst (AreBeside q.roots g) (sym e.is) beside))
+      (subst (λ x. Claims x p space a) (sym f.is) claim_g) (subst (λ x. Claims x r space a) (sym e.is) claim_h)
+      (subst (λ x. AreTwo x p (now e.from) r) (sym f.is) (subst (λ x. AreTwo g p x r) (sym e.is) two)))))
+
+  pub settled_sound : IsSound q.roots (settled q s)
+  settled_sound = record {
+    single = single;
+    home = home;
+    nested = moved_is_nested q.roots s (settled q s) (all_move q s can) can.system can.nested;
+    profile = new_profile q s can;
+    chains = moved_has_chains s (settled q s) (all_move q s can) can.system can.chains;
+  }

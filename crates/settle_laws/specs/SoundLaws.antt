@@ -1,0 +1,73 @@
+-- Laws of what settling comes to where nothing stands: it shows the new places, changes nothing else, and is sound.
+use Rattle.std.specs.Prelude.{◌≡◌, ℕ, ◌≤◌, ◌⊎◌, IsTrue, IsFalse, None, length, take}
+use Rattle.std.specs.List.{AllZip, Contains}
+use Rattle.pci_spec.specs.Window.{WindowKind}
+use Rattle.pci_spec.specs.System.{System, Function, Part, Window, is_space_on, space_of}
+use Rattle.pci_spec.specs.Bus.{LeadsTo}
+use Rattle.pci_spec.specs.Machine.{system_after}
+use Rattle.pci_spec.specs.Sound.{IsInProfile, IsSound}
+use Rattle.plan_spec.specs.Plan.{IsMoved, is_open}
+use Rattle.plan_spec.specs.Planning.Layout.{range_of}
+use Rattle.settle_spec.specs.Lists.{Request}
+use Rattle.settle_spec.specs.Stands.{window_region}
+use Rattle.settle_spec.specs.Items.{Placed, taken_by}
+use Rattle.settle_spec.specs.Places.{new_place}
+use Rattle.settle_spec.specs.Registers.{settled, settled_function}
+use Rattle.settle_spec.specs.Writes.{closings, settle_writes}
+use Rattle.settle_laws.specs.PlacesLaws.{CanSettle, GetsPlace}
+
+-- ---- registers
+
+-- Each part that gets a place has just these addresses once it is settled,
+abbrev pub SettledShowsPlaces : Type 0
+SettledShowsPlaces =
+    (q : Request) (s : System) → CanSettle q s → (f : Function) (p : Part) (x : Placed)
+    → GetsPlace q s f p x → range_of (settled_function q s f) p ≡ taken_by x.item x.at
+
+-- and each window that gets one is open,
+abbrev pub SettledOpensPlaces : Type 0
+SettledOpensPlaces =
+    (q : Request) (s : System) → CanSettle q s → (b : Function) (kind : WindowKind) (x : Placed)
+    → GetsPlace q s b (Window kind) x → IsTrue (is_open (settled_function q s b) kind)
+
+-- and no other.
+abbrev pub SettledClosesTheRest : Type 0
+SettledClosesTheRest =
+    (q : Request) (s : System) → CanSettle q s → (b : Function) (kind : WindowKind) → Contains s b
+    → new_place q s (window_region kind b) ≡ None → IsFalse (is_open (settled_function q s b) kind)
+
+-- Address bits and Command's enables of I/O and memory alone change,
+abbrev pub SettlingMoves : Type 0
+SettlingMoves = (q : Request) (s : System) → CanSettle q s → AllZip IsMoved s (settled q s)
+
+-- so what is settled is in the profile.
+abbrev pub SettledIsInProfile : Type 0
+SettledIsInProfile =
+    (q : Request) (s : System) → CanSettle q s → IsInProfile q.roots (settled q s)
+
+-- ---- Command
+
+-- The bridge to the bus of what gets a place is enabled.
+abbrev pub BridgesAreEnabled : Type 0
+BridgesAreEnabled =
+    (q : Request) (s : System) → CanSettle q s → (f b : Function) (p : Part) (x : Placed)
+    → GetsPlace q s f p x → LeadsTo s b f.slot.bus
+    → IsTrue (is_space_on (settled_function q s b) (space_of f p))
+
+-- ---- the whole
+
+-- What settling comes to is sound.
+abbrev pub SettledIsSound : Type 0
+SettledIsSound = (q : Request) (s : System) → CanSettle q s → IsSound q.roots (settled q s)
+
+-- So its writes can stop anywhere once the closing ones are made, and from a sound start anywhere at all;
+abbrev pub SettlingCanStop : Type 0
+SettlingCanStop =
+    (q : Request) (s : System) → CanSettle q s → (k : ℕ)
+    → (length (closings q s s) ≤ k) ⊎ IsSound q.roots s
+    → IsSound q.roots (system_after s (take k (settle_writes q s)))
+
+-- and after all of them the system is the settled one.
+abbrev pub SettlingSettles : Type 0
+SettlingSettles =
+    (q : Request) (s : System) → CanSettle q s → system_after s (settle_writes q s) ≡ settled q s

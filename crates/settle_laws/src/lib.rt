@@ -1,0 +1,12 @@
+//! Laws of settling: its writes lead to the settled system, change no more than they have to, and can stop
+//! anywhere. What they speak of is in `settle_spec`.
+//!
+//! In their comments "PCI 3.0" is the PCI Local Bus Specification 3.0, and "Bridge 1.2" the PCI-to-PCI
+//! Bridge Architecture Specification 1.2.
+#![tactic(auto)]
+
+pub mod again_laws;
+pub mod places_laws;
+pub mod plan_laws;
+pub mod sound_laws;
+pub mod write_laws;
