@@ -1,5 +1,6 @@
 pub mod PlacedParts
 pub mod PlacedImages
+pub mod KeptClaims
 pub mod PlacedClaims
 pub mod Registers
 pub mod LiveBuses

@@ -33,7 +33,8 @@ use Rattle.pci_settled.specs.Anew.{ArePlacedAnew}
 use Rattle.pci_settling.specs.Images.{IsPlacedAnew}
 use Rattle.pci_settling.specs.Claims.{has_kept}
 use Rattle.pci_settling.specs.Live.{AreLiveBuses, is_live_behind, is_live_by}
-use Rattle.pci_settling.proofs.PlacedClaims.{kept_are, enabled_is}
+use Rattle.pci_settling.proofs.KeptClaims.{kept_are}
+use Rattle.pci_settling.proofs.PlacedClaims.{enabled_is}
 
 -- what none of the first passes is passed by the rest alone
 any_drop : {X : Type 0} (p : X → Bool) (n : ℕ) (xs : List X) → ((j : ℕ) (d : X) → j < n → j < length xs → p (get_or xs j d) ≡ false) → list_any p (drop n xs) ≡ list_any p xs
@@ -108,7 +109,7 @@ module _ (roots : List ℕ) (s : System) (system : IsSystem s) (nested : IsNeste
     pub live_is : (behind : Bool) → behind ≡ has_live_behind s (is_live q s space) f → is_live_by space (get_or table k d) above t r behind ≡ is_live q s space f
     live_is behind same =
         ap (λ b. b && (has_kept space above t r || behind)) (enabled_is q s f r f.image (get_or table k d) placed_here above over t anew.terms space (is_live q s space) behind same)
-        ∙ ap (λ b. is_enabled_in q s space f && (b || behind)) (kept_are q s f r f.image (get_or table k d) placed_here above over t anew.terms space)
+        ∙ ap (λ b. is_enabled_in q s space f && (b || behind)) (kept_are q s f r is above over t anew.terms space)
         ∙ ap (λ b. is_enabled_in q s space f && (has_own q s space f || b)) same
         ∙ sym (live_by_bus q s space system nested_for f is.listed)
 

@@ -26,7 +26,7 @@ fn is_bar_of(space: Space, bar: &Bar) -> bool
 }
 
 /// Whether a function has an I/O BAR that is left.
-fn has_left_bar(record: &Record, above: Above, terms: Terms) -> bool
+pub fn has_left_bar(record: &Record, above: Above, terms: Terms) -> bool
     ensures { result ≡ has_left_bar «record».now above terms }
 {
     for bar in record.bars.as_slice() {
