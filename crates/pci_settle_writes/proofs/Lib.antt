@@ -1,0 +1,12 @@
+pub mod Tables
+pub mod Ways
+pub mod StagedWrites
+pub mod ChangedRegisters
+pub mod States
+pub mod Closings
+pub mod SettledDumps
+pub mod Lacking
+pub mod Endings
+pub mod Refusals
+pub mod Written
+pub mod SettledSound

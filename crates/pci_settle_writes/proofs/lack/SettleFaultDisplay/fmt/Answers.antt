@@ -1,0 +1,9 @@
+use Rattle.std.proofs.Common.{rules}
+use Rattle.std.proofs.lemmas.List.{append_assoc}
+use Rattle.pci_settle_writes.proofs.lack.SettleFaultDisplay.fmt.Goals as goal
+
+pub returns-in-NoRoom-clause-writes : goal.returns-in-NoRoom-clause-writes
+returns-in-NoRoom-clause-writes g c = search (rules, append_assoc)
+
+pub returns-in-TooLarge-clause-writes : goal.returns-in-TooLarge-clause-writes
+returns-in-TooLarge-clause-writes g c = search (rules, append_assoc)

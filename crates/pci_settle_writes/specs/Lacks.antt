@@ -1,0 +1,65 @@
+-- What has no place, as the code names it.
+use Rattle.std.specs.Prelude.{◌≡◌, ℕ, ◌<◌, Bool, List, length, Some}
+use Rattle.std.specs.Option.{is_some}
+use Rattle.pci_spec.specs.Header.{bar_register, rom_place}
+use Rattle.pci_spec.specs.Window.{WindowKind, window_register}
+use Rattle.pci_spec.specs.System.{System}
+use Rattle.settle_spec.specs.Lists.{Lists}
+use Rattle.settle_spec.specs.Writes.{Settling, NoRoom, or_lack}
+use Rattle.pci_base.specs.declared.memory.Refused.TheVariants as refused
+use Rattle.pci_base.specs.WindowKinds.{kind_value}
+use Rattle.pci_function.specs.declared.record.Record.{Record}
+use Rattle.pci_place.specs.Items.{function_in}
+use Rattle.pci_settle.specs.declared.item.Part.{Part as CodePart}
+use Rattle.pci_settle.specs.declared.item.Part.TheVariants as parts
+use Rattle.pci_settled.specs.declared.candidate.Candidate.{Candidate}
+use Rattle.pci_settled.specs.declared.anew.Unplaced.{Unplaced}
+use Rattle.pci_settled.specs.declared.anew.Unplaced.TheVariants as unplaced
+use Rattle.pci_settled.specs.Anew.{IsUnplaced}
+use Rattle.pci_settled.specs.Candidates.{candidate_value}
+use Rattle.pci_settled.specs.Places.{IsPart}
+use Rattle.pci_settle_writes.specs.declared.lack.Lack.{Lack}
+use Rattle.pci_settle_writes.specs.declared.lack.SettleFault.{SettleFault}
+use Rattle.pci_settle_writes.specs.declared.lack.SettleFault.TheVariants as fault
+
+abbrev pub fault_number : SettleFault → ℕ
+fault_number fault.BadLists = 70
+fault_number (fault.NoRoom lack) = 72
+fault_number (fault.TooLarge class slot) = 72
+
+abbrev pub part_register : Bool → WindowKind → CodePart → ℕ
+part_register bridge c (parts.Bar n) = bar_register n
+part_register bridge c parts.Rom = rom_place bridge
+part_register bridge c parts.Window = window_register c
+
+abbrev pub lack_by : Record → Candidate → Lack
+lack_by r x = record {
+  class = x.class;
+  slot = r.slot;
+  register = part_register (is_some r.bridge) (kind_value x.class) x.item.part;
+  size = x.item.extent.size;
+  alignment = x.item.extent.alignment;
+}
+
+-- it is of a function of the system
+abbrev pub IsNamed : System → Unplaced → Type 0
+IsNamed s (unplaced.Lacks x) = (x.item.function < length s) × IsPart x.item.part
+IsNamed s (unplaced.TooLarge class k) = k < length s
+
+-- there are lists in which it can't be placed
+abbrev pub IsLackIn : List ℕ → System → Unplaced → Type 0
+IsLackIn roots s u = (l : Lists) × IsUnplaced roots s l (refused.Fault u)
+
+-- as settling ends where this has no place
+abbrev pub no_room : Lack → Settling
+no_room l = NoRoom (kind_value l.class) l.slot l.register l.size l.alignment
+
+-- the fault names just that
+abbrev pub IsFaultOf : System → Unplaced → SettleFault → Type 0
+IsFaultOf s u fault.BadLists = ⊥
+IsFaultOf s (unplaced.Lacks x) (fault.NoRoom lack) =
+    (other : Settling) → or_lack (Some (candidate_value s x)) other ≡ no_room lack
+IsFaultOf s (unplaced.Lacks x) (fault.TooLarge class slot) = ⊥
+IsFaultOf s (unplaced.TooLarge class k) (fault.NoRoom lack) = ⊥
+IsFaultOf s (unplaced.TooLarge class k) (fault.TooLarge named slot) =
+    (named ≡ class) × (slot ≡ (function_in s k).slot)

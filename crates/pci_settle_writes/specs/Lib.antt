@@ -1,0 +1,7 @@
+pub mod Requests
+pub mod Dumps
+pub mod Shut
+pub mod Stages
+pub mod Lacks
+pub mod Endings
+pub mod FaultText

@@ -1,0 +1,178 @@
+//! Why nothing is settled.
+ghost use Rattle.std.specs.Prelude.{◌≡◌, Some};
+ghost use Rattle.std.specs.Option.{is_some};
+ghost use Rattle.pci_base.specs.WindowKinds.{kind_value};
+ghost use Rattle.pci_place.specs.Above.{system_in};
+ghost use Rattle.pci_settled.specs.Places.{IsPart};
+ghost use Rattle.pci_settle_writes.specs.Lacks.{fault_number, part_register, lack_by, IsLackIn, IsFaultOf};
+
+use pci_base::offset::BASE_ADDRESS;
+use pci_base::slot::Slot;
+use pci_base::window_kind::WindowKind;
+use pci_function::record::Record;
+use pci_image::register::rom_register;
+use pci_settle::item::Part;
+use pci_settled::anew::Unplaced;
+use pci_settled::candidate::Candidate;
+use pci_tree::admitted::Admitted;
+use std::alloc::Allocator;
+use std::fmt;
+
+/// What has no place.
+#[derive(Clone, Copy, Debug, PartialEq, Eq)]
+pub struct Lack {
+    pub class: WindowKind,
+    pub slot: Slot,
+    /// The offset that names the part.
+    pub register: u8,
+    /// How many addresses it takes.
+    pub size: u64,
+    /// What its first address has to be a multiple of.
+    pub alignment: u64,
+}
+
+/// Why nothing is settled.
+#[derive(Clone, Copy, Debug, PartialEq, Eq)]
+pub enum SettleFault {
+    /// 70: a range is backward or of a bus that is no root, two ranges of a list share an address, I/O ends above FFFFh or
+    /// memory above FFFFFFFFh.
+    BadLists,
+    /// 72: this is the first on the roots that has no place.
+    NoRoom(Lack),
+    /// 72: what is of the class behind the bridge at the slot would take a window of 2^64 addresses or more.
+    TooLarge { class: WindowKind, slot: Slot },
+}
+
+impl SettleFault {
+    /// The fault's number, 70 or 72.
+    pub fn number(&self) -> u8
+        ensures { result ≡ fault_number self.now }
+    {
+        match self {
+            SettleFault::BadLists => 70,
+            SettleFault::NoRoom(_) | SettleFault::TooLarge { .. } => 72,
+        }
+    }
+}
+
+/// A part of a class.
+#[derive(Clone, Copy)]
+struct Named {
+    class: WindowKind,
+    slot: Slot,
+    register: u8,
+}
+
+/// Its class, its slot and its register.
+impl fmt::Display for Named {
+    ghost use Rattle.pci_base.specs.WindowKinds.{kind_value};
+    ghost use Rattle.pci_settle_writes.specs.FaultText.{part_text};
+
+    ghost output = { λ p. Some (part_text (kind_value p.class) p.slot p.register) };
+
+    fn fmt<W: fmt::Write>(&self, f: &mut fmt::Formatter<W>) -> fmt::Result {
+        let (name, slot, register) = (self.class.name(), self.slot, self.register);
+        write!(f, "{name} {slot} {register:02x}")
+    }
+}
+
+/// A size and an alignment.
+#[derive(Clone, Copy)]
+struct Sizes {
+    size: u64,
+    alignment: u64,
+}
+
+/// Both in hex digits, without zeros in front.
+impl fmt::Display for Sizes {
+    ghost use Rattle.pci_settle_writes.specs.FaultText.{sizes_text};
+
+    ghost output = { λ s. Some (sizes_text s.size s.alignment) };
+
+    fn fmt<W: fmt::Write>(&self, f: &mut fmt::Formatter<W>) -> fmt::Result {
+        let (size, alignment) = (self.size, self.alignment);
+        write!(f, "{size:x} {alignment:x}")
+    }
+}
+
+/// The fault's number, its name and what it names: of a part its size and its alignment too.
+impl fmt::Display for SettleFault {
+    ghost use Rattle.pci_settle_writes.specs.FaultText.{settle_fault_text};
+
+    ghost output = { λ f. Some (settle_fault_text f) };
+
+    fn fmt<W: fmt::Write>(&self, f: &mut fmt::Formatter<W>) -> fmt::Result {
+        match *self {
+            SettleFault::BadLists => write!(f, "70 BadPools"),
+            SettleFault::NoRoom(lack) => {
+                let part = Named {
+                    class: lack.class,
+                    slot: lack.slot,
+                    register: lack.register,
+                };
+                let sizes = Sizes {
+                    size: lack.size,
+                    alignment: lack.alignment,
+                };
+                write!(f, "72 NoRoom {part} {sizes}")
+            }
+            SettleFault::TooLarge { class, slot } => {
+                let register = class.register();
+                let part = Named {
+                    class,
+                    slot,
+                    register,
+                };
+                write!(f, "72 NoRoom {part}")
+            }
+        }
+    }
+}
+
+/// The offset that names a part of a function.
+fn register_of(record: &Record, class: WindowKind, part: Part) -> u8
+    requires { IsPart part }
+    ensures { result ≡ part_register (is_some «record».now.bridge) (kind_value class) part }
+{
+    match part {
+        Part::Bar(n) => BASE_ADDRESS + 4 * n,
+        Part::Rom => rom_register(record.bridge.is_some()),
+        Part::Window => class.register(),
+    }
+}
+
+/// What an item of a function lacks.
+fn lack_of(record: &Record, candidate: Candidate) -> Lack
+    requires { IsPart candidate.item.part }
+    ensures { result ≡ lack_by «record».now candidate }
+{
+    Lack {
+        class: candidate.class,
+        slot: record.slot,
+        register: register_of(record, candidate.class, candidate.item.part),
+        size: candidate.item.extent.size,
+        alignment: candidate.item.extent.alignment,
+    }
+}
+
+/// The fault where this can't be placed.
+pub fn fault_of<A: Allocator>(admitted: &Admitted<A>, unplaced: Unplaced) -> SettleFault
+    requires { IsLackIn admitted.now.roots (system_in admitted.now) unplaced }
+    ensures { IsFaultOf (system_in admitted.now) unplaced result }
+{
+    let outline = admitted.outline();
+    let records = outline.records();
+    match unplaced {
+        Unplaced::Lacks(candidate) => {
+            let record = &records[candidate.item.function];
+            SettleFault::NoRoom(lack_of(record, candidate))
+        }
+        Unplaced::TooLarge { class, function } => {
+            let record = &records[function];
+            SettleFault::TooLarge {
+                class,
+                slot: record.slot,
+            }
+        }
+    }
+}

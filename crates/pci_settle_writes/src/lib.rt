@@ -1,0 +1,9 @@
+//! The settled dump where nothing stands, and the writes that lead to it.
+#![tactic(auto)]
+
+pub mod dump;
+pub mod lack;
+pub mod settle;
+pub mod shut;
+pub mod way;
+pub mod writes;
