@@ -26,7 +26,11 @@ fn push(dump: &mut Dump, slot: Slot, image: pci_base::image::Image) -> bool {
 }
 
 /// A board with these roots: each function with its bus and device.
-fn admitted(alloc: Global, roots: &[u8], functions: &[(u8, u8, Function)]) -> Option<Admitted> {
+pub(crate) fn admitted(
+    alloc: Global,
+    roots: &[u8],
+    functions: &[(u8, u8, Function)],
+) -> Option<Admitted> {
     let mut dump = Dump::empty(alloc);
     let mut probe = Dump::empty(alloc);
     for (bus, dev, function) in functions {
@@ -40,7 +44,7 @@ fn admitted(alloc: Global, roots: &[u8], functions: &[(u8, u8, Function)]) -> Op
 }
 
 /// A range of all roots.
-fn shared(first: u64, last: u64) -> RootRange {
+pub(crate) fn shared(first: u64, last: u64) -> RootRange {
     RootRange {
         root: None,
         range: Range { first, last },
@@ -48,7 +52,7 @@ fn shared(first: u64, last: u64) -> RootRange {
 }
 
 /// A range of one root.
-fn own(root: u8, first: u64, last: u64) -> RootRange {
+pub(crate) fn own(root: u8, first: u64, last: u64) -> RootRange {
     RootRange {
         root: Some(root),
         range: Range { first, last },

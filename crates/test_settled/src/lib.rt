@@ -1,5 +1,7 @@
-//! Tests of the places that all parts get where nothing stands.
+//! Tests of the places that all parts get where nothing stands, and of the writes that lead there.
 #![tactic(auto)]
 
 #[cfg(test)]
 mod boards;
+#[cfg(test)]
+mod settles;
