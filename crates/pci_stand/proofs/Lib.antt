@@ -1,0 +1,11 @@
+pub mod Indexes
+pub mod OfRecord
+pub mod Taking
+pub mod Nothing
+pub mod Sorts
+pub mod Collected
+pub mod InPlace
+pub mod Passing
+pub mod Whole
+pub mod Steps
+pub mod Flags

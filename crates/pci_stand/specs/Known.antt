@@ -1,0 +1,93 @@
+-- What the code knows of a part that can stand, and what there is to know.
+use Rattle.std.specs.Prelude.{◌≡◌, ℕ, ◌<◌, ◌≤◌, Bool, false, ◌&&◌, List, map, length}
+use Rattle.std.specs.List.{All, list_any, list_all}
+use Rattle.pci_spec.specs.Slot.{Slot, same_slot}
+use Rattle.pci_spec.specs.Header.{command}
+use Rattle.pci_spec.specs.Window.{PrefetchWindow, has_window}
+use Rattle.pci_spec.specs.Decoded.{Range}
+use Rattle.pci_spec.specs.System.{System, Function, Space, is_enabled, is_prefetchable_part, space_of}
+use Rattle.plan_spec.specs.Plan.{bridges_above}
+use Rattle.plan_spec.specs.Planning.Layout.{range_of}
+use Rattle.settle_spec.specs.Lists.{Lists, Request}
+use Rattle.settle_spec.specs.Parts.{Region, regions}
+use Rattle.stand_laws.specs.Order.{level}
+use Rattle.pci_base.specs.Ranges.{decoded_range_of}
+use Rattle.pci_base.specs.Space as code
+use Rattle.pci_place.specs.declared.above.Above.{Above}
+use Rattle.pci_place.specs.Above.{IsAbove}
+use Rattle.pci_place.specs.Items.{function_in}
+use Rattle.pci_place.specs.Records.{IsRecordOf}
+use Rattle.pci_function.specs.declared.record.Record.{Record}
+use Rattle.pci_settle.specs.declared.own.Terms.{Terms}
+use Rattle.pci_settle.specs.Own.{AreTerms}
+use Rattle.pci_stand.specs.declared.region.Owner.{Owner}
+use Rattle.pci_stand.specs.declared.region.Region.{Region as CodeRegion}
+use Rattle.pci_stand.specs.Tables.{part_value}
+
+-- what is asked for: nothing is placed anew
+abbrev pub asked : List ℕ → Lists → List Slot → Request
+asked roots lists fixed =
+    record { roots = roots; lists = lists; fixed = fixed; anew = false }
+
+pub record Known : Type 0 where
+  pub region : Region
+  pub bus : ℕ
+  pub level : ℕ
+  pub fixed : Bool
+  pub on : Bool
+  pub space : Space
+  pub prefetch : Bool
+  pub range : Range
+
+abbrev pub region_value : System → CodeRegion → Region
+region_value s r = record { function = function_in s r.function; part = part_value r.part }
+
+abbrev pub known : System → CodeRegion → Known
+known s r = record {
+  region = region_value s r;
+  bus = r.bus;
+  level = r.level;
+  fixed = r.fixed;
+  on = r.on;
+  space = code.space_of r.space;
+  prefetch = r.prefetch;
+  range = decoded_range_of r.range;
+}
+
+-- whether each bridge above a bus has a prefetchable window
+abbrev pub is_led : System → ℕ → Bool
+is_led s bus = list_all (λ b. has_window PrefetchWindow b.probe) (bridges_above s bus)
+
+abbrev pub known_of : Request → System → Region → Known
+known_of q s r = record {
+  region = r;
+  bus = r.function.slot.bus;
+  level = level q r.function.slot.bus;
+  fixed = list_any (same_slot r.function.slot) q.fixed;
+  on = is_enabled r.function r.part;
+  space = space_of r.function r.part;
+  prefetch = is_prefetchable_part r.function r.part && is_led s r.function.slot.bus;
+  range = range_of r.function r.part;
+}
+
+-- what the parts of a function share
+pub record IsOwner (q : Request) (s : System) (f : Function) (o : Owner) (above : Above) (t : Terms)
+    (r : Record) : Type 0 where
+  pub is : IsRecordOf s f r
+  pub here : function_in s o.function ≡ f
+  pub bus : o.bus ≡ f.slot.bus
+  pub level : o.level ≡ level q f.slot.bus
+  pub fixed : o.fixed ≡ list_any (same_slot f.slot) q.fixed
+  pub command : o.command ≡ command f.image
+  pub over : IsAbove s f.slot.bus above
+  pub terms : AreTerms q.lists t
+
+-- a part has an address
+abbrev pub IsForward : CodeRegion → Type 0
+IsForward r = r.range.first ≤ r.range.last
+
+-- the parts of a system, in the order of slots and registers
+pub record AreParts (q : Request) (s : System) (rs : List CodeRegion) : Type 0 where
+  pub same : map (known s) rs ≡ map (known_of q s) (regions q s)
+  pub within : All (λ r. r.function < length s) rs
+  pub forward : All IsForward rs

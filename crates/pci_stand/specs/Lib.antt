@@ -1,0 +1,9 @@
+pub mod Regions
+pub mod Taken
+pub mod Tables
+pub mod Places
+pub mod Known
+pub mod Order
+pub mod Boards
+pub mod Passing
+pub mod Flags

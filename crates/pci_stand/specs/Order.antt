@@ -1,0 +1,25 @@
+-- The order in which parts are gone over, by a number that stands for slot and register.
+use Rattle.std.specs.Prelude.{◌≡◌, ℕ, ◌+◌, ◌-◌, ◌<◌, ◌⊎◌, Bool, if◌then◌else◌}
+use Rattle.pci_stand.specs.declared.region.Region.{Region}
+
+abbrev pub span_of : Region → ℕ
+span_of r = r.range.last - r.range.first
+
+-- what is fixed comes before the rest, and then what is on
+abbrev pub turn_number : Bool → Bool → ℕ
+turn_number fixed on = (if fixed then 0 else 2) + (if on then 0 else 1)
+
+abbrev pub turn_of : Region → ℕ
+turn_of r = turn_number r.fixed r.on
+
+-- a part is larger than another, or as large and of a lower number
+abbrev pub IsLarger : (Region → ℕ) → Region → Region → Type 0
+IsLarger number r t =
+    (span_of t < span_of r) ⊎ ((span_of r ≡ span_of t) × (number r < number t))
+
+abbrev pub IsSooner : (Region → ℕ) → Region → Region → Type 0
+IsSooner number r t = (turn_of r < turn_of t) ⊎ ((turn_of r ≡ turn_of t) × IsLarger number r t)
+
+-- it is on a lower bus, or comes first on the same
+abbrev pub IsInTurn : (Region → ℕ) → Region → Region → Type 0
+IsInTurn number r t = (r.level < t.level) ⊎ ((r.level ≡ t.level) × IsSooner number r t)

@@ -1,0 +1,65 @@
+-- One pass over the parts of a system: what is noted, and what is taken on the bus of the last one.
+use Rattle.std.specs.Prelude.{◌≡◌, ℕ, ◌<◌, ◌≤◌, Bool, IsTrue, List, Some, map, length, slice_get, slice_index_or}
+use Rattle.std.specs.List.{All, Contains}
+use Rattle.pci_spec.specs.System.{System, Function, Space, Io, Memory, Part, has_part}
+use Rattle.settle_spec.specs.Lists.{Request}
+use Rattle.settle_spec.specs.Parts.{Region, regions, addresses}
+use Rattle.settle_spec.specs.Stands.{region_space, stands}
+use Rattle.stand_laws.specs.Order.{level}
+use Rattle.stand_laws.specs.Passes.{AreInOrder, AreTold}
+use Rattle.pci_base.specs.Ranges.{decoded_range_of}
+use Rattle.pci_base.specs.declared.range.Range.{Range}
+use Rattle.pci_stand.specs.declared.region.Region.{Region as CodeRegion}
+use Rattle.pci_stand.specs.declared.standing.Standing.{Standing}
+use Rattle.pci_stand.specs.Known.{region_value, IsForward}
+use Rattle.pci_stand.specs.Boards.{IsKnown}
+use Rattle.pci_stand.specs.Tables.{IsPart, stands_of, stands_in}
+
+-- a part that can be noted in a table of so many functions
+pub record IsReady (functions : ℕ) (r : CodeRegion) : Type 0 where
+  pub function : r.function < functions
+  pub part : IsPart r.part
+  pub forward : IsForward r
+
+-- all parts of a system, each after those that tell whether it stands
+pub record AreOrdered (q : Request) (s : System) (rs : List CodeRegion) : Type 0 where
+  pub known : All (IsKnown q s) rs
+  pub order : AreInOrder q s (map (region_value s) rs)
+
+-- a part that stands on a bus, in a space, and has these addresses
+pub record IsTakenBy (q : Request) (s : System) (test : Region → Bool) (bus : ℕ) (space : Space)
+    (x : Range) (t : Region) : Type 0 where
+  pub listed : Contains (regions q s) t
+  pub stands : IsTrue (test t)
+  pub on : level q t.function.slot.bus ≡ bus
+  pub in_space : region_space t ≡ space
+  pub addresses_are : addresses t ≡ decoded_range_of x
+
+-- the ranges of what stands on a bus, in a space
+pub record AreTakenOn (q : Request) (s : System) (test : Region → Bool) (bus : ℕ) (space : Space)
+    (taken : List Range) : Type 0 where
+  pub each : (x : Range) → Contains taken x
+      → (t : Region) × IsTakenBy q s test bus space x t
+  pub all : (t : Region) → Contains (regions q s) t → IsTrue (test t)
+      → level q t.function.slot.bus ≡ bus → region_space t ≡ space
+      → (x : Range) × Contains taken x × (addresses t ≡ decoded_range_of x)
+
+-- the first parts are told, and what is taken is what stands on the bus of the last of them
+pub record IsPassed (q : Request) (s : System) (rs : List CodeRegion) (count bus : ℕ)
+    (io mem : List Range) (table : List Standing) : Type 0 where
+  pub size : length table ≡ length s
+  pub told : AreTold q s (map (region_value s) rs) count (stands_in s table)
+  pub io_taken : AreTakenOn q s (stands_in s table) bus Io io
+  pub mem_taken : AreTakenOn q s (stands_in s table) bus Memory mem
+  pub below : (t : Region) → Contains (regions q s) t → IsTrue (stands_in s table t)
+      → level q t.function.slot.bus ≤ bus
+  pub above : (k : ℕ) (d : CodeRegion) → count ≤ k → k < length rs
+      → bus ≤ (slice_index_or rs k d).level
+
+-- a table by function in slot order, with what stands of each
+pub record AreStanding (q : Request) (s : System) (table : List Standing) : Type 0 where
+  pub count : length table ≡ length s
+  pub each : (k : ℕ) (f : Function) (d : Standing) (part : Part) → slice_get s k ≡ Some f
+      → IsTrue (has_part f part)
+      → stands_of (slice_index_or table k d) part
+      ≡ stands q s record { function = f; part = part }

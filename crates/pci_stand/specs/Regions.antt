@@ -1,0 +1,86 @@
+-- The parts of a record that can stand, and what is said of each.
+use Rattle.std.specs.Prelude.{◌/◌, ◌-◌, ◌≤◌, Bool, false, ◌&&◌, not, if◌then◌else◌, List, [], ◌∷◌, ◌++◌, map, Option, None, Some}
+use Rattle.std.specs.List.{filter}
+use Rattle.pci_spec.specs.Registers.{BASE_ADDRESS}
+use Rattle.pci_spec.specs.Decoded as decoded
+use Rattle.pci_base.specs.Space.{space_of, is_on}
+use Rattle.pci_base.specs.Ranges.{range_of_decoded}
+use Rattle.pci_base.specs.declared.range.Range.{Range}
+use Rattle.pci_base.specs.declared.space.Space.{Space}
+use Rattle.pci_base.specs.declared.space.Space.TheVariants as spaces
+use Rattle.pci_base.specs.declared.window_kind.WindowKind.{WindowKind}
+use Rattle.pci_base.specs.declared.window_kind.WindowKind.TheVariants as kinds
+use Rattle.pci_image.specs.declared.bar.Bar.{Bar}
+use Rattle.pci_image.specs.declared.bar.BarKind.{BarKind}
+use Rattle.pci_image.specs.declared.bar.BarKind.TheVariants.{Io, Mem32, Mem64}
+use Rattle.pci_image.specs.declared.rom.Rom.{Rom}
+use Rattle.pci_function.specs.declared.record.Bridge.{Bridge}
+use Rattle.pci_function.specs.declared.record.Record.{Record}
+use Rattle.pci_tree.specs.Passes.{range_in}
+use Rattle.pci_place.specs.declared.above.Above.{Above}
+use Rattle.pci_settle.specs.declared.own.Terms.{Terms}
+use Rattle.pci_settle.specs.Own.{is_left_bar}
+use Rattle.pci_stand.specs.declared.region.Owner.{Owner}
+use Rattle.pci_stand.specs.declared.region.Part.{Part}
+use Rattle.pci_stand.specs.declared.region.Part.TheVariants as parts
+use Rattle.pci_stand.specs.declared.region.Region.{Region}
+
+abbrev pub owned : Owner → Part → Space → Bool → Range → Region
+owned o part space prefetch range = record {
+  function = o.function;
+  bus = o.bus;
+  level = o.level;
+  fixed = o.fixed;
+  on = is_on o.command (space_of space);
+  part = part;
+  space = space;
+  prefetch = prefetch;
+  range = range;
+}
+
+-- ---- BARs
+
+abbrev pub bar_space : BarKind → Space
+bar_space Io = spaces.Io
+bar_space Mem32 = spaces.Mem
+bar_space Mem64 = spaces.Mem
+
+-- a BAR at a Base Address register
+abbrev pub IsAtRegister : Bar → Type 0
+IsAtRegister bar = BASE_ADDRESS ≤ bar.reg
+
+abbrev pub bar_region : Owner → Above → Bar → Region
+bar_region o above bar =
+    owned o (parts.Bar ((bar.reg - BASE_ADDRESS) / 4)) (bar_space bar.kind)
+    (bar.prefetch && above.pref) record { first = bar.first; last = bar.last }
+
+abbrev pub bar_regions : Owner → Above → Terms → List Bar → List Region
+bar_regions o above t bars =
+    map (bar_region o above) (filter (λ bar. not (is_left_bar bar above t.has_io)) bars)
+
+-- ---- windows and the ROM
+
+abbrev pub window_regions : Owner → WindowKind → Space → Option decoded.Range → List Region
+window_regions o kind space None = []
+window_regions o kind space (Some r) =
+    owned o (parts.Window kind) space false (range_of_decoded r) ∷ []
+
+abbrev pub bridge_regions : Owner → Option Bridge → List Region
+bridge_regions o None = []
+bridge_regions o (Some b) =
+    window_regions o kinds.Io spaces.Io (range_in b.windows.io)
+    ++ (window_regions o kinds.Memory spaces.Mem b.windows.mem.range
+    ++ window_regions o kinds.Prefetchable spaces.Mem (range_in b.windows.pref))
+
+abbrev pub rom_region : Owner → Rom → Region
+rom_region o rom =
+    owned o parts.Rom spaces.Mem false record { first = rom.first; last = rom.last }
+
+abbrev pub rom_regions : Owner → Option Rom → List Region
+rom_regions o None = []
+rom_regions o (Some rom) = if rom.on then rom_region o rom ∷ [] else []
+
+-- in the order of their registers
+abbrev pub record_regions : Owner → Above → Terms → Record → List Region
+record_regions o above t r =
+    bar_regions o above t r.bars.items ++ (bridge_regions o r.bridge ++ rom_regions o r.rom)

@@ -1,0 +1,14 @@
+//! Which parts of functions stand where they are: BARs, ROMs and windows that lie in the ranges of their root or in
+//! the window over them, and share no address with what comes before them.
+//!
+//! In the comments "Bridge 1.2" is the PCI-to-PCI Bridge Architecture Specification 1.2.
+#![tactic(auto)]
+
+pub mod collect;
+pub mod fixed;
+pub mod order;
+pub mod pass;
+pub mod place;
+pub mod region;
+pub mod standing;
+pub mod taken;

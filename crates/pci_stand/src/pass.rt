@@ -1,0 +1,114 @@
+//! One pass over all parts of a system, each after what tells whether it stands.
+ghost use Rattle.std.specs.Prelude.{◌≡◌, ◌+◌, ◌<◌, OnOk, IfOk, length};
+ghost use Rattle.std.specs.List.{All};
+ghost use Rattle.pci_spec.specs.System.{System};
+ghost use Rattle.settle_spec.specs.Lists.{Request};
+ghost use Rattle.pci_tree.specs.Ways.{IsBridgeToBus};
+ghost use Rattle.pci_place.specs.Above.{system_in};
+ghost use Rattle.pci_settle.specs.Lists.{lists_value};
+ghost use Rattle.pci_stand.specs.Boards.{IsBoard};
+ghost use Rattle.pci_stand.specs.Known.{asked};
+ghost use Rattle.pci_stand.specs.Taken.{AreApartInOrder};
+ghost use Rattle.pci_stand.specs.Passing.{IsReady, AreOrdered, IsPassed, AreStanding};
+
+use crate::collect::regions;
+use crate::order::sort_regions;
+use crate::place::{bridges_over, is_in_place};
+use crate::region::Region;
+use crate::standing::{Standing, nothing_stands};
+use crate::taken::Taken;
+use pci_base::memory::OutOfMemory;
+use pci_base::slot::{BUSES, Slot};
+use pci_function::record::Record;
+use pci_settle::list::Lists;
+use pci_tree::admitted::Admitted;
+use std::alloc::Allocator;
+
+/// Notes a part that stands: it is where it can stand, and none of its addresses is taken by one before it.
+fn note_one<A: Allocator + Copy>(
+    records: &[Record],
+    over: &[Option<usize>; BUSES],
+    lists: &Lists,
+    regions: &[Region],
+    index: usize,
+    taken: &mut Taken<A>,
+    table: &mut [Standing],
+) -> Result<(), OutOfMemory>
+    requires over { IsBridgeToBus records.now over.now }
+    requires count { length table.old ≡ length records.now }
+    requires ready { All (IsReady (length records.now)) regions.now }
+    requires index { index < length regions.now }
+    requires io { AreApartInOrder taken.old.io.items }
+    requires mem { AreApartInOrder taken.old.mem.items }
+    ensures io { AreApartInOrder taken.new.io.items }
+    ensures mem { AreApartInOrder taken.new.mem.items }
+    ensures passed { OnOk result ((q : Request) → (s : System)
+        → IsBoard q s records.now (lists_value lists.now) → AreOrdered q s regions.now
+        → IsPassed q s regions.now index taken.old.level taken.old.io.items taken.old.mem.items
+        table.old
+        → IsPassed q s regions.now (index + 1) taken.new.level taken.new.io.items
+        taken.new.mem.items table.new) }
+{
+    let region = &regions[index];
+    taken.go_to(region.level);
+    if is_in_place(records, over, lists, region, table) && taken.take(region.space, region.range)? {
+        table[region.function].note(region.part);
+    }
+    Ok(())
+}
+
+/// Notes all parts that stand, in the order in which one tells of another.
+fn note_all<A: Allocator + Copy>(
+    records: &[Record],
+    over: &[Option<usize>; BUSES],
+    lists: &Lists,
+    regions: &[Region],
+    taken: &mut Taken<A>,
+    table: &mut [Standing],
+) -> Result<(), OutOfMemory>
+    requires over { IsBridgeToBus records.now over.now }
+    requires count { length table.old ≡ length records.now }
+    requires ready { All (IsReady (length records.now)) regions.now }
+    requires io { AreApartInOrder taken.old.io.items }
+    requires mem { AreApartInOrder taken.old.mem.items }
+    ensures passed { OnOk result ((q : Request) → (s : System)
+        → IsBoard q s records.now (lists_value lists.now) → AreOrdered q s regions.now
+        → IsPassed q s regions.now 0 taken.old.level taken.old.io.items taken.old.mem.items
+        table.old
+        → IsPassed q s regions.now (length regions.now) taken.new.level taken.new.io.items
+        taken.new.mem.items table.new) }
+{
+    for index in 0..regions.len() {
+        note_one(records, over, lists, regions, index, taken, table)?;
+    }
+    Ok(())
+}
+
+/// Which parts of each function stand where they are, in slot order: BARs but those of I/O that are left, open windows and
+/// ROMs that are on. `fixed` are the slots of functions whose registers may not be written.
+pub fn standing<A: Allocator + Copy, B: Allocator>(
+    alloc: A,
+    admitted: &Admitted<B>,
+    lists: &Lists,
+    fixed: &[Slot],
+) -> Result<Vec<Standing, A>, OutOfMemory>
+    ensures { IfOk result (λ table. AreStanding
+        (asked admitted.now.roots (lists_value lists.now) fixed.now) (system_in admitted.now)
+        table.items) }
+{
+    let records = admitted.outline().records();
+    let over = bridges_over(records);
+    let mut regions = regions(alloc, admitted, lists, fixed)?;
+    sort_regions(&mut regions)?;
+    let mut table = nothing_stands(alloc, records.len())?;
+    let mut taken = Taken::none(alloc);
+    note_all(
+        records,
+        &over,
+        lists,
+        regions.as_slice(),
+        &mut taken,
+        table.as_mut_slice(),
+    )?;
+    Ok(table)
+}

@@ -1,0 +1,144 @@
+//! Whether a part lies where it can stand: in a range of its root, or in the window over it.
+ghost use Rattle.std.specs.Prelude.{◌≡◌, length, map};
+ghost use Rattle.std.specs.List.{list_any};
+ghost use Rattle.pci_spec.specs.System.{System};
+ghost use Rattle.settle_spec.specs.Lists.{Request};
+ghost use Rattle.settle_spec.specs.Parts.{is_within};
+ghost use Rattle.settle_spec.specs.Stands.{is_in_place};
+ghost use Rattle.pci_base.specs.Ranges.{decoded_range_of};
+ghost use Rattle.pci_base.specs.Space.{space_of};
+ghost use Rattle.pci_base.specs.WindowKinds.{kind_value};
+ghost use Rattle.pci_image.specs.Windows.{window_of};
+ghost use Rattle.pci_tree.specs.Passes.{range_in};
+ghost use Rattle.pci_tree.specs.Ways.{IsBridgeToBus};
+ghost use Rattle.pci_settle.specs.Lists.{root_range_value, lists_value};
+ghost use Rattle.pci_stand.specs.Boards.{IsBoard, IsKnown, AreOpen};
+ghost use Rattle.pci_stand.specs.Known.{region_value};
+ghost use Rattle.pci_stand.specs.Tables.{stands_in};
+ghost use Rattle.pci_stand.specs.Places.{has_range, is_listed, is_in_lists, is_held, window_for, is_in_windows};
+
+use crate::region::{Part, Region};
+use crate::standing::Standing;
+use pci_base::range::{Range, RootRange};
+use pci_base::slot::BUSES;
+use pci_base::space::Space;
+use pci_base::window_kind::WindowKind;
+use pci_function::record::Record;
+use pci_image::window::Windows;
+use pci_settle::list::Lists;
+
+/// Whether a range lies in another.
+fn is_within(inner: Range, outer: Range) -> bool
+    ensures { result ≡ is_within (decoded_range_of inner) (decoded_range_of outer) }
+{
+    outer.first <= inner.first && inner.last <= outer.last
+}
+
+/// Whether a root has a range of a list that holds another.
+fn has_range(one: RootRange, bus: u8, range: Range) -> bool
+    ensures { result ≡ has_range bus (decoded_range_of range) (root_range_value one) }
+{
+    match one.root {
+        Some(root) if root != bus => false,
+        _ => is_within(range, one.range),
+    }
+}
+
+/// Whether a root has a range in a list that holds another.
+fn is_listed(list: &[RootRange], bus: u8, range: Range) -> bool
+    ensures { result ≡ list_any (has_range bus (decoded_range_of range))
+        (map root_range_value list.now) }
+{
+    for one in list {
+        if has_range(*one, bus, range) {
+            return true;
+        }
+    }
+    false
+}
+
+/// Whether a root has a range of a space that holds another.
+fn is_in_lists(lists: &Lists, bus: u8, space: Space, range: Range) -> bool
+    ensures { result ≡ is_in_lists (lists_value lists.now) bus (space_of space)
+        (decoded_range_of range) }
+{
+    match space {
+        Space::Io => is_listed(lists.io, bus, range),
+        Space::Mem => is_listed(lists.mem, bus, range) || is_listed(lists.pref, bus, range),
+    }
+}
+
+/// Whether a window of a bridge is there and open, and holds a range.
+fn is_held(windows: &Windows, kind: WindowKind, range: Range) -> bool
+    ensures { result ≡ is_held (range_in (window_of windows.now (kind_value kind)))
+        (decoded_range_of range) }
+{
+    let Some(window) = windows.get(kind) else {
+        return false;
+    };
+    match window.range() {
+        None => false,
+        Some(outer) => is_within(range, outer),
+    }
+}
+
+/// The window over a part in which it can stand: a prefetchable BAR is in that of memory where that holds it.
+fn window_for(region: &Region, windows: &Windows) -> WindowKind
+    ensures { kind_value result ≡ window_for windows.now region.now }
+{
+    match region.part {
+        Part::Window(kind) => kind,
+        _ if region.space == Space::Io => WindowKind::Io,
+        _ if region.prefetch && !is_held(windows, WindowKind::Memory, region.range) => {
+            WindowKind::Prefetchable
+        }
+        _ => WindowKind::Memory,
+    }
+}
+
+/// Whether the window over a part holds it, and stands.
+fn is_in_windows(region: &Region, windows: &Windows, over: &Standing) -> bool
+    ensures { result ≡ is_in_windows windows.now over.now region.now }
+{
+    let kind = window_for(region, windows);
+    is_held(windows, kind, region.range) && over.window(kind)
+}
+
+/// At each bus the index of the bridge that leads there.
+pub fn bridges_over(records: &[Record]) -> [Option<usize>; BUSES]
+    ensures { IsBridgeToBus records.now result }
+{
+    let mut over = [None; BUSES];
+    for (index, function) in records.iter().enumerate() {
+        if let Some(bridge) = function.bridge {
+            over[bridge.secondary as usize] = Some(index);
+        }
+    }
+    over
+}
+
+/// Whether a part is where it can stand, `table` saying which windows do.
+pub fn is_in_place(
+    records: &[Record],
+    over: &[Option<usize>; BUSES],
+    lists: &Lists,
+    region: &Region,
+    table: &[Standing],
+) -> bool
+    requires over { IsBridgeToBus records.now over.now }
+    requires count { length table.now ≡ length records.now }
+    ensures { (q : Request) → (s : System) → IsBoard q s records.now (lists_value lists.now)
+        → IsKnown q s region.now → AreOpen s table.now
+        → result ≡ is_in_place q s (stands_in s table.now) (region_value s region.now) }
+{
+    if region.level == 0 {
+        return is_in_lists(lists, region.bus, region.space, region.range);
+    }
+    let Some(index) = over[region.bus as usize] else {
+        return false;
+    };
+    match &records[index].bridge {
+        None => false,
+        Some(bridge) => is_in_windows(region, &bridge.windows, &table[index]),
+    }
+}

@@ -1,0 +1,6 @@
+pub mod Order
+pub mod Standing
+pub mod Apart
+pub mod Ranks
+pub mod Passes
+pub mod Holding

@@ -1,0 +1,169 @@
+-- What comes before a part, by bus and precedence: it is an order, and nothing comes before itself.
+use Rattle.std.proofs.Common.{◌≡◌, ◌≢◌, ℕ, ◌<◌, ◌≤◌, inl, inr, List, [], ◌∷◌, length, Bool, true, false, cond, ◌&&◌, ◌||◌, arith, ◌∙◌, ap, refl}
+use Rattle.std.specs.Bool.{nat_lt, ◌==◌}
+use Rattle.std.specs.List.{Contains, filter}
+use Rattle.std.proofs.lemmas.Bool.{cases_Bool, both_ways}
+use Rattle.std.proofs.lemmas.Bool.Decides.{nat_tests}
+use Rattle.pci_spec.proofs.Members.{in_nil, in_cons_cases}
+use Rattle.settle_spec.specs.Lists.{Request}
+use Rattle.settle_spec.specs.Parts.{Region, addresses}
+use Rattle.stand_laws.specs.Order.{level, comes_first}
+use Rattle.settle_spec.specs.Stands.{is_fixed, is_on, count, rank, first_by, precedes}
+
+-- ---- precedence
+
+-- larger ones first, then those of a lower rank
+abbrev larger : ℕ → ℕ → ℕ → ℕ → Bool
+larger a b q r = nat_lt b a || (a == b && nat_lt q r)
+
+larger_trans : (a b c q r v : ℕ) → larger a b q r ≡ true → larger b c r v ≡ true → larger a c q v ≡ true
+larger_trans a b c q r v h k = grind (arith, nat_tests)
+
+larger_itself : (a q : ℕ) → larger a a q q ≡ false
+larger_itself a q = grind (arith, nat_tests)
+
+larger_else : (a b q r : ℕ) → q ≢ r → larger a b q r ≡ false → larger b a r q ≡ true
+larger_else a b q r differ other = grind (arith, nat_tests)
+
+first_trans : (a b c x y z : Bool) → (x ≡ true → y ≡ true → z ≡ true) → first_by a b x ≡ true → first_by b c y ≡ true → first_by a c z ≡ true
+first_trans true true true x y z rest h k = rest h k
+first_trans true true false x y z rest h k = refl
+first_trans true false true x y z rest h k = absurd (both_ways false refl k)
+first_trans true false false x y z rest h k = refl
+first_trans false true true x y z rest h k = absurd (both_ways false refl h)
+first_trans false true false x y z rest h k = absurd (both_ways false refl h)
+first_trans false false true x y z rest h k = absurd (both_ways false refl k)
+first_trans false false false x y z rest h k = rest h k
+
+first_itself : (a x : Bool) → x ≡ false → first_by a a x ≡ false
+first_itself true x rest = rest
+first_itself false x rest = rest
+
+first_else : (a b x y : Bool) → (x ≡ false → y ≡ true) → first_by a b x ≡ false → first_by b a y ≡ true
+first_else true true x y rest h = rest h
+first_else true false x y rest h = absurd (both_ways true h refl)
+first_else false true x y rest h = refl
+first_else false false x y rest h = rest h
+
+module _ (q : Request) where
+  abbrev size : Region → ℕ
+  size r = count (addresses r)
+
+  pub precedes_trans : (r t u : Region) → precedes q r t ≡ true → precedes q t u ≡ true → precedes q r u ≡ true
+  precedes_trans r t u h k =
+      first_trans (is_fixed q r) (is_fixed q t) (is_fixed q u)
+      (first_by (is_on r) (is_on t) (larger (size r) (size t) (rank r) (rank t)))
+      (first_by (is_on t) (is_on u) (larger (size t) (size u) (rank t) (rank u)))
+      (first_by (is_on r) (is_on u) (larger (size r) (size u) (rank r) (rank u)))
+      (first_trans (is_on r) (is_on t) (is_on u)
+      (larger (size r) (size t) (rank r) (rank t)) (larger (size t) (size u) (rank t) (rank u)) (larger (size r) (size u) (rank r) (rank u))
+      (larger_trans (size r) (size t) (size u) (rank r) (rank t) (rank u))) h k
+
+  pub precedes_itself : (r : Region) → precedes q r r ≡ false
+  precedes_itself r =
+      first_itself (is_fixed q r) (first_by (is_on r) (is_on r) (larger (size r) (size r) (rank r) (rank r)))
+      (first_itself (is_on r) (larger (size r) (size r) (rank r) (rank r)) (larger_itself (size r) (rank r)))
+
+  pub precedes_else : (r t : Region) → rank r ≢ rank t → precedes q r t ≡ false → precedes q t r ≡ true
+  precedes_else r t differ h =
+      first_else (is_fixed q r) (is_fixed q t)
+      (first_by (is_on r) (is_on t) (larger (size r) (size t) (rank r) (rank t)))
+      (first_by (is_on t) (is_on r) (larger (size t) (size r) (rank t) (rank r)))
+      (first_else (is_on r) (is_on t) (larger (size r) (size t) (rank r) (rank t)) (larger (size t) (size r) (rank t) (rank r))
+      (larger_else (size r) (size t) (rank r) (rank t) differ)) h
+
+  -- ---- buses
+
+  by_level : (a b c : ℕ) (x y z : Bool) → (x ≡ true → y ≡ true → z ≡ true) → (nat_lt a b || (a == b && x)) ≡ true → (nat_lt b c || (b == c && y)) ≡ true → (nat_lt a c || (a == c && z)) ≡ true
+  by_level a b c x y z rest h k = grind (arith, nat_tests)
+
+  level_itself : (a : ℕ) (x : Bool) → x ≡ false → (nat_lt a a || (a == a && x)) ≡ false
+  level_itself a x rest = grind (arith, nat_tests)
+
+  pub first_first : (r t u : Region) → comes_first q r t ≡ true → comes_first q t u ≡ true → comes_first q r u ≡ true
+  first_first r t u h k =
+      by_level (level q r.function.slot.bus) (level q t.function.slot.bus) (level q u.function.slot.bus)
+      (precedes q r t) (precedes q t u) (precedes q r u) (precedes_trans r t u) h k
+
+  pub not_itself : (r : Region) → comes_first q r r ≡ false
+  not_itself r = level_itself (level q r.function.slot.bus) (precedes q r r) (precedes_itself r)
+
+  -- how many of a list come before a part
+  abbrev pub before : List Region → Region → ℕ
+  before all r = length (filter (λ t. comes_first q t r) all)
+
+-- ---- counted
+
+fewer_or_same : {X : Type 0} (p r : X → Bool) (xs : List X) → ((x : X) → p x ≡ true → r x ≡ true) → length (filter p xs) ≤ length (filter r xs)
+fewer_or_same p r [] more = omega arith
+fewer_or_same p r (x ∷ xs) more =
+    let rest = fewer_or_same p r xs more in
+    elim (cases_Bool (p x)) [
+      | inl here ↦
+          let a = ap (λ b. length (cond b (x ∷ filter p xs) (filter p xs))) here in
+          let c = ap (λ b. length (cond b (x ∷ filter r xs) (filter r xs))) (more x here) in
+          omega (arith, rest, a, c)
+      | inr off ↦
+          let a = ap (λ b. length (cond b (x ∷ filter p xs) (filter p xs))) off in
+          elim (cases_Bool (r x)) [
+            | inl on ↦ (let c = ap (λ b. length (cond b (x ∷ filter r xs) (filter r xs))) on in omega (arith, rest, a, c))
+            | inr out ↦ (let c = ap (λ b. length (cond b (x ∷ filter r xs) (filter r xs))) out in omega (arith, rest, a, c))
+          ]
+    ]
+
+fewer : {X : Type 0} (p r : X → Bool) (xs : List X) → ((x : X) → p x ≡ true → r x ≡ true) → (t : X) → Contains xs t → p t ≡ false → r t ≡ true
+    → length (filter p xs) < length (filter r xs)
+fewer p r [] more t listed off on = absurd (in_nil t listed)
+fewer p r (x ∷ xs) more t listed off on = elim (in_cons_cases x xs t listed) [
+  | inl here ↦
+      let a = ap (λ b. length (cond b (x ∷ filter p xs) (filter p xs))) (ap p here ∙ off) in
+      let c = ap (λ b. length (cond b (x ∷ filter r xs) (filter r xs))) (ap r here ∙ on) in
+      let rest = fewer_or_same p r xs more in
+      omega (arith, rest, a, c)
+  | inr later ↦
+      let rest = fewer p r xs more t later off on in
+      elim (cases_Bool (p x)) [
+        | inl one ↦
+            let a = ap (λ b. length (cond b (x ∷ filter p xs) (filter p xs))) one in
+            let c = ap (λ b. length (cond b (x ∷ filter r xs) (filter r xs))) (more x one) in
+            omega (arith, rest, a, c)
+        | inr none ↦
+            let a = ap (λ b. length (cond b (x ∷ filter p xs) (filter p xs))) none in
+            elim (cases_Bool (r x)) [
+              | inl other ↦ (let c = ap (λ b. length (cond b (x ∷ filter r xs) (filter r xs))) other in omega (arith, rest, a, c))
+              | inr out ↦ (let c = ap (λ b. length (cond b (x ∷ filter r xs) (filter r xs))) out in omega (arith, rest, a, c))
+            ]
+      ]
+]
+
+few_pass : {X : Type 0} (p : X → Bool) (xs : List X) → length (filter p xs) ≤ length xs
+few_pass p [] = omega arith
+few_pass p (x ∷ xs) =
+    let rest = few_pass p xs in
+    elim (cases_Bool (p x)) [
+      | inl here ↦ (let a = ap (λ b. length (cond b (x ∷ filter p xs) (filter p xs))) here in omega (arith, rest, a))
+      | inr off ↦ (let a = ap (λ b. length (cond b (x ∷ filter p xs) (filter p xs))) off in omega (arith, rest, a))
+    ]
+
+not_all_pass : {X : Type 0} (p : X → Bool) (xs : List X) (t : X) → Contains xs t → p t ≡ false → length (filter p xs) < length xs
+not_all_pass p [] t listed off = absurd (in_nil t listed)
+not_all_pass p (x ∷ xs) t listed off = elim (in_cons_cases x xs t listed) [
+  | inl here ↦
+      let a = ap (λ b. length (cond b (x ∷ filter p xs) (filter p xs))) (ap p here ∙ off) in
+      let rest = few_pass p xs in
+      omega (arith, rest, a)
+  | inr later ↦
+      let rest = not_all_pass p xs t later off in
+      elim (cases_Bool (p x)) [
+        | inl one ↦ (let a = ap (λ b. length (cond b (x ∷ filter p xs) (filter p xs))) one in omega (arith, rest, a))
+        | inr none ↦ (let a = ap (λ b. length (cond b (x ∷ filter p xs) (filter p xs))) none in omega (arith, rest, a))
+      ]
+]
+
+module _ (q : Request) (all : List Region) where
+  pub falls : (t r : Region) → Contains all t → comes_first q t r ≡ true → before q all t < before q all r
+  falls t r listed first =
+      fewer (λ u. comes_first q u t) (λ u. comes_first q u r) all (λ u earlier. first_first q u t r earlier first) t listed (not_itself q t) first
+
+  pub few : (r : Region) → Contains all r → before q all r < length all
+  few r listed = not_all_pass (λ u. comes_first q u r) all r listed (not_itself q r)

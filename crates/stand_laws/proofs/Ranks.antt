@@ -1,0 +1,123 @@
+-- The parts of a system stand by rising slots and registers.
+use Rattle.std.proofs.Common.{◌≡◌, ℕ, zero, suc, ◌+◌, ◌*◌, ◌<◌, ◌≤◌, inl, inr, List, [], ◌∷◌, true, false, cond, ◌&&◌, not, arith, sym, ap, subst}
+use Rattle.std.specs.Bool.{◌==◌}
+use Rattle.std.specs.List.{Contains, AllPairs, filter, range_with_len}
+use Rattle.std.proofs.lemmas.Bool.{cases_Bool, and_parts}
+use Rattle.std.proofs.lemmas.List.Elements.{filter-append, Contains-append_cases}
+use Rattle.pci_spec.proofs.Regions.{bar_count-le}
+use Rattle.pci_spec.specs.Slot.{slot_number}
+use Rattle.pci_spec.specs.Header.{layout, bar_count, bar_register, rom_register}
+use Rattle.pci_spec.specs.Window.{WindowKind, IoWindow, MemoryWindow, PrefetchWindow, has_window, is_closed, window_register}
+use Rattle.pci_spec.specs.System.{System, Function, Part, Bar, Rom, Window, IsSystem, is_bridge, register_of}
+use Rattle.pci_spec.proofs.Members.{in_filter_to, in_map_to, in_range_to, IsMade, pairs_append, pairs_map, pairs_filter, pairs_range, pairs_flat_map}
+use Rattle.plan_spec.proofs.Planning.AllItems.{slots_rise}
+use Rattle.settle_spec.specs.Lists.{Request}
+use Rattle.settle_spec.specs.Parts.{Region, regions, regions_of, parts_of, header_bars, header_parts, is_part}
+use Rattle.settle_spec.specs.Stands.{rank}
+
+window_low : (c : WindowKind) → 0x1c ≤ window_register c
+window_low IoWindow = omega arith
+window_low MemoryWindow = omega arith
+window_low PrefetchWindow = omega arith
+
+bar_below_rom : (kind n : ℕ) → n < bar_count kind → bar_register n < rom_register kind
+bar_below_rom kind n less = elim (cases_Bool (kind == 1)) [
+  | inl bridge ↦ (let a : bar_count kind ≡ 2 = ap (λ b. cond b 2 6) bridge in let r : rom_register kind ≡ 0x38 = ap (λ b. cond b 0x38 0x30) bridge in omega (arith, less, a, r))
+  | inr device ↦ (let a : bar_count kind ≡ 6 = ap (λ b. cond b 2 6) device in let r : rom_register kind ≡ 0x30 = ap (λ b. cond b 0x38 0x30) device in omega (arith, less, a, r))
+]
+
+rom_between : (kind : ℕ) → (0x30 ≤ rom_register kind) × (rom_register kind ≤ 0x38)
+rom_between kind = elim (kind == 1) as (λ b. (0x30 ≤ cond b 0x38 0x30) × (cond b 0x38 0x30 ≤ 0x38)) [ true ↦ (omega arith, omega arith) | false ↦ (omega arith, omega arith) ]
+
+module _ (q : Request) (s : System) (f : Function) where
+  abbrev registers : Part → Part → Type 0
+  registers p o = register_of f p < register_of f o
+
+  abbrev others : List Part
+  others = Window IoWindow ∷ Window MemoryWindow ∷ Window PrefetchWindow ∷ Rom ∷ []
+
+  bars_rise : AllPairs registers (header_bars f)
+  bars_rise = pairs_map registers Bar (range_with_len 0 (bar_count (layout f.image)))
+      (λ i j d up inside. let less = pairs_range 0 (bar_count (layout f.image)) i j d up inside in omega (arith, less))
+
+  others_rise : AllPairs registers others
+  others_rise i zero d up inside = absurd (let no : ⊥ = omega (arith, up) in no)
+  others_rise zero (suc zero) d up inside = omega arith
+  others_rise zero (suc (suc zero)) d up inside = omega arith
+  others_rise zero (suc (suc (suc zero))) d up inside = (let low = (rom_between (layout f.image)).0 in omega (arith, low))
+  others_rise (suc i) (suc zero) d up inside = absurd (let no : ⊥ = omega (arith, up) in no)
+  others_rise (suc zero) (suc (suc zero)) d up inside = omega arith
+  others_rise (suc zero) (suc (suc (suc zero))) d up inside = (let low = (rom_between (layout f.image)).0 in omega (arith, low))
+  others_rise (suc (suc i)) (suc (suc zero)) d up inside = absurd (let no : ⊥ = omega (arith, up) in no)
+  others_rise (suc (suc zero)) (suc (suc (suc zero))) d up inside = (let low = (rom_between (layout f.image)).0 in omega (arith, low))
+  others_rise (suc (suc (suc i))) (suc (suc (suc zero))) d up inside = absurd (let no : ⊥ = omega (arith, up) in no)
+  others_rise i (suc (suc (suc (suc j)))) d up inside = absurd (let no : ⊥ = omega (arith, inside) in no)
+
+  -- a BAR is before a part that is no BAR
+  bar_first : (n : ℕ) → n < bar_count (layout f.image) → (o : Part) → Contains others o → is_part q s f o ≡ true → bar_register n < register_of f o
+  bar_first n less (Bar m) listed is = absurd (no_bar listed)
+    where
+      no_bar : Contains others (Bar m) → ⊥
+      no_bar (zero, within, at) = cc
+      no_bar (suc zero, within, at) = cc
+      no_bar (suc (suc zero), within, at) = cc
+      no_bar (suc (suc (suc zero)), within, at) = cc
+      no_bar (suc (suc (suc (suc k))), within, at) = omega (arith, within)
+  bar_first n less Rom listed is = bar_below_rom (layout f.image) n less
+  bar_first n less (Window c) listed is =
+      let bridge = (and_parts (is_bridge f) (has_window c f.probe) (and_parts (is_bridge f && has_window c f.probe) (not (is_closed c f.image)) is).0).0 in
+      let few : bar_count (layout f.image) ≡ 2 = ap (λ b. cond b 2 6) bridge in
+      let low = window_low c in
+      omega (arith, less, few, low)
+
+  parts_rise : AllPairs registers (parts_of q s f)
+  parts_rise =
+      subst (AllPairs registers) (sym (filter-append (is_part q s f) (header_bars f) others))
+      (pairs_append registers (filter (is_part q s f) (header_bars f)) (filter (is_part q s f) others)
+      (pairs_filter registers (is_part q s f) (header_bars f) bars_rise) (pairs_filter registers (is_part q s f) others others_rise)
+      (λ p o at_p at_o.
+      let bar = in_filter_to (is_part q s f) (header_bars f) p at_p in
+      let made : IsMade Bar (range_with_len 0 (bar_count (layout f.image))) p = in_map_to Bar (range_with_len 0 (bar_count (layout f.image))) p bar.0 in
+      let low = (in_range_to 0 (bar_count (layout f.image)) made.from made.has).1 in
+      let other = in_filter_to (is_part q s f) others o at_o in
+      subst (λ x. register_of f x < register_of f o) made.is (bar_first made.from (omega (arith, low)) o other.0 other.1)))
+
+  others_low : (o : Part) → Contains others o → register_of f o < 64
+  others_low o (zero, within, at) = subst (λ p. register_of f p < 64) at (omega arith)
+  others_low o (suc zero, within, at) = subst (λ p. register_of f p < 64) at (omega arith)
+  others_low o (suc (suc zero), within, at) = subst (λ p. register_of f p < 64) at (omega arith)
+  others_low o (suc (suc (suc zero)), within, at) = subst (λ p. register_of f p < 64) at (let high = (rom_between (layout f.image)).1 in omega (arith, high))
+  others_low o (suc (suc (suc (suc k))), within, at) = absurd (let no : ⊥ = omega (arith, within) in no)
+
+  part_low : (o : Part) → Contains (parts_of q s f) o → register_of f o < 64
+  part_low o has = elim (Contains-append_cases (header_bars f) others o (in_filter_to (is_part q s f) (header_parts f) o has).0) [
+    | inl at_bar ↦
+        let made : IsMade Bar (range_with_len 0 (bar_count (layout f.image))) o = in_map_to Bar (range_with_len 0 (bar_count (layout f.image))) o at_bar in
+        let low = (in_range_to 0 (bar_count (layout f.image)) made.from made.has).1 in
+        let few = bar_count-le (layout f.image) in
+        subst (λ p. register_of f p < 64) made.is (let less : bar_register made.from < 64 = omega (arith, low, few) in less)
+    | inr at_other ↦ others_low o at_other
+  ]
+
+  abbrev region : Part → Region
+  region p = record { function = f; part = p }
+
+  own_rise : AllPairs (λ r t. rank r < rank t) (regions_of q s f)
+  own_rise = pairs_map (λ r t. rank r < rank t) region (parts_of q s f)
+      (λ i j d up inside. let less = parts_rise i j d up inside in omega (arith, less))
+
+  -- the parts of a function have the ranks of its slot
+  in_slot : (r : Region) → Contains (regions_of q s f) r → (slot_number f.slot * 256 ≤ rank r) × (rank r < slot_number f.slot * 256 + 64)
+  in_slot r has =
+      let made : IsMade region (parts_of q s f) r = in_map_to region (parts_of q s f) r has in
+      let low = part_low made.from made.has in
+      subst (λ t. (slot_number f.slot * 256 ≤ rank t) × (rank t < slot_number f.slot * 256 + 64)) made.is (omega (arith, low), omega (arith, low))
+
+pub ranks_rise : (q : Request) (s : System) → IsSystem s → AllPairs (λ r t. rank r < rank t) (regions q s)
+ranks_rise q s system =
+    pairs_flat_map (λ (f g : Function). slot_number f.slot < slot_number g.slot) (λ r t. rank r < rank t) (regions_of q s) s (slots_rise s system)
+    (λ f listed. own_rise q s f)
+    (λ f g r t in_f in_g less at_r at_t.
+    let below = (in_slot q s f r at_r).1 in
+    let above = (in_slot q s g t at_t).0 in
+    omega (arith, less, below, above))

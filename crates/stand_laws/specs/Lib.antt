@@ -1,0 +1,4 @@
+pub mod Order
+pub mod Standing
+pub mod Passes
+pub mod Holding

@@ -1,0 +1,5 @@
+//! Laws of what stands where it is. The definitions are in `settle_spec`.
+#![tactic(auto)]
+
+pub mod holding_laws;
+pub mod standing_laws;
