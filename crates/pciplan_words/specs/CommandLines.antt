@@ -44,6 +44,12 @@ planning =
     (pool_rule (codes "io"))) (pool_rule (codes "mem"))) (pool_rule (codes "pref")))
     (flag_rule (codes "writes"))) (flag_rule (codes "why"))) (option_rule (codes "root"))
 
+abbrev pub settling : App
+settling =
+    with_rule (with_rule (with_rule (with_rule (with_rule (with_rule (with_paths (codes "settle"))
+    (pool_rule (codes "io"))) (pool_rule (codes "mem"))) (pool_rule (codes "pref")))
+    (option_rule (codes "root"))) (flag_rule (codes "anew"))) (flag_rule (codes "writes"))
+
 abbrev pub probing : App
 probing =
     with_rule (with_rule (with_paths (codes "probe")) (flag_rule (codes "exact")))
@@ -58,9 +64,10 @@ program = record (new_app (codes "pciplan")) {
 
 abbrev pub commands : App
 commands =
-    with_subcommand (with_subcommand (with_subcommand (with_subcommand
+    with_subcommand (with_subcommand (with_subcommand (with_subcommand (with_subcommand
     (with_subcommand (with_subcommand (with_subcommand program (with_paths (codes "show")).top)
-    checking.top) listing.top) mapping.top) (with_paths (codes "size")).top) planning.top) probing.top
+    checking.top) listing.top) mapping.top) (with_paths (codes "size")).top) planning.top)
+    settling.top) probing.top
 
 -- what the words of a command line say, which no fault of usage refuses
 pub record IsGiven (words : List Text) (asked : Asked) (dump second : Text) : Type 0 where

@@ -3,10 +3,11 @@ use Rattle.std.specs.Prelude.{◌≡◌, Bool, true, false, List, Option, None, 
 use Rattle.std.specs.Borrow.{Bor}
 use Rattle.clap.specs.Words.{Row, Text, first_of, one_of}
 use Rattle.pciplan_words.specs.declared.asked.Asked.{Asked}
-use Rattle.pciplan_words.specs.declared.asked.Asked.TheVariants.{Show, Check, Faults, Map, Size, Plan, Probe}
+use Rattle.pciplan_words.specs.declared.asked.Asked.TheVariants.{Show, Check, Faults, Map, Size, Plan, Settle, Probe}
 use Rattle.pciplan_words.specs.declared.asked.FaultsWords.{FaultsWords}
 use Rattle.pciplan_words.specs.declared.asked.MapWords.{MapWords}
 use Rattle.pciplan_words.specs.declared.asked.PlanWords.{PlanWords}
+use Rattle.pciplan_words.specs.declared.asked.SettleWords.{SettleWords}
 
 -- the word of an option or a path, where it has one
 abbrev pub word_of : Option (Bor Text) → Option Text
@@ -42,6 +43,15 @@ pub record HasPlanWords (rows : List Row) (words : PlanWords) : Type 0 where
   pub writes : IsFlag (one_of (codes "writes") rows) words.writes
   pub why : IsFlag (one_of (codes "why") rows) words.why
 
+-- the words of the options of `settle`
+pub record HasSettleWords (rows : List Row) (words : SettleWords) : Type 0 where
+  pub root : first_of (codes "root") rows ≡ word_of words.root
+  pub io : first_of (codes "io") rows ≡ Some words.io.now
+  pub mem : first_of (codes "mem") rows ≡ Some words.mem.now
+  pub pref : first_of (codes "pref") rows ≡ Some words.pref.now
+  pub anew : IsFlag (one_of (codes "anew") rows) words.anew
+  pub writes : IsFlag (one_of (codes "writes") rows) words.writes
+
 -- the task of this name, with the words of its options
 abbrev pub IsAsked : Text → List Row → Asked → Type 0
 IsAsked name rows Show = name ≡ codes "show"
@@ -51,6 +61,7 @@ IsAsked name rows (Faults words) = (name ≡ codes "faults") × HasFaultsWords r
 IsAsked name rows (Map words) = (name ≡ codes "map") × HasMapWords rows words
 IsAsked name rows Size = name ≡ codes "size"
 IsAsked name rows (Plan words) = (name ≡ codes "plan") × HasPlanWords rows words
+IsAsked name rows (Settle words) = (name ≡ codes "settle") × HasSettleWords rows words
 IsAsked name rows (Probe exact least) =
     (name ≡ codes "probe") × IsFlag (one_of (codes "exact") rows) exact
     × IsFlag (one_of (codes "least") rows) least

@@ -15,6 +15,21 @@ pub struct PlanWords<'a> {
     pub why: bool,
 }
 
+/// The words of `settle`'s options.
+#[derive(Clone, Copy)]
+pub struct SettleWords<'a> {
+    /// The list of root buses, where there is one.
+    pub root: Option<&'a str>,
+    /// The lists of ranges of I/O, of memory and of prefetchable memory.
+    pub io: &'a str,
+    pub mem: &'a str,
+    pub pref: &'a str,
+    /// Whether nothing is left where it stands.
+    pub anew: bool,
+    /// Whether the writes are asked for, and not the settled dump.
+    pub writes: bool,
+}
+
 /// The words of the options of `faults`.
 #[derive(Clone, Copy)]
 pub struct FaultsWords<'a> {
@@ -58,6 +73,8 @@ pub enum Asked<'a> {
     Size,
     /// The plan.
     Plan(PlanWords<'a>),
+    /// The settled dump.
+    Settle(SettleWords<'a>),
     /// The derived probe, whether it has to be exact, and whether the least size is taken where an enabled register has none.
     Probe { exact: bool, least: bool },
 }

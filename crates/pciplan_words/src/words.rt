@@ -3,13 +3,14 @@ ghost use Rattle.std.specs.Prelude.{◌≡◌, ◌≢◌, ◌⊎◌, List, ℕ, 
 ghost use Rattle.clap.specs.Words.{app_of, found_of, kind_of, rows_of, rule_of};
 ghost use Rattle.clap.specs.declared.error.kind.ErrorKind.{ErrorKind};
 ghost use Rattle.clap.specs.declared.builder.command.Command.TheViews.{out-Command};
-ghost use Rattle.pciplan_words.specs.CommandLines.{flag_rule, option_rule, pool_rule, with_paths, listing, mapping, planning, probing, commands, IsGiven, HasNoLine};
-ghost use Rattle.pciplan_words.specs.CommandWords.{HasFaultsWords, HasMapWords, HasPlanWords, IsAsked, IsSaid};
+ghost use Rattle.pciplan_words.specs.CommandLines.{flag_rule, option_rule, pool_rule, with_paths, listing, mapping, planning, settling, probing, commands, IsGiven, HasNoLine};
+ghost use Rattle.pciplan_words.specs.CommandWords.{HasFaultsWords, HasMapWords, HasPlanWords, HasSettleWords, IsAsked, IsSaid};
 ghost use Rattle.pciplan_words.specs.declared.asked.Asked.{Asked};
 ghost use Rattle.pciplan_words.specs.declared.asked.PlanWords.{PlanWords};
+ghost use Rattle.pciplan_words.specs.declared.asked.SettleWords.{SettleWords};
 ghost use Rattle.pciplan_words.specs.declared.asked.WordsFault.{WordsFault};
 
-use crate::asked::{Asked, FaultsWords, Given, MapWords, PlanWords, WordsFault};
+use crate::asked::{Asked, FaultsWords, Given, MapWords, PlanWords, SettleWords, WordsFault};
 use clap::{Arg, ArgAction, ArgMatches, Command};
 use std::alloc::{AllocError, Global};
 
@@ -32,10 +33,13 @@ const HOST_MEM: &str = "host-mem";
 /// The name of the option that asks for what stands behind faults.
 const WHY: &str = "why";
 
-/// The name of the option that asks for the writes of a plan.
+/// The name of the option that asks for the writes of a plan or of settling.
 const WRITES: &str = "writes";
 
-/// The names of the options that name the pools.
+/// The name of the option that leaves nothing where it stands.
+const ANEW: &str = "anew";
+
+/// The names of the options that name the pools, or lists of ranges.
 const IO: &str = "io";
 
 const MEM: &str = "mem";
@@ -81,7 +85,7 @@ fn of_texts<'a>(alloc: Global, name: &'a str) -> Result<Command<'a>, AllocError>
     Command::new(alloc, name).arg(dump)?.arg(probe)
 }
 
-/// The required option of this name, of a pool.
+/// The required option of this name, of a pool or a list.
 fn pool_arg<'a>(alloc: Global, name: &'a str) -> Arg<'a>
     ensures rule { rule_of result ≡ pool_rule name.now }
     ensures local { result.global ≡ false }
@@ -144,6 +148,20 @@ fn plan_command<'a>(alloc: Global) -> Result<Command<'a>, AllocError>
         .arg(word_arg(alloc, ROOT))
 }
 
+/// `pciplan settle DUMP PROBE --io LIST --mem LIST --pref LIST [--root LIST] [--anew] [--writes]`.
+fn settle_command<'a>(alloc: Global) -> Result<Command<'a>, AllocError>
+    ensures app { IfOk result (λ command. app_of command ≡ settling) }
+    ensures local { IfOk result (λ command. (out-Command command).has_globals ≡ false) }
+{
+    of_texts(alloc, "settle")?
+        .arg(pool_arg(alloc, IO))?
+        .arg(pool_arg(alloc, MEM))?
+        .arg(pool_arg(alloc, PREF))?
+        .arg(word_arg(alloc, ROOT))?
+        .arg(flag_arg(alloc, ANEW))?
+        .arg(flag_arg(alloc, WRITES))
+}
+
 /// `pciplan probe DUMP SIZES [--exact] [--least]`.
 fn probe_command<'a>(alloc: Global) -> Result<Command<'a>, AllocError>
     ensures app { IfOk result (λ command. app_of command ≡ probing) }
@@ -155,7 +173,7 @@ fn probe_command<'a>(alloc: Global) -> Result<Command<'a>, AllocError>
 }
 
 /// `pciplan show DUMP PROBE`, `pciplan check [--root LIST] DUMP PROBE`, `pciplan size DUMP PROBE`, and `pciplan faults`,
-/// `pciplan map`, `pciplan plan` and `pciplan probe`.
+/// `pciplan map`, `pciplan plan`, `pciplan settle` and `pciplan probe`.
 fn command<'a>(alloc: Global) -> Result<Command<'a>, AllocError>
     ensures { IfOk result (λ command. app_of command ≡ commands) }
 {
@@ -168,6 +186,7 @@ fn command<'a>(alloc: Global) -> Result<Command<'a>, AllocError>
         .subcommand(map_command(alloc)?)?
         .subcommand(of_texts(alloc, "size")?)?
         .subcommand(plan_command(alloc)?)?
+        .subcommand(settle_command(alloc)?)?
         .subcommand(probe_command(alloc)?)
 }
 
@@ -212,6 +231,22 @@ fn plan_words<'a>(found: &ArgMatches<'a>) -> Option<PlanWords<'a>>
     })
 }
 
+/// The words of the options of `settle`.
+fn settle_words<'a>(found: &ArgMatches<'a>) -> Option<SettleWords<'a>>
+    ensures { MatchOption result
+        ((words : SettleWords) → HasSettleWords (rows_of (found_of found.now)) words → ⊥)
+        (HasSettleWords (rows_of (found_of found.now))) }
+{
+    Some(SettleWords {
+        root: found.get_str(ROOT),
+        io: found.get_str(IO)?,
+        mem: found.get_str(MEM)?,
+        pref: found.get_str(PREF)?,
+        anew: found.get_flag(ANEW),
+        writes: found.get_flag(WRITES),
+    })
+}
+
 /// The task of this name, with the words of its options.
 fn asked_of<'a>(name: &str, found: &ArgMatches<'a>) -> Option<Asked<'a>>
     ensures { MatchOption result
@@ -227,6 +262,7 @@ fn asked_of<'a>(name: &str, found: &ArgMatches<'a>) -> Option<Asked<'a>>
         "map" => Some(Asked::Map(map_words(found))),
         "size" => Some(Asked::Size),
         "plan" => Some(Asked::Plan(plan_words(found)?)),
+        "settle" => Some(Asked::Settle(settle_words(found)?)),
         "probe" => Some(Asked::Probe {
             exact: found.get_flag(EXACT),
             least: found.get_flag(LEAST),

@@ -16,5 +16,6 @@ returns c =
     let map = with_sub c.in_ok-subcommand-4.ensures faults c.in_ok-map_command.ensures.app c.in_ok-map_command.ensures.local in
     let size = with_sub c.in_ok-subcommand-5.ensures map c.in_ok-of_texts-3.ensures.app c.in_ok-of_texts-3.ensures.local in
     let plan = with_sub c.in_ok-subcommand-6.ensures size c.in_ok-plan_command.ensures.app c.in_ok-plan_command.ensures.local in
-    IfOk-weaker c.subcommand-7.result _ _ (λ command adds. with_sub adds plan c.in_ok-probe_command.ensures.app c.in_ok-probe_command.ensures.local)
-    c.subcommand-7.ensures
+    let settle = with_sub c.in_ok-subcommand-7.ensures plan c.in_ok-settle_command.ensures.app c.in_ok-settle_command.ensures.local in
+    IfOk-weaker c.subcommand-8.result _ _ (λ command adds. with_sub adds settle c.in_ok-probe_command.ensures.app c.in_ok-probe_command.ensures.local)
+    c.subcommand-8.ensures
