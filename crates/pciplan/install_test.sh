@@ -255,7 +255,10 @@ taken() {
     command=$1
     shift
     # shellcheck disable=SC2046
-    [ "$command" != plan ] || set -- $(pools_but "${1-}") "$@"
+    case $command in
+    plan) set -- $(pools_but "${1-}") "$@" ;;
+    settle) set -- $(pools_but "${1-}") $([ "${1-}" = --anew ] || echo --anew) "$@" ;;
+    esac
     usr/bin/pciplan "$command" bare.txt bare_probe.txt "$@" >out 2>err
     ! grep -q '^pciplan: usage$' err
 }
@@ -372,13 +375,13 @@ offers() {
 
 quiet 'bash takes its completion' bash -n $names/pciplan.bash
 if command -v bash >/dev/null; then
-    offers "''" 'show check faults map size plan probe'
+    offers "''" 'show check faults map size plan settle probe'
     for command in $commands; do
         offers "$command ''" FILES
         offers "$command dump.txt probe.txt ''" \
             "$(sed -n "s/^$command \(--[a-z-]*\).*/\1/p" synopsis | tr '\n' ' ' | sed 's/ $//')"
     done
-    offers 's' 'show size'
+    offers 's' 'show size settle'
     offers 'check --r' '--root'
     offers 'check --e' ''
     offers "check --root ''" ''

@@ -5,7 +5,7 @@ _pciplan() {
     local word=${COMP_WORDS[COMP_CWORD]} options said=' ' texts=0 ended='' at
     COMPREPLY=()
     if [ "$COMP_CWORD" -eq 1 ]; then
-        mapfile -t COMPREPLY < <(compgen -W 'show check faults map size plan probe' -- "$word")
+        mapfile -t COMPREPLY < <(compgen -W 'show check faults map size plan settle probe' -- "$word")
         return
     fi
     case ${COMP_WORDS[1]} in
@@ -14,6 +14,7 @@ _pciplan() {
     faults) options='--host-io --host-mem --model --root --why' ;;
     map) options='--host-io --host-mem --model --root' ;;
     plan) options='--io --mem --pref --root --why --writes' ;;
+    settle) options='--anew --io --mem --pref --root --writes' ;;
     probe) options='--exact --least' ;;
     *) return ;;
     esac

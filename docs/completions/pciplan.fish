@@ -15,7 +15,7 @@ end
 # Whether one of the two texts is still wanted, and the cursor doesn't stand in an option's own word.
 function __pciplan_wants_text
     set -l words (commandline -opc)
-    contains -- "$words[2]" show check faults map size plan probe; or return
+    contains -- "$words[2]" show check faults map size plan settle probe; or return
     set -e words[1..2]
     set -l valued --root --model --host-io --host-mem --io --mem --pref
     set -l texts 0
@@ -41,15 +41,17 @@ complete -c pciplan -n __pciplan_wants_command -a faults -d 'List all faults at 
 complete -c pciplan -n __pciplan_wants_command -a map -d 'Print the address map'
 complete -c pciplan -n __pciplan_wants_command -a size -d 'Print the probe that sizing would read'
 complete -c pciplan -n __pciplan_wants_command -a plan -d 'Plan the addresses of a board'
+complete -c pciplan -n __pciplan_wants_command -a settle -d 'Settle a board in lists of ranges'
 complete -c pciplan -n __pciplan_wants_command -a probe -d 'Derive the probe from what Linux sized'
-complete -c pciplan -n '__pciplan_takes root check faults map plan' -l root -x -d 'Buses on which accesses of the host start'
+complete -c pciplan -n '__pciplan_takes root check faults map plan settle' -l root -x -d 'Buses on which accesses of the host start'
 complete -c pciplan -n '__pciplan_takes model faults map' -l model -x -d 'Words by which functions are taken'
 complete -c pciplan -n '__pciplan_takes host-io faults map' -l host-io -x -d 'I/O addresses that the host sends'
 complete -c pciplan -n '__pciplan_takes host-mem faults map' -l host-mem -x -d 'Memory addresses that the host sends'
-complete -c pciplan -n '__pciplan_takes io plan' -l io -x -d 'Pool of I/O addresses'
-complete -c pciplan -n '__pciplan_takes mem plan' -l mem -x -d 'Pool of memory addresses'
-complete -c pciplan -n '__pciplan_takes pref plan' -l pref -x -d 'Pool of prefetchable memory addresses'
-complete -c pciplan -n '__pciplan_takes writes plan' -l writes -d 'Print the register writes'
+complete -c pciplan -n '__pciplan_takes io plan settle' -l io -x -d 'Pool or ranges of I/O addresses'
+complete -c pciplan -n '__pciplan_takes mem plan settle' -l mem -x -d 'Pool or ranges of memory addresses'
+complete -c pciplan -n '__pciplan_takes pref plan settle' -l pref -x -d 'Pool or ranges of prefetchable memory addresses'
+complete -c pciplan -n '__pciplan_takes anew settle' -l anew -d 'Leave nothing where it stands'
+complete -c pciplan -n '__pciplan_takes writes plan settle' -l writes -d 'Print the register writes'
 complete -c pciplan -n '__pciplan_takes why faults plan' -l why -d 'Tell what stands behind a fault'
 complete -c pciplan -n '__pciplan_takes exact probe' -l exact -d 'Assume nothing'
 complete -c pciplan -n '__pciplan_takes least probe' -l least -d 'Assume the least size of enabled registers too'

@@ -6,3 +6,4 @@ mod Invocations
 mod Tasks
 pub mod Faults
 mod FaultsAsked
+mod SettlingWrites

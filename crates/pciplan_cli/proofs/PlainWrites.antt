@@ -15,18 +15,18 @@ use Rattle.pci_plan.specs.declared.write.Write.{Write as CodeWrite}
 abbrev pub is_plain_value : Write → Bool
 is_plain_value w = w.width == 2 || w.width == 4
 
-is_plain_register : (ℕ × ℕ) → Bool
+pub is_plain_register : (ℕ × ℕ) → Bool
 is_plain_register r = r.1 == 2 || r.1 == 4
 
 plain_one : (test : Bool) (w : Write) → is_plain_value w ≡ true → list_all is_plain_value (if test then w ∷ [] else []) ≡ true
 plain_one true w plain = and_from (is_plain_value w) true plain refl
 plain_one false w plain = refl
 
-plain_other : (test : Bool) (w : Write) → is_plain_value w ≡ true → list_all is_plain_value (if test then [] else w ∷ []) ≡ true
+pub plain_other : (test : Bool) (w : Write) → is_plain_value w ≡ true → list_all is_plain_value (if test then [] else w ∷ []) ≡ true
 plain_other true w plain = refl
 plain_other false w plain = and_from (is_plain_value w) true plain refl
 
-plain_both : (ws vs : List Write) → list_all is_plain_value ws ≡ true → list_all is_plain_value vs ≡ true → list_all is_plain_value (ws ++ vs) ≡ true
+pub plain_both : (ws vs : List Write) → list_all is_plain_value ws ≡ true → list_all is_plain_value vs ≡ true → list_all is_plain_value (ws ++ vs) ≡ true
 plain_both ws vs first second =
     list_all-append is_plain_value ws vs ∙ and_from (list_all is_plain_value ws) (list_all is_plain_value vs) first second
 
@@ -37,12 +37,12 @@ plain_closing [] = refl
 plain_closing (c ∷ changes) = plain_both (closing_writes changes) (closing_of c) (plain_closing changes)
     (plain_one (is_on c.old) record { slot = c.old.slot; offset = 0x04; width = 2; value = closed_command c.old } refl)
 
-plain_by : (bridge : Bool) → list_all is_plain_register (registers_by bridge) ≡ true
+pub plain_by : (bridge : Bool) → list_all is_plain_register (registers_by bridge) ≡ true
 unfolding is_plain_register
 plain_by true = refl
 plain_by false = refl
 
-plain_register : (c : Change) (rs : List (ℕ × ℕ)) → list_all is_plain_register rs ≡ true → list_all is_plain_value (flat_map (register_write c) rs) ≡ true
+pub plain_register : (c : Change) (rs : List (ℕ × ℕ)) → list_all is_plain_register rs ≡ true → list_all is_plain_value (flat_map (register_write c) rs) ≡ true
 unfolding is_plain_register
 plain_register c [] plain = refl
 plain_register c (r ∷ rs) plain =
@@ -68,7 +68,7 @@ plain_plan changes =
     plain_both (closing_writes changes) (register_writes changes ++ opening_writes changes) (plain_closing changes)
     (plain_both (register_writes changes) (opening_writes changes) (plain_registers changes) (plain_opening changes))
 
-plain_of : (writes : List CodeWrite) → list_all is_plain_value (map write_value writes) ≡ true → All (λ w. IsTrue (is_plain w)) writes
+pub plain_of : (writes : List CodeWrite) → list_all is_plain_value (map write_value writes) ≡ true → All (λ w. IsTrue (is_plain w)) writes
 plain_of [] plain i d inside = absurd (let impossible : ⊥ = omega (arith, inside) in impossible)
 plain_of (w ∷ writes) plain zero d inside = (and_parts (is_plain w) (list_all is_plain_value (map write_value writes)) plain).0
 plain_of (w ∷ writes) plain (suc i) d inside =

@@ -7,6 +7,7 @@ use Rattle.pci_probe.specs.declared.assuming.Assuming.TheVariants.{Nothing, Disa
 use Rattle.pci_tree.specs.declared.roots.Roots.{Roots}
 use Rattle.pciplan_cli.specs.FaultsAsked.{IsFaultsOf, AreFaultsRefused}
 use Rattle.pciplan_cli.specs.MapAsked.{IsMapOf, IsMapRefused}
+use Rattle.pciplan_cli.specs.SettleAsked.{IsSettlingOf, IsSettlingRefused}
 use Rattle.pciplan_cli.specs.OptionWords.{AreRootsOf, HasNoRoots}
 use Rattle.pciplan_lists.specs.PoolWords.{IsPoolWord, HasNoPool}
 use Rattle.pciplan_words.specs.declared.asked.Asked.{Asked}
@@ -42,6 +43,7 @@ IsTaskOf (asked.Faults words) t = IsFaultsOf words t
 IsTaskOf (asked.Map words) t = IsMapOf words t
 IsTaskOf asked.Size t = t ≡ task.Size
 IsTaskOf (asked.Plan words) t = IsPlanningOf words t
+IsTaskOf (asked.Settle words) t = IsSettlingOf words t
 IsTaskOf (asked.Probe exact least) t =
     (assuming : Assuming) × IsAssumingOf exact least assuming × (t ≡ task.Probe assuming)
 
@@ -55,8 +57,8 @@ HasIo words = HasRoots words × ((pool : Range) × IsPoolWord words.io.now pool)
 abbrev pub HasMem : PlanWords → Type 0
 HasMem words = HasIo words × ((pool : Range) × IsPoolWord words.mem.now pool)
 
--- the first word that is none, of the root list and then the words of `--model` and what the host sends, or the pools of
--- I/O, memory and prefetchable memory; or two options of which one alone may be said
+-- the first word that is none, of the root list and then the words of `--model` and what the host sends, or the pools or
+-- lists of I/O, memory and prefetchable memory; or two options of which one alone may be said
 abbrev pub IsRefusedFor : Asked → Failure → Type 0
 IsRefusedFor (asked.Check root) Root = HasNoRoots root
 IsRefusedFor (asked.Faults words) failure = AreFaultsRefused words failure
@@ -65,5 +67,6 @@ IsRefusedFor (asked.Plan words) Root = HasNoRoots words.root
 IsRefusedFor (asked.Plan words) (Pool Io) = HasRoots words × HasNoPool words.io.now
 IsRefusedFor (asked.Plan words) (Pool Mem) = HasIo words × HasNoPool words.mem.now
 IsRefusedFor (asked.Plan words) (Pool Pref) = HasMem words × HasNoPool words.pref.now
+IsRefusedFor (asked.Settle words) failure = IsSettlingRefused words failure
 IsRefusedFor (asked.Probe exact least) Usage = (exact ≡ true) × (least ≡ true)
 IsRefusedFor _ _ = ⊥

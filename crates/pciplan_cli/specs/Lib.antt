@@ -1,6 +1,7 @@
 pub mod Statuses
 pub mod Answers
 pub mod PlanAnswers
+pub mod SettleAnswers
 pub mod FaultsAnswers
 pub mod MapAnswers
 pub mod MapAsked
@@ -10,6 +11,7 @@ pub mod ModelWords
 pub mod RootWords
 pub mod OptionWords
 pub mod FaultsAsked
+pub mod SettleAsked
 pub mod Asked
 pub mod Invocations
 pub mod Opened

@@ -18,6 +18,7 @@ use Rattle.pciplan_cli.specs.FaultsAnswers.{AreTold}
 use Rattle.pciplan_cli.specs.GivenAnswers.{IsAnswerGiven}
 use Rattle.pciplan_cli.specs.MapAnswers.{IsMapped, sent_by}
 use Rattle.pciplan_cli.specs.PlanAnswers.{IsPlanned}
+use Rattle.pciplan_cli.specs.SettleAnswers.{IsSettlingTold, lists_said}
 use Rattle.pciplan_cli.specs.ProbeAnswers.{probe_answer}
 use Rattle.pciplan_cli.specs.Statuses.{status_of}
 use Rattle.pciplan_cli.specs.TakenAnswers.{IsAnswerBy}
@@ -56,6 +57,12 @@ IsPairAnswer (task.Plan pools writes why roots) =
       pools = pools_value pools;
       writes = writes;
       why = why;
+      roots = buses_of roots;
+    }
+IsPairAnswer (task.Settle lists writes roots) =
+    IsSettlingTold record {
+      lists = lists_said lists;
+      writes = writes;
       roots = buses_of roots;
     }
 IsPairAnswer (task.Probe assuming) = λ dump probe answer. ⊥

@@ -8,6 +8,7 @@ use crate::faults_asked::faults_of;
 use crate::invocation::Task;
 use crate::map_asked::map_of;
 use crate::option_words::{pool_of, roots_of};
+use crate::settle_asked::settling_of;
 use pci_place::pools::Pools;
 use pci_probe::assuming::Assuming;
 use pciplan_words::asked::{Asked, PlanWords};
@@ -43,7 +44,7 @@ fn assuming_of(exact: bool, least: bool) -> Option<Assuming>
 }
 
 /// The task that is asked for. The root list is read first, then the words of `--model` and what the host sends, of I/O
-/// before memory, or the pools, of I/O, memory and prefetchable memory: the first word that is none is the fault.
+/// before memory, or the pools or lists, of I/O, memory and prefetchable memory: the first word that is none is the fault.
 pub fn task_of(alloc: Global, asked: &Asked<'_>) -> Result<Task, Failure>
     ensures { MatchResult result (IsTaskOf asked.now) (IsRefusedFor asked.now) }
 {
@@ -56,6 +57,7 @@ pub fn task_of(alloc: Global, asked: &Asked<'_>) -> Result<Task, Failure>
         Asked::Map(words) => map_of(alloc, words),
         Asked::Size => Ok(Task::Size),
         Asked::Plan(words) => planning_of(words),
+        Asked::Settle(words) => settling_of(alloc, words),
         Asked::Probe { exact, least } => Ok(Task::Probe {
             assuming: assuming_of(*exact, *least).ok_or(Failure::Usage)?,
         }),

@@ -12,7 +12,7 @@ use pciplan_words::asked::WordsFault;
 use std::alloc::AllocError;
 use std::fmt::{self, Write};
 
-/// The option that names the pool of a class.
+/// The option that names the pool or the list of a class.
 #[derive(Clone, Copy, Debug, PartialEq, Eq)]
 pub enum PoolOption {
     Io,
@@ -23,7 +23,8 @@ pub enum PoolOption {
 /// Why a command line isn't carried out.
 #[derive(Clone, Copy, Debug, PartialEq, Eq)]
 pub enum Failure {
-    /// The words are no command line, or name both `--exact` and `--least`, which exclude each other.
+    /// The words are no command line, or name both `--exact` and `--least`, which exclude each other, or `settle` without
+    /// `--anew`.
     Usage,
     /// The list of root buses is none.
     Root,
@@ -33,7 +34,7 @@ pub enum Failure {
     Host(Space),
     /// Reasons are asked for where something is given beside the system.
     Why,
-    /// The word of an option's pool is none.
+    /// The word of an option's pool or list is none.
     Pool(PoolOption),
     /// The text of the dump has a fault, or can't be read.
     Dump(ReadFault),

@@ -23,6 +23,14 @@ pub struct HostLists {
     pub mem: Option<Vec<RootRange>>,
 }
 
+/// The ranges that may be settled in, of I/O, of memory and of prefetchable memory.
+#[derive(Drop)]
+pub struct SettleLists {
+    pub io: Vec<RootRange>,
+    pub mem: Vec<RootRange>,
+    pub pref: Vec<RootRange>,
+}
+
 /// What is to be done with a dump and its probe.
 #[derive(Drop)]
 pub enum Task {
@@ -62,6 +70,12 @@ pub enum Task {
         why: bool,
         roots: Roots,
     },
+    /// Places all anew in these lists, with these root buses: the settled dump, or the writes that lead there.
+    Settle {
+        lists: SettleLists,
+        writes: bool,
+        roots: Roots,
+    },
     /// Derives the probe from the dump and the sizes that Linux tells, which are the second text, assuming the least size of
     /// these registers where none is told.
     Probe {
@@ -95,7 +109,7 @@ fn invocation_of(alloc: Global, words: &[&str]) -> Result<Invocation, Failure>
 
 /// Reads the words after the program's name. Where they make no command line it writes the message to `err`
 /// and answers the status: 2 for a fault of usage, then of the root list, then of the words of `--model`, of what the host
-/// sends or of a pool, and then for reasons that aren't told; 3 at want of memory.
+/// sends, of a pool or of a list, and then for reasons that aren't told; 3 at want of memory.
 pub fn start<E: Sink>(alloc: Global, words: &[&str], err: &mut E) -> Result<Invocation, u8>
     ensures line { IfOk result (IsInvocationOf (map (λ w. w.now) words.now)) }
     ensures refused { IfErr result (λ status. (failure : Failure)

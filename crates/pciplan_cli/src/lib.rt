@@ -27,6 +27,8 @@ pub mod program;
 pub mod reply;
 pub mod root_list;
 pub mod run;
+mod settle_asked;
+pub mod settling;
 pub mod shortage_line;
 pub mod sizing;
 pub mod taking;

@@ -50,7 +50,7 @@ fn push_write<A: Allocator>(text: &mut String<A>, write: &RegisterWrite) -> Resu
 }
 
 /// A line for each write.
-fn lines_of<A: Allocator>(alloc: A, writes: &[RegisterWrite]) -> Result<String<A>, OutOfMemory>
+pub fn lines_of<A: Allocator>(alloc: A, writes: &[RegisterWrite]) -> Result<String<A>, OutOfMemory>
     requires { All (λ w. IsTrue (is_plain w)) writes.now }
     ensures { IfOk result
         (λ text. string_bytes text ≡ flat_map write_line (map write_value writes.now)) }

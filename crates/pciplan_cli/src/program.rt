@@ -81,7 +81,8 @@ fn unread(task: &Task) -> Failure
         | Task::FaultsGiven { .. }
         | Task::Map { .. }
         | Task::Size
-        | Task::Plan { .. } => Failure::Probe(ReadFault::Io),
+        | Task::Plan { .. }
+        | Task::Settle { .. } => Failure::Probe(ReadFault::Io),
     }
 }
 

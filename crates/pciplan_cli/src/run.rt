@@ -12,6 +12,7 @@ use crate::mapping::map_by;
 use crate::planning::plan_pair;
 use crate::probing::derive;
 use crate::reply::{Reply, Text, done, refused, send};
+use crate::settling::settle_pair;
 use crate::sizing::size_all;
 use pci_base::memory::{OutOfMemory, Refused};
 use pci_check::audit::judge_texts;
@@ -136,6 +137,11 @@ fn pair_reply<A: Allocator + Copy>(
             why,
             roots,
         } => plan_pair(alloc, dump, probe, pools, *writes, *why, *roots),
+        Task::Settle {
+            lists,
+            writes,
+            roots,
+        } => settle_pair(alloc, dump, probe, lists, *writes, *roots),
         Task::Check { .. } | Task::Probe { .. } => unreachable!(),
     }
 }

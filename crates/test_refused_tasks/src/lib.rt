@@ -20,4 +20,6 @@ mod refused_plans;
 #[cfg(test)]
 mod refused_probes;
 #[cfg(test)]
+mod refused_settlings;
+#[cfg(test)]
 mod refused_tasks;

@@ -1,0 +1,121 @@
+//! The program's settling where a read, a write or a growth fails.
+use crate::failing::{leaves_beginnings, tells_failed_reads};
+use crate::program::{line_of, prints};
+use crate::refused_tasks::is_refused_in_turn;
+use pci_base::range::{Range, RootRange};
+use pci_tree::roots::Roots;
+use pciplan_cli::invocation::{SettleLists, Task};
+use std::alloc::{AllocError, Global};
+use std::test::Fail;
+use test_support::board::{Texts, bridge, device, texts_of};
+
+/// A list with one range of all root buses.
+fn list_of(alloc: Global, first: u64, last: u64) -> Result<Vec<RootRange>, AllocError> {
+    let mut list = Vec::new(alloc);
+    list.push(RootRange {
+        root: None,
+        range: Range { first, last },
+    })?;
+    Ok(list)
+}
+
+/// Settling in 60 KB of I/O, memory from E0000000h to this address, and no prefetchable memory.
+fn task_to(alloc: Global, last: u64, writes: bool) -> Result<Task, AllocError> {
+    Ok(Task::Settle {
+        lists: SettleLists {
+            io: list_of(alloc, 0x1000, 0xffff)?,
+            mem: list_of(alloc, 0xe000_0000, last)?,
+            pref: Vec::new(alloc),
+        },
+        writes,
+        roots: Roots::host(),
+    })
+}
+
+/// A bridge with a BAR behind it that is on at its own window's place, and a BAR beside it.
+fn settled(alloc: Global) -> Result<Texts, AllocError> {
+    let board = [
+        bridge("00:01.0", 2, (0, 1, 1), &[(0x20, 0xe010_e010, 0xfff0_fff0)]),
+        device("00:02.0", 0, &[(0x10, 0x0000_0000, 0xfff0_0000)]),
+        device("01:00.0", 2, &[(0x10, 0xe010_0000, 0xffff_f000)]),
+    ];
+    texts_of(alloc, &board)
+}
+
+/// The writes that settle it.
+const WRITES: &str = "01:00.0 04.2 0000
+00:01.0 04.2 0000
+00:01.0 20.4 e000e000
+00:02.0 10.4 e0100000
+01:00.0 10.4 e0000000
+00:01.0 04.2 0002
+00:02.0 04.2 0002
+01:00.0 04.2 0002
+";
+
+/// The last address with which it has room.
+const LAST: u64 = 0xe01f_ffff;
+
+#[test]
+fn writes_of_settling_are_printed(rt: HostRuntime) -> Result<(), Fail> {
+    let texts = settled(rt.alloc())?;
+    let words = [
+        "settle",
+        "d",
+        "p",
+        "--io",
+        "none",
+        "--mem",
+        "e0000000-e01fffff",
+        "--pref",
+        "none",
+        "--anew",
+        "--writes",
+    ];
+    prints(
+        &rt,
+        &words,
+        (texts.dump.as_str(), texts.probe.as_str()),
+        (WRITES, "", 0),
+    )
+}
+
+#[test]
+fn settling_that_is_refused_a_growth_says_just_that(rt: HostRuntime) -> Result<(), Fail> {
+    let texts = settled(rt.alloc())?;
+    let task = task_to(rt.alloc(), LAST, true)?;
+    assert!(rt; is_refused_in_turn(&rt, &line_of(&rt, task), &texts));
+    Ok(())
+}
+
+#[test]
+fn so_does_one_that_prints_the_dump(rt: HostRuntime) -> Result<(), Fail> {
+    let texts = settled(rt.alloc())?;
+    let task = task_to(rt.alloc(), LAST, false)?;
+    assert!(rt; is_refused_in_turn(&rt, &line_of(&rt, task), &texts));
+    Ok(())
+}
+
+#[test]
+fn so_does_one_without_room(rt: HostRuntime) -> Result<(), Fail> {
+    let texts = settled(rt.alloc())?;
+    let task = task_to(rt.alloc(), LAST - 1, true)?;
+    assert!(rt; is_refused_in_turn(&rt, &line_of(&rt, task), &texts));
+    Ok(())
+}
+
+#[test]
+fn a_writer_that_fails_holds_a_beginning_of_the_writes(rt: HostRuntime) -> Result<(), Fail> {
+    let texts = settled(rt.alloc())?;
+    let task = task_to(rt.alloc(), LAST, true)?;
+    leaves_beginnings(&rt, &line_of(&rt, task), &texts, 7, &[0, 1, 100]);
+    Ok(())
+}
+
+#[test]
+fn a_read_that_fails_leaves_nothing_settled(rt: HostRuntime) -> Result<(), Fail> {
+    let texts = settled(rt.alloc())?;
+    let task = task_to(rt.alloc(), LAST, true)?;
+    tells_failed_reads(&rt, &line_of(&rt, task), &texts, 0);
+    Ok(())
+}
