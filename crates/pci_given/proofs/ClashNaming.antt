@@ -20,8 +20,8 @@ use Rattle.given_spec.specs.Given.{Given}
 use Rattle.given_spec.specs.Claims.{Gets, ClaimsOnBus, may_share}
 use Rattle.given_spec.specs.Fault.{IsClash}
 use Rattle.given_spec.specs.AllFaults.{IsClashOf}
-use Rattle.pci_given.specs.Claim.{Claimed}
-use Rattle.pci_given.specs.BusClaims.{AreClaimsOn, AreClaimsInEach}
+use Rattle.pci_claims.specs.Claim.{Claimed}
+use Rattle.pci_claims.specs.BusClaims.{AreClaimsOn, AreClaimsInEach}
 use Rattle.pci_given.specs.Clashes.{claim_at, nobody, AreMeeting, AreMeetings, told, IsClashLine, IsOnBusIn, AreClashesAdded}
 use Rattle.pci_given.proofs.Telling.{IsNamedAt, number_at, named_at, IsMeetingAs, rise_at, place_rise, just_told}
 

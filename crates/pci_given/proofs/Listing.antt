@@ -23,7 +23,7 @@ use Rattle.pci_given.specs.declared.bars_and_roms.BarOrRom.{BarOrRom}
 use Rattle.pci_given.specs.Clashes.{IsOnBusIn}
 use Rattle.pci_given.specs.BarsAndRoms.{place_of, among, IsBarOrRom, HasBarOrRom, AreBarsAndRomsAt, AreBarsAndRomsAdded, AreAllBarsAndRoms}
 use Rattle.pci_given.proofs.AllClashing.{Where, IsBelow, IsOnBus, IsAnywhere, not_both_spaces, either_space, not_below_and_on, below_or_on}
-use Rattle.pci_given.proofs.Making.{rise_in_order}
+use Rattle.pci_claims.proofs.Making.{rise_in_order}
 
 abbrev Differ : BarOrRom → BarOrRom → Type 0
 Differ b c = place_of b ≡ place_of c → ⊥

@@ -8,7 +8,7 @@ use Rattle.pci_tree.specs.Ranges.{Holds, Covers, IsCanonical, IsLeastOutside}
 use Rattle.pci_tree.proofs.Passing.{covers_push}
 use Rattle.pci_tree.proofs.RangeLists.{found_at, covers_at}
 use Rattle.pci_given.specs.Missed.{IsLeastMissed}
-use Rattle.pci_given.proofs.Gathering.{covers_take}
+use Rattle.pci_claims.proofs.Gathering.{covers_take}
 
 -- of the first so many ranges all that the range has is passed
 abbrev pub AllPassed : Range → List Range → List Range → Type 0

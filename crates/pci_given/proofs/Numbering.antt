@@ -21,7 +21,7 @@ use Rattle.given_spec.specs.Fault.{Known, Outside, fault_number}
 use Rattle.given_spec.specs.Fault as spec
 use Rattle.given_spec.specs.AllFaults.{IsNamed, judging_key}
 use Rattle.given_spec.specs.Numbered.{AreAllNumbered}
-use Rattle.pci_given.proofs.Making.{rise_in_order}
+use Rattle.pci_claims.proofs.Making.{rise_in_order}
 
 -- what a list of all names of a number other than 63
 pub record AreLinesOf (number : ℕ) (given : Given) (roots : List ℕ) (s : System) (Line : plain.Fault → Type 0) : Type 0 where

@@ -9,23 +9,10 @@ use Rattle.pci_tree.specs.Ranges.{Covers}
 use Rattle.pci_faults.specs.declared.shares.Among.{Among}
 use Rattle.pci_faults.specs.declared.shares.Among.TheVariants.{Bus, Roots}
 use Rattle.pci_faults.specs.declared.shares.Share.{Share}
-use Rattle.given_spec.specs.Claims.{may_share}
-use Rattle.pci_given.specs.Claim.{Claimed, IsLeastCommon}
-use Rattle.pci_given.specs.Clashes.{AreAtOdds, IsLeastAtOdds, AreOnTwoBuses, Meet, IsLeastOfTwo, claim_at, AreMeeting, IsLeastBelow, IsFoundBelow, lesser, AreMeetingsBelow}
+use Rattle.pci_claims.specs.Claim.{Claimed, AreAtOdds, IsLeastAtOdds, IsLeastCommon}
+use Rattle.pci_given.specs.Clashes.{AreOnTwoBuses, Meet, IsLeastOfTwo, claim_at, AreMeeting, IsLeastBelow, IsFoundBelow, lesser, AreMeetingsBelow}
 
 -- ---- two claims
-
-pub never_at_odds : (c d : Claimed) → may_share c.slot c.register d.slot d.register ≡ true → (a : ℕ) → AreAtOdds c d a → ⊥
-never_at_odds c d share a odds = both_ways _ odds.apart share
-
-pub odds_answer : (c d : Claimed) → may_share c.slot c.register d.slot d.register ≡ false → (o : Option ℕ)
-    → MatchOption o ((a : ℕ) → Covers c.pieces a → Covers d.pieces a → ⊥) (λ a. IsLeastCommon c.pieces d.pieces a)
-    → MatchOption o ((a : ℕ) → AreAtOdds c d a → ⊥) (λ a. IsLeastAtOdds c d a)
-odds_answer c d apart None none = λ a odds. none a odds.first odds.second
-odds_answer c d apart (Some a) is = record {
-  there = record { first = is.first; second = is.second; apart = apart };
-  least = λ b odds. elim (cases_lt b a) [ inl less ↦ absurd (is.least b less odds.first odds.second) | inr le ↦ le ];
-}
 
 pub of_a_bus : (bus : ℕ) (c d : Claimed) (o : Option ℕ) → MatchOption o ((a : ℕ) → AreAtOdds c d a → ⊥) (λ a. IsLeastAtOdds c d a)
     → MatchOption o ((a : ℕ) → AreAtOdds c d a → ⊥) (λ a. IsLeastOfTwo (Bus bus) c d a)

@@ -20,10 +20,10 @@ use Rattle.given_spec.specs.AllFaults.{IsOutsideOf, IsNamed, judging_key}
 use Rattle.given_spec.specs.Numbered.{AreAllNumbered}
 use Rattle.pci_given.specs.declared.bars_and_roms.BarOrRom.{BarOrRom}
 use Rattle.pci_given.specs.declared.outside_lines.Outside.{Outside}
-use Rattle.pci_given.specs.Outside.{IsNeverOutside, IsOutsideLine}
+use Rattle.pci_claims.specs.Outside.{IsNeverOutside, IsOutsideLine}
 use Rattle.pci_given.specs.BarsAndRoms.{place_of, AreBarsAndRomsOf, AreAllBarsAndRoms}
 use Rattle.pci_given.specs.OutsideLines.{outside_of, outside_at, IsOutsideOfOne, AreOutsideLines, AreAllOutside}
-use Rattle.pci_given.proofs.Making.{made_none, made_more, made_less}
+use Rattle.pci_claims.proofs.Making.{made_none, made_more, made_less}
 use Rattle.pci_given.proofs.Listing.{named_as}
 use Rattle.pci_given.proofs.Lining.{region_precedes}
 

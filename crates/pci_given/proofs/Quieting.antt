@@ -25,13 +25,13 @@ use Rattle.given_spec.specs.Given.{Given, legacy_holds, is_legacy_at}
 use Rattle.given_spec.specs.Given as spec
 use Rattle.given_spec.specs.Claims.{Own, Legacy, ClaimsOnBus, may_share, are_window_and_legacy}
 use Rattle.given_spec.proofs.Judging.{slots_same}
-use Rattle.pci_given.specs.declared.given.LegacyBridge.{LegacyBridge}
-use Rattle.pci_given.specs.Values.{legacy_value}
-use Rattle.pci_given.specs.Legacy.{ArePieces}
+use Rattle.pci_claims.specs.declared.given.LegacyBridge.{LegacyBridge}
+use Rattle.pci_claims.specs.Values.{legacy_value}
+use Rattle.pci_claims.specs.Legacy.{ArePieces}
 use Rattle.pci_given.specs.Clashes.{IsClashLine, IsOnBusIn, AreClashesAdded}
 use Rattle.pci_given.specs.Splits.{IsSplitLine, IsIn, AreSplitsAdded}
 use Rattle.pci_given.specs.Quiet.{IsOff, IsOffLegacy, HasThoseOn, AreQuiet, IsQuiet, IsQuietInEach}
-use Rattle.pci_given.proofs.Walking.{all_more}
+use Rattle.pci_claims.proofs.Walking.{all_more}
 
 -- ---- regions that rise
 

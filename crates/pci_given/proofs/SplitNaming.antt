@@ -21,9 +21,10 @@ use Rattle.given_spec.specs.Given.{Given, starts}
 use Rattle.given_spec.specs.Claims.{ClaimsOnBus}
 use Rattle.given_spec.specs.Fault.{IsSplit}
 use Rattle.given_spec.specs.AllFaults.{IsSplitOf}
-use Rattle.pci_given.specs.Claim.{Claimed}
+use Rattle.pci_claims.specs.Claim.{Claimed}
 use Rattle.pci_given.specs.Clashes.{claim_at, nobody, AreMeeting, AreMeetings, told}
-use Rattle.pci_given.specs.Splits.{AreClaimsOver, AreRootClaimsInEach, IsSplitLine, IsIn, AreSplitsAdded}
+use Rattle.pci_claims.specs.RootClaims.{AreClaimsOver, AreRootClaimsInEach}
+use Rattle.pci_given.specs.Splits.{IsSplitLine, IsIn, AreSplitsAdded}
 use Rattle.pci_given.proofs.Telling.{IsNamedAt, number_at, named_at, IsMeetingAs, place_rise, just_told}
 
 module _ (given : Given) (roots : List ℕ) (s : System) (space : Space) (claims : List Claimed) (are : AreClaimsOver given (Contains roots) s (space_of space) claims) where

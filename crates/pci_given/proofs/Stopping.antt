@@ -14,12 +14,12 @@ use Rattle.pci_tree.specs.Ranges.{Holds, Covers}
 use Rattle.pci_tree.specs.Ways.{slots_of}
 use Rattle.pci_tree.proofs.Lifting.{one_by_number}
 use Rattle.given_spec.specs.Given.{Given}
-use Rattle.pci_given.specs.Passed.{ArePassed, passes_with}
-use Rattle.pci_given.specs.Sent.{IsSentTo}
+use Rattle.pci_claims.specs.Passed.{ArePassed, passes_with}
+use Rattle.pci_claims.specs.Sent.{IsSentTo}
 use Rattle.pci_given.specs.Missed.{IsLeastMissed}
-use Rattle.pci_given.specs.Reached.{PassesAt}
+use Rattle.pci_claims.specs.Reached.{PassesAt}
 use Rattle.pci_given.specs.Stopped.{PassesSent, IsFirstStop}
-use Rattle.pci_given.proofs.Walking.{all_more}
+use Rattle.pci_claims.proofs.Walking.{all_more}
 
 module _ (given : Given) (kind : WindowKind) (records : List Record) (root : ℕ) (range : Range) where
   -- the record at a slot is one

@@ -18,8 +18,8 @@ use Rattle.pci_faults.specs.declared.shares.Share.{Share}
 use Rattle.pci_faults.specs.Lines.{AreJust}
 use Rattle.pci_faults.proofs.Adding.{Differ}
 use Rattle.pci_faults.proofs.Naming.{Meeting, IsLeastMeeting}
-use Rattle.pci_given.specs.Claim.{Claimed}
-use Rattle.pci_given.specs.BusClaims.{number_of}
+use Rattle.pci_claims.specs.Claim.{Claimed}
+use Rattle.pci_claims.specs.BusClaims.{number_of}
 use Rattle.pci_given.specs.Clashes.{claim_at, nobody, AreMeeting, IsLeastBelow, AreMeetings, fault_at, told}
 
 -- the claim at a place is that of a region

@@ -23,7 +23,7 @@ use Rattle.pci_given.specs.declared.bars_and_roms.BarOrRom.{BarOrRom}
 use Rattle.pci_given.specs.Stopped.{IsNeverUnreached, IsUnreachedLine}
 use Rattle.pci_given.specs.BarsAndRoms.{place_of, AreBarsAndRomsOf, AreAllBarsAndRoms}
 use Rattle.pci_given.specs.UnreachedLines.{unreached_at, place_of_fault, IsUnreachedOfOne, AreUnreachedLines, AreAllUnreached}
-use Rattle.pci_given.proofs.Making.{made_none, made_more, made_less}
+use Rattle.pci_claims.proofs.Making.{made_none, made_more, made_less}
 use Rattle.pci_given.proofs.Listing.{named_as}
 use Rattle.pci_given.proofs.Lining.{region_precedes}
 

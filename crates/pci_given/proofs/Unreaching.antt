@@ -28,11 +28,11 @@ use Rattle.pci_check.proofs.Stops.{window_named}
 use Rattle.given_spec.specs.Given.{Given, starts}
 use Rattle.given_spec.specs.Claims.{passes}
 use Rattle.given_spec.specs.Fault.{IsUnreached}
-use Rattle.pci_given.specs.Outside.{IsSent, IsRootOf}
-use Rattle.pci_given.specs.Reached.{PassesAt}
+use Rattle.pci_claims.specs.Outside.{IsSent, IsRootOf}
+use Rattle.pci_claims.specs.Reached.{PassesAt}
 use Rattle.pci_given.specs.Stopped.{PassesSent, IsFirstStop, IsNeverUnreached, IsUnreachedLine}
-use Rattle.pci_given.proofs.Outsides.{range, root_is}
-use Rattle.pci_given.proofs.Walking.{bridge_at}
+use Rattle.pci_claims.proofs.Outsides.{range, root_is}
+use Rattle.pci_claims.proofs.Walking.{bridge_at}
 
 -- ---- bridges of a way
 

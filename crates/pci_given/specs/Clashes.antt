@@ -1,5 +1,5 @@
 -- Where claims of a list meet, and all clashes of a system.
-use Rattle.std.specs.Prelude.{◌≡◌, ◌≢◌, ℕ, ◌<◌, ◌≤◌, ◌⊎◌, nat_le, if◌then◌else◌, false, List, [], Option, None, Some, MatchOption, length, map, slice_index_or}
+use Rattle.std.specs.Prelude.{◌≡◌, ◌≢◌, ℕ, ◌<◌, ◌≤◌, ◌⊎◌, nat_le, if◌then◌else◌, List, [], Option, None, Some, MatchOption, length, map, slice_index_or}
 use Rattle.std.specs.List.{AllPairs, Contains}
 use Rattle.pci_spec.specs.System.{System}
 use Rattle.pci_spec.specs.System as system
@@ -16,24 +16,12 @@ use Rattle.pci_faults.specs.declared.shares.Among.TheVariants.{Bus, Roots}
 use Rattle.pci_faults.specs.declared.shares.Share.{Share}
 use Rattle.pci_faults.specs.Lines.{AreAdded}
 use Rattle.given_spec.specs.Given.{Given}
-use Rattle.given_spec.specs.Claims.{may_share}
 use Rattle.given_spec.specs.Fault.{Known}
 use Rattle.given_spec.specs.AllFaults.{IsClashOf}
 use Rattle.given_spec.specs.Numbered.{AreAllNumbered}
-use Rattle.pci_given.specs.Claim.{Claimed}
+use Rattle.pci_claims.specs.Claim.{Claimed, AreAtOdds}
 
 -- ---- two claims
-
--- both answer an address that they may not share
-pub record AreAtOdds (c d : Claimed) (a : ℕ) : Type 0 where
-  pub first : Covers c.pieces a
-  pub second : Covers d.pieces a
-  pub apart : may_share c.slot c.register d.slot d.register ≡ false
-
--- the least such address
-pub record IsLeastAtOdds (c d : Claimed) (a : ℕ) : Type 0 where
-  pub there : AreAtOdds c d a
-  pub least : (b : ℕ) → AreAtOdds c d b → a ≤ b
 
 -- both answer an address, on two buses
 pub record AreOnTwoBuses (c d : Claimed) (a : ℕ) : Type 0 where

@@ -10,9 +10,9 @@ use Rattle.given_spec.specs.Fault as spec
 use Rattle.given_spec.specs.Numbered.{AreAllNumbered}
 use Rattle.pci_given.specs.declared.bars_and_roms.BarOrRom.{BarOrRom}
 use Rattle.pci_given.specs.declared.outside_lines.Outside.{Outside}
-use Rattle.pci_given.specs.Outside.{IsNeverOutside, IsOutsideLine}
+use Rattle.pci_claims.specs.Outside.{IsNeverOutside, IsOutsideLine}
 use Rattle.pci_given.specs.BarsAndRoms.{place_of}
-use Rattle.pci_given.specs.Made.{AreMade}
+use Rattle.pci_claims.specs.Made.{AreMade}
 
 -- the fault, as the definitions have it
 abbrev pub outside_of : Outside → spec.Fault

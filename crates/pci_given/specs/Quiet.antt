@@ -11,7 +11,7 @@ use Rattle.pci_tree.specs.Outline.{Tree}
 use Rattle.pci_check.specs.Trees.{HasTree}
 use Rattle.given_spec.specs.Given.{Given, legacy_holds}
 use Rattle.given_spec.specs.Claims.{ClaimsOnBus, may_share}
-use Rattle.pci_given.specs.declared.given.LegacyBridge.{LegacyBridge}
+use Rattle.pci_claims.specs.declared.given.LegacyBridge.{LegacyBridge}
 
 -- the region may share each address that it has of the legacy part of the bridge at a slot
 abbrev pub IsOff : Slot → List Range → Region → Type 0

@@ -15,8 +15,8 @@ use Rattle.pci_check.specs.Stops.{is_of_window}
 use Rattle.given_spec.specs.Given.{Given}
 use Rattle.given_spec.specs.Fault.{IsUnreached}
 use Rattle.given_spec.specs.AllFaults.{IsUnreachedOf}
-use Rattle.pci_given.specs.Outside.{IsSent}
-use Rattle.pci_given.specs.Reached.{PassesAt}
+use Rattle.pci_claims.specs.Outside.{IsSent}
+use Rattle.pci_claims.specs.Reached.{PassesAt}
 
 -- the bridge whose record has the slot passes each address of a range that is sent to a root
 abbrev pub PassesSent : Given → WindowKind → List Record → ℕ → Range → Slot → Type 0

@@ -16,7 +16,7 @@ use Rattle.given_spec.specs.Numbered.{AreAllNumbered}
 use Rattle.pci_given.specs.declared.bars_and_roms.BarOrRom.{BarOrRom}
 use Rattle.pci_given.specs.Stopped.{IsNeverUnreached, IsUnreachedLine}
 use Rattle.pci_given.specs.BarsAndRoms.{place_of}
-use Rattle.pci_given.specs.Made.{AreMade}
+use Rattle.pci_claims.specs.Made.{AreMade}
 
 -- the fault of a BAR or a ROM with this address and this bridge
 abbrev pub unreached_at : BarOrRom → ℕ → Slot → Fault

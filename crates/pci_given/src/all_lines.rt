@@ -1,16 +1,16 @@
 //! All faults of judging, with what is given.
 ghost use Rattle.std.specs.Prelude.{◌≡◌, ◌++◌, map, IfOk, OnOk};
 ghost use Rattle.pci_given.specs.declared.any_fault.AnyFault.TheVariants.{OutsideHost, Known};
-ghost use Rattle.pci_given.specs.Values.{given_value};
+ghost use Rattle.pci_claims.specs.Values.{given_value};
 ghost use Rattle.pci_given.specs.AllLines.{AreAllLines};
 
 use super::any_fault::AnyFault;
 use super::clash_lines::all_clashes;
-use super::given::Given;
 use super::outside_lines::{Outside, all_outside};
 use super::split_lines::all_splits;
 use super::unreached_lines::all_unreached;
 use pci_base::memory::OutOfMemory;
+use pci_claims::given::Given;
 use pci_function::fault::Fault;
 use pci_tree::outline::Outline;
 use std::alloc::Allocator;

@@ -5,10 +5,10 @@ ghost use Rattle.pci_base.specs.Space.{space_of};
 ghost use Rattle.pci_given.specs.Clashes.{IsOnBusIn};
 ghost use Rattle.pci_given.specs.BarsAndRoms.{place_of, among, AreBarsAndRomsAdded, AreAllBarsAndRoms};
 
-use super::claim::place;
 use pci_base::memory::OutOfMemory;
 use pci_base::slot::BUSES;
 use pci_base::space::Space;
+use pci_claims::claim::place;
 use pci_tree::outline::Outline;
 use pci_tree::region::{Part, Region};
 use std::alloc::Allocator;

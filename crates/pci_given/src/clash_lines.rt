@@ -3,17 +3,17 @@ ghost use Rattle.std.specs.Prelude.{◌≡◌, ◌<◌, ◌≤◌, ◌++◌, ℕ
 ghost use Rattle.pci_base.specs.Space.{space_of};
 ghost use Rattle.pci_faults.specs.Shares.{AreWithin};
 ghost use Rattle.pci_faults.specs.declared.shares.Among.TheVariants.{Roots};
-ghost use Rattle.pci_given.specs.Values.{given_value};
-ghost use Rattle.pci_given.specs.BusClaims.{AreBridgesOf};
+ghost use Rattle.pci_claims.specs.Values.{given_value};
+ghost use Rattle.pci_claims.specs.BusClaims.{AreBridgesOf};
 ghost use Rattle.pci_given.specs.Clashes.{AreOnTwoBuses, Meet, IsLeastOfTwo, IsFoundBelow, lesser, AreMeetings, told, AreClashesAdded, IsOnBusIn, AreAllClashes};
 
-use super::bus_claims::claims_among;
-use super::claim::{Claim, least_at_odds, least_common};
-use super::given::Given;
 use super::quiet::is_bus_quiet;
 use pci_base::memory::OutOfMemory;
 use pci_base::slot::{BUSES, Slot};
 use pci_base::space::Space;
+use pci_claims::bus_claims::claims_among;
+use pci_claims::claim::{Claim, least_at_odds, least_common};
+use pci_claims::given::Given;
 use pci_faults::order::sort;
 use pci_faults::shares::{Among, Share};
 use pci_function::fault::Fault;

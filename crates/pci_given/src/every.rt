@@ -2,13 +2,13 @@
 ghost use Rattle.std.specs.Prelude.{◌≡◌, ◌↔◌, [], map, IfOk};
 ghost use Rattle.given_spec.specs.FaultLines.{AreAllFaults, AreSound};
 ghost use Rattle.pci_tree.specs.Roots.{buses_of};
-ghost use Rattle.pci_given.specs.Values.{given_value};
+ghost use Rattle.pci_claims.specs.Values.{given_value};
 ghost use Rattle.pci_given.specs.AllLines.{judged_of};
 
 use super::all_lines::{add_known, all_of_judging};
 use super::any_fault::AnyFault;
-use super::given::Given;
 use pci_base::memory::{OutOfMemory, Refused};
+use pci_claims::given::Given;
 use pci_dump::dump::Dump;
 use pci_early::early::faults_from;
 use pci_tree::admit::outline_of;

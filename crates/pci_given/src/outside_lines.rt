@@ -1,15 +1,15 @@
 //! All regions outside the host's ranges: one fault for each BAR or ROM with an address to which no access starts on
 //! the root above it.
 ghost use Rattle.std.specs.Prelude.{IfOk};
-ghost use Rattle.pci_given.specs.Values.{given_value};
+ghost use Rattle.pci_claims.specs.Values.{given_value};
 ghost use Rattle.pci_given.specs.OutsideLines.{AreOutsideLines, AreAllOutside};
 
 use super::bars_and_roms::{BarOrRom, bars_and_roms};
-use super::given::Given;
-use super::outside::least_outside_host;
 use pci_base::memory::OutOfMemory;
 use pci_base::slot::Slot;
 use pci_base::space::Space;
+use pci_claims::given::Given;
+use pci_claims::outside::least_outside_host;
 use pci_tree::outline::Outline;
 use std::alloc::Allocator;
 

@@ -1,46 +1,22 @@
 //! All splits: one for each region of a root bus that answers an address with one before it on another root.
 ghost use Rattle.std.specs.Prelude.{IfOk, OnOk};
 ghost use Rattle.pci_base.specs.Space.{space_of};
-ghost use Rattle.pci_given.specs.Values.{given_value};
-ghost use Rattle.pci_given.specs.BusClaims.{AreBridgesOf};
-ghost use Rattle.pci_given.specs.Splits.{AreRootClaimsInEach, AreSplitsAdded, IsIn, AreAllSplits};
+ghost use Rattle.pci_claims.specs.Values.{given_value};
+ghost use Rattle.pci_claims.specs.BusClaims.{AreBridgesOf};
+ghost use Rattle.pci_given.specs.Splits.{AreSplitsAdded, IsIn, AreAllSplits};
 
-use super::bus_claims::claims_among;
-use super::claim::Claim;
 use super::clash_lines::{add_told, meetings};
-use super::given::Given;
 use super::quiet::are_roots_quiet;
 use pci_base::memory::OutOfMemory;
-use pci_base::slot::{BUSES, Slot};
+use pci_base::slot::Slot;
 use pci_base::space::Space;
+use pci_claims::given::Given;
+use pci_claims::root_claims::claims_of_roots;
 use pci_faults::order::sort;
 use pci_faults::shares::Among;
 use pci_function::fault::Fault;
 use pci_tree::outline::Outline;
 use std::alloc::Allocator;
-
-/// The claims of all root buses in a space by slot and register, `bridges` being the slots of all bridges.
-fn claims_of_roots<A: Allocator + Copy>(
-    alloc: A,
-    given: &Given<'_>,
-    outline: &Outline<A>,
-    bridges: &[Slot],
-    space: Space,
-) -> Result<Vec<Claim<A>, A>, OutOfMemory>
-    requires { AreBridgesOf outline.now bridges.now }
-    ensures { IfOk result (λ v. AreRootClaimsInEach (given_value given.now) outline.now
-        (space_of space) v.items) }
-{
-    let roots = outline.roots();
-    let mut all = Vec::new(alloc);
-    for bus in 0..BUSES {
-        if roots.has(bus as u8) {
-            let mut claims = claims_among(alloc, given, outline, bridges, bus as u8, space)?;
-            all.append(&mut claims)?;
-        }
-    }
-    Ok(all)
-}
 
 /// Adds the splits of a space, `bridges` being the slots of all bridges.
 fn add_splits_in<A: Allocator + Copy>(

@@ -3,17 +3,17 @@
 ghost use Rattle.std.specs.Prelude.{IfOk, IsTrue};
 ghost use Rattle.pci_check.specs.Judgement.{AreHome};
 ghost use Rattle.pci_check.specs.Stops.{AreReachesOf, AlwaysNested};
-ghost use Rattle.pci_given.specs.Values.{given_value};
+ghost use Rattle.pci_claims.specs.Values.{given_value};
 ghost use Rattle.pci_given.specs.UnreachedLines.{AreUnreachedLines, AreAllUnreached};
 
 use super::bars_and_roms::{BarOrRom, bars_and_roms};
-use super::given::Given;
 use super::unreached::stop_of_lost;
 use pci_base::memory::OutOfMemory;
 use pci_base::slot::BUSES;
 use pci_base::space::Space;
 use pci_check::reached::Reached;
 use pci_check::unreached::first_unreached;
+use pci_claims::given::Given;
 use pci_function::fault::Fault;
 use pci_tree::outline::Outline;
 use std::alloc::Allocator;

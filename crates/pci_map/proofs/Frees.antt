@@ -15,8 +15,8 @@ use Rattle.pci_base.specs.declared.range.Range.{Range}
 use Rattle.pci_base.specs.Ranges.{decoded_range_of}
 use Rattle.pci_tree.specs.declared.region.Region.{Region}
 use Rattle.pci_tree.specs.Outline.{AreSortedRegionsOf}
-use Rattle.pci_given.specs.Gathered.{IsGathered, IsCommon}
-use Rattle.pci_given.specs.Sent.{IsSentTo}
+use Rattle.pci_claims.specs.Gathered.{IsGathered, IsCommon}
+use Rattle.pci_claims.specs.Sent.{IsSentTo}
 use Rattle.pci_why.specs.Bridges.{range_at}
 use Rattle.pci_why.proofs.Runs.{runs_of}
 use Rattle.pci_map.specs.Gaps.{piece, between, gaps}

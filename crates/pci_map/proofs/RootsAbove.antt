@@ -12,8 +12,8 @@ use Rattle.pci_spec.proofs.Members.{in_nil, in_cons_cases, in_map_from}
 use Rattle.pci_function.specs.declared.record.Record.{Record}
 use Rattle.pci_tree.specs.Outline.{IsPathTo}
 use Rattle.pci_tree.proofs.Lifting.{Has, record_for, function_for, same_slot_of}
-use Rattle.pci_given.specs.Outside.{IsRootOf}
-use Rattle.pci_given.proofs.Outsides.{root_of}
+use Rattle.pci_claims.specs.Outside.{IsRootOf}
+use Rattle.pci_claims.proofs.Outsides.{root_of}
 use Rattle.pci_map.specs.Above.{IsRootAbove, AreRootsAbove}
 
 -- a function has a record

@@ -4,7 +4,7 @@ use Rattle.pci_spec.specs.System.{Space, Io, Memory}
 use Rattle.given_spec.specs.Given.{Given}
 use Rattle.pci_base.specs.declared.range.Range.{Range}
 use Rattle.pci_tree.specs.Ranges.{Holds, Covers}
-use Rattle.pci_given.specs.Sent.{IsSentTo}
+use Rattle.pci_claims.specs.Sent.{IsSentTo}
 
 pub record SentRanges : Type 0 where
   pub io : List Range

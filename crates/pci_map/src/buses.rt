@@ -3,7 +3,7 @@ ghost use Rattle.std.specs.Prelude.{◌∷◌, [], ◌<◌, OnOk};
 ghost use Rattle.std.specs.String.{string_bytes};
 ghost use Rattle.std.specs.List.{range_with_len};
 ghost use Rattle.pci_spec.specs.System.{System};
-ghost use Rattle.pci_given.specs.Values.{given_value};
+ghost use Rattle.pci_claims.specs.Values.{given_value};
 ghost use Rattle.pci_map.specs.Above.{AreSentAbove};
 ghost use Rattle.pci_map.specs.Buses.{AreRootsTold};
 
@@ -12,7 +12,7 @@ use super::walk::push_space;
 use pci_base::memory::OutOfMemory;
 use pci_base::slot::BUSES;
 use pci_base::space::Space;
-use pci_given::given::Given;
+use pci_claims::given::Given;
 use pci_tree::outline::Outline;
 use std::alloc::Allocator;
 

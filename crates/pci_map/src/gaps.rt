@@ -8,16 +8,16 @@ ghost use Rattle.map_spec.specs.Lines.{IsFreeOn};
 ghost use Rattle.pci_base.specs.Ranges.{decoded_range_of};
 ghost use Rattle.pci_base.specs.Space.{space_of};
 ghost use Rattle.pci_tree.specs.Outline.{AreSortedRegionsOf};
-ghost use Rattle.pci_given.specs.Values.{given_value};
+ghost use Rattle.pci_claims.specs.Values.{given_value};
 ghost use Rattle.pci_map.specs.Gaps.{between, gaps};
 ghost use Rattle.pci_why.specs.Bridges.{range_at};
 
 use pci_base::memory::OutOfMemory;
 use pci_base::range::Range;
 use pci_base::space::Space;
-use pci_given::gather::{common, gathered};
-use pci_given::given::Given;
-use pci_given::sent::sent_to;
+use pci_claims::gather::{common, gathered};
+use pci_claims::given::Given;
+use pci_claims::sent::sent_to;
 use pci_tree::region::Region;
 use std::alloc::Allocator;
 

@@ -2,14 +2,14 @@
 ghost use Rattle.std.specs.Prelude.{◌≡◌, ℕ, IfOk, MatchBool};
 ghost use Rattle.pci_base.specs.Space.{space_of};
 ghost use Rattle.pci_tree.specs.Ranges.{Holds, Covers, IsCanonical};
-ghost use Rattle.pci_given.specs.Values.{given_value};
+ghost use Rattle.pci_claims.specs.Values.{given_value};
 ghost use Rattle.pci_map.specs.Sent.{ranges_in, HasUnsent, AreSent};
 
 use pci_base::memory::OutOfMemory;
 use pci_base::range::Range;
 use pci_base::space::Space;
-use pci_given::given::Given;
-use pci_given::sent::sent_to;
+use pci_claims::given::Given;
+use pci_claims::sent::sent_to;
 use pci_tree::ranges::least_outside;
 use std::alloc::{Allocator, Global};
 use std::marker::Model;

@@ -4,14 +4,14 @@ ghost use Rattle.std.specs.String.{string_bytes};
 ghost use Rattle.pci_spec.specs.System.{System};
 ghost use Rattle.pci_spec.specs.Decoded.{HasRecords};
 ghost use Rattle.map_spec.specs.MapText.{IsMapText};
-ghost use Rattle.pci_given.specs.Values.{given_value};
+ghost use Rattle.pci_claims.specs.Values.{given_value};
 
 use super::above::sent_above;
 use super::asides::push_asides;
 use super::buses::push_roots;
 use super::off::push_off;
 use pci_base::memory::OutOfMemory;
-use pci_given::given::Given;
+use pci_claims::given::Given;
 use pci_tree::outline::Outline;
 use std::alloc::Allocator;
 

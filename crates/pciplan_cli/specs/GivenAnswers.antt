@@ -7,7 +7,7 @@ use Rattle.given_spec.specs.Fault.{Fault}
 use Rattle.given_spec.specs.FaultLines.{AreAllFaults, AreSound}
 use Rattle.given_spec.specs.Line.{list_text}
 use Rattle.given_spec.specs.Words.{VgaWord, legacy_bridges}
-use Rattle.pci_given.specs.Values.{host_value}
+use Rattle.pci_claims.specs.Values.{host_value}
 use Rattle.pci_model.specs.declared.words.Words.{Words}
 use Rattle.pci_model.specs.WordsValue.{words_value}
 use Rattle.pciplan_cli.specs.Answers.{Answer}

@@ -4,7 +4,7 @@ use Rattle.pci_spec.specs.Text.{Block}
 use Rattle.pci_spec.specs.System.{system_of}
 use Rattle.given_spec.specs.Given.{Given}
 use Rattle.map_spec.specs.MapText.{IsMapText}
-use Rattle.pci_given.specs.Values.{host_value}
+use Rattle.pci_claims.specs.Values.{host_value}
 use Rattle.pci_tree.specs.Admission.{IsAdmitted}
 use Rattle.pciplan_cli.specs.Answers.{Answer, done}
 use Rattle.pciplan_cli.specs.PlanAnswers.{IsRefusedText}

@@ -2,7 +2,7 @@
 ghost use Rattle.std.specs.Prelude.{◌≡◌, map, option_map, IfOk};
 ghost use Rattle.pci_spec.specs.System.{system_of};
 ghost use Rattle.pci_tree.specs.Roots.{buses_of};
-ghost use Rattle.pci_given.specs.Values.{given_value, host_value, legacy_value};
+ghost use Rattle.pci_claims.specs.Values.{given_value, host_value, legacy_value};
 ghost use Rattle.pciplan_cli.specs.Answers.{answer_of};
 ghost use Rattle.pciplan_cli.specs.GivenAnswers.{AreToldGiven, IsAnswerGiven, legacy_by, vga_of};
 
@@ -11,11 +11,11 @@ use crate::reply::{Reply, Text};
 use crate::taking::taken;
 use pci_base::memory::OutOfMemory;
 use pci_base::range::RootRange;
+use pci_claims::given::{Given, LegacyBridge};
+use pci_claims::vga::legacy_bridges;
 use pci_dump::dump::Dump;
 use pci_given::every::all_faults;
-use pci_given::given::{Given, LegacyBridge};
 use pci_given::text::list_text;
-use pci_given::vga::legacy_bridges;
 use pci_model::words::Words;
 use pci_tree::roots::Roots;
 use std::alloc::Allocator;

@@ -1,7 +1,7 @@
 //! Prints the map of a dump and its probe.
 ghost use Rattle.std.specs.Prelude.{IfOk};
 ghost use Rattle.pci_tree.specs.Roots.{buses_of};
-ghost use Rattle.pci_given.specs.Values.{given_value};
+ghost use Rattle.pci_claims.specs.Values.{given_value};
 ghost use Rattle.pciplan_cli.specs.Answers.{answer_of};
 ghost use Rattle.pciplan_cli.specs.MapAnswers.{IsMapped, sent_by};
 ghost use Rattle.pciplan_cli.specs.TakenAnswers.{IsAnswerBy};
@@ -11,8 +11,8 @@ use crate::invocation::HostLists;
 use crate::reply::{Reply, Text, done, refused};
 use crate::taking::taken;
 use pci_base::memory::{OutOfMemory, Refused};
+use pci_claims::given::Given;
 use pci_dump::dump::Dump;
-use pci_given::given::Given;
 use pci_map::text::map_text;
 use pci_model::words::Words;
 use pci_tree::admit::outline_of;

@@ -1,7 +1,7 @@
 //! The text of a map.
+use pci_claims::given::Given;
 use pci_dump::reader::read_dump;
 use pci_dump::std_streams::Incoming;
-use pci_given::given::Given;
 use pci_map::text::map_text;
 use pci_tree::admit::admit_with;
 use pci_tree::roots::Roots;

@@ -3,7 +3,7 @@ use Rattle.pci_function.specs.declared.fault.Fault.{Fault}
 use Rattle.pci_given.specs.declared.any_fault.AnyFault.{AnyFault}
 use Rattle.pci_given.specs.declared.any_fault.AnyFault.TheVariants.{OutsideHost, Known}
 use Rattle.pci_given.specs.declared.outside_lines.Outside as outside
-use Rattle.pci_given.specs.Values.{given_value}
+use Rattle.pci_claims.specs.Values.{given_value}
 use Rattle.pci_given.proofs.Joining.{all_lines}
 use Rattle.pci_given.proofs.all_lines.all_of_judging.Goals as goal
 

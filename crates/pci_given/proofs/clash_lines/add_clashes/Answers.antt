@@ -1,5 +1,5 @@
 use Rattle.std.proofs.Common.{◌≡◌, subst, arith}
-use Rattle.pci_given.specs.Values.{given_value}
+use Rattle.pci_claims.specs.Values.{given_value}
 use Rattle.pci_given.specs.Clashes.{AreClashesAdded}
 use Rattle.pci_given.proofs.AllClashing.{IsBelow, no_bus, one_bus_more, all_buses}
 use Rattle.pci_given.proofs.clash_lines.add_clashes.Goals as goal

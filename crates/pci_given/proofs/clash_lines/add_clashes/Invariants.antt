@@ -1,4 +1,4 @@
-use Rattle.pci_given.specs.Values.{given_value}
+use Rattle.pci_claims.specs.Values.{given_value}
 use Rattle.pci_given.specs.Clashes.{AreClashesAdded}
 use Rattle.pci_given.proofs.AllClashing.{IsBelow}
 use Rattle.pci_given.proofs.clash_lines.add_clashes.Given as goal

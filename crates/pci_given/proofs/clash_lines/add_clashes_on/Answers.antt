@@ -1,5 +1,5 @@
 use Rattle.std.proofs.lemmas.Result.{on_ok_weaker}
-use Rattle.pci_given.specs.Values.{given_value}
+use Rattle.pci_claims.specs.Values.{given_value}
 use Rattle.pci_given.proofs.AllClashing.{both_spaces}
 use Rattle.pci_given.proofs.clash_lines.add_clashes_on.Goals as goal
 

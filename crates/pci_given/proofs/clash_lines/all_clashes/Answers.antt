@@ -1,4 +1,4 @@
-use Rattle.pci_given.specs.Values.{given_value}
+use Rattle.pci_claims.specs.Values.{given_value}
 use Rattle.pci_given.proofs.AllClashing.{all_clashes_are}
 use Rattle.pci_given.proofs.clash_lines.all_clashes.Goals as goal
 

@@ -3,7 +3,7 @@ use Rattle.std.specs.Prelude.{MatchOption, ℕ}
 use Rattle.pci_spec.specs.Slot.{Slot}
 use Rattle.pci_base.specs.declared.range.Range.{Range}
 use Rattle.pci_tree.specs.Ranges.{Covers}
-use Rattle.pci_given.specs.Claim.{IsLeastCommon}
+use Rattle.pci_claims.specs.Claim.{IsLeastCommon}
 use Rattle.pci_given.proofs.Odds.{of_two_buses}
 use Rattle.pci_given.proofs.clash_lines.least_of_buses.Goals as goal
 

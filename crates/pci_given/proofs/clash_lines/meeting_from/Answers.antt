@@ -2,7 +2,7 @@ use Rattle.std.proofs.Common.{◌≡◌, ◌+◌, ◌<◌, Some, arith, ap, subs
 use Rattle.std.specs.Prelude.{Option}
 use Rattle.std.proofs.lemmas.List.{get_or_default}
 use Rattle.pci_faults.specs.declared.shares.Share.{Share}
-use Rattle.pci_given.specs.Claim.{Claimed}
+use Rattle.pci_claims.specs.Claim.{Claimed}
 use Rattle.pci_given.specs.Clashes.{Meet, IsLeastOfTwo, IsFoundBelow, claim_at, nobody}
 use Rattle.pci_given.proofs.Odds.{still_found, found_more}
 use Rattle.pci_given.proofs.clash_lines.meeting_from.Goals.{in-Some, in_default}

@@ -4,7 +4,7 @@ use Rattle.pci_tree.specs.Admission.{Admission}
 use Rattle.pci_tree.specs.Roots.{buses_of}
 use Rattle.pci_function.specs.declared.fault.Fault.{Fault}
 use Rattle.pci_function.specs.Fault.{fault_of}
-use Rattle.pci_given.specs.Values.{given_value}
+use Rattle.pci_claims.specs.Values.{given_value}
 use Rattle.pci_given.specs.declared.any_fault.AnyFault.TheVariants.{Known}
 use Rattle.pci_given.proofs.EveryGiven.{every_of_judging, every_of_early}
 use Rattle.pci_given.proofs.every.all_faults.Goals as goal

@@ -1,7 +1,7 @@
 use Rattle.std.proofs.Common.{List, subst}
 use Rattle.std.proofs.lemmas.Result.{IfOk-weaker}
 use Rattle.pci_given.specs.declared.bars_and_roms.BarOrRom.{BarOrRom}
-use Rattle.pci_given.specs.Values.{given_value}
+use Rattle.pci_claims.specs.Values.{given_value}
 use Rattle.pci_given.specs.OutsideLines.{AreOutsideLines}
 use Rattle.pci_given.proofs.OutsideLining.{all_outside_are}
 use Rattle.pci_given.proofs.outside_lines.all_outside.Goals as goal

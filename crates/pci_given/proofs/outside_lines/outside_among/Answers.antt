@@ -1,6 +1,6 @@
 use Rattle.std.proofs.Common.{◌+◌, List, [], ◌∙◌, ap, subst, sym, take}
 use Rattle.pci_given.specs.declared.outside_lines.Outside.{Outside}
-use Rattle.pci_given.specs.Values.{given_value}
+use Rattle.pci_claims.specs.Values.{given_value}
 use Rattle.pci_given.specs.OutsideLines.{AreOutsideLines}
 use Rattle.pci_given.proofs.OutsideLining.{none_outside, one_outside_more, no_outside_more}
 use Rattle.pci_given.proofs.outside_lines.outside_among.Goals.{in-Some+in_ok-push, in_default}

@@ -1,5 +1,5 @@
 use Rattle.std.proofs.Common.{take}
-use Rattle.pci_given.specs.Values.{given_value}
+use Rattle.pci_claims.specs.Values.{given_value}
 use Rattle.pci_given.specs.OutsideLines.{AreOutsideLines}
 use Rattle.pci_given.proofs.outside_lines.outside_among.Given as goal
 

@@ -2,7 +2,7 @@ use Rattle.std.proofs.Common.{subst}
 use Rattle.std.specs.List.{All}
 use Rattle.std.proofs.lemmas.List.{take_all}
 use Rattle.pci_given.specs.Quiet.{IsOff}
-use Rattle.pci_given.proofs.Walking.{all_more}
+use Rattle.pci_claims.proofs.Walking.{all_more}
 use Rattle.pci_given.proofs.quiet.are_off_pieces.Goals as goal
 
 pub loop-region-preserved : goal.loop-region-preserved

@@ -5,7 +5,7 @@ use Rattle.std.proofs.lemmas.Result.{IfOk-weaker}
 use Rattle.pci_base.specs.Space.{space_of}
 use Rattle.pci_tree.specs.declared.region.Region.{Region}
 use Rattle.pci_given.specs.Quiet.{IsOffLegacy}
-use Rattle.pci_given.proofs.Gathering.{some_of}
+use Rattle.pci_claims.proofs.Gathering.{some_of}
 use Rattle.pci_given.proofs.Quieting.{quiet_alone, quiet_with}
 use Rattle.pci_given.proofs.quiet.are_quiet.Goals as goal
 

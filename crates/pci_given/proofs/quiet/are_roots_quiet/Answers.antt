@@ -2,8 +2,8 @@ use Rattle.std.proofs.Common.{ℕ, List, refl, subst}
 use Rattle.std.specs.List.{Contains}
 use Rattle.std.proofs.lemmas.Result.{IfOk-weaker}
 use Rattle.pci_base.specs.Space.{space_of}
-use Rattle.pci_given.specs.declared.given.LegacyBridge.{LegacyBridge}
-use Rattle.pci_given.specs.Values.{given_value}
+use Rattle.pci_claims.specs.declared.given.LegacyBridge.{LegacyBridge}
+use Rattle.pci_claims.specs.Values.{given_value}
 use Rattle.pci_given.specs.Quiet.{AreQuiet, HasThoseOn}
 use Rattle.pci_given.proofs.Quieting.{is_quiet}
 use Rattle.pci_given.proofs.quiet.are_roots_quiet.Goals as goal

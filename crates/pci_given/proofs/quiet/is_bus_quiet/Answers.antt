@@ -1,8 +1,8 @@
 use Rattle.std.proofs.Common.{◌≡◌, List, refl, subst}
 use Rattle.std.proofs.lemmas.Result.{IfOk-weaker}
 use Rattle.pci_base.specs.Space.{space_of}
-use Rattle.pci_given.specs.declared.given.LegacyBridge.{LegacyBridge}
-use Rattle.pci_given.specs.Values.{given_value}
+use Rattle.pci_claims.specs.declared.given.LegacyBridge.{LegacyBridge}
+use Rattle.pci_claims.specs.Values.{given_value}
 use Rattle.pci_given.specs.Quiet.{AreQuiet}
 use Rattle.pci_given.proofs.Quieting.{is_quiet, of_bus}
 use Rattle.pci_given.proofs.quiet.is_bus_quiet.Goals as goal

@@ -3,9 +3,9 @@ use Rattle.std.proofs.lemmas.Result.{on_ok_weaker}
 use Rattle.pci_faults.specs.declared.shares.Among.TheVariants.{Roots}
 use Rattle.pci_faults.specs.declared.shares.Share.{Share}
 use Rattle.pci_base.specs.Space.{space_of}
-use Rattle.pci_given.specs.Values.{given_value}
+use Rattle.pci_claims.specs.Values.{given_value}
 use Rattle.pci_given.proofs.Quieting.{no_splits}
-use Rattle.pci_given.specs.Claim.{Claimed}
+use Rattle.pci_claims.specs.Claim.{Claimed}
 use Rattle.pci_given.specs.Clashes.{AreMeetings, told}
 use Rattle.pci_given.proofs.SplitNaming.{splits_added}
 use Rattle.pci_given.proofs.split_lines.add_splits_in.Goals as goal

@@ -1,4 +1,4 @@
-use Rattle.pci_given.specs.Values.{given_value}
+use Rattle.pci_claims.specs.Values.{given_value}
 use Rattle.pci_given.proofs.AllSplitting.{all_splits_are}
 use Rattle.pci_given.proofs.split_lines.all_splits.Goals as goal
 

@@ -3,8 +3,8 @@ use Rattle.pci_spec.specs.System.{Space}
 use Rattle.pci_base.specs.declared.range.Range.{Range}
 use Rattle.pci_base.specs.WindowKinds.{kind_value}
 use Rattle.pci_tree.specs.Ranges.{Holds, Covers}
-use Rattle.pci_given.specs.Values.{given_value}
-use Rattle.pci_given.specs.Sent.{IsSentTo}
+use Rattle.pci_claims.specs.Values.{given_value}
+use Rattle.pci_claims.specs.Sent.{IsSentTo}
 use Rattle.pci_given.specs.Missed.{IsLeastMissed}
 use Rattle.pci_given.proofs.Stopping.{passes_more, passes_past, passes_whole, stops_here}
 use Rattle.pci_given.proofs.unreached.first_stop.Goals as goal

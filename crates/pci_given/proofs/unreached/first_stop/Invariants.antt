@@ -1,7 +1,7 @@
 use Rattle.std.proofs.Common.{take}
 use Rattle.std.specs.List.{All}
 use Rattle.pci_base.specs.WindowKinds.{kind_value}
-use Rattle.pci_given.specs.Values.{given_value}
+use Rattle.pci_claims.specs.Values.{given_value}
 use Rattle.pci_given.specs.Stopped.{PassesSent}
 use Rattle.pci_given.proofs.unreached.first_stop.Given as goal
 

@@ -6,10 +6,10 @@ use Rattle.pci_spec.specs.Window.{WindowKind}
 use Rattle.pci_base.specs.Space.{space_of}
 use Rattle.pci_tree.specs.Outline.{IsPathTo}
 use Rattle.pci_tree.proofs.Outlines.{have_spans}
-use Rattle.pci_given.specs.Values.{given_value}
-use Rattle.pci_given.specs.Outside.{IsRootOf}
+use Rattle.pci_claims.specs.Values.{given_value}
+use Rattle.pci_claims.specs.Outside.{IsRootOf}
 use Rattle.pci_given.specs.Stopped.{PassesSent, IsFirstStop}
-use Rattle.pci_given.proofs.Outsides.{range}
+use Rattle.pci_claims.proofs.Outsides.{range}
 use Rattle.pci_given.proofs.Unreaching.{match_both, without_path, never_unreached, unreached_line}
 use Rattle.pci_given.proofs.unreached.first_stop_of.Goals as goal
 

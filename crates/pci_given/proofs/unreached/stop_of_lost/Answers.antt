@@ -1,7 +1,7 @@
 use Rattle.std.proofs.Common.{subst}
 use Rattle.pci_base.specs.Space.{space_of}
 use Rattle.pci_check.specs.Stops.{IsReachedAt}
-use Rattle.pci_given.specs.Values.{given_value}
+use Rattle.pci_claims.specs.Values.{given_value}
 use Rattle.pci_given.proofs.Homes.{never_where_reached}
 use Rattle.pci_given.proofs.unreached.stop_of_lost.Goals as goal
 

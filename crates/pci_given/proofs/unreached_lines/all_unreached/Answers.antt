@@ -1,7 +1,7 @@
 use Rattle.std.proofs.Common.{List, subst, sym}
 use Rattle.std.proofs.lemmas.Result.{IfOk-weaker}
 use Rattle.pci_given.specs.declared.bars_and_roms.BarOrRom.{BarOrRom}
-use Rattle.pci_given.specs.Values.{given_value}
+use Rattle.pci_claims.specs.Values.{given_value}
 use Rattle.pci_function.specs.declared.fault.Fault.{Fault}
 use Rattle.pci_given.specs.UnreachedLines.{AreUnreachedLines, AreAllUnreached}
 use Rattle.pci_given.proofs.Homes.{none_unreached}

@@ -1,6 +1,6 @@
 use Rattle.std.proofs.Common.{◌+◌, List, [], ◌∙◌, ap, subst, sym, take}
 use Rattle.pci_function.specs.declared.fault.Fault.{Fault}
-use Rattle.pci_given.specs.Values.{given_value}
+use Rattle.pci_claims.specs.Values.{given_value}
 use Rattle.pci_given.specs.UnreachedLines.{AreUnreachedLines}
 use Rattle.pci_given.proofs.UnreachedLining.{none_unreached, one_unreached_more, no_unreached_more}
 use Rattle.pci_given.proofs.unreached_lines.unreached_among.Goals.{in-Some+in_ok-push, in_default}

@@ -1,5 +1,5 @@
 use Rattle.std.proofs.Common.{take}
-use Rattle.pci_given.specs.Values.{given_value}
+use Rattle.pci_claims.specs.Values.{given_value}
 use Rattle.pci_given.specs.UnreachedLines.{AreUnreachedLines}
 use Rattle.pci_given.proofs.unreached_lines.unreached_among.Given as goal
 

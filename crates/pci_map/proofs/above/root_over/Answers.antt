@@ -1,7 +1,7 @@
 use Rattle.std.proofs.Common.{List, subst, sym}
 use Rattle.pci_spec.specs.Slot.{Slot}
 use Rattle.pci_tree.specs.Outline.{IsPathTo}
-use Rattle.pci_given.specs.Outside.{IsRootOf}
+use Rattle.pci_claims.specs.Outside.{IsRootOf}
 use Rattle.pci_map.proofs.RootsAbove.{no_function, root_found}
 use Rattle.pci_map.proofs.above.root_over.Goals as goal
 

@@ -1,7 +1,7 @@
 use Rattle.std.proofs.Common.{◌≡◌, arith, List, length, ap, inl, inr, subst, sym, refl, get_or}
 use Rattle.pci_spec.specs.Decoded.{HasRecords}
 use Rattle.pci_spec.specs.Decoded as decoded
-use Rattle.pci_given.specs.Values.{given_value}
+use Rattle.pci_claims.specs.Values.{given_value}
 use Rattle.pci_map.proofs.Rows.{io_none, memory_none, one_row, rows_are}
 use Rattle.pci_map.proofs.Tolds.{tree_of}
 use Rattle.pci_map.proofs.above.sent_above.Goals as goal

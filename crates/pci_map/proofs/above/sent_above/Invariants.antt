@@ -1,4 +1,4 @@
-use Rattle.pci_given.specs.Values.{given_value}
+use Rattle.pci_claims.specs.Values.{given_value}
 use Rattle.pci_map.proofs.Rows.{AreRowsBelow}
 use Rattle.pci_map.proofs.above.sent_above.Given as goal
 

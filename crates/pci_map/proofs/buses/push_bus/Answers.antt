@@ -1,6 +1,6 @@
 use Rattle.std.proofs.lemmas.Result.{on_ok_weaker}
 use Rattle.std.specs.String.{string_bytes}
-use Rattle.pci_given.specs.Values.{given_value}
+use Rattle.pci_claims.specs.Values.{given_value}
 use Rattle.pci_map.proofs.Roots.{told_no_root, told_root, root_if, root_not}
 use Rattle.pci_map.proofs.buses.push_bus.Goals as goal
 

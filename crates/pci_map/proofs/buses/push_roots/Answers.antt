@@ -1,7 +1,7 @@
 use Rattle.std.proofs.Common.{rules, ◌≡◌, arith, subst}
 use Rattle.std.specs.List.{range_with_len}
 use Rattle.std.specs.String.{string_bytes}
-use Rattle.pci_given.specs.Values.{given_value}
+use Rattle.pci_claims.specs.Values.{given_value}
 use Rattle.pci_map.specs.Buses.{AreRootsTold}
 use Rattle.pci_map.proofs.Roots.{told_nothing, told_more}
 use Rattle.pci_map.proofs.buses.push_roots.Goals as goal

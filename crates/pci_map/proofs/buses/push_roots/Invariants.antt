@@ -1,7 +1,7 @@
 use Rattle.std.specs.List.{range_with_len}
 use Rattle.std.specs.String.{string_bytes}
 use Rattle.pci_spec.specs.System.{System}
-use Rattle.pci_given.specs.Values.{given_value}
+use Rattle.pci_claims.specs.Values.{given_value}
 use Rattle.pci_map.specs.Above.{AreSentAbove}
 use Rattle.pci_map.specs.Buses.{AreRootsTold}
 use Rattle.pci_map.proofs.buses.push_roots.Given as goal

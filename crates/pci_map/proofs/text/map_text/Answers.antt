@@ -1,6 +1,6 @@
 use Rattle.std.proofs.Common.{subst, sym}
 use Rattle.std.specs.String.{string_bytes}
-use Rattle.pci_given.specs.Values.{given_value}
+use Rattle.pci_claims.specs.Values.{given_value}
 use Rattle.pci_map.specs.Above.{AreSentAbove}
 use Rattle.pci_map.proofs.MapTexts.{map_of}
 use Rattle.pci_map.proofs.text.map_text.Goals as goal

@@ -6,7 +6,7 @@ use Rattle.pci_base.specs.Space.{space_of}
 use Rattle.pci_base.specs.declared.range.Range.{Range}
 use Rattle.pci_tree.specs.declared.region.Region.{Region}
 use Rattle.pci_tree.specs.Outline.{AreSortedRegionsOf}
-use Rattle.pci_given.specs.Values.{given_value}
+use Rattle.pci_claims.specs.Values.{given_value}
 use Rattle.pci_map.proofs.Seats.{told_none, told_some}
 use Rattle.pci_map.proofs.walk.push_space.Goals as goal
 

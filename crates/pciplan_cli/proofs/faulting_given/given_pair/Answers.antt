@@ -5,7 +5,7 @@ use Rattle.given_spec.specs.FaultLines.{AreSound}
 use Rattle.given_spec.specs.Line.{list_text}
 use Rattle.pci_tree.specs.Roots.{buses_of}
 use Rattle.pci_given.specs.AllLines.{judged_of}
-use Rattle.pci_given.specs.Values.{given_value}
+use Rattle.pci_claims.specs.Values.{given_value}
 use Rattle.pciplan_cli.specs.FaultsAnswers.{list_answer}
 use Rattle.pciplan_cli.proofs.Faults.{line_is, none_of_items}
 use Rattle.pciplan_cli.proofs.faulting_given.given_pair.Goals as goal

@@ -1,0 +1,16 @@
+pub mod Gathering
+pub mod Pieces
+pub mod Parts
+pub mod Claiming
+pub mod Outsides
+pub mod Bridging
+pub mod Linking
+pub mod Walking
+pub mod Reaching
+pub mod RegionClaims
+pub mod Legacies
+pub mod Making
+pub mod Rooted
+pub mod BusClaiming
+pub mod RootClaims
+pub mod VgaBridges

@@ -1,0 +1,66 @@
+-- What a BAR, a ROM or a window claims of a bus.
+use Rattle.std.proofs.Common.{◌≡◌, ℕ, ◌≤◌, ◌↔◌, List, Bool, true, false, arith, subst, sym, ◌∙◌, ap, refl}
+use Rattle.std.specs.Prelude.{◌==◌}
+use Rattle.pci_spec.specs.Slot.{Slot}
+use Rattle.pci_spec.specs.Header.{layout, rom_place}
+use Rattle.pci_spec.specs.Window.{IoWindow, MemoryWindow, PrefetchWindow}
+use Rattle.pci_spec.specs.System.{System, Function, Space, Part, Bar, Rom, Window, IsSystem}
+use Rattle.pci_spec.specs.System as system
+use Rattle.pci_spec.proofs.Firsts.{same_region}
+use Rattle.pci_base.specs.declared.range.Range.{Range}
+use Rattle.pci_tree.specs.declared.region.Region.{Region}
+use Rattle.pci_tree.specs.Ranges.{Covers}
+use Rattle.pci_tree.specs.Regions.{IsRegionOn}
+use Rattle.given_spec.specs.Given.{Given}
+use Rattle.given_spec.specs.Claims.{Own, Legacy, Gets, ClaimsOnBus}
+use Rattle.pci_claims.specs.Gathered.{IsCommon}
+use Rattle.pci_claims.specs.Claim.{IsClaimOfRegion}
+
+-- ---- names of regions
+
+no_rom : (is_bridge : Bool) → rom_place is_bridge ≡ 0x3e → ⊥
+no_rom true e = omega (arith, e)
+no_rom false e = omega (arith, e)
+
+-- no region that address registers show is named by Bridge Control
+pub not_legacy : (f : Function) (part : Part) → system.register_of f part ≡ 0x3e → ⊥
+not_legacy f (Bar n) e = omega (arith, e)
+not_legacy f Rom e = no_rom (layout f.image == 1) e
+not_legacy f (Window IoWindow) e = omega (arith, e)
+not_legacy f (Window MemoryWindow) e = omega (arith, e)
+not_legacy f (Window PrefetchWindow) e = omega (arith, e)
+
+-- what a region claims by its name is the region's
+claimed_is : (given : Given) (s : System) → IsSystem s → (bus : ℕ) (space : Space) (r : Region) → IsRegionOn s bus space r → (a : ℕ) → ClaimsOnBus given s bus space a r.slot r.reg
+    → ((r.first ≤ a) × (a ≤ r.last)) × system.IsAddress space a
+claimed_is given s sound bus space r on a (f, Own part, listed, at, there, named, claims) =
+    let first : system.Claims on.f on.part space r.first = (on.is.claims r.first).0 (omega arith, on.is.some) in
+    let one = same_region s sound f on.f part on.part space space a r.first listed on.listed (at ∙ on.is.slot) (named ∙ on.is.register) claims first in
+    let own : system.Claims on.f on.part space a = subst (λ p. system.Claims on.f p space a) one.1 (subst (λ g. system.Claims g part space a) one.0 claims) in
+    ((on.is.claims a).1 own, own.address)
+claimed_is given s sound bus space r on a (f, Legacy, listed, at, there, named, claims) = absurd (not_legacy on.f on.part (sym on.is.register ∙ sym named))
+
+pub region_claim : (r : Region) (reach own pieces : List Range) → ((a : ℕ) → Covers own a ↔ ((r.first ≤ a) × (a ≤ r.last))) → IsCommon own reach pieces
+    → IsClaimOfRegion r reach record { slot = r.slot; register = r.reg; pieces = pieces }
+region_claim r reach own pieces held is = record {
+  slot = refl;
+  register = refl;
+  exact = λ given roots s bus space sound on gets a. (
+    λ (h : Covers pieces a). (
+        let both = (is.exact a).0 h in (
+          ((gets.exact a).0 both.1).1,
+          (
+            on.f,
+            Own on.part,
+            on.listed,
+            sym on.is.slot,
+            ap (λ (x : Slot). x.bus) on.is.slot ∙ on.on_bus,
+            sym on.is.register,
+            (on.is.claims a).0 ((held a).0 both.0),
+          ),
+        )),
+    λ (h : Gets given roots s space a bus × ClaimsOnBus given s bus space a r.slot r.reg). (
+        let claimed = claimed_is given s sound bus space r on a h.1 in
+        (is.exact a).1 ((held a).1 claimed.0, (gets.exact a).1 (claimed.1, h.0))),
+  );
+}

@@ -1,0 +1,33 @@
+-- Bridges with legacy parts, found block by block.
+use Rattle.std.proofs.Common.{◌≡◌, List, [], ◌∷◌, ◌++◌, length, map, cond, Bool, true, false, arith, refl, sym, ◌∙◌, ap}
+use Rattle.std.specs.List.{filter}
+use Rattle.std.proofs.lemmas.List.{map-append}
+use Rattle.std.proofs.lemmas.List.Elements.{filter-append}
+use Rattle.pci_spec.specs.Text.{Block, slots_of}
+use Rattle.pci_spec.specs.System.{function_of, system_of}
+use Rattle.pci_spec.proofs.Pairing.{same_length}
+use Rattle.given_spec.specs.Words as words
+use Rattle.given_spec.specs.Words.{has_legacy, legacy_bridge, legacy_bridges}
+use Rattle.given_spec.specs.Given as spec
+use Rattle.pci_claims.specs.Vga.{shown_by, legacy_bridges_shown}
+
+map_cond : {X Y : Type 0} (f : X → Y) (t : Bool) (x : X) → map f (cond t (x ∷ []) []) ≡ cond t (f x ∷ []) []
+map_cond f true x = refl
+map_cond f false x = refl
+
+-- the first of a list, and what is found in the others
+first_found : {X Y : Type 0} (p : X → Bool) (f : X → Y) (x : X) (xs : List X) → map f (filter p (x ∷ xs)) ≡ cond (p x) (f x ∷ []) [] ++ map f (filter p xs)
+first_found p f x xs =
+    ap (map f) (filter-append p (x ∷ []) xs) ∙ map-append f (filter p (x ∷ [])) (filter p xs) ∙ ap (λ ys. ys ++ map f (filter p xs)) (map_cond f (p x) x)
+
+-- no read back says which they are
+by_length : (word : words.VgaWord) (dump probe : List Block) → length dump ≡ length probe → legacy_bridges_shown word dump ≡ legacy_bridges word (system_of dump probe)
+by_length word [] probe h = refl
+by_length word (b ∷ dump) [] h = absurd (let no : ⊥ = omega (arith, h) in no)
+by_length word (b ∷ dump) (p ∷ probe) h =
+    first_found (λ c. has_legacy (shown_by c)) (λ c. legacy_bridge word (shown_by c)) b dump
+    ∙ ap (λ (xs : List spec.LegacyBridge). cond (has_legacy (shown_by b)) (legacy_bridge word (shown_by b) ∷ []) [] ++ xs) (by_length word dump probe (omega (arith, h)))
+    ∙ sym (first_found has_legacy (legacy_bridge word) (function_of b p) (system_of dump probe))
+
+pub by_any_probe : (word : words.VgaWord) (dump probe : List Block) → slots_of dump ≡ slots_of probe → legacy_bridges_shown word dump ≡ legacy_bridges word (system_of dump probe)
+by_any_probe word dump probe same = by_length word dump probe (same_length dump probe same)

@@ -1,0 +1,89 @@
+-- The bridges of a way and the records at its slots.
+use Rattle.std.proofs.Common.{◌≡◌, ℕ, zero, suc, ◌+◌, ◌<◌, List, [], ◌∷◌, length, get_or, map, take, true, arith, subst, sym, ◌∙◌, ap, refl}
+use Rattle.std.specs.Prelude.{◌↔◌, IsTrue}
+use Rattle.std.specs.List.{All, Contains, list_all}
+use Rattle.std.proofs.lemmas.Bool.{and_from, and_parts}
+use Rattle.std.proofs.lemmas.List.{take_more, length-take-le, get_or-take}
+use Rattle.std.proofs.lemmas.List.Elements.{All-append, All-contains}
+use Rattle.pci_spec.specs.Slot.{Slot, slot_number}
+use Rattle.pci_spec.specs.Header.{secondary_bus}
+use Rattle.pci_spec.specs.Window.{WindowKind}
+use Rattle.pci_spec.specs.System.{System, Function, Leads, is_bridge, window_space}
+use Rattle.pci_spec.specs.Decoded.{record_of, IsDecodable}
+use Rattle.pci_base.specs.Space.{is_prefetch}
+use Rattle.pci_function.specs.declared.record.Record.{Record}
+use Rattle.pci_function.specs.Values.{record_value}
+use Rattle.pci_tree.specs.Outline.{RiseBySlot}
+use Rattle.pci_tree.proofs.Lifting.{Has, StandsFor, record_for, same_slot_of, one_by_number}
+use Rattle.given_spec.specs.Given.{Given}
+use Rattle.given_spec.specs.Claims.{passes}
+use Rattle.pci_claims.specs.Reached.{PassesAt}
+use Rattle.pci_claims.proofs.Linking.{passes_same}
+
+-- ---- lists
+
+pub all_cons : {X : Type 0} (P : X → Type 0) (x : X) (xs : List X) → P x → All P xs → All P (x ∷ xs)
+all_cons P x xs here rest zero d less = here
+all_cons P x xs here rest (suc k) d less = rest k d (omega (arith, less))
+
+pub all_head : {X : Type 0} (P : X → Type 0) (x : X) (xs : List X) → All P (x ∷ xs) → P x
+all_head P x xs all = all 0 x (omega arith)
+
+pub all_tail : {X : Type 0} (P : X → Type 0) (x : X) (xs : List X) → All P (x ∷ xs) → All P xs
+all_tail P x xs all k d less = all (suc k) d (omega (arith, less))
+
+pub all_one : {X : Type 0} (P : X → Type 0) (x : X) → P x → All P (x ∷ [])
+all_one P x here = all_cons P x [] here (λ k d less. absurd (omega (arith, less)))
+
+-- so many elements, and one more
+pub all_more : {X : Type 0} (P : X → Type 0) (xs : List X) (i : ℕ) (x : X) → i < length xs → x ≡ get_or xs i x → All P (take i xs) → P x → All P (take (i + 1) xs)
+all_more P xs i x within at before here =
+    subst (λ ys. All P ys) (sym (take_more xs i x within)) (All-append P (take i xs) (get_or xs i x ∷ []) before (all_one P (get_or xs i x) (subst P at here)))
+
+pub all_before : {X : Type 0} (P : X → Type 0) (xs : List X) (i : ℕ) → i < length xs → All P (take (i + 1) xs) → All P (take i xs)
+all_before P xs i within all k d less =
+    let n : length (take i xs) ≡ i = length-take-le i xs (omega (arith, within)) in
+    let m : length (take (i + 1) xs) ≡ i + 1 = length-take-le (i + 1) xs (omega (arith, within)) in
+    subst P (get_or-take (i + 1) xs k d (omega (arith, n, less)) ∙ sym (get_or-take i xs k d (omega (arith, n, less)))) (all k d (omega (arith, n, m, less)))
+
+pub all_here : {X : Type 0} (P : X → Type 0) (xs : List X) (i : ℕ) (x : X) → i < length xs → x ≡ get_or xs i x → All P (take (i + 1) xs) → P x
+all_here P xs i x within at all =
+    let m : length (take (i + 1) xs) ≡ i + 1 = length-take-le (i + 1) xs (omega (arith, within)) in
+    subst P (get_or-take (i + 1) xs i x (omega arith) ∙ sym at) (all i x (omega (arith, m)))
+
+-- ---- the record at the slot of a bridge
+
+-- a record with the slot of a function is that of the function
+pub record_is : (s : System) (rs : List Record) (f : Function) (r : Record) → Has s rs → RiseBySlot rs → Contains s f → Contains rs r → r.slot ≡ f.slot → record_value r ≡ record_of f
+record_is s rs f r is rise in_s in_rs slot =
+    let p : (q : Record) × StandsFor rs f q = record_for s rs f is in_s in
+    let same : p.0 ≡ r = one_by_number (λ (q : Record). slot_number q.slot) rs p.0 r rise p.1.has in_rs (ap slot_number (same_slot_of p.0 f p.1.same ∙ sym slot)) in
+    ap record_value (sym same) ∙ p.1.same
+
+module _ (given : Given) (kind : WindowKind) (s : System) (rs : List Record) (is : Has s rs) (rise : RiseBySlot rs) where
+  decodable : (f : Function) → Contains s f → IsDecodable f
+  decodable f listed = All-contains IsDecodable s f is.decodable listed
+
+  pub bridge_at : (f : Function) (a : ℕ) → Contains s f → is_bridge f ≡ true → PassesAt given kind rs a f.slot ↔ IsTrue (passes given (window_space kind) (is_prefetch kind) a f)
+  bridge_at f a listed bridge = (
+    λ (h : PassesAt given kind rs a f.slot). (
+        let p : (q : Record) × StandsFor rs f q = record_for s rs f is listed in
+        passes_same given kind a p.0 f (decodable f listed) bridge p.1.same ∙ h p.0 p.1.has (same_slot_of p.0 f p.1.same)),
+    λ (h : IsTrue (passes given (window_space kind) (is_prefetch kind) a f)) (r : Record) (has : Contains rs r) (slot : r.slot ≡ f.slot).
+        sym (passes_same given kind a r f (decodable f listed) bridge (record_is s rs f r is rise listed has slot)) ∙ h,
+  )
+
+  -- the bridges of a way all pass the address just where those at its slots do
+  pub way_passes : (a from : ℕ) (bridges : List Function) (to : ℕ) → Leads s from bridges to
+      → All (PassesAt given kind rs a) (map (λ (f : Function). f.slot) bridges) ↔ IsTrue (list_all (passes given (window_space kind) (is_prefetch kind) a) bridges)
+  way_passes a from [] to leads = (λ all. refl, λ h k d less. absurd (omega (arith, less)))
+  way_passes a from (b ∷ bridges) to (has, bridge, on, rest) =
+      let here = bridge_at b a has bridge in
+      let later = way_passes a (secondary_bus b.image) bridges to rest in
+      let slots : List Slot = map (λ (f : Function). f.slot) bridges in (
+        λ (all : All (PassesAt given kind rs a) (b.slot ∷ slots)). and_from (passes given (window_space kind) (is_prefetch kind) a b) (list_all (passes given (window_space kind) (is_prefetch kind) a) bridges)
+            (here.0 (all_head (PassesAt given kind rs a) b.slot slots all)) (later.0 (all_tail (PassesAt given kind rs a) b.slot slots all)),
+        λ (h : IsTrue (list_all (passes given (window_space kind) (is_prefetch kind) a) (b ∷ bridges))). (
+            let both = and_parts (passes given (window_space kind) (is_prefetch kind) a b) (list_all (passes given (window_space kind) (is_prefetch kind) a) bridges) h in
+            all_cons (PassesAt given kind rs a) b.slot slots (here.1 both.0) (later.1 both.1)),
+      )

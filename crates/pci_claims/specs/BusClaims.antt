@@ -1,0 +1,88 @@
+-- All claims of a bus.
+use Rattle.std.specs.Prelude.{◌≡◌, ℕ, ◌<◌, ◌&&◌, ◌++◌, IsTrue, List, map}
+use Rattle.std.specs.Option.{is_some}
+use Rattle.std.specs.List.{AllPairs, Contains, filter}
+use Rattle.pci_spec.specs.Slot.{Slot}
+use Rattle.pci_spec.specs.Registers.{BRIDGE_CONTROL}
+use Rattle.pci_spec.specs.System.{System, Function, Space, is_bridge}
+use Rattle.pci_spec.specs.Decoded.{HasRecords}
+use Rattle.pci_spec.specs.JudgingLaws.{region_number}
+use Rattle.pci_base.specs.declared.range.Range.{Range}
+use Rattle.pci_base.specs.Space.{is_on}
+use Rattle.pci_function.specs.declared.record.Record.{Record}
+use Rattle.pci_tree.specs.declared.region.Region.{Region}
+use Rattle.pci_tree.specs.Regions.{region_number as number_of_region}
+use Rattle.pci_tree.specs.Ranges.{Covers}
+use Rattle.pci_tree.specs.Outline.{Tree}
+use Rattle.pci_check.specs.Trees.{HasTree}
+use Rattle.given_spec.specs.Given.{Given, starts}
+use Rattle.given_spec.specs.Claims.{ClaimsOnBus}
+use Rattle.pci_claims.specs.Claim.{Claimed, IsClaimOn, IsClaimOfRegion, IsClaimOfLegacy}
+use Rattle.pci_claims.specs.Made.{AreMade}
+
+-- the place of a claim in the order of slots and registers
+abbrev pub number_of : Claimed → ℕ
+number_of c = region_number c.slot c.register
+
+-- the claim has the slot of a function of the bus, and an offset for its register
+pub record IsNamedOn (s : System) (bus : ℕ) (c : Claimed) : Type 0 where
+  pub f : Function
+  pub listed : Contains s f
+  pub slot : f.slot ≡ c.slot
+  pub on_bus : c.slot.bus ≡ bus
+  pub register : c.register < 256
+
+-- of each region of the bus that claims an address of the space there is one claim, by slot and register
+pub record AreClaimsOn (given : Given) (roots : List ℕ) (s : System) (bus : ℕ) (space : Space)
+    (claims : List Claimed) : Type 0 where
+  pub each : (c : Claimed) → Contains claims c → IsClaimOn given roots s bus space c
+  pub complete : (slot : Slot) (register a : ℕ) → ClaimsOnBus given s bus space a slot register
+      → (c : Claimed) × Contains claims c × (c.slot ≡ slot) × (c.register ≡ register)
+  pub rising : AllPairs (λ c d. number_of c < number_of d) claims
+  -- also of a claim that answers no address
+  pub named : (c : Claimed) → Contains claims c → IsNamedOn s bus c
+  -- no bridge leads to a root bus, so what gets there is what the host sends to it
+  pub sent : Contains roots bus → (c : Claimed) → Contains claims c → (a : ℕ) → Covers c.pieces a
+      → IsTrue (starts given space bus a)
+
+-- in each system with the tree
+abbrev pub AreClaimsInEach : Given → Tree → ℕ → Space → List Claimed → Type 0
+AreClaimsInEach given t bus space claims =
+    (s : System) → HasTree t s → AreClaimsOn given t.roots s bus space claims
+
+-- ---- how they are made
+
+-- each region has one
+abbrev pub AreRegionClaims : List Region → List Range → List Claimed → Type 0
+AreRegionClaims regions reach claims =
+    AreMade (λ r c. IsClaimOfRegion r reach c) (λ r. Unit {0}) number_of_region number_of regions
+    claims
+
+-- the record is of a bridge at the slot that answers accesses of the space
+abbrev pub IsBridgeAt : List Record → Space → Slot → Record → Type 0
+IsBridgeAt records space slot r =
+    Contains records r × (r.slot ≡ slot) × IsTrue (is_some r.bridge && is_on r.command space)
+
+abbrev pub IsLegacyClaimAt : Given → Space → List Record → List Range → Slot → Claimed → Type 0
+IsLegacyClaimAt given space records reach slot c =
+    (r : Record) × IsBridgeAt records space slot r × IsClaimOfLegacy given space r reach c
+
+-- each slot of a bridge that answers accesses of the space has one
+abbrev pub AreLegacyClaims : Given → Space → List Record → List Range → List Slot → List Claimed
+    → Type 0
+AreLegacyClaims given space records reach slots claims =
+    AreMade (IsLegacyClaimAt given space records reach)
+    (λ slot. (r : Record) × IsBridgeAt records space slot r)
+    (λ slot. region_number slot BRIDGE_CONTROL) number_of slots claims
+
+-- they come behind others
+pub record AreLegacyAdded (given : Given) (space : Space) (records : List Record)
+    (reach : List Range) (slots : List Slot) (before after : List Claimed) : Type 0 where
+  pub more : List Claimed
+  pub appended : after ≡ before ++ more
+  pub made : AreLegacyClaims given space records reach slots more
+
+-- the slots of the bridges
+abbrev pub AreBridgesOf : Tree → List Slot → Type 0
+AreBridgesOf t slots =
+    (s : System) → HasRecords s t.records → slots ≡ map (λ f. f.slot) (filter is_bridge s)

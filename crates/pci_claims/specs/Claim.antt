@@ -1,0 +1,77 @@
+-- Claims of a bus, and what two lists of ranges have in common.
+use Rattle.std.specs.Prelude.{◌≡◌, ℕ, ◌<◌, ◌≤◌, ◌↔◌, false, IsTrue, List}
+use Rattle.std.specs.List.{Contains}
+use Rattle.pci_spec.specs.Slot.{Slot}
+use Rattle.pci_spec.specs.Registers.{BRIDGE_CONTROL}
+use Rattle.pci_spec.specs.System.{System, Function, Space, IsSystem}
+use Rattle.pci_spec.specs.Decoded.{record_of}
+use Rattle.pci_base.specs.declared.range.Range.{Range}
+use Rattle.pci_function.specs.declared.record.Record.{Record}
+use Rattle.pci_function.specs.Values.{record_value}
+use Rattle.pci_tree.specs.declared.region.Region.{Region}
+use Rattle.pci_tree.specs.Ranges.{Covers, IsCanonical}
+use Rattle.pci_tree.specs.Regions.{IsRegionOn}
+use Rattle.given_spec.specs.Given.{Given}
+use Rattle.given_spec.specs.Claims.{Gets, ClaimsOnBus, may_share}
+use Rattle.pci_claims.specs.Passed.{legacy_passes}
+use Rattle.pci_claims.specs.Reached.{IsAccessReach}
+
+-- the two lists have no address in common
+abbrev pub AreApart : List Range → List Range → Type 0
+AreApart rs ss = (a : ℕ) → Covers rs a → Covers ss a → ⊥
+
+-- the least address that both lists have
+pub record IsLeastCommon (rs ss : List Range) (a : ℕ) : Type 0 where
+  pub first : Covers rs a
+  pub second : Covers ss a
+  pub least : (b : ℕ) → b < a → Covers rs b → Covers ss b → ⊥
+
+-- a region of a bus, named by its slot and register, and addresses that it answers there
+pub record Claimed : Type 0 where
+  pub slot : Slot
+  pub register : ℕ
+  pub pieces : List Range
+
+-- they are just those of the space that it claims, and at which an access gets to the bus
+abbrev pub IsClaimOn : Given → List ℕ → System → ℕ → Space → Claimed → Type 0
+IsClaimOn given roots s bus space c =
+    (a : ℕ) → Covers c.pieces a
+    ↔ (Gets given roots s space a bus × ClaimsOnBus given s bus space a c.slot c.register)
+
+-- both answer an address that they may not share
+pub record AreAtOdds (c d : Claimed) (a : ℕ) : Type 0 where
+  pub first : Covers c.pieces a
+  pub second : Covers d.pieces a
+  pub apart : may_share c.slot c.register d.slot d.register ≡ false
+
+-- the least such address
+pub record IsLeastAtOdds (c d : Claimed) (a : ℕ) : Type 0 where
+  pub there : AreAtOdds c d a
+  pub least : (b : ℕ) → AreAtOdds c d b → a ≤ b
+
+-- the addresses of a region
+abbrev pub IsOwnOf : Region → List Range → Type 0
+IsOwnOf r out =
+    IsCanonical out × ((a : ℕ) → Covers out a ↔ ((r.first ≤ a) × (a ≤ r.last)))
+
+-- the claim of a region on each bus to which those addresses get
+pub record IsClaimOfRegion (r : Region) (reach : List Range) (c : Claimed) : Type 0 where
+  pub slot : c.slot ≡ r.slot
+  pub register : c.register ≡ r.reg
+  pub exact : (given : Given) (roots : List ℕ) (s : System) (bus : ℕ) (space : Space) → IsSystem s
+      → IsRegionOn s bus space r → IsAccessReach given roots s space bus reach
+      → IsClaimOn given roots s bus space c
+
+-- the addresses of a space that the legacy parts of the bridge with the record answer
+pub record IsLegacyOf (given : Given) (space : Space) (r : Record) (out : List Range) : Type 0 where
+  pub canonical : IsCanonical out
+  pub exact : (a : ℕ) → Covers out a ↔ IsTrue (legacy_passes given space a r)
+
+-- the claim of the legacy parts on the bus of each function with the record, where those addresses get to it
+pub record IsClaimOfLegacy (given : Given) (space : Space) (r : Record) (reach : List Range)
+    (c : Claimed) : Type 0 where
+  pub slot : c.slot ≡ r.slot
+  pub register : c.register ≡ BRIDGE_CONTROL
+  pub exact : (roots : List ℕ) (s : System) (f : Function) → IsSystem s → Contains s f
+      → record_value r ≡ record_of f → IsAccessReach given roots s space f.slot.bus reach
+      → IsClaimOn given roots s f.slot.bus space c

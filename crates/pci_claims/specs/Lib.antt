@@ -1,0 +1,12 @@
+pub mod Gathered
+pub mod Values
+pub mod Legacy
+pub mod Sent
+pub mod Claim
+pub mod Made
+pub mod BusClaims
+pub mod Outside
+pub mod Passed
+pub mod Reached
+pub mod Vga
+pub mod RootClaims

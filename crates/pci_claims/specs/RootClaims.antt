@@ -1,0 +1,35 @@
+-- The claims of all root buses.
+use Rattle.std.specs.Prelude.{◌≡◌, ℕ, ◌<◌, ◌↔◌, IsTrue, List}
+use Rattle.std.specs.List.{AllPairs, Contains}
+use Rattle.pci_spec.specs.Slot.{Slot}
+use Rattle.pci_spec.specs.System.{System, Space}
+use Rattle.pci_tree.specs.Ranges.{Covers}
+use Rattle.pci_tree.specs.Outline.{Tree}
+use Rattle.pci_check.specs.Trees.{HasTree}
+use Rattle.given_spec.specs.Given.{Given, starts}
+use Rattle.given_spec.specs.Claims.{ClaimsOnBus}
+use Rattle.pci_claims.specs.Claim.{Claimed}
+use Rattle.pci_claims.specs.BusClaims.{number_of, IsNamedOn}
+
+-- its addresses are just those of the space that the region claims, and that the host sends to its bus
+abbrev pub IsClaimSent : Given → System → Space → Claimed → Type 0
+IsClaimSent given s space c =
+    (a : ℕ) → Covers c.pieces a
+    ↔ (IsTrue (starts given space c.slot.bus a)
+    × ClaimsOnBus given s c.slot.bus space a c.slot c.register)
+
+-- of each region of some buses that claims an address of the space there is one claim, by slot and register
+pub record AreClaimsOver (given : Given) (IsOne : ℕ → Type 0) (s : System) (space : Space)
+    (claims : List Claimed) : Type 0 where
+  pub one : (c : Claimed) → Contains claims c → IsOne c.slot.bus
+  pub named : (c : Claimed) → Contains claims c → IsNamedOn s c.slot.bus c
+  pub each : (c : Claimed) → Contains claims c → IsClaimSent given s space c
+  pub complete : (slot : Slot) (register a : ℕ) → IsOne slot.bus
+      → ClaimsOnBus given s slot.bus space a slot register
+      → (c : Claimed) × Contains claims c × (c.slot ≡ slot) × (c.register ≡ register)
+  pub rising : AllPairs (λ c d. number_of c < number_of d) claims
+
+-- of all root buses, in each system with the tree
+abbrev pub AreRootClaimsInEach : Given → Tree → Space → List Claimed → Type 0
+AreRootClaimsInEach given t space claims =
+    (s : System) → HasTree t s → AreClaimsOver given (Contains t.roots) s space claims

@@ -1,0 +1,20 @@
+-- What is given, as the definitions have it.
+use Rattle.std.specs.Prelude.{map}
+use Rattle.std.specs.Option.{option_map}
+use Rattle.given_spec.specs.Given as spec
+use Rattle.pci_base.specs.declared.range.RootRange.{RootRange}
+use Rattle.pci_claims.specs.declared.given.LegacyBridge.{LegacyBridge}
+use Rattle.pci_claims.specs.declared.given.Given.{Given}
+
+abbrev pub host_value : RootRange → spec.HostRange
+host_value r = record { root = r.root; first = r.range.first; last = r.range.last }
+
+abbrev pub legacy_value : LegacyBridge → spec.LegacyBridge
+legacy_value b = record { slot = b.slot; is_wide = b.is_wide }
+
+abbrev pub given_value : Given → spec.Given
+given_value g = record {
+  io = option_map (λ rs. map host_value rs.now) g.io;
+  memory = option_map (λ rs. map host_value rs.now) g.memory;
+  legacy = map legacy_value g.legacy.now;
+}

@@ -1,0 +1,146 @@
+//! All claims of a bus: what its BARs, ROMs, windows and legacy parts answer.
+ghost use Rattle.std.specs.Prelude.{◌≡◌, ◌==◌, ◌⊎◌, [], map, MatchOption, IfOk, OnOk};
+ghost use Rattle.std.specs.List.{Contains, filter};
+ghost use Rattle.std.specs.List.Sorted.{IsNonDecreasingBy, IsPermutation};
+ghost use Rattle.pci_base.specs.Space.{space_of};
+ghost use Rattle.pci_tree.specs.Ranges.{IsCanonical};
+ghost use Rattle.pci_tree.specs.Outline.{RiseBySlot};
+ghost use Rattle.pci_claims.specs.Values.{given_value};
+ghost use Rattle.pci_claims.specs.BusClaims.{number_of, AreRegionClaims, AreLegacyAdded, AreBridgesOf, AreClaimsInEach};
+
+use super::claim::{Claim, claim_of, legacy_claim_of};
+use super::given::Given;
+use super::passed::is_bridge_on;
+use super::reach::access_reach;
+use pci_base::memory::OutOfMemory;
+use pci_base::range::Range;
+use pci_base::slot::Slot;
+use pci_base::space::Space;
+use pci_function::record::Record;
+use pci_tree::outline::Outline;
+use pci_tree::region::Region;
+use pci_why::find::record_at;
+use std::alloc::Allocator;
+
+/// What some regions answer of the addresses that get to their bus.
+fn region_claims<A: Allocator + Copy>(
+    alloc: A,
+    regions: &[Region],
+    reach: &[Range],
+) -> Result<Vec<Claim<A>, A>, OutOfMemory>
+    requires { IsCanonical reach.now }
+    ensures { IfOk result (λ v. AreRegionClaims regions.now reach.now v.items) }
+{
+    let mut claims = Vec::new(alloc);
+    for region in regions {
+        let claim = claim_of(alloc, region, reach)?;
+        claims.push(claim)?;
+    }
+    Ok(claims)
+}
+
+/// Adds what the legacy parts of bridges answer of the addresses that get to their bus.
+fn add_legacy_claims<A: Allocator + Copy>(
+    alloc: A,
+    claims: &mut Vec<Claim<A>, A>,
+    given: &Given<'_>,
+    records: &[Record],
+    bridges: &[Slot],
+    space: Space,
+    reach: &[Range],
+) -> Result<(), OutOfMemory>
+    // found by halving
+    requires rising { RiseBySlot records.now }
+    requires canonical { IsCanonical reach.now }
+    ensures { OnOk result (AreLegacyAdded (given_value given.now) (space_of space) records.now
+        reach.now bridges.now claims.old.items claims.new.items) }
+{
+    for slot in bridges {
+        if let Some(bridge) = record_at(records, *slot) {
+            if is_bridge_on(bridge, space) {
+                let claim = legacy_claim_of(alloc, given, bridge, space, reach)?;
+                claims.push(claim)?;
+            }
+        }
+    }
+    Ok(())
+}
+
+/// The slots of a bus.
+fn slots_on<A: Allocator>(alloc: A, slots: &[Slot], bus: u8) -> Result<Vec<Slot, A>, OutOfMemory>
+    ensures { IfOk result (λ v. v.items ≡ filter (λ slot. slot.bus == bus) slots.now) }
+{
+    let mut out = Vec::new(alloc);
+    for slot in slots {
+        if slot.bus() == bus {
+            out.push(*slot)?;
+        }
+    }
+    Ok(out)
+}
+
+/// The slot of a region or of a bridge, where there is one.
+fn some_slot(regions: &[Region], bridges: &[Slot]) -> Option<Slot>
+    ensures { MatchOption result ((regions.now ≡ []) × (bridges.now ≡ []))
+        (λ slot. Contains (map (λ r. r.slot) regions.now) slot ⊎ Contains bridges.now slot) }
+{
+    match regions.first() {
+        Some(region) => Some(region.slot),
+        None => bridges.first().copied(),
+    }
+}
+
+/// Sorts claims by slot and register.
+fn sort<A: Allocator>(claims: &mut Vec<Claim<A>, A>) -> Result<(), OutOfMemory>
+    ensures permutation { IsPermutation claims.old.items claims.new.items }
+    ensures sorted { OnOk result (IsNonDecreasingBy number_of claims.new.items) }
+{
+    match claims.sort_by_key(|claim| claim.number()) {
+        Ok(()) => Ok(()),
+        Err(_) => Err(OutOfMemory),
+    }
+}
+
+/// The claims of a bus and a space by slot and register, `bridges` being the slots of all bridges.
+pub fn claims_among<A: Allocator + Copy>(
+    alloc: A,
+    given: &Given<'_>,
+    outline: &Outline<A>,
+    bridges: &[Slot],
+    bus: u8,
+    space: Space,
+) -> Result<Vec<Claim<A>, A>, OutOfMemory>
+    requires { AreBridgesOf outline.now bridges.now }
+    ensures { IfOk result (λ v. AreClaimsInEach (given_value given.now) outline.now bus
+        (space_of space) v.items) }
+{
+    let regions = outline.regions(bus, space)?;
+    let bridges = slots_on(alloc, bridges, bus)?;
+    let Some(slot) = some_slot(&regions, &bridges) else {
+        return Ok(Vec::new(alloc));
+    };
+    let Some(reach) = access_reach(alloc, given, outline, slot, space)? else {
+        return Ok(Vec::new(alloc));
+    };
+    let mut claims = region_claims(alloc, &regions, &reach)?;
+    let records = outline.records();
+    add_legacy_claims(alloc, &mut claims, given, records, &bridges, space, &reach)?;
+    sort(&mut claims)?;
+    Ok(claims)
+}
+
+/// The claims of a bus and a space, by slot and register: of each BAR, ROM, window and legacy part of a function there that
+/// claims an address of the space, the addresses that it answers of those that get to the bus.
+pub fn claims_on<A: Allocator + Copy>(
+    alloc: A,
+    given: &Given<'_>,
+    outline: &Outline<A>,
+    bus: u8,
+    space: Space,
+) -> Result<Vec<Claim<A>, A>, OutOfMemory>
+    ensures { IfOk result (λ v. AreClaimsInEach (given_value given.now) outline.now bus
+        (space_of space) v.items) }
+{
+    let bridges = outline.bridges()?;
+    claims_among(alloc, given, outline, &bridges, bus, space)
+}

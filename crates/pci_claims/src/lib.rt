@@ -1,0 +1,15 @@
+//! What regions claim of what gets to their bus, with what is given: the addresses that the host sends to its root buses,
+//! and the legacy parts of bridges.
+#![tactic(auto)]
+
+pub mod bus_claims;
+pub mod claim;
+pub mod gather;
+pub mod given;
+pub mod legacy;
+pub mod outside;
+pub mod passed;
+pub mod reach;
+pub mod root_claims;
+pub mod sent;
+pub mod vga;

@@ -1,0 +1,94 @@
+//! What gets to a bus: what the host sends to the root above it, and each bridge on the way from there passes.
+ghost use Rattle.std.specs.Prelude.{map, MatchOption, IfOk, IfSome};
+ghost use Rattle.std.specs.List.{All, Contains};
+ghost use Rattle.pci_base.specs.Space.{space_of};
+ghost use Rattle.pci_base.specs.WindowKinds.{kind_value};
+ghost use Rattle.pci_tree.specs.Outline.{RiseBySlot};
+ghost use Rattle.pci_tree.specs.Ranges.{IsCanonical};
+ghost use Rattle.pci_tree.specs.Reaches.{HasSpans};
+ghost use Rattle.pci_claims.specs.Values.{given_value};
+ghost use Rattle.pci_claims.specs.Reached.{IsReachAlong, IsReachInEach, IsAccessReachInEach};
+
+use super::given::Given;
+use super::outside::root_above;
+use super::passed::passed_on;
+use super::sent::sent_to;
+use pci_base::memory::OutOfMemory;
+use pci_base::range::Range;
+use pci_base::slot::Slot;
+use pci_base::space::Space;
+use pci_base::window_kind::WindowKind;
+use pci_function::record::Record;
+use pci_tree::outline::Outline;
+use pci_why::find::record_at;
+use std::alloc::Allocator;
+
+/// The addresses that are sent to a root and that each bridge at some slots passes.
+fn reach_along<A: Allocator + Copy>(
+    alloc: A,
+    given: &Given<'_>,
+    records: &[Record],
+    path: &[Slot],
+    root: u8,
+    kind: WindowKind,
+) -> Result<Vec<Range, A>, OutOfMemory>
+    // found by halving
+    requires rising { RiseBySlot records.now }
+    // of an empty window no address could be told
+    requires spans { All HasSpans records.now }
+    ensures { IfOk result (λ v. IsReachAlong (given_value given.now) (kind_value kind) records.now root
+        path.now v.items) }
+{
+    let mut reach = sent_to(alloc, given, Space::of(kind), root)?;
+    for slot in path {
+        if let Some(bridge) = record_at(records, *slot) {
+            reach = passed_on(alloc, given, &reach, bridge, kind)?;
+        }
+    }
+    Ok(reach)
+}
+
+/// The addresses of a kind of access that get to the bus of a function from a root to which the host sends them: ranges
+/// that rise, with an address between each two. None where no function has the slot.
+pub fn reach_of<A: Allocator + Copy>(
+    alloc: A,
+    given: &Given<'_>,
+    outline: &Outline<A>,
+    slot: Slot,
+    kind: WindowKind,
+) -> Result<Option<Vec<Range, A>>, OutOfMemory>
+    // claims are cut down to them by halving
+    ensures canonical { IfOk result (λ o. IfSome o (λ v. IsCanonical v.items)) }
+    ensures exact { IfOk result (λ o. MatchOption o
+        (Contains (map (λ r. r.slot) outline.now.records) slot → ⊥)
+        (λ v. IsReachInEach (given_value given.now) outline.now (kind_value kind) slot.bus v.items)) }
+{
+    match outline.path(slot) {
+        None => Ok(None),
+        Some(bridges) => {
+            let path = bridges.as_slice();
+            let root = root_above(path, slot.bus());
+            let reach = reach_along(alloc, given, outline.records(), path, root, kind)?;
+            Ok(Some(reach))
+        }
+    }
+}
+
+/// The addresses of a space at which some access of the host gets to the bus of a function, whatever window of the space
+/// passes it. None where no function has the slot.
+pub fn access_reach<A: Allocator + Copy>(
+    alloc: A,
+    given: &Given<'_>,
+    outline: &Outline<A>,
+    slot: Slot,
+    space: Space,
+) -> Result<Option<Vec<Range, A>>, OutOfMemory>
+    // claims are cut down to them by halving
+    ensures canonical { IfOk result (λ o. IfSome o (λ v. IsCanonical v.items)) }
+    ensures exact { IfOk result (λ o. MatchOption o
+        (Contains (map (λ r. r.slot) outline.now.records) slot → ⊥)
+        (λ v. IsAccessReachInEach (given_value given.now) outline.now (space_of space) slot.bus
+        v.items)) }
+{
+    reach_of(alloc, given, outline, slot, space.furthest())
+}

@@ -1,0 +1,68 @@
+//! The bridges with legacy parts, by Bridge Control and a user's word (Bridge 1.2, 3.2.5.18).
+ghost use Rattle.std.specs.Prelude.{◌≡◌, List, map, Some, None, if◌then◌else◌, IfOk};
+ghost use Rattle.std.specs.Option.{option_map};
+ghost use Rattle.pci_spec.specs.Number.{has_bit};
+ghost use Rattle.pci_spec.specs.Header.{bridge_control};
+ghost use Rattle.pci_spec.specs.Text.{Block as BlockValue, slots_of};
+ghost use Rattle.pci_spec.specs.System.{system_of};
+ghost use Rattle.given_spec.specs.Words.{is_wide_by, has_legacy, legacy_bridge, legacy_bridges};
+ghost use Rattle.pci_model.specs.WordsValue.{vga_value};
+ghost use Rattle.pci_claims.specs.Values.{legacy_value};
+ghost use Rattle.pci_claims.specs.Vga.{shown_by};
+
+use super::given::LegacyBridge;
+use pci_base::image::Image;
+use pci_base::memory::OutOfMemory;
+use pci_base::offset::BRIDGE_CONTROL;
+use pci_dump::block::Block;
+use pci_dump::dump::Dump;
+use pci_function::profile::{VGA_ENABLE, controls_bridge};
+use pci_model::words::VgaWord;
+use std::alloc::Allocator;
+
+/// VGA 16-bit Decode, of Bridge Control.
+const VGA_16_BIT_DECODE: u8 = 4;
+
+/// Whether the legacy part of a bridge decodes 16 bits.
+fn is_wide(bridge: &Image, word: VgaWord) -> bool
+    ensures { result ≡ is_wide_by (vga_value word)
+        (has_bit (bridge_control bridge.now.0) VGA_16_BIT_DECODE) }
+{
+    match word {
+        VgaWord::Vga => bridge.u16(BRIDGE_CONTROL) >> VGA_16_BIT_DECODE & 1 == 1,
+        VgaWord::Vga16 => true,
+    }
+}
+
+/// The legacy part of a function, where it is a bridge with VGA Enable.
+fn legacy_part(block: &Block, word: VgaWord) -> Option<LegacyBridge>
+    ensures { option_map legacy_value result ≡ (if has_legacy (shown_by block.now)
+        then Some (legacy_bridge (vga_value word) (shown_by block.now)) else None) }
+{
+    if !controls_bridge(&block.image, VGA_ENABLE) {
+        return None;
+    }
+    Some(LegacyBridge {
+        slot: block.slot,
+        is_wide: is_wide(&block.image, word),
+    })
+}
+
+/// The bridges of a dump with legacy parts, by slot: those with VGA Enable.
+pub fn legacy_bridges<A: Allocator, B: Allocator>(
+    alloc: A,
+    dump: &Dump<B>,
+    word: VgaWord,
+) -> Result<Vec<LegacyBridge, A>, OutOfMemory>
+    // of any read backs
+    ensures { IfOk result (λ v. (probe : List BlockValue) → slots_of dump.now ≡ slots_of probe
+        → map legacy_value v.items ≡ legacy_bridges (vga_value word) (system_of dump.now probe)) }
+{
+    let mut out = Vec::new(alloc);
+    for block in dump.blocks() {
+        if let Some(bridge) = legacy_part(block, word) {
+            out.push(bridge)?;
+        }
+    }
+    Ok(out)
+}

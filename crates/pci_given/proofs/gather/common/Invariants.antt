@@ -1,6 +1,0 @@
-use Rattle.std.proofs.Common.{take}
-use Rattle.pci_given.specs.Gathered.{IsCommon}
-use Rattle.pci_given.proofs.gather.common.Given as goal
-
-abbrev pub invariant-loop-r : goal.invariant-loop-r
-invariant-loop-r g l = IsCommon (take l.r-index l.rs) l.ss l.out.items

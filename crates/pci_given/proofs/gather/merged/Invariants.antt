@@ -1,5 +1,0 @@
-use Rattle.pci_given.proofs.Gathering.{IsOpen}
-use Rattle.pci_given.proofs.gather.merged.Given as goal
-
-abbrev pub invariant-loop-i : goal.invariant-loop-i
-invariant-loop-i g l = IsOpen l.ranges l.i l.out.items l.open

@@ -1,5 +1,0 @@
-use Rattle.pci_given.specs.Legacy.{ArePorts}
-use Rattle.pci_given.proofs.legacy.ports.Given as goal
-
-abbrev pub invariant-loop-block : goal.invariant-loop-block
-invariant-loop-block g l = ArePorts l.block l.out.items

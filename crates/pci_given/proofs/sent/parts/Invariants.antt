@@ -1,7 +1,0 @@
-use Rattle.std.proofs.Common.{take}
-use Rattle.pci_base.specs.Space.{space_of}
-use Rattle.pci_given.specs.Sent.{ArePartsOf}
-use Rattle.pci_given.proofs.sent.parts.Given as goal
-
-abbrev pub invariant-loop-range : goal.invariant-loop-range
-invariant-loop-range g l = ArePartsOf (take l.range-index l.ranges) (space_of l.space) l.root l.out.items
