@@ -1,5 +1,5 @@
 -- All faults of a dump and its probe, with what is given, by those of judging or of an earlier phase.
-use Rattle.std.proofs.Common.{◌≡◌, ℕ, ◌<◌, List, [], ◌∷◌, map, inl, inr, refl, sym, ap, subst, ◌∙◌}
+use Rattle.std.proofs.Common.{◌≡◌, ℕ, ◌<◌, List, [], ◌∷◌, map, refl, sym, ap, subst, ◌∙◌}
 use Rattle.std.specs.Prelude.{◌↔◌}
 use Rattle.std.specs.List.{Contains}
 use Rattle.pci_spec.specs.Text.{Block}
@@ -20,15 +20,20 @@ use Rattle.pci_faults.proofs.EveryFault.{early_alone}
 use Rattle.given_spec.specs.Given.{Given}
 use Rattle.given_spec.specs.Fault as spec
 use Rattle.given_spec.specs.AllFaults.{AreAllOfJudging}
-use Rattle.given_spec.specs.FaultLines.{AreAllFaults, AreSound}
+use Rattle.given_spec.specs.FaultLines.{AreEarlier, AreJudged, AreSound}
 use Rattle.given_spec.proofs.Naming.{empty_where_none_fails}
 use Rattle.pci_given.specs.declared.any_fault.AnyFault.{AnyFault}
 use Rattle.pci_given.specs.declared.any_fault.AnyFault.TheVariants.{Known}
 use Rattle.pci_given.specs.AllLines.{judged_of, AreAllLines}
 
--- what stands of the list
+-- what stands of a list of judging
 pub record IsEvery (given : Given) (roots : List ℕ) (dump probe : List Block) (list : List AnyFault) : Type 0 where
-  pub all : AreAllFaults given roots dump probe (map judged_of list)
+  pub judged : AreJudged given roots dump probe (map judged_of list)
+  pub none : (list ≡ []) ↔ AreSound given roots dump probe
+
+-- of one of earlier faults
+pub record IsEveryEarly (given : Given) (roots : List ℕ) (dump probe : List Block) (list : List AnyFault) : Type 0 where
+  pub early : AreEarlier roots dump probe (map judged_of list)
   pub none : (list ≡ []) ↔ AreSound given roots dump probe
 
 no_fault : (list : List AnyFault) → map judged_of list ≡ [] → list ≡ []
@@ -44,7 +49,7 @@ every_of_judging given a o list outline lines =
     let all = subst (λ roots. AreAllOfJudging given roots s (map judged_of list)) outline.roots (lines s record { system = admitted.system; records = outline.records }) in
     let empty = empty_where_none_fails given a.roots s (map judged_of list) admitted.system admitted.nested all in
     record {
-      all = inr record {
+      judged = record {
         none_earlier = λ fault early there. none_early a.roots s admitted.nested admitted.profile admitted.chains fault early (in-of_there a.roots a.dump a.probe fault admitted.slots there);
         all = all;
       };
@@ -69,12 +74,12 @@ none_known (f ∷ rest) e = absurd (let no : ⊥ = cc in no)
 
 pub every_of_early : (given : Given) (roots : List ℕ) (dump probe : List Block) (first : plain.Fault) (early : List code.Fault) (list : List AnyFault) → IsFirstThere roots dump probe first
     → fault_number first < 60 → plain_lines.AreAllFaults roots dump probe (map fault_of early) → BeginsWith first (map fault_of early)
-    → list ≡ map (λ f. Known f) early → IsEvery given roots dump probe list
+    → list ≡ map (λ f. Known f) early → IsEveryEarly given roots dump probe list
 every_of_early given roots dump probe first early list is low all (rest, begins) same =
     let alone = early_alone roots dump probe first early is low all (rest, begins) in
     let phase = alone.early first (subst (λ (l : List plain.Fault). Contains l first) (sym begins) (in_head first rest)) in
     record {
-      all = inl record {
+      early = record {
         early = map fault_of early;
         some = alone.some;
         before = alone.early;

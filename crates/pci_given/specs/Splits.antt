@@ -1,22 +1,16 @@
--- The claims of all root buses, and all splits of a system.
-use Rattle.std.specs.Prelude.{◌≡◌, ℕ, ◌<◌, ◌↔◌, IsTrue, List, map}
-use Rattle.std.specs.List.{AllPairs, Contains}
-use Rattle.pci_spec.specs.Slot.{Slot}
+-- All splits of a system.
+use Rattle.std.specs.Prelude.{◌≡◌, ℕ, List, map}
 use Rattle.pci_spec.specs.System.{System, Space}
 use Rattle.pci_spec.specs.Fault as plain
 use Rattle.pci_function.specs.declared.fault.Fault.{Fault}
 use Rattle.pci_function.specs.Fault.{fault_of}
-use Rattle.pci_tree.specs.Ranges.{Covers}
 use Rattle.pci_tree.specs.Outline.{Tree}
 use Rattle.pci_check.specs.Trees.{HasTree}
 use Rattle.pci_faults.specs.Lines.{AreAdded}
-use Rattle.given_spec.specs.Given.{Given, starts}
-use Rattle.given_spec.specs.Claims.{ClaimsOnBus}
+use Rattle.given_spec.specs.Given.{Given}
 use Rattle.given_spec.specs.Fault.{Known}
 use Rattle.given_spec.specs.AllFaults.{IsSplitOf}
 use Rattle.given_spec.specs.Numbered.{AreAllNumbered}
-use Rattle.pci_claims.specs.Claim.{Claimed}
-use Rattle.pci_claims.specs.BusClaims.{number_of, IsNamedOn}
 
 -- the fault is a split that a list of all names, in a space that is meant
 abbrev pub IsSplitLine : (Space → Type 0) → Given → List ℕ → System → plain.Fault → Type 0

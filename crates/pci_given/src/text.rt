@@ -11,7 +11,7 @@ use std::alloc::{AllocError, Allocator};
 use std::fmt::Write;
 
 /// Appends the line of a fault.
-fn push_fault<A: Allocator>(text: &mut String<A>, fault: &AnyFault) -> Result<(), AllocError>
+pub fn push_fault<A: Allocator>(text: &mut String<A>, fault: &AnyFault) -> Result<(), AllocError>
     ensures { OnOk result
         (string_bytes text.new ≡ string_bytes text.old ++ fault_line (judged_of fault.now)) }
 {

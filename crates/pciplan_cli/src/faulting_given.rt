@@ -61,7 +61,7 @@ fn given_pair<A: Allocator + Copy>(
         probe.now (answer_of reply)) }
 {
     let found = all_faults(alloc, dump, probe, roots, given)?;
-    let faults = found.as_slice();
+    let faults = found.faults.as_slice();
     let text = list_text(alloc, faults)?;
     Ok(Reply {
         refused: !faults.is_empty(),

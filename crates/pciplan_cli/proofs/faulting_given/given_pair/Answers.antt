@@ -14,7 +14,7 @@ pub returns : goal.returns
 returns g c =
     let given = given_value c.args.given.now in
     let roots = buses_of c.args.roots in
-    let items = c.in_ok-found.found.items in
+    let items = c.in_ok-found.found.faults.items in
     record {
       faults = map judged_of items;
       all = c.in_ok-found.ensures.all;
