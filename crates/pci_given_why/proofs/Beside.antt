@@ -1,0 +1,93 @@
+-- The claims of the regions that can clash with one of a bus.
+use Rattle.std.proofs.Common.{ℕ, List, inl, inr, sym, ◌∙◌, ap, subst}
+use Rattle.std.specs.Prelude.{IsTrue}
+use Rattle.std.specs.List.{Contains}
+use Rattle.pci_spec.specs.Slot.{Slot}
+use Rattle.pci_spec.specs.System.{System, Space}
+use Rattle.pci_spec.specs.Bus.{IsNested}
+use Rattle.given_spec.specs.Given.{Given, starts}
+use Rattle.given_spec.specs.Claims.{ClaimsOnBus}
+use Rattle.pci_claims.specs.Claim.{Claimed}
+use Rattle.pci_claims.specs.BusClaims.{AreClaimsOn}
+use Rattle.pci_claims.specs.RootClaims.{AreClaimsOver}
+use Rattle.pci_claims.proofs.Rooted.{sent_there}
+use Rattle.pci_given_why.specs.Free.{ClaimsBeside, AreClaimsBeside}
+
+-- a region of a bus that claims the address
+claimed_on : (given : Given) (roots : List ℕ) (s : System) (bus : ℕ) (space : Space) (a : ℕ) (slot : Slot) (register : ℕ) → (b : ClaimsBeside given roots s bus space a slot register) → ClaimsOnBus given s b.f.slot.bus space a slot register
+claimed_on given roots s bus space a slot register b = (b.f, b.part, b.listed, b.slot_is, ap (λ (x : Slot). x.bus) (sym b.slot_is), b.register_is, b.claims)
+
+-- on a bus that is no root they are those of the bus
+pub on_one_bus : (given : Given) (roots : List ℕ) (s : System) (bus : ℕ) (space : Space) (claims : List Claimed) → (Contains roots bus → ⊥)
+    → AreClaimsOn given roots s bus space claims → AreClaimsBeside given roots s bus space claims
+on_one_bus given roots s bus space claims no_root are = record {
+  each = λ c a has covers. (
+      let (gets, (f, part, listed, slot, on_bus, named, claims_it)) = (are.each c has a).0 covers in
+      record {
+        f = f;
+        part = part;
+        listed = listed;
+        slot_is = slot;
+        register_is = named;
+        beside = inl (ap (λ (x : Slot). x.bus) slot ∙ on_bus);
+        claims = claims_it;
+      });
+  complete = λ slot register a gets b. elim b.beside [
+    | inl same ↦ (
+        let on_bus : ClaimsOnBus given s bus space a slot register = subst (λ n. ClaimsOnBus given s n space a slot register) same (claimed_on given roots s bus space a slot register b) in
+        let (c, has, slot_is, register_is) = are.complete slot register a on_bus in
+        record {
+          c = c;
+          has = has;
+          slot_is = slot_is;
+          register_is = register_is;
+          covered = (are.each c has a).1 (
+            gets,
+            subst (λ n. ClaimsOnBus given s bus space a n c.register) (sym slot_is) (subst (λ n. ClaimsOnBus given s bus space a slot n) (sym register_is) on_bus),
+          );
+        })
+    | inr rooted ↦ absurd (no_root rooted.0)
+  ];
+}
+
+-- on a root bus those of all root buses
+pub on_all_roots : (given : Given) (roots : List ℕ) (s : System) (bus : ℕ) (space : Space) (claims : List Claimed) → IsNested roots s → Contains roots bus
+    → AreClaimsOver given (Contains roots) s space claims → AreClaimsBeside given roots s bus space claims
+on_all_roots given roots s bus space claims nested root are = record {
+  each = λ c a has covers. (
+      let (sent, (f, part, listed, slot, on_bus, named, claims_it)) = (are.each c has a).0 covers in
+      record {
+        f = f;
+        part = part;
+        listed = listed;
+        slot_is = slot;
+        register_is = named;
+        beside = inr (
+          root,
+          subst (λ (x : Slot). Contains roots x.bus) (sym slot) (are.one c has),
+          subst (λ (x : Slot). IsTrue (starts given space x.bus a)) (sym slot) sent,
+        );
+        claims = claims_it;
+      });
+  complete = λ slot register a gets b. (
+      let sent : Contains roots b.f.slot.bus × IsTrue (starts given space b.f.slot.bus a) = elim b.beside [
+        | inl same ↦ (
+          subst (Contains roots) (sym same) root,
+          subst (λ n. IsTrue (starts given space n a)) (sym same) (sent_there given roots s nested bus root space a gets),
+        )
+        | inr rooted ↦ (rooted.1, rooted.2)
+      ] in
+      let on_bus : ClaimsOnBus given s slot.bus space a slot register =
+      subst (λ (x : Slot). ClaimsOnBus given s x.bus space a slot register) b.slot_is (claimed_on given roots s bus space a slot register b) in
+      let (c, has, slot_is, register_is) = are.complete slot register a (subst (λ (x : Slot). Contains roots x.bus) b.slot_is sent.0) on_bus in
+      record {
+        c = c;
+        has = has;
+        slot_is = slot_is;
+        register_is = register_is;
+        covered = (are.each c has a).1 (
+          subst (λ (x : Slot). IsTrue (starts given space x.bus a)) (b.slot_is ∙ sym slot_is) sent.1,
+          subst (λ (x : Slot). ClaimsOnBus given s x.bus space a x c.register) (sym slot_is) (subst (λ n. ClaimsOnBus given s slot.bus space a slot n) (sym register_is) on_bus),
+        );
+      });
+}

@@ -1,0 +1,5 @@
+pub mod Others
+pub mod Beside
+pub mod Freed
+pub mod Placing
+pub mod FitsTold

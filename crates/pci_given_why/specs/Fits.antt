@@ -1,0 +1,33 @@
+-- Where a region would fit, with what is given.
+use Rattle.std.specs.Prelude.{ℕ, Bool, List, Option, MatchOption}
+use Rattle.std.specs.Option.{option_map}
+use Rattle.std.specs.List.{Contains}
+use Rattle.pci_spec.specs.Slot.{Slot}
+use Rattle.pci_spec.specs.System.{System, Function, Space}
+use Rattle.pci_spec.specs.System as system
+use Rattle.pci_spec.specs.Bus.{IsNested}
+use Rattle.given_spec.specs.Given.{Given}
+use Rattle.given_spec.specs.Why.{Region, IsNamed, IsRegionIn, IsPlaceFor, IsLeastPlace, IsFitBehind}
+use Rattle.pci_base.specs.declared.range.Range.{Range}
+use Rattle.pci_base.specs.Ranges.{decoded_range_of}
+use Rattle.pci_tree.specs.declared.region.Region as outline
+use Rattle.pci_tree.specs.Regions.{IsRegionOf}
+use Rattle.pci_tree.specs.Outline.{Tree}
+use Rattle.pci_check.specs.Trees.{HasTree}
+use Rattle.pci_why.specs.Evidence.{Appends}
+use Rattle.pci_why.specs.Fits.{told}
+
+-- the least place for the region in each system with the tree that has it
+abbrev pub IsFitFor : Given → Tree → Space → outline.Region → Bool → Option Range → Type 0
+IsFitFor given t space q wide o =
+    (s : System) (f : Function) (part : system.Part) → HasTree t s → IsNested t.roots s
+    → Contains s f → IsRegionOf f part space q
+    → MatchOption (option_map decoded_range_of o)
+    ((first : ℕ) → IsPlaceFor given t.roots s (told q part space) wide first → ⊥)
+    (λ r. IsLeastPlace given t.roots s (told q part space) wide r)
+
+-- in each system with the tree that has the region, the lines that tell where it would fit
+abbrev pub IsFitTold : Given → Tree → Slot → ℕ → Space → List ℕ → List ℕ → Type 0
+IsFitTold given t slot register space before after =
+    (s : System) (q : Region) → HasTree t s → IsNamed q slot register space → IsRegionIn given s q
+    → Appends (IsFitBehind given t.roots s q) before after

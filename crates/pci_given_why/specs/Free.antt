@@ -1,0 +1,97 @@
+-- What is free for a region that would move.
+use Rattle.std.specs.Prelude.{◌≡◌, ◌⊎◌, ℕ, ◌≤◌, ◌↔◌, false, IsTrue, List}
+use Rattle.std.specs.List.{All, Contains}
+use Rattle.pci_spec.specs.Slot.{Slot}
+use Rattle.pci_spec.specs.System.{System, Function, Space, IsAddress}
+use Rattle.pci_spec.specs.System as system
+use Rattle.pci_spec.specs.Bus.{IsNested}
+use Rattle.pci_spec.specs.Why.{Region as RegionValue}
+use Rattle.given_spec.specs.Given.{Given, starts}
+use Rattle.given_spec.specs.Claims.{Part, Claims, Gets, IsPassedTo, register_of, may_share}
+use Rattle.given_spec.specs.Why.{IsTaken}
+use Rattle.pci_base.specs.declared.range.Range.{Range}
+use Rattle.pci_tree.specs.declared.region.Region.{Region}
+use Rattle.pci_tree.specs.Ranges.{Covers}
+use Rattle.pci_tree.specs.Regions.{IsRegionOf}
+use Rattle.pci_tree.specs.Outline.{Tree}
+use Rattle.pci_check.specs.Trees.{HasTree}
+use Rattle.pci_claims.specs.Claim.{Claimed}
+use Rattle.pci_why.specs.Fits.{told}
+
+-- ---- what others answer
+
+-- the claim is of another region than the one that a slot and a register name, and may not share an address with it
+abbrev pub IsOther : Slot → ℕ → Claimed → Type 0
+IsOther slot register c =
+    ((c.slot ≡ slot) × (c.register ≡ register) → ⊥)
+    × (may_share slot register c.slot c.register ≡ false)
+
+-- such a claim has the address
+pub record IsAnswered (claims : List Claimed) (slot : Slot) (register a : ℕ) : Type 0 where
+  pub c : Claimed
+  pub has : Contains claims c
+  pub other : IsOther slot register c
+  pub covered : Covers c.pieces a
+
+-- ranges with just those addresses
+pub record AreOfOthers (claims : List Claimed) (slot : Slot) (register : ℕ)
+    (out : List Range) : Type 0 where
+  pub lawful : All (λ r. r.first ≤ r.last) out
+  pub exact : (a : ℕ) → Covers out a ↔ IsAnswered claims slot register a
+
+-- ---- the regions that can clash with one of a bus
+
+-- a function of the bus, or where that is a root bus one of another to which accesses to the address start, too
+abbrev pub IsBesideBus : Given → List ℕ → ℕ → Space → ℕ → Function → Type 0
+IsBesideBus given roots bus space a f =
+    (f.slot.bus ≡ bus) ⊎ (Contains roots bus × Contains roots f.slot.bus
+    × IsTrue (starts given space f.slot.bus a))
+
+-- a region of such a function, named by its slot and register, claims the address
+pub record ClaimsBeside (given : Given) (roots : List ℕ) (s : System) (bus : ℕ) (space : Space)
+    (a : ℕ) (slot : Slot) (register : ℕ) : Type 0 where
+  pub f : Function
+  pub part : Part
+  pub listed : Contains s f
+  pub slot_is : f.slot ≡ slot
+  pub register_is : register_of f part ≡ register
+  pub beside : IsBesideBus given roots bus space a f
+  pub claims : Claims given f part space a
+
+-- a claim of the region that a slot and a register name has the address
+pub record HasClaimOf (claims : List Claimed) (slot : Slot) (register a : ℕ) : Type 0 where
+  pub c : Claimed
+  pub has : Contains claims c
+  pub slot_is : c.slot ≡ slot
+  pub register_is : c.register ≡ register
+  pub covered : Covers c.pieces a
+
+-- what these regions claim, at least of the addresses that get to the bus
+pub record AreClaimsBeside (given : Given) (roots : List ℕ) (s : System) (bus : ℕ) (space : Space)
+    (claims : List Claimed) : Type 0 where
+  pub each : (c : Claimed) (a : ℕ) → Contains claims c → Covers c.pieces a
+      → ClaimsBeside given roots s bus space a c.slot c.register
+  pub complete : (slot : Slot) (register a : ℕ) → Gets given roots s space a bus
+      → ClaimsBeside given roots s bus space a slot register → HasClaimOf claims slot register a
+
+-- in each system with the tree, whose buses nest
+abbrev pub AreClaimsBesideInEach : Given → Tree → ℕ → Space → List Claimed → Type 0
+AreClaimsBesideInEach given t bus space claims =
+    (s : System) → HasTree t s → IsNested t.roots s
+    → AreClaimsBeside given t.roots s bus space claims
+
+-- ---- what is left
+
+-- an access to the address gets to the region's bus, and no other region claims it that can clash there
+pub record IsFreeFor (given : Given) (roots : List ℕ) (s : System) (q : RegionValue)
+    (a : ℕ) : Type 0 where
+  pub address : IsAddress q.space a
+  pub reached : IsPassedTo given roots s q.space q.prefetchable a q.slot.bus
+  pub free : IsTaken given roots s q a → ⊥
+
+-- just those addresses, in each system with the tree that has the region
+abbrev pub AreFreeFor : Given → Tree → Space → Region → List Range → Type 0
+AreFreeFor given t space q out =
+    (s : System) (f : Function) (part : system.Part) → HasTree t s → IsNested t.roots s
+    → Contains s f → IsRegionOf f part space q
+    → (a : ℕ) → Covers out a ↔ IsFreeFor given t.roots s (told q part space) a

@@ -1,0 +1,2 @@
+pub mod Free
+pub mod Fits
