@@ -1,12 +1,12 @@
 //! The lines of all faults of judging of a board, with what is given.
 use pci_base::range::RootRange;
+use pci_claims::given::Given;
+use pci_claims::vga::legacy_bridges;
 use pci_dump::dump::Dump;
 use pci_dump::reader::read_dump;
 use pci_dump::std_streams::Incoming;
 use pci_given::all_lines::all_of_judging;
 use pci_given::any_fault::AnyFault;
-use pci_claims::given::Given;
-use pci_claims::vga::legacy_bridges;
 use pci_model::bytes::set_vga_aside;
 use pci_model::words::VgaWord;
 use pci_tree::admit::admit_with;

@@ -5,6 +5,8 @@
 #[cfg(test)]
 mod by_rule;
 #[cfg(test)]
+mod fits;
+#[cfg(test)]
 mod host_ranges;
 #[cfg(test)]
 mod judged;
