@@ -40,14 +40,14 @@ no_root roots bus none = elim (cases_Bool (is_root roots bus)) [ inl on ↦ absu
 
 module _ (s : System) (slot : Slot) (reg : ℕ) (space : Space) where
   -- where none claims an address, there is no such region but a legacy part
-  pub never_named : NoneClaims s slot reg space → (v : RegionValue) → why.IsNamed v slot reg space → why.IsRegionIn s v → ⊥
+  never_named : NoneClaims s slot reg space → (v : RegionValue) → why.IsNamed v slot reg space → why.IsRegionIn s v → ⊥
   never_named none v named is =
       none is.f v.part v.range.first is.listed (is.slot ∙ named.0) (is.register ∙ named.1)
       (subst (λ sp. Claims is.f v.part sp v.range.first) named.2 ((is.claims v.range.first).0 (omega arith, is.some)))
 
   module _ (q : outline.Region) (found : IsFoundIn s slot reg space q) where
     -- a legacy part has another register than what is found
-    pub no_legacy : BRIDGE_CONTROL ≡ reg → ⊥
+    no_legacy : BRIDGE_CONTROL ≡ reg → ⊥
     no_legacy e = not_legacy found.f found.part (sym found.is.register ∙ found.register ∙ sym e)
 
     module _ (tree : plain.IsSystem s) (v : RegionValue) (named : why.IsNamed v slot reg space) (is : why.IsRegionIn s v) where
@@ -81,7 +81,7 @@ module _ (s : System) (slot : Slot) (reg : ℕ) (space : Space) where
           omega (arith, up, down)
 
       -- it is what is found
-      pub named_is : told q found.part space ≡ v
+      named_is : told q found.part space ≡ v
       named_is =
           let slots : q.slot ≡ v.slot = found.slot_is ∙ sym named.0 in
           let registers : q.reg ≡ v.register = found.register ∙ sym named.1 in
