@@ -1,5 +1,13 @@
+pub mod LegacyWords
+pub mod Recorded
+pub mod Namings
+pub mod Hosted
+pub mod Bridged
+pub mod Twos
 pub mod Others
 pub mod Beside
 pub mod Freed
 pub mod Placing
 pub mod FitsTold
+pub mod AllTold
+pub mod Reasoned

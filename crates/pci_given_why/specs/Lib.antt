@@ -1,2 +1,9 @@
+pub mod Lines
+pub mod Named
+pub mod Hosts
+pub mod Bridges
+pub mod Two
 pub mod Free
 pub mod Fits
+pub mod Whys
+pub mod Lists

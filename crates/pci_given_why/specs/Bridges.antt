@@ -1,0 +1,55 @@
+-- What stands behind an unreached region.
+use Rattle.std.specs.Prelude.{◌≡◌, ℕ, ◌++◌, ◌∷◌, Bool, List, [], map, codes, Option, None, Some}
+use Rattle.std.specs.List.{flat_map}
+use Rattle.pci_spec.specs.Slot.{Slot}
+use Rattle.pci_spec.specs.Text.{slot_text}
+use Rattle.pci_spec.specs.System.{System, Space}
+use Rattle.pci_spec.specs.Decoded as decoded
+use Rattle.pci_spec.specs.Listing.{inner_line, on_text}
+use Rattle.pci_spec.specs.Why.{windows_text, range_line}
+use Rattle.pci_spec.specs.Why as plain
+use Rattle.pci_base.specs.declared.range.Range.{Range}
+use Rattle.pci_base.specs.Ranges.{decoded_range_of}
+use Rattle.pci_base.specs.Space.{is_on, kind_in}
+use Rattle.pci_function.specs.declared.record.Record.{Record}
+use Rattle.pci_tree.specs.declared.region.Region.{Region}
+use Rattle.pci_tree.specs.Outline.{Tree}
+use Rattle.pci_check.specs.Trees.{HasTree}
+use Rattle.pci_why.specs.Missed.{IsOutside}
+use Rattle.pci_why.specs.Bridges.{range_at}
+use Rattle.pci_why.specs.Evidence.{Appends}
+use Rattle.given_spec.specs.Given.{Given}
+use Rattle.given_spec.specs.Fault.{IsUnreached}
+use Rattle.given_spec.specs.Why.{legacy_words, IsBehindUnreached}
+use Rattle.pci_claims.specs.Passed.{ArePassed}
+
+abbrev pub bridge_text : Given → decoded.Record → Space → Bool → Option decoded.Bridge → List ℕ
+bridge_text given r space prefetch None = []
+bridge_text given r space prefetch (Some b) =
+    inner_line (codes "bridge" ∷ slot_text r.slot ∷ on_text (is_on r.command space)
+    ∷ windows_text space prefetch b.windows ∷ legacy_words given r.slot)
+
+-- the line of a bridge
+abbrev pub line_of_bridge : Given → decoded.Record → Space → Bool → List ℕ
+line_of_bridge given r space prefetch = bridge_text given r space prefetch r.bridge
+
+-- a line was appended for each run of the region's addresses that the function doesn't pass
+pub record AreMissedTold (given : Given) (r : Record) (space : Space) (q : Region)
+    (old new : List ℕ) : Type 0 where
+  pub passed : List Range
+  pub missed : List Range
+  pub exact : ArePassed given (kind_in space q.prefetch) r passed
+  pub outside : IsOutside (range_at q) passed missed
+  pub text : new
+      ≡ old ++ flat_map (range_line (codes "missed") space) (map decoded_range_of missed)
+
+-- what stands behind the region that a slot and a register name
+abbrev pub IsBehindOne : Given → System → Slot → ℕ → Space → Slot → List ℕ → Type 0
+IsBehindOne given s slot reg space bridge lines =
+    (q : plain.Region) × plain.IsNamed q slot reg space × IsBehindUnreached given s q bridge lines
+
+-- in each system with the tree where it is unreached
+abbrev pub IsUnreachedTold : Given → Tree → Slot → ℕ → Space → Slot → List ℕ → List ℕ → Type 0
+IsUnreachedTold given t slot reg space bridge old new =
+    (s : System) (a : ℕ) → HasTree t s → IsUnreached given t.roots s slot reg space a bridge
+    → Appends (IsBehindOne given s slot reg space bridge) old new

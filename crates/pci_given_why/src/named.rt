@@ -1,0 +1,142 @@
+//! The region that a slot and a register name, with what is given.
+ghost use Rattle.std.specs.Prelude.{◌≡◌, ◌≢◌, ◌++◌, IfOk, IfSome, MatchOption, OnOk};
+ghost use Rattle.std.specs.String.{string_bytes};
+ghost use Rattle.pci_base.specs.Space.{space_of};
+ghost use Rattle.pci_tree.specs.Ranges.{IsCanonical};
+ghost use Rattle.pci_claims.specs.Values.{given_value};
+ghost use Rattle.pci_given_why.specs.Named.{shown_line, HasAddress, IsNamedInEach, NoneNamed};
+
+use super::legacy::{is_narrow, push_legacy_line};
+use pci_base::memory::OutOfMemory;
+use pci_base::offset::BRIDGE_CONTROL;
+use pci_base::range::Range;
+use pci_base::slot::Slot;
+use pci_base::space::Space;
+use pci_claims::claim::{legacy_of, own};
+use pci_claims::given::Given;
+use pci_tree::outline::Outline;
+use pci_tree::region::Region;
+use pci_why::find::{record_at, region_at};
+use pci_why::region_line::push_region_line;
+use std::alloc::{AllocError, Allocator, Global};
+
+/// What a line shows of a region.
+#[derive(Clone, Copy, Debug, PartialEq, Eq)]
+pub enum Shown {
+    /// A BAR, a ROM or a window.
+    Own(Region),
+    /// The legacy part of a bridge.
+    Legacy {
+        slot: Slot,
+        /// Whether it decodes 10 bits of I/O addresses.
+        is_narrow: bool,
+    },
+}
+
+/// A region that claims an address of a space.
+#[derive(Drop)]
+pub struct Named<A: Allocator = Global> {
+    pub shown: Shown,
+    /// What it claims: ranges that rise, with an address between each two.
+    pub addresses: Vec<Range, A>,
+}
+
+/// The legacy part of the bridge at a slot, where it claims an address.
+fn legacy_named<A: Allocator + Copy>(
+    alloc: A,
+    given: &Given<'_>,
+    outline: &Outline<A>,
+    slot: Slot,
+    space: Space,
+) -> Result<Option<Named<A>>, OutOfMemory>
+    ensures canonical { IfOk result (λ o. IfSome o (λ n. IsCanonical n.addresses.items)) }
+    ensures some { IfOk result (λ o. IfSome o (λ n. HasAddress n.shown)) }
+    ensures exact { IfOk result (λ o. MatchOption o
+        (NoneNamed (given_value given.now) outline.now slot BRIDGE_CONTROL (space_of space))
+        (λ n. IsNamedInEach (given_value given.now) outline.now slot BRIDGE_CONTROL (space_of space) n.shown
+        n.addresses.items)) }
+{
+    let Some(function) = record_at(outline.records(), slot) else {
+        return Ok(None);
+    };
+    let addresses = legacy_of(alloc, given, function, space)?;
+    if addresses.is_empty() {
+        return Ok(None);
+    }
+    let is_narrow = is_narrow(given, slot);
+    Ok(Some(Named {
+        shown: Shown::Legacy { slot, is_narrow },
+        addresses,
+    }))
+}
+
+/// The BAR, the ROM or the window of a slot and a register, where it claims an address.
+fn own_named<A: Allocator + Copy>(
+    alloc: A,
+    given: &Given<'_>,
+    outline: &Outline<A>,
+    slot: Slot,
+    reg: u8,
+    space: Space,
+) -> Result<Option<Named<A>>, OutOfMemory>
+    // which names a legacy part
+    requires { reg ≢ BRIDGE_CONTROL }
+    ensures canonical { IfOk result (λ o. IfSome o (λ n. IsCanonical n.addresses.items)) }
+    ensures some { IfOk result (λ o. IfSome o (λ n. HasAddress n.shown)) }
+    ensures exact { IfOk result (λ o. MatchOption o
+        (NoneNamed (given_value given.now) outline.now slot reg (space_of space))
+        (λ n. IsNamedInEach (given_value given.now) outline.now slot reg (space_of space) n.shown
+        n.addresses.items)) }
+{
+    let Some(region) = region_at(alloc, outline, slot, reg, space)? else {
+        return Ok(None);
+    };
+    let addresses = own(alloc, &region)?;
+    Ok(Some(Named {
+        shown: Shown::Own(region),
+        addresses,
+    }))
+}
+
+/// The region of a space that a slot and a register name, where there is one that claims an address: Bridge Control names
+/// the legacy part of a bridge.
+pub fn region_named<A: Allocator + Copy>(
+    alloc: A,
+    given: &Given<'_>,
+    outline: &Outline<A>,
+    slot: Slot,
+    reg: u8,
+    space: Space,
+) -> Result<Option<Named<A>>, OutOfMemory>
+    // what two of them have in common is found range by range
+    ensures canonical { IfOk result (λ o. IfSome o (λ n. IsCanonical n.addresses.items)) }
+    // so that they can be counted
+    ensures some { IfOk result (λ o. IfSome o (λ n. HasAddress n.shown)) }
+    ensures exact { IfOk result (λ o. MatchOption o
+        (NoneNamed (given_value given.now) outline.now slot reg (space_of space))
+        (λ n. IsNamedInEach (given_value given.now) outline.now slot reg (space_of space) n.shown
+        n.addresses.items)) }
+{
+    if reg == BRIDGE_CONTROL {
+        legacy_named(alloc, given, outline, slot, space)
+    } else {
+        own_named(alloc, given, outline, slot, reg, space)
+    }
+}
+
+/// Appends the line of a region, behind a word.
+pub fn push_shown<A: Allocator>(
+    text: &mut String<A>,
+    word: &'static str,
+    space: Space,
+    shown: &Shown,
+) -> Result<(), AllocError>
+    requires { HasAddress shown.now }
+    ensures { OnOk result (string_bytes text.new
+        ≡ string_bytes text.old ++ shown_line word.now (space_of space) shown.now) }
+{
+    match shown {
+        Shown::Own(region) => push_region_line(text, word, space, region),
+        Shown::Legacy { slot, is_narrow } => push_legacy_line(text, word, *slot, *is_narrow, space),
+    }
+}
