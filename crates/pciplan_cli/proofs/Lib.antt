@@ -5,5 +5,6 @@ mod ModelWords
 mod Invocations
 mod Tasks
 pub mod Faults
+mod GivenFaults
 mod FaultsAsked
 mod SettlingWrites

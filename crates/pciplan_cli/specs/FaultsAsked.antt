@@ -12,7 +12,7 @@ use Rattle.pciplan_cli.specs.declared.invocation.HostLists.{HostLists}
 use Rattle.pciplan_cli.specs.declared.invocation.Task.{Task}
 use Rattle.pciplan_cli.specs.declared.invocation.Task.TheVariants as task
 use Rattle.pciplan_cli.specs.declared.failure.Failure.{Failure}
-use Rattle.pciplan_cli.specs.declared.failure.Failure.TheVariants.{Root, Model, Host, Why, Memory}
+use Rattle.pciplan_cli.specs.declared.failure.Failure.TheVariants.{Root, Model, Host, Memory}
 
 abbrev pub has_vga : Option Words → Bool
 has_vga None = false
@@ -22,11 +22,9 @@ has_vga (Some words) = is_some words.vga
 abbrev pub is_given : Option Words → HostLists → Bool
 is_given words host = has_vga words || is_some host.io || is_some host.mem
 
--- with what is given no reasons are told
 abbrev pub IsListing : Bool → Bool → Roots → Option Words → HostLists → Task → Type 0
 IsListing false why roots words host t = t ≡ task.Faults roots words why
-IsListing true false roots words host t = t ≡ task.FaultsGiven roots words host
-IsListing true true roots words host t = ⊥
+IsListing true why roots words host t = t ≡ task.FaultsGiven roots words host why
 
 pub record IsFaultsOf (asked : FaultsWords) (t : Task) : Type 0 where
   pub roots : Roots
@@ -61,24 +59,11 @@ pub record IsNoHostMem (asked : FaultsWords) : Type 0 where
   pub io : AreRangesOf asked.host_io (buses_of roots) ranges
   pub none : HasNoRanges asked.host_mem (buses_of roots)
 
--- reasons are asked for with something given
-pub record IsNoWhy (asked : FaultsWords) : Type 0 where
-  pub roots : Roots
-  pub words : Option Words
-  pub host : HostLists
-  pub are_roots : AreRootsOf asked.root roots
-  pub are_words : AreWordsOf asked.model words
-  pub io : AreRangesOf asked.host_io (buses_of roots) host.io
-  pub mem : AreRangesOf asked.host_mem (buses_of roots) host.mem
-  pub given : is_given words host ≡ true
-  pub why : asked.why ≡ true
-
 abbrev pub AreFaultsRefused : FaultsWords → Failure → Type 0
 AreFaultsRefused asked Root = HasNoRoots asked.root
 AreFaultsRefused asked Model = IsNoModel asked
 AreFaultsRefused asked (Host Io) = IsNoHostIo asked
 AreFaultsRefused asked (Host Mem) = IsNoHostMem asked
-AreFaultsRefused asked Why = IsNoWhy asked
 -- a want of memory can come at any list
 AreFaultsRefused asked Memory = Unit {0}
 AreFaultsRefused _ _ = ⊥

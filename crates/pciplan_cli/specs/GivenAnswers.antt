@@ -1,13 +1,16 @@
 -- What the program answers where all faults of two texts are to be listed, with what is given beside them.
-use Rattle.std.specs.Prelude.{◌≡◌, ◌↔◌, ℕ, List, [], Option, None, Some, option_map, map}
+use Rattle.std.specs.Prelude.{◌≡◌, ◌↔◌, ℕ, Bool, true, List, [], Option, None, Some, option_map, map}
 use Rattle.pci_spec.specs.Text.{Block}
 use Rattle.pci_spec.specs.System.{System, system_of}
 use Rattle.given_spec.specs.Given.{Given, LegacyBridge}
 use Rattle.given_spec.specs.Fault.{Fault}
 use Rattle.given_spec.specs.FaultLines.{AreAllFaults, AreSound}
+use Rattle.given_spec.specs.FaultsText.{IsFaultsText}
 use Rattle.given_spec.specs.Line.{list_text}
 use Rattle.given_spec.specs.Words.{VgaWord, legacy_bridges}
 use Rattle.pci_claims.specs.Values.{host_value}
+use Rattle.pci_tree.specs.Outline.{Tree}
+use Rattle.pci_given_why.specs.Lists.{IsReasonedTextOf}
 use Rattle.pci_model.specs.declared.words.Words.{Words}
 use Rattle.pci_model.specs.WordsValue.{words_value}
 use Rattle.pciplan_cli.specs.Answers.{Answer}
@@ -33,15 +36,23 @@ given_of host words dump = record {
   legacy = legacy_by (vga_of words) (system_of dump dump);
 }
 
--- all of them, none exactly where the two are sound
-pub record AreToldGiven (given : Given) (roots : List ℕ) (dump probe : List Block)
+-- the text of a list, where it is of what was judged with reasons
+abbrev pub IsListText : Given → Option Tree → Bool → List Fault → List ℕ → Type 0
+IsListText given (Some judged) true faults text = IsReasonedTextOf given judged faults text
+IsListText given _ _ faults text = text ≡ list_text faults
+
+-- all of them, with reasons or without; none exactly where the two are sound
+pub record AreToldGiven (given : Given) (roots : List ℕ) (why : Bool) (dump probe : List Block)
     (answer : Answer) : Type 0 where
   pub faults : List Fault
   pub all : AreAllFaults given roots dump probe faults
   pub none : (faults ≡ []) ↔ AreSound given roots dump probe
-  pub line : answer ≡ list_answer faults (list_text faults)
+  pub text : List ℕ
+  pub is : IsFaultsText given roots (system_of dump probe) why faults text
+  pub line : answer ≡ list_answer faults text
 
 -- `faults` with what is given: of the two as words take them, beside what the dump as it is gives
-abbrev pub IsAnswerGiven : Option Words → HostLists → List ℕ → List Block → List Block → Answer → Type 0
-IsAnswerGiven words host roots dump probe answer =
-    IsAnswerBy words (AreToldGiven (given_of host words dump) roots) dump probe answer
+abbrev pub IsAnswerGiven : Option Words → HostLists → List ℕ → Bool → List Block → List Block → Answer
+    → Type 0
+IsAnswerGiven words host roots why dump probe answer =
+    IsAnswerBy words (AreToldGiven (given_of host words dump) roots why) dump probe answer

@@ -47,8 +47,8 @@ abbrev pub IsPairAnswer : Task → List Block → List Block → Answer → Type
 IsPairAnswer task.Show = IsShown
 IsPairAnswer (task.Check roots) = IsChecked (buses_of roots)
 IsPairAnswer (task.Faults roots words why) = IsAnswerBy words (AreTold (buses_of roots) why)
-IsPairAnswer (task.FaultsGiven roots words host) =
-    IsAnswerGiven words host (buses_of roots)
+IsPairAnswer (task.FaultsGiven roots words host why) =
+    IsAnswerGiven words host (buses_of roots) why
 IsPairAnswer (task.Map roots words host) =
     IsAnswerBy words (IsMapped (sent_by host) (buses_of roots))
 IsPairAnswer task.Size = IsSized

@@ -32,8 +32,6 @@ pub enum Failure {
     Model,
     /// The list of what the host sends to its root buses in a space is none, or none that it can send.
     Host(Space),
-    /// Reasons are asked for where something is given beside the system.
-    Why,
     /// The word of an option's pool or list is none.
     Pool(PoolOption),
     /// The text of the dump has a fault, or can't be read.
@@ -57,7 +55,6 @@ impl fmt::Display for Failure {
             Failure::Model => write!(f, "model"),
             Failure::Host(Space::Io) => write!(f, "host --host-io"),
             Failure::Host(Space::Mem) => write!(f, "host --host-mem"),
-            Failure::Why => write!(f, "why"),
             Failure::Pool(PoolOption::Io) => write!(f, "pool --io"),
             Failure::Pool(PoolOption::Mem) => write!(f, "pool --mem"),
             Failure::Pool(PoolOption::Pref) => write!(f, "pool --pref"),
@@ -80,8 +77,8 @@ impl Failure {
         ensures { result ≡ status_of self }
     {
         match self {
-            Failure::Usage | Failure::Root | Failure::Model | Failure::Host(_) => 2,
-            Failure::Why | Failure::Pool(_) => 2,
+            Failure::Usage | Failure::Root | Failure::Model => 2,
+            Failure::Host(_) | Failure::Pool(_) => 2,
             Failure::Dump(fault) | Failure::Probe(fault) | Failure::Sizes(fault) => match fault {
                 ReadFault::Io => 4,
                 ReadFault::Memory => 3,

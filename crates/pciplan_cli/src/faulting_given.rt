@@ -1,10 +1,12 @@
 //! Lists all faults of a dump and its probe, with what is given beside them.
 ghost use Rattle.std.specs.Prelude.{◌≡◌, map, option_map, IfOk};
+ghost use Rattle.std.specs.String.{string_bytes};
 ghost use Rattle.pci_spec.specs.System.{system_of};
 ghost use Rattle.pci_tree.specs.Roots.{buses_of};
 ghost use Rattle.pci_claims.specs.Values.{given_value, host_value, legacy_value};
+ghost use Rattle.pci_given.specs.AllLines.{judged_of};
 ghost use Rattle.pciplan_cli.specs.Answers.{answer_of};
-ghost use Rattle.pciplan_cli.specs.GivenAnswers.{AreToldGiven, IsAnswerGiven, legacy_by, vga_of};
+ghost use Rattle.pciplan_cli.specs.GivenAnswers.{AreToldGiven, IsAnswerGiven, IsListText, legacy_by, vga_of};
 
 use crate::invocation::HostLists;
 use crate::reply::{Reply, Text};
@@ -14,9 +16,12 @@ use pci_base::range::RootRange;
 use pci_claims::given::{Given, LegacyBridge};
 use pci_claims::vga::legacy_bridges;
 use pci_dump::dump::Dump;
+use pci_given::any_fault::AnyFault;
 use pci_given::every::all_faults;
 use pci_given::text::list_text;
+use pci_given_why::list::reasoned_text;
 use pci_model::words::Words;
+use pci_tree::outline::Outline;
 use pci_tree::roots::Roots;
 use std::alloc::Allocator;
 
@@ -49,20 +54,38 @@ pub fn ranges_of(list: &Option<Vec<RootRange>>) -> Option<&[RootRange]>
     }
 }
 
-/// All faults of a dump and its probe with these root buses, with what is given.
+/// The text of the list. Reasons are told of what was judged; behind faults of earlier phases there are none.
+fn text_of<A: Allocator + Copy>(
+    alloc: A,
+    given: &Given<'_>,
+    judged: &Option<Outline<A>>,
+    faults: &[AnyFault],
+    why: bool,
+) -> Result<String<A>, OutOfMemory>
+    ensures { IfOk result (λ text. IsListText (given_value given.now) judged.now why
+        (map judged_of faults.now) (string_bytes text)) }
+{
+    match (judged, why) {
+        (Some(outline), true) => reasoned_text(alloc, given, outline, faults),
+        _ => list_text(alloc, faults),
+    }
+}
+
+/// All faults of a dump and its probe with these root buses, with what is given, with reasons or without.
 fn given_pair<A: Allocator + Copy>(
     alloc: A,
     dump: &Dump<A>,
     probe: &Dump<A>,
     roots: Roots,
     given: &Given<'_>,
+    why: bool,
 ) -> Result<Reply<A>, OutOfMemory>
-    ensures { IfOk result (λ reply. AreToldGiven (given_value given.now) (buses_of roots) dump.now
-        probe.now (answer_of reply)) }
+    ensures { IfOk result (λ reply. AreToldGiven (given_value given.now) (buses_of roots) why
+        dump.now probe.now (answer_of reply)) }
 {
     let found = all_faults(alloc, dump, probe, roots, given)?;
     let faults = found.faults.as_slice();
-    let text = list_text(alloc, faults)?;
+    let text = text_of(alloc, given, &found.judged, faults, why)?;
     Ok(Reply {
         refused: !faults.is_empty(),
         text: Text::Lines(text),
@@ -71,7 +94,7 @@ fn given_pair<A: Allocator + Copy>(
 }
 
 /// All faults of a dump and its probe with these root buses, as words take them, with what the host sends and the bridges
-/// with legacy parts.
+/// with legacy parts, with reasons or without.
 pub fn faults_given<A: Allocator + Copy>(
     alloc: A,
     dump: &Dump<A>,
@@ -79,8 +102,9 @@ pub fn faults_given<A: Allocator + Copy>(
     roots: Roots,
     words: Option<Words>,
     host: &HostLists,
+    why: bool,
 ) -> Result<Reply<A>, OutOfMemory>
-    ensures { IfOk result (λ reply. IsAnswerGiven words host.now (buses_of roots) dump.now
+    ensures { IfOk result (λ reply. IsAnswerGiven words host.now (buses_of roots) why dump.now
         probe.now (answer_of reply)) }
 {
     let legacy = legacy_by(alloc, dump, words)?;
@@ -90,7 +114,7 @@ pub fn faults_given<A: Allocator + Copy>(
         legacy: &legacy,
     };
     match taken(alloc, dump, probe, words)? {
-        None => given_pair(alloc, dump, probe, roots, &given),
-        Some(taken) => given_pair(alloc, &taken.dump, &taken.probe, roots, &given),
+        None => given_pair(alloc, dump, probe, roots, &given, why),
+        Some(taken) => given_pair(alloc, &taken.dump, &taken.probe, roots, &given, why),
     }
 }

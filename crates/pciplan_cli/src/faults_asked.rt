@@ -34,9 +34,15 @@ pub fn faults_of(alloc: Global, asked: &FaultsWords<'_>) -> Result<Task, Failure
         io: ranges_of(alloc, &roots, asked.host_io, Space::Io)?,
         mem: ranges_of(alloc, &roots, asked.host_mem, Space::Mem)?,
     };
-    match (is_given(words, &host), asked.why) {
-        (true, true) => Err(Failure::Why),
-        (true, false) => Ok(Task::FaultsGiven { roots, words, host }),
-        (false, why) => Ok(Task::Faults { roots, words, why }),
+    let why = asked.why;
+    if is_given(words, &host) {
+        Ok(Task::FaultsGiven {
+            roots,
+            words,
+            host,
+            why,
+        })
+    } else {
+        Ok(Task::Faults { roots, words, why })
     }
 }

@@ -48,11 +48,12 @@ pub enum Task {
         why: bool,
     },
     /// Lists all faults of the same system, with what is given beside it: the bridges with legacy parts, where the words
-    /// take VGA Enable, and what the host sends to its root buses.
+    /// take VGA Enable, and what the host sends to its root buses; with what stands behind each where that is asked for.
     FaultsGiven {
         roots: Roots,
         words: Option<Words>,
         host: HostLists,
+        why: bool,
     },
     /// Prints the map of the same system, with what the host sends to its root buses.
     Map {
@@ -109,7 +110,7 @@ fn invocation_of(alloc: Global, words: &[&str]) -> Result<Invocation, Failure>
 
 /// Reads the words after the program's name. Where they make no command line it writes the message to `err`
 /// and answers the status: 2 for a fault of usage, then of the root list, then of the words of `--model`, of what the host
-/// sends, of a pool or of a list, and then for reasons that aren't told; 3 at want of memory.
+/// sends, of a pool or of a list; 3 at want of memory.
 pub fn start<E: Sink>(alloc: Global, words: &[&str], err: &mut E) -> Result<Invocation, u8>
     ensures line { IfOk result (IsInvocationOf (map (λ w. w.now) words.now)) }
     ensures refused { IfErr result (λ status. (failure : Failure)

@@ -126,9 +126,12 @@ fn pair_reply<A: Allocator + Copy>(
         Task::Faults { roots, words, why } => {
             faults_by(alloc, &dump, &probe, *roots, *words, *why)
         }
-        Task::FaultsGiven { roots, words, host } => {
-            faults_given(alloc, &dump, &probe, *roots, *words, host)
-        }
+        Task::FaultsGiven {
+            roots,
+            words,
+            host,
+            why,
+        } => faults_given(alloc, &dump, &probe, *roots, *words, host, *why),
         Task::Map { roots, words, host } => map_by(alloc, &dump, &probe, *roots, *words, host),
         Task::Size => size_pair(alloc, &dump, &probe),
         Task::Plan {

@@ -24,8 +24,8 @@ fn task_by(words: Option<Words>) -> Task {
     }
 }
 
-/// A list with what is given: what the host sends of memory, and bridges with legacy parts.
-fn task_given(alloc: Global) -> Result<Task, AllocError> {
+/// A list with what is given: what the host sends of memory, and bridges with legacy parts; with reasons or without.
+fn task_given(alloc: Global, why: bool) -> Result<Task, AllocError> {
     let mut sent = Vec::new(alloc);
     sent.push(RootRange {
         root: None,
@@ -44,6 +44,7 @@ fn task_given(alloc: Global) -> Result<Task, AllocError> {
             io: None,
             mem: Some(sent),
         },
+        why,
     })
 }
 
@@ -126,7 +127,7 @@ fn given(alloc: Global) -> Result<Texts, AllocError> {
 #[test]
 fn so_does_one_with_what_is_given(rt: HostRuntime) -> Result<(), Fail> {
     for texts in [given(rt.alloc())?, misplaced(rt.alloc())?] {
-        assert!(rt; is_refused_in_turn(&rt, &line_of(&rt, task_given(rt.alloc())?), &texts));
+        assert!(rt; is_refused_in_turn(&rt, &line_of(&rt, task_given(rt.alloc(), false)?), &texts));
     }
     Ok(())
 }
@@ -136,8 +137,39 @@ fn with_what_is_given_a_read_or_a_write_that_fails_leaves_no_more(
     rt: HostRuntime,
 ) -> Result<(), Fail> {
     let texts = given(rt.alloc())?;
-    let line = line_of(&rt, task_given(rt.alloc())?);
+    let line = line_of(&rt, task_given(rt.alloc(), false)?);
     leaves_beginnings(&rt, &line, &texts, 7, &[0, 1, 100]);
+    tells_failed_reads(&rt, &line, &texts, 1);
+    Ok(())
+}
+
+/// The same, with a BAR that the first of them doesn't pass.
+fn given_behind(alloc: Global) -> Result<Texts, AllocError> {
+    let closed = [(0x20, 0x0000_fff0, 0xfff0_fff0), (0x3c, 0x0008_0000, 0)];
+    let board = [
+        bridge("00:01.0", 3, (0, 1, 1), &closed),
+        bridge("00:02.0", 3, (0, 2, 2), &closed),
+        device("00:03.0", 2, &[(0x10, 0xe100_0000, 0xfff0_0000)]),
+        device("01:00.0", 2, &[(0x10, 0x000c_0000, 0xffff_0000)]),
+    ];
+    texts_of(alloc, &board)
+}
+
+#[test]
+fn so_does_one_with_reasons_and_what_is_given(rt: HostRuntime) -> Result<(), Fail> {
+    for texts in [given_behind(rt.alloc())?, misplaced(rt.alloc())?] {
+        assert!(rt; is_refused_in_turn(&rt, &line_of(&rt, task_given(rt.alloc(), true)?), &texts));
+    }
+    Ok(())
+}
+
+#[test]
+fn with_reasons_too_a_read_or_a_write_that_fails_leaves_no_more(
+    rt: HostRuntime,
+) -> Result<(), Fail> {
+    let texts = given_behind(rt.alloc())?;
+    let line = line_of(&rt, task_given(rt.alloc(), true)?);
+    leaves_beginnings(&rt, &line, &texts, 7, &[0, 1, 100, 300]);
     tells_failed_reads(&rt, &line, &texts, 1);
     Ok(())
 }
