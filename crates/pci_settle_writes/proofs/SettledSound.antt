@@ -1,5 +1,5 @@
 -- What settling comes to is sound, and its writes may stop, as the laws have it of what was placed.
-use Rattle.std.proofs.Common.{◌≡◌, ◌≤◌, ◌⊎◌, ◌<◌, ◌^◌, ℕ, List, false, None, map, take, length, refl, sym, ◌∙◌, ap, subst}
+use Rattle.std.proofs.Common.{◌≡◌, ◌≤◌, ◌⊎◌, ◌<◌, ◌^◌, ℕ, List, false, None, map, take, length, sym, ◌∙◌, ap, subst}
 use Rattle.std.specs.List.{All, Contains}
 use Rattle.std.proofs.lemmas.List.Elements.{All-contains, All-map}
 use Rattle.pci_spec.specs.Text.{Block}
@@ -26,7 +26,6 @@ module _ (a : Admission) (admitted : IsAdmitted a) (l : Lists) (fine : are_bad_l
     (small : All (λ r. r.range.last < 2 ^ 64) ranges) (room : lacking (all_anew a.roots l) (system_in a) ≡ None) where
   can : CanSettle (all_anew a.roots l) (system_in a)
   can = record {
-    anew = refl;
     lists = fine;
     high = λ r inside. All-contains (λ (x : RootRange). x.range.last < 2 ^ 64) (map root_range_value ranges) r
         (All-map (λ (x : RootRange). x.range.last < 2 ^ 64) root_range_value ranges small) (subst (λ rs. Contains rs r) are_ranges inside);

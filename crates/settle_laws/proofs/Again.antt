@@ -1,5 +1,6 @@
 -- What is settled is alike to what it was, so it can be settled again, and everything gets the place that it got.
 use Rattle.std.proofs.Common.{refl, sym, Option, None, Some}
+use Rattle.std.specs.Bool.{IsTrue}
 use Rattle.std.specs.List.{AllZip, Contains}
 use Rattle.pci_spec.specs.System.{System, Function, Part}
 use Rattle.plan_spec.specs.Place.{range_from}
@@ -16,12 +17,13 @@ use Rattle.settle_laws.specs.PlacesLaws.{CanSettle}
 use Rattle.settle_laws.proofs.Alike.{IsAlike}
 use Rattle.settle_laws.proofs.AlikePlaces.{IsAlikePlaced, new_places_alike, none_lacks}
 use Rattle.settle_laws.proofs.Claimed.{rom_switch}
+use Rattle.settle_laws.proofs.Fits.{was}
 use Rattle.settle_laws.proofs.KeptAside.{each_by}
-use Rattle.settle_laws.proofs.Moves.{was, moves, all_move, new_profile}
+use Rattle.settle_laws.proofs.Moves.{moves, all_move, new_profile}
 use Rattle.settle_laws.proofs.SettledMoved.{kind_stays}
 use Rattle.settle_laws.proofs.Zipped.{BothOrNone}
 
-module _ (q : Request) (s : System) (can : CanSettle q s) where
+module _ (q : Request) (s : System) (can : CanSettle q s) (anew : IsTrue q.anew) where
   pub settled_alike : (f : Function) → Contains s f → IsAlike f (settled_function q s f)
   settled_alike f listed =
       let g = settled_function q s f in
@@ -42,20 +44,19 @@ module _ (q : Request) (s : System) (can : CanSettle q s) where
 
   pub can_again : CanSettle q (settled q s)
   can_again = record {
-    anew = can.anew;
     lists = can.lists;
     high = can.high;
     system = moved_system s (settled q s) (all_move q s can) can.system;
     nested = moved_is_nested q.roots s (settled q s) (all_move q s can) can.system can.nested;
     profile = new_profile q s can;
     chains = moved_has_chains s (settled q s) (all_move q s can) can.system can.chains;
-    room = none_lacks q can.anew s (settled q s) all_alike can.room;
+    room = none_lacks q anew s (settled q s) all_alike can.room;
   }
 
   -- the places of a part before and again
   pub again_alike : (f : Function) (p : Part) → Contains s f → BothOrNone IsAlikePlaced (new_place q s record { function = f; part = p }) (new_place q (settled q s) record { function = settled_function q s f; part = p })
   again_alike f p listed =
-      new_places_alike q can.anew s (settled q s) all_alike record { function = f; part = p } record { function = settled_function q s f; part = p } record { function = settled_alike f listed; part = refl }
+      new_places_alike q anew s (settled q s) all_alike record { function = f; part = p } record { function = settled_function q s f; part = p } record { function = settled_alike f listed; part = refl }
 
   pub places_stay : (f : Function) (p : Part) → Contains s f → TakesSame (new_place q s record { function = f; part = p }) (new_place q (settled q s) record { function = settled_function q s f; part = p })
   places_stay f p listed = by (new_place q s record { function = f; part = p }) (new_place q (settled q s) record { function = settled_function q s f; part = p }) (again_alike f p listed)

@@ -1,6 +1,6 @@
 -- What is settled enables what is enabled again, so Command stays.
 use Rattle.std.proofs.Common.{◌≡◌, ◌&&◌, ◌||◌, ℕ, zero, suc, ◌+◌, ◌≤◌, inl, inr, List, [], ◌∷◌, map, Bool, true, false, not, arith, refl, sym, ◌∙◌, ap, Option, None, Some}
-use Rattle.std.specs.Bool.{◌==◌}
+use Rattle.std.specs.Bool.{IsTrue, ◌==◌}
 use Rattle.std.specs.List.{Contains, filter, list_any, range_with_len}
 use Rattle.std.specs.Option.{is_some}
 use Rattle.std.proofs.lemmas.Bool.{cases_Bool, and_right, eqb-true}
@@ -56,7 +56,7 @@ once_more false false true behind = refl
 once_more false false false true = refl
 once_more false false false false = refl
 
-module _ (q : Request) (s : System) (can : CanSettle q s) where
+module _ (q : Request) (s : System) (can : CanSettle q s) (anew : IsTrue q.anew) where
   abbrev t : System
   t = settled q s
 
@@ -65,17 +65,17 @@ module _ (q : Request) (s : System) (can : CanSettle q s) where
 
   module _ (f : Function) (listed : Contains s f) where
     is : IsAlike f (now f)
-    is = settled_alike q s can f listed
+    is = settled_alike q s can anew f listed
 
     left_again : has_left q s f ≡ has_left q t (now f)
     left_again =
         any_bars (λ p. is_implemented f p && is_left q s f p) (λ p. is_implemented (now f) p && is_left q t (now f) p)
-        (λ n. let left = left_alike q can.anew s t (all_alike q s can) f (now f) is (Bar n) in ap (λ b. has_bar f.probe n && b) left) (range_with_len 0 (bar_count (layout f.image)))
+        (λ n. let left = left_alike q anew s t (all_alike q s can anew) f (now f) is (Bar n) in ap (λ b. has_bar f.probe n && b) left) (range_with_len 0 (bar_count (layout f.image)))
         ∙ ap (λ k. list_any (λ p. is_implemented (now f) p && is_left q t (now f) p) (map Bar (range_with_len 0 (bar_count k)))) is.kind
 
     change_again : (p : Part) → can_change q s f p ≡ can_change q t (now f) p
-    change_again (Bar n) = (let part = part_alike q can.anew s t (all_alike q s can) f (now f) is (Bar n) refl in ap (λ b. b || false) part)
-    change_again Rom = (let part = part_alike q can.anew s t (all_alike q s can) f (now f) is Rom refl in ap (λ b. b || false) part)
+    change_again (Bar n) = (let part = part_alike q anew s t (all_alike q s can anew) f (now f) is (Bar n) refl in ap (λ b. b || false) part)
+    change_again Rom = (let part = part_alike q anew s t (all_alike q s can anew) f (now f) is Rom refl in ap (λ b. b || false) part)
     change_again (Window c) =
         implemented (is_bridge f && has_window c f.probe) (not (is_closed c f.image))
         ∙ ap (λ k. k == 1 && has_window c f.probe) is.kind
@@ -85,7 +85,7 @@ module _ (q : Request) (s : System) (can : CanSettle q s) where
       got_same : (p : Part) → (same_space space (space_of f p) && is_some (new_place q s record { function = f; part = p })) ≡ (same_space space (space_of (now f) p) && is_some (new_place q t record { function = now f; part = p }))
       got_same p =
           let sp = space_alike f (now f) is p in
-          let has = both_some (new_place q s record { function = f; part = p }) (new_place q t record { function = now f; part = p }) (again_alike q s can f p listed) in
+          let has = both_some (new_place q s record { function = f; part = p }) (new_place q t record { function = now f; part = p }) (again_alike q s can anew f p listed) in
           λ i. same_space space (sp i) && has i
 
       got_each : (ps : List Part)
@@ -107,7 +107,7 @@ module _ (q : Request) (s : System) (can : CanSettle q s) where
 
       own_again : has_own q s space f ≡ has_own q t space (now f)
       own_again =
-          some_alike q can.anew s t (all_alike q s can) f (now f) is (λ r. same_space space (region_space r) && not (is_window r.part)) (λ r. same_space space (region_space r) && not (is_window r.part))
+          some_alike q anew s t (all_alike q s can anew) f (now f) is (λ r. same_space space (region_space r) && not (is_window r.part)) (λ r. same_space space (region_space r) && not (is_window r.part))
           (λ p window. (and_right (same_space space (space_of f p)) (not (is_window p)) (ap not window), and_right (same_space space (space_of (now f) p)) (not (is_window p)) (ap not window)))
           (λ p plain. ap (λ sp. same_space space sp && not (is_window p)) (space_alike f (now f) is p)) (header_parts f)
           ∙ ap (λ ps. list_any (λ r. same_space space (region_space r) && not (is_window r.part)) (map (λ p. record { function = now f; part = p }) (filter (is_part q t (now f)) ps))) (header_alike f (now f) is)
@@ -129,7 +129,7 @@ module _ (q : Request) (s : System) (can : CanSettle q s) where
             let own = own_again in
             live_by_bus q s space can.system can.nested f listed
             ∙ (λ i. enabled i && (own i || behind i))
-            ∙ sym (live_by_bus q t space (can_again q s can).system (can_again q s can).nested (now f) (in_map_from now s f listed))
+            ∙ sym (live_by_bus q t space (can_again q s can anew).system (can_again q s can anew).nested (now f) (in_map_from now s f listed))
 
   -- ---- from the highest bus down
 
@@ -141,7 +141,7 @@ module _ (q : Request) (s : System) (can : CanSettle q s) where
     behind_again : (f : Function) → Contains s f → ((h : Function) → Contains s h → is_bridge f ≡ true → h.slot.bus ≡ secondary f → is_live q s space h ≡ is_live q t space (now h))
         → has_live_behind s (is_live q s space) f ≡ has_live_behind t (is_live q t space) (now f)
     behind_again f listed lower =
-        let is = settled_alike q s can f listed in
+        let is = settled_alike q s can anew f listed in
         of_bridges f (now f) is (list_any (λ g. g.slot.bus == secondary f && is_live q s space g) s) (list_any (λ g. g.slot.bus == secondary (now f) && is_live q t space g) t)
         (λ bridge.
         any_zip (IsLiveAlike (secondary f)) (λ g. g.slot.bus == secondary f && is_live q s space g) (λ g. g.slot.bus == secondary f && is_live q t space g)

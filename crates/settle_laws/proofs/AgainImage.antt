@@ -1,5 +1,6 @@
 -- What is settled shows the places that everything gets again, so its registers stay.
 use Rattle.std.proofs.Common.{◌≡◌, ℕ, ◌+◌, ◌-◌, ◌%◌, ◌^◌, ◌<◌, inl, inr, true, cond, arith, refl, sym, ◌∙◌, ap, subst, Option, None, Some}
+use Rattle.std.specs.Bool.{IsTrue}
 use Rattle.std.specs.List.{Contains}
 use Rattle.std.proofs.lemmas.Nat.{mod_below, pow_pos}
 use Rattle.std.proofs.Math.Nat.{mul-add-mod_self_right, mod-eq_of_lt, pow-le-pow_right}
@@ -20,13 +21,14 @@ use Rattle.settle_spec.specs.Parts.{Region, header_parts}
 use Rattle.settle_spec.specs.Items.{Placed}
 use Rattle.settle_spec.specs.Places.{new_place}
 use Rattle.settle_spec.specs.Registers.{with_number, with_bounds, closed_if_open, shown, changing, settled, settled_image, settled_function}
-use Rattle.settle_laws.specs.PlacesLaws.{CanSettle}
+use Rattle.settle_laws.specs.PlacesLaws.{CanSettle, place_range}
 use Rattle.settle_laws.proofs.Again.{again_alike, settled_alike}
 use Rattle.settle_laws.proofs.AlikePlaces.{IsAlikePlaced}
 use Rattle.settle_laws.proofs.Anew.{none_stays}
 use Rattle.settle_laws.proofs.Claimed.{bridge_stays, rest_closed}
 use Rattle.settle_laws.proofs.Fits.{decodable}
 use Rattle.settle_laws.proofs.HeaderParts.{part_cases}
+use Rattle.settle_laws.proofs.InWindows.{placed_range}
 use Rattle.settle_laws.proofs.Reput.{put_bar, put_four, put_bounds}
 use Rattle.settle_laws.proofs.RomPlaces.{rom_is_even}
 use Rattle.settle_laws.proofs.SettledMoved.{kind_stays, new_image}
@@ -39,7 +41,7 @@ low_stays : (a w e : ℕ) → 0 < e → IsMultiple a e → (a + w % e) % e ≡ w
 low_stays a w e some (k, is) =
     ap (λ n. (n + w % e) % e) is ∙ mul-add-mod_self_right k e (w % e) ∙ mod-eq_of_lt (mod_below w e some)
 
-module _ (q : Request) (s : System) (can : CanSettle q s) (f : Function) (listed : Contains s f) where
+module _ (q : Request) (s : System) (can : CanSettle q s) (anew : IsTrue q.anew) (f : Function) (listed : Contains s f) where
   abbrev t : System
   t = settled q s
 
@@ -62,7 +64,7 @@ module _ (q : Request) (s : System) (can : CanSettle q s) (f : Function) (listed
 
   module _ (n : ℕ) (inside : n < bar_count (layout f.image)) (there : has_bar f.probe n ≡ true) where
     bar_again : (o p : Option Placed) → new_place q s (before (Bar n)) ≡ o → BothOrNone IsAlikePlaced o p → shown q t (after (Bar n)) p g.image ≡ g.image
-    bar_again None None placed both = ap (λ b. cond b g.image g.image) (none_stays q t can.anew (after (Bar n)))
+    bar_again None None placed both = ap (λ b. cond b g.image g.image) (none_stays q t anew (after (Bar n)))
     bar_again None (Some y) placed both = absurd both
     bar_again (Some x) None placed both = absurd both
     bar_again (Some x) (Some y) placed both =
@@ -85,7 +87,7 @@ module _ (q : Request) (s : System) (can : CanSettle q s) (f : Function) (listed
 
   module _ (there : has_rom f.image f.probe ≡ true) where
     rom_again : (o p : Option Placed) → new_place q s (before Rom) ≡ o → BothOrNone IsAlikePlaced o p → shown q t (after Rom) p g.image ≡ g.image
-    rom_again None None placed both = ap (λ b. cond b g.image g.image) (none_stays q t can.anew (after Rom))
+    rom_again None None placed both = ap (λ b. cond b g.image g.image) (none_stays q t anew (after Rom))
     rom_again None (Some y) placed both = absurd both
     rom_again (Some x) None placed both = absurd both
     rom_again (Some x) (Some y) placed both =
@@ -106,8 +108,8 @@ module _ (q : Request) (s : System) (can : CanSettle q s) (f : Function) (listed
   module _ (c : WindowKind) (bridge : is_bridge f ≡ true) where
     window_again : (o p : Option Placed) → new_place q s (before (Window c)) ≡ o → BothOrNone IsAlikePlaced o p → shown q t (after (Window c)) p g.image ≡ g.image
     window_again None None placed both =
-        ap (λ b. cond b g.image (closed_if_open g (Window c) g.image)) (none_stays q t can.anew (after (Window c)))
-        ∙ ap (λ b. cond b (with_bounds c (closed_bounds c (nibble_of c g)) g.image) g.image) (rest_closed q s can f c listed placed)
+        ap (λ b. cond b g.image (closed_if_open g (Window c) g.image)) (none_stays q t anew (after (Window c)))
+        ∙ ap (λ b. cond b (with_bounds c (closed_bounds c (nibble_of c g)) g.image) g.image) (rest_closed q s can f c listed (placed_range q s (before (Window c)) (none_stays q s anew (before (Window c))) ∙ ap place_range placed))
     window_again None (Some y) placed both = absurd both
     window_again (Some x) None placed both = absurd both
     window_again (Some x) (Some y) placed both =
@@ -131,19 +133,19 @@ module _ (q : Request) (s : System) (can : CanSettle q s) (f : Function) (listed
             let n = bar.n in
             let inside : n < bar_count (layout f.image) = subst (λ k. n < bar_count k) kind bar.inside in
             subst (λ x. shown q t (after x) (new_place q t (after x)) g.image ≡ g.image) bar.is
-            (bar_again n inside (can_bar q t g n (ap (can_change q t g) bar.is ∙ may)) (new_place q s (before (Bar n))) (new_place q t (after (Bar n))) refl (again_alike q s can f (Bar n) listed))
+            (bar_again n inside (can_bar q t g n (ap (can_change q t g) bar.is ∙ may)) (new_place q s (before (Bar n))) (new_place q t (after (Bar n))) refl (again_alike q s can anew f (Bar n) listed))
         | inr (inl window) ↦
             let c = window.kind in
             let bridge = sym (bridge_stays q s can f listed) ∙ window_bridge q t g c (ap (can_change q t g) window.is ∙ may) in
             subst (λ x. shown q t (after x) (new_place q t (after x)) g.image ≡ g.image) window.is
-            (window_again c bridge (new_place q s (before (Window c))) (new_place q t (after (Window c))) refl (again_alike q s can f (Window c) listed))
+            (window_again c bridge (new_place q s (before (Window c))) (new_place q t (after (Window c))) refl (again_alike q s can anew f (Window c) listed))
         | inr (inr rom) ↦
             subst (λ x. shown q t (after x) (new_place q t (after x)) g.image ≡ g.image) rom
-            (rom_again (has_then (can_rom q t g (ap (can_change q t g) rom ∙ may))) (new_place q s (before Rom)) (new_place q t (after Rom)) refl (again_alike q s can f Rom listed))
+            (rom_again (has_then (can_rom q t g (ap (can_change q t g) rom ∙ may))) (new_place q s (before Rom)) (new_place q t (after Rom)) refl (again_alike q s can anew f Rom listed))
       ]
         where
           has_then : has_rom g.image g.probe ≡ true → has_rom f.image f.probe ≡ true
-          has_then now = (settled_alike q s can f listed).rom ∙ now
+          has_then now = (settled_alike q s can anew f listed).rom ∙ now
 
   pub image_again : settled_image q t g ≡ g.image
   image_again = fold_keeps (λ x. x ≡ g.image) (λ x r. shown q t r (new_place q t r) x) (changing q t g) (λ r has x same. ap (shown q t r (new_place q t r)) same ∙ step_again r has) g.image refl

@@ -1,5 +1,6 @@
 -- Settling what is settled changes nothing, so nothing is written.
 use Rattle.std.proofs.Common.{◌≡◌, [], ◌∷◌, map, refl, sym, ◌∙◌}
+use Rattle.std.specs.Bool.{IsTrue}
 use Rattle.std.specs.List.{Contains}
 use Rattle.pci_spec.specs.Registers.{COMMAND}
 use Rattle.pci_spec.specs.Header.{command}
@@ -19,7 +20,7 @@ use Rattle.settle_laws.proofs.Reput.{put_two}
 use Rattle.settle_laws.proofs.SettledMoved.{new_image}
 use Rattle.settle_laws.proofs.Unchanged.{no_write}
 
-module _ (q : Request) (s : System) (can : CanSettle q s) where
+module _ (q : Request) (s : System) (can : CanSettle q s) (anew : IsTrue q.anew) where
   abbrev now : Function → Function
   now f = settled_function q s f
 
@@ -27,7 +28,7 @@ module _ (q : Request) (s : System) (can : CanSettle q s) where
   t = settled q s
 
   on_again : (f : Function) → Contains s f → (space : Space) → is_enabled_in q t space (now f) ≡ is_space_on (now f) space
-  on_again f listed space = sym (enabled_again q s can space f listed) ∙ sym (on_now q s can f listed space)
+  on_again f listed space = sym (enabled_again q s can anew space f listed) ∙ sym (on_now q s can f listed space)
 
   command_again : (f : Function) → Contains s f → settled_command q t (now f) ≡ command (now f).image
   command_again f listed =
@@ -38,7 +39,7 @@ module _ (q : Request) (s : System) (can : CanSettle q s) where
   function_again : (f : Function) → Contains s f → settled_function q t (now f) ≡ now f
   function_again f listed =
       let number = command_again f listed in
-      let kept = image_again q s can f listed in
+      let kept = image_again q s can anew f listed in
       let image : with_number 2 COMMAND (settled_command q t (now f)) (settled_image q t (now f)) ≡ (now f).image =
       (λ i. with_number 2 COMMAND (number i) (kept i)) ∙ put_two (now f).image (new_image q s can.system can.profile f listed) COMMAND in
       λ i. record { slot = f.slot; image = image i; probe = f.probe }
@@ -54,4 +55,4 @@ module _ (q : Request) (s : System) (can : CanSettle q s) where
   settled_again = each_again s function_again
 
   pub none_again : settle_writes q (settled q s) ≡ []
-  none_again = no_write q t (can_again q s can).system (can_again q s can).nested settled_again
+  none_again = no_write q t (can_again q s can anew).system (can_again q s can anew).nested settled_again

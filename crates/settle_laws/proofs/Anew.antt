@@ -1,18 +1,17 @@
 -- Where all is placed anew nothing stays, so nothing is taken before.
-use Rattle.std.proofs.Common.{◌≡◌, ◌&&◌, ℕ, zero, suc, ◌<◌, List, [], ◌∷◌, map, cond, not, Bool, false, length, ap, ◌∙◌, refl}
+use Rattle.std.proofs.Common.{◌≡◌, ◌&&◌, ℕ, zero, suc, List, [], ◌∷◌, map, cond, not, Bool, false, length, ap, ◌∙◌, refl}
 use Rattle.std.specs.Bool.{IsTrue}
 use Rattle.std.specs.List.{list_all, filter}
 use Rattle.std.proofs.lemmas.Bool.{and_right}
 use Rattle.pci_spec.specs.Window.{WindowKind, IoWindow, MemoryWindow}
-use Rattle.pci_spec.specs.System.{System, IsSystem, Space, Io, Memory, window_space}
-use Rattle.pci_spec.specs.Bus.{are_siblings, IsNested}
+use Rattle.pci_spec.specs.System.{System, Space, Io, Memory, window_space}
+use Rattle.pci_spec.specs.Bus.{are_siblings}
 use Rattle.plan_spec.specs.Plan.{bridges_above}
 use Rattle.settle_spec.specs.Lists.{Request}
 use Rattle.settle_spec.specs.Parts.{Region, regions, addresses, is_part, class_in, same_space}
 use Rattle.settle_spec.specs.Stands.{window_region, region_space, takes_from, is_in_place, stands_within}
-use Rattle.settle_spec.specs.Items.{place_all, has_room, holds, holds_within, stays}
-use Rattle.settle_spec.specs.Places.{placed_of, ranges_for, space_items, taken_at, placing_on}
-use Rattle.settle_spec.proofs.Buses.{placing_by_bus}
+use Rattle.settle_spec.specs.Items.{has_room, holds, holds_within, stays}
+use Rattle.settle_spec.specs.Places.{taken_at}
 
 nowhere : {X : Type 0} (test : X → Bool) (xs : List X) → ((x : X) → test x ≡ false) → filter test xs ≡ []
 nowhere test [] none = refl
@@ -40,10 +39,3 @@ module _ (q : Request) (s : System) (anew : IsTrue q.anew) where
   pub none_taken : (space : Space) (bus : ℕ) → taken_at q s space bus ≡ []
   none_taken Io bus = none_taken_of IoWindow bus
   none_taken Memory bus = none_taken_of MemoryWindow bus
-
-  -- what a bus has, where lower ones are placed
-  pub placed_anew : IsSystem s → IsNested q.roots s → (space : Space) (bus : ℕ) → bus < 256
-      → placing_on q s space bus ≡ place_all (ranges_for q s (λ over. placed_of (placing_on q s space over))) [] (space_items q s space bus)
-  placed_anew system nested space bus low =
-      placing_by_bus q s system nested space bus low
-      ∙ ap (λ taken. place_all (ranges_for q s (λ over. placed_of (placing_on q s space over))) taken (space_items q s space bus)) (none_taken space bus)

@@ -1,9 +1,8 @@
 -- Only roots can lack room: where they have it, each bus has a place for each of its items.
-use Rattle.std.proofs.Common.{◌≡◌, ◌&&◌, ◌||◌, ℕ, zero, suc, ◌+◌, ◌-◌, ◌%◌, ◌<◌, ◌≤◌, ◌⊎◌, inl, inr, max, List, [], ◌∷◌, map, length, true, false, cond, arith, refl, sym, ◌∙◌, ap, subst, Option, None, Some}
+use Rattle.std.proofs.Common.{◌≡◌, ◌&&◌, ◌||◌, ℕ, zero, suc, ◌+◌, ◌-◌, ◌%◌, ◌<◌, ◌≤◌, ◌⊎◌, inl, inr, max, List, [], ◌∷◌, map, length, Bool, true, false, cond, arith, refl, sym, ◌∙◌, ap, subst, Option, None, Some}
 use Rattle.std.specs.Bool.{IsTrue, nat_le, nat_lt, ◌==◌}
 use Rattle.std.specs.List.{Contains, AllPairs, list_all}
-use Rattle.std.proofs.Math.Path.{fun_ext}
-use Rattle.std.proofs.lemmas.Bool.{and_parts, both_ways, cases_Bool, eq-eqb, eqb-true, leb-true, lt-ltb, or_cases, or_left, false_from_ne_true}
+use Rattle.std.proofs.lemmas.Bool.{and_parts, and_right, both_ways, cases_Bool, eq-eqb, eqb-true, leb-true, lt-ltb, or_cases, or_left}
 use Rattle.std.proofs.lemmas.List.Elements.{Contains-append_left, Contains-append_right}
 use Rattle.pci_spec.specs.Decoded.{Range}
 use Rattle.pci_spec.specs.Window.{WindowKind, IoWindow, MemoryWindow, PrefetchWindow, page_size, is_wide_window}
@@ -13,31 +12,38 @@ use Rattle.pci_spec.proofs.BusRanges.{root_means}
 use Rattle.pci_spec.proofs.Members.{in_nil, in_head, in_cons_cases, in_map_to, in_map_from, IsMade, pairs_head, pairs_tail}
 use Rattle.plan_spec.specs.Plan.{same_class, greatest}
 use Rattle.plan_spec.specs.Place.{range_from}
+use Rattle.plan_spec.specs.Planning.Layout.{LieApart}
 use Rattle.plan_spec.proofs.Planning.AboveBuses.{root_or_led}
 use Rattle.plan_spec.proofs.Planning.Behind.{any_from, all_gives}
 use Rattle.plan_spec.proofs.Planning.Placement.{power_pos, step_power}
+use Rattle.plan_spec.proofs.Planning.PlacedItems.{same_class_is}
 use Rattle.plan_spec.proofs.Planning.Safe.{order_of, slots_of}
+use Rattle.plan_spec.proofs.Planning.Tables.{class_itself}
 use Rattle.settle_spec.specs.FirstPlace.{Extent, is_spot, ends_in, is_place}
 use Rattle.settle_spec.specs.Lists.{Request}
-use Rattle.settle_spec.specs.Parts.{Region, addresses, bridge_over, class_in}
-use Rattle.settle_spec.specs.Stands.{rank, window_region}
-use Rattle.settle_spec.specs.Items.{Item, Placed, Placing, AllPlaced, Lacks, are_placed, place_all, taken_by, has_of, items_on, nothing, window_around, new_window, stays}
-use Rattle.settle_spec.specs.Places.{placed_of, place_among, placed_range, root_ranges, window_ranges, ranges_for, space_items, placing_on, first_lack, root_lack, lacking_on}
+use Rattle.settle_spec.specs.Parts.{Region, addresses, bridge_over, class_in, header_parts}
+use Rattle.settle_spec.specs.Stands.{rank, region_space, stands, window_region}
+use Rattle.settle_spec.specs.Items.{Item, Placed, Placing, AllPlaced, Lacks, are_placed, place_all, taken_by, has_of, holds, items_on, nothing, window_around, new_window, stays, taken_on}
+use Rattle.settle_spec.specs.Places.{placed_of, place_among, placed_range, root_ranges, window_ranges, ranges_for, space_items, taken_at, placing_on, first_lack, root_lack, lacking_on}
 use Rattle.settle_spec.specs.PlacingLaws.{AreApart, ArePlaced}
 use Rattle.settle_spec.specs.WindowLaws.{CanBeIn}
 use Rattle.settle_spec.proofs.BridgeOver.{over_is}
-use Rattle.settle_spec.proofs.Buses.{places_by, roots_are_one}
-use Rattle.settle_spec.proofs.FirstSpot.{apart_gives, spot_gives}
+use Rattle.settle_spec.proofs.Buses.{places_by, placing_by_bus, roots_are_one}
+use Rattle.settle_spec.proofs.FirstSpot.{spot_gives}
 use Rattle.settle_spec.proofs.ItemsBehind.{items_are_behind}
-use Rattle.settle_spec.proofs.Nested.{at_secondary, is_no_root, on_it}
+use Rattle.settle_spec.proofs.Nested.{on_it}
 use Rattle.settle_spec.proofs.NewWindows.{window_is_around}
 use Rattle.settle_spec.proofs.Placed.{are_placed as placed_are}
 use Rattle.settle_spec.proofs.Room.{window_has_room}
 use Rattle.settle_laws.specs.PlacesLaws.{CanSettle}
-use Rattle.settle_laws.proofs.Anew.{none_stays, placed_anew}
+use Rattle.stand_laws.proofs.Holding.{items_same}
+use Rattle.stand_laws.proofs.Standing.{part_of}
 use Rattle.settle_laws.proofs.Finding.{found, is_found}
+use Rattle.settle_laws.proofs.HeaderParts.{window_of}
 use Rattle.settle_laws.proofs.ItemForms.{item_by, items_are, window_in, item_power, new_window_power, space_items_are, item_positive, same_rank}
-use Rattle.settle_laws.proofs.Outside.{IsOutside, same_outside, with_taken, placed_after, with_taken_is}
+use Rattle.settle_laws.proofs.Kept.{IsTaken, taken_is, is_taken, at_is, is_at, in_regions, holding, stays_holds, stays_stands, stays_part, stand_apart, lie_apart, outside_within, off_roots, window_ranks, window_listed, stays_over, over_stays, within_over}
+use Rattle.settle_laws.proofs.Outside.{IsAlikeIn, IsOutside, same_outside, with_taken, placed_after, with_taken_is, with_taken_keeps}
+use Rattle.settle_laws.proofs.PartClasses.{space_of_class}
 use Rattle.settle_laws.proofs.Powers.{below_greatest, multiple_below}
 
 -- all is placed, at these places
@@ -102,7 +108,7 @@ module _ (q : Request) (s : System) (can : CanSettle q s) where
   pub record IsPlacedBus (space : Space) (bus : ℕ) : Type 0 where
     pub placed : List Placed
     pub is : placing_on q s space bus ≡ AllPlaced placed
-    pub are : ArePlaced (ranges_for q s (places space)) [] (space_items q s space bus) placed
+    pub are : ArePlaced (ranges_for q s (places space)) (taken_at q s space bus) (space_items q s space bus) placed
 
   pub bus_placed : (space : Space) (bus : ℕ) → bus < 256 → are_placed (placing_on q s space bus) ≡ true → IsPlacedBus space bus
   bus_placed space bus low done =
@@ -110,7 +116,7 @@ module _ (q : Request) (s : System) (can : CanSettle q s) where
       record {
         placed = list.0;
         is = list.1;
-        are = placed_are (ranges_for q s (places space)) [] (space_items q s space bus) list.0 (item_positive q s space bus) (sym (placed_anew q s can.anew can.system can.nested space bus low) ∙ list.1);
+        are = placed_are (ranges_for q s (places space)) (taken_at q s space bus) (space_items q s space bus) list.0 (item_positive q s space bus) (sym (placing_by_bus q s can.system can.nested space bus low) ∙ list.1);
       }
 
   -- the place of an item of such a bus
@@ -138,6 +144,62 @@ module _ (q : Request) (s : System) (can : CanSettle q s) where
         item = same_rank q s can.system space bus one.0.item (space_items_are q s space bus one.0.item own) f p listed there (eqb-true (rank one.0.item.region) (rank r) is.1);
       }
 
+  -- ---- where parts of such a bus end
+
+  -- what stays has its own addresses, and what is placed has those of its place
+  pub data EndsIn (placed : List Placed) (r : Region) (t : Range) : Type 0 where
+    Keeps : (keeps : stays q s r ≡ true) → (is : addresses r ≡ t) → EndsIn placed r t
+    Gets : (moves : stays q s r ≡ false) → (x : Placed) → (shown : place_among r placed ≡ Some x) → (has : Contains placed x) → (of : x.item.region ≡ r) → (is : taken_by x.item x.at ≡ t) → EndsIn placed r t
+
+  -- a part beside a bus, of a space
+  pub record IsBeside (space : Space) (bus : ℕ) (r : Region) : Type 0 where
+    pub listed : Contains s r.function
+    pub there : Contains (header_parts r.function) r.part
+    pub beside : are_siblings q.roots bus r.function.slot.bus ≡ true
+    pub at : region_space r ≡ space
+
+  pub kept_there : (space : Space) (bus : ℕ) (r : Region) → IsBeside space bus r → stays q s r ≡ true → Contains (taken_at q s space bus) (addresses r)
+  kept_there space bus r is keeps =
+      is_at q s space bus (addresses r) record {
+        of = r;
+        listed = in_regions q s r.function r.part is.listed is.there (stays_part q s can.system can.nested r is.listed keeps);
+        beside = is.beside;
+        at = is.at;
+        kept = keeps;
+        is = refl;
+      }
+
+  -- what is placed is apart from what is taken
+  off_taken : (space : Space) (bus : ℕ) (b : IsPlacedBus space bus) (x : Placed) (t : Range) → Contains b.placed x → Contains (taken_at q s space bus) t → LieApart (taken_by x.item x.at) t
+  off_taken space bus b x t has taken =
+      let own = b.are.each x has in
+      let spot = (and_parts (is_spot own.0.first (taken_at q s space bus) x.item.extent x.at) (ends_in own.0 x.item.extent x.at) own.2).0 in
+      (spot_gives own.0.first (taken_at q s space bus) x.item.extent x.at spot).free t taken
+
+  apart_swap : (r t : Range) → LieApart r t → LieApart t r
+  apart_swap r t (inl under) = inr under
+  apart_swap r t (inr over) = inl over
+
+  pub end_apart : (space : Space) (bus : ℕ) (b : IsPlacedBus space bus) (r u : Region) (t v : Range) → IsBeside space bus r → IsBeside space bus u → (rank r ≡ rank u → ⊥) → EndsIn b.placed r t → EndsIn b.placed u v → LieApart t v
+  end_apart space bus b r u t v is_r is_u differ (Keeps keeps_r at_r) (Keeps keeps_u at_u) =
+      let part_r = stays_part q s can.system can.nested r is_r.listed keeps_r in
+      let part_u = stays_part q s can.system can.nested u is_u.listed keeps_u in
+      subst (λ w. LieApart w v) at_r (subst (LieApart (addresses r)) at_u
+      (stand_apart q s can.system can.nested bus r u (in_regions q s r.function r.part is_r.listed is_r.there part_r) (in_regions q s u.function u.part is_u.listed is_u.there part_u)
+      (stays_stands q s can.system can.nested r is_r.listed keeps_r) (stays_stands q s can.system can.nested u is_u.listed keeps_u) is_r.beside is_u.beside (is_r.at ∙ sym is_u.at) differ))
+  end_apart space bus b r u t v is_r is_u differ (Keeps keeps at_r) (Gets moves y shown has of at_u) =
+      subst (λ w. LieApart w v) at_r (subst (LieApart (addresses r)) at_u
+      (apart_swap (taken_by y.item y.at) (addresses r) (off_taken space bus b y (addresses r) has (kept_there space bus r is_r keeps))))
+  end_apart space bus b r u t v is_r is_u differ (Gets moves x shown has of at_r) (Keeps keeps at_u) =
+      subst (λ w. LieApart w v) at_r (subst (LieApart (taken_by x.item x.at)) at_u (off_taken space bus b x (addresses u) has (kept_there space bus u is_u keeps)))
+  end_apart space bus b r u t v is_r is_u differ (Gets moves_x x shown_x has_x of_x at_r) (Gets moves_y y shown_y has_y of_y at_u) =
+      subst (λ w. LieApart w v) at_r (subst (LieApart (taken_by x.item x.at)) at_u
+      (elim (pairs_either AreApart b.placed b.are.apart x y has_x has_y) [
+        | inl same ↦ absurd (differ (ap rank (sym of_x ∙ ap (λ (z : Placed). z.item.region) same ∙ of_y)))
+        | inr (inl apart) ↦ lie_apart (taken_by x.item x.at) (taken_by y.item y.at) apart
+        | inr (inr apart) ↦ apart_swap (taken_by y.item y.at) (taken_by x.item x.at) (lie_apart (taken_by y.item y.at) (taken_by x.item x.at) apart)
+      ]))
+
   -- ---- the bus behind a bridge whose own bus is placed
 
   module _ (space : Space) (b : Function) (listed : Contains s b) (bridge : is_bridge b ≡ true) (over : IsPlacedBus space b.slot.bus) where
@@ -147,154 +209,286 @@ module _ (q : Request) (s : System) (can : CanSettle q s) where
     abbrev ranges : Item → List Range
     ranges = ranges_for q s (places space)
 
-    pub off_roots : is_root q.roots bus ≡ false
-    off_roots = false_from_ne_true (is_root q.roots bus) (is_no_root q.roots s can.system can.nested b bus listed bridge (at_secondary q.roots s can.system can.nested b bus listed bridge refl))
+    abbrev taken : List Range
+    taken = taken_at q s space bus
 
-    module _ (c : WindowKind) (of_space_c : window_space c ≡ space) (has : has_of q s c b ≡ true) where
-      pub window_place : HasPlace space b (Window c) over.placed
-      window_place =
-          place_of space b.slot.bus over b (Window c) listed bridge
-          (subst (λ sp. Contains (space_items q s sp b.slot.bus) (item_by (new_window q s) c b (Window c))) of_space_c
-          (in_space c b.slot.bus (item_by (new_window q s) c b (Window c))
-          (window_in q s (new_window q s) c (stays q s) b.slot.bus (none_stays q s can.anew) b listed (beside_itself b.slot.bus) bridge has)))
+    on_bus : (n : ℕ) → are_siblings q.roots bus n ≡ true → bus ≡ n
+    on_bus n beside = on_it q.roots s can.system can.nested b n listed bridge beside
 
-      abbrev pub window_range : Range
-      window_range = taken_by window_place.at.item window_place.at.at
+    window_beside : (c : WindowKind) → window_space c ≡ space → IsBeside space b.slot.bus (window_region c b)
+    window_beside c of = record { listed = listed; there = window_of b c; beside = beside_itself b.slot.bus; at = of }
 
-      -- the window's place is lawful
-      pub record IsLawfulPlace : Type 0 where
-        pub multiple : window_place.at.at % (new_window q s c b).alignment ≡ 0
-        pub below : ((new_window q s c b).wide ≡ true) ⊎ (window_place.at.at + ((new_window q s c b).size - 1) ≤ 0xffff_ffff)
+    -- the range that an item of a class has, and off what all of them have room in it
+    pub record HasRange (c : WindowKind) : Type 0 where
+      pub range : Range
+      pub ends : EndsIn over.placed (window_region c b) range
+      pub shown : window_ranges q s (places space) c (Some b) ≡ range ∷ []
+      pub off : List Range
+      pub room : are_placed (place_all (λ i. range ∷ []) off (items c bus)) ≡ true
+      pub to : IsAlikeIn range taken off
+      pub back : IsAlikeIn range off taken
 
-      pub lawful_place : IsLawfulPlace
-      lawful_place =
-          let x = window_place.at in
-          let own = over.are.each x window_place.listed in
-          let e = x.item.extent in
-          let same : e ≡ new_window q s c b = ap (λ (i : Item). i.extent) window_place.item in
-          let parts = and_parts (is_spot own.0.first [] e x.at) (ends_in own.0 e x.at) own.2 in
-          let free = spot_gives own.0.first [] e x.at parts.0 in
-          let end = and_parts (nat_le (x.at + (e.size - 1)) own.0.last) (e.wide || nat_le (x.at + (e.size - 1)) 0xffff_ffff) parts.1 in
-          record {
-            multiple = ap (λ (d : Extent). x.at % d.alignment) (sym same) ∙ free.multiple;
-            below = elim (or_cases e.wide (nat_le (x.at + (e.size - 1)) 0xffff_ffff) end.1) [
-              | inl wide ↦ inl (ap (λ (d : Extent). d.wide) (sym same) ∙ wide)
-              | inr low ↦ inr (subst (λ (d : Extent). x.at + (d.size - 1) ≤ 0xffff_ffff) same (leb-true (x.at + (e.size - 1)) 0xffff_ffff low))
+    -- ---- a window that stays
+
+    module _ (c : WindowKind) (of : window_space c ≡ space) (keeps : stays q s (window_region c b) ≡ true) where
+      abbrev kept_range : Range
+      kept_range = addresses (window_region c b)
+
+      abbrev holding_on : List Range
+      holding_on = taken_on q s c (holds q s) bus
+
+      stays_there : (t : Region) → Contains s t.function → are_siblings q.roots bus t.function.slot.bus ≡ true → class_in q s t.function t.part ≡ c → stays q s t ≡ holds q s t
+      stays_there t in_t beside class =
+          stays_over q s can.system can.nested b listed bridge t in_t (on_bus t.function.slot.bus beside)
+          ∙ ap (λ k. holds q s t && stays q s (window_region k b)) class ∙ ap (λ x. holds q s t && x) keeps ∙ and_true (holds q s t)
+        where
+          and_true : (x : Bool) → (x && true) ≡ x
+          and_true true = refl
+          and_true false = refl
+
+      kept_window : stands q s (window_region c b) ≡ true
+      kept_window = stays_stands q s can.system can.nested (window_region c b) listed keeps
+
+      -- what holds there in the other class is outside
+      of_other : (t : Range) (is : IsTaken q s (window_space c) (holds q s) bus t) → same_class c (class_in q s is.of.function is.of.part) ≡ false → IsOutside kept_range t
+      of_other t is differ =
+          let r = is.of in
+          let in_r = (part_of q s r is.listed).listed in
+          let d = class_in q s r.function r.part in
+          let on = on_bus r.function.slot.bus is.beside in
+          let stands_r = (holding q s can.system can.nested r in_r is.kept).stands in
+          let within = within_over q s can.system can.nested b listed bridge r is.listed on stands_r in
+          subst (IsOutside kept_range) is.is
+          (outside_within kept_range (addresses (window_region d b)) (addresses r)
+          (stand_apart q s can.system can.nested b.slot.bus (window_region c b) (window_region d b)
+          (window_listed q s can.system can.nested b listed bridge c kept_window) (window_listed q s can.system can.nested b listed bridge d within.1) kept_window within.1
+          (beside_itself b.slot.bus) (beside_itself b.slot.bus) (sym is.at ∙ sym (space_of_class q s r.function r.part))
+          (λ e. both_ways (same_class c d) differ (ap (same_class c) (sym (window_ranks q s can.system can.nested b listed bridge c d e)) ∙ class_itself c))) within.0)
+
+      kept_has_range : HasRange c
+      kept_has_range = record {
+        range = kept_range;
+        ends = Keeps keeps refl;
+        shown = ap (λ t. cond t (kept_range ∷ []) (placed_range (place_among (window_region c b) (places space b.slot.bus)))) keeps;
+        off = holding_on;
+        room =
+            ap (λ xs. are_placed (place_all (λ i. kept_range ∷ []) holding_on xs)) (items_same q s (stays q s) (holds q s) bus c stays_there)
+            ∙ (holding q s can.system can.nested (window_region c b) listed (stays_holds q s (window_region c b) keeps)).room;
+        to = λ t has.
+            let is = at_is q s space bus t has in
+            inl (is_taken q s c (holds q s) bus t record { of = is.of; listed = is.listed; beside = is.beside; at = is.at ∙ sym of; kept = stays_holds q s is.of is.kept; is = is.is });
+        back = λ t has.
+            let is : IsTaken q s (window_space c) (holds q s) bus t = taken_is q s c (holds q s) bus t has in
+            elim (cases_Bool (same_class c (class_in q s is.of.function is.of.part))) [
+              | inl same ↦
+                  let keeps_it = stays_there is.of (part_of q s is.of is.listed).listed is.beside (same_class_is c (class_in q s is.of.function is.of.part) same) ∙ is.kept in
+                  inl (is_at q s space bus t record { of = is.of; listed = is.listed; beside = is.beside; at = is.at ∙ of; kept = keeps_it; is = is.is })
+              | inr differ ↦ inr (of_other t is differ)
             ];
-          }
+      }
 
-      pub around : new_window q s c b ≡ window_around c b (items c bus)
-      around =
-          window_is_around q s c can.system can.nested b listed bridge
-          ∙ ap (λ keeps. window_around c b (items_on q s c keeps (new_window q s c) bus)) (let e : nothing ≡ stays q s = fun_ext (λ r. sym (none_stays q s can.anew r)) in e)
+    -- ---- a window that gets a place
 
-      -- each item behind can be in the window
-      can_be : (i : Item) → Contains (items c bus) i → CanBeIn window_place.at.at (new_window q s c b).size i
-      can_be i has_i =
-          let law = lawful_place in
-          let extents = map (λ (j : Item). j.extent) (items c bus) in
-          let in_e : Contains extents i.extent = in_map_from (λ (j : Item). j.extent) (items c bus) i has_i in
-          let less : i.extent.alignment ≤ greatest (map (λ (e : Extent). e.alignment) extents) = below_greatest (map (λ (e : Extent). e.alignment) extents) i.extent.alignment (in_map_from (λ (e : Extent). e.alignment) extents i.extent in_e) in
-          let whole : (new_window q s c b).alignment ≡ max (page_size c) (greatest (map (λ (e : Extent). e.alignment) extents)) = ap (λ (e : Extent). e.alignment) around in
-          let power = item_power q s (new_window q s) c bus i (new_window_power q s c) (items_are q s (new_window q s) c (stays q s) bus i has_i) in
-          record {
-            alignment = power_pos i.extent.alignment power;
-            multiple = multiple_below window_place.at.at (new_window q s c b).alignment i.extent.alignment (new_window_power q s c b) power (omega (arith, less, whole)) law.multiple;
-            below = elim law.below [
-              | inl wide ↦ inl (all_gives (λ (e : Extent). e.wide) extents i.extent (and_parts (same_class c PrefetchWindow && is_wide_window PrefetchWindow b.probe) (list_all (λ (e : Extent). e.wide) extents) (sym (ap (λ (e : Extent). e.wide) around) ∙ wide)).1 in_e)
-              | inr low ↦ inr low
-            ];
-          }
+    module _ (c : WindowKind) (of : window_space c ≡ space) (moves : stays q s (window_region c b) ≡ false) where
+      none_there : (t : Region) → Contains s t.function → are_siblings q.roots bus t.function.slot.bus ≡ true → class_in q s t.function t.part ≡ c → stays q s t ≡ nothing t
+      none_there t in_t beside class =
+          stays_over q s can.system can.nested b listed bridge t in_t (on_bus t.function.slot.bus beside)
+          ∙ ap (λ k. holds q s t && stays q s (window_region k b)) class ∙ and_right (holds q s t) (stays q s (window_region c b)) moves
 
-      has_room : are_placed (place_all (λ i. window_range ∷ []) [] (items c bus)) ≡ true
-      has_room =
-          ap (λ n. are_placed (place_all (λ i. range_from window_place.at.at n ∷ []) [] (items c bus))) (ap (λ (i : Item). i.extent.size) window_place.item)
-          ∙ window_has_room (page_size c) (items c bus) window_place.at.at (new_window q s c b).size (page_some c) (ap (λ (e : Extent). e.size) around) can_be
+      items_all : items c bus ≡ items_on q s c nothing (new_window q s c) bus
+      items_all = items_same q s (stays q s) nothing bus c none_there
 
-      -- an item of the class has the window's addresses
-      pub has_window_ranges : (i : Item) → i.class ≡ c → i.region.function.slot.bus ≡ bus → ranges i ≡ window_range ∷ []
-      has_window_ranges i class at =
-          let on = i.region.function.slot.bus in
-          let D = places space in
-          ap (λ t. cond t (root_ranges q i) (window_ranges q s D i.class (bridge_over s on))) (ap (is_root q.roots) at ∙ off_roots)
-          ∙ ap (λ k. window_ranges q s D k (bridge_over s on)) class
-          ∙ ap (λ n. window_ranges q s D c (bridge_over s n)) at
-          ∙ ap (window_ranges q s D c) (over_is q.roots s can.system can.nested bus b (listed, bridge, refl))
-          ∙ ap (λ t. cond t (addresses (window_region c b) ∷ []) (placed_range (place_among (window_region c b) (D b.slot.bus)))) (none_stays q s can.anew (window_region c b))
-          ∙ ap (λ p. placed_range (place_among (window_region c b) (placed_of p))) over.is
-          ∙ ap placed_range window_place.found_there
+      -- nothing of the class behind, so no item
+      none_behind : has_of q s c b ≡ false → items c bus ≡ []
+      none_behind none = items_all ∙ nothing_long (items_on q s c nothing (new_window q s c) bus) (sym (items_are_behind q s c (new_window q s c) can.system can.nested b listed bridge) ∙ none)
 
-      pub item_ranges : (i : Item) → Contains (items c bus) i → ranges i ≡ window_range ∷ []
-      item_ranges i has_i =
-          let is = items_are q s (new_window q s) c (stays q s) bus i has_i in
-          has_window_ranges i (ap (λ (j : Item). j.class) (sym is.is)) (sym (on_it q.roots s can.system can.nested b i.region.function.slot.bus listed bridge
-          (ap (λ (j : Item). are_siblings q.roots bus j.region.function.slot.bus) (sym is.is) ∙ is.beside)))
+      module _ (has : has_of q s c b ≡ true) where
+        window_place : HasPlace space b (Window c) over.placed
+        window_place =
+            place_of space b.slot.bus over b (Window c) listed bridge
+            (subst (λ sp. Contains (space_items q s sp b.slot.bus) (item_by (new_window q s) c b (Window c))) of
+            (in_space c b.slot.bus (item_by (new_window q s) c b (Window c))
+            (window_in q s (new_window q s) c (stays q s) b.slot.bus b listed (beside_itself b.slot.bus) bridge has moves)))
+
+        abbrev new_range : Range
+        new_range = taken_by window_place.at.item window_place.at.at
+
+        -- the window's place is lawful
+        record IsLawfulPlace : Type 0 where
+          multiple : window_place.at.at % (new_window q s c b).alignment ≡ 0
+          below : ((new_window q s c b).wide ≡ true) ⊎ (window_place.at.at + ((new_window q s c b).size - 1) ≤ 0xffff_ffff)
+
+        lawful_place : IsLawfulPlace
+        lawful_place =
+            let x = window_place.at in
+            let own = over.are.each x window_place.listed in
+            let e = x.item.extent in
+            let same : e ≡ new_window q s c b = ap (λ (i : Item). i.extent) window_place.item in
+            let parts = and_parts (is_spot own.0.first (taken_at q s space b.slot.bus) e x.at) (ends_in own.0 e x.at) own.2 in
+            let free = spot_gives own.0.first (taken_at q s space b.slot.bus) e x.at parts.0 in
+            let end = and_parts (nat_le (x.at + (e.size - 1)) own.0.last) (e.wide || nat_le (x.at + (e.size - 1)) 0xffff_ffff) parts.1 in
+            record {
+              multiple = ap (λ (d : Extent). x.at % d.alignment) (sym same) ∙ free.multiple;
+              below = elim (or_cases e.wide (nat_le (x.at + (e.size - 1)) 0xffff_ffff) end.1) [
+                | inl wide ↦ inl (ap (λ (d : Extent). d.wide) (sym same) ∙ wide)
+                | inr low ↦ inr (subst (λ (d : Extent). x.at + (d.size - 1) ≤ 0xffff_ffff) same (leb-true (x.at + (e.size - 1)) 0xffff_ffff low))
+              ];
+            }
+
+        around : new_window q s c b ≡ window_around c b (items c bus)
+        around = window_is_around q s c can.system can.nested b listed bridge ∙ ap (window_around c b) (sym items_all)
+
+        -- each item behind can be in the window
+        can_be : (i : Item) → Contains (items c bus) i → CanBeIn window_place.at.at (new_window q s c b).size i
+        can_be i has_i =
+            let law = lawful_place in
+            let extents = map (λ (j : Item). j.extent) (items c bus) in
+            let in_e : Contains extents i.extent = in_map_from (λ (j : Item). j.extent) (items c bus) i has_i in
+            let less : i.extent.alignment ≤ greatest (map (λ (e : Extent). e.alignment) extents) = below_greatest (map (λ (e : Extent). e.alignment) extents) i.extent.alignment (in_map_from (λ (e : Extent). e.alignment) extents i.extent in_e) in
+            let whole : (new_window q s c b).alignment ≡ max (page_size c) (greatest (map (λ (e : Extent). e.alignment) extents)) = ap (λ (e : Extent). e.alignment) around in
+            let power = item_power q s (new_window q s) c bus i (new_window_power q s c) (items_are q s (new_window q s) c (stays q s) bus i has_i) in
+            record {
+              alignment = power_pos i.extent.alignment power;
+              multiple = multiple_below window_place.at.at (new_window q s c b).alignment i.extent.alignment (new_window_power q s c b) power (omega (arith, less, whole)) law.multiple;
+              below = elim law.below [
+                | inl wide ↦ inl (all_gives (λ (e : Extent). e.wide) extents i.extent (and_parts (same_class c PrefetchWindow && is_wide_window PrefetchWindow b.probe) (list_all (λ (e : Extent). e.wide) extents) (sym (ap (λ (e : Extent). e.wide) around) ∙ wide)).1 in_e)
+                | inr low ↦ inr low
+              ];
+            }
+
+        new_room : are_placed (place_all (λ i. new_range ∷ []) [] (items c bus)) ≡ true
+        new_room =
+            ap (λ n. are_placed (place_all (λ i. range_from window_place.at.at n ∷ []) [] (items c bus))) (ap (λ (i : Item). i.extent.size) window_place.item)
+            ∙ window_has_room (page_size c) (items c bus) window_place.at.at (new_window q s c b).size (page_some c) (ap (λ (e : Extent). e.size) around) can_be
+
+        new_ends : EndsIn over.placed (window_region c b) new_range
+        new_ends = Gets moves window_place.at window_place.found_there window_place.listed (ap (λ (i : Item). i.region) window_place.item) refl
+
+        -- what stays behind is in the other window
+        other_stays : (t : Range) → IsTaken q s space (stays q s) bus t → IsOutside new_range t
+        other_stays t is =
+            let r = is.of in
+            let in_r = (part_of q s r is.listed).listed in
+            let d = class_in q s r.function r.part in
+            let on = on_bus r.function.slot.bus is.beside in
+            let keeps_d = over_stays q s can.system can.nested b listed bridge r in_r on is.kept in
+            let of_d : window_space d ≡ space = space_of_class q s r.function r.part ∙ is.at in
+            let within = within_over q s can.system can.nested b listed bridge r is.listed on (stays_stands q s can.system can.nested r in_r is.kept) in
+            subst (IsOutside new_range) is.is
+            (outside_within new_range (addresses (window_region d b)) (addresses r)
+            (end_apart space b.slot.bus over (window_region c b) (window_region d b) new_range (addresses (window_region d b)) (window_beside c of) (window_beside d of_d)
+            (λ e. both_ways (stays q s (window_region c b)) moves (ap (λ k. stays q s (window_region k b)) (window_ranks q s can.system can.nested b listed bridge c d e) ∙ keeps_d)) new_ends (Keeps keeps_d refl)) within.0)
+
+        new_has_range : HasRange c
+        new_has_range = record {
+          range = new_range;
+          ends = new_ends;
+          shown =
+              ap (λ t. cond t (addresses (window_region c b) ∷ []) (placed_range (place_among (window_region c b) (places space b.slot.bus)))) moves
+              ∙ ap (λ p. placed_range (place_among (window_region c b) (placed_of p))) over.is
+              ∙ ap placed_range window_place.found_there;
+          off = [];
+          room = new_room;
+          to = λ t has_t. inr (other_stays t (at_is q s space bus t has_t));
+          back = λ t has_t. absurd (in_nil t has_t);
+        }
+
+    -- ---- either
+
+    pub range_or_none : (c : WindowKind) → window_space c ≡ space → (items c bus ≡ []) ⊎ HasRange c
+    range_or_none c of = elim (cases_Bool (stays q s (window_region c b))) [
+      | inl keeps ↦ inr (kept_has_range c of keeps)
+      | inr moves ↦ elim (cases_Bool (has_of q s c b)) [
+        | inl has ↦ inr (new_has_range c of moves has)
+        | inr none ↦ inl (none_behind c of moves none)
+      ]
+    ]
+
+    -- an item of the class has the window's addresses
+    pub range_of_item : (c : WindowKind) (h : HasRange c) (i : Item) → i.class ≡ c → i.region.function.slot.bus ≡ bus → ranges i ≡ h.range ∷ []
+    range_of_item c h i class at =
+        let on = i.region.function.slot.bus in
+        let D = places space in
+        ap (λ t. cond t (root_ranges q i) (window_ranges q s D i.class (bridge_over s on))) (ap (is_root q.roots) at ∙ off_roots q s can.system can.nested b listed bridge)
+        ∙ ap (λ k. window_ranges q s D k (bridge_over s on)) class
+        ∙ ap (λ n. window_ranges q s D c (bridge_over s n)) at
+        ∙ ap (window_ranges q s D c) (over_is q.roots s can.system can.nested bus b (listed, bridge, refl))
+        ∙ h.shown
+
+    item_ranges : (c : WindowKind) (h : HasRange c) (i : Item) → Contains (items c bus) i → ranges i ≡ h.range ∷ []
+    item_ranges c h i has_i =
+        let is = items_are q s (new_window q s) c (stays q s) bus i has_i in
+        range_of_item c h i (ap (λ (j : Item). j.class) (sym is.is)) (sym (on_bus i.region.function.slot.bus (ap (λ (j : Item). are_siblings q.roots bus j.region.function.slot.bus) (sym is.is) ∙ is.beside)))
 
     positive : (c : WindowKind) (i : Item) → Contains (items c bus) i → 0 < i.extent.alignment
     positive c i has_i = power_pos i.extent.alignment (item_power q s (new_window q s) c bus i (new_window_power q s c) (items_are q s (new_window q s) c (stays q s) bus i has_i))
 
-    -- there are items of a class exactly where there is something of it behind
-    pub long : (c : WindowKind) → has_of q s c b ≡ nat_lt 0 (length (items c bus))
-    long c =
-        items_are_behind q s c (new_window q s c) can.system can.nested b listed bridge
-        ∙ ap (λ keeps. nat_lt 0 (length (items_on q s c keeps (new_window q s c) bus))) (let e : nothing ≡ stays q s = fun_ext (λ r. sym (none_stays q s can.anew r)) in e)
+    -- those of one class are placed, whatever else is taken outside the window
+    class_placed : (c : WindowKind) → (items c bus ≡ []) ⊎ HasRange c → (xs : List Range) → ((h : HasRange c) → IsAlikeIn h.range xs h.off) → ((h : HasRange c) → IsAlikeIn h.range h.off xs)
+        → are_placed (place_all ranges xs (items c bus)) ≡ true
+    class_placed c (inl none) xs to back = ap (λ is. are_placed (place_all ranges xs is)) none
+    class_placed c (inr h) xs to back =
+        ap are_placed (places_by ranges (λ i. h.range ∷ []) xs (items c bus) (item_ranges c h)
+        ∙ same_outside h.range (items c bus) xs h.off (to h) (back h) (positive c))
+        ∙ h.room
 
-    -- those of one class are placed, whatever is taken outside the window
-    class_placed : (c : WindowKind) → window_space c ≡ space → (taken : List Range) → ((has : has_of q s c b ≡ true) → (of : window_space c ≡ space) → (t : Range) → Contains taken t → IsOutside (window_range c of has) t)
-        → are_placed (place_all ranges taken (items c bus)) ≡ true
-    class_placed c of taken out = elim (cases_Bool (has_of q s c b)) [
-      | inr none ↦ ap (λ xs. are_placed (place_all ranges taken xs)) (nothing_long (items c bus) (sym (long c) ∙ none))
-      | inl has ↦
-          let r = window_range c of has in
-          ap are_placed (places_by ranges (λ i. r ∷ []) taken (items c bus) (item_ranges c of has)
-          ∙ same_outside r (items c bus) taken [] (λ t listed. inr (out has of t listed)) (λ t listed. absurd (in_nil t listed)) (positive c))
-          ∙ has_room c of has
-    ]
-
-    -- the windows of the two classes of memory are apart
-    windows_apart : (m : window_space MemoryWindow ≡ space) (has_m : has_of q s MemoryWindow b ≡ true) (p : window_space PrefetchWindow ≡ space) (has_p : has_of q s PrefetchWindow b ≡ true)
-        → IsOutside (window_range PrefetchWindow p has_p) (window_range MemoryWindow m has_m)
-    windows_apart m has_m p has_p =
-        let x = window_place MemoryWindow m has_m in
-        let y = window_place PrefetchWindow p has_p in
-        elim (pairs_either AreApart over.placed over.are.apart x.at y.at x.listed y.listed) [
-          | inl same ↦ absurd (memory_no_prefetch (ap (λ (i : Item). i.class) (sym x.item ∙ ap (λ (z : Placed). z.item) same ∙ y.item)))
-          | inr (inl apart) ↦ elim (apart_gives x.at.item.extent.size x.at.at (taken_by y.at.item y.at.at) apart) [ inl under ↦ inl under | inr over_it ↦ inr over_it ]
-          | inr (inr apart) ↦ elim (apart_gives y.at.item.extent.size y.at.at (taken_by x.at.item x.at.at) apart) [ inl under ↦ inr under | inr over_it ↦ inl over_it ]
-        ]
+    -- the windows of two classes are apart
+    windows_apart : (c d : WindowKind) (h : HasRange c) (k : HasRange d) → window_space c ≡ space → window_space d ≡ space → (c ≡ d → ⊥) → LieApart h.range k.range
+    windows_apart c d h k of_c of_d differ =
+        end_apart space b.slot.bus over (window_region c b) (window_region d b) h.range k.range (window_beside c of_c) (window_beside d of_d)
+        (λ e. differ (window_ranks q s can.system can.nested b listed bridge c d e)) h.ends k.ends
 
     -- what is placed in a window is outside what is outside of it
-    lies_outside : (r u : Range) (e : Extent) (a : ℕ) → IsTrue (is_place u [] e a) → IsOutside r u → IsOutside r (range_from a e.size)
-    lies_outside r u e a place out =
-        let parts = and_parts (is_spot u.first [] e a) (ends_in u e a) place in
-        let from = (spot_gives u.first [] e a parts.0).from in
+    lies_outside : (r u : Range) (xs : List Range) (e : Extent) (a : ℕ) → IsTrue (is_place u xs e a) → LieApart r u → IsOutside r (range_from a e.size)
+    lies_outside r u xs e a place out =
+        let parts = and_parts (is_spot u.first xs e a) (ends_in u e a) place in
+        let from = (spot_gives u.first xs e a parts.0).from in
         let end = leb-true (a + (e.size - 1)) u.last (and_parts (nat_le (a + (e.size - 1)) u.last) (e.wide || nat_le (a + (e.size - 1)) 0xffff_ffff) parts.1).0 in
-        elim out [ inl under ↦ inl (omega (arith, under, end)) | inr above ↦ inr (omega (arith, above, from)) ]
+        elim out [ inl under ↦ inr (omega (arith, under, from)) | inr above ↦ inl (omega (arith, above, end)) ]
 
-    memory_out : (m : window_space MemoryWindow ≡ space) (placed : List Placed) → place_all ranges [] (items MemoryWindow bus) ≡ AllPlaced placed
-        → (has_p : has_of q s PrefetchWindow b ≡ true) (p : window_space PrefetchWindow ≡ space) (t : Range) → Contains (with_taken placed []) t → IsOutside (window_range PrefetchWindow p has_p) t
-    memory_out m placed is has_p p t listed_t = elim (with_taken_is placed [] t listed_t) [
-      | inl none ↦ absurd (in_nil t none)
-      | inr (x, listed_x, same) ↦
-          let are : ArePlaced ranges [] (items MemoryWindow bus) placed = placed_are ranges [] (items MemoryWindow bus) placed (positive MemoryWindow) is in
+    pub no_item : {P : Type 0} (xs : List Item) (i : Item) → Contains xs i → xs ≡ [] → P
+    no_item xs i has none = absurd (in_nil i (subst (λ ys. Contains ys i) none has))
+
+    module _ (placed : List Placed) (is : place_all ranges taken (items MemoryWindow bus) ≡ AllPlaced placed) (m : window_space MemoryWindow ≡ space) (p : window_space PrefetchWindow ≡ space) (h : HasRange PrefetchWindow) where
+      memory_out : (x : Placed) → Contains placed x → (items MemoryWindow bus ≡ []) ⊎ HasRange MemoryWindow → IsOutside h.range (taken_by x.item x.at)
+      memory_out x listed_x memory =
+          let are : ArePlaced ranges taken (items MemoryWindow bus) placed = placed_are ranges taken (items MemoryWindow bus) placed (positive MemoryWindow) is in
           let item : Contains (items MemoryWindow bus) x.item = subst (λ xs. Contains xs x.item) are.all (in_map_from (λ (y : Placed). y.item) placed x listed_x) in
-          let has_m = long MemoryWindow ∙ some_long (items MemoryWindow bus) x.item item in
-          let own = are.each x listed_x in
-          let there : window_range MemoryWindow m has_m ≡ own.0 = one_left (window_range MemoryWindow m has_m) own.0 (subst (λ rs. Contains rs own.0) (item_ranges MemoryWindow m has_m x.item item) own.1) in
-          subst (IsOutside (window_range PrefetchWindow p has_p)) same
-          (lies_outside (window_range PrefetchWindow p has_p) own.0 x.item.extent x.at own.2 (subst (IsOutside (window_range PrefetchWindow p has_p)) there (windows_apart m has_m p has_p)))
-    ]
+          elim memory [
+            | inl none ↦ no_item (items MemoryWindow bus) x.item item none
+            | inr k ↦
+                let own = are.each x listed_x in
+                let there : k.range ≡ own.0 = one_left k.range own.0 (subst (λ rs. Contains rs own.0) (item_ranges MemoryWindow k x.item item) own.1) in
+                lies_outside h.range own.0 taken x.item.extent x.at own.2 (subst (LieApart h.range) there (windows_apart PrefetchWindow MemoryWindow h k p m (λ e. memory_no_prefetch (sym e))))
+          ]
 
-    all_placed : (sp : Space) → sp ≡ space → are_placed (place_all ranges [] (space_items q s sp bus)) ≡ true
-    all_placed Io is = class_placed IoWindow is [] (λ has of t listed_t. absurd (in_nil t listed_t))
-    all_placed Memory is =
-        let plain = class_placed MemoryWindow is [] (λ has of t listed_t. absurd (in_nil t listed_t)) in
-        let list = placed_list (place_all ranges [] (items MemoryWindow bus)) plain in
-        placed_after ranges [] (items MemoryWindow bus) (items PrefetchWindow bus) list.0 list.1
-        ∙ class_placed PrefetchWindow is (with_taken list.0 []) (memory_out is list.0 list.1)
+      prefetch_to : IsAlikeIn h.range (with_taken placed taken) h.off
+      prefetch_to t has = elim (with_taken_is placed taken t has) [
+        | inl there ↦ h.to t there
+        | inr (x, listed_x, same) ↦ inr (subst (IsOutside h.range) same (memory_out x listed_x (range_or_none MemoryWindow m)))
+      ]
 
-    pub behind_placed : bus < 256 → are_placed (placing_on q s space bus) ≡ true
-    behind_placed low = ap are_placed (placed_anew q s can.anew can.system can.nested space bus low) ∙ all_placed space refl
+      prefetch_back : IsAlikeIn h.range h.off (with_taken placed taken)
+      prefetch_back t has = elim (h.back t has) [
+        | inl there ↦ inl (with_taken_keeps placed taken t there)
+        | inr out ↦ inr out
+      ]
+
+  module _ (b : Function) (listed : Contains s b) (bridge : is_bridge b ≡ true) where
+    all_placed : (space : Space) → IsPlacedBus space b.slot.bus → are_placed (place_all (ranges_for q s (places space)) (taken_at q s space (secondary b)) (space_items q s space (secondary b))) ≡ true
+    all_placed Io over =
+        class_placed Io b listed bridge over IoWindow (range_or_none Io b listed bridge over IoWindow refl) (taken_at q s Io (secondary b)) (λ h. h.to) (λ h. h.back)
+    all_placed Memory over =
+        let ranges = ranges_for q s (places Memory) in
+        let taken = taken_at q s Memory (secondary b) in
+        let plain = class_placed Memory b listed bridge over MemoryWindow (range_or_none Memory b listed bridge over MemoryWindow refl) taken (λ h. h.to) (λ h. h.back) in
+        let list = placed_list (place_all ranges taken (items MemoryWindow (secondary b))) plain in
+        placed_after ranges taken (items MemoryWindow (secondary b)) (items PrefetchWindow (secondary b)) list.0 list.1
+        ∙ class_placed Memory b listed bridge over PrefetchWindow (range_or_none Memory b listed bridge over PrefetchWindow refl) (with_taken list.0 taken)
+        (prefetch_to Memory b listed bridge over list.0 list.1 refl refl) (prefetch_back Memory b listed bridge over list.0 list.1 refl refl)
+
+    behind_placed : (space : Space) → IsPlacedBus space b.slot.bus → secondary b < 256 → are_placed (placing_on q s space (secondary b)) ≡ true
+    behind_placed space over low = ap are_placed (placing_by_bus q s can.system can.nested space (secondary b) low) ∙ all_placed space over
 
   -- ---- the roots
 
@@ -323,7 +517,7 @@ module _ (q : Request) (s : System) (can : CanSettle q s) where
         let up = order_of q.roots s can.nested b leader.listed leader.bridge in
         let over = bus_placed space b.slot.bus (low_bus b leader.listed) (placed_below n space b (omega (arith, less, up, to)) leader.listed) in
         let low = low_bus f listed in
-        subst (λ bus. are_placed (placing_on q s space bus) ≡ true) to (behind_placed space b leader.listed leader.bridge over (omega (arith, low, to)))
+        subst (λ bus. are_placed (placing_on q s space bus) ≡ true) to (behind_placed b leader.listed leader.bridge space over (omega (arith, low, to)))
   ]
 
   pub each_placed : (space : Space) (f : Function) → Contains s f → are_placed (placing_on q s space f.slot.bus) ≡ true

@@ -11,8 +11,8 @@ use Rattle.pci_spec.specs.Header.{layout, bar_count, rom_register}
 use Rattle.pci_spec.specs.Bar.{bar_at, is_io, has_bar}
 use Rattle.pci_spec.specs.Rom.{has_rom, rom_is_on}
 use Rattle.pci_spec.specs.Window.{WindowKind, has_window, is_closed, holds}
-use Rattle.pci_spec.specs.Decoded.{InRange, IsDecodable}
-use Rattle.pci_spec.specs.System.{System, Function, Space, Io, Memory, Part, Bar, Rom, Window, Claims, has_part, is_bridge, is_implemented, is_space_on, space_of, window_space, window_claims}
+use Rattle.pci_spec.specs.Decoded.{Range, InRange, IsDecodable}
+use Rattle.pci_spec.specs.System.{System, Function, Space, Io, Memory, Part, Bar, Rom, Window, Claims, has_part, is_bridge, is_implemented, is_space_on, is_window, space_of, window_space, window_claims}
 use Rattle.pci_spec.specs.Bus.{LeadsTo}
 use Rattle.pci_spec.proofs.Members.{in_map_from}
 use Rattle.pci_spec.proofs.WindowLaws.{held, window_holds_its_pages, closed_window_holds_nothing}
@@ -24,24 +24,25 @@ use Rattle.plan_spec.proofs.Planning.LaidOut.{place_of_claim}
 use Rattle.plan_spec.proofs.Planning.OtherRules.{has_rom_same}
 use Rattle.plan_spec.proofs.Planning.Registers.{register_bit}
 use Rattle.settle_spec.specs.Lists.{Request}
-use Rattle.settle_spec.specs.Parts.{is_left, is_part, has_left, header_bars, class_in}
+use Rattle.settle_spec.specs.Parts.{Region, addresses, is_left, is_part, has_left, header_bars, class_in}
 use Rattle.settle_spec.specs.Stands.{window_region}
-use Rattle.settle_spec.specs.Items.{Placed, taken_by}
+use Rattle.settle_spec.specs.Items.{Placed, stays, taken_by}
 use Rattle.settle_spec.specs.Places.{new_place}
 use Rattle.settle_spec.specs.Registers.{settled, settled_image, settled_function, settled_command, is_enabled_in}
-use Rattle.settle_laws.specs.PlacesLaws.{CanSettle}
+use Rattle.settle_laws.specs.PlacesLaws.{CanSettle, place_range, end_range}
 use Rattle.settle_laws.proofs.Commands.{on_settled, enabled_unleft}
-use Rattle.settle_laws.proofs.Fits.{decodable, window_there, window_has}
-use Rattle.settle_laws.proofs.HeaderParts.{rom_at_end}
-use Rattle.settle_laws.proofs.InWindows.{in_window}
+use Rattle.settle_laws.proofs.Fits.{was, decodable, window_there, window_has}
+use Rattle.settle_laws.proofs.HeaderParts.{header_of, rom_at_end}
+use Rattle.settle_laws.proofs.InWindows.{kept_range, placed_range, place_of_range, ends_nowhere, in_window}
 use Rattle.settle_laws.proofs.Held.{bar_listed}
-use Rattle.settle_laws.proofs.Lives.{serves, enabled_over}
-use Rattle.settle_laws.proofs.Moves.{was, moves, new_profile}
+use Rattle.settle_laws.proofs.Moves.{moves, new_profile}
 use Rattle.settle_laws.proofs.Numbers.{with_elsewhere}
-use Rattle.settle_laws.proofs.PartPlaces.{part_placed, space_of_class}
+use Rattle.settle_laws.proofs.PartClasses.{space_of_class}
+use Rattle.settle_laws.proofs.PartPlaces.{part_placed}
 use Rattle.settle_laws.proofs.SettledMoved.{new_image, new_command, kind_stays}
 use Rattle.settle_laws.proofs.Shown.{rom_stays_switched}
-use Rattle.settle_laws.proofs.ShownParts.{listed_bar, listed_rom, own_placed, bar_shown, rom_shown, window_shown, window_opened, window_closed}
+use Rattle.settle_laws.proofs.ShownKept.{range_stays, open_stays}
+use Rattle.settle_laws.proofs.ShownParts.{own_placed, bar_shown, rom_shown, window_shown, window_opened, window_closed}
 
 module _ (q : Request) (s : System) (can : CanSettle q s) where
   -- what Command enables once it is settled
@@ -54,48 +55,75 @@ module _ (q : Request) (s : System) (can : CanSettle q s) where
   pub new_decodable : (f : Function) → Contains s f → IsDecodable (settled_function q s f)
   new_decodable f listed = All-contains IsDecodable (settled q s) (settled_function q s f) (profile_decodes q.roots (settled q s) (new_profile q s can)) (in_map_from (settled_function q s) s f listed)
 
-  -- ---- what is claimed has a place
+  -- ---- where parts end, they are shown
 
-  pub record HasNewPlace (f : Function) (p : Part) : Type 0 where
-    pub there : has_part f p ≡ true
-    pub at : Placed
-    pub placed : new_place q s record { function = f; part = p } ≡ Some at
-    pub shown : range_of (settled_function q s f) p ≡ taken_by at.item at.at
+  -- every part that ends somewhere shows it
+  pub part_shown : (f : Function) (p : Part) → Contains s f → has_part f p ≡ true → (t : Range) → end_range q s record { function = f; part = p } ≡ Some t → range_of (settled_function q s f) p ≡ t
+  part_shown f p listed there t ends = elim (cases_Bool (stays q s r)) [
+    | inl keeps ↦ range_stays q s can f listed p there keeps ∙ (let is : Some (addresses r) ≡ Some t = sym (kept_range q s r keeps) ∙ ends in cc)
+    | inr moves ↦
+        let x = place_of_range q s (new_place q s r) t (sym (placed_range q s r moves) ∙ ends) in
+        by p there x.0 x.1 ∙ x.2
+  ]
+    where
+      r : Region
+      r = record { function = f; part = p }
 
-  -- every part that has a place shows it
-  pub part_shown : (f : Function) (p : Part) → Contains s f → has_part f p ≡ true → (x : Placed) → new_place q s record { function = f; part = p } ≡ Some x → range_of (settled_function q s f) p ≡ taken_by x.item x.at
-  part_shown f (Bar n) listed there x placed =
-      let part = own_placed q s can f listed (Bar n) refl there x placed in
-      bar_shown q s can f listed n (ltb-true n (bar_count (layout f.image)) there) (and_parts (has_bar f.probe n) (not (is_left q s f (Bar n))) part).0 x placed
-  part_shown f Rom listed there x placed = rom_shown q s can f listed (and_parts (has_rom f.image f.probe) (rom_is_on f.image) (own_placed q s can f listed Rom refl there x placed)).0 x placed
-  part_shown f (Window kind) listed there x placed = window_shown q s can f listed kind there x placed
+      by : (p : Part) → has_part f p ≡ true → (x : Placed) → new_place q s record { function = f; part = p } ≡ Some x → range_of (settled_function q s f) p ≡ taken_by x.item x.at
+      by (Bar n) there x placed =
+          let part = own_placed q s can f listed (Bar n) refl there x placed in
+          bar_shown q s can f listed n (ltb-true n (bar_count (layout f.image)) there) (and_parts (has_bar f.probe n) (not (is_left q s f (Bar n))) part).0 x placed
+      by Rom there x placed = rom_shown q s can f listed (and_parts (has_rom f.image f.probe) (rom_is_on f.image) (own_placed q s can f listed Rom refl there x placed)).0 x placed
+      by (Window kind) there x placed = window_shown q s can f listed kind there x placed
 
-  pub placed_opens : (b : Function) (kind : WindowKind) → Contains s b → is_bridge b ≡ true → (x : Placed) → new_place q s (window_region kind b) ≡ Some x → is_open (settled_function q s b) kind ≡ true
+  placed_opens : (b : Function) (kind : WindowKind) → Contains s b → is_bridge b ≡ true → (x : Placed) → new_place q s (window_region kind b) ≡ Some x → is_open (settled_function q s b) kind ≡ true
   placed_opens b kind listed bridge x placed =
       let g = settled_function q s b in
       and_from (is_bridge g && has_window kind b.probe) (not (is_closed kind g.image))
       (and_from (is_bridge g) (has_window kind b.probe) (bridge_stays b listed ∙ bridge) (window_there q s can kind b listed bridge (window_has q s can b kind listed bridge x placed)))
       (not_from_false (is_closed kind g.image) (window_opened q s can b listed kind bridge x placed))
 
-  pub rest_closed : (b : Function) (kind : WindowKind) → Contains s b → new_place q s (window_region kind b) ≡ None → is_open (settled_function q s b) kind ≡ false
+  -- a window that does is open
+  pub ends_open : (b : Function) (kind : WindowKind) → Contains s b → is_bridge b ≡ true → (t : Range) → end_range q s (window_region kind b) ≡ Some t → is_open (settled_function q s b) kind ≡ true
+  ends_open b kind listed bridge t ends = elim (cases_Bool (stays q s (window_region kind b))) [
+    | inl keeps ↦ open_stays q s can b listed kind bridge keeps
+    | inr moves ↦
+        let x = place_of_range q s (new_place q s (window_region kind b)) t (sym (placed_range q s (window_region kind b) moves) ∙ ends) in
+        placed_opens b kind listed bridge x.0 x.1
+  ]
+
+  -- and any other is closed
+  pub rest_closed : (b : Function) (kind : WindowKind) → Contains s b → end_range q s (window_region kind b) ≡ None → is_open (settled_function q s b) kind ≡ false
   rest_closed b kind listed none =
       let g = settled_function q s b in
+      let without = ends_nowhere q s (window_region kind b) none in
       false_from_ne_true (is_open g kind) (λ opened.
       let parts = and_parts (is_bridge g && has_window kind b.probe) (not (is_closed kind g.image)) opened in
       let there = and_parts (is_bridge g) (has_window kind b.probe) parts.0 in
-      both_ways (not (is_closed kind g.image)) (not_from_true (is_closed kind g.image) (window_closed q s can b listed kind (sym (bridge_stays b listed) ∙ there.0) there.1 none)) parts.1)
+      both_ways (not (is_closed kind g.image)) (not_from_true (is_closed kind g.image) (window_closed q s can b listed kind (sym (bridge_stays b listed) ∙ there.0) there.1 without.0 without.1)) parts.1)
+
+  -- ---- what is claimed ends somewhere
+
+  pub record HasEnd (f : Function) (p : Part) : Type 0 where
+    pub there : has_part f p ≡ true
+    pub at : Range
+    pub ends : end_range q s record { function = f; part = p } ≡ Some at
+    pub shown : range_of (settled_function q s f) p ≡ at
+
+  has_end : (f : Function) (p : Part) → Contains s f → has_part f p ≡ true → (t : Range) → end_range q s record { function = f; part = p } ≡ Some t → HasEnd f p
+  has_end f p listed there t ends = record { there = there; at = t; ends = ends; shown = part_shown f p listed there t ends }
 
   -- a window that holds an address
   window_by : (f : Function) (listed : Contains s f) (kind : WindowKind) (a : ℕ) (bridge : is_bridge f ≡ true) (there : has_window kind f.probe ≡ true) → holds kind (settled_function q s f).image f.probe a ≡ true
-      → (o : Option Placed) → new_place q s (window_region kind f) ≡ o → HasNewPlace f (Window kind)
+      → (o : Option Range) → end_range q s (window_region kind f) ≡ o → HasEnd f (Window kind)
   window_by f listed kind a bridge there h None e =
-      absurd (both_ways (holds kind (settled_function q s f).image f.probe a) (closed_window_holds_nothing kind (settled_function q s f).image f.probe a (window_closed q s can f listed kind bridge there e)) h)
-  window_by f listed kind a bridge there h (Some x) e =
-      record { there = bridge; at = x; placed = e; shown = window_shown q s can f listed kind bridge x e }
+      let without = ends_nowhere q s (window_region kind f) e in
+      absurd (both_ways (holds kind (settled_function q s f).image f.probe a) (closed_window_holds_nothing kind (settled_function q s f).image f.probe a (window_closed q s can f listed kind bridge there without.0 without.1)) h)
+  window_by f listed kind a bridge there h (Some t) e = has_end f (Window kind) listed bridge t e
 
-  pub window_place : (f : Function) (listed : Contains s f) (kind : WindowKind) (a : ℕ) → is_bridge f ≡ true → holds kind (settled_function q s f).image f.probe a ≡ true → HasNewPlace f (Window kind)
-  window_place f listed kind a bridge h =
-      window_by f listed kind a bridge (held kind (settled_function q s f).image f.probe a h).there h (new_place q s (window_region kind f)) refl
+  pub window_end : (f : Function) (listed : Contains s f) (kind : WindowKind) (a : ℕ) → is_bridge f ≡ true → holds kind (settled_function q s f).image f.probe a ≡ true → HasEnd f (Window kind)
+  window_end f listed kind a bridge h =
+      window_by f listed kind a bridge (held kind (settled_function q s f).image f.probe a h).there h (end_range q s (window_region kind f)) refl
 
   -- an I/O BAR that is left is off
   unleft_bar : (f : Function) (listed : Contains s f) (n : ℕ) → n < bar_count (layout f.image) → has_bar f.probe n ≡ true → is_space_on (settled_function q s f) (space_of f (Bar n)) ≡ true → is_left q s f (Bar n) ≡ false
@@ -123,42 +151,55 @@ module _ (q : Request) (s : System) (can : CanSettle q s) where
       ∙ sym (ap (λ o. bit_at (byte_at f.image o) 0) none)
       ∙ sym (register_bit f.image rom (was q s can f listed).image 4 0 0 (omega arith) (omega arith)))
 
-  pub claimed : (f : Function) (p : Part) (space : Space) (a : ℕ) → Contains s f → Claims (settled_function q s f) p space a → HasNewPlace f p
-  claimed f (Bar n) space a listed claim =
+  -- a BAR or ROM that is claimed is looked at
+  pub claimed_part : (f : Function) (p : Part) (space : Space) (a : ℕ) → Contains s f → is_window p ≡ false → Claims (settled_function q s f) p space a → (has_part f p ≡ true) × (is_part q s f p ≡ true)
+  claimed_part f (Bar n) space a listed plain claim =
       let g = settled_function q s f in
       let item = (place_of_claim g (Bar n) space a (new_decodable f listed) claim).item in
       let parts = and_parts (nat_lt n (bar_count (layout g.image))) (has_bar f.probe n) item in
       let there : nat_lt n (bar_count (layout f.image)) ≡ true = ap (λ k. nat_lt n (bar_count k)) (sym (kind_stays q s can.system can.profile f listed)) ∙ parts.0 in
       let inside = ltb-true n (bar_count (layout f.image)) there in
-      let part : is_part q s f (Bar n) ≡ true = and_from (has_bar f.probe n) (not (is_left q s f (Bar n))) parts.1 (not_from_false (is_left q s f (Bar n)) (unleft_bar f listed n inside parts.1 claim.enabled)) in
-      let x = part_placed q s can f (Bar n) listed (listed_bar q s can f listed n inside) part refl in
-      record { there = there; at = x.0; placed = x.1; shown = bar_shown q s can f listed n inside parts.1 x.0 x.1 }
-  claimed f Rom space a listed claim =
+      (there, and_from (has_bar f.probe n) (not (is_left q s f (Bar n))) parts.1 (not_from_false (is_left q s f (Bar n)) (unleft_bar f listed n inside parts.1 claim.enabled)))
+  claimed_part f Rom space a listed plain claim =
       let g = settled_function q s f in
       let item = (place_of_claim g Rom space a (new_decodable f listed) claim).item in
       let there : has_rom f.image f.probe ≡ true = sym (has_rom_same f g (moves q s can f listed) (was q s can f listed).image) ∙ item in
       let on : rom_is_on f.image ≡ true = sym (rom_switch f listed) ∙ (and_parts (is_space_on g Memory) (rom_is_on g.image) claim.enabled).1 in
-      let x = part_placed q s can f Rom listed (listed_rom q s can f listed) (and_from (has_rom f.image f.probe) (rom_is_on f.image) there on) refl in
-      record { there = refl; at = x.0; placed = x.1; shown = rom_shown q s can f listed there x.0 x.1 }
-  claimed f (Window kind) space a listed claim = window_place f listed kind a (sym (bridge_stays f listed) ∙ claim.there) claim.decodes
+      (refl, and_from (has_rom f.image f.probe) (rom_is_on f.image) there on)
+  claimed_part f (Window kind) space a listed plain claim = absurd (both_ways true plain refl)
+
+  -- one that is looked at ends somewhere
+  part_end : (f : Function) (p : Part) → Contains s f → has_part f p ≡ true → is_part q s f p ≡ true → is_window p ≡ false → HasEnd f p
+  part_end f p listed there part plain = elim (cases_Bool (stays q s record { function = f; part = p })) [
+    | inl keeps ↦ has_end f p listed there (addresses record { function = f; part = p }) (kept_range q s record { function = f; part = p } keeps)
+    | inr moves ↦
+        let x = part_placed q s can f p listed (header_of f p there) part plain moves in
+        has_end f p listed there (taken_by x.0.item x.0.at) (placed_range q s record { function = f; part = p } moves ∙ ap place_range x.1)
+  ]
+
+  pub claimed : (f : Function) (p : Part) (space : Space) (a : ℕ) → Contains s f → Claims (settled_function q s f) p space a → HasEnd f p
+  claimed f (Bar n) space a listed claim = let is = claimed_part f (Bar n) space a listed refl claim in part_end f (Bar n) listed is.0 is.1 refl
+  claimed f Rom space a listed claim = let is = claimed_part f Rom space a listed refl claim in part_end f Rom listed is.0 is.1 refl
+  claimed f (Window kind) space a listed claim = window_end f listed kind a (sym (bridge_stays f listed) ∙ claim.there) claim.decodes
 
   -- ---- the window above
 
-  -- the bridge that leads to its bus passes what has a place
-  pub passed_over : (f b : Function) (p : Part) (a : ℕ) → Contains s f → (h : HasNewPlace f p) → InRange (range_of (settled_function q s f) p) a → LeadsTo s b f.slot.bus → window_claims (settled_function q s b) (class_in q s f p) a ≡ true
-  passed_over f b p a listed h in_range leads =
+  -- the bridge that leads to its bus passes what ends there, where it is enabled
+  pub passed_over : (f b : Function) (p : Part) (a : ℕ) → Contains s f → (h : HasEnd f p) → InRange (range_of (settled_function q s f) p) a → LeadsTo s b f.slot.bus → is_enabled_in q s (space_of f p) b ≡ true
+      → window_claims (settled_function q s b) (class_in q s f p) a ≡ true
+  passed_over f b p a listed h in_range leads enabled =
       let c = class_in q s f p in
-      let of_space : window_space c ≡ space_of f p = space_of_class q s can.anew f p in
-      let over = in_window q s can f b p listed h.there h.at h.placed leads in
-      let here : InRange (taken_by h.at.item h.at.at) a = subst (λ r. InRange r a) h.shown in_range in
+      let of_space : window_space c ≡ space_of f p = space_of_class q s f p in
+      let over = in_window q s can f b p listed h.there leads h.at h.ends in
+      let here : InRange h.at a = subst (λ r. InRange r a) h.shown in_range in
       let low = here.0 in
       let high = here.1 in
       let from = over.inside.0 in
       let end = over.inside.1 in
-      let there : InRange (taken_by over.w.item over.w.at) a = (omega (arith, from, low), omega (arith, end, high)) in
+      let there : InRange over.w a = (omega (arith, from, low), omega (arith, end, high)) in
       let bridge = leads.1 in
-      let window = window_there q s can c b leads.0 bridge (window_has q s can b c leads.0 bridge over.w over.placed) in
-      let enabled = enabled_over q s can (space_of f p) f b listed (serves q s can f p listed h.there h.at h.placed) leads in
-      and_from (is_space_on (settled_function q s b) (window_space c)) (holds c (settled_function q s b).image b.probe a)
-      (ap (is_space_on (settled_function q s b)) of_space ∙ on_now b leads.0 (space_of f p) ∙ enabled)
-      ((window_holds_its_pages c (settled_function q s b).image b.probe a window).1 (subst (λ r. InRange r a) (sym (window_shown q s can b leads.0 c bridge over.w over.placed)) there))
+      let g = settled_function q s b in
+      let opened = and_parts (is_bridge g && has_window c b.probe) (not (is_closed c g.image)) (ends_open b c leads.0 bridge over.w over.ends) in
+      and_from (is_space_on g (window_space c)) (holds c g.image b.probe a)
+      (ap (is_space_on g) of_space ∙ on_now b leads.0 (space_of f p) ∙ enabled)
+      ((window_holds_its_pages c g.image b.probe a (and_parts (is_bridge g) (has_window c b.probe) opened.0).1).1 (subst (λ r. InRange r a) (sym (part_shown b (Window c) leads.0 bridge over.w over.ends)) there))

@@ -20,7 +20,6 @@ anew = record request { anew = true }
 tree_can_settle : CanSettle anew start
 unfolding stands_within window_within holds_within placing_within
 tree_can_settle = record {
-  anew = refl;
   lists = refl;
   high = λ r has. elim (in_cons_cases (all_roots 0x100000000 0x1ffffffff) [] r has) [
     | inl is ↦ subst (λ (x : RootRange). x.range.last < 2 ^ 64) is (omega arith)

@@ -1,13 +1,13 @@
 -- The parts that a header has: which they are, and where their registers stand.
-use Rattle.std.proofs.Common.{◌≡◌, ℕ, ◌+◌, ◌*◌, ◌<◌, ◌≤◌, ◌⊎◌, inl, inr, [], ◌∷◌, refl, true, cond, arith, sym, ◌∙◌, ap}
+use Rattle.std.proofs.Common.{◌≡◌, ℕ, ◌+◌, ◌*◌, ◌<◌, ◌≤◌, ◌⊎◌, inl, inr, [], ◌∷◌, refl, true, false, cond, arith, sym, ◌∙◌, ap}
 use Rattle.std.specs.Bool.{◌==◌}
 use Rattle.std.specs.List.{Contains, range_with_len}
-use Rattle.std.proofs.lemmas.Bool.{cases_Bool}
-use Rattle.std.proofs.lemmas.List.Elements.{Contains-append_cases, Contains-append_right}
+use Rattle.std.proofs.lemmas.Bool.{both_ways, cases_Bool, ltb-true}
+use Rattle.std.proofs.lemmas.List.Elements.{Contains-append_cases, Contains-append_left, Contains-append_right}
 use Rattle.pci_spec.specs.Header.{layout, bar_count, rom_register}
 use Rattle.pci_spec.specs.Window.{WindowKind, IoWindow, MemoryWindow, PrefetchWindow, window_register}
-use Rattle.pci_spec.specs.System.{Function, Part, Bar, Rom, Window, register_of, is_bridge, is_window}
-use Rattle.pci_spec.proofs.Members.{in_nil, in_cons_cases, IsMade, in_map_to, in_range_to}
+use Rattle.pci_spec.specs.System.{Function, Part, Bar, Rom, Window, has_part, register_of, is_bridge, is_window}
+use Rattle.pci_spec.proofs.Members.{in_nil, in_cons_cases, IsMade, in_map_to, in_map_from, in_range_to, in_range_from}
 use Rattle.settle_spec.specs.Parts.{header_bars, header_parts}
 
 pub record IsBar (f : Function) (p : Part) : Type 0 where
@@ -70,7 +70,7 @@ window_low IoWindow = omega arith
 window_low MemoryWindow = omega arith
 window_low PrefetchWindow = omega arith
 
-one_window : (c d : WindowKind) → window_register c ≡ window_register d → c ≡ d
+pub one_window : (c d : WindowKind) → window_register c ≡ window_register d → c ≡ d
 one_window IoWindow IoWindow e = refl
 one_window IoWindow MemoryWindow e = absurd (let no : ⊥ = omega (arith, e) in no)
 one_window IoWindow PrefetchWindow e = absurd (let no : ⊥ = omega (arith, e) in no)
@@ -162,3 +162,25 @@ pub window_of : (f : Function) (c : WindowKind) → Contains (header_parts f) (W
 window_of f IoWindow = Contains-append_right (header_bars f) (Window IoWindow ∷ Window MemoryWindow ∷ Window PrefetchWindow ∷ Rom ∷ []) (Window IoWindow) (0, omega arith, refl)
 window_of f MemoryWindow = Contains-append_right (header_bars f) (Window IoWindow ∷ Window MemoryWindow ∷ Window PrefetchWindow ∷ Rom ∷ []) (Window MemoryWindow) (1, omega arith, refl)
 window_of f PrefetchWindow = Contains-append_right (header_bars f) (Window IoWindow ∷ Window MemoryWindow ∷ Window PrefetchWindow ∷ Rom ∷ []) (Window PrefetchWindow) (2, omega arith, refl)
+
+pub bar_of : (f : Function) (n : ℕ) → n < bar_count (layout f.image) → Contains (header_parts f) (Bar n)
+bar_of f n inside =
+    Contains-append_left (header_bars f) (Window IoWindow ∷ Window MemoryWindow ∷ Window PrefetchWindow ∷ Rom ∷ []) (Bar n)
+    (in_map_from Bar (range_with_len 0 (bar_count (layout f.image))) n (in_range_from 0 (bar_count (layout f.image)) n (omega arith) (omega (arith, inside))))
+
+pub rom_of : (f : Function) → Contains (header_parts f) Rom
+rom_of f = Contains-append_right (header_bars f) (Window IoWindow ∷ Window MemoryWindow ∷ Window PrefetchWindow ∷ Rom ∷ []) Rom (3, omega arith, refl)
+
+-- what a header has is listed
+pub header_of : (f : Function) (p : Part) → has_part f p ≡ true → Contains (header_parts f) p
+header_of f (Bar n) there = bar_of f n (ltb-true n (bar_count (layout f.image)) there)
+header_of f Rom there = rom_of f
+header_of f (Window c) there = window_of f c
+
+pub is_part_of : (f : Function) (p : Part) → has_part f p ≡ true → IsPart f p
+is_part_of f p there = record { there = header_of f p there; bridge = by p there }
+  where
+    by : (p : Part) → has_part f p ≡ true → is_window p ≡ true → is_bridge f ≡ true
+    by (Bar n) there window = absurd (both_ways false refl window)
+    by Rom there window = absurd (both_ways false refl window)
+    by (Window c) there window = there

@@ -1,56 +1,142 @@
--- A new place behind a bridge lies in the bridge's new window of its class, and new places beside one another are apart.
-use Rattle.std.proofs.Common.{◌≡◌, inl, inr, true, sym, ◌∙◌, ap, subst, Some}
+-- A part ends behind a bridge in the bridge's window of its class, which stays or is placed, and apart from what is beside it.
+use Rattle.std.proofs.Common.{◌≡◌, ◌&&◌, List, inl, inr, true, false, cond, arith, refl, sym, ◌∙◌, ap, subst, Option, None, Some}
+use Rattle.std.specs.Bool.{IsTrue, nat_le, ◌==◌}
 use Rattle.std.specs.List.{Contains}
-use Rattle.std.proofs.lemmas.Bool.{both_ways}
-use Rattle.pci_spec.specs.Slot.{same_slot}
-use Rattle.pci_spec.specs.System.{System, Function, Space, Part, has_part, register_of, space_of, window_space}
-use Rattle.pci_spec.specs.Bus.{LeadsTo}
+use Rattle.std.proofs.lemmas.Bool.{and_from, and_parts, both_ways, cases_Bool, eq-eqb, leb-true, or_left, or_right}
+use Rattle.pci_spec.specs.Slot.{same_slot, slot_number}
+use Rattle.pci_spec.specs.Decoded.{Range}
+use Rattle.pci_spec.specs.Window.{WindowKind}
+use Rattle.pci_spec.specs.System.{System, Function, Space, Part, Window, has_part, register_of, space_of, window_space}
+use Rattle.pci_spec.specs.Bus.{are_siblings, is_root, secondary, LeadsTo}
 use Rattle.pci_spec.proofs.BusRanges.{root_means}
+use Rattle.pci_spec.proofs.Nesting.{one_function}
+use Rattle.pci_spec.proofs.Regions.{register_of-lt}
 use Rattle.plan_spec.specs.Planning.Layout.{IsInside, LieApart, AreBeside, AreTwo}
 use Rattle.plan_spec.proofs.Planning.Reached.{slot_itself}
+use Rattle.settle_spec.specs.FirstPlace.{is_place, is_spot, ends_in}
 use Rattle.settle_spec.specs.Lists.{Request}
-use Rattle.settle_spec.specs.Parts.{Region, class_in}
-use Rattle.settle_spec.specs.Stands.{window_region}
-use Rattle.settle_spec.specs.Items.{Item, Placed, taken_by}
-use Rattle.settle_spec.specs.Places.{placed_of, place_among, placing_on, new_place}
-use Rattle.settle_spec.specs.PlacingLaws.{AreApart}
+use Rattle.settle_spec.specs.Parts.{Region, addresses, class_in}
+use Rattle.settle_spec.specs.Stands.{rank, window_region}
+use Rattle.settle_spec.specs.Items.{Item, Placed, taken_by, stays}
+use Rattle.settle_spec.specs.Places.{placed_of, place_among, new_place, taken_at}
 use Rattle.settle_spec.proofs.Buses.{roots_are_one}
-use Rattle.settle_spec.proofs.FirstSpot.{apart_gives}
-use Rattle.settle_spec.proofs.Nested.{at_secondary, is_no_root, one_bridge}
-use Rattle.settle_laws.specs.PlacesLaws.{CanSettle}
-use Rattle.settle_laws.proofs.BusPlaced.{places, placed_bus, pairs_either}
-use Rattle.settle_laws.proofs.PartPlaces.{new_place_is, space_of_class}
-use Rattle.settle_laws.proofs.Reaches.{HasRange, OnRoot, InWindow, range_of_place, place_parts}
+use Rattle.settle_spec.proofs.FirstSpot.{spot_gives}
+use Rattle.settle_laws.specs.PlacesLaws.{CanSettle, place_range, end_range}
+use Rattle.settle_laws.proofs.BusPlaced.{IsPlacedBus, EndsIn, Keeps, Gets, items, places, placed_bus, end_apart, one_left, range_or_none, range_of_item, no_item}
+use Rattle.settle_laws.proofs.HeaderParts.{header_of}
+use Rattle.settle_laws.proofs.Kept.{in_regions, stays_stands, stays_part, over_stays, within_over}
+use Rattle.settle_laws.proofs.PartClasses.{space_of_class}
+use Rattle.settle_laws.proofs.PartPlaces.{IsNewPlace, new_place_is}
+
+module _ (q : Request) (s : System) where
+  pub kept_range : (r : Region) → stays q s r ≡ true → end_range q s r ≡ Some (addresses r)
+  kept_range r keeps = ap (λ t. cond t (Some (addresses r)) (place_range (new_place q s r))) keeps
+
+  pub placed_range : (r : Region) → stays q s r ≡ false → end_range q s r ≡ place_range (new_place q s r)
+  placed_range r moves = ap (λ t. cond t (Some (addresses r)) (place_range (new_place q s r))) moves
+
+  pub place_of_range : (o : Option Placed) (t : Range) → place_range o ≡ Some t → (x : Placed) × (o ≡ Some x) × (taken_by x.item x.at ≡ t)
+  place_of_range None t e = cc
+  place_of_range (Some x) t e = (x, refl, cc)
+
+  pub ends_nowhere : (r : Region) → end_range q s r ≡ None → (stays q s r ≡ false) × (new_place q s r ≡ None)
+  ends_nowhere r none = elim (cases_Bool (stays q s r)) [
+    | inl keeps ↦ (let is : Some (addresses r) ≡ None = sym (kept_range r keeps) ∙ none in cc)
+    | inr moves ↦ (moves, by (new_place q s r) (sym (placed_range r moves) ∙ none))
+  ]
+    where
+      by : (o : Option Placed) → place_range o ≡ None → o ≡ None
+      by None e = refl
+      by (Some x) e = cc
 
 module _ (q : Request) (s : System) (can : CanSettle q s) where
-  -- the new window of a bridge, around a place
-  pub record IsInNewWindow (f : Function) (p : Part) (b : Function) (x : Placed) : Type 0 where
-    pub w : Placed
-    pub placed : new_place q s (window_region (class_in q s f p) b) ≡ Some w
-    pub inside : IsInside (taken_by x.item x.at) (taken_by w.item w.at)
+  -- ---- where parts end on their buses
 
-  by_range : (f b : Function) (p : Part) → Contains s f → LeadsTo s b f.slot.bus → (x : Placed) → x.item.class ≡ class_in q s f p → HasRange q s can (space_of f p) f x → IsInNewWindow f p b x
-  by_range f b p listed leads x class (OnRoot root r there place) =
-      absurd (is_no_root q.roots s can.system can.nested b f.slot.bus leads.0 leads.1 (at_secondary q.roots s can.system can.nested b f.slot.bus leads.0 leads.1 leads.2) ((root_means q.roots f.slot.bus).1 root))
-  by_range f b p listed leads x class (InWindow d leader has w there shown window place) =
-      let c = class_in q s f p in
-      let same : d ≡ b = one_bridge q.roots s can.system can.nested d b leader.listed leads.0 leader.bridge leads.1 (leader.leads ∙ sym leads.2) in
-      let of_space : window_space c ≡ space_of f p = space_of_class q s can.anew f p in
-      let at_d : new_place q s (window_region c d) ≡ Some w =
-      ap (λ sp. place_among (window_region c d) (placed_of (placing_on q s sp d.slot.bus))) of_space
-      ∙ ap (λ k. place_among (window_region k d) (placed_of (placing_on q s (space_of f p) d.slot.bus))) (sym class)
-      ∙ shown in
-      let parts = place_parts q s can (taken_by w.item w.at) x.item.extent x.at place in
-      record {
-        w = w;
-        placed = subst (λ g. new_place q s (window_region c g) ≡ Some w) same at_d;
-        inside = (parts.from, parts.end);
-      }
+  -- the bus of a part, placed
+  abbrev bus_of : (f : Function) (p : Part) → Contains s f → IsPlacedBus q s can (space_of f p) f.slot.bus
+  bus_of f p listed = placed_bus q s can (space_of f p) f listed
 
-  pub in_window : (f b : Function) (p : Part) → Contains s f → has_part f p ≡ true → (x : Placed) → new_place q s record { function = f; part = p } ≡ Some x → LeadsTo s b f.slot.bus → IsInNewWindow f p b x
-  in_window f b p listed there x placed leads =
-      let is = new_place_is q s can f p listed there x placed in
-      by_range f b p listed leads x (ap (λ (i : Item). i.class) is.item) (range_of_place q s can (space_of f p) f listed x is.listed)
+  ends_there : (f : Function) (p : Part) (listed : Contains s f) → has_part f p ≡ true → (t : Range) → end_range q s record { function = f; part = p } ≡ Some t
+      → EndsIn q s can (bus_of f p listed).placed record { function = f; part = p } t
+  ends_there f p listed there t e = elim (cases_Bool (stays q s r)) [
+    | inl keeps ↦ Keeps keeps (let is : Some (addresses r) ≡ Some t = sym (kept_range q s r keeps) ∙ e in cc)
+    | inr moves ↦
+        let x = place_of_range q s (new_place q s r) t (sym (placed_range q s r moves) ∙ e) in
+        let b = bus_of f p listed in
+        let is = new_place_is q s can f p listed there x.0 x.1 in
+        Gets moves x.0 (sym (ap (λ y. place_among r (placed_of y)) b.is) ∙ x.1) (subst (λ xs. Contains xs x.0) (ap placed_of b.is) is.listed) (ap (λ (i : Item). i.region) is.item) x.2
+  ]
+    where
+      r : Region
+      r = record { function = f; part = p }
+
+  range_there : (space : Space) (f : Function) (p : Part) (b : IsPlacedBus q s can space f.slot.bus) → space_of f p ≡ space → (t : Range) → EndsIn q s can b.placed record { function = f; part = p } t
+      → end_range q s record { function = f; part = p } ≡ Some t
+  range_there space f p b of t (Keeps keeps is) = kept_range q s record { function = f; part = p } keeps ∙ ap Some is
+  range_there space f p b of t (Gets moves x shown has at is) =
+      placed_range q s record { function = f; part = p } moves
+      ∙ ap (λ sp. place_range (place_among record { function = f; part = p } (places q s can sp f.slot.bus))) of
+      ∙ ap (λ y. place_range (place_among record { function = f; part = p } (placed_of y))) b.is
+      ∙ ap place_range shown ∙ ap Some is
+
+  -- ---- in a window
+
+  -- the window of a bridge around a part
+  pub record IsInWindow (f : Function) (p : Part) (b : Function) (t : Range) : Type 0 where
+    pub w : Range
+    pub ends : end_range q s (window_region (class_in q s f p) b) ≡ Some w
+    pub inside : IsInside t w
+
+  module _ (f b : Function) (p : Part) (listed : Contains s f) (there : has_part f p ≡ true) (leads : LeadsTo s b f.slot.bus) where
+    abbrev r : Region
+    r = record { function = f; part = p }
+
+    abbrev c : WindowKind
+    c = class_in q s f p
+
+    in_kept : stays q s r ≡ true → IsInWindow f p b (addresses r)
+    in_kept keeps =
+        let over = window_region c b in
+        let within = (within_over q s can.system can.nested b leads.0 leads.1 r (in_regions q s f p listed (header_of f p there) (stays_part q s can.system can.nested r listed keeps)) leads.2 (stays_stands q s can.system can.nested r listed keeps)).0 in
+        let parts = and_parts (nat_le (addresses over).first (addresses r).first) (nat_le (addresses r).last (addresses over).last) within in
+        record {
+          w = addresses over;
+          ends = kept_range q s over (over_stays q s can.system can.nested b leads.0 leads.1 r listed leads.2 keeps);
+          inside = (leb-true (addresses over).first (addresses r).first parts.0, leb-true (addresses r).last (addresses over).last parts.1);
+        }
+
+    in_placed : (x : Placed) → IsNewPlace q s can f p x → IsInWindow f p b (taken_by x.item x.at)
+    in_placed x is =
+        let space = space_of f p in
+        let here = placed_bus q s can space f listed in
+        let over = placed_bus q s can space b leads.0 in
+        let own = here.are.each x (subst (λ xs. Contains xs x) (ap placed_of here.is) is.listed) in
+        let of : window_space c ≡ space = space_of_class q s f p in
+        let at : x.item.region.function.slot.bus ≡ secondary b = ap (λ (i : Item). i.region.function.slot.bus) is.item ∙ sym leads.2 in
+        elim (range_or_none q s can space b leads.0 leads.1 over c of) [
+          | inl none ↦ no_item q s can space b leads.0 leads.1 over _ x.item (subst (λ n. Contains (items q s can c n) x.item) (sym leads.2) is.in_class) none
+          | inr h ↦
+              let in_it : h.range ≡ own.0 = one_left h.range own.0 (subst (λ rs. Contains rs own.0) (range_of_item q s can space b leads.0 leads.1 over c h x.item (ap (λ (i : Item). i.class) is.item) at) own.1) in
+              record {
+                w = h.range;
+                ends = range_there space b (Window c) over of h.range h.ends;
+                inside = subst (IsInside (taken_by x.item x.at)) (sym in_it) (place_inside own.0 (taken_at q s space f.slot.bus) x own.2);
+              }
+        ]
+      where
+        place_inside : (u : Range) (xs : List Range) (y : Placed) → IsTrue (is_place u xs y.item.extent y.at) → IsInside (taken_by y.item y.at) u
+        place_inside u xs y place =
+            let e = y.item.extent in
+            let parts = and_parts (is_spot u.first xs e y.at) (ends_in u e y.at) place in
+            ((spot_gives u.first xs e y.at parts.0).from, leb-true (taken_by y.item y.at).last u.last (and_parts (nat_le (taken_by y.item y.at).last u.last) _ parts.1).0)
+
+    pub in_window : (t : Range) → end_range q s r ≡ Some t → IsInWindow f p b t
+    in_window t e = elim (cases_Bool (stays q s r)) [
+      | inl keeps ↦ (let is : Some (addresses r) ≡ Some t = sym (kept_range q s r keeps) ∙ e in let same : addresses r ≡ t = cc in subst (IsInWindow f p b) same (in_kept keeps))
+      | inr moves ↦
+          let x = place_of_range q s (new_place q s r) t (sym (placed_range q s r moves) ∙ e) in
+          subst (IsInWindow f p b) x.2 (in_placed x.0 (new_place_is q s can f p listed there x.0 x.1))
+    ]
 
   -- ---- apart
 
@@ -58,24 +144,32 @@ module _ (q : Request) (s : System) (can : CanSettle q s) where
   same_places space f g (inl same) = ap (places q s can space) same
   same_places space f g (inr (root_f, root_g)) = ap placed_of (roots_are_one q s space f.slot.bus g.slot.bus ((root_means q.roots f.slot.bus).1 root_f) ((root_means q.roots g.slot.bus).1 root_g))
 
-  not_two : (f g : Function) (p r : Part) → f ≡ g → p ≡ r → AreTwo f p g r → ⊥
-  not_two f g p r same part (inl slots) = both_ways (same_slot f.slot g.slot) slots (ap (λ (h : Function). same_slot f.slot h.slot) (sym same) ∙ slot_itself f.slot)
-  not_two f g p r same part (inr differ) = differ (ap (λ h. register_of h p) same ∙ ap (register_of g) part)
+  siblings_of : (f g : Function) → AreBeside q.roots f g → are_siblings q.roots f.slot.bus g.slot.bus ≡ true
+  siblings_of f g (inl same) = or_left (f.slot.bus == g.slot.bus) (is_root q.roots f.slot.bus && is_root q.roots g.slot.bus) (eq-eqb f.slot.bus g.slot.bus same)
+  siblings_of f g (inr (root_f, root_g)) =
+      or_right (f.slot.bus == g.slot.bus) (is_root q.roots f.slot.bus && is_root q.roots g.slot.bus)
+      (and_from (is_root q.roots f.slot.bus) (is_root q.roots g.slot.bus) ((root_means q.roots f.slot.bus).1 root_f) ((root_means q.roots g.slot.bus).1 root_g))
+
+  two_ranks : (f g : Function) (p r : Part) → Contains s f → Contains s g → has_part f p ≡ true → has_part g r ≡ true → AreTwo f p g r → rank record { function = f; part = p } ≡ rank record { function = g; part = r } → ⊥
+  two_ranks f g p r in_f in_g there_p there_r two e =
+      let low = register_of-lt f p there_p in
+      let high = register_of-lt g r there_r in
+      let slot : slot_number f.slot ≡ slot_number g.slot = omega (arith, e, low, high) in
+      let one : f ≡ g = one_function s can.system f g in_f in_g slot in
+      elim two [
+        | inl slots ↦ both_ways (same_slot f.slot g.slot) slots (ap (λ (h : Function). same_slot f.slot h.slot) (sym one) ∙ slot_itself f.slot)
+        | inr differ ↦ differ (let same : register_of f p ≡ register_of g r = omega (arith, e, slot) in same)
+      ]
 
   pub are_apart : (f g : Function) (p r : Part) → Contains s f → Contains s g → has_part f p ≡ true → has_part g r ≡ true → space_of f p ≡ space_of g r → AreBeside q.roots f g → AreTwo f p g r
-      → (x y : Placed) → new_place q s record { function = f; part = p } ≡ Some x → new_place q s record { function = g; part = r } ≡ Some y → LieApart (taken_by x.item x.at) (taken_by y.item y.at)
-  are_apart f g p r in_f in_g there_p there_r spaces beside two x y placed_x placed_y =
+      → (t u : Range) → end_range q s record { function = f; part = p } ≡ Some t → end_range q s record { function = g; part = r } ≡ Some u → LieApart t u
+  are_apart f g p r in_f in_g there_p there_r spaces beside two t u ends_t ends_u =
       let space = space_of f p in
-      let is_x = new_place_is q s can f p in_f there_p x placed_x in
-      let is_y = new_place_is q s can g r in_g there_r y placed_y in
-      let bus = placed_bus q s can space f in_f in
-      let at = ap placed_of bus.is in
-      let in_x : Contains bus.placed x = subst (λ xs. Contains xs x) at is_x.listed in
-      let in_y : Contains bus.placed y = subst (λ xs. Contains xs y) (sym (same_places space f g beside) ∙ at) (subst (λ sp. Contains (places q s can sp g.slot.bus) y) (sym spaces) is_y.listed) in
-      elim (pairs_either AreApart bus.placed bus.are.apart x y in_x in_y) [
-        | inl same ↦
-            let region : record { function = f; part = p } ≡ record { function = g; part = r } = ap (λ (i : Item). i.region) (sym is_x.item ∙ ap (λ (z : Placed). z.item) same ∙ is_y.item) in
-            absurd (not_two f g p r (ap (λ (z : Region). z.function) region) (ap (λ (z : Region). z.part) region) two)
-        | inr (inl apart) ↦ apart_gives x.item.extent.size x.at (taken_by y.item y.at) apart
-        | inr (inr apart) ↦ elim (apart_gives y.item.extent.size y.at (taken_by x.item x.at) apart) [ inl under ↦ inr under | inr over ↦ inl over ]
-      ]
+      let bus = bus_of f p in_f in
+      let other = bus_of g r in_g in
+      let same : other.placed ≡ bus.placed = sym (ap placed_of other.is) ∙ ap (λ sp. places q s can sp g.slot.bus) (sym spaces) ∙ sym (same_places space f g beside) ∙ ap placed_of bus.is in
+      let ends_there_u = subst (λ xs. EndsIn q s can xs record { function = g; part = r } u) same (ends_there g r in_g there_r u ends_u) in
+      end_apart q s can space f.slot.bus bus record { function = f; part = p } record { function = g; part = r } t u
+      record { listed = in_f; there = header_of f p there_p; beside = siblings_of f f (inl refl); at = refl }
+      record { listed = in_g; there = header_of g r there_r; beside = siblings_of f g beside; at = sym spaces }
+      (two_ranks f g p r in_f in_g there_p there_r two) (ends_there f p in_f there_p t ends_t) ends_there_u

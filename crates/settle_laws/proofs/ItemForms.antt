@@ -149,30 +149,49 @@ module _ (q : Request) (s : System) (new : WindowKind → Function → Extent) (
       Contains-permutation all (in_turn all) i (turn_same all)
       (in_flat_map_from on_bus s f i listed (subst (λ b. Contains (cond b (items_of q s c keeps (new c) f) []) i) (sym beside) has))
 
-  -- where nothing is kept, each part of the class is an item
-  module _ (none : (r : Region) → keeps r ≡ false) where
-    pub own_in : (f : Function) (p : Part) → Contains s f → are_siblings q.roots bus f.slot.bus ≡ true → Contains (header_parts f) p → is_part q s f p ≡ true → is_window p ≡ false → class_in q s f p ≡ c
-        → Contains (items_on q s c keeps (new c) bus) (item_by new c f p)
-    own_in f p listed beside there part plain class =
-        let r : Region = record { function = f; part = p } in
-        let same : same_class c (class_in q s f p) ≡ true = ap (same_class c) class ∙ itself c in
-        put f (item_by new c f p) listed beside
-        (Contains-append_left (own f) (later f) (item_by new c f p)
-        (subst (λ e. Contains (own f) (record { region = r; class = c; extent = e })) (own_by_part new f p plain)
-        (in_map_from (own_item c) (filter kept (regions_of q s f)) r
-        (in_filter_from kept (regions_of q s f) r (in_map_from (λ p. record { function = f; part = p }) (parts_of q s f) p (in_filter_from (is_part q s f) (header_parts f) p there part))
-        (and_from (is_own q s c r) (not (keeps r)) (and_from (not (is_window p)) (same_class c (class_in q s f p)) (ap not plain) same) (ap not (none r)))))))
-      where
-        itself : (d : WindowKind) → same_class d d ≡ true
-        itself IoWindow = refl
-        itself MemoryWindow = refl
-        itself PrefetchWindow = refl
+  -- each part of the class that isn't kept is an item
+  pub own_in : (f : Function) (p : Part) → Contains s f → are_siblings q.roots bus f.slot.bus ≡ true → Contains (header_parts f) p → is_part q s f p ≡ true → is_window p ≡ false → class_in q s f p ≡ c
+      → keeps record { function = f; part = p } ≡ false → Contains (items_on q s c keeps (new c) bus) (item_by new c f p)
+  own_in f p listed beside there part plain class moves =
+      let r : Region = record { function = f; part = p } in
+      let same : same_class c (class_in q s f p) ≡ true = ap (same_class c) class ∙ itself c in
+      put f (item_by new c f p) listed beside
+      (Contains-append_left (own f) (later f) (item_by new c f p)
+      (subst (λ e. Contains (own f) (record { region = r; class = c; extent = e })) (own_by_part new f p plain)
+      (in_map_from (own_item c) (filter kept (regions_of q s f)) r
+      (in_filter_from kept (regions_of q s f) r (in_map_from (λ p. record { function = f; part = p }) (parts_of q s f) p (in_filter_from (is_part q s f) (header_parts f) p there part))
+      (and_from (is_own q s c r) (not (keeps r)) (and_from (not (is_window p)) (same_class c (class_in q s f p)) (ap not plain) same) (ap not moves))))))
+    where
+      itself : (d : WindowKind) → same_class d d ≡ true
+      itself IoWindow = refl
+      itself MemoryWindow = refl
+      itself PrefetchWindow = refl
 
-    pub window_in : (f : Function) → Contains s f → are_siblings q.roots bus f.slot.bus ≡ true → is_bridge f ≡ true → has_of q s c f ≡ true → Contains (items_on q s c keeps (new c) bus) (item_by new c f (Window c))
-    window_in f listed beside bridge has =
-        let now : opens f ≡ true = and_from (is_bridge f && has_of q s c f) (not (keeps (window_region c f))) (and_from (is_bridge f) (has_of q s c f) bridge has) (ap not (none (window_region c f))) in
-        put f (item_by new c f (Window c)) listed beside
-        (Contains-append_right (own f) (later f) (window f) (subst (λ b. Contains (cond b (window f ∷ []) []) (window f)) (sym now) (in_head (window f) [])))
+  pub window_in : (f : Function) → Contains s f → are_siblings q.roots bus f.slot.bus ≡ true → is_bridge f ≡ true → has_of q s c f ≡ true → keeps (window_region c f) ≡ false
+      → Contains (items_on q s c keeps (new c) bus) (item_by new c f (Window c))
+  window_in f listed beside bridge has moves =
+      let now : opens f ≡ true = and_from (is_bridge f && has_of q s c f) (not (keeps (window_region c f))) (and_from (is_bridge f) (has_of q s c f) bridge has) (ap not moves) in
+      put f (item_by new c f (Window c)) listed beside
+      (Contains-append_right (own f) (later f) (window f) (subst (λ b. Contains (cond b (window f ∷ []) []) (window f)) (sym now) (in_head (window f) [])))
+
+  -- and none that is
+  moves_of : (f : Function) (i : Item) → Contains (items_of q s c keeps (new c) f) i → keeps i.region ≡ false
+  moves_of f i has = elim (Contains-append_cases (own f) (later f) i has) [
+    | inl here ↦
+        let made : IsMade (own_item c) (filter kept (regions_of q s f)) i = in_map_to (own_item c) (filter kept (regions_of q s f)) i here in
+        let chosen = in_filter_to kept (regions_of q s f) made.from made.has in
+        ap (λ (j : Item). keeps j.region) (sym made.is) ∙ not-true (keeps made.from) (and_parts (is_own q s c made.from) (not (keeps made.from)) chosen.1).1
+    | inr more ↦
+        let split = in_if (opens f) (window f ∷ []) i more in
+        let same : window f ≡ i = elim (in_cons_cases (window f) [] i split.1) [ inl is ↦ is | inr none ↦ absurd (in_nil i none) ] in
+        ap (λ (j : Item). keeps j.region) (sym same) ∙ not-true (keeps (window_region c f)) (and_parts (is_bridge f && has_of q s c f) (not (keeps (window_region c f))) split.0).1
+  ]
+
+  pub item_moves : (i : Item) → Contains (items_on q s c keeps (new c) bus) i → keeps i.region ≡ false
+  item_moves i has =
+      let all = flat_map on_bus s in
+      let piece : IsInPiece on_bus s i = in_flat_map_to on_bus s i (Contains-permutation (in_turn all) all i (IsPermutation-sym all (in_turn all) (turn_same all)) has) in
+      moves_of piece.of i (in_if (are_siblings q.roots bus piece.of.slot.bus) (items_of q s c keeps (new c) piece.of) i piece.piece).1
 
 -- ---- alignments are powers of two
 

@@ -20,6 +20,7 @@ pub mod Held
 pub mod Images
 pub mod InWindows
 pub mod ItemForms
+pub mod Kept
 pub mod KeptAside
 pub mod Left
 pub mod NewPlaces
@@ -30,6 +31,7 @@ pub mod Numbers
 pub mod OneByOne
 pub mod NumbersPut
 pub mod Outside
+pub mod PartClasses
 pub mod PartPlaces
 pub mod Pieces
 pub mod PlacesFit
@@ -37,12 +39,12 @@ pub mod PlannedRoots
 pub mod PlannedSizes
 pub mod PoolLists
 pub mod Powers
-pub mod Reaches
 pub mod Reput
 pub mod RomPlaces
 pub mod SettledMoved
 pub mod SettledSound
 pub mod Shown
+pub mod ShownKept
 pub mod ShownParts
 pub mod Stopping
 pub mod Stops

@@ -3,9 +3,9 @@ use Rattle.std.proofs.Common.{◌≡◌, ◌&&◌, ◌||◌, ℕ, zero, suc, ◌
 use Rattle.std.specs.Bool.{◌==◌}
 use Rattle.std.specs.List.{Contains, list_any}
 use Rattle.std.specs.Option.{is_some}
-use Rattle.std.proofs.lemmas.Bool.{and_from, cases_eq, eq-eqb, or_left, or_right}
+use Rattle.std.proofs.lemmas.Bool.{and_from, and_parts, both_ways, cases_eq, eq-eqb, false_from_ne_true, or_left, or_right}
 use Rattle.pci_spec.specs.Window.{WindowKind}
-use Rattle.pci_spec.specs.System.{System, Function, Space, Io, Part, has_part, is_bridge, is_implemented, is_space_on, is_window, space_of, window_space}
+use Rattle.pci_spec.specs.System.{System, Function, Space, Io, Part, has_part, is_bridge, is_implemented, is_space_on, is_window, space_of, window_space, Window}
 use Rattle.pci_spec.specs.Bus.{secondary, is_behind, LeadsTo}
 use Rattle.pci_spec.proofs.BusRanges.{root_means}
 use Rattle.plan_spec.specs.Plan.{bridges_above}
@@ -14,8 +14,8 @@ use Rattle.plan_spec.proofs.Planning.Behind.{any_from, behind_range}
 use Rattle.plan_spec.proofs.Planning.Safe.{order_of}
 use Rattle.settle_spec.specs.Lists.{Request}
 use Rattle.settle_spec.specs.Parts.{Region, is_part, has_left, header_parts, class_in, same_space}
-use Rattle.settle_spec.specs.Stands.{region_space}
-use Rattle.settle_spec.specs.Items.{Placed}
+use Rattle.settle_spec.specs.Stands.{region_space, window_region}
+use Rattle.settle_spec.specs.Items.{Placed, stays}
 use Rattle.settle_spec.specs.LiveLaws.{is_live, has_live_behind}
 use Rattle.settle_spec.specs.Places.{new_place}
 use Rattle.settle_spec.specs.Registers.{changing, got_place, has_own, is_enabled_in}
@@ -24,8 +24,11 @@ use Rattle.settle_spec.proofs.Nested.{at_secondary, bridge_between, is_no_root, 
 use Rattle.settle_laws.specs.PlacesLaws.{CanSettle}
 use Rattle.settle_laws.proofs.Held.{above_above, own_by, same_itself}
 use Rattle.settle_laws.proofs.ItemForms.{IsPlaceable, IsOwnPart, IsNewWindow}
-use Rattle.settle_laws.proofs.ShownParts.{in_changing, header_of}
-use Rattle.settle_laws.proofs.PartPlaces.{part_placed, new_place_is, space_of_class, IsBehindOf, behind_of}
+use Rattle.settle_laws.proofs.ShownParts.{in_changing}
+use Rattle.settle_laws.proofs.HeaderParts.{header_of}
+use Rattle.settle_laws.proofs.Kept.{above_stays}
+use Rattle.settle_laws.proofs.PartClasses.{space_of_class}
+use Rattle.settle_laws.proofs.PartPlaces.{part_placed, IsNewPlace, new_place_is, IsBehindOf, behind_of}
 use Rattle.settle_laws.proofs.Unleft.{unleft, unleft_itself}
 
 module _ (q : Request) (s : System) (can : CanSettle q s) where
@@ -52,24 +55,26 @@ module _ (q : Request) (s : System) (can : CanSettle q s) where
     pub has_own_here : has_own q s space f ≡ true
     has_own_here = own_by q s can.system can.nested f listed p space there part plain refl
 
-    got_here : got_place q s space f ≡ true
-    got_here =
+    -- it lives where its space is enabled
+    pub live_on : is_enabled_in q s space f ≡ true → is_live q s space f ≡ true
+    live_on enabled =
+        live_by_bus q s space can.system can.nested f listed
+        ∙ and_from (is_enabled_in q s space f) (has_own q s space f || has_live_behind s (is_live q s space) f) enabled (or_left (has_own q s space f) (has_live_behind s (is_live q s space) f) has_own_here)
+
+    -- and so it is for what gets a place
+    got_here : stays q s record { function = f; part = p } ≡ false → got_place q s space f ≡ true
+    got_here moves =
         let r : Region = record { function = f; part = p } in
-        let x = part_placed q s can f p listed there part plain in
+        let x = part_placed q s can f p listed there part plain moves in
         any_from (λ r. same_space space (region_space r) && is_some (new_place q s r)) (changing q s f) r
         (in_changing q s can f listed p there (or_left (is_part q s f p) (is_window p && is_implemented f p) part))
         (and_from (same_space space (space_of f p)) (is_some (new_place q s r)) (same_itself space) (ap is_some x.1))
 
-    enabled_here : is_enabled_in q s space f ≡ true
-    enabled_here =
+    enabled_here : stays q s record { function = f; part = p } ≡ false → is_enabled_in q s space f ≡ true
+    enabled_here moves =
         let behind = has_live_behind s (is_live q s space) f in
         and_from (not (same_space space Io && has_left q s f)) (is_space_on f space || got_place q s space f || behind) (unleft_itself q s can.system can.nested f space has_own_here)
-        (or_left (is_space_on f space || got_place q s space f) behind (or_right (is_space_on f space) (got_place q s space f) got_here))
-
-    pub live_here : is_live q s space f ≡ true
-    live_here =
-        live_by_bus q s space can.system can.nested f listed
-        ∙ and_from (is_enabled_in q s space f) (has_own q s space f || has_live_behind s (is_live q s space) f) enabled_here (or_left (has_own q s space f) (has_live_behind s (is_live q s space) f) has_own_here)
+        (or_left (is_space_on f space || got_place q s space f) behind (or_right (is_space_on f space) (got_place q s space f) (got_here moves)))
 
   -- ---- bridges above
 
@@ -105,33 +110,56 @@ module _ (q : Request) (s : System) (can : CanSettle q s) where
     pub up : (d : Function) → Contains (bridges_above s f.slot.bus) d → Contains (bridges_above s for.slot.bus) d
     pub live : is_live q s space f ≡ true
 
-  serves_own : (f : Function) (p : Part) → Contains s f → Contains (header_parts f) p → is_part q s f p ≡ true → is_window p ≡ false → IsServing (space_of f p) f
-  serves_own f p listed there part plain = record { for = f; own = has_own_here f p listed there part plain; up = λ d has. has; live = live_here f p listed there part plain }
+  -- a function does for a BAR or ROM of its own, in a space that it enables
+  pub serves_own : (f : Function) (p : Part) → Contains s f → Contains (header_parts f) p → is_part q s f p ≡ true → is_window p ≡ false → is_enabled_in q s (space_of f p) f ≡ true → IsServing (space_of f p) f
+  serves_own f p listed there part plain enabled = record { for = f; own = has_own_here f p listed there part plain; up = λ d has. has; live = live_on f p listed there part plain enabled }
 
-  serves_behind : (c : WindowKind) (f : Function) → IsBehindOf q s can c f → IsServing (window_space c) f
-  serves_behind c f is =
+  -- and a bridge for what is behind it and gets a place
+  serves_behind : (c : WindowKind) (f : Function) → (is : IsBehindOf q s can c f) → stays q s record { function = is.f; part = is.p } ≡ false → IsServing (window_space c) f
+  serves_behind c f is moves =
       let space = space_of is.f is.p in
-      let same : space ≡ window_space c = sym (space_of_class q s can.anew is.f is.p) ∙ ap window_space is.class in
+      let same : space ≡ window_space c = sym (space_of_class q s is.f is.p) ∙ ap window_space is.class in
       let own = has_own_here is.f is.p is.listed is.there is.part is.plain in
+      let live = live_on is.f is.p is.listed is.there is.part is.plain (enabled_here is.f is.p is.listed is.there is.part is.plain moves) in
       subst (λ sp. IsServing sp f) same record {
         for = is.f;
         own = own;
         up = λ d has. above_above q s can.system can.nested is.f f d is.above has;
-        live = live_above (suc is.f.slot.bus) space is.f f (omega arith) is.listed (live_here is.f is.p is.listed is.there is.part is.plain) is.above
+        live = live_above (suc is.f.slot.bus) space is.f f (omega arith) is.listed live is.above
             (λ d has. unleft q s can.system can.nested is.f d space own has);
       }
 
   pub serves : (f : Function) (p : Part) → Contains s f → has_part f p ≡ true → (x : Placed) → new_place q s record { function = f; part = p } ≡ Some x → IsServing (space_of f p) f
-  serves f p listed there x placed = by (new_place_is q s can f p listed there x placed).placeable
+  serves f p listed there x placed = by is.placeable
     where
-      by : IsPlaceable q s (class_in q s f p) f p → IsServing (space_of f p) f
-      by (IsOwnPart plain part) = serves_own f p listed (header_of q s can f listed p there) part plain
-      by (IsNewWindow window bridge has) =
-          let of = serves_behind (class_in q s f p) f (behind_of q s can (class_in q s f p) f listed bridge has) in
-          subst (λ sp. IsServing sp f) (space_of_class q s can.anew f p) of
+      is : IsNewPlace q s can f p x
+      is = new_place_is q s can f p listed there x placed
 
-  -- the bridge that leads to its bus is enabled
-  pub enabled_over : (space : Space) (f b : Function) → Contains s f → IsServing space f → LeadsTo s b f.slot.bus → is_enabled_in q s space b ≡ true
-  enabled_over space f b listed is leads =
+      -- what is behind a new window doesn't stay
+      moves_behind : p ≡ Window (class_in q s f p) → (of : IsBehindOf q s can (class_in q s f p) f) → stays q s record { function = of.f; part = of.p } ≡ false
+      moves_behind window of = false_from_ne_true (stays q s record { function = of.f; part = of.p }) (λ keeps.
+          let over = above_stays q s can.system can.nested record { function = of.f; part = of.p } f keeps of.above in
+          both_ways (stays q s record { function = f; part = p }) is.moves
+          (ap (λ o. stays q s record { function = f; part = o }) window ∙ ap (λ c. stays q s (window_region c f)) (sym of.class) ∙ over))
+
+      by : IsPlaceable q s (class_in q s f p) f p → IsServing (space_of f p) f
+      by (IsOwnPart plain part) = serves_own f p listed (header_of f p there) part plain (enabled_here f p listed (header_of f p there) part plain is.moves)
+      by (IsNewWindow window bridge has) =
+          let of = behind_of q s can (class_in q s f p) f listed bridge has in
+          subst (λ sp. IsServing sp f) (space_of_class q s f p) (serves_behind (class_in q s f p) f of (moves_behind window of))
+
+  -- the bridge that leads to the bus of what serves does too
+  pub serves_over : (space : Space) (f b : Function) → Contains s f → IsServing space f → LeadsTo s b f.slot.bus → IsServing space b
+  serves_over space f b listed is leads =
       let above = above_from s f.slot.bus b record { listed = leads.0; bridge = leads.1; behind = at_secondary q.roots s can.system can.nested b f.slot.bus leads.0 leads.1 leads.2 } in
-      (live_by_behind space b f listed leads is.live (unleft q s can.system can.nested is.for b space is.own (is.up b above))).0
+      record {
+        for = is.for;
+        own = is.own;
+        up = λ d has. is.up d (above_above q s can.system can.nested f b d above has);
+        live = (live_by_behind space b f listed leads is.live (unleft q s can.system can.nested is.for b space is.own (is.up b above))).1;
+      }
+
+  -- what serves is enabled
+  pub serves_enabled : (space : Space) (f : Function) → Contains s f → IsServing space f → is_enabled_in q s space f ≡ true
+  serves_enabled space f listed is =
+      (and_parts (is_enabled_in q s space f) (has_own q s space f || has_live_behind s (is_live q s space) f) (sym (live_by_bus q s space can.system can.nested f listed) ∙ is.live)).0

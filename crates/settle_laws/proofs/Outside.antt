@@ -112,3 +112,8 @@ with_taken_is (p ∷ placed) taken t has = elim (with_taken_is placed (taken_by 
   ]
   | inr (x, listed, same) ↦ inr (x, in_tail p placed x listed, same)
 ]
+
+-- and what was so stays so
+pub with_taken_keeps : (placed : List Placed) (taken : List Range) (t : Range) → Contains taken t → Contains (with_taken placed taken) t
+with_taken_keeps [] taken t has = has
+with_taken_keeps (p ∷ placed) taken t has = with_taken_keeps placed (taken_by p.item p.at ∷ taken) t (in_tail (taken_by p.item p.at) taken t has)

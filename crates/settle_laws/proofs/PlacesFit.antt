@@ -148,6 +148,9 @@ module _ (q : Request) (s : System) (system : IsSystem s) (good : are_bad_lists 
         kind_room (is_io mask) (type_bits mask == 2) (type_bits mask == 0) (p.at + bar_size f.probe n) (omega (arith, end, size, some))
         (λ narrow. let low = bar_is.low (sym (ap (λ (x : Extent). x.wide) (bar_is.own refl)) ∙ narrow) in omega (arith, low, size, some))
 
+    pub bar_fine : (p.at % bar_size f.probe n ≡ 0) × (p.at + bar_size f.probe n ≤ 2 ^ reach_of (bar_kind (bar_at f.probe n)))
+    bar_fine = (bar_aligned, bar_room)
+
     width : encodings (bar_at f.probe n) ≡ 2 ^ first_bit (bar_kind (bar_at f.probe n))
     width = let mask = bar_at f.probe n in encoding_width (is_io mask) (type_bits mask == 2) (type_bits mask == 0)
 
@@ -190,14 +193,18 @@ module _ (q : Request) (s : System) (system : IsSystem s) (good : are_bad_lists 
 
   -- ---- the ROM
 
-  rom_shown : has_rom f.image f.probe ≡ true → (p : Placed) → new_place q s (region Rom) ≡ Some p → (image : List ℕ) → HasBits f image → HasBits f (with_number 4 (rom_register (layout f.image)) (rom_value f.image p.at) image)
-  rom_shown there p e image h =
+  pub rom_fine : (p : Placed) → new_place q s (region Rom) ≡ Some p → (p.at % rom_size f.image f.probe ≡ 0) × (p.at + rom_size f.image f.probe ≤ 2 ^ 32)
+  rom_fine p e =
       let has : HasPlace q s Memory f Rom p = new_place_is q s system f listed Rom (rom_part f) p e in
       let extent = has.own refl in
       let size : rom_size f.image f.probe ≡ p.item.extent.size = ap (λ (x : Extent). x.size) extent in
       let low = has.low (sym (ap (λ (x : Extent). x.wide) extent)) in
       let some = size_some q s f Rom refl in
-      let at : (p.at % rom_size f.image f.probe ≡ 0) × (p.at + rom_size f.image f.probe ≤ 2 ^ 32) = (ap (λ (x : Extent). p.at % x.alignment) extent ∙ has.multiple, omega (arith, low, size, some)) in
+      (ap (λ (x : Extent). p.at % x.alignment) extent ∙ has.multiple, omega (arith, low, size, some))
+
+  rom_shown : has_rom f.image f.probe ≡ true → (p : Placed) → new_place q s (region Rom) ≡ Some p → (image : List ℕ) → HasBits f image → HasBits f (with_number 4 (rom_register (layout f.image)) (rom_value f.image p.at) image)
+  rom_shown there p e image h =
+      let at = rom_fine p e in
       let fits = rom_number_fits f is.image p.at decodable.rom (λ h. at) in
       let room : rom_register (layout f.image) + 4 ≤ 256 = elim (rom_at_end f) [ inl a ↦ omega (arith, a) | inr a ↦ omega (arith, a) ] in
       with_fit f is.image 4 (rom_register (layout f.image)) (rom_value f.image p.at) image room
@@ -224,18 +231,15 @@ module _ (q : Request) (s : System) (system : IsSystem s) (good : are_bad_lists 
     rule : breaks_window_rule c f.image f.probe ≡ false
     rule = decodable.windows c (eqb-true (layout f.image) 1 bridge)
 
-    window_shown : (p : Placed) → new_place q s (region (Window c)) ≡ Some p → (image : List ℕ) → HasBits f image → HasBits f (with_bounds c (bounds_for c (nibble_of c f) p.at (p.at + (p.item.extent.size - 1))) image)
-    window_shown p e image h =
+    pub open_fit : (p : Placed) → new_place q s (region (Window c)) ≡ Some p → PartsFit f c (bounds_for c (nibble_of c f) p.at (p.at + (p.item.extent.size - 1)))
+    open_fit p e =
         let has : HasPlace q s (space_of f (Window c)) f (Window c) p = new_place_is q s system f listed (Window c) part p e in
         let reached = window_reached c p has (new_place_ends q s system f listed (Window c) part good far p e) in
-        bounds_fit f is.image c _ image
-        (kept_fit f bridge c (nibble_of c f) _ (few_nibbles f bridge c) (lawful_nibbles f bridge c rule there)
-        (bounds_kept c (nibble_of c f) p.at (p.at + (p.item.extent.size - 1)) (few_nibbles f bridge c) (omega arith) reached)) h
+        kept_fit f bridge c (nibble_of c f) _ (few_nibbles f bridge c) (lawful_nibbles f bridge c rule there)
+        (bounds_kept c (nibble_of c f) p.at (p.at + (p.item.extent.size - 1)) (few_nibbles f bridge c) (omega arith) reached)
 
-    closed_shown : (image : List ℕ) → HasBits f image → HasBits f (with_bounds c (closed_bounds c (nibble_of c f)) image)
-    closed_shown image h =
-        bounds_fit f is.image c _ image
-        (subst (PartsFit f c) (by_closed f bridge c false 0 0 there refl) (window_fits f bridge is.image c false 0 0 rule (λ opened. absurd (both_ways false refl opened)))) h
+    pub closed_fit : PartsFit f c (closed_bounds c (nibble_of c f))
+    closed_fit = subst (PartsFit f c) (by_closed f bridge c false 0 0 there refl) (window_fits f bridge is.image c false 0 0 rule (λ opened. absurd (both_ways false refl opened)))
 
   -- ---- each part, and all
 
@@ -265,10 +269,10 @@ module _ (q : Request) (s : System) (system : IsSystem s) (good : are_bad_lists 
   part_shown (Window c) part can None e image h =
       either (stays q s (region (Window c))) image (closed_if_open f (Window c) image) (λ t. h)
       (λ moves. either (is_open f c) (with_bounds c (closed_bounds c (nibble_of c f)) image) image
-      (λ opened. closed_shown c part (part.bridge refl) (window_there q s f c can) image h) (λ t. h))
+      (λ opened. bounds_fit f is.image c _ image (closed_fit c part (part.bridge refl) (window_there q s f c can)) h) (λ t. h))
   part_shown (Bar n) part can (Some p) e image h = bar_shown n part (bar_inside n part.there) (can_bar q s f n can) p e image h
   part_shown Rom part can (Some p) e image h = rom_shown (can_rom q s f can) p e image h
-  part_shown (Window c) part can (Some p) e image h = window_shown c part (part.bridge refl) (window_there q s f c can) p e image h
+  part_shown (Window c) part can (Some p) e image h = bounds_fit f is.image c _ image (open_fit c part (part.bridge refl) (window_there q s f c can) p e) h
 
   -- The law: what is no address bit of an address register stays.
   pub image_has_bits : HasBits f (settled_image q s f)

@@ -38,7 +38,6 @@ lists_fine roots pools good =
 
 pub can_settle_where_planned : CanSettleWherePlanned
 can_settle_where_planned roots s pools system nested profile chains rising top can = record {
-  anew = refl;
   lists = lists_fine roots pools can.good;
   high = λ r has. elim (in_cons_cases record { root = None; range = pools.prefetch } [] r has) [
     | inl is ↦ subst (λ (x : RootRange). x.range.last < 2 ^ 64) is top

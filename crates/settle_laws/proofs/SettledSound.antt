@@ -14,19 +14,22 @@ use Rattle.plan_spec.specs.Plan.{same_class}
 use Rattle.plan_spec.specs.Planning.Layout.{range_of, AreBeside, AreTwo, LieApart}
 use Rattle.plan_spec.specs.Planning.Ranges.{Ranges}
 use Rattle.plan_spec.proofs.PlanningLaws.{moved_is_nested, moved_has_chains}
-use Rattle.plan_spec.proofs.Planning.Home.{home_by_steps}
+use Rattle.plan_spec.proofs.Planning.Home.{home_by_known}
 use Rattle.plan_spec.proofs.Planning.LaidOut.{place_of_claim}
 use Rattle.plan_spec.proofs.Planning.Moved.{secondary_same}
 use Rattle.plan_spec.proofs.Planning.Single.{single_by_ranges}
 use Rattle.settle_spec.specs.Lists.{Request}
 use Rattle.settle_spec.specs.Parts.{class_in}
-use Rattle.settle_spec.specs.Items.{taken_by}
-use Rattle.settle_spec.specs.Registers.{settled, settled_function}
+use Rattle.settle_spec.specs.Registers.{is_enabled_in, settled, settled_function}
 use Rattle.settle_laws.specs.PlacesLaws.{CanSettle}
-use Rattle.settle_laws.proofs.Claimed.{bridge_stays, new_decodable, window_place, claimed, passed_over}
+use Rattle.settle_laws.proofs.Fits.{was}
+use Rattle.settle_laws.proofs.Claimed.{on_now, bridge_stays, new_decodable, window_end, claimed_part, claimed, passed_over}
+use Rattle.settle_laws.proofs.HeaderParts.{header_of}
+use Rattle.settle_laws.proofs.Held.{claim_on}
 use Rattle.settle_laws.proofs.InWindows.{are_apart}
-use Rattle.settle_laws.proofs.Moves.{was, moves, all_move, new_profile}
-use Rattle.settle_laws.proofs.PartPlaces.{prefetch_of_class, space_of_class}
+use Rattle.settle_laws.proofs.Lives.{IsServing, serves_own, serves_over, serves_enabled}
+use Rattle.settle_laws.proofs.Moves.{moves, all_move, new_profile}
+use Rattle.settle_laws.proofs.PartClasses.{prefetch_of_class, space_of_class}
 use Rattle.settle_laws.proofs.SettledMoved.{kind_stays}
 
 -- a window of this class passes what may use it
@@ -78,45 +81,73 @@ module _ (q : Request) (s : System) (can : CanSettle q s) where
   -- ---- home
 
   part_prefetch : (f : Function) (p : Part) → is_window p ≡ false → class_in q s f p ≡ PrefetchWindow → is_prefetchable_part (now f) p ≡ true
-  part_prefetch f (Bar n) plain e = (prefetch_of_class q s can.anew f n e).0
+  part_prefetch f (Bar n) plain e = prefetch_of_class q s f n e
   part_prefetch f Rom plain e = no_prefetch MemoryWindow refl e
   part_prefetch f (Window kind) plain e = absurd (both_ways true plain refl)
 
-  first_step : (f b : Function) (p : Part) (space : Space) (a : ℕ) → Contains s f → Contains s b → is_window p ≡ false → Claims (now f) p space a → LeadsTo s b f.slot.bus → passes space (is_prefetchable_part (now f) p) a (now b) ≡ true
-  first_step f b p space a in_f in_b plain claim leads =
-      let range = (place_of_claim (now f) p space a (new_decodable q s can f in_f) claim).range in
-      passes_by (class_in q s f p) space (is_prefetchable_part (now f) p) a (now b) (space_of_class q s can.anew f p ∙ same_space f p ∙ claim.maps) (part_prefetch f p plain)
-      (passed_over q s can f b p a in_f (claimed q s can f p space a in_f claim) range leads)
+  -- what claims is of a function that serves
+  claim_serves : (f : Function) (p : Part) (space : Space) (a : ℕ) → Contains s f → is_window p ≡ false → Claims (now f) p space a → IsServing q s can space f
+  claim_serves f p space a listed plain claim =
+      let at : space_of f p ≡ space = same_space f p ∙ claim.maps in
+      let part = claimed_part q s can f p space a listed plain claim in
+      let enabled = sym (on_now q s can f listed space) ∙ claim_on (now f) p space a claim in
+      subst (λ sp. IsServing q s can sp f) at (serves_own q s can f p listed (header_of f p part.0) part.1 plain (ap (λ sp. is_enabled_in q s sp f) at ∙ enabled))
 
-  next_step : (b d : Function) (space : Space) (prefetchable : Bool) (a : ℕ) → Contains s b → Contains s d → is_bridge b ≡ true → passes space prefetchable a (now b) ≡ true → LeadsTo s d b.slot.bus → passes space prefetchable a (now d) ≡ true
-  next_step b d space prefetchable a in_b in_d bridge passed leads =
+  first_step : (f b : Function) (p : Part) (space : Space) (a : ℕ) → Contains s f → is_window p ≡ false → Claims (now f) p space a → LeadsTo s b f.slot.bus
+      → IsServing q s can space b × (passes space (is_prefetchable_part (now f) p) a (now b) ≡ true)
+  first_step f b p space a in_f plain claim leads =
+      let range = (place_of_claim (now f) p space a (new_decodable q s can f in_f) claim).range in
+      let at : space_of f p ≡ space = same_space f p ∙ claim.maps in
+      let over = serves_over q s can space f b in_f (claim_serves f p space a in_f plain claim) leads in (
+        over,
+        passes_by (class_in q s f p) space (is_prefetchable_part (now f) p) a (now b) (space_of_class q s f p ∙ at) (part_prefetch f p plain)
+            (passed_over q s can f b p a in_f (claimed q s can f p space a in_f claim) range leads (ap (λ sp. is_enabled_in q s sp b) at ∙ serves_enabled q s can space b leads.0 over)),
+      )
+
+  next_step : (b d : Function) (space : Space) (prefetchable : Bool) (a : ℕ) → Contains s b → is_bridge b ≡ true → IsServing q s can space b → passes space prefetchable a (now b) ≡ true → LeadsTo s d b.slot.bus
+      → IsServing q s can space d × (passes space prefetchable a (now d) ≡ true)
+  next_step b d space prefetchable a in_b bridge serving passed leads =
       let by = passed_by space prefetchable a (now b) passed in
       let c = by.class in
       let h = (and_parts (is_space_on (now b) (window_space c)) (holds c (now b).image b.probe a) by.claims).1 in
       let there = (held c (now b).image b.probe a h).there in
-      passes_by c space prefetchable a (now d) by.at by.may
-      (passed_over q s can b d (Window c) a in_b (window_place q s can b in_b c a bridge h) ((window_holds_its_pages c (now b).image b.probe a there).0 h) leads)
+      let over = serves_over q s can space b d in_b serving leads in (
+        over,
+        passes_by c space prefetchable a (now d) by.at by.may
+            (passed_over q s can b d (Window c) a in_b (window_end q s can b in_b c a bridge h) ((window_holds_its_pages c (now b).image b.probe a there).0 h) leads
+            (ap (λ sp. is_enabled_in q s sp d) by.at ∙ serves_enabled q s can space d leads.0 over)),
+      )
 
   abbrev of_old : (g : Function) → Contains (settled q s) g → IsMade now s g
   of_old g has = in_map_to now s g has
 
+  -- a settled function that serves
+  record ServesNow (space : Space) (g : Function) : Type 0 where
+    of : Function
+    listed : Contains s of
+    is : now of ≡ g
+    serving : IsServing q s can space of
+
+  leads_before : (f b g c : Function) → now f ≡ g → now b ≡ c → Contains s b → LeadsTo (settled q s) c g.slot.bus → LeadsTo s b f.slot.bus
+  leads_before f b g c is_f is_b listed leads =
+      led_before b f.slot.bus listed (subst (λ x. LeadsTo (settled q s) x f.slot.bus) (sym is_b) (subst (λ (x : Function). LeadsTo (settled q s) c x.slot.bus) (sym is_f) leads))
+
   home : IsHome q.roots (settled q s)
-  home = home_by_steps q.roots (settled q s) (moved_is_nested q.roots s (settled q s) (all_move q s can) can.system can.nested)
+  home = home_by_known q.roots (settled q s) (moved_is_nested q.roots s (settled q s) (all_move q s can) can.system can.nested) ServesNow
       (λ g c p space a in_g plain claim leads.
       let f : IsMade now s g = of_old g in_g in
       let b : IsMade now s c = of_old c leads.0 in
-      let claim_f : Claims (now f.from) p space a = subst (λ x. Claims x p space a) (sym f.is) claim in
-      let leads_b : LeadsTo (settled q s) (now b.from) f.from.slot.bus = subst (λ x. LeadsTo (settled q s) x f.from.slot.bus) (sym b.is) (subst (λ (x : Function). LeadsTo (settled q s) c x.slot.bus) (sym f.is) leads) in
-      subst (λ x. passes space (is_prefetchable_part g p) a x ≡ true) b.is
-      (subst (λ x. passes space (is_prefetchable_part x p) a (now b.from) ≡ true) f.is
-      (first_step f.from b.from p space a f.has b.has plain claim_f (led_before b.from f.from.slot.bus b.has leads_b))))
-      (λ g c space prefetchable a in_g bridge passed leads.
-      let f : IsMade now s g = of_old g in_g in
+      let step = first_step f.from b.from p space a f.has plain (subst (λ x. Claims x p space a) (sym f.is) claim) (leads_before f.from b.from g c f.is b.is b.has leads) in (
+        record { of = b.from; listed = b.has; is = b.is; serving = step.0 },
+        subst (λ x. passes space (is_prefetchable_part g p) a x ≡ true) b.is (subst (λ x. passes space (is_prefetchable_part x p) a (now b.from) ≡ true) f.is step.1),
+      ))
+      (λ g c space prefetchable a in_g bridge known passed leads.
       let b : IsMade now s c = of_old c leads.0 in
-      let bridge_f : is_bridge f.from ≡ true = sym (bridge_stays q s can f.from f.has) ∙ ap is_bridge f.is ∙ bridge in
-      let leads_b : LeadsTo (settled q s) (now b.from) f.from.slot.bus = subst (λ x. LeadsTo (settled q s) x f.from.slot.bus) (sym b.is) (subst (λ (x : Function). LeadsTo (settled q s) c x.slot.bus) (sym f.is) leads) in
-      subst (λ x. passes space prefetchable a x ≡ true) b.is
-      (next_step f.from b.from space prefetchable a f.has b.has bridge_f (ap (passes space prefetchable a) f.is ∙ passed) (led_before b.from f.from.slot.bus b.has leads_b)))
+      let bridge_f : is_bridge known.of ≡ true = sym (bridge_stays q s can known.of known.listed) ∙ ap is_bridge known.is ∙ bridge in
+      let step = next_step known.of b.from space prefetchable a known.listed bridge_f known.serving (ap (passes space prefetchable a) known.is ∙ passed) (leads_before known.of b.from g c known.is b.is b.has leads) in (
+        record { of = b.from; listed = b.has; is = b.is; serving = step.0 },
+        subst (λ x. passes space prefetchable a x ≡ true) b.is step.1,
+      ))
 
   -- ---- single
 
@@ -128,8 +159,8 @@ module _ (q : Request) (s : System) (can : CanSettle q s) where
   regions_apart f g p r space a in_f in_g beside claim_f claim_g two =
       let x = claimed q s can f p space a in_f claim_f in
       let y = claimed q s can g r space a in_g claim_g in
-      subst (λ v. LieApart v (range_of (now g) r)) (sym x.shown) (subst (LieApart (taken_by x.at.item x.at.at)) (sym y.shown)
-      (are_apart q s can f g p r in_f in_g x.there y.there (same_space f p ∙ claim_f.maps ∙ sym claim_g.maps ∙ sym (same_space g r)) beside (two_before two) x.at y.at x.placed y.placed))
+      subst (λ v. LieApart v (range_of (now g) r)) (sym x.shown) (subst (LieApart x.at) (sym y.shown)
+      (are_apart q s can f g p r in_f in_g x.there y.there (same_space f p ∙ claim_f.maps ∙ sym claim_g.maps ∙ sym (same_space g r)) beside (two_before two) x.at y.at x.ends y.ends))
     where
       two_before : AreTwo (now f) p (now g) r → AreTwo f p g r
       two_before (inl slots) = inl slots

@@ -1,9 +1,8 @@
 -- A settled function shows its new places: each part that has one is there, and a window that has none is closed.
 use Rattle.std.proofs.Common.{◌≡◌, ◌&&◌, ℕ, suc, ◌+◌, ◌-◌, ◌*◌, ◌/◌, ◌%◌, ◌^◌, ◌<◌, ◌≤◌, ◌⊎◌, inl, inr, List, [], ◌∷◌, Bool, true, false, cond, not, refl, arith, sym, ◌∙◌, ap, subst, Option, None, Some}
 use Rattle.std.specs.Bool.{nat_le, ◌==◌, if◌then◌else◌}
-use Rattle.std.specs.List.{Contains, filter, fold, range_with_len}
-use Rattle.std.proofs.lemmas.Bool.{and_parts, and_from, both_ways, cases_Bool, cases_eq, cases_lt, lt-ltb, ltb-true, not-false, or_left, or_right, true≢false}
-use Rattle.std.proofs.lemmas.List.Elements.{Contains-append_left, Contains-append_right}
+use Rattle.std.specs.List.{Contains, filter, fold}
+use Rattle.std.proofs.lemmas.Bool.{and_parts, and_from, both_ways, cases_Bool, cases_eq, cases_lt, lt-ltb, not-false, or_left, or_right, true≢false}
 use Rattle.std.proofs.lemmas.Nat.{mod_below, pow_pos}
 use Rattle.std.proofs.Math.Nat.{pow-le-pow_right}
 use Rattle.pci_spec.specs.Number.{byte_at, number_at, lowest_one, IsImage}
@@ -11,10 +10,10 @@ use Rattle.pci_spec.specs.Registers.{COMMAND}
 use Rattle.pci_spec.specs.Header.{layout, bar_count, bar_register, rom_register}
 use Rattle.pci_spec.specs.Bar.{bar_at, bar_kind, is_wide, starts_bar, whole_bar, has_bar, first_bit}
 use Rattle.pci_spec.specs.Rom.{has_rom}
-use Rattle.pci_spec.specs.Window.{WindowKind, IoWindow, MemoryWindow, PrefetchWindow, Bounds, bounds_at, bounds_for, closed_bounds, has_window, is_closed, lower_pages}
+use Rattle.pci_spec.specs.Window.{WindowKind, Bounds, bounds_at, bounds_for, closed_bounds, has_window, is_closed, lower_pages}
 use Rattle.pci_spec.specs.Decoded.{aligned_range, bar_size, rom_size}
 use Rattle.pci_spec.specs.System.{System, Function, Part, Bar, Rom, Window, has_part, is_bridge, is_implemented, is_window}
-use Rattle.pci_spec.proofs.Members.{in_nil, in_cons_cases, in_head, in_tail, in_map_from, in_filter_from, in_range_from}
+use Rattle.pci_spec.proofs.Members.{in_nil, in_cons_cases, in_head, in_tail, in_map_from, in_filter_from}
 use Rattle.pci_spec.proofs.Ranges as ranges
 use Rattle.plan_spec.specs.Plan.{is_open, same_class}
 use Rattle.plan_spec.specs.Place.{nibble_of, range_from}
@@ -29,18 +28,16 @@ use Rattle.plan_spec.proofs.Planning.Tables.{class_itself}
 use Rattle.plan_spec.proofs.Planning.WindowFits.{few_nibbles}
 use Rattle.settle_spec.specs.FirstPlace.{Extent}
 use Rattle.settle_spec.specs.Lists.{Request}
-use Rattle.settle_spec.specs.Parts.{Region, is_part, header_bars, header_parts, class_in}
+use Rattle.settle_spec.specs.Parts.{Region, is_part, header_parts, class_in}
 use Rattle.settle_spec.specs.Items.{Placed, stays, taken_by}
 use Rattle.settle_spec.specs.Places.{new_place}
 use Rattle.settle_spec.specs.Registers.{with_number, with_bounds, closed_if_open, shown, changing, settled_image, settled_function, settled_command}
 use Rattle.settle_laws.specs.PlacesLaws.{CanSettle}
-use Rattle.settle_laws.proofs.Anew.{none_stays}
-use Rattle.settle_laws.proofs.Fits.{decodable, reach_by, window_there, window_has, size_of_place, bar_room, rom_room, window_room}
-use Rattle.settle_laws.proofs.HeaderParts.{part_cases, few_bars, rom_at_end}
+use Rattle.settle_laws.proofs.Fits.{was, decodable, reach_by, window_there, window_has, size_of_place, bar_room, rom_room, window_room, shown_fit, none_fit}
+use Rattle.settle_laws.proofs.HeaderParts.{part_cases, few_bars, rom_at_end, bar_of, rom_of, window_of}
 use Rattle.settle_laws.proofs.Held.{and_second_false}
 use Rattle.settle_laws.proofs.Images.{AgreeAside, same_number, whole_aside, bounds_aside}
 use Rattle.settle_laws.proofs.ItemForms.{IsPlaceable, IsOwnPart, IsNewWindow}
-use Rattle.settle_laws.proofs.Moves.{was, closed_fit, open_fit}
 use Rattle.settle_laws.proofs.Numbers.{with_elsewhere}
 use Rattle.settle_laws.proofs.NumbersPut.{reads_four, reads_low, reads_high}
 use Rattle.settle_laws.proofs.PartPlaces.{new_place_is}
@@ -63,7 +60,7 @@ abbrev is_bar : Part → Bool
 is_bar (Bar n) = true
 is_bar p = false
 
-bar_or_not : (n : ℕ) (p : Part) → (Bar n ≡ p) ⊎ (Bar n ≡ p → ⊥)
+pub bar_or_not : (n : ℕ) (p : Part) → (Bar n ≡ p) ⊎ (Bar n ≡ p → ⊥)
 bar_or_not n (Bar m) = elim (cases_eq n m) [
   | inl same ↦ inl (ap Bar same)
   | inr differ ↦ inr (λ e. differ (ap number e))
@@ -75,7 +72,7 @@ bar_or_not n (Bar m) = elim (cases_eq n m) [
 bar_or_not n Rom = inr (λ e. true≢false (ap is_bar e))
 bar_or_not n (Window c) = inr (λ e. true≢false (ap is_bar e))
 
-rom_or_not : (p : Part) → (Rom ≡ p) ⊎ (Rom ≡ p → ⊥)
+pub rom_or_not : (p : Part) → (Rom ≡ p) ⊎ (Rom ≡ p → ⊥)
 rom_or_not (Bar m) = inr (λ e. true≢false (sym (ap is_bar e)))
 rom_or_not Rom = inl refl
 rom_or_not (Window c) = inr (λ e. true≢false (sym (ap is_window e)))
@@ -96,9 +93,6 @@ window_or_not c (Window d) = elim (cases_Bool (same_class c d)) [
 abbrev closed_by : WindowKind → Bounds → Bool
 closed_by c b = not (nat_le (b.base_upper * lower_pages c + b.base / 16) (b.limit_upper * lower_pages c + b.limit / 16))
 
-abbrev windows_and_rom : List Part
-windows_and_rom = Window IoWindow ∷ Window MemoryWindow ∷ Window PrefetchWindow ∷ Rom ∷ []
-
 module _ (q : Request) (s : System) (can : CanSettle q s) (f : Function) (listed : Contains s f) where
   abbrev region : Part → Region
   region p = record { function = f; part = p }
@@ -118,24 +112,8 @@ module _ (q : Request) (s : System) (can : CanSettle q s) (f : Function) (listed
   in_changing p there can_p = in_map_from region (filter (can_change q s f) (header_parts f)) p (in_filter_from (can_change q s f) (header_parts f) p there can_p)
 
   -- where the registers of parts are, Command isn't
-  aside : AgreeAside (settled_function q s f).image (settled_image q s f)
+  pub aside : AgreeAside (settled_function q s f).image (settled_image q s f)
   aside place from to = with_elsewhere 2 COMMAND (settled_command q s f) place (settled_image q s f) (inr (omega (arith, from)))
-
-  pub listed_bar : (n : ℕ) → n < bar_count (layout f.image) → Contains (header_parts f) (Bar n)
-  listed_bar n inside = Contains-append_left (header_bars f) windows_and_rom (Bar n) (in_map_from Bar (range_with_len 0 (bar_count (layout f.image))) n (in_range_from 0 (bar_count (layout f.image)) n (omega arith) (omega (arith, inside))))
-
-  pub listed_rom : Contains (header_parts f) Rom
-  listed_rom = Contains-append_right (header_bars f) windows_and_rom Rom (3, omega arith, refl)
-
-  pub listed_window : (c : WindowKind) → Contains (header_parts f) (Window c)
-  listed_window IoWindow = Contains-append_right (header_bars f) windows_and_rom (Window IoWindow) (0, omega arith, refl)
-  listed_window MemoryWindow = Contains-append_right (header_bars f) windows_and_rom (Window MemoryWindow) (1, omega arith, refl)
-  listed_window PrefetchWindow = Contains-append_right (header_bars f) windows_and_rom (Window PrefetchWindow) (2, omega arith, refl)
-
-  pub header_of : (p : Part) → has_part f p ≡ true → Contains (header_parts f) p
-  header_of (Bar n) there = listed_bar n (ltb-true n (bar_count (layout f.image)) there)
-  header_of Rom there = listed_rom
-  header_of (Window c) there = listed_window c
 
   own_by : (c : WindowKind) (p : Part) → is_window p ≡ false → IsPlaceable q s c f p → is_part q s f p ≡ true
   own_by c p plain (IsOwnPart same part) = part
@@ -227,6 +205,11 @@ module _ (q : Request) (s : System) (can : CanSettle q s) (f : Function) (listed
           ∙ sym (ap (λ t. cond t (bar_at b n + 2 ^ 32 * bar_at b (n + 1)) (bar_at b n)) wide)
     ]
 
+    -- no other part has a byte of it
+    pub keeps_whole : (p : Part) → Contains (header_parts f) p → can_change q s f p ≡ true → (Bar n ≡ p → ⊥) → (image : List ℕ) → whole_bar f.probe (step image (region p)) n ≡ whole_bar f.probe image n
+    keeps_whole p in_p can_p other image =
+        whole_by_bytes (step image (region p)) image (λ place from to. shown_off q s f p (new_place q s (region p)) image place (off_bar p in_p can_p other place from to))
+
     -- where a number is put there, it is the BAR's
     whole_shown : (v : ℕ) → (is_wide (bar_at f.probe n) ≡ true → v < 2 ^ 64) → (is_wide (bar_at f.probe n) ≡ false → v < 2 ^ 32) → (image : List ℕ) → IsImage image
         → whole_bar f.probe (with_number (width n) (bar_register n) v image) n ≡ v
@@ -256,7 +239,7 @@ module _ (q : Request) (s : System) (can : CanSettle q s) (f : Function) (listed
       value = bar_value f.image f.probe n x.at
 
       pub room : (x.at % bar_size f.probe n ≡ 0) × (x.at + bar_size f.probe n ≤ 2 ^ reach_of (bar_kind (bar_at f.probe n)))
-      room = bar_room q s can f n listed (lt-ltb n (bar_count (layout f.image)) inside) x placed
+      room = bar_room q s can f n listed inside there x placed
 
       -- the encoding is below the size
       value_reach : value < 2 ^ reach_of (bar_kind (bar_at f.probe n))
@@ -287,8 +270,8 @@ module _ (q : Request) (s : System) (can : CanSettle q s) (f : Function) (listed
           let c : IsChanging q s f r = changing_is q s f r has in
           subst (λ t. whole_bar f.probe (step image t) n ≡ value) c.is (elim (bar_or_not n c.p) [
             | inl here ↦ subst (λ o. whole_bar f.probe (step image (region o)) n ≡ value) here (sets_bar image is)
-            | inr other ↦ whole_by_bytes (step image (region c.p)) image (λ place from to. shown_off q s f c.p (new_place q s (region c.p)) image place (off_bar c.p c.there c.can other place from to)) ∙ same
-          ])) f.image image_is (in_changing (Bar n) (listed_bar n inside) can_here)
+            | inr other ↦ keeps_whole c.p c.there c.can other image ∙ same
+          ])) f.image image_is (in_changing (Bar n) (bar_of f n inside) can_here)
 
       -- what the BAR shows
       pub bar_now : whole_bar f.probe (settled_function q s f).image n ≡ value
@@ -313,10 +296,18 @@ module _ (q : Request) (s : System) (can : CanSettle q s) (f : Function) (listed
     | inr (inr rom) ↦ absurd (other rom)
   ]
 
-  module _ (there : has_rom f.image f.probe ≡ true) (x : Placed) (placed : new_place q s (region Rom) ≡ Some x) where
-    abbrev rom : ℕ
-    rom = rom_register (layout f.image)
+  abbrev rom : ℕ
+  rom = rom_register (layout f.image)
 
+  pub keeps_rom : (p : Part) → Contains (header_parts f) p → can_change q s f p ≡ true → (Rom ≡ p → ⊥) → (image : List ℕ) → number_at (step image (region p)) rom 4 ≡ number_at image rom 4
+  keeps_rom p in_p can_p other image =
+      same_number (step image (region p)) image rom 4 (λ j less. shown_off q s f p (new_place q s (region p)) image (rom + j) (off_rom p in_p can_p other (rom + j) (omega arith)))
+
+  pub rom_aside : number_at (settled_function q s f).image rom 4 ≡ number_at (settled_image q s f) rom 4
+  rom_aside =
+      same_number (settled_function q s f).image (settled_image q s f) rom 4 (λ j less. with_elsewhere 2 COMMAND (settled_command q s f) (rom + j) (settled_image q s f) (elim (rom_at_end f) [ inl a ↦ inr (omega (arith, a)) | inr a ↦ inr (omega (arith, a)) ]))
+
+  module _ (there : has_rom f.image f.probe ≡ true) (x : Placed) (placed : new_place q s (region Rom) ≡ Some x) where
     abbrev rom_number : ℕ
     rom_number = rom_value f.image x.at
 
@@ -342,15 +333,13 @@ module _ (q : Request) (s : System) (can : CanSettle q s) (f : Function) (listed
         let c : IsChanging q s f r = changing_is q s f r has in
         subst (λ t. number_at (step image t) rom 4 ≡ rom_number) c.is (elim (rom_or_not c.p) [
           | inl here ↦ subst (λ o. number_at (step image (region o)) rom 4 ≡ rom_number) here (sets_rom image is)
-          | inr other ↦ same_number (step image (region c.p)) image rom 4 (λ j less. shown_off q s f c.p (new_place q s (region c.p)) image (rom + j) (off_rom c.p c.there c.can other (rom + j) (omega arith))) ∙ same
+          | inr other ↦ keeps_rom c.p c.there c.can other image ∙ same
         ])) f.image image_is
-        (in_changing Rom listed_rom (or_left (is_part q s f Rom) (is_window Rom && is_implemented f Rom) (own_placed Rom refl refl x placed)))
+        (in_changing Rom (rom_of f) (or_left (is_part q s f Rom) (is_window Rom && is_implemented f Rom) (own_placed Rom refl refl x placed)))
 
     -- what the ROM's register shows
     pub rom_now : number_at (settled_function q s f).image rom 4 ≡ rom_number
-    rom_now =
-        same_number (settled_function q s f).image (settled_image q s f) rom 4 (λ j less. with_elsewhere 2 COMMAND (settled_command q s f) (rom + j) (settled_image q s f) (elim (rom_at_end f) [ inl a ↦ inr (omega (arith, a)) | inr a ↦ inr (omega (arith, a)) ]))
-        ∙ rom_set
+    rom_now = rom_aside ∙ rom_set
 
     pub rom_shown : range_of (settled_function q s f) Rom ≡ taken_by x.item x.at
     rom_shown =
@@ -366,7 +355,7 @@ module _ (q : Request) (s : System) (can : CanSettle q s) (f : Function) (listed
 
   module _ (c : WindowKind) (bridge : is_bridge f ≡ true) where
     -- no other part has a byte of a window's
-    keeps_bounds : (p : Part) → Contains (header_parts f) p → can_change q s f p ≡ true → (Window c ≡ p → ⊥) → (image : List ℕ) → bounds_at c (step image (region p)) ≡ bounds_at c image
+    pub keeps_bounds : (p : Part) → Contains (header_parts f) p → can_change q s f p ≡ true → (Window c ≡ p → ⊥) → (image : List ℕ) → bounds_at c (step image (region p)) ≡ bounds_at c image
     keeps_bounds p in_p can_p other image = elim (part_cases f p in_p) [
       | inl bar ↦
           let end = bridge_bar bar.n bar.inside (can_bar q s f bar.n (ap (can_change q s f) bar.is ∙ can_p)) bridge in
@@ -383,10 +372,10 @@ module _ (q : Request) (s : System) (can : CanSettle q s) (f : Function) (listed
           shown_off q s f p (new_place q s (region p)) image place (subst (λ o. IsOff f o place) rom (inl (omega (arith, at, high)))))
     ]
 
-    in_window : has_window c f.probe ≡ true → Contains (changing q s f) (region (Window c))
-    in_window there = in_changing (Window c) (listed_window c) (or_right (is_part q s f (Window c)) (is_window (Window c) && is_implemented f (Window c)) (and_from (is_bridge f) (has_window c f.probe) bridge there))
+    pub in_window : has_window c f.probe ≡ true → Contains (changing q s f) (region (Window c))
+    in_window there = in_changing (Window c) (window_of f c) (or_right (is_part q s f (Window c)) (is_window (Window c) && is_implemented f (Window c)) (and_from (is_bridge f) (has_window c f.probe) bridge there))
 
-    keeps_or_sets : (v : Bounds) → ((image : List ℕ) → IsImage image → bounds_at c image ≡ v → bounds_at c (step image (region (Window c))) ≡ v) → (r : Region) → Contains (changing q s f) r → (image : List ℕ) → IsImage image → bounds_at c image ≡ v → bounds_at c (step image r) ≡ v
+    pub keeps_or_sets : (v : Bounds) → ((image : List ℕ) → IsImage image → bounds_at c image ≡ v → bounds_at c (step image (region (Window c))) ≡ v) → (r : Region) → Contains (changing q s f) r → (image : List ℕ) → IsImage image → bounds_at c image ≡ v → bounds_at c (step image r) ≡ v
     keeps_or_sets v sets r has image is same =
         let p : IsChanging q s f r = changing_is q s f r has in
         subst (λ t. bounds_at c (step image t) ≡ v) p.is (elim (window_or_not c p.p) [
@@ -395,7 +384,7 @@ module _ (q : Request) (s : System) (can : CanSettle q s) (f : Function) (listed
         ])
 
     -- the bounds that a function's window has once it is settled
-    same_bounds : bounds_at c (settled_function q s f).image ≡ bounds_at c (settled_image q s f)
+    pub same_bounds : bounds_at c (settled_function q s f).image ≡ bounds_at c (settled_image q s f)
     same_bounds = bounds_aside (settled_function q s f).image (settled_image q s f) aside c
 
     module _ (x : Placed) (placed : new_place q s (region (Window c)) ≡ Some x) where
@@ -406,7 +395,7 @@ module _ (q : Request) (s : System) (can : CanSettle q s) (f : Function) (listed
       there_now = window_there q s can c f listed bridge (window_has q s can f c listed bridge x placed)
 
       sets_window : (image : List ℕ) → IsImage image → bounds_at c (step image (region (Window c))) ≡ bounds
-      sets_window image is = ap (λ o. bounds_at c (shown q s (region (Window c)) o image)) placed ∙ bounds_shown f c bounds (open_fit q s can f listed c bridge x placed) image is
+      sets_window image is = ap (λ o. bounds_at c (shown q s (region (Window c)) o image)) placed ∙ bounds_shown f c bounds (shown_fit q s can f c listed bridge there_now x placed) image is
 
       window_set : bounds_at c (settled_image q s f) ≡ bounds
       window_set = reaches IsImage (λ image. bounds_at c image ≡ bounds) step (changing q s f) (region (Window c)) step_image sets_window
@@ -427,29 +416,32 @@ module _ (q : Request) (s : System) (can : CanSettle q s) (f : Function) (listed
       pub window_opened : is_closed c (settled_function q s f).image ≡ false
       window_opened = opened.1
 
-    -- one without a place is closed
-    module _ (there : has_window c f.probe ≡ true) (none : new_place q s (region (Window c)) ≡ None) where
+    -- where its step leaves its bounds, it has those that it had
+    pub bounds_stay : ((image : List ℕ) → step image (region (Window c)) ≡ image) → bounds_at c (settled_function q s f).image ≡ bounds_at c f.image
+    bounds_stay leaves =
+        let v = bounds_at c f.image in
+        let kept = λ (image : List ℕ) (is : IsImage image) (same : bounds_at c image ≡ v). ap (bounds_at c) (leaves image) ∙ same in
+        same_bounds
+        ∙ (fold_keeps (λ image. IsImage image × (bounds_at c image ≡ v)) step (changing q s f) (λ r has image now. (step_image r has image now.0, keeps_or_sets v kept r has image now.0 now.1)) f.image (image_is, refl)).1
+
+    -- one that doesn't stay and has no place is closed
+    module _ (there : has_window c f.probe ≡ true) (moves : stays q s (region (Window c)) ≡ false) (none : new_place q s (region (Window c)) ≡ None) where
       step_none : (image : List ℕ) → step image (region (Window c)) ≡ closed_if_open f (Window c) image
       step_none image =
           ap (λ o. shown q s (region (Window c)) o image) none
-          ∙ ap (λ t. cond t image (closed_if_open f (Window c) image)) (none_stays q s can.anew (region (Window c)))
+          ∙ ap (λ t. cond t image (closed_if_open f (Window c) image)) moves
 
-      closed_now : is_closed c (settled_image q s f) ≡ true
-      closed_now = elim (cases_Bool (is_open f c)) [
+      pub window_closed : is_closed c (settled_function q s f).image ≡ true
+      window_closed = elim (cases_Bool (is_open f c)) [
         | inl open_then ↦
             let v = closed_bounds c (nibble_of c f) in
             let sets = λ (image : List ℕ) (is : IsImage image).
-            ap (bounds_at c) (step_none image ∙ ap (λ t. cond t (with_bounds c v image) image) open_then) ∙ bounds_shown f c v (closed_fit q s can f listed c bridge there) image is in
-            closed_shows c (settled_image q s f) (nibble_of c f) (few_nibbles f bridge c)
+            ap (bounds_at c) (step_none image ∙ ap (λ t. cond t (with_bounds c v image) image) open_then) ∙ bounds_shown f c v (none_fit q s can f c listed bridge there) image is in
+            ap (closed_by c) same_bounds
+            ∙ closed_shows c (settled_image q s f) (nibble_of c f) (few_nibbles f bridge c)
             (reaches IsImage (λ image. bounds_at c image ≡ v) step (changing q s f) (region (Window c)) step_image sets
             (keeps_or_sets v (λ image is same. sets image is)) f.image image_is (in_window there))
         | inr closed_then ↦
-            let v = bounds_at c f.image in
-            let leaves = λ (image : List ℕ) (is : IsImage image) (same : bounds_at c image ≡ v). ap (bounds_at c) (step_none image ∙ ap (λ t. cond t (with_bounds c (closed_bounds c (nibble_of c f)) image) image) closed_then) ∙ same in
-            let both = fold_keeps (λ image. IsImage image × (bounds_at c image ≡ v)) step (changing q s f) (λ r has image now. (step_image r has image now.0, keeps_or_sets v leaves r has image now.0 now.1)) f.image (image_is, refl) in
-            ap (closed_by c) both.1
+            ap (closed_by c) (bounds_stay (λ image. step_none image ∙ ap (λ t. cond t (with_bounds c (closed_bounds c (nibble_of c f)) image) image) closed_then))
             ∙ not-false (is_closed c f.image) (and_second_false (is_bridge f && has_window c f.probe) (not (is_closed c f.image)) (and_from (is_bridge f) (has_window c f.probe) bridge there) closed_then)
       ]
-
-      pub window_closed : is_closed c (settled_function q s f).image ≡ true
-      window_closed = ap (closed_by c) same_bounds ∙ closed_now

@@ -1,7 +1,8 @@
--- Laws of what settling comes to where nothing stands: it shows the new places, changes nothing else, and is sound.
+-- Laws of what settling comes to: it shows where parts end, changes nothing else, and is sound.
 use Rattle.std.specs.Prelude.{◌≡◌, ℕ, ◌≤◌, ◌⊎◌, IsTrue, IsFalse, None, length, take}
 use Rattle.std.specs.List.{AllZip, Contains}
 use Rattle.pci_spec.specs.Window.{WindowKind}
+use Rattle.pci_spec.specs.Decoded.{Range}
 use Rattle.pci_spec.specs.System.{System, Function, Part, Window, is_space_on, space_of}
 use Rattle.pci_spec.specs.Bus.{LeadsTo}
 use Rattle.pci_spec.specs.Machine.{system_after}
@@ -10,31 +11,30 @@ use Rattle.plan_spec.specs.Plan.{IsMoved, is_open}
 use Rattle.plan_spec.specs.Planning.Layout.{range_of}
 use Rattle.settle_spec.specs.Lists.{Request}
 use Rattle.settle_spec.specs.Stands.{window_region}
-use Rattle.settle_spec.specs.Items.{Placed, taken_by}
-use Rattle.settle_spec.specs.Places.{new_place}
+use Rattle.settle_spec.specs.Items.{Placed}
 use Rattle.settle_spec.specs.Registers.{settled, settled_function}
 use Rattle.settle_spec.specs.Writes.{closings, settle_writes}
-use Rattle.settle_laws.specs.PlacesLaws.{CanSettle, GetsPlace}
+use Rattle.settle_laws.specs.PlacesLaws.{CanSettle, GetsPlace, EndsAt, end_range}
 
 -- ---- registers
 
--- Each part that gets a place has just these addresses once it is settled,
+-- Each part that ends somewhere has just these addresses once it is settled,
 abbrev pub SettledShowsPlaces : Type 0
 SettledShowsPlaces =
-    (q : Request) (s : System) → CanSettle q s → (f : Function) (p : Part) (x : Placed)
-    → GetsPlace q s f p x → range_of (settled_function q s f) p ≡ taken_by x.item x.at
+    (q : Request) (s : System) → CanSettle q s → (f : Function) (p : Part) (t : Range)
+    → EndsAt q s f p t → range_of (settled_function q s f) p ≡ t
 
--- and each window that gets one is open,
+-- and each window that does is open,
 abbrev pub SettledOpensPlaces : Type 0
 SettledOpensPlaces =
-    (q : Request) (s : System) → CanSettle q s → (b : Function) (kind : WindowKind) (x : Placed)
-    → GetsPlace q s b (Window kind) x → IsTrue (is_open (settled_function q s b) kind)
+    (q : Request) (s : System) → CanSettle q s → (b : Function) (kind : WindowKind) (t : Range)
+    → EndsAt q s b (Window kind) t → IsTrue (is_open (settled_function q s b) kind)
 
 -- and no other.
 abbrev pub SettledClosesTheRest : Type 0
 SettledClosesTheRest =
     (q : Request) (s : System) → CanSettle q s → (b : Function) (kind : WindowKind) → Contains s b
-    → new_place q s (window_region kind b) ≡ None → IsFalse (is_open (settled_function q s b) kind)
+    → end_range q s (window_region kind b) ≡ None → IsFalse (is_open (settled_function q s b) kind)
 
 -- Address bits and Command's enables of I/O and memory alone change,
 abbrev pub SettlingMoves : Type 0

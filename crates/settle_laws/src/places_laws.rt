@@ -1,14 +1,17 @@
-//! Laws of places where nothing stands. These functions do nothing: each contract is a law.
+//! Laws of places. These functions do nothing: each contract is a law.
 
-ghost use Rattle.settle_laws.specs.PlacesLaws.{EachBusIsPlaced, PartsGetPlaces, PlacesAreInWindows, PlacesAreApart};
+ghost use Rattle.settle_laws.specs.PlacesLaws.{EachBusIsPlaced, PartsGetPlaces, PlacesAreOfOthers, PlacesAreInWindows, PlacesAreApart};
 
-/// Where nothing lacks room on the roots, nothing does: each BAR and ROM that is looked at gets a place.
+/// Where nothing lacks room on the roots, nothing does: each BAR and ROM that is looked at stays or gets a
+/// place, and none does both.
 pub fn only_roots_lack_room()
     ensures placed { EachBusIsPlaced }
     ensures parts { PartsGetPlaces }
+    ensures others { PlacesAreOfOthers }
 {}
 
-/// What gets a place behind a bridge lies in the bridge's new window, and apart from what is beside it.
+/// Behind a bridge what stays or gets a place ends in the bridge's window of its class, and apart from what
+/// is beside it.
 pub fn places_are_in_windows_and_apart()
     ensures inside { PlacesAreInWindows }
     ensures apart { PlacesAreApart }

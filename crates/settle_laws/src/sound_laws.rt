@@ -1,8 +1,8 @@
-//! Laws of what settling comes to where nothing stands. These functions do nothing: each contract is a law.
+//! Laws of what settling comes to. These functions do nothing: each contract is a law.
 
 ghost use Rattle.settle_laws.specs.SoundLaws.{SettledShowsPlaces, SettledOpensPlaces, SettledClosesTheRest, SettlingMoves, SettledIsInProfile, BridgesAreEnabled, SettledIsSound, SettlingCanStop, SettlingSettles};
 
-/// Registers show the new places, and windows that get none are closed.
+/// Registers show what stays and the new places, and other windows are closed.
 pub fn settled_registers_show_places()
     ensures shows { SettledShowsPlaces }
     ensures opens { SettledOpensPlaces }

@@ -3,12 +3,13 @@ use Rattle.std.proofs.Common.{◌≡◌, ℕ, zero, suc, ◌+◌, ◌<◌, ◌�
 use Rattle.std.specs.List.{Contains, filter, flat_map, list_all}
 use Rattle.std.proofs.lemmas.Bool.{cases_Bool, and_parts}
 use Rattle.pci_spec.specs.Window.{WindowKind}
-use Rattle.pci_spec.specs.System.{System, Function, Part, Bar, Rom, Window, IsSystem, is_bridge, window_space}
+use Rattle.pci_spec.specs.System.{System, Function, Part, Bar, Rom, Window, IsSystem, is_bridge, is_window, window_space}
 use Rattle.pci_spec.specs.Bus.{is_root, are_siblings, secondary, IsNested, LeadsTo}
 use Rattle.pci_spec.proofs.BusRanges.{root_means}
 use Rattle.pci_spec.proofs.Members.{in_head, in_tail, in_map_to, IsMade}
-use Rattle.plan_spec.specs.Plan.{is_open, bridges_above}
+use Rattle.plan_spec.specs.Plan.{is_open, bridges_above, same_class}
 use Rattle.plan_spec.proofs.Planning.AboveBuses.{all_above, all_above_root}
+use Rattle.plan_spec.proofs.Planning.PlacedItems.{same_class_is}
 use Rattle.plan_spec.proofs.Planning.Safe.{slots_of, order_of}
 use Rattle.settle_spec.specs.Lists.{Request}
 use Rattle.settle_spec.specs.Parts.{Region, regions, regions_of, parts_of, addresses, class_in, same_space}
@@ -38,6 +39,43 @@ module _ (q : Request) (s : System) where
 
   -- ---- room is told by what is on the bus behind
 
+  module _ (test other : Region → Bool) (bus : ℕ) (c : WindowKind) (same : (t : Region) → Contains s t.function → are_siblings q.roots bus t.function.slot.bus ≡ true → class_in q s t.function t.part ≡ c → test t ≡ other t) where
+    -- tests that agree on what is of a class on a bus leave the same items of it there
+    own_same : (f : Function) → Contains s f → are_siblings q.roots bus f.slot.bus ≡ true → filter (λ r. is_own q s c r && not (test r)) (regions_of q s f) ≡ filter (λ r. is_own q s c r && not (other r)) (regions_of q s f)
+    own_same f listed beside =
+        filter_same (λ r. is_own q s c r && not (test r)) (λ r. is_own q s c r && not (other r)) (regions_of q s f) (λ t has.
+        let made : IsMade (λ p. record { function = f; part = p }) (parts_of q s f) t = in_map_to (λ p. record { function = f; part = p }) (parts_of q s f) t has in
+        ap (λ x. is_own q s c x && not (test x)) (sym made.is)
+        ∙ of_part made.from
+        ∙ ap (λ x. is_own q s c x && not (other x)) made.is)
+      where
+        of_part : (p : Part) → (is_own q s c (record { function = f; part = p }) && not (test (record { function = f; part = p }))) ≡ (is_own q s c (record { function = f; part = p }) && not (other (record { function = f; part = p })))
+        of_part p = elim (cases_Bool (is_own q s c (record { function = f; part = p }))) [
+          | inl own ↦
+              let class = same_class_is c (class_in q s f p) (and_parts (not (is_window p)) (same_class c (class_in q s f p)) own).1 in
+              ap (λ b. is_own q s c (record { function = f; part = p }) && not b) (same (record { function = f; part = p }) listed beside class)
+          | inr off ↦ ap (λ b. b && not (test (record { function = f; part = p }))) off ∙ sym (ap (λ b. b && not (other (record { function = f; part = p }))) off)
+        ]
+
+    abbrev window_item : Function → Bool → List Item
+    window_item f kept = cond (is_bridge f && has_of q s c f && not kept) (record { region = window_region c f; class = c; extent = new_window q s c f } ∷ []) []
+
+    pub items_same : items_on q s c test (new_window q s c) bus ≡ items_on q s c other (new_window q s c) bus
+    items_same =
+        ap in_turn (pieces_same (λ f. cond (are_siblings q.roots bus f.slot.bus) (items_of q s c test (new_window q s c) f) []) (λ f. cond (are_siblings q.roots bus f.slot.bus) (items_of q s c other (new_window q s c) f) []) s of_function)
+      where
+        of_function : (f : Function) → Contains s f → cond (are_siblings q.roots bus f.slot.bus) (items_of q s c test (new_window q s c) f) [] ≡ cond (are_siblings q.roots bus f.slot.bus) (items_of q s c other (new_window q s c) f) []
+        of_function f listed = elim (cases_Bool (are_siblings q.roots bus f.slot.bus)) [
+          | inl beside ↦
+              ap (λ b. cond b (items_of q s c test (new_window q s c) f) []) beside
+              ∙ ap (λ rs. map (own_item c) rs ++ window_item f (test (window_region c f))) (own_same f listed beside)
+              ∙ ap (λ b. map (own_item c) (filter (λ r. is_own q s c r && not (other r)) (regions_of q s f)) ++ window_item f b) (same (window_region c f) listed beside refl)
+              ∙ sym (ap (λ b. cond b (items_of q s c other (new_window q s c) f) []) beside)
+          | inr apart ↦
+              ap (λ b. cond b (items_of q s c test (new_window q s c) f) []) apart
+              ∙ sym (ap (λ b. cond b (items_of q s c other (new_window q s c) f) []) apart)
+        ]
+
   module _ (test other : Region → Bool) (bus : ℕ) (same : (t : Region) → Contains s t.function → are_siblings q.roots bus t.function.slot.bus ≡ true → test t ≡ other t) where
     -- tests that agree on a bus keep the same there
     kept_same : (on : Bool) (t : Region) → are_siblings q.roots bus t.function.slot.bus ≡ on → Contains s t.function → (space : Bool) → (on && space && test t) ≡ (on && space && other t)
@@ -51,38 +89,11 @@ module _ (q : Request) (s : System) where
         (λ r. are_siblings q.roots bus r.function.slot.bus && same_space (window_space c) (region_space r) && other r) (regions q s)
         (λ t has. kept_same (are_siblings q.roots bus t.function.slot.bus) t refl (part_of q s t has).listed (same_space (window_space c) (region_space t))))
 
-    own_same : (c : WindowKind) (f : Function) → Contains s f → are_siblings q.roots bus f.slot.bus ≡ true → filter (λ r. is_own q s c r && not (test r)) (regions_of q s f) ≡ filter (λ r. is_own q s c r && not (other r)) (regions_of q s f)
-    own_same c f listed beside =
-        filter_same (λ r. is_own q s c r && not (test r)) (λ r. is_own q s c r && not (other r)) (regions_of q s f) (λ t has.
-        let made : IsMade (λ p. record { function = f; part = p }) (parts_of q s f) t = in_map_to (λ p. record { function = f; part = p }) (parts_of q s f) t has in
-        ap (λ x. is_own q s c x && not (test x)) (sym made.is)
-        ∙ ap (λ b. is_own q s c (record { function = f; part = made.from }) && not b) (same (record { function = f; part = made.from }) listed beside)
-        ∙ ap (λ x. is_own q s c x && not (other x)) made.is)
-
-    abbrev window_item : WindowKind → Function → Bool → List Item
-    window_item c f kept = cond (is_bridge f && has_of q s c f && not kept) (record { region = window_region c f; class = c; extent = new_window q s c f } ∷ []) []
-
-    items_same : (c : WindowKind) → items_on q s c test (new_window q s c) bus ≡ items_on q s c other (new_window q s c) bus
-    items_same c =
-        ap in_turn (pieces_same (λ f. cond (are_siblings q.roots bus f.slot.bus) (items_of q s c test (new_window q s c) f) []) (λ f. cond (are_siblings q.roots bus f.slot.bus) (items_of q s c other (new_window q s c) f) []) s of_function)
-      where
-        of_function : (f : Function) → Contains s f → cond (are_siblings q.roots bus f.slot.bus) (items_of q s c test (new_window q s c) f) [] ≡ cond (are_siblings q.roots bus f.slot.bus) (items_of q s c other (new_window q s c) f) []
-        of_function f listed = elim (cases_Bool (are_siblings q.roots bus f.slot.bus)) [
-          | inl beside ↦
-              ap (λ b. cond b (items_of q s c test (new_window q s c) f) []) beside
-              ∙ ap (λ rs. map (own_item c) rs ++ window_item c f (test (window_region c f))) (own_same c f listed beside)
-              ∙ ap (λ b. map (own_item c) (filter (λ r. is_own q s c r && not (other r)) (regions_of q s f)) ++ window_item c f b) (same (window_region c f) listed beside)
-              ∙ sym (ap (λ b. cond b (items_of q s c other (new_window q s c) f) []) beside)
-          | inr apart ↦
-              ap (λ b. cond b (items_of q s c test (new_window q s c) f) []) apart
-              ∙ sym (ap (λ b. cond b (items_of q s c other (new_window q s c) f) []) apart)
-        ]
-
     places_same : (b : Function) (c : WindowKind) → secondary b ≡ bus → has_places q s test b c ≡ has_places q s other b c
     places_same b c behind =
         ap (λ n. are_placed (place_all (λ i. addresses (window_region c b) ∷ []) (taken_on q s c test n) (items_on q s c test (new_window q s c) n))) behind
         ∙ ap (λ xs. are_placed (place_all (λ i. addresses (window_region c b) ∷ []) xs (items_on q s c test (new_window q s c) bus))) (taken_same c)
-        ∙ ap (λ xs. are_placed (place_all (λ i. addresses (window_region c b) ∷ []) (taken_on q s c other bus) xs)) (items_same c)
+        ∙ ap (λ xs. are_placed (place_all (λ i. addresses (window_region c b) ∷ []) (taken_on q s c other bus) xs)) (items_same test other bus c (λ t listed beside class. same t listed beside))
         ∙ sym (ap (λ n. are_placed (place_all (λ i. addresses (window_region c b) ∷ []) (taken_on q s c other n) (items_on q s c other (new_window q s c) n))) behind)
 
   module _ (system : IsSystem s) (nested : IsNested q.roots s) where
