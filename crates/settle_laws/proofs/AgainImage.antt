@@ -145,7 +145,7 @@ module _ (q : Request) (s : System) (can : CanSettle q s) (anew : IsTrue q.anew)
       ]
         where
           has_then : has_rom g.image g.probe ≡ true → has_rom f.image f.probe ≡ true
-          has_then now = (settled_alike q s can anew f listed).rom ∙ now
+          has_then now = (settled_alike q s can f listed).rom ∙ now
 
   pub image_again : settled_image q t g ≡ g.image
   image_again = fold_keeps (λ x. x ≡ g.image) (λ x r. shown q t r (new_place q t r) x) (changing q t g) (λ r has x same. ap (shown q t r (new_place q t r)) same ∙ step_again r has) g.image refl

@@ -93,15 +93,15 @@ pub first_some : (h : Part → Region) (k : Region → Bool) (p : Part) (xs : Li
 first_some h k p xs true = refl
 first_some h k p xs false = refl
 
-module _ (q : Request) (anew : IsTrue q.anew) (s t : System) (pairs : AllZip IsAlike s t) where
+module _ (q : Request) (s t : System) (pairs : AllZip IsAlike s t) where
   above_alike : (bus : ℕ) → AllZip IsAlike (bridges_above s bus) (bridges_above t bus)
   above_alike bus = filter_zip IsAlike (λ b. is_bridge b && is_behind b bus) (λ b. is_bridge b && is_behind b bus)
       (λ f g is. of_bridges f g is (is_behind f bus) (is_behind g bus) (λ bridge. behind_alike f g is bridge bus)) s t pairs
 
-  any_above : (test : List ℕ → Bool) (bus : ℕ) → list_any (λ (b : Function). test b.probe) (bridges_above s bus) ≡ list_any (λ (b : Function). test b.probe) (bridges_above t bus)
+  pub any_above : (test : List ℕ → Bool) (bus : ℕ) → list_any (λ (b : Function). test b.probe) (bridges_above s bus) ≡ list_any (λ (b : Function). test b.probe) (bridges_above t bus)
   any_above test bus = any_zip IsAlike (λ (b : Function). test b.probe) (λ (b : Function). test b.probe) (λ f g is. ap test is.probe) (bridges_above s bus) (bridges_above t bus) (above_alike bus)
 
-  all_above : (test : List ℕ → Bool) (bus : ℕ) → list_all (λ (b : Function). test b.probe) (bridges_above s bus) ≡ list_all (λ (b : Function). test b.probe) (bridges_above t bus)
+  pub all_above : (test : List ℕ → Bool) (bus : ℕ) → list_all (λ (b : Function). test b.probe) (bridges_above s bus) ≡ list_all (λ (b : Function). test b.probe) (bridges_above t bus)
   all_above test bus = all_zip IsAlike (λ (b : Function). test b.probe) (λ (b : Function). test b.probe) (λ f g is. ap test is.probe) (bridges_above s bus) (bridges_above t bus) (above_alike bus)
 
   module _ (f g : Function) (is : IsAlike f g) where
@@ -130,19 +130,6 @@ module _ (q : Request) (anew : IsTrue q.anew) (s t : System) (pairs : AllZip IsA
         let there = all_above (has_window PrefetchWindow) f.slot.bus ∙ ap (λ b. list_all (λ (d : Function). has_window PrefetchWindow d.probe) (bridges_above t b)) bus in
         let wide = all_above (is_wide_window PrefetchWindow) f.slot.bus ∙ ap (λ b. list_all (λ (d : Function). is_wide_window PrefetchWindow d.probe) (bridges_above t b)) bus in
         λ i. if nat_le pools.prefetch.last 0xffff_ffff then there i else is_wide (bar_at (probe i) n) && wide i
-
-    prefetchable_is : (u : System) (h : Function) (n : ℕ) → prefetchable_class q u h n ≡ new_class q u h n
-    prefetchable_is u h n = ap (λ b. if b || is_root q.roots h.slot.bus then new_class q u h n else if is_in_memory u h n then MemoryWindow else if is_in_prefetch u h n then PrefetchWindow else new_class q u h n) anew
-
-    pub class_alike : (p : Part) → class_in q s f p ≡ class_in q t g p
-    class_alike (Bar n) =
-        let probe = is.probe in
-        let served = served_alike (upper_pools q.lists.prefetch) n in
-        let new : prefetchable_class q s f n ≡ prefetchable_class q t g n =
-        prefetchable_is s f n ∙ ap (λ b. if not (is_empty q.lists.prefetch) && b then PrefetchWindow else MemoryWindow) served ∙ sym (prefetchable_is t g n) in
-        λ i. if is_io (bar_at (probe i) n) then IoWindow else if is_prefetchable (bar_at (probe i) n) then new i else MemoryWindow
-    class_alike Rom = refl
-    class_alike (Window c) = refl
 
     abbrev old : Part → Region
     old p = record { function = f; part = p }
@@ -176,24 +163,46 @@ module _ (q : Request) (anew : IsTrue q.anew) (s t : System) (pairs : AllZip IsA
           let here = both_same p in
           first_some old k p (filter (is_part q s f) ps) (is_part q s f p) ∙ (λ i. here i || rest i) ∙ sym (first_some new m p (filter (is_part q t g) ps) (is_part q t g p))
 
+-- where all is placed anew, classes are alike too
+module _ (q : Request) (anew : IsTrue q.anew) (s t : System) (pairs : AllZip IsAlike s t) where
+  module _ (f g : Function) (is : IsAlike f g) where
+    abbrev before : Part → Region
+    before p = record { function = f; part = p }
+
+    abbrev after : Part → Region
+    after p = record { function = g; part = p }
+
+    prefetchable_is : (u : System) (h : Function) (n : ℕ) → prefetchable_class q u h n ≡ new_class q u h n
+    prefetchable_is u h n = ap (λ b. if b || is_root q.roots h.slot.bus then new_class q u h n else if is_in_memory u h n then MemoryWindow else if is_in_prefetch u h n then PrefetchWindow else new_class q u h n) anew
+
+    pub class_alike : (p : Part) → class_in q s f p ≡ class_in q t g p
+    class_alike (Bar n) =
+        let probe = is.probe in
+        let served = served_alike q s t pairs f g is (upper_pools q.lists.prefetch) n in
+        let new : prefetchable_class q s f n ≡ prefetchable_class q t g n =
+        prefetchable_is s f n ∙ ap (λ b. if not (is_empty q.lists.prefetch) && b then PrefetchWindow else MemoryWindow) served ∙ sym (prefetchable_is t g n) in
+        λ i. if is_io (bar_at (probe i) n) then IoWindow else if is_prefetchable (bar_at (probe i) n) then new i else MemoryWindow
+    class_alike Rom = refl
+    class_alike (Window c) = refl
+
     own_off : (u : System) (c : WindowKind) (r : Region) → is_window r.part ≡ true → is_own q u c r ≡ false
     own_off u c r window = ap (λ b. not b && same_class c (class_in q u r.function r.part)) window
 
-    pub own_alike : (c : WindowKind) (p : Part) → is_own q s c (old p) ≡ is_own q t c (new p)
+    pub own_alike : (c : WindowKind) (p : Part) → is_own q s c (before p) ≡ is_own q t c (after p)
     own_alike c p = ap (λ d. not (is_window p) && same_class c d) (class_alike p)
 
     pub some_own_alike : (c : WindowKind) → list_any (is_own q s c) (regions_of q s f) ≡ list_any (is_own q t c) (regions_of q t g)
     some_own_alike c =
-        some_alike (is_own q s c) (is_own q t c) (λ p window. (own_off s c (old p) window, own_off t c (new p) window)) (λ p plain. own_alike c p) (header_parts f)
-        ∙ ap (λ ps. list_any (is_own q t c) (map new (filter (is_part q t g) ps))) (header_alike f g is)
+        some_alike q s t pairs f g is (is_own q s c) (is_own q t c) (λ p window. (own_off s c (before p) window, own_off t c (after p) window)) (λ p plain. own_alike c p) (header_parts f)
+        ∙ ap (λ ps. list_any (is_own q t c) (map after (filter (is_part q t g) ps))) (header_alike f g is)
 
     -- the BARs and ROMs of a class that don't keep their places, where a test says alike what keeps its own
-    pub own_parts_alike : (c : WindowKind) (keeps others : Region → Bool) → ((p : Part) → keeps (old p) ≡ others (new p))
+    pub own_parts_alike : (c : WindowKind) (keeps others : Region → Bool) → ((p : Part) → keeps (before p) ≡ others (after p))
         → AllZip IsAlikeRegion (filter (λ r. is_own q s c r && not (keeps r)) (regions_of q s f)) (filter (λ r. is_own q t c r && not (others r)) (regions_of q t g))
     own_parts_alike c keeps others same =
-        subst (λ ps. AllZip IsAlikeRegion (filter (λ r. is_own q s c r && not (keeps r)) (regions_of q s f)) (filter (λ r. is_own q t c r && not (others r)) (map new (filter (is_part q t g) ps)))) (header_alike f g is)
-        (chosen_alike (λ r. is_own q s c r && not (keeps r)) (λ r. is_own q t c r && not (others r))
-        (λ p window. (ap (λ b. b && not (keeps (old p))) (own_off s c (old p) window), ap (λ b. b && not (others (new p))) (own_off t c (new p) window)))
+        subst (λ ps. AllZip IsAlikeRegion (filter (λ r. is_own q s c r && not (keeps r)) (regions_of q s f)) (filter (λ r. is_own q t c r && not (others r)) (map after (filter (is_part q t g) ps)))) (header_alike f g is)
+        (chosen_alike q s t pairs f g is (λ r. is_own q s c r && not (keeps r)) (λ r. is_own q t c r && not (others r))
+        (λ p window. (ap (λ b. b && not (keeps (before p))) (own_off s c (before p) window), ap (λ b. b && not (others (after p))) (own_off t c (after p) window)))
         (λ p plain. let own = own_alike c p in let kept = same p in λ i. own i && not (kept i)) (header_parts f))
 
   -- a BAR or ROM of a class is behind a bridge in both

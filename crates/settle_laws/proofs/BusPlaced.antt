@@ -1,31 +1,30 @@
 -- Only roots can lack room: where they have it, each bus has a place for each of its items.
 use Rattle.std.proofs.Common.{◌≡◌, ◌&&◌, ◌||◌, ℕ, zero, suc, ◌+◌, ◌-◌, ◌%◌, ◌<◌, ◌≤◌, ◌⊎◌, inl, inr, max, List, [], ◌∷◌, map, length, Bool, true, false, cond, arith, refl, sym, ◌∙◌, ap, subst, Option, None, Some}
-use Rattle.std.specs.Bool.{IsTrue, nat_le, nat_lt, ◌==◌}
-use Rattle.std.specs.List.{Contains, AllPairs, list_all}
-use Rattle.std.proofs.lemmas.Bool.{and_parts, and_right, both_ways, cases_Bool, eq-eqb, eqb-true, leb-true, lt-ltb, or_cases, or_left}
-use Rattle.std.proofs.lemmas.List.Elements.{Contains-append_left, Contains-append_right}
+use Rattle.std.specs.Bool.{IsTrue, nat_le, nat_lt}
+use Rattle.std.specs.List.{Contains, list_all}
+use Rattle.std.proofs.lemmas.Bool.{and_parts, and_right, both_ways, cases_Bool, leb-true, lt-ltb, or_cases}
 use Rattle.pci_spec.specs.Decoded.{Range}
 use Rattle.pci_spec.specs.Window.{WindowKind, IoWindow, MemoryWindow, PrefetchWindow, page_size, is_wide_window}
-use Rattle.pci_spec.specs.System.{System, Function, Space, Io, Memory, Part, Window, has_part, is_bridge, window_space}
+use Rattle.pci_spec.specs.System.{System, Function, Space, Io, Memory, Window, is_bridge, window_space}
 use Rattle.pci_spec.specs.Bus.{is_root, are_siblings, secondary}
 use Rattle.pci_spec.proofs.BusRanges.{root_means}
-use Rattle.pci_spec.proofs.Members.{in_nil, in_head, in_cons_cases, in_map_to, in_map_from, IsMade, pairs_head, pairs_tail}
+use Rattle.pci_spec.proofs.Members.{in_nil, in_head, in_cons_cases, in_map_from}
 use Rattle.plan_spec.specs.Plan.{same_class, greatest}
 use Rattle.plan_spec.specs.Place.{range_from}
 use Rattle.plan_spec.specs.Planning.Layout.{LieApart}
 use Rattle.plan_spec.proofs.Planning.AboveBuses.{root_or_led}
-use Rattle.plan_spec.proofs.Planning.Behind.{any_from, all_gives}
+use Rattle.plan_spec.proofs.Planning.Behind.{all_gives}
 use Rattle.plan_spec.proofs.Planning.Placement.{power_pos, step_power}
 use Rattle.plan_spec.proofs.Planning.PlacedItems.{same_class_is}
-use Rattle.plan_spec.proofs.Planning.Safe.{order_of, slots_of}
+use Rattle.plan_spec.proofs.Planning.Safe.{order_of}
 use Rattle.plan_spec.proofs.Planning.Tables.{class_itself}
 use Rattle.settle_spec.specs.FirstPlace.{Extent, is_spot, ends_in, is_place}
 use Rattle.settle_spec.specs.Lists.{Request}
-use Rattle.settle_spec.specs.Parts.{Region, addresses, bridge_over, class_in, header_parts}
-use Rattle.settle_spec.specs.Stands.{rank, region_space, stands, window_region}
+use Rattle.settle_spec.specs.Parts.{Region, addresses, bridge_over, class_in}
+use Rattle.settle_spec.specs.Stands.{stands, window_region}
 use Rattle.settle_spec.specs.Items.{Item, Placed, Placing, AllPlaced, Lacks, are_placed, place_all, taken_by, has_of, holds, items_on, nothing, window_around, new_window, stays, taken_on}
 use Rattle.settle_spec.specs.Places.{placed_of, place_among, placed_range, root_ranges, window_ranges, ranges_for, space_items, taken_at, placing_on, first_lack, root_lack, lacking_on}
-use Rattle.settle_spec.specs.PlacingLaws.{AreApart, ArePlaced}
+use Rattle.settle_spec.specs.PlacingLaws.{ArePlaced}
 use Rattle.settle_spec.specs.WindowLaws.{CanBeIn}
 use Rattle.settle_spec.proofs.BridgeOver.{over_is}
 use Rattle.settle_spec.proofs.Buses.{places_by, placing_by_bus, roots_are_one}
@@ -38,32 +37,13 @@ use Rattle.settle_spec.proofs.Room.{window_has_room}
 use Rattle.settle_laws.specs.PlacesLaws.{CanSettle}
 use Rattle.stand_laws.proofs.Holding.{items_same}
 use Rattle.stand_laws.proofs.Standing.{part_of}
-use Rattle.settle_laws.proofs.Finding.{found, is_found}
 use Rattle.settle_laws.proofs.HeaderParts.{window_of}
-use Rattle.settle_laws.proofs.ItemForms.{item_by, items_are, window_in, item_power, new_window_power, space_items_are, item_positive, same_rank}
-use Rattle.settle_laws.proofs.Kept.{IsTaken, taken_is, is_taken, at_is, is_at, in_regions, holding, stays_holds, stays_stands, stays_part, stand_apart, lie_apart, outside_within, off_roots, window_ranks, window_listed, stays_over, over_stays, within_over}
+use Rattle.settle_laws.proofs.ItemForms.{item_by, items_are, window_in, item_power, new_window_power}
+use Rattle.settle_laws.proofs.Kept.{IsTaken, taken_is, is_taken, at_is, is_at, holding, stays_holds, stays_stands, stand_apart, outside_within, off_roots, window_ranks, window_listed, stays_over, over_stays, within_over}
 use Rattle.settle_laws.proofs.Outside.{IsAlikeIn, IsOutside, same_outside, with_taken, placed_after, with_taken_is, with_taken_keeps}
 use Rattle.settle_laws.proofs.PartClasses.{space_of_class}
 use Rattle.settle_laws.proofs.Powers.{below_greatest, multiple_below}
-
--- all is placed, at these places
-pub placed_list : (p : Placing) → are_placed p ≡ true → (placed : List Placed) × (p ≡ AllPlaced placed)
-placed_list (AllPlaced placed) is = (placed, refl)
-placed_list (Lacks i) is = absurd (both_ways false refl is)
-
--- of two in a list of pairs, one comes first
-pub pairs_either : {X : Type 0} (R : X → X → Type 0) (xs : List X) → AllPairs R xs → (x y : X) → Contains xs x → Contains xs y → (x ≡ y) ⊎ (R x y ⊎ R y x)
-pairs_either R [] pairs x y in_x in_y = absurd (in_nil x in_x)
-pairs_either R (z ∷ xs) pairs x y in_x in_y = elim (in_cons_cases z xs x in_x) [
-  | inl at_x ↦ elim (in_cons_cases z xs y in_y) [
-    | inl at_y ↦ inl (sym at_x ∙ at_y)
-    | inr later ↦ inr (inl (subst (λ v. R v y) at_x (pairs_head R z xs y pairs later)))
-  ]
-  | inr later ↦ elim (in_cons_cases z xs y in_y) [
-    | inl at_y ↦ inr (inr (subst (λ v. R v x) at_y (pairs_head R z xs x pairs later)))
-    | inr more ↦ pairs_either R xs (pairs_tail R z xs pairs) x y later more
-  ]
-]
+use Rattle.settle_laws.proofs.PlacedBus.{placed_list, places, items, low_bus, beside_itself, in_space, IsPlacedBus, bus_placed, HasPlace, place_of, EndsIn, Keeps, Gets, IsBeside, end_apart}
 
 pub one_left : (r t : Range) → Contains (r ∷ []) t → r ≡ t
 one_left r t has = elim (in_cons_cases r [] t has) [ inl is ↦ is | inr none ↦ absurd (in_nil t none) ]
@@ -72,9 +52,6 @@ nothing_long : (xs : List Item) → nat_lt 0 (length xs) ≡ false → xs ≡ []
 nothing_long [] none = refl
 nothing_long (i ∷ xs) none = absurd (both_ways (nat_lt 0 (length (i ∷ xs))) none (lt-ltb 0 (length (i ∷ xs)) (omega arith)))
 
-pub some_long : (xs : List Item) (i : Item) → Contains xs i → nat_lt 0 (length xs) ≡ true
-some_long xs i (k, less, at) = lt-ltb 0 (length xs) (omega (arith, less))
-
 pub page_some : (c : WindowKind) → 0 < page_size c
 page_some c = power_pos (page_size c) (step_power c)
 
@@ -82,132 +59,14 @@ memory_no_prefetch : MemoryWindow ≡ PrefetchWindow → ⊥
 memory_no_prefetch e = both_ways (same_class MemoryWindow PrefetchWindow) refl (ap (λ c. same_class c PrefetchWindow) e)
 
 module _ (q : Request) (s : System) (can : CanSettle q s) where
-  abbrev new : WindowKind → Function → Extent
-  new c b = new_window q s c b
-
-  -- the places on the buses of a space
-  abbrev pub places : Space → ℕ → List Placed
-  places space over = placed_of (placing_on q s space over)
-
-  abbrev pub items : WindowKind → ℕ → List Item
-  items c bus = items_on q s c (stays q s) (new_window q s c) bus
-
-  pub low_bus : (f : Function) → Contains s f → f.slot.bus < 256
-  low_bus f listed = (slots_of s can.system f listed).0
-
-  pub beside_itself : (bus : ℕ) → are_siblings q.roots bus bus ≡ true
-  beside_itself bus = or_left (bus == bus) (is_root q.roots bus && is_root q.roots bus) (eq-eqb bus bus refl)
-
-  pub in_space : (c : WindowKind) (bus : ℕ) (i : Item) → Contains (items c bus) i → Contains (space_items q s (window_space c) bus) i
-  in_space IoWindow bus i has = has
-  in_space MemoryWindow bus i has = Contains-append_left (items MemoryWindow bus) (items PrefetchWindow bus) i has
-  in_space PrefetchWindow bus i has = Contains-append_right (items MemoryWindow bus) (items PrefetchWindow bus) i has
-
-  -- ---- a bus that is placed
-
-  pub record IsPlacedBus (space : Space) (bus : ℕ) : Type 0 where
-    pub placed : List Placed
-    pub is : placing_on q s space bus ≡ AllPlaced placed
-    pub are : ArePlaced (ranges_for q s (places space)) (taken_at q s space bus) (space_items q s space bus) placed
-
-  pub bus_placed : (space : Space) (bus : ℕ) → bus < 256 → are_placed (placing_on q s space bus) ≡ true → IsPlacedBus space bus
-  bus_placed space bus low done =
-      let list = placed_list (placing_on q s space bus) done in
-      record {
-        placed = list.0;
-        is = list.1;
-        are = placed_are (ranges_for q s (places space)) (taken_at q s space bus) (space_items q s space bus) list.0 (item_positive q s space bus) (sym (placing_by_bus q s can.system can.nested space bus low) ∙ list.1);
-      }
-
-  -- the place of an item of such a bus
-  pub record HasPlace (space : Space) (f : Function) (p : Part) (placed : List Placed) : Type 0 where
-    pub at : Placed
-    pub found_there : place_among record { function = f; part = p } placed ≡ Some at
-    pub listed : Contains placed at
-    pub item : at.item ≡ item_by (new_window q s) (class_in q s f p) f p
-
-  pub place_of : (space : Space) (bus : ℕ) (b : IsPlacedBus space bus) (f : Function) (p : Part) → Contains s f → has_part f p ≡ true
-      → Contains (space_items q s space bus) (item_by (new_window q s) (class_in q s f p) f p) → HasPlace space f p b.placed
-  place_of space bus b f p listed there has =
-      let r : Region = record { function = f; part = p } in
-      let test = λ (x : Placed). rank x.item.region == rank r in
-      let i = item_by (new_window q s) (class_in q s f p) f p in
-      let made : IsMade (λ (x : Placed). x.item) b.placed i = in_map_to (λ (x : Placed). x.item) b.placed i (subst (λ xs. Contains xs i) (sym b.are.all) has) in
-      let same : rank made.from.item.region ≡ rank r = ap (λ (j : Item). rank j.region) made.is in
-      let one = is_found test b.placed (any_from test b.placed made.from made.has (eq-eqb (rank made.from.item.region) (rank r) same)) in
-      let is = found test b.placed one.0 one.1 in
-      let own : Contains (space_items q s space bus) one.0.item = subst (λ xs. Contains xs one.0.item) b.are.all (in_map_from (λ (x : Placed). x.item) b.placed one.0 is.0) in
-      record {
-        at = one.0;
-        found_there = one.1;
-        listed = is.0;
-        item = same_rank q s can.system space bus one.0.item (space_items_are q s space bus one.0.item own) f p listed there (eqb-true (rank one.0.item.region) (rank r) is.1);
-      }
-
-  -- ---- where parts of such a bus end
-
-  -- what stays has its own addresses, and what is placed has those of its place
-  pub data EndsIn (placed : List Placed) (r : Region) (t : Range) : Type 0 where
-    Keeps : (keeps : stays q s r ≡ true) → (is : addresses r ≡ t) → EndsIn placed r t
-    Gets : (moves : stays q s r ≡ false) → (x : Placed) → (shown : place_among r placed ≡ Some x) → (has : Contains placed x) → (of : x.item.region ≡ r) → (is : taken_by x.item x.at ≡ t) → EndsIn placed r t
-
-  -- a part beside a bus, of a space
-  pub record IsBeside (space : Space) (bus : ℕ) (r : Region) : Type 0 where
-    pub listed : Contains s r.function
-    pub there : Contains (header_parts r.function) r.part
-    pub beside : are_siblings q.roots bus r.function.slot.bus ≡ true
-    pub at : region_space r ≡ space
-
-  pub kept_there : (space : Space) (bus : ℕ) (r : Region) → IsBeside space bus r → stays q s r ≡ true → Contains (taken_at q s space bus) (addresses r)
-  kept_there space bus r is keeps =
-      is_at q s space bus (addresses r) record {
-        of = r;
-        listed = in_regions q s r.function r.part is.listed is.there (stays_part q s can.system can.nested r is.listed keeps);
-        beside = is.beside;
-        at = is.at;
-        kept = keeps;
-        is = refl;
-      }
-
-  -- what is placed is apart from what is taken
-  off_taken : (space : Space) (bus : ℕ) (b : IsPlacedBus space bus) (x : Placed) (t : Range) → Contains b.placed x → Contains (taken_at q s space bus) t → LieApart (taken_by x.item x.at) t
-  off_taken space bus b x t has taken =
-      let own = b.are.each x has in
-      let spot = (and_parts (is_spot own.0.first (taken_at q s space bus) x.item.extent x.at) (ends_in own.0 x.item.extent x.at) own.2).0 in
-      (spot_gives own.0.first (taken_at q s space bus) x.item.extent x.at spot).free t taken
-
-  apart_swap : (r t : Range) → LieApart r t → LieApart t r
-  apart_swap r t (inl under) = inr under
-  apart_swap r t (inr over) = inl over
-
-  pub end_apart : (space : Space) (bus : ℕ) (b : IsPlacedBus space bus) (r u : Region) (t v : Range) → IsBeside space bus r → IsBeside space bus u → (rank r ≡ rank u → ⊥) → EndsIn b.placed r t → EndsIn b.placed u v → LieApart t v
-  end_apart space bus b r u t v is_r is_u differ (Keeps keeps_r at_r) (Keeps keeps_u at_u) =
-      let part_r = stays_part q s can.system can.nested r is_r.listed keeps_r in
-      let part_u = stays_part q s can.system can.nested u is_u.listed keeps_u in
-      subst (λ w. LieApart w v) at_r (subst (LieApart (addresses r)) at_u
-      (stand_apart q s can.system can.nested bus r u (in_regions q s r.function r.part is_r.listed is_r.there part_r) (in_regions q s u.function u.part is_u.listed is_u.there part_u)
-      (stays_stands q s can.system can.nested r is_r.listed keeps_r) (stays_stands q s can.system can.nested u is_u.listed keeps_u) is_r.beside is_u.beside (is_r.at ∙ sym is_u.at) differ))
-  end_apart space bus b r u t v is_r is_u differ (Keeps keeps at_r) (Gets moves y shown has of at_u) =
-      subst (λ w. LieApart w v) at_r (subst (LieApart (addresses r)) at_u
-      (apart_swap (taken_by y.item y.at) (addresses r) (off_taken space bus b y (addresses r) has (kept_there space bus r is_r keeps))))
-  end_apart space bus b r u t v is_r is_u differ (Gets moves x shown has of at_r) (Keeps keeps at_u) =
-      subst (λ w. LieApart w v) at_r (subst (LieApart (taken_by x.item x.at)) at_u (off_taken space bus b x (addresses u) has (kept_there space bus u is_u keeps)))
-  end_apart space bus b r u t v is_r is_u differ (Gets moves_x x shown_x has_x of_x at_r) (Gets moves_y y shown_y has_y of_y at_u) =
-      subst (λ w. LieApart w v) at_r (subst (LieApart (taken_by x.item x.at)) at_u
-      (elim (pairs_either AreApart b.placed b.are.apart x y has_x has_y) [
-        | inl same ↦ absurd (differ (ap rank (sym of_x ∙ ap (λ (z : Placed). z.item.region) same ∙ of_y)))
-        | inr (inl apart) ↦ lie_apart (taken_by x.item x.at) (taken_by y.item y.at) apart
-        | inr (inr apart) ↦ apart_swap (taken_by y.item y.at) (taken_by x.item x.at) (lie_apart (taken_by y.item y.at) (taken_by x.item x.at) apart)
-      ]))
-
   -- ---- the bus behind a bridge whose own bus is placed
 
-  module _ (space : Space) (b : Function) (listed : Contains s b) (bridge : is_bridge b ≡ true) (over : IsPlacedBus space b.slot.bus) where
+  module _ (space : Space) (b : Function) (listed : Contains s b) (bridge : is_bridge b ≡ true) (over : IsPlacedBus q s can space b.slot.bus) where
     abbrev bus : ℕ
     bus = secondary b
 
     abbrev ranges : Item → List Range
-    ranges = ranges_for q s (places space)
+    ranges = ranges_for q s (places q s can space)
 
     abbrev taken : List Range
     taken = taken_at q s space bus
@@ -215,16 +74,16 @@ module _ (q : Request) (s : System) (can : CanSettle q s) where
     on_bus : (n : ℕ) → are_siblings q.roots bus n ≡ true → bus ≡ n
     on_bus n beside = on_it q.roots s can.system can.nested b n listed bridge beside
 
-    window_beside : (c : WindowKind) → window_space c ≡ space → IsBeside space b.slot.bus (window_region c b)
-    window_beside c of = record { listed = listed; there = window_of b c; beside = beside_itself b.slot.bus; at = of }
+    window_beside : (c : WindowKind) → window_space c ≡ space → IsBeside q s can space b.slot.bus (window_region c b)
+    window_beside c of = record { listed = listed; there = window_of b c; beside = beside_itself q s can b.slot.bus; at = of }
 
     -- the range that an item of a class has, and off what all of them have room in it
     pub record HasRange (c : WindowKind) : Type 0 where
       pub range : Range
-      pub ends : EndsIn over.placed (window_region c b) range
-      pub shown : window_ranges q s (places space) c (Some b) ≡ range ∷ []
+      pub ends : EndsIn q s can over.placed (window_region c b) range
+      pub shown : window_ranges q s (places q s can space) c (Some b) ≡ range ∷ []
       pub off : List Range
-      pub room : are_placed (place_all (λ i. range ∷ []) off (items c bus)) ≡ true
+      pub room : are_placed (place_all (λ i. range ∷ []) off (items q s can c bus)) ≡ true
       pub to : IsAlikeIn range taken off
       pub back : IsAlikeIn range off taken
 
@@ -262,14 +121,14 @@ module _ (q : Request) (s : System) (can : CanSettle q s) where
           (outside_within kept_range (addresses (window_region d b)) (addresses r)
           (stand_apart q s can.system can.nested b.slot.bus (window_region c b) (window_region d b)
           (window_listed q s can.system can.nested b listed bridge c kept_window) (window_listed q s can.system can.nested b listed bridge d within.1) kept_window within.1
-          (beside_itself b.slot.bus) (beside_itself b.slot.bus) (sym is.at ∙ sym (space_of_class q s r.function r.part))
+          (beside_itself q s can b.slot.bus) (beside_itself q s can b.slot.bus) (sym is.at ∙ sym (space_of_class q s r.function r.part))
           (λ e. both_ways (same_class c d) differ (ap (same_class c) (sym (window_ranks q s can.system can.nested b listed bridge c d e)) ∙ class_itself c))) within.0)
 
       kept_has_range : HasRange c
       kept_has_range = record {
         range = kept_range;
         ends = Keeps keeps refl;
-        shown = ap (λ t. cond t (kept_range ∷ []) (placed_range (place_among (window_region c b) (places space b.slot.bus)))) keeps;
+        shown = ap (λ t. cond t (kept_range ∷ []) (placed_range (place_among (window_region c b) (places q s can space b.slot.bus)))) keeps;
         off = holding_on;
         room =
             ap (λ xs. are_placed (place_all (λ i. kept_range ∷ []) holding_on xs)) (items_same q s (stays q s) (holds q s) bus c stays_there)
@@ -295,20 +154,20 @@ module _ (q : Request) (s : System) (can : CanSettle q s) where
           stays_over q s can.system can.nested b listed bridge t in_t (on_bus t.function.slot.bus beside)
           ∙ ap (λ k. holds q s t && stays q s (window_region k b)) class ∙ and_right (holds q s t) (stays q s (window_region c b)) moves
 
-      items_all : items c bus ≡ items_on q s c nothing (new_window q s c) bus
+      items_all : items q s can c bus ≡ items_on q s c nothing (new_window q s c) bus
       items_all = items_same q s (stays q s) nothing bus c none_there
 
       -- nothing of the class behind, so no item
-      none_behind : has_of q s c b ≡ false → items c bus ≡ []
+      none_behind : has_of q s c b ≡ false → items q s can c bus ≡ []
       none_behind none = items_all ∙ nothing_long (items_on q s c nothing (new_window q s c) bus) (sym (items_are_behind q s c (new_window q s c) can.system can.nested b listed bridge) ∙ none)
 
       module _ (has : has_of q s c b ≡ true) where
-        window_place : HasPlace space b (Window c) over.placed
+        window_place : HasPlace q s can space b (Window c) over.placed
         window_place =
-            place_of space b.slot.bus over b (Window c) listed bridge
+            place_of q s can space b.slot.bus over b (Window c) listed bridge
             (subst (λ sp. Contains (space_items q s sp b.slot.bus) (item_by (new_window q s) c b (Window c))) of
-            (in_space c b.slot.bus (item_by (new_window q s) c b (Window c))
-            (window_in q s (new_window q s) c (stays q s) b.slot.bus b listed (beside_itself b.slot.bus) bridge has moves)))
+            (in_space q s can c b.slot.bus (item_by (new_window q s) c b (Window c))
+            (window_in q s (new_window q s) c (stays q s) b.slot.bus b listed (beside_itself q s can b.slot.bus) bridge has moves)))
 
         abbrev new_range : Range
         new_range = taken_by window_place.at.item window_place.at.at
@@ -335,15 +194,15 @@ module _ (q : Request) (s : System) (can : CanSettle q s) where
               ];
             }
 
-        around : new_window q s c b ≡ window_around c b (items c bus)
+        around : new_window q s c b ≡ window_around c b (items q s can c bus)
         around = window_is_around q s c can.system can.nested b listed bridge ∙ ap (window_around c b) (sym items_all)
 
         -- each item behind can be in the window
-        can_be : (i : Item) → Contains (items c bus) i → CanBeIn window_place.at.at (new_window q s c b).size i
+        can_be : (i : Item) → Contains (items q s can c bus) i → CanBeIn window_place.at.at (new_window q s c b).size i
         can_be i has_i =
             let law = lawful_place in
-            let extents = map (λ (j : Item). j.extent) (items c bus) in
-            let in_e : Contains extents i.extent = in_map_from (λ (j : Item). j.extent) (items c bus) i has_i in
+            let extents = map (λ (j : Item). j.extent) (items q s can c bus) in
+            let in_e : Contains extents i.extent = in_map_from (λ (j : Item). j.extent) (items q s can c bus) i has_i in
             let less : i.extent.alignment ≤ greatest (map (λ (e : Extent). e.alignment) extents) = below_greatest (map (λ (e : Extent). e.alignment) extents) i.extent.alignment (in_map_from (λ (e : Extent). e.alignment) extents i.extent in_e) in
             let whole : (new_window q s c b).alignment ≡ max (page_size c) (greatest (map (λ (e : Extent). e.alignment) extents)) = ap (λ (e : Extent). e.alignment) around in
             let power = item_power q s (new_window q s) c bus i (new_window_power q s c) (items_are q s (new_window q s) c (stays q s) bus i has_i) in
@@ -356,12 +215,12 @@ module _ (q : Request) (s : System) (can : CanSettle q s) where
               ];
             }
 
-        new_room : are_placed (place_all (λ i. new_range ∷ []) [] (items c bus)) ≡ true
+        new_room : are_placed (place_all (λ i. new_range ∷ []) [] (items q s can c bus)) ≡ true
         new_room =
-            ap (λ n. are_placed (place_all (λ i. range_from window_place.at.at n ∷ []) [] (items c bus))) (ap (λ (i : Item). i.extent.size) window_place.item)
-            ∙ window_has_room (page_size c) (items c bus) window_place.at.at (new_window q s c b).size (page_some c) (ap (λ (e : Extent). e.size) around) can_be
+            ap (λ n. are_placed (place_all (λ i. range_from window_place.at.at n ∷ []) [] (items q s can c bus))) (ap (λ (i : Item). i.extent.size) window_place.item)
+            ∙ window_has_room (page_size c) (items q s can c bus) window_place.at.at (new_window q s c b).size (page_some c) (ap (λ (e : Extent). e.size) around) can_be
 
-        new_ends : EndsIn over.placed (window_region c b) new_range
+        new_ends : EndsIn q s can over.placed (window_region c b) new_range
         new_ends = Gets moves window_place.at window_place.found_there window_place.listed (ap (λ (i : Item). i.region) window_place.item) refl
 
         -- what stays behind is in the other window
@@ -376,7 +235,7 @@ module _ (q : Request) (s : System) (can : CanSettle q s) where
             let within = within_over q s can.system can.nested b listed bridge r is.listed on (stays_stands q s can.system can.nested r in_r is.kept) in
             subst (IsOutside new_range) is.is
             (outside_within new_range (addresses (window_region d b)) (addresses r)
-            (end_apart space b.slot.bus over (window_region c b) (window_region d b) new_range (addresses (window_region d b)) (window_beside c of) (window_beside d of_d)
+            (end_apart q s can space b.slot.bus over (window_region c b) (window_region d b) new_range (addresses (window_region d b)) (window_beside c of) (window_beside d of_d)
             (λ e. both_ways (stays q s (window_region c b)) moves (ap (λ k. stays q s (window_region k b)) (window_ranks q s can.system can.nested b listed bridge c d e) ∙ keeps_d)) new_ends (Keeps keeps_d refl)) within.0)
 
         new_has_range : HasRange c
@@ -384,7 +243,7 @@ module _ (q : Request) (s : System) (can : CanSettle q s) where
           range = new_range;
           ends = new_ends;
           shown =
-              ap (λ t. cond t (addresses (window_region c b) ∷ []) (placed_range (place_among (window_region c b) (places space b.slot.bus)))) moves
+              ap (λ t. cond t (addresses (window_region c b) ∷ []) (placed_range (place_among (window_region c b) (places q s can space b.slot.bus)))) moves
               ∙ ap (λ p. placed_range (place_among (window_region c b) (placed_of p))) over.is
               ∙ ap placed_range window_place.found_there;
           off = [];
@@ -395,7 +254,7 @@ module _ (q : Request) (s : System) (can : CanSettle q s) where
 
     -- ---- either
 
-    pub range_or_none : (c : WindowKind) → window_space c ≡ space → (items c bus ≡ []) ⊎ HasRange c
+    pub range_or_none : (c : WindowKind) → window_space c ≡ space → (items q s can c bus ≡ []) ⊎ HasRange c
     range_or_none c of = elim (cases_Bool (stays q s (window_region c b))) [
       | inl keeps ↦ inr (kept_has_range c of keeps)
       | inr moves ↦ elim (cases_Bool (has_of q s c b)) [
@@ -408,34 +267,34 @@ module _ (q : Request) (s : System) (can : CanSettle q s) where
     pub range_of_item : (c : WindowKind) (h : HasRange c) (i : Item) → i.class ≡ c → i.region.function.slot.bus ≡ bus → ranges i ≡ h.range ∷ []
     range_of_item c h i class at =
         let on = i.region.function.slot.bus in
-        let D = places space in
+        let D = places q s can space in
         ap (λ t. cond t (root_ranges q i) (window_ranges q s D i.class (bridge_over s on))) (ap (is_root q.roots) at ∙ off_roots q s can.system can.nested b listed bridge)
         ∙ ap (λ k. window_ranges q s D k (bridge_over s on)) class
         ∙ ap (λ n. window_ranges q s D c (bridge_over s n)) at
         ∙ ap (window_ranges q s D c) (over_is q.roots s can.system can.nested bus b (listed, bridge, refl))
         ∙ h.shown
 
-    item_ranges : (c : WindowKind) (h : HasRange c) (i : Item) → Contains (items c bus) i → ranges i ≡ h.range ∷ []
+    item_ranges : (c : WindowKind) (h : HasRange c) (i : Item) → Contains (items q s can c bus) i → ranges i ≡ h.range ∷ []
     item_ranges c h i has_i =
         let is = items_are q s (new_window q s) c (stays q s) bus i has_i in
         range_of_item c h i (ap (λ (j : Item). j.class) (sym is.is)) (sym (on_bus i.region.function.slot.bus (ap (λ (j : Item). are_siblings q.roots bus j.region.function.slot.bus) (sym is.is) ∙ is.beside)))
 
-    positive : (c : WindowKind) (i : Item) → Contains (items c bus) i → 0 < i.extent.alignment
+    positive : (c : WindowKind) (i : Item) → Contains (items q s can c bus) i → 0 < i.extent.alignment
     positive c i has_i = power_pos i.extent.alignment (item_power q s (new_window q s) c bus i (new_window_power q s c) (items_are q s (new_window q s) c (stays q s) bus i has_i))
 
     -- those of one class are placed, whatever else is taken outside the window
-    class_placed : (c : WindowKind) → (items c bus ≡ []) ⊎ HasRange c → (xs : List Range) → ((h : HasRange c) → IsAlikeIn h.range xs h.off) → ((h : HasRange c) → IsAlikeIn h.range h.off xs)
-        → are_placed (place_all ranges xs (items c bus)) ≡ true
+    class_placed : (c : WindowKind) → (items q s can c bus ≡ []) ⊎ HasRange c → (xs : List Range) → ((h : HasRange c) → IsAlikeIn h.range xs h.off) → ((h : HasRange c) → IsAlikeIn h.range h.off xs)
+        → are_placed (place_all ranges xs (items q s can c bus)) ≡ true
     class_placed c (inl none) xs to back = ap (λ is. are_placed (place_all ranges xs is)) none
     class_placed c (inr h) xs to back =
-        ap are_placed (places_by ranges (λ i. h.range ∷ []) xs (items c bus) (item_ranges c h)
-        ∙ same_outside h.range (items c bus) xs h.off (to h) (back h) (positive c))
+        ap are_placed (places_by ranges (λ i. h.range ∷ []) xs (items q s can c bus) (item_ranges c h)
+        ∙ same_outside h.range (items q s can c bus) xs h.off (to h) (back h) (positive c))
         ∙ h.room
 
     -- the windows of two classes are apart
     windows_apart : (c d : WindowKind) (h : HasRange c) (k : HasRange d) → window_space c ≡ space → window_space d ≡ space → (c ≡ d → ⊥) → LieApart h.range k.range
     windows_apart c d h k of_c of_d differ =
-        end_apart space b.slot.bus over (window_region c b) (window_region d b) h.range k.range (window_beside c of_c) (window_beside d of_d)
+        end_apart q s can space b.slot.bus over (window_region c b) (window_region d b) h.range k.range (window_beside c of_c) (window_beside d of_d)
         (λ e. differ (window_ranks q s can.system can.nested b listed bridge c d e)) h.ends k.ends
 
     -- what is placed in a window is outside what is outside of it
@@ -449,13 +308,13 @@ module _ (q : Request) (s : System) (can : CanSettle q s) where
     pub no_item : {P : Type 0} (xs : List Item) (i : Item) → Contains xs i → xs ≡ [] → P
     no_item xs i has none = absurd (in_nil i (subst (λ ys. Contains ys i) none has))
 
-    module _ (placed : List Placed) (is : place_all ranges taken (items MemoryWindow bus) ≡ AllPlaced placed) (m : window_space MemoryWindow ≡ space) (p : window_space PrefetchWindow ≡ space) (h : HasRange PrefetchWindow) where
-      memory_out : (x : Placed) → Contains placed x → (items MemoryWindow bus ≡ []) ⊎ HasRange MemoryWindow → IsOutside h.range (taken_by x.item x.at)
+    module _ (placed : List Placed) (is : place_all ranges taken (items q s can MemoryWindow bus) ≡ AllPlaced placed) (m : window_space MemoryWindow ≡ space) (p : window_space PrefetchWindow ≡ space) (h : HasRange PrefetchWindow) where
+      memory_out : (x : Placed) → Contains placed x → (items q s can MemoryWindow bus ≡ []) ⊎ HasRange MemoryWindow → IsOutside h.range (taken_by x.item x.at)
       memory_out x listed_x memory =
-          let are : ArePlaced ranges taken (items MemoryWindow bus) placed = placed_are ranges taken (items MemoryWindow bus) placed (positive MemoryWindow) is in
-          let item : Contains (items MemoryWindow bus) x.item = subst (λ xs. Contains xs x.item) are.all (in_map_from (λ (y : Placed). y.item) placed x listed_x) in
+          let are : ArePlaced ranges taken (items q s can MemoryWindow bus) placed = placed_are ranges taken (items q s can MemoryWindow bus) placed (positive MemoryWindow) is in
+          let item : Contains (items q s can MemoryWindow bus) x.item = subst (λ xs. Contains xs x.item) are.all (in_map_from (λ (y : Placed). y.item) placed x listed_x) in
           elim memory [
-            | inl none ↦ no_item (items MemoryWindow bus) x.item item none
+            | inl none ↦ no_item (items q s can MemoryWindow bus) x.item item none
             | inr k ↦
                 let own = are.each x listed_x in
                 let there : k.range ≡ own.0 = one_left k.range own.0 (subst (λ rs. Contains rs own.0) (item_ranges MemoryWindow k x.item item) own.1) in
@@ -475,19 +334,19 @@ module _ (q : Request) (s : System) (can : CanSettle q s) where
       ]
 
   module _ (b : Function) (listed : Contains s b) (bridge : is_bridge b ≡ true) where
-    all_placed : (space : Space) → IsPlacedBus space b.slot.bus → are_placed (place_all (ranges_for q s (places space)) (taken_at q s space (secondary b)) (space_items q s space (secondary b))) ≡ true
+    all_placed : (space : Space) → IsPlacedBus q s can space b.slot.bus → are_placed (place_all (ranges_for q s (places q s can space)) (taken_at q s space (secondary b)) (space_items q s space (secondary b))) ≡ true
     all_placed Io over =
         class_placed Io b listed bridge over IoWindow (range_or_none Io b listed bridge over IoWindow refl) (taken_at q s Io (secondary b)) (λ h. h.to) (λ h. h.back)
     all_placed Memory over =
-        let ranges = ranges_for q s (places Memory) in
+        let ranges = ranges_for q s (places q s can Memory) in
         let taken = taken_at q s Memory (secondary b) in
         let plain = class_placed Memory b listed bridge over MemoryWindow (range_or_none Memory b listed bridge over MemoryWindow refl) taken (λ h. h.to) (λ h. h.back) in
-        let list = placed_list (place_all ranges taken (items MemoryWindow (secondary b))) plain in
-        placed_after ranges taken (items MemoryWindow (secondary b)) (items PrefetchWindow (secondary b)) list.0 list.1
+        let list = placed_list (place_all ranges taken (items q s can MemoryWindow (secondary b))) plain in
+        placed_after ranges taken (items q s can MemoryWindow (secondary b)) (items q s can PrefetchWindow (secondary b)) list.0 list.1
         ∙ class_placed Memory b listed bridge over PrefetchWindow (range_or_none Memory b listed bridge over PrefetchWindow refl) (with_taken list.0 taken)
         (prefetch_to Memory b listed bridge over list.0 list.1 refl refl) (prefetch_back Memory b listed bridge over list.0 list.1 refl refl)
 
-    behind_placed : (space : Space) → IsPlacedBus space b.slot.bus → secondary b < 256 → are_placed (placing_on q s space (secondary b)) ≡ true
+    behind_placed : (space : Space) → IsPlacedBus q s can space b.slot.bus → secondary b < 256 → are_placed (placing_on q s space (secondary b)) ≡ true
     behind_placed space over low = ap are_placed (placing_by_bus q s can.system can.nested space (secondary b) low) ∙ all_placed space over
 
   -- ---- the roots
@@ -515,13 +374,13 @@ module _ (q : Request) (s : System) (can : CanSettle q s) where
     | inr (b, leader) ↦
         let to = leader.leads in
         let up = order_of q.roots s can.nested b leader.listed leader.bridge in
-        let over = bus_placed space b.slot.bus (low_bus b leader.listed) (placed_below n space b (omega (arith, less, up, to)) leader.listed) in
-        let low = low_bus f listed in
+        let over = bus_placed q s can space b.slot.bus (low_bus q s can b leader.listed) (placed_below n space b (omega (arith, less, up, to)) leader.listed) in
+        let low = low_bus q s can f listed in
         subst (λ bus. are_placed (placing_on q s space bus) ≡ true) to (behind_placed b leader.listed leader.bridge space over (omega (arith, low, to)))
   ]
 
   pub each_placed : (space : Space) (f : Function) → Contains s f → are_placed (placing_on q s space f.slot.bus) ≡ true
   each_placed space f listed = placed_below (suc f.slot.bus) space f (omega arith) listed
 
-  pub placed_bus : (space : Space) (f : Function) → Contains s f → IsPlacedBus space f.slot.bus
-  placed_bus space f listed = bus_placed space f.slot.bus (low_bus f listed) (each_placed space f listed)
+  pub placed_bus : (space : Space) (f : Function) → Contains s f → IsPlacedBus q s can space f.slot.bus
+  placed_bus space f listed = bus_placed q s can space f.slot.bus (low_bus q s can f listed) (each_placed space f listed)

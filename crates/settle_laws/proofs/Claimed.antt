@@ -33,8 +33,8 @@ use Rattle.settle_laws.specs.PlacesLaws.{CanSettle, place_range, end_range}
 use Rattle.settle_laws.proofs.Commands.{on_settled, enabled_unleft}
 use Rattle.settle_laws.proofs.Fits.{was, decodable, window_there, window_has}
 use Rattle.settle_laws.proofs.HeaderParts.{header_of, rom_at_end}
-use Rattle.settle_laws.proofs.InWindows.{kept_range, placed_range, place_of_range, ends_nowhere, in_window}
 use Rattle.settle_laws.proofs.Held.{bar_listed}
+use Rattle.settle_laws.proofs.InWindows.{kept_range, placed_range, place_of_range, ends_nowhere, in_window}
 use Rattle.settle_laws.proofs.Moves.{moves, new_profile}
 use Rattle.settle_laws.proofs.Numbers.{with_elsewhere}
 use Rattle.settle_laws.proofs.PartClasses.{space_of_class}
@@ -110,7 +110,7 @@ module _ (q : Request) (s : System) (can : CanSettle q s) where
     pub ends : end_range q s record { function = f; part = p } ≡ Some at
     pub shown : range_of (settled_function q s f) p ≡ at
 
-  has_end : (f : Function) (p : Part) → Contains s f → has_part f p ≡ true → (t : Range) → end_range q s record { function = f; part = p } ≡ Some t → HasEnd f p
+  pub has_end : (f : Function) (p : Part) → Contains s f → has_part f p ≡ true → (t : Range) → end_range q s record { function = f; part = p } ≡ Some t → HasEnd f p
   has_end f p listed there t ends = record { there = there; at = t; ends = ends; shown = part_shown f p listed there t ends }
 
   -- a window that holds an address
@@ -169,7 +169,7 @@ module _ (q : Request) (s : System) (can : CanSettle q s) where
   claimed_part f (Window kind) space a listed plain claim = absurd (both_ways true plain refl)
 
   -- one that is looked at ends somewhere
-  part_end : (f : Function) (p : Part) → Contains s f → has_part f p ≡ true → is_part q s f p ≡ true → is_window p ≡ false → HasEnd f p
+  pub part_end : (f : Function) (p : Part) → Contains s f → has_part f p ≡ true → is_part q s f p ≡ true → is_window p ≡ false → HasEnd f p
   part_end f p listed there part plain = elim (cases_Bool (stays q s record { function = f; part = p })) [
     | inl keeps ↦ has_end f p listed there (addresses record { function = f; part = p }) (kept_range q s record { function = f; part = p } keeps)
     | inr moves ↦

@@ -87,7 +87,7 @@ module _ (q : Request) (s : System) (can : CanSettle q s) where
 
   -- ---- windows that are needed are there
 
-  window_by : (c : WindowKind) (b : Function) → Contains s b → is_bridge b ≡ true → IsBehindOf q s can c b → has_window c b.probe ≡ true
+  window_by : (c : WindowKind) (b : Function) → Contains s b → is_bridge b ≡ true → IsBehindOf q s c b → has_window c b.probe ≡ true
   window_by IoWindow b listed bridge is = elim (part_cases is.f is.p is.there) [
     | inl bar ↦
         let n = bar.n in
@@ -108,7 +108,7 @@ module _ (q : Request) (s : System) (can : CanSettle q s) where
   ]
 
   pub window_there : (c : WindowKind) (b : Function) → Contains s b → is_bridge b ≡ true → has_of q s c b ≡ true → has_window c b.probe ≡ true
-  window_there c b listed bridge has = window_by c b listed bridge (behind_of q s can c b listed bridge has)
+  window_there c b listed bridge has = window_by c b listed bridge (behind_of q s c b listed bridge has)
 
   -- ---- new windows
 

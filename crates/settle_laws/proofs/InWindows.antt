@@ -22,11 +22,19 @@ use Rattle.settle_spec.specs.Places.{placed_of, place_among, new_place, taken_at
 use Rattle.settle_spec.proofs.Buses.{roots_are_one}
 use Rattle.settle_spec.proofs.FirstSpot.{spot_gives}
 use Rattle.settle_laws.specs.PlacesLaws.{CanSettle, place_range, end_range}
-use Rattle.settle_laws.proofs.BusPlaced.{IsPlacedBus, EndsIn, Keeps, Gets, items, places, placed_bus, end_apart, one_left, range_or_none, range_of_item, no_item}
+use Rattle.settle_laws.proofs.BusPlaced.{placed_bus, one_left, range_or_none, range_of_item, no_item}
 use Rattle.settle_laws.proofs.HeaderParts.{header_of}
 use Rattle.settle_laws.proofs.Kept.{in_regions, stays_stands, stays_part, over_stays, within_over}
 use Rattle.settle_laws.proofs.PartClasses.{space_of_class}
 use Rattle.settle_laws.proofs.PartPlaces.{IsNewPlace, new_place_is}
+use Rattle.settle_laws.proofs.PlacedBus.{IsPlacedBus, EndsIn, Keeps, Gets, items, places, end_apart}
+
+-- what has a place in a range is inside
+pub place_inside : (u : Range) (xs : List Range) (y : Placed) → IsTrue (is_place u xs y.item.extent y.at) → IsInside (taken_by y.item y.at) u
+place_inside u xs y place =
+    let e = y.item.extent in
+    let parts = and_parts (is_spot u.first xs e y.at) (ends_in u e y.at) place in
+    ((spot_gives u.first xs e y.at parts.0).from, leb-true (taken_by y.item y.at).last u.last (and_parts (nat_le (taken_by y.item y.at).last u.last) _ parts.1).0)
 
 module _ (q : Request) (s : System) where
   pub kept_range : (r : Region) → stays q s r ≡ true → end_range q s r ≡ Some (addresses r)
@@ -123,12 +131,6 @@ module _ (q : Request) (s : System) (can : CanSettle q s) where
                 inside = subst (IsInside (taken_by x.item x.at)) (sym in_it) (place_inside own.0 (taken_at q s space f.slot.bus) x own.2);
               }
         ]
-      where
-        place_inside : (u : Range) (xs : List Range) (y : Placed) → IsTrue (is_place u xs y.item.extent y.at) → IsInside (taken_by y.item y.at) u
-        place_inside u xs y place =
-            let e = y.item.extent in
-            let parts = and_parts (is_spot u.first xs e y.at) (ends_in u e y.at) place in
-            ((spot_gives u.first xs e y.at parts.0).from, leb-true (taken_by y.item y.at).last u.last (and_parts (nat_le (taken_by y.item y.at).last u.last) _ parts.1).0)
 
     pub in_window : (t : Range) → end_range q s r ≡ Some t → IsInWindow f p b t
     in_window t e = elim (cases_Bool (stays q s r)) [

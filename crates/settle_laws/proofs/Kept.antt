@@ -26,7 +26,7 @@ use Rattle.settle_laws.proofs.Held.{above_above, same_itself}
 use Rattle.settle_laws.proofs.Outside.{IsOutside}
 use Rattle.settle_laws.proofs.PartClasses.{space_of_class}
 
-one_space : (a b : Space) → same_space a b ≡ true → a ≡ b
+pub one_space : (a b : Space) → same_space a b ≡ true → a ≡ b
 one_space Io Io same = refl
 one_space Io Memory same = absurd (both_ways (same_space Io Memory) refl same)
 one_space Memory Io same = absurd (both_ways (same_space Memory Io) refl same)

@@ -1,11 +1,14 @@
 pub mod After
 pub mod Again
 pub mod AgainCommand
+pub mod AgainEnds
 pub mod AgainImage
+pub mod AgainKept
 pub mod AgainSettled
 pub mod Alike
 pub mod AlikeItems
 pub mod AlikePlaces
+pub mod AllStand
 pub mod Anew
 pub mod BusPlaced
 pub mod Claimed
@@ -34,6 +37,7 @@ pub mod Outside
 pub mod PartClasses
 pub mod PartPlaces
 pub mod Pieces
+pub mod PlacedBus
 pub mod PlacesFit
 pub mod PlannedRoots
 pub mod PlannedSizes

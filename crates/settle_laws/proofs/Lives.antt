@@ -22,13 +22,13 @@ use Rattle.settle_spec.specs.Registers.{changing, got_place, has_own, is_enabled
 use Rattle.settle_spec.proofs.Live.{live_by_bus}
 use Rattle.settle_spec.proofs.Nested.{at_secondary, bridge_between, is_no_root, one_bridge}
 use Rattle.settle_laws.specs.PlacesLaws.{CanSettle}
+use Rattle.settle_laws.proofs.HeaderParts.{header_of}
 use Rattle.settle_laws.proofs.Held.{above_above, own_by, same_itself}
 use Rattle.settle_laws.proofs.ItemForms.{IsPlaceable, IsOwnPart, IsNewWindow}
-use Rattle.settle_laws.proofs.ShownParts.{in_changing}
-use Rattle.settle_laws.proofs.HeaderParts.{header_of}
 use Rattle.settle_laws.proofs.Kept.{above_stays}
 use Rattle.settle_laws.proofs.PartClasses.{space_of_class}
 use Rattle.settle_laws.proofs.PartPlaces.{part_placed, IsNewPlace, new_place_is, IsBehindOf, behind_of}
+use Rattle.settle_laws.proofs.ShownParts.{in_changing}
 use Rattle.settle_laws.proofs.Unleft.{unleft, unleft_itself}
 
 module _ (q : Request) (s : System) (can : CanSettle q s) where
@@ -115,7 +115,7 @@ module _ (q : Request) (s : System) (can : CanSettle q s) where
   serves_own f p listed there part plain enabled = record { for = f; own = has_own_here f p listed there part plain; up = λ d has. has; live = live_on f p listed there part plain enabled }
 
   -- and a bridge for what is behind it and gets a place
-  serves_behind : (c : WindowKind) (f : Function) → (is : IsBehindOf q s can c f) → stays q s record { function = is.f; part = is.p } ≡ false → IsServing (window_space c) f
+  serves_behind : (c : WindowKind) (f : Function) → (is : IsBehindOf q s c f) → stays q s record { function = is.f; part = is.p } ≡ false → IsServing (window_space c) f
   serves_behind c f is moves =
       let space = space_of is.f is.p in
       let same : space ≡ window_space c = sym (space_of_class q s is.f is.p) ∙ ap window_space is.class in
@@ -136,7 +136,7 @@ module _ (q : Request) (s : System) (can : CanSettle q s) where
       is = new_place_is q s can f p listed there x placed
 
       -- what is behind a new window doesn't stay
-      moves_behind : p ≡ Window (class_in q s f p) → (of : IsBehindOf q s can (class_in q s f p) f) → stays q s record { function = of.f; part = of.p } ≡ false
+      moves_behind : p ≡ Window (class_in q s f p) → (of : IsBehindOf q s (class_in q s f p) f) → stays q s record { function = of.f; part = of.p } ≡ false
       moves_behind window of = false_from_ne_true (stays q s record { function = of.f; part = of.p }) (λ keeps.
           let over = above_stays q s can.system can.nested record { function = of.f; part = of.p } f keeps of.above in
           both_ways (stays q s record { function = f; part = p }) is.moves
@@ -145,7 +145,7 @@ module _ (q : Request) (s : System) (can : CanSettle q s) where
       by : IsPlaceable q s (class_in q s f p) f p → IsServing (space_of f p) f
       by (IsOwnPart plain part) = serves_own f p listed (header_of f p there) part plain (enabled_here f p listed (header_of f p there) part plain is.moves)
       by (IsNewWindow window bridge has) =
-          let of = behind_of q s can (class_in q s f p) f listed bridge has in
+          let of = behind_of q s (class_in q s f p) f listed bridge has in
           subst (λ sp. IsServing sp f) (space_of_class q s f p) (serves_behind (class_in q s f p) f of (moves_behind window of))
 
   -- the bridge that leads to the bus of what serves does too

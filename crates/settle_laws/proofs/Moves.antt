@@ -1,8 +1,11 @@
--- What can be settled keeps all but address bits and Command's enables of I/O and memory, and the profile.
+-- What can be settled keeps all but address bits and Command's enables of I/O and memory, and is admitted again.
 use Rattle.std.specs.List.{Contains, AllZip}
-use Rattle.pci_spec.specs.System.{System, Function}
-use Rattle.pci_spec.specs.Sound.{IsInProfile}
+use Rattle.pci_spec.specs.System.{System, Function, IsSystem}
+use Rattle.pci_spec.specs.Bus.{IsNested}
+use Rattle.pci_spec.specs.Sound.{IsInProfile, HasChains}
 use Rattle.plan_spec.specs.Plan.{IsMoved}
+use Rattle.plan_spec.proofs.PlanningLaws.{moved_is_nested, moved_has_chains}
+use Rattle.plan_spec.proofs.Planning.Whole.{moved_system}
 use Rattle.settle_spec.specs.Lists.{Request}
 use Rattle.settle_spec.specs.Registers.{settled, settled_function}
 use Rattle.settle_laws.specs.PlacesLaws.{CanSettle}
@@ -19,3 +22,12 @@ module _ (q : Request) (s : System) (can : CanSettle q s) where
 
   pub new_profile : IsInProfile q.roots (settled q s)
   new_profile = listed_profile q s can.system can.profile can.chains (are_lists q s can)
+
+  pub new_system : IsSystem (settled q s)
+  new_system = moved_system s (settled q s) all_move can.system
+
+  pub new_nested : IsNested q.roots (settled q s)
+  new_nested = moved_is_nested q.roots s (settled q s) all_move can.system can.nested
+
+  pub new_chains : HasChains (settled q s)
+  new_chains = moved_has_chains s (settled q s) all_move can.system can.chains

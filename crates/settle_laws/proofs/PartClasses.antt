@@ -26,14 +26,14 @@ wide_there probe wide =
 
 -- ---- by tests
 
-abbrev of_memory : Bool → WindowKind
+abbrev pub of_memory : Bool → WindowKind
 of_memory served = if served then PrefetchWindow else MemoryWindow
 
 -- a prefetchable BAR's, by whether it is where no window counts, in which windows it is, and whether it is served
-abbrev by_windows : Bool → Bool → Bool → Bool → WindowKind
+abbrev pub by_windows : Bool → Bool → Bool → Bool → WindowKind
 by_windows new memory prefetch served = if new then of_memory served else if memory then MemoryWindow else if prefetch then PrefetchWindow else of_memory served
 
-abbrev by_tests : Bool → Bool → WindowKind → WindowKind
+abbrev pub by_tests : Bool → Bool → WindowKind → WindowKind
 by_tests io prefetchable class = if io then IoWindow else if prefetchable then class else MemoryWindow
 
 new_space : (served : Bool) → window_space (of_memory served) ≡ Memory
@@ -83,7 +83,7 @@ module _ (q : Request) (s : System) (f : Function) where
   class_of_windows n =
       by_windows (q.anew || is_root q.roots f.slot.bus) (is_in_memory s f n) (is_in_prefetch s f n) (not (is_empty q.lists.prefetch) && is_served s (upper_pools q.lists.prefetch) f n)
 
-  prefetchable_space : (n : ℕ) → window_space (prefetchable_class q s f n) ≡ Memory
+  pub prefetchable_space : (n : ℕ) → window_space (prefetchable_class q s f n) ≡ Memory
   prefetchable_space n = windows_space (q.anew || is_root q.roots f.slot.bus) (is_in_memory s f n) (is_in_prefetch s f n) (not (is_empty q.lists.prefetch) && is_served s (upper_pools q.lists.prefetch) f n)
 
   -- windows of a part's class forward its space

@@ -17,10 +17,44 @@ use Rattle.settle_spec.specs.Stands.{rank, window_region}
 use Rattle.settle_spec.specs.Items.{Item, Placed, is_own, has_of, new_window, stays}
 use Rattle.settle_spec.specs.Places.{placed_of, place_among, space_items, new_place}
 use Rattle.settle_laws.specs.PlacesLaws.{CanSettle}
-use Rattle.settle_laws.proofs.BusPlaced.{places, items, placed_bus, place_of, in_space, beside_itself}
+use Rattle.settle_laws.proofs.BusPlaced.{placed_bus}
 use Rattle.settle_laws.proofs.Finding.{found}
 use Rattle.settle_laws.proofs.ItemForms.{IsItemIn, IsPlaceable, item_by, item_moves, own_in, window_in, same_rank, space_items_are, header_has}
 use Rattle.settle_laws.proofs.PartClasses.{space_of_class}
+use Rattle.settle_laws.proofs.PlacedBus.{places, items, place_of, in_space, beside_itself}
+
+module _ (q : Request) (s : System) where
+  -- a BAR or ROM of a class behind a bridge
+  pub record IsBehindOf (c : WindowKind) (b : Function) : Type 0 where
+    pub f : Function
+    pub p : Part
+    pub listed : Contains s f
+    pub above : Contains (bridges_above s f.slot.bus) b
+    pub there : Contains (header_parts f) p
+    pub part : is_part q s f p ≡ true
+    pub plain : is_window p ≡ false
+    pub class : class_in q s f p ≡ c
+
+  pub behind_of : (c : WindowKind) (b : Function) → Contains s b → is_bridge b ≡ true → has_of q s c b ≡ true → IsBehindOf c b
+  behind_of c b listed bridge has =
+      let found_f : Passes (λ f. is_behind b f.slot.bus && list_any (is_own q s c) (regions_of q s f)) s = any_gives (λ f. is_behind b f.slot.bus && list_any (is_own q s c) (regions_of q s f)) s has in
+      let f = found_f.x in
+      let is = and_parts (is_behind b f.slot.bus) (list_any (is_own q s c) (regions_of q s f)) found_f.is in
+      let r : Passes (is_own q s c) (regions_of q s f) = any_gives (is_own q s c) (regions_of q s f) is.1 in
+      let of : IsMade (λ p. record { function = f; part = p }) (parts_of q s f) r.x = in_map_to (λ p. record { function = f; part = p }) (parts_of q s f) r.x r.listed in
+      let p = of.from in
+      let part = in_filter_to (is_part q s f) (header_parts f) p of.has in
+      let own = and_parts (not (is_window p)) (same_class c (class_in q s f p)) (ap (is_own q s c) of.is ∙ r.is) in
+      record {
+        f = f;
+        p = p;
+        listed = found_f.listed;
+        above = above_from s f.slot.bus b record { listed = listed; bridge = bridge; behind = is.0 };
+        there = part.0;
+        part = part.1;
+        plain = not-true (is_window p) own.0;
+        class = same_class_is c (class_in q s f p) own.1;
+      }
 
 module _ (q : Request) (s : System) (can : CanSettle q s) where
   -- ---- which parts have a place
@@ -92,37 +126,3 @@ module _ (q : Request) (s : System) (can : CanSettle q s) where
       by : (o : Option Placed) → new_place q s r ≡ o → new_place q s r ≡ None
       by None shown = shown
       by (Some x) shown = absurd (both_ways (stays q s r) (new_place_is f p listed there x shown).moves keeps)
-
-  -- ---- windows that are needed are there
-
-  -- a BAR or ROM of a class behind a bridge
-  pub record IsBehindOf (c : WindowKind) (b : Function) : Type 0 where
-    pub f : Function
-    pub p : Part
-    pub listed : Contains s f
-    pub above : Contains (bridges_above s f.slot.bus) b
-    pub there : Contains (header_parts f) p
-    pub part : is_part q s f p ≡ true
-    pub plain : is_window p ≡ false
-    pub class : class_in q s f p ≡ c
-
-  pub behind_of : (c : WindowKind) (b : Function) → Contains s b → is_bridge b ≡ true → has_of q s c b ≡ true → IsBehindOf c b
-  behind_of c b listed bridge has =
-      let found_f : Passes (λ f. is_behind b f.slot.bus && list_any (is_own q s c) (regions_of q s f)) s = any_gives (λ f. is_behind b f.slot.bus && list_any (is_own q s c) (regions_of q s f)) s has in
-      let f = found_f.x in
-      let is = and_parts (is_behind b f.slot.bus) (list_any (is_own q s c) (regions_of q s f)) found_f.is in
-      let r : Passes (is_own q s c) (regions_of q s f) = any_gives (is_own q s c) (regions_of q s f) is.1 in
-      let of : IsMade (λ p. record { function = f; part = p }) (parts_of q s f) r.x = in_map_to (λ p. record { function = f; part = p }) (parts_of q s f) r.x r.listed in
-      let p = of.from in
-      let part = in_filter_to (is_part q s f) (header_parts f) p of.has in
-      let own = and_parts (not (is_window p)) (same_class c (class_in q s f p)) (ap (is_own q s c) of.is ∙ r.is) in
-      record {
-        f = f;
-        p = p;
-        listed = found_f.listed;
-        above = above_from s f.slot.bus b record { listed = listed; bridge = bridge; behind = is.0 };
-        there = part.0;
-        part = part.1;
-        plain = not-true (is_window p) own.0;
-        class = same_class_is c (class_in q s f p) own.1;
-      }

@@ -13,7 +13,6 @@ use Rattle.pci_spec.proofs.WindowLaws.{held, window_holds_its_pages}
 use Rattle.plan_spec.specs.Plan.{same_class}
 use Rattle.plan_spec.specs.Planning.Layout.{range_of, AreBeside, AreTwo, LieApart}
 use Rattle.plan_spec.specs.Planning.Ranges.{Ranges}
-use Rattle.plan_spec.proofs.PlanningLaws.{moved_is_nested, moved_has_chains}
 use Rattle.plan_spec.proofs.Planning.Home.{home_by_known}
 use Rattle.plan_spec.proofs.Planning.LaidOut.{place_of_claim}
 use Rattle.plan_spec.proofs.Planning.Moved.{secondary_same}
@@ -22,13 +21,13 @@ use Rattle.settle_spec.specs.Lists.{Request}
 use Rattle.settle_spec.specs.Parts.{class_in}
 use Rattle.settle_spec.specs.Registers.{is_enabled_in, settled, settled_function}
 use Rattle.settle_laws.specs.PlacesLaws.{CanSettle}
-use Rattle.settle_laws.proofs.Fits.{was}
 use Rattle.settle_laws.proofs.Claimed.{on_now, bridge_stays, new_decodable, window_end, claimed_part, claimed, passed_over}
+use Rattle.settle_laws.proofs.Fits.{was}
 use Rattle.settle_laws.proofs.HeaderParts.{header_of}
 use Rattle.settle_laws.proofs.Held.{claim_on}
 use Rattle.settle_laws.proofs.InWindows.{are_apart}
 use Rattle.settle_laws.proofs.Lives.{IsServing, serves_own, serves_over, serves_enabled}
-use Rattle.settle_laws.proofs.Moves.{moves, all_move, new_profile}
+use Rattle.settle_laws.proofs.Moves.{moves, new_nested, new_chains, new_profile}
 use Rattle.settle_laws.proofs.PartClasses.{prefetch_of_class, space_of_class}
 use Rattle.settle_laws.proofs.SettledMoved.{kind_stays}
 
@@ -133,7 +132,7 @@ module _ (q : Request) (s : System) (can : CanSettle q s) where
       led_before b f.slot.bus listed (subst (λ x. LeadsTo (settled q s) x f.slot.bus) (sym is_b) (subst (λ (x : Function). LeadsTo (settled q s) c x.slot.bus) (sym is_f) leads))
 
   home : IsHome q.roots (settled q s)
-  home = home_by_known q.roots (settled q s) (moved_is_nested q.roots s (settled q s) (all_move q s can) can.system can.nested) ServesNow
+  home = home_by_known q.roots (settled q s) (new_nested q s can) ServesNow
       (λ g c p space a in_g plain claim leads.
       let f : IsMade now s g = of_old g in_g in
       let b : IsMade now s c = of_old c leads.0 in
@@ -184,7 +183,7 @@ module _ (q : Request) (s : System) (can : CanSettle q s) where
   settled_sound = record {
     single = single;
     home = home;
-    nested = moved_is_nested q.roots s (settled q s) (all_move q s can) can.system can.nested;
+    nested = new_nested q s can;
     profile = new_profile q s can;
-    chains = moved_has_chains s (settled q s) (all_move q s can) can.system can.chains;
+    chains = new_chains q s can;
   }

@@ -1,11 +1,12 @@
-//! Laws of settling once more, where all is placed anew. These functions do nothing: each contract is a law.
+//! Laws of settling once more. These functions do nothing: each contract is a law.
 
-ghost use Rattle.settle_laws.specs.AgainLaws.{CanSettleAgain, PlacesStay, SettledStays, SettlingAgainWritesNothing};
+ghost use Rattle.settle_laws.specs.AgainLaws.{CanSettleAgain, SettledPartsStay, PartsEndWhereTheyEnded, SettledStays, SettlingAgainWritesNothing};
 
-/// What is settled can be settled again, and then everything gets the place that it has.
+/// What is settled can be settled again, and then everything ends where it is.
 pub fn places_stay()
     ensures again { CanSettleAgain }
-    ensures same { PlacesStay }
+    ensures stay { SettledPartsStay }
+    ensures same { PartsEndWhereTheyEnded }
 {}
 
 /// Settling what is settled changes nothing, and writes nothing.
