@@ -1,25 +1,24 @@
 -- Settling what is settled changes nothing, so nothing is written.
-use Rattle.std.proofs.Common.{◌≡◌, inl, inr, [], ◌∷◌, map, true, refl, sym, ◌∙◌}
+use Rattle.std.proofs.Common.{◌≡◌, inl, inr, [], true, false, ◌&&◌, ◌||◌, not, sym, ◌∙◌, ap, subst}
 use Rattle.std.specs.List.{Contains}
-use Rattle.std.proofs.lemmas.Bool.{both_ways, cases_Bool}
-use Rattle.pci_spec.specs.Registers.{COMMAND}
-use Rattle.pci_spec.specs.Header.{command}
-use Rattle.pci_spec.specs.System.{System, Function, Io, Memory, Space, is_space_on}
-use Rattle.pci_spec.proofs.Members.{in_head, in_tail, in_map_from}
-use Rattle.plan_spec.proofs.Planning.CommandFits.{command_by}
+use Rattle.std.proofs.lemmas.Bool.{both_ways, cases_Bool, false_from_ne_true, not-true, or_left, or_right, and_from}
+use Rattle.pci_spec.specs.System.{System, Function, Space, Io, is_space_on}
+use Rattle.pci_spec.proofs.Members.{in_map_to, in_map_from, IsMade}
 use Rattle.settle_spec.specs.Lists.{Request}
-use Rattle.settle_spec.specs.Registers.{with_number, got_place, is_enabled_in, settled, settled_image, settled_command, settled_function}
+use Rattle.settle_spec.specs.Parts.{has_left, same_space}
+use Rattle.settle_spec.specs.LiveLaws.{is_live, has_live_behind}
+use Rattle.settle_spec.specs.Registers.{got_place, settled, settled_image, settled_function}
 use Rattle.settle_spec.specs.Writes.{settle_writes}
 use Rattle.settle_laws.specs.PlacesLaws.{CanSettle}
-use Rattle.settle_laws.proofs.AgainCommand.{got_again, enabled_again}
+use Rattle.settle_laws.proofs.AgainCommand.{left_again, got_again}
 use Rattle.settle_laws.proofs.AgainImage.{image_again}
 use Rattle.settle_laws.proofs.AgainKept.{all_stand}
 use Rattle.settle_laws.proofs.AllStand.{got_none, image_stays}
 use Rattle.settle_laws.proofs.Claimed.{on_now}
-use Rattle.settle_laws.proofs.Commands.{as_it_is}
+use Rattle.settle_laws.proofs.Commands.{enabled_unleft}
 use Rattle.settle_laws.proofs.Moves.{new_system, new_nested}
-use Rattle.settle_laws.proofs.Reput.{put_two}
-use Rattle.settle_laws.proofs.SettledMoved.{new_image}
+use Rattle.settle_laws.proofs.SettledAlready.{settled_already}
+use Rattle.settle_laws.proofs.SettledSound.{settled_sound}
 use Rattle.settle_laws.proofs.Unchanged.{no_write}
 
 module _ (q : Request) (s : System) (can : CanSettle q s) where
@@ -43,34 +42,33 @@ module _ (q : Request) (s : System) (can : CanSettle q s) where
     | inr kept ↦ absurd (both_ways (got_place q t space (now f)) (got_none q t (new_system q s can) (new_nested q s can) (all_stand q s can kept) space (now f)) got)
   ]
 
+  -- ---- what is left is off, and what got a place is on
+
+  left_off : (f : Function) → Contains s f → has_left q t (now f) ≡ true → is_space_on (now f) Io ≡ false
+  left_off f listed left = false_from_ne_true (is_space_on (now f) Io) (λ on.
+      both_ways (has_left q s f) (not-true (has_left q s f) (enabled_unleft q s f Io (sym (on_now q s can f listed Io) ∙ on))) (left_again q s can f listed ∙ left))
+
+  got_on : (space : Space) (f : Function) → Contains s f → not (same_space space Io && has_left q t (now f)) ≡ true → got_place q t space (now f) ≡ true → is_space_on (now f) space ≡ true
+  got_on space f listed fine got =
+      let behind = has_live_behind s (is_live q s space) f in
+      on_now q s can f listed space
+      ∙ and_from (not (same_space space Io && has_left q s f)) (is_space_on f space || got_place q s space f || behind)
+      (ap (λ b. not (same_space space Io && b)) (left_again q s can f listed) ∙ fine)
+      (or_left (is_space_on f space || got_place q s space f) behind (or_right (is_space_on f space) (got_place q s space f) (no_more space f listed got)))
+
   -- ---- so nothing changes
 
-  on_again : (f : Function) → Contains s f → (space : Space) → is_enabled_in q t space (now f) ≡ is_space_on (now f) space
-  on_again f listed space = sym (enabled_again q s can space (no_more space) f listed) ∙ sym (on_now q s can f listed space)
-
-  command_again : (f : Function) → Contains s f → settled_command q t (now f) ≡ command (now f).image
-  command_again f listed =
-      let io = on_again f listed Io in
-      let memory = on_again f listed Memory in
-      (λ i. command_by (command (now f).image) (io i) (memory i)) ∙ sym (as_it_is (command (now f).image))
-
-  function_again : (f : Function) → Contains s f → settled_function q t (now f) ≡ now f
-  function_again f listed =
-      let number = command_again f listed in
-      let kept = image_same f listed in
-      let image : with_number 2 COMMAND (settled_command q t (now f)) (settled_image q t (now f)) ≡ (now f).image =
-      (λ i. with_number 2 COMMAND (number i) (kept i)) ∙ put_two (now f).image (new_image q s can.system can.profile f listed) COMMAND in
-      λ i. record { slot = f.slot; image = image i; probe = f.probe }
-
-  each_again : (u : System) → ((f : Function) → Contains u f → settled_function q t (now f) ≡ now f) → map (settled_function q t) (map now u) ≡ map now u
-  each_again [] same = refl
-  each_again (f ∷ u) same =
-      let first = same f (in_head f u) in
-      let rest = each_again u (λ g has. same g (in_tail f u g has)) in
-      λ i. first i ∷ rest i
+  abbrev of_old : (g : Function) → Contains t g → IsMade now s g
+  of_old g has = in_map_to now s g has
 
   pub settled_again : settled q (settled q s) ≡ settled q s
-  settled_again = each_again s function_again
+  settled_again =
+      settled_already q t (new_system q s can) (settled_sound q s can)
+      (λ g has left. let f : IsMade now s g = of_old g has in subst (λ x. is_space_on x Io ≡ false) f.is (left_off f.from f.has (ap (has_left q t) f.is ∙ left)))
+      (λ space g has fine got.
+      let f : IsMade now s g = of_old g has in
+      subst (λ x. is_space_on x space ≡ true) f.is (got_on space f.from f.has (ap (λ x. not (same_space space Io && has_left q t x)) f.is ∙ fine) (ap (got_place q t space) f.is ∙ got)))
+      (λ g has. let f : IsMade now s g = of_old g has in subst (λ x. settled_image q t x ≡ x.image) f.is (image_same f.from f.has))
 
   pub none_again : settle_writes q (settled q s) ≡ []
   none_again = no_write q t (new_system q s can) (new_nested q s can) settled_again

@@ -45,11 +45,13 @@ pub mod PoolLists
 pub mod Powers
 pub mod Reput
 pub mod RomPlaces
+pub mod SettledAlready
 pub mod SettledMoved
 pub mod SettledSound
 pub mod Shown
 pub mod ShownKept
 pub mod ShownParts
+pub mod StandingStart
 pub mod Stopping
 pub mod Stops
 pub mod TurnFalls

@@ -40,16 +40,16 @@ passes_by c space prefetchable a b at may h = subst (λ sp. passes sp prefetchab
     by MemoryWindow may h = or_left (window_claims b MemoryWindow a) (prefetchable && window_claims b PrefetchWindow a) h
     by PrefetchWindow may h = or_right (window_claims b MemoryWindow a) (prefetchable && window_claims b PrefetchWindow a) (and_from prefetchable (window_claims b PrefetchWindow a) (may refl) h)
 
-record IsPassedBy (space : Space) (prefetchable : Bool) (a : ℕ) (b : Function) : Type 0 where
-  class : WindowKind
-  at : window_space class ≡ space
-  may : class ≡ PrefetchWindow → prefetchable ≡ true
-  claims : window_claims b class a ≡ true
+pub record IsPassedBy (space : Space) (prefetchable : Bool) (a : ℕ) (b : Function) : Type 0 where
+  pub class : WindowKind
+  pub at : window_space class ≡ space
+  pub may : class ≡ PrefetchWindow → prefetchable ≡ true
+  pub claims : window_claims b class a ≡ true
 
 no_prefetch : (c : WindowKind) → same_class PrefetchWindow c ≡ false → {P : Type 0} → c ≡ PrefetchWindow → P
 no_prefetch c differ e = absurd (both_ways (same_class PrefetchWindow c) differ (ap (same_class PrefetchWindow) e))
 
-passed_by : (space : Space) (prefetchable : Bool) (a : ℕ) (b : Function) → passes space prefetchable a b ≡ true → IsPassedBy space prefetchable a b
+pub passed_by : (space : Space) (prefetchable : Bool) (a : ℕ) (b : Function) → passes space prefetchable a b ≡ true → IsPassedBy space prefetchable a b
 passed_by Io prefetchable a b h = record { class = IoWindow; at = refl; may = λ e. no_prefetch IoWindow refl e; claims = h }
 passed_by Memory prefetchable a b h = elim (or_cases (window_claims b MemoryWindow a) (prefetchable && window_claims b PrefetchWindow a) h) [
   | inl plain ↦ record { class = MemoryWindow; at = refl; may = λ e. no_prefetch MemoryWindow refl e; claims = plain }

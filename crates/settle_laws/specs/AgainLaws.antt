@@ -1,9 +1,11 @@
 -- Laws of settling once more: what is settled stays as it is.
 use Rattle.std.specs.Prelude.{◌≡◌, IsTrue, IsFalse, []}
 use Rattle.std.specs.List.{Contains}
-use Rattle.pci_spec.specs.System.{System, Function, Part, has_part}
+use Rattle.pci_spec.specs.System.{System, Function, IsSystem, Io, Part, has_part, is_space_on}
+use Rattle.pci_spec.specs.Sound.{IsSound}
 use Rattle.settle_spec.specs.Lists.{Request}
-use Rattle.settle_spec.specs.Parts.{Region, regions}
+use Rattle.settle_spec.specs.Parts.{Region, regions, has_left}
+use Rattle.settle_spec.specs.Stands.{stands}
 use Rattle.settle_spec.specs.Items.{stays}
 use Rattle.settle_spec.specs.Registers.{settled, settled_function}
 use Rattle.settle_spec.specs.Writes.{settle_writes}
@@ -36,3 +38,11 @@ SettledStays =
 abbrev pub SettlingAgainWritesNothing : Type 0
 SettlingAgainWritesNothing =
     (q : Request) (s : System) → CanSettle q s → settle_writes q (settled q s) ≡ []
+
+-- A sound start is settled already where each part of it stands, and I/O is off in each function with an I/O BAR that is left.
+abbrev pub StandingStartIsSettled : Type 0
+StandingStartIsSettled =
+    (q : Request) (s : System) → IsSystem s → IsSound q.roots s
+    → ((r : Region) → Contains (regions q s) r → IsTrue (stands q s r))
+    → ((f : Function) → Contains s f → IsTrue (has_left q s f) → IsFalse (is_space_on f Io))
+    → (settled q s ≡ s) × (settle_writes q s ≡ [])
