@@ -43,6 +43,10 @@ GetsPlace q s f p x =
     Contains s f × IsTrue (has_part f p)
     × (new_place q s record { function = f; part = p } ≡ Some x)
 
+-- Where all is placed anew, nothing stays.
+abbrev pub NothingStaysAnew : Type 0
+NothingStaysAnew = (q : Request) (s : System) → IsTrue q.anew → (r : Region) → IsFalse (stays q s r)
+
 -- What gets a place doesn't stay.
 abbrev pub PlacesAreOfOthers : Type 0
 PlacesAreOfOthers =

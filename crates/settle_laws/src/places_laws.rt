@@ -1,12 +1,13 @@
 //! Laws of places. These functions do nothing: each contract is a law.
 
-ghost use Rattle.settle_laws.specs.PlacesLaws.{EachBusIsPlaced, PartsGetPlaces, PlacesAreOfOthers, PlacesAreInWindows, PlacesAreApart};
+ghost use Rattle.settle_laws.specs.PlacesLaws.{EachBusIsPlaced, PartsGetPlaces, NothingStaysAnew, PlacesAreOfOthers, PlacesAreInWindows, PlacesAreApart};
 
 /// Where nothing lacks room on the roots, nothing does: each BAR and ROM that is looked at stays or gets a
-/// place, and none does both.
+/// place, none does both, and none stays where all is placed anew.
 pub fn only_roots_lack_room()
     ensures placed { EachBusIsPlaced }
     ensures parts { PartsGetPlaces }
+    ensures anew { NothingStaysAnew }
     ensures others { PlacesAreOfOthers }
 {}
 
