@@ -24,7 +24,6 @@ use Rattle.stand_laws.proofs.Standing.{stands_by_itself}
 use Rattle.settle_laws.proofs.HeaderParts.{one_window, window_of}
 use Rattle.settle_laws.proofs.Held.{above_above, same_itself}
 use Rattle.settle_laws.proofs.Outside.{IsOutside}
-use Rattle.settle_laws.proofs.PartClasses.{space_of_class}
 
 pub one_space : (a b : Space) → same_space a b ≡ true → a ≡ b
 one_space Io Io same = refl
@@ -174,9 +173,6 @@ module _ (q : Request) (s : System) where
 
         pub over_stays : stays q s r ≡ true → stays q s over ≡ true
         over_stays is = (and_parts (holds q s r) (stays q s over) (sym stays_over ∙ is)).1
-
-        pub over_space : region_space over ≡ region_space r
-        over_space = space_of_class q s r.function r.part
 
       -- what stands lies in the window of its class, which stands
       pub within_over : (r : Region) → Contains (regions q s) r → secondary b ≡ r.function.slot.bus → stands q s r ≡ true

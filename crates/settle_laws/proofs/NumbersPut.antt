@@ -1,17 +1,11 @@
 -- What a number that is put into an image shows there, byte by byte.
-use Rattle.std.proofs.Common.{◌≡◌, ℕ, zero, suc, ◌+◌, ◌-◌, ◌*◌, ◌/◌, ◌%◌, ◌^◌, ◌<◌, ◌≤◌, inl, inr, List, arith, sym, ◌∙◌, ap, length, set}
-use Rattle.std.specs.Bool.{IsFalse}
-use Rattle.std.specs.Int.{bit_at}
-use Rattle.std.proofs.lemmas.Bool.{cases_lt}
+use Rattle.std.proofs.Common.{◌≡◌, ℕ, zero, suc, ◌+◌, ◌*◌, ◌/◌, ◌%◌, ◌^◌, ◌<◌, ◌≤◌, List, arith, sym, ◌∙◌, ap, length, set}
 use Rattle.std.proofs.lemmas.List.{length-set}
 use Rattle.std.proofs.lemmas.Nat.{shr-shr}
-use Rattle.pci_spec.specs.Number.{byte_at, number_at, IsImage}
-use Rattle.pci_spec.specs.System.{Function}
-use Rattle.pci_spec.specs.Machine.{in_fields, address_fields}
-use Rattle.plan_spec.proofs.Planning.BitsFit.{BitsFit}
-use Rattle.plan_spec.proofs.Planning.Registers.{powers_same, register_bit, datum_bit_at}
+use Rattle.pci_spec.specs.Number.{byte_at, number_at}
+use Rattle.plan_spec.proofs.Planning.Registers.{powers_same}
 use Rattle.settle_spec.specs.Registers.{with_number}
-use Rattle.settle_laws.proofs.Numbers.{with_elsewhere, with_first, with_image}
+use Rattle.settle_laws.proofs.Numbers.{with_first}
 
 next_byte : (v k : ℕ) → v / 256 / 256 ^ k ≡ v / 256 ^ (suc k)
 next_byte v k = ap (λ n. v / 256 / n) (powers_same k) ∙ shr-shr v 8 (8 * k) ∙ ap (λ n. v / 2 ^ n) (let e : 8 + 8 * k ≡ 8 * suc k = omega arith in e) ∙ ap (λ n. v / n) (sym (powers_same (suc k)))
@@ -65,31 +59,3 @@ module _ (o v : ℕ) (image : List ℕ) where
       let c = at 2 (omega arith) (omega arith) in
       let d = at 3 (omega arith) (omega arith) in
       omega (arith, a, b, c, d, small)
-
--- ---- an image that has the bits of a function's where no address bit is
-
-pub record IsKeptImage (f : Function) (image : List ℕ) : Type 0 where
-  pub is : IsImage image
-  pub same : (place i : ℕ) → place < 256 → i < 8 → IsFalse (in_fields (address_fields f.image f.probe) place i) → bit_at (byte_at image place) i ≡ bit_at (byte_at f.image place) i
-
-pub number_kept : (f : Function) → IsImage f.image → (w o v : ℕ) (image : List ℕ) → o + w ≤ 256 → BitsFit f o w v → IsKeptImage f image → IsKeptImage f (with_number w o v image)
-number_kept f was w o v image inside fit kept = record {
-  is = with_image w o v image kept.is;
-  same = λ place i below small plain. elim (cases_lt place o) [
-    | inl before ↦ ap (λ b. bit_at b i) (with_elsewhere w o v place image (inl before)) ∙ kept.same place i below small plain
-    | inr from ↦ elim (cases_lt place (o + w)) [
-      | inr after ↦ ap (λ b. bit_at b i) (with_elsewhere w o v place image (inr after)) ∙ kept.same place i below small plain
-      | inl to ↦
-          let j = place - o in
-          let at : o + j ≡ place = omega (arith, from) in
-          let short : j < w = omega (arith, from, to) in
-          let full = kept.is.full in
-          ap (λ p. bit_at (byte_at (with_number w o v image) p) i) (sym at)
-          ∙ ap (λ b. bit_at b i) (with_byte w o v image j (omega (arith, inside, full)) short)
-          ∙ datum_bit_at v j i small
-          ∙ fit j i short small (ap (λ p. in_fields (address_fields f.image f.probe) p i) at ∙ plain)
-          ∙ register_bit f.image o was w j i short small
-          ∙ ap (λ p. bit_at (byte_at f.image p) i) at
-    ]
-  ];
-}

@@ -79,10 +79,6 @@ tests_io false true class at e = absurd (true≢false (ap is_plain (sym (sym at 
 tests_io false false class at e = no_class IoWindow MemoryWindow refl refl e
 
 module _ (q : Request) (s : System) (f : Function) where
-  abbrev class_of_windows : ℕ → WindowKind
-  class_of_windows n =
-      by_windows (q.anew || is_root q.roots f.slot.bus) (is_in_memory s f n) (is_in_prefetch s f n) (not (is_empty q.lists.prefetch) && is_served s (upper_pools q.lists.prefetch) f n)
-
   pub prefetchable_space : (n : ℕ) → window_space (prefetchable_class q s f n) ≡ Memory
   prefetchable_space n = windows_space (q.anew || is_root q.roots f.slot.bus) (is_in_memory s f n) (is_in_prefetch s f n) (not (is_empty q.lists.prefetch) && is_served s (upper_pools q.lists.prefetch) f n)
 
