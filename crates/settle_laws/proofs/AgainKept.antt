@@ -1,9 +1,8 @@
 -- What is settled stands where it is: each of its parts lies in the lists of its root or in the window over it, and apart.
-use Rattle.std.proofs.Common.{◌≡◌, ◌&&◌, ◌||◌, ℕ, ◌≤◌, inl, inr, List, [], Bool, true, false, cond, not, arith, refl, sym, ◌∙◌, ap, subst, Option, None, Some}
+use Rattle.std.proofs.Common.{◌≡◌, ◌&&◌, ◌||◌, ℕ, ◌≤◌, inl, inr, Bool, true, false, cond, not, arith, refl, sym, ◌∙◌, ap, subst, Option, None, Some}
 use Rattle.std.specs.Bool.{nat_le, nat_lt, ◌==◌}
 use Rattle.std.specs.List.{Contains, list_any, list_all}
-use Rattle.std.proofs.lemmas.Bool.{and_from, and_parts, both_ways, cases_Bool, eqb-true, false_from_ne_true, le-leb, leb-true, lt-ltb, not_from_false, or_cases, or_left, or_right}
-use Rattle.std.proofs.lemmas.List.Elements.{Contains-append_cases}
+use Rattle.std.proofs.lemmas.Bool.{and_from, and_parts, both_ways, cases_Bool, eqb-true, false_from_ne_true, leb-true, lt-ltb, not_from_false, or_cases, or_left, or_right}
 use Rattle.pci_spec.specs.Slot.{same_slot, slot_number}
 use Rattle.pci_spec.specs.Bar.{bar_at, is_io, is_prefetchable}
 use Rattle.pci_spec.specs.Decoded.{Range}
@@ -11,44 +10,35 @@ use Rattle.pci_spec.specs.Window.{WindowKind, IoWindow, MemoryWindow, PrefetchWi
 use Rattle.pci_spec.specs.System.{System, Function, Io, Memory, Part, Bar, Rom, Window, has_part, is_bridge, is_window, register_of, space_of, window_space}
 use Rattle.pci_spec.specs.Bus.{are_siblings, is_root, LeadsTo}
 use Rattle.pci_spec.proofs.BusRanges.{all_from, root_means}
-use Rattle.pci_spec.proofs.Members.{in_nil, in_flat_map_to, IsInPiece, in_map_to, in_map_from, IsMade, in_filter_to}
+use Rattle.pci_spec.proofs.Members.{in_flat_map_to, IsInPiece, in_map_to, in_map_from, IsMade, in_filter_to}
 use Rattle.pci_spec.proofs.Nesting.{one_function}
 use Rattle.plan_spec.specs.Plan.{bridges_above, is_open, is_served}
 use Rattle.plan_spec.specs.Planning.Layout.{range_of, AreBeside, AreTwo, IsInside, LieApart}
 use Rattle.plan_spec.proofs.Planning.AboveBuses.{root_or_led}
-use Rattle.plan_spec.proofs.Planning.Behind.{any_from}
 use Rattle.plan_spec.proofs.Planning.Moved.{secondary_same}
 use Rattle.plan_spec.proofs.Planning.Writes.{same_fields}
 use Rattle.settle_spec.specs.FirstPlace.{are_apart}
-use Rattle.settle_spec.specs.Lists.{Request, ranges_of}
+use Rattle.settle_spec.specs.Lists.{Request}
 use Rattle.settle_spec.specs.Parts.{Region, regions, regions_of, parts_of, header_parts, addresses, is_empty, is_part, is_within, holds_range, upper_pools, bridge_over, is_in_memory, is_in_prefetch, prefetchable_class, class_in, same_space}
-use Rattle.settle_spec.specs.Stands.{window_region, region_space, precedes, are_beside, is_listed, is_in_lists, is_in_window, is_in_place, takes_from, stands}
-use Rattle.settle_spec.specs.Items.{Item, stays, taken_by}
-use Rattle.settle_spec.specs.Places.{placed_of, new_place, root_ranges, wide_ranges, window_ranges, taken_at}
+use Rattle.settle_spec.specs.Stands.{window_region, region_space, precedes, are_beside, is_in_lists, is_in_window, is_in_place, takes_from, stands}
 use Rattle.settle_spec.specs.Registers.{settled, settled_function}
 use Rattle.settle_spec.proofs.BridgeOver.{over_is}
 use Rattle.stand_laws.specs.Standing.{IsStanding}
-use Rattle.stand_laws.proofs.Apart.{in_root_lists}
 use Rattle.stand_laws.proofs.Order.{precedes_itself}
 use Rattle.stand_laws.proofs.Standing.{stands_alone}
 use Rattle.settle_laws.specs.PlacesLaws.{CanSettle, end_range}
 use Rattle.settle_laws.proofs.Again.{settled_alike, all_alike}
 use Rattle.settle_laws.proofs.Alike.{any_above, header_alike, part_alike, space_alike}
-use Rattle.settle_laws.proofs.BusPlaced.{placed_bus}
 use Rattle.settle_laws.proofs.Claimed.{HasEnd, has_end, part_end, part_shown, bridge_stays, ends_open, rest_closed}
 use Rattle.settle_laws.proofs.Fits.{was}
 use Rattle.settle_laws.proofs.HeaderParts.{is_part_of, one_part}
 use Rattle.settle_laws.proofs.Held.{none_by}
-use Rattle.settle_laws.proofs.InWindows.{IsInWindow, in_window, are_apart as ends_apart, kept_range, placed_range, place_of_range, place_inside}
+use Rattle.settle_laws.proofs.InLists.{within_from, on_root}
+use Rattle.settle_laws.proofs.InWindows.{IsInWindow, in_window, are_apart as ends_apart}
 use Rattle.settle_laws.proofs.ItemForms.{header_has}
-use Rattle.settle_laws.proofs.Kept.{in_regions, off_roots, one_space, stays_part, stays_stands}
+use Rattle.settle_laws.proofs.Kept.{off_roots, one_space}
 use Rattle.settle_laws.proofs.Moves.{moves, new_nested, new_system}
-use Rattle.settle_laws.proofs.PartClasses.{by_tests, by_windows, prefetchable_space, prefetch_windows, space_of_class}
-use Rattle.settle_laws.proofs.PartPlaces.{new_place_is}
-use Rattle.settle_laws.proofs.PlacedBus.{places}
-
-within_from : (r w : Range) → IsInside r w → is_within r w ≡ true
-within_from r w (from, end) = and_from (nat_le w.first r.first) (nat_le r.last w.last) (le-leb w.first r.first from) (le-leb r.last w.last end)
+use Rattle.settle_laws.proofs.PartClasses.{by_tests, by_windows, prefetchable_space, prefetch_windows}
 
 within_gives : (r w : Range) → is_within r w ≡ true → IsInside r w
 within_gives r w h = let parts = and_parts (nat_le w.first r.first) (nat_le r.last w.last) h in (leb-true w.first r.first parts.0, leb-true r.last w.last parts.1)
@@ -66,11 +56,6 @@ tests_same : (io prefetchable : Bool) (x y : WindowKind) → (io ≡ false → p
 tests_same true prefetchable x y same = refl
 tests_same false true x y same = same refl refl
 tests_same false false x y same = refl
-
-listed_in : (q : Request) (bus : ℕ) (r : Range) (c : WindowKind) → is_listed q bus r c ≡ true → is_in_lists q bus r (window_space c) ≡ true
-listed_in q bus r IoWindow h = h
-listed_in q bus r MemoryWindow h = or_left (is_listed q bus r MemoryWindow) (is_listed q bus r PrefetchWindow) h
-listed_in q bus r PrefetchWindow h = or_right (is_listed q bus r MemoryWindow) (is_listed q bus r PrefetchWindow) h
 
 module _ (q : Request) (s : System) (can : CanSettle q s) where
   abbrev now : Function → Function
@@ -249,48 +234,6 @@ module _ (q : Request) (s : System) (can : CanSettle q s) where
     abbrev looked_at : Region → Bool
     looked_at r = is_part q t r.function r.part
 
-    in_range_list : (i : Item) (u r : Range) → Contains (root_ranges q i) u → IsInside r u → is_in_lists q i.region.function.slot.bus r (window_space i.class) ≡ true
-    in_range_list i u r has inside =
-        let bus = i.region.function.slot.bus in
-        let by = λ (c : WindowKind) (listed : Contains (ranges_of q c bus) u). listed_in q bus r c (any_from (is_within r) (ranges_of q c bus) u listed (within_from r u inside)) in
-        elim (Contains-append_cases (ranges_of q i.class bus) (cond i.extent.wide (wide_ranges q i.class bus) []) u has) [
-          | inl own ↦ by i.class own
-          | inr more ↦ wide i.class (if_wide i.extent.wide (wide_ranges q i.class bus) more) (λ listed. by PrefetchWindow listed)
-        ]
-      where
-        if_wide : (w : Bool) (xs : List Range) → Contains (cond w xs []) u → Contains xs u
-        if_wide true xs listed = listed
-        if_wide false xs listed = absurd (in_nil u listed)
-
-        wide : (c : WindowKind) → Contains (wide_ranges q c i.region.function.slot.bus) u → (Contains (ranges_of q PrefetchWindow i.region.function.slot.bus) u → is_in_lists q i.region.function.slot.bus r Memory ≡ true)
-            → is_in_lists q i.region.function.slot.bus r (window_space c) ≡ true
-        wide IoWindow listed by = absurd (in_nil u listed)
-        wide MemoryWindow listed by = by listed
-        wide PrefetchWindow listed by = absurd (in_nil u listed)
-
-    on_root : (f : Function) (p : Part) (listed : Contains s f) (there : has_part f p ≡ true) → is_root q.roots f.slot.bus ≡ true → (u : Range) → end_range q s record { function = f; part = p } ≡ Some u → is_in_lists q f.slot.bus u (space_of f p) ≡ true
-    on_root f p listed there root u ends = elim (cases_Bool (stays q s r)) [
-      | inl keeps ↦
-          let is : Some (addresses r) ≡ Some u = sym (kept_range q s r keeps) ∙ ends in
-          let same : addresses r ≡ u = cc in
-          subst (λ w. is_in_lists q f.slot.bus w (space_of f p) ≡ true) same
-          (in_root_lists q s can.nested r (in_regions q s f p listed (is_part_of f p there).there (stays_part q s can.system can.nested r listed keeps)) (stays_stands q s can.system can.nested r listed keeps) root)
-      | inr moves_it ↦
-          let x = place_of_range q s (new_place q s r) u (sym (placed_range q s r moves_it) ∙ ends) in
-          let is = new_place_is q s can f p listed there x.0 x.1 in
-          let here = placed_bus q s can (space_of f p) f listed in
-          let own = here.are.each x.0 (subst (λ xs. Contains xs x.0) (ap placed_of here.is) is.listed) in
-          let bus : x.0.item.region.function.slot.bus ≡ f.slot.bus = ap (λ (i : Item). i.region.function.slot.bus) is.item in
-          let class : window_space x.0.item.class ≡ space_of f p = ap (λ (i : Item). window_space i.class) is.item ∙ space_of_class q s f p in
-          let in_list : Contains (root_ranges q x.0.item) own.0 = subst (λ rs. Contains rs own.0) (ap (λ b. cond b (root_ranges q x.0.item) (window_ranges q s (places q s can (space_of f p)) x.0.item.class (bridge_over s x.0.item.region.function.slot.bus))) (ap (is_root q.roots) bus ∙ root)) own.1 in
-          let in_it = in_range_list x.0.item own.0 (taken_by x.0.item x.0.at) in_list (place_inside own.0 (taken_at q s (space_of f p) f.slot.bus) x.0 own.2) in
-          subst (λ w. is_in_lists q f.slot.bus w (space_of f p) ≡ true) x.2
-          (subst (λ sp. is_in_lists q f.slot.bus (taken_by x.0.item x.0.at) sp ≡ true) class (subst (λ n. is_in_lists q n (taken_by x.0.item x.0.at) (window_space x.0.item.class) ≡ true) bus in_it))
-    ]
-      where
-        r : Region
-        r = record { function = f; part = p }
-
     in_place : (f : Function) (p : Part) → Contains s f → has_part f p ≡ true → is_part q t (now f) p ≡ true → is_in_place q t looked_at record { function = now f; part = p } ≡ true
     in_place f p listed there part =
         let r : Region = record { function = now f; part = p } in
@@ -300,7 +243,7 @@ module _ (q : Request) (s : System) (can : CanSettle q s) where
           | inl root ↦
               let is_one = (root_means q.roots f.slot.bus).1 root in
               ap (λ b. cond b lists (is_in_window looked_at (class_in q t (now f) p) (addresses r) (bridge_over t f.slot.bus))) is_one
-              ∙ subst (λ sp. is_in_lists q f.slot.bus (addresses r) sp ≡ true) (space_now f p listed) (subst (λ w. is_in_lists q f.slot.bus w (space_of f p) ≡ true) (sym h.shown) (on_root f p listed there is_one h.at h.ends))
+              ∙ subst (λ sp. is_in_lists q f.slot.bus (addresses r) sp ≡ true) (space_now f p listed) (subst (λ w. is_in_lists q f.slot.bus w (space_of f p) ≡ true) (sym h.shown) (on_root q s can f p listed there is_one h.at h.ends))
           | inr (b, leader) ↦
               let leads : LeadsTo s b f.slot.bus = (leader.listed, leader.bridge, leader.leads) in
               let c = class_in q s f p in

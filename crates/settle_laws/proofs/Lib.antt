@@ -21,6 +21,7 @@ pub mod Fixed
 pub mod HeaderParts
 pub mod Held
 pub mod Images
+pub mod InLists
 pub mod InWindows
 pub mod ItemForms
 pub mod Kept

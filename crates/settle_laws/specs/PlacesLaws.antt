@@ -4,12 +4,12 @@ use Rattle.std.specs.List.{Contains}
 use Rattle.std.specs.Option.{is_some}
 use Rattle.pci_spec.specs.Decoded.{Range}
 use Rattle.pci_spec.specs.System.{System, Function, IsSystem, Space, Part, has_part, is_window, space_of}
-use Rattle.pci_spec.specs.Bus.{IsNested, LeadsTo}
+use Rattle.pci_spec.specs.Bus.{is_root, IsNested, LeadsTo}
 use Rattle.pci_spec.specs.Sound.{IsInProfile, HasChains}
 use Rattle.plan_spec.specs.Planning.Layout.{IsInside, LieApart, AreBeside, AreTwo}
 use Rattle.settle_spec.specs.Lists.{RootRange, Request, are_bad_lists}
 use Rattle.settle_spec.specs.Parts.{Region, addresses, parts_of, class_in}
-use Rattle.settle_spec.specs.Stands.{window_region}
+use Rattle.settle_spec.specs.Stands.{is_in_lists, window_region}
 use Rattle.settle_spec.specs.Items.{Placed, are_placed, taken_by, stays}
 use Rattle.settle_spec.specs.Places.{placing_on, new_place, lacking}
 
@@ -68,6 +68,13 @@ abbrev pub EndsAt : Request → System → Function → Part → Range → Type 
 EndsAt q s f p t =
     Contains s f × IsTrue (has_part f p)
     × (end_range q s record { function = f; part = p } ≡ Some t)
+
+-- On a root they lie in a range that the root has in the lists of the part's space.
+abbrev pub PlacesAreInLists : Type 0
+PlacesAreInLists =
+    (q : Request) (s : System) → CanSettle q s → (f : Function) (p : Part) (t : Range)
+    → EndsAt q s f p t → IsTrue (is_root q.roots f.slot.bus)
+    → IsTrue (is_in_lists q f.slot.bus t (space_of f p))
 
 -- Behind a bridge they lie in the window of its class of that bridge, which stays or gets a place.
 abbrev pub PlacesAreInWindows : Type 0

@@ -1,5 +1,9 @@
+use Rattle.settle_laws.proofs.InLists.{on_root}
 use Rattle.settle_laws.proofs.InWindows.{in_window, are_apart}
 use Rattle.settle_laws.proofs.places_laws.places_are_in_windows_and_apart.Goals as goal
+
+pub returns-clause-listed : goal.returns-clause-listed
+returns-clause-listed c = λ q s can f p t is root. on_root q s can f p is.0 is.1 root t is.2
 
 pub returns-clause-inside : goal.returns-clause-inside
 returns-clause-inside c = λ q s can f b p t is leads. let over = in_window q s can f b p is.0 is.1 leads t is.2 in (over.w, over.ends, over.inside)
