@@ -12,8 +12,8 @@ use std::alloc::{AllocError, Allocator};
 /// How many units there are above a single address.
 const UNITS: u32 = 6;
 
-/// The letter of a unit.
-fn unit_name(unit: u32) -> &'static str
+/// The letter of a unit, none of a single address.
+pub fn unit_name(unit: u32) -> &'static str
     requires { unit ≤ 6 }
     ensures { result.now ≡ unit_text unit }
 {
@@ -25,6 +25,34 @@ fn unit_name(unit: u32) -> &'static str
         4 => "T",
         5 => "P",
         _ => "E",
+    }
+}
+
+/// A number, and of which unit: by how many times 1024 it is.
+#[derive(Clone, Copy)]
+pub struct Amount {
+    pub number: u128,
+    pub unit: u32,
+}
+
+/// A number of addresses in the greatest unit of which it is a whole number.
+pub fn amount_of(number: u128) -> Amount
+    ensures unit { result.unit ≤ 6 }
+    ensures text { decimal result.number ++ unit_text result.unit ≡ amount_text number }
+{
+    let mut scaled = number;
+    for unit in 0..UNITS {
+        if scaled % 1024 != 0 {
+            return Amount {
+                number: scaled,
+                unit,
+            };
+        }
+        scaled /= 1024;
+    }
+    Amount {
+        number: scaled,
+        unit: UNITS,
     }
 }
 
@@ -46,14 +74,8 @@ fn push_number<A: Allocator>(
 pub fn push_count<A: Allocator>(text: &mut String<A>, number: u128) -> Result<(), AllocError>
     ensures { OnOk result (string_bytes text.new ≡ string_bytes text.old ++ amount_text number) }
 {
-    let mut scaled = number;
-    for unit in 0..UNITS {
-        if scaled % 1024 != 0 {
-            return push_number(text, scaled, unit);
-        }
-        scaled /= 1024;
-    }
-    push_number(text, scaled, UNITS)
+    let amount = amount_of(number);
+    push_number(text, amount.number, amount.unit)
 }
 
 /// Appends how many addresses a range has.
