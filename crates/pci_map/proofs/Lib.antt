@@ -3,6 +3,7 @@ pub mod Between
 pub mod LineTexts
 pub mod Values
 pub mod GapRanges
+pub mod HexBytes
 pub mod Covering
 pub mod Insides
 pub mod Openings
@@ -21,5 +22,6 @@ pub mod Rows
 pub mod Places
 pub mod Frees
 pub mod Tolds
+pub mod Asciis
 pub mod AsideTexts
 pub mod MapTexts

@@ -15,12 +15,16 @@ use Rattle.map_spec.specs.MapText.{indent, part_name, extent_line, under_heading
 use Rattle.pci_tree.proofs.Regions.{on_same}
 use Rattle.pci_map.specs.Off.{section, off_bars_text, off_record}
 
+bar_named : (n : ℕ) (prefetch : Bool) → part_name (Bar n) prefetch ≡ part_name (Bar 0) prefetch
+bar_named n true = refl
+bar_named n false = refl
+
 -- the line of a BAR, of a space that is told in other words
-pub off_pushed : (old new : List ℕ) (slot : Slot) (reg : ℕ) (part : List ℕ) (space other : Space) (prefetch : Bool) (range : Range)
-    → new ≡ old ++ extent_line 1 space range (part ∷ slot_text slot ∷ hex_byte reg ∷ []) → part ≡ part_name (Bar 0) prefetch → space ≡ other
+pub off_pushed : (old new : List ℕ) (slot : Slot) (reg n : ℕ) (space other : Space) (prefetch : Bool) (range : Range)
+    → new ≡ old ++ extent_line 1 space range (part_name (Bar n) prefetch ∷ slot_text slot ∷ hex_byte reg ∷ []) → space ≡ other
     → new ≡ old ++ extent_line 1 other range (part_name (Bar 0) prefetch ∷ slot_text slot ∷ hex_byte reg ∷ [])
-off_pushed old new slot reg part space other prefetch range pushed is same =
-    pushed ∙ ap (λ p. old ++ extent_line 1 space range (p ∷ slot_text slot ∷ hex_byte reg ∷ [])) is
+off_pushed old new slot reg n space other prefetch range pushed same =
+    pushed ∙ ap (λ p. old ++ extent_line 1 space range (p ∷ slot_text slot ∷ hex_byte reg ∷ [])) (bar_named n prefetch)
     ∙ ap (λ sp. old ++ extent_line 1 sp range (part_name (Bar 0) prefetch ∷ slot_text slot ∷ hex_byte reg ∷ [])) same
 
 abbrev whole : List (List ℕ) → List ℕ

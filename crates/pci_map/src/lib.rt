@@ -9,6 +9,7 @@
 pub mod above;
 pub mod asides;
 pub mod buses;
+pub mod cells;
 pub mod gaps;
 pub mod inside;
 pub mod left;

@@ -1,96 +1,119 @@
 //! The lines of a map.
-ghost use Rattle.std.specs.Prelude.{◌≡◌, ◌++◌, ◌∷◌, [], codes, OnOk};
+ghost use Rattle.std.specs.Prelude.{◌≡◌, ◌+◌, ◌*◌, ◌≤◌, ◌++◌, ◌∷◌, IsAscii, OnOk};
 ghost use Rattle.std.specs.String.{string_bytes};
 ghost use Rattle.std.specs.List.{flat_map};
 ghost use Rattle.std.specs.Prelude.{map};
-ghost use Rattle.pci_spec.specs.Text.{slot_text, hex_byte};
 ghost use Rattle.pci_spec.specs.Listing.{range_text};
 ghost use Rattle.pci_spec.specs.Why.{amount_text, address_count};
-ghost use Rattle.pci_spec.specs.System.{Bar};
-ghost use Rattle.map_spec.specs.MapText.{indent, part_name, extent_line, region_line, free_line, bus_heading};
+ghost use Rattle.map_spec.specs.MapText.{indent, part_name, region_line, free_line, bus_heading};
+ghost use Rattle.arrayvec.specs.ArrayVec.{array_vec_len};
 ghost use Rattle.pci_base.specs.Ranges.{decoded_range_of};
 ghost use Rattle.pci_base.specs.Space.{space_of};
 ghost use Rattle.pci_map.specs.Values.{part_of, value_of};
 
+use super::cells::{CELLS_MAX, Cells, push_cells, put, put_byte, put_bytes, put_slot};
 use pci_base::range::Range;
-use pci_base::slot::Slot;
 use pci_base::space::Space;
-use pci_listing::hex_text::{end_line, push_byte, push_slot};
-use pci_listing::listing::span::Span;
+use pci_listing::hex_text::push_byte;
 use pci_tree::region::{Part, Region};
-use pci_why::amount::push_count;
+use pci_why::amount::{amount_of, unit_name};
 use std::alloc::{AllocError, Allocator};
 
-/// What a BAR is called.
-pub fn bar_name(prefetch: bool) -> &'static str
-    ensures { result.now ≡ part_name (Bar 0) prefetch }
-{
-    if prefetch { "bar pref" } else { "bar" }
-}
+/// How many steps of depth are appended at once.
+const STEPS: u32 = 32;
 
-/// What a region is called.
-fn name(region: &Region) -> &'static str
-    ensures { result.now ≡ part_name (part_of region.now) region.now.prefetch }
-{
-    match region.part {
-        Part::Bar => bar_name(region.prefetch),
-        Part::Rom => "rom",
-        Part::Window => "window",
-    }
-}
+/// The spaces of so many steps.
+static SPACES: [u8; 64] = [b' '; 64];
 
-/// Appends two spaces for each step of depth.
-fn push_indent<A: Allocator>(text: &mut String<A>, depth: u32) -> Result<(), AllocError>
-    ensures { OnOk result (string_bytes text.new ≡ string_bytes text.old ++ indent depth) }
+/// Appends the spaces of so many times 32 steps of depth.
+fn push_steps<A: Allocator>(text: &mut String<A>, count: u32) -> Result<(), AllocError>
+    ensures { OnOk result (string_bytes text.new ≡ string_bytes text.old ++ indent (32 * count)) }
 {
-    for _ in 0..depth {
-        text.push_str("  ")?;
+    for _ in 0..count {
+        text.push_str("                                                                ")?;
     }
     Ok(())
 }
 
-/// Appends a range with the number of its addresses, as `0000c000-0000c01f 32`.
-fn push_extent<A: Allocator>(
-    text: &mut String<A>,
-    depth: u32,
-    space: Space,
-    range: Range,
-) -> Result<(), AllocError>
-    ensures { OnOk result (string_bytes text.new ≡ string_bytes text.old
-        ++ (indent depth ++ (range_text (space_of space) (decoded_range_of range)
-        ++ (32 ∷ amount_text (address_count (decoded_range_of range)))))) }
+/// Puts two spaces for each step of depth there.
+#[inline(always)]
+fn put_indent(cells: &mut Cells, depth: u32)
+    requires depth { depth ≤ 32 }
+    requires room { array_vec_len cells.old + 2 * depth ≤ CELLS_MAX }
+    ensures text { cells.new.items ≡ cells.old.items ++ indent depth }
+    ensures len { array_vec_len cells.new ≡ array_vec_len cells.old + 2 * depth }
 {
-    let count = (u128::from(range.last) + 1).saturating_sub(u128::from(range.first));
-    let span = Span { space, range };
-    push_indent(text, depth)?;
-    span.push_to(text)?;
-    text.push_str(" ")?;
-    push_count(text, count)
+    put(cells, &SPACES[..2 * depth as usize]);
 }
 
-/// Appends the line of what has a range, by its name, slot and register, as
-/// `  0000c000-0000c01f 32 bar 45:00.0 18`.
-pub fn push_line<A: Allocator>(
-    text: &mut String<A>,
-    depth: u32,
-    space: Space,
-    range: Range,
-    part: &'static str,
-    slot: Slot,
-    reg: u8,
-) -> Result<(), AllocError>
-    ensures { OnOk result (string_bytes text.new ≡ string_bytes text.old
-        ++ extent_line depth (space_of space) (decoded_range_of range)
-        (part.now ∷ slot_text slot ∷ hex_byte reg ∷ [])) }
+/// Puts the name of a region there.
+#[inline(always)]
+fn put_name(cells: &mut Cells, region: &Region)
+    requires { array_vec_len cells.old + 8 ≤ CELLS_MAX }
+    ensures text { cells.new.items
+        ≡ cells.old.items ++ part_name (part_of region.now) region.now.prefetch }
+    ensures len { array_vec_len cells.new ≤ array_vec_len cells.old + 8 }
 {
-    push_extent(text, depth, space, range)?;
-    text.push_str(" ")?;
-    text.push_str(part)?;
-    text.push_str(" ")?;
-    push_slot(text, slot)?;
-    text.push_str(" ")?;
-    push_byte(text, reg)?;
-    end_line(text)
+    match (region.part, region.prefetch) {
+        (Part::Bar, true) => put(cells, b"bar pref"),
+        (Part::Bar, false) => put(cells, b"bar"),
+        (Part::Rom, _) => put(cells, b"rom"),
+        (Part::Window, _) => put(cells, b"window"),
+    }
+}
+
+/// Puts first and last address of a range there.
+#[inline(always)]
+fn put_range(cells: &mut Cells, space: Space, range: Range)
+    requires { array_vec_len cells.old + 33 ≤ CELLS_MAX }
+    ensures text { cells.new.items
+        ≡ cells.old.items ++ range_text (space_of space) (decoded_range_of range) }
+    ensures len { array_vec_len cells.new ≤ array_vec_len cells.old + 33 }
+{
+    match space {
+        Space::Io => {
+            put_bytes(cells, range.first, 4);
+            cells.push(b'-');
+            put_bytes(cells, range.last, 4);
+        }
+        Space::Mem => {
+            put_bytes(cells, range.first, 8);
+            cells.push(b'-');
+            put_bytes(cells, range.last, 8);
+        }
+    }
+}
+
+/// Puts a number of addresses there.
+#[inline(always)]
+fn put_count(cells: &mut Cells, number: u128)
+    requires { array_vec_len cells.old + 40 ≤ CELLS_MAX }
+    ensures text { cells.new.items ≡ cells.old.items ++ amount_text number }
+    ensures len { array_vec_len cells.new ≤ array_vec_len cells.old + 40 }
+    ensures ascii { IsAscii (amount_text number) }
+{
+    let amount = amount_of(number);
+    let mut digits = itoa::Buffer::new();
+    put(cells, digits.format(amount.number).as_bytes());
+    put(cells, unit_name(amount.unit).as_bytes());
+}
+
+/// Puts a range with the number of its addresses there, as `0000c000-0000c01f 32`.
+#[inline(always)]
+fn put_extent(cells: &mut Cells, depth: u32, space: Space, range: Range)
+    requires depth { depth ≤ 32 }
+    requires room { array_vec_len cells.old + 138 ≤ CELLS_MAX }
+    ensures text { cells.new.items ≡ cells.old.items ++ (indent depth
+        ++ (range_text (space_of space) (decoded_range_of range)
+        ++ (32 ∷ amount_text (address_count (decoded_range_of range))))) }
+    ensures len { array_vec_len cells.new ≤ array_vec_len cells.old + 138 }
+    ensures ascii { IsAscii (amount_text (address_count (decoded_range_of range))) }
+{
+    let count = (u128::from(range.last) + 1).saturating_sub(u128::from(range.first));
+    put_indent(cells, depth);
+    put_range(cells, space, range);
+    cells.push(b' ');
+    put_count(cells, count);
 }
 
 /// Appends the line of a region.
@@ -107,15 +130,17 @@ pub fn push_region<A: Allocator>(
         first: region.first,
         last: region.last,
     };
-    push_line(
-        text,
-        depth,
-        space,
-        range,
-        name(region),
-        region.slot,
-        region.reg,
-    )
+    let mut cells = Cells::new();
+    put_extent(&mut cells, depth % STEPS, space, range);
+    cells.push(b' ');
+    put_name(&mut cells, region);
+    cells.push(b' ');
+    put_slot(&mut cells, region.slot);
+    cells.push(b' ');
+    put_byte(&mut cells, region.reg);
+    cells.push(b'\n');
+    push_steps(text, depth / STEPS)?;
+    push_cells(text, &cells)
 }
 
 /// Appends the line of a free run.
@@ -128,9 +153,11 @@ fn push_run<A: Allocator>(
     ensures { OnOk result (string_bytes text.new ≡ string_bytes text.old
         ++ free_line depth (space_of space) (decoded_range_of range)) }
 {
-    push_extent(text, depth, space, range)?;
-    text.push_str(" free")?;
-    end_line(text)
+    let mut cells = Cells::new();
+    put_extent(&mut cells, depth % STEPS, space, range);
+    put(&mut cells, b" free\n");
+    push_steps(text, depth / STEPS)?;
+    push_cells(text, &cells)
 }
 
 /// Appends the lines of free runs.

@@ -11,14 +11,14 @@ ghost use Rattle.pci_image.specs.Bars.{decoded_bar_of, decoded_kind_of};
 ghost use Rattle.pci_function.specs.Values.{record_value};
 ghost use Rattle.pci_map.specs.Off.{section, off_bar, off_bars_text, off_record};
 
-use super::line::{bar_name, push_line};
+use super::line::push_region;
 use pci_base::memory::OutOfMemory;
-use pci_base::range::Range;
 use pci_base::slot::Slot;
 use pci_base::space::Space;
 use pci_function::record::Record;
 use pci_image::bar::{Bar, BarKind};
 use pci_tree::outline::Outline;
+use pci_tree::region::{Part, Region};
 use std::alloc::{AllocError, Allocator};
 
 /// The space that a kind of BAR maps into.
@@ -36,19 +36,15 @@ fn push_bar_line<A: Allocator>(text: &mut String<A>, slot: Slot, bar: Bar) -> Re
     ensures { OnOk result
         (string_bytes text.new ≡ string_bytes text.old ++ off_line slot (decoded_bar_of bar)) }
 {
-    let range = Range {
+    let region = Region {
+        slot,
+        reg: bar.reg,
+        part: Part::Bar,
+        prefetch: bar.prefetch,
         first: bar.first,
         last: bar.last,
     };
-    push_line(
-        text,
-        1,
-        space_of_kind(bar.kind),
-        range,
-        bar_name(bar.prefetch),
-        slot,
-        bar.reg,
-    )
+    push_region(text, 1, space_of_kind(bar.kind), &region)
 }
 
 /// Appends the line of a BAR, where Command doesn't enable its space.

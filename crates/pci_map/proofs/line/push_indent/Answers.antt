@@ -1,9 +1,0 @@
-use Rattle.std.specs.String.{string_bytes}
-use Rattle.pci_map.proofs.Indents.{indent_more, no_indent}
-use Rattle.pci_map.proofs.line.push_indent.Goals as goal
-
-pub loop-init : goal.loop-init
-loop-init g c = no_indent (string_bytes c.args.text.now)
-
-pub loop-preserved : goal.loop-preserved
-loop-preserved g c = indent_more (string_bytes c.args.text.now) (string_bytes c.loop.text) (string_bytes c.push_str.new.self) c.loop.counter c.loop.invariant c.in_ok-push_str.ensures.bytes
