@@ -58,6 +58,23 @@ module _ (roots : List ℕ) (s : System) where
             ]))
       ])
 
+  -- the bus of the next record has its root already
+  pub one_more_there : (rs : List Record) (k : ℕ) (r : Record) (table : List ℕ) → k < length rs → r ≡ get_or rs k r
+      → AreFilled (take k rs) table → IsRootAbove roots s r.slot.bus (get_or table r.slot.bus 0) → AreFilled (take (k + 1) rs) table
+  one_more_there rs k r table within at was above x has =
+      let split : Contains (take k rs ++ r ∷ []) x = subst (λ xs. Contains xs x) (take_more rs k r within ∙ ap (λ (y : Record). take k rs ++ y ∷ []) (sym at)) has in
+      elim (Contains-append_cases (take k rs) (r ∷ []) x split) [
+        | inl early ↦ was x early
+        | inr late ↦ elim (in_cons_cases r [] x late) [
+          | inl same ↦ subst (λ (y : Record). IsRootAbove roots s y.slot.bus (get_or table y.slot.bus 0)) same above
+          | inr none ↦ absurd (in_nil x none)
+        ]
+      ]
+
+  -- the root that was put there
+  pub root_put : (table : List ℕ) (bus root : ℕ) → bus < length table → IsRootAbove roots s bus root → IsRootAbove roots s bus (get_or (set table bus root) bus 0)
+  root_put table bus root small above = subst (IsRootAbove roots s bus) (sym (get_or-set_same table bus root 0 small)) above
+
   -- a record stands for a function
   pub above_record : (rs : List Record) (r : Record) (root : ℕ) → Has s rs → Contains rs r → ((f : Function) → Contains s f → f.slot ≡ r.slot → IsRootAbove roots s r.slot.bus root) → IsRootAbove roots s r.slot.bus root
   above_record rs r root are has above = let own = function_for s rs r are has in above own.0 own.1 (sym (same_slot_of r own.0 own.2))

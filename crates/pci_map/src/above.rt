@@ -43,8 +43,14 @@ fn roots_above<A: Allocator + Copy>(outline: &Outline<A>, records: &[Record]) ->
         → HasRecords s (map record_value records.now) → AreRootsAbove outline.now.roots s result }
 {
     let mut roots_above = [0; BUSES];
+    let mut last = BUSES;
     for function in records {
-        roots_above[function.slot.bus() as usize] = root_over(outline, function.slot);
+        let bus = function.slot.bus() as usize;
+        // the functions of a bus stand together
+        if bus != last {
+            roots_above[bus] = root_over(outline, function.slot);
+            last = bus;
+        }
     }
     roots_above
 }
@@ -112,7 +118,9 @@ pub fn in_place<A: Allocator, B: Allocator>(
     if above.is_empty() {
         return Ok(regions);
     }
-    let mut out = Vec::new(alloc);
+    let Ok(mut out) = Vec::with_capacity(alloc, regions.len()) else {
+        return Err(OutOfMemory);
+    };
     for region in regions.as_slice() {
         if !is_out_of_place(above, space, bus, region) {
             out.push(*region)?;

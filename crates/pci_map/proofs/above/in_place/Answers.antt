@@ -14,7 +14,7 @@ use Rattle.pci_map.proofs.above.in_place.Goals.{then-not-is_out_of_place+in_ok-p
 
 pub loop-region-init : goal.loop-region-init
 loop-region-init g c = λ given t s above on.
-    subst (λ (xs : List Region). AreInPlace given t.roots s (space_of c.args.space) [] xs) (sym c.new-out.ensures.items) (none_in_place given t.roots s (space_of c.args.space))
+    subst (λ (xs : List Region). AreInPlace given t.roots s (space_of c.args.space) [] xs) (sym c.in-Ok.ensures.items) (none_in_place given t.roots s (space_of c.args.space))
 
 pub loop-region-preserved : goal.loop-region-preserved
 loop-region-preserved g c = λ given t s above on.
