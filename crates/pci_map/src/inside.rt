@@ -61,7 +61,9 @@ fn held<A: Allocator>(
 ) -> Result<Vec<Region, A>, OutOfMemory>
     ensures { IfOk result (λ v. v.items ≡ filter (is_held window.now earlier.now) regions.now) }
 {
-    let mut out = Vec::new(alloc);
+    let Ok(mut out) = Vec::with_capacity(alloc, regions.len()) else {
+        return Err(OutOfMemory);
+    };
     for region in regions {
         if holds(window, earlier, region) {
             out.push(*region)?;
