@@ -1,6 +1,6 @@
 -- Steps of depth.
-use Rattle.std.proofs.Common.{◌≡◌, ℕ, zero, suc, ◌+◌, ◌*◌, ◌/◌, ◌%◌, ◌≤◌, List, ◌∷◌, ◌++◌, refl, ap, sym, ◌∙◌, arith, codes, append-nil, length, replicate, take}
-use Rattle.std.proofs.lemmas.List.{append_assoc, take-replicate, length-take-le}
+use Rattle.std.proofs.Common.{◌≡◌, ℕ, zero, suc, ◌+◌, ◌*◌, ◌/◌, ◌%◌, ◌≤◌, List, ◌∷◌, ◌++◌, refl, ap, sym, ◌∙◌, arith, codes, append-nil, replicate, take}
+use Rattle.std.proofs.lemmas.List.{append_assoc, take-replicate}
 use Rattle.map_spec.specs.MapText.{indent}
 
 pub no_indent : (start : List ℕ) → start ≡ start ++ indent 0

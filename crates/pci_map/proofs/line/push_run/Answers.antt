@@ -1,4 +1,4 @@
-use Rattle.std.proofs.Common.{◌++◌, ◌∷◌, ◌∙◌, sym, subst, ap, codes, IsAscii}
+use Rattle.std.proofs.Common.{◌++◌, ◌∙◌, sym, subst, ap, codes, IsAscii}
 use Rattle.std.proofs.lemmas.Result.{on_ok_weaker}
 use Rattle.std.specs.String.{string_bytes}
 use Rattle.pci_spec.specs.Listing.{range_text}

@@ -1,4 +1,4 @@
-use Rattle.std.proofs.Common.{◌++◌, ◌∙◌, sym, subst, IsAscii}
+use Rattle.std.proofs.Common.{subst, IsAscii}
 use Rattle.std.specs.Fmt.{decimal}
 use Rattle.std.proofs.lemmas.Str.{IsAscii-append}
 use Rattle.pci_why.specs.Amounts.{unit_text}

@@ -2,7 +2,6 @@ use Rattle.std.proofs.Common.{◌-◌, ◌/◌}
 use Rattle.std.proofs.lemmas.Result.{on_ok_weaker}
 use Rattle.std.specs.String.{string_bytes}
 use Rattle.pci_spec.specs.Listing.{kind_space}
-use Rattle.pci_base.specs.Space.{space_of}
 use Rattle.pci_image.specs.Bars.{decoded_bar_of}
 use Rattle.pci_map.proofs.Offs.{off_pushed}
 use Rattle.pci_map.proofs.off.push_bar_line.Goals as goal
