@@ -9,10 +9,6 @@ use Rattle.pci_spec.specs.Listing.{on_text}
 use Rattle.pci_spec.specs.Why.{windows_text}
 use Rattle.pci_why.specs.Bridges.{bridge_start}
 
--- what was appended, to a text and of a text that are told in other words
-pub appended : (new old more start whole : List ℕ) → new ≡ old ++ more → old ≡ start → more ≡ whole → new ≡ start ++ whole
-appended new old more start whole pushed same is = pushed ∙ ap (λ t. t ++ more) same ∙ ap (λ t. start ++ t) is
-
 -- three words and what follows, piece by piece
 pub three_words : (start a b c d e f last one two three rest : List ℕ) → a ≡ start ++ 32 ∷ [] → b ≡ a ++ one → c ≡ b ++ 32 ∷ [] → d ≡ c ++ two → e ≡ d ++ 32 ∷ [] → f ≡ e ++ three
     → last ≡ f ++ rest → last ≡ start ++ ((32 ∷ one) ++ ((32 ∷ two) ++ ((32 ∷ three) ++ rest)))
