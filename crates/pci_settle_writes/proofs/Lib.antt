@@ -7,6 +7,7 @@ pub mod Closings
 pub mod SettledDumps
 pub mod Lacking
 pub mod Endings
+pub mod AllAnew
 pub mod Refusals
 pub mod Written
 pub mod SettledSound

@@ -6,13 +6,15 @@ use Rattle.std.proofs.lemmas.List.{get_or_default}
 use Rattle.std.proofs.lemmas.List.Elements.{All-contains}
 use Rattle.pci_spec.specs.Slot.{Slot}
 use Rattle.pci_spec.specs.Text.{Block}
-use Rattle.pci_spec.specs.System.{System, Function, Space, Io, Memory, IsFunction, IsSystem, function_of, system_of, is_bridge}
+use Rattle.pci_spec.specs.Window.{WindowKind, IoWindow, MemoryWindow, PrefetchWindow}
+use Rattle.pci_spec.specs.System.{System, Function, Space, Io, Memory, Window, IsFunction, IsSystem, function_of, system_of, is_bridge}
 use Rattle.pci_spec.specs.Bus.{secondary, IsNested}
 use Rattle.pci_spec.specs.Decoded.{HasRecords}
 use Rattle.pci_spec.specs.Decoded as decoded
 use Rattle.pci_spec.proofs.Pairing.{same_length}
 use Rattle.settle_spec.specs.Lists.{Request, Lists}
-use Rattle.settle_spec.specs.Registers.{settled_function, settled}
+use Rattle.settle_spec.specs.Items.{stays}
+use Rattle.settle_spec.specs.Registers.{settled_function}
 use Rattle.settle_spec.specs.LiveLaws.{is_live, has_live_behind}
 use Rattle.pci_function.specs.declared.record.Bridge.{Bridge}
 use Rattle.pci_function.specs.declared.record.Record.{Record}
@@ -24,27 +26,33 @@ use Rattle.pci_place.specs.declared.above.Above.{Above}
 use Rattle.pci_place.specs.Above.{IsAbove, AreAboves, system_in}
 use Rattle.pci_place.specs.Records.{IsRecordOf}
 use Rattle.pci_settle.specs.declared.own.Terms.{Terms}
-use Rattle.pci_settle.specs.NewWindows.{IsAnew}
 use Rattle.pci_settle.specs.Own.{AreTerms}
 use Rattle.pci_settled.specs.declared.places.Places.{Places}
 use Rattle.pci_settled.specs.Places.{range_in}
-use Rattle.pci_settled.specs.Anew.{ArePlacedAnew, AreNewPlaces}
-use Rattle.pci_settling.specs.Live.{AreLiveBuses, is_live_on, is_live_behind}
+use Rattle.pci_settling.specs.Images.{is_kept}
+use Rattle.pci_settling.specs.Live.{IsRequestOf, HasAllPlaces, AreLiveBuses, is_live_on, is_live_behind}
 use Rattle.pci_settling.specs.Settled.{IsTold}
 use Rattle.pci_plan.proofs.PlannedDumps.{ArePlanned, next_planned, function_here}
-use Rattle.pci_settle_writes.specs.Requests.{all_anew}
+use Rattle.pci_stand.specs.declared.standing.Standing.{Standing}
+use Rattle.pci_stand.specs.Tables.{stands_of}
+use Rattle.pci_settle_writes.specs.Requests.{IsAskedOf}
+use Rattle.pci_settle_writes.specs.Told.{IsTableOf}
 
 -- ---- what is asked for
 
-pub placed_by : (roots : List ℕ) (s : System) (l : Lists) (table : List Places) → AreNewPlaces roots s l table → ArePlacedAnew (all_anew roots l) s table
-placed_by roots s l table new = new (all_anew roots l) record { rooted = refl; anew = refl; lists = refl }
+pub request_by : (q : Request) (roots : List ℕ) (l : Lists) (t : Terms) → IsAskedOf q roots l → AreTerms l t → IsRequestOf q roots t
+request_by q roots l t asked terms = record { rooted = asked.roots_are; terms = subst (λ x. AreTerms x t) (sym asked.lists_are) terms }
 
-pub anew_by : (roots : List ℕ) (l : Lists) (t : Terms) → AreTerms l t → IsAnew (all_anew roots l) roots t
-anew_by roots l t terms = record { rooted = refl; anew = refl; terms = terms }
+-- ---- what stays
+
+kept_window : (t : Standing) (c : WindowKind) → is_kept t.windows c ≡ stands_of t (Window c)
+kept_window t IoWindow = refl
+kept_window t MemoryWindow = refl
+kept_window t PrefetchWindow = refl
 
 -- ---- what is told of a function
 
-module _ (roots : List ℕ) (s : System) (system : IsSystem s) (nested : IsNested roots s) (q : Request) (t : Terms) (table : List Places) (anew : IsAnew q roots t) (placed : ArePlacedAnew q s table) where
+module _ (roots : List ℕ) (s : System) (system : IsSystem s) (nested : IsNested roots s) (q : Request) (t : Terms) (table : List Places) (of : IsRequestOf q roots t) (placed : HasAllPlaces q s table) where
   -- the table of buses with live functions says whether the bus behind a bridge is one
   behind_now : (space : Space) (live : List Bool) → AreLiveBuses roots s space t table live → (f : Function) (r : Record) → IsRecordOf s f r → is_live_behind live r.bridge ≡ has_live_behind s (is_live q s space) f
   behind_now space live has f r is = by r.bridge refl
@@ -57,36 +65,46 @@ module _ (roots : List ℕ) (s : System) (system : IsSystem s) (nested : IsNeste
           let bridge : is_bridge f ≡ true = sym (same_bridge r f is.value) ∙ ap is_some e in
           let to : b.secondary ≡ secondary f = ap (λ (x : decoded.Bridge). x.secondary) (same_bridge_of r f b is.value e) in
           let small = (All-contains IsFunction s f system.each is.listed).image.bytes 0x19 in
-          ap (λ n. get_or live n false) to ∙ has q (secondary f) anew placed small
+          ap (λ n. get_or live n false) to ∙ has q (secondary f) of placed small
           ∙ sym (ap (λ x. x && is_live_on q s space (secondary f)) bridge)
 
   nested_for : IsNested q.roots s
-  nested_for = subst (λ xs. IsNested xs s) (sym anew.rooted) nested
+  nested_for = subst (λ xs. IsNested xs s) (sym of.rooted) nested
 
   -- all that the code tells of a function is right
   pub told_here : (io memory : List Bool) → AreLiveBuses roots s Io t table io → AreLiveBuses roots s Memory t table memory → (aboves : List Above) → AreAboves s aboves
-      → (k : ℕ) (f : Function) (r : Record) → slice_get s k ≡ Some f → IsRecordOf s f r → (image : List ℕ) → image ≡ f.image → (d p : Places) → p ≡ get_or table k d
+      → (staying : List Standing) → IsTableOf s (stays q s) staying
+      → (k : ℕ) (f : Function) (r : Record) → slice_get s k ≡ Some f → IsRecordOf s f r → (image : List ℕ) → image ≡ f.image → (d p : Places) → p ≡ get_or table k d → (n h : Standing) → h ≡ get_or staying k n
       → (bus : ℕ) → bus ≡ f.slot.bus → (none : Above) (here_io here_memory : Bool) → here_io ≡ is_live_behind io r.bridge → here_memory ≡ is_live_behind memory r.bridge
-      → IsTold q s f r image p (get_or aboves bus none) t here_io here_memory
-  told_here io memory io_is memory_is aboves are k f r at is image shown d p p_is bus on_bus none here_io here_memory here_io_is here_memory_is = record {
+      → IsTold q s f r image p h.windows (get_or aboves bus none) t here_io here_memory
+  told_here io memory io_is memory_is aboves are staying stay k f r at is image shown d p p_is n h h_is bus on_bus none here_io here_memory here_io_is here_memory_is = record {
     placed = record {
-      anew = anew.anew;
-      system = system;
-      nested = nested_for;
-      is = is;
+      places = record {
+        system = system;
+        nested = nested_for;
+        is = is;
+        each = λ part there. ap (λ x. range_in x part) p_is ∙ placed.each k f d part at there;
+      };
       shown = shown;
-      places = λ part there. ap (λ x. range_in x part) p_is ∙ placed.each k f d part at there;
+      windows = λ c there. kept_window h c ∙ ap (λ x. stands_of x (Window c)) h_is ∙ stay.each k f n (Window c) at there;
     };
     over = subst (λ n. IsAbove s f.slot.bus (get_or aboves n none)) (sym on_bus) (are f none is.listed);
-    terms = anew.terms;
+    terms = of.terms;
     io_behind = here_io_is ∙ behind_now Io io io_is f r is;
     memory_behind = here_memory_is ∙ behind_now Memory memory memory_is f r is;
   }
 
 -- ---- block by block
 
-abbrev pub IsSettledOf : Request → System → Function → Function → Type 0
-IsSettledOf q s f g = g ≡ settled_function q s f
+-- what is asked for, with the places that parts get and what stays by these tables
+pub record IsAskedBy (q : Request) (roots : List ℕ) (s : System) (l : Lists) (table : List Places) (staying : List Standing) : Type 0 where
+  pub asked : IsAskedOf q roots l
+  pub places : HasAllPlaces q s table
+  pub stay : IsTableOf s (stays q s) staying
+
+-- a function is as it is to be, whatever is asked for
+abbrev pub IsSettledOf : List ℕ → System → Lists → List Places → List Standing → Function → Function → Type 0
+IsSettledOf roots s l table staying f g = (q : Request) → IsAskedBy q roots s l table staying → g ≡ settled_function q s f
 
 -- the function of a block, with its record and its read backs
 pub record IsHere (a : Admission) (k : ℕ) (b : Block) (r : Record) : Type 0 where
@@ -106,23 +124,21 @@ block_here a records is has k b r inside b_at r_at =
 abbrev made : Slot → List ℕ → List ℕ → Function
 made slot image probe = record { slot = slot; image = image; probe = probe }
 
-module _ (a : Admission) (is : IsAdmitted a) (q : Request) where
+module _ (a : Admission) (is : IsAdmitted a) (l : Lists) (table : List Places) (staying : List Standing) where
   abbrev P : Function → Function → Type 0
-  P f g = IsSettledOf q (system_in a) f g
+  P f g = IsSettledOf a.roots (system_in a) l table staying f g
 
   pub next_settled : (k : ℕ) (found : List Block) → ArePlanned P a.dump a.probe k found → (b new : Block) (r : Record) (here : IsHere a k b r) → k < length a.dump → b ≡ get_or a.dump k b
-      → new.slot ≡ b.slot → new.title ≡ b.title → new.image ≡ (settled_function q (system_in a) (function_of b here.probe)).image → ArePlanned P a.dump a.probe (k + 1) (found ++ new ∷ [])
+      → new.slot ≡ b.slot → new.title ≡ b.title → ((q : Request) → IsAskedBy q a.roots (system_in a) l table staying → new.image ≡ (settled_function q (system_in a) (function_of b here.probe)).image) → ArePlanned P a.dump a.probe (k + 1) (found ++ new ∷ [])
   next_settled k found so_far b new r here inside b_at slot title image =
       let p = here.probe in
-      let planned : P (function_of b p) (function_of new p) = ap (λ (x : Slot). made x new.image p.image) slot ∙ ap (λ (x : List ℕ). made b.slot x p.image) image in
+      let planned : P (function_of b p) (function_of new p) = λ q asked. ap (λ (x : Slot). made x new.image p.image) slot ∙ ap (λ (x : List ℕ). made b.slot x p.image) (image q asked) in
       next_planned P a.dump a.probe is.slots k found so_far new b p inside b_at here.beside slot title planned
 
-zip_map : (h : Function → Function) (xs ys : List Function) → AllZip (λ f g. g ≡ h f) xs ys → ys ≡ map h xs
-zip_map h [] [] all = refl
-zip_map h [] (y ∷ ys) all = absurd all
-zip_map h (x ∷ xs) [] all = absurd all
-zip_map h (x ∷ xs) (y ∷ ys) all = ap (λ z. z ∷ ys) all.0 ∙ ap (λ zs. h x ∷ zs) (zip_map h xs ys all.1)
-
 -- once all are there, they and the probe are the settled system
-pub dump_settled : (a : Admission) (l : Lists) (dump : List Block) → AllZip (IsSettledOf (all_anew a.roots l) (system_in a)) (system_in a) (system_of dump a.probe) → system_of dump a.probe ≡ settled (all_anew a.roots l) (system_in a)
-dump_settled a l dump all = zip_map (settled_function (all_anew a.roots l) (system_in a)) (system_in a) (system_of dump a.probe) all
+module _ (roots : List ℕ) (s : System) (l : Lists) (table : List Places) (staying : List Standing) (q : Request) (asked : IsAskedBy q roots s l table staying) where
+  pub all_settled : (xs ys : List Function) → AllZip (IsSettledOf roots s l table staying) xs ys → ys ≡ map (settled_function q s) xs
+  all_settled [] [] all = refl
+  all_settled [] (y ∷ ys) all = absurd all
+  all_settled (x ∷ xs) [] all = absurd all
+  all_settled (x ∷ xs) (y ∷ ys) all = ap (λ z. z ∷ ys) (all.0 q asked) ∙ ap (λ zs. settled_function q s x ∷ zs) (all_settled xs ys all.1)

@@ -36,7 +36,7 @@ module _ (a : Admission) (admitted : IsAdmitted a) (l : Lists) (fine : are_bad_l
     room = room;
   }
 
-  module _ (dump : List Block) (is : IsSettledDump a l dump) where
+  module _ (dump : List Block) (is : IsSettledDump (all_anew a.roots l) a dump) where
     pub dump_sound : IsSound a.roots (system_of dump a.probe)
     dump_sound = subst (IsSound a.roots) (sym is.system) (settled_sound (all_anew a.roots l) (system_in a) can)
 

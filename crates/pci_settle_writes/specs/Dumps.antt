@@ -1,14 +1,22 @@
--- A dump in which all has its place.
-use Rattle.std.specs.Prelude.{◌≡◌, List}
+-- A dump in which all has its place, and the writes that lead to it.
+use Rattle.std.specs.Prelude.{◌≡◌, ℕ, List, length}
 use Rattle.pci_spec.specs.Text.{Block, slots_of}
+use Rattle.pci_spec.specs.Machine.{Write}
 use Rattle.pci_spec.specs.System.{system_of}
-use Rattle.settle_spec.specs.Lists.{Lists}
+use Rattle.settle_spec.specs.Lists.{Request}
 use Rattle.settle_spec.specs.Registers.{settled}
+use Rattle.settle_spec.specs.Writes as spec
 use Rattle.pci_tree.specs.Admission.{Admission}
 use Rattle.pci_place.specs.Above.{system_in}
-use Rattle.pci_settle_writes.specs.Requests.{all_anew}
 
 -- it is of the same functions, and with the probe it makes the settled system
-pub record IsSettledDump (a : Admission) (lists : Lists) (dump : List Block) : Type 0 where
+pub record IsSettledDump (q : Request) (a : Admission) (dump : List Block) : Type 0 where
   pub slots : slots_of dump ≡ slots_of a.dump
-  pub system : system_of dump a.probe ≡ settled (all_anew a.roots lists) (system_in a)
+  pub system : system_of dump a.probe ≡ settled q (system_in a)
+
+-- with the writes that lead there, so many of which close functions
+pub record IsSettledBy (q : Request) (a : Admission) (dump : List Block) (writes : List Write)
+    (count : ℕ) : Type 0 where
+  pub settled : IsSettledDump q a dump
+  pub writes_are : writes ≡ spec.settle_writes q (system_in a)
+  pub closing : count ≡ length (spec.closings q (system_in a) (system_in a))

@@ -1,5 +1,6 @@
 pub mod Requests
 pub mod Dumps
+pub mod Told
 pub mod Shut
 pub mod Stages
 pub mod Lacks

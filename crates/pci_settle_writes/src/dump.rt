@@ -1,8 +1,12 @@
-//! The dump once all has its place, where nothing stands.
-ghost use Rattle.std.specs.Prelude.{◌≡◌, IfOk, map};
+//! The dump once all has its place.
+ghost use Rattle.std.specs.Prelude.{◌≡◌, IfOk, length, map};
+ghost use Rattle.settle_spec.specs.Lists.{Request};
+ghost use Rattle.settle_spec.specs.Items.{stays};
 ghost use Rattle.pci_place.specs.Above.{system_in};
 ghost use Rattle.pci_settle.specs.Lists.{lists_value};
-ghost use Rattle.pci_settled.specs.Anew.{AreNewPlaces};
+ghost use Rattle.pci_settling.specs.Live.{HasAllPlaces};
+ghost use Rattle.pci_settle_writes.specs.Requests.{IsAskedOf};
+ghost use Rattle.pci_settle_writes.specs.Told.{IsTableOf};
 ghost use Rattle.pci_settle_writes.specs.Dumps.{IsSettledDump};
 
 use pci_base::memory::OutOfMemory;
@@ -15,10 +19,12 @@ use pci_settle::own::Terms;
 use pci_settled::places::Places;
 use pci_settling::live::{is_live_behind, live_buses};
 use pci_settling::settled::{Behind, settled_function};
+use pci_stand::standing::Standing;
 use pci_tree::admitted::Admitted;
 use std::alloc::Allocator;
 
-/// The dump with each function as it is to be at the new places of all parts, slots and titles as they are.
+/// The dump with each function as it is to be, slots and titles as they are: with the places that parts get, none for what
+/// stays, and with what stays, both by function in slot order.
 ///
 /// Errors: 2 `OutOfMemory` where a growth was refused.
 pub fn settled_dump<A: Allocator, B: Allocator>(
@@ -26,12 +32,17 @@ pub fn settled_dump<A: Allocator, B: Allocator>(
     admitted: &Admitted<B>,
     lists: &Lists,
     table: &[Places],
+    staying: &[Standing],
 ) -> Result<Dump<A>, OutOfMemory>
-    requires { AreNewPlaces admitted.now.roots (system_in admitted.now) (lists_value lists.now)
-        table.now }
+    requires places { length table.now ≡ length (system_in admitted.now) }
+    requires staying { length staying.now ≡ length (system_in admitted.now) }
     ensures titles { IfOk result
         (λ dump. map (λ b. b.title) dump ≡ map (λ b. b.title) admitted.now.dump) }
-    ensures settled { IfOk result (IsSettledDump admitted.now (lists_value lists.now)) }
+    ensures settled { IfOk result (λ dump. (q : Request)
+        → IsAskedOf q admitted.now.roots (lists_value lists.now)
+        → HasAllPlaces q (system_in admitted.now) table.now
+        → IsTableOf (system_in admitted.now) (stays q (system_in admitted.now)) staying.now
+        → IsSettledDump q admitted.now dump) }
 {
     let aboves = aboves(admitted);
     let terms = Terms::of(lists);
@@ -49,7 +60,15 @@ pub fn settled_dump<A: Allocator, B: Allocator>(
             io: is_live_behind(&io, record),
             memory: is_live_behind(&memory, record),
         };
-        let image = settled_function(record, &block.image, &table[k], above, terms, behind);
+        let image = settled_function(
+            record,
+            &block.image,
+            &table[k],
+            &staying[k].windows,
+            above,
+            terms,
+            behind,
+        );
         dump.push_next(Block {
             image,
             ..block.copy()

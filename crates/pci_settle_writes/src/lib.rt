@@ -1,4 +1,4 @@
-//! The settled dump where nothing stands, and the writes that lead to it.
+//! The settled dump, and the writes that lead to it.
 #![tactic(auto)]
 
 pub mod dump;

@@ -1,12 +1,13 @@
 //! Which functions are shut while registers are set, and what Command holds once all is closed.
-ghost use Rattle.std.specs.Prelude.{◌≡◌, ◌==◌, ◌||◌, IfOk, IsTrue, map, not};
+ghost use Rattle.std.specs.Prelude.{◌≡◌, ◌==◌, ◌||◌, IfOk, IsTrue, length, map, not};
 ghost use Rattle.pci_spec.specs.Number.{number_at};
 ghost use Rattle.pci_spec.specs.Port as port;
+ghost use Rattle.settle_spec.specs.Lists.{Request};
 ghost use Rattle.settle_spec.specs.Writes as writes;
 ghost use Rattle.pci_base.specs.Space.{space_of};
 ghost use Rattle.pci_place.specs.Above.{system_in};
 ghost use Rattle.pci_settle.specs.Lists.{lists_value};
-ghost use Rattle.pci_settle_writes.specs.Requests.{all_anew};
+ghost use Rattle.pci_settle_writes.specs.Requests.{IsAskedOf};
 ghost use Rattle.pci_settle_writes.specs.Dumps.{IsSettledDump};
 ghost use Rattle.pci_settle_writes.specs.Shut.{is_image_changed, is_cut_off_by, is_shut_by, closing_by};
 
@@ -77,7 +78,7 @@ fn closing_command(record: &Record, above: Above, terms: Terms, shut: bool) -> u
     }
 }
 
-/// What Command of each function holds once all is closed, in slot order. What is shut is known of each bridge above a
+/// What Command of each function holds once all is closed, in slot order, where `settled` is the dump as it is to be. What is shut is known of each bridge above a
 /// function before the function itself, as a bridge has a lower slot than what is behind it.
 pub fn closing_commands<A: Allocator, B: Allocator>(
     alloc: A,
@@ -85,10 +86,13 @@ pub fn closing_commands<A: Allocator, B: Allocator>(
     lists: &Lists,
     settled: &[Block],
 ) -> Result<Vec<u16, A>, OutOfMemory>
-    requires { IsSettledDump admitted.now (lists_value lists.now) settled.now }
-    ensures { IfOk result (λ commands. commands.items ≡ map
-        (writes.closing_command (all_anew admitted.now.roots (lists_value lists.now)) (system_in admitted.now))
-        (system_in admitted.now)) }
+    requires { length settled.now ≡ length admitted.now.dump }
+    ensures count { IfOk result
+        (λ commands. length commands.items ≡ length (system_in admitted.now)) }
+    ensures commands { IfOk result (λ commands. (q : Request)
+        → IsAskedOf q admitted.now.roots (lists_value lists.now)
+        → IsSettledDump q admitted.now settled.now
+        → commands.items ≡ map (writes.closing_command q (system_in admitted.now)) (system_in admitted.now)) }
 {
     let aboves = aboves(admitted);
     let terms = Terms::of(lists);

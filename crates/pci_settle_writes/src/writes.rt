@@ -8,7 +8,7 @@ ghost use Rattle.settle_spec.specs.Writes.{change_of, closings, opening_from, se
 ghost use Rattle.pci_place.specs.Above.{system_in};
 ghost use Rattle.pci_plan.specs.Writes.{write_value, block_change};
 ghost use Rattle.pci_settle.specs.Lists.{lists_value};
-ghost use Rattle.pci_settle_writes.specs.Requests.{all_anew};
+ghost use Rattle.pci_settle_writes.specs.Requests.{IsAskedOf};
 ghost use Rattle.pci_settle_writes.specs.Dumps.{IsSettledDump};
 ghost use Rattle.pci_settle_writes.specs.Stages.{AreOf, AreClosed, AreSettled, command_at};
 
@@ -165,11 +165,15 @@ pub fn writes_to<A: Allocator + Copy, B: Allocator>(
     lists: &Lists,
     settled: &[Block],
 ) -> Result<Writes<A>, OutOfMemory>
-    requires { IsSettledDump admitted.now (lists_value lists.now) settled.now }
-    ensures writes { IfOk result (λ writes. map write_value writes.all.items
-        ≡ settle_writes (all_anew admitted.now.roots (lists_value lists.now)) (system_in admitted.now)) }
-    ensures closings { IfOk result (λ writes. writes.closings ≡ length
-        (closings (all_anew admitted.now.roots (lists_value lists.now)) (system_in admitted.now) (system_in admitted.now))) }
+    requires { length settled.now ≡ length admitted.now.dump }
+    ensures writes { IfOk result (λ writes. (q : Request)
+        → IsAskedOf q admitted.now.roots (lists_value lists.now)
+        → IsSettledDump q admitted.now settled.now
+        → map write_value writes.all.items ≡ settle_writes q (system_in admitted.now)) }
+    ensures closings { IfOk result (λ writes. (q : Request)
+        → IsAskedOf q admitted.now.roots (lists_value lists.now)
+        → IsSettledDump q admitted.now settled.now
+        → writes.closings ≡ length (closings q (system_in admitted.now) (system_in admitted.now))) }
 {
     // What the dump was admitted by: the contract speaks of the system that it makes.
     let _outline = admitted.outline();

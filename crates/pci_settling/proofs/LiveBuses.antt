@@ -26,13 +26,11 @@ use Rattle.pci_place.specs.Above.{AreAboves, IsAbove}
 use Rattle.pci_place.specs.Records.{IsRecordOf}
 use Rattle.pci_place.proofs.Records.{FunctionAt, same_count, function_at}
 use Rattle.pci_settle.specs.declared.own.Terms.{Terms}
-use Rattle.pci_settle.specs.NewWindows.{IsAnew}
 use Rattle.pci_settle.proofs.NewWindows.{comes_later}
 use Rattle.pci_settled.specs.declared.places.Places.{Places}
-use Rattle.pci_settled.specs.Anew.{ArePlacedAnew}
-use Rattle.pci_settling.specs.Images.{IsPlacedAnew}
+use Rattle.pci_settling.specs.Images.{HasPlaces}
 use Rattle.pci_settling.specs.Claims.{has_kept}
-use Rattle.pci_settling.specs.Live.{AreLiveBuses, is_live_behind, is_live_by}
+use Rattle.pci_settling.specs.Live.{IsRequestOf, HasAllPlaces, AreLiveBuses, is_live_behind, is_live_by}
 use Rattle.pci_settling.proofs.KeptClaims.{kept_are}
 use Rattle.pci_settling.proofs.PlacedClaims.{enabled_is}
 
@@ -50,7 +48,7 @@ live_on s space q bus g = g.slot.bus == bus && is_live q s space g
 -- the table has the buses of the functions from place n on
 pub record AreLiveFrom (roots : List ℕ) (s : System) (space : Space) (t : Terms) (table : List Places) (n : ℕ) (live : List Bool) : Type 0 where
   pub size : length live ≡ 256
-  pub each : (q : Request) (bus : ℕ) → IsAnew q roots t → ArePlacedAnew q s table → bus < 256 → get_or live bus false ≡ list_any (live_on s space q bus) (drop n s)
+  pub each : (q : Request) (bus : ℕ) → IsRequestOf q roots t → HasAllPlaces q s table → bus < 256 → get_or live bus false ≡ list_any (live_on s space q bus) (drop n s)
 
 module _ (roots : List ℕ) (s : System) (system : IsSystem s) (nested : IsNested roots s) (space : Space) (t : Terms) (table : List Places) where
   abbrev on : Request → ℕ → Function → Bool
@@ -62,11 +60,11 @@ module _ (roots : List ℕ) (s : System) (system : IsSystem s) (nested : IsNeste
   pub live_none : (n : ℕ) → length s ≤ n → AreLive n (replicate 256 false)
   live_none n past = record {
     size = refl;
-    each = λ q bus anew placed small. get_or-replicate 256 bus false false small ∙ sym (ap (list_any (on q bus)) (drop_all n s past));
+    each = λ q bus of placed small. get_or-replicate 256 bus false false small ∙ sym (ap (list_any (on q bus)) (drop_all n s past));
   }
 
   pub live_all : (live : List Bool) → AreLive 0 live → AreLiveBuses roots s space t table live
-  live_all live from q bus anew placed small = from.each q bus anew placed small
+  live_all live from q bus of placed small = from.each q bus of placed small
 
   -- where the table has the buses of all functions after a bridge, it has the one behind the bridge
   pub behind_is : (k : ℕ) (f : Function) (r : Record) → slice_get s k ≡ Some f → IsRecordOf s f r → (live : List Bool) → (q : Request)
@@ -92,24 +90,22 @@ module _ (roots : List ℕ) (s : System) (system : IsSystem s) (nested : IsNeste
           ∙ sym (ap (λ x. x && list_any (on q (secondary f)) s) bridge)
 
   -- a function of the system, its record and its place in the table
-  module _ (k : ℕ) (f : Function) (r : Record) (at : slice_get s k ≡ Some f) (is : IsRecordOf s f r) (d : Places) (above : Above) (over : IsAbove s f.slot.bus above) (q : Request) (anew : IsAnew q roots t) (placed : ArePlacedAnew q s table) where
+  module _ (k : ℕ) (f : Function) (r : Record) (at : slice_get s k ≡ Some f) (is : IsRecordOf s f r) (d : Places) (above : Above) (over : IsAbove s f.slot.bus above) (q : Request) (of : IsRequestOf q roots t) (placed : HasAllPlaces q s table) where
     nested_for : IsNested q.roots s
-    nested_for = subst (λ xs. IsNested xs s) (sym anew.rooted) nested
+    nested_for = subst (λ xs. IsNested xs s) (sym of.rooted) nested
 
-    pub placed_here : IsPlacedAnew q s f r f.image (get_or table k d)
+    pub placed_here : HasPlaces q s f r (get_or table k d)
     placed_here = record {
-      anew = anew.anew;
       system = system;
       nested = nested_for;
       is = is;
-      shown = refl;
-      places = λ part there. placed.each k f d part at there;
+      each = λ part there. placed.each k f d part at there;
     }
 
     pub live_is : (behind : Bool) → behind ≡ has_live_behind s (is_live q s space) f → is_live_by space (get_or table k d) above t r behind ≡ is_live q s space f
     live_is behind same =
-        ap (λ b. b && (has_kept space above t r || behind)) (enabled_is q s f r f.image (get_or table k d) placed_here above over t anew.terms space (is_live q s space) behind same)
-        ∙ ap (λ b. is_enabled_in q s space f && (b || behind)) (kept_are q s f r is above over t anew.terms space)
+        ap (λ b. b && (has_kept space above t r || behind)) (enabled_is q s f r (get_or table k d) placed_here above over t of.terms space (is_live q s space) behind same)
+        ∙ ap (λ b. is_enabled_in q s space f && (b || behind)) (kept_are q s f r is above over t of.terms space)
         ∙ ap (λ b. is_enabled_in q s space f && (has_own q s space f || b)) same
         ∙ sym (live_by_bus q s space system nested_for f is.listed)
 
@@ -164,11 +160,11 @@ module _ (roots : List ℕ) (s : System) (system : IsSystem s) (nested : IsNeste
         ] in
         subst (λ n. AreLive n new) next record {
           size = ap length new_is ∙ long;
-          each = λ q other anew placed small.
-              let told = behind_read ∙ behind_is place f r here.at here.is old q (λ n less. before.each q n anew placed less) in
-              let live = test_is ∙ live_is place f r here.at here.is d (get_or aboves bus a) over q anew placed behind told in
+          each = λ q other of placed small.
+              let told = behind_read ∙ behind_is place f r here.at here.is old q (λ n less. before.each q n of placed less) in
+              let live = test_is ∙ live_is place f r here.at here.is d (get_or aboves bus a) over q of placed behind told in
               ap (λ xs. get_or xs other false) new_is ∙ shown other test
               ∙ ap (λ b. (f.slot.bus == other && b) || get_or old other false) live
-              ∙ ap (λ b. on q other f || b) (before.each q other anew placed small)
+              ∙ ap (λ b. on q other f || b) (before.each q other of placed small)
               ∙ sym (ap (list_any (on q other)) (drop_more s place f (slice_get_within s place f here.at)) ∙ ap (λ g. on q other g || list_any (on q other) (drop (place + 1) s)) (get_or_from_slice_get s place f f here.at));
         }

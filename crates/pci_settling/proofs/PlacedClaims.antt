@@ -32,7 +32,7 @@ use Rattle.pci_settle.specs.declared.own.Terms.{Terms}
 use Rattle.pci_settle.specs.Own.{AreTerms}
 use Rattle.pci_settled.specs.declared.places.Places.{Places}
 use Rattle.pci_settled.specs.Places.{range_in, placed_at}
-use Rattle.pci_settling.specs.Images.{IsPlacedAnew}
+use Rattle.pci_settling.specs.Images.{HasPlaces}
 use Rattle.pci_settling.specs.Claims.{is_placed_bar, has_placed_window, has_placed, is_enabled_by}
 use Rattle.pci_settling.proofs.PlacedParts.{placed_is_part}
 use Rattle.pci_settling.proofs.PlacedImages.{low_bus, window_changes, register_place}
@@ -64,7 +64,7 @@ by_place None test other true both = and_false test ∙ sym (and_false other)
 by_place None test other false both = and_false test ∙ sym (and_false other)
 by_place (Some x) test other is both = ap (λ b. b && (is && true)) (both x refl).0 ∙ sym (ap (λ b. b && (is && true)) (both x refl).1)
 
-module _ (q : Request) (s : System) (f : Function) (r : Record) (image : List ℕ) (p : Places) (placed : IsPlacedAnew q s f r image p) (above : Above) (over : IsAbove s f.slot.bus above) (t : Terms) (terms : AreTerms q.lists t) (space : Space) where
+module _ (q : Request) (s : System) (f : Function) (r : Record) (p : Places) (placed : HasPlaces q s f r p) (above : Above) (over : IsAbove s f.slot.bus above) (t : Terms) (terms : AreTerms q.lists t) (space : Space) where
   abbrev region : Part → Region
   region part = record { function = f; part = part }
 
@@ -86,7 +86,7 @@ module _ (q : Request) (s : System) (f : Function) (r : Record) (image : List �
   got part = changes part && (is_of part && is_some (place part))
 
   at_part : (part : Part) → has_part f part ≡ true → is_some (range_in p part) ≡ is_some (place part)
-  at_part part there = ap is_some (placed.places part there) ∙ some_placed (place part)
+  at_part part there = ap is_some (placed.each part there) ∙ some_placed (place part)
 
   placed_same : (bar : CodeBar) (n : ℕ) → decoded_bar_of bar ≡ decoded_bar f.image f.probe n → is_placed_bar space p bar ≡ (is_of (Bar n) && is_some (range_in p (Bar n)))
   placed_same bar n e =
@@ -94,7 +94,7 @@ module _ (q : Request) (s : System) (f : Function) (r : Record) (image : List �
       ∙ ap (λ m. is_of (Bar n) && is_some (range_in p (Bar m))) (register_place bar.reg n (ap (λ (x : DecodedBar). x.register) e))
 
   is_there : (part : Part) → has_part f part ≡ true → is_window part ≡ false → (x : Placed) → place part ≡ Some x → is_part q s f part ≡ true
-  is_there part there plain x some = placed_is_part q s placed.system placed.nested f placed.is.listed (low_bus q s f r image p placed) part there plain x some
+  is_there part there plain x some = placed_is_part q s placed.system placed.nested f placed.is.listed (low_bus q s f r p placed) part there plain x some
 
   got_bar : (n : ℕ) → Contains all n → (has_bar f.probe n && (is_of (Bar n) && is_some (range_in p (Bar n)))) ≡ got (Bar n)
   got_bar n listed =

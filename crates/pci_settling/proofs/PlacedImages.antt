@@ -32,12 +32,12 @@ use Rattle.pci_tree.proofs.RegionParts.{same_bridge_of}
 use Rattle.pci_place.specs.Classes.{is_wide_kind}
 use Rattle.pci_place.proofs.ClassOf.{kind_wide}
 use Rattle.pci_place.proofs.Parts.{bars_in, bars_of}
-use Rattle.pci_settle.proofs.Anew.{none_stays}
 use Rattle.pci_base.specs.declared.range.Range.{Range}
+use Rattle.pci_base.specs.declared.window_kind.ByKind.{ByKind}
 use Rattle.pci_settled.specs.declared.places.Places.{Places}
 use Rattle.pci_settled.specs.Places.{range_in, placed_at}
-use Rattle.pci_settling.specs.Shown.{nibble, with_bar, with_window, with_optional}
-use Rattle.pci_settling.specs.Images.{where_placed, with_placed_bar, with_bars, with_bridge, with_placed_rom, with_parts, IsPlacedAnew}
+use Rattle.pci_settling.specs.Shown.{nibble, with_bar, with_closed, with_window, with_optional}
+use Rattle.pci_settling.specs.Images.{where_placed, with_placed_bar, with_bars, with_bridge, with_placed_rom, with_parts, is_kept, HasPlaces, IsPlaced}
 use Rattle.pci_settling.proofs.PlacedParts.{placed_is_part}
 
 -- ---- folds
@@ -129,7 +129,14 @@ by_place : {X Z : Type 0} (o : Option X) (test : Bool) (some : X → Z) (none : 
 by_place None test some none any off on other first second = (elim test as (λ b. cond b (any None) none ≡ none) [ true ↦ off refl | false ↦ refl ]) ∙ sym first
 by_place (Some x) test some none any off on other first second = ap (λ b. cond b (any (Some x)) none) (on x refl).1 ∙ (on x refl).0 ∙ sym (second x)
 
-module _ (q : Request) (s : System) (f : Function) (r : Record) (image : List ℕ) (p : Places) (placed : IsPlacedAnew q s f r image p) where
+-- its bus is one of 256
+pub low_bus : (q : Request) (s : System) (f : Function) (r : Record) (p : Places) → HasPlaces q s f r p → f.slot.bus < 256
+low_bus q s f r p has = (All-contains IsFunction s f has.system.each has.is.listed).slot.0
+
+module _ (q : Request) (s : System) (f : Function) (r : Record) (image : List ℕ) (p : Places) (kept : ByKind Bool) (placed : IsPlaced q s f r image p kept) where
+  abbrev has : HasPlaces q s f r p
+  has = placed.places
+
   abbrev region : Part → Region
   region part = record { function = f; part = part }
 
@@ -144,9 +151,6 @@ module _ (q : Request) (s : System) (f : Function) (r : Record) (image : List �
 
   abbrev step_if : List ℕ → Part → List ℕ
   step_if im part = cond (changes part) (step im part) im
-
-  pub low_bus : f.slot.bus < 256
-  low_bus = (All-contains IsFunction s f placed.system.each placed.is.listed).slot.0
 
   -- ---- BARs and the ROM
 
@@ -172,9 +176,9 @@ module _ (q : Request) (s : System) (f : Function) (r : Record) (image : List �
   own_step part there plain im =
       by_place (place part) (changes part) (λ x. with_place f part x im) im (λ o. shown q s (region part) o im)
       (λ none. own_none (stays q s (region part)) part im plain)
-      (λ x some. (refl, ap (λ b. b || (is_window part && is_implemented f part)) (placed_is_part q s placed.system placed.nested f placed.is.listed low_bus part there plain x some)))
+      (λ x some. (refl, ap (λ b. b || (is_window part && is_implemented f part)) (placed_is_part q s has.system has.nested f has.is.listed (low_bus q s f r p has) part there plain x some)))
       (λ o. where_placed (at_place part) (placed_at o) im) refl (λ x. sym (own_some part x im plain))
-      ∙ ap (λ o. where_placed (at_place part) o im) (sym (placed.places part there))
+      ∙ ap (λ o. where_placed (at_place part) o im) (sym (has.each part there))
 
   abbrev all : List ℕ
   all = range_with_len 0 (bar_count (layout f.image))
@@ -212,14 +216,14 @@ module _ (q : Request) (s : System) (f : Function) (r : Record) (image : List �
 
   bars_are : with_bars f.image p r.bars.items f.image ≡ fold step_if f.image (header_bars f)
   bars_are =
-      fold_pair decoded_bar_of (decoded_bar f.image f.probe) (with_placed_bar f.image p) bar_step bar_same r.bars.items (bars_in f) (bars_of s f r placed.is) f.image
+      fold_pair decoded_bar_of (decoded_bar f.image f.probe) (with_placed_bar f.image p) bar_step bar_same r.bars.items (bars_in f) (bars_of s f r has.is) f.image
       ∙ fold_filter bar_step (has_bar f.probe) f.image all
       ∙ sym (fold_same (λ im n. step_if im (Bar n)) (λ im n. cond (has_bar f.probe n) (bar_step im n) im) all bar_if f.image)
       ∙ sym (fold-map step_if Bar f.image all)
 
   rom_is : (im : List ℕ) → with_placed_rom f.image p (rom_place (is_some r.bridge)) im ≡ step_if im Rom
   rom_is im =
-      ap (λ b. with_placed_rom f.image p (rom_place b) im) (same_bridge r f placed.is.value)
+      ap (λ b. with_placed_rom f.image p (rom_place b) im) (same_bridge r f has.is.value)
       ∙ sym (own_step Rom refl refl im)
 
   -- ---- windows
@@ -228,60 +232,60 @@ module _ (q : Request) (s : System) (f : Function) (r : Record) (image : List �
   window_off c off im =
       ap (λ b. cond b (step im (Window c)) im) (window_changes (is_bridge f) (has_window c f.probe) (is_closed c f.image) ∙ off)
 
-  window_on : (c : WindowKind) → is_implemented f (Window c) ≡ true → (im : List ℕ) → with_window c (decoded_window c f.image f.probe) (range_in p (Window c)) im ≡ step_if im (Window c)
+  window_on : (c : WindowKind) → is_implemented f (Window c) ≡ true → (im : List ℕ) → with_window c (is_kept kept c) (decoded_window c f.image f.probe) (range_in p (Window c)) im ≡ step_if im (Window c)
   window_on c on im =
       let there = (and_parts (is_bridge f) (has_window c f.probe) on).0 in
       let w = decoded_window c f.image f.probe in
       let opened : is_some (window_range c f.image) ≡ is_open f c =
       some_range (is_closed c f.image) _ ∙ sym (open_by (is_bridge f) (has_window c f.probe) (is_closed c f.image) on) in
-      let each : (o : Option Placed) → with_window c w (placed_at o) im ≡ shown q s (region (Window c)) o im = λ o.
-      elim o as (λ o. with_window c w (placed_at o) im ≡ shown q s (region (Window c)) o im) [
+      let each : (o : Option Placed) → with_window c (is_kept kept c) w (placed_at o) im ≡ shown q s (region (Window c)) o im = λ o.
+      elim o as (λ o. with_window c (is_kept kept c) w (placed_at o) im ≡ shown q s (region (Window c)) o im) [
         | None ↦
-            ap (λ b. cond b (with_bounds c (closed_bounds c (nibble w.wide)) im) im) opened
-            ∙ ap (λ b. cond b im (closed_if_open f (Window c) im)) (none_stays q s placed.anew (region (Window c)))
+            ap (λ b. cond b im (with_closed c w im)) (placed.windows c there)
+            ∙ ap (λ b. cond (stays q s (region (Window c))) im (cond b (with_bounds c (closed_bounds c (nibble w.wide)) im) im)) opened
         | Some x ↦ refl
       ] in
-      ap (λ o. with_window c w o im) (placed.places (Window c) there)
+      ap (λ o. with_window c (is_kept kept c) w o im) (has.each (Window c) there)
       ∙ each (place (Window c))
       ∙ sym (ap (λ b. cond b (step im (Window c)) im) (window_changes (is_bridge f) (has_window c f.probe) (is_closed c f.image) ∙ on))
 
-  optional_is : (c : WindowKind) → is_bridge f ≡ true → (im : List ℕ) → with_optional c (optional_window c f.image f.probe) (range_in p (Window c)) im ≡ step_if im (Window c)
+  optional_is : (c : WindowKind) → is_bridge f ≡ true → (im : List ℕ) → with_optional c (is_kept kept c) (optional_window c f.image f.probe) (range_in p (Window c)) im ≡ step_if im (Window c)
   optional_is c bridge im = elim (cases_Bool (has_window c f.probe)) [
     | inl has ↦
-        ap (λ b. with_optional c (if b then Some (decoded_window c f.image f.probe) else None) (range_in p (Window c)) im) has
+        ap (λ b. with_optional c (is_kept kept c) (if b then Some (decoded_window c f.image f.probe) else None) (range_in p (Window c)) im) has
         ∙ window_on c (and_from (is_bridge f) (has_window c f.probe) bridge has) im
     | inr none ↦
-        ap (λ b. with_optional c (if b then Some (decoded_window c f.image f.probe) else None) (range_in p (Window c)) im) none
+        ap (λ b. with_optional c (is_kept kept c) (if b then Some (decoded_window c f.image f.probe) else None) (range_in p (Window c)) im) none
         ∙ sym (window_off c (ap (λ b. is_bridge f && b) none ∙ and_false (is_bridge f)) im)
   ]
 
   abbrev windows_step : List ℕ → List ℕ
   windows_step im = step_if (step_if (step_if im (Window IoWindow)) (Window MemoryWindow)) (Window PrefetchWindow)
 
-  windows_are : (o : Option Bridge) → r.bridge ≡ o → (im : List ℕ) → with_bridge p o im ≡ windows_step im
+  windows_are : (o : Option Bridge) → r.bridge ≡ o → (im : List ℕ) → with_bridge p kept o im ≡ windows_step im
   windows_are None e im =
-      let off : is_bridge f ≡ false = sym (same_bridge r f placed.is.value) ∙ ap is_some e in
+      let off : is_bridge f ≡ false = sym (same_bridge r f has.is.value) ∙ ap is_some e in
       let none : (c : WindowKind) → is_implemented f (Window c) ≡ false = λ c. ap (λ b. b && has_window c f.probe) off in
       let io = window_off IoWindow (none IoWindow) im in
       let memory = window_off MemoryWindow (none MemoryWindow) im in
       let prefetch = window_off PrefetchWindow (none PrefetchWindow) im in
       sym (ap (λ x. step_if (step_if x (Window MemoryWindow)) (Window PrefetchWindow)) io ∙ ap (λ x. step_if x (Window PrefetchWindow)) memory ∙ prefetch)
   windows_are (Some b) e im =
-      let bridge : is_bridge f ≡ true = sym (same_bridge r f placed.is.value) ∙ ap is_some e in
-      let value = same_bridge_of r f b placed.is.value e in
+      let bridge : is_bridge f ≡ true = sym (same_bridge r f has.is.value) ∙ ap is_some e in
+      let value = same_bridge_of r f b has.is.value e in
       let w = b.windows in
       let io_is : w.io ≡ optional_window IoWindow f.image f.probe = ap (λ (x : decoded.Bridge). x.windows.io) value in
       let memory_is : w.mem ≡ decoded_window MemoryWindow f.image f.probe = ap (λ (x : decoded.Bridge). x.windows.memory) value in
       let prefetch_is : w.pref ≡ optional_window PrefetchWindow f.image f.probe = ap (λ (x : decoded.Bridge). x.windows.prefetch) value in
-      let has = memory_window_there f.image f.probe (placed.is.decodable.windows MemoryWindow (eqb-true (layout f.image) 1 bridge)) in
-      let first : (x : List ℕ) → with_optional IoWindow w.io p.windows.io x ≡ step_if x (Window IoWindow) = λ x.
-      ap (λ o. with_optional IoWindow o p.windows.io x) io_is ∙ optional_is IoWindow bridge x in
-      let second : (x : List ℕ) → with_optional MemoryWindow (Some w.mem) p.windows.memory x ≡ step_if x (Window MemoryWindow) = λ x.
-      ap (λ o. with_window MemoryWindow o p.windows.memory x) memory_is ∙ window_on MemoryWindow (and_from (is_bridge f) (has_window MemoryWindow f.probe) bridge has) x in
-      let third : (x : List ℕ) → with_optional PrefetchWindow w.pref p.windows.prefetchable x ≡ step_if x (Window PrefetchWindow) = λ x.
-      ap (λ o. with_optional PrefetchWindow o p.windows.prefetchable x) prefetch_is ∙ optional_is PrefetchWindow bridge x in
-      ap (λ x. with_optional PrefetchWindow w.pref p.windows.prefetchable (with_optional MemoryWindow (Some w.mem) p.windows.memory x)) (first im)
-      ∙ ap (λ x. with_optional PrefetchWindow w.pref p.windows.prefetchable x) (second (step_if im (Window IoWindow)))
+      let memory_has = memory_window_there f.image f.probe (has.is.decodable.windows MemoryWindow (eqb-true (layout f.image) 1 bridge)) in
+      let first : (x : List ℕ) → with_optional IoWindow kept.io w.io p.windows.io x ≡ step_if x (Window IoWindow) = λ x.
+      ap (λ o. with_optional IoWindow kept.io o p.windows.io x) io_is ∙ optional_is IoWindow bridge x in
+      let second : (x : List ℕ) → with_optional MemoryWindow kept.memory (Some w.mem) p.windows.memory x ≡ step_if x (Window MemoryWindow) = λ x.
+      ap (λ o. with_window MemoryWindow kept.memory o p.windows.memory x) memory_is ∙ window_on MemoryWindow (and_from (is_bridge f) (has_window MemoryWindow f.probe) bridge memory_has) x in
+      let third : (x : List ℕ) → with_optional PrefetchWindow kept.prefetchable w.pref p.windows.prefetchable x ≡ step_if x (Window PrefetchWindow) = λ x.
+      ap (λ o. with_optional PrefetchWindow kept.prefetchable o p.windows.prefetchable x) prefetch_is ∙ optional_is PrefetchWindow bridge x in
+      ap (λ x. with_optional PrefetchWindow kept.prefetchable w.pref p.windows.prefetchable (with_optional MemoryWindow kept.memory (Some w.mem) p.windows.memory x)) (first im)
+      ∙ ap (λ x. with_optional PrefetchWindow kept.prefetchable w.pref p.windows.prefetchable x) (second (step_if im (Window IoWindow)))
       ∙ third (step_if (step_if im (Window IoWindow)) (Window MemoryWindow))
 
   -- ---- all of it
@@ -289,13 +293,13 @@ module _ (q : Request) (s : System) (f : Function) (r : Record) (image : List �
   abbrev others : List Part
   others = Window IoWindow ∷ Window MemoryWindow ∷ Window PrefetchWindow ∷ Rom ∷ []
 
-  same_parts : with_parts f.image p r ≡ settled_image q s f
+  same_parts : with_parts f.image p kept r ≡ settled_image q s f
   same_parts =
-      rom_is (with_bridge p r.bridge (with_bars f.image p r.bars.items f.image))
+      rom_is (with_bridge p kept r.bridge (with_bars f.image p r.bars.items f.image))
       ∙ ap (λ im. step_if im Rom) (windows_are r.bridge refl (with_bars f.image p r.bars.items f.image))
       ∙ ap (λ im. step_if (windows_step im) Rom) bars_are
       ∙ sym (fold-append step_if f.image (header_bars f) others)
       ∙ sym (fold_kept (λ im (x : Region). shown q s x (new_place q s x) im) region changes f.image (header_bars f ++ others))
 
-  pub images_are : with_parts image p r ≡ settled_image q s f
-  images_are = ap (λ im. with_parts im p r) placed.shown ∙ same_parts
+  pub images_are : with_parts image p kept r ≡ settled_image q s f
+  images_are = ap (λ im. with_parts im p kept r) placed.shown ∙ same_parts

@@ -1,16 +1,19 @@
--- The image of a function with all of its parts at their places.
-use Rattle.std.specs.Prelude.{◌≡◌, ℕ, ◌-◌, ◌/◌, IsTrue, List, Option, None, Some}
+-- The image of a function with its parts at the places that they get.
+use Rattle.std.specs.Prelude.{◌≡◌, ℕ, ◌-◌, ◌/◌, Bool, IsTrue, List, Option, None, Some}
 use Rattle.std.specs.Option.{is_some}
 use Rattle.std.specs.List.{fold}
 use Rattle.pci_spec.specs.Number.{number_at}
 use Rattle.pci_spec.specs.Registers.{BASE_ADDRESS}
 use Rattle.pci_spec.specs.Header.{rom_place}
-use Rattle.pci_spec.specs.Window.{IoWindow, MemoryWindow, PrefetchWindow}
-use Rattle.pci_spec.specs.System.{System, Function, Part, Bar, IsSystem, has_part}
+use Rattle.pci_spec.specs.Window.{WindowKind, IoWindow, MemoryWindow, PrefetchWindow}
+use Rattle.pci_spec.specs.System.{System, Function, Part, Bar, Window, IsSystem, has_part}
 use Rattle.pci_spec.specs.Bus.{IsNested}
 use Rattle.settle_spec.specs.Lists.{Request}
+use Rattle.settle_spec.specs.Stands.{window_region}
+use Rattle.settle_spec.specs.Items.{stays}
 use Rattle.settle_spec.specs.Places.{new_place}
 use Rattle.pci_base.specs.declared.range.Range.{Range}
+use Rattle.pci_base.specs.declared.window_kind.ByKind.{ByKind}
 use Rattle.pci_image.specs.declared.bar.Bar.{Bar as CodeBar}
 use Rattle.pci_image.specs.declared.window.Windows.{Windows}
 use Rattle.pci_function.specs.declared.record.Bridge.{Bridge}
@@ -35,35 +38,46 @@ with_placed_bar old p image bar =
 abbrev pub with_bars : List ℕ → Places → List CodeBar → List ℕ → List ℕ
 with_bars old p bars image = fold (with_placed_bar old p) image bars
 
-abbrev pub with_windows : Places → Windows → List ℕ → List ℕ
-with_windows p w image =
-    with_optional PrefetchWindow w.pref p.windows.prefetchable
-    (with_optional MemoryWindow (Some w.mem) p.windows.memory
-    (with_optional IoWindow w.io p.windows.io image))
+abbrev pub with_windows : Places → ByKind Bool → Windows → List ℕ → List ℕ
+with_windows p kept w image =
+    with_optional PrefetchWindow kept.prefetchable w.pref p.windows.prefetchable
+    (with_optional MemoryWindow kept.memory (Some w.mem) p.windows.memory
+    (with_optional IoWindow kept.io w.io p.windows.io image))
 
-abbrev pub with_bridge : Places → Option Bridge → List ℕ → List ℕ
-with_bridge p None image = image
-with_bridge p (Some b) image = with_windows p b.windows image
+abbrev pub with_bridge : Places → ByKind Bool → Option Bridge → List ℕ → List ℕ
+with_bridge p kept None image = image
+with_bridge p kept (Some b) image = with_windows p kept b.windows image
 
 abbrev pub with_placed_rom : List ℕ → Places → ℕ → List ℕ → List ℕ
 with_placed_rom old p register image =
     where_placed (with_rom (number_at old register 4) register) p.rom image
 
 -- BARs, windows and the ROM of a record
-abbrev pub with_parts : List ℕ → Places → Record → List ℕ
-with_parts old p r =
+abbrev pub with_parts : List ℕ → Places → ByKind Bool → Record → List ℕ
+with_parts old p kept r =
     with_placed_rom old p (rom_place (is_some r.bridge))
-    (with_bridge p r.bridge (with_bars old p r.bars.items old))
+    (with_bridge p kept r.bridge (with_bars old p r.bars.items old))
 
 -- ---- by the definitions
 
--- a function of a system in which all is placed anew, with its record, its image and its places
-pub record IsPlacedAnew (q : Request) (s : System) (f : Function) (r : Record) (image : List ℕ)
-    (p : Places) : Type 0 where
-  pub anew : IsTrue q.anew
+-- a function of a system, its record, and the places that its parts get: none for what stays
+pub record HasPlaces (q : Request) (s : System) (f : Function) (r : Record) (p : Places) : Type 0 where
   pub system : IsSystem s
   pub nested : IsNested q.roots s
   pub is : IsRecordOf s f r
-  pub shown : image ≡ f.image
-  pub places : (part : Part) → IsTrue (has_part f part)
+  pub each : (part : Part) → IsTrue (has_part f part)
       → range_in p part ≡ placed_at (new_place q s record { function = f; part = part })
+
+-- whether the window of a kind is one of those that stay
+abbrev pub is_kept : ByKind Bool → WindowKind → Bool
+is_kept kept IoWindow = kept.io
+is_kept kept MemoryWindow = kept.memory
+is_kept kept PrefetchWindow = kept.prefetchable
+
+-- and its image, and the windows that stay
+pub record IsPlaced (q : Request) (s : System) (f : Function) (r : Record) (image : List ℕ)
+    (p : Places) (kept : ByKind Bool) : Type 0 where
+  pub places : HasPlaces q s f r p
+  pub shown : image ≡ f.image
+  pub windows : (c : WindowKind) → IsTrue (has_part f (Window c))
+      → is_kept kept c ≡ stays q s (window_region c f)

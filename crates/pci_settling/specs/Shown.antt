@@ -28,14 +28,18 @@ with_rom old register place image = with_number 4 register (place.first + old % 
 abbrev pub nibble : Bool → ℕ
 nibble wide = if wide then 1 else 0
 
--- a window at its place, or closed where it was open and has none
-abbrev pub with_window : WindowKind → DecodedWindow → Option Range → List ℕ → List ℕ
-with_window c w None image =
+-- a window that was open is closed
+abbrev pub with_closed : WindowKind → DecodedWindow → List ℕ → List ℕ
+with_closed c w image =
     if is_some w.range then with_bounds c (closed_bounds c (nibble w.wide)) image else image
-with_window c w (Some place) image =
+
+-- a window at its place; one that has none stays as it is or is closed
+abbrev pub with_window : WindowKind → Bool → DecodedWindow → Option Range → List ℕ → List ℕ
+with_window c kept w None image = if kept then image else with_closed c w image
+with_window c kept w (Some place) image =
     with_bounds c (bounds_for c (nibble w.wide) place.first place.last) image
 
 -- one that may not be there
-abbrev pub with_optional : WindowKind → Option DecodedWindow → Option Range → List ℕ → List ℕ
-with_optional c None place image = image
-with_optional c (Some w) place image = with_window c w place image
+abbrev pub with_optional : WindowKind → Bool → Option DecodedWindow → Option Range → List ℕ → List ℕ
+with_optional c kept None place image = image
+with_optional c kept (Some w) place image = with_window c kept w place image

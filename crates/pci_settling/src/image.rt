@@ -1,16 +1,16 @@
-//! The image of a function with all of its parts at their places.
+//! The image of a function with its parts at the places that they get.
 ghost use Rattle.std.specs.Prelude.{◌≡◌};
 ghost use Rattle.std.specs.List.{All};
 ghost use Rattle.pci_spec.specs.System.{System, Function};
 ghost use Rattle.settle_spec.specs.Lists.{Request};
 ghost use Rattle.settle_spec.specs.Registers.{settled_image};
 ghost use Rattle.pci_settling.specs.Shown.{HasRegister};
-ghost use Rattle.pci_settling.specs.Images.{with_placed_bar, with_bars, with_windows, with_parts, IsPlacedAnew};
+ghost use Rattle.pci_settling.specs.Images.{with_placed_bar, with_bars, with_windows, with_parts, IsPlaced};
 
 use crate::write::{write_bar, write_rom, write_window};
 use pci_base::image::{IMAGE_LEN, Image};
 use pci_base::offset::BASE_ADDRESS;
-use pci_base::window_kind::WindowKind;
+use pci_base::window_kind::{ByKind, WindowKind};
 use pci_function::record::Record;
 use pci_image::bar::Bar;
 use pci_image::register::rom_register;
@@ -37,26 +37,32 @@ fn write_bars(bytes: &mut [u8; IMAGE_LEN], old: &Image, bars: &[Bar], places: &P
     }
 }
 
-/// Writes the windows of a bridge at their places; one that has none is closed.
-fn write_windows(bytes: &mut [u8; IMAGE_LEN], windows: &Windows, places: &Places)
-    ensures { bytes.new ≡ with_windows places.now windows.now bytes.old }
+/// Writes the windows of a bridge at their places; one that has none is closed, but for those that stay.
+fn write_windows(
+    bytes: &mut [u8; IMAGE_LEN],
+    windows: &Windows,
+    places: &Places,
+    kept: &ByKind<bool>,
+)
+    ensures { bytes.new ≡ with_windows places.now kept.now windows.now bytes.old }
 {
     let (io, memory) = (places.windows.io, places.windows.memory);
-    write_window(bytes, WindowKind::Io, windows.io, io);
-    write_window(bytes, WindowKind::Memory, Some(windows.mem), memory);
-    let prefetchable = places.windows.prefetchable;
-    write_window(bytes, WindowKind::Prefetchable, windows.pref, prefetchable);
+    write_window(bytes, WindowKind::Io, windows.io, io, kept.io);
+    let class = WindowKind::Memory;
+    write_window(bytes, class, Some(windows.mem), memory, kept.memory);
+    let (class, place) = (WindowKind::Prefetchable, places.windows.prefetchable);
+    write_window(bytes, class, windows.pref, place, kept.prefetchable);
 }
 
 /// The image with what is decoded of it at these places.
-fn with_parts(record: &Record, image: &Image, places: &Places) -> Image
+fn with_parts(record: &Record, image: &Image, places: &Places, kept: &ByKind<bool>) -> Image
     requires { All HasRegister «record».now.bars.items }
-    ensures { result.0 ≡ with_parts image.now.0 places.now «record».now }
+    ensures { result.0 ≡ with_parts image.now.0 places.now kept.now «record».now }
 {
     let mut placed = *image;
     write_bars(&mut placed.0, image, record.bars.as_slice(), places);
     if let Some(bridge) = &record.bridge {
-        write_windows(&mut placed.0, &bridge.windows, places);
+        write_windows(&mut placed.0, &bridge.windows, places, kept);
     }
     if let Some(place) = places.rom {
         let register = rom_register(record.bridge.is_some());
@@ -65,13 +71,13 @@ fn with_parts(record: &Record, image: &Image, places: &Places) -> Image
     placed
 }
 
-/// The image of a function with these places, where nothing stands: BARs, ROM and windows show their places, a window that
-/// has none is closed, and all other bits stay.
-pub fn settled_image(record: &Record, image: &Image, places: &Places) -> Image
+/// The image of a function whose parts get these places: BARs, ROM and windows show their places, a window that has none
+/// and isn't one of those that stay is closed, and all other bits stay.
+pub fn settled_image(record: &Record, image: &Image, places: &Places, kept: &ByKind<bool>) -> Image
     requires { All HasRegister «record».now.bars.items }
     ensures { (q : Request) (s : System) (f : Function)
-        → IsPlacedAnew q s f «record».now image.now.0 places.now
+        → IsPlaced q s f «record».now image.now.0 places.now kept.now
         → result.0 ≡ settled_image q s f }
 {
-    with_parts(record, image, places)
+    with_parts(record, image, places, kept)
 }

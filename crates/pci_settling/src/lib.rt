@@ -1,4 +1,4 @@
-//! The registers of functions once everything has its place, where nothing stands.
+//! The registers of functions once everything has its place.
 #![tactic(auto)]
 
 pub mod claim;

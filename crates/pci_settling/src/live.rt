@@ -43,8 +43,8 @@ fn is_live(
         && (has_kept(space, above, terms, record) || behind)
 }
 
-/// Which buses have a function that is live in a space, where all is placed anew. What is behind a bridge has higher slots
-/// than the bridge, so one pass from the highest slot down finds what is behind a bridge before the bridge itself.
+/// Which buses have a function that is live in a space, at the places that parts get. What is behind a bridge has higher
+/// slots than the bridge, so one pass from the highest slot down finds what is behind a bridge before the bridge itself.
 pub fn live_buses<A: Allocator>(
     admitted: &Admitted<A>,
     table: &[Places],

@@ -13,6 +13,7 @@ use crate::write::write;
 use pci_base::image::Image;
 use pci_base::offset::COMMAND;
 use pci_base::space::Space;
+use pci_base::window_kind::ByKind;
 use pci_function::record::Record;
 use pci_place::above::Above;
 use pci_settle::own::Terms;
@@ -42,22 +43,23 @@ fn settled_command(
     record.command / 4 * 4 + u16::from(io) + 2 * u16::from(memory)
 }
 
-/// The image of a function once all has its place, where nothing stands: its registers show its places, and Command enables
-/// what has one, what was enabled, and what is needed for what is live behind it.
+/// The image of a function once all has its place: its registers show the places that its parts get, windows stay or are
+/// closed that get none, and Command enables what gets one, what was enabled, and what is needed for what is live behind it.
 pub fn settled_function(
     record: &Record,
     image: &Image,
     places: &Places,
+    kept: &ByKind<bool>,
     above: Above,
     terms: Terms,
     behind: Behind,
 ) -> Image
     requires { All HasRegister «record».now.bars.items }
     ensures { (q : Request) (s : System) (f : Function)
-        → IsTold q s f «record».now image.now.0 places.now above terms behind.io behind.memory
+        → IsTold q s f «record».now image.now.0 places.now kept.now above terms behind.io behind.memory
         → result.0 ≡ (registers.settled_function q s f).image }
 {
-    let mut settled = settled_image(record, image, places);
+    let mut settled = settled_image(record, image, places, kept);
     let command = settled_command(record, places, above, terms, behind);
     write(&mut settled.0, COMMAND, 2, command.into());
     settled

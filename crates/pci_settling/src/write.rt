@@ -113,14 +113,15 @@ fn bounds_at(class: WindowKind, nibble: u16, place: Range) -> Bounds
     }
 }
 
-/// Writes a window at its place, or closes it where it was open and has none.
+/// Writes a window at its place; where it has none and isn't kept it is closed, if it was open.
 pub fn write_window(
     bytes: &mut [u8; IMAGE_LEN],
     class: WindowKind,
     window: Option<Window>,
     place: Option<Range>,
+    kept: bool,
 )
-    ensures { bytes.new ≡ with_optional (kind_value class) window place bytes.old }
+    ensures { bytes.new ≡ with_optional (kind_value class) kept window place bytes.old }
 {
     let Some(window) = window else {
         return;
@@ -128,7 +129,7 @@ pub fn write_window(
     let nibble = u16::from(window.wide());
     if let Some(place) = place {
         write_bounds(bytes, class, bounds_at(class, nibble, place));
-    } else if window.range().is_some() {
+    } else if !kept && window.range().is_some() {
         write_bounds(bytes, class, Bounds::closed(class, nibble));
     }
 }

@@ -43,7 +43,7 @@ admission_of asked dump probe = record { roots = asked.roots; dump = dump; probe
 -- What settling in these lists comes to: the writes, and the dump after them, titles as they are.
 pub record IsSettled (a : Admission) (lists : Lists) (after : List Block) (writes : List Write) : Type 0 where
   pub titles : map (λ (b : Block). b.title) after ≡ map (λ (b : Block). b.title) a.dump
-  pub settled : IsSettledDump a lists after
+  pub settled : IsSettledDump (all_anew a.roots lists) a after
   pub is : settle (all_anew a.roots lists) (system_in a) ≡ Settled writes
 
 -- a line for each write where the writes are asked for, else the settled dump

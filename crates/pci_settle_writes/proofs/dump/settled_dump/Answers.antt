@@ -2,10 +2,10 @@ use Rattle.std.proofs.Common.{◌≡◌, ℕ, ◌+◌, ◌<◌, List, length, ma
 use Rattle.pci_spec.specs.Text.{Block, IsDump}
 use Rattle.pci_spec.specs.Slot.{Slot}
 use Rattle.pci_spec.specs.Stops.{IsAboveLast, last_slot}
-use Rattle.pci_spec.specs.System.{function_of}
+use Rattle.pci_spec.specs.System.{Function, function_of}
 use Rattle.pci_spec.specs.Decoded.{HasRecords}
 use Rattle.pci_spec.proofs.Pairing.{same_length, length-system_of}
-use Rattle.settle_spec.specs.Lists.{Request, Lists}
+use Rattle.settle_spec.specs.Lists.{Lists}
 use Rattle.pci_function.specs.declared.record.Record.{Record}
 use Rattle.pci_function.specs.Values.{record_value}
 use Rattle.pci_tree.specs.Admission.{Admission, IsAdmitted}
@@ -13,11 +13,9 @@ use Rattle.pci_tree.proofs.Lifting.{same_slot_of}
 use Rattle.pci_place.specs.Above.{system_in}
 use Rattle.pci_place.proofs.Records.{same_count}
 use Rattle.pci_settle.specs.Lists.{lists_value}
-use Rattle.pci_settled.specs.Anew.{ArePlacedAnew}
 use Rattle.pci_settling.proofs.Registers.{have_registers}
 use Rattle.pci_plan.proofs.PlannedDumps.{ArePlanned, none_planned, found_count, next_above, all_planned}
-use Rattle.pci_settle_writes.specs.Requests.{all_anew}
-use Rattle.pci_settle_writes.proofs.SettledDumps.{IsSettledOf, IsHere, placed_by, anew_by, told_here, block_here, next_settled, dump_settled}
+use Rattle.pci_settle_writes.proofs.SettledDumps.{IsSettledOf, IsHere, request_by, told_here, block_here, next_settled, all_settled}
 use Rattle.pci_settle_writes.proofs.dump.settled_dump.Goals as goal
 use Rattle.pci_settle_writes.proofs.dump.settled_dump.Goals.{After-empty-dump}
 use Rattle.pci_settle_writes.proofs.dump.settled_dump.Given.{Over}
@@ -29,17 +27,14 @@ module _ (g : Over) (c : After-empty-dump g) where
   abbrev l : Lists
   l = lists_value c.args.lists.now
 
-  abbrev q : Request
-  q = all_anew a.roots l
+  abbrev P : Function → Function → Type 0
+  P = IsSettledOf a.roots (system_in a) l c.args.table.now c.args.staying.now
 
   admitted_is : IsAdmitted a
   admitted_is = c.outline-outline.ensures.admitted
 
   has : HasRecords (system_in a) (map record_value c.records-records.result.now)
   has = subst (λ rs. HasRecords (system_in a) rs) (sym c.records-records.ensures.value) c.outline-outline.ensures.records
-
-  placed : ArePlacedAnew q (system_in a) c.args.table.now
-  placed = placed_by a.roots (system_in a) l c.args.table.now c.requires
 
   blocks_are : c.blocks-blocks.result.now ≡ a.dump
   blocks_are = c.blocks-blocks.ensures.value ∙ c.dump.ensures
@@ -65,16 +60,9 @@ module _ (g : Over) (c : After-empty-dump g) where
     here : IsHere a k b r
     here = block_here a c.records-records.result.now admitted_is has k b r inside b_at r_is
 
-pub live_buses-io-requires-clause-count : goal.live_buses-io-requires-clause-count
-live_buses-io-requires-clause-count g c = (placed_by c.args.admitted.now.roots (system_in c.args.admitted.now) (lists_value c.args.lists.now) c.args.table.now c.requires).count
-
-pub live_buses-memory-requires-clause-count : goal.live_buses-memory-requires-clause-count
-live_buses-memory-requires-clause-count g c = (placed_by c.args.admitted.now.roots (system_in c.args.admitted.now) (lists_value c.args.lists.now) c.args.table.now c.requires).count
-
 pub loop-k-init : goal.loop-k-init
 loop-k-init g c =
-    let P = IsSettledOf (q g c) (system_in (a g c)) in
-    subst (λ (found : List Block). ArePlanned P (a g c).dump (a g c).probe 0 found) (sym c.empty-dump.ensures) (none_planned P (a g c).dump (a g c).probe (admitted_is g c).slots)
+    subst (λ (found : List Block). ArePlanned (P g c) (a g c).dump (a g c).probe 0 found) (sym c.empty-dump.ensures) (none_planned (P g c) (a g c).dump (a g c).probe (admitted_is g c).slots)
 
 pub bounds-records-k : goal.bounds-records-k
 bounds-records-k g c =
@@ -88,7 +76,15 @@ pub bounds-table-k : goal.bounds-table-k
 bounds-table-k g c =
     let start = (goal.at.bounds-table-k g c).After-empty-dump in
     let s = size g start in
-    let n = (placed g start).count in
+    let n = c.requires.places in
+    let more = c.loop-k-test.true in
+    omega (arith, s, n, more)
+
+pub bounds-staying-k : goal.bounds-staying-k
+bounds-staying-k g c =
+    let start = (goal.at.bounds-staying-k g c).After-empty-dump in
+    let s = size g start in
+    let n = c.requires.staying in
     let more = c.loop-k-test.true in
     omega (arith, s, n, more)
 
@@ -113,11 +109,13 @@ loop-k-preserved g c =
     let title : c.push_next.inside.title ≡ old.title = ap (λ (b : Block). b.title) (c.push_next.view_is ∙ c.copy.ensures) in
     let new : Block = record { slot = c.push_next.inside.slot; title = c.push_next.inside.title; image = c.settled_function-image.result.0 } in
     let bus = c.from.ensures ∙ c.bus.ensures ∙ ap (λ (x : Slot). x.bus) (same_slot_of r f at.is.value) in
-    subst (λ (found : List Block). ArePlanned (IsSettledOf (q g start) s) (a g start).dump (a g start).probe (k + 1) found) (sym c.in_ok-push_next.ensures)
-    (next_settled (a g start) (admitted_is g start) (q g start) k c.loop-k.dump c.loop-k.invariant old new r at less b slot title (c.settled_function-image.ensures (q g start) s f
-    (told_here (a g start).roots s (admitted_is g start).system (admitted_is g start).nested (q g start) c.of-terms.result c.args.table.now
-    (anew_by (a g start).roots (l g start) c.of-terms.result c.of-terms.ensures) (placed g start) c.live_buses-io.result c.live_buses-memory.result c.live_buses-io.ensures c.live_buses-memory.ensures c.aboves-aboves.result c.aboves-aboves.ensures
-    k f r at.at at.is c.block.inside.image.0 (ap (λ (x : Block). x.image) c.block.view_is) _ _ refl
+    subst (λ (found : List Block). ArePlanned (P g start) (a g start).dump (a g start).probe (k + 1) found) (sym c.in_ok-push_next.ensures)
+    (next_settled (a g start) (admitted_is g start) (l g start) c.args.table.now c.args.staying.now k c.loop-k.dump c.loop-k.invariant old new r at less b slot title
+    (λ q by. c.settled_function-image.ensures q s f
+    (told_here (a g start).roots s (admitted_is g start).system (admitted_is g start).nested q c.of-terms.result c.args.table.now
+    (request_by q (a g start).roots (l g start) c.of-terms.result by.asked c.of-terms.ensures) by.places c.live_buses-io.result c.live_buses-memory.result c.live_buses-io.ensures c.live_buses-memory.ensures c.aboves-aboves.result c.aboves-aboves.ensures
+    c.args.staying.now by.stay
+    k f r at.at at.is c.block.inside.image.0 (ap (λ (x : Block). x.image) c.block.view_is) _ _ refl _ _ refl
     c.from.result bus _ c.is_live_behind.result c.is_live_behind-in-loop-k.result c.is_live_behind.ensures c.is_live_behind-in-loop-k.ensures)))
 
 pub push_next-requires-clause-above : goal.push_next-requires-clause-above
@@ -125,7 +123,7 @@ push_next-requires-clause-above g c =
     let start = (goal.at.push_next-requires-clause-above g c).After-empty-dump in
     let old = c.index-blocks-k.result in
     let r = c.index-records-k.result in
-    let above = next_above (IsSettledOf (q g start) (system_in (a g start))) (a g start).dump (a g start).probe (admitted_is g start).slots c.loop-k.k c.loop-k.dump c.loop-k.invariant
+    let above = next_above (P g start) (a g start).dump (a g start).probe (admitted_is g start).slots c.loop-k.k c.loop-k.dump c.loop-k.invariant
     (dump_is g start) (inside g start c.loop-k.k old r c.loop-k-test.true c.index-blocks-k.is c.index-records-k.is) old
     (b_at g start c.loop-k.k old r c.loop-k-test.true c.index-blocks-k.is c.index-records-k.is) in
     subst (λ (s : Slot). IsAboveLast (last_slot c.loop-k.dump) s) (sym (ap (λ (d : Block). d.slot) (c.push_next.view_is ∙ c.copy.ensures))) above
@@ -134,7 +132,7 @@ pub push_next-requires-clause-room : goal.push_next-requires-clause-room
 push_next-requires-clause-room g c =
     let start = (goal.at.push_next-requires-clause-room g c).After-empty-dump in
     let less = inside g start c.loop-k.k c.index-blocks-k.result c.index-records-k.result c.loop-k-test.true c.index-blocks-k.is c.index-records-k.is in
-    let count = found_count (IsSettledOf (q g start) (system_in (a g start))) (a g start).dump (a g start).probe (admitted_is g start).slots c.loop-k.k c.loop-k.dump c.loop-k.invariant (omega (arith, less)) in
+    let count = found_count (P g start) (a g start).dump (a g start).probe (admitted_is g start).slots c.loop-k.k c.loop-k.dump c.loop-k.invariant (omega (arith, less)) in
     let most = (dump_is g start).room in
     omega (arith, less, count, most)
 
@@ -143,12 +141,15 @@ returns-clause-titles g c =
     let start = (goal.at.returns-clause-titles g c).After-empty-dump in
     let e = ap length (blocks_are g start) in
     let done = c.loop-k-test.false in
-    (all_planned (IsSettledOf (q g start) (system_in (a g start))) (a g start).dump (a g start).probe (admitted_is g start).slots c.loop-k.k c.loop-k.dump c.loop-k.invariant (omega (arith, e, done))).1
+    (all_planned (P g start) (a g start).dump (a g start).probe (admitted_is g start).slots c.loop-k.k c.loop-k.dump c.loop-k.invariant (omega (arith, e, done))).1
 
 pub returns-clause-settled : goal.returns-clause-settled
 returns-clause-settled g c =
     let start = (goal.at.returns-clause-settled g c).After-empty-dump in
     let e = ap length (blocks_are g start) in
     let done = c.loop-k-test.false in
-    let all = all_planned (IsSettledOf (q g start) (system_in (a g start))) (a g start).dump (a g start).probe (admitted_is g start).slots c.loop-k.k c.loop-k.dump c.loop-k.invariant (omega (arith, e, done)) in
-    record { slots = all.0; system = dump_settled (a g start) (l g start) c.loop-k.dump all.2 }
+    let all = all_planned (P g start) (a g start).dump (a g start).probe (admitted_is g start).slots c.loop-k.k c.loop-k.dump c.loop-k.invariant (omega (arith, e, done)) in
+    λ q asked places stay. record {
+      slots = all.0;
+      system = all_settled (a g start).roots (system_in (a g start)) (l g start) c.args.table.now c.args.staying.now q (record { asked = asked; places = places; stay = stay }) (system_in (a g start)) _ all.2;
+    }

@@ -1,4 +1,5 @@
 use Rattle.std.proofs.Common.{◌≡◌, ◌∙◌, ◌+◌, ◌<◌, ◌++◌, [], ◌∷◌, ℕ, List, length, map, get_or, refl, false, not, ◌||◌, arith, sym, ap, subst}
+use Rattle.std.proofs.lemmas.List.{length-append}
 use Rattle.std.proofs.lemmas.Option.{slice_get_read}
 use Rattle.pci_spec.specs.Slot.{Slot}
 use Rattle.pci_spec.specs.Text.{Block}
@@ -14,11 +15,13 @@ use Rattle.pci_place.specs.declared.above.Above.{Above}
 use Rattle.pci_place.specs.Above.{system_in, IsAbove}
 use Rattle.pci_place.proofs.Records.{FunctionAt, same_count, function_at}
 use Rattle.pci_settle.specs.Lists.{lists_value}
+use Rattle.pci_settle.specs.Own.{AreTerms}
 use Rattle.pci_settle_writes.specs.declared.way.Way.{Way}
-use Rattle.pci_settle_writes.specs.Requests.{all_anew}
+use Rattle.pci_settle_writes.specs.Requests.{IsAskedOf}
+use Rattle.pci_settle_writes.specs.Dumps.{IsSettledDump}
 use Rattle.pci_settle_writes.specs.Shut.{is_image_changed, closing_by}
 use Rattle.pci_settle_writes.specs.Stages.{AreOf, AreSettled}
-use Rattle.pci_settle_writes.proofs.States.{start_of, settled_count, settled_of}
+use Rattle.pci_settle_writes.proofs.States.{start_of, settled_of}
 use Rattle.pci_settle_writes.proofs.Closings.{AreClosedTo, none_closed, all_closed, changed_is, closed_same, closed_more}
 use Rattle.pci_settle_writes.proofs.shut.closing_commands.Goals as goal
 use Rattle.pci_settle_writes.proofs.shut.closing_commands.Goals.{After-blocks-start, then-shut, else-shut, in-Some, in_default}
@@ -37,9 +40,6 @@ module _ (g : Over) (c : After-blocks-start g) where
 
   abbrev l : Lists
   l = lists_value c.args.lists.now
-
-  abbrev q : Request
-  q = all_anew a.roots l
 
   admitted_is : IsAdmitted a
   admitted_is = c.outline-outline.ensures.admitted
@@ -60,8 +60,11 @@ module _ (g : Over) (c : After-blocks-start g) where
   start : AreOf (system_in a) c.blocks-start.result.now
   start = subst (λ (bs : List Block). AreOf (system_in a) bs) (sym blocks_are) (start_of a admitted_is)
 
-  settled : AreSettled q (system_in a) c.args.settled.now
-  settled = settled_of a admitted_is l c.args.settled.now c.requires
+  settled : (q : Request) → IsSettledDump q a c.args.settled.now → AreSettled q (system_in a) c.args.settled.now
+  settled q to = settled_of a admitted_is q c.args.settled.now to
+
+  terms : (q : Request) → IsAskedOf q a.roots l → AreTerms q.lists c.of-terms.result
+  terms q asked = subst (λ lists. AreTerms lists c.of-terms.result) (sym asked.lists_are) c.of-terms.ensures
 
   -- the function of a record
   function_here : (k : ℕ) (r : Record) → k < length c.records-records.result.now → r ≡ get_or c.records-records.result.now k r → FunctionAt (system_in a) r k
@@ -70,8 +73,12 @@ module _ (g : Over) (c : After-blocks-start g) where
 pub loop-k-init : goal.loop-k-init
 loop-k-init g c =
     let start = (goal.at.loop-k-init g c).After-blocks-start in
-    let none = none_closed (q g start) (a g start).roots (system_in (a g start)) (admitted_is g start).system (admitted_is g start).nested in
-    record { marks = none.marks; values = c.new-commands.ensures.items }
+    record {
+      count = ap length c.new-commands.ensures.items;
+      closed = λ q asked to.
+          let none = none_closed q (a g start).roots (system_in (a g start)) (admitted_is g start).system (admitted_is g start).nested in
+          record { marks = none.marks; values = c.new-commands.ensures.items };
+    }
 
 pub bounds-start-k : goal.bounds-start-k
 bounds-start-k g c =
@@ -87,7 +94,7 @@ bounds-settled-k g c =
     let start = (goal.at.bounds-settled-k g c).After-blocks-start in
     let s = size g start in
     let n = count g start in
-    let e = settled_count (a g start) (admitted_is g start) (l g start) c.args.settled.now c.requires in
+    let e = c.requires in
     let more = c.loop-k-test.true in
     omega (arith, s, n, e, more)
 
@@ -103,10 +110,6 @@ loop-k-preserved g c =
     let f = here.f in
     let bus : c.from-bus.result ≡ f.slot.bus = c.from-bus.ensures ∙ c.bus.ensures ∙ ap (λ (x : Slot). x.bus) (same_slot_of r f here.is.value) in
     let over = subst (λ n. IsAbove s f.slot.bus (get_or c.aboves-aboves.result n no_above)) (sym bus) (c.aboves-aboves.ensures f no_above here.is.listed) in
-    let changed : c.is_changed-changed.result ≡ is_changed (q g first) s f =
-    c.is_changed-changed.ensures ∙ ap (λ (x : Block). is_image_changed x.image c.new.inside.image.0) c.old.view_is ∙ ap (λ (x : Block). is_image_changed c.index-start-k.result.image x.image) c.new.view_is
-    ∙ changed_is (q g first) roots s admitted.system admitted.nested k f r here.at here.is _ over c.of-terms.result c.of-terms.ensures c.blocks-start.result.now c.args.settled.now (start g first) (settled g first)
-    c.index-start-k.result c.index-settled-k.result c.index-start-k.is c.index-settled-k.is in
     let above : Above = get_or c.aboves-aboves.result c.from-bus.result no_above in
     let way : Way = get_or c.loop-k.ways c.from-bus.result no_way in
     let shut : c.if-shut.closing_command ≡ (c.is_shut_itself-shut.result || not way.clear) = elim c.if-shut.branch [
@@ -115,22 +118,42 @@ loop-k-preserved g c =
     ] in
     let commands : c.push.new.self.items ≡ c.loop-k.commands.items ++ closing_by above c.of-terms.result r (c.is_shut_itself-shut.result || not way.clear) ∷ [] =
     c.in_ok-push.ensures.items ∙ ap (λ x. c.loop-k.commands.items ++ x ∷ []) (c.closing_command.ensures ∙ ap (closing_by above c.of-terms.result r) shut) in
-    let After : List Way → Type 0 = λ ways. AreClosedTo (q g first) roots s (k + 1) ways c.push.new.self.items in
-    elim c.match-record.branch [
-      | in-Some w ↦
-          subst After (sym w.ways-is)
-          (closed_more (q g first) roots s admitted.system admitted.nested k f r here.at here.is above over c.of-terms.result c.of-terms.ensures c.loop-k.ways c.loop-k.commands.items c.loop-k.invariant
-          c.is_changed-changed.result changed c.from-bus.result bus no_way c.is_shut_itself-shut.result c.is_shut_itself-shut.ensures _ commands w.in-Some.bridge w.in-Some.is
-          w.from.result w.from.ensures w.and.result w.and.ensures.io w.and.ensures.memory w.and.ensures.clear)
-      | in_default w ↦
-          subst After (sym w.ways-is)
-          (closed_same (q g first) roots s admitted.system admitted.nested k f r here.at here.is above over c.of-terms.result c.of-terms.ensures c.loop-k.ways c.loop-k.commands.items c.loop-k.invariant
-          c.is_changed-changed.result changed c.from-bus.result bus no_way c.is_shut_itself-shut.result c.is_shut_itself-shut.ensures _ commands w.in_default.is)
-    ]
+    record {
+      count = ap length commands ∙ length-append c.loop-k.commands.items _ ∙ ap (λ n. n + 1) c.loop-k.invariant.count;
+      closed = λ q asked to.
+          let terms_are = terms g first q asked in
+          let before = c.loop-k.invariant.closed q asked to in
+          let changed : c.is_changed-changed.result ≡ is_changed q s f =
+          c.is_changed-changed.ensures ∙ ap (λ (x : Block). is_image_changed x.image c.new.inside.image.0) c.old.view_is ∙ ap (λ (x : Block). is_image_changed c.index-start-k.result.image x.image) c.new.view_is
+          ∙ changed_is q roots s admitted.system admitted.nested k f r here.at here.is _ over c.of-terms.result terms_are c.blocks-start.result.now c.args.settled.now (start g first) (settled g first q to)
+          c.index-start-k.result c.index-settled-k.result c.index-start-k.is c.index-settled-k.is in
+          let After : List Way → Type 0 = λ ways. AreClosedTo q roots s (k + 1) ways c.push.new.self.items in
+          elim c.match-record.branch [
+            | in-Some w ↦
+                subst After (sym w.ways-is)
+                (closed_more q roots s admitted.system admitted.nested k f r here.at here.is above over c.of-terms.result terms_are c.loop-k.ways c.loop-k.commands.items before
+                c.is_changed-changed.result changed c.from-bus.result bus no_way c.is_shut_itself-shut.result c.is_shut_itself-shut.ensures _ commands w.in-Some.bridge w.in-Some.is
+                w.from.result w.from.ensures w.and.result w.and.ensures.io w.and.ensures.memory w.and.ensures.clear)
+            | in_default w ↦
+                subst After (sym w.ways-is)
+                (closed_same q roots s admitted.system admitted.nested k f r here.at here.is above over c.of-terms.result terms_are c.loop-k.ways c.loop-k.commands.items before
+                c.is_changed-changed.result changed c.from-bus.result bus no_way c.is_shut_itself-shut.result c.is_shut_itself-shut.ensures _ commands w.in_default.is)
+          ];
+    }
 
-pub returns : goal.returns
-returns g c =
-    let first = (goal.at.returns g c).After-blocks-start in
+pub returns-clause-count : goal.returns-clause-count
+returns-clause-count g c =
+    let first = (goal.at.returns-clause-count g c).After-blocks-start in
     let n = count g first in
     let done = c.loop-k-test.false in
-    all_closed (q g first) (a g first).roots (system_in (a g first)) (admitted_is g first).system (admitted_is g first).nested c.loop-k.k c.loop-k.ways c.loop-k.commands.items c.loop-k.invariant (omega (arith, n, done))
+    let most = c.loop-k.auto.k-end in
+    let so_far = c.loop-k.invariant.count in
+    omega (arith, n, done, most, so_far)
+
+pub returns-clause-commands : goal.returns-clause-commands
+returns-clause-commands g c =
+    let first = (goal.at.returns-clause-commands g c).After-blocks-start in
+    let n = count g first in
+    let done = c.loop-k-test.false in
+    λ q asked to. all_closed q (a g first).roots (system_in (a g first)) (admitted_is g first).system (admitted_is g first).nested c.loop-k.k c.loop-k.ways c.loop-k.commands.items
+    (c.loop-k.invariant.closed q asked to) (omega (arith, n, done))

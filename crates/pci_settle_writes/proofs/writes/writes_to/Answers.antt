@@ -1,16 +1,15 @@
-use Rattle.std.proofs.Common.{◌≡◌, ◌∙◌, List, length, arith, sym, ap, subst}
-use Rattle.std.proofs.lemmas.List.{length-map}
+use Rattle.std.proofs.Common.{◌≡◌, ◌∙◌, List, length, sym, ap, subst}
 use Rattle.std.proofs.lemmas.Result.{IfOk-weaker}
 use Rattle.pci_spec.specs.Text.{Block}
 use Rattle.settle_spec.specs.Lists.{Request, Lists}
-use Rattle.settle_spec.specs.Writes.{closing_command}
 use Rattle.pci_tree.specs.Admission.{Admission, IsAdmitted}
 use Rattle.pci_place.specs.Above.{system_in}
 use Rattle.pci_settle.specs.Lists.{lists_value}
-use Rattle.pci_settle_writes.specs.Requests.{all_anew}
-use Rattle.pci_settle_writes.specs.Stages.{AreOf, AreClosed, AreSettled}
+use Rattle.pci_settle_writes.specs.Requests.{IsAskedOf}
+use Rattle.pci_settle_writes.specs.Dumps.{IsSettledDump}
+use Rattle.pci_settle_writes.specs.Stages.{AreOf, AreClosed}
 use Rattle.pci_settle_writes.proofs.StagedWrites.{count_of}
-use Rattle.pci_settle_writes.proofs.States.{start_of, settled_count, settled_of}
+use Rattle.pci_settle_writes.proofs.States.{start_of, settled_of}
 use Rattle.pci_settle_writes.proofs.writes.writes_to.Goals as goal
 use Rattle.pci_settle_writes.proofs.writes.writes_to.Goals.{After-as_slice}
 use Rattle.pci_settle_writes.proofs.writes.writes_to.Given.{Over}
@@ -22,9 +21,6 @@ module _ (g : Over) (c : After-as_slice g) where
   abbrev l : Lists
   l = lists_value c.args.lists.now
 
-  abbrev q : Request
-  q = all_anew a.roots l
-
   admitted_is : IsAdmitted a
   admitted_is = c.outline-outline.ensures.admitted
 
@@ -34,29 +30,22 @@ module _ (g : Over) (c : After-as_slice g) where
   start : AreOf (system_in a) c.blocks-2.result.now
   start = subst (λ (bs : List Block). AreOf (system_in a) bs) (sym blocks_are) (start_of a admitted_is)
 
-  closed : AreClosed q (system_in a) c.as_slice.result.now
-  closed = c.as_slice.ensures.value ∙ c.in_ok-closed.ensures
-
-  settled : AreSettled q (system_in a) c.args.settled.now
-  settled = settled_of a admitted_is l c.args.settled.now c.requires
+  closed : (q : Request) → IsAskedOf q a.roots l → IsSettledDump q a c.args.settled.now → AreClosed q (system_in a) c.as_slice.result.now
+  closed q asked to = c.as_slice.ensures.value ∙ c.in_ok-closed.ensures.commands q asked to
 
 pub writes_by-requires-clause-closed : goal.writes_by-requires-clause-closed
-writes_by-requires-clause-closed g c =
-    let same = ap length (closed g c) in
-    let all = length-map (system_in (a g c)) (closing_command (q g c) (system_in (a g c))) in
-    let n = count_of (system_in (a g c)) c.blocks-2.result.now (start g c) in
-    omega (arith, same, all, n)
+writes_by-requires-clause-closed g c = ap length c.as_slice.ensures.value ∙ c.in_ok-closed.ensures.count ∙ count_of (system_in (a g c)) c.blocks-2.result.now (start g c)
 
 pub writes_by-requires-clause-settled : goal.writes_by-requires-clause-settled
-writes_by-requires-clause-settled g c =
-    settled_count (a g c) (admitted_is g c) (l g c) c.args.settled.now c.requires ∙ sym (ap length (blocks_are g c))
+writes_by-requires-clause-settled g c = c.requires ∙ sym (ap length (blocks_are g c))
 
 pub returns-clause-writes : goal.returns-clause-writes
 returns-clause-writes g c =
     let first = (goal.at.returns-clause-writes g c).After-as_slice in
-    IfOk-weaker c.writes_by.result _ _ (λ w is. is (q g first) (system_in (a g first)) (start g first) (closed g first) (settled g first)) c.writes_by.ensures.writes
+    IfOk-weaker c.writes_by.result _ _
+    (λ w is q asked to. is q (system_in (a g first)) (start g first) (closed g first q asked to) (settled_of (a g first) (admitted_is g first) q c.args.settled.now to)) c.writes_by.ensures.writes
 
 pub returns-clause-closings : goal.returns-clause-closings
 returns-clause-closings g c =
     let first = (goal.at.returns-clause-closings g c).After-as_slice in
-    IfOk-weaker c.writes_by.result _ _ (λ w is. is (q g first) (system_in (a g first)) (start g first) (closed g first)) c.writes_by.ensures.closings
+    IfOk-weaker c.writes_by.result _ _ (λ w is q asked to. is q (system_in (a g first)) (start g first) (closed g first q asked to)) c.writes_by.ensures.closings
