@@ -9,5 +9,8 @@ pub mod Lacking
 pub mod Endings
 pub mod AllAnew
 pub mod Refusals
+pub mod Firsts
+pub mod FixedParts
+pub mod FixedFunctions
 pub mod Written
 pub mod SettledSound

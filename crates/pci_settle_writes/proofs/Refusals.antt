@@ -30,6 +30,8 @@ module _ (a : Admission) (l : Lists) where
   lack_of_fault (unplaced.Lacks x) fault.BadLists is of = absurd of
   lack_of_fault (unplaced.Lacks x) (fault.NoRoom lack) is of = λ other. ap (λ o. or_lack o other) (is (all_anew a.roots l) (anew_in a.roots l)) ∙ of other
   lack_of_fault (unplaced.Lacks x) (fault.TooLarge class slot) is of = absurd of
+  lack_of_fault (unplaced.Lacks x) (fault.Fixed slot reg) is of = absurd of
+  lack_of_fault (unplaced.TooLarge class k) (fault.Fixed slot reg) is of = absurd of
   lack_of_fault (unplaced.TooLarge class k) fault.BadLists is of = absurd of
   lack_of_fault (unplaced.TooLarge class k) (fault.NoRoom lack) is of = absurd of
   lack_of_fault (unplaced.TooLarge class k) (fault.TooLarge name slot) is of = record {
@@ -44,3 +46,4 @@ module _ (a : Admission) (l : Lists) where
   refusal_of_lack fine (refused.Fault fault.BadLists) is = absurd is
   refusal_of_lack fine (refused.Fault (fault.NoRoom lack)) is = ends_fine a.roots l (system_in a) fine ∙ is (Settled (settle_writes (all_anew a.roots l) (system_in a)))
   refusal_of_lack fine (refused.Fault (fault.TooLarge class slot)) is = (fine, is)
+  refusal_of_lack fine (refused.Fault (fault.Fixed slot reg)) is = absurd is

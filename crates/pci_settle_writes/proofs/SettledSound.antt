@@ -8,7 +8,6 @@ use Rattle.pci_spec.specs.System.{system_of}
 use Rattle.pci_spec.specs.Machine.{Write, system_after}
 use Rattle.settle_spec.specs.Lists.{Lists, RootRange, are_bad_lists}
 use Rattle.settle_spec.specs.Places.{lacking}
-use Rattle.settle_spec.specs.Registers.{settled}
 use Rattle.settle_spec.specs.Writes.{closings, settle_writes}
 use Rattle.settle_laws.specs.PlacesLaws.{CanSettle}
 use Rattle.settle_laws.proofs.Moves.{new_profile}

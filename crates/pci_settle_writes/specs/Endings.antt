@@ -30,8 +30,9 @@ IsLack a l (refused.Fault fault.BadLists) = ⊥
 IsLack a l (refused.Fault (fault.NoRoom lack)) =
     (other : Settling) → or_lack (lacking (all_anew a.roots l) (system_in a)) other ≡ no_room lack
 IsLack a l (refused.Fault (fault.TooLarge class slot)) = IsTooLargeAt a l (kind_value class) slot
+IsLack a l (refused.Fault (fault.Fixed slot reg)) = ⊥
 
--- settling ends so, or a new window is too large for the lists, which are fine, or there was no memory
+-- settling ends so, or a new window is too large for the lists, which are fine, or there was no memory; nothing is fixed
 abbrev pub IsRefusal : Admission → Lists → Refused SettleFault → Type 0
 IsRefusal a l refused.Memory = ⊤
 IsRefusal a l (refused.Fault fault.BadLists) = settle (all_anew a.roots l) (system_in a) ≡ BadLists
@@ -39,3 +40,4 @@ IsRefusal a l (refused.Fault (fault.NoRoom lack)) =
     settle (all_anew a.roots l) (system_in a) ≡ no_room lack
 IsRefusal a l (refused.Fault (fault.TooLarge class slot)) =
     IsFalse (are_bad_lists a.roots l) × IsTooLargeAt a l (kind_value class) slot
+IsRefusal a l (refused.Fault (fault.Fixed slot reg)) = ⊥

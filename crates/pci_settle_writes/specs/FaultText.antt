@@ -6,7 +6,7 @@ use Rattle.pci_spec.specs.Window.{WindowKind, window_register}
 use Rattle.pci_spec.specs.Line.{field, region_field, window_name}
 use Rattle.pci_base.specs.WindowKinds.{kind_value}
 use Rattle.pci_settle_writes.specs.declared.lack.SettleFault.{SettleFault}
-use Rattle.pci_settle_writes.specs.declared.lack.SettleFault.TheVariants.{BadLists, NoRoom, TooLarge}
+use Rattle.pci_settle_writes.specs.declared.lack.SettleFault.TheVariants.{BadLists, NoRoom, TooLarge, Fixed}
 
 -- a number in hex digits, without a zero in front
 abbrev pub hex_text : ℕ → List ℕ
@@ -20,7 +20,7 @@ sizes_text size alignment = hex_text size ++ field (hex_text alignment)
 abbrev pub part_text : WindowKind → Slot → ℕ → List ℕ
 part_text class slot register = window_name class ++ region_field slot register
 
--- a number, a name and its fields: of a part its size and its alignment too
+-- a number, a name and its fields: of a part without a place its size and its alignment too
 abbrev pub settle_fault_text : SettleFault → List ℕ
 settle_fault_text BadLists = codes "70 BadPools"
 settle_fault_text (NoRoom lack) =
@@ -29,3 +29,4 @@ settle_fault_text (NoRoom lack) =
 settle_fault_text (TooLarge class slot) =
     codes "72 NoRoom"
     ++ field (part_text (kind_value class) slot (window_register (kind_value class)))
+settle_fault_text (Fixed slot reg) = codes "74 Fixed" ++ region_field slot reg

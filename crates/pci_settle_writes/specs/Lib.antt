@@ -4,5 +4,6 @@ pub mod Told
 pub mod Shut
 pub mod Stages
 pub mod Lacks
+pub mod Fixed
 pub mod Endings
 pub mod FaultText

@@ -41,16 +41,20 @@ pub enum SettleFault {
     NoRoom(Lack),
     /// 72: what is of the class behind the bridge at the slot would take a window of 2^64 addresses or more.
     TooLarge { class: WindowKind, slot: Slot },
+    /// 74: registers of the function may not be written, and this part of it doesn't keep its place, or this offset would be
+    /// written.
+    Fixed { slot: Slot, reg: u8 },
 }
 
 impl SettleFault {
-    /// The fault's number, 70 or 72.
+    /// The fault's number, 70, 72 or 74.
     pub fn number(&self) -> u8
         ensures { result ≡ fault_number self.now }
     {
         match self {
             SettleFault::BadLists => 70,
             SettleFault::NoRoom(_) | SettleFault::TooLarge { .. } => 72,
+            SettleFault::Fixed { .. } => 74,
         }
     }
 }
@@ -125,6 +129,7 @@ impl fmt::Display for SettleFault {
                 };
                 write!(f, "72 NoRoom {part}")
             }
+            SettleFault::Fixed { slot, reg } => write!(f, "74 Fixed {slot} {reg:02x}"),
         }
     }
 }

@@ -2,6 +2,7 @@
 #![tactic(auto)]
 
 pub mod dump;
+pub mod fixed;
 pub mod lack;
 pub mod settle;
 pub mod shut;

@@ -131,7 +131,7 @@ bar_space f space bar n e = space_by space bar (is_io (bar_at f.probe n)) (kind_
 module _ (q : Request) (s : System) (f : Function) (r : Record) (is : IsRecordOf s f r) (above : Above) (over : IsAbove s f.slot.bus above) (t : Terms) (terms : AreTerms q.lists t) where
   -- ---- what is left
 
-  left_is : (bar : CodeBar) (n : ℕ) → decoded_bar_of bar ≡ decoded_bar f.image f.probe n → is_left_bar bar above t.has_io ≡ is_left q s f (Bar n)
+  pub left_is : (bar : CodeBar) (n : ℕ) → decoded_bar_of bar ≡ decoded_bar f.image f.probe n → is_left_bar bar above t.has_io ≡ is_left q s f (Bar n)
   left_is bar n e =
       ap (λ b. b && not (t.has_io && above.io)) (kind_io f bar n e)
       ∙ ap (λ b. is_io (bar_at f.probe n) && not (b && above.io)) terms.io
@@ -158,7 +158,7 @@ module _ (q : Request) (s : System) (f : Function) (r : Record) (is : IsRecordOf
     abbrev own : Part → Bool
     own part = is_part q s f part && (is_of part && not (is_window part))
 
-    rom_on_is : (o : Option CodeRom) → option_map decoded_rom_of o ≡ decoded_rom f.image f.probe → is_rom_on o ≡ (has_rom f.image f.probe && rom_is_on f.image)
+    pub rom_on_is : (o : Option CodeRom) → option_map decoded_rom_of o ≡ decoded_rom f.image f.probe → is_rom_on o ≡ (has_rom f.image f.probe && rom_is_on f.image)
     rom_on_is None e = sym (ap (λ b. b && rom_is_on f.image) (no_rom (has_rom f.image f.probe) _ e))
     rom_on_is (Some rom) e =
         let there = rom_there (has_rom f.image f.probe) (decoded_rom_of rom) _ e in

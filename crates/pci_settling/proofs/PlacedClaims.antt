@@ -1,5 +1,5 @@
 -- What a function has in a space by its record and places is what the definitions say.
-use Rattle.std.proofs.Common.{◌≡◌, ℕ, ◌-◌, ◌/◌, List, [], ◌∷◌, map, Bool, true, false, ◌&&◌, ◌||◌, not, arith, refl, sym, ◌∙◌, ap, Option, None, Some}
+use Rattle.std.proofs.Common.{◌≡◌, ℕ, ◌-◌, ◌/◌, List, [], ◌∷◌, Bool, true, false, ◌&&◌, ◌||◌, not, arith, refl, sym, ◌∙◌, ap, Option, None, Some}
 use Rattle.std.specs.Bool.{if◌then◌else◌}
 use Rattle.std.specs.Option.{is_some}
 use Rattle.std.specs.List.{Contains, filter, list_any, range_with_len}

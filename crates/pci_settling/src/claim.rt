@@ -98,7 +98,7 @@ fn has_kept_bar(space: Space, above: Above, terms: Terms, bars: &[Bar]) -> bool
 }
 
 /// Whether there is a ROM that is on.
-fn is_rom_on(rom: Option<Rom>) -> bool
+pub fn is_rom_on(rom: Option<Rom>) -> bool
     ensures { result ≡ is_rom_on rom }
 {
     match rom {

@@ -1,4 +1,4 @@
-use Rattle.std.proofs.Common.{◌<◌, ◌≤◌, ◌^◌, None, get_or, subst, arith}
+use Rattle.std.proofs.Common.{◌<◌, ◌^◌, None, get_or, subst, arith}
 use Rattle.std.proofs.lemmas.List.{get_or_default}
 use Rattle.std.proofs.lemmas.List.Elements.{AllWithin-more}
 use Rattle.pci_base.specs.declared.range.RootRange.{RootRange}

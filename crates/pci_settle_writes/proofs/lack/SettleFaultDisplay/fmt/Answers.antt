@@ -1,4 +1,5 @@
 use Rattle.std.proofs.Common.{rules}
+use Rattle.std.proofs.lemmas.Fmt.{hex_byte}
 use Rattle.std.proofs.lemmas.List.{append_assoc}
 use Rattle.pci_settle_writes.proofs.lack.SettleFaultDisplay.fmt.Goals as goal
 
@@ -7,3 +8,6 @@ returns-in-NoRoom-clause-writes g c = search (rules, append_assoc)
 
 pub returns-in-TooLarge-clause-writes : goal.returns-in-TooLarge-clause-writes
 returns-in-TooLarge-clause-writes g c = search (rules, append_assoc)
+
+pub returns-in-Fixed-clause-writes : goal.returns-in-Fixed-clause-writes
+returns-in-Fixed-clause-writes g c = search (rules, hex_byte, append_assoc)

@@ -1,0 +1,84 @@
+use Rattle.std.proofs.Common.{◌≡◌, ◌∙◌, ◌<◌, ℕ, Bool, List, false, length, map, get_or, refl, sym, ap, subst}
+use Rattle.std.specs.List.{list_any}
+use Rattle.std.proofs.lemmas.Option.{slice_get_read}
+use Rattle.pci_spec.specs.Slot.{Slot, same_slot}
+use Rattle.pci_spec.specs.Decoded.{HasRecords}
+use Rattle.pci_spec.specs.System.{System}
+use Rattle.settle_spec.specs.Lists.{Request}
+use Rattle.settle_spec.specs.Parts.{Region, regions_of}
+use Rattle.pci_function.specs.declared.record.Record.{Record}
+use Rattle.pci_function.specs.Values.{record_value}
+use Rattle.pci_tree.proofs.Lifting.{same_slot_of}
+use Rattle.pci_place.specs.declared.above.Above.{Above}
+use Rattle.pci_place.specs.Above.{system_in, IsAbove}
+use Rattle.pci_place.proofs.Records.{FunctionAt, function_at}
+use Rattle.pci_settle.specs.Lists.{lists_value}
+use Rattle.pci_settle.specs.Own.{AreTerms}
+use Rattle.pci_settling.proofs.Registers.{have_registers}
+use Rattle.pci_stand.specs.Flags.{AreFlags}
+use Rattle.pci_settle_writes.specs.Requests.{IsAskedOf}
+use Rattle.pci_settle_writes.specs.Told.{IsTableOf}
+use Rattle.pci_settle_writes.specs.Fixed.{fixed_part, first}
+use Rattle.pci_settle_writes.proofs.FixedParts.{record_is}
+use Rattle.pci_settle_writes.proofs.FixedFunctions.{off, found_here, found_later}
+use Rattle.pci_settle_writes.proofs.fixed.fixed_without.Goals as goal
+use Rattle.pci_settle_writes.proofs.fixed.fixed_without.Goals.{After-record_without-fault}
+use Rattle.pci_settle_writes.proofs.fixed.fixed_without.Given.{Over}
+
+-- what stands there where a table has no bus
+abbrev no_above : Above
+no_above = record { io = false; pref = false; wide = false }
+
+-- the function of a record
+module _ (s : System) (records : List Record) (has : HasRecords s (map record_value records)) where
+  function_here : (k : ℕ) (r : Record) → k < length records → r ≡ get_or records k r → FunctionAt s r k
+  function_here k r within is = function_at s records has k r (slice_get_read records (length records) k r refl within is)
+
+pub record_without-fault-requires : goal.record_without-fault-requires
+record_without-fault-requires g c =
+    let s = system_in c.args.admitted.now in
+    let records = c.records-records.result.now in
+    let has : HasRecords s (map record_value records) = subst (λ rs. HasRecords s rs) (sym c.records-records.ensures.value) c.outline-outline.ensures.records in
+    let r = c.index-records-k.result in
+    let here = function_here s records has c.loop-k.k r c.loop-k-test.true c.index-records-k.is in
+    have_registers s here.f r here.is
+
+module _ (g : Over) (c : After-record_without-fault g) where
+  abbrev s : System
+  s = system_in c.args.admitted.now
+
+  abbrev r : Record
+  r = c.index-records-k.result
+
+  has : HasRecords s (map record_value c.records-records.result.now)
+  has = subst (λ rs. HasRecords s rs) (sym c.records-records.ensures.value) c.outline-outline.ensures.records
+
+  here : FunctionAt s r c.loop-k.k
+  here = function_here s c.records-records.result.now has c.loop-k.k r c.loop-k-test.true c.index-records-k.is
+
+  slot : r.slot ≡ here.f.slot
+  slot = same_slot_of r here.f here.is.value
+
+  module _ (q : Request) (test : Region → Bool) (asked : IsAskedOf q c.args.admitted.now.roots (lists_value c.args.lists.now)) (flags : AreFlags q.fixed c.args.fixed.now) (table : IsTableOf s test c.args.table.now) where
+    fault_is : c.record_without-fault.result ≡ first fixed_part (off q s test) (regions_of q s here.f)
+    fault_is =
+        let f = here.f in
+        let bus : c.from.result ≡ f.slot.bus = c.from.ensures ∙ c.bus.ensures ∙ ap (λ (x : Slot). x.bus) slot in
+        let over = subst (λ n. IsAbove s f.slot.bus (get_or c.aboves-aboves.result n no_above)) (sym bus) (c.aboves-aboves.ensures f no_above here.is.listed) in
+        let terms = subst (λ lists. AreTerms lists c.of-terms.result) (sym asked.lists_are) c.of-terms.ensures in
+        let flag : get_or c.args.fixed.now c.from-in-loop-k.result false ≡ list_any (same_slot f.slot) q.fixed =
+        ap (λ n. get_or c.args.fixed.now n false) (c.from-in-loop-k.ensures ∙ c.number.ensures.number) ∙ flags.each r.slot c.number.ensures.slot ∙ ap (λ x. list_any (same_slot x) q.fixed) slot in
+        c.record_without-fault.ensures
+        ∙ record_is q s f r here.is (get_or c.aboves-aboves.result c.from.result no_above) over c.of-terms.result terms _ test (λ part there. table.each c.loop-k.k f _ part here.at there) _ flag
+
+pub returns-then-is_some : goal.returns-then-is_some
+returns-then-is_some g c = λ q test asked flags table.
+    let first = (goal.at.returns-then-is_some g c).After-record_without-fault in
+    let fault = fault_is g first q test asked flags table in
+    sym (c.loop-k.invariant q test asked flags table ∙ found_here q (s g first) test c.loop-k.k (here g first).f (here g first).at c.record_without-fault.result fault (sym c.is_some.ensures ∙ c.if-is_some.true))
+
+pub loop-k-preserved : goal.loop-k-preserved
+loop-k-preserved g c = λ q test asked flags table.
+    let first = (goal.at.loop-k-preserved g c).After-record_without-fault in
+    let fault = fault_is g first q test asked flags table in
+    c.loop-k.invariant q test asked flags table ∙ found_later q (s g first) test c.loop-k.k (here g first).f (here g first).at c.record_without-fault.result fault (sym c.is_some.ensures ∙ c.if-is_some.false)

@@ -1,0 +1,72 @@
+-- Functions whose registers may not be written: what of them a table says no to, by what is decoded of each.
+use Rattle.std.specs.Prelude.{ℕ, ◌-◌, ◌/◌, Bool, ◌&&◌, not, if◌then◌else◌, List, Option, None, Some}
+use Rattle.std.specs.Option.{is_some, option_map, option_or}
+use Rattle.std.specs.List.{find}
+use Rattle.pci_spec.specs.Registers.{BASE_ADDRESS}
+use Rattle.pci_spec.specs.Header.{rom_place}
+use Rattle.pci_spec.specs.Window.{WindowKind, IoWindow, MemoryWindow, PrefetchWindow, window_register}
+use Rattle.pci_spec.specs.Decoded.{DecodedWindow}
+use Rattle.pci_spec.specs.Machine.{Write}
+use Rattle.pci_spec.specs.System.{Bar, Window, register_of}
+use Rattle.settle_spec.specs.Parts.{Region}
+use Rattle.pci_image.specs.declared.bar.Bar.{Bar as CodeBar}
+use Rattle.pci_function.specs.declared.record.Bridge.{Bridge}
+use Rattle.pci_function.specs.declared.record.Record.{Record}
+use Rattle.pci_tree.specs.Passes.{range_in}
+use Rattle.pci_place.specs.declared.above.Above.{Above}
+use Rattle.pci_settle.specs.declared.own.Terms.{Terms}
+use Rattle.pci_settle.specs.Own.{is_left_bar}
+use Rattle.pci_settling.specs.Claims.{is_rom_on}
+use Rattle.pci_stand.specs.declared.standing.Standing.{Standing}
+use Rattle.pci_stand.specs.Tables.{stands_of}
+use Rattle.pci_settle_writes.specs.declared.lack.SettleFault.{SettleFault}
+use Rattle.pci_settle_writes.specs.declared.lack.SettleFault.TheVariants.{Fixed}
+
+-- ---- what is named
+
+-- a part of a function whose registers may not be written
+abbrev pub fixed_part : Region → SettleFault
+fixed_part r = Fixed r.function.slot (register_of r.function r.part)
+
+-- a register that may not
+abbrev pub fixed_register : Write → SettleFault
+fixed_register w = Fixed w.slot w.offset
+
+-- ---- the register of the first part of a record that a table says no to
+
+-- what is told of the first element that passes a test
+abbrev pub first : {X Z : Type 0} → (X → Z) → (X → Bool) → List X → Option Z
+first value test xs = option_map value (find test xs)
+
+abbrev pub is_bar_without : Above → Terms → Standing → CodeBar → Bool
+is_bar_without above t told bar =
+    not (is_left_bar bar above t.has_io)
+    && not (stands_of told (Bar ((bar.reg - BASE_ADDRESS) / 4)))
+
+abbrev pub bar_without : Above → Terms → Standing → List CodeBar → Option ℕ
+bar_without above t told bars = first (λ bar. bar.reg) (is_bar_without above t told) bars
+
+abbrev pub window_without : WindowKind → Option DecodedWindow → Standing → Option ℕ
+window_without c w told =
+    if is_some (range_in w) && not (stands_of told (Window c)) then Some (window_register c) else None
+
+abbrev pub bridge_without : Option Bridge → Standing → Option ℕ
+bridge_without None told = None
+bridge_without (Some b) told =
+    option_or (window_without IoWindow b.windows.io told)
+    (option_or (window_without MemoryWindow (Some b.windows.mem) told)
+    (window_without PrefetchWindow b.windows.pref told))
+
+abbrev pub rom_without : Record → Standing → Option ℕ
+rom_without r told =
+    if is_rom_on r.rom && not told.rom then Some (rom_place (is_some r.bridge)) else None
+
+abbrev pub part_without : Above → Terms → Standing → Record → Option ℕ
+part_without above t told r =
+    option_or (bar_without above t told r.bars.items)
+    (option_or (bridge_without r.bridge told) (rom_without r told))
+
+-- of a function that may be written there is none
+abbrev pub record_without : Bool → Above → Terms → Standing → Record → Option SettleFault
+record_without fixed above t told r =
+    if fixed then option_map (Fixed r.slot) (part_without above t told r) else None
