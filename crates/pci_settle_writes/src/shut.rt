@@ -78,8 +78,9 @@ fn closing_command(record: &Record, above: Above, terms: Terms, shut: bool) -> u
     }
 }
 
-/// What Command of each function holds once all is closed, in slot order, where `settled` is the dump as it is to be. What is shut is known of each bridge above a
-/// function before the function itself, as a bridge has a lower slot than what is behind it.
+/// What Command of each function holds once all is closed, in slot order, where `settled` is the dump as it is to be. What is
+/// shut is known of each bridge above a function before the function itself, as a bridge has a lower slot than what is
+/// behind it.
 pub fn closing_commands<A: Allocator, B: Allocator>(
     alloc: A,
     admitted: &Admitted<B>,
