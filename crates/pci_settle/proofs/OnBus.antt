@@ -1,26 +1,26 @@
 -- The items of a bus, record by record.
-use Rattle.std.proofs.Common.{◌≡◌, ℕ, ◌+◌, ◌<◌, ◌≤◌, inl, inr, List, [], ◌∷◌, ◌++◌, map, length, take, get_or, refl, Bool, true, false, cond, ◌&&◌, arith, sym, ◌∙◌, ap, subst, Option, Some, None}
-use Rattle.std.specs.Bool.{IsTrue}
+use Rattle.std.proofs.Common.{◌≡◌, ℕ, zero, suc, ◌+◌, ◌-◌, ◌<◌, ◌≤◌, inl, inr, List, [], ◌∷◌, ◌++◌, map, length, take, get_or, refl, Bool, true, false, cond, ◌&&◌, ◌||◌, add-zero, arith, sym, ◌∙◌, ap, subst, Option, Some, None}
+use Rattle.std.specs.Bool.{IsTrue, ◌==◌}
 use Rattle.std.specs.Option.{is_some, IfSome}
-use Rattle.std.specs.List.{All, Contains, filter, flat_map, slice_get}
-use Rattle.std.proofs.lemmas.Bool.{cases_lt}
+use Rattle.std.specs.List.{All, AllWithin, Contains, filter, flat_map, slice_get}
+use Rattle.std.proofs.lemmas.Bool.{cases_Bool, cases_eq, cases_lt, both_ways, eqb-true, or_left, or_right, eq-eqb}
 use Rattle.std.proofs.lemmas.List.{map-append, append-nil, take_more, take_all, get_or_past}
 use Rattle.std.proofs.lemmas.List.Concat.{flat_map-append}
 use Rattle.std.proofs.lemmas.List.Elements.{All-nil, All-cons, All-append, All-map, Contains-append_cases}
 use Rattle.std.proofs.lemmas.List.Sorted.{IsPermutation-refl, IsPermutation-append}
 use Rattle.std.proofs.lemmas.Option.{slice_get_within, slice_get-get_or, get_or_from_slice_get}
-use Rattle.pci_spec.specs.Slot.{Slot, slot_number}
+use Rattle.pci_spec.specs.Slot.{Slot, IsSlot, slot_number}
 use Rattle.pci_spec.specs.Window.{WindowKind, MemoryWindow}
 use Rattle.pci_spec.specs.System.{System, Function, IsSystem, is_bridge}
-use Rattle.pci_spec.specs.Bus.{secondary, are_siblings}
+use Rattle.pci_spec.specs.Bus.{secondary, is_root, are_siblings}
 use Rattle.pci_spec.specs.Decoded.{HasRecords}
 use Rattle.pci_spec.specs.Decoded as decoded
 use Rattle.pci_spec.proofs.Members.{in_nil, pairs_nil, pairs_append}
 use Rattle.plan_spec.specs.Plan.{same_class}
 use Rattle.plan_spec.proofs.Planning.AllItems.{slots_rise}
+use Rattle.plan_spec.proofs.Planning.Safe.{slots_of}
 use Rattle.settle_spec.specs.FirstPlace.{Extent as ExtentValue}
 use Rattle.settle_spec.specs.Lists.{Request}
-use Rattle.settle_spec.specs.Stands.{rank}
 use Rattle.settle_spec.specs.Items.{Item as ItemValue, has_of, items_of, nothing}
 use Rattle.settle_spec.specs.PlacingLaws.{HasLowerRank}
 use Rattle.pci_image.specs.declared.rom.Rom.{Rom as CodeRom}
@@ -42,19 +42,49 @@ use Rattle.pci_settle.specs.declared.own.Terms.{Terms}
 use Rattle.pci_settle.specs.Own.{is_own_bar, own_extent, bar_item, bar_items, rom_item, rom_items, window_items, record_items, item_value, IsWindowOf, IsAsked, AreByRank}
 use Rattle.pci_settle.specs.Spots.{IsExtent}
 use Rattle.pci_settle.specs.Turns.{HasExtent}
-use Rattle.pci_settle.specs.Buses.{window_behind, AreWindows, AreBehind, items_beside, AreOnBus}
+use Rattle.pci_settle.specs.Buses.{window_behind, AreWindows, AreBehind, items_beside, AreOnBusTo, AreBelow, AreOnBus}
 use Rattle.pci_settle.proofs.Ranks.{first_rank, items_by_rank, items_in_slot}
 
--- the items of the first functions, by rising slots and registers, all below the next function
-pub record AreListedTo (s : System) (c : WindowKind) (k : ℕ) (items : List Item) (all : List ItemValue) : Type 0 where
-  pub by_rank : AreByRank (map (item_value s c) items) all
-  pub below : (j : ℕ) (g : Function) → k ≤ j → slice_get s j ≡ Some g → (i : ItemValue) → Contains (map (item_value s c) items) i → rank i.region < first_rank g
+-- the record at a place
+record_at : (records : List Record) (k : ℕ) → k < length records → (r : Record) × (slice_get records k ≡ Some r)
+record_at [] k inside = absurd (let no : ⊥ = omega (arith, inside) in no)
+record_at (r ∷ records) k inside = (get_or (r ∷ records) k r, slice_get-get_or (r ∷ records) k r inside)
 
--- the items of the bus among the first functions
-pub record AreOnBusTo (roots : List ℕ) (s : System) (c : WindowKind) (t : Terms) (windows : List (Option Extent)) (bus k : ℕ) (items : List Item) : Type 0 where
-  pub all : (q : Request) (extent : Function → ExtentValue) → q.roots ≡ roots → AreBehind q s c extent bus t windows
-      → AreListedTo s c k items (flat_map (items_beside q s c extent bus) (take k s))
-  pub lawful : AreWindows windows → All HasExtent items
+-- the functions on the bus of one that is no root
+own_bus : (roots : List ℕ) (bus other : ℕ) → is_root roots bus ≡ false → are_siblings roots bus other ≡ true → bus ≡ other
+own_bus roots bus other none beside = elim (cases_Bool (bus == other)) [
+  | inl same ↦ eqb-true bus other same
+  | inr differ ↦
+      let apart : are_siblings roots bus other ≡ false = ap (λ b. b || (is_root roots bus && is_root roots other)) differ ∙ ap (λ b. b && is_root roots other) none in
+      absurd (both_ways (are_siblings roots bus other) apart beside)
+]
+
+-- a bus is beside itself
+pub itself_beside : (roots : List ℕ) (bus : ℕ) → are_siblings roots bus bus ≡ true
+itself_beside roots bus = or_left (bus == bus) (is_root roots bus && is_root roots bus) (eq-eqb bus bus refl)
+
+-- all roots are one bus, and other buses are not on it
+pub roots_beside : (roots : List ℕ) (bus other : ℕ) → is_root roots bus ≡ true → is_root roots other ≡ true → are_siblings roots bus other ≡ true
+roots_beside roots bus other root there = or_right (bus == other) (is_root roots bus && is_root roots other) (ap (λ b. b && is_root roots other) root ∙ there)
+
+pub roots_apart : (roots : List ℕ) (bus other : ℕ) → is_root roots bus ≡ true → is_root roots other ≡ false → are_siblings roots bus other ≡ false
+roots_apart roots bus other root none = elim (cases_Bool (bus == other)) [
+  | inl same ↦
+      let e = eqb-true bus other same in
+      absurd (both_ways (is_root roots other) none (ap (is_root roots) (sym e) ∙ root))
+  | inr differ ↦ ap (λ b. b || (is_root roots bus && is_root roots other)) differ ∙ ap (λ b. b && is_root roots other) root ∙ none
+]
+
+-- the record at a place is that of a function
+pub record_of_place : (s : System) (records : List Record) (has : HasRecords s (map record_value records)) (k : ℕ) (r : Record) (inside : k < length records) (is_at : r ≡ get_or records k r)
+    → IsRecordOf s (function_at s records has k r (slice_get-get_or records k r inside ∙ ap Some (sym is_at))).f r
+record_of_place s records has k r inside is_at = (function_at s records has k r (slice_get-get_or records k r inside ∙ ap Some (sym is_at))).is
+
+-- the slots of records
+pub slots_in : (s : System) → IsSystem s → (records : List Record) → HasRecords s (map record_value records) → All (λ r. IsSlot r.slot) records
+slots_in s system records has k d inside =
+    let found = function_at s records has k (get_or records k d) (slice_get-get_or records k d inside) in
+    subst IsSlot (sym (same_slot_of (get_or records k d) found.f found.is.value)) (slots_of s system found.f found.is.listed)
 
 -- a function is below those after it
 later_above : (s : System) → IsSystem s → (k j : ℕ) (f g : Function) → slice_get s k ≡ Some f → slice_get s j ≡ Some g → k < j → first_rank f + 256 ≤ first_rank g
@@ -104,8 +134,8 @@ more make s k f at =
     ∙ flat_map-append make (take k s) (f ∷ [])
     ∙ ap (λ xs. flat_map make (take k s) ++ xs) (append-nil (make f))
 
-module _ (roots : List ℕ) (s : System) (system : IsSystem s) (records : List Record) (has : HasRecords s (map record_value records)) (c : WindowKind) (t : Terms) (windows : List (Option Extent)) (bus : ℕ) where
-  pub bus_none : AreOnBusTo roots s c t windows bus 0 []
+module _ (roots : List ℕ) (s : System) (system : IsSystem s) (c : WindowKind) (t : Terms) (windows : List (Option Extent)) (bus : ℕ) where
+  bus_none : AreOnBusTo roots s c t windows bus 0 []
   bus_none = record {
     all = λ q extent same are. record {
       by_rank = record { same = IsPermutation-refl []; rising = pairs_nil HasLowerRank };
@@ -114,17 +144,154 @@ module _ (roots : List ℕ) (s : System) (system : IsSystem s) (records : List R
     lawful = λ windows_lawful. All-nil HasExtent;
   }
 
-  pub bus_all : (k : ℕ) (items : List Item) → length records ≤ k → AreOnBusTo roots s c t windows bus k items → AreOnBus roots s c t windows bus items
-  bus_all k items end are q extent same behind =
+  -- a function of another bus has none
+  skip_one : (k : ℕ) (f : Function) → slice_get s k ≡ Some f → are_siblings roots bus f.slot.bus ≡ false → (items : List Item)
+      → AreOnBusTo roots s c t windows bus k items → AreOnBusTo roots s c t windows bus (k + 1) items
+  skip_one k f at apart items before = record {
+    all = λ q extent same behind. (
+        let make = items_beside q s c extent bus in
+        let apart' : are_siblings q.roots bus f.slot.bus ≡ false = ap (λ xs. are_siblings xs bus f.slot.bus) same ∙ apart in
+        let none : make f ≡ [] = ap (λ b. cond b (items_of q s c nothing extent f) []) apart' in
+        let before_it = before.all q extent same behind in
+        record {
+          by_rank = subst (AreByRank (map (item_value s c) items))
+              (sym (more make s k f at ∙ ap (λ xs. flat_map make (take k s) ++ xs) none ∙ append-nil (flat_map make (take k s)))) before_it.by_rank;
+          below = λ j g up at_j i listed. before_it.below j g (omega (arith, up)) at_j i listed;
+        });
+    lawful = before.lawful;
+  }
+
+  -- and neither have more of them
+  skip_to : (n k : ℕ) (items : List Item) → k + n ≤ length s
+      → ((j : ℕ) (f : Function) → k ≤ j → j < k + n → slice_get s j ≡ Some f → are_siblings roots bus f.slot.bus ≡ false)
+      → AreOnBusTo roots s c t windows bus k items → AreOnBusTo roots s c t windows bus (k + n) items
+  skip_to zero k items within apart before = subst (λ m. AreOnBusTo roots s c t windows bus m items) (sym (add-zero k)) before
+  skip_to (suc n) k items within apart before =
+      let inside : k + n < length s = omega (arith, within) in
+      let at = slice_get-get_or s (k + n) no_function inside in
+      let next : k + n + 1 ≡ k + suc n = omega arith in
+      subst (λ m. AreOnBusTo roots s c t windows bus m items) next
+      (skip_one (k + n) (get_or s (k + n) no_function) at (apart (k + n) _ (omega arith) (omega arith) at) items
+      (skip_to n k items (omega (arith, within)) (λ j f up under at_j. apart j f up (omega (arith, under)) at_j) before))
+
+  -- all that stand below an address are all
+  below_all : (end : ℕ) (items : List Item) → ((f : Function) → Contains s f → are_siblings roots bus f.slot.bus ≡ true → f.slot.bus < end)
+      → AreBelow roots s c t windows bus end items → AreOnBusTo roots s c t windows bus (length s) items
+  below_all end items last below =
+      let within = below.within in
+      let sum : below.count + (length s - below.count) ≡ length s = omega (arith, within) in
+      subst (λ m. AreOnBusTo roots s c t windows bus m items) sum
+      (skip_to (length s - below.count) below.count items (omega (arith, within))
+      (λ j f up under at. elim (cases_Bool (are_siblings roots bus f.slot.bus)) [
+        | inl beside ↦
+            let listed : Contains s f = (j, slice_get_within s j f at, get_or_from_slice_get s j f f at) in
+            let low = last f listed beside in
+            let high = below.rest j f up at beside in
+            absurd (let no : ⊥ = omega (arith, low, high) in no)
+        | inr apart ↦ apart
+      ]) below.first)
+
+  pub below_roots : (items : List Item) → AreBelow roots s c t windows bus 256 items → AreOnBusTo roots s c t windows bus (length s) items
+  below_roots items below = below_all 256 items (λ f listed beside. (slots_of s system f listed).0) below
+
+  pub below_bus : (items : List Item) → is_root roots bus ≡ false → AreBelow roots s c t windows bus (bus + 1) items → AreOnBusTo roots s c t windows bus (length s) items
+  below_bus items other below = below_all (bus + 1) items (λ f listed beside. let same = own_bus roots bus f.slot.bus other beside in omega (arith, same)) below
+
+  pub all_on_bus : (items : List Item) → AreOnBusTo roots s c t windows bus (length s) items → AreOnBus roots s c t windows bus items
+  all_on_bus items are q extent same behind =
       subst (λ fs. AreByRank (map (item_value s c) items) (flat_map (items_beside q s c extent bus) fs))
-      (take_all k s (let e = same_count s records has in omega (arith, e, end))) (are.all q extent same behind).by_rank
+      (take_all (length s) s (omega arith)) (are.all q extent same behind).by_rank
+
+  -- ---- bus by bus
+
+  pub below_none : AreBelow roots s c t windows bus 0 []
+  below_none = record {
+    count = 0;
+    within = omega arith;
+    lower = λ k f under at. absurd (let no : ⊥ = omega (arith, under) in no);
+    rest = λ k f up at beside. omega arith;
+    first = bus_none;
+  }
+
+  -- nothing of a bus that is no root is on a lower one
+  pub below_own : is_root roots bus ≡ false → AreBelow roots s c t windows bus bus []
+  below_own other = record {
+    count = 0;
+    within = omega arith;
+    lower = λ k f under at. absurd (let no : ⊥ = omega (arith, under) in no);
+    rest = λ k f up at beside. (let same = own_bus roots bus f.slot.bus other beside in omega (arith, same));
+    first = bus_none;
+  }
+
+  pub below_skip : (end : ℕ) (items : List Item) → are_siblings roots bus end ≡ false → AreBelow roots s c t windows bus end items → AreBelow roots s c t windows bus (end + 1) items
+  below_skip end items apart below = record {
+    count = below.count;
+    within = below.within;
+    lower = λ k f under at. (let low = below.lower k f under at in omega (arith, low));
+    rest = λ k f up at beside. elim (cases_eq f.slot.bus end) [
+      | inl same ↦ absurd (both_ways (are_siblings roots bus end) apart (ap (are_siblings roots bus) (sym same) ∙ beside))
+      | inr differ ↦ (let high = below.rest k f up at beside in omega (arith, high, differ))
+    ];
+    first = below.first;
+  }
+
+module _ (roots : List ℕ) (s : System) (system : IsSystem s) (records : List Record) (has : HasRecords s (map record_value records)) (c : WindowKind) (t : Terms) (windows : List (Option Extent)) (bus : ℕ) where
+  -- the record of a function is on its bus
+  bus_at : (k : ℕ) (f : Function) → slice_get s k ≡ Some f → (r : Record) × (k < length records) × ((get_or records k r).slot.bus ≡ f.slot.bus)
+  bus_at k f at =
+      let count = same_count s records has in
+      let within = slice_get_within s k f at in
+      let inside : k < length records = omega (arith, count, within) in
+      let r = record_at records k inside in
+      let found = function_at s records has k r.0 r.1 in
+      let both : Some found.f ≡ Some f = sym found.at ∙ at in
+      let one : found.f ≡ f = cc in
+      (r.0, inside, ap (λ (x : Record). x.slot.bus) (get_or_from_slice_get records k r.0 r.0 r.1) ∙ ap (λ (x : Slot). x.bus) (same_slot_of r.0 found.f found.is.value) ∙ ap (λ (x : Function). x.slot.bus) one)
+
+  -- those below a bus are those of the functions before its first one
+  pub below_first : (end first : ℕ) (items : List Item) → first ≤ length records → AllWithin (λ r. r.slot.bus < end) records 0 first → AllWithin (λ r. end ≤ r.slot.bus) records first (length records)
+      → AreBelow roots s c t windows bus end items → AreOnBusTo roots s c t windows bus first items
+  below_first end first items bound before after below =
+      let count = same_count s records has in
+      let within = below.within in
+      let up : below.count ≤ first = elim (cases_lt first below.count) [
+        | inl less ↦
+            let at = slice_get-get_or s first no_function (omega (arith, less, within)) in
+            let low = below.lower first _ less at in
+            let here = bus_at first _ at in
+            let on = here.2 in
+            let high = after first here.0 (omega arith) here.1 in
+            absurd (let no : ⊥ = omega (arith, low, on, high) in no)
+        | inr le ↦ le
+      ] in
+      let sum : below.count + (first - below.count) ≡ first = omega (arith, up) in
+      subst (λ m. AreOnBusTo roots s c t windows bus m items) sum
+      (skip_to roots s system c t windows bus (first - below.count) below.count items (omega (arith, up, bound, count))
+      (λ j f from under at. elim (cases_Bool (are_siblings roots bus f.slot.bus)) [
+        | inl beside ↦
+            let high = below.rest j f from at beside in
+            let here = bus_at j f at in
+            let on = here.2 in
+            let low = before j here.0 (omega arith) (omega (arith, under, up)) in
+            absurd (let no : ⊥ = omega (arith, low, on, high) in no)
+        | inr apart ↦ apart
+      ]) below.first)
+
+  pub below_next : (next end : ℕ) (items : List Item) → end ≤ length records → AllWithin (λ r. r.slot.bus < next) records 0 end → AllWithin (λ r. next ≤ r.slot.bus) records end (length records)
+      → AreOnBusTo roots s c t windows bus end items → AreBelow roots s c t windows bus next items
+  below_next next end items bound before after are =
+      let count = same_count s records has in
+      record {
+        count = end;
+        within = omega (arith, bound, count);
+        lower = λ k f under at. (let here = bus_at k f at in let on = here.2 in let low = before k here.0 (omega arith) under in omega (arith, on, low));
+        rest = λ k f from at beside. (let here = bus_at k f at in let on = here.2 in let high = after k here.0 from here.1 in omega (arith, on, high));
+        first = are;
+      }
 
   module _ (k : ℕ) (r : Record) (inside : k < length records) (is_at : r ≡ get_or records k r) where
-    pub found : FunctionAt s r k
+    found : FunctionAt s r k
     found = function_at s records has k r (slice_get-get_or records k r inside ∙ ap Some (sym is_at))
-
-    pub is_of : IsRecordOf s found.f r
-    is_of = found.is
 
     same_bus : (other : ℕ) → other ≡ r.slot.bus → other ≡ found.f.slot.bus
     same_bus other on = on ∙ ap (λ (x : Slot). x.bus) (same_slot_of r found.f found.is.value)
@@ -184,24 +351,4 @@ module _ (roots : List ℕ) (s : System) (system : IsSystem s) (records : List R
           lawful = λ windows_lawful.
               subst (All HasExtent) (sym e) (All-append HasExtent old new (before.lawful windows_lawful)
               (record_lawful k c (get_or aboves other d) t window r (subst (λ o. IfSome o IsExtent) (sym is_window) (behind_lawful windows windows_lawful r.bridge))));
-        }
-
-    -- and one of another
-    pub bus_skip : (other : ℕ) → other ≡ r.slot.bus → are_siblings roots bus other ≡ false → (items next : List Item) → next ≡ items
-        → AreOnBusTo roots s c t windows bus k items → AreOnBusTo roots s c t windows bus (k + 1) next
-    bus_skip other on apart items next e before =
-        let f = found.f in
-        let at = same_bus other on in
-        subst (AreOnBusTo roots s c t windows bus (k + 1)) (sym e) record {
-          all = λ q extent same behind. (
-              let make = items_beside q s c extent bus in
-              let apart' : are_siblings q.roots bus f.slot.bus ≡ false = ap (λ xs. are_siblings xs bus f.slot.bus) same ∙ ap (are_siblings roots bus) (sym at) ∙ apart in
-              let none : make f ≡ [] = ap (λ b. cond b (items_of q s c nothing extent f) []) apart' in
-              let before_it = before.all q extent same behind in
-              record {
-                by_rank = subst (AreByRank (map (item_value s c) items))
-                    (sym (more make s k f found.at ∙ ap (λ xs. flat_map make (take k s) ++ xs) none ∙ append-nil (flat_map make (take k s)))) before_it.by_rank;
-                below = λ j g up at_j i listed. before_it.below j g (omega (arith, up)) at_j i listed;
-              });
-          lawful = before.lawful;
         }

@@ -1,11 +1,13 @@
 //! What is placed on a bus in a class where nothing stands.
-ghost use Rattle.std.specs.Prelude.{◌≡◌, IfOk, None};
-ghost use Rattle.std.specs.List.{All};
-ghost use Rattle.pci_spec.specs.Bus.{are_siblings};
+ghost use Rattle.std.specs.Prelude.{◌≡◌, ◌+◌, ◌<◌, ◌≤◌, ℕ, IfOk, OnOk, IsTrue, None, length};
+ghost use Rattle.std.specs.List.{All, AllWithin};
+ghost use Rattle.pci_spec.specs.Slot.{IsSlot};
+ghost use Rattle.pci_spec.specs.Bus.{is_root, are_siblings};
 ghost use Rattle.pci_tree.specs.Roots.{buses_of};
+ghost use Rattle.pci_tree.specs.Outline.{RiseBySlot};
 ghost use Rattle.pci_base.specs.WindowKinds.{kind_value};
 ghost use Rattle.pci_place.specs.Above.{AreAboves, system_in};
-ghost use Rattle.pci_settle.specs.Buses.{window_behind, AreWindows, AreOnBus, AreInTurn};
+ghost use Rattle.pci_settle.specs.Buses.{window_behind, AreWindows, AreBelow, AreOnBus, AreInTurn};
 ghost use Rattle.pci_settle.specs.Turns.{HasExtent};
 
 use crate::extent::Extent;
@@ -15,17 +17,20 @@ use crate::own::{Terms, add_items};
 use pci_base::memory::OutOfMemory;
 use pci_base::slot::BUSES;
 use pci_base::window_kind::WindowKind;
-use pci_function::record::Bridge;
+use pci_function::record::{Bridge, Record};
 use pci_place::above::Above;
 use pci_tree::admitted::Admitted;
-use pci_tree::roots::Roots;
 use std::alloc::Allocator;
 
-/// Whether two buses are the same, or both are roots: the items of all roots are placed as those of one bus.
-fn are_siblings(roots: &Roots, bus: u8, other: u8) -> bool
-    ensures { result ≡ are_siblings (buses_of roots.now) bus other }
+/// The index of the first record on this bus or a higher one.
+fn first_from(records: &[Record], bus: u16) -> usize
+    requires rising { RiseBySlot records.now }
+    requires slots { All (λ r. IsSlot r.slot) records.now }
+    ensures bound { result ≤ length records.now }
+    ensures before { AllWithin (λ r. r.slot.bus < bus) records.now 0 result }
+    ensures after { AllWithin (λ r. bus ≤ r.slot.bus) records.now result (length records.now) }
 {
-    bus == other || (is_root(roots, bus) && is_root(roots, other))
+    records.partition_point(|function| u16::from(function.slot.bus()) < bus)
 }
 
 /// The new window of a bridge, by the bus behind it.
@@ -38,8 +43,64 @@ fn window_behind(windows: &[Option<Extent>; BUSES], bridge: Option<Bridge>) -> O
     }
 }
 
+/// Adds the items of the functions on one bus, which stand in a row.
+fn add_bus<A: Allocator, B: Allocator>(
+    items: &mut Vec<Item, A>,
+    admitted: &Admitted<B>,
+    bus: u8,
+    class: WindowKind,
+    aboves: &[Above; BUSES],
+    terms: Terms,
+    windows: &[Option<Extent>; BUSES],
+) -> Result<(), OutOfMemory>
+    requires { AreAboves (system_in admitted.now) aboves.now }
+    // of the items of a bus, one of which this is, those on lower buses were there
+    ensures { OnOk result ((on : ℕ) → IsTrue (are_siblings admitted.now.roots on bus)
+        → AreBelow admitted.now.roots (system_in admitted.now) (kind_value class) terms windows.now
+        on bus items.old.items
+        → AreBelow admitted.now.roots (system_in admitted.now) (kind_value class) terms windows.now
+        on (bus + 1) items.new.items) }
+{
+    let records = admitted.outline().records();
+    let above = aboves[bus as usize];
+    let first = first_from(records, bus as u16);
+    let end = first_from(records, bus as u16 + 1);
+    for function in first..end {
+        let record = &records[function];
+        let window = window_behind(windows, record.bridge);
+        add_items(items, function, record, class, above, terms, window)?;
+    }
+    Ok(())
+}
+
+/// Adds the items of the functions on all roots.
+fn add_roots<A: Allocator, B: Allocator>(
+    items: &mut Vec<Item, A>,
+    admitted: &Admitted<B>,
+    class: WindowKind,
+    aboves: &[Above; BUSES],
+    terms: Terms,
+    windows: &[Option<Extent>; BUSES],
+) -> Result<(), OutOfMemory>
+    requires { AreAboves (system_in admitted.now) aboves.now }
+    ensures { OnOk result ((on : ℕ) → IsTrue (is_root admitted.now.roots on)
+        → AreBelow admitted.now.roots (system_in admitted.now) (kind_value class) terms windows.now
+        on 0 items.old.items
+        → AreBelow admitted.now.roots (system_in admitted.now) (kind_value class) terms windows.now
+        on 256 items.new.items) }
+{
+    let roots = admitted.outline().roots();
+    for bus in 0..BUSES {
+        let bus = bus as u8;
+        if is_root(&roots, bus) {
+            add_bus(items, admitted, bus, class, aboves, terms, windows)?;
+        }
+    }
+    Ok(())
+}
+
 /// The items of a bus in a class, in slot and register order, where nothing stands: `windows` has the new window over
-/// each bus behind a bridge, None where nothing of the class is behind.
+/// each bus behind a bridge, None where nothing of the class is behind. All roots are one bus.
 pub fn items_on<A: Allocator, B: Allocator>(
     alloc: A,
     admitted: &Admitted<B>,
@@ -55,23 +116,11 @@ pub fn items_on<A: Allocator, B: Allocator>(
     // a window around them is laid out from what has addresses and alignments
     ensures lawful { AreWindows windows.now → IfOk result (λ items. All HasExtent items.items) }
 {
-    let outline = admitted.outline();
-    let roots = outline.roots();
     let mut items = Vec::new(alloc);
-    for (function, record) in outline.records().iter().enumerate() {
-        let other = record.slot.bus();
-        if are_siblings(&roots, bus, other) {
-            let window = window_behind(windows, record.bridge);
-            add_items(
-                &mut items,
-                function,
-                record,
-                class,
-                aboves[other as usize],
-                terms,
-                window,
-            )?;
-        }
+    if is_root(&admitted.outline().roots(), bus) {
+        add_roots(&mut items, admitted, class, aboves, terms, windows)?;
+    } else {
+        add_bus(&mut items, admitted, bus, class, aboves, terms, windows)?;
     }
     Ok(items)
 }

@@ -1,0 +1,77 @@
+use Rattle.std.proofs.Common.{◌≡◌, ◌+◌, ◌<◌, ◌≤◌, map, refl, arith, sym, subst}
+use Rattle.pci_spec.specs.Decoded.{HasRecords}
+use Rattle.pci_base.specs.WindowKinds.{kind_value}
+use Rattle.pci_function.specs.Values.{record_value}
+use Rattle.pci_tree.proofs.BusParts.{begins_before}
+use Rattle.pci_place.specs.Above.{system_in}
+use Rattle.pci_settle.specs.Buses.{AreOnBusTo}
+use Rattle.pci_settle.proofs.Sized.{bars_sized, rom_sized}
+use Rattle.pci_settle.proofs.OnBus.{slots_in, record_of_place, below_first, below_next, bus_step}
+use Rattle.pci_settle.proofs.bus.add_bus.Goals as goal
+
+pub first_from-first-requires-clause-slots : goal.first_from-first-requires-clause-slots
+first_from-first-requires-clause-slots g c =
+    let s = system_in c.args.admitted.now in
+    let records = c.records-records.result.now in
+    let has : HasRecords s (map record_value records) = subst (λ rs. HasRecords s rs) (sym c.records-records.ensures.value) c.outline.ensures.records in
+    slots_in s c.outline.ensures.admitted.system records has
+
+pub first_from-end-requires-clause-slots : goal.first_from-end-requires-clause-slots
+first_from-end-requires-clause-slots g c =
+    let s = system_in c.args.admitted.now in
+    let records = c.records-records.result.now in
+    let has : HasRecords s (map record_value records) = subst (λ rs. HasRecords s rs) (sym c.records-records.ensures.value) c.outline.ensures.records in
+    slots_in s c.outline.ensures.admitted.system records has
+
+pub loop-function-init : goal.loop-function-init
+loop-function-init g c = λ on beside below.
+    let s = system_in c.args.admitted.now in
+    let records = c.records-records.result.now in
+    let has : HasRecords s (map record_value records) = subst (λ rs. HasRecords s rs) (sym c.records-records.ensures.value) c.outline.ensures.records in
+    let first = c.first_from-first.ensures in
+    below_first c.args.admitted.now.roots s c.outline.ensures.admitted.system records has (kind_value c.args.class) c.args.terms c.args.windows.now on c.args.bus c.first_from-first.result _
+    first.bound first.before first.after below
+
+pub add_items-requires-clause-bars : goal.add_items-requires-clause-bars
+add_items-requires-clause-bars g c =
+    let s = system_in c.args.admitted.now in
+    let records = c.records-records.result.now in
+    let has : HasRecords s (map record_value records) = subst (λ rs. HasRecords s rs) (sym c.records-records.ensures.value) c.outline.ensures.records in
+    let r = c.index-records-function.result in
+    let end = c.first_from-end.ensures.bound in
+    bars_sized s _ r (record_of_place s records has c.loop-function.function r (omega (arith, end)) c.index-records-function.is)
+
+pub add_items-requires-clause-rom : goal.add_items-requires-clause-rom
+add_items-requires-clause-rom g c =
+    let s = system_in c.args.admitted.now in
+    let records = c.records-records.result.now in
+    let has : HasRecords s (map record_value records) = subst (λ rs. HasRecords s rs) (sym c.records-records.ensures.value) c.outline.ensures.records in
+    let r = c.index-records-function.result in
+    let end = c.first_from-end.ensures.bound in
+    rom_sized s _ r (record_of_place s records has c.loop-function.function r (omega (arith, end)) c.index-records-function.is)
+
+pub loop-function-preserved : goal.loop-function-preserved
+loop-function-preserved g c = λ on beside below.
+    let s = system_in c.args.admitted.now in
+    let records = c.records-records.result.now in
+    let has : HasRecords s (map record_value records) = subst (λ rs. HasRecords s rs) (sym c.records-records.ensures.value) c.outline.ensures.records in
+    let r = c.index-records-function.result in
+    let k = c.loop-function.function in
+    let end = c.first_from-end.ensures.bound in
+    let low : c.args.bus ≤ r.slot.bus = subst (λ x. c.args.bus ≤ x.slot.bus) (sym c.index-records-function.is) (c.first_from-first.ensures.after k r (omega arith) (omega (arith, end))) in
+    let high : r.slot.bus < c.args.bus + 1 = subst (λ x. x.slot.bus < c.args.bus + 1) (sym c.index-records-function.is) (c.first_from-end.ensures.before k r (omega arith) (omega arith)) in
+    bus_step c.args.admitted.now.roots s c.outline.ensures.admitted.system records has (kind_value c.args.class) c.args.terms c.args.windows.now on k r (omega (arith, end)) c.index-records-function.is
+    c.args.aboves.now c.requires c.args.bus (omega (arith, low, high)) _ c.window_behind-window.result c.window_behind-window.ensures
+    beside c.loop-function.items.items c.add_items.new.items.items c.in_ok-add_items.ensures.items (c.loop-function.invariant on beside below)
+
+pub returns : goal.returns
+returns g c = λ on beside below.
+    let s = system_in c.args.admitted.now in
+    let records = c.records-records.result.now in
+    let has : HasRecords s (map record_value records) = subst (λ rs. HasRecords s rs) (sym c.records-records.ensures.value) c.outline.ensures.records in
+    let first = c.first_from-first.ensures in
+    let end = c.first_from-end.ensures in
+    let up = begins_before records c.args.bus _ c.first_from-first.result c.first_from-end.result refl first.bound first.before end.after in
+    let done : c.loop-function.function ≡ c.first_from-end.result = omega (arith, up) in
+    below_next c.args.admitted.now.roots s c.outline.ensures.admitted.system records has (kind_value c.args.class) c.args.terms c.args.windows.now on _ c.first_from-end.result _
+    end.bound end.before end.after (subst (λ n. AreOnBusTo c.args.admitted.now.roots s (kind_value c.args.class) c.args.terms c.args.windows.now on n c.loop-function.items.items) done (c.loop-function.invariant on beside below))
