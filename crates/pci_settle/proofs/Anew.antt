@@ -1,16 +1,18 @@
 -- Where all is placed anew, nothing stays.
-use Rattle.std.proofs.Common.{◌≡◌, ◌&&◌, ℕ, zero, suc, not, false, length, ap, sym, refl}
+use Rattle.std.proofs.Common.{◌≡◌, ◌&&◌, ◌||◌, ℕ, zero, suc, [], None, cond, not, false, length, ap, sym, ◌∙◌, refl}
 use Rattle.std.specs.Bool.{IsTrue}
 use Rattle.std.specs.List.{list_all}
-use Rattle.std.proofs.Math.Path.{fun_ext}
-use Rattle.pci_spec.specs.Window.{WindowKind}
-use Rattle.pci_spec.specs.System.{System, Function}
+use Rattle.pci_spec.specs.Window.{WindowKind, MemoryWindow, PrefetchWindow}
+use Rattle.pci_spec.specs.System.{System}
+use Rattle.pci_spec.specs.Bus.{is_root}
 use Rattle.plan_spec.specs.Plan.{bridges_above}
-use Rattle.settle_spec.specs.FirstPlace.{Extent}
 use Rattle.settle_spec.specs.Lists.{Request}
-use Rattle.settle_spec.specs.Parts.{Region, regions, is_part, class_in}
+use Rattle.settle_spec.specs.Parts.{Region, regions, is_part, bridge_over, class_in}
 use Rattle.settle_spec.specs.Stands.{window_region, takes_from, is_in_place, stands_within}
-use Rattle.settle_spec.specs.Items.{nothing, items_on, has_room, holds, holds_within, stays}
+use Rattle.settle_spec.specs.Items.{has_room, holds, holds_within, stays}
+use Rattle.pci_settle.specs.Kept.{AreKept}
+use Rattle.pci_settle.specs.Over.{open_range, class_window, AreOpenOver}
+use Rattle.pci_settle.proofs.Tables.{none_noted}
 
 module _ (q : Request) (s : System) (anew : IsTrue q.anew) where
   none_stands : (others : ℕ) (r : Region) → stands_within q s others r ≡ false
@@ -27,7 +29,12 @@ module _ (q : Request) (s : System) (anew : IsTrue q.anew) where
   pub none_stays : (r : Region) → false ≡ stays q s r
   none_stays r = sym (ap (λ b. b && list_all (λ f. holds q s (window_region (class_in q s r.function r.part) f)) (bridges_above s r.function.slot.bus)) (none_holds 256 r))
 
-  pub items_anew : (c : WindowKind) (extent : Function → Extent) (bus : ℕ) → items_on q s c nothing extent bus ≡ items_on q s c (stays q s) extent bus
-  items_anew c extent bus =
-      let same : nothing ≡ stays q s = fun_ext none_stays in
-      ap (λ keeps. items_on q s c keeps extent bus) same
+  -- no table of windows or of what is kept is needed
+  window_none : (kind : WindowKind) (bus : ℕ) → class_window q s kind bus ≡ None
+  window_none kind bus = ap (λ b. cond (b || is_root q.roots bus) None (open_range kind (bridge_over s bus))) anew
+
+  pub over_anew : AreOpenOver q s []
+  over_anew f listed = record { memory = sym (window_none MemoryWindow f.slot.bus); prefetch = sym (window_none PrefetchWindow f.slot.bus) }
+
+  pub kept_anew : AreKept s (stays q s) []
+  kept_anew k f part at there = none_noted part ∙ none_stays (record { function = f; part = part })

@@ -10,6 +10,8 @@ pub mod Around
 pub mod Turns
 pub mod ItemExtents
 pub mod Walks
+pub mod Headers
+pub mod Tables
 pub mod OwnItems
 pub mod Ranks
 pub mod Sized

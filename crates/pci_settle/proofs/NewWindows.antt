@@ -34,12 +34,13 @@ use Rattle.pci_place.specs.Items.{function_in, no_function}
 use Rattle.pci_place.specs.Records.{IsRecordOf}
 use Rattle.pci_place.proofs.Records.{FunctionAt, same_count, function_at}
 use Rattle.pci_settle.specs.declared.extent.Extent.{Extent}
+use Rattle.pci_settle.specs.declared.over.OpenWindows.{OpenWindows}
 use Rattle.pci_settle.specs.declared.own.Terms.{Terms}
 use Rattle.pci_settle.specs.Spots.{extent_value, IsExtent}
 use Rattle.pci_settle.specs.Placings.{item_extent}
 use Rattle.pci_settle.specs.Own.{IsWindowOf}
 use Rattle.pci_settle.specs.Buses.{AreWindows, AreBehind}
-use Rattle.pci_settle.specs.NewWindows.{around_bus, IsEntry, IsPut, IsAnew, window_in, AreNewWindows}
+use Rattle.pci_settle.specs.NewWindows.{around_bus, IsEntry, IsPut, IsLeft, window_in, AreNewWindows}
 
 -- ---- upper halves
 
@@ -61,9 +62,9 @@ wide_window image probe = elim (cases_Bool (has_window PrefetchWindow probe)) [
 -- ---- the table
 
 -- the table has the windows of the functions from place k on, and nothing where no bridge leads
-pub record AreWindowsFrom (roots : List ℕ) (s : System) (c : WindowKind) (t : Terms) (k : ℕ) (windows : List (Option Extent)) : Type 0 where
+pub record AreWindowsFrom (roots : List ℕ) (s : System) (c : WindowKind) (t : Terms) (overs : List OpenWindows) (k : ℕ) (windows : List (Option Extent)) : Type 0 where
   pub size : length windows ≡ 256
-  pub each : (q : Request) → IsAnew q roots t → (j : ℕ) (g : Function) → k ≤ j → slice_get s j ≡ Some g → is_bridge g ≡ true
+  pub each : (q : Request) → IsLeft roots s t overs q → (j : ℕ) (g : Function) → k ≤ j → slice_get s j ≡ Some g → is_bridge g ≡ true
       → IsWindowOf (has_of q s c g) (new_window q s c g) (get_or windows (secondary g) None)
   pub none : (bus : ℕ) → bridge_over s bus ≡ None → get_or windows bus None ≡ None
   pub lawful : AreWindows windows
@@ -102,21 +103,21 @@ comes_later s system k j f g at_k at_j up = elim (cases_lt k j) [
   ]
 ]
 
-module _ (roots : List ℕ) (s : System) (system : IsSystem s) (nested : IsNested roots s) (c : WindowKind) (t : Terms) where
-  pub windows_none : (k : ℕ) → length s ≤ k → AreWindowsFrom roots s c t k (replicate 256 None)
+module _ (roots : List ℕ) (s : System) (system : IsSystem s) (nested : IsNested roots s) (c : WindowKind) (t : Terms) (overs : List OpenWindows) where
+  pub windows_none : (k : ℕ) → length s ≤ k → AreWindowsFrom roots s c t overs k (replicate 256 None)
   windows_none k past = record {
     size = refl;
-    each = λ q anew j g up at bridge. (let within = slice_get_within s j g at in absurd (let no : ⊥ = omega (arith, past, up, within) in no));
+    each = λ q left j g up at bridge. (let within = slice_get_within s j g at in absurd (let no : ⊥ = omega (arith, past, up, within) in no));
     none = λ bus over. empty_at bus;
     lawful = All-replicate (λ o. IfSome o IsExtent) 256 None tt;
   }
 
-  nested_for : (q : Request) → IsAnew q roots t → IsNested q.roots s
-  nested_for q anew = subst (λ xs. IsNested xs s) (sym anew.rooted) nested
+  nested_for : (q : Request) → IsLeft roots s t overs q → IsNested q.roots s
+  nested_for q left = subst (λ xs. IsNested xs s) (sym left.rooted) nested
 
   -- ---- the next function
 
-  module _ (k : ℕ) (f : Function) (r : Record) (at : slice_get s k ≡ Some f) (is : IsRecordOf s f r) (old : List (Option Extent)) (was : AreWindowsFrom roots s c t (k + 1) old) where
+  module _ (k : ℕ) (f : Function) (r : Record) (at : slice_get s k ≡ Some f) (is : IsRecordOf s f r) (old : List (Option Extent)) (was : AreWindowsFrom roots s c t overs (k + 1) old) where
     -- what isn't it comes later
     later_of : (j : ℕ) (g : Function) → k ≤ j → slice_get s j ≡ Some g → (g ≡ f → ⊥) → k + 1 ≤ j
     later_of j g up at_j other = elim (cases_eq j k) [
@@ -125,11 +126,11 @@ module _ (roots : List ℕ) (s : System) (system : IsSystem s) (nested : IsNeste
     ]
 
     -- one that is no bridge has no window
-    pub windows_same : r.bridge ≡ None → AreWindowsFrom roots s c t k old
+    pub windows_same : r.bridge ≡ None → AreWindowsFrom roots s c t overs k old
     windows_same none = record {
       size = was.size;
-      each = λ q anew j g up at_j bridge.
-          was.each q anew j g
+      each = λ q left j g up at_j bridge.
+          was.each q left j g
           (later_of j g up at_j (λ here. both_ways (is_bridge f) (sym (same_bridge r f is.value) ∙ ap is_some none) (ap is_bridge (sym here) ∙ bridge))) at_j bridge;
       none = was.none;
       lawful = was.lawful;
@@ -146,18 +147,17 @@ module _ (roots : List ℕ) (s : System) (system : IsSystem s) (nested : IsNeste
       secondary_small = let small = (All-contains IsFunction s f system.each is.listed).image.bytes 0x19 in let to = leads_to in omega (arith, to, small)
 
       -- the windows on the bus behind it are in the table
-      are_behind : (q : Request) → IsAnew q roots t → AreBehind q s c (new_window q s c) b.secondary t old
-      are_behind q anew =
+      are_behind : (q : Request) → IsLeft roots s t overs q → AreBehind q s c (new_window q s c) b.secondary t old
+      are_behind q left =
           subst (λ bus. AreBehind q s c (new_window q s c) bus t old) (sym leads_to) record {
-            anew = anew.anew;
-            terms = anew.terms;
+            terms = left.terms;
             each = λ g listed beside bridge. (
                 let j = listed.0 in
                 let at_j : slice_get s j ≡ Some g = at_place s g listed in
-                let on = on_it q.roots s system (nested_for q anew) f g.slot.bus is.listed is_one beside in
+                let on = on_it q.roots s system (nested_for q left) f g.slot.bus is.listed is_one beside in
                 let order = order_of roots s nested f is.listed is_one in
                 let later = comes_later s system k j f g at at_j (omega (arith, on, order)) in
-                was.each q anew j g (omega (arith, later)) at_j bridge);
+                was.each q left j g (omega (arith, later)) at_j bridge);
           }
 
       around_is : (q : Request) (e : Function → ExtentValue) → around_bus q s c e b ≡ extent_around (page_size c) (same_class c PrefetchWindow && is_wide_window PrefetchWindow f.probe) (map item_extent (items_on q s c nothing e (secondary f)))
@@ -166,23 +166,23 @@ module _ (roots : List ℕ) (s : System) (system : IsSystem s) (nested : IsNeste
           ∙ ap (λ w. extent_around (page_size c) (same_class c PrefetchWindow && w) (map item_extent (items_on q s c nothing e (secondary f))))
           (ap (λ (x : decoded.Bridge). is_wide_in x.windows.prefetch) (same_bridge_of r f b is.value there) ∙ wide_window f.image f.probe)
 
-      new_is : (q : Request) → IsAnew q roots t → around_bus q s c (new_window q s c) b ≡ new_window q s c f
-      new_is q anew = around_is q (new_window q s c) ∙ sym (window_is_around q s c system (nested_for q anew) f is.listed is_one)
+      new_is : (q : Request) → IsLeft roots s t overs q → around_bus q s c (new_window q s c) b ≡ new_window q s c f
+      new_is q left = around_is q (new_window q s c) ∙ sym (window_is_around q s c system (nested_for q left) f is.listed is_one)
 
       abbrev behind : Request → List ItemValue
       behind q = items_on q s c nothing (new_window q s c) b.secondary
 
-      has_is : (q : Request) → IsAnew q roots t → has_of q s c f ≡ nat_lt 0 (length (behind q))
-      has_is q anew =
-          items_are_behind q s c (new_window q s c) system (nested_for q anew) f is.listed is_one
+      has_is : (q : Request) → IsLeft roots s t overs q → has_of q s c f ≡ nat_lt 0 (length (behind q))
+      has_is q left =
+          items_are_behind q s c (new_window q s c) system (nested_for q left) f is.listed is_one
           ∙ ap (λ n. nat_lt 0 (length (items_on q s c nothing (new_window q s c) n))) (sym leads_to)
 
-      entry_for : (q : Request) → IsAnew q roots t → (entry : Option Extent) → IsEntry (behind q) (around_bus q s c (new_window q s c) b) entry → IsWindowOf (has_of q s c f) (new_window q s c f) entry
-      entry_for q anew None empty = has_is q anew ∙ le-ltb 0 (length (behind q)) (omega (arith, empty))
-      entry_for q anew (Some x) (some, same) = (has_is q anew ∙ lt-ltb 0 (length (behind q)) some, same ∙ new_is q anew)
+      entry_for : (q : Request) → IsLeft roots s t overs q → (entry : Option Extent) → IsEntry (behind q) (around_bus q s c (new_window q s c) b) entry → IsWindowOf (has_of q s c f) (new_window q s c f) entry
+      entry_for q left None empty = has_is q left ∙ le-ltb 0 (length (behind q)) (omega (arith, empty))
+      entry_for q left (Some x) (some, same) = (has_is q left ∙ lt-ltb 0 (length (behind q)) some, same ∙ new_is q left)
 
       -- its window is put into the table
-      pub windows_more : (new : List (Option Extent)) → IsPut roots s c t b old new true → AreWindows new → AreWindowsFrom roots s c t k new
+      pub windows_more : (new : List (Option Extent)) → IsPut roots s c t overs b old new true → AreWindows new → AreWindowsFrom roots s c t overs k new
       windows_more new is_put lawful =
           let size = was.size in
           let small = secondary_small in
@@ -192,85 +192,86 @@ module _ (roots : List ℕ) (s : System) (system : IsSystem s) (nested : IsNeste
           ap (λ xs. get_or xs bus None) put ∙ get_or-set_other old (secondary f) bus is_put.entry None differ in
           record {
             size = ap length put ∙ length-set old (secondary f) is_put.entry ∙ was.size;
-            each = λ q anew j g up at_j bridge. elim (cases_eq (secondary g) (secondary f)) [
+            each = λ q left j g up at_j bridge. elim (cases_eq (secondary g) (secondary f)) [
               | inl same ↦
                   let listed : Contains s g = (j, slice_get_within s j g at_j, get_or_from_slice_get s j g g at_j) in
                   let one : g ≡ f = one_bridge roots s system nested g f listed is.listed bridge is_one same in
-                  let entry = entry_for q anew is_put.entry (is_put.is q (new_window q s c) anew.rooted (are_behind q anew)) in
+                  let entry = entry_for q left is_put.entry (is_put.is q (new_window q s c) left.rooted left.overs_are (are_behind q left)) in
                   subst (λ (x : Function). IsWindowOf (has_of q s c x) (new_window q s c x) (get_or new (secondary x) None)) (sym one)
                   (subst (IsWindowOf (has_of q s c f) (new_window q s c f)) (sym here) entry)
               | inr differ ↦
                   subst (IsWindowOf (has_of q s c g) (new_window q s c g)) (sym (other (secondary g) differ))
-                  (was.each q anew j g (later_of j g up at_j (λ same. differ (ap secondary same))) at_j bridge)
+                  (was.each q left j g (later_of j g up at_j (λ same. differ (ap secondary same))) at_j bridge)
             ];
             none = λ bus over. other bus (λ same. none_leads s bus over f (is.listed, is_one, sym same)) ∙ was.none bus over;
             lawful = lawful;
           }
 
       -- it is too large
-      pub too_large : (new : List (Option Extent)) → IsPut roots s c t b old new false → AreNewWindows roots s c t new (Some k)
-      too_large new is_put q anew =
-          let large = is_put.1 q (new_window q s c) anew.rooted (are_behind q anew) in
+      pub too_large : (new : List (Option Extent)) → IsPut roots s c t overs b old new false → AreNewWindows roots s c t overs new (Some k)
+      too_large new is_put q left =
+          let large = is_put.1 q (new_window q s c) left.rooted left.overs_are (are_behind q left) in
           let some = large.some in
           let here : f ≡ function_in s k = sym (get_or_from_slice_get s k f no_function at) in
-          let has : has_of q s c f ≡ true = has_is q anew ∙ lt-ltb 0 (length (behind q)) some in
-          let size : 2 ^ 64 ≤ (new_window q s c f).size = subst (λ (e : ExtentValue). 2 ^ 64 ≤ e.size) (new_is q anew) large.large in
+          let has : has_of q s c f ≡ true = has_is q left ∙ lt-ltb 0 (length (behind q)) some in
+          let size : 2 ^ 64 ≤ (new_window q s c f).size = subst (λ (e : ExtentValue). 2 ^ 64 ≤ e.size) (new_is q left) large.large in
           record {
-            within = slice_get_within s k f at;
-            bridge = subst (λ x. is_bridge x ≡ true) here is_one;
-            behind = subst (λ x. has_of q s c x ≡ true) here has;
-            large = subst (λ x. 2 ^ 64 ≤ (new_window q s c x).size) here size;
+            too_large = record {
+              within = slice_get_within s k f at;
+              bridge = subst (λ x. is_bridge x ≡ true) here is_one;
+              behind = subst (λ x. has_of q s c x ≡ true) here has;
+              large = subst (λ x. 2 ^ 64 ≤ (new_window q s c x).size) here size;
+            };
             above = λ j up within bridge.
                 subst (λ xs. IsWindowOf (has_of q s c (function_in s j)) (new_window q s c (function_in s j)) (get_or xs (secondary (function_in s j)) None)) (sym is_put.0)
-                (was.each q anew j (function_in s j) (omega (arith, up)) (slice_get-get_or s j no_function within) bridge);
+                (was.each q left j (function_in s j) (omega (arith, up)) (slice_get-get_or s j no_function within) bridge);
           }
 
   -- ---- the records, from the last to the first
 
   module _ (records : List Record) (has : HasRecords s (map record_value records)) (done : ℕ) (r : Record) (less : done < length records) (read : r ≡ get_or records (length records - 1 - done) r)
-      (old : List (Option Extent)) (was : AreWindowsFrom roots s c t (length s - done) old) where
+      (old : List (Option Extent)) (was : AreWindowsFrom roots s c t overs (length s - done) old) where
     abbrev place : ℕ
     place = length records - 1 - done
 
     here : FunctionAt s r place
     here = function_at s records has place r (slice_get_read records (length records) place r refl (omega (arith, less)) read)
 
-    before : AreWindowsFrom roots s c t (place + 1) old
+    before : AreWindowsFrom roots s c t overs (place + 1) old
     before =
         let count = same_count s records has in
         let from : length s - done ≡ place + 1 = omega (arith, count, less) in
-        subst (λ n. AreWindowsFrom roots s c t n old) from was
+        subst (λ n. AreWindowsFrom roots s c t overs n old) from was
 
     next : place ≡ length s - (done + 1)
     next = let count = same_count s records has in omega (arith, count, less)
 
-    pub step_same : r.bridge ≡ None → AreWindowsFrom roots s c t (length s - (done + 1)) old
-    step_same none = subst (λ n. AreWindowsFrom roots s c t n old) next (windows_same place here.f r here.at here.is old before none)
+    pub step_same : r.bridge ≡ None → AreWindowsFrom roots s c t overs (length s - (done + 1)) old
+    step_same none = subst (λ n. AreWindowsFrom roots s c t overs n old) next (windows_same place here.f r here.at here.is old before none)
 
-    pub step_put : (b : Bridge) → r.bridge ≡ Some b → (new : List (Option Extent)) → IsPut roots s c t b old new true → AreWindows new → AreWindowsFrom roots s c t (length s - (done + 1)) new
-    step_put b there new put lawful = subst (λ n. AreWindowsFrom roots s c t n new) next (windows_more place here.f r here.at here.is old before b there new put lawful)
+    pub step_put : (b : Bridge) → r.bridge ≡ Some b → (new : List (Option Extent)) → IsPut roots s c t overs b old new true → AreWindows new → AreWindowsFrom roots s c t overs (length s - (done + 1)) new
+    step_put b there new put lawful = subst (λ n. AreWindowsFrom roots s c t overs n new) next (windows_more place here.f r here.at here.is old before b there new put lawful)
 
-    pub step_large : (b : Bridge) → r.bridge ≡ Some b → (new : List (Option Extent)) → IsPut roots s c t b old new false → AreNewWindows roots s c t new (Some place)
+    pub step_large : (b : Bridge) → r.bridge ≡ Some b → (new : List (Option Extent)) → IsPut roots s c t overs b old new false → AreNewWindows roots s c t overs new (Some place)
     step_large b there new put = too_large place here.f r here.at here.is old before b there new put
 
   -- ---- all functions
 
-  over_bus : (windows : List (Option Extent)) → AreWindowsFrom roots s c t 0 windows → (q : Request) → IsAnew q roots t → (bus : ℕ) → window_in windows bus ≡ window_to q s c bus
-  over_bus windows was q anew bus = by (bridge_over s bus) refl
+  over_bus : (windows : List (Option Extent)) → AreWindowsFrom roots s c t overs 0 windows → (q : Request) → IsLeft roots s t overs q → (bus : ℕ) → window_in windows bus ≡ window_to q s c bus
+  over_bus windows was q left bus = by (bridge_over s bus) refl
     where
       by : (o : Option Function) → bridge_over s bus ≡ o → window_in windows bus ≡ window_to q s c bus
       by None over = ap (option_map extent_value) (was.none bus over) ∙ sym (ap (window_over q s c) over)
       by (Some f) over =
           let leads = over_leads s bus f over in
-          let own = was.each q anew leads.0.0 f (omega arith) (at_place s f leads.0) leads.1 in
+          let own = was.each q left leads.0.0 f (omega arith) (at_place s f leads.0) leads.1 in
           ap (window_in windows) (sym leads.2) ∙ entry_is (has_of q s c f) (new_window q s c f) (get_or windows (secondary f) None) own ∙ sym (ap (window_over q s c) over)
 
-  pub whole_windows : (windows : List (Option Extent)) → AreWindowsFrom roots s c t 0 windows → AreNewWindows roots s c t windows None
-  whole_windows windows was q anew = record {
-    over = λ bus small. over_bus windows was q anew bus;
+  pub whole_windows : (windows : List (Option Extent)) → AreWindowsFrom roots s c t overs 0 windows → AreNewWindows roots s c t overs windows None
+  whole_windows windows was q left = record {
+    over = λ bus small. over_bus windows was q left bus;
     behind = λ bus. record {
-      anew = anew.anew;
-      terms = anew.terms;
-      each = λ f listed beside bridge. was.each q anew listed.0 f (omega arith) (at_place s f listed) bridge;
+      terms = left.terms;
+      each = λ f listed beside bridge. was.each q left listed.0 f (omega arith) (at_place s f listed) bridge;
     };
   }

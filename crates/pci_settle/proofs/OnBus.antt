@@ -1,5 +1,5 @@
 -- The items of a bus, record by record.
-use Rattle.std.proofs.Common.{◌≡◌, ℕ, zero, suc, ◌+◌, ◌-◌, ◌<◌, ◌≤◌, inl, inr, List, [], ◌∷◌, ◌++◌, map, length, take, get_or, refl, Bool, true, false, cond, ◌&&◌, ◌||◌, add-zero, arith, sym, ◌∙◌, ap, subst, Option, Some, None}
+use Rattle.std.proofs.Common.{◌≡◌, ℕ, zero, suc, ◌+◌, ◌-◌, ◌<◌, ◌≤◌, inl, inr, List, [], ◌∷◌, ◌++◌, map, length, take, get_or, refl, Bool, true, false, cond, ◌&&◌, ◌||◌, not, add-zero, arith, sym, ◌∙◌, ap, subst, Option, Some, None}
 use Rattle.std.specs.Bool.{IsTrue, ◌==◌}
 use Rattle.std.specs.Option.{is_some, IfSome}
 use Rattle.std.specs.List.{All, AllWithin, Contains, filter, flat_map, slice_get}
@@ -11,7 +11,7 @@ use Rattle.std.proofs.lemmas.List.Sorted.{IsPermutation-refl, IsPermutation-appe
 use Rattle.std.proofs.lemmas.Option.{slice_get_within, slice_get-get_or, get_or_from_slice_get}
 use Rattle.pci_spec.specs.Slot.{Slot, IsSlot, slot_number}
 use Rattle.pci_spec.specs.Window.{WindowKind, MemoryWindow}
-use Rattle.pci_spec.specs.System.{System, Function, IsSystem, is_bridge}
+use Rattle.pci_spec.specs.System.{System, Function, Part, Window, IsSystem, is_bridge}
 use Rattle.pci_spec.specs.Bus.{secondary, is_root, are_siblings}
 use Rattle.pci_spec.specs.Decoded.{HasRecords}
 use Rattle.pci_spec.specs.Decoded as decoded
@@ -21,7 +21,7 @@ use Rattle.plan_spec.proofs.Planning.AllItems.{slots_rise}
 use Rattle.plan_spec.proofs.Planning.Safe.{slots_of}
 use Rattle.settle_spec.specs.FirstPlace.{Extent as ExtentValue}
 use Rattle.settle_spec.specs.Lists.{Request}
-use Rattle.settle_spec.specs.Items.{Item as ItemValue, has_of, items_of, nothing}
+use Rattle.settle_spec.specs.Items.{Item as ItemValue, has_of, items_of}
 use Rattle.settle_spec.specs.PlacingLaws.{HasLowerRank}
 use Rattle.pci_image.specs.declared.rom.Rom.{Rom as CodeRom}
 use Rattle.pci_function.specs.declared.record.Bridge.{Bridge}
@@ -30,7 +30,7 @@ use Rattle.pci_function.specs.Values.{record_value}
 use Rattle.pci_tree.proofs.Lifting.{same_bridge, same_slot_of}
 use Rattle.pci_tree.proofs.RegionParts.{same_bridge_of}
 use Rattle.pci_place.specs.declared.above.Above.{Above}
-use Rattle.pci_place.specs.Above.{IsAbove, AreAboves}
+use Rattle.pci_place.specs.Above.{AreAboves}
 use Rattle.pci_place.specs.Classes.{is_wide_kind}
 use Rattle.pci_place.specs.Items.{no_function}
 use Rattle.pci_place.specs.Records.{IsRecordOf}
@@ -38,7 +38,12 @@ use Rattle.pci_place.proofs.Records.{FunctionAt, same_count, function_at}
 use Rattle.pci_settle.specs.declared.extent.Extent.{Extent}
 use Rattle.pci_settle.specs.declared.item.Item.{Item}
 use Rattle.pci_settle.specs.declared.item.Part.TheVariants as parts
+use Rattle.pci_settle.specs.declared.kept.Kept.{Kept}
+use Rattle.pci_settle.specs.declared.over.OpenWindows.{OpenWindows}
+use Rattle.pci_settle.specs.declared.over.Over.{Over}
 use Rattle.pci_settle.specs.declared.own.Terms.{Terms}
+use Rattle.pci_settle.specs.Kept.{kept_of, nothing_kept}
+use Rattle.pci_settle.specs.Over.{no_windows, IsOver}
 use Rattle.pci_settle.specs.Own.{is_own_bar, own_extent, bar_item, bar_items, rom_item, rom_items, window_items, record_items, item_value, IsWindowOf, IsAsked, AreByRank}
 use Rattle.pci_settle.specs.Spots.{IsExtent}
 use Rattle.pci_settle.specs.Turns.{HasExtent}
@@ -99,25 +104,28 @@ later_above s system k j f g at_k at_j up =
 own_lawful : (first last : ℕ) (wide : Bool) → IsExtent (own_extent first last wide)
 own_lawful first last wide = record { size = omega arith; alignment = omega arith }
 
-window_lawful : (k : ℕ) (window : Option Extent) → IfSome window IsExtent → All HasExtent (window_items k window)
-window_lawful k None lawful = All-nil HasExtent
-window_lawful k (Some e) lawful = All-cons HasExtent record { function = k; part = parts.Window; extent = e } [] lawful (All-nil HasExtent)
+window_lawful_if : (k : ℕ) (keep : Bool) (e : Extent) → IsExtent e → All HasExtent (cond keep [] (record { function = k; part = parts.Window; extent = e } ∷ []))
+window_lawful_if k true e lawful = All-nil HasExtent
+window_lawful_if k false e lawful = All-cons HasExtent record { function = k; part = parts.Window; extent = e } [] lawful (All-nil HasExtent)
+
+window_lawful : (k : ℕ) (c : WindowKind) (kept : Kept) (window : Option Extent) → IfSome window IsExtent → All HasExtent (window_items k c kept window)
+window_lawful k c kept None lawful = All-nil HasExtent
+window_lawful k c kept (Some e) lawful = window_lawful_if k (kept_of kept (Window c)) e lawful
 
 rom_lawful_if : (k : ℕ) (b : Bool) (rom : CodeRom) → All HasExtent (cond b (rom_item k rom ∷ []) [])
 rom_lawful_if k true rom = All-cons HasExtent (rom_item k rom) [] (own_lawful rom.first rom.last false) (All-nil HasExtent)
 rom_lawful_if k false rom = All-nil HasExtent
 
-rom_lawful : (k : ℕ) (c : WindowKind) (o : Option CodeRom) → All HasExtent (rom_items k c o)
-rom_lawful k c None = All-nil HasExtent
-rom_lawful k c (Some rom) = rom_lawful_if k (rom.on && same_class c MemoryWindow) rom
+rom_lawful : (k : ℕ) (c : WindowKind) (kept : Kept) (o : Option CodeRom) → All HasExtent (rom_items k c kept o)
+rom_lawful k c kept None = All-nil HasExtent
+rom_lawful k c kept (Some rom) = rom_lawful_if k (rom.on && same_class c MemoryWindow && not kept.rom) rom
 
-record_lawful : (k : ℕ) (c : WindowKind) (above : Above) (t : Terms) (window : Option Extent) (r : Record) → IfSome window IsExtent → All HasExtent (record_items k c above t window r)
-record_lawful k c above t window r lawful =
-    All-append HasExtent (bar_items k c above t r.bars.items) (window_items k window ++ rom_items k c r.rom)
-    (All-map HasExtent (bar_item k) (filter (is_own_bar c above t) r.bars.items)
-    (λ n d within. own_lawful (get_or (filter (is_own_bar c above t) r.bars.items) n d).first (get_or (filter (is_own_bar c above t) r.bars.items) n d).last
-    (is_wide_kind (get_or (filter (is_own_bar c above t) r.bars.items) n d).kind)))
-    (All-append HasExtent (window_items k window) (rom_items k c r.rom) (window_lawful k window lawful) (rom_lawful k c r.rom))
+record_lawful : (k : ℕ) (c : WindowKind) (over : Over) (t : Terms) (window : Option Extent) (kept : Kept) (r : Record) → IfSome window IsExtent → All HasExtent (record_items k c over t window kept r)
+record_lawful k c over t window kept r lawful =
+    let own = filter (is_own_bar c over t kept) r.bars.items in
+    All-append HasExtent (bar_items k c over t kept r.bars.items) (window_items k c kept window ++ rom_items k c kept r.rom)
+    (All-map HasExtent (bar_item k) own (λ n d within. own_lawful (get_or own n d).first (get_or own n d).last (is_wide_kind (get_or own n d).kind)))
+    (All-append HasExtent (window_items k c kept window) (rom_items k c kept r.rom) (window_lawful k c kept window lawful) (rom_lawful k c kept r.rom))
 
 behind_lawful : (windows : List (Option Extent)) → AreWindows windows → (b : Option Bridge) → IfSome (window_behind windows b) IsExtent
 behind_lawful windows lawful None = tt
@@ -134,10 +142,10 @@ more make s k f at =
     ∙ flat_map-append make (take k s) (f ∷ [])
     ∙ ap (λ xs. flat_map make (take k s) ++ xs) (append-nil (make f))
 
-module _ (roots : List ℕ) (s : System) (system : IsSystem s) (c : WindowKind) (t : Terms) (windows : List (Option Extent)) (bus : ℕ) where
-  bus_none : AreOnBusTo roots s c t windows bus 0 []
+module _ (roots : List ℕ) (s : System) (system : IsSystem s) (c : WindowKind) (t : Terms) (windows : List (Option Extent)) (overs : List OpenWindows) (kept : List Kept) (bus : ℕ) where
+  bus_none : AreOnBusTo roots s c t windows overs kept bus 0 []
   bus_none = record {
-    all = λ q extent same are. record {
+    all = λ q keeps extent leaving are. record {
       by_rank = record { same = IsPermutation-refl []; rising = pairs_nil HasLowerRank };
       below = λ j g up at i listed. absurd (in_nil i listed);
     };
@@ -146,13 +154,13 @@ module _ (roots : List ℕ) (s : System) (system : IsSystem s) (c : WindowKind) 
 
   -- a function of another bus has none
   skip_one : (k : ℕ) (f : Function) → slice_get s k ≡ Some f → are_siblings roots bus f.slot.bus ≡ false → (items : List Item)
-      → AreOnBusTo roots s c t windows bus k items → AreOnBusTo roots s c t windows bus (k + 1) items
+      → AreOnBusTo roots s c t windows overs kept bus k items → AreOnBusTo roots s c t windows overs kept bus (k + 1) items
   skip_one k f at apart items before = record {
-    all = λ q extent same behind. (
-        let make = items_beside q s c extent bus in
-        let apart' : are_siblings q.roots bus f.slot.bus ≡ false = ap (λ xs. are_siblings xs bus f.slot.bus) same ∙ apart in
-        let none : make f ≡ [] = ap (λ b. cond b (items_of q s c nothing extent f) []) apart' in
-        let before_it = before.all q extent same behind in
+    all = λ q keeps extent leaving behind. (
+        let make = items_beside q s c keeps extent bus in
+        let apart' : are_siblings q.roots bus f.slot.bus ≡ false = ap (λ xs. are_siblings xs bus f.slot.bus) leaving.rooted ∙ apart in
+        let none : make f ≡ [] = ap (λ b. cond b (items_of q s c keeps extent f) []) apart' in
+        let before_it = before.all q keeps extent leaving behind in
         record {
           by_rank = subst (AreByRank (map (item_value s c) items))
               (sym (more make s k f at ∙ ap (λ xs. flat_map make (take k s) ++ xs) none ∙ append-nil (flat_map make (take k s)))) before_it.by_rank;
@@ -164,23 +172,23 @@ module _ (roots : List ℕ) (s : System) (system : IsSystem s) (c : WindowKind) 
   -- and neither have more of them
   skip_to : (n k : ℕ) (items : List Item) → k + n ≤ length s
       → ((j : ℕ) (f : Function) → k ≤ j → j < k + n → slice_get s j ≡ Some f → are_siblings roots bus f.slot.bus ≡ false)
-      → AreOnBusTo roots s c t windows bus k items → AreOnBusTo roots s c t windows bus (k + n) items
-  skip_to zero k items within apart before = subst (λ m. AreOnBusTo roots s c t windows bus m items) (sym (add-zero k)) before
+      → AreOnBusTo roots s c t windows overs kept bus k items → AreOnBusTo roots s c t windows overs kept bus (k + n) items
+  skip_to zero k items within apart before = subst (λ m. AreOnBusTo roots s c t windows overs kept bus m items) (sym (add-zero k)) before
   skip_to (suc n) k items within apart before =
       let inside : k + n < length s = omega (arith, within) in
       let at = slice_get-get_or s (k + n) no_function inside in
       let next : k + n + 1 ≡ k + suc n = omega arith in
-      subst (λ m. AreOnBusTo roots s c t windows bus m items) next
+      subst (λ m. AreOnBusTo roots s c t windows overs kept bus m items) next
       (skip_one (k + n) (get_or s (k + n) no_function) at (apart (k + n) _ (omega arith) (omega arith) at) items
       (skip_to n k items (omega (arith, within)) (λ j f up under at_j. apart j f up (omega (arith, under)) at_j) before))
 
   -- all that stand below an address are all
   below_all : (end : ℕ) (items : List Item) → ((f : Function) → Contains s f → are_siblings roots bus f.slot.bus ≡ true → f.slot.bus < end)
-      → AreBelow roots s c t windows bus end items → AreOnBusTo roots s c t windows bus (length s) items
+      → AreBelow roots s c t windows overs kept bus end items → AreOnBusTo roots s c t windows overs kept bus (length s) items
   below_all end items last below =
       let within = below.within in
       let sum : below.count + (length s - below.count) ≡ length s = omega (arith, within) in
-      subst (λ m. AreOnBusTo roots s c t windows bus m items) sum
+      subst (λ m. AreOnBusTo roots s c t windows overs kept bus m items) sum
       (skip_to (length s - below.count) below.count items (omega (arith, within))
       (λ j f up under at. elim (cases_Bool (are_siblings roots bus f.slot.bus)) [
         | inl beside ↦
@@ -191,20 +199,20 @@ module _ (roots : List ℕ) (s : System) (system : IsSystem s) (c : WindowKind) 
         | inr apart ↦ apart
       ]) below.first)
 
-  pub below_roots : (items : List Item) → AreBelow roots s c t windows bus 256 items → AreOnBusTo roots s c t windows bus (length s) items
+  pub below_roots : (items : List Item) → AreBelow roots s c t windows overs kept bus 256 items → AreOnBusTo roots s c t windows overs kept bus (length s) items
   below_roots items below = below_all 256 items (λ f listed beside. (slots_of s system f listed).0) below
 
-  pub below_bus : (items : List Item) → is_root roots bus ≡ false → AreBelow roots s c t windows bus (bus + 1) items → AreOnBusTo roots s c t windows bus (length s) items
+  pub below_bus : (items : List Item) → is_root roots bus ≡ false → AreBelow roots s c t windows overs kept bus (bus + 1) items → AreOnBusTo roots s c t windows overs kept bus (length s) items
   below_bus items other below = below_all (bus + 1) items (λ f listed beside. let same = own_bus roots bus f.slot.bus other beside in omega (arith, same)) below
 
-  pub all_on_bus : (items : List Item) → AreOnBusTo roots s c t windows bus (length s) items → AreOnBus roots s c t windows bus items
-  all_on_bus items are q extent same behind =
-      subst (λ fs. AreByRank (map (item_value s c) items) (flat_map (items_beside q s c extent bus) fs))
-      (take_all (length s) s (omega arith)) (are.all q extent same behind).by_rank
+  pub all_on_bus : (items : List Item) → AreOnBusTo roots s c t windows overs kept bus (length s) items → AreOnBus roots s c t windows overs kept bus items
+  all_on_bus items are q keeps extent leaving behind =
+      subst (λ fs. AreByRank (map (item_value s c) items) (flat_map (items_beside q s c keeps extent bus) fs))
+      (take_all (length s) s (omega arith)) (are.all q keeps extent leaving behind).by_rank
 
   -- ---- bus by bus
 
-  pub below_none : AreBelow roots s c t windows bus 0 []
+  pub below_none : AreBelow roots s c t windows overs kept bus 0 []
   below_none = record {
     count = 0;
     within = omega arith;
@@ -214,7 +222,7 @@ module _ (roots : List ℕ) (s : System) (system : IsSystem s) (c : WindowKind) 
   }
 
   -- nothing of a bus that is no root is on a lower one
-  pub below_own : is_root roots bus ≡ false → AreBelow roots s c t windows bus bus []
+  pub below_own : is_root roots bus ≡ false → AreBelow roots s c t windows overs kept bus bus []
   below_own other = record {
     count = 0;
     within = omega arith;
@@ -223,7 +231,7 @@ module _ (roots : List ℕ) (s : System) (system : IsSystem s) (c : WindowKind) 
     first = bus_none;
   }
 
-  pub below_skip : (end : ℕ) (items : List Item) → are_siblings roots bus end ≡ false → AreBelow roots s c t windows bus end items → AreBelow roots s c t windows bus (end + 1) items
+  pub below_skip : (end : ℕ) (items : List Item) → are_siblings roots bus end ≡ false → AreBelow roots s c t windows overs kept bus end items → AreBelow roots s c t windows overs kept bus (end + 1) items
   below_skip end items apart below = record {
     count = below.count;
     within = below.within;
@@ -235,7 +243,7 @@ module _ (roots : List ℕ) (s : System) (system : IsSystem s) (c : WindowKind) 
     first = below.first;
   }
 
-module _ (roots : List ℕ) (s : System) (system : IsSystem s) (records : List Record) (has : HasRecords s (map record_value records)) (c : WindowKind) (t : Terms) (windows : List (Option Extent)) (bus : ℕ) where
+module _ (roots : List ℕ) (s : System) (system : IsSystem s) (records : List Record) (has : HasRecords s (map record_value records)) (c : WindowKind) (t : Terms) (windows : List (Option Extent)) (overs : List OpenWindows) (kept : List Kept) (bus : ℕ) where
   -- the record of a function is on its bus
   bus_at : (k : ℕ) (f : Function) → slice_get s k ≡ Some f → (r : Record) × (k < length records) × ((get_or records k r).slot.bus ≡ f.slot.bus)
   bus_at k f at =
@@ -250,7 +258,7 @@ module _ (roots : List ℕ) (s : System) (system : IsSystem s) (records : List R
 
   -- those below a bus are those of the functions before its first one
   pub below_first : (end first : ℕ) (items : List Item) → first ≤ length records → AllWithin (λ r. r.slot.bus < end) records 0 first → AllWithin (λ r. end ≤ r.slot.bus) records first (length records)
-      → AreBelow roots s c t windows bus end items → AreOnBusTo roots s c t windows bus first items
+      → AreBelow roots s c t windows overs kept bus end items → AreOnBusTo roots s c t windows overs kept bus first items
   below_first end first items bound before after below =
       let count = same_count s records has in
       let within = below.within in
@@ -265,8 +273,8 @@ module _ (roots : List ℕ) (s : System) (system : IsSystem s) (records : List R
         | inr le ↦ le
       ] in
       let sum : below.count + (first - below.count) ≡ first = omega (arith, up) in
-      subst (λ m. AreOnBusTo roots s c t windows bus m items) sum
-      (skip_to roots s system c t windows bus (first - below.count) below.count items (omega (arith, up, bound, count))
+      subst (λ m. AreOnBusTo roots s c t windows overs kept bus m items) sum
+      (skip_to roots s system c t windows overs kept bus (first - below.count) below.count items (omega (arith, up, bound, count))
       (λ j f from under at. elim (cases_Bool (are_siblings roots bus f.slot.bus)) [
         | inl beside ↦
             let high = below.rest j f from at beside in
@@ -278,7 +286,7 @@ module _ (roots : List ℕ) (s : System) (system : IsSystem s) (records : List R
       ]) below.first)
 
   pub below_next : (next end : ℕ) (items : List Item) → end ≤ length records → AllWithin (λ r. r.slot.bus < next) records 0 end → AllWithin (λ r. next ≤ r.slot.bus) records end (length records)
-      → AreOnBusTo roots s c t windows bus end items → AreBelow roots s c t windows bus next items
+      → AreOnBusTo roots s c t windows overs kept bus end items → AreBelow roots s c t windows overs kept bus next items
   below_next next end items bound before after are =
       let count = same_count s records has in
       record {
@@ -309,35 +317,38 @@ module _ (roots : List ℕ) (s : System) (system : IsSystem s) (records : List R
         (subst (λ d. IsWindowOf (d && has_of q s c f) (extent f) (get_or windows (secondary f) None)) (sym bridge) (behind.each f found.is.listed beside bridge))
 
     -- a function of the bus
-    pub bus_step : (aboves : List Above) → AreAboves s aboves → (other : ℕ) → other ≡ r.slot.bus → (d : Above) (window : Option Extent) → window ≡ window_behind windows r.bridge
-        → are_siblings roots bus other ≡ true → (old next : List Item) → next ≡ old ++ record_items k c (get_or aboves other d) t window r
-        → AreOnBusTo roots s c t windows bus k old → AreOnBusTo roots s c t windows bus (k + 1) next
-    bus_step aboves are_above other on d window is_window beside old next e before =
+    pub bus_step : (aboves : List Above) → AreAboves s aboves → (other : ℕ) → other ≡ r.slot.bus → (d : Above) (over : Over) → over ≡ record { above = get_or aboves other d; windows = get_or overs other no_windows }
+        → (window : Option Extent) → window ≡ window_behind windows r.bridge → (keep : Kept) → ((part : Part) → kept_of keep part ≡ kept_of (get_or kept k nothing_kept) part)
+        → are_siblings roots bus other ≡ true → (old next : List Item) → next ≡ old ++ record_items k c over t window keep r
+        → AreOnBusTo roots s c t windows overs kept bus k old → AreOnBusTo roots s c t windows overs kept bus (k + 1) next
+    bus_step aboves are_above other on d over is_over window is_window keep is_kept beside old next e before =
         let f = found.f in
         let at = same_bus other on in
-        let new = record_items k c (get_or aboves other d) t window r in
+        let new = record_items k c over t window keep r in
         record {
-          all = λ q extent same behind. (
-              let beside' : are_siblings q.roots bus f.slot.bus ≡ true = ap (λ xs. are_siblings xs bus f.slot.bus) same ∙ ap (are_siblings roots bus) (sym at) ∙ beside in
-              let asked : IsAsked q s c extent f k (get_or aboves other d) t window r = record {
-                anew = behind.anew;
+          all = λ q keeps extent leaving behind. (
+              let beside' : are_siblings q.roots bus f.slot.bus ≡ true = ap (λ xs. are_siblings xs bus f.slot.bus) leaving.rooted ∙ ap (are_siblings roots bus) (sym at) ∙ beside in
+              let over_at : IsOver q s f.slot.bus record { above = get_or aboves f.slot.bus d; windows = get_or overs f.slot.bus no_windows } =
+              record { above = are_above f d found.is.listed; windows_are = leaving.overs_are f found.is.listed } in
+              let asked : IsAsked q s c keeps extent f k over t window keep r = record {
                 terms = behind.terms;
                 is = found.is;
                 here = get_or_from_slice_get s k f no_function found.at;
-                over = subst (λ n. IsAbove s f.slot.bus (get_or aboves n d)) (sym at) (are_above f d found.is.listed);
+                over_is = subst (IsOver q s f.slot.bus) (sym is_over) (subst (λ n. IsOver q s f.slot.bus record { above = get_or aboves n d; windows = get_or overs n no_windows }) (sym at) over_at);
                 new = subst (IsWindowOf (is_bridge f && has_of q s c f) (extent f)) (sym is_window) (new_by q extent behind beside' r.bridge refl);
+                keeps_is = λ part there. is_kept part ∙ leaving.keeps_is k f part found.at there;
               } in
-              let make = items_beside q s c extent bus in
-              let own : make f ≡ items_of q s c nothing extent f = ap (λ b. cond b (items_of q s c nothing extent f) []) beside' in
-              let all_are : flat_map make (take (k + 1) s) ≡ flat_map make (take k s) ++ items_of q s c nothing extent f = more make s k f found.at ∙ ap (λ xs. flat_map make (take k s) ++ xs) own in
+              let make = items_beside q s c keeps extent bus in
+              let own : make f ≡ items_of q s c keeps extent f = ap (λ b. cond b (items_of q s c keeps extent f) []) beside' in
+              let all_are : flat_map make (take (k + 1) s) ≡ flat_map make (take k s) ++ items_of q s c keeps extent f = more make s k f found.at ∙ ap (λ xs. flat_map make (take k s) ++ xs) own in
               let values_are : map (item_value s c) next ≡ map (item_value s c) old ++ map (item_value s c) new = ap (map (item_value s c)) e ∙ map-append (item_value s c) old new in
-              let before_it = before.all q extent same behind in
-              let here = items_by_rank q s c extent f k (get_or aboves other d) t window r asked in
-              let in_slot = items_in_slot q s c extent f k (get_or aboves other d) t window r asked in
+              let before_it = before.all q keeps extent leaving behind in
+              let here = items_by_rank q s c keeps extent f k over t window keep r asked in
+              let in_slot = items_in_slot q s c keeps extent f k over t window keep r asked in
               record {
                 by_rank = subst (λ xs. AreByRank xs (flat_map make (take (k + 1) s))) (sym values_are)
                     (subst (AreByRank (map (item_value s c) old ++ map (item_value s c) new)) (sym all_are) record {
-                      same = IsPermutation-append (map (item_value s c) old) (flat_map make (take k s)) (map (item_value s c) new) (items_of q s c nothing extent f) before_it.by_rank.same here.same;
+                      same = IsPermutation-append (map (item_value s c) old) (flat_map make (take k s)) (map (item_value s c) new) (items_of q s c keeps extent f) before_it.by_rank.same here.same;
                       rising = pairs_append HasLowerRank (map (item_value s c) old) (map (item_value s c) new) before_it.by_rank.rising here.rising
                           (λ i j at_old at_new. let under = before_it.below k f (omega arith) found.at i at_old in let from = (in_slot j at_new).0 in omega (arith, under, from));
                     });
@@ -350,5 +361,5 @@ module _ (roots : List ℕ) (s : System) (system : IsSystem s) (records : List R
               });
           lawful = λ windows_lawful.
               subst (All HasExtent) (sym e) (All-append HasExtent old new (before.lawful windows_lawful)
-              (record_lawful k c (get_or aboves other d) t window r (subst (λ o. IfSome o IsExtent) (sym is_window) (behind_lawful windows windows_lawful r.bridge))));
+              (record_lawful k c over t window keep r (subst (λ o. IfSome o IsExtent) (sym is_window) (behind_lawful windows windows_lawful r.bridge))));
         }

@@ -1,23 +1,29 @@
--- What a record has to place is what its function has, where nothing stands.
-use Rattle.std.proofs.Common.{drop, length, max, get_or, ◌≡◌, ℕ, ◌+◌, ◌/◌, ◌-◌, ◌<◌, ◌≤◌, List, [], ◌∷◌, ◌++◌, map, refl, Bool, true, false, cond, not, ◌&&◌, ◌||◌, sym, ◌∙◌, ap, subst, Option, Some, None, arith}
+-- What a record has to place is what its function has, but what keeps its place.
+use Rattle.std.proofs.Common.{drop, length, max, get_or, ◌≡◌, ℕ, ◌+◌, ◌/◌, ◌-◌, ◌<◌, ◌≤◌, List, [], ◌∷◌, ◌++◌, map, refl, Bool, true, false, cond, not, ◌&&◌, ◌||◌, sym, ◌∙◌, ap, subst, Option, Some, None, arith, inl, inr}
 use Rattle.std.specs.Option.{option_map}
-use Rattle.std.specs.List.{filter, range_with_len}
+use Rattle.std.specs.List.{Contains, list_any, list_all, filter, range_with_len}
 use Rattle.std.specs.List.Sorted.{IsPermutation}
+use Rattle.std.proofs.lemmas.Bool.{cases_Bool, both_ways}
 use Rattle.std.proofs.lemmas.List.{map-append, append_assoc}
 use Rattle.std.proofs.lemmas.List.Elements.{filter-append}
 use Rattle.std.proofs.lemmas.List.Sorted.{IsPermutation-append_right, IsPermutation-append_comm}
 use Rattle.pci_spec.specs.Header.{layout, bar_count, bar_register}
 use Rattle.pci_spec.specs.Bar.{bar_at, has_bar, is_io, is_prefetchable}
 use Rattle.pci_spec.specs.Rom.{has_rom, rom_is_on}
-use Rattle.pci_spec.specs.Window.{WindowKind, IoWindow, MemoryWindow, PrefetchWindow}
-use Rattle.pci_spec.specs.System.{System, Function, Part, Bar, Rom, Window, is_bridge}
+use Rattle.pci_spec.specs.Number.{has_bit}
+use Rattle.pci_spec.specs.Window.{WindowKind, IoWindow, MemoryWindow, PrefetchWindow, has_window}
+use Rattle.pci_spec.specs.System.{System, Function, Part, Bar, Rom, Window, is_bridge, is_window}
+use Rattle.pci_spec.specs.Bus.{is_root}
 use Rattle.pci_spec.specs.Decoded.{DecodedBar, DecodedRom, decoded_bar, decoded_rom}
-use Rattle.plan_spec.specs.Plan.{same_class, greatest, size_of, class_of, is_open}
+use Rattle.pci_spec.specs.Decoded.{Range as DecodedRange}
+use Rattle.pci_spec.proofs.Members.{in_filter_to}
+use Rattle.plan_spec.specs.Plan.{same_class, greatest, size_of, class_of, is_open, is_served, bridges_above}
+use Rattle.plan_spec.specs.Planning.Layout.{range_of}
 use Rattle.settle_spec.specs.FirstPlace.{Extent as ExtentValue}
 use Rattle.settle_spec.specs.Lists.{RootRange, Request}
-use Rattle.settle_spec.specs.Parts.{Region, is_empty, is_left, is_part, header_bars, parts_of, regions_of, class_in, prefetchable_class}
+use Rattle.settle_spec.specs.Parts.{Region, is_empty, is_left, is_part, header_bars, header_parts, parts_of, regions_of, is_within, holds_range, bridge_over, upper_pools, new_class, is_in_memory, class_in}
 use Rattle.settle_spec.specs.Stands.{window_region}
-use Rattle.settle_spec.specs.Items.{Item as ItemValue, own_item, is_own, has_of, items_of, nothing}
+use Rattle.settle_spec.specs.Items.{Item as ItemValue, own_item, is_own, has_of, items_of}
 use Rattle.settle_spec.proofs.Classes.{class_planned}
 use Rattle.settle_spec.proofs.LaidOut.{greatest_more}
 use Rattle.pci_image.specs.declared.bar.Bar.{Bar as CodeBar}
@@ -25,22 +31,29 @@ use Rattle.pci_image.specs.declared.rom.Rom.{Rom as CodeRom}
 use Rattle.pci_image.specs.Bars.{decoded_bar_of}
 use Rattle.pci_image.specs.Roms.{decoded_rom_of}
 use Rattle.pci_function.specs.declared.record.Record.{Record}
-use Rattle.pci_place.specs.declared.above.Above.{Above}
+use Rattle.pci_place.specs.Records.{IsRecordOf}
 use Rattle.pci_place.specs.Classes.{is_io_kind}
 use Rattle.pci_place.specs.Items.{function_in}
 use Rattle.pci_place.specs.Sizes.{span}
-use Rattle.pci_place.proofs.Mapped.{filter-map, kept_same}
+use Rattle.pci_place.proofs.Mapped.{filter-map, any_fails, kept_same}
 use Rattle.pci_place.proofs.Parts.{bars_in, bars_of, rom_of, bar_span, rom_there, rom_span}
 use Rattle.pci_place.proofs.ClassOf.{kind_io, kind_wide, class_is}
 use Rattle.pci_place.proofs.Owned.{map_twice, no_rom, lacking_above}
 use Rattle.pci_settle.specs.declared.extent.Extent.{Extent}
-use Rattle.pci_base.specs.declared.range.RootRange.{RootRange as CodeRange}
+use Rattle.pci_base.specs.Ranges.{decoded_range_of}
+use Rattle.pci_base.specs.declared.range.Range.{Range as CodeRange}
+use Rattle.pci_base.specs.declared.range.RootRange.{RootRange as CodeRootRange}
 use Rattle.pci_settle.specs.declared.item.Part.TheVariants as parts
+use Rattle.pci_settle.specs.declared.kept.Kept.{Kept}
+use Rattle.pci_settle.specs.declared.over.Over.{Over}
 use Rattle.pci_settle.specs.declared.own.Terms.{Terms}
+use Rattle.pci_settle.specs.Kept.{kept_of}
+use Rattle.pci_settle.specs.Over.{is_held, open_range, class_window, IsOver}
+use Rattle.pci_settle.proofs.Headers.{filter_same, header_has}
 use Rattle.pci_settle.specs.Lists.{root_range_value}
 use Rattle.pci_settle.proofs.Walks.{left_next, left_none}
 use Rattle.pci_settle.specs.Own as own
-use Rattle.pci_settle.specs.Own.{last_of, code_pools, is_left_bar, is_own_bar, bar_item, bar_items, rom_item, rom_items, window_items, record_items, item_value, IsWindowOf, IsAsked}
+use Rattle.pci_settle.specs.Own.{last_of, AreTerms, code_pools, class_anew, bar_number, is_left_bar, is_own_bar, bar_item, bar_items, rom_item, rom_items, window_items, record_items, item_value, IsWindowOf, IsAsked}
 
 -- ---- lists
 
@@ -80,20 +93,9 @@ value_same c f g p o a b m n v w e h i j k = cc
 register_place : (register n : ℕ) → register ≡ bar_register n → (register - 0x10) / 4 ≡ n
 register_place register n at = omega (arith, at)
 
-window_test : (a b : Bool) → (a && b) ≡ (a && b && true)
-window_test true true = refl
-window_test true false = refl
-window_test false b = refl
-
-and_true : (b : Bool) → (b && true) ≡ b
-and_true true = refl
-and_true false = refl
-
-filter_and : {X : Type 0} (test : X → Bool) (xs : List X) → filter (λ x. test x && true) xs ≡ filter test xs
-filter_and test [] = refl
-filter_and test (x ∷ xs) =
-    ap (λ b. cond b (x ∷ filter (λ y. test y && true) xs) (filter (λ y. test y && true) xs)) (and_true (test x))
-    ∙ ap (λ ys. cond (test x) (x ∷ ys) ys) (filter_and test xs)
+and_later : (a b d : Bool) → (a && b && d) ≡ (a && (b && d))
+and_later true b d = refl
+and_later false b d = refl
 
 -- ---- what the lists tell
 
@@ -108,7 +110,7 @@ some_last : (list : List RootRange) (last : ℕ) → last_of list ≡ Some last 
 some_last [] last e = cc
 some_last (r ∷ more) last e = (refl, cc)
 
-pub greatest_next : (list : List CodeRange) (n : ℕ) (d : CodeRange) (a all : ℕ) → n < length list → max a (greatest (lasts (drop n (map root_range_value list)))) ≡ all
+pub greatest_next : (list : List CodeRootRange) (n : ℕ) (d : CodeRootRange) (a all : ℕ) → n < length list → max a (greatest (lasts (drop n (map root_range_value list)))) ≡ all
     → max (max a (get_or list n d).range.last) (greatest (lasts (drop (n + 1) (map root_range_value list)))) ≡ all
 greatest_next list n d a all within is =
     let next : greatest (lasts (drop n (map root_range_value list))) ≡ greatest ((get_or list n d).range.last ∷ lasts (drop (n + 1) (map root_range_value list))) =
@@ -116,7 +118,7 @@ greatest_next list n d a all within is =
     let more = greatest_more (get_or list n d).range.last (lasts (drop (n + 1) (map root_range_value list))) in
     omega (arith, is, next, more)
 
-pub greatest_all : (list : List CodeRange) (n a all : ℕ) → length list ≤ n → max a (greatest (lasts (drop n (map root_range_value list)))) ≡ all → a ≡ all
+pub greatest_all : (list : List CodeRootRange) (n a all : ℕ) → length list ≤ n → max a (greatest (lasts (drop n (map root_range_value list)))) ≡ all → a ≡ all
 greatest_all list n a all past is =
     let none : greatest (lasts (drop n (map root_range_value list))) ≡ 0 = ap (λ xs. greatest (lasts xs)) (left_none root_range_value list n past) in
     omega (arith, is, none)
@@ -125,56 +127,112 @@ not_and : (a b : Bool) → not (not a && b) ≡ (a || not b)
 not_and true b = refl
 not_and false b = refl
 
-module _ (q : Request) (s : System) (c : WindowKind) (extent : Function → ExtentValue) (f : Function) (k : ℕ) (above : Above) (t : Terms) (window : Option Extent) (r : Record)
-    (asked : IsAsked q s c extent f k above t window r) where
-  -- ---- classes
+-- ---- classes
 
-  prefetch_none : is_empty q.lists.prefetch ≡ true → (n : ℕ) → prefetchable_class q s f n ≡ MemoryWindow
-  prefetch_none none n = rw (asked.anew, none) refl
+held_is : (kind : WindowKind) (r : DecodedRange) (o : Option Function) → is_held (open_range kind o) r ≡ holds_range kind r o
+held_is kind r None = refl
+held_is kind r (Some b) =
+    elim (is_open b kind) as (λ v. is_held (cond v (Some (range_of b (Window kind))) None) r ≡ (v && is_within r (range_of b (Window kind)))) [ true ↦ refl | false ↦ refl ]
+
+told_if : (a : Bool) (o : Option DecodedRange) (r : DecodedRange) → is_held (cond a None o) r ≡ (not a && is_held o r)
+told_if true o r = refl
+told_if false o r = refl
+
+not_twice : (b : Bool) → not (not b) ≡ b
+not_twice true = refl
+not_twice false = refl
+
+-- the window that holds a prefetchable BAR tells its class, the one of memory first
+class_cases : (io p a m h l : Bool) (x : WindowKind) → (io ≡ true → p ≡ false)
+    → cond (p && (not a && m)) MemoryWindow (cond (p && (not a && h) && l) PrefetchWindow (cond io IoWindow (cond p x MemoryWindow)))
+    ≡ cond io IoWindow (cond p (cond a x (cond m MemoryWindow (cond (h && l) PrefetchWindow x))) MemoryWindow)
+class_cases io false a m h l x plain = refl
+class_cases true true a m h l x plain = absurd (both_ways true (plain refl) refl)
+class_cases false true true m h l x plain = refl
+class_cases false true false true h l x plain = refl
+class_cases false true false false true l x plain = refl
+class_cases false true false false false l x plain = refl
+
+module _ (q : Request) (s : System) (f : Function) (r : Record) (over : Over) (t : Terms) (is : IsRecordOf s f r) (terms : AreTerms q.lists t) (over_is : IsOver q s f.slot.bus over) where
+  abbrev class_by_new : ℕ → WindowKind
+  class_by_new n = cond (is_io (bar_at f.probe n)) IoWindow (cond (is_prefetchable (bar_at f.probe n)) (new_class q s f n) MemoryWindow)
 
   class_none : is_empty q.lists.prefetch ≡ true → (bar : CodeBar) (n : ℕ) → decoded_bar_of bar ≡ decoded_bar f.image f.probe n
-      → cond (is_io_kind bar.kind) IoWindow MemoryWindow ≡ class_in q s f (Bar n)
+      → cond (is_io_kind bar.kind) IoWindow MemoryWindow ≡ class_by_new n
   class_none none bar n e =
-      let io = kind_io f bar n e in
-      let same : (b : Bool) → MemoryWindow ≡ cond b (prefetchable_class q s f n) MemoryWindow = λ b.
-      elim b as (λ b. MemoryWindow ≡ cond b (prefetchable_class q s f n) MemoryWindow) [ true ↦ sym (prefetch_none none n) | false ↦ refl ] in
-      ap (λ b. cond b IoWindow MemoryWindow) io
+      let new : MemoryWindow ≡ new_class q s f n = sym (ap (λ b. cond (not b && is_served s (upper_pools q.lists.prefetch) f n) PrefetchWindow MemoryWindow) none) in
+      let same : (b : Bool) → MemoryWindow ≡ cond b (new_class q s f n) MemoryWindow = λ b.
+      elim b as (λ b. MemoryWindow ≡ cond b (new_class q s f n) MemoryWindow) [ true ↦ new | false ↦ refl ] in
+      ap (λ b. cond b IoWindow MemoryWindow) (kind_io f bar n e)
       ∙ ap (λ k. cond (is_io (bar_at f.probe n)) IoWindow k) (same (is_prefetchable (bar_at f.probe n)))
 
-  class_by : (o : Option ℕ) → o ≡ last_of q.lists.prefetch → (bar : CodeBar) (n : ℕ) → decoded_bar_of bar ≡ decoded_bar f.image f.probe n
-      → own.class_of bar above o ≡ class_in q s f (Bar n)
-  class_by None told bar n e = class_none (no_last q.lists.prefetch (sym told)) bar n e
-  class_by (Some last) told bar n e =
+  anew_by : (o : Option ℕ) → o ≡ last_of q.lists.prefetch → (bar : CodeBar) (n : ℕ) → decoded_bar_of bar ≡ decoded_bar f.image f.probe n
+      → class_anew bar over.above o ≡ class_by_new n
+  anew_by None told bar n e = class_none (no_last q.lists.prefetch (sym told)) bar n e
+  anew_by (Some last) told bar n e =
       let some = some_last q.lists.prefetch last (sym told) in
-      class_is s f above (code_pools last) bar n e asked.over
+      let asked : Request = record q { anew = true } in
+      class_is s f over.above (code_pools last) bar n e over_is.above
       ∙ ap (λ m. class_of s record { io = record { first = 0; last = 0 }; memory = record { first = 0; last = 0 }; prefetch = record { first = 0; last = m } } f (Bar n)) some.1
-      ∙ sym (class_planned q s f asked.anew some.0 (Bar n))
+      ∙ sym (class_planned asked s f refl some.0 (Bar n))
 
-  left_is : (bar : CodeBar) (n : ℕ) → decoded_bar_of bar ≡ decoded_bar f.image f.probe n → is_left_bar bar above t.has_io ≡ is_left q s f (Bar n)
+  held_by : (kind : WindowKind) (o : Option CodeRange) → option_map decoded_range_of o ≡ class_window q s kind f.slot.bus → (bar : CodeBar) (n : ℕ) → decoded_bar_of bar ≡ decoded_bar f.image f.probe n
+      → own.is_held_bar o bar ≡ (is_prefetchable (bar_at f.probe n) && (not (q.anew || is_root q.roots f.slot.bus) && holds_range kind (range_of f (Bar n)) (bridge_over s f.slot.bus)))
+  held_by kind o told bar n e =
+      ap (λ (x : DecodedBar). x.prefetchable && is_held (option_map decoded_range_of o) x.range) e
+      ∙ ap (λ w. is_prefetchable (bar_at f.probe n) && is_held w (range_of f (Bar n))) told
+      ∙ ap (λ b. is_prefetchable (bar_at f.probe n) && b) (told_if (q.anew || is_root q.roots f.slot.bus) (open_range kind (bridge_over s f.slot.bus)) (range_of f (Bar n))
+      ∙ ap (λ b. not (q.anew || is_root q.roots f.slot.bus) && b) (held_is kind (range_of f (Bar n)) (bridge_over s f.slot.bus)))
+
+  led : over.above.pref ≡ not (list_any (λ b. not (has_window PrefetchWindow b.probe)) (bridges_above s f.slot.bus))
+  led = over_is.above.pref ∙ sym (not_twice (list_all (λ b. has_window PrefetchWindow b.probe) (bridges_above s f.slot.bus))) ∙ ap not (sym (any_fails (λ b. has_window PrefetchWindow b.probe) (bridges_above s f.slot.bus)))
+
+  pub class_by : (bar : CodeBar) (n : ℕ) → decoded_bar_of bar ≡ decoded_bar f.image f.probe n → own.class_of bar over t.prefetch_last ≡ class_in q s f (Bar n)
+  class_by bar n e =
+      let a : Bool = q.anew || is_root q.roots f.slot.bus in
+      let reg = bar_at f.probe n in
+      let h : Bool = holds_range PrefetchWindow (range_of f (Bar n)) (bridge_over s f.slot.bus) in
+      ap (λ b. cond b MemoryWindow (cond (own.is_held_bar over.windows.prefetch bar && over.above.pref) PrefetchWindow (class_anew bar over.above t.prefetch_last))) (held_by MemoryWindow over.windows.memory over_is.windows_are.memory bar n e)
+      ∙ ap (λ b. cond (is_prefetchable reg && (not a && is_in_memory s f n)) MemoryWindow (cond (b && over.above.pref) PrefetchWindow (class_anew bar over.above t.prefetch_last))) (held_by PrefetchWindow over.windows.prefetch over_is.windows_are.prefetch bar n e)
+      ∙ ap (λ b. cond (is_prefetchable reg && (not a && is_in_memory s f n)) MemoryWindow (cond (is_prefetchable reg && (not a && h) && b) PrefetchWindow (class_anew bar over.above t.prefetch_last))) led
+      ∙ ap (λ k. cond (is_prefetchable reg && (not a && is_in_memory s f n)) MemoryWindow (cond (is_prefetchable reg && (not a && h) && not (list_any (λ b. not (has_window PrefetchWindow b.probe)) (bridges_above s f.slot.bus))) PrefetchWindow k))
+      (anew_by t.prefetch_last terms.last bar n e)
+      ∙ class_cases (is_io reg) (is_prefetchable reg) a (is_in_memory s f n) h (not (list_any (λ b. not (has_window PrefetchWindow b.probe)) (bridges_above s f.slot.bus))) (new_class q s f n)
+      (λ io. ap (λ b. not b && has_bit reg 3) io)
+
+module _ (q : Request) (s : System) (c : WindowKind) (keeps : Region → Bool) (extent : Function → ExtentValue) (f : Function) (k : ℕ) (over : Over) (t : Terms) (window : Option Extent) (kept : Kept) (r : Record)
+    (asked : IsAsked q s c keeps extent f k over t window kept r) where
+  left_is : (bar : CodeBar) (n : ℕ) → decoded_bar_of bar ≡ decoded_bar f.image f.probe n → is_left_bar bar over.above t.has_io ≡ is_left q s f (Bar n)
   left_is bar n e =
-      ap (λ b. b && not (t.has_io && above.io)) (kind_io f bar n e)
-      ∙ ap (λ b. is_io (bar_at f.probe n) && not (b && above.io)) asked.terms.io
-      ∙ ap (λ b. is_io (bar_at f.probe n) && b) (not_and (is_empty q.lists.io) above.io)
-      ∙ ap (λ b. is_io (bar_at f.probe n) && (is_empty q.lists.io || b)) (lacking_above s f r asked.is above asked.over)
+      ap (λ b. b && not (t.has_io && over.above.io)) (kind_io f bar n e)
+      ∙ ap (λ b. is_io (bar_at f.probe n) && not (b && over.above.io)) asked.terms.io
+      ∙ ap (λ b. is_io (bar_at f.probe n) && b) (not_and (is_empty q.lists.io) over.above.io)
+      ∙ ap (λ b. is_io (bar_at f.probe n) && (is_empty q.lists.io || b)) (lacking_above s f r asked.is over.above asked.over_is.above)
 
   -- ---- BARs
 
   abbrev region : Part → Region
   region p = record { function = f; part = p }
 
+  -- what the table tells of a part of the function
+  abbrev pub noted : Region → Bool
+  noted i = kept_of kept i.part
+
   abbrev is_mine : Part → Bool
-  is_mine p = is_own q s c (region p)
+  is_mine p = is_own q s c (region p) && not (noted (region p))
 
   abbrev mine_at : ℕ → Bool
-  mine_at n = not (is_left q s f (Bar n)) && same_class c (class_in q s f (Bar n))
+  mine_at n = not (is_left q s f (Bar n)) && (same_class c (class_in q s f (Bar n)) && not (kept_of kept (Bar n)))
 
   abbrev value_of : Part → ItemValue
   value_of p = own_item c (region p)
 
-  bar_test : (bar : CodeBar) (n : ℕ) → decoded_bar_of bar ≡ decoded_bar f.image f.probe n → is_own_bar c above t bar ≡ mine_at n
+  bar_test : (bar : CodeBar) (n : ℕ) → decoded_bar_of bar ≡ decoded_bar f.image f.probe n → is_own_bar c over t kept bar ≡ mine_at n
   bar_test bar n e =
-      ap (λ b. not b && same_class c (own.class_of bar above t.prefetch_last)) (left_is bar n e)
-      ∙ ap (λ k. not (is_left q s f (Bar n)) && same_class c k) (class_by t.prefetch_last asked.terms.last bar n e)
+      ap (λ b. not b && same_class c (own.class_of bar over t.prefetch_last) && not (kept_of kept (Bar (bar_number bar)))) (left_is bar n e)
+      ∙ ap (λ k. not (is_left q s f (Bar n)) && same_class c k && not (kept_of kept (Bar (bar_number bar)))) (class_by q s f r over t asked.is asked.terms asked.over_is bar n e)
+      ∙ ap (λ m. not (is_left q s f (Bar n)) && same_class c (class_in q s f (Bar n)) && not (kept_of kept (Bar m))) (register_place bar.reg n (ap (λ (x : DecodedBar). x.register) e))
+      ∙ and_later (not (is_left q s f (Bar n))) (same_class c (class_in q s f (Bar n))) (not (kept_of kept (Bar n)))
 
   bar_value : (bar : CodeBar) (n : ℕ) → decoded_bar_of bar ≡ decoded_bar f.image f.probe n → item_value s c (bar_item k bar) ≡ value_of (Bar n)
   bar_value bar n e =
@@ -182,13 +240,13 @@ module _ (q : Request) (s : System) (c : WindowKind) (extent : Function → Exte
       value_same c (function_in s k) f (Bar ((bar.reg - 0x10) / 4)) (Bar n) (span bar.first bar.last) (size_of f (Bar n)) (span bar.first bar.last) (size_of f (Bar n)) _ _
       asked.here (ap Bar (register_place bar.reg n (ap (λ (x : DecodedBar). x.register) e))) size size (kind_wide f bar n e)
 
-  pub bars_are : map (item_value s c) (bar_items k c above t r.bars.items) ≡ map value_of (filter is_mine (filter (is_part q s f) (header_bars f)))
+  pub bars_are : map (item_value s c) (bar_items k c over t kept r.bars.items) ≡ map value_of (filter is_mine (filter (is_part q s f) (header_bars f)))
   bars_are =
       let all = range_with_len 0 (bar_count (layout f.image)) in
-      map_twice (item_value s c) (bar_item k) (filter (is_own_bar c above t) r.bars.items)
-      ∙ kept_same decoded_bar_of (decoded_bar f.image f.probe) (is_own_bar c above t) mine_at bar_test (λ bar. item_value s c (bar_item k bar)) (λ n. value_of (Bar n)) bar_value
+      map_twice (item_value s c) (bar_item k) (filter (is_own_bar c over t kept) r.bars.items)
+      ∙ kept_same decoded_bar_of (decoded_bar f.image f.probe) (is_own_bar c over t kept) mine_at bar_test (λ bar. item_value s c (bar_item k bar)) (λ n. value_of (Bar n)) bar_value
       r.bars.items (bars_in f) (bars_of s f r asked.is)
-      ∙ ap (map (λ n. value_of (Bar n))) (sym (filter_later (has_bar f.probe) (λ n. not (is_left q s f (Bar n))) (λ n. same_class c (class_in q s f (Bar n))) all))
+      ∙ ap (map (λ n. value_of (Bar n))) (sym (filter_later (has_bar f.probe) (λ n. not (is_left q s f (Bar n))) (λ n. same_class c (class_in q s f (Bar n)) && not (kept_of kept (Bar n))) all))
       ∙ sym (map_twice value_of Bar (filter (λ n. is_mine (Bar n)) (filter (λ n. is_part q s f (Bar n)) all)))
       ∙ ap (map value_of) (sym (filter-map is_mine Bar (filter (λ n. is_part q s f (Bar n)) all)))
       ∙ ap (λ ps. map value_of (filter is_mine ps)) (sym (filter-map (is_part q s f) Bar all))
@@ -199,7 +257,7 @@ module _ (q : Request) (s : System) (c : WindowKind) (extent : Function → Exte
   others = Window IoWindow ∷ Window MemoryWindow ∷ Window PrefetchWindow ∷ Rom ∷ []
 
   abbrev value_rom : Bool → List ItemValue
-  value_rom b = cond (b && same_class c MemoryWindow) (value_of Rom ∷ []) []
+  value_rom b = cond (b && (same_class c MemoryWindow && not kept.rom)) (value_of Rom ∷ []) []
 
   others_are : map value_of (filter is_mine (filter (is_part q s f) others)) ≡ value_rom (has_rom f.image f.probe && rom_is_on f.image)
   others_are =
@@ -217,13 +275,14 @@ module _ (q : Request) (s : System) (c : WindowKind) (extent : Function → Exte
       value_same c (function_in s k) f Rom Rom (span rom.first rom.last) (size_of f Rom) (span rom.first rom.last) (size_of f Rom) false false asked.here refl size size refl
 
   roms_are : (rom : Option CodeRom) → option_map decoded_rom_of rom ≡ decoded_rom f.image f.probe
-      → map (item_value s c) (rom_items k c rom) ≡ value_rom (has_rom f.image f.probe && rom_is_on f.image)
+      → map (item_value s c) (rom_items k c kept rom) ≡ value_rom (has_rom f.image f.probe && rom_is_on f.image)
   roms_are None e = sym (ap (λ b. value_rom (b && rom_is_on f.image)) (no_rom (has_rom f.image f.probe) _ e))
   roms_are (Some rom) e =
       let there = rom_there (has_rom f.image f.probe) (decoded_rom_of rom) _ e in
       let on : rom.on ≡ rom_is_on f.image = ap (λ (x : DecodedRom). x.on) there.1 in
-      one_made (item_value s c) (rom.on && same_class c MemoryWindow) (rom_item k rom)
-      ∙ ap (λ i. cond (rom.on && same_class c MemoryWindow) (i ∷ []) []) (rom_value rom e)
+      one_made (item_value s c) (rom.on && same_class c MemoryWindow && not kept.rom) (rom_item k rom)
+      ∙ ap (λ i. cond (rom.on && same_class c MemoryWindow && not kept.rom) (i ∷ []) []) (rom_value rom e)
+      ∙ ap (λ b. cond b (value_of Rom ∷ []) []) (and_later rom.on (same_class c MemoryWindow) (not kept.rom))
       ∙ ap value_rom on
       ∙ sym (ap (λ b. value_rom (b && rom_is_on f.image)) there.0)
 
@@ -232,46 +291,76 @@ module _ (q : Request) (s : System) (c : WindowKind) (extent : Function → Exte
   abbrev value_window : Bool → List ItemValue
   value_window b = cond b (record { region = window_region c f; class = c; extent = extent f } ∷ []) []
 
-  windows_are : (o : Option Extent) → IsWindowOf (is_bridge f && has_of q s c f) (extent f) o → map (item_value s c) (window_items k o) ≡ value_window (is_bridge f && has_of q s c f)
-  windows_are None off = sym (ap value_window off)
+  window_if : (keep : Bool) (e : Extent) → item_value s c record { function = k; part = parts.Window; extent = e } ≡ record { region = window_region c f; class = c; extent = extent f }
+      → map (item_value s c) (cond keep [] (record { function = k; part = parts.Window; extent = e } ∷ [])) ≡ value_window (not keep)
+  window_if true e same = refl
+  window_if false e same = ap (λ i. i ∷ []) same
+
+  windows_are : (o : Option Extent) → IsWindowOf (is_bridge f && has_of q s c f) (extent f) o
+      → map (item_value s c) (window_items k c kept o) ≡ value_window (is_bridge f && has_of q s c f && not (kept_of kept (Window c)))
+  windows_are None off = sym (ap (λ b. value_window (b && not (kept_of kept (Window c)))) off)
   windows_are (Some e) (there, same) =
       let here = asked.here in
       let first : item_value s c record { function = k; part = parts.Window; extent = e } ≡ record { region = window_region c f; class = c; extent = extent f } = cc in
-      ap (λ i. i ∷ []) first ∙ sym (ap value_window there)
+      window_if (kept_of kept (Window c)) e first ∙ sym (ap (λ b. value_window (b && not (kept_of kept (Window c)))) there)
 
   -- ---- all of them
 
   abbrev mine : List ItemValue
-  mine = map (own_item c) (filter (λ i. is_own q s c i && not (nothing i)) (regions_of q s f))
+  mine = map (own_item c) (filter (λ i. is_own q s c i && not (noted i)) (regions_of q s f))
 
-  mine_are : map (item_value s c) (bar_items k c above t r.bars.items) ++ map (item_value s c) (rom_items k c r.rom) ≡ mine
+  mine_are : map (item_value s c) (bar_items k c over t kept r.bars.items) ++ map (item_value s c) (rom_items k c kept r.rom) ≡ mine
   mine_are =
-      let kept : mine ≡ map value_of (filter is_mine (parts_of q s f)) =
-      ap (map (own_item c)) (filter_and (is_own q s c) (regions_of q s f) ∙ filter-map (is_own q s c) region (parts_of q s f))
+      let found : mine ≡ map value_of (filter is_mine (parts_of q s f)) =
+      ap (map (own_item c)) (filter-map (λ i. is_own q s c i && not (noted i)) region (parts_of q s f))
       ∙ map_twice (own_item c) region (filter is_mine (parts_of q s f)) in
       let split : map value_of (filter is_mine (parts_of q s f))
       ≡ map value_of (filter is_mine (filter (is_part q s f) (header_bars f))) ++ map value_of (filter is_mine (filter (is_part q s f) others)) =
       ap (λ ps. map value_of (filter is_mine ps)) (filter-append (is_part q s f) (header_bars f) others)
       ∙ ap (map value_of) (filter-append is_mine (filter (is_part q s f) (header_bars f)) (filter (is_part q s f) others))
       ∙ map-append value_of (filter is_mine (filter (is_part q s f) (header_bars f))) (filter is_mine (filter (is_part q s f) others)) in
-      ap (λ xs. xs ++ map (item_value s c) (rom_items k c r.rom)) bars_are
+      ap (λ xs. xs ++ map (item_value s c) (rom_items k c kept r.rom)) bars_are
       ∙ ap (λ xs. map value_of (filter is_mine (filter (is_part q s f) (header_bars f))) ++ xs) (roms_are r.rom (rom_of s f r asked.is) ∙ sym others_are)
-      ∙ sym (kept ∙ split)
+      ∙ sym (found ∙ split)
 
-  pub values_are : map (item_value s c) (record_items k c above t window r)
-      ≡ map (item_value s c) (bar_items k c above t r.bars.items) ++ (map (item_value s c) (window_items k window) ++ map (item_value s c) (rom_items k c r.rom))
+  pub values_are : map (item_value s c) (record_items k c over t window kept r)
+      ≡ map (item_value s c) (bar_items k c over t kept r.bars.items) ++ (map (item_value s c) (window_items k c kept window) ++ map (item_value s c) (rom_items k c kept r.rom))
   values_are =
-      map-append (item_value s c) (bar_items k c above t r.bars.items) (window_items k window ++ rom_items k c r.rom)
-      ∙ ap (λ xs. map (item_value s c) (bar_items k c above t r.bars.items) ++ xs) (map-append (item_value s c) (window_items k window) (rom_items k c r.rom))
+      map-append (item_value s c) (bar_items k c over t kept r.bars.items) (window_items k c kept window ++ rom_items k c kept r.rom)
+      ∙ ap (λ xs. map (item_value s c) (bar_items k c over t kept r.bars.items) ++ xs) (map-append (item_value s c) (window_items k c kept window) (rom_items k c kept r.rom))
 
-  pub items_are : IsPermutation (map (item_value s c) (record_items k c above t window r)) (items_of q s c nothing extent f)
+  -- what the table tells is what is to keep its place
+  noted_part : (p : Part) → Contains (parts_of q s f) p → (is_own q s c (region p) && not (noted (region p))) ≡ (is_own q s c (region p) && not (keeps (region p)))
+  noted_part p listed = elim (cases_Bool (is_window p)) [
+    | inl window ↦
+        let no : (b : Bool) → (not (is_window p) && same_class c (class_in q s f p) && b) ≡ false = λ b. ap (λ w. not w && same_class c (class_in q s f p) && b) window in
+        no (not (noted (region p))) ∙ sym (no (not (keeps (region p))))
+    | inr plain ↦ ap (λ b. is_own q s c (region p) && not b) (asked.keeps_is p (header_has f p (in_filter_to (is_part q s f) (header_parts f) p listed).0 plain))
+  ]
+
+  noted_window : (is_bridge f && has_of q s c f && not (kept_of kept (Window c))) ≡ (is_bridge f && has_of q s c f && not (keeps (window_region c f)))
+  noted_window = elim (cases_Bool (is_bridge f)) [
+    | inl bridge ↦ ap (λ b. is_bridge f && has_of q s c f && not b) (asked.keeps_is (Window c) bridge)
+    | inr other ↦ ap (λ b. b && has_of q s c f && not (kept_of kept (Window c))) other ∙ sym (ap (λ b. b && has_of q s c f && not (keeps (window_region c f))) other)
+  ]
+
+  kept_are : mine ++ value_window (is_bridge f && has_of q s c f && not (kept_of kept (Window c))) ≡ items_of q s c keeps extent f
+  kept_are =
+      ap (λ b. mine ++ value_window b) noted_window
+      ∙ ap (λ rs. map (own_item c) rs ++ value_window (is_bridge f && has_of q s c f && not (keeps (window_region c f))))
+      (filter-map (λ i. is_own q s c i && not (noted i)) region (parts_of q s f)
+      ∙ ap (map region) (filter_same (λ p. is_own q s c (region p) && not (noted (region p))) (λ p. is_own q s c (region p) && not (keeps (region p))) (parts_of q s f) noted_part)
+      ∙ sym (filter-map (λ i. is_own q s c i && not (keeps i)) region (parts_of q s f)))
+
+  pub items_are : IsPermutation (map (item_value s c) (record_items k c over t window kept r)) (items_of q s c keeps extent f)
   items_are =
-      let bars = map (item_value s c) (bar_items k c above t r.bars.items) in
-      let windows = map (item_value s c) (window_items k window) in
-      let roms = map (item_value s c) (rom_items k c r.rom) in
-      let right : bars ++ (roms ++ windows) ≡ items_of q s c nothing extent f =
+      let bars = map (item_value s c) (bar_items k c over t kept r.bars.items) in
+      let windows = map (item_value s c) (window_items k c kept window) in
+      let roms = map (item_value s c) (rom_items k c kept r.rom) in
+      let right : bars ++ (roms ++ windows) ≡ items_of q s c keeps extent f =
       sym (append_assoc bars roms windows)
       ∙ ap (λ xs. xs ++ windows) mine_are
-      ∙ ap (λ xs. mine ++ xs) (windows_are window asked.new ∙ ap value_window (window_test (is_bridge f) (has_of q s c f))) in
-      subst (λ xs. IsPermutation xs (items_of q s c nothing extent f)) (sym values_are)
+      ∙ ap (λ xs. mine ++ xs) (windows_are window asked.new)
+      ∙ kept_are in
+      subst (λ xs. IsPermutation xs (items_of q s c keeps extent f)) (sym values_are)
       (subst (IsPermutation (bars ++ (windows ++ roms))) right (IsPermutation-append_right bars (windows ++ roms) (roms ++ windows) (IsPermutation-append_comm windows roms)))

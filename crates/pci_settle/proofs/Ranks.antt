@@ -1,5 +1,5 @@
 -- What a record has to place stands by rising registers.
-use Rattle.std.proofs.Common.{◌≡◌, ℕ, ◌+◌, ◌*◌, ◌<◌, ◌≤◌, inl, inr, List, [], ◌∷◌, ◌++◌, map, Bool, true, false, cond, ◌&&◌, arith, sym, ◌∙◌, ap, subst, Option, Some, None}
+use Rattle.std.proofs.Common.{◌≡◌, ℕ, ◌+◌, ◌*◌, ◌<◌, ◌≤◌, inl, inr, List, [], ◌∷◌, ◌++◌, map, Bool, true, false, cond, ◌&&◌, not, arith, sym, ◌∙◌, ap, subst, Option, Some, None}
 use Rattle.std.specs.Bool.{◌==◌}
 use Rattle.std.specs.List.{Contains, AllPairs, filter, range_with_len}
 use Rattle.std.proofs.lemmas.Bool.{cases_Bool, and_parts, eqb-true}
@@ -7,21 +7,23 @@ use Rattle.std.proofs.lemmas.List.Elements.{Contains-append_cases}
 use Rattle.pci_spec.specs.Slot.{slot_number}
 use Rattle.pci_spec.specs.Header.{layout, bar_count, bar_register, rom_register}
 use Rattle.pci_spec.specs.Window.{WindowKind, IoWindow, MemoryWindow, PrefetchWindow, window_register}
-use Rattle.pci_spec.specs.System.{System, Function, Part, Bar, is_bridge, register_of}
+use Rattle.pci_spec.specs.System.{System, Function, Part, Bar, Window, is_bridge, register_of}
 use Rattle.pci_spec.proofs.Members.{in_nil, in_cons_cases, in_filter_to, in_map_to, in_range_to, IsMade, pairs_nil, pairs_cons, pairs_append, pairs_map, pairs_filter, pairs_range}
 use Rattle.plan_spec.specs.Plan.{same_class}
 use Rattle.settle_spec.specs.FirstPlace.{Extent as ExtentValue}
 use Rattle.settle_spec.specs.Lists.{Request}
 use Rattle.settle_spec.specs.Parts.{Region, is_part, header_bars}
 use Rattle.settle_spec.specs.Stands.{rank}
-use Rattle.settle_spec.specs.Items.{Item as ItemValue, own_item, is_own, has_of, items_of, nothing}
+use Rattle.settle_spec.specs.Items.{Item as ItemValue, own_item, is_own, has_of, items_of}
 use Rattle.settle_spec.specs.PlacingLaws.{HasLowerRank}
 use Rattle.pci_image.specs.declared.rom.Rom.{Rom as CodeRom}
 use Rattle.pci_function.specs.declared.record.Record.{Record}
-use Rattle.pci_place.specs.declared.above.Above.{Above}
 use Rattle.pci_settle.specs.declared.extent.Extent.{Extent}
 use Rattle.pci_settle.specs.declared.item.Part.TheVariants as parts
+use Rattle.pci_settle.specs.declared.kept.Kept.{Kept}
+use Rattle.pci_settle.specs.declared.over.Over.{Over}
 use Rattle.pci_settle.specs.declared.own.Terms.{Terms}
+use Rattle.pci_settle.specs.Kept.{kept_of}
 use Rattle.pci_settle.specs.Own.{bar_items, rom_item, rom_items, window_items, record_items, item_value, IsWindowOf, IsAsked, AreByRank}
 use Rattle.pci_settle.proofs.OwnItems.{bars_are, values_are, items_are}
 
@@ -51,8 +53,8 @@ window_between PrefetchWindow = (omega arith, omega arith)
 single_rank : (i : ItemValue) → AllPairs HasLowerRank (i ∷ [])
 single_rank i = pairs_cons HasLowerRank i [] (λ j listed. absurd (in_nil j listed)) (pairs_nil HasLowerRank)
 
-module _ (q : Request) (s : System) (c : WindowKind) (extent : Function → ExtentValue) (f : Function) (k : ℕ) (above : Above) (t : Terms) (window : Option Extent) (r : Record)
-    (asked : IsAsked q s c extent f k above t window r) where
+module _ (q : Request) (s : System) (c : WindowKind) (keeps : Region → Bool) (extent : Function → ExtentValue) (f : Function) (k : ℕ) (over : Over) (t : Terms) (window : Option Extent) (kept : Kept) (r : Record)
+    (asked : IsAsked q s c keeps extent f k over t window kept r) where
   abbrev kind : ℕ
   kind = layout f.image
 
@@ -68,16 +70,16 @@ module _ (q : Request) (s : System) (c : WindowKind) (extent : Function → Exte
   bars = filter (is_part q s f) (header_bars f)
 
   abbrev is_mine : Part → Bool
-  is_mine p = is_own q s c (region p)
+  is_mine p = is_own q s c (region p) && not (kept_of kept p)
 
   abbrev value_of : Part → ItemValue
   value_of p = own_item c (region p)
 
   abbrev bar_values : List ItemValue
-  bar_values = map (item_value s c) (bar_items k c above t r.bars.items)
+  bar_values = map (item_value s c) (bar_items k c over t kept r.bars.items)
 
   bars_here : bar_values ≡ map value_of (filter is_mine bars)
-  bars_here = bars_are q s c extent f k above t window r asked
+  bars_here = bars_are q s c keeps extent f k over t window kept r asked
 
   header_rise : AllPairs registers (header_bars f)
   header_rise = pairs_map registers Bar (range_with_len 0 (bar_count kind)) (λ i j d up inside. let less = pairs_range 0 (bar_count kind) i j d up inside in omega (arith, less))
@@ -99,27 +101,36 @@ module _ (q : Request) (s : System) (c : WindowKind) (extent : Function → Exte
   -- ---- the window
 
   abbrev window_values : List ItemValue
-  window_values = map (item_value s c) (window_items k window)
+  window_values = map (item_value s c) (window_items k c kept window)
 
-  window_at : (o : Option Extent) → IsWindowOf (is_bridge f && has_of q s c f) (extent f) o → (i : ItemValue) → Contains (map (item_value s c) (window_items k o)) i
-      → (kind ≡ 1) × (rank i.region ≡ first_rank f + window_register c)
-  window_at None off i listed = absurd (in_nil i listed)
-  window_at (Some e) (there, same) i listed = elim (in_cons_cases (item_value s c record { function = k; part = parts.Window; extent = e }) [] i listed) [
-    | inl here ↦ (
-      eqb-true kind 1 (and_parts (is_bridge f) (has_of q s c f) there).0,
-      ap (λ (j : ItemValue). rank j.region) (sym here) ∙ ap (λ (g : Function). slot_number g.slot * 256 + window_register c) asked.here,
-    )
+  window_if : (keep : Bool) (e : Extent) (i : ItemValue) → Contains (map (item_value s c) (cond keep [] (record { function = k; part = parts.Window; extent = e } ∷ []))) i
+      → item_value s c record { function = k; part = parts.Window; extent = e } ≡ i
+  window_if true e i listed = absurd (in_nil i listed)
+  window_if false e i listed = elim (in_cons_cases (item_value s c record { function = k; part = parts.Window; extent = e }) [] i listed) [
+    | inl here ↦ here
     | inr none ↦ absurd (in_nil i none)
   ]
 
-  window_rises : (o : Option Extent) → AllPairs HasLowerRank (map (item_value s c) (window_items k o))
+  window_at : (o : Option Extent) → IsWindowOf (is_bridge f && has_of q s c f) (extent f) o → (i : ItemValue) → Contains (map (item_value s c) (window_items k c kept o)) i
+      → (kind ≡ 1) × (rank i.region ≡ first_rank f + window_register c)
+  window_at None off i listed = absurd (in_nil i listed)
+  window_at (Some e) (there, same) i listed = (
+    eqb-true kind 1 (and_parts (is_bridge f) (has_of q s c f) there).0,
+    ap (λ (j : ItemValue). rank j.region) (sym (window_if (kept_of kept (Window c)) e i listed)) ∙ ap (λ (g : Function). slot_number g.slot * 256 + window_register c) asked.here,
+  )
+
+  window_rises_if : (keep : Bool) (e : Extent) → AllPairs HasLowerRank (map (item_value s c) (cond keep [] (record { function = k; part = parts.Window; extent = e } ∷ [])))
+  window_rises_if true e = pairs_nil HasLowerRank
+  window_rises_if false e = single_rank (item_value s c record { function = k; part = parts.Window; extent = e })
+
+  window_rises : (o : Option Extent) → AllPairs HasLowerRank (map (item_value s c) (window_items k c kept o))
   window_rises None = pairs_nil HasLowerRank
-  window_rises (Some e) = single_rank (item_value s c record { function = k; part = parts.Window; extent = e })
+  window_rises (Some e) = window_rises_if (kept_of kept (Window c)) e
 
   -- ---- the ROM
 
   abbrev rom_values : List ItemValue
-  rom_values = map (item_value s c) (rom_items k c r.rom)
+  rom_values = map (item_value s c) (rom_items k c kept r.rom)
 
   rom_if : (b : Bool) (rom : CodeRom) (i : ItemValue) → Contains (map (item_value s c) (cond b (rom_item k rom ∷ []) [])) i → rank i.region ≡ first_rank f + rom_register kind
   rom_if false rom i listed = absurd (in_nil i listed)
@@ -128,17 +139,17 @@ module _ (q : Request) (s : System) (c : WindowKind) (extent : Function → Exte
     | inr none ↦ absurd (in_nil i none)
   ]
 
-  rom_at : (o : Option CodeRom) (i : ItemValue) → Contains (map (item_value s c) (rom_items k c o)) i → rank i.region ≡ first_rank f + rom_register kind
+  rom_at : (o : Option CodeRom) (i : ItemValue) → Contains (map (item_value s c) (rom_items k c kept o)) i → rank i.region ≡ first_rank f + rom_register kind
   rom_at None i listed = absurd (in_nil i listed)
-  rom_at (Some rom) i listed = rom_if (rom.on && same_class c MemoryWindow) rom i listed
+  rom_at (Some rom) i listed = rom_if (rom.on && same_class c MemoryWindow && not kept.rom) rom i listed
 
   rom_rises_if : (b : Bool) (rom : CodeRom) → AllPairs HasLowerRank (map (item_value s c) (cond b (rom_item k rom ∷ []) []))
   rom_rises_if true rom = single_rank (item_value s c (rom_item k rom))
   rom_rises_if false rom = pairs_nil HasLowerRank
 
-  rom_rises : (o : Option CodeRom) → AllPairs HasLowerRank (map (item_value s c) (rom_items k c o))
+  rom_rises : (o : Option CodeRom) → AllPairs HasLowerRank (map (item_value s c) (rom_items k c kept o))
   rom_rises None = pairs_nil HasLowerRank
-  rom_rises (Some rom) = rom_rises_if (rom.on && same_class c MemoryWindow) rom
+  rom_rises (Some rom) = rom_rises_if (rom.on && same_class c MemoryWindow && not kept.rom) rom
 
   -- ---- all of them
 
@@ -166,19 +177,19 @@ module _ (q : Request) (s : System) (c : WindowKind) (extent : Function → Exte
         | inr at_rom ↦ (let b = rom_at r.rom j at_rom in let up = bar_below_rom kind bar.0 less in omega (arith, a, b, up))
       ]
 
-  items_rise : AllPairs HasLowerRank (map (item_value s c) (record_items k c above t window r))
+  items_rise : AllPairs HasLowerRank (map (item_value s c) (record_items k c over t window kept r))
   items_rise =
-      subst (AllPairs HasLowerRank) (sym (values_are q s c extent f k above t window r asked))
+      subst (AllPairs HasLowerRank) (sym (values_are q s c keeps extent f k over t window kept r asked))
       (pairs_append HasLowerRank bar_values (window_values ++ rom_values) bars_rise
       (pairs_append HasLowerRank window_values rom_values (window_rises window) (rom_rises r.rom) below_rom) below_rest)
 
   -- they are of the registers of a slot
-  pub items_in_slot : (i : ItemValue) → Contains (map (item_value s c) (record_items k c above t window r)) i → (first_rank f ≤ rank i.region) × (rank i.region < first_rank f + 256)
+  pub items_in_slot : (i : ItemValue) → Contains (map (item_value s c) (record_items k c over t window kept r)) i → (first_rank f ≤ rank i.region) × (rank i.region < first_rank f + 256)
   items_in_slot i listed =
       let few = bars_few kind in
       let low = rom_low kind in
       let high = (window_between c).1 in
-      elim (Contains-append_cases bar_values (window_values ++ rom_values) i (subst (λ xs. Contains xs i) (values_are q s c extent f k above t window r asked) listed)) [
+      elim (Contains-append_cases bar_values (window_values ++ rom_values) i (subst (λ xs. Contains xs i) (values_are q s c keeps extent f k over t window kept r asked) listed)) [
         | inl at_bar ↦ (let bar = bar_at i at_bar in let less = bar.1 in let a = bar.2 in (omega (arith, a), omega (arith, a, less, few)))
         | inr at_rest ↦ elim (Contains-append_cases window_values rom_values i at_rest) [
           | inl at_window ↦ (let a = (window_at window asked.new i at_window).1 in (omega (arith, a), omega (arith, a, high)))
@@ -186,5 +197,5 @@ module _ (q : Request) (s : System) (c : WindowKind) (extent : Function → Exte
         ]
       ]
 
-  pub items_by_rank : AreByRank (map (item_value s c) (record_items k c above t window r)) (items_of q s c nothing extent f)
-  items_by_rank = record { same = items_are q s c extent f k above t window r asked; rising = items_rise }
+  pub items_by_rank : AreByRank (map (item_value s c) (record_items k c over t window kept r)) (items_of q s c keeps extent f)
+  items_by_rank = record { same = items_are q s c keeps extent f k over t window kept r asked; rising = items_rise }

@@ -3,6 +3,8 @@ pub mod Placings
 pub mod Windows
 pub mod Turns
 pub mod Lists
+pub mod Kept
+pub mod Over
 pub mod Own
 pub mod Buses
 pub mod NewWindows

@@ -1,4 +1,4 @@
--- The new windows of bridges in a class where nothing stands, by the bus behind each.
+-- The new windows of bridges in a class, by the bus behind each.
 use Rattle.std.specs.Prelude.{◌≡◌, ℕ, ◌<◌, ◌≤◌, ◌^◌, Bool, true, false, ◌&&◌, IsTrue, IfSome, List, map, length, set, Option, None, Some, slice_index_or}
 use Rattle.std.specs.Option.{option_map}
 use Rattle.pci_spec.specs.Window.{WindowKind, PrefetchWindow, page_size}
@@ -12,7 +12,9 @@ use Rattle.pci_function.specs.declared.record.Bridge.{Bridge}
 use Rattle.pci_place.specs.Above.{is_wide_in}
 use Rattle.pci_place.specs.Items.{function_in}
 use Rattle.pci_settle.specs.declared.extent.Extent.{Extent}
+use Rattle.pci_settle.specs.declared.over.OpenWindows.{OpenWindows}
 use Rattle.pci_settle.specs.declared.own.Terms.{Terms}
+use Rattle.pci_settle.specs.Over.{AreOpenOver}
 use Rattle.pci_settle.specs.Spots.{extent_value, IsExtent}
 use Rattle.pci_settle.specs.Placings.{item_extent}
 use Rattle.pci_settle.specs.Own.{AreTerms, IsWindowOf}
@@ -27,7 +29,7 @@ around_bus q s c extent b =
     (map item_extent (items_on q s c nothing extent b.secondary))
 
 -- there is an item, and the extent around them has 2^64 addresses or more
-pub record IsTooLarge (items : List ItemValue) (around : ExtentValue) : Type 0 where
+pub record AreTooLarge (items : List ItemValue) (around : ExtentValue) : Type 0 where
   pub some : 0 < length items
   pub large : 2 ^ 64 ≤ around.size
 
@@ -37,24 +39,24 @@ IsEntry items around None = length items ≡ 0
 IsEntry items around (Some x) = (0 < length items) × (extent_value x ≡ around)
 
 -- what holds of the items behind a bridge, whatever is asked for
-abbrev pub OfItems : List ℕ → System → WindowKind → Terms → List (Option Extent) → Bridge → (List ItemValue → ExtentValue → Type 0) → Type 0
-OfItems roots s c t windows b holds =
-    (q : Request) (extent : Function → ExtentValue) → q.roots ≡ roots
+abbrev pub OfItems : List ℕ → System → WindowKind → Terms → List OpenWindows → List (Option Extent) → Bridge → (List ItemValue → ExtentValue → Type 0) → Type 0
+OfItems roots s c t overs windows b holds =
+    (q : Request) (extent : Function → ExtentValue) → q.roots ≡ roots → AreOpenOver q s overs
     → AreBehind q s c extent b.secondary t windows
     → holds (items_on q s c nothing extent b.secondary) (around_bus q s c extent b)
 
 -- the entry of the bus behind a bridge is put into a table
-pub record IsWindowPut (roots : List ℕ) (s : System) (c : WindowKind) (t : Terms) (b : Bridge)
-    (old new : List (Option Extent)) : Type 0 where
+pub record IsWindowPut (roots : List ℕ) (s : System) (c : WindowKind) (t : Terms)
+    (overs : List OpenWindows) (b : Bridge) (old new : List (Option Extent)) : Type 0 where
   pub entry : Option Extent
   pub put : new ≡ set old b.secondary entry
   pub lawful : IfSome entry IsExtent
-  pub is : OfItems roots s c t old b (λ items around. IsEntry items around entry)
+  pub is : OfItems roots s c t overs old b (λ items around. IsEntry items around entry)
 
 -- where it has fewer than 2^64 addresses
-abbrev pub IsPut : List ℕ → System → WindowKind → Terms → Bridge → List (Option Extent) → List (Option Extent) → Bool → Type 0
-IsPut roots s c t b old new true = IsWindowPut roots s c t b old new
-IsPut roots s c t b old new false = (new ≡ old) × OfItems roots s c t old b IsTooLarge
+abbrev pub IsPut : List ℕ → System → WindowKind → Terms → List OpenWindows → Bridge → List (Option Extent) → List (Option Extent) → Bool → Type 0
+IsPut roots s c t overs b old new true = IsWindowPut roots s c t overs b old new
+IsPut roots s c t overs b old new false = (new ≡ old) × OfItems roots s c t overs old b AreTooLarge
 
 -- ---- of all bridges
 
@@ -63,6 +65,13 @@ pub record IsAnew (q : Request) (roots : List ℕ) (t : Terms) : Type 0 where
   pub rooted : q.roots ≡ roots
   pub anew : IsTrue q.anew
   pub terms : AreTerms q.lists t
+
+-- these open windows tell the classes of what is asked for below these roots, in lists that tell this
+pub record IsLeft (roots : List ℕ) (s : System) (t : Terms) (overs : List OpenWindows)
+    (q : Request) : Type 0 where
+  pub rooted : q.roots ≡ roots
+  pub terms : AreTerms q.lists t
+  pub overs_are : AreOpenOver q s overs
 
 -- the window in a table over a bus
 abbrev pub window_in : List (Option Extent) → ℕ → Option ExtentValue
@@ -74,20 +83,24 @@ pub record HasNewWindows (q : Request) (s : System) (c : WindowKind) (t : Terms)
   pub over : (bus : ℕ) → bus < 256 → window_in windows bus ≡ window_to q s c bus
   pub behind : (bus : ℕ) → AreBehind q s c (new_window q s c) bus t windows
 
--- the new window of a function of a system has 2^64 addresses or more, and the table has those of all bridges in higher slots
-pub record IsLastTooLarge (q : Request) (s : System) (c : WindowKind) (windows : List (Option Extent))
-    (k : ℕ) : Type 0 where
+-- the new window of a function has 2^64 addresses or more
+pub record IsTooLarge (q : Request) (s : System) (c : WindowKind) (k : ℕ) : Type 0 where
   pub within : k < length s
   pub bridge : IsTrue (is_bridge (function_in s k))
   pub behind : IsTrue (has_of q s c (function_in s k))
   pub large : 2 ^ 64 ≤ (new_window q s c (function_in s k)).size
+
+-- and the table has those of all bridges in higher slots
+pub record IsLastTooLarge (q : Request) (s : System) (c : WindowKind) (windows : List (Option Extent))
+    (k : ℕ) : Type 0 where
+  pub too_large : IsTooLarge q s c k
   pub above : (j : ℕ) → k < j → j < length s → IsTrue (is_bridge (function_in s j))
       → IsWindowOf (has_of q s c (function_in s j)) (new_window q s c (function_in s j))
       (slice_index_or windows (secondary (function_in s j)) None)
 
 -- the table has the new window over each bus, or a bridge is named whose new window has 2^64 addresses or more
-abbrev pub AreNewWindows : List ℕ → System → WindowKind → Terms → List (Option Extent) → Option ℕ → Type 0
-AreNewWindows roots s c t windows None =
-    (q : Request) → IsAnew q roots t → HasNewWindows q s c t windows
-AreNewWindows roots s c t windows (Some k) =
-    (q : Request) → IsAnew q roots t → IsLastTooLarge q s c windows k
+abbrev pub AreNewWindows : List ℕ → System → WindowKind → Terms → List OpenWindows → List (Option Extent) → Option ℕ → Type 0
+AreNewWindows roots s c t overs windows None =
+    (q : Request) → IsLeft roots s t overs q → HasNewWindows q s c t windows
+AreNewWindows roots s c t overs windows (Some k) =
+    (q : Request) → IsLeft roots s t overs q → IsLastTooLarge q s c windows k

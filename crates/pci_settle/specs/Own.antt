@@ -1,23 +1,25 @@
--- What a record has to place in a class where nothing stands.
+-- What a record has to place in a class.
 use Rattle.std.specs.Prelude.{◌≡◌, ℕ, ◌+◌, ◌-◌, ◌/◌, ◌<◌, ◌≤◌, ◌^◌, Bool, false, ◌&&◌, not, if◌then◌else◌, IsTrue, List, [], ◌∷◌, ◌++◌, map, Option, None, Some}
+use Rattle.std.specs.Option.{option_map}
 use Rattle.std.specs.List.{AllPairs, filter}
 use Rattle.std.specs.List.Sorted.{IsPermutation}
 use Rattle.pci_spec.specs.Registers.{BASE_ADDRESS}
-use Rattle.pci_spec.specs.Window.{WindowKind, IoWindow, MemoryWindow}
-use Rattle.pci_spec.specs.System.{System, Function, Part, Bar, Rom, Window, is_bridge}
+use Rattle.pci_spec.specs.Window.{WindowKind, IoWindow, MemoryWindow, PrefetchWindow}
+use Rattle.pci_spec.specs.System.{System, Function, Part, Bar, Rom, Window, is_bridge, has_part}
 use Rattle.plan_spec.specs.Plan.{same_class, greatest}
 use Rattle.plan_spec.specs.Plan as plan
 use Rattle.settle_spec.specs.FirstPlace.{Extent as ExtentValue}
 use Rattle.settle_spec.specs.Lists.{RootRange, Lists, Request}
-use Rattle.settle_spec.specs.Parts.{is_empty}
-use Rattle.settle_spec.specs.Items.{Item as ItemValue, has_of, items_of, nothing}
+use Rattle.settle_spec.specs.Parts.{Region, is_empty}
+use Rattle.settle_spec.specs.Items.{Item as ItemValue, has_of, items_of}
 use Rattle.settle_spec.specs.PlacingLaws.{HasLowerRank}
+use Rattle.pci_base.specs.declared.range.Range.{Range as CodeRange}
+use Rattle.pci_base.specs.Ranges.{decoded_range_of}
 use Rattle.pci_image.specs.declared.bar.Bar.{Bar as CodeBar}
 use Rattle.pci_image.specs.declared.rom.Rom.{Rom as CodeRom}
 use Rattle.pci_function.specs.declared.record.Record.{Record}
 use Rattle.pci_place.specs.declared.above.Above.{Above}
 use Rattle.pci_place.specs.declared.pools.Pools.{Pools}
-use Rattle.pci_place.specs.Above.{IsAbove}
 use Rattle.pci_place.specs.Records.{IsRecordOf}
 use Rattle.pci_place.specs.Classes.{is_io_kind, is_wide_kind, bar_class}
 use Rattle.pci_place.specs.Items.{function_in}
@@ -25,7 +27,11 @@ use Rattle.pci_settle.specs.declared.extent.Extent.{Extent}
 use Rattle.pci_settle.specs.declared.item.Item.{Item}
 use Rattle.pci_settle.specs.declared.item.Part.{Part as CodePart}
 use Rattle.pci_settle.specs.declared.item.Part.TheVariants as parts
+use Rattle.pci_settle.specs.declared.kept.Kept.{Kept}
+use Rattle.pci_settle.specs.declared.over.Over.{Over}
 use Rattle.pci_settle.specs.declared.own.Terms.{Terms}
+use Rattle.pci_settle.specs.Kept.{kept_of}
+use Rattle.pci_settle.specs.Over.{is_held, IsOver}
 use Rattle.pci_settle.specs.Spots.{extent_value}
 
 -- ---- what the lists tell
@@ -55,16 +61,32 @@ code_pools last = record {
   pref = record { first = 0; last = last };
 }
 
-abbrev pub class_of : CodeBar → Above → Option ℕ → WindowKind
-class_of bar above None = if is_io_kind bar.kind then IoWindow else MemoryWindow
-class_of bar above (Some last) = bar_class bar above (code_pools last)
+-- where no open window holds it
+abbrev pub class_anew : CodeBar → Above → Option ℕ → WindowKind
+class_anew bar above None = if is_io_kind bar.kind then IoWindow else MemoryWindow
+class_anew bar above (Some last) = bar_class bar above (code_pools last)
+
+abbrev pub is_held_bar : Option CodeRange → CodeBar → Bool
+is_held_bar window bar =
+    bar.prefetch && is_held (option_map decoded_range_of window) record { first = bar.first; last = bar.last }
+
+abbrev pub class_of : CodeBar → Over → Option ℕ → WindowKind
+class_of bar over last =
+    if is_held_bar over.windows.memory bar then MemoryWindow
+    else if is_held_bar over.windows.prefetch bar && over.above.pref then PrefetchWindow
+    else class_anew bar over.above last
+
+-- the Base Address register that starts it
+abbrev pub bar_number : CodeBar → ℕ
+bar_number bar = (bar.reg - BASE_ADDRESS) / 4
 
 abbrev pub is_left_bar : CodeBar → Above → Bool → Bool
 is_left_bar bar above has_io = is_io_kind bar.kind && not (has_io && above.io)
 
-abbrev pub is_own_bar : WindowKind → Above → Terms → CodeBar → Bool
-is_own_bar c above t bar =
-    not (is_left_bar bar above t.has_io) && same_class c (class_of bar above t.prefetch_last)
+abbrev pub is_own_bar : WindowKind → Over → Terms → Kept → CodeBar → Bool
+is_own_bar c over t kept bar =
+    not (is_left_bar bar over.above t.has_io) && same_class c (class_of bar over t.prefetch_last)
+    && not (kept_of kept (Bar (bar_number bar)))
 
 -- there is an address, and all of them can be counted in 64 bits
 pub record IsSpanned (first last : ℕ) : Type 0 where
@@ -86,12 +108,12 @@ own_extent first last wide = record {
 abbrev pub bar_item : ℕ → CodeBar → Item
 bar_item k bar = record {
   function = k;
-  part = parts.Bar ((bar.reg - BASE_ADDRESS) / 4);
+  part = parts.Bar (bar_number bar);
   extent = own_extent bar.first bar.last (is_wide_kind bar.kind);
 }
 
-abbrev pub bar_items : ℕ → WindowKind → Above → Terms → List CodeBar → List Item
-bar_items k c above t bars = map (bar_item k) (filter (is_own_bar c above t) bars)
+abbrev pub bar_items : ℕ → WindowKind → Over → Terms → Kept → List CodeBar → List Item
+bar_items k c over t kept bars = map (bar_item k) (filter (is_own_bar c over t kept) bars)
 
 -- ---- ROMs and windows
 
@@ -99,19 +121,21 @@ abbrev pub rom_item : ℕ → CodeRom → Item
 rom_item k rom =
     record { function = k; part = parts.Rom; extent = own_extent rom.first rom.last false }
 
-abbrev pub rom_items : ℕ → WindowKind → Option CodeRom → List Item
-rom_items k c None = []
-rom_items k c (Some rom) =
-    if rom.on && same_class c MemoryWindow then rom_item k rom ∷ [] else []
+abbrev pub rom_items : ℕ → WindowKind → Kept → Option CodeRom → List Item
+rom_items k c kept None = []
+rom_items k c kept (Some rom) =
+    if rom.on && same_class c MemoryWindow && not kept.rom then rom_item k rom ∷ [] else []
 
-abbrev pub window_items : ℕ → Option Extent → List Item
-window_items k None = []
-window_items k (Some e) = record { function = k; part = parts.Window; extent = e } ∷ []
+abbrev pub window_items : ℕ → WindowKind → Kept → Option Extent → List Item
+window_items k c kept None = []
+window_items k c kept (Some e) =
+    if kept_of kept (Window c) then []
+    else record { function = k; part = parts.Window; extent = e } ∷ []
 
 -- in the order of their registers
-abbrev pub record_items : ℕ → WindowKind → Above → Terms → Option Extent → Record → List Item
-record_items k c above t window r =
-    bar_items k c above t r.bars.items ++ (window_items k window ++ rom_items k c r.rom)
+abbrev pub record_items : ℕ → WindowKind → Over → Terms → Option Extent → Kept → Record → List Item
+record_items k c over t window kept r =
+    bar_items k c over t kept r.bars.items ++ (window_items k c kept window ++ rom_items k c kept r.rom)
 
 -- ---- their values
 
@@ -132,15 +156,17 @@ abbrev pub IsWindowOf : Bool → ExtentValue → Option Extent → Type 0
 IsWindowOf there e None = there ≡ false
 IsWindowOf there e (Some x) = IsTrue there × (extent_value x ≡ e)
 
--- the record is that of a function of a system, with these windows above it and this new one, where nothing stands
-pub record IsAsked (q : Request) (s : System) (c : WindowKind) (extent : Function → ExtentValue) (f : Function)
-    (k : ℕ) (above : Above) (t : Terms) (window : Option Extent) (r : Record) : Type 0 where
-  pub anew : IsTrue q.anew
+-- the record is that of a function of a system, with these windows over it, this new one, and what keeps its place
+pub record IsAsked (q : Request) (s : System) (c : WindowKind) (keeps : Region → Bool) (extent : Function → ExtentValue)
+    (f : Function) (k : ℕ) (over : Over) (t : Terms) (window : Option Extent) (kept : Kept)
+    (r : Record) : Type 0 where
   pub terms : AreTerms q.lists t
   pub is : IsRecordOf s f r
   pub here : function_in s k ≡ f
-  pub over : IsAbove s f.slot.bus above
+  pub over_is : IsOver q s f.slot.bus over
   pub new : IsWindowOf (is_bridge f && has_of q s c f) (extent f) window
+  pub keeps_is : (part : Part) → IsTrue (has_part f part)
+      → kept_of kept part ≡ keeps record { function = f; part = part }
 
 -- the items of a list, by rising slots and registers
 pub record AreByRank (items all : List ItemValue) : Type 0 where
@@ -148,9 +174,9 @@ pub record AreByRank (items all : List ItemValue) : Type 0 where
   pub rising : AllPairs HasLowerRank items
 
 -- then its items are those of the function
-abbrev pub AreItemsOf : ℕ → WindowKind → Above → Terms → Option Extent → Record → Type 0
-AreItemsOf k c above t window r =
-    (q : Request) (s : System) (extent : Function → ExtentValue) (f : Function)
-    → IsAsked q s c extent f k above t window r
-    → AreByRank (map (item_value s c) (record_items k c above t window r))
-    (items_of q s c nothing extent f)
+abbrev pub AreItemsOf : ℕ → WindowKind → Over → Terms → Option Extent → Kept → Record → Type 0
+AreItemsOf k c over t window kept r =
+    (q : Request) (s : System) (keeps : Region → Bool) (extent : Function → ExtentValue) (f : Function)
+    → IsAsked q s c keeps extent f k over t window kept r
+    → AreByRank (map (item_value s c) (record_items k c over t window kept r))
+    (items_of q s c keeps extent f)

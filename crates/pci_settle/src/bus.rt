@@ -1,18 +1,22 @@
-//! What is placed on a bus in a class where nothing stands.
-ghost use Rattle.std.specs.Prelude.{◌≡◌, ◌+◌, ◌<◌, ◌≤◌, ℕ, IfOk, OnOk, IsTrue, None, length};
+//! What is placed on a bus in a class.
+ghost use Rattle.std.specs.Prelude.{◌≡◌, ◌+◌, ◌<◌, ◌≤◌, ℕ, IfOk, OnOk, IsTrue, None, length, slice_index_or};
 ghost use Rattle.std.specs.List.{All, AllWithin};
 ghost use Rattle.pci_spec.specs.Slot.{IsSlot};
+ghost use Rattle.pci_spec.specs.System.{Part};
 ghost use Rattle.pci_spec.specs.Bus.{is_root, are_siblings};
 ghost use Rattle.pci_tree.specs.Roots.{buses_of};
 ghost use Rattle.pci_tree.specs.Outline.{RiseBySlot};
 ghost use Rattle.pci_base.specs.WindowKinds.{kind_value};
 ghost use Rattle.pci_place.specs.Above.{AreAboves, system_in};
+ghost use Rattle.pci_settle.specs.Kept.{kept_of, nothing_kept};
 ghost use Rattle.pci_settle.specs.Buses.{window_behind, AreWindows, AreBelow, AreOnBus, AreInTurn};
 ghost use Rattle.pci_settle.specs.Turns.{HasExtent};
 
 use crate::extent::Extent;
 use crate::item::{Item, sort_items};
+use crate::kept::Kept;
 use crate::list::is_root;
+use crate::over::{Left, Over, open_over};
 use crate::own::{Terms, add_items};
 use pci_base::memory::OutOfMemory;
 use pci_base::slot::BUSES;
@@ -43,6 +47,17 @@ fn window_behind(windows: &[Option<Extent>; BUSES], bridge: Option<Bridge>) -> O
     }
 }
 
+/// What of a function keeps its place, by a table that may be empty.
+fn kept_by(table: &[Kept], function: usize) -> &Kept
+    ensures { (part : Part) → kept_of result.now part
+        ≡ kept_of (slice_index_or table.now function nothing_kept) part }
+{
+    match table.get(function) {
+        Some(kept) => kept,
+        None => &Kept::NONE,
+    }
+}
+
 /// Adds the items of the functions on one bus, which stand in a row.
 fn add_bus<A: Allocator, B: Allocator>(
     items: &mut Vec<Item, A>,
@@ -52,23 +67,28 @@ fn add_bus<A: Allocator, B: Allocator>(
     aboves: &[Above; BUSES],
     terms: Terms,
     windows: &[Option<Extent>; BUSES],
+    left: &Left,
 ) -> Result<(), OutOfMemory>
     requires { AreAboves (system_in admitted.now) aboves.now }
     // of the items of a bus, one of which this is, those on lower buses were there
     ensures { OnOk result ((on : ℕ) → IsTrue (are_siblings admitted.now.roots on bus)
         → AreBelow admitted.now.roots (system_in admitted.now) (kind_value class) terms windows.now
-        on bus items.old.items
+        left.now.over.now left.now.kept.now on bus items.old.items
         → AreBelow admitted.now.roots (system_in admitted.now) (kind_value class) terms windows.now
-        on (bus + 1) items.new.items) }
+        left.now.over.now left.now.kept.now on (bus + 1) items.new.items) }
 {
     let records = admitted.outline().records();
-    let above = aboves[bus as usize];
+    let over = Over {
+        above: aboves[bus as usize],
+        windows: open_over(left.over, bus),
+    };
     let first = first_from(records, bus as u16);
     let end = first_from(records, bus as u16 + 1);
     for function in first..end {
         let record = &records[function];
         let window = window_behind(windows, record.bridge);
-        add_items(items, function, record, class, above, terms, window)?;
+        let kept = kept_by(left.kept, function);
+        add_items(items, function, record, class, &over, terms, window, kept)?;
     }
     Ok(())
 }
@@ -81,26 +101,27 @@ fn add_roots<A: Allocator, B: Allocator>(
     aboves: &[Above; BUSES],
     terms: Terms,
     windows: &[Option<Extent>; BUSES],
+    left: &Left,
 ) -> Result<(), OutOfMemory>
     requires { AreAboves (system_in admitted.now) aboves.now }
     ensures { OnOk result ((on : ℕ) → IsTrue (is_root admitted.now.roots on)
         → AreBelow admitted.now.roots (system_in admitted.now) (kind_value class) terms windows.now
-        on 0 items.old.items
+        left.now.over.now left.now.kept.now on 0 items.old.items
         → AreBelow admitted.now.roots (system_in admitted.now) (kind_value class) terms windows.now
-        on 256 items.new.items) }
+        left.now.over.now left.now.kept.now on 256 items.new.items) }
 {
     let roots = admitted.outline().roots();
     for bus in 0..BUSES {
         let bus = bus as u8;
         if is_root(&roots, bus) {
-            add_bus(items, admitted, bus, class, aboves, terms, windows)?;
+            add_bus(items, admitted, bus, class, aboves, terms, windows, left)?;
         }
     }
     Ok(())
 }
 
-/// The items of a bus in a class, in slot and register order, where nothing stands: `windows` has the new window over
-/// each bus behind a bridge, None where nothing of the class is behind. All roots are one bus.
+/// The items of a bus in a class, in slot and register order: `windows` has the new window over each bus behind a bridge,
+/// None where nothing of the class is behind; what is left keeps its place and is no item. All roots are one bus.
 pub fn items_on<A: Allocator, B: Allocator>(
     alloc: A,
     admitted: &Admitted<B>,
@@ -109,24 +130,27 @@ pub fn items_on<A: Allocator, B: Allocator>(
     aboves: &[Above; BUSES],
     terms: Terms,
     windows: &[Option<Extent>; BUSES],
+    left: &Left,
 ) -> Result<Vec<Item, A>, OutOfMemory>
     requires { AreAboves (system_in admitted.now) aboves.now }
     ensures items { IfOk result (λ items. AreOnBus admitted.now.roots (system_in admitted.now)
-        (kind_value class) terms windows.now bus items.items) }
+        (kind_value class) terms windows.now left.now.over.now left.now.kept.now bus items.items) }
     // a window around them is laid out from what has addresses and alignments
     ensures lawful { AreWindows windows.now → IfOk result (λ items. All HasExtent items.items) }
 {
     let mut items = Vec::new(alloc);
     if is_root(&admitted.outline().roots(), bus) {
-        add_roots(&mut items, admitted, class, aboves, terms, windows)?;
+        add_roots(&mut items, admitted, class, aboves, terms, windows, left)?;
     } else {
-        add_bus(&mut items, admitted, bus, class, aboves, terms, windows)?;
+        add_bus(
+            &mut items, admitted, bus, class, aboves, terms, windows, left,
+        )?;
     }
     Ok(items)
 }
 
-/// The items of a bus in a class in the order in which they are placed, where nothing stands: `windows` has the new window
-/// over each bus.
+/// The items of a bus in a class in the order in which they are placed: `windows` has the new window over each bus, and
+/// what is left keeps its place.
 pub fn items_in_turn<A: Allocator + Copy, B: Allocator>(
     alloc: A,
     admitted: &Admitted<B>,
@@ -135,14 +159,15 @@ pub fn items_in_turn<A: Allocator + Copy, B: Allocator>(
     aboves: &[Above; BUSES],
     terms: Terms,
     windows: &[Option<Extent>; BUSES],
+    left: &Left,
 ) -> Result<Vec<Item, A>, OutOfMemory>
     requires { AreAboves (system_in admitted.now) aboves.now }
     ensures turn { IfOk result (λ items. AreInTurn admitted.now.roots (system_in admitted.now)
-        (kind_value class) terms windows.now bus items.items) }
+        (kind_value class) terms windows.now left.now.over.now left.now.kept.now bus items.items) }
     // places are looked for by sizes and alignments
     ensures lawful { AreWindows windows.now → IfOk result (λ items. All HasExtent items.items) }
 {
-    let mut items = items_on(alloc, admitted, bus, class, aboves, terms, windows)?;
+    let mut items = items_on(alloc, admitted, bus, class, aboves, terms, windows, left)?;
     sort_items(&mut items)?;
     Ok(items)
 }

@@ -9,8 +9,10 @@
 pub mod bus;
 pub mod extent;
 pub mod item;
+pub mod kept;
 pub mod list;
 pub mod new_window;
+pub mod over;
 pub mod own;
 pub mod placing;
 pub mod spot;

@@ -1,4 +1,4 @@
-//! The new windows of bridges in a class where nothing stands: each is as large as what is placed on the bus behind.
+//! The new windows of bridges in a class: each is as large as what is on the bus behind where nothing keeps its place.
 ghost use Rattle.std.specs.Prelude.{◌≡◌, ◌&&◌, IfOk};
 ghost use Rattle.pci_spec.specs.Window.{PrefetchWindow};
 ghost use Rattle.plan_spec.specs.Plan.{same_class};
@@ -9,6 +9,7 @@ ghost use Rattle.pci_settle.specs.NewWindows.{IsPut, AreNewWindows};
 
 use crate::bus::items_on;
 use crate::extent::Extent;
+use crate::over::{Left, OpenWindows};
 use crate::own::Terms;
 use crate::window::window_around;
 use pci_base::memory::OutOfMemory;
@@ -40,16 +41,21 @@ fn put_window<A: Allocator + Copy, B: Allocator>(
     class: WindowKind,
     aboves: &[Above; BUSES],
     terms: Terms,
+    overs: &[OpenWindows],
     windows: &mut [Option<Extent>; BUSES],
 ) -> Result<bool, OutOfMemory>
     requires above { AreAboves (system_in admitted.now) aboves.now }
     requires lawful { AreWindows windows.old }
     ensures put { IfOk result (IsPut admitted.now.roots (system_in admitted.now)
-        (kind_value class) terms bridge.now windows.old windows.new) }
+        (kind_value class) terms overs.now bridge.now windows.old windows.new) }
     ensures lawful { AreWindows windows.new }
 {
     let bus = bridge.secondary;
-    let mut items = items_on(alloc, admitted, bus, class, aboves, terms, windows)?;
+    let left = Left {
+        over: overs,
+        kept: &[],
+    };
+    let mut items = items_on(alloc, admitted, bus, class, aboves, terms, windows, &left)?;
     if items.is_empty() {
         windows[bus as usize] = None;
         return Ok(true);
@@ -65,7 +71,8 @@ fn put_window<A: Allocator + Copy, B: Allocator>(
 }
 
 /// Puts into `windows` the new window of a class over each bus behind a bridge, None where nothing of the class is
-/// behind. What is behind a bridge has higher slots than the bridge, so one pass from the highest slot down finds
+/// behind. `overs` has the open windows over each bus, by which BARs have their classes; it is empty where all is placed
+/// anew. What is behind a bridge has higher slots than the bridge, so one pass from the highest slot down finds
 /// the windows on a bus before the one over it.
 ///
 /// The answer is None where all windows have fewer than 2^64 addresses. Else it is the index of a bridge whose window
@@ -76,12 +83,13 @@ pub fn new_windows<A: Allocator + Copy, B: Allocator>(
     class: WindowKind,
     aboves: &[Above; BUSES],
     terms: Terms,
+    overs: &[OpenWindows],
     windows: &mut [Option<Extent>; BUSES],
 ) -> Result<Option<usize>, OutOfMemory>
     // the class of a BAR hangs on the windows of the bridges above it
     requires { AreAboves (system_in admitted.now) aboves.now }
     ensures windows { IfOk result (AreNewWindows admitted.now.roots (system_in admitted.now)
-        (kind_value class) terms windows.new) }
+        (kind_value class) terms overs.now windows.new) }
     // what is in the table has addresses and an alignment, also where there was no memory for all
     ensures lawful { AreWindows windows.new }
 {
@@ -91,7 +99,9 @@ pub fn new_windows<A: Allocator + Copy, B: Allocator>(
     for done in 0..records.len() {
         let function = records.len() - 1 - done;
         if let Some(bridge) = &records[function].bridge {
-            if !put_window(alloc, admitted, bridge, class, aboves, terms, windows)? {
+            if !put_window(
+                alloc, admitted, bridge, class, aboves, terms, overs, windows,
+            )? {
                 return Ok(Some(function));
             }
         }

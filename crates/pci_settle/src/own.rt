@@ -1,4 +1,5 @@
-//! What of a function is placed in a class where nothing stands: BARs, the new window of a bridge, and a ROM that is on.
+//! What of a function is placed in a class: BARs, the new window of a bridge, and a ROM that is on, but what keeps its
+//! place.
 ghost use Rattle.std.specs.Prelude.{◌≡◌, ◌<◌, ◌++◌, OnOk, IfSome, map};
 ghost use Rattle.std.specs.List.{All};
 ghost use Rattle.plan_spec.specs.Plan.{greatest};
@@ -6,11 +7,13 @@ ghost use Rattle.settle_spec.specs.Lists as lists;
 ghost use Rattle.pci_base.specs.WindowKinds.{kind_value};
 ghost use Rattle.pci_place.specs.Pools.{pools_value};
 ghost use Rattle.pci_settle.specs.Lists.{root_range_value, lists_value};
-ghost use Rattle.pci_settle.specs.Own.{AreTerms, pools_to, class_of, is_left_bar, is_own_bar, IsSpanned, IsSized, bar_item, bar_items, rom_item, rom_items, window_items, record_items, AreItemsOf};
+ghost use Rattle.pci_settle.specs.Own.{AreTerms, pools_to, class_anew, class_of, bar_number, is_left_bar, is_own_bar, IsSpanned, IsSized, bar_item, bar_items, rom_item, rom_items, window_items, record_items, AreItemsOf};
 
 use crate::extent::Extent;
 use crate::item::{Item, Part};
+use crate::kept::Kept;
 use crate::list::Lists;
+use crate::over::{Over, is_held};
 use crate::window::later;
 use pci_base::memory::OutOfMemory;
 use pci_base::offset::BASE_ADDRESS;
@@ -72,14 +75,32 @@ fn pools_to(last: u64) -> Pools
     }
 }
 
-/// The class of a BAR with these windows above it: without a range of prefetchable memory it is never prefetchable.
-fn class_of(bar: &Bar, above: Above, terms: Terms) -> WindowKind
-    ensures { kind_value result ≡ class_of bar.now above terms.prefetch_last }
+/// The class of a BAR with these windows above it that no open window holds: without a range of prefetchable memory it
+/// is never prefetchable.
+fn class_anew(bar: &Bar, above: Above, terms: Terms) -> WindowKind
+    ensures { kind_value result ≡ class_anew bar.now above terms.prefetch_last }
 {
     match terms.prefetch_last {
         Some(last) => class_of_bar(bar, above, &pools_to(last)),
         None if bar.kind == BarKind::Io => WindowKind::Io,
         None => WindowKind::Memory,
+    }
+}
+
+/// The class of a BAR: a prefetchable one is of the class of the open window over it that holds it.
+pub fn class_of(bar: &Bar, over: &Over, terms: Terms) -> WindowKind
+    ensures { kind_value result ≡ class_of bar.now over.now terms.prefetch_last }
+{
+    let range = Range {
+        first: bar.first,
+        last: bar.last,
+    };
+    if bar.prefetch && is_held(over.windows.memory, range) {
+        WindowKind::Memory
+    } else if bar.prefetch && is_held(over.windows.prefetch, range) && over.above.pref {
+        WindowKind::Prefetchable
+    } else {
+        class_anew(bar, over.above, terms)
     }
 }
 
@@ -90,11 +111,22 @@ pub fn is_left_bar(bar: &Bar, above: Above, terms: Terms) -> bool
     bar.kind == BarKind::Io && !(terms.has_io && above.io)
 }
 
-/// Whether a BAR is placed in a class.
-fn is_own_bar(bar: &Bar, class: WindowKind, above: Above, terms: Terms) -> bool
-    ensures { result ≡ is_own_bar (kind_value class) above terms bar.now }
+/// Which Base Address register starts a BAR, counted from 0.
+fn bar_number(bar: &Bar) -> u8
+    requires { IsSized bar.now }
+    ensures { result ≡ bar_number bar.now }
 {
-    !is_left_bar(bar, above, terms) && class_of(bar, above, terms) == class
+    (bar.reg - BASE_ADDRESS) / 4
+}
+
+/// Whether a BAR is placed in a class.
+fn is_own_bar(bar: &Bar, class: WindowKind, over: &Over, terms: Terms, kept: &Kept) -> bool
+    requires { IsSized bar.now }
+    ensures { result ≡ is_own_bar (kind_value class) over.now terms kept.now bar.now }
+{
+    !is_left_bar(bar, over.above, terms)
+        && class_of(bar, over, terms) == class
+        && !kept.bar(bar_number(bar))
 }
 
 /// The item of a BAR, whose size is its alignment.
@@ -105,7 +137,7 @@ fn bar_item(function: usize, bar: &Bar) -> Item
     let size = bar.last - bar.first + 1;
     Item {
         function,
-        part: Part::Bar((bar.reg - BASE_ADDRESS) / 4),
+        part: Part::Bar(bar_number(bar)),
         extent: Extent {
             size,
             alignment: size,
@@ -131,84 +163,99 @@ fn rom_item(function: usize, rom: &Rom) -> Item
     }
 }
 
-/// Adds the BARs of a class.
+/// Adds the BARs of a class that don't keep their places.
 fn add_bars<A: Allocator>(
     items: &mut Vec<Item, A>,
     function: usize,
     bars: &[Bar],
     class: WindowKind,
-    above: Above,
+    over: &Over,
     terms: Terms,
+    kept: &Kept,
 ) -> Result<(), OutOfMemory>
     requires { All IsSized bars.now }
-    ensures { OnOk result (items.new.items
-        ≡ items.old.items ++ bar_items function (kind_value class) above terms bars.now) }
+    ensures { OnOk result (items.new.items ≡ items.old.items
+        ++ bar_items function (kind_value class) over.now terms kept.now bars.now) }
 {
     for bar in bars {
-        if is_own_bar(bar, class, above, terms) {
+        if is_own_bar(bar, class, over, terms, kept) {
             items.push(bar_item(function, bar))?;
         }
     }
     Ok(())
 }
 
-/// Adds a ROM that is on, if the class is that of memory.
+/// Adds a ROM that is on and doesn't keep its place, if the class is that of memory.
 fn add_rom<A: Allocator>(
     items: &mut Vec<Item, A>,
     function: usize,
     rom: Option<Rom>,
     class: WindowKind,
+    kept: &Kept,
 ) -> Result<(), OutOfMemory>
     requires { IfSome rom (λ rom. IsSpanned rom.first rom.last) }
     ensures { OnOk result
-        (items.new.items ≡ items.old.items ++ rom_items function (kind_value class) rom) }
+        (items.new.items ≡ items.old.items ++ rom_items function (kind_value class) kept.now rom) }
 {
     if let Some(rom) = rom {
-        if rom.on && class == WindowKind::Memory {
+        if rom.on && class == WindowKind::Memory && !kept.rom {
             items.push(rom_item(function, &rom))?;
         }
     }
     Ok(())
 }
 
-/// Adds the new window of a bridge, where it has one.
+/// Adds the new window of a bridge, where it has one and doesn't keep the one that it had.
 fn add_window<A: Allocator>(
     items: &mut Vec<Item, A>,
     function: usize,
     window: Option<Extent>,
+    class: WindowKind,
+    kept: &Kept,
 ) -> Result<(), OutOfMemory>
-    ensures { OnOk result
-        (items.new.items ≡ items.old.items ++ window_items function window) }
+    ensures { OnOk result (items.new.items
+        ≡ items.old.items ++ window_items function (kind_value class) kept.now window) }
 {
     if let Some(extent) = window {
-        items.push(Item {
-            function,
-            part: Part::Window,
-            extent,
-        })?;
+        if !kept.window(class) {
+            items.push(Item {
+                function,
+                part: Part::Window,
+                extent,
+            })?;
+        }
     }
     Ok(())
 }
 
-/// Adds the items of a function in a class where nothing stands, in the order of their registers: BARs but those of I/O
-/// that are left, the new window that it has as a bridge, and a ROM that is on.
+/// Adds the items of a function in a class, in the order of their registers: BARs but those of I/O that are left, the new
+/// window that it has as a bridge, and a ROM that is on; none of them where it keeps its place.
 pub fn add_items<A: Allocator>(
     items: &mut Vec<Item, A>,
     function: usize,
     record: &Record,
     class: WindowKind,
-    above: Above,
+    over: &Over,
     terms: Terms,
     window: Option<Extent>,
+    kept: &Kept,
 ) -> Result<(), OutOfMemory>
     requires bars { All IsSized «record».now.bars.items }
     requires rom { IfSome «record».now.rom (λ rom. IsSpanned rom.first rom.last) }
     ensures items { OnOk result (items.new.items ≡ items.old.items
-        ++ record_items function (kind_value class) above terms window «record».now) }
+        ++ record_items function (kind_value class) over.now terms window kept.now «record».now) }
     // they are those of the definitions, whatever system the record is of
-    ensures exact { AreItemsOf function (kind_value class) above terms window «record».now }
+    ensures exact { AreItemsOf function (kind_value class) over.now terms window kept.now «record».now }
 {
-    add_bars(items, function, record.bars.as_slice(), class, above, terms)?;
-    add_window(items, function, window)?;
-    add_rom(items, function, record.rom, class)
+    add_bars(
+        items,
+        function,
+        record.bars.as_slice(),
+        class,
+        over,
+        terms,
+        kept,
+    )?;
+    add_window(items, function, window, class, kept)?;
+    add_rom(items, function, record.rom, class, kept)
 }

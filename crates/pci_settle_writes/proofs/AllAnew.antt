@@ -8,8 +8,8 @@ use Rattle.settle_laws.proofs.Anew.{none_stays}
 use Rattle.pci_settled.specs.declared.places.Places.{Places}
 use Rattle.pci_settled.specs.Anew.{IsAnewIn, ArePlacedAnew, AreNewPlaces}
 use Rattle.pci_settling.specs.Live.{HasAllPlaces}
-use Rattle.pci_stand.specs.declared.standing.Standing.{Standing}
-use Rattle.pci_stand.specs.Tables.{AreNone}
+use Rattle.pci_settle.specs.declared.kept.Kept.{Kept}
+use Rattle.pci_settle.specs.Kept.{AreNone}
 use Rattle.pci_settle_writes.specs.Requests.{all_anew, IsAskedOf}
 use Rattle.pci_settle_writes.specs.Told.{IsTableOf}
 
@@ -27,7 +27,7 @@ module _ (roots : List ℕ) (l : Lists) where
     pub places_anew : (table : List Places) → AreNewPlaces roots s l table → HasAllPlaces (all_anew roots l) s table
     places_anew table new = let placed = placed_anew table new in record { count = placed.count; each = placed.each }
 
-    pub stay_anew : (table : List Standing) → length table ≡ length s → AreNone table → IsTableOf s (stays (all_anew roots l) s) table
+    pub stay_anew : (table : List Kept) → length table ≡ length s → AreNone table → IsTableOf s (stays (all_anew roots l) s) table
     stay_anew table count none = record {
       count = count;
       each = λ k f d part at there.

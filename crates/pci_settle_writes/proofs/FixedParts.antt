@@ -30,8 +30,8 @@ use Rattle.pci_settle.specs.declared.own.Terms.{Terms}
 use Rattle.pci_settle.specs.Own.{AreTerms}
 use Rattle.pci_settling.proofs.KeptClaims.{left_is, rom_on_is}
 use Rattle.pci_settling.proofs.PlacedImages.{register_place}
-use Rattle.pci_stand.specs.declared.standing.Standing.{Standing}
-use Rattle.pci_stand.specs.Tables.{stands_of}
+use Rattle.pci_settle.specs.declared.kept.Kept.{Kept}
+use Rattle.pci_settle.specs.Kept.{kept_of}
 use Rattle.pci_stand.proofs.OfRecord.{window_is}
 use Rattle.pci_settle_writes.specs.declared.lack.SettleFault.TheVariants.{Fixed}
 use Rattle.pci_settle_writes.specs.Fixed.{fixed_part, first, is_bar_without, bar_without, window_without, bridge_without, rom_without, part_without, record_without}
@@ -56,12 +56,12 @@ first_of_four value false false true d x y z w = refl
 first_of_four value false false false true x y z w = refl
 first_of_four value false false false false x y z w = refl
 
-module _ (q : Request) (s : System) (f : Function) (r : Record) (is : IsRecordOf s f r) (above : Above) (over : IsAbove s f.slot.bus above) (t : Terms) (terms : AreTerms q.lists t) (told : Standing) (test : Region → Bool) where
+module _ (q : Request) (s : System) (f : Function) (r : Record) (is : IsRecordOf s f r) (above : Above) (over : IsAbove s f.slot.bus above) (t : Terms) (terms : AreTerms q.lists t) (told : Kept) (test : Region → Bool) where
   abbrev region : Part → Region
   region part = record { function = f; part = part }
 
   abbrev IsTold : Type 0
-  IsTold = (part : Part) → has_part f part ≡ true → stands_of told part ≡ test (region part)
+  IsTold = (part : Part) → has_part f part ≡ true → kept_of told part ≡ test (region part)
 
   module _ (tells : IsTold) where
     abbrev fails : Part → Bool
@@ -76,20 +76,20 @@ module _ (q : Request) (s : System) (f : Function) (r : Record) (is : IsRecordOf
     -- ---- BARs
 
     abbrev bar_fails : ℕ → Bool
-    bar_fails n = not (is_left q s f (Bar n)) && not (stands_of told (Bar n))
+    bar_fails n = not (is_left q s f (Bar n)) && not (kept_of told (Bar n))
 
     bar_same : (bar : CodeBar) (n : ℕ) → decoded_bar_of bar ≡ decoded_bar f.image f.probe n → (is_bar_without above t told bar ≡ bar_fails n) × (bar.reg ≡ bar_register n)
     bar_same bar n e =
         let register : bar.reg ≡ bar_register n = ap (λ (x : DecodedBar). x.register) e in (
-          ap (λ b. not b && not (stands_of told (Bar ((bar.reg - 0x10) / 4)))) (left_is q s f r is above over t terms bar n e)
-              ∙ ap (λ m. not (is_left q s f (Bar n)) && not (stands_of told (Bar m))) (register_place bar.reg n register),
+          ap (λ b. not b && not (kept_of told (Bar ((bar.reg - 0x10) / 4)))) (left_is q s f r is above over t terms bar n e)
+              ∙ ap (λ m. not (is_left q s f (Bar n)) && not (kept_of told (Bar m))) (register_place bar.reg n register),
           register,
         )
 
     bar_lacks : (n : ℕ) → Contains all n → (has_bar f.probe n && bar_fails n) ≡ lacks (Bar n)
     bar_lacks n listed =
         let low = (in_range_to 0 (bar_count (layout f.image)) n listed).1 in
-        and_order (has_bar f.probe n) (not (is_left q s f (Bar n))) (not (stands_of told (Bar n)))
+        and_order (has_bar f.probe n) (not (is_left q s f (Bar n))) (not (kept_of told (Bar n)))
         ∙ ap (λ b. is_part q s f (Bar n) && not b) (tells (Bar n) (lt-ltb n (bar_count (layout f.image)) (omega (arith, low))))
 
     bars_are : bar_without above t told r.bars.items ≡ first (register_of f) lacks (header_bars f)
@@ -104,18 +104,18 @@ module _ (q : Request) (s : System) (f : Function) (r : Record) (is : IsRecordOf
     abbrev one : Part → Option ℕ
     one part = cond (lacks part) (Some (register_of f part)) None
 
-    window_lacks : (c : WindowKind) → (is_open f c && not (stands_of told (Window c))) ≡ lacks (Window c)
+    window_lacks : (c : WindowKind) → (is_open f c && not (kept_of told (Window c))) ≡ lacks (Window c)
     window_lacks c = elim (cases_Bool (is_open f c)) [
       | inl opens ↦
           let bridge = (and_parts (is_bridge f) (has_window c f.probe) (and_parts (is_bridge f && has_window c f.probe) (not (is_closed c f.image)) opens).0).0 in
           ap (λ b. is_open f c && not b) (tells (Window c) bridge)
-      | inr closed ↦ ap (λ b. b && not (stands_of told (Window c))) closed ∙ sym (ap (λ b. b && fails (Window c)) closed)
+      | inr closed ↦ ap (λ b. b && not (kept_of told (Window c))) closed ∙ sym (ap (λ b. b && fails (Window c)) closed)
     ]
 
     one_window : (c : WindowKind) (w : Option DecodedWindow) → range_in w ≡ cond (is_open f c) (Some (range_of f (Window c))) None → window_without c w told ≡ one (Window c)
     one_window c w e =
-        ap (λ o. cond (is_some o && not (stands_of told (Window c))) (Some (window_register c)) None) e
-        ∙ ap (λ b. cond (b && not (stands_of told (Window c))) (Some (window_register c)) None) (some_if (is_open f c) (range_of f (Window c)))
+        ap (λ o. cond (is_some o && not (kept_of told (Window c))) (Some (window_register c)) None) e
+        ∙ ap (λ b. cond (b && not (kept_of told (Window c))) (Some (window_register c)) None) (some_if (is_open f c) (range_of f (Window c)))
         ∙ ap (λ b. cond b (Some (window_register c)) None) (window_lacks c)
 
     abbrev windows : Option ℕ

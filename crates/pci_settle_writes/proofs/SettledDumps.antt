@@ -33,8 +33,8 @@ use Rattle.pci_settling.specs.Images.{is_kept}
 use Rattle.pci_settling.specs.Live.{IsRequestOf, HasAllPlaces, AreLiveBuses, is_live_on, is_live_behind}
 use Rattle.pci_settling.specs.Settled.{IsTold}
 use Rattle.pci_plan.proofs.PlannedDumps.{ArePlanned, next_planned, function_here}
-use Rattle.pci_stand.specs.declared.standing.Standing.{Standing}
-use Rattle.pci_stand.specs.Tables.{stands_of}
+use Rattle.pci_settle.specs.declared.kept.Kept.{Kept}
+use Rattle.pci_settle.specs.Kept.{kept_of}
 use Rattle.pci_settle_writes.specs.Requests.{IsAskedOf}
 use Rattle.pci_settle_writes.specs.Told.{IsTableOf}
 
@@ -45,7 +45,7 @@ request_by q roots l t asked terms = record { rooted = asked.roots_are; terms = 
 
 -- ---- what stays
 
-kept_window : (t : Standing) (c : WindowKind) → is_kept t.windows c ≡ stands_of t (Window c)
+kept_window : (t : Kept) (c : WindowKind) → is_kept t.windows c ≡ kept_of t (Window c)
 kept_window t IoWindow = refl
 kept_window t MemoryWindow = refl
 kept_window t PrefetchWindow = refl
@@ -73,8 +73,8 @@ module _ (roots : List ℕ) (s : System) (system : IsSystem s) (nested : IsNeste
 
   -- all that the code tells of a function is right
   pub told_here : (io memory : List Bool) → AreLiveBuses roots s Io t table io → AreLiveBuses roots s Memory t table memory → (aboves : List Above) → AreAboves s aboves
-      → (staying : List Standing) → IsTableOf s (stays q s) staying
-      → (k : ℕ) (f : Function) (r : Record) → slice_get s k ≡ Some f → IsRecordOf s f r → (image : List ℕ) → image ≡ f.image → (d p : Places) → p ≡ get_or table k d → (n h : Standing) → h ≡ get_or staying k n
+      → (staying : List Kept) → IsTableOf s (stays q s) staying
+      → (k : ℕ) (f : Function) (r : Record) → slice_get s k ≡ Some f → IsRecordOf s f r → (image : List ℕ) → image ≡ f.image → (d p : Places) → p ≡ get_or table k d → (n h : Kept) → h ≡ get_or staying k n
       → (bus : ℕ) → bus ≡ f.slot.bus → (none : Above) (here_io here_memory : Bool) → here_io ≡ is_live_behind io r.bridge → here_memory ≡ is_live_behind memory r.bridge
       → IsTold q s f r image p h.windows (get_or aboves bus none) t here_io here_memory
   told_here io memory io_is memory_is aboves are staying stay k f r at is image shown d p p_is n h h_is bus on_bus none here_io here_memory here_io_is here_memory_is = record {
@@ -86,7 +86,7 @@ module _ (roots : List ℕ) (s : System) (system : IsSystem s) (nested : IsNeste
         each = λ part there. ap (λ x. range_in x part) p_is ∙ placed.each k f d part at there;
       };
       shown = shown;
-      windows = λ c there. kept_window h c ∙ ap (λ x. stands_of x (Window c)) h_is ∙ stay.each k f n (Window c) at there;
+      windows = λ c there. kept_window h c ∙ ap (λ x. kept_of x (Window c)) h_is ∙ stay.each k f n (Window c) at there;
     };
     over = subst (λ n. IsAbove s f.slot.bus (get_or aboves n none)) (sym on_bus) (are f none is.listed);
     terms = of.terms;
@@ -97,13 +97,13 @@ module _ (roots : List ℕ) (s : System) (system : IsSystem s) (nested : IsNeste
 -- ---- block by block
 
 -- what is asked for, with the places that parts get and what stays by these tables
-pub record IsAskedBy (q : Request) (roots : List ℕ) (s : System) (l : Lists) (table : List Places) (staying : List Standing) : Type 0 where
+pub record IsAskedBy (q : Request) (roots : List ℕ) (s : System) (l : Lists) (table : List Places) (staying : List Kept) : Type 0 where
   pub asked : IsAskedOf q roots l
   pub places : HasAllPlaces q s table
   pub stay : IsTableOf s (stays q s) staying
 
 -- a function is as it is to be, whatever is asked for
-abbrev pub IsSettledOf : List ℕ → System → Lists → List Places → List Standing → Function → Function → Type 0
+abbrev pub IsSettledOf : List ℕ → System → Lists → List Places → List Kept → Function → Function → Type 0
 IsSettledOf roots s l table staying f g = (q : Request) → IsAskedBy q roots s l table staying → g ≡ settled_function q s f
 
 -- the function of a block, with its record and its read backs
@@ -124,7 +124,7 @@ block_here a records is has k b r inside b_at r_at =
 abbrev made : Slot → List ℕ → List ℕ → Function
 made slot image probe = record { slot = slot; image = image; probe = probe }
 
-module _ (a : Admission) (is : IsAdmitted a) (l : Lists) (table : List Places) (staying : List Standing) where
+module _ (a : Admission) (is : IsAdmitted a) (l : Lists) (table : List Places) (staying : List Kept) where
   abbrev P : Function → Function → Type 0
   P f g = IsSettledOf a.roots (system_in a) l table staying f g
 
@@ -136,7 +136,7 @@ module _ (a : Admission) (is : IsAdmitted a) (l : Lists) (table : List Places) (
       next_planned P a.dump a.probe is.slots k found so_far new b p inside b_at here.beside slot title planned
 
 -- once all are there, they and the probe are the settled system
-module _ (roots : List ℕ) (s : System) (l : Lists) (table : List Places) (staying : List Standing) (q : Request) (asked : IsAskedBy q roots s l table staying) where
+module _ (roots : List ℕ) (s : System) (l : Lists) (table : List Places) (staying : List Kept) (q : Request) (asked : IsAskedBy q roots s l table staying) where
   pub all_settled : (xs ys : List Function) → AllZip (IsSettledOf roots s l table staying) xs ys → ys ≡ map (settled_function q s) xs
   all_settled [] [] all = refl
   all_settled [] (y ∷ ys) all = absurd all

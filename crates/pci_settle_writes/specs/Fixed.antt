@@ -17,8 +17,8 @@ use Rattle.pci_place.specs.declared.above.Above.{Above}
 use Rattle.pci_settle.specs.declared.own.Terms.{Terms}
 use Rattle.pci_settle.specs.Own.{is_left_bar}
 use Rattle.pci_settling.specs.Claims.{is_rom_on}
-use Rattle.pci_stand.specs.declared.standing.Standing.{Standing}
-use Rattle.pci_stand.specs.Tables.{stands_of}
+use Rattle.pci_settle.specs.declared.kept.Kept.{Kept}
+use Rattle.pci_settle.specs.Kept.{kept_of}
 use Rattle.pci_settle_writes.specs.declared.lack.SettleFault.{SettleFault}
 use Rattle.pci_settle_writes.specs.declared.lack.SettleFault.TheVariants.{Fixed}
 
@@ -38,35 +38,35 @@ fixed_register w = Fixed w.slot w.offset
 abbrev pub first : {X Z : Type 0} → (X → Z) → (X → Bool) → List X → Option Z
 first value test xs = option_map value (find test xs)
 
-abbrev pub is_bar_without : Above → Terms → Standing → CodeBar → Bool
+abbrev pub is_bar_without : Above → Terms → Kept → CodeBar → Bool
 is_bar_without above t told bar =
     not (is_left_bar bar above t.has_io)
-    && not (stands_of told (Bar ((bar.reg - BASE_ADDRESS) / 4)))
+    && not (kept_of told (Bar ((bar.reg - BASE_ADDRESS) / 4)))
 
-abbrev pub bar_without : Above → Terms → Standing → List CodeBar → Option ℕ
+abbrev pub bar_without : Above → Terms → Kept → List CodeBar → Option ℕ
 bar_without above t told bars = first (λ bar. bar.reg) (is_bar_without above t told) bars
 
-abbrev pub window_without : WindowKind → Option DecodedWindow → Standing → Option ℕ
+abbrev pub window_without : WindowKind → Option DecodedWindow → Kept → Option ℕ
 window_without c w told =
-    if is_some (range_in w) && not (stands_of told (Window c)) then Some (window_register c) else None
+    if is_some (range_in w) && not (kept_of told (Window c)) then Some (window_register c) else None
 
-abbrev pub bridge_without : Option Bridge → Standing → Option ℕ
+abbrev pub bridge_without : Option Bridge → Kept → Option ℕ
 bridge_without None told = None
 bridge_without (Some b) told =
     option_or (window_without IoWindow b.windows.io told)
     (option_or (window_without MemoryWindow (Some b.windows.mem) told)
     (window_without PrefetchWindow b.windows.pref told))
 
-abbrev pub rom_without : Record → Standing → Option ℕ
+abbrev pub rom_without : Record → Kept → Option ℕ
 rom_without r told =
     if is_rom_on r.rom && not told.rom then Some (rom_place (is_some r.bridge)) else None
 
-abbrev pub part_without : Above → Terms → Standing → Record → Option ℕ
+abbrev pub part_without : Above → Terms → Kept → Record → Option ℕ
 part_without above t told r =
     option_or (bar_without above t told r.bars.items)
     (option_or (bridge_without r.bridge told) (rom_without r told))
 
 -- of a function that may be written there is none
-abbrev pub record_without : Bool → Above → Terms → Standing → Record → Option SettleFault
+abbrev pub record_without : Bool → Above → Terms → Kept → Record → Option SettleFault
 record_without fixed above t told r =
     if fixed then option_map (Fixed r.slot) (part_without above t told r) else None

@@ -2,12 +2,12 @@
 use Rattle.std.specs.Prelude.{◌≡◌, ℕ, Bool, IsTrue, List, Some, length, slice_get, slice_index_or}
 use Rattle.pci_spec.specs.System.{System, Function, Part, has_part}
 use Rattle.settle_spec.specs.Parts.{Region}
-use Rattle.pci_stand.specs.declared.standing.Standing.{Standing}
-use Rattle.pci_stand.specs.Tables.{stands_of}
+use Rattle.pci_settle.specs.declared.kept.Kept.{Kept}
+use Rattle.pci_settle.specs.Kept.{kept_of}
 
 -- for each part of each function, in slot order, what a test says
-pub record IsTableOf (s : System) (test : Region → Bool) (table : List Standing) : Type 0 where
+pub record IsTableOf (s : System) (test : Region → Bool) (table : List Kept) : Type 0 where
   pub count : length table ≡ length s
-  pub each : (k : ℕ) (f : Function) (d : Standing) (part : Part) → slice_get s k ≡ Some f
+  pub each : (k : ℕ) (f : Function) (d : Kept) (part : Part) → slice_get s k ≡ Some f
       → IsTrue (has_part f part)
-      → stands_of (slice_index_or table k d) part ≡ test record { function = f; part = part }
+      → kept_of (slice_index_or table k d) part ≡ test record { function = f; part = part }

@@ -14,12 +14,12 @@ use pci_base::space::Space;
 use pci_dump::block::Block;
 use pci_dump::dump::Dump;
 use pci_place::above::aboves;
+use pci_settle::kept::Kept;
 use pci_settle::list::Lists;
 use pci_settle::own::Terms;
 use pci_settled::places::Places;
 use pci_settling::live::{is_live_behind, live_buses};
 use pci_settling::settled::{Behind, settled_function};
-use pci_stand::standing::Standing;
 use pci_tree::admitted::Admitted;
 use std::alloc::Allocator;
 
@@ -32,7 +32,7 @@ pub fn settled_dump<A: Allocator, B: Allocator>(
     admitted: &Admitted<B>,
     lists: &Lists,
     table: &[Places],
-    staying: &[Standing],
+    staying: &[Kept],
 ) -> Result<Dump<A>, OutOfMemory>
     requires places { length table.now ≡ length (system_in admitted.now) }
     requires staying { length staying.now ≡ length (system_in admitted.now) }

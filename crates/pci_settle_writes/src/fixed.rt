@@ -24,15 +24,15 @@ use pci_image::register::rom_register;
 use pci_image::window::Window;
 use pci_place::above::{Above, aboves};
 use pci_plan::write::Write;
+use pci_settle::kept::Kept;
 use pci_settle::list::Lists;
 use pci_settle::own::{Terms, is_left_bar};
 use pci_settling::claim::is_rom_on;
-use pci_stand::standing::Standing;
 use pci_tree::admitted::Admitted;
 use std::alloc::Allocator;
 
 /// Whether a BAR that isn't left is one that a table says no to.
-fn is_bar_without(bar: &Bar, above: Above, terms: Terms, told: &Standing) -> bool
+fn is_bar_without(bar: &Bar, above: Above, terms: Terms, told: &Kept) -> bool
     requires { HasRegister bar.now }
     ensures { result ≡ is_bar_without above terms told.now bar.now }
 {
@@ -40,7 +40,7 @@ fn is_bar_without(bar: &Bar, above: Above, terms: Terms, told: &Standing) -> boo
 }
 
 /// The offset of the first such BAR.
-fn bar_without(bars: &[Bar], above: Above, terms: Terms, told: &Standing) -> Option<u8>
+fn bar_without(bars: &[Bar], above: Above, terms: Terms, told: &Kept) -> Option<u8>
     requires { All HasRegister bars.now }
     ensures { result ≡ bar_without above terms told.now bars.now }
 {
@@ -53,7 +53,7 @@ fn bar_without(bars: &[Bar], above: Above, terms: Terms, told: &Standing) -> Opt
 }
 
 /// The offset of an open window that a table says no to.
-fn window_without(kind: WindowKind, window: Option<Window>, told: &Standing) -> Option<u8>
+fn window_without(kind: WindowKind, window: Option<Window>, told: &Kept) -> Option<u8>
     ensures { result ≡ window_without (kind_value kind) window told.now }
 {
     match window {
@@ -63,7 +63,7 @@ fn window_without(kind: WindowKind, window: Option<Window>, told: &Standing) -> 
 }
 
 /// The offset of the first such window of a bridge.
-fn bridge_without(bridge: Option<Bridge>, told: &Standing) -> Option<u8>
+fn bridge_without(bridge: Option<Bridge>, told: &Kept) -> Option<u8>
     ensures { result ≡ bridge_without bridge told.now }
 {
     let windows = bridge?.windows;
@@ -73,7 +73,7 @@ fn bridge_without(bridge: Option<Bridge>, told: &Standing) -> Option<u8>
 }
 
 /// The offset of a ROM that is on and that a table says no to.
-fn rom_without(record: &Record, told: &Standing) -> Option<u8>
+fn rom_without(record: &Record, told: &Kept) -> Option<u8>
     ensures { result ≡ rom_without «record».now told.now }
 {
     if is_rom_on(record.rom) && !told.rom {
@@ -84,7 +84,7 @@ fn rom_without(record: &Record, told: &Standing) -> Option<u8>
 }
 
 /// The offset of the first part of a function that a table says no to.
-fn part_without(record: &Record, above: Above, terms: Terms, told: &Standing) -> Option<u8>
+fn part_without(record: &Record, above: Above, terms: Terms, told: &Kept) -> Option<u8>
     requires { All HasRegister «record».now.bars.items }
     ensures { result ≡ part_without above terms told.now «record».now }
 {
@@ -99,7 +99,7 @@ fn record_without(
     fixed: bool,
     above: Above,
     terms: Terms,
-    told: &Standing,
+    told: &Kept,
 ) -> Option<SettleFault>
     requires { All HasRegister «record».now.bars.items }
     ensures { result ≡ record_without fixed above terms told.now «record».now }
@@ -120,7 +120,7 @@ pub fn fixed_without<A: Allocator>(
     admitted: &Admitted<A>,
     lists: &Lists,
     fixed: &[bool],
-    table: &[Standing],
+    table: &[Kept],
 ) -> Option<SettleFault>
     requires fixed { length fixed.now ≡ 65536 }
     requires count { length table.now ≡ length (system_in admitted.now) }

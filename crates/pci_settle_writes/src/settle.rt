@@ -23,10 +23,10 @@ use crate::writes::{Writes, writes_to};
 use pci_base::memory::{OutOfMemory, Refused};
 use pci_base::range::RootRange;
 use pci_dump::dump::Dump;
+use pci_settle::kept::{Kept, nothing_kept};
 use pci_settle::list::Lists;
 use pci_settled::anew::place_anew;
 use pci_settled::places::Places;
-use pci_stand::standing::{Standing, nothing_stands};
 use pci_tree::admitted::Admitted;
 use std::alloc::{Allocator, Global};
 
@@ -64,7 +64,7 @@ pub fn settled_at<A: Allocator + Copy, B: Allocator>(
     admitted: &Admitted<B>,
     lists: &Lists,
     table: &[Places],
-    staying: &[Standing],
+    staying: &[Kept],
 ) -> Result<Settled<A>, OutOfMemory>
     requires places { length table.now ≡ length (system_in admitted.now) }
     requires staying { length staying.now ≡ length (system_in admitted.now) }
@@ -95,7 +95,7 @@ fn settled_anew<A: Allocator + Copy, B: Allocator>(
     ensures settled { IfOk result (λ x. IsSettledBy (all_anew admitted.now.roots (lists_value lists.now))
         admitted.now x.dump (map write_value x.writes.all.items) x.writes.closings) }
 {
-    let staying = nothing_stands(alloc, table.len())?;
+    let staying = nothing_kept(alloc, table.len())?;
     settled_at(alloc, admitted, lists, table, staying.as_slice())
 }
 

@@ -1,26 +1,26 @@
 -- Items are parts of functions, each of the space in which it is placed; and a slot and a register name one part.
 use Rattle.std.proofs.Common.{◌≡◌, ℕ, inl, inr, List, [], ◌∷◌, map, Bool, true, false, cond, ◌&&◌, ◌||◌, not, arith, refl, sym, ◌∙◌, ap, subst}
-use Rattle.std.specs.List.{Contains, filter, flat_map, range_with_len}
-use Rattle.std.proofs.lemmas.Bool.{and_parts, lt-ltb, both_ways, not-true, false≢true}
+use Rattle.std.specs.List.{Contains, filter, flat_map}
+use Rattle.std.proofs.lemmas.Bool.{and_parts, not-true, false≢true}
 use Rattle.std.proofs.lemmas.List.Elements.{Contains-append_cases}
 use Rattle.std.proofs.lemmas.List.Sorted.{IsPermutation-sym, Contains-permutation}
 use Rattle.pci_spec.specs.Slot.{slot_number}
-use Rattle.pci_spec.specs.Header.{layout, bar_count}
 use Rattle.pci_spec.specs.Bar.{bar_at, is_io, is_prefetchable}
 use Rattle.pci_spec.specs.Window.{WindowKind, IoWindow, MemoryWindow, PrefetchWindow}
 use Rattle.pci_spec.specs.System.{System, Function, Space, Io, Memory, Part, Bar, Rom, Window, IsSystem, is_bridge, is_window, has_part, register_of, space_of, window_space}
 use Rattle.pci_spec.specs.Bus.{is_root, are_siblings}
-use Rattle.pci_spec.proofs.Members.{in_nil, in_cons_cases, in_flat_map_to, IsInPiece, in_map_to, IsMade, in_filter_to, in_range_to}
+use Rattle.pci_spec.proofs.Members.{in_nil, in_cons_cases, in_flat_map_to, IsInPiece, in_map_to, IsMade, in_filter_to}
 use Rattle.pci_spec.proofs.Nesting.{one_function}
 use Rattle.pci_spec.proofs.Regions.{register_of-lt, part_same}
 use Rattle.plan_spec.specs.Plan.{same_class}
 use Rattle.settle_spec.specs.FirstPlace.{Extent}
 use Rattle.settle_spec.specs.Lists.{Request}
-use Rattle.settle_spec.specs.Parts.{Region, is_part, parts_of, header_bars, header_parts, regions_of, new_class, is_in_memory, is_in_prefetch, prefetchable_class, class_in}
+use Rattle.settle_spec.specs.Parts.{Region, is_part, parts_of, header_parts, regions_of, new_class, is_in_memory, is_in_prefetch, prefetchable_class, class_in}
 use Rattle.settle_spec.specs.Stands.{rank, window_region}
 use Rattle.settle_spec.specs.Items.{Item, in_turn, own_item, is_own, has_of, items_of, items_on, new_window, stays}
 use Rattle.settle_spec.specs.Places.{space_items}
 use Rattle.settle_spec.proofs.InTurn.{turn_same}
+use Rattle.pci_settle.proofs.Headers.{header_has}
 
 -- ---- classes and spaces
 
@@ -58,32 +58,6 @@ module _ (q : Request) (s : System) (f : Function) where
   class_space Rom = refl
   class_space (Window kind) = refl
 
-  -- ---- parts
-
-  window_not : (c : WindowKind) (p : Part) → Window c ≡ p → is_window p ≡ false → ⊥
-  window_not c p same plain = both_ways (is_window p) plain (sym (ap is_window same))
-
-  pub header_has : (p : Part) → Contains (header_parts f) p → is_window p ≡ false → has_part f p ≡ true
-  header_has p listed plain = elim (Contains-append_cases (header_bars f) (Window IoWindow ∷ (Window MemoryWindow ∷ (Window PrefetchWindow ∷ (Rom ∷ [])))) p listed) [
-    | inl bar ↦
-        let made : IsMade Bar (range_with_len 0 (bar_count (layout f.image))) p = in_map_to Bar (range_with_len 0 (bar_count (layout f.image))) p bar in
-        let low = (in_range_to 0 (bar_count (layout f.image)) made.from made.has).1 in
-        subst (λ o. has_part f o ≡ true) made.is (lt-ltb made.from (bar_count (layout f.image)) (omega (arith, low)))
-    | inr a ↦ elim (in_cons_cases (Window IoWindow) (Window MemoryWindow ∷ (Window PrefetchWindow ∷ (Rom ∷ []))) p a) [
-      | inl same ↦ absurd (window_not IoWindow p same plain)
-      | inr b ↦ elim (in_cons_cases (Window MemoryWindow) (Window PrefetchWindow ∷ (Rom ∷ [])) p b) [
-        | inl same ↦ absurd (window_not MemoryWindow p same plain)
-        | inr d ↦ elim (in_cons_cases (Window PrefetchWindow) (Rom ∷ []) p d) [
-          | inl same ↦ absurd (window_not PrefetchWindow p same plain)
-          | inr e ↦ elim (in_cons_cases Rom [] p e) [
-            | inl same ↦ subst (λ o. has_part f o ≡ true) same refl
-            | inr none ↦ absurd (in_nil p none)
-          ]
-        ]
-      ]
-    ]
-  ]
-
 -- an item is a part of its function, of a space
 pub record IsReal (space : Space) (i : Item) : Type 0 where
   pub there : has_part i.region.function i.region.part ≡ true
@@ -113,7 +87,7 @@ module _ (q : Request) (s : System) (c : WindowKind) (keeps : Region → Bool) (
       let header = (in_filter_to (is_part q s f) (header_parts f) of.from of.has).0 in
       let plain : is_window r.part ≡ false = not-true (is_window r.part) own.0 in
       record {
-        there = subst (λ g. has_part g r.part ≡ true) function (header_has q s f r.part (subst (Contains (header_parts f)) (sym part) header) plain);
+        there = subst (λ g. has_part g r.part ≡ true) function (header_has f r.part (subst (Contains (header_parts f)) (sym part) header) plain);
         of_space = sym (class_space q s r.function r.part) ∙ ap window_space (sym (class_same c (class_in q s r.function r.part) own.1));
       }
 

@@ -1,17 +1,15 @@
 -- The new places of all parts where nothing stands, and what can't be placed.
-use Rattle.std.specs.Prelude.{◌≡◌, ℕ, ◌<◌, ◌≤◌, ◌^◌, IsTrue, List, length, Option, None, Some, slice_get, slice_index_or, ⊤}
+use Rattle.std.specs.Prelude.{◌≡◌, ℕ, ◌<◌, IsTrue, List, length, Option, None, Some, slice_get, slice_index_or, ⊤}
 use Rattle.pci_spec.specs.Window.{WindowKind}
-use Rattle.pci_spec.specs.System.{System, Function, Space, Io, Memory, Part, has_part, is_bridge, window_space}
+use Rattle.pci_spec.specs.System.{System, Function, Space, Io, Memory, Part, has_part, window_space}
 use Rattle.settle_spec.specs.Lists.{Lists, Request}
-use Rattle.settle_spec.specs.Items.{has_of, new_window}
 use Rattle.settle_spec.specs.Places.{new_place, lacking}
 use Rattle.pci_base.specs.declared.memory.Refused.{Refused}
 use Rattle.pci_base.specs.declared.memory.Refused.TheVariants as refused
 use Rattle.pci_base.specs.WindowKinds.{kind_value}
-use Rattle.pci_place.specs.Items.{function_in}
 use Rattle.pci_settle.specs.declared.extent.Extent.{Extent}
 use Rattle.pci_settle.specs.declared.own.Terms.{Terms}
-use Rattle.pci_settle.specs.NewWindows.{IsAnew, HasNewWindows}
+use Rattle.pci_settle.specs.NewWindows.{IsAnew, HasNewWindows, IsTooLarge}
 use Rattle.pci_settled.specs.declared.places.Places.{Places}
 use Rattle.pci_settled.specs.declared.anew.Unplaced.{Unplaced}
 use Rattle.pci_settled.specs.declared.anew.Unplaced.TheVariants as unplaced
@@ -26,13 +24,6 @@ pub record IsAnewIn (q : Request) (roots : List ℕ) (l : Lists) : Type 0 where
   pub lists : q.lists ≡ l
 
 -- ---- windows
-
--- the new window of a function has 2^64 addresses or more
-pub record IsTooLarge (q : Request) (s : System) (c : WindowKind) (k : ℕ) : Type 0 where
-  pub within : k < length s
-  pub bridge : IsTrue (is_bridge (function_in s k))
-  pub behind : IsTrue (has_of q s c (function_in s k))
-  pub large : 2 ^ 64 ≤ (new_window q s c (function_in s k)).size
 
 abbrev pub HasWindowsOf : List ℕ → System → WindowKind → Terms → List (Option Extent) → Type 0
 HasWindowsOf roots s c t windows = (q : Request) → IsAnew q roots t → HasNewWindows q s c t windows

@@ -50,7 +50,7 @@ fn class_windows<A: Allocator + Copy, B: Allocator>(
     ensures fault { IfErr result (IsTooLargeOf admitted.now.roots (system_in admitted.now)
         (kind_value class) terms) }
 {
-    match new_windows(alloc, admitted, class, aboves, terms, windows)? {
+    match new_windows(alloc, admitted, class, aboves, terms, &[], windows)? {
         Some(function) => Err(Refused::Fault(Unplaced::TooLarge { class, function })),
         None => Ok(()),
     }

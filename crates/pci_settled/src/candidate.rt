@@ -15,6 +15,7 @@ use pci_place::above::Above;
 use pci_settle::bus::items_in_turn;
 use pci_settle::extent::Extent;
 use pci_settle::item::Item;
+use pci_settle::over::Left;
 use pci_settle::own::Terms;
 use pci_tree::admitted::Admitted;
 use std::alloc::Allocator;
@@ -67,7 +68,11 @@ fn add_class<A: Allocator + Copy, B: Allocator>(
     ensures lawful { AreWindows windows.now → All IsLawful candidates.old.items
         → OnOk result (All IsLawful candidates.new.items) }
 {
-    let items = items_in_turn(alloc, admitted, bus, class, aboves, terms, windows)?;
+    let left = Left {
+        over: &[],
+        kept: &[],
+    };
+    let items = items_in_turn(alloc, admitted, bus, class, aboves, terms, windows, &left)?;
     add_items(candidates, class, items.as_slice())?;
     Ok(())
 }

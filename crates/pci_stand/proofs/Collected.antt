@@ -37,7 +37,7 @@ use Rattle.pci_place.proofs.Records.{FunctionAt, same_count, function_at}
 use Rattle.pci_settle.specs.declared.own.Terms.{Terms}
 use Rattle.pci_settle.specs.Own.{AreTerms, is_left_bar}
 use Rattle.pci_stand.specs.declared.region.Owner.{Owner}
-use Rattle.pci_stand.specs.declared.region.Part.TheVariants as parts
+use Rattle.pci_settle.specs.declared.kept.Part.TheVariants as parts
 use Rattle.pci_stand.specs.declared.region.Region.{Region as CodeRegion}
 use Rattle.pci_stand.specs.Regions.{owned, bar_region, bar_regions, window_regions, bridge_regions, rom_region, rom_regions, record_regions}
 use Rattle.pci_stand.specs.Known.{known, known_of, IsOwner, IsForward, AreParts}

@@ -29,12 +29,14 @@ use Rattle.pci_tree.proofs.Lifting.{record_for, same_bridge, same_secondary}
 use Rattle.pci_tree.proofs.Ways.{bridge_at, no_bridge, some_bridge}
 use Rattle.pci_place.proofs.Mapped.{any_fails}
 use Rattle.pci_place.proofs.Records.{FunctionAt, function_at}
-use Rattle.pci_stand.specs.declared.region.Part.{Part as CodePart}
-use Rattle.pci_stand.specs.declared.region.Part.TheVariants as parts
+use Rattle.pci_settle.specs.declared.kept.Part.{Part as CodePart}
+use Rattle.pci_settle.specs.declared.kept.Part.TheVariants as parts
 use Rattle.pci_stand.specs.declared.region.Region.{Region as CodeRegion}
-use Rattle.pci_stand.specs.declared.standing.Standing.{Standing}
-use Rattle.pci_stand.specs.Tables.{part_value, stands_of, nothing, stands_in}
-use Rattle.pci_stand.specs.Places.{is_listed, is_in_lists, is_held, bar_window, held_in, part_window, window_for, is_in_windows}
+use Rattle.pci_settle.specs.declared.kept.Kept.{Kept}
+use Rattle.pci_settle.specs.Kept.{part_value, kept_of, nothing_kept}
+use Rattle.pci_stand.specs.Tables.{stands_in}
+use Rattle.pci_settle.specs.Over.{is_held}
+use Rattle.pci_stand.specs.Places.{is_listed, is_in_lists, bar_window, held_in, part_window, window_for, is_in_windows}
 use Rattle.pci_stand.specs.Known.{Known, region_value, is_led}
 use Rattle.pci_stand.specs.Boards.{IsBoard, IsKnown, AreOpen}
 use Rattle.pci_stand.proofs.Indexes.{table_at}
@@ -111,7 +113,7 @@ held_open : (there : Bool) (w r : Range) → is_held (cond there (Some w) None) 
 held_open true w r = refl
 held_open false w r = refl
 
-module _ (q : Request) (s : System) (records : List Record) (lists : Lists) (board : IsBoard q s records lists) (r : CodeRegion) (is : IsKnown q s r) (small : r.bus < 256) (table : List Standing) (opens : AreOpen s table) where
+module _ (q : Request) (s : System) (records : List Record) (lists : Lists) (board : IsBoard q s records lists) (r : CodeRegion) (is : IsKnown q s r) (small : r.bus < 256) (table : List Kept) (opens : AreOpen s table) where
   abbrev v : Region
   v = region_value s r
 
@@ -273,14 +275,14 @@ module _ (q : Request) (s : System) (records : List Record) (lists : Lists) (boa
               by_bar n here false false = refl
               by_bar n here false true = prefetchable n here
 
-          pub in_its_window : (entry : Standing) (d : Standing) → entry ≡ get_or table k d → k < length table → is_in_windows b.windows entry r ≡ is_in_place q s test v
+          pub in_its_window : (entry : Kept) (d : Kept) → entry ≡ get_or table k d → k < length table → is_in_windows b.windows entry r ≡ is_in_place q s test v
           in_its_window entry d entry_is within =
               let c = window_for b.windows r in
               let chosen_is : c ≡ chosen r.part (region_space v) ((is_prefetchable_part v.function v.part && is_led s bus) && not (holds MemoryWindow)) =
               ap (λ z. chosen r.part z (r.prefetch && not (holds MemoryWindow))) space_same ∙ ap (λ y. chosen r.part (region_space v) (y && not (holds MemoryWindow))) prefetch_same in
               let class = class_in q s v.function v.part in
-              let told : stands_of entry (Window c) ≡ stands c =
-              ap (λ y. stands_of y (Window c)) (entry_is ∙ get_or_default table k d nothing within) ∙ sym (table_at s board.system table k f (Window c) found.at) in
+              let told : kept_of entry (Window c) ≡ stands c =
+              ap (λ y. kept_of y (Window c)) (entry_is ∙ get_or_default table k d nothing_kept within) ∙ sym (table_at s board.system table k f (Window c) found.at) in
               ap (λ y. holds c && y) told
               ∙ ap (fits holds stands) chosen_is
               ∙ by_part r.part refl

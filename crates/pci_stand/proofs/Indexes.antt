@@ -1,5 +1,5 @@
 -- What a table by function tells of the parts of a system.
-use Rattle.std.proofs.Common.{◌≡◌, ℕ, zero, suc, ◌<◌, inl, inr, ◌⊎◌, List, [], ◌∷◌, get_or, set, length, true, false, cond, ◌&&◌, arith, sym, ◌∙◌, ap, refl, Some}
+use Rattle.std.proofs.Common.{◌≡◌, ℕ, zero, suc, ◌<◌, inl, inr, ◌⊎◌, List, [], ◌∷◌, get_or, set, length, true, false, cond, ◌&&◌, arith, sym, ◌∙◌, ap, refl, Some, Bool}
 use Rattle.std.specs.Bool.{◌==◌}
 use Rattle.std.specs.List.{Contains, slice_get}
 use Rattle.std.proofs.lemmas.Bool.{cases_eq, and_parts, and_from, eqb-true, eq-eqb, false_from_ne_true}
@@ -10,8 +10,9 @@ use Rattle.pci_spec.specs.Window.{WindowKind, IoWindow, MemoryWindow, PrefetchWi
 use Rattle.pci_spec.specs.System.{System, Function, Part, Bar, Rom, Window, IsSystem}
 use Rattle.plan_spec.proofs.Planning.AllItems.{slots_rise}
 use Rattle.settle_spec.specs.Parts.{Region}
-use Rattle.pci_stand.specs.declared.standing.Standing.{Standing}
-use Rattle.pci_stand.specs.Tables.{stands_of, index_of, nothing, stands_in}
+use Rattle.pci_settle.specs.declared.kept.Kept.{Kept}
+use Rattle.pci_settle.specs.Kept.{kept_of, nothing_kept}
+use Rattle.pci_stand.specs.Tables.{index_of, stands_in}
 
 -- ---- parts are one or two
 
@@ -82,18 +83,18 @@ module _ (s : System) (system : IsSystem s) where
           let here : slot_number (get_or s k d).slot ≡ slot_number f.slot = ap (λ (g : Function). slot_number g.slot) (get_or_from_slice_get s k f d at) in
           omega (arith, one, up, here)
 
-  pub table_at : (table : List Standing) (k : ℕ) (f : Function) (p : Part) → slice_get s k ≡ Some f → stands_in s table record { function = f; part = p } ≡ stands_of (get_or table k nothing) p
-  table_at table k f p at = ap (λ n. stands_of (get_or table n nothing) p) (index_at k f at)
+  pub table_at : (table : List Kept) (k : ℕ) (f : Function) (p : Part) → slice_get s k ≡ Some f → stands_in s table record { function = f; part = p } ≡ kept_of (get_or table k nothing_kept) p
+  table_at table k f p at = ap (λ n. kept_of (get_or table n nothing_kept) p) (index_at k f at)
 
-  -- ---- one more part that stands
+  -- ---- a part of which something else is noted
 
-  module _ (table : List Standing) (k : ℕ) (f : Function) (at : slice_get s k ≡ Some f) (within : k < length table) (p : Part) (entry : Standing)
-      (noted : stands_of entry p ≡ true) (others : (o : Part) → (o ≡ p → ⊥) → stands_of entry o ≡ stands_of (get_or table k nothing) o) where
+  module _ (table : List Kept) (k : ℕ) (f : Function) (at : slice_get s k ≡ Some f) (within : k < length table) (p : Part) (entry : Kept) (value : Bool)
+      (noted : kept_of entry p ≡ value) (others : (o : Part) → (o ≡ p → ⊥) → kept_of entry o ≡ kept_of (get_or table k nothing_kept) o) where
     abbrev part : Region
     part = record { function = f; part = p }
 
-    pub noted_here : stands_in s (set table k entry) part ≡ true
-    noted_here = table_at (set table k entry) k f p at ∙ ap (λ t. stands_of t p) (get_or-set_same table k entry nothing within) ∙ noted
+    pub noted_here : stands_in s (set table k entry) part ≡ value
+    noted_here = table_at (set table k entry) k f p at ∙ ap (λ t. kept_of t p) (get_or-set_same table k entry nothing_kept within) ∙ noted
 
     pub noted_others : (t : Region) → Contains s t.function → (t ≡ part) ⊎ (stands_in s (set table k entry) t ≡ stands_in s table t)
     noted_others t (m, in_m, is_m) =
@@ -105,16 +106,16 @@ module _ (s : System) (system : IsSystem s) where
                 | inl same_part ↦ inl (same_region t f p (sym one) same_part)
                 | inr differ ↦ inr (
                     table_at (set table k entry) m t.function t.part there
-                    ∙ ap (λ n. stands_of (get_or (set table k entry) n nothing) t.part) same
-                    ∙ ap (λ x. stands_of x t.part) (get_or-set_same table k entry nothing within)
+                    ∙ ap (λ n. kept_of (get_or (set table k entry) n nothing_kept) t.part) same
+                    ∙ ap (λ x. kept_of x t.part) (get_or-set_same table k entry nothing_kept within)
                     ∙ others t.part differ
-                    ∙ ap (λ n. stands_of (get_or table n nothing) t.part) (sym same)
+                    ∙ ap (λ n. kept_of (get_or table n nothing_kept) t.part) (sym same)
                     ∙ sym (table_at table m t.function t.part there)
                     )
               ]
           | inr other ↦ inr (
               table_at (set table k entry) m t.function t.part there
-              ∙ ap (λ x. stands_of x t.part) (get_or-set_other table k m entry nothing other)
+              ∙ ap (λ x. kept_of x t.part) (get_or-set_other table k m entry nothing_kept other)
               ∙ sym (table_at table m t.function t.part there)
               )
         ]

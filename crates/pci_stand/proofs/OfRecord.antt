@@ -47,9 +47,9 @@ use Rattle.pci_place.proofs.Owned.{map_twice, no_rom, lacking_above}
 use Rattle.pci_settle.specs.declared.own.Terms.{Terms}
 use Rattle.pci_settle.specs.Own.{is_left_bar}
 use Rattle.pci_stand.specs.declared.region.Owner.{Owner}
-use Rattle.pci_stand.specs.declared.region.Part.{Part as CodePart}
-use Rattle.pci_stand.specs.declared.region.Part.TheVariants as parts
-use Rattle.pci_stand.specs.Tables.{part_value}
+use Rattle.pci_settle.specs.declared.kept.Part.{Part as CodePart}
+use Rattle.pci_settle.specs.declared.kept.Part.TheVariants as parts
+use Rattle.pci_settle.specs.Kept.{part_value}
 use Rattle.pci_stand.specs.Regions.{owned, bar_space, bar_region, bar_regions, window_regions, bridge_regions, rom_region, rom_regions, record_regions}
 use Rattle.pci_stand.specs.Known.{Known, known, known_of, IsOwner}
 

@@ -22,7 +22,7 @@ use Rattle.stand_laws.proofs.Passes.{free_of_taken, told_more}
 use Rattle.pci_base.specs.Ranges.{decoded_range_of}
 use Rattle.pci_base.specs.declared.range.Range.{Range}
 use Rattle.pci_stand.specs.declared.region.Region.{Region as CodeRegion}
-use Rattle.pci_stand.specs.declared.standing.Standing.{Standing}
+use Rattle.pci_settle.specs.declared.kept.Kept.{Kept}
 use Rattle.pci_stand.specs.Known.{Known, region_value}
 use Rattle.pci_stand.specs.Boards.{IsKnown}
 use Rattle.pci_stand.specs.Tables.{stands_in}
@@ -138,13 +138,13 @@ module _ (q : Request) (s : System) (nested : IsNested q.roots s) (rs : List Cod
     ]
 
     -- on another bus than before nothing is taken yet
-    none_yet : (bus : ℕ) (table : List Standing) → ((t : Region) → Contains (regions q s) t → stands_in s table t ≡ true → level q t.function.slot.bus ≤ bus) → bus < r.level → (space : Space) → AreTakenOn q s (stands_in s table) r.level space []
+    none_yet : (bus : ℕ) (table : List Kept) → ((t : Region) → Contains (regions q s) t → stands_in s table t ≡ true → level q t.function.slot.bus ≤ bus) → bus < r.level → (space : Space) → AreTakenOn q s (stands_in s table) r.level space []
     none_yet bus table below up space = record {
       each = λ x listed. absurd (in_nil x listed);
       all = λ t listed is on of. absurd (let low = below t listed is in let no : ⊥ = omega (arith, low, on, up) in no);
     }
 
-    pub gone : (bus new : ℕ) (io mem new_io new_mem : List Range) (table : List Standing) → IsGoneTo r.level bus io mem new new_io new_mem → IsPassed q s rs count bus io mem table → IsPassed q s rs count new new_io new_mem table
+    pub gone : (bus new : ℕ) (io mem new_io new_mem : List Range) (table : List Kept) → IsGoneTo r.level bus io mem new new_io new_mem → IsPassed q s rs count bus io mem table → IsPassed q s rs count new new_io new_mem table
     gone bus new io mem new_io new_mem table to passed = elim (cases_eq bus r.level) [
       | inl same ↦
           let kept = to.same same in
@@ -166,7 +166,7 @@ module _ (q : Request) (s : System) (nested : IsNested q.roots s) (rs : List Cod
           }))
     ]
 
-    module _ (io mem : List Range) (table : List Standing) (passed : IsPassed q s rs count r.level io mem table) where
+    module _ (io mem : List Range) (table : List Kept) (passed : IsPassed q s rs count r.level io mem table) where
       abbrev test : Region → Bool
       test = stands_in s table
 
@@ -234,7 +234,7 @@ module _ (q : Request) (s : System) (nested : IsNested q.roots s) (rs : List Cod
         above = λ k d from inside. passed.above k d (omega (arith, from)) inside;
       }
 
-      module _ (next : List Standing) (size : length next ≡ length s) (here : stands_in s next v ≡ true) (others : (t : Region) → Contains s t.function → (t ≡ v) ⊎ (stands_in s next t ≡ test t)) where
+      module _ (next : List Kept) (size : length next ≡ length s) (here : stands_in s next v ≡ true) (others : (t : Region) → Contains s t.function → (t ≡ v) ⊎ (stands_in s next t ≡ test t)) where
         abbrev now : Region → Bool
         now = stands_in s next
 

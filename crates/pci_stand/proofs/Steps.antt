@@ -12,9 +12,10 @@ use Rattle.pci_base.specs.Space as code
 use Rattle.pci_base.specs.declared.range.Range.{Range}
 use Rattle.pci_place.specs.Items.{function_in, no_function}
 use Rattle.pci_stand.specs.declared.region.Region.{Region as CodeRegion}
-use Rattle.pci_stand.specs.declared.standing.Standing.{Standing}
+use Rattle.pci_settle.specs.declared.kept.Kept.{Kept}
 use Rattle.pci_stand.specs.Known.{Known, region_value}
-use Rattle.pci_stand.specs.Tables.{part_value, stands_of, nothing, stands_in}
+use Rattle.pci_settle.specs.Kept.{part_value, kept_of, nothing_kept}
+use Rattle.pci_stand.specs.Tables.{stands_in}
 use Rattle.pci_stand.specs.Taken.{is_free, IsWithTaken, in_space, in_other, IsGoneTo}
 use Rattle.pci_stand.specs.Passing.{AreOrdered, IsPassed}
 use Rattle.pci_stand.proofs.Indexes.{noted_here, noted_others}
@@ -25,13 +26,13 @@ same_lists Io io mem new_io new_mem here other = (here, other)
 same_lists Memory io mem new_io new_mem here other = (other, here)
 
 -- what is taken is named otherwise
-pub moved : (q : Request) (s : System) (rs : List CodeRegion) (count bus other : ℕ) (io io_too mem mem_too : List Range) (table : List Standing) → other ≡ bus → io_too ≡ io → mem_too ≡ mem → IsPassed q s rs count bus io mem table → IsPassed q s rs count other io_too mem_too table
+pub moved : (q : Request) (s : System) (rs : List CodeRegion) (count bus other : ℕ) (io io_too mem mem_too : List Range) (table : List Kept) → other ≡ bus → io_too ≡ io → mem_too ≡ mem → IsPassed q s rs count bus io mem table → IsPassed q s rs count other io_too mem_too table
 moved q s rs count bus other io io_too mem mem_too table same same_io same_mem is =
     subst (λ n. IsPassed q s rs count n io_too mem_too table) (sym same)
     (subst (λ xs. IsPassed q s rs count bus xs mem_too table) (sym same_io) (subst (λ xs. IsPassed q s rs count bus io xs table) (sym same_mem) is))
 
 module _ (q : Request) (s : System) (system : IsSystem s) (nested : IsNested q.roots s) (none : q.anew ≡ false) (rs : List CodeRegion) (ordered : AreOrdered q s rs) (count : ℕ) (within : count < length rs) (r : CodeRegion) (r_is : r ≡ get_or rs count r)
-    (bus level : ℕ) (old_io old_mem io mem : List Range) (table : List Standing) (to : IsGoneTo r.level bus old_io old_mem level io mem) (before : IsPassed q s rs count bus old_io old_mem table) where
+    (bus level : ℕ) (old_io old_mem io mem : List Range) (table : List Kept) (to : IsGoneTo r.level bus old_io old_mem level io mem) (before : IsPassed q s rs count bus old_io old_mem table) where
   abbrev v : Region
   v = region_value s r
 
@@ -47,7 +48,7 @@ module _ (q : Request) (s : System) (system : IsSystem s) (nested : IsNested q.r
   here : IsPassed q s rs count r.level io mem table
   here = subst (λ n. IsPassed q s rs count n io mem table) to.there passed
 
-  there : (new_level : ℕ) (new_io new_mem : List Range) (next : List Standing) → new_level ≡ level → IsPassed q s rs (count + 1) r.level new_io new_mem next → IsPassed q s rs (count + 1) new_level new_io new_mem next
+  there : (new_level : ℕ) (new_io new_mem : List Range) (next : List Kept) → new_level ≡ level → IsPassed q s rs (count + 1) r.level new_io new_mem next → IsPassed q s rs (count + 1) new_level new_io new_mem next
   there new_level new_io new_mem next same is = subst (λ n. IsPassed q s rs (count + 1) n new_io new_mem next) (sym (same ∙ to.there)) is
 
   module _ (in_place : Bool) (told : in_place ≡ is_in_place q s (stands_in s table) v) where
@@ -71,20 +72,20 @@ module _ (q : Request) (s : System) (system : IsSystem s) (nested : IsNested q.r
           (stands_where q s nested rs ordered count within r r_is io mem table here none space of ∙ and_right (is_in_place q s (stands_in s table) v) (is_free r.range (in_space space io mem)) (sym free_is ∙ off)))))
 
       -- all else does
-      pub stands_there : in_place ≡ true → free ≡ true → (entry : Standing) (next : List Standing) → next ≡ set table r.function entry → stands_of entry (part_value r.part) ≡ true
-          → (d : Standing) → ((o : Part) → (o ≡ part_value r.part → ⊥) → stands_of entry o ≡ stands_of (get_or table r.function d) o) → IsPassed q s rs (count + 1) new_level new_io new_mem next
+      pub stands_there : in_place ≡ true → free ≡ true → (entry : Kept) (next : List Kept) → next ≡ set table r.function entry → kept_of entry (part_value r.part) ≡ true
+          → (d : Kept) → ((o : Part) → (o ≡ part_value r.part → ⊥) → kept_of entry o ≡ kept_of (get_or table r.function d) o) → IsPassed q s rs (count + 1) new_level new_io new_mem next
       stands_there is free_on entry next put noted d others =
           let low = (is_known q s nested rs ordered count within r r_is).within in
           let size = here.size in
           let inside : r.function < length table = omega (arith, low, size) in
           let at = slice_get-get_or s r.function no_function low in
-          let kept : (o : Part) → (o ≡ part_value r.part → ⊥) → stands_of entry o ≡ stands_of (get_or table r.function nothing) o =
-          λ o other. others o other ∙ ap (λ x. stands_of x o) (get_or_default table r.function d nothing inside) in
+          let kept : (o : Part) → (o ≡ part_value r.part → ⊥) → kept_of entry o ≡ kept_of (get_or table r.function nothing_kept) o =
+          λ o other. others o other ∙ ap (λ x. kept_of x o) (get_or_default table r.function d nothing_kept inside) in
           subst (IsPassed q s rs (count + 1) new_level new_io new_mem) (sym put)
           (there new_level new_io new_mem (set table r.function entry) same
           (told_so q s nested rs ordered count within r r_is io mem table here (set table r.function entry) (length-set table r.function entry ∙ size)
-          (noted_here s system table r.function (function_in s r.function) at inside (part_value r.part) entry noted kept)
-          (noted_others s system table r.function (function_in s r.function) at inside (part_value r.part) entry noted kept)
+          (noted_here s system table r.function (function_in s r.function) at inside (part_value r.part) entry true noted kept)
+          (noted_others s system table r.function (function_in s r.function) at inside (part_value r.part) entry true noted kept)
           (stands_where q s nested rs ordered count within r r_is io mem table here none space of
           ∙ and_from (is_in_place q s (stands_in s table) v) (is_free r.range (in_space space io mem)) (sym told ∙ is) (sym free_is ∙ free_on))
           space of new_io new_mem (subst (λ b. IsWithTaken b r.range (in_space space io mem) (in_space space new_io new_mem)) free_on took) other))

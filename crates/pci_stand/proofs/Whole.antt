@@ -25,14 +25,15 @@ use Rattle.stand_laws.proofs.Standing.{part_of, stands_by_itself}
 use Rattle.stand_laws.proofs.Passes.{told_none, told_all}
 use Rattle.pci_base.specs.declared.range.Range.{Range}
 use Rattle.pci_place.proofs.Owned.{map_twice}
-use Rattle.pci_stand.specs.declared.region.Part.{Part as CodePart}
-use Rattle.pci_stand.specs.declared.region.Part.TheVariants as parts
+use Rattle.pci_settle.specs.declared.kept.Part.{Part as CodePart}
+use Rattle.pci_settle.specs.declared.kept.Part.TheVariants as parts
 use Rattle.pci_stand.specs.declared.region.Region.{Region as CodeRegion}
-use Rattle.pci_stand.specs.declared.standing.Standing.{Standing}
+use Rattle.pci_settle.specs.declared.kept.Kept.{Kept}
 use Rattle.pci_stand.specs.Known.{Known, region_value, known, known_of, IsForward, AreParts}
 use Rattle.pci_stand.specs.Boards.{IsKnown, AreOpen}
 use Rattle.pci_stand.specs.Order.{span_of, turn_number, turn_of, IsInTurn}
-use Rattle.pci_stand.specs.Tables.{IsPart, part_value, stands_of, index_of, nothing, stands_in, AreNone}
+use Rattle.pci_settle.specs.Kept.{IsPart, part_value, kept_of, nothing_kept, AreNone}
+use Rattle.pci_stand.specs.Tables.{index_of, stands_in}
 use Rattle.pci_stand.specs.Passing.{IsReady, AreOrdered, AreTakenOn, IsPassed, AreStanding}
 use Rattle.pci_stand.proofs.Indexes.{table_at}
 
@@ -137,7 +138,7 @@ module _ (q : Request) (s : System) where
   -- ---- what was collected
 
   module _ (collected : List CodeRegion) (are : AreParts q s collected) where
-    values_are : map (region_value s) collected ≡ regions q s
+    pub values_are : map (region_value s) collected ≡ regions q s
     values_are =
         sym (map_twice (λ (k : Known). k.region) (known s) collected)
         ∙ ap (map (λ (k : Known). k.region)) are.same
@@ -236,7 +237,7 @@ module _ (q : Request) (s : System) where
   -- ---- at the beginning, and in the end
 
   module _ (nested : IsNested q.roots s) (rs : List CodeRegion) (order : AreOrdered q s rs) where
-    pub passed_none : (table : List Standing) → length table ≡ length s → AreNone table → (bus : ℕ) (io mem : List Range) → bus ≡ 0 → io ≡ [] → mem ≡ [] → IsPassed q s rs 0 bus io mem table
+    pub passed_none : (table : List Kept) → length table ≡ length s → AreNone table → (bus : ℕ) (io mem : List Range) → bus ≡ 0 → io ≡ [] → mem ≡ [] → IsPassed q s rs 0 bus io mem table
     passed_none table size none bus io mem low no_io no_mem =
         subst (λ n. IsPassed q s rs 0 n io mem table) (sym low)
         (subst (λ xs. IsPassed q s rs 0 0 xs mem table) (sym no_io) (subst (λ xs. IsPassed q s rs 0 0 [] xs table) (sym no_mem) record {
@@ -248,17 +249,17 @@ module _ (q : Request) (s : System) where
           above = λ k d from inside. omega arith;
         }))
       where
-        none_of : (p : Part) → stands_of nothing p ≡ false
+        none_of : (p : Part) → kept_of nothing_kept p ≡ false
         none_of (Bar n) = refl
         none_of Rom = refl
         none_of (Window IoWindow) = refl
         none_of (Window MemoryWindow) = refl
         none_of (Window PrefetchWindow) = refl
 
-        in_entry : (k : ℕ) (p : Part) → stands_of (get_or table k nothing) p ≡ false
+        in_entry : (k : ℕ) (p : Part) → kept_of (get_or table k nothing_kept) p ≡ false
         in_entry k p = elim (cases_lt k (length table)) [
-          | inl inside ↦ none k nothing inside p
-          | inr past ↦ ap (λ t. stands_of t p) (get_or_past table k nothing past) ∙ none_of p
+          | inl inside ↦ none k nothing_kept inside p
+          | inr past ↦ ap (λ t. kept_of t p) (get_or_past table k nothing_kept past) ∙ none_of p
         ]
 
         nothing_on : (t : Region) → stands_in s table t ≡ false
@@ -280,12 +281,19 @@ module _ (q : Request) (s : System) where
     has_in_header f (Window MemoryWindow) there = Contains-append_right (header_bars f) (Window IoWindow ∷ Window MemoryWindow ∷ Window PrefetchWindow ∷ Rom ∷ []) (Window MemoryWindow) (1, omega arith, refl)
     has_in_header f (Window PrefetchWindow) there = Contains-append_right (header_bars f) (Window IoWindow ∷ Window MemoryWindow ∷ Window PrefetchWindow ∷ Rom ∷ []) (Window PrefetchWindow) (2, omega arith, refl)
 
-    pub all_stand : IsSystem s → (bus : ℕ) (io mem : List Range) (table : List Standing) → IsPassed q s rs (length rs) bus io mem table → AreStanding q s table
+    -- only open windows stand
+    pub open_alone : (count bus : ℕ) (io mem : List Range) (table : List Kept) → IsPassed q s rs count bus io mem table → AreOpen s table
+    open_alone count bus io mem table passed c b listed is =
+        let among = passed.told.only (record { function = b; part = Window c }) listed is in
+        (part_of q s (record { function = b; part = Window c }) (order.order.only (record { function = b; part = Window c }) (subst (Contains (map (region_value s) rs)) among.is (Contains-get_or (map (region_value s) rs) among.at (record { function = b; part = Window c }) among.within)))).is
+
+    pub all_stand : IsSystem s → (bus : ℕ) (io mem : List Range) (table : List Kept) → IsPassed q s rs (length rs) bus io mem table → AreStanding q s table
     all_stand system bus io mem table passed = record {
       count = passed.size;
+      opens = open_alone (length rs) bus io mem table passed;
       each = λ k f d p at there. (
           let within : k < length table = (let low = slice_get_within s k f at in let size = passed.size in omega (arith, low, size)) in
-          ap (λ t. stands_of t p) (get_or_default table k d nothing within)
+          ap (λ t. kept_of t p) (get_or_default table k d nothing_kept within)
           ∙ sym (table_at s system table k f p at)
           ∙ told f p (k, slice_get_within s k f at, get_or_from_slice_get s k f f at) there);
     }
@@ -309,9 +317,3 @@ module _ (q : Request) (s : System) where
                   false_from_ne_true (stands_in s table r) (λ is. never r off (passed.told.only r in_f is))
                   ∙ sym (false_from_ne_true (stands q s r) (λ is. both_ways (is_part q s f p) off ((stands_by_itself q s nested).only r in_f is)))
             ]
-
-    -- only open windows stand
-    pub open_alone : (count bus : ℕ) (io mem : List Range) (table : List Standing) → IsPassed q s rs count bus io mem table → AreOpen s table
-    open_alone count bus io mem table passed c b listed is =
-        let among = passed.told.only (record { function = b; part = Window c }) listed is in
-        (part_of q s (record { function = b; part = Window c }) (order.order.only (record { function = b; part = Window c }) (subst (Contains (map (region_value s) rs)) among.is (Contains-get_or (map (region_value s) rs) among.at (record { function = b; part = Window c }) among.within)))).is

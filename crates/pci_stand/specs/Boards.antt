@@ -12,7 +12,7 @@ use Rattle.settle_spec.specs.Stands.{window_region}
 use Rattle.pci_function.specs.declared.record.Record.{Record}
 use Rattle.pci_function.specs.Values.{record_value}
 use Rattle.pci_stand.specs.declared.region.Region.{Region}
-use Rattle.pci_stand.specs.declared.standing.Standing.{Standing}
+use Rattle.pci_settle.specs.declared.kept.Kept.{Kept}
 use Rattle.pci_stand.specs.Known.{region_value, known, known_of, IsForward}
 use Rattle.pci_stand.specs.Tables.{stands_in}
 
@@ -32,7 +32,7 @@ pub record IsKnown (q : Request) (s : System) (r : Region) : Type 0 where
   pub forward : IsForward r
 
 -- no window stands that isn't open
-abbrev pub AreOpen : System → List Standing → Type 0
+abbrev pub AreOpen : System → List Kept → Type 0
 AreOpen s table =
     (c : WindowKind) (b : Function) → Contains s b → IsTrue (stands_in s table (window_region c b))
     → IsTrue (is_open b c)

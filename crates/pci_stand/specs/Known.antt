@@ -22,7 +22,7 @@ use Rattle.pci_settle.specs.declared.own.Terms.{Terms}
 use Rattle.pci_settle.specs.Own.{AreTerms}
 use Rattle.pci_stand.specs.declared.region.Owner.{Owner}
 use Rattle.pci_stand.specs.declared.region.Region.{Region as CodeRegion}
-use Rattle.pci_stand.specs.Tables.{part_value}
+use Rattle.pci_settle.specs.Kept.{part_value}
 
 -- what is asked for: nothing is placed anew
 abbrev pub asked : List ℕ → Lists → List Slot → Request

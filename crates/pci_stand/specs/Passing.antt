@@ -10,10 +10,11 @@ use Rattle.stand_laws.specs.Passes.{AreInOrder, AreTold}
 use Rattle.pci_base.specs.Ranges.{decoded_range_of}
 use Rattle.pci_base.specs.declared.range.Range.{Range}
 use Rattle.pci_stand.specs.declared.region.Region.{Region as CodeRegion}
-use Rattle.pci_stand.specs.declared.standing.Standing.{Standing}
+use Rattle.pci_settle.specs.declared.kept.Kept.{Kept}
 use Rattle.pci_stand.specs.Known.{region_value, IsForward}
-use Rattle.pci_stand.specs.Boards.{IsKnown}
-use Rattle.pci_stand.specs.Tables.{IsPart, stands_of, stands_in}
+use Rattle.pci_stand.specs.Boards.{IsKnown, AreOpen}
+use Rattle.pci_settle.specs.Kept.{IsPart, kept_of}
+use Rattle.pci_stand.specs.Tables.{stands_in}
 
 -- a part that can be noted in a table of so many functions
 pub record IsReady (functions : ℕ) (r : CodeRegion) : Type 0 where
@@ -46,7 +47,7 @@ pub record AreTakenOn (q : Request) (s : System) (test : Region → Bool) (bus :
 
 -- the first parts are told, and what is taken is what stands on the bus of the last of them
 pub record IsPassed (q : Request) (s : System) (rs : List CodeRegion) (count bus : ℕ)
-    (io mem : List Range) (table : List Standing) : Type 0 where
+    (io mem : List Range) (table : List Kept) : Type 0 where
   pub size : length table ≡ length s
   pub told : AreTold q s (map (region_value s) rs) count (stands_in s table)
   pub io_taken : AreTakenOn q s (stands_in s table) bus Io io
@@ -57,9 +58,10 @@ pub record IsPassed (q : Request) (s : System) (rs : List CodeRegion) (count bus
       → bus ≤ (slice_index_or rs k d).level
 
 -- a table by function in slot order, with what stands of each
-pub record AreStanding (q : Request) (s : System) (table : List Standing) : Type 0 where
+pub record AreStanding (q : Request) (s : System) (table : List Kept) : Type 0 where
   pub count : length table ≡ length s
-  pub each : (k : ℕ) (f : Function) (d : Standing) (part : Part) → slice_get s k ≡ Some f
+  pub opens : AreOpen s table
+  pub each : (k : ℕ) (f : Function) (d : Kept) (part : Part) → slice_get s k ≡ Some f
       → IsTrue (has_part f part)
-      → stands_of (slice_index_or table k d) part
+      → kept_of (slice_index_or table k d) part
       ≡ stands q s record { function = f; part = part }

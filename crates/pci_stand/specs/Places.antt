@@ -1,5 +1,5 @@
 -- Whether a part lies where it can stand, as the code tells it.
-use Rattle.std.specs.Prelude.{ℕ, Bool, false, ◌&&◌, ◌||◌, not, if◌then◌else◌, List, Option, None, Some}
+use Rattle.std.specs.Prelude.{ℕ, Bool, ◌&&◌, ◌||◌, not, if◌then◌else◌, List}
 use Rattle.std.specs.List.{list_any}
 use Rattle.pci_spec.specs.Window.{WindowKind, IoWindow, MemoryWindow, PrefetchWindow}
 use Rattle.pci_spec.specs.Decoded.{Range}
@@ -12,11 +12,12 @@ use Rattle.pci_base.specs.WindowKinds.{kind_value}
 use Rattle.pci_image.specs.declared.window.Windows.{Windows}
 use Rattle.pci_image.specs.Windows.{window_of}
 use Rattle.pci_tree.specs.Passes.{range_in}
-use Rattle.pci_stand.specs.declared.region.Part.{Part}
-use Rattle.pci_stand.specs.declared.region.Part.TheVariants as parts
+use Rattle.pci_settle.specs.declared.kept.Part.{Part}
+use Rattle.pci_settle.specs.declared.kept.Part.TheVariants as parts
 use Rattle.pci_stand.specs.declared.region.Region.{Region}
-use Rattle.pci_stand.specs.declared.standing.Standing.{Standing}
-use Rattle.pci_stand.specs.Tables.{stands_of}
+use Rattle.pci_settle.specs.declared.kept.Kept.{Kept}
+use Rattle.pci_settle.specs.Kept.{kept_of}
+use Rattle.pci_settle.specs.Over.{is_held}
 use Rattle.pci_spec.specs.System as system
 
 -- whether a root has a range that holds another
@@ -29,11 +30,6 @@ is_listed bus r list = list_any (has_range bus r) list
 abbrev pub is_in_lists : Lists → ℕ → Space → Range → Bool
 is_in_lists lists bus Io r = is_listed bus r lists.io
 is_in_lists lists bus Memory r = is_listed bus r lists.memory || is_listed bus r lists.prefetch
-
--- whether there is a range, and holds another
-abbrev pub is_held : Option Range → Range → Bool
-is_held None r = false
-is_held (Some outer) r = is_within r outer
 
 abbrev pub bar_window : Space → Bool → WindowKind
 bar_window Io prefetch = IoWindow
@@ -53,6 +49,6 @@ window_for w r =
     part_window r.part
     (bar_window (space_of r.space) (r.prefetch && not (held_in w MemoryWindow r)))
 
-abbrev pub is_in_windows : Windows → Standing → Region → Bool
+abbrev pub is_in_windows : Windows → Kept → Region → Bool
 is_in_windows w over r =
-    held_in w (window_for w r) r && stands_of over (system.Window (window_for w r))
+    held_in w (window_for w r) r && kept_of over (system.Window (window_for w r))

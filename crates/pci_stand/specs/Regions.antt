@@ -21,8 +21,8 @@ use Rattle.pci_place.specs.declared.above.Above.{Above}
 use Rattle.pci_settle.specs.declared.own.Terms.{Terms}
 use Rattle.pci_settle.specs.Own.{is_left_bar}
 use Rattle.pci_stand.specs.declared.region.Owner.{Owner}
-use Rattle.pci_stand.specs.declared.region.Part.{Part}
-use Rattle.pci_stand.specs.declared.region.Part.TheVariants as parts
+use Rattle.pci_settle.specs.declared.kept.Part.{Part}
+use Rattle.pci_settle.specs.declared.kept.Part.TheVariants as parts
 use Rattle.pci_stand.specs.declared.region.Region.{Region}
 
 abbrev pub owned : Owner → Part → Space → Bool → Range → Region

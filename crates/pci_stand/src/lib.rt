@@ -10,5 +10,4 @@ pub mod order;
 pub mod pass;
 pub mod place;
 pub mod region;
-pub mod standing;
 pub mod taken;

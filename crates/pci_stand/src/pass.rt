@@ -15,11 +15,11 @@ use crate::collect::regions;
 use crate::order::sort_regions;
 use crate::place::{bridges_over, is_in_place};
 use crate::region::Region;
-use crate::standing::{Standing, nothing_stands};
 use crate::taken::Taken;
 use pci_base::memory::OutOfMemory;
 use pci_base::slot::{BUSES, Slot};
 use pci_function::record::Record;
+use pci_settle::kept::{Kept, nothing_kept};
 use pci_settle::list::Lists;
 use pci_tree::admitted::Admitted;
 use std::alloc::Allocator;
@@ -32,7 +32,7 @@ fn note_one<A: Allocator + Copy>(
     regions: &[Region],
     index: usize,
     taken: &mut Taken<A>,
-    table: &mut [Standing],
+    table: &mut [Kept],
 ) -> Result<(), OutOfMemory>
     requires over { IsBridgeToBus records.now over.now }
     requires count { length table.old ≡ length records.now }
@@ -64,7 +64,7 @@ fn note_all<A: Allocator + Copy>(
     lists: &Lists,
     regions: &[Region],
     taken: &mut Taken<A>,
-    table: &mut [Standing],
+    table: &mut [Kept],
 ) -> Result<(), OutOfMemory>
     requires over { IsBridgeToBus records.now over.now }
     requires count { length table.old ≡ length records.now }
@@ -91,7 +91,7 @@ pub fn standing<A: Allocator + Copy, B: Allocator>(
     admitted: &Admitted<B>,
     lists: &Lists,
     fixed: &[Slot],
-) -> Result<Vec<Standing, A>, OutOfMemory>
+) -> Result<Vec<Kept, A>, OutOfMemory>
     ensures { IfOk result (λ table. AreStanding
         (asked admitted.now.roots (lists_value lists.now) fixed.now) (system_in admitted.now)
         table.items) }
@@ -100,7 +100,7 @@ pub fn standing<A: Allocator + Copy, B: Allocator>(
     let over = bridges_over(records);
     let mut regions = regions(alloc, admitted, lists, fixed)?;
     sort_regions(&mut regions)?;
-    let mut table = nothing_stands(alloc, records.len())?;
+    let mut table = nothing_kept(alloc, records.len())?;
     let mut taken = Taken::none(alloc);
     note_all(
         records,

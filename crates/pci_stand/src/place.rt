@@ -3,7 +3,6 @@ ghost use Rattle.std.specs.Prelude.{◌≡◌, length, map};
 ghost use Rattle.std.specs.List.{list_any};
 ghost use Rattle.pci_spec.specs.System.{System};
 ghost use Rattle.settle_spec.specs.Lists.{Request};
-ghost use Rattle.settle_spec.specs.Parts.{is_within};
 ghost use Rattle.settle_spec.specs.Stands.{is_in_place};
 ghost use Rattle.pci_base.specs.Ranges.{decoded_range_of};
 ghost use Rattle.pci_base.specs.Space.{space_of};
@@ -11,28 +10,23 @@ ghost use Rattle.pci_base.specs.WindowKinds.{kind_value};
 ghost use Rattle.pci_image.specs.Windows.{window_of};
 ghost use Rattle.pci_tree.specs.Passes.{range_in};
 ghost use Rattle.pci_tree.specs.Ways.{IsBridgeToBus};
+ghost use Rattle.pci_settle.specs.Over.{is_held};
 ghost use Rattle.pci_settle.specs.Lists.{root_range_value, lists_value};
 ghost use Rattle.pci_stand.specs.Boards.{IsBoard, IsKnown, AreOpen};
 ghost use Rattle.pci_stand.specs.Known.{region_value};
 ghost use Rattle.pci_stand.specs.Tables.{stands_in};
-ghost use Rattle.pci_stand.specs.Places.{has_range, is_listed, is_in_lists, is_held, window_for, is_in_windows};
+ghost use Rattle.pci_stand.specs.Places.{has_range, is_listed, is_in_lists, window_for, is_in_windows};
 
-use crate::region::{Part, Region};
-use crate::standing::Standing;
+use crate::region::Region;
 use pci_base::range::{Range, RootRange};
 use pci_base::slot::BUSES;
 use pci_base::space::Space;
 use pci_base::window_kind::WindowKind;
 use pci_function::record::Record;
 use pci_image::window::Windows;
+use pci_settle::kept::{Kept, Part};
 use pci_settle::list::Lists;
-
-/// Whether a range lies in another.
-fn is_within(inner: Range, outer: Range) -> bool
-    ensures { result ≡ is_within (decoded_range_of inner) (decoded_range_of outer) }
-{
-    outer.first <= inner.first && inner.last <= outer.last
-}
+use pci_settle::over::is_within;
 
 /// Whether a root has a range of a list that holds another.
 fn has_range(one: RootRange, bus: u8, range: Range) -> bool
@@ -97,7 +91,7 @@ fn window_for(region: &Region, windows: &Windows) -> WindowKind
 }
 
 /// Whether the window over a part holds it, and stands.
-fn is_in_windows(region: &Region, windows: &Windows, over: &Standing) -> bool
+fn is_in_windows(region: &Region, windows: &Windows, over: &Kept) -> bool
     ensures { result ≡ is_in_windows windows.now over.now region.now }
 {
     let kind = window_for(region, windows);
@@ -123,7 +117,7 @@ pub fn is_in_place(
     over: &[Option<usize>; BUSES],
     lists: &Lists,
     region: &Region,
-    table: &[Standing],
+    table: &[Kept],
 ) -> bool
     requires over { IsBridgeToBus records.now over.now }
     requires count { length table.now ≡ length records.now }

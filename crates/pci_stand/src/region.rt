@@ -14,17 +14,9 @@ use pci_image::bar::{Bar, BarKind};
 use pci_image::rom::Rom;
 use pci_image::window::{Window, Windows};
 use pci_place::above::Above;
+use pci_settle::kept::Part;
 use pci_settle::own::{Terms, is_left_bar};
 use std::alloc::Allocator;
-
-/// What a region is of its function.
-#[derive(Clone, Copy, Debug, PartialEq, Eq)]
-pub enum Part {
-    /// The BAR that this Base Address register starts, counted from 0.
-    Bar(u8),
-    Rom,
-    Window(WindowKind),
-}
 
 /// What all parts of a function share.
 #[derive(Clone, Copy, Debug)]

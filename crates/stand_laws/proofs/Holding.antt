@@ -113,7 +113,7 @@ module _ (q : Request) (s : System) where
         bridge_of : (g : Function) (k : WindowKind) → is_open g k ≡ true → is_bridge g ≡ true
         bridge_of g k opens = (and_parts (is_bridge g) _ (and_parts _ _ opens).0).0
 
-    both_same : (test other : Region → Bool) (r : Region) → Contains s r.function → ((t : Region) → Contains s t.function → r.function.slot.bus < t.function.slot.bus → test t ≡ other t)
+    pub both_same : (test other : Region → Bool) (r : Region) → Contains s r.function → ((t : Region) → Contains s t.function → r.function.slot.bus < t.function.slot.bus → test t ≡ other t)
         → (stands q s r && has_room q s test r.function r.part) ≡ (stands q s r && has_room q s other r.function r.part)
     both_same test other r listed same = elim (cases_Bool (stands q s r)) [
       | inl is ↦ ap (λ b. stands q s r && b) (room_same test other r.function r.part listed is same)

@@ -8,5 +8,5 @@ use Rattle.pci_settle.proofs.bus.add_bus.Given as goal
 abbrev pub invariant-loop-function : goal.invariant-loop-function
 invariant-loop-function g l =
     (on : ℕ) → are_siblings l.admitted.roots on l.bus ≡ true
-    → AreBelow l.admitted.roots (system_in l.admitted) (kind_value l.class) l.terms l.windows on l.bus l.initial.items.items
-    → AreOnBusTo l.admitted.roots (system_in l.admitted) (kind_value l.class) l.terms l.windows on l.function l.items.items
+    → AreBelow l.admitted.roots (system_in l.admitted) (kind_value l.class) l.terms l.windows l.left.over.now l.left.kept.now on l.bus l.initial.items.items
+    → AreOnBusTo l.admitted.roots (system_in l.admitted) (kind_value l.class) l.terms l.windows l.left.over.now l.left.kept.now on l.function l.items.items

@@ -16,9 +16,9 @@ loop-bus-preserved g c = λ on root below.
     let is : c.is_root.result ≡ is_root roots bus = c.is_root.ensures ∙ ap (λ xs. is_root xs bus) (c.roots-roots.ensures ∙ c.outline.ensures.roots) in
     elim c.if-is_root.branch [
       | then-is_root+in_ok-add_bus w ↦
-          subst (λ v. AreBelow roots s (kind_value c.args.class) c.args.terms c.args.windows.now on (bus + 1) v) (sym (ap (λ v. v.items) w.items-is))
+          subst (λ v. AreBelow roots s (kind_value c.args.class) c.args.terms c.args.windows.now c.args.left.now.over.now c.args.left.now.kept.now on (bus + 1) v) (sym (ap (λ v. v.items) w.items-is))
           (w.in_ok-add_bus.ensures on (roots_beside roots on bus root (sym is ∙ w.if-is_root.true)) before)
       | else-is_root w ↦
-          subst (λ v. AreBelow roots s (kind_value c.args.class) c.args.terms c.args.windows.now on (bus + 1) v) (sym (ap (λ v. v.items) w.items-is))
-          (below_skip roots s c.outline.ensures.admitted.system (kind_value c.args.class) c.args.terms c.args.windows.now on bus _ (roots_apart roots on bus root (sym is ∙ w.if-is_root.false)) before)
+          subst (λ v. AreBelow roots s (kind_value c.args.class) c.args.terms c.args.windows.now c.args.left.now.over.now c.args.left.now.kept.now on (bus + 1) v) (sym (ap (λ v. v.items) w.items-is))
+          (below_skip roots s c.outline.ensures.admitted.system (kind_value c.args.class) c.args.terms c.args.windows.now c.args.left.now.over.now c.args.left.now.kept.now on bus _ (roots_apart roots on bus root (sym is ∙ w.if-is_root.false)) before)
     ]

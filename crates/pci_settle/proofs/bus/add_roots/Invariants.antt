@@ -8,5 +8,5 @@ use Rattle.pci_settle.proofs.bus.add_roots.Given as goal
 abbrev pub invariant-loop-bus : goal.invariant-loop-bus
 invariant-loop-bus g l =
     (on : ℕ) → is_root l.admitted.roots on ≡ true
-    → AreBelow l.admitted.roots (system_in l.admitted) (kind_value l.class) l.terms l.windows on 0 l.initial.items.items
-    → AreBelow l.admitted.roots (system_in l.admitted) (kind_value l.class) l.terms l.windows on l.bus l.items.items
+    → AreBelow l.admitted.roots (system_in l.admitted) (kind_value l.class) l.terms l.windows l.left.over.now l.left.kept.now on 0 l.initial.items.items
+    → AreBelow l.admitted.roots (system_in l.admitted) (kind_value l.class) l.terms l.windows l.left.over.now l.left.kept.now on l.bus l.items.items

@@ -17,16 +17,16 @@ returns-clause-items g c =
     let class = kind_value c.args.class in
     let bus = c.args.bus in
     let is : c.is_root.result ≡ is_root roots bus = c.is_root.ensures ∙ ap (λ xs. is_root xs bus) (c.roots.ensures ∙ c.outline.ensures.roots) in
-    all_on_bus roots s system class c.args.terms c.args.windows.now bus _ (elim c.if-is_root.branch [
+    all_on_bus roots s system class c.args.terms c.args.windows.now c.args.left.now.over.now c.args.left.now.kept.now bus _ (elim c.if-is_root.branch [
       | then-is_root+in_ok-add_roots w ↦
-          subst (AreOnBusTo roots s class c.args.terms c.args.windows.now bus (length s)) (sym (ap (λ v. v.items) w.items-is))
-          (below_roots roots s system class c.args.terms c.args.windows.now bus _ (w.in_ok-add_roots.ensures bus (sym is ∙ w.if-is_root.true)
-          (subst (AreBelow roots s class c.args.terms c.args.windows.now bus 0) (sym c.new-items.ensures.items) (below_none roots s system class c.args.terms c.args.windows.now bus))))
+          subst (AreOnBusTo roots s class c.args.terms c.args.windows.now c.args.left.now.over.now c.args.left.now.kept.now bus (length s)) (sym (ap (λ v. v.items) w.items-is))
+          (below_roots roots s system class c.args.terms c.args.windows.now c.args.left.now.over.now c.args.left.now.kept.now bus _ (w.in_ok-add_roots.ensures bus (sym is ∙ w.if-is_root.true)
+          (subst (AreBelow roots s class c.args.terms c.args.windows.now c.args.left.now.over.now c.args.left.now.kept.now bus 0) (sym c.new-items.ensures.items) (below_none roots s system class c.args.terms c.args.windows.now c.args.left.now.over.now c.args.left.now.kept.now bus))))
       | else-is_root+in_ok-add_bus w ↦
           let other = sym is ∙ w.if-is_root.false in
-          subst (AreOnBusTo roots s class c.args.terms c.args.windows.now bus (length s)) (sym (ap (λ v. v.items) w.items-is))
-          (below_bus roots s system class c.args.terms c.args.windows.now bus _ other (w.in_ok-add_bus.ensures bus (itself_beside roots bus)
-          (subst (AreBelow roots s class c.args.terms c.args.windows.now bus bus) (sym c.new-items.ensures.items) (below_own roots s system class c.args.terms c.args.windows.now bus other))))
+          subst (AreOnBusTo roots s class c.args.terms c.args.windows.now c.args.left.now.over.now c.args.left.now.kept.now bus (length s)) (sym (ap (λ v. v.items) w.items-is))
+          (below_bus roots s system class c.args.terms c.args.windows.now c.args.left.now.over.now c.args.left.now.kept.now bus _ other (w.in_ok-add_bus.ensures bus (itself_beside roots bus)
+          (subst (AreBelow roots s class c.args.terms c.args.windows.now c.args.left.now.over.now c.args.left.now.kept.now bus bus) (sym c.new-items.ensures.items) (below_own roots s system class c.args.terms c.args.windows.now c.args.left.now.over.now c.args.left.now.kept.now bus other))))
     ])
 
 pub returns-clause-lawful : goal.returns-clause-lawful
@@ -40,11 +40,11 @@ returns-clause-lawful g c windows_lawful =
     elim c.if-is_root.branch [
       | then-is_root+in_ok-add_roots w ↦
           subst (All HasExtent) (sym (ap (λ v. v.items) w.items-is))
-          ((below_roots roots s system class c.args.terms c.args.windows.now bus _ (w.in_ok-add_roots.ensures bus (sym is ∙ w.if-is_root.true)
-          (subst (AreBelow roots s class c.args.terms c.args.windows.now bus 0) (sym c.new-items.ensures.items) (below_none roots s system class c.args.terms c.args.windows.now bus)))).lawful windows_lawful)
+          ((below_roots roots s system class c.args.terms c.args.windows.now c.args.left.now.over.now c.args.left.now.kept.now bus _ (w.in_ok-add_roots.ensures bus (sym is ∙ w.if-is_root.true)
+          (subst (AreBelow roots s class c.args.terms c.args.windows.now c.args.left.now.over.now c.args.left.now.kept.now bus 0) (sym c.new-items.ensures.items) (below_none roots s system class c.args.terms c.args.windows.now c.args.left.now.over.now c.args.left.now.kept.now bus)))).lawful windows_lawful)
       | else-is_root+in_ok-add_bus w ↦
           let other = sym is ∙ w.if-is_root.false in
           subst (All HasExtent) (sym (ap (λ v. v.items) w.items-is))
-          ((below_bus roots s system class c.args.terms c.args.windows.now bus _ other (w.in_ok-add_bus.ensures bus (itself_beside roots bus)
-          (subst (AreBelow roots s class c.args.terms c.args.windows.now bus bus) (sym c.new-items.ensures.items) (below_own roots s system class c.args.terms c.args.windows.now bus other)))).lawful windows_lawful)
+          ((below_bus roots s system class c.args.terms c.args.windows.now c.args.left.now.over.now c.args.left.now.kept.now bus _ other (w.in_ok-add_bus.ensures bus (itself_beside roots bus)
+          (subst (AreBelow roots s class c.args.terms c.args.windows.now c.args.left.now.over.now c.args.left.now.kept.now bus bus) (sym c.new-items.ensures.items) (below_own roots s system class c.args.terms c.args.windows.now c.args.left.now.over.now c.args.left.now.kept.now bus other)))).lawful windows_lawful)
     ]

@@ -14,7 +14,7 @@ pub loop-done-init : goal.loop-done-init
 loop-done-init g c =
     let s = system_in c.args.admitted.now in
     let admitted = c.outline-outline.ensures.admitted in
-    windows_none c.args.admitted.now.roots s admitted.system admitted.nested (kind_value c.args.class) c.args.terms (length s - 0) (omega arith)
+    windows_none c.args.admitted.now.roots s admitted.system admitted.nested (kind_value c.args.class) c.args.terms c.args.overs.now (length s - 0) (omega arith)
 
 pub returns-then-not-branch-clause-windows : goal.returns-then-not-branch-clause-windows
 returns-then-not-branch-clause-windows g c =
@@ -23,9 +23,9 @@ returns-then-not-branch-clause-windows g c =
     let admitted = c.outline-outline.ensures.admitted in
     let records = c.records-records.result.now in
     let has : HasRecords s (map record_value records) = subst (λ rs. HasRecords s rs) (sym c.records-records.ensures.value) c.outline-outline.ensures.records in
-    step_large roots s admitted.system admitted.nested (kind_value c.args.class) c.args.terms records has c.loop-done.done c.index-records-function.result c.loop-done-test.true c.index-records-function.is
+    step_large roots s admitted.system admitted.nested (kind_value c.args.class) c.args.terms c.args.overs.now records has c.loop-done.done c.index-records-function.result c.loop-done-test.true c.index-records-function.is
     c.loop-done.windows c.loop-done.invariant c.in-Some.bridge (ap (λ (x : Record). x.bridge) c.index-records-function.is ∙ c.in-Some.is) c.put_window.new.windows
-    (subst (IsPut roots s (kind_value c.args.class) c.args.terms c.in-Some.bridge c.loop-done.windows c.put_window.new.windows) c.if-not-branch.true c.in_ok-put_window.ensures.put)
+    (subst (IsPut roots s (kind_value c.args.class) c.args.terms c.args.overs.now c.in-Some.bridge c.loop-done.windows c.put_window.new.windows) c.if-not-branch.true c.in_ok-put_window.ensures.put)
 
 pub loop-done-preserved : goal.loop-done-preserved
 loop-done-preserved g c =
@@ -36,14 +36,14 @@ loop-done-preserved g c =
     let has : HasRecords s (map record_value records) = subst (λ rs. HasRecords s rs) (sym c.records-records.ensures.value) c.outline-outline.ensures.records in
     elim c.match-records-function.branch [
       | in-Some+in_ok-put_window+else-not-branch w ↦
-          subst (AreWindowsFrom roots s (kind_value c.args.class) c.args.terms (length s - (c.loop-done.done + 1))) (sym w.windows-is)
-          (step_put roots s admitted.system admitted.nested (kind_value c.args.class) c.args.terms records has c.loop-done.done c.index-records-function.result c.loop-done-test.true
+          subst (AreWindowsFrom roots s (kind_value c.args.class) c.args.terms c.args.overs.now (length s - (c.loop-done.done + 1))) (sym w.windows-is)
+          (step_put roots s admitted.system admitted.nested (kind_value c.args.class) c.args.terms c.args.overs.now records has c.loop-done.done c.index-records-function.result c.loop-done-test.true
           c.index-records-function.is c.loop-done.windows c.loop-done.invariant w.in-Some.bridge (ap (λ (x : Record). x.bridge) c.index-records-function.is ∙ w.in-Some.is) w.put_window.new.windows
-          (subst (IsPut roots s (kind_value c.args.class) c.args.terms w.in-Some.bridge c.loop-done.windows w.put_window.new.windows) w.if-not-branch.false w.in_ok-put_window.ensures.put)
+          (subst (IsPut roots s (kind_value c.args.class) c.args.terms c.args.overs.now w.in-Some.bridge c.loop-done.windows w.put_window.new.windows) w.if-not-branch.false w.in_ok-put_window.ensures.put)
           w.put_window.ensures.lawful)
       | in_default w ↦
-          subst (AreWindowsFrom roots s (kind_value c.args.class) c.args.terms (length s - (c.loop-done.done + 1))) (sym w.windows-is)
-          (step_same roots s admitted.system admitted.nested (kind_value c.args.class) c.args.terms records has c.loop-done.done c.index-records-function.result c.loop-done-test.true
+          subst (AreWindowsFrom roots s (kind_value c.args.class) c.args.terms c.args.overs.now (length s - (c.loop-done.done + 1))) (sym w.windows-is)
+          (step_same roots s admitted.system admitted.nested (kind_value c.args.class) c.args.terms c.args.overs.now records has c.loop-done.done c.index-records-function.result c.loop-done-test.true
           c.index-records-function.is c.loop-done.windows c.loop-done.invariant (ap (λ (x : Record). x.bridge) c.index-records-function.is ∙ w.in_default.is))
     ]
 
@@ -59,5 +59,5 @@ returns-clause-windows g c =
     let has : HasRecords s (map record_value records) = subst (λ rs. HasRecords s rs) (sym c.records-records.ensures.value) c.outline-outline.ensures.records in
     let count = same_count s records has in
     let start = at_start (length s) c.loop-done.done (omega (arith, count)) in
-    whole_windows roots s admitted.system admitted.nested (kind_value c.args.class) c.args.terms c.loop-done.windows
-    (subst (λ n. AreWindowsFrom roots s (kind_value c.args.class) c.args.terms n c.loop-done.windows) start c.loop-done.invariant)
+    whole_windows roots s admitted.system admitted.nested (kind_value c.args.class) c.args.terms c.args.overs.now c.loop-done.windows
+    (subst (λ n. AreWindowsFrom roots s (kind_value c.args.class) c.args.terms c.args.overs.now n c.loop-done.windows) start c.loop-done.invariant)

@@ -5,4 +5,4 @@ use Rattle.pci_settle.proofs.NewWindows.{AreWindowsFrom}
 use Rattle.pci_settle.proofs.new_window.new_windows.Given as goal
 
 abbrev pub invariant-loop-done : goal.invariant-loop-done
-invariant-loop-done g l = AreWindowsFrom l.admitted.roots (system_in l.admitted) (kind_value l.class) l.terms (length (system_in l.admitted) - l.done) l.windows
+invariant-loop-done g l = AreWindowsFrom l.admitted.roots (system_in l.admitted) (kind_value l.class) l.terms l.overs (length (system_in l.admitted) - l.done) l.windows

@@ -2,7 +2,7 @@ use Rattle.std.proofs.Common.{◌∙◌, length, sym, ap, subst}
 use Rattle.std.proofs.lemmas.Result.{IfOk-weaker}
 use Rattle.pci_place.specs.Above.{system_in}
 use Rattle.pci_settle.specs.Lists.{lists_value}
-use Rattle.pci_stand.specs.Tables.{AreNone}
+use Rattle.pci_settle.specs.Kept.{AreNone}
 use Rattle.pci_settle_writes.specs.Requests.{all_anew}
 use Rattle.pci_settle_writes.proofs.AllAnew.{asked_anew, placed_anew, places_anew, stay_anew}
 use Rattle.pci_settle_writes.proofs.settle.settled_anew.Goals as goal

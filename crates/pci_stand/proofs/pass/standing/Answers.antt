@@ -8,7 +8,7 @@ use Rattle.pci_place.proofs.Records.{same_count}
 use Rattle.pci_settle.specs.Lists.{lists_value}
 use Rattle.pci_stand.specs.Boards.{IsBoard}
 use Rattle.pci_stand.specs.Known.{asked, region_value}
-use Rattle.pci_stand.specs.Tables.{AreNone}
+use Rattle.pci_settle.specs.Kept.{AreNone}
 use Rattle.pci_stand.specs.Passing.{IsReady, AreOrdered, AreStanding}
 use Rattle.pci_stand.proofs.Whole.{ready, ordered, numbers_rise, passed_none, all_stand, slice_back}
 use Rattle.pci_stand.proofs.pass.standing.Goals as goal

@@ -1,6 +1,6 @@
 use Rattle.std.proofs.Common.{arith, ap, length}
-use Rattle.pci_stand.proofs.Nothing.{none_first, none_more}
-use Rattle.pci_stand.proofs.standing.nothing_stands.Goals as goal
+use Rattle.pci_settle.proofs.Tables.{none_first, none_more}
+use Rattle.pci_settle.proofs.kept.nothing_kept.Goals as goal
 
 pub loop-init : goal.loop-init
 loop-init g c = record { count = ap length c.new-table.ensures.items; none = none_first _ c.new-table.ensures.items }
