@@ -1,0 +1,5 @@
+pub mod Opened
+pub mod Rows
+pub mod Rooms
+pub mod Held
+pub mod Stays

@@ -1,0 +1,184 @@
+-- A window has room where what is wanted has places off what is taken.
+use Rattle.std.proofs.Common.{◌≡◌, ℕ, zero, suc, ◌<◌, inl, inr, List, [], ◌∷◌, map, length, drop, get_or, Bool, true, false, not, ◌&&◌, ◌||◌, arith, refl, sym, ◌∙◌, ap, subst, Option, Some, None}
+use Rattle.std.specs.Bool.{◌==◌}
+use Rattle.std.specs.Option.{IfSome, is_some}
+use Rattle.std.specs.List.{All, Contains, filter, slice_get}
+use Rattle.std.specs.List.Sorted.{IsPermutation}
+use Rattle.std.proofs.lemmas.Bool.{cases_Bool, and_parts}
+use Rattle.std.proofs.lemmas.List.{length-map, get_or-map, get_or_default}
+use Rattle.std.proofs.lemmas.List.Elements.{All-contains, All-map}
+use Rattle.std.proofs.lemmas.List.Sorted.{IsPermutation-refl, IsPermutation-sym, Contains-permutation}
+use Rattle.std.proofs.lemmas.Option.{slice_get-get_or}
+use Rattle.pci_spec.specs.Window.{WindowKind}
+use Rattle.pci_spec.specs.System.{System, Function, Part, Bar, Rom, Window, is_bridge, is_window, has_part, window_space}
+use Rattle.pci_spec.specs.Bus.{is_root, are_siblings}
+use Rattle.pci_spec.specs.Decoded as decoded
+use Rattle.pci_spec.proofs.Members.{IsInPiece, in_flat_map_to, in_map_to, in_map_from, IsMade, in_filter_to}
+use Rattle.settle_spec.specs.Lists.{Request}
+use Rattle.settle_spec.specs.Parts.{Region, regions, regions_of, parts_of, is_part, header_parts, addresses, same_space}
+use Rattle.settle_spec.specs.Stands.{window_region, region_space}
+use Rattle.settle_spec.specs.Items.{Item as ItemValue, items_on, new_window, taken_on, are_placed, place_all, has_places}
+use Rattle.settle_spec.proofs.SameTaken.{HaveSame, same_places}
+use Rattle.pci_base.specs.declared.range.Range.{Range}
+use Rattle.pci_base.specs.Ranges.{decoded_range_of}
+use Rattle.pci_base.specs.Space.{space_of}
+use Rattle.pci_place.specs.Items.{no_function}
+use Rattle.pci_place.proofs.Mapped.{kept_same}
+use Rattle.pci_place.proofs.Owned.{map_twice}
+use Rattle.pci_settle.specs.declared.extent.Extent.{Extent}
+use Rattle.pci_settle.specs.declared.item.Item.{Item}
+use Rattle.pci_settle.specs.declared.kept.Kept.{Kept}
+use Rattle.pci_settle.specs.declared.over.OpenWindows.{OpenWindows}
+use Rattle.pci_settle.specs.declared.own.Terms.{Terms}
+use Rattle.pci_settle.specs.declared.placing.Wanted.{Wanted}
+use Rattle.pci_settle.specs.Kept.{part_value, AreKept}
+use Rattle.pci_settle.specs.Own.{item_value}
+use Rattle.pci_settle.specs.Buses.{AreInTurn}
+use Rattle.pci_settle.specs.Placings.{HasList, IsWanted, AreWanted, placing_of, lacks_first}
+use Rattle.pci_settle.specs.Turns.{HasExtent}
+use Rattle.pci_settle.proofs.Headers.{filter_same, header_has}
+use Rattle.pci_stand.specs.declared.region.Region.{Region as CodeRegion}
+use Rattle.pci_stand.specs.Known.{Known, known, known_of, region_value, AreParts}
+use Rattle.pci_stand.proofs.Whole.{known_sorted}
+use Rattle.pci_stay.specs.Rooms.{region_range, is_taken_on, wanted_value, IsRoomOf}
+
+-- a part of a system is one that its function has
+pub part_there : (q : Request) (s : System) (r : Region) → Contains (regions q s) r → has_part r.function r.part ≡ true
+part_there q s r listed = subst (λ (x : Region). has_part x.function x.part ≡ true) made.is (there made.from (in_filter_to (is_part q s piece.of) (header_parts piece.of) made.from made.has))
+  where
+    piece : IsInPiece (regions_of q s) s r
+    piece = in_flat_map_to (regions_of q s) s r listed
+
+    made : IsMade (λ p. record { function = piece.of; part = p }) (parts_of q s piece.of) r
+    made = in_map_to (λ p. record { function = piece.of; part = p }) (parts_of q s piece.of) r piece.piece
+
+    opens : (p : Part) → is_part q s piece.of p ≡ true → is_window p ≡ true → has_part piece.of p ≡ true
+    opens (Bar n) is window = cc
+    opens Rom is window = cc
+    opens (Window kind) is window = (and_parts (is_bridge piece.of) _ (and_parts _ _ is).0).0
+
+    there : (p : Part) → Contains (header_parts piece.of) p × (is_part q s piece.of p ≡ true) → has_part piece.of p ≡ true
+    there p (in_header, is) = elim (cases_Bool (is_window p)) [
+      | inl window ↦ opens p is window
+      | inr plain ↦ header_has piece.of p in_header plain
+    ]
+
+or_false : (b : Bool) → (b || false) ≡ b
+or_false true = refl
+or_false false = refl
+
+and_later : (a b d : Bool) → (a && (b && d)) ≡ (a && b && d)
+and_later true b d = refl
+and_later false b d = refl
+
+module _ (q : Request) (s : System) (c : WindowKind) (keeps : Region → Bool) (rs : List CodeRegion) (table : List Kept) (parts : AreParts q s rs) (keeps_is : AreKept s keeps table) (bus : ℕ) (no_root : is_root q.roots bus ≡ false) where
+  abbrev by_value : CodeRegion → Bool
+  by_value x = bus == x.bus && (same_space (window_space c) (space_of x.space) && keeps (region_value s x))
+
+  abbrev by_region : Region → Bool
+  by_region r = are_siblings q.roots bus r.function.slot.bus && same_space (window_space c) (region_space r) && keeps r
+
+  told : (x : CodeRegion) → Contains rs x → is_taken_on bus (window_space c) table x ≡ by_value x
+  told x listed =
+      let is = known_sorted q s rs parts rs (IsPermutation-refl rs) x listed in
+      let at : slice_get s x.function ≡ Some (region_value s x).function = slice_get-get_or s x.function no_function is.within in
+      ap (λ b. bus == x.bus && (same_space (window_space c) (space_of x.space) && b))
+      (keeps_is x.function (region_value s x).function (part_value x.part) at (part_there q s (region_value s x) is.listed))
+
+  same_test : (x : CodeRegion) (r : Region) → known s x ≡ known_of q s r → by_value x ≡ by_region r
+  same_test x r e =
+      ap (λ (k : Known). bus == k.bus && (same_space (window_space c) k.space && keeps k.region)) e
+      ∙ and_later (bus == r.function.slot.bus) (same_space (window_space c) (region_space r)) (keeps r)
+      ∙ ap (λ b. b && same_space (window_space c) (region_space r) && keeps r)
+      (sym (ap (λ b. bus == r.function.slot.bus || (b && is_root q.roots r.function.slot.bus)) no_root ∙ or_false (bus == r.function.slot.bus)))
+
+  -- what the table tells to keep its place on a bus is taken there
+  pub taken_is : map decoded_range_of (map region_range (filter (is_taken_on bus (window_space c) table) rs)) ≡ taken_on q s c keeps bus
+  taken_is =
+      map_twice decoded_range_of region_range (filter (is_taken_on bus (window_space c) table) rs)
+      ∙ ap (map (λ (x : CodeRegion). decoded_range_of x.range)) (filter_same (is_taken_on bus (window_space c) table) by_value rs told)
+      ∙ kept_same (known s) (known_of q s) by_value by_region same_test (λ (x : CodeRegion). decoded_range_of x.range) addresses (λ x r e. ap (λ (k : Known). k.range) e) rs (regions q s) parts.same
+
+-- ---- places
+
+have_same : (xs ys : List Range) → IsPermutation xs ys → HaveSame (map decoded_range_of xs) (map decoded_range_of ys)
+have_same xs ys moved = record {
+  to = λ t listed. (let made : IsMade decoded_range_of xs t = in_map_to decoded_range_of xs t listed in
+      subst (Contains (map decoded_range_of ys)) made.is (in_map_from decoded_range_of ys made.from (Contains-permutation xs ys made.from moved made.has)));
+  back = λ t listed. (let made : IsMade decoded_range_of ys t = in_map_to decoded_range_of ys t listed in
+      subst (Contains (map decoded_range_of xs)) made.is (in_map_from decoded_range_of xs made.from (Contains-permutation ys xs made.from (IsPermutation-sym xs ys moved) made.has)));
+}
+
+item_at : (items : List Item) (k : ℕ) → k < length items → (i : Item) × (get_or items k i ≡ i)
+item_at [] k less = absurd (let no : ⊥ = omega (arith, less) in no)
+item_at (i ∷ items) k less = (get_or (i ∷ items) k i, get_or_default (i ∷ items) k (get_or (i ∷ items) k i) i less)
+
+lacking : (items : List ItemValue) (k : ℕ) → k < length items → are_placed (lacks_first (drop k items)) ≡ false
+lacking [] k less = absurd (let no : ⊥ = omega (arith, less) in no)
+lacking (i ∷ items) zero less = refl
+lacking (i ∷ items) (suc k) less = lacking items k (omega (arith, less))
+
+placed_where : (items : List ItemValue) (places : List ℕ) (lack : Option ℕ) (all : Bool) → is_some lack ≡ not all → IfSome lack (λ k. k < length items) → are_placed (placing_of items places lack) ≡ all
+placed_where items places None true none within = refl
+placed_where items places None false none within = cc
+placed_where items places (Some k) true none within = cc
+placed_where items places (Some k) false none within = lacking items k within
+
+-- each item is wanted in a list
+pub wanted_lawful : (items : List Item) → All HasExtent items → (wanted : List Wanted) → wanted ≡ map wanted_value items → (lists : ℕ) → lists ≡ 1 → All (HasList lists) wanted
+wanted_lawful items lawful wanted is lists one =
+    subst (All (HasList lists)) (sym is) (All-map (HasList lists) wanted_value items (λ n d within. record { extent = lawful n d within; list = omega (arith, one) }))
+
+module _ (roots : List ℕ) (s : System) (c : WindowKind) (t : Terms) (overs : List OpenWindows) (windows : List (Option Extent)) (rs : List CodeRegion) (table : List Kept) (bus : ℕ) (range : Range)
+    (items : List Item) (turn : AreInTurn roots s c t windows overs table bus items) (lawful : All HasExtent items) (wanted : List Wanted) (wanted_is : wanted ≡ map wanted_value items)
+    (taken : List Range) (moved : IsPermutation (map region_range (filter (is_taken_on bus (window_space c) table) rs)) taken)
+    (lists : List (List Range)) (lists_are : lists ≡ (range ∷ []) ∷ []) (places : List ℕ) (lack : Option ℕ) (within : IfSome lack (λ k. k < length wanted))
+    (placing : (ranges : ItemValue → List decoded.Range) (all : List ItemValue) → AreWanted lists ranges all wanted → place_all ranges (map decoded_range_of taken) all ≡ placing_of all places lack) where
+  abbrev values : List ItemValue
+  values = map (item_value s c) items
+
+  long : length wanted ≡ length items
+  long = ap length wanted_is ∙ length-map items wanted_value
+
+  module _ (q : Request) (keeps : Region → Bool) (b : Function) (is : IsRoomOf roots s c t overs windows rs table bus range q keeps b) where
+    abbrev in_window : ItemValue → List decoded.Range
+    in_window i = addresses (window_region c b) ∷ []
+
+    values_are : values ≡ items_on q s c keeps (new_window q s c) bus
+    values_are = turn q keeps (new_window q s c) is.leaving is.behind
+
+    are_wanted : AreWanted lists in_window values wanted
+    are_wanted = record {
+      count = length-map items (item_value s c) ∙ sym long;
+      each = λ k i w less. each k i w (let l = long in omega (arith, less, l));
+    }
+      where
+        each : (k : ℕ) (i : ItemValue) (w : Wanted) → k < length items → IsWanted lists in_window (get_or values k i) (get_or wanted k w)
+        each k i w less =
+            let item = item_at items k less in
+            let value : get_or values k i ≡ item_value s c item.0 = get_or-map (item_value s c) items k item.0 i less ∙ ap (item_value s c) item.1 in
+            let want : get_or wanted k w ≡ wanted_value item.0 = ap (λ ws. get_or ws k w) wanted_is ∙ get_or-map wanted_value items k item.0 w less ∙ ap wanted_value item.1 in
+            subst (λ x. IsWanted lists in_window x (get_or wanted k w)) (sym value) (subst (IsWanted lists in_window (item_value s c item.0)) (sym want) record {
+              extent = refl;
+              list = ap (λ r. r ∷ []) (sym is.range_is) ∙ sym (ap (λ ls. map decoded_range_of (get_or ls 0 [])) lists_are);
+            })
+
+    aligned : (i : ItemValue) → Contains values i → 0 < i.extent.alignment
+    aligned i listed =
+        let made : IsMade (item_value s c) items i = in_map_to (item_value s c) items i listed in
+        let has = All-contains HasExtent items made.from lawful made.has in
+        subst (λ (x : ItemValue). 0 < x.extent.alignment) made.is has.alignment
+
+    pub room_is : (all : Bool) → is_some lack ≡ not all → all ≡ has_places q s keeps b c
+    room_is all none =
+        let found = map region_range (filter (is_taken_on bus (window_space c) table) rs) in
+        sym (placed_where values places lack all none (within_values lack within))
+        ∙ ap are_placed (sym (placing in_window values are_wanted))
+        ∙ ap are_placed (sym (same_places in_window values (map decoded_range_of found) (map decoded_range_of taken) aligned (have_same found taken moved)))
+        ∙ ap (λ xs. are_placed (place_all in_window xs values)) (taken_is q s c keeps rs table is.parts is.leaving.keeps_is bus is.no_root)
+        ∙ ap (λ xs. are_placed (place_all in_window (taken_on q s c keeps bus) xs)) values_are
+        ∙ ap (λ n. are_placed (place_all in_window (taken_on q s c keeps n) (items_on q s c keeps (new_window q s c) n))) (sym is.bus_is)
+      where
+        within_values : (o : Option ℕ) → IfSome o (λ k. k < length wanted) → IfSome o (λ k. k < length values)
+        within_values None none = tt
+        within_values (Some k) less = (let l = long in let m = length-map items (item_value s c) in omega (arith, less, l, m))

@@ -1,0 +1,63 @@
+-- What a table tells of parts that hold.
+use Rattle.std.specs.Prelude.{◌≡◌, ℕ, ◌<◌, ◌≤◌, Bool, ◌&&◌, if◌then◌else◌, IsTrue, List, length, Option, Some, slice_get, slice_index_or}
+use Rattle.pci_spec.specs.Window.{WindowKind}
+use Rattle.pci_spec.specs.System.{System, Function, Part, IsSystem, has_part}
+use Rattle.pci_spec.specs.Bus.{IsNested}
+use Rattle.settle_spec.specs.Lists.{Request}
+use Rattle.settle_spec.specs.Parts.{Region}
+use Rattle.settle_spec.specs.Stands.{window_region, stands}
+use Rattle.settle_spec.specs.Items.{has_places, has_room, holds}
+use Rattle.pci_base.specs.declared.window_kind.WindowKind.{WindowKind as CodeKind}
+use Rattle.pci_base.specs.declared.window_kind.ByKind.{ByKind}
+use Rattle.pci_base.specs.WindowKinds.{kind_value, by_kind}
+use Rattle.pci_settle.specs.declared.extent.Extent.{Extent}
+use Rattle.pci_settle.specs.declared.kept.Kept.{Kept}
+use Rattle.pci_settle.specs.declared.over.OpenWindows.{OpenWindows}
+use Rattle.pci_settle.specs.declared.own.Terms.{Terms}
+use Rattle.pci_settle.specs.Kept.{kept_of, nothing_kept}
+use Rattle.pci_settle.specs.NewWindows.{IsLeft, HasNewWindows}
+use Rattle.pci_stand.specs.declared.region.Region.{Region as CodeRegion}
+use Rattle.pci_stand.specs.Boards.{AreOpen}
+use Rattle.pci_stand.specs.Known.{AreParts}
+use Rattle.pci_stand.specs.Tables.{stands_in}
+
+-- what is asked for of a lawful system, with the parts, the open windows and the new ones
+pub record IsAsking (roots : List ℕ) (s : System) (t : Terms) (overs : List OpenWindows)
+    (windows : ByKind (List (Option Extent))) (regions : List CodeRegion) (q : Request) : Type 0 where
+  pub system : IsSystem s
+  pub nested : IsNested q.roots s
+  pub left : IsLeft roots s t overs q
+  pub parts : AreParts q s regions
+  pub new : (class : CodeKind) → HasNewWindows q s (kind_value class) t (by_kind windows class)
+
+-- what a table tells of a part that its function has; of another one, whether it stands
+abbrev pub told_in : Request → System → List Kept → Region → Bool
+told_in q s table r =
+    if has_part r.function r.part then stands_in s table r else stands q s r
+
+-- of the functions from place k on a table tells which parts stand with room, as it tells itself, and of those before which stand
+pub record IsHeldFrom (q : Request) (s : System) (table : List Kept) (k : ℕ) : Type 0 where
+  pub count : length table ≡ length s
+  pub opens : AreOpen s table
+  pub told : (j : ℕ) (f : Function) (part : Part) → k ≤ j → slice_get s j ≡ Some f
+      → IsTrue (has_part f part)
+      → kept_of (slice_index_or table j nothing_kept) part
+      ≡ (stands q s record { function = f; part = part } && has_room q s (told_in q s table) f part)
+  pub rest : (j : ℕ) (f : Function) (part : Part) → j < k → slice_get s j ≡ Some f
+      → IsTrue (has_part f part)
+      → kept_of (slice_index_or table j nothing_kept) part
+      ≡ stands q s record { function = f; part = part }
+
+-- whether a window stands with room, by what a table tells
+abbrev pub IsHolding : Request → System → List Kept → Function → WindowKind → Bool → Type 0
+IsHolding q s table f c holds =
+    holds ≡ (stands q s (window_region c f) && has_places q s (told_in q s table) f c)
+
+-- a table by function in slot order, with what holds of each
+pub record AreHolding (q : Request) (s : System) (table : List Kept) : Type 0 where
+  pub count : length table ≡ length s
+  pub opens : AreOpen s table
+  pub each : (k : ℕ) (f : Function) (part : Part) → slice_get s k ≡ Some f
+      → IsTrue (has_part f part)
+      → kept_of (slice_index_or table k nothing_kept) part
+      ≡ holds q s record { function = f; part = part }

@@ -1,0 +1,4 @@
+pub mod Windows
+pub mod Rooms
+pub mod Holding
+pub mod Staying

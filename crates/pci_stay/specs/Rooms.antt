@@ -1,0 +1,57 @@
+-- What is taken on a bus, and the room that a window has for what is behind it.
+use Rattle.std.specs.Prelude.{◌≡◌, ℕ, ◌==◌, Bool, ◌&&◌, IsFalse, List, Option, slice_index_or}
+use Rattle.pci_spec.specs.Window.{WindowKind}
+use Rattle.pci_spec.specs.System.{System, Function, Space, IsSystem}
+use Rattle.pci_spec.specs.Bus.{secondary, is_root}
+use Rattle.settle_spec.specs.Lists.{Request}
+use Rattle.settle_spec.specs.Parts.{Region, addresses, same_space}
+use Rattle.settle_spec.specs.Stands.{window_region}
+use Rattle.settle_spec.specs.Items.{new_window}
+use Rattle.pci_base.specs.declared.range.Range.{Range}
+use Rattle.pci_base.specs.Ranges.{decoded_range_of}
+use Rattle.pci_base.specs.Space.{space_of}
+use Rattle.pci_settle.specs.declared.extent.Extent.{Extent}
+use Rattle.pci_settle.specs.declared.item.Item.{Item}
+use Rattle.pci_settle.specs.declared.kept.Kept.{Kept}
+use Rattle.pci_settle.specs.declared.over.OpenWindows.{OpenWindows}
+use Rattle.pci_settle.specs.declared.own.Terms.{Terms}
+use Rattle.pci_settle.specs.declared.placing.Wanted.{Wanted}
+use Rattle.pci_settle.specs.Kept.{part_value, kept_of, nothing_kept}
+use Rattle.pci_settle.specs.Buses.{AreBehind, IsLeaving}
+use Rattle.pci_stand.specs.declared.region.Region.{Region as CodeRegion}
+use Rattle.pci_stand.specs.Known.{AreParts}
+
+-- ---- what is taken
+
+abbrev pub region_bus : CodeRegion → ℕ
+region_bus r = r.bus
+
+abbrev pub region_range : CodeRegion → Range
+region_range r = r.range
+
+-- whether a part is of a space and keeps its place
+abbrev pub is_taken : Space → List Kept → CodeRegion → Bool
+is_taken space table r =
+    same_space space (space_of r.space)
+    && kept_of (slice_index_or table r.function nothing_kept) (part_value r.part)
+
+-- and is on a bus
+abbrev pub is_taken_on : ℕ → Space → List Kept → CodeRegion → Bool
+is_taken_on bus space table r = bus == r.bus && is_taken space table r
+
+-- ---- room
+
+abbrev pub wanted_value : Item → Wanted
+wanted_value i = record { extent = i.extent; list = 0 }
+
+-- these are the new windows and the parts on the bus behind a bridge, what keeps its place there, and its window
+pub record IsRoomOf (roots : List ℕ) (s : System) (c : WindowKind) (t : Terms) (overs : List OpenWindows)
+    (windows : List (Option Extent)) (regions : List CodeRegion) (table : List Kept) (bus : ℕ) (range : Range)
+    (q : Request) (keeps : Region → Bool) (b : Function) : Type 0 where
+  pub system : IsSystem s
+  pub leaving : IsLeaving roots s q keeps overs table
+  pub parts : AreParts q s regions
+  pub behind : AreBehind q s c (new_window q s c) bus t windows
+  pub bus_is : secondary b ≡ bus
+  pub no_root : IsFalse (is_root q.roots bus)
+  pub range_is : decoded_range_of range ≡ addresses (window_region c b)

@@ -1,0 +1,45 @@
+-- What a table tells of parts that stay.
+use Rattle.std.specs.Prelude.{◌≡◌, ℕ, ◌<◌, ◌≤◌, false, IsTrue, List, length, Some, slice_get, slice_index_or, ⊤}
+use Rattle.std.specs.List.{Contains}
+use Rattle.pci_spec.specs.System.{System, Function, Part, has_part}
+use Rattle.settle_spec.specs.Lists.{Request}
+use Rattle.settle_spec.specs.Parts.{Region, regions}
+use Rattle.settle_spec.specs.Items.{holds, stays}
+use Rattle.pci_base.specs.declared.memory.Refused.{Refused}
+use Rattle.pci_base.specs.declared.memory.Refused.TheVariants as refused
+use Rattle.pci_base.specs.WindowKinds.{kind_value}
+use Rattle.pci_settle.specs.declared.kept.Kept.{Kept}
+use Rattle.pci_settle.specs.Kept.{kept_of, nothing_kept}
+use Rattle.pci_settle.specs.NewWindows.{IsTooLarge}
+use Rattle.pci_stand.specs.declared.region.Region.{Region as CodeRegion}
+use Rattle.pci_stand.specs.Boards.{AreOpen}
+use Rattle.pci_stand.specs.Known.{region_value}
+use Rattle.pci_stand.specs.Tables.{stands_in}
+use Rattle.pci_stay.specs.declared.windows.TooLarge.{TooLarge}
+
+-- of the first parts a table tells which stay, and of the rest which hold
+pub record IsStayedTo (q : Request) (s : System) (rs : List CodeRegion) (n : ℕ)
+    (table : List Kept) : Type 0 where
+  pub count : length table ≡ length s
+  pub opens : AreOpen s table
+  pub told : (i : ℕ) (d : CodeRegion) → i < n → i < length rs
+      → stands_in s table (region_value s (slice_index_or rs i d))
+      ≡ stays q s (region_value s (slice_index_or rs i d))
+  pub rest : (i : ℕ) (d : CodeRegion) → n ≤ i → i < length rs
+      → stands_in s table (region_value s (slice_index_or rs i d))
+      ≡ holds q s (region_value s (slice_index_or rs i d))
+  pub others : (r : Region) → Contains s r.function → IsTrue (has_part r.function r.part)
+      → (Contains (regions q s) r → ⊥) → stands_in s table r ≡ false
+
+-- a table by function in slot order, with what stays of each
+pub record AreStaying (q : Request) (s : System) (table : List Kept) : Type 0 where
+  pub count : length table ≡ length s
+  pub each : (k : ℕ) (f : Function) (part : Part) → slice_get s k ≡ Some f
+      → IsTrue (has_part f part)
+      → kept_of (slice_index_or table k nothing_kept) part
+      ≡ stays q s record { function = f; part = part }
+
+-- a new window of some class is too large, or there was no memory
+abbrev pub IsTooLargeFor : Request → System → Refused TooLarge → Type 0
+IsTooLargeFor q s refused.Memory = ⊤
+IsTooLargeFor q s (refused.Fault x) = IsTooLarge q s (kind_value x.class) x.function

@@ -1,0 +1,179 @@
+//! Which parts hold: those that stand, with room for what is behind them.
+ghost use Rattle.std.specs.Prelude.{◌≡◌, ◌+◌, ◌<◌, Some, IfOk, OnOk, length, slice_get};
+ghost use Rattle.std.specs.List.{All};
+ghost use Rattle.std.specs.List.Sorted.{IsNonDecreasingBy};
+ghost use Rattle.pci_spec.specs.System.{Function};
+ghost use Rattle.settle_spec.specs.Lists.{Request};
+ghost use Rattle.pci_base.specs.WindowKinds.{kind_value};
+ghost use Rattle.pci_place.specs.Above.{AreAboves, system_in};
+ghost use Rattle.pci_stand.specs.Passing.{IsReady, AreStanding};
+ghost use Rattle.pci_stay.specs.Windows.{AreAllLawful};
+ghost use Rattle.pci_stay.specs.Rooms.{region_bus};
+ghost use Rattle.pci_stay.specs.Holding.{IsAsking, IsHeldFrom, IsHolding, AreHolding};
+
+use crate::room::has_places;
+use crate::windows::open_range;
+use pci_base::memory::OutOfMemory;
+use pci_base::slot::BUSES;
+use pci_base::window_kind::{ByKind, WindowKind};
+use pci_place::above::Above;
+use pci_settle::extent::Extent;
+use pci_settle::kept::Kept;
+use pci_settle::over::OpenWindows;
+use pci_settle::own::Terms;
+use pci_stand::region::Region;
+use pci_tree::admitted::Admitted;
+use std::alloc::Allocator;
+
+/// Whether a window of a function stands, and has a place for each item behind it that doesn't keep its place.
+fn window_holds<A: Allocator + Copy, B: Allocator>(
+    alloc: A,
+    admitted: &Admitted<B>,
+    function: usize,
+    class: WindowKind,
+    aboves: &[Above; BUSES],
+    terms: Terms,
+    over: &[OpenWindows],
+    windows: &ByKind<[Option<Extent>; BUSES]>,
+    regions: &[Region],
+    table: &[Kept],
+) -> Result<bool, OutOfMemory>
+    requires above { AreAboves (system_in admitted.now) aboves.now }
+    requires lawful { AreAllLawful windows.now }
+    requires order { IsNonDecreasingBy region_bus regions.now }
+    requires ready { All (IsReady (length table.now)) regions.now }
+    requires function { function < length table.now }
+    requires count { length table.now ≡ length (system_in admitted.now) }
+    ensures { IfOk result (λ holds. (q : Request) → (f : Function)
+        → IsAsking admitted.now.roots (system_in admitted.now) terms over.now windows.now regions.now q
+        → slice_get (system_in admitted.now) function ≡ Some f
+        → IsHeldFrom q (system_in admitted.now) table.now (function + 1)
+        → IsHolding q (system_in admitted.now) table.now f (kind_value class) holds) }
+{
+    if !table[function].window(class) {
+        return Ok(false);
+    }
+    let records = admitted.outline().records();
+    let Some(bridge) = &records[function].bridge else {
+        return Ok(false);
+    };
+    let Some(range) = open_range(&bridge.windows, class) else {
+        return Ok(false);
+    };
+    let room = has_places(
+        alloc,
+        admitted,
+        bridge.secondary,
+        class,
+        range,
+        aboves,
+        terms,
+        over,
+        windows.get(class),
+        regions,
+        table,
+    )?;
+    Ok(room)
+}
+
+/// Notes which windows of a bridge hold, where it is noted of all that is behind it.
+fn hold_bridge<A: Allocator + Copy, B: Allocator>(
+    alloc: A,
+    admitted: &Admitted<B>,
+    function: usize,
+    aboves: &[Above; BUSES],
+    terms: Terms,
+    over: &[OpenWindows],
+    windows: &ByKind<[Option<Extent>; BUSES]>,
+    regions: &[Region],
+    table: &mut [Kept],
+) -> Result<(), OutOfMemory>
+    requires above { AreAboves (system_in admitted.now) aboves.now }
+    requires lawful { AreAllLawful windows.now }
+    requires order { IsNonDecreasingBy region_bus regions.now }
+    requires ready { All (IsReady (length table.old)) regions.now }
+    requires function { function < length table.old }
+    requires count { length table.old ≡ length (system_in admitted.now) }
+    ensures { OnOk result ((q : Request) → (f : Function)
+        → IsAsking admitted.now.roots (system_in admitted.now) terms over.now windows.now regions.now q
+        → slice_get (system_in admitted.now) function ≡ Some f
+        → IsHeldFrom q (system_in admitted.now) table.old (function + 1)
+        → IsHeldFrom q (system_in admitted.now) table.new function) }
+{
+    let io = window_holds(
+        alloc,
+        admitted,
+        function,
+        WindowKind::Io,
+        aboves,
+        terms,
+        over,
+        windows,
+        regions,
+        table,
+    )?;
+    let memory = window_holds(
+        alloc,
+        admitted,
+        function,
+        WindowKind::Memory,
+        aboves,
+        terms,
+        over,
+        windows,
+        regions,
+        table,
+    )?;
+    let prefetchable = window_holds(
+        alloc,
+        admitted,
+        function,
+        WindowKind::Prefetchable,
+        aboves,
+        terms,
+        over,
+        windows,
+        regions,
+        table,
+    )?;
+    table[function].windows = ByKind {
+        io,
+        memory,
+        prefetchable,
+    };
+    Ok(())
+}
+
+/// Notes in a table of what stands what holds. What is behind a bridge has higher slots than the bridge, so one pass from
+/// the highest slot down notes it before the windows of the bridge are looked at.
+pub fn hold_all<A: Allocator + Copy, B: Allocator>(
+    alloc: A,
+    admitted: &Admitted<B>,
+    aboves: &[Above; BUSES],
+    terms: Terms,
+    over: &[OpenWindows],
+    windows: &ByKind<[Option<Extent>; BUSES]>,
+    regions: &[Region],
+    table: &mut [Kept],
+) -> Result<(), OutOfMemory>
+    requires above { AreAboves (system_in admitted.now) aboves.now }
+    requires lawful { AreAllLawful windows.now }
+    requires order { IsNonDecreasingBy region_bus regions.now }
+    requires ready { All (IsReady (length table.old)) regions.now }
+    requires count { length table.old ≡ length (system_in admitted.now) }
+    ensures { OnOk result ((q : Request)
+        → IsAsking admitted.now.roots (system_in admitted.now) terms over.now windows.now regions.now q
+        → AreStanding q (system_in admitted.now) table.old
+        → AreHolding q (system_in admitted.now) table.new) }
+{
+    let records = admitted.outline().records();
+    for done in 0..records.len() {
+        let function = records.len() - 1 - done;
+        if records[function].bridge.is_some() {
+            hold_bridge(
+                alloc, admitted, function, aboves, terms, over, windows, regions, table,
+            )?;
+        }
+    }
+    Ok(())
+}

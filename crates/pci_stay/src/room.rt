@@ -1,0 +1,98 @@
+//! Whether a window has room for what is behind it.
+ghost use Rattle.std.specs.Prelude.{◌≡◌, Bool, IfOk, length, map};
+ghost use Rattle.std.specs.List.{All};
+ghost use Rattle.std.specs.List.Sorted.{IsNonDecreasingBy};
+ghost use Rattle.pci_spec.specs.System.{Function, window_space};
+ghost use Rattle.settle_spec.specs.Lists.{Request};
+ghost use Rattle.settle_spec.specs.Parts.{Region as RegionValue};
+ghost use Rattle.settle_spec.specs.Items.{has_places};
+ghost use Rattle.pci_base.specs.Space.{space_of};
+ghost use Rattle.pci_base.specs.WindowKinds.{kind_value};
+ghost use Rattle.pci_place.specs.Above.{AreAboves, system_in};
+ghost use Rattle.pci_settle.specs.Buses.{AreWindows};
+ghost use Rattle.pci_stand.specs.Passing.{IsReady};
+ghost use Rattle.pci_stay.specs.Rooms.{region_bus, wanted_value, IsRoomOf};
+
+use crate::taken::taken_on;
+use pci_base::memory::OutOfMemory;
+use pci_base::range::Range;
+use pci_base::slot::BUSES;
+use pci_base::space::Space;
+use pci_base::window_kind::WindowKind;
+use pci_place::above::Above;
+use pci_settle::bus::items_in_turn;
+use pci_settle::extent::Extent;
+use pci_settle::item::Item;
+use pci_settle::kept::Kept;
+use pci_settle::over::{Left, OpenWindows};
+use pci_settle::own::Terms;
+use pci_settle::placing::{Wanted, place_all};
+use pci_stand::region::Region;
+use pci_tree::admitted::Admitted;
+use std::alloc::Allocator;
+
+/// The space of a class.
+fn space_of(class: WindowKind) -> Space
+    ensures { space_of result ≡ window_space (kind_value class) }
+{
+    match class {
+        WindowKind::Io => Space::Io,
+        WindowKind::Memory | WindowKind::Prefetchable => Space::Mem,
+    }
+}
+
+/// What is wanted for each item: its extent in the one list.
+fn wanted_of<A: Allocator>(alloc: A, items: &[Item]) -> Result<Vec<Wanted, A>, OutOfMemory>
+    ensures { IfOk result (λ wanted. wanted.items ≡ map wanted_value items.now) }
+{
+    let mut wanted = Vec::new(alloc);
+    for item in items {
+        wanted.push(Wanted {
+            extent: item.extent,
+            list: 0,
+        })?;
+    }
+    Ok(wanted)
+}
+
+/// Whether a window has a place for each item on the bus behind it that doesn't keep its place, off those that do.
+pub fn has_places<A: Allocator + Copy, B: Allocator>(
+    alloc: A,
+    admitted: &Admitted<B>,
+    bus: u8,
+    class: WindowKind,
+    range: Range,
+    aboves: &[Above; BUSES],
+    terms: Terms,
+    over: &[OpenWindows],
+    windows: &[Option<Extent>; BUSES],
+    regions: &[Region],
+    table: &[Kept],
+) -> Result<bool, OutOfMemory>
+    requires above { AreAboves (system_in admitted.now) aboves.now }
+    requires lawful { AreWindows windows.now }
+    requires order { IsNonDecreasingBy region_bus regions.now }
+    requires ready { All (IsReady (length table.now)) regions.now }
+    ensures { IfOk result (λ room. (q : Request) → (keeps : RegionValue → Bool) → (b : Function)
+        → IsRoomOf admitted.now.roots (system_in admitted.now) (kind_value class) terms over.now
+        windows.now regions.now table.now bus range q keeps b
+        → room ≡ has_places q (system_in admitted.now) keeps b (kind_value class)) }
+{
+    let left = Left { over, kept: table };
+    let items = items_in_turn(alloc, admitted, bus, class, aboves, terms, windows, &left)?;
+    let wanted = wanted_of(alloc, items.as_slice())?;
+    let mut places = vec![in alloc; 0; wanted.len()]?;
+    let mut taken = taken_on(alloc, regions, bus, space_of(class), table)?;
+    let mut window = Vec::new(alloc);
+    window.push(range)?;
+    let mut lists = Vec::new(alloc);
+    lists.push(window)?;
+    let lack = place_all(
+        alloc,
+        lists.as_slice(),
+        &mut taken,
+        wanted.as_slice(),
+        places.as_mut_slice(),
+    )?;
+    Ok(lack.is_none())
+}

@@ -1,0 +1,104 @@
+//! Which parts stay: those that hold, below windows that stay.
+ghost use Rattle.std.specs.Prelude.{◌≡◌, ◌+◌, ◌<◌, IfOk, IfErr, length};
+ghost use Rattle.std.specs.List.{All};
+ghost use Rattle.pci_spec.specs.System.{System};
+ghost use Rattle.settle_spec.specs.Lists.{Request};
+ghost use Rattle.pci_tree.specs.Ways.{IsBridgeToBus};
+ghost use Rattle.pci_place.specs.Above.{system_in};
+ghost use Rattle.pci_settle.specs.Lists.{lists_value};
+ghost use Rattle.pci_stand.specs.Boards.{IsBoard};
+ghost use Rattle.pci_stand.specs.Known.{asked, AreParts};
+ghost use Rattle.pci_stand.specs.Passing.{IsReady};
+ghost use Rattle.pci_stay.specs.Holding.{AreHolding};
+ghost use Rattle.pci_stay.specs.Staying.{IsStayedTo, AreStaying, IsTooLargeFor};
+
+use crate::holding::hold_all;
+use crate::windows::{TooLarge, all_windows, open_windows};
+use pci_base::memory::Refused;
+use pci_base::slot::{BUSES, Slot};
+use pci_function::record::Record;
+use pci_place::above::aboves;
+use pci_settle::kept::Kept;
+use pci_settle::list::Lists;
+use pci_settle::own::Terms;
+use pci_stand::collect::regions;
+use pci_stand::pass::standing;
+use pci_stand::place::{bridges_over, is_in_place};
+use pci_stand::region::Region;
+use pci_tree::admitted::Admitted;
+use std::alloc::Allocator;
+
+/// Notes of a part that holds whether it stays: it is on a root, or the window over it stays.
+fn stay_one(
+    records: &[Record],
+    over: &[Option<usize>; BUSES],
+    lists: &Lists,
+    regions: &[Region],
+    index: usize,
+    table: &mut [Kept],
+)
+    requires over { IsBridgeToBus records.now over.now }
+    requires count { length table.old ≡ length records.now }
+    requires ready { All (IsReady (length records.now)) regions.now }
+    requires index { index < length regions.now }
+    ensures { (q : Request) → (s : System) → IsBoard q s records.now (lists_value lists.now)
+        → AreParts q s regions.now
+        → IsStayedTo q s regions.now index table.old
+        → IsStayedTo q s regions.now (index + 1) table.new }
+{
+    let region = &regions[index];
+    if !is_in_place(records, over, lists, region, table) {
+        table[region.function].clear(region.part);
+    }
+}
+
+/// Notes in a table of what holds what stays. The parts come by rising slots, so a window comes before what is in it.
+fn stay_all(
+    records: &[Record],
+    over: &[Option<usize>; BUSES],
+    lists: &Lists,
+    regions: &[Region],
+    table: &mut [Kept],
+)
+    requires over { IsBridgeToBus records.now over.now }
+    requires count { length table.old ≡ length records.now }
+    requires ready { All (IsReady (length records.now)) regions.now }
+    ensures { (q : Request) → (s : System) → IsBoard q s records.now (lists_value lists.now)
+        → AreParts q s regions.now → AreHolding q s table.old → AreStaying q s table.new }
+{
+    for index in 0..regions.len() {
+        stay_one(records, over, lists, regions, index, table);
+    }
+}
+
+/// Which parts of each function stay where they are, in slot order: they stand, a window has room for what is behind it,
+/// and so does each window above. `fixed` are the slots of functions whose registers may not be written.
+///
+/// A bridge is named whose new window would have 2^64 addresses or more.
+pub fn staying<A: Allocator + Copy, B: Allocator>(
+    alloc: A,
+    admitted: &Admitted<B>,
+    lists: &Lists,
+    fixed: &[Slot],
+) -> Result<Vec<Kept, A>, Refused<TooLarge>>
+    ensures stay { IfOk result (λ table. AreStaying
+        (asked admitted.now.roots (lists_value lists.now) fixed.now) (system_in admitted.now)
+        table.items) }
+    ensures fault { IfErr result (IsTooLargeFor
+        (asked admitted.now.roots (lists_value lists.now) fixed.now) (system_in admitted.now)) }
+{
+    let records = admitted.outline().records();
+    let aboves = aboves(admitted);
+    let terms = Terms::of(lists);
+    let opened = open_windows(records);
+    let windows = all_windows(alloc, admitted, &aboves, terms, &opened)?;
+    let regions = regions(alloc, admitted, lists, fixed)?;
+    let mut table = standing(alloc, admitted, lists, fixed)?;
+    let regions = regions.as_slice();
+    let entries = table.as_mut_slice();
+    hold_all(
+        alloc, admitted, &aboves, terms, &opened, &windows, regions, entries,
+    )?;
+    stay_all(records, &bridges_over(records), lists, regions, entries);
+    Ok(table)
+}

@@ -1,0 +1,84 @@
+//! What is taken on a bus by the parts that keep their places there.
+ghost use Rattle.std.specs.Prelude.{◌≡◌, ◌<◌, ◌≤◌, IfOk, OnOk, length, map};
+ghost use Rattle.std.specs.List.{All, AllWithin, filter};
+ghost use Rattle.std.specs.List.Sorted.{IsPermutation, IsNonDecreasingBy};
+ghost use Rattle.settle_spec.specs.Parts.{same_space};
+ghost use Rattle.pci_base.specs.Space.{space_of};
+ghost use Rattle.pci_settle.specs.Spots.{AreInOrder, AreListed};
+ghost use Rattle.pci_stand.specs.Passing.{IsReady};
+ghost use Rattle.pci_stay.specs.Rooms.{region_bus, region_range, is_taken, is_taken_on};
+
+use pci_base::memory::OutOfMemory;
+use pci_base::range::Range;
+use pci_base::space::Space;
+use pci_settle::kept::Kept;
+use pci_stand::region::Region;
+use std::alloc::Allocator;
+
+/// The index of the first part on this bus or a higher one.
+fn first_from(regions: &[Region], bus: u16) -> usize
+    requires { IsNonDecreasingBy region_bus regions.now }
+    ensures bound { result ≤ length regions.now }
+    ensures before { AllWithin (λ r. r.bus < bus) regions.now 0 result }
+    ensures after { AllWithin (λ r. bus ≤ r.bus) regions.now result (length regions.now) }
+{
+    regions.partition_point(|region| u16::from(region.bus) < bus)
+}
+
+/// Whether two spaces are one.
+fn is_same(space: Space, other: Space) -> bool
+    ensures { result ≡ same_space (space_of space) (space_of other) }
+{
+    match space {
+        Space::Io => other == Space::Io,
+        Space::Mem => other == Space::Mem,
+    }
+}
+
+/// Whether a part is of a space and keeps its place.
+fn is_taken(region: &Region, space: Space, table: &[Kept]) -> bool
+    requires { region.now.function < length table.now }
+    ensures { result ≡ is_taken (space_of space) table.now region.now }
+{
+    is_same(space, region.space) && table[region.function].keeps(region.part)
+}
+
+/// Sorts ranges by their first addresses.
+fn sort_by_first<A: Allocator + Copy>(taken: &mut Vec<Range, A>) -> Result<(), OutOfMemory>
+    ensures permutation { IsPermutation taken.old.items taken.new.items }
+    ensures order { OnOk result (AreInOrder taken.new.items) }
+{
+    match taken.sort_by_key(|range| range.first) {
+        Ok(()) => Ok(()),
+        Err(_) => Err(OutOfMemory),
+    }
+}
+
+/// The ranges of the parts of a space that keep their places on a bus, by rising first addresses. The parts stand in slot
+/// order, so those of the bus stand in a row.
+pub fn taken_on<A: Allocator + Copy>(
+    alloc: A,
+    regions: &[Region],
+    bus: u8,
+    space: Space,
+    table: &[Kept],
+) -> Result<Vec<Range, A>, OutOfMemory>
+    requires order { IsNonDecreasingBy region_bus regions.now }
+    requires ready { All (IsReady (length table.now)) regions.now }
+    ensures taken { IfOk result (λ taken. IsPermutation
+        (map region_range (filter (is_taken_on bus (space_of space) table.now) regions.now))
+        taken.items) }
+    ensures listed { IfOk result (λ taken. AreListed taken.items) }
+{
+    let first = first_from(regions, bus as u16);
+    let end = first_from(regions, bus as u16 + 1);
+    let mut taken = Vec::new(alloc);
+    for index in first..end {
+        let region = &regions[index];
+        if is_taken(region, space, table) {
+            taken.push(region.range)?;
+        }
+    }
+    sort_by_first(&mut taken)?;
+    Ok(taken)
+}

@@ -1,0 +1,134 @@
+//! The windows of bridges: those that are open, and the new ones around what is behind them.
+ghost use Rattle.std.specs.Prelude.{◌≡◌, IfOk, IfErr, OnOk};
+ghost use Rattle.std.specs.Option.{option_map};
+ghost use Rattle.pci_spec.specs.System.{System};
+ghost use Rattle.settle_spec.specs.Lists.{Request};
+ghost use Rattle.pci_base.specs.Ranges.{decoded_range_of};
+ghost use Rattle.pci_base.specs.WindowKinds.{kind_value};
+ghost use Rattle.pci_image.specs.Windows.{window_of};
+ghost use Rattle.pci_tree.specs.Passes.{range_in};
+ghost use Rattle.pci_place.specs.Above.{AreAboves, system_in};
+ghost use Rattle.pci_settle.specs.Buses.{AreWindows};
+ghost use Rattle.pci_stay.specs.Windows.{AreOpenFor, HasWindowsOf, IsTooLargeOf, HasAllWindows, AreAllLawful, IsTooLargeIn};
+
+use pci_base::memory::Refused;
+use pci_base::range::Range;
+use pci_base::slot::BUSES;
+use pci_base::window_kind::{ByKind, WindowKind};
+use pci_function::record::Record;
+use pci_image::window::Windows;
+use pci_place::above::Above;
+use pci_settle::extent::Extent;
+use pci_settle::new_window::new_windows;
+use pci_settle::over::OpenWindows;
+use pci_settle::own::Terms;
+use pci_tree::admitted::Admitted;
+use std::alloc::Allocator;
+
+/// A bridge whose new window would have 2^64 addresses or more.
+#[derive(Clone, Copy, Debug)]
+pub struct TooLarge {
+    pub class: WindowKind,
+    /// Which of the functions, in slot order.
+    pub function: usize,
+}
+
+/// The addresses of a window, where it is open.
+pub fn open_range(windows: &Windows, kind: WindowKind) -> Option<Range>
+    ensures { option_map decoded_range_of result ≡ range_in (window_of windows.now (kind_value kind)) }
+{
+    match windows.get(kind) {
+        Some(window) => window.range(),
+        None => None,
+    }
+}
+
+/// The open windows over each bus that tell the classes of the BARs there, where nothing is placed anew.
+pub fn open_windows(records: &[Record]) -> [OpenWindows; BUSES]
+    ensures { (q : Request) → (s : System) → AreOpenFor q s records.now result }
+{
+    let mut over = [OpenWindows::NONE; BUSES];
+    for record in records {
+        if let Some(bridge) = &record.bridge {
+            over[bridge.secondary as usize] = OpenWindows {
+                memory: open_range(&bridge.windows, WindowKind::Memory),
+                prefetch: open_range(&bridge.windows, WindowKind::Prefetchable),
+            };
+        }
+    }
+    over
+}
+
+/// Puts the new windows of a class into a table, or names the bridge of which that would have 2^64 addresses or more.
+fn class_windows<A: Allocator + Copy, B: Allocator>(
+    alloc: A,
+    admitted: &Admitted<B>,
+    class: WindowKind,
+    aboves: &[Above; BUSES],
+    terms: Terms,
+    over: &[OpenWindows],
+    windows: &mut [Option<Extent>; BUSES],
+) -> Result<(), Refused<TooLarge>>
+    requires { AreAboves (system_in admitted.now) aboves.now }
+    ensures windows { OnOk result (HasWindowsOf admitted.now.roots (system_in admitted.now)
+        (kind_value class) terms over.now windows.new) }
+    ensures lawful { AreWindows windows.new }
+    ensures fault { IfErr result (IsTooLargeOf admitted.now.roots (system_in admitted.now)
+        (kind_value class) terms over.now) }
+{
+    match new_windows(alloc, admitted, class, aboves, terms, over, windows)? {
+        Some(function) => Err(Refused::Fault(TooLarge { class, function })),
+        None => Ok(()),
+    }
+}
+
+/// The new windows over each bus, by class.
+pub fn all_windows<A: Allocator + Copy, B: Allocator>(
+    alloc: A,
+    admitted: &Admitted<B>,
+    aboves: &[Above; BUSES],
+    terms: Terms,
+    over: &[OpenWindows],
+) -> Result<ByKind<[Option<Extent>; BUSES]>, Refused<TooLarge>>
+    requires { AreAboves (system_in admitted.now) aboves.now }
+    ensures windows { IfOk result (HasAllWindows admitted.now.roots (system_in admitted.now) terms over.now) }
+    ensures lawful { IfOk result AreAllLawful }
+    ensures fault { IfErr result (IsTooLargeIn admitted.now.roots (system_in admitted.now) terms over.now) }
+{
+    let mut io = [None; BUSES];
+    let mut memory = [None; BUSES];
+    let mut prefetchable = [None; BUSES];
+    class_windows(
+        alloc,
+        admitted,
+        WindowKind::Io,
+        aboves,
+        terms,
+        over,
+        &mut io,
+    )?;
+    class_windows(
+        alloc,
+        admitted,
+        WindowKind::Memory,
+        aboves,
+        terms,
+        over,
+        &mut memory,
+    )?;
+    let class = WindowKind::Prefetchable;
+    class_windows(
+        alloc,
+        admitted,
+        class,
+        aboves,
+        terms,
+        over,
+        &mut prefetchable,
+    )?;
+    Ok(ByKind {
+        io,
+        memory,
+        prefetchable,
+    })
+}
