@@ -4,7 +4,6 @@ ghost use Rattle.std.specs.List.{All, AllWithin};
 ghost use Rattle.pci_spec.specs.Slot.{IsSlot};
 ghost use Rattle.pci_spec.specs.System.{Part};
 ghost use Rattle.pci_spec.specs.Bus.{is_root, are_siblings};
-ghost use Rattle.pci_tree.specs.Roots.{buses_of};
 ghost use Rattle.pci_tree.specs.Outline.{RiseBySlot};
 ghost use Rattle.pci_base.specs.WindowKinds.{kind_value};
 ghost use Rattle.pci_place.specs.Above.{AreAboves, system_in};

@@ -9,7 +9,7 @@ use Rattle.std.proofs.lemmas.Option.{slice_get_within, slice_get-get_or, get_or_
 use Rattle.pci_spec.specs.Window.{WindowKind, MemoryWindow, PrefetchWindow}
 use Rattle.pci_spec.specs.System.{System, Function, IsFunction, IsSystem, is_bridge}
 use Rattle.pci_spec.specs.Bus.{is_root, secondary, IsNested}
-use Rattle.pci_spec.specs.Decoded.{HasRecords, Range}
+use Rattle.pci_spec.specs.Decoded.{Range}
 use Rattle.pci_spec.specs.Decoded as decoded
 use Rattle.settle_spec.specs.Lists.{Request}
 use Rattle.settle_spec.specs.Parts.{bridge_over}
