@@ -47,7 +47,7 @@ fn window_behind(windows: &[Option<Extent>; BUSES], bridge: Option<Bridge>) -> O
 }
 
 /// What of a function keeps its place, by a table that may be empty.
-fn kept_by(table: &[Kept], function: usize) -> &Kept
+pub fn kept_by(table: &[Kept], function: usize) -> &Kept
     ensures { (part : Part) → kept_of result.now part
         ≡ kept_of (slice_index_or table.now function nothing_kept) part }
 {

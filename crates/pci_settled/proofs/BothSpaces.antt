@@ -8,7 +8,7 @@ use Rattle.std.proofs.lemmas.Option.{slice_get_within}
 use Rattle.pci_spec.specs.Window.{IoWindow, MemoryWindow, PrefetchWindow}
 use Rattle.pci_spec.specs.System.{System, Space, Io, Memory, Part, Bar, Rom, Window, space_of, window_space}
 use Rattle.settle_spec.specs.Lists.{Lists, Request}
-use Rattle.settle_spec.specs.Items.{Item as ItemValue, Placing, AllPlaced, Lacks}
+use Rattle.settle_spec.specs.Items.{Item as ItemValue, Placing, AllPlaced, Lacks, stays}
 use Rattle.settle_spec.specs.Places.{placing_on, first_lack, lacking_on}
 use Rattle.pci_base.specs.declared.memory.Refused.{Refused}
 use Rattle.pci_base.specs.declared.memory.Refused.TheVariants as refused
@@ -19,16 +19,21 @@ use Rattle.pci_settle.specs.declared.own.Terms.{Terms}
 use Rattle.pci_settle.specs.Spots.{IsExtent}
 use Rattle.pci_settle.specs.Own.{AreTerms}
 use Rattle.pci_settle.specs.Buses.{AreWindows}
-use Rattle.pci_settle.specs.NewWindows.{IsAnew}
+use Rattle.pci_settle.specs.declared.over.Left.{Left}
+use Rattle.pci_settle.specs.Kept.{AreKept}
+use Rattle.pci_settle.specs.Over.{AreOpenOver}
 use Rattle.pci_settled.specs.declared.anew.Unplaced.{Unplaced}
 use Rattle.pci_settled.specs.declared.anew.Unplaced.TheVariants as unplaced
 use Rattle.pci_settled.specs.declared.candidate.Candidate.{Candidate}
 use Rattle.pci_settled.specs.declared.candidate.SpaceWindows.{SpaceWindows}
 use Rattle.pci_settled.specs.declared.places.Places.{Places}
-use Rattle.pci_settled.specs.Candidates.{candidate_value, HasWindowsIn}
+use Rattle.pci_settled.specs.declared.held.Held.{Held}
+use Rattle.pci_settled.specs.declared.held.Staying.{Staying}
+use Rattle.pci_settled.specs.Held.{AreHeld, AreHeldIn, IsStaying}
+use Rattle.pci_settled.specs.Candidates.{candidate_value, HasWindowsIn, KnowsRequest}
 use Rattle.pci_settled.specs.Places.{range_in}
 use Rattle.pci_settled.specs.Spaces.{HasNone, KeepsOthers, space_lack, AreSpacePlacesIn}
-use Rattle.pci_settled.specs.Anew.{IsAnewIn, IsTooLargeIn, HasPlacesIn, IsUnplacedIn, AreAllNone, AreNewPlaces, IsUnplaced}
+use Rattle.pci_settled.specs.Placed.{IsTooLargeIn, HasPlacesIn, IsUnplacedIn, AreAllNone, IsLeaving, CanBeLeft, ArePlacesOff, IsUnplacedOff}
 
 -- ---- what lacks a place
 
@@ -53,23 +58,20 @@ lacking_io q s (root ∷ roots) i some = first_some (placing_on q s Io root) (fi
 pub no_windows : AreWindows (replicate 256 None)
 no_windows = All-replicate (λ (o : Option Extent). IfSome o IsExtent) 256 None tt
 
-module _ (roots : List ℕ) (s : System) (space : Space) (l : Lists) (t : Terms) (terms : AreTerms l t) where
-  anew_in : (q : Request) → IsAnewIn q roots l → IsAnew q roots t
-  anew_in q anew = record { rooted = anew.rooted; anew = anew.anew; terms = subst (λ x. AreTerms x t) (sym anew.lists) terms }
-
-  pub space_placed : (w : SpaceWindows) (table : List Places) → HasWindowsIn roots s space t w → AreSpacePlacesIn roots s space l t w table None → HasPlacesIn roots s space l table
-  space_placed w table windows are q anew =
-      let placed = are q (anew_in q anew) anew.lists (windows q (anew_in q anew)) in
+module _ (roots : List ℕ) (s : System) (space : Space) (l : Lists) (t : Terms) (st : Staying) where
+  pub space_placed : (w : SpaceWindows) (table : List Places) → HasWindowsIn roots s space t st w → AreSpacePlacesIn roots s space l t st w table None → HasPlacesIn roots s space l t st table
+  space_placed w table windows are q stay same =
+      let placed = are q stay same (windows q stay) in
       record { lack = placed.lack_is; places = placed.places }
 
-  pub space_lacks : (w : SpaceWindows) (table : List Places) (c : Candidate) → HasWindowsIn roots s space t w → AreSpacePlacesIn roots s space l t w table (Some c)
-      → (q : Request) → IsAnewIn q roots l → space_lack q s space q.roots ≡ Some (candidate_value s c)
-  space_lacks w table c windows are q anew = (are q (anew_in q anew) anew.lists (windows q (anew_in q anew))).lack_is
+  pub space_lacks : (w : SpaceWindows) (table : List Places) (c : Candidate) → HasWindowsIn roots s space t st w → AreSpacePlacesIn roots s space l t st w table (Some c)
+      → (q : Request) → IsStaying q roots s t st → q.lists ≡ l → space_lack q s space q.roots ≡ Some (candidate_value s c)
+  space_lacks w table c windows are q stay same = (are q stay same (windows q stay)).lack_is
 
-  pub too_large : (e : Refused Unplaced) → IsTooLargeIn roots s space t e → IsUnplacedIn roots s space l e
+  pub too_large : (e : Refused Unplaced) → IsTooLargeIn roots s space t st e → IsUnplacedIn roots s space l t st e
   too_large refused.Memory is = tt
   too_large (refused.Fault (unplaced.Lacks x)) is = absurd is
-  too_large (refused.Fault (unplaced.TooLarge class k)) (of, is) = (of, λ q anew. is q (anew_in q anew))
+  too_large (refused.Fault (unplaced.TooLarge class k)) (of, is) = (of, λ q stay same. is q stay)
 
 -- ---- a table without any place
 
@@ -124,26 +126,45 @@ still_none s start table count none kept k f d part at there of =
     let inside = slice_get_within s k f at in
     kept.others k f d part at there (λ io. not_both (space_of f part) io of) ∙ none k d part (omega (arith, inside, count))
 
-module _ (roots : List ℕ) (s : System) (l : Lists) where
-  pub both_placed : (first table : List Places) → length table ≡ length s → HasPlacesIn roots s Io l first → KeepsOthers s Memory first table → HasPlacesIn roots s Memory l table → AreNewPlaces roots s l table
-  both_placed first table count io kept memory q anew = record {
-    count = count;
-    lack = lacking_memory q s q.roots (io q anew).lack ∙ (memory q anew).lack;
-    each = λ k f d part at there. elim (cases_space (space_of f part)) [
-      | inl of ↦ kept.others k f d part at there (λ is. not_both (space_of f part) of is) ∙ (io q anew).places k f d part at there of
-      | inr of ↦ (memory q anew).places k f d part at there of
-    ];
+module _ (roots : List ℕ) (s : System) (l : Lists) (t : Terms) (terms : AreTerms l t) (left : Left) (held : List Held) (are : AreHeldIn roots s l left.kept.now held) (st : Staying) (left_is : st.left ≡ left) (held_is : st.held.now ≡ held) where
+  stay_of : (q : Request) → IsLeaving q roots s l left → IsStaying q roots s t st
+  stay_of q leaving = record {
+    rooted = leaving.rooted;
+    terms = subst (λ x. AreTerms x t) (sym leaving.lists) terms;
+    overs_are = subst (λ (x : Left). AreOpenOver q s x.over.now) (sym left_is) leaving.overs_are;
+    keeps_is = subst (λ (x : Left). AreKept s (stays q s) x.kept.now) (sym left_is) leaving.keeps_is;
+    held_is = subst (AreHeld q s) (sym held_is) (are q leaving.rooted leaving.lists leaving.keeps_is);
   }
 
-  pub io_unplaced : (e : Refused Unplaced) → IsUnplacedIn roots s Io l e → IsUnplaced roots s l e
+  pub request_known : CanBeLeft roots s l left → KnowsRequest roots s l t st
+  request_known can = record { request = can.request; stay = stay_of can.request can.leaving; lists = can.leaving.lists }
+
+  pub both_placed : (first table : List Places) → length table ≡ length s → HasPlacesIn roots s Io l t st first → KeepsOthers s Memory first table → HasPlacesIn roots s Memory l t st table → ArePlacesOff roots s l left table
+  both_placed first table count io kept memory q leaving =
+      let placed = io q (stay_of q leaving) leaving.lists in
+      let other = memory q (stay_of q leaving) leaving.lists in
+      record {
+        count = count;
+        lack = lacking_memory q s q.roots placed.lack ∙ other.lack;
+        each = λ k f d part at there. elim (cases_space (space_of f part)) [
+          | inl of ↦ kept.others k f d part at there (λ is. not_both (space_of f part) of is) ∙ placed.places k f d part at there of
+          | inr of ↦ other.places k f d part at there of
+        ];
+      }
+
+  pub io_unplaced : (e : Refused Unplaced) → IsUnplacedIn roots s Io l t st e → IsUnplacedOff roots s l left e
   io_unplaced refused.Memory is = tt
-  io_unplaced (refused.Fault (unplaced.Lacks x)) is = λ q anew. lacking_io q s q.roots (candidate_value s x) (is q anew)
-  io_unplaced (refused.Fault (unplaced.TooLarge class k)) (of, is) = λ q anew. record {
-    large = is q anew;
+  io_unplaced (refused.Fault (unplaced.Lacks x)) is = λ q leaving. lacking_io q s q.roots (candidate_value s x) (is q (stay_of q leaving) leaving.lists)
+  io_unplaced (refused.Fault (unplaced.TooLarge class k)) (of, is) = λ q leaving. record {
+    large = is q (stay_of q leaving) leaving.lists;
     io = λ memory. absurd (not_both (window_space (kind_value class)) of memory);
   }
 
-  pub memory_unplaced : (first : List Places) → HasPlacesIn roots s Io l first → (e : Refused Unplaced) → IsUnplacedIn roots s Memory l e → IsUnplaced roots s l e
+  pub memory_unplaced : (first : List Places) → HasPlacesIn roots s Io l t st first → (e : Refused Unplaced) → IsUnplacedIn roots s Memory l t st e → IsUnplacedOff roots s l left e
   memory_unplaced first io refused.Memory is = tt
-  memory_unplaced first io (refused.Fault (unplaced.Lacks x)) is = λ q anew. lacking_memory q s q.roots (io q anew).lack ∙ is q anew
-  memory_unplaced first io (refused.Fault (unplaced.TooLarge class k)) (of, is) = λ q anew. record { large = is q anew; io = λ memory. (io q anew).lack }
+  memory_unplaced first io (refused.Fault (unplaced.Lacks x)) is = λ q leaving.
+      lacking_memory q s q.roots (io q (stay_of q leaving) leaving.lists).lack ∙ is q (stay_of q leaving) leaving.lists
+  memory_unplaced first io (refused.Fault (unplaced.TooLarge class k)) (of, is) = λ q leaving. record {
+    large = is q (stay_of q leaving) leaving.lists;
+    io = λ memory. (io q (stay_of q leaving) leaving.lists).lack;
+  }

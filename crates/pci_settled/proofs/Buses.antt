@@ -1,30 +1,35 @@
 -- The places of a bus, by what the search in its lists answers.
-use Rattle.std.proofs.Common.{◌≡◌, ℕ, ◌<◌, ◌≤◌, List, [], ◌++◌, map, length, take, drop, append-nil, arith, sym, ◌∙◌, ap, subst, Option, true}
+use Rattle.std.proofs.Common.{◌≡◌, ℕ, ◌+◌, ◌<◌, ◌≤◌, List, ◌++◌, map, length, take, drop, append-nil, arith, sym, ◌∙◌, ap, subst, refl, cond, Option, true}
 use Rattle.std.specs.Option.{IfSome, IfNone}
-use Rattle.std.specs.List.{All}
+use Rattle.std.specs.List.{All, Contains, filter}
+use Rattle.std.specs.List.Sorted.{IsPermutation}
 use Rattle.std.proofs.lemmas.List.{take_all}
+use Rattle.std.proofs.lemmas.List.Elements.{All-contains}
 use Rattle.pci_spec.specs.Decoded.{Range as DecodedRange}
 use Rattle.pci_spec.specs.System.{System, Space, IsSystem}
 use Rattle.pci_spec.specs.Bus.{is_root, IsNested}
+use Rattle.pci_spec.proofs.Members.{in_map_to, IsMade}
 use Rattle.settle_spec.specs.Lists.{Lists, Request}
 use Rattle.settle_spec.specs.Items.{Item as ItemValue, Placing, place_all}
-use Rattle.settle_spec.specs.Places.{placed_of, space_items, ranges_for, placing_on}
+use Rattle.settle_spec.specs.Places.{placed_of, space_items, taken_at, ranges_for, placing_on}
 use Rattle.settle_spec.proofs.Buses.{placing_by_bus}
+use Rattle.settle_spec.proofs.SameTaken.{same_places}
 use Rattle.pci_base.specs.declared.range.Range.{Range}
 use Rattle.pci_base.specs.Ranges.{decoded_range_of}
 use Rattle.pci_settle.specs.declared.own.Terms.{Terms}
 use Rattle.pci_settle.specs.declared.placing.Wanted.{Wanted}
 use Rattle.pci_settle.specs.Placings.{HasList, AreWanted, AreEnding, placing_of}
-use Rattle.pci_settle.specs.NewWindows.{IsAnew}
 use Rattle.pci_settled.specs.declared.candidate.Candidate.{Candidate}
 use Rattle.pci_settled.specs.declared.candidate.SpaceWindows.{SpaceWindows}
+use Rattle.pci_settled.specs.declared.held.Staying.{Staying}
 use Rattle.pci_settled.specs.Candidates.{candidate_value, IsLawful, IsWithin, KnowsWindows, AreCandidatesOf}
 use Rattle.pci_settled.specs.Columns.{wanted_value, HasRootColumns}
 use Rattle.pci_settled.specs.BusPlaces.{bus_placing, AreWithin, ArePlacesIn, AreRootPlaces}
 use Rattle.pci_settled.proofs.Notes.{drop_none}
 use Rattle.pci_settled.proofs.Wanted.{no_candidate, are_within, are_parts, wanted_lawful, are_wanted, lacking_less, are_ending}
 use Rattle.pci_settled.proofs.Columns.{root_lists_for}
-use Rattle.pci_settled.proofs.Spaces.{none_taken}
+use Rattle.pci_settled.specs.Held.{held_range, is_on, IsStaying}
+use Rattle.pci_settled.proofs.Helds.{same_taken}
 
 -- what a slice of a list gives back
 pub slice_back : {X : Type 0} (len : ℕ) (new old : List X) → length new ≡ length old → len ≡ length old → take len (new ++ drop (length new) old) ≡ new
@@ -33,17 +38,17 @@ slice_back len new old same long =
     ∙ ap (take len) (append-nil new)
     ∙ take_all len new (omega (arith, same, long))
 
-module _ (roots : List ℕ) (s : System) (system : IsSystem s) (space : Space) (t : Terms) (w : SpaceWindows) (bus : ℕ) (candidates : List Candidate) (are : AreCandidatesOf roots s space t w bus candidates)
+module _ (roots : List ℕ) (s : System) (system : IsSystem s) (space : Space) (t : Terms) (st : Staying) (w : SpaceWindows) (bus : ℕ) (candidates : List Candidate) (are : AreCandidatesOf roots s space t st w bus candidates)
     (rs : List ℕ) (rs_are : rs ≡ roots) (slice : List Candidate) (slice_is : slice ≡ candidates) (wanted : List Wanted) (wanted_is : wanted ≡ map (wanted_value rs s) slice) where
-  wanted_own : (q : Request) → IsAnew q roots t → wanted ≡ map (wanted_value q.roots s) candidates
-  wanted_own q anew = wanted_is ∙ ap (λ xs. map (wanted_value xs s) slice) (rs_are ∙ sym anew.rooted) ∙ ap (map (wanted_value q.roots s)) slice_is
+  wanted_own : (q : Request) → IsStaying q roots s t st → wanted ≡ map (wanted_value q.roots s) candidates
+  wanted_own q stay = wanted_is ∙ ap (λ xs. map (wanted_value xs s) slice) (rs_are ∙ sym stay.rooted) ∙ ap (map (wanted_value q.roots s)) slice_is
 
-  module _ (known : KnowsWindows roots s space t w) where
+  module _ (known : KnowsWindows roots s space t st w) where
     abbrev q0 : Request
     q0 = known.request
 
     here : map (candidate_value s) candidates ≡ space_items q0 s space bus
-    here = are q0 known.anew known.has
+    here = are q0 known.stay known.has
 
     pub slice_within : (count : ℕ) → length s ≡ count → All (IsWithin count) slice
     slice_within count long = subst (All (IsWithin count)) (sym slice_is) (subst (λ n. All (IsWithin n) candidates) long (are_within q0 s system space bus candidates here))
@@ -52,7 +57,7 @@ module _ (roots : List ℕ) (s : System) (system : IsSystem s) (space : Space) (
       pub all_lawful : (count : ℕ) → 3 ≤ count → (is_root roots bus ≡ true → count ≡ 768) → All IsLawful candidates → All (HasList count) ws
       all_lawful count some all lawful =
           subst (All (HasList count)) (sym ws_are)
-          (wanted_lawful q0 s system space bus candidates here wanted (wanted_own q0 known.anew) count some (λ root. all (subst (λ xs. is_root xs bus ≡ true) known.anew.rooted root)) no_candidate lawful)
+          (wanted_lawful q0 s system space bus candidates here wanted (wanted_own q0 known.stay) count some (λ root. all (subst (λ xs. is_root xs bus ≡ true) known.stay.rooted root)) no_candidate lawful)
 
       module _ (places : List ℕ) (lack : Option ℕ) (final : List ℕ) (final_is : final ≡ places) where
         pub within_in : All IsLawful candidates → length places ≡ length candidates → IfSome lack (λ k. k < length ws) → IfNone lack (AreEnding ws places (length ws)) → AreWithin s candidates final lack
@@ -62,27 +67,32 @@ module _ (roots : List ℕ) (s : System) (system : IsSystem s) (space : Space) (
               parts = are_parts q0 s system space bus candidates here;
               lawful = lawful;
               count = count;
-              lacking = lacking_less q0 s system space bus candidates here wanted (wanted_own q0 known.anew) lack (subst (λ xs. IfSome lack (λ k. k < length xs)) ws_are less);
-              ends = are_ending q0 s system space bus candidates here wanted (wanted_own q0 known.anew) places lack no_candidate (subst (λ xs. IfNone lack (AreEnding xs places (length xs))) ws_are ends);
+              lacking = lacking_less q0 s system space bus candidates here wanted (wanted_own q0 known.stay) lack (subst (λ xs. IfSome lack (λ k. k < length xs)) ws_are less);
+              ends = are_ending q0 s system space bus candidates here wanted (wanted_own q0 known.stay) places lack no_candidate (subst (λ xs. IfNone lack (AreEnding xs places (length xs))) ws_are ends);
             }
 
-        pub places_in : (lists : List (List Range)) (taken : List Range) → taken ≡ []
+        pub places_in : (n : ℕ) → n ≡ cond (is_root rs bus) 0 (bus + 1) → All IsLawful candidates → (lists : List (List Range)) (taken : List Range) → IsPermutation (map held_range (filter (is_on n space) st.held.now)) taken
             → ((ranges : ItemValue → List DecodedRange) (items : List ItemValue) → AreWanted lists ranges items ws → place_all ranges (map decoded_range_of taken) items ≡ placing_of items places lack)
-            → ArePlacesIn roots s space t w bus lists (bus_placing s candidates final lack)
-        places_in lists taken none placing q placed anew has for =
-            let items = are q anew has in
+            → ArePlacesIn roots s space t st w bus lists (bus_placing s candidates final lack)
+        places_in n n_is lawful lists taken is_taken placing q placed stay has for =
+            let items = are q stay has in
             let values = map (candidate_value s) candidates in
-            let want = subst (AreWanted lists (ranges_for q s placed) values) (sym ws_are) (are_wanted q s system space bus candidates items wanted (wanted_own q anew) placed lists for no_candidate) in
+            let want = subst (AreWanted lists (ranges_for q s placed) values) (sym ws_are) (are_wanted q s system space bus candidates items wanted (wanted_own q stay) placed lists for no_candidate) in
             ap (λ ps. bus_placing s candidates ps lack) final_is
             ∙ sym (placing (ranges_for q s placed) values want)
-            ∙ ap (λ ts. place_all (ranges_for q s placed) (map decoded_range_of ts) values) none
-            ∙ ap (place_all (ranges_for q s placed) []) items
-            ∙ ap (λ taken. place_all (ranges_for q s placed) taken (space_items q s space bus)) (sym (none_taken q s anew.anew space bus))
+            ∙ same_places (ranges_for q s placed) values (map decoded_range_of taken) (taken_at q s space bus) (aligned values candidates refl lawful)
+            (same_taken st.held.now n space taken is_taken q s stay.held_is bus (n_is ∙ ap (λ xs. cond (is_root xs bus) 0 (bus + 1)) (rs_are ∙ sym stay.rooted)))
+            ∙ ap (place_all (ranges_for q s placed) (taken_at q s space bus)) items
+          where
+            aligned : (values : List ItemValue) (cs : List Candidate) → map (candidate_value s) cs ≡ values → All IsLawful cs → (i : ItemValue) → Contains values i → 0 < i.extent.alignment
+            aligned values cs is all i listed =
+                let made : IsMade (candidate_value s) cs i = in_map_to (candidate_value s) cs i (subst (λ vs. Contains vs i) (sym is) listed) in
+                subst (λ (j : ItemValue). 0 < j.extent.alignment) made.is (All-contains IsLawful cs made.from all made.has).alignment
 
-pub root_places : {V : Type 0} (f : V → List Range) (roots : List ℕ) (s : System) → IsSystem s → IsNested roots s → (space : Space) (l : Lists) (t : Terms) (w : SpaceWindows) (root : ℕ) → root < 256 → is_root roots root ≡ true
-    → (rs : List ℕ) → rs ≡ roots → (all slice : List V) → slice ≡ all → HasRootColumns rs l space 256 (map f all) → (placing : Placing) → ArePlacesIn roots s space t w root (map f slice) placing → AreRootPlaces roots s space l t w root placing
-root_places f roots s system nested space l t w root low is_one rs rs_are all slice slice_is columns placing are q anew same has =
-    are q (λ over. placed_of (placing_on q s space over)) anew has
-    (root_lists_for q s l space root (map f slice) (λ over. placed_of (placing_on q s space over)) system (subst (λ xs. is_root xs root ≡ true) (sym anew.rooted) is_one) same
-    (subst (λ xs. HasRootColumns xs l space 256 (map f slice)) (rs_are ∙ sym anew.rooted) (subst (λ xs. HasRootColumns rs l space 256 (map f xs)) (sym slice_is) columns)))
-    ∙ sym (placing_by_bus q s system (subst (λ xs. IsNested xs s) (sym anew.rooted) nested) space root low)
+pub root_places : {V : Type 0} (f : V → List Range) (roots : List ℕ) (s : System) → IsSystem s → IsNested roots s → (space : Space) (l : Lists) (t : Terms) (st : Staying) (w : SpaceWindows) (root : ℕ) → root < 256 → is_root roots root ≡ true
+    → (rs : List ℕ) → rs ≡ roots → (all slice : List V) → slice ≡ all → HasRootColumns rs l space 256 (map f all) → (placing : Placing) → ArePlacesIn roots s space t st w root (map f slice) placing → AreRootPlaces roots s space l t st w root placing
+root_places f roots s system nested space l t st w root low is_one rs rs_are all slice slice_is columns placing are q stay same has =
+    are q (λ over. placed_of (placing_on q s space over)) stay has
+    (root_lists_for q s l space root (map f slice) (λ over. placed_of (placing_on q s space over)) system (subst (λ xs. is_root xs root ≡ true) (sym stay.rooted) is_one) same
+    (subst (λ xs. HasRootColumns xs l space 256 (map f slice)) (rs_are ∙ sym stay.rooted) (subst (λ xs. HasRootColumns rs l space 256 (map f xs)) (sym slice_is) columns)))
+    ∙ sym (placing_by_bus q s system (subst (λ xs. IsNested xs s) (sym stay.rooted) nested) space root low)

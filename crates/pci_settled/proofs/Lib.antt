@@ -2,6 +2,7 @@ pub mod Added
 pub mod Spaces
 pub mod Parts
 pub mod Notes
+pub mod Helds
 pub mod Wanted
 pub mod Columns
 pub mod Reached
@@ -9,3 +10,4 @@ pub mod Buses
 pub mod SpacePlaces
 pub mod SpaceSteps
 pub mod BothSpaces
+pub mod NothingLeft

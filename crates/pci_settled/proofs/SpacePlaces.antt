@@ -1,59 +1,90 @@
 -- The places of a space, bus by bus: on the roots, and then behind each bridge.
-use Rattle.std.proofs.Common.{◌≡◌, ℕ, ◌+◌, ◌*◌, ◌<◌, ◌≤◌, inl, inr, List, [], ◌∷◌, map, length, get_or, take, Bool, true, false, cond, ◌&&◌, ◌||◌, arith, refl, sym, ◌∙◌, ap, subst, Option, None, Some}
-use Rattle.std.specs.Bool.{IsTrue, ◌==◌}
-use Rattle.std.specs.List.{Contains, slice_get, list_any}
+use Rattle.std.proofs.Common.{◌≡◌, ℕ, suc, ◌+◌, ◌*◌, ◌<◌, ◌≤◌, inl, inr, List, [], ◌∷◌, map, length, get_or, take, Bool, true, false, cond, ◌&&◌, ◌||◌, arith, refl, sym, ◌∙◌, ap, subst, Option, None, Some}
+use Rattle.std.specs.Bool.{◌==◌}
+use Rattle.std.specs.Option.{option_map}
+use Rattle.std.specs.List.{Contains, slice_get, list_any, list_all}
 use Rattle.std.proofs.lemmas.Bool.{cases_Bool, or_cases, or_left, or_right, and_parts, and_from, eqb-true, eq-eqb, both_ways, false_from_ne_true}
 use Rattle.std.proofs.lemmas.List.{take_all}
 use Rattle.std.proofs.lemmas.Option.{slice_get_within, get_or_from_slice_get}
 use Rattle.pci_spec.specs.Window.{WindowKind, IoWindow, MemoryWindow, PrefetchWindow}
 use Rattle.pci_spec.specs.System.{System, Function, Space, Io, Memory, Part, Window, IsSystem, is_bridge, has_part, space_of, window_space}
 use Rattle.pci_spec.specs.Bus.{secondary, is_root, IsNested}
+use Rattle.pci_spec.specs.Decoded.{Range as DecodedRange}
+use Rattle.plan_spec.specs.Plan.{bridges_above}
+use Rattle.plan_spec.specs.Planning.Layout.{range_of}
 use Rattle.plan_spec.proofs.Planning.Behind.{any_from}
 use Rattle.settle_spec.specs.Lists.{Request}
-use Rattle.settle_spec.specs.Parts.{addresses, bridge_over}
-use Rattle.settle_spec.specs.Stands.{window_region}
-use Rattle.settle_spec.specs.Items.{Placed}
+use Rattle.settle_spec.specs.Parts.{Region, addresses, bridge_over, is_part, class_in}
+use Rattle.settle_spec.specs.Stands.{window_region, stands}
+use Rattle.settle_spec.specs.Items.{Placed, has_room, holds_within, holds, stays}
 use Rattle.settle_spec.specs.Places.{placed_of, place_among, placed_range, root_ranges, window_ranges, placing_on, new_place, first_lack}
 use Rattle.settle_spec.proofs.Nested.{on_it, is_no_root, at_secondary}
 use Rattle.settle_spec.proofs.BridgeOver.{over_is}
 use Rattle.settle_spec.proofs.Buses.{of_space, roots_are_one}
+use Rattle.stand_laws.proofs.Standing.{stands_by_itself}
 use Rattle.pci_base.specs.declared.range.Range.{Range}
 use Rattle.pci_base.specs.Ranges.{decoded_range_of}
-use Rattle.pci_settle.proofs.Anew.{none_stays}
+use Rattle.pci_image.specs.Windows.{window_of}
+use Rattle.pci_function.specs.declared.record.Bridge.{Bridge}
+use Rattle.pci_function.specs.declared.record.Record.{Record}
+use Rattle.pci_tree.specs.Passes as passes
+use Rattle.pci_place.specs.Records.{IsRecordOf}
+use Rattle.pci_settle.specs.declared.kept.Kept.{Kept}
+use Rattle.pci_settle.specs.Kept.{kept_of, nothing_kept, AreKept}
+use Rattle.pci_stand.proofs.OfRecord.{window_is}
 use Rattle.pci_settled.specs.declared.places.Places.{Places}
 use Rattle.pci_settled.specs.Columns.{kind_number, list_at, AreListsFor, range_list}
+use Rattle.pci_settled.specs.Windows.{window_at, plain_of, prefetch_of, range_alone}
 use Rattle.pci_settled.specs.Places.{range_in, placed_at, or_kept, NotesOf}
-use Rattle.pci_settled.specs.Spaces.{plain_in, prefetch_in, HasWindowsOver, HasNone, KeepsOthers, HasNewPlaces, space_lack}
+use Rattle.pci_settled.specs.Spaces.{HasWindowsOver, HasNone, KeepsOthers, HasNewPlaces, space_lack}
 use Rattle.pci_settled.proofs.Notes.{region}
 use Rattle.pci_settled.proofs.Spaces.{in_space}
 use Rattle.pci_settled.proofs.Reached.{not_here, leads, reached, reached_first, reached_more, not_yet, reached_before}
 
+-- ---- what stays is a part that is looked at
+
+module _ (q : Request) (s : System) where
+  stands_held : (depth : ℕ) (r : Region) → holds_within q s (suc depth) r ≡ true → stands q s r ≡ true
+  unfolding holds_within
+  stands_held depth r is = (and_parts (stands q s r) (has_room q s (holds_within q s depth) r.function r.part) is).0
+
+  stays_part : IsNested q.roots s → (r : Region) → Contains s r.function → stays q s r ≡ true → is_part q s r.function r.part ≡ true
+  stays_part nested r listed is =
+      (stands_by_itself q s nested).only r listed
+      (stands_held 255 r (and_parts (holds q s r) (list_all (λ b. holds q s (window_region (class_in q s r.function r.part) b)) (bridges_above s r.function.slot.bus)) is).0)
+
 -- ---- windows
 
-list_placed : (o : Option Placed) → map decoded_range_of (range_list (placed_at o)) ≡ placed_range o
+list_placed : (o : Option Placed) → range_alone (option_map decoded_range_of (placed_at o)) ≡ placed_range o
 list_placed None = refl
 list_placed (Some p) = refl
 
--- three lists of the windows that a function has in a table
-abbrev pub window_lists : Space → Places → List (List Range)
-window_lists space p = range_list (plain_in space p) ∷ (range_list (plain_in space p) ∷ (range_list (prefetch_in space p) ∷ []))
+pub list_alone : (o : Option Range) → map decoded_range_of (range_list o) ≡ range_alone (option_map decoded_range_of o)
+list_alone None = refl
+list_alone (Some r) = refl
 
-list_by_class : (space : Space) (p : Places) (c : WindowKind) (wide : Bool) → window_space c ≡ space → list_at (window_lists space p) (kind_number c wide) ≡ map decoded_range_of (range_list (range_in p (Window c)))
-list_by_class Io p IoWindow wide of = refl
-list_by_class Memory p IoWindow wide of = absurd (let no : ⊥ = cc in no)
-list_by_class Io p MemoryWindow wide of = absurd (let no : ⊥ = cc in no)
-list_by_class Memory p MemoryWindow true of = refl
-list_by_class Memory p MemoryWindow false of = refl
-list_by_class Io p PrefetchWindow wide of = absurd (let no : ⊥ = cc in no)
-list_by_class Memory p PrefetchWindow wide of = refl
+-- three lists of the windows of a bridge
+abbrev pub window_lists : Option Range → Option Range → List (List Range)
+window_lists plain prefetch = range_list plain ∷ (range_list plain ∷ (range_list prefetch ∷ []))
+
+list_by_class : (space : Space) (plain prefetch : Option Range) (windows : WindowKind → Option DecodedRange) → option_map decoded_range_of plain ≡ plain_of space windows → option_map decoded_range_of prefetch ≡ prefetch_of space windows
+    → (c : WindowKind) (wide : Bool) → window_space c ≡ space → list_at (window_lists plain prefetch) (kind_number c wide) ≡ range_alone (windows c)
+list_by_class Io plain prefetch windows e h IoWindow wide of = list_alone plain ∙ ap range_alone e
+list_by_class Memory plain prefetch windows e h IoWindow wide of = absurd (let no : ⊥ = cc in no)
+list_by_class Io plain prefetch windows e h MemoryWindow wide of = absurd (let no : ⊥ = cc in no)
+list_by_class Memory plain prefetch windows e h MemoryWindow true of = list_alone plain ∙ ap range_alone e
+list_by_class Memory plain prefetch windows e h MemoryWindow false of = list_alone plain ∙ ap range_alone e
+list_by_class Io plain prefetch windows e h PrefetchWindow wide of = absurd (let no : ⊥ = cc in no)
+list_by_class Memory plain prefetch windows e h PrefetchWindow wide of = list_alone prefetch ∙ ap range_alone h
 
 first_column : (c : WindowKind) (wide : Bool) → kind_number c wide ≡ 3 * 0 + kind_number c wide
 first_column c wide = omega arith
 
 -- what is on a bus that is no root finds the windows over it in its lists
-pub window_lists_for : (q : Request) (s : System) (space : Space) (placed : ℕ → List Placed) (bus : ℕ) (p : Places) → is_root q.roots bus ≡ false → HasWindowsOver q s space placed bus p
-    → AreListsFor q s space placed bus (window_lists space p)
-window_lists_for q s space placed bus p off over i listed =
+pub window_lists_for : (q : Request) (s : System) (space : Space) (placed : ℕ → List Placed) (bus : ℕ) (plain prefetch : Option Range) (windows : WindowKind → Option DecodedRange) → is_root q.roots bus ≡ false
+    → option_map decoded_range_of plain ≡ plain_of space windows → option_map decoded_range_of prefetch ≡ prefetch_of space windows → HasWindowsOver q s space placed bus windows
+    → AreListsFor q s space placed bus (window_lists plain prefetch)
+window_lists_for q s space placed bus plain prefetch windows off plain_is prefetch_is over i listed =
     let of = of_space q s space bus i listed in
     let on = i.region.function.slot.bus in
     let here : bus ≡ on = elim (or_cases (bus == on) (is_root q.roots bus && is_root q.roots on) of.beside) [
@@ -65,9 +96,9 @@ window_lists_for q s space placed bus p off over i listed =
     ap (λ b. cond b (root_ranges q i) (window_ranges q s placed i.class (bridge_over s on))) off_on
     ∙ ap (λ n. window_ranges q s placed i.class (bridge_over s n)) (sym here)
     ∙ sym (over i.class class)
-    ∙ sym (list_by_class space p i.class i.extent.wide class)
-    ∙ ap (list_at (window_lists space p)) (first_column i.class i.extent.wide)
-    ∙ ap (λ n. list_at (window_lists space p) (3 * n + kind_number i.class i.extent.wide)) (sym (ap (λ b. cond b on 0) off_on))
+    ∙ sym (list_by_class space plain prefetch windows plain_is prefetch_is i.class i.extent.wide class)
+    ∙ ap (list_at (window_lists plain prefetch)) (first_column i.class i.extent.wide)
+    ∙ ap (λ n. list_at (window_lists plain prefetch) (3 * n + kind_number i.class i.extent.wide)) (sym (ap (λ b. cond b on 0) off_on))
 
 -- ---- the table, so far
 
@@ -143,17 +174,42 @@ module _ (q : Request) (s : System) (system : IsSystem s) (nested : IsNested q.r
       pub no_root : is_root q.roots (secondary g) ≡ false
       no_root = false_from_ne_true (is_root q.roots (secondary g)) (is_no_root q.roots s system nested g (secondary g) listed_g bridge (at_secondary q.roots s system nested g (secondary g) listed_g bridge refl))
 
-      -- its windows in the table are those over the bus behind it
-      pub windows_over : IsTrue q.anew → (table : List Places) → IsPlacedTo q s space n table → (d : Places)
-          → HasWindowsOver q s space (λ over. placed_of (placing_on q s space over)) (secondary g) (get_or table n d)
-      windows_over anew table was d c of =
-          let over = over_is q.roots s system nested (secondary g) g (listed_g, bridge, refl) in
-          let here = reached_before q.roots s system nested n g at_n in
-          ap (λ r. map decoded_range_of (range_list r)) (was.each n g d (Window c) at_n bridge of ∙ ap (λ b. cond b (placed_at (new_place q s (region g (Window c)))) None) here)
-          ∙ list_placed (new_place q s (region g (Window c)))
-          ∙ ap (λ x. placed_range (place_among (region g (Window c)) (placed_of (placing_on q s x g.slot.bus)))) of
-          ∙ ap (λ b. cond b (addresses (window_region c g) ∷ []) (placed_range (place_among (window_region c g) (placed_of (placing_on q s space g.slot.bus))))) (none_stays q s anew (window_region c g))
-          ∙ sym (ap (window_ranges q s (λ over. placed_of (placing_on q s space over)) c) over)
+      -- its windows are those over the bus behind it: each where it stays, or at its place in the table
+      module _ (r : Record) (b : Bridge) (is : IsRecordOf s g r) (there : r.bridge ≡ Some b) (kept : List Kept) (keeps : AreKept s (stays q s) kept) (table : List Places) (was : IsPlacedTo q s space n table) (d : Places) where
+        abbrev own : Kept
+        own = get_or kept n nothing_kept
+
+        abbrev over_it : WindowKind → List DecodedRange
+        over_it c = cond (stays q s (window_region c g)) (addresses (window_region c g) ∷ []) (placed_range (place_among (window_region c g) (placed_of (placing_on q s space g.slot.bus))))
+
+        stays_is : (c : WindowKind) → kept_of own (Window c) ≡ stays q s (window_region c g)
+        stays_is c = keeps n g (Window c) at_n bridge
+
+        staying : (c : WindowKind) → stays q s (window_region c g) ≡ true → range_alone (passes.range_in (window_of b.windows c)) ≡ addresses (window_region c g) ∷ []
+        staying c on =
+            ap range_alone (window_is s g r b is there c ∙ ap (λ x. cond x (Some (range_of g (Window c))) None) (stays_part q s nested (window_region c g) listed_g on))
+
+        moving : (c : WindowKind) → window_space c ≡ space → range_alone (option_map decoded_range_of (range_in (get_or table n d) (Window c))) ≡ placed_range (place_among (window_region c g) (placed_of (placing_on q s space g.slot.bus)))
+        moving c of =
+            ap (λ o. range_alone (option_map decoded_range_of o))
+            (was.each n g d (Window c) at_n bridge of ∙ ap (λ x. cond x (placed_at (new_place q s (region g (Window c)))) None) (reached_before q.roots s system nested n g at_n))
+            ∙ list_placed (new_place q s (region g (Window c)))
+            ∙ ap (λ x. placed_range (place_among (region g (Window c)) (placed_of (placing_on q s x g.slot.bus)))) of
+
+        by_stay : (c : WindowKind) → window_space c ≡ space → (on : Bool) → kept_of own (Window c) ≡ on → stays q s (window_region c g) ≡ on → range_alone (window_at own b (get_or table n d) c) ≡ over_it c
+        by_stay c of true told is_on =
+            ap (λ x. range_alone (cond x (passes.range_in (window_of b.windows c)) (option_map decoded_range_of (range_in (get_or table n d) (Window c))))) told
+            ∙ staying c is_on
+            ∙ sym (ap (λ x. cond x (addresses (window_region c g) ∷ []) (placed_range (place_among (window_region c g) (placed_of (placing_on q s space g.slot.bus))))) is_on)
+        by_stay c of false told off =
+            ap (λ x. range_alone (cond x (passes.range_in (window_of b.windows c)) (option_map decoded_range_of (range_in (get_or table n d) (Window c))))) told
+            ∙ moving c of
+            ∙ sym (ap (λ x. cond x (addresses (window_region c g) ∷ []) (placed_range (place_among (window_region c g) (placed_of (placing_on q s space g.slot.bus))))) off)
+
+        pub windows_over : HasWindowsOver q s space (λ over. placed_of (placing_on q s space over)) (secondary g) (window_at own b (get_or table n d))
+        windows_over c of =
+            by_stay c of (stays q s (window_region c g)) (stays_is c) refl
+            ∙ sym (ap (window_ranges q s (λ over. placed_of (placing_on q s space over)) c) (over_is q.roots s system nested (secondary g) g (listed_g, bridge, refl)))
 
       pub placed_more : secondary g < 256 → (old new : List Places) → IsPlacedTo q s space n old → NotesOf s (placed_of (placing_on q s space (secondary g))) old new → IsPlacedTo q s space (n + 1) new
       placed_more low old new was noted = record {

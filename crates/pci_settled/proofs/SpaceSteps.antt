@@ -1,14 +1,15 @@
 -- One step after another through a space, for whatever is asked for.
-use Rattle.std.proofs.Common.{◌≡◌, ℕ, ◌+◌, ◌<◌, ◌≤◌, inl, inr, List, [], ◌∷◌, map, length, get_or, Bool, true, false, arith, refl, sym, ◌∙◌, ap, subst, Option, None, Some}
+use Rattle.std.proofs.Common.{◌≡◌, ℕ, ◌+◌, ◌<◌, ◌≤◌, inl, inr, List, [], ◌∷◌, map, length, get_or, Bool, true, false, cond, arith, refl, sym, ◌∙◌, ap, subst, Option, None, Some}
 use Rattle.std.specs.Option.{is_some, option_map, IfNone}
 use Rattle.std.specs.List.{Contains, range_with_len}
+use Rattle.std.proofs.Math.Path.{fun_ext}
 use Rattle.std.proofs.lemmas.Bool.{both_ways, false≢true, true≢false}
 use Rattle.std.proofs.lemmas.Option.{slice_get-get_or}
 use Rattle.std.proofs.lemmas.List.{get_or_default}
 use Rattle.std.proofs.lemmas.List.Elements.{All-contains}
 use Rattle.pci_spec.specs.Decoded.{HasRecords}
 use Rattle.pci_spec.specs.Decoded as decoded
-use Rattle.pci_spec.specs.System.{System, Space, IsFunction, IsSystem, is_bridge}
+use Rattle.pci_spec.specs.System.{System, Space, Part, Window, IsFunction, IsSystem, is_bridge}
 use Rattle.pci_spec.specs.Bus.{secondary, is_root, IsNested}
 use Rattle.pci_spec.proofs.BusRanges.{root_means}
 use Rattle.pci_spec.proofs.Members.{in_head, in_filter_to, in_range_to}
@@ -17,25 +18,31 @@ use Rattle.settle_spec.specs.Items.{Placing, place_all}
 use Rattle.settle_spec.specs.Places.{placed_of, ranges_for, space_items, taken_at, placing_on}
 use Rattle.settle_spec.proofs.Buses.{placing_by_bus}
 use Rattle.pci_base.specs.declared.range.Range.{Range}
+use Rattle.pci_base.specs.Ranges.{decoded_range_of}
+use Rattle.pci_image.specs.Windows.{window_of}
 use Rattle.pci_function.specs.declared.record.Bridge.{Bridge}
 use Rattle.pci_function.specs.declared.record.Record.{Record}
 use Rattle.pci_function.specs.Values.{record_value}
+use Rattle.pci_tree.specs.Passes as passes
 use Rattle.pci_tree.specs.Roots.{set_in}
 use Rattle.pci_tree.proofs.Lifting.{same_bridge}
 use Rattle.pci_tree.proofs.RegionParts.{same_bridge_of}
 use Rattle.pci_place.proofs.Records.{FunctionAt, function_at}
+use Rattle.pci_settle.specs.declared.kept.Kept.{Kept}
 use Rattle.pci_settle.specs.declared.own.Terms.{Terms}
-use Rattle.pci_settle.specs.Own.{AreTerms}
-use Rattle.pci_settle.specs.NewWindows.{IsAnew}
+use Rattle.pci_settle.specs.Kept.{kept_of, nothing_kept}
 use Rattle.pci_settled.specs.declared.candidate.Candidate.{Candidate}
 use Rattle.pci_settled.specs.declared.candidate.SpaceWindows.{SpaceWindows}
+use Rattle.pci_settled.specs.declared.held.Staying.{Staying}
 use Rattle.pci_settled.specs.declared.places.Places.{Places}
-use Rattle.pci_settled.specs.Candidates.{candidate_value, HasSpaceWindows, HasWindowsIn, KnowsWindows}
+use Rattle.pci_settled.specs.Candidates.{candidate_value, HasSpaceWindows, HasWindowsIn, KnowsWindows, KnowsRequest}
+use Rattle.pci_settled.specs.Held.{IsStaying}
 use Rattle.pci_settled.specs.Columns.{range_list}
+use Rattle.pci_settled.specs.Windows.{window_at, plain_of, prefetch_of}
 use Rattle.pci_settled.specs.BusPlaces.{ArePlacesIn}
-use Rattle.pci_settled.specs.Places.{NotesOf}
-use Rattle.pci_settled.specs.Spaces.{plain_in, prefetch_in, HasWindowsOver, AreNotedFor, AreNotedOnRoots, AreNotedBehind, HasNone, KeepsOthers, AreSpacePlaces, space_lack}
-use Rattle.pci_settled.proofs.SpacePlaces.{window_lists, window_lists_for, IsPlacedTo, placed_roots, placed_nowhere, placed_same, no_root, windows_over, placed_more, placed_all, others_kept, others_same, others_more, lack_same}
+use Rattle.pci_settled.specs.Places.{range_in, NotesOf}
+use Rattle.pci_settled.specs.Spaces.{HasWindowsOver, windows_by, AreNotedFor, AreNotedOnRoots, AreNotedBehind, HasNone, KeepsOthers, AreSpacePlaces, space_lack}
+use Rattle.pci_settled.proofs.SpacePlaces.{window_lists_for, IsPlacedTo, placed_roots, placed_nowhere, placed_same, no_root, windows_over, placed_more, placed_all, others_kept, others_same, others_more, lack_same}
 
 -- ---- roots
 
@@ -54,16 +61,10 @@ none_set flags off = by (set_in flags) refl
         let listed : Contains (set_in flags) x = subst (λ ys. Contains ys x) (sym e) (in_head x xs) in
         absurd (both_ways (is_root (set_in flags) x) (off x (in_small flags x listed)) ((root_means (set_in flags) x).1 listed))
 
--- ---- a request of these lists
+-- ---- something that is asked for
 
-abbrev pub request_of : List ℕ → Lists → Request
-request_of roots l = record { roots = roots; lists = l; fixed = []; anew = true }
-
-pub is_request : (roots : List ℕ) (l : Lists) (t : Terms) → AreTerms l t → IsAnew (request_of roots l) roots t
-is_request roots l t terms = record { rooted = refl; anew = refl; terms = terms }
-
-pub known_of : (roots : List ℕ) (s : System) (space : Space) (l : Lists) (t : Terms) (w : SpaceWindows) → AreTerms l t → HasWindowsIn roots s space t w → KnowsWindows roots s space t w
-known_of roots s space l t w terms windows = record { request = request_of roots l; anew = is_request roots l t terms; has = windows (request_of roots l) (is_request roots l t terms) }
+pub known_of : (roots : List ℕ) (s : System) (space : Space) (l : Lists) (t : Terms) (st : Staying) (w : SpaceWindows) → KnowsRequest roots s l t st → HasWindowsIn roots s space t st w → KnowsWindows roots s space t st w
+known_of roots s space l t st w known windows = record { request = known.request; stay = known.stay; has = windows known.request known.stay }
 
 -- ---- behind a bridge
 
@@ -74,84 +75,84 @@ no_places = record { bars = []; rom = None; windows = record { io = None; memory
 pub three_are : (a b c x y z : List Range) → a ≡ x → b ≡ y → c ≡ z → ◌≡◌ {A = List (List Range)} (a ∷ (b ∷ (c ∷ []))) (x ∷ (y ∷ (z ∷ [])))
 three_are a b c x y z e f g = ap (λ u. u ∷ (b ∷ (c ∷ []))) e ∙ ap (λ u. x ∷ (u ∷ (c ∷ []))) f ∙ ap (λ u. x ∷ (y ∷ (u ∷ []))) g
 
-pub behind_noted : (roots : List ℕ) (s : System) (space : Space) (t : Terms) (w : SpaceWindows) (bus : ℕ) → is_root roots bus ≡ false → (k : ℕ) (old new : List Places) → k < length old → (e : Places)
-    → (plain prefetch : Option Range) → plain ≡ plain_in space (get_or old k e) → prefetch ≡ prefetch_in space (get_or old k e)
+pub behind_noted : (roots : List ℕ) (s : System) (space : Space) (t : Terms) (st : Staying) (w : SpaceWindows) (b : Bridge) → is_root roots b.secondary ≡ false → (k : ℕ) (old new : List Places) → k < length old → (e : Places)
+    → (own : Kept) → ((part : Part) → kept_of own part ≡ kept_of (get_or st.left.kept.now k nothing_kept) part)
+    → (plain prefetch : Option Range) → option_map decoded_range_of plain ≡ plain_of space (window_at own b (get_or old k e)) → option_map decoded_range_of prefetch ≡ prefetch_of space (window_at own b (get_or old k e))
     → (lists : List (List Range)) → lists ≡ range_list plain ∷ (range_list plain ∷ (range_list prefetch ∷ []))
-    → (placing : Placing) → ArePlacesIn roots s space t w bus lists placing → (IsSystem s → NotesOf s (placed_of placing) old new) → AreNotedBehind roots s space t w bus k old new
-behind_noted roots s space t w bus off k old new within e plain prefetch plain_is prefetch_is lists lists_are placing are noted q placed d system anew has over =
+    → (placing : Placing) → ArePlacesIn roots s space t st w b.secondary lists placing → (IsSystem s → NotesOf s (placed_of placing) old new) → AreNotedBehind roots s space t st w k b old new
+behind_noted roots s space t st w b off k old new within e own own_is plain prefetch plain_is prefetch_is lists lists_are placing are noted q placed d system stay has over =
     let p = get_or old k e in
-    let same : lists ≡ window_lists space p =
-    lists_are ∙ ap (λ r. range_list r ∷ (range_list r ∷ (range_list prefetch ∷ []))) plain_is ∙ ap (λ r. range_list (plain_in space p) ∷ (range_list (plain_in space p) ∷ (range_list r ∷ []))) prefetch_is in
-    let windows : HasWindowsOver q s space placed bus p = subst (HasWindowsOver q s space placed bus) (get_or_default old k d e within) over in
-    let for = window_lists_for q s space placed bus p (ap (λ rs. is_root rs bus) anew.rooted ∙ off) windows in
-    subst (λ r. NotesOf s (placed_of r) old new) (subst (λ ls. ArePlacesIn roots s space t w bus ls placing) same are q placed anew has for) (noted system)
+    let windows = window_at own b p in
+    let same : windows_by st old k d b ≡ windows =
+    fun_ext (λ c. ap (λ x. window_at (get_or st.left.kept.now k nothing_kept) b x c) (get_or_default old k d e within)
+    ∙ ap (λ on. cond on (passes.range_in (window_of b.windows c)) (option_map decoded_range_of (range_in p (Window c)))) (sym (own_is (Window c)))) in
+    let for = window_lists_for q s space placed b.secondary plain prefetch windows (ap (λ rs. is_root rs b.secondary) stay.rooted ∙ off) plain_is prefetch_is
+    (subst (HasWindowsOver q s space placed b.secondary) same over) in
+    subst (λ r. NotesOf s (placed_of r) old new) (subst (λ ls. ArePlacesIn roots s space t st w b.secondary ls placing) lists_are are q placed stay has for) (noted system)
 
 -- ---- the table so far, whatever is asked for
 
-pub record IsSpaceTo (roots : List ℕ) (s : System) (space : Space) (l : Lists) (t : Terms) (w : SpaceWindows) (n : ℕ) (start table : List Places) : Type 0 where
+pub record IsSpaceTo (roots : List ℕ) (s : System) (space : Space) (l : Lists) (t : Terms) (st : Staying) (w : SpaceWindows) (n : ℕ) (start table : List Places) : Type 0 where
   pub count : length table ≡ length s
   pub others : KeepsOthers s space start table
-  pub lacks : (q : Request) → IsAnew q roots t → q.lists ≡ l → HasSpaceWindows q s space t w → space_lack q s space q.roots ≡ None
-  pub placed : (q : Request) → IsAnew q roots t → q.lists ≡ l → HasSpaceWindows q s space t w → IsPlacedTo q s space n table
+  pub lacks : (q : Request) → IsStaying q roots s t st → q.lists ≡ l → HasSpaceWindows q s space t w → space_lack q s space q.roots ≡ None
+  pub placed : (q : Request) → IsStaying q roots s t st → q.lists ≡ l → HasSpaceWindows q s space t w → IsPlacedTo q s space n table
 
-module _ (roots : List ℕ) (s : System) (system : IsSystem s) (nested : IsNested roots s) (space : Space) (l : Lists) (t : Terms) (w : SpaceWindows) (terms : AreTerms l t) (windows : HasWindowsIn roots s space t w) where
-  nested_for : (q : Request) → IsAnew q roots t → IsNested q.roots s
-  nested_for q anew = subst (λ xs. IsNested xs s) (sym anew.rooted) nested
+module _ (roots : List ℕ) (s : System) (system : IsSystem s) (nested : IsNested roots s) (space : Space) (l : Lists) (t : Terms) (st : Staying) (w : SpaceWindows) (known : KnowsRequest roots s l t st) (windows : HasWindowsIn roots s space t st w) where
+  nested_for : (q : Request) → IsStaying q roots s t st → IsNested q.roots s
+  nested_for q stay = subst (λ xs. IsNested xs s) (sym stay.rooted) nested
 
   abbrev q1 : Request
-  q1 = request_of roots l
-
-  anew1 : IsAnew q1 roots t
-  anew1 = is_request roots l t terms
+  q1 = known.request
 
   -- ---- the roots
 
   abbrev OnRoots : List Places → List Places → Option Candidate → ℕ → Type 0
-  OnRoots old new lack root = (q : Request) → IsAnew q roots t → q.lists ≡ l → HasSpaceWindows q s space t w → AreNotedFor q s space old new lack root
+  OnRoots old new lack root = (q : Request) → IsStaying q roots s t st → q.lists ≡ l → HasSpaceWindows q s space t w → AreNotedFor q s space old new lack root
 
-  pub roots_lack : (old new : List Places) (lack : Option Candidate) → AreNotedOnRoots roots s space l t w old new lack → (q : Request) → IsAnew q roots t → q.lists ≡ l → HasSpaceWindows q s space t w
+  pub roots_lack : (old new : List Places) (lack : Option Candidate) → AreNotedOnRoots roots s space l t st w old new lack → (q : Request) → IsStaying q roots s t st → q.lists ≡ l → HasSpaceWindows q s space t w
       → space_lack q s space q.roots ≡ option_map (candidate_value s) lack
-  roots_lack old new lack (inl none) q anew same has =
-      ap (space_lack q s space) (anew.rooted ∙ none.none) ∙ sym (ap (option_map (candidate_value s)) none.lacking)
-  roots_lack old new lack (inr (root, are)) q anew same has =
-      let noted = are q anew same has in
+  roots_lack old new lack (inl none) q stay same has =
+      ap (space_lack q s space) (stay.rooted ∙ none.none) ∙ sym (ap (option_map (candidate_value s)) none.lacking)
+  roots_lack old new lack (inr (root, are)) q stay same has =
+      let noted = are q stay same has in
       lack_same q s space root noted.on q.roots refl ∙ sym noted.lacking
 
-  pub roots_others : (old new : List Places) (lack : Option Candidate) → length new ≡ length old → AreNotedOnRoots roots s space l t w old new lack → KeepsOthers s space old new
+  pub roots_others : (old new : List Places) (lack : Option Candidate) → length new ≡ length old → AreNotedOnRoots roots s space l t st w old new lack → KeepsOthers s space old new
   roots_others old new lack size (inl none) = subst (KeepsOthers s space old) (sym none.same) (others_same s space old)
   roots_others old new lack size (inr (root, are)) =
-      let noted = are q1 anew1 refl (windows q1 anew1) in
-      others_kept q1 s system nested space root noted.small old new size noted.noted
+      let noted = are q1 known.stay known.lists (windows q1 known.stay) in
+      others_kept q1 s system (nested_for q1 known.stay) space root noted.small old new size noted.noted
 
-  pub roots_placed : (old new : List Places) → length old ≡ length s → length new ≡ length old → HasNone s space old → AreNotedOnRoots roots s space l t w old new None
-      → IsSpaceTo roots s space l t w 0 old new
+  pub roots_placed : (old new : List Places) → length old ≡ length s → length new ≡ length old → HasNone s space old → AreNotedOnRoots roots s space l t st w old new None
+      → IsSpaceTo roots s space l t st w 0 old new
   roots_placed old new count size none are = record {
     count = size ∙ count;
     others = roots_others old new None size are;
-    lacks = λ q anew same has. roots_lack old new None are q anew same has;
-    placed = λ q anew same has. by_roots q anew same has are;
+    lacks = λ q stay same has. roots_lack old new None are q stay same has;
+    placed = λ q stay same has. by_roots q stay same has are;
   }
     where
-      by_roots : (q : Request) → IsAnew q roots t → q.lists ≡ l → HasSpaceWindows q s space t w → AreNotedOnRoots roots s space l t w old new None → IsPlacedTo q s space 0 new
-      by_roots q anew same has (inl nowhere) =
-          subst (IsPlacedTo q s space 0) (sym nowhere.same) (placed_nowhere q s system (nested_for q anew) space (anew.rooted ∙ nowhere.none) old none)
-      by_roots q anew same has (inr (root, are)) =
-          let noted = are q anew same has in
-          placed_roots q s system (nested_for q anew) space root noted.small noted.on old new none noted.noted
+      by_roots : (q : Request) → IsStaying q roots s t st → q.lists ≡ l → HasSpaceWindows q s space t w → AreNotedOnRoots roots s space l t st w old new None → IsPlacedTo q s space 0 new
+      by_roots q stay same has (inl nowhere) =
+          subst (IsPlacedTo q s space 0) (sym nowhere.same) (placed_nowhere q s system (nested_for q stay) space (stay.rooted ∙ nowhere.none) old none)
+      by_roots q stay same has (inr (root, are)) =
+          let noted = are q stay same has in
+          placed_roots q s system (nested_for q stay) space root noted.small noted.on old new none noted.noted
 
   -- ---- one record after another
 
   module _ (records : List Record) (has_records : HasRecords s (map record_value records)) (n : ℕ) (r : Record) (less : n < length records) (read : r ≡ get_or records n r) (start old : List Places)
-      (was : IsSpaceTo roots s space l t w n start old) where
+      (was : IsSpaceTo roots s space l t st w n start old) where
     here : FunctionAt s r n
     here = function_at s records has_records n r (slice_get-get_or records n r less ∙ ap Some (sym read))
 
-    pub space_same : r.bridge ≡ None → IsSpaceTo roots s space l t w (n + 1) start old
+    pub space_same : r.bridge ≡ None → IsSpaceTo roots s space l t st w (n + 1) start old
     space_same none = record {
       count = was.count;
       others = was.others;
       lacks = was.lacks;
-      placed = λ q anew same has. placed_same q s system (nested_for q anew) space n here.f here.at (sym (same_bridge r here.f here.is.value) ∙ ap is_some none) old (was.placed q anew same has);
+      placed = λ q stay same has. placed_same q s system (nested_for q stay) space n here.f here.at (sym (same_bridge r here.f here.is.value) ∙ ap is_some none) old (was.placed q stay same has);
     }
 
     module _ (b : Bridge) (there : r.bridge ≡ Some b) where
@@ -166,33 +167,33 @@ module _ (roots : List ℕ) (s : System) (system : IsSystem s) (nested : IsNeste
 
       -- the bus behind it is no root
       pub bus_off : is_root roots b.secondary ≡ false
-      bus_off = ap (is_root roots) leads_to ∙ no_root q1 s system nested space n here.f here.at is_one
+      bus_off = ap (λ rs. is_root rs b.secondary) (sym known.stay.rooted) ∙ ap (is_root q1.roots) leads_to ∙ no_root q1 s system (nested_for q1 known.stay) space n here.f here.at is_one
 
-      pub space_more : (new : List Places) → length new ≡ length old → AreNotedBehind roots s space t w b.secondary n old new → IsSpaceTo roots s space l t w (n + 1) start new
+      pub space_more : (new : List Places) → length new ≡ length old → AreNotedBehind roots s space t st w n b old new → IsSpaceTo roots s space l t st w (n + 1) start new
       space_more new size are = record {
         count = size ∙ was.count;
         others = others_more s space start old new was.others
-            (others_kept q1 s system nested space (secondary here.f) small old new size (noted_for q1 anew1 refl (windows q1 anew1)));
+            (others_kept q1 s system (nested_for q1 known.stay) space (secondary here.f) small old new size (noted_for q1 known.stay known.lists (windows q1 known.stay)));
         lacks = was.lacks;
-        placed = λ q anew same has. placed_more q s system (nested_for q anew) space n here.f here.at is_one small old new (was.placed q anew same has) (noted_for q anew same has);
+        placed = λ q stay same has. placed_more q s system (nested_for q stay) space n here.f here.at is_one small old new (was.placed q stay same has) (noted_for q stay same has);
       }
         where
-          noted_for : (q : Request) → IsAnew q roots t → q.lists ≡ l → HasSpaceWindows q s space t w → NotesOf s (placed_of (placing_on q s space (secondary here.f))) old new
-          noted_for q anew same has =
+          noted_for : (q : Request) → IsStaying q roots s t st → q.lists ≡ l → HasSpaceWindows q s space t w → NotesOf s (placed_of (placing_on q s space (secondary here.f))) old new
+          noted_for q stay same has =
               let placed = λ (over : ℕ). placed_of (placing_on q s space over) in
-              let over : HasWindowsOver q s space placed b.secondary (get_or old n no_places) =
-              subst (λ bus. HasWindowsOver q s space placed bus (get_or old n no_places)) (sym leads_to)
-              (windows_over q s system (nested_for q anew) space n here.f here.at is_one anew.anew old (was.placed q anew same has) no_places) in
-              subst (λ r. NotesOf s (placed_of r) old new) (sym (placing_by_bus q s system (nested_for q anew) space (secondary here.f) small))
-              (subst (λ bus. NotesOf s (placed_of (place_all (ranges_for q s placed) (taken_at q s space bus) (space_items q s space bus))) old new) leads_to (are q placed no_places system anew has over))
+              let over : HasWindowsOver q s space placed b.secondary (windows_by st old n no_places b) =
+              subst (λ bus. HasWindowsOver q s space placed bus (windows_by st old n no_places b)) (sym leads_to)
+              (windows_over q s system (nested_for q stay) space n here.f here.at is_one r b here.is there st.left.kept.now stay.keeps_is old (was.placed q stay same has) no_places) in
+              subst (λ r. NotesOf s (placed_of r) old new) (sym (placing_by_bus q s system (nested_for q stay) space (secondary here.f) small))
+              (subst (λ bus. NotesOf s (placed_of (place_all (ranges_for q s placed) (taken_at q s space bus) (space_items q s space bus))) old new) leads_to (are q placed no_places system stay has over))
 
   -- ---- all of them
 
-  pub space_all : (n : ℕ) → length s ≤ n → (start table : List Places) → IsSpaceTo roots s space l t w n start table → (q : Request) → IsAnew q roots t → q.lists ≡ l → HasSpaceWindows q s space t w
+  pub space_all : (n : ℕ) → length s ≤ n → (start table : List Places) → IsSpaceTo roots s space l t st w n start table → (q : Request) → IsStaying q roots s t st → q.lists ≡ l → HasSpaceWindows q s space t w
       → AreSpacePlaces q s space table None
-  space_all n past start table is q anew same has = record {
-    lack_is = is.lacks q anew same has;
-    places = placed_all q s system (nested_for q anew) space n past table (is.placed q anew same has);
+  space_all n past start table is q stay same has = record {
+    lack_is = is.lacks q stay same has;
+    places = placed_all q s system (nested_for q stay) space n past table (is.placed q stay same has);
   }
 
 -- an answer that is there says nothing of the table

@@ -1,6 +1,5 @@
--- What is placed in a space is of its classes; and where nothing stays, nothing is taken.
-use Rattle.std.proofs.Common.{◌≡◌, ℕ, ◌∷◌, inl, inr, List, [], map, Bool, true, false, cond, ◌&&◌, not, sym, ◌∙◌, ap, refl}
-use Rattle.std.specs.Bool.{IsTrue}
+-- What is placed in a space is of its classes.
+use Rattle.std.proofs.Common.{◌≡◌, ℕ, ◌∷◌, inl, inr, List, [], map, Bool, true, false, cond, ◌&&◌, not, sym, ap}
 use Rattle.std.specs.List.{Contains, filter, flat_map}
 use Rattle.std.proofs.lemmas.List.Elements.{Contains-append_cases}
 use Rattle.std.proofs.lemmas.List.Sorted.{IsPermutation-sym, Contains-permutation}
@@ -10,12 +9,11 @@ use Rattle.pci_spec.specs.Bus.{are_siblings}
 use Rattle.pci_spec.proofs.Members.{in_nil, in_cons_cases, in_flat_map_to, IsInPiece, in_map_to, IsMade}
 use Rattle.settle_spec.specs.FirstPlace.{Extent}
 use Rattle.settle_spec.specs.Lists.{Request}
-use Rattle.settle_spec.specs.Parts.{Region, regions, regions_of, addresses, same_space}
-use Rattle.settle_spec.specs.Stands.{window_region, region_space}
-use Rattle.settle_spec.specs.Items.{Item, in_turn, own_item, is_own, has_of, items_of, items_on, new_window, stays, taken_on}
-use Rattle.settle_spec.specs.Places.{space_items, taken_at}
+use Rattle.settle_spec.specs.Parts.{Region, regions_of}
+use Rattle.settle_spec.specs.Stands.{window_region}
+use Rattle.settle_spec.specs.Items.{Item, in_turn, own_item, is_own, has_of, items_of, items_on, new_window, stays}
+use Rattle.settle_spec.specs.Places.{space_items}
 use Rattle.settle_spec.proofs.InTurn.{turn_same}
-use Rattle.pci_settle.proofs.Anew.{none_stays}
 
 -- ---- classes
 
@@ -60,25 +58,3 @@ in_space q s Memory bus i listed =
       | inl plain ↦ ap window_space (class_on q s MemoryWindow (stays q s) (new_window q s MemoryWindow) bus i plain)
       | inr prefetch ↦ ap window_space (class_on q s PrefetchWindow (stays q s) (new_window q s PrefetchWindow) bus i prefetch)
     ]
-
--- ---- nothing is taken
-
-filter_none : (p : Region → Bool) (rs : List Region) → ((r : Region) → p r ≡ false) → filter p rs ≡ []
-filter_none p [] none = refl
-filter_none p (r ∷ rs) none = ap (λ b. cond b (r ∷ filter p rs) (filter p rs)) (none r) ∙ filter_none p rs none
-
-and_off : (a b : Bool) → (a && b && false) ≡ false
-and_off true true = refl
-and_off true false = refl
-and_off false b = refl
-
-module _ (q : Request) (s : System) (anew : IsTrue q.anew) where
-  none_on : (c : WindowKind) (bus : ℕ) → taken_on q s c (stays q s) bus ≡ []
-  none_on c bus =
-      ap (map addresses) (filter_none (λ (r : Region). are_siblings q.roots bus r.function.slot.bus && same_space (window_space c) (region_space r) && stays q s r) (regions q s)
-      (λ r. ap (λ b. are_siblings q.roots bus r.function.slot.bus && same_space (window_space c) (region_space r) && b) (sym (none_stays q s anew r))
-      ∙ and_off (are_siblings q.roots bus r.function.slot.bus) (same_space (window_space c) (region_space r))))
-
-  pub none_taken : (space : Space) (bus : ℕ) → taken_at q s space bus ≡ []
-  none_taken Io bus = none_on IoWindow bus
-  none_taken Memory bus = none_on MemoryWindow bus

@@ -1,21 +1,18 @@
 -- The new places of all parts where nothing stands, and what can't be placed.
-use Rattle.std.specs.Prelude.{◌≡◌, ℕ, ◌<◌, IsTrue, List, length, Option, None, Some, slice_get, slice_index_or, ⊤}
+use Rattle.std.specs.Prelude.{◌≡◌, ℕ, IsTrue, List, Some, ⊤}
 use Rattle.pci_spec.specs.Window.{WindowKind}
-use Rattle.pci_spec.specs.System.{System, Function, Space, Io, Memory, Part, has_part, window_space}
+use Rattle.pci_spec.specs.System.{System}
 use Rattle.settle_spec.specs.Lists.{Lists, Request}
-use Rattle.settle_spec.specs.Places.{new_place, lacking}
+use Rattle.settle_spec.specs.Places.{lacking}
 use Rattle.pci_base.specs.declared.memory.Refused.{Refused}
 use Rattle.pci_base.specs.declared.memory.Refused.TheVariants as refused
 use Rattle.pci_base.specs.WindowKinds.{kind_value}
-use Rattle.pci_settle.specs.declared.extent.Extent.{Extent}
-use Rattle.pci_settle.specs.declared.own.Terms.{Terms}
-use Rattle.pci_settle.specs.NewWindows.{IsAnew, HasNewWindows, IsTooLarge}
 use Rattle.pci_settled.specs.declared.places.Places.{Places}
 use Rattle.pci_settled.specs.declared.anew.Unplaced.{Unplaced}
 use Rattle.pci_settled.specs.declared.anew.Unplaced.TheVariants as unplaced
 use Rattle.pci_settled.specs.Candidates.{candidate_value}
-use Rattle.pci_settled.specs.Places.{range_in, placed_at}
-use Rattle.pci_settled.specs.Spaces.{HasNewPlaces, space_lack}
+use Rattle.pci_settled.specs.Placed.{ArePlaced}
+use Rattle.pci_settled.specs.Placed as placed
 
 -- all is placed anew below these roots, in these lists
 pub record IsAnewIn (q : Request) (roots : List ℕ) (l : Lists) : Type 0 where
@@ -23,69 +20,16 @@ pub record IsAnewIn (q : Request) (roots : List ℕ) (l : Lists) : Type 0 where
   pub anew : IsTrue q.anew
   pub lists : q.lists ≡ l
 
--- ---- windows
+-- each part of a function has the place that it gets
+abbrev pub ArePlacedAnew : Request → System → List Places → Type 0
+ArePlacedAnew q s table = ArePlaced q s table
 
-abbrev pub HasWindowsOf : List ℕ → System → WindowKind → Terms → List (Option Extent) → Type 0
-HasWindowsOf roots s c t windows = (q : Request) → IsAnew q roots t → HasNewWindows q s c t windows
-
--- a new window of a class is too large, or there was no memory
-abbrev pub IsTooLargeOf : List ℕ → System → WindowKind → Terms → Refused Unplaced → Type 0
-IsTooLargeOf roots s c t refused.Memory = ⊤
-IsTooLargeOf roots s c t (refused.Fault (unplaced.Lacks x)) = ⊥
-IsTooLargeOf roots s c t (refused.Fault (unplaced.TooLarge class k)) =
-    (kind_value class ≡ c) × ((q : Request) → IsAnew q roots t → IsTooLarge q s c k)
-
-abbrev pub IsTooLargeIn : List ℕ → System → Space → Terms → Refused Unplaced → Type 0
-IsTooLargeIn roots s space t refused.Memory = ⊤
-IsTooLargeIn roots s space t (refused.Fault (unplaced.Lacks x)) = ⊥
-IsTooLargeIn roots s space t (refused.Fault (unplaced.TooLarge class k)) =
-    (window_space (kind_value class) ≡ space)
-    × ((q : Request) → IsAnew q roots t → IsTooLarge q s (kind_value class) k)
-
--- ---- of a space
-
--- nothing on the roots lacks a place in a space, and each part has its new one
-pub record IsSpacePlaced (q : Request) (s : System) (space : Space) (table : List Places) : Type 0 where
-  pub lack : space_lack q s space q.roots ≡ None
-  pub places : HasNewPlaces q s space table
-
-abbrev pub HasPlacesIn : List ℕ → System → Space → Lists → List Places → Type 0
-HasPlacesIn roots s space l table =
-    (q : Request) → IsAnewIn q roots l → IsSpacePlaced q s space table
-
--- an item on the roots is the first that lacks a place, or a new window is too large, or there was no memory
-abbrev pub IsUnplacedIn : List ℕ → System → Space → Lists → Refused Unplaced → Type 0
-IsUnplacedIn roots s space l refused.Memory = ⊤
-IsUnplacedIn roots s space l (refused.Fault (unplaced.Lacks x)) =
-    (q : Request) → IsAnewIn q roots l
-    → space_lack q s space q.roots ≡ Some (candidate_value s x)
-IsUnplacedIn roots s space l (refused.Fault (unplaced.TooLarge class k)) =
-    (window_space (kind_value class) ≡ space)
-    × ((q : Request) → IsAnewIn q roots l → IsTooLarge q s (kind_value class) k)
-
--- ---- of both
-
-abbrev pub AreAllNone : List Places → Type 0
-AreAllNone table =
-    (k : ℕ) (d : Places) (part : Part) → k < length table
-    → range_in (slice_index_or table k d) part ≡ None
-
--- nothing on the roots lacks a place, and each part of a function has the one that it gets
-pub record ArePlacedAnew (q : Request) (s : System) (table : List Places) : Type 0 where
-  pub count : length table ≡ length s
-  pub lack : lacking q s ≡ None
-  pub each : (k : ℕ) (f : Function) (d : Places) (part : Part) → slice_get s k ≡ Some f
-      → IsTrue (has_part f part)
-      → range_in (slice_index_or table k d) part
-      ≡ placed_at (new_place q s record { function = f; part = part })
+-- a new window is too large, and where it is of memory, nothing lacks a place in I/O
+abbrev pub IsFirstTooLarge : Request → System → WindowKind → ℕ → Type 0
+IsFirstTooLarge q s c k = placed.IsFirstTooLarge q s c k
 
 abbrev pub AreNewPlaces : List ℕ → System → Lists → List Places → Type 0
 AreNewPlaces roots s l table = (q : Request) → IsAnewIn q roots l → ArePlacedAnew q s table
-
--- a new window is too large, and where it is of memory, nothing lacks a place in I/O
-pub record IsFirstTooLarge (q : Request) (s : System) (c : WindowKind) (k : ℕ) : Type 0 where
-  pub large : IsTooLarge q s c k
-  pub io : window_space c ≡ Memory → space_lack q s Io q.roots ≡ None
 
 abbrev pub IsUnplaced : List ℕ → System → Lists → Refused Unplaced → Type 0
 IsUnplaced roots s l refused.Memory = ⊤

@@ -8,9 +8,10 @@ use Rattle.settle_spec.specs.Places.{space_items, taken_at, ranges_for, placing_
 use Rattle.pci_base.specs.declared.range.Range.{Range}
 use Rattle.pci_settle.specs.declared.own.Terms.{Terms}
 use Rattle.pci_settle.specs.Placings.{placing_of}
-use Rattle.pci_settle.specs.NewWindows.{IsAnew}
 use Rattle.pci_settled.specs.declared.candidate.Candidate.{Candidate}
 use Rattle.pci_settled.specs.declared.candidate.SpaceWindows.{SpaceWindows}
+use Rattle.pci_settled.specs.declared.held.Staying.{Staying}
+use Rattle.pci_settled.specs.Held.{IsStaying}
 use Rattle.pci_settled.specs.Candidates.{candidate_value, IsWithin, IsLawful, HasPart, HasSpaceWindows}
 use Rattle.pci_settled.specs.Columns.{AreListsFor}
 use Rattle.pci_settled.specs.Places.{AreEndingAt}
@@ -30,14 +31,14 @@ pub record AreWithin (s : System) (candidates : List Candidate) (places : List �
   pub ends : IfNone lack (AreEndingAt candidates places)
 
 -- they are those in some lists of ranges, whatever is told of places on other buses
-abbrev pub ArePlacesIn : List ℕ → System → Space → Terms → SpaceWindows → ℕ → List (List Range) → Placing → Type 0
-ArePlacesIn roots s space t w bus lists placing =
-    (q : Request) (placed : ℕ → List Placed) → IsAnew q roots t → HasSpaceWindows q s space t w
+abbrev pub ArePlacesIn : List ℕ → System → Space → Terms → Staying → SpaceWindows → ℕ → List (List Range) → Placing → Type 0
+ArePlacesIn roots s space t st w bus lists placing =
+    (q : Request) (placed : ℕ → List Placed) → IsStaying q roots s t st → HasSpaceWindows q s space t w
     → AreListsFor q s space placed bus lists
     → placing ≡ place_all (ranges_for q s placed) (taken_at q s space bus) (space_items q s space bus)
 
 -- those on the roots, in lists that are asked for
-abbrev pub AreRootPlaces : List ℕ → System → Space → Lists → Terms → SpaceWindows → ℕ → Placing → Type 0
-AreRootPlaces roots s space l t w root placing =
-    (q : Request) → IsAnew q roots t → q.lists ≡ l → HasSpaceWindows q s space t w
+abbrev pub AreRootPlaces : List ℕ → System → Space → Lists → Terms → Staying → SpaceWindows → ℕ → Placing → Type 0
+AreRootPlaces roots s space l t st w root placing =
+    (q : Request) → IsStaying q roots s t st → q.lists ≡ l → HasSpaceWindows q s space t w
     → placing ≡ placing_on q s space root

@@ -2,7 +2,7 @@
 use Rattle.std.specs.Prelude.{◌≡◌, ℕ, ◌<◌, IsTrue, List, ◌++◌, map, Option}
 use Rattle.pci_spec.specs.Window.{WindowKind, IoWindow, MemoryWindow, PrefetchWindow}
 use Rattle.pci_spec.specs.System.{System, Space, Io, Memory, has_part}
-use Rattle.settle_spec.specs.Lists.{Request}
+use Rattle.settle_spec.specs.Lists.{Lists, Request}
 use Rattle.settle_spec.specs.Items.{Item as ItemValue, items_on, new_window, stays}
 use Rattle.settle_spec.specs.Places.{space_items}
 use Rattle.pci_base.specs.declared.window_kind.WindowKind.{WindowKind as Class}
@@ -13,9 +13,11 @@ use Rattle.pci_settle.specs.declared.own.Terms.{Terms}
 use Rattle.pci_settle.specs.Spots.{IsExtent}
 use Rattle.pci_settle.specs.Own.{item_value}
 use Rattle.pci_settle.specs.Buses.{AreWindows}
-use Rattle.pci_settle.specs.NewWindows.{IsAnew, HasNewWindows}
+use Rattle.pci_settle.specs.NewWindows.{HasNewWindows}
 use Rattle.pci_settled.specs.declared.candidate.Candidate.{Candidate}
 use Rattle.pci_settled.specs.declared.candidate.SpaceWindows.{SpaceWindows}
+use Rattle.pci_settled.specs.declared.held.Staying.{Staying}
+use Rattle.pci_settled.specs.Held.{IsStaying}
 
 abbrev pub of_class : Class → Item → Candidate
 of_class class i = record { class = class; item = i }
@@ -39,9 +41,9 @@ HasPart s c =
 -- ---- of a class
 
 -- to some items those of a bus in a class are added, in turn
-abbrev pub AreAddedOf : List ℕ → System → WindowKind → Terms → List (Option Extent) → ℕ → List Candidate → List Candidate → Type 0
-AreAddedOf roots s c t windows bus old new =
-    (q : Request) → IsAnew q roots t → HasNewWindows q s c t windows
+abbrev pub AreAddedOf : List ℕ → System → WindowKind → Terms → Staying → List (Option Extent) → ℕ → List Candidate → List Candidate → Type 0
+AreAddedOf roots s c t st windows bus old new =
+    (q : Request) → IsStaying q roots s t st → HasNewWindows q s c t windows
     → map (candidate_value s) new
     ≡ map (candidate_value s) old ++ items_on q s c (stays q s) (new_window q s c) bus
 
@@ -58,18 +60,24 @@ HasSpaceWindows q s Memory t w =
     HasNewWindows q s MemoryWindow t w.plain × HasNewWindows q s PrefetchWindow t w.prefetch
 
 -- they are the new windows, whatever is asked for in these terms
-abbrev pub HasWindowsIn : List ℕ → System → Space → Terms → SpaceWindows → Type 0
-HasWindowsIn roots s space t w = (q : Request) → IsAnew q roots t → HasSpaceWindows q s space t w
+abbrev pub HasWindowsIn : List ℕ → System → Space → Terms → Staying → SpaceWindows → Type 0
+HasWindowsIn roots s space t st w = (q : Request) → IsStaying q roots s t st → HasSpaceWindows q s space t w
 
 -- something can be asked for of which they are the new windows
 pub record KnowsWindows (roots : List ℕ) (s : System) (space : Space) (t : Terms)
-    (w : SpaceWindows) : Type 0 where
+    (st : Staying) (w : SpaceWindows) : Type 0 where
   pub request : Request
-  pub anew : IsAnew request roots t
+  pub stay : IsStaying request roots s t st
   pub has : HasSpaceWindows request s space t w
 
+-- something can be asked for in these lists of which this stays
+pub record KnowsRequest (roots : List ℕ) (s : System) (l : Lists) (t : Terms) (st : Staying) : Type 0 where
+  pub request : Request
+  pub stay : IsStaying request roots s t st
+  pub lists : request.lists ≡ l
+
 -- the items of a bus in a space
-abbrev pub AreCandidatesOf : List ℕ → System → Space → Terms → SpaceWindows → ℕ → List Candidate → Type 0
-AreCandidatesOf roots s space t w bus candidates =
-    (q : Request) → IsAnew q roots t → HasSpaceWindows q s space t w
+abbrev pub AreCandidatesOf : List ℕ → System → Space → Terms → Staying → SpaceWindows → ℕ → List Candidate → Type 0
+AreCandidatesOf roots s space t st w bus candidates =
+    (q : Request) → IsStaying q roots s t st → HasSpaceWindows q s space t w
     → map (candidate_value s) candidates ≡ space_items q s space bus

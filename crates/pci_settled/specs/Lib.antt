@@ -1,6 +1,9 @@
+pub mod Held
 pub mod Candidates
 pub mod Columns
 pub mod Places
+pub mod Windows
 pub mod BusPlaces
 pub mod Spaces
+pub mod Placed
 pub mod Anew

@@ -1,33 +1,25 @@
 -- The places of all items of a space.
-use Rattle.std.specs.Prelude.{◌≡◌, ℕ, ◌<◌, IsTrue, List, [], ◌∷◌, map, length, Option, None, Some, IfNone, slice_get, slice_index_or, ◌⊎◌}
+use Rattle.std.specs.Prelude.{◌≡◌, ℕ, ◌<◌, IsTrue, List, [], ◌∷◌, length, Option, None, Some, IfNone, slice_get, slice_index_or, ◌⊎◌}
 use Rattle.std.specs.Option.{option_map}
 use Rattle.pci_spec.specs.Window.{WindowKind}
-use Rattle.pci_spec.specs.System.{System, Function, Space, Io, Memory, Part, Window, IsSystem, has_part, space_of, window_space}
+use Rattle.pci_spec.specs.System.{System, Function, Space, Part, IsSystem, has_part, space_of, window_space}
 use Rattle.pci_spec.specs.Bus.{is_root}
+use Rattle.pci_spec.specs.Decoded.{Range as DecodedRange}
 use Rattle.settle_spec.specs.Lists.{Lists, Request}
 use Rattle.settle_spec.specs.Parts.{bridge_over}
 use Rattle.settle_spec.specs.Items.{Item as ItemValue, Placed, place_all}
 use Rattle.settle_spec.specs.Places.{placed_of, space_items, taken_at, window_ranges, ranges_for, placing_on, new_place, first_lack}
-use Rattle.pci_base.specs.declared.range.Range.{Range}
-use Rattle.pci_base.specs.Ranges.{decoded_range_of}
+use Rattle.pci_function.specs.declared.record.Bridge.{Bridge}
 use Rattle.pci_settle.specs.declared.own.Terms.{Terms}
-use Rattle.pci_settle.specs.NewWindows.{IsAnew}
+use Rattle.pci_settle.specs.Kept.{nothing_kept}
 use Rattle.pci_settled.specs.declared.candidate.Candidate.{Candidate}
 use Rattle.pci_settled.specs.declared.candidate.SpaceWindows.{SpaceWindows}
+use Rattle.pci_settled.specs.declared.held.Staying.{Staying}
 use Rattle.pci_settled.specs.declared.places.Places.{Places}
 use Rattle.pci_settled.specs.Candidates.{candidate_value, HasSpaceWindows}
-use Rattle.pci_settled.specs.Columns.{range_list}
+use Rattle.pci_settled.specs.Held.{IsStaying}
+use Rattle.pci_settled.specs.Windows.{window_at, range_alone}
 use Rattle.pci_settled.specs.Places.{range_in, placed_at, NotesOf}
-
--- ---- windows
-
-abbrev pub plain_in : Space → Places → Option Range
-plain_in Io p = p.windows.io
-plain_in Memory p = p.windows.memory
-
-abbrev pub prefetch_in : Space → Places → Option Range
-prefetch_in Io p = None
-prefetch_in Memory p = p.windows.prefetchable
 
 -- ---- of a bus
 
@@ -48,26 +40,31 @@ pub record HaveNoRoot (roots : List ℕ) (old new : List Places) (lack : Option 
   pub same : new ≡ old
   pub lacking : lack ≡ None
 
-abbrev pub AreNotedOnRoots : List ℕ → System → Space → Lists → Terms → SpaceWindows → List Places → List Places → Option Candidate → Type 0
-AreNotedOnRoots roots s space l t w old new lack =
+abbrev pub AreNotedOnRoots : List ℕ → System → Space → Lists → Terms → Staying → SpaceWindows → List Places → List Places → Option Candidate → Type 0
+AreNotedOnRoots roots s space l t st w old new lack =
     HaveNoRoot roots old new lack
-    ⊎ ((root : ℕ) × ((q : Request) → IsAnew q roots t → q.lists ≡ l → HasSpaceWindows q s space t w
+    ⊎ ((root : ℕ) × ((q : Request) → IsStaying q roots s t st → q.lists ≡ l → HasSpaceWindows q s space t w
     → AreNotedFor q s space old new lack root))
 
--- the windows of a function in a table are those over a bus
-abbrev pub HasWindowsOver : Request → System → Space → (ℕ → List Placed) → ℕ → Places → Type 0
-HasWindowsOver q s space placed bus p =
+-- these windows are those over a bus
+abbrev pub HasWindowsOver : Request → System → Space → (ℕ → List Placed) → ℕ → (WindowKind → Option DecodedRange) → Type 0
+HasWindowsOver q s space placed bus windows =
     (c : WindowKind) → window_space c ≡ space
-    → map decoded_range_of (range_list (range_in p (Window c)))
-    ≡ window_ranges q s placed c (bridge_over s bus)
+    → range_alone (windows c) ≡ window_ranges q s placed c (bridge_over s bus)
+
+-- the windows of a bridge: those that it keeps, and those that it has in a table of places
+abbrev pub windows_by : Staying → List Places → ℕ → Places → Bridge → WindowKind → Option DecodedRange
+windows_by st table k d b =
+    window_at (slice_index_or st.left.kept.now k nothing_kept) b (slice_index_or table k d)
 
 -- what is placed in them is noted
-abbrev pub AreNotedBehind : List ℕ → System → Space → Terms → SpaceWindows → ℕ → ℕ → List Places → List Places → Type 0
-AreNotedBehind roots s space t w bus k old new =
-    (q : Request) (placed : ℕ → List Placed) (d : Places) → IsSystem s → IsAnew q roots t
-    → HasSpaceWindows q s space t w → HasWindowsOver q s space placed bus (slice_index_or old k d)
+abbrev pub AreNotedBehind : List ℕ → System → Space → Terms → Staying → SpaceWindows → ℕ → Bridge → List Places → List Places → Type 0
+AreNotedBehind roots s space t st w k b old new =
+    (q : Request) (placed : ℕ → List Placed) (d : Places) → IsSystem s → IsStaying q roots s t st
+    → HasSpaceWindows q s space t w
+    → HasWindowsOver q s space placed b.secondary (windows_by st old k d b)
     → NotesOf s
-    (placed_of (place_all (ranges_for q s placed) (taken_at q s space bus) (space_items q s space bus)))
+    (placed_of (place_all (ranges_for q s placed) (taken_at q s space b.secondary) (space_items q s space b.secondary)))
     old new
 
 -- ---- of all buses
@@ -105,7 +102,7 @@ pub record AreSpacePlaces (q : Request) (s : System) (space : Space) (table : Li
   pub lack_is : space_lack q s space q.roots ≡ option_map (candidate_value s) lack
   pub places : IfNone lack (HasNewPlaces q s space table)
 
-abbrev pub AreSpacePlacesIn : List ℕ → System → Space → Lists → Terms → SpaceWindows → List Places → Option Candidate → Type 0
-AreSpacePlacesIn roots s space l t w table lack =
-    (q : Request) → IsAnew q roots t → q.lists ≡ l → HasSpaceWindows q s space t w
+abbrev pub AreSpacePlacesIn : List ℕ → System → Space → Lists → Terms → Staying → SpaceWindows → List Places → Option Candidate → Type 0
+AreSpacePlacesIn roots s space l t st w table lack =
+    (q : Request) → IsStaying q roots s t st → q.lists ≡ l → HasSpaceWindows q s space t w
     → AreSpacePlaces q s space table lack

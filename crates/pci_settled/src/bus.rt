@@ -10,10 +10,12 @@ ghost use Rattle.pci_function.specs.Values.{record_value};
 ghost use Rattle.pci_tree.specs.Roots.{buses_of};
 ghost use Rattle.pci_place.specs.Above.{AreAboves, system_in};
 ghost use Rattle.pci_settled.specs.Candidates.{AreSpaceWindows, KnowsWindows, IsWithin};
+ghost use Rattle.pci_settled.specs.Held.{AreByLevel};
 ghost use Rattle.pci_settled.specs.Columns.{kind_number, column, wanted_value};
 ghost use Rattle.pci_settled.specs.BusPlaces.{bus_placing, ArePlacesIn, AreWithin};
 
 use crate::candidate::{Candidate, SpaceWindows, candidates_on};
+use crate::held::{Staying, taken_on};
 use pci_base::memory::OutOfMemory;
 use pci_base::range::Range;
 use pci_base::slot::BUSES;
@@ -24,6 +26,7 @@ use pci_place::above::Above;
 use pci_settle::list::is_root;
 use pci_settle::own::Terms;
 use pci_settle::placing::{Wanted, place_all};
+use pci_stand::collect::level;
 use pci_tree::admitted::Admitted;
 use pci_tree::roots::Roots;
 use std::alloc::Allocator;
@@ -86,7 +89,7 @@ fn wanted_of<A: Allocator>(
     Ok(wanted)
 }
 
-/// Gives each item of a bus its first place in its list, where nothing stands: on the roots the lists are columns by bus,
+/// Gives each item of a bus its first place in its list, off what stays there: on the roots the lists are columns by bus,
 /// and elsewhere one column.
 pub fn place_bus<A: Allocator + Copy, B: Allocator>(
     alloc: A,
@@ -95,28 +98,30 @@ pub fn place_bus<A: Allocator + Copy, B: Allocator>(
     space: Space,
     aboves: &[Above; BUSES],
     terms: Terms,
+    staying: &Staying,
     windows: &SpaceWindows,
     lists: &[Vec<Range, A>],
 ) -> Result<BusPlaces<A>, OutOfMemory>
     requires above { AreAboves (system_in admitted.now) aboves.now }
+    requires held { AreByLevel staying.now.held.now }
     requires lawful { AreSpaceWindows windows.now }
     requires known { KnowsWindows admitted.now.roots (system_in admitted.now) (space_of space) terms
-        windows.now }
+        staying.now windows.now }
     requires some { 3 ≤ length lists.now }
     requires roots { IsTrue (is_root admitted.now.roots bus) → length lists.now ≡ 768 }
     ensures placing { IfOk result (λ places. ArePlacesIn admitted.now.roots (system_in admitted.now)
-        (space_of space) terms windows.now bus (map (λ list. list.items) lists.now)
+        (space_of space) terms staying.now windows.now bus (map (λ list. list.items) lists.now)
         (bus_placing (system_in admitted.now) places.candidates.items places.places.items places.lack)) }
     ensures within { IfOk result (λ places. AreWithin (system_in admitted.now) places.candidates.items
         places.places.items places.lack) }
 {
-    let candidates = candidates_on(alloc, admitted, bus, space, aboves, terms, windows)?;
+    let candidates = candidates_on(alloc, admitted, bus, space, aboves, terms, staying, windows)?;
     let outline = admitted.outline();
     let roots = outline.roots();
     let records = outline.records();
     let wanted = wanted_of(alloc, &roots, records, candidates.as_slice())?;
     let mut places = vec![in alloc; 0; candidates.len()]?;
-    let mut taken = Vec::new(alloc);
+    let mut taken = taken_on(alloc, staying.held, level(&roots, bus), space)?;
     let lack = place_all(
         alloc,
         lists,

@@ -1,4 +1,4 @@
-//! What is placed on a bus in a space where nothing stands.
+//! What is placed on a bus in a space.
 ghost use Rattle.std.specs.Prelude.{◌≡◌, ◌++◌, IfOk, OnOk, map};
 ghost use Rattle.std.specs.List.{All};
 ghost use Rattle.pci_base.specs.Space.{space_of};
@@ -7,6 +7,7 @@ ghost use Rattle.pci_place.specs.Above.{AreAboves, system_in};
 ghost use Rattle.pci_settle.specs.Buses.{AreWindows};
 ghost use Rattle.pci_settled.specs.Candidates.{of_class, IsLawful, AreAddedOf, AreSpaceWindows, AreCandidatesOf};
 
+use crate::held::Staying;
 use pci_base::memory::OutOfMemory;
 use pci_base::slot::BUSES;
 use pci_base::space::Space;
@@ -15,7 +16,6 @@ use pci_place::above::Above;
 use pci_settle::bus::items_in_turn;
 use pci_settle::extent::Extent;
 use pci_settle::item::Item;
-use pci_settle::over::Left;
 use pci_settle::own::Terms;
 use pci_tree::admitted::Admitted;
 use std::alloc::Allocator;
@@ -60,24 +60,22 @@ fn add_class<A: Allocator + Copy, B: Allocator>(
     class: WindowKind,
     aboves: &[Above; BUSES],
     terms: Terms,
+    staying: &Staying,
     windows: &[Option<Extent>; BUSES],
 ) -> Result<(), OutOfMemory>
     requires { AreAboves (system_in admitted.now) aboves.now }
     ensures added { OnOk result (AreAddedOf admitted.now.roots (system_in admitted.now)
-        (kind_value class) terms windows.now bus candidates.old.items candidates.new.items) }
+        (kind_value class) terms staying.now windows.now bus candidates.old.items candidates.new.items) }
     ensures lawful { AreWindows windows.now → All IsLawful candidates.old.items
         → OnOk result (All IsLawful candidates.new.items) }
 {
-    let left = Left {
-        over: &[],
-        kept: &[],
-    };
-    let items = items_in_turn(alloc, admitted, bus, class, aboves, terms, windows, &left)?;
+    let left = &staying.left;
+    let items = items_in_turn(alloc, admitted, bus, class, aboves, terms, windows, left)?;
     add_items(candidates, class, items.as_slice())?;
     Ok(())
 }
 
-/// The items of a bus in a space in the order in which they are placed, where nothing stays: in memory space those of
+/// The items of a bus in a space in the order in which they are placed; what stays is none. In memory space those of
 /// prefetchable memory come last.
 pub fn candidates_on<A: Allocator + Copy, B: Allocator>(
     alloc: A,
@@ -86,11 +84,12 @@ pub fn candidates_on<A: Allocator + Copy, B: Allocator>(
     space: Space,
     aboves: &[Above; BUSES],
     terms: Terms,
+    staying: &Staying,
     windows: &SpaceWindows,
 ) -> Result<Vec<Candidate, A>, OutOfMemory>
     requires { AreAboves (system_in admitted.now) aboves.now }
     ensures items { IfOk result (λ candidates. AreCandidatesOf admitted.now.roots
-        (system_in admitted.now) (space_of space) terms windows.now bus candidates.items) }
+        (system_in admitted.now) (space_of space) terms staying.now windows.now bus candidates.items) }
     // places are looked for by sizes and alignments
     ensures lawful { AreSpaceWindows windows.now → IfOk result (λ candidates. All IsLawful candidates.items) }
 {
@@ -106,6 +105,7 @@ pub fn candidates_on<A: Allocator + Copy, B: Allocator>(
                 class,
                 aboves,
                 terms,
+                staying,
                 &windows.plain,
             )?;
         }
@@ -119,6 +119,7 @@ pub fn candidates_on<A: Allocator + Copy, B: Allocator>(
                 class,
                 aboves,
                 terms,
+                staying,
                 &windows.plain,
             )?;
             let class = WindowKind::Prefetchable;
@@ -130,6 +131,7 @@ pub fn candidates_on<A: Allocator + Copy, B: Allocator>(
                 class,
                 aboves,
                 terms,
+                staying,
                 &windows.prefetch,
             )?;
         }

@@ -1,5 +1,4 @@
-//! The places of all items where nothing stands: on the roots in their lists of ranges, and behind a bridge in its
-//! new window.
+//! The places of all items: on the roots in their lists of ranges, and behind a bridge in its window, off what stays there.
 //!
 //! A bridge stands on a lower bus than what is behind it, so buses are gone over as they rise: what is on a bus tells the
 //! places of the windows in which other buses have theirs.
@@ -9,6 +8,9 @@ pub mod anew;
 pub mod bus;
 pub mod candidate;
 pub mod column;
+pub mod held;
+pub mod place;
 pub mod places;
 pub mod root;
 pub mod space;
+pub mod window;

@@ -7,12 +7,14 @@ ghost use Rattle.pci_place.specs.Above.{AreAboves, system_in};
 ghost use Rattle.pci_settle.specs.Lists.{lists_value};
 ghost use Rattle.pci_settle.specs.Own.{AreTerms};
 ghost use Rattle.pci_settled.specs.Candidates.{AreSpaceWindows, KnowsWindows};
+ghost use Rattle.pci_settled.specs.Held.{AreByLevel};
 ghost use Rattle.pci_settled.specs.Columns.{HasRootColumns};
 ghost use Rattle.pci_settled.specs.BusPlaces.{bus_placing, AreRootPlaces, AreWithin};
 
 use crate::bus::{BusPlaces, place_bus};
 use crate::candidate::SpaceWindows;
 use crate::column::{Column, add_column, column_of};
+use crate::held::Staying;
 use pci_base::memory::OutOfMemory;
 use pci_base::range::Range;
 use pci_base::slot::BUSES;
@@ -47,8 +49,8 @@ fn root_lists<A: Allocator + Copy>(
     Ok(all)
 }
 
-/// Places what is on the roots in a space, where nothing stands: each item in the ranges that its own root has, with no
-/// address taken but by those before it.
+/// Places what is on the roots in a space: each item in the ranges that its own root has, off what stays on the roots and
+/// those before it.
 pub fn place_roots<A: Allocator + Copy, B: Allocator>(
     alloc: A,
     admitted: &Admitted<B>,
@@ -57,16 +59,18 @@ pub fn place_roots<A: Allocator + Copy, B: Allocator>(
     lists: &Lists,
     aboves: &[Above; BUSES],
     terms: Terms,
+    staying: &Staying,
     windows: &SpaceWindows,
 ) -> Result<BusPlaces<A>, OutOfMemory>
     requires root { IsTrue (is_root admitted.now.roots root) }
     requires above { AreAboves (system_in admitted.now) aboves.now }
     requires terms { AreTerms (lists_value lists.now) terms }
+    requires held { AreByLevel staying.now.held.now }
     requires lawful { AreSpaceWindows windows.now }
     requires known { KnowsWindows admitted.now.roots (system_in admitted.now) (space_of space) terms
-        windows.now }
+        staying.now windows.now }
     ensures placing { IfOk result (λ places. AreRootPlaces admitted.now.roots (system_in admitted.now)
-        (space_of space) (lists_value lists.now) terms windows.now root
+        (space_of space) (lists_value lists.now) terms staying.now windows.now root
         (bus_placing (system_in admitted.now) places.candidates.items places.places.items places.lack)) }
     ensures within { IfOk result (λ places. AreWithin (system_in admitted.now) places.candidates.items
         places.places.items places.lack) }
@@ -76,7 +80,7 @@ pub fn place_roots<A: Allocator + Copy, B: Allocator>(
     let all = root_lists(alloc, &roots, space, lists)?;
     let columns = all.as_slice();
     let places = place_bus(
-        alloc, admitted, root, space, aboves, terms, windows, columns,
+        alloc, admitted, root, space, aboves, terms, staying, windows, columns,
     )?;
     Ok(places)
 }

@@ -58,7 +58,7 @@ in_insert_from xs i y z within (k, low, at) =
 
 -- ---- buses of one level
 
-levels_one : (q : Request) (bus other : ℕ) → level q bus ≡ level q other → are_siblings q.roots bus other ≡ true
+pub levels_one : (q : Request) (bus other : ℕ) → level q bus ≡ level q other → are_siblings q.roots bus other ≡ true
 levels_one q bus other same = elim (cases_Bool (is_root q.roots bus)) [
   | inl root ↦ elim (cases_Bool (is_root q.roots other)) [
     | inl both ↦ or_right (bus == other) (is_root q.roots bus && is_root q.roots other) (and_from (is_root q.roots bus) (is_root q.roots other) root both)
@@ -82,11 +82,11 @@ levels_one q bus other same = elim (cases_Bool (is_root q.roots bus)) [
     or_first : (x y : Bool) → x ≡ true → (x || y) ≡ true
     or_first x y e = ap (λ b. b || y) e
 
-spaces_one : (a b : Space) → a ≡ b → same_space a b ≡ true
+pub spaces_one : (a b : Space) → a ≡ b → same_space a b ≡ true
 spaces_one Io b same = subst (λ z. same_space Io z ≡ true) same refl
 spaces_one Memory b same = subst (λ z. same_space Memory z ≡ true) same refl
 
-one_space : (a b : Space) → same_space a b ≡ true → a ≡ b
+pub one_space : (a b : Space) → same_space a b ≡ true → a ≡ b
 one_space Io Io same = refl
 one_space Io Memory same = absurd (both_ways false refl same)
 one_space Memory Io same = absurd (both_ways false refl same)

@@ -20,7 +20,7 @@ use pci_tree::roots::Roots;
 use std::alloc::Allocator;
 
 /// 0 for a root, else one more than the bus number.
-fn level(roots: &Roots, bus: u8) -> u16
+pub fn level(roots: &Roots, bus: u8) -> u16
     ensures { result ≡ (if is_root (buses_of roots.now) bus then 0 else bus + 1) }
 {
     if is_root(roots, bus) {

@@ -8,7 +8,7 @@ pub returns-clause-added : goal.returns-clause-added
 returns-clause-added g c =
     added_of (system_in c.args.admitted.now) c.args.class c.in_ok-items.items.items c.args.candidates.now.items _
     (c.in_ok-add_items.ensures ∙ ap (λ xs. c.args.candidates.now.items ++ map (of_class c.args.class) xs) c.as_slice.ensures.value)
-    c.args.admitted.now.roots c.args.terms c.args.windows.now c.args.bus c.in_ok-items.ensures.turn
+    c.args.admitted.now.roots c.args.terms c.args.staying.now c.args.windows.now c.args.bus c.in_ok-items.ensures.turn
 
 pub returns-clause-lawful : goal.returns-clause-lawful
 returns-clause-lawful g c windows_lawful before =

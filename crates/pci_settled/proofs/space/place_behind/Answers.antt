@@ -27,7 +27,8 @@ returns g c =
     let items = λ (v : Vec Range g.row.A.Denot). v.items in
     let column = c.in_ok-column.column in
     record {
-      noted = behind_noted c.args.admitted.now.roots s (space_of c.args.space) c.args.terms c.args.windows.now c.args.bus c.requires.behind c.args.function c.args.table.now c.note_bus.new.table c.requires.function _
+      noted = behind_noted c.args.admitted.now.roots s (space_of c.args.space) c.args.terms c.args.staying.now c.args.windows.now c.args.bridge.now c.requires.behind c.args.function c.args.table.now c.note_bus.new.table c.requires.function _
+          c.kept_by-kept.result.now c.kept_by-kept.ensures
           c.plain_window.result c.prefetch_window.result c.plain_window.ensures c.prefetch_window.ensures (map items c.as_slice.result.now)
           (ap (map items) c.as_slice.ensures.value
           ∙ c.in_ok-add_column.ensures

@@ -1,6 +1,6 @@
 use Rattle.std.proofs.Common.{arith, ap, length}
 use Rattle.pci_settled.proofs.BothSpaces.{none_first, none_more}
-use Rattle.pci_settled.proofs.anew.no_places.Goals as goal
+use Rattle.pci_settled.proofs.place.no_places.Goals as goal
 
 pub loop-init : goal.loop-init
 loop-init g c = record { count = ap length c.new-table.ensures.items; none = none_first _ c.new-table.ensures.items }

@@ -1,0 +1,39 @@
+-- Where all is placed anew, nothing is left where it stands.
+use Rattle.std.proofs.Common.{◌≡◌, ℕ, List, [], true, refl, subst, sym}
+use Rattle.pci_spec.specs.System.{System}
+use Rattle.settle_spec.specs.Lists.{Lists, Request}
+use Rattle.pci_base.specs.declared.memory.Refused.{Refused}
+use Rattle.pci_base.specs.declared.memory.Refused.TheVariants as refused
+use Rattle.pci_settle.specs.declared.over.Left.{Left}
+use Rattle.pci_settle.specs.Kept.{AreKept}
+use Rattle.pci_settle.specs.Over.{AreOpenOver}
+use Rattle.pci_settle.proofs.Anew.{over_anew, kept_anew}
+use Rattle.settle_spec.specs.Items.{stays}
+use Rattle.pci_settled.specs.declared.places.Places.{Places}
+use Rattle.pci_settled.specs.declared.anew.Unplaced.{Unplaced}
+use Rattle.pci_settled.specs.declared.anew.Unplaced.TheVariants as unplaced
+use Rattle.pci_settled.specs.Placed.{IsLeaving, CanBeLeft, ArePlacesOff, IsUnplacedOff}
+use Rattle.pci_settled.specs.Anew.{IsAnewIn, AreNewPlaces, IsUnplaced}
+
+module _ (roots : List ℕ) (s : System) (l : Lists) (left : Left) (no_windows : left.over.now ≡ []) (none_kept : left.kept.now ≡ []) where
+  leaves : (q : Request) → IsAnewIn q roots l → IsLeaving q roots s l left
+  leaves q anew = record {
+    rooted = anew.rooted;
+    lists = anew.lists;
+    overs_are = subst (AreOpenOver q s) (sym no_windows) (over_anew q s anew.anew);
+    keeps_is = subst (AreKept s (stays q s)) (sym none_kept) (kept_anew q s anew.anew);
+  }
+
+  abbrev q1 : Request
+  q1 = record { roots = roots; lists = l; fixed = []; anew = true }
+
+  pub can_be_left : CanBeLeft roots s l left
+  can_be_left = record { request = q1; leaving = leaves q1 record { rooted = refl; anew = refl; lists = refl } }
+
+  pub new_places : (table : List Places) → ArePlacesOff roots s l left table → AreNewPlaces roots s l table
+  new_places table are q anew = are q (leaves q anew)
+
+  pub new_unplaced : (e : Refused Unplaced) → IsUnplacedOff roots s l left e → IsUnplaced roots s l e
+  new_unplaced refused.Memory is = tt
+  new_unplaced (refused.Fault (unplaced.Lacks x)) is = λ q anew. is q (leaves q anew)
+  new_unplaced (refused.Fault (unplaced.TooLarge class k)) is = λ q anew. is q (leaves q anew)

@@ -1,0 +1,112 @@
+-- The places of all parts that don't stay, and what can't be placed.
+use Rattle.std.specs.Prelude.{◌≡◌, ℕ, ◌<◌, IsTrue, List, length, Option, None, Some, slice_get, slice_index_or, ⊤}
+use Rattle.pci_spec.specs.Window.{WindowKind}
+use Rattle.pci_spec.specs.System.{System, Function, Space, Io, Memory, Part, has_part, window_space}
+use Rattle.settle_spec.specs.Lists.{Lists, Request}
+use Rattle.settle_spec.specs.Items.{stays}
+use Rattle.settle_spec.specs.Places.{new_place, lacking}
+use Rattle.pci_base.specs.declared.memory.Refused.{Refused}
+use Rattle.pci_base.specs.declared.memory.Refused.TheVariants as refused
+use Rattle.pci_base.specs.WindowKinds.{kind_value}
+use Rattle.pci_settle.specs.declared.extent.Extent.{Extent}
+use Rattle.pci_settle.specs.declared.over.Left.{Left}
+use Rattle.pci_settle.specs.declared.own.Terms.{Terms}
+use Rattle.pci_settle.specs.Kept.{AreKept}
+use Rattle.pci_settle.specs.Over.{AreOpenOver}
+use Rattle.pci_settle.specs.NewWindows.{HasNewWindows, IsTooLarge}
+use Rattle.pci_settled.specs.declared.places.Places.{Places}
+use Rattle.pci_settled.specs.declared.anew.Unplaced.{Unplaced}
+use Rattle.pci_settled.specs.declared.anew.Unplaced.TheVariants as unplaced
+use Rattle.pci_settled.specs.declared.held.Staying.{Staying}
+use Rattle.pci_settled.specs.Held.{IsStaying}
+use Rattle.pci_settled.specs.Candidates.{candidate_value}
+use Rattle.pci_settled.specs.Places.{range_in, placed_at}
+use Rattle.pci_settled.specs.Spaces.{HasNewPlaces, space_lack}
+
+-- ---- windows
+
+abbrev pub HasWindowsOf : List ℕ → System → WindowKind → Terms → Staying → List (Option Extent) → Type 0
+HasWindowsOf roots s c t st windows =
+    (q : Request) → IsStaying q roots s t st → HasNewWindows q s c t windows
+
+-- a new window of a class is too large, or there was no memory
+abbrev pub IsTooLargeOf : List ℕ → System → WindowKind → Terms → Staying → Refused Unplaced → Type 0
+IsTooLargeOf roots s c t st refused.Memory = ⊤
+IsTooLargeOf roots s c t st (refused.Fault (unplaced.Lacks x)) = ⊥
+IsTooLargeOf roots s c t st (refused.Fault (unplaced.TooLarge class k)) =
+    (kind_value class ≡ c) × ((q : Request) → IsStaying q roots s t st → IsTooLarge q s c k)
+
+abbrev pub IsTooLargeIn : List ℕ → System → Space → Terms → Staying → Refused Unplaced → Type 0
+IsTooLargeIn roots s space t st refused.Memory = ⊤
+IsTooLargeIn roots s space t st (refused.Fault (unplaced.Lacks x)) = ⊥
+IsTooLargeIn roots s space t st (refused.Fault (unplaced.TooLarge class k)) =
+    (window_space (kind_value class) ≡ space)
+    × ((q : Request) → IsStaying q roots s t st → IsTooLarge q s (kind_value class) k)
+
+-- ---- of a space
+
+-- nothing on the roots lacks a place in a space, and each part has its new one
+pub record IsSpacePlaced (q : Request) (s : System) (space : Space) (table : List Places) : Type 0 where
+  pub lack : space_lack q s space q.roots ≡ None
+  pub places : HasNewPlaces q s space table
+
+abbrev pub HasPlacesIn : List ℕ → System → Space → Lists → Terms → Staying → List Places → Type 0
+HasPlacesIn roots s space l t st table =
+    (q : Request) → IsStaying q roots s t st → q.lists ≡ l → IsSpacePlaced q s space table
+
+-- an item on the roots is the first that lacks a place, or a new window is too large, or there was no memory
+abbrev pub IsUnplacedIn : List ℕ → System → Space → Lists → Terms → Staying → Refused Unplaced → Type 0
+IsUnplacedIn roots s space l t st refused.Memory = ⊤
+IsUnplacedIn roots s space l t st (refused.Fault (unplaced.Lacks x)) =
+    (q : Request) → IsStaying q roots s t st → q.lists ≡ l
+    → space_lack q s space q.roots ≡ Some (candidate_value s x)
+IsUnplacedIn roots s space l t st (refused.Fault (unplaced.TooLarge class k)) =
+    (window_space (kind_value class) ≡ space)
+    × ((q : Request) → IsStaying q roots s t st → q.lists ≡ l → IsTooLarge q s (kind_value class) k)
+
+-- ---- of both
+
+abbrev pub AreAllNone : List Places → Type 0
+AreAllNone table =
+    (k : ℕ) (d : Places) (part : Part) → k < length table
+    → range_in (slice_index_or table k d) part ≡ None
+
+-- nothing on the roots lacks a place, and each part of a function has the one that it gets: none for what stays
+pub record ArePlaced (q : Request) (s : System) (table : List Places) : Type 0 where
+  pub count : length table ≡ length s
+  pub lack : lacking q s ≡ None
+  pub each : (k : ℕ) (f : Function) (d : Places) (part : Part) → slice_get s k ≡ Some f
+      → IsTrue (has_part f part)
+      → range_in (slice_index_or table k d) part
+      ≡ placed_at (new_place q s record { function = f; part = part })
+
+-- a new window is too large, and where it is of memory, nothing lacks a place in I/O
+pub record IsFirstTooLarge (q : Request) (s : System) (c : WindowKind) (k : ℕ) : Type 0 where
+  pub large : IsTooLarge q s c k
+  pub io : window_space c ≡ Memory → space_lack q s Io q.roots ≡ None
+
+-- ---- whatever is asked for
+
+-- what is asked for below these roots, in these lists, leaves these windows and parts where they stand
+pub record IsLeaving (q : Request) (roots : List ℕ) (s : System) (l : Lists) (left : Left) : Type 0 where
+  pub rooted : q.roots ≡ roots
+  pub lists : q.lists ≡ l
+  pub overs_are : AreOpenOver q s left.over.now
+  pub keeps_is : AreKept s (stays q s) left.kept.now
+
+-- something can be asked for that leaves them
+pub record CanBeLeft (roots : List ℕ) (s : System) (l : Lists) (left : Left) : Type 0 where
+  pub request : Request
+  pub leaving : IsLeaving request roots s l left
+
+-- all that doesn't stay has its place
+abbrev pub ArePlacesOff : List ℕ → System → Lists → Left → List Places → Type 0
+ArePlacesOff roots s l left table = (q : Request) → IsLeaving q roots s l left → ArePlaced q s table
+
+-- an item on the roots is the first that lacks a place, or a new window is too large, or there was no memory
+abbrev pub IsUnplacedOff : List ℕ → System → Lists → Left → Refused Unplaced → Type 0
+IsUnplacedOff roots s l left refused.Memory = ⊤
+IsUnplacedOff roots s l left (refused.Fault (unplaced.Lacks x)) =
+    (q : Request) → IsLeaving q roots s l left → lacking q s ≡ Some (candidate_value s x)
+IsUnplacedOff roots s l left (refused.Fault (unplaced.TooLarge class k)) =
+    (q : Request) → IsLeaving q roots s l left → IsFirstTooLarge q s (kind_value class) k

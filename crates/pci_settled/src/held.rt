@@ -1,0 +1,165 @@
+//! What is taken on a bus by the parts that stay where they are.
+ghost use Rattle.std.specs.Prelude.{◌≡◌, ◌++◌, ◌≤◌, ◌<◌, IfOk, OnOk, length, map};
+ghost use Rattle.std.specs.List.{All, AllWithin, filter};
+ghost use Rattle.std.specs.List.Sorted.{IsPermutation, IsNonDecreasingBy};
+ghost use Rattle.settle_spec.specs.Parts.{same_space};
+ghost use Rattle.pci_base.specs.Space.{space_of};
+ghost use Rattle.pci_place.specs.Above.{system_in};
+ghost use Rattle.pci_settle.specs.Kept.{part_value, kept_of, nothing_kept};
+ghost use Rattle.pci_settle.specs.Lists.{lists_value};
+ghost use Rattle.pci_settle.specs.Spots.{AreListed};
+ghost use Rattle.pci_settled.specs.Held.{is_kept, held_of, held_level, held_range, is_on, IsForward, AreByLevel, AreHeldIn};
+
+use pci_base::memory::OutOfMemory;
+use pci_base::range::Range;
+use pci_base::space::Space;
+use pci_settle::bus::kept_by;
+use pci_settle::kept::Kept;
+use pci_settle::list::Lists;
+use pci_settle::over::Left;
+use pci_stand::collect::regions;
+use pci_stand::region::Region;
+use pci_tree::admitted::Admitted;
+use std::alloc::Allocator;
+
+/// The addresses of a part that stays.
+#[derive(Clone, Copy, Debug)]
+pub struct Held {
+    /// 0 where the part is on a root, else one more than its bus number: all roots are one bus.
+    pub level: u16,
+    pub space: Space,
+    pub range: Range,
+}
+
+/// What stays where it is.
+#[derive(Clone, Copy, Debug)]
+pub struct Staying<'a> {
+    pub left: Left<'a>,
+    /// The addresses of all parts that stay, by rising levels.
+    pub held: &'a [Held],
+}
+
+/// Whether a part keeps its place.
+fn is_kept(kept: &[Kept], region: &Region) -> bool
+    ensures { result ≡ is_kept kept.now region.now }
+{
+    kept_by(kept, region.function).keeps(region.part)
+}
+
+/// Adds the addresses of the parts that keep their places.
+fn add_held<A: Allocator>(
+    held: &mut Vec<Held, A>,
+    regions: &[Region],
+    kept: &[Kept],
+) -> Result<(), OutOfMemory>
+    ensures { OnOk result (held.new.items
+        ≡ held.old.items ++ map held_of (filter (is_kept kept.now) regions.now)) }
+{
+    for region in regions {
+        if is_kept(kept, region) {
+            held.push(Held {
+                level: region.level,
+                space: region.space,
+                range: region.range,
+            })?;
+        }
+    }
+    Ok(())
+}
+
+/// Sorts parts by rising levels.
+fn sort_by_level<A: Allocator>(held: &mut Vec<Held, A>)
+    ensures permutation { IsPermutation held.old.items held.new.items }
+    ensures order { IsNonDecreasingBy held_level held.new.items }
+{
+    held.sort_unstable_by_key(|one| one.level);
+}
+
+/// The addresses of all parts that keep their places, by rising levels.
+pub fn held_parts<A: Allocator + Copy, B: Allocator>(
+    alloc: A,
+    admitted: &Admitted<B>,
+    lists: &Lists,
+    kept: &[Kept],
+) -> Result<Vec<Held, A>, OutOfMemory>
+    ensures held { IfOk result (λ held. AreHeldIn admitted.now.roots (system_in admitted.now)
+        (lists_value lists.now) kept.now held.items) }
+    ensures order { IfOk result (λ held. AreByLevel held.items) }
+{
+    let mut held = Vec::new(alloc);
+    if kept.is_empty() {
+        return Ok(held);
+    }
+    let regions = regions(alloc, admitted, lists, &[])?;
+    add_held(&mut held, regions.as_slice(), kept)?;
+    sort_by_level(&mut held);
+    Ok(held)
+}
+
+/// The index of the first part on this level or a higher one.
+fn first_from(held: &[Held], level: u32) -> usize
+    requires { IsNonDecreasingBy held_level held.now }
+    ensures bound { result ≤ length held.now }
+    ensures before { AllWithin (λ h. h.level < level) held.now 0 result }
+    ensures after { AllWithin (λ h. level ≤ h.level) held.now result (length held.now) }
+{
+    held.partition_point(|one| u32::from(one.level) < level)
+}
+
+/// Whether a part is on a level, in a space.
+fn is_on(one: &Held, level: u16, space: Space) -> bool
+    ensures { result ≡ is_on level (space_of space) one.now }
+{
+    one.level == level
+        && match space {
+            Space::Io => one.space == Space::Io,
+            Space::Mem => one.space == Space::Mem,
+        }
+}
+
+/// Adds the addresses of the parts that are on a level, in a space.
+fn add_taken<A: Allocator>(
+    taken: &mut Vec<Range, A>,
+    held: &[Held],
+    level: u16,
+    space: Space,
+) -> Result<(), OutOfMemory>
+    ensures { OnOk result (taken.new.items
+        ≡ taken.old.items ++ map held_range (filter (is_on level (space_of space)) held.now)) }
+{
+    for one in held {
+        if is_on(one, level, space) {
+            taken.push(one.range)?;
+        }
+    }
+    Ok(())
+}
+
+/// Sorts ranges by rising first addresses.
+fn sort_by_first<A: Allocator>(taken: &mut Vec<Range, A>)
+    ensures permutation { IsPermutation taken.old.items taken.new.items }
+    ensures order { IsNonDecreasingBy (λ r. r.first) taken.new.items }
+{
+    taken.sort_unstable_by_key(|range| range.first);
+}
+
+/// What is taken on a level in a space by the parts that stay there, by rising first addresses.
+pub fn taken_on<A: Allocator>(
+    alloc: A,
+    held: &[Held],
+    level: u16,
+    space: Space,
+) -> Result<Vec<Range, A>, OutOfMemory>
+    requires { AreByLevel held.now }
+    ensures taken { IfOk result (λ taken. IsPermutation
+        (map held_range (filter (is_on level (space_of space)) held.now)) taken.items) }
+    // places are looked for between them
+    ensures listed { IfOk result (λ taken. AreListed taken.items) }
+{
+    let first = first_from(held, level as u32);
+    let end = first_from(held, level as u32 + 1);
+    let mut taken = Vec::new(alloc);
+    add_taken(&mut taken, &held[first..end], level, space)?;
+    sort_by_first(&mut taken);
+    Ok(taken)
+}

@@ -1,0 +1,211 @@
+//! The places of all that doesn't stay where it is.
+ghost use Rattle.std.specs.Prelude.{◌≡◌, IfOk, IfErr, OnOk, length};
+ghost use Rattle.pci_base.specs.Space.{space_of};
+ghost use Rattle.pci_base.specs.WindowKinds.{kind_value};
+ghost use Rattle.pci_place.specs.Above.{AreAboves, system_in};
+ghost use Rattle.pci_settle.specs.Lists.{lists_value};
+ghost use Rattle.pci_settle.specs.Own.{AreTerms};
+ghost use Rattle.pci_settle.specs.Buses.{AreWindows};
+ghost use Rattle.pci_settled.specs.Candidates.{AreSpaceWindows, HasWindowsIn, KnowsRequest};
+ghost use Rattle.pci_settled.specs.Held.{AreByLevel};
+ghost use Rattle.pci_settled.specs.Spaces.{HasNone, KeepsOthers};
+ghost use Rattle.pci_settled.specs.Placed.{HasWindowsOf, IsTooLargeOf, IsTooLargeIn, IsUnplacedIn, HasPlacesIn, AreAllNone, CanBeLeft, ArePlacesOff, IsUnplacedOff};
+
+use crate::anew::Unplaced;
+use crate::candidate::SpaceWindows;
+use crate::held::{Staying, held_parts};
+use crate::places::Places;
+use crate::space::place_space;
+use pci_base::memory::{OutOfMemory, Refused};
+use pci_base::slot::BUSES;
+use pci_base::space::Space;
+use pci_base::window_kind::WindowKind;
+use pci_place::above::{Above, aboves};
+use pci_settle::extent::Extent;
+use pci_settle::list::Lists;
+use pci_settle::new_window::new_windows;
+use pci_settle::over::Left;
+use pci_settle::own::Terms;
+use pci_tree::admitted::Admitted;
+use std::alloc::Allocator;
+
+/// The new windows of a class, or the function of which that would have 2^64 addresses or more.
+fn class_windows<A: Allocator + Copy, B: Allocator>(
+    alloc: A,
+    admitted: &Admitted<B>,
+    class: WindowKind,
+    aboves: &[Above; BUSES],
+    terms: Terms,
+    staying: &Staying,
+    windows: &mut [Option<Extent>; BUSES],
+) -> Result<(), Refused<Unplaced>>
+    requires { AreAboves (system_in admitted.now) aboves.now }
+    ensures windows { OnOk result (HasWindowsOf admitted.now.roots (system_in admitted.now)
+        (kind_value class) terms staying.now windows.new) }
+    ensures lawful { AreWindows windows.new }
+    ensures fault { IfErr result (IsTooLargeOf admitted.now.roots (system_in admitted.now)
+        (kind_value class) terms staying.now) }
+{
+    match new_windows(
+        alloc,
+        admitted,
+        class,
+        aboves,
+        terms,
+        staying.left.over,
+        windows,
+    )? {
+        Some(function) => Err(Refused::Fault(Unplaced::TooLarge { class, function })),
+        None => Ok(()),
+    }
+}
+
+/// The new windows of a space.
+fn space_windows<A: Allocator + Copy, B: Allocator>(
+    alloc: A,
+    admitted: &Admitted<B>,
+    space: Space,
+    aboves: &[Above; BUSES],
+    terms: Terms,
+    staying: &Staying,
+) -> Result<SpaceWindows, Refused<Unplaced>>
+    requires { AreAboves (system_in admitted.now) aboves.now }
+    ensures windows { IfOk result (HasWindowsIn admitted.now.roots (system_in admitted.now)
+        (space_of space) terms staying.now) }
+    ensures lawful { IfOk result AreSpaceWindows }
+    ensures fault { IfErr result (IsTooLargeIn admitted.now.roots (system_in admitted.now)
+        (space_of space) terms staying.now) }
+{
+    let mut plain = [None; BUSES];
+    let mut prefetch = [None; BUSES];
+    match space {
+        Space::Io => {
+            class_windows(
+                alloc,
+                admitted,
+                WindowKind::Io,
+                aboves,
+                terms,
+                staying,
+                &mut plain,
+            )?;
+        }
+        Space::Mem => {
+            class_windows(
+                alloc,
+                admitted,
+                WindowKind::Memory,
+                aboves,
+                terms,
+                staying,
+                &mut plain,
+            )?;
+            let class = WindowKind::Prefetchable;
+            class_windows(
+                alloc,
+                admitted,
+                class,
+                aboves,
+                terms,
+                staying,
+                &mut prefetch,
+            )?;
+        }
+    }
+    Ok(SpaceWindows { plain, prefetch })
+}
+
+/// Places all of a space and notes it in a table that has none of it.
+fn place_in<A: Allocator + Copy, B: Allocator>(
+    alloc: A,
+    admitted: &Admitted<B>,
+    space: Space,
+    lists: &Lists,
+    aboves: &[Above; BUSES],
+    terms: Terms,
+    staying: &Staying,
+    table: &mut [Places],
+) -> Result<(), Refused<Unplaced>>
+    requires above { AreAboves (system_in admitted.now) aboves.now }
+    requires terms { AreTerms (lists_value lists.now) terms }
+    requires held { AreByLevel staying.now.held.now }
+    requires known { KnowsRequest admitted.now.roots (system_in admitted.now) (lists_value lists.now)
+        terms staying.now }
+    requires count { length table.old ≡ length (system_in admitted.now) }
+    requires none { HasNone (system_in admitted.now) (space_of space) table.old }
+    ensures placed { OnOk result (HasPlacesIn admitted.now.roots (system_in admitted.now)
+        (space_of space) (lists_value lists.now) terms staying.now table.new) }
+    ensures others { OnOk result (KeepsOthers (system_in admitted.now) (space_of space) table.old
+        table.new) }
+    ensures fault { IfErr result (IsUnplacedIn admitted.now.roots (system_in admitted.now)
+        (space_of space) (lists_value lists.now) terms staying.now) }
+{
+    let windows = space_windows(alloc, admitted, space, aboves, terms, staying)?;
+    match place_space(
+        alloc, admitted, space, lists, aboves, terms, staying, &windows, table,
+    )? {
+        Some(candidate) => Err(Refused::Fault(Unplaced::Lacks(candidate))),
+        None => Ok(()),
+    }
+}
+
+/// A table without any place.
+fn no_places<A: Allocator>(alloc: A, functions: usize) -> Result<Vec<Places, A>, OutOfMemory>
+    ensures count { IfOk result (λ table. length table.items ≡ functions) }
+    ensures none { IfOk result (λ table. AreAllNone table.items) }
+{
+    let mut table = Vec::new(alloc);
+    for _ in 0..functions {
+        table.push(Places::NONE)?;
+    }
+    Ok(table)
+}
+
+/// The addresses that all parts get that don't stay where they are, by function in slot order, or what can't be placed: in I/O
+/// space, or else in memory. `left` is what stays, and by which windows BARs have their classes.
+///
+/// A new window of 2^64 addresses or more is told also where its bridge keeps the one that it has.
+pub fn place<A: Allocator + Copy, B: Allocator>(
+    alloc: A,
+    admitted: &Admitted<B>,
+    lists: &Lists,
+    left: &Left,
+) -> Result<Vec<Places, A>, Refused<Unplaced>>
+    // it is what stays of something that is asked for
+    requires { CanBeLeft admitted.now.roots (system_in admitted.now) (lists_value lists.now) left.now }
+    ensures places { IfOk result (λ table. ArePlacesOff admitted.now.roots (system_in admitted.now)
+        (lists_value lists.now) left.now table.items) }
+    ensures fault { IfErr result (IsUnplacedOff admitted.now.roots (system_in admitted.now)
+        (lists_value lists.now) left.now) }
+{
+    let aboves = aboves(admitted);
+    let terms = Terms::of(lists);
+    let held = held_parts(alloc, admitted, lists, left.kept)?;
+    let staying = Staying {
+        left: *left,
+        held: held.as_slice(),
+    };
+    let mut table = no_places(alloc, admitted.outline().records().len())?;
+    let entries = table.as_mut_slice();
+    place_in(
+        alloc,
+        admitted,
+        Space::Io,
+        lists,
+        &aboves,
+        terms,
+        &staying,
+        entries,
+    )?;
+    place_in(
+        alloc,
+        admitted,
+        Space::Mem,
+        lists,
+        &aboves,
+        terms,
+        &staying,
+        entries,
+    )?;
+    Ok(table)
+}
