@@ -1,14 +1,12 @@
 //! What is taken on a bus by the parts that stay where they are.
 ghost use Rattle.std.specs.Prelude.{◌≡◌, ◌++◌, ◌≤◌, ◌<◌, IfOk, OnOk, length, map};
-ghost use Rattle.std.specs.List.{All, AllWithin, filter};
+ghost use Rattle.std.specs.List.{AllWithin, filter};
 ghost use Rattle.std.specs.List.Sorted.{IsPermutation, IsNonDecreasingBy};
-ghost use Rattle.settle_spec.specs.Parts.{same_space};
 ghost use Rattle.pci_base.specs.Space.{space_of};
 ghost use Rattle.pci_place.specs.Above.{system_in};
-ghost use Rattle.pci_settle.specs.Kept.{part_value, kept_of, nothing_kept};
 ghost use Rattle.pci_settle.specs.Lists.{lists_value};
 ghost use Rattle.pci_settle.specs.Spots.{AreListed};
-ghost use Rattle.pci_settled.specs.Held.{is_kept, held_of, held_level, held_range, is_on, IsForward, AreByLevel, AreHeldIn};
+ghost use Rattle.pci_settled.specs.Held.{is_kept, held_of, held_level, held_range, is_on, AreByLevel, AreHeldIn};
 
 use pci_base::memory::OutOfMemory;
 use pci_base::range::Range;

@@ -1,12 +1,11 @@
 //! The windows in which what is behind a bridge is placed: each is where it stays, or at its new place.
-ghost use Rattle.std.specs.Prelude.{◌≡◌, slice_index_or};
+ghost use Rattle.std.specs.Prelude.{◌≡◌};
 ghost use Rattle.std.specs.Option.{option_map};
 ghost use Rattle.pci_base.specs.Ranges.{decoded_range_of};
 ghost use Rattle.pci_base.specs.Space.{space_of};
 ghost use Rattle.pci_base.specs.WindowKinds.{kind_value};
 ghost use Rattle.pci_image.specs.Windows.{window_of};
 ghost use Rattle.pci_tree.specs.Passes.{range_in};
-ghost use Rattle.pci_settle.specs.Kept.{nothing_kept};
 ghost use Rattle.pci_settled.specs.Windows.{window_at, plain_of, prefetch_of};
 
 use crate::places::Places;
