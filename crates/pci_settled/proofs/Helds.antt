@@ -92,6 +92,13 @@ module _ (held : List Held) (n : ℕ) (space : Space) (i j : ℕ) (bound : i ≤
       (λ k d low within. other_level held n i j bound before after space (get_or held k d) (λ same. (let up = before k d (omega arith) low in let no : ⊥ = omega (arith, same, up) in no)))
       (λ k d high within. other_level held n i j bound before after space (get_or held k d) (λ same. (let up = after k d high within in let no : ⊥ = omega (arith, same, up) in no)))
 
+  -- so what is added of the row and then sorted is what is added of all
+  pub row_sorted : (old added new : List Range) → old ≡ [] → added ≡ old ++ map held_range (filter (is_on n space) (slice_range held i j)) → IsPermutation added new
+      → IsPermutation (map held_range (filter (is_on n space) held)) new
+  row_sorted old added new none put sorted =
+      subst (λ xs. IsPermutation xs new)
+      (put ∙ ap (λ xs. xs ++ map held_range (filter (is_on n space) (slice_range held i j))) none ∙ ap (map held_range) row_filter) sorted
+
 -- ---- parts of a system
 
 regions_by : (q p : Request) (s : System) → q.lists ≡ p.lists → regions q s ≡ regions p s
@@ -138,6 +145,12 @@ module _ (roots : List ℕ) (l : Lists) (s : System) (rs : List CodeRegion) (par
       let made : IsMade held_of (filter (is_kept kept) rs) h = in_map_to held_of (filter (is_kept kept) rs) h (Contains-permutation held chosen h (IsPermutation-sym chosen held same) listed) in
       let passed = in_filter_to (is_kept kept) rs made.from made.has in
       record { from = made.from; listed = passed.0; keeps = passed.1; is = made.is }
+
+  -- what is added of all parts and then sorted
+  pub chosen_sorted : (old added new : List Held) (slice : List CodeRegion) → old ≡ [] → slice ≡ rs → added ≡ old ++ map held_of (filter (is_kept kept) slice) → IsPermutation added new → IsPermutation chosen new
+  chosen_sorted old added new slice none all put sorted =
+      subst (λ xs. IsPermutation xs new)
+      (put ∙ ap (λ xs. xs ++ map held_of (filter (is_kept kept) slice)) none ∙ ap (λ xs. map held_of (filter (is_kept kept) xs)) all) sorted
 
   pub held_forward : (held : List Held) → IsPermutation chosen held → All IsForward held
   held_forward held same = λ k d low. (

@@ -1,10 +1,8 @@
-use Rattle.std.proofs.Common.{◌++◌, ◌∙◌, map, filter, sym, ap, subst}
-use Rattle.std.specs.List.Sorted.{IsPermutation}
+use Rattle.std.proofs.Common.{◌∙◌, sym}
 use Rattle.std.proofs.lemmas.Bool.{eqb-true}
 use Rattle.pci_place.specs.Above.{system_in}
 use Rattle.pci_settle.specs.Lists.{lists_value}
-use Rattle.pci_settled.specs.Held.{is_kept, held_of}
-use Rattle.pci_settled.proofs.Helds.{nothing_held, are_held, held_forward}
+use Rattle.pci_settled.proofs.Helds.{nothing_held, chosen_sorted, are_held, held_forward}
 use Rattle.pci_settled.proofs.held.held_parts.Goals as goal
 
 pub returns-then-is_empty-clause-held : goal.returns-then-is_empty-clause-held
@@ -14,19 +12,11 @@ returns-then-is_empty-clause-held g c =
 pub returns-clause-held : goal.returns-clause-held
 returns-clause-held g c = λ q rooted lists keeps.
     are_held c.args.admitted.now.roots (lists_value c.args.lists.now) (system_in c.args.admitted.now) c.in_ok-regions.regions.items c.in_ok-regions.ensures c.args.kept.now q rooted lists keeps c.sort_by_level.new.held.items
-    (subst (λ xs. IsPermutation xs c.sort_by_level.new.held.items)
-    (c.in_ok-add_held.ensures
-    ∙ ap (λ xs. xs ++ map held_of (filter (is_kept c.args.kept.now) c.as_slice.result.now)) c.new-held.ensures.items
-    ∙ ap (λ xs. map held_of (filter (is_kept c.args.kept.now) xs)) c.as_slice.ensures.value)
-    c.sort_by_level.ensures.permutation)
+    (chosen_sorted c.args.admitted.now.roots (lists_value c.args.lists.now) (system_in c.args.admitted.now) c.in_ok-regions.regions.items c.in_ok-regions.ensures c.args.kept.now _ _ c.sort_by_level.new.held.items c.as_slice.result.now c.new-held.ensures.items c.as_slice.ensures.value c.in_ok-add_held.ensures c.sort_by_level.ensures.permutation)
 
 pub returns-clause-order : goal.returns-clause-order
 returns-clause-order g c = record {
   order = c.sort_by_level.ensures.order;
   forward = held_forward c.args.admitted.now.roots (lists_value c.args.lists.now) (system_in c.args.admitted.now) c.in_ok-regions.regions.items c.in_ok-regions.ensures c.args.kept.now c.sort_by_level.new.held.items
-      (subst (λ xs. IsPermutation xs c.sort_by_level.new.held.items)
-      (c.in_ok-add_held.ensures
-      ∙ ap (λ xs. xs ++ map held_of (filter (is_kept c.args.kept.now) c.as_slice.result.now)) c.new-held.ensures.items
-      ∙ ap (λ xs. map held_of (filter (is_kept c.args.kept.now) xs)) c.as_slice.ensures.value)
-      c.sort_by_level.ensures.permutation);
+      (chosen_sorted c.args.admitted.now.roots (lists_value c.args.lists.now) (system_in c.args.admitted.now) c.in_ok-regions.regions.items c.in_ok-regions.ensures c.args.kept.now _ _ c.sort_by_level.new.held.items c.as_slice.result.now c.new-held.ensures.items c.as_slice.ensures.value c.in_ok-add_held.ensures c.sort_by_level.ensures.permutation);
 }

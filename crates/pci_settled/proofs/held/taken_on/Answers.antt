@@ -1,9 +1,6 @@
-use Rattle.std.proofs.Common.{◌≤◌, ◌++◌, ◌∙◌, rules, map, filter, ap, subst}
-use Rattle.std.specs.List.{slice_range}
-use Rattle.std.specs.List.Sorted.{IsPermutation}
+use Rattle.std.proofs.Common.{◌≤◌, rules}
 use Rattle.pci_base.specs.Space.{space_of}
-use Rattle.pci_settled.specs.Held.{held_range, is_on}
-use Rattle.pci_settled.proofs.Helds.{row_order, row_filter, taken_listed}
+use Rattle.pci_settled.proofs.Helds.{row_order, row_sorted, taken_listed}
 use Rattle.pci_settled.proofs.held.taken_on.Goals as goal
 
 pub slice_bounds-add_taken-count : goal.slice_bounds-add_taken-count
@@ -18,20 +15,12 @@ slice_bounds-add_taken-start g c =
 
 pub returns-clause-taken : goal.returns-clause-taken
 returns-clause-taken g c =
-    subst (λ xs. IsPermutation xs c.sort_by_first.new.taken.items)
-    (c.in_ok-add_taken.ensures
-    ∙ ap (λ xs. xs ++ map held_range (filter (is_on c.args.level (space_of c.args.space)) (slice_range c.args.held.now c.first_from-first.result c.first_from-end.result))) c.new-taken.ensures.items
-    ∙ ap (map held_range)
-    (row_filter c.args.held.now c.args.level (space_of c.args.space) c.first_from-first.result c.first_from-end.result c.first_from-first.ensures.bound c.first_from-first.ensures.before c.first_from-end.ensures.after))
-    c.sort_by_first.ensures.permutation
+    row_sorted c.args.held.now c.args.level (space_of c.args.space) c.first_from-first.result c.first_from-end.result c.first_from-first.ensures.bound c.first_from-first.ensures.before c.first_from-end.ensures.after
+    _ _ c.sort_by_first.new.taken.items c.new-taken.ensures.items c.in_ok-add_taken.ensures c.sort_by_first.ensures.permutation
 
 pub returns-clause-listed : goal.returns-clause-listed
 returns-clause-listed g c =
     taken_listed c.args.held.now c.args.level (space_of c.args.space) c.sort_by_first.new.taken.items
-    (subst (λ xs. IsPermutation xs c.sort_by_first.new.taken.items)
-    (c.in_ok-add_taken.ensures
-    ∙ ap (λ xs. xs ++ map held_range (filter (is_on c.args.level (space_of c.args.space)) (slice_range c.args.held.now c.first_from-first.result c.first_from-end.result))) c.new-taken.ensures.items
-    ∙ ap (map held_range)
-    (row_filter c.args.held.now c.args.level (space_of c.args.space) c.first_from-first.result c.first_from-end.result c.first_from-first.ensures.bound c.first_from-first.ensures.before c.first_from-end.ensures.after))
-    c.sort_by_first.ensures.permutation)
+    (row_sorted c.args.held.now c.args.level (space_of c.args.space) c.first_from-first.result c.first_from-end.result c.first_from-first.ensures.bound c.first_from-first.ensures.before c.first_from-end.ensures.after
+    _ _ c.sort_by_first.new.taken.items c.new-taken.ensures.items c.in_ok-add_taken.ensures c.sort_by_first.ensures.permutation)
     c.requires.forward c.sort_by_first.ensures.order
