@@ -49,6 +49,7 @@ pub record HasSettleWords (rows : List Row) (words : SettleWords) : Type 0 where
   pub io : first_of (codes "io") rows ≡ Some words.io.now
   pub mem : first_of (codes "mem") rows ≡ Some words.mem.now
   pub pref : first_of (codes "pref") rows ≡ Some words.pref.now
+  pub fixed : first_of (codes "fixed") rows ≡ word_of words.fixed
   pub anew : IsFlag (one_of (codes "anew") rows) words.anew
   pub writes : IsFlag (one_of (codes "writes") rows) words.writes
 

@@ -24,6 +24,8 @@ pub struct SettleWords<'a> {
     pub io: &'a str,
     pub mem: &'a str,
     pub pref: &'a str,
+    /// The list of slots whose functions may not be written, where there is one.
+    pub fixed: Option<&'a str>,
     /// Whether nothing is left where it stands.
     pub anew: bool,
     /// Whether the writes are asked for, and not the settled dump.

@@ -36,6 +36,9 @@ const WHY: &str = "why";
 /// The name of the option that asks for the writes of a plan or of settling.
 const WRITES: &str = "writes";
 
+/// The name of the option that lists the slots whose functions may not be written.
+const FIXED: &str = "fixed";
+
 /// The name of the option that leaves nothing where it stands.
 const ANEW: &str = "anew";
 
@@ -148,7 +151,7 @@ fn plan_command<'a>(alloc: Global) -> Result<Command<'a>, AllocError>
         .arg(word_arg(alloc, ROOT))
 }
 
-/// `pciplan settle DUMP PROBE --io LIST --mem LIST --pref LIST [--root LIST] [--anew] [--writes]`.
+/// `pciplan settle DUMP PROBE --io LIST --mem LIST --pref LIST [--root LIST] [--fixed SLOTS] [--anew] [--writes]`.
 fn settle_command<'a>(alloc: Global) -> Result<Command<'a>, AllocError>
     ensures app { IfOk result (λ command. app_of command ≡ settling) }
     ensures local { IfOk result (λ command. (out-Command command).has_globals ≡ false) }
@@ -158,6 +161,7 @@ fn settle_command<'a>(alloc: Global) -> Result<Command<'a>, AllocError>
         .arg(pool_arg(alloc, MEM))?
         .arg(pool_arg(alloc, PREF))?
         .arg(word_arg(alloc, ROOT))?
+        .arg(word_arg(alloc, FIXED))?
         .arg(flag_arg(alloc, ANEW))?
         .arg(flag_arg(alloc, WRITES))
 }
@@ -242,6 +246,7 @@ fn settle_words<'a>(found: &ArgMatches<'a>) -> Option<SettleWords<'a>>
         io: found.get_str(IO)?,
         mem: found.get_str(MEM)?,
         pref: found.get_str(PREF)?,
+        fixed: found.get_str(FIXED),
         anew: found.get_flag(ANEW),
         writes: found.get_flag(WRITES),
     })
