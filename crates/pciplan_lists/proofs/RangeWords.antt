@@ -11,10 +11,10 @@ use Rattle.pciplan_lists.proofs.PoolWords.{address_digit}
 use Rattle.pciplan_lists.proofs.Without.{Without, without_one, without_both, not_without}
 
 -- a byte that is no digit
-abbrev IsNoDigit : ℕ → Type 0
+abbrev pub IsNoDigit : ℕ → Type 0
 IsNoDigit byte = (d : ℕ) → hex_digit d ≢ byte
 
-no_comma : IsNoDigit 44
+pub no_comma : IsNoDigit 44
 no_comma = no_digit 44 (inl (omega arith))
 
 no_colon : IsNoDigit 58
@@ -30,7 +30,7 @@ without_pool byte none other word pool is = subst (λ w. Without byte w) (sym is
     (without_both byte is.first (45 ∷ is.last) (without_address byte none is.first pool.first is.from)
     (without_one byte 45 is.last other (without_address byte none is.last pool.last is.to)))
 
-without_byte : (byte : ℕ) → IsNoDigit byte → (bus : ℕ) → Without byte (hex_byte bus)
+pub without_byte : (byte : ℕ) → IsNoDigit byte → (bus : ℕ) → Without byte (hex_byte bus)
 without_byte byte none bus =
     without_one byte (hex_digit (bus / 16)) (hex_digit (bus % 16) ∷ []) (none (bus / 16))
     (without_one byte (hex_digit (bus % 16)) [] (none (bus % 16)) (λ i inside. absurd (omega (arith, inside))))

@@ -1,8 +1,9 @@
 //! Lists of ranges among the words.
-ghost use Rattle.std.specs.Prelude.{◌≡◌, ◌≢◌, ◌++◌, ◌<◌, List, slice_index, EachIndex, IfOk, IfSome, IsSomeAnd};
+ghost use Rattle.std.specs.Prelude.{◌≡◌, List, IfOk, IfSome, IsSomeAnd};
 ghost use Rattle.pci_base.specs.declared.range.RootRange.{RootRange};
-ghost use Rattle.pciplan_lists.specs.ListWords.{IsListWord, behind};
+ghost use Rattle.pciplan_lists.specs.ListWords.{IsListWord};
 
+use crate::part::first_of;
 use crate::range_word::range_of_word;
 use pci_base::memory::OutOfMemory;
 use pci_base::range::RootRange;
@@ -10,17 +11,6 @@ use std::alloc::Allocator;
 
 /// The word of a list that has no range.
 const NONE: &str = "none";
-
-/// What stands before the first comma, and what stands behind it where there is one.
-fn first_of(list: &str) -> (&str, Option<&str>)
-    ensures parts { list.now ≡ result.0.now ++ behind result.1 }
-    ensures first { EachIndex result.0.now (λ i. slice_index result.0.now i ≢ 44) }
-{
-    match list.split_once(',') {
-        Some((first, more)) => (first, Some(more)),
-        None => (list, None),
-    }
-}
 
 /// The ranges of a list, in its order: `none`, or words of ranges that are joined by commas. There are none of any other
 /// word.

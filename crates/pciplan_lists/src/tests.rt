@@ -1,7 +1,9 @@
 use crate::host_list::is_good_host_list;
 use crate::list_word::list_of_word;
+use crate::slot_list::slots_of_word;
 use pci_base::memory::OutOfMemory;
 use pci_base::range::{Range, RootRange};
+use pci_base::slot::Slot;
 use pci_tree::roots::Roots;
 use std::alloc::Global;
 
@@ -97,6 +99,39 @@ const HOST_LISTS: [(&str, bool); 18] = [
     ("00:1-2,40:1-2,3-4,41:5-6", false),
 ];
 
+/// Words of slots, and the slots: bus, device and function.
+const SLOT_LISTS: [(&str, &[(u8, u8, u8)]); 6] = [
+    ("00:02.0", &[(0x00, 0x02, 0)]),
+    ("ff:1f.7", &[(0xff, 0x1f, 7)]),
+    ("00:02.0,01:00.0", &[(0x00, 0x02, 0), (0x01, 0x00, 0)]),
+    ("00:02.0,00:02.1", &[(0x00, 0x02, 0), (0x00, 0x02, 1)]),
+    ("00:02.7,00:03.0", &[(0x00, 0x02, 7), (0x00, 0x03, 0)]),
+    (
+        "0a:00.0,0b:00.0,a0:10.5",
+        &[(0x0a, 0x00, 0), (0x0b, 0x00, 0), (0xa0, 0x10, 5)],
+    ),
+];
+
+/// Words of no slots.
+const NO_SLOTS: [&str; 16] = [
+    "",
+    ",",
+    "none",
+    "00:02.0,",
+    ",00:02.0",
+    "00:02.0,,01:00.0",
+    "00:02.0, 01:00.0",
+    "00:02.0,00:02.0",
+    "01:00.0,00:02.0",
+    "00:02.1,00:02.0",
+    "0A:00.0",
+    "00:20.0",
+    "00:02.8",
+    "0:02.0",
+    "00:02.0 ",
+    "0000:00:02.0",
+];
+
 /// The ranges as the table has them.
 fn same(list: &[RootRange], ranges: &[(Option<u8>, u64, u64)]) -> bool {
     list.len() == ranges.len()
@@ -120,6 +155,38 @@ fn has_ranges(
         Some(list) => same(&list, ranges),
         None => false,
     })
+}
+
+/// The slots as the table has them.
+fn same_slots(slots: &[Slot], numbers: &[(u8, u8, u8)]) -> bool {
+    slots.len() == numbers.len()
+        && slots.iter().zip(numbers).all(|(slot, (bus, dev, fun))| Slot::new(*bus, *dev, *fun)
+            == Some(*slot))
+}
+
+fn has_slots(alloc: Global, word: &str, numbers: &[(u8, u8, u8)]) -> Result<bool, OutOfMemory> {
+    Ok(match slots_of_word(alloc, word)? {
+        Some(slots) => same_slots(&slots, numbers),
+        None => false,
+    })
+}
+
+#[test]
+fn a_list_has_its_slots(rt: HostRuntime) {
+    for (word, numbers) in SLOT_LISTS {
+        assert!(rt; has_slots(rt.alloc(), word, numbers) == Ok(true), "{word}");
+    }
+}
+
+#[test]
+fn words_of_no_slots_are_refused(rt: HostRuntime) {
+    for word in NO_SLOTS {
+        let is_refused = match slots_of_word(rt.alloc(), word) {
+            Ok(slots) => slots.is_none(),
+            Err(OutOfMemory) => false,
+        };
+        assert!(rt; is_refused, "{word}");
+    }
 }
 
 #[test]

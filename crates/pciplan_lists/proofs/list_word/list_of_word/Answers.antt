@@ -2,8 +2,11 @@ use Rattle.std.proofs.Common.{◌≡◌, ◌≢◌, List, ℕ, Bool, false, ◌�
 use Rattle.std.specs.Str.{bytes_eq}
 use Rattle.std.proofs.lemmas.Slice.Eq.{slice_eq-Decides}
 use Rattle.std.proofs.lemmas.Bool.Decides.{Decides-eqb}
-use Rattle.pciplan_lists.specs.ListWords.{IsListWord, behind}
-use Rattle.pciplan_lists.proofs.ListWords.{IsRead, read_bad, read_more, read_all, read_only, to_ranges, none_only}
+use Rattle.pciplan_lists.specs.Joined.{behind}
+use Rattle.pciplan_lists.specs.ListWords.{IsRangeWord, IsListWord}
+use Rattle.pciplan_lists.proofs.Joined.{IsRead, read_bad, read_more}
+use Rattle.pciplan_lists.proofs.RangeWords.{without_comma}
+use Rattle.pciplan_lists.proofs.ListWords.{ranges_read, ranges_only, to_ranges, none_only}
 use Rattle.pciplan_lists.proofs.list_word.list_of_word.Goals as goal
 
 other_word : (word : List ℕ) (equal : Bool) → equal ≡ bytes_eq word (codes "none") → equal ≡ false → word ≢ codes "none"
@@ -21,7 +24,7 @@ returns-in_default-range_of_word-clause-only g c = λ list is.
     let other = other_word c.args.word.now c.eq.result c.eq.ensures c.if-eq.false in
     let text : behind c.parts.left ≡ 44 ∷ (c.first_of.result.0.now ++ behind c.first_of.result.1)
     = ap behind c.in-Some.is ∙ ap (λ t. 44 ∷ t) c.first_of.ensures.parts in
-    read_bad (44 ∷ c.args.word.now) (behind c.parts.left) c.first_of.result.0.now c.first_of.result.1 c.parts.list.items c.parts.invariant
+    read_bad IsRangeWord without_comma (44 ∷ c.args.word.now) (behind c.parts.left) c.first_of.result.0.now c.first_of.result.1 c.parts.list.items c.parts.invariant
     text c.first_of.ensures.first (λ r range. let none = c.in_default-range_of_word.ensures.only r range in absurd (cc none)) list
     (to_ranges c.args.word.now list other is)
 
@@ -29,18 +32,18 @@ pub parts-preserved : goal.parts-preserved
 parts-preserved g c =
     let text : behind c.parts.left ≡ 44 ∷ (c.first_of.result.0.now ++ behind c.first_of.result.1)
     = ap behind c.in-Some.is ∙ ap (λ t. 44 ∷ t) c.first_of.ensures.parts in
-    subst (λ l. IsRead (44 ∷ c.args.word.now) (behind c.first_of.result.1) l) (sym c.in_ok-push.ensures.items)
-    (read_more (44 ∷ c.args.word.now) (behind c.parts.left) c.first_of.result.0.now c.first_of.result.1 c.parts.list.items
+    subst (λ l. IsRead IsRangeWord without_comma (44 ∷ c.args.word.now) (behind c.first_of.result.1) l) (sym c.in_ok-push.ensures.items)
+    (read_more IsRangeWord without_comma (44 ∷ c.args.word.now) (behind c.parts.left) c.first_of.result.0.now c.first_of.result.1 c.parts.list.items
     c.in-Some-range_of_word.range c.parts.invariant text c.first_of.ensures.first c.in-Some-range_of_word.ensures.word
     (λ q range. let found = c.in-Some-range_of_word.ensures.only q range in cc found))
 
 pub returns-clause-word : goal.returns-clause-word
 returns-clause-word g c =
-    read_all c.args.word.now c.parts.list.items
-    (subst (λ t. IsRead (44 ∷ c.args.word.now) (behind t) c.parts.list.items) c.in_default.is c.parts.invariant)
+    ranges_read c.args.word.now c.parts.list.items
+    (subst (λ t. IsRead IsRangeWord without_comma (44 ∷ c.args.word.now) (behind t) c.parts.list.items) c.in_default.is c.parts.invariant)
 
 pub returns-clause-only : goal.returns-clause-only
 returns-clause-only g c = λ list is.
-    read_only c.args.word.now c.parts.list.items
-    (subst (λ t. IsRead (44 ∷ c.args.word.now) (behind t) c.parts.list.items) c.in_default.is c.parts.invariant)
+    ranges_only c.args.word.now c.parts.list.items
+    (subst (λ t. IsRead IsRangeWord without_comma (44 ∷ c.args.word.now) (behind t) c.parts.list.items) c.in_default.is c.parts.invariant)
     (other_word c.args.word.now c.eq.result c.eq.ensures c.if-eq.false) list is
