@@ -256,8 +256,7 @@ taken() {
     shift
     # shellcheck disable=SC2046
     case $command in
-    plan) set -- $(pools_but "${1-}") "$@" ;;
-    settle) set -- $(pools_but "${1-}") $([ "${1-}" = --anew ] || echo --anew) "$@" ;;
+    plan | settle) set -- $(pools_but "${1-}") "$@" ;;
     esac
     usr/bin/pciplan "$command" bare.txt bare_probe.txt "$@" >out 2>err
     ! grep -q '^pciplan: usage$' err
@@ -270,6 +269,7 @@ for command in $commands; do
         case $option in
         --root) word=00 ;;
         --model) word=power ;;
+        --fixed) word=00:02.0 ;;
         --pref) word=f0000000-ffffffff ;;
         *) word=1000-ffff ;;
         esac

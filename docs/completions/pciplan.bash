@@ -14,7 +14,7 @@ _pciplan() {
     faults) options='--host-io --host-mem --model --root --why' ;;
     map) options='--host-io --host-mem --model --root' ;;
     plan) options='--io --mem --pref --root --why --writes' ;;
-    settle) options='--anew --io --mem --pref --root --writes' ;;
+    settle) options='--anew --fixed --io --mem --pref --root --writes' ;;
     probe) options='--exact --least' ;;
     *) return ;;
     esac
@@ -23,7 +23,7 @@ _pciplan() {
     for ((at = 2; at < COMP_CWORD; at++)); do
         case $ended${COMP_WORDS[at]} in
         --) ended=. ;;
-        --root | --model | --host-io | --host-mem | --io | --mem | --pref)
+        --root | --model | --host-io | --host-mem | --io | --mem | --pref | --fixed)
             said+="${COMP_WORDS[at]} "
             [ "${COMP_WORDS[at + 1]}" != = ] || at=$((at + 1))
             at=$((at + 1))

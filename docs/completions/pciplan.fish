@@ -17,7 +17,7 @@ function __pciplan_wants_text
     set -l words (commandline -opc)
     contains -- "$words[2]" show check faults map size plan settle probe; or return
     set -e words[1..2]
-    set -l valued --root --model --host-io --host-mem --io --mem --pref
+    set -l valued --root --model --host-io --host-mem --io --mem --pref --fixed
     set -l texts 0
     set -l before ''
     for word in $words
@@ -41,7 +41,7 @@ complete -c pciplan -n __pciplan_wants_command -a faults -d 'List all faults at 
 complete -c pciplan -n __pciplan_wants_command -a map -d 'Print the address map'
 complete -c pciplan -n __pciplan_wants_command -a size -d 'Print the probe that sizing would read'
 complete -c pciplan -n __pciplan_wants_command -a plan -d 'Plan the addresses of a board'
-complete -c pciplan -n __pciplan_wants_command -a settle -d 'Settle a board in lists of ranges'
+complete -c pciplan -n __pciplan_wants_command -a settle -d 'Move what is at fault, within lists of ranges'
 complete -c pciplan -n __pciplan_wants_command -a probe -d 'Derive the probe from what Linux sized'
 complete -c pciplan -n '__pciplan_takes root check faults map plan settle' -l root -x -d 'Buses on which accesses of the host start'
 complete -c pciplan -n '__pciplan_takes model faults map' -l model -x -d 'Words by which functions are taken'
@@ -50,6 +50,7 @@ complete -c pciplan -n '__pciplan_takes host-mem faults map' -l host-mem -x -d '
 complete -c pciplan -n '__pciplan_takes io plan settle' -l io -x -d 'Pool or ranges of I/O addresses'
 complete -c pciplan -n '__pciplan_takes mem plan settle' -l mem -x -d 'Pool or ranges of memory addresses'
 complete -c pciplan -n '__pciplan_takes pref plan settle' -l pref -x -d 'Pool or ranges of prefetchable memory addresses'
+complete -c pciplan -n '__pciplan_takes fixed settle' -l fixed -x -d 'Slots that may not be written'
 complete -c pciplan -n '__pciplan_takes anew settle' -l anew -d 'Leave nothing where it stands'
 complete -c pciplan -n '__pciplan_takes writes plan settle' -l writes -d 'Print the register writes'
 complete -c pciplan -n '__pciplan_takes why faults plan' -l why -d 'Tell what stands behind a fault'

@@ -1,47 +1,49 @@
--- How settling ends where nothing is fixed: by its lists, by what lacks a place, or with the writes.
-use Rattle.std.proofs.Common.{◌≡◌, ℕ, List, [], ◌∷◌, Bool, true, false, refl, sym, ◌∙◌, ap, None}
+-- How settling ends: by its lists, by what is fixed, by what lacks a place, or with the writes.
+use Rattle.std.proofs.Common.{◌≡◌, List, true, false, Option, None, Some, sym, ◌∙◌, ap}
 use Rattle.std.specs.Bool.{if◌then◌else◌}
-use Rattle.std.specs.List.{find}
 use Rattle.pci_spec.specs.Machine.{Write}
-use Rattle.pci_spec.specs.System.{System}
-use Rattle.settle_spec.specs.Lists.{Lists, are_bad_lists}
-use Rattle.settle_spec.specs.Parts.{regions}
+use Rattle.pci_spec.specs.System.{System, register_of}
+use Rattle.settle_spec.specs.Lists.{Request, are_bad_lists}
+use Rattle.settle_spec.specs.Parts.{Region}
 use Rattle.settle_spec.specs.Stands.{stands}
 use Rattle.settle_spec.specs.Items.{stays}
 use Rattle.settle_spec.specs.Places.{lacking}
-use Rattle.settle_spec.specs.Writes.{Settling, BadLists, Settled, or_fixed, or_lack, or_write, fixed_without, fixed_write, settle_writes, settle}
-use Rattle.pci_settle_writes.specs.Requests.{all_anew}
+use Rattle.settle_spec.specs.Writes.{Settling, BadLists, Fixed, Settled, or_fixed, or_lack, or_write, fixed_without, fixed_write, settle_writes, settle}
+use Rattle.pci_settle_writes.specs.Endings.{then_writes, after_lists}
 
--- where nothing passes, nothing is found
-never : {X : Type 0} (xs : List X) → find (λ x. false) xs ≡ None
-never [] = refl
-never (x ∷ xs) = never xs
+module _ (q : Request) (s : System) where
+  pub ends_bad : are_bad_lists q.roots q.lists ≡ true → settle q s ≡ BadLists
+  ends_bad bad = ap (λ b. if b then BadLists else after_lists q s) bad
 
-module _ (roots : List ℕ) (l : Lists) (s : System) where
-  abbrev then_writes : List Write → Settling
-  then_writes writes = or_write (fixed_write (all_anew roots l) writes) (Settled writes)
+  pub ends_fine : are_bad_lists q.roots q.lists ≡ false → settle q s ≡ after_lists q s
+  ends_fine fine = ap (λ b. if b then BadLists else after_lists q s) fine
 
-  abbrev by_lists : Bool → Settling
-  by_lists bad = if bad then BadLists else or_lack (lacking (all_anew roots l) s) (Settled (settle_writes (all_anew roots l) s))
+  abbrev by_staying : Option Region → Settling
+  by_staying o = or_fixed o (or_lack (lacking q s) (then_writes q (settle_writes q s)))
 
-  pub ends : settle (all_anew roots l) s ≡ by_lists (are_bad_lists roots l)
-  ends =
-      let q = all_anew roots l in
-      let lack = lacking q s in
-      let writes = settle_writes q s in
-      let stand : fixed_without (stands q s) q s ≡ None = never (regions q s) in
-      let stay : fixed_without (stays q s) q s ≡ None = never (regions q s) in
-      let written : fixed_write q writes ≡ None = never writes in
-      ap (λ o. if are_bad_lists roots l then BadLists else or_fixed o (or_fixed (fixed_without (stays q s) q s) (or_lack lack (then_writes writes)))) stand
-      ∙ ap (λ o. if are_bad_lists roots l then BadLists else or_fixed o (or_lack lack (then_writes writes))) stay
-      ∙ ap (λ o. if are_bad_lists roots l then BadLists else or_lack lack (or_write o (Settled writes))) written
+  -- a fixed part doesn't stand
+  pub ends_unstanding : (r : Region) → fixed_without (stands q s) q s ≡ Some r → after_lists q s ≡ Fixed r.function.slot (register_of r.function r.part)
+  ends_unstanding r is = ap (λ o. or_fixed o (by_staying (fixed_without (stays q s) q s))) is
 
-  pub ends_bad : are_bad_lists roots l ≡ true → settle (all_anew roots l) s ≡ BadLists
-  ends_bad bad = ends ∙ ap by_lists bad
+  module _ (stand : fixed_without (stands q s) q s ≡ None) where
+    past_standing : after_lists q s ≡ by_staying (fixed_without (stays q s) q s)
+    past_standing = ap (λ o. or_fixed o (by_staying (fixed_without (stays q s) q s))) stand
 
-  pub ends_fine : are_bad_lists roots l ≡ false → settle (all_anew roots l) s ≡ or_lack (lacking (all_anew roots l) s) (Settled (settle_writes (all_anew roots l) s))
-  ends_fine fine = ends ∙ ap by_lists fine
+    -- a fixed part doesn't stay
+    pub ends_unstaying : (r : Region) → fixed_without (stays q s) q s ≡ Some r → after_lists q s ≡ Fixed r.function.slot (register_of r.function r.part)
+    ends_unstaying r is = past_standing ∙ ap by_staying is
 
-  -- nothing lacks a place
-  pub ends_settled : are_bad_lists roots l ≡ false → lacking (all_anew roots l) s ≡ None → (writes : List Write) → writes ≡ settle_writes (all_anew roots l) s → settle (all_anew roots l) s ≡ Settled writes
-  ends_settled fine none writes are = ends_fine fine ∙ ap (λ o. or_lack o (Settled (settle_writes (all_anew roots l) s))) none ∙ ap Settled (sym are)
+    module _ (stay : fixed_without (stays q s) q s ≡ None) where
+      pub past_fixed : after_lists q s ≡ or_lack (lacking q s) (then_writes q (settle_writes q s))
+      past_fixed = past_standing ∙ ap by_staying stay
+
+      -- nothing lacks a place
+      module _ (room : lacking q s ≡ None) (writes : List Write) (are : writes ≡ settle_writes q s) where
+        past_room : after_lists q s ≡ then_writes q writes
+        past_room = past_fixed ∙ ap (λ o. or_lack o (then_writes q (settle_writes q s))) room ∙ ap (then_writes q) (sym are)
+
+        pub ends_written : (w : Write) → fixed_write q writes ≡ Some w → after_lists q s ≡ Fixed w.slot w.offset
+        ends_written w is = past_room ∙ ap (λ o. or_write o (Settled writes)) is
+
+        pub ends_settled : fixed_write q writes ≡ None → after_lists q s ≡ Settled writes
+        ends_settled none = past_room ∙ ap (λ o. or_write o (Settled writes)) none

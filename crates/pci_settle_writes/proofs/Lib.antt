@@ -7,7 +7,7 @@ pub mod Closings
 pub mod SettledDumps
 pub mod Lacking
 pub mod Endings
-pub mod AllAnew
+pub mod HeldTables
 pub mod Refusals
 pub mod Firsts
 pub mod FixedParts

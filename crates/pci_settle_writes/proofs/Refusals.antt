@@ -1,49 +1,133 @@
 -- What lacks a place is named, and settling ends so.
-use Rattle.std.proofs.Common.{◌≡◌, ℕ, List, false, sym, ◌∙◌, ap, subst}
-use Rattle.pci_spec.specs.System.{System, IsSystem}
-use Rattle.settle_spec.specs.Lists.{Lists, are_bad_lists}
-use Rattle.settle_spec.specs.Writes.{Settled, settle_writes, or_lack}
+use Rattle.std.proofs.Common.{◌≡◌, ℕ, List, Option, None, Some, false, refl, sym, ◌∙◌, ap, subst}
+use Rattle.std.specs.Option.{option_map}
+use Rattle.std.proofs.lemmas.Bool.{false≢true}
+use Rattle.std.proofs.lemmas.Option.{none-some, same_Some}
+use Rattle.pci_spec.specs.Machine.{Write}
+use Rattle.pci_spec.specs.System.{System, IsSystem, Memory, window_space}
+use Rattle.settle_spec.specs.Lists.{Lists, Request, are_bad_lists}
+use Rattle.settle_spec.specs.Parts.{Region}
+use Rattle.settle_spec.specs.Stands.{stands}
+use Rattle.settle_spec.specs.Items.{stays}
+use Rattle.settle_spec.specs.Places.{lacking}
+use Rattle.settle_spec.specs.Writes.{Settled, or_lack, fixed_without, fixed_write, settle_writes}
 use Rattle.pci_base.specs.declared.memory.Refused.{Refused}
 use Rattle.pci_base.specs.declared.memory.Refused.TheVariants as refused
+use Rattle.pci_base.specs.declared.window_kind.WindowKind.{WindowKind as Class}
 use Rattle.pci_base.specs.WindowKinds.{kind_value}
 use Rattle.pci_tree.specs.Admission.{Admission}
 use Rattle.pci_place.specs.Above.{system_in}
+use Rattle.pci_settle.specs.declared.over.Left.{Left}
+use Rattle.pci_settle.specs.NewWindows.{IsTooLarge}
 use Rattle.pci_settled.specs.declared.anew.Unplaced.{Unplaced}
 use Rattle.pci_settled.specs.declared.anew.Unplaced.TheVariants as unplaced
-use Rattle.pci_settled.specs.Anew.{IsFirstTooLarge, IsUnplaced}
+use Rattle.pci_settled.specs.Placed.{CanBeLeft, IsUnplacedOff}
 use Rattle.pci_settle_writes.specs.declared.lack.SettleFault.{SettleFault}
 use Rattle.pci_settle_writes.specs.declared.lack.SettleFault.TheVariants as fault
-use Rattle.pci_settle_writes.specs.Requests.{all_anew}
 use Rattle.pci_settle_writes.specs.Lacks.{IsNamed, IsFaultOf}
-use Rattle.pci_settle_writes.specs.Endings.{IsLack, IsRefusal}
-use Rattle.pci_settle_writes.proofs.AllAnew.{anew_in}
+use Rattle.pci_settle_writes.specs.Fixed.{fixed_part, fixed_register}
+use Rattle.pci_settle_writes.specs.Endings.{then_writes, after_lists, IsTooLargeAsked, IsLack, IsLackOff, IsEndedBy, IsRefusal}
 use Rattle.pci_settle_writes.proofs.Lacking.{lack_named}
-use Rattle.pci_settle_writes.proofs.Endings.{ends_fine}
+use Rattle.pci_settle_writes.proofs.Endings.{ends_fine, ends_unstanding, ends_unstaying, ends_written, ends_settled, past_fixed}
 
-module _ (roots : List ℕ) (l : Lists) where
-  pub named : (s : System) → IsSystem s → (u : Unplaced) → IsUnplaced roots s l (refused.Fault u) → IsNamed s u
-  named s system (unplaced.Lacks x) is = lack_named s system x (all_anew roots l) (is (all_anew roots l) (anew_in roots l))
-  named s system (unplaced.TooLarge class k) is = (is (all_anew roots l) (anew_in roots l)).large.within
+module _ (roots : List ℕ) (l : Lists) (left : Left) where
+  pub named : (s : System) → IsSystem s → CanBeLeft roots s l left → (u : Unplaced) → IsUnplacedOff roots s l left (refused.Fault u) → IsNamed s u
+  named s system can (unplaced.Lacks x) is = lack_named s system x can.request (is can.request can.leaving)
+  named s system can (unplaced.TooLarge class k) is = (is can.request can.leaving).large.within
 
-module _ (a : Admission) (l : Lists) where
-  pub lack_of_fault : (u : Unplaced) (f : SettleFault) → IsUnplaced a.roots (system_in a) l (refused.Fault u) → IsFaultOf (system_in a) u f → IsLack a l (refused.Fault f)
+-- what isn't found
+pub none_found : {X Z : Type 0} (f : X → Z) (o : Option X) → None ≡ option_map f o → o ≡ None
+none_found f None e = refl
+none_found f (Some x) e = absurd (none-some (f x) e)
+
+module _ (a : Admission) (l : Lists) (left : Left) where
+  pub lack_of_fault : (u : Unplaced) (f : SettleFault) → IsUnplacedOff a.roots (system_in a) l left (refused.Fault u) → IsFaultOf (system_in a) u f
+      → IsLackOff a l left (refused.Fault f)
   lack_of_fault (unplaced.Lacks x) fault.BadLists is of = absurd of
-  lack_of_fault (unplaced.Lacks x) (fault.NoRoom lack) is of = λ other. ap (λ o. or_lack o other) (is (all_anew a.roots l) (anew_in a.roots l)) ∙ of other
+  lack_of_fault (unplaced.Lacks x) (fault.NoRoom lack) is of = λ q leaving other. ap (λ o. or_lack o other) (is q leaving) ∙ of other
   lack_of_fault (unplaced.Lacks x) (fault.TooLarge class slot) is of = absurd of
   lack_of_fault (unplaced.Lacks x) (fault.Fixed slot reg) is of = absurd of
   lack_of_fault (unplaced.TooLarge class k) (fault.Fixed slot reg) is of = absurd of
   lack_of_fault (unplaced.TooLarge class k) fault.BadLists is of = absurd of
   lack_of_fault (unplaced.TooLarge class k) (fault.NoRoom lack) is of = absurd of
-  lack_of_fault (unplaced.TooLarge class k) (fault.TooLarge name slot) is of = record {
+  lack_of_fault (unplaced.TooLarge class k) (fault.TooLarge name slot) is of = λ q leaving. record {
     function = k;
     is = of.1;
-    first = subst (λ c. IsFirstTooLarge (all_anew a.roots l) (system_in a) (kind_value c) k) (sym of.0) (is (all_anew a.roots l) (anew_in a.roots l));
+    large = subst (λ c. IsTooLarge q (system_in a) (kind_value c) k) (sym of.0) (is q leaving).large;
+    io = λ anew memory. (is q leaving).io (subst (λ c. window_space (kind_value c) ≡ Memory) of.0 memory);
   }
 
+module _ (a : Admission) (q : Request) where
+  -- a bridge whose new window is too large, where something may stay
+  pub asked_too_large : (class : Class) (k : ℕ) (f : SettleFault) → q.anew ≡ false → IsTooLarge q (system_in a) (kind_value class) k
+      → IsFaultOf (system_in a) (unplaced.TooLarge class k) f → IsTooLargeAsked a q (refused.Fault f)
+  asked_too_large class k fault.BadLists stands large of = absurd of
+  asked_too_large class k (fault.NoRoom lack) stands large of = absurd of
+  asked_too_large class k (fault.Fixed slot reg) stands large of = absurd of
+  asked_too_large class k (fault.TooLarge name slot) stands large of = record {
+    function = k;
+    is = of.1;
+    large = subst (λ c. IsTooLarge q (system_in a) (kind_value c) k) (sym of.0) large;
+    io = λ anew. absurd (false≢true (sym stands ∙ anew));
+  }
+
+  pub ended_too_large : (e : Refused SettleFault) → IsTooLargeAsked a q e → IsEndedBy a q e
+  ended_too_large refused.Memory is = tt
+  ended_too_large (refused.Fault fault.BadLists) is = absurd is
+  ended_too_large (refused.Fault (fault.NoRoom lack)) is = absurd is
+  ended_too_large (refused.Fault (fault.TooLarge class slot)) is = is
+  ended_too_large (refused.Fault (fault.Fixed slot reg)) is = absurd is
+
+  -- something fixed is in the way
+  ended_fixed : (f : SettleFault) (r : Region) → Some f ≡ Some (fixed_part r) → IsEndedBy a q (refused.Fault (fixed_part r)) → IsEndedBy a q (refused.Fault f)
+  ended_fixed f r e is = subst (λ x. IsEndedBy a q (refused.Fault x)) (sym (same_Some f (fixed_part r) e)) is
+
+  unstanding_by : (f : SettleFault) (o : Option Region) → fixed_without (stands q (system_in a)) q (system_in a) ≡ o → Some f ≡ option_map fixed_part o → IsEndedBy a q (refused.Fault f)
+  unstanding_by f None at e = absurd (none-some f (sym e))
+  unstanding_by f (Some r) at e = ended_fixed f r e (ends_unstanding q (system_in a) r at)
+
+  pub unstanding : (f : SettleFault) → Some f ≡ option_map fixed_part (fixed_without (stands q (system_in a)) q (system_in a)) → IsEndedBy a q (refused.Fault f)
+  unstanding f e = unstanding_by f (fixed_without (stands q (system_in a)) q (system_in a)) refl e
+
+  module _ (stand : None ≡ option_map fixed_part (fixed_without (stands q (system_in a)) q (system_in a))) where
+    unstaying_by : (f : SettleFault) (o : Option Region) → fixed_without (stays q (system_in a)) q (system_in a) ≡ o → Some f ≡ option_map fixed_part o → IsEndedBy a q (refused.Fault f)
+    unstaying_by f None at e = absurd (none-some f (sym e))
+    unstaying_by f (Some r) at e = ended_fixed f r e (ends_unstaying q (system_in a) (none_found fixed_part (fixed_without (stands q (system_in a)) q (system_in a)) stand) r at)
+
+    pub unstaying : (f : SettleFault) → Some f ≡ option_map fixed_part (fixed_without (stays q (system_in a)) q (system_in a)) → IsEndedBy a q (refused.Fault f)
+    unstaying f e = unstaying_by f (fixed_without (stays q (system_in a)) q (system_in a)) refl e
+
+    module _ (stay : None ≡ option_map fixed_part (fixed_without (stays q (system_in a)) q (system_in a))) where
+      stand_none : fixed_without (stands q (system_in a)) q (system_in a) ≡ None
+      stand_none = none_found fixed_part (fixed_without (stands q (system_in a)) q (system_in a)) stand
+
+      stay_none : fixed_without (stays q (system_in a)) q (system_in a) ≡ None
+      stay_none = none_found fixed_part (fixed_without (stays q (system_in a)) q (system_in a)) stay
+
+      pub ended_of_lack : (e : Refused SettleFault) → IsLack a q e → IsEndedBy a q e
+      ended_of_lack refused.Memory is = tt
+      ended_of_lack (refused.Fault fault.BadLists) is = absurd is
+      ended_of_lack (refused.Fault (fault.NoRoom lack)) is =
+          past_fixed q (system_in a) stand_none stay_none ∙ is (then_writes q (settle_writes q (system_in a)))
+      ended_of_lack (refused.Fault (fault.TooLarge class slot)) is = is
+      ended_of_lack (refused.Fault (fault.Fixed slot reg)) is = absurd is
+
+      module _ (room : lacking q (system_in a) ≡ None) (writes : List Write) (are : writes ≡ settle_writes q (system_in a)) where
+        written_by : (f : SettleFault) (o : Option Write) → fixed_write q writes ≡ o → Some f ≡ option_map fixed_register o → IsEndedBy a q (refused.Fault f)
+        written_by f None at e = absurd (none-some f (sym e))
+        written_by f (Some w) at e = subst (λ x. IsEndedBy a q (refused.Fault x)) (sym (same_Some f (fixed_register w) e))
+            (ends_written q (system_in a) stand_none stay_none room writes are w at)
+
+        pub written : (f : SettleFault) → Some f ≡ option_map fixed_register (fixed_write q writes) → IsEndedBy a q (refused.Fault f)
+        written f e = written_by f (fixed_write q writes) refl e
+
+        pub ended_settled : None ≡ option_map fixed_register (fixed_write q writes) → after_lists q (system_in a) ≡ Settled writes
+        ended_settled none = ends_settled q (system_in a) stand_none stay_none room writes are (none_found fixed_register (fixed_write q writes) none)
+
   -- where the lists are fine
-  pub refusal_of_lack : are_bad_lists a.roots l ≡ false → (e : Refused SettleFault) → IsLack a l e → IsRefusal a l e
-  refusal_of_lack fine refused.Memory is = tt
-  refusal_of_lack fine (refused.Fault fault.BadLists) is = absurd is
-  refusal_of_lack fine (refused.Fault (fault.NoRoom lack)) is = ends_fine a.roots l (system_in a) fine ∙ is (Settled (settle_writes (all_anew a.roots l) (system_in a)))
-  refusal_of_lack fine (refused.Fault (fault.TooLarge class slot)) is = (fine, is)
-  refusal_of_lack fine (refused.Fault (fault.Fixed slot reg)) is = absurd is
+  pub refusal_of_ended : are_bad_lists q.roots q.lists ≡ false → (e : Refused SettleFault) → IsEndedBy a q e → IsRefusal a q e
+  refusal_of_ended fine refused.Memory is = tt
+  refusal_of_ended fine (refused.Fault fault.BadLists) is = absurd is
+  refusal_of_ended fine (refused.Fault (fault.NoRoom lack)) is = ends_fine q (system_in a) fine ∙ is
+  refusal_of_ended fine (refused.Fault (fault.TooLarge class slot)) is = (fine, is)
+  refusal_of_ended fine (refused.Fault (fault.Fixed slot reg)) is = ends_fine q (system_in a) fine ∙ is

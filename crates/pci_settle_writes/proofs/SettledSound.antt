@@ -1,7 +1,8 @@
 -- What settling comes to is sound, and its writes may stop, as the laws have it of what was placed.
-use Rattle.std.proofs.Common.{◌≡◌, ◌≤◌, ◌⊎◌, ◌<◌, ◌^◌, ℕ, List, false, None, map, take, length, sym, ◌∙◌, ap, subst}
+use Rattle.std.proofs.Common.{◌≡◌, ◌≤◌, ◌⊎◌, ◌<◌, ◌^◌, ℕ, List, Bool, false, None, map, take, length, sym, ◌∙◌, ap, subst}
 use Rattle.std.specs.List.{All, Contains}
 use Rattle.std.proofs.lemmas.List.Elements.{All-contains, All-map}
+use Rattle.pci_spec.specs.Slot.{Slot}
 use Rattle.pci_spec.specs.Text.{Block}
 use Rattle.pci_spec.specs.Sound.{IsSound}
 use Rattle.pci_spec.specs.System.{system_of}
@@ -18,12 +19,13 @@ use Rattle.pci_base.specs.declared.range.RootRange.{RootRange as CodeRange}
 use Rattle.pci_settle.specs.Lists.{root_range_value}
 use Rattle.pci_tree.specs.Admission.{Admission, IsAdmitted}
 use Rattle.pci_place.specs.Above.{system_in}
-use Rattle.pci_settle_writes.specs.Requests.{all_anew}
+use Rattle.pci_settle_writes.specs.Requests.{request}
 use Rattle.pci_settle_writes.specs.Dumps.{IsSettledDump}
 
 module _ (a : Admission) (admitted : IsAdmitted a) (l : Lists) (fine : are_bad_lists a.roots l ≡ false) (ranges : List CodeRange) (are_ranges : l.prefetch ≡ map root_range_value ranges)
-    (small : All (λ r. r.range.last < 2 ^ 64) ranges) (room : lacking (all_anew a.roots l) (system_in a) ≡ None) where
-  can : CanSettle (all_anew a.roots l) (system_in a)
+    (small : All (λ r. r.range.last < 2 ^ 64) ranges) (fixed : List Slot) (anew : Bool)
+    (room : lacking (request a.roots l fixed anew) (system_in a) ≡ None) where
+  can : CanSettle (request a.roots l fixed anew) (system_in a)
   can = record {
     lists = fine;
     high = λ r inside. All-contains (λ (x : RootRange). x.range.last < 2 ^ 64) (map root_range_value ranges) r
@@ -35,21 +37,21 @@ module _ (a : Admission) (admitted : IsAdmitted a) (l : Lists) (fine : are_bad_l
     room = room;
   }
 
-  module _ (dump : List Block) (is : IsSettledDump (all_anew a.roots l) a dump) where
+  module _ (dump : List Block) (is : IsSettledDump (request a.roots l fixed anew) a dump) where
     pub dump_sound : IsSound a.roots (system_of dump a.probe)
-    dump_sound = subst (IsSound a.roots) (sym is.system) (settled_sound (all_anew a.roots l) (system_in a) can)
+    dump_sound = subst (IsSound a.roots) (sym is.system) (settled_sound (request a.roots l fixed anew) (system_in a) can)
 
-    module _ (writes : List Write) (are : writes ≡ settle_writes (all_anew a.roots l) (system_in a)) where
+    module _ (writes : List Write) (are : writes ≡ settle_writes (request a.roots l fixed anew) (system_in a)) where
       pub writes_reach : system_after (system_in a) writes ≡ system_of dump a.probe
       writes_reach =
-          let q = all_anew a.roots l in
+          let q = request a.roots l fixed anew in
           let s = system_in a in
           ap (system_after s) are ∙ writes_settle q s (are_settling q s can.system can.profile (new_profile q s can)) can.nested ∙ sym is.system
 
-      pub writes_stop : (count : ℕ) → count ≡ length (closings (all_anew a.roots l) (system_in a) (system_in a)) → (k : ℕ)
+      pub writes_stop : (count : ℕ) → count ≡ length (closings (request a.roots l fixed anew) (system_in a) (system_in a)) → (k : ℕ)
           → (count ≤ k) ⊎ IsSound a.roots (system_in a) → IsSound a.roots (system_after (system_in a) (take k writes))
       writes_stop count counted k from =
-          let q = all_anew a.roots l in
+          let q = request a.roots l fixed anew in
           let s = system_in a in
           subst (λ ws. IsSound a.roots (system_after s (take k ws))) (sym are)
           (stop_sound q s (are_settling q s can.system can.profile (new_profile q s can)) can.nested can.profile can.chains (settled_sound q s can) k

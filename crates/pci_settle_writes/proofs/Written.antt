@@ -1,14 +1,15 @@
 -- What settling comes to are its writes.
-use Rattle.std.proofs.Common.{◌≡◌, ℕ, List, [], Bool, true, false, sym, ◌∙◌, ap, Option, None, Some}
+use Rattle.std.proofs.Common.{◌≡◌, List, [], Bool, true, false, ap, Option, None, Some}
 use Rattle.std.specs.Bool.{if◌then◌else◌}
 use Rattle.pci_spec.specs.Machine.{Write}
 use Rattle.pci_spec.specs.System.{System}
-use Rattle.settle_spec.specs.Lists.{Lists, are_bad_lists}
-use Rattle.settle_spec.specs.Items.{Item}
+use Rattle.settle_spec.specs.Lists.{Request, are_bad_lists}
+use Rattle.settle_spec.specs.Parts.{Region}
+use Rattle.settle_spec.specs.Stands.{stands}
+use Rattle.settle_spec.specs.Items.{Item, stays}
 use Rattle.settle_spec.specs.Places.{lacking}
-use Rattle.settle_spec.specs.Writes.{Settling, BadLists, Fixed, NoRoom, Settled, or_lack, settle_writes, settle}
-use Rattle.pci_settle_writes.specs.Requests.{all_anew}
-use Rattle.pci_settle_writes.proofs.Endings.{ends}
+use Rattle.settle_spec.specs.Writes.{Settling, BadLists, Fixed, NoRoom, Settled, or_fixed, or_lack, or_write, fixed_without, fixed_write, settle_writes, settle}
+use Rattle.pci_settle_writes.specs.Endings.{then_writes, after_lists}
 
 said : Settling → List Write
 said BadLists = []
@@ -20,14 +21,24 @@ from_lists : (bad : Bool) (other : Settling) (writes : List Write) → (if bad t
 from_lists true other writes is = cc
 from_lists false other writes is = is
 
+from_fixed : (o : Option Region) (other : Settling) (writes : List Write) → or_fixed o other ≡ Settled writes → other ≡ Settled writes
+from_fixed None other writes is = is
+from_fixed (Some r) other writes is = cc
+
 from_lack : (o : Option Item) (other : Settling) (writes : List Write) → or_lack o other ≡ Settled writes → other ≡ Settled writes
 from_lack None other writes is = is
 from_lack (Some i) other writes is = cc
 
-pub settled_writes : (roots : List ℕ) (l : Lists) (s : System) (writes : List Write) → settle (all_anew roots l) s ≡ Settled writes
-    → settle_writes (all_anew roots l) s ≡ writes
+from_write : (o : Option Write) (other : Settling) (writes : List Write) → or_write o other ≡ Settled writes → other ≡ Settled writes
+from_write None other writes is = is
+from_write (Some w) other writes is = cc
+
+pub settled_writes : (q : Request) (s : System) (writes : List Write) → settle q s ≡ Settled writes → settle_writes q s ≡ writes
 unfolding said
-settled_writes roots l s writes is =
-    let all = Settled (settle_writes (all_anew roots l) s) in
-    let lack = lacking (all_anew roots l) s in
-    ap said (from_lack lack all writes (from_lists (are_bad_lists roots l) (or_lack lack all) writes (sym (ends roots l s) ∙ is)))
+settled_writes q s writes is =
+    let all : List Write = settle_writes q s in
+    let lack : Settling = or_lack (lacking q s) (then_writes q all) in
+    let stay : Settling = or_fixed (fixed_without (stays q s) q s) lack in
+    ap said (from_write (fixed_write q all) (Settled all) writes (from_lack (lacking q s) (then_writes q all) writes
+    (from_fixed (fixed_without (stays q s) q s) lack writes (from_fixed (fixed_without (stands q s) q s) stay writes
+    (from_lists (are_bad_lists q.roots q.lists) (after_lists q s) writes is)))))

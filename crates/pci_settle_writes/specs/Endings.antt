@@ -1,43 +1,111 @@
--- Why nothing is settled where nothing stands.
-use Rattle.std.specs.Prelude.{◌≡◌, ℕ, IsFalse, ⊤}
+-- How settling ends once its lists are fine, and why nothing is settled.
+use Rattle.std.specs.Prelude.{◌≡◌, ℕ, Bool, IsTrue, IsFalse, List, None, ⊤}
 use Rattle.pci_spec.specs.Slot.{Slot}
+use Rattle.pci_spec.specs.Text.{Block}
 use Rattle.pci_spec.specs.Window.{WindowKind}
-use Rattle.settle_spec.specs.Lists.{Lists, are_bad_lists}
+use Rattle.pci_spec.specs.System.{System, Io, Memory, window_space}
+use Rattle.pci_spec.specs.Machine.{Write}
+use Rattle.settle_spec.specs.Lists.{Lists, Request, are_bad_lists}
+use Rattle.settle_spec.specs.Stands.{stands}
+use Rattle.settle_spec.specs.Items.{stays}
 use Rattle.settle_spec.specs.Places.{lacking}
-use Rattle.settle_spec.specs.Writes.{Settling, BadLists, or_lack, settle}
+use Rattle.settle_spec.specs.Writes.{Settling, BadLists, Settled, or_fixed, or_lack, or_write, fixed_without, fixed_write, settle_writes, settle}
+use Rattle.settle_spec.specs.Writes as spec
 use Rattle.pci_base.specs.declared.memory.Refused.{Refused}
 use Rattle.pci_base.specs.declared.memory.Refused.TheVariants as refused
 use Rattle.pci_base.specs.WindowKinds.{kind_value}
 use Rattle.pci_tree.specs.Admission.{Admission}
 use Rattle.pci_place.specs.Above.{system_in}
 use Rattle.pci_place.specs.Items.{function_in}
-use Rattle.pci_settled.specs.Anew.{IsFirstTooLarge}
+use Rattle.pci_settle.specs.declared.kept.Kept.{Kept}
+use Rattle.pci_settle.specs.declared.over.Left.{Left}
+use Rattle.pci_settle.specs.NewWindows.{IsTooLarge}
+use Rattle.pci_stand.specs.Flags.{AreFlags}
+use Rattle.pci_settled.specs.Spaces.{space_lack}
+use Rattle.pci_settled.specs.Placed.{IsLeaving}
 use Rattle.pci_settle_writes.specs.declared.lack.SettleFault.{SettleFault}
 use Rattle.pci_settle_writes.specs.declared.lack.SettleFault.TheVariants as fault
-use Rattle.pci_settle_writes.specs.Requests.{all_anew}
+use Rattle.pci_settle_writes.specs.Requests.{IsAskedOf}
+use Rattle.pci_settle_writes.specs.Told.{IsTableOf}
+use Rattle.pci_settle_writes.specs.Dumps.{IsSettledBy}
 use Rattle.pci_settle_writes.specs.Lacks.{no_room}
 
--- the function at a slot has a new window of a class with 2^64 addresses or more
-pub record IsTooLargeAt (a : Admission) (l : Lists) (c : WindowKind) (slot : Slot) : Type 0 where
+-- ---- once the lists are fine
+
+-- how it ends where nothing fixed is in the way: some writes are made, none to what is fixed
+abbrev pub then_writes : Request → List Write → Settling
+then_writes q writes = or_write (fixed_write q writes) (Settled writes)
+
+abbrev pub after_lists : Request → System → Settling
+after_lists q s =
+    or_fixed (fixed_without (stands q s) q s) (or_fixed (fixed_without (stays q s) q s)
+    (or_lack (lacking q s) (then_writes q (settle_writes q s))))
+
+-- the function at a slot has a new window of a class with 2^64 addresses or more; where all is placed anew, and it is one of
+-- memory, nothing lacks a place in I/O
+pub record IsTooLargeAt (a : Admission) (q : Request) (c : WindowKind) (slot : Slot) : Type 0 where
   pub function : ℕ
   pub is : slot ≡ (function_in (system_in a) function).slot
-  pub first : IsFirstTooLarge (all_anew a.roots l) (system_in a) c function
+  pub large : IsTooLarge q (system_in a) c function
+  pub io : IsTrue q.anew → window_space c ≡ Memory → space_lack q (system_in a) Io q.roots ≡ None
 
 -- something has no place
-abbrev pub IsLack : Admission → Lists → Refused SettleFault → Type 0
-IsLack a l refused.Memory = ⊤
-IsLack a l (refused.Fault fault.BadLists) = ⊥
-IsLack a l (refused.Fault (fault.NoRoom lack)) =
-    (other : Settling) → or_lack (lacking (all_anew a.roots l) (system_in a)) other ≡ no_room lack
-IsLack a l (refused.Fault (fault.TooLarge class slot)) = IsTooLargeAt a l (kind_value class) slot
-IsLack a l (refused.Fault (fault.Fixed slot reg)) = ⊥
+abbrev pub IsLack : Admission → Request → Refused SettleFault → Type 0
+IsLack a q refused.Memory = ⊤
+IsLack a q (refused.Fault fault.BadLists) = ⊥
+IsLack a q (refused.Fault (fault.NoRoom lack)) =
+    (other : Settling) → or_lack (lacking q (system_in a)) other ≡ no_room lack
+IsLack a q (refused.Fault (fault.TooLarge class slot)) = IsTooLargeAt a q (kind_value class) slot
+IsLack a q (refused.Fault (fault.Fixed slot reg)) = ⊥
 
--- settling ends so, or a new window is too large for the lists, which are fine, or there was no memory; nothing is fixed
-abbrev pub IsRefusal : Admission → Lists → Refused SettleFault → Type 0
-IsRefusal a l refused.Memory = ⊤
-IsRefusal a l (refused.Fault fault.BadLists) = settle (all_anew a.roots l) (system_in a) ≡ BadLists
-IsRefusal a l (refused.Fault (fault.NoRoom lack)) =
-    settle (all_anew a.roots l) (system_in a) ≡ no_room lack
-IsRefusal a l (refused.Fault (fault.TooLarge class slot)) =
-    IsFalse (are_bad_lists a.roots l) × IsTooLargeAt a l (kind_value class) slot
-IsRefusal a l (refused.Fault (fault.Fixed slot reg)) = ⊥
+-- a new window is too large, or there was no memory
+abbrev pub IsTooLargeAsked : Admission → Request → Refused SettleFault → Type 0
+IsTooLargeAsked a q refused.Memory = ⊤
+IsTooLargeAsked a q (refused.Fault fault.BadLists) = ⊥
+IsTooLargeAsked a q (refused.Fault (fault.NoRoom lack)) = ⊥
+IsTooLargeAsked a q (refused.Fault (fault.TooLarge class slot)) =
+    IsTooLargeAt a q (kind_value class) slot
+IsTooLargeAsked a q (refused.Fault (fault.Fixed slot reg)) = ⊥
+
+-- something has no place of whatever leaves these windows and parts where they stand
+abbrev pub IsLackOff : Admission → Lists → Left → Refused SettleFault → Type 0
+IsLackOff a l left e = (q : Request) → IsLeaving q a.roots (system_in a) l left → IsLack a q e
+
+-- ---- with tables of what stands and stays
+
+-- they are those of what is asked for
+pub record AreTold (q : Request) (a : Admission) (l : Lists) (fixed : List Bool) (left : Left)
+    (standing staying : List Kept) : Type 0 where
+  pub asked : IsAskedOf q a.roots l
+  pub flags : AreFlags q.fixed fixed
+  pub leaving : IsLeaving q a.roots (system_in a) l left
+  pub stand : IsTableOf (system_in a) (stands q (system_in a)) standing
+  pub stay : IsTableOf (system_in a) (stays q (system_in a)) staying
+
+-- it ends with the writes to the dump, and nothing lacks a place
+pub record IsEnded (q : Request) (a : Admission) (dump : List Block) (writes : List Write)
+    (closings : ℕ) : Type 0 where
+  pub by : IsSettledBy q a dump writes closings
+  pub room : lacking q (system_in a) ≡ None
+  pub ends : after_lists q (system_in a) ≡ Settled writes
+
+-- it ends so where the lists are fine, or a new window is too large, or there was no memory
+abbrev pub IsEndedBy : Admission → Request → Refused SettleFault → Type 0
+IsEndedBy a q refused.Memory = ⊤
+IsEndedBy a q (refused.Fault fault.BadLists) = ⊥
+IsEndedBy a q (refused.Fault (fault.NoRoom lack)) = after_lists q (system_in a) ≡ no_room lack
+IsEndedBy a q (refused.Fault (fault.TooLarge class slot)) = IsTooLargeAt a q (kind_value class) slot
+IsEndedBy a q (refused.Fault (fault.Fixed slot reg)) =
+    after_lists q (system_in a) ≡ spec.Fixed slot reg
+
+-- ---- the whole
+
+-- settling ends so, or a new window is too large for the lists, which are fine, or there was no memory
+abbrev pub IsRefusal : Admission → Request → Refused SettleFault → Type 0
+IsRefusal a q refused.Memory = ⊤
+IsRefusal a q (refused.Fault fault.BadLists) = settle q (system_in a) ≡ BadLists
+IsRefusal a q (refused.Fault (fault.NoRoom lack)) = settle q (system_in a) ≡ no_room lack
+IsRefusal a q (refused.Fault (fault.TooLarge class slot)) =
+    IsFalse (are_bad_lists q.roots q.lists) × IsTooLargeAt a q (kind_value class) slot
+IsRefusal a q (refused.Fault (fault.Fixed slot reg)) =
+    settle q (system_in a) ≡ spec.Fixed slot reg

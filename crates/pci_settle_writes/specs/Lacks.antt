@@ -1,12 +1,10 @@
 -- What has no place, as the code names it.
-use Rattle.std.specs.Prelude.{◌≡◌, ℕ, ◌<◌, Bool, List, length, Some}
+use Rattle.std.specs.Prelude.{◌≡◌, ℕ, ◌<◌, Bool, length, Some}
 use Rattle.std.specs.Option.{is_some}
 use Rattle.pci_spec.specs.Header.{bar_register, rom_place}
 use Rattle.pci_spec.specs.Window.{WindowKind, window_register}
 use Rattle.pci_spec.specs.System.{System}
-use Rattle.settle_spec.specs.Lists.{Lists}
 use Rattle.settle_spec.specs.Writes.{Settling, NoRoom, or_lack}
-use Rattle.pci_base.specs.declared.memory.Refused.TheVariants as refused
 use Rattle.pci_base.specs.WindowKinds.{kind_value}
 use Rattle.pci_function.specs.declared.record.Record.{Record}
 use Rattle.pci_place.specs.Items.{function_in}
@@ -15,7 +13,6 @@ use Rattle.pci_settle.specs.declared.item.Part.TheVariants as parts
 use Rattle.pci_settled.specs.declared.candidate.Candidate.{Candidate}
 use Rattle.pci_settled.specs.declared.anew.Unplaced.{Unplaced}
 use Rattle.pci_settled.specs.declared.anew.Unplaced.TheVariants as unplaced
-use Rattle.pci_settled.specs.Anew.{IsUnplaced}
 use Rattle.pci_settled.specs.Candidates.{candidate_value}
 use Rattle.pci_settled.specs.Places.{IsPart}
 use Rattle.pci_settle_writes.specs.declared.lack.Lack.{Lack}
@@ -46,10 +43,6 @@ lack_by r x = record {
 abbrev pub IsNamed : System → Unplaced → Type 0
 IsNamed s (unplaced.Lacks x) = (x.item.function < length s) × IsPart x.item.part
 IsNamed s (unplaced.TooLarge class k) = k < length s
-
--- there are lists in which it can't be placed
-abbrev pub IsLackIn : List ℕ → System → Unplaced → Type 0
-IsLackIn roots s u = (l : Lists) × IsUnplaced roots s l (refused.Fault u)
 
 -- as settling ends where this has no place
 abbrev pub no_room : Lack → Settling

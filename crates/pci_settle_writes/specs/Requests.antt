@@ -1,10 +1,12 @@
 -- What is asked for.
-use Rattle.std.specs.Prelude.{◌≡◌, ℕ, true, List, []}
+use Rattle.std.specs.Prelude.{◌≡◌, ℕ, Bool, List}
+use Rattle.pci_spec.specs.Slot.{Slot}
 use Rattle.settle_spec.specs.Lists.{Lists, Request}
 
--- all is placed anew below these roots, in these lists, and nothing is fixed
-abbrev pub all_anew : List ℕ → Lists → Request
-all_anew roots lists = record { roots = roots; lists = lists; fixed = []; anew = true }
+-- settling below these roots, in these lists; functions that may not be written, and whether all is placed anew
+abbrev pub request : List ℕ → Lists → List Slot → Bool → Request
+request roots lists fixed anew =
+    record { roots = roots; lists = lists; fixed = fixed; anew = anew }
 
 -- it is asked for below these roots, in these lists, whatever is to keep its place
 pub record IsAskedOf (q : Request) (roots : List ℕ) (lists : Lists) : Type 0 where

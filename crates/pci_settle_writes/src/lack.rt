@@ -4,7 +4,7 @@ ghost use Rattle.std.specs.Option.{is_some};
 ghost use Rattle.pci_base.specs.WindowKinds.{kind_value};
 ghost use Rattle.pci_place.specs.Above.{system_in};
 ghost use Rattle.pci_settled.specs.Places.{IsPart};
-ghost use Rattle.pci_settle_writes.specs.Lacks.{fault_number, part_register, lack_by, IsLackIn, IsFaultOf};
+ghost use Rattle.pci_settle_writes.specs.Lacks.{fault_number, part_register, lack_by, IsNamed, IsFaultOf};
 
 use pci_base::offset::BASE_ADDRESS;
 use pci_base::slot::Slot;
@@ -162,7 +162,7 @@ fn lack_of(record: &Record, candidate: Candidate) -> Lack
 
 /// The fault where this can't be placed.
 pub fn fault_of<A: Allocator>(admitted: &Admitted<A>, unplaced: Unplaced) -> SettleFault
-    requires { IsLackIn admitted.now.roots (system_in admitted.now) unplaced }
+    requires { IsNamed (system_in admitted.now) unplaced }
     ensures { IsFaultOf (system_in admitted.now) unplaced result }
 {
     let outline = admitted.outline();

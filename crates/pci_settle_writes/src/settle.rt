@@ -1,32 +1,43 @@
 //! Settling: the dump in which all has its place, and the writes that lead there.
-ghost use Rattle.std.specs.Prelude.{◌≡◌, ◌⊎◌, ◌<◌, ◌≤◌, ◌^◌, ℕ, IfOk, IfErr, length, map, take};
+ghost use Rattle.std.specs.Prelude.{◌≡◌, ◌≤◌, ◌<◌, ◌^◌, ◌⊎◌, ℕ, IsTrue, IsFalse, IfOk, IfErr, length, map, take};
 ghost use Rattle.std.specs.List.{All};
-ghost use Rattle.pci_spec.specs.Machine.{system_after};
 ghost use Rattle.pci_spec.specs.Sound.{IsSound};
 ghost use Rattle.pci_spec.specs.System.{system_of};
+ghost use Rattle.pci_spec.specs.Machine.{system_after};
 ghost use Rattle.settle_spec.specs.Lists.{Request};
 ghost use Rattle.settle_spec.specs.Items.{stays};
 ghost use Rattle.settle_spec.specs.Writes as spec;
 ghost use Rattle.pci_place.specs.Above.{system_in};
 ghost use Rattle.pci_plan.specs.Writes.{write_value};
 ghost use Rattle.pci_settle.specs.Lists.{lists_value};
-ghost use Rattle.pci_settled.specs.Anew.{AreNewPlaces};
+ghost use Rattle.pci_stand.specs.Flags.{AreFlags};
+ghost use Rattle.pci_stand.specs.Known.{asked};
+ghost use Rattle.pci_settled.specs.Placed.{CanBeLeft, ArePlacesOff};
 ghost use Rattle.pci_settling.specs.Live.{HasAllPlaces};
-ghost use Rattle.pci_settle_writes.specs.Requests.{all_anew, IsAskedOf};
+ghost use Rattle.pci_stay.specs.Staying.{AreStaying};
+ghost use Rattle.pci_settle_writes.specs.Requests.{request, IsAskedOf};
 ghost use Rattle.pci_settle_writes.specs.Told.{IsTableOf};
 ghost use Rattle.pci_settle_writes.specs.Dumps.{IsSettledDump, IsSettledBy};
-ghost use Rattle.pci_settle_writes.specs.Endings.{IsRefusal, IsLack};
+ghost use Rattle.pci_settle_writes.specs.Endings.{IsLackOff, IsTooLargeAsked, AreTold, IsEnded, IsEndedBy, IsRefusal};
 
 use crate::dump::settled_dump;
+use crate::fixed::{fixed_without, fixed_write};
 use crate::lack::{SettleFault, fault_of};
 use crate::writes::{Writes, writes_to};
 use pci_base::memory::{OutOfMemory, Refused};
 use pci_base::range::RootRange;
+use pci_base::slot::Slot;
 use pci_dump::dump::Dump;
 use pci_settle::kept::{Kept, nothing_kept};
 use pci_settle::list::Lists;
-use pci_settled::anew::place_anew;
+use pci_settle::over::Left;
+use pci_settled::anew::Unplaced;
+use pci_settled::place::place;
 use pci_settled::places::Places;
+use pci_stand::fixed::flags_of;
+use pci_stand::pass::standing;
+use pci_stay::staying::staying;
+use pci_stay::windows::open_windows;
 use pci_tree::admitted::Admitted;
 use std::alloc::{Allocator, Global};
 
@@ -38,17 +49,21 @@ pub struct Settled<A: Allocator = Global> {
     pub writes: Writes<A>,
 }
 
-/// The new places of all parts, or the fault where something has none.
+/// The new places of all parts that don't stay, or the fault where something has none.
 fn places<A: Allocator + Copy, B: Allocator>(
     alloc: A,
     admitted: &Admitted<B>,
     lists: &Lists,
+    left: &Left,
 ) -> Result<Vec<Places, A>, Refused<SettleFault>>
-    ensures places { IfOk result (λ table. AreNewPlaces admitted.now.roots (system_in admitted.now)
-        (lists_value lists.now) table.items) }
-    ensures fault { IfErr result (IsLack admitted.now (lists_value lists.now)) }
+    requires { CanBeLeft admitted.now.roots (system_in admitted.now) (lists_value lists.now) left.now }
+    ensures places { IfOk result (λ table. ArePlacesOff admitted.now.roots (system_in admitted.now)
+        (lists_value lists.now) left.now table.items) }
+    ensures fault { IfErr result (IsLackOff admitted.now (lists_value lists.now) left.now) }
 {
-    match place_anew(alloc, admitted, lists) {
+    // what it was admitted by: the contract speaks of the system that it makes
+    let _outline = admitted.outline();
+    match place(alloc, admitted, lists, left) {
         Ok(table) => Ok(table),
         Err(Refused::Memory) => Err(Refused::Memory),
         Err(Refused::Fault(unplaced)) => Err(Refused::Fault(fault_of(admitted, unplaced))),
@@ -81,22 +96,155 @@ pub fn settled_at<A: Allocator + Copy, B: Allocator>(
     Ok(Settled { dump, writes })
 }
 
-/// The same where all is placed anew and nothing stays.
-fn settled_anew<A: Allocator + Copy, B: Allocator>(
+/// Settles once it is known what stands and what stays, by function in slot order, where nothing fixed is in the way.
+fn settle_held<A: Allocator + Copy, B: Allocator>(
     alloc: A,
     admitted: &Admitted<B>,
     lists: &Lists,
-    table: &[Places],
-) -> Result<Settled<A>, OutOfMemory>
-    requires { AreNewPlaces admitted.now.roots (system_in admitted.now) (lists_value lists.now)
-        table.now }
+    fixed: &[bool],
+    left: &Left,
+    standing: &[Kept],
+    staying: &[Kept],
+) -> Result<Settled<A>, Refused<SettleFault>>
+    requires flags { length fixed.now ≡ 65536 }
+    requires standing { length standing.now ≡ length (system_in admitted.now) }
+    requires staying { length staying.now ≡ length (system_in admitted.now) }
+    requires left { CanBeLeft admitted.now.roots (system_in admitted.now) (lists_value lists.now) left.now }
     ensures titles { IfOk result
         (λ x. map (λ b. b.title) x.dump ≡ map (λ b. b.title) admitted.now.dump) }
-    ensures settled { IfOk result (λ x. IsSettledBy (all_anew admitted.now.roots (lists_value lists.now))
-        admitted.now x.dump (map write_value x.writes.all.items) x.writes.closings) }
+    ensures ends { IfOk result (λ x. (q : Request)
+        → AreTold q admitted.now (lists_value lists.now) fixed.now left.now standing.now staying.now
+        → IsEnded q admitted.now x.dump (map write_value x.writes.all.items) x.writes.closings) }
+    ensures refusal { IfErr result (λ e. (q : Request)
+        → AreTold q admitted.now (lists_value lists.now) fixed.now left.now standing.now staying.now
+        → IsEndedBy admitted.now q e) }
 {
-    let staying = nothing_kept(alloc, table.len())?;
-    settled_at(alloc, admitted, lists, table, staying.as_slice())
+    if let Some(fault) = fixed_without(admitted, lists, fixed, standing) {
+        return Err(Refused::Fault(fault));
+    }
+    if let Some(fault) = fixed_without(admitted, lists, fixed, staying) {
+        return Err(Refused::Fault(fault));
+    }
+    let table = places(alloc, admitted, lists, left)?;
+    let settled = settled_at(alloc, admitted, lists, table.as_slice(), staying)?;
+    if let Some(fault) = fixed_write(fixed, settled.writes.all.as_slice()) {
+        return Err(Refused::Fault(fault));
+    }
+    Ok(settled)
+}
+
+/// Settles where all is placed anew.
+fn settle_all<A: Allocator + Copy, B: Allocator>(
+    alloc: A,
+    admitted: &Admitted<B>,
+    lists: &Lists,
+    fixed: &[bool],
+) -> Result<Settled<A>, Refused<SettleFault>>
+    requires { length fixed.now ≡ 65536 }
+    ensures titles { IfOk result
+        (λ x. map (λ b. b.title) x.dump ≡ map (λ b. b.title) admitted.now.dump) }
+    ensures ends { IfOk result (λ x. (q : Request)
+        → IsAskedOf q admitted.now.roots (lists_value lists.now) → IsTrue q.anew
+        → AreFlags q.fixed fixed.now
+        → IsEnded q admitted.now x.dump (map write_value x.writes.all.items) x.writes.closings) }
+    ensures refusal { IfErr result (λ e. (q : Request)
+        → IsAskedOf q admitted.now.roots (lists_value lists.now) → IsTrue q.anew
+        → AreFlags q.fixed fixed.now → IsEndedBy admitted.now q e) }
+{
+    let outline = admitted.outline();
+    let none = nothing_kept(alloc, outline.records().len())?;
+    let kept = none.as_slice();
+    let left = Left {
+        over: &[],
+        kept: &[],
+    };
+    settle_held(alloc, admitted, lists, fixed, &left, kept, kept)
+}
+
+/// Which parts stay, or the bridge whose new window would be too large.
+fn staying_parts<A: Allocator + Copy, B: Allocator>(
+    alloc: A,
+    admitted: &Admitted<B>,
+    lists: &Lists,
+    fixed: &[Slot],
+) -> Result<Vec<Kept, A>, Refused<SettleFault>>
+    ensures stay { IfOk result (λ table. AreStaying
+        (asked admitted.now.roots (lists_value lists.now) fixed.now) (system_in admitted.now)
+        table.items) }
+    ensures fault { IfErr result (IsTooLargeAsked admitted.now
+        (asked admitted.now.roots (lists_value lists.now) fixed.now)) }
+{
+    match staying(alloc, admitted, lists, fixed) {
+        Ok(table) => Ok(table),
+        Err(Refused::Memory) => Err(Refused::Memory),
+        Err(Refused::Fault(window)) => {
+            let unplaced = Unplaced::TooLarge {
+                class: window.class,
+                function: window.function,
+            };
+            Err(Refused::Fault(fault_of(admitted, unplaced)))
+        }
+    }
+}
+
+/// Settles what doesn't stay.
+fn settle_rest<A: Allocator + Copy, B: Allocator>(
+    alloc: A,
+    admitted: &Admitted<B>,
+    lists: &Lists,
+    fixed: &[Slot],
+    flags: &[bool],
+) -> Result<Settled<A>, Refused<SettleFault>>
+    requires { AreFlags fixed.now flags.now }
+    ensures titles { IfOk result
+        (λ x. map (λ b. b.title) x.dump ≡ map (λ b. b.title) admitted.now.dump) }
+    ensures ends { IfOk result (λ x. IsEnded
+        (asked admitted.now.roots (lists_value lists.now) fixed.now) admitted.now x.dump
+        (map write_value x.writes.all.items) x.writes.closings) }
+    ensures refusal { IfErr result (IsEndedBy admitted.now
+        (asked admitted.now.roots (lists_value lists.now) fixed.now)) }
+{
+    let outline = admitted.outline();
+    let over = open_windows(outline.records());
+    let stand = standing(alloc, admitted, lists, fixed)?;
+    let stay = staying_parts(alloc, admitted, lists, fixed)?;
+    let left = Left {
+        over: &over,
+        kept: stay.as_slice(),
+    };
+    settle_held(
+        alloc,
+        admitted,
+        lists,
+        flags,
+        &left,
+        stand.as_slice(),
+        stay.as_slice(),
+    )
+}
+
+/// Settles in lists that are fine.
+fn settle_listed<A: Allocator + Copy, B: Allocator>(
+    alloc: A,
+    admitted: &Admitted<B>,
+    lists: &Lists,
+    fixed: &[Slot],
+    anew: bool,
+) -> Result<Settled<A>, Refused<SettleFault>>
+    ensures titles { IfOk result
+        (λ x. map (λ b. b.title) x.dump ≡ map (λ b. b.title) admitted.now.dump) }
+    ensures ends { IfOk result (λ x. IsEnded
+        (request admitted.now.roots (lists_value lists.now) fixed.now anew) admitted.now x.dump
+        (map write_value x.writes.all.items) x.writes.closings) }
+    ensures refusal { IfErr result (IsEndedBy admitted.now
+        (request admitted.now.roots (lists_value lists.now) fixed.now anew)) }
+{
+    let flags = flags_of(alloc, fixed)?;
+    if anew {
+        settle_all(alloc, admitted, lists, flags.as_slice())
+    } else {
+        settle_rest(alloc, admitted, lists, fixed, flags.as_slice())
+    }
 }
 
 /// The last address of a range.
@@ -115,16 +263,20 @@ fn end_in_64_bits(list: &[RootRange])
     }
 }
 
-/// Settles where nothing stands: places all parts in the lists, and answers the dump that shows the places and the writes that
-/// lead there. That dump is sound, and so is what stands after the first writes, once all that close are made, and from a sound
-/// start at any time.
+/// Settles: what stands with room for what is behind it stays where it is (nothing, where all is placed anew), all else is
+/// placed in the lists. Answers the dump that shows the places and the writes that lead there. That dump is sound, and so is
+/// what stands after the first writes, once all that close are made, and from a sound start at any time.
 ///
-/// Errors: 70 `BadLists` where the lists are refused; else 72 `NoRoom` with the first part on the roots that has no place, or
-/// 72 `TooLarge` where a new window would have 2^64 addresses or more; 2 `Memory` where a growth was refused.
-pub fn settle_anew<A: Allocator + Copy, B: Allocator>(
+/// Errors: 70 `BadLists` where the lists are refused; else 74 `Fixed` with the first part of a function of `fixed` that
+/// doesn't stand, or doesn't stay; 72 `NoRoom` with the first part on the roots that has no place; 74 `Fixed` with the first
+/// write to a function of `fixed`; 72 `TooLarge` where a new window would have 2^64 addresses or more; 2 `Memory` where a
+/// growth was refused.
+pub fn settle<A: Allocator + Copy, B: Allocator>(
     alloc: A,
     admitted: &Admitted<B>,
     lists: &Lists,
+    fixed: &[Slot],
+    anew: bool,
 ) -> Result<Settled<A>, Refused<SettleFault>>
     ensures sound { IfOk result
         (λ x. IsSound admitted.now.roots (system_of x.dump admitted.now.probe)) }
@@ -137,21 +289,22 @@ pub fn settle_anew<A: Allocator + Copy, B: Allocator>(
         ≡ system_of x.dump admitted.now.probe) }
     ensures titles { IfOk result
         (λ x. map (λ b. b.title) x.dump ≡ map (λ b. b.title) admitted.now.dump) }
-    ensures dump { IfOk result (λ x. IsSettledDump (all_anew admitted.now.roots (lists_value lists.now))
-        admitted.now x.dump) }
-    ensures settled { IfOk result
-        (λ x. spec.settle (all_anew admitted.now.roots (lists_value lists.now)) (system_in admitted.now)
+    ensures dump { IfOk result (λ x. IsSettledDump
+        (request admitted.now.roots (lists_value lists.now) fixed.now anew) admitted.now x.dump) }
+    ensures settled { IfOk result (λ x. spec.settle
+        (request admitted.now.roots (lists_value lists.now) fixed.now anew) (system_in admitted.now)
         ≡ spec.Settled (map write_value x.writes.all.items)) }
-    ensures closings { IfOk result (λ x. x.writes.closings ≡ length
-        (spec.closings (all_anew admitted.now.roots (lists_value lists.now)) (system_in admitted.now) (system_in admitted.now))) }
-    ensures refusal { IfErr result (IsRefusal admitted.now (lists_value lists.now)) }
+    ensures closings { IfOk result (λ x. x.writes.closings ≡ length (spec.closings
+        (request admitted.now.roots (lists_value lists.now) fixed.now anew)
+        (system_in admitted.now) (system_in admitted.now))) }
+    ensures refusal { IfErr result (IsRefusal admitted.now
+        (request admitted.now.roots (lists_value lists.now) fixed.now anew)) }
 {
     let roots = admitted.outline().roots();
     end_in_64_bits(lists.pref);
     if lists.are_bad(&roots) {
         return Err(Refused::Fault(SettleFault::BadLists));
     }
-    let table = places(alloc, admitted, lists)?;
-    let settled = settled_anew(alloc, admitted, lists, table.as_slice())?;
+    let settled = settle_listed(alloc, admitted, lists, fixed, anew)?;
     Ok(settled)
 }

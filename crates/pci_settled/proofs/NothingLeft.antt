@@ -16,7 +16,7 @@ use Rattle.pci_settled.specs.Placed.{IsLeaving, CanBeLeft, ArePlacesOff, IsUnpla
 use Rattle.pci_settled.specs.Anew.{IsAnewIn, AreNewPlaces, IsUnplaced}
 
 module _ (roots : List ℕ) (s : System) (l : Lists) (left : Left) (no_windows : left.over.now ≡ []) (none_kept : left.kept.now ≡ []) where
-  leaves : (q : Request) → IsAnewIn q roots l → IsLeaving q roots s l left
+  pub leaves : (q : Request) → IsAnewIn q roots l → IsLeaving q roots s l left
   leaves q anew = record {
     rooted = anew.rooted;
     lists = anew.lists;

@@ -34,5 +34,5 @@ pair_answered (task.FaultsGiven roots words host why) whole dump_left second_lef
 pair_answered (task.Map roots words host) whole dump_left second_left answer is = is
 pair_answered task.Size whole dump_left second_left answer is = is
 pair_answered (task.Plan pools writes why roots) whole dump_left second_left answer is = is
-pair_answered (task.Settle lists writes roots) whole dump_left second_left answer is = is
+pair_answered (task.Settle request writes) whole dump_left second_left answer is = is
 pair_answered (task.Probe assuming) whole dump_left second_left answer is = absurd whole

@@ -5,7 +5,7 @@ use Rattle.pci_dump.specs.declared.read_fault.ReadFault.TheVariants as faults
 use Rattle.pciplan_words.specs.declared.asked.WordsFault.{WordsFault}
 use Rattle.pciplan_words.specs.declared.asked.WordsFault.TheVariants as words
 use Rattle.pciplan_cli.specs.declared.failure.Failure.{Failure}
-use Rattle.pciplan_cli.specs.declared.failure.Failure.TheVariants.{Usage, Root, Model, Host, Pool, Dump, Probe, Sizes, Memory, Io}
+use Rattle.pciplan_cli.specs.declared.failure.Failure.TheVariants.{Usage, Root, Model, Host, Pool, Fixed, Dump, Probe, Sizes, Memory, Io}
 
 -- what the words' own faults are
 abbrev pub words_failure : WordsFault → Failure
@@ -25,6 +25,7 @@ status_of Root = 2
 status_of Model = 2
 status_of (Host space) = 2
 status_of (Pool option) = 2
+status_of Fixed = 2
 status_of (Dump fault) = text_status fault
 status_of (Probe fault) = text_status fault
 status_of (Sizes fault) = text_status fault

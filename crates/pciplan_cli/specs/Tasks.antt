@@ -18,7 +18,7 @@ use Rattle.pciplan_cli.specs.FaultsAnswers.{AreTold}
 use Rattle.pciplan_cli.specs.GivenAnswers.{IsAnswerGiven}
 use Rattle.pciplan_cli.specs.MapAnswers.{IsMapped, sent_by}
 use Rattle.pciplan_cli.specs.PlanAnswers.{IsPlanned}
-use Rattle.pciplan_cli.specs.SettleAnswers.{IsSettlingTold, lists_said}
+use Rattle.pciplan_cli.specs.SettleAnswers.{IsSettlingTold, request_said}
 use Rattle.pciplan_cli.specs.ProbeAnswers.{probe_answer}
 use Rattle.pciplan_cli.specs.Statuses.{status_of}
 use Rattle.pciplan_cli.specs.TakenAnswers.{IsAnswerBy}
@@ -59,12 +59,8 @@ IsPairAnswer (task.Plan pools writes why roots) =
       why = why;
       roots = buses_of roots;
     }
-IsPairAnswer (task.Settle lists writes roots) =
-    IsSettlingTold record {
-      lists = lists_said lists;
-      writes = writes;
-      roots = buses_of roots;
-    }
+IsPairAnswer (task.Settle request writes) =
+    IsSettlingTold record { request = request_said request; writes = writes }
 IsPairAnswer (task.Probe assuming) = λ dump probe answer. ⊥
 
 -- the task takes a whole dump and a whole probe: the verdict reads both side by side, and a derived probe takes sizes

@@ -23,8 +23,7 @@ pub enum PoolOption {
 /// Why a command line isn't carried out.
 #[derive(Clone, Copy, Debug, PartialEq, Eq)]
 pub enum Failure {
-    /// The words are no command line, or name both `--exact` and `--least`, which exclude each other, or `settle` without
-    /// `--anew`.
+    /// The words are no command line, or name both `--exact` and `--least`, which exclude each other.
     Usage,
     /// The list of root buses is none.
     Root,
@@ -34,6 +33,8 @@ pub enum Failure {
     Host(Space),
     /// The word of an option's pool or list is none.
     Pool(PoolOption),
+    /// The list of slots whose functions may not be written is none.
+    Fixed,
     /// The text of the dump has a fault, or can't be read.
     Dump(ReadFault),
     /// The text of the probe has a fault, or can't be read.
@@ -58,6 +59,7 @@ impl fmt::Display for Failure {
             Failure::Pool(PoolOption::Io) => write!(f, "pool --io"),
             Failure::Pool(PoolOption::Mem) => write!(f, "pool --mem"),
             Failure::Pool(PoolOption::Pref) => write!(f, "pool --pref"),
+            Failure::Fixed => write!(f, "fixed"),
             Failure::Dump(ReadFault::Memory)
             | Failure::Probe(ReadFault::Memory)
             | Failure::Sizes(ReadFault::Memory)
@@ -78,7 +80,7 @@ impl Failure {
     {
         match self {
             Failure::Usage | Failure::Root | Failure::Model => 2,
-            Failure::Host(_) | Failure::Pool(_) => 2,
+            Failure::Host(_) | Failure::Pool(_) | Failure::Fixed => 2,
             Failure::Dump(fault) | Failure::Probe(fault) | Failure::Sizes(fault) => match fault {
                 ReadFault::Io => 4,
                 ReadFault::Memory => 3,

@@ -7,6 +7,7 @@ ghost use Rattle.pciplan_cli.specs.declared.failure.Failure.{Failure};
 use crate::asked::task_of;
 use crate::failure::{Failure, report};
 use pci_base::range::RootRange;
+use pci_base::slot::Slot;
 use pci_dump::streams::Sink;
 use pci_model::words::Words;
 use pci_place::pools::Pools;
@@ -29,6 +30,17 @@ pub struct SettleLists {
     pub io: Vec<RootRange>,
     pub mem: Vec<RootRange>,
     pub pref: Vec<RootRange>,
+}
+
+/// What is to be settled, and how.
+#[derive(Drop)]
+pub struct SettleRequest {
+    pub roots: Roots,
+    pub lists: SettleLists,
+    /// The slots whose functions may not be written. One that the dump doesn't have says nothing.
+    pub fixed: Vec<Slot>,
+    /// Whether nothing is left where it stands.
+    pub anew: bool,
 }
 
 /// What is to be done with a dump and its probe.
@@ -71,11 +83,10 @@ pub enum Task {
         why: bool,
         roots: Roots,
     },
-    /// Places all anew in these lists, with these root buses: the settled dump, or the writes that lead there.
+    /// Settles them as it is asked for: the settled dump, or the writes that lead there.
     Settle {
-        lists: SettleLists,
+        request: SettleRequest,
         writes: bool,
-        roots: Roots,
     },
     /// Derives the probe from the dump and the sizes that Linux tells, which are the second text, assuming the least size of
     /// these registers where none is told.
@@ -110,7 +121,7 @@ fn invocation_of(alloc: Global, words: &[&str]) -> Result<Invocation, Failure>
 
 /// Reads the words after the program's name. Where they make no command line it writes the message to `err`
 /// and answers the status: 2 for a fault of usage, then of the root list, then of the words of `--model`, of what the host
-/// sends, of a pool or of a list; 3 at want of memory.
+/// sends, of a pool, of a list or of the fixed slots; 3 at want of memory.
 pub fn start<E: Sink>(alloc: Global, words: &[&str], err: &mut E) -> Result<Invocation, u8>
     ensures line { IfOk result (IsInvocationOf (map (λ w. w.now) words.now)) }
     ensures refused { IfErr result (λ status. (failure : Failure)

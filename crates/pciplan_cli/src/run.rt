@@ -140,11 +140,7 @@ fn pair_reply<A: Allocator + Copy>(
             why,
             roots,
         } => plan_pair(alloc, dump, probe, pools, *writes, *why, *roots),
-        Task::Settle {
-            lists,
-            writes,
-            roots,
-        } => settle_pair(alloc, dump, probe, lists, *writes, *roots),
+        Task::Settle { request, writes } => settle_pair(alloc, dump, probe, request, *writes),
         Task::Check { .. } | Task::Probe { .. } => unreachable!(),
     }
 }

@@ -2,14 +2,16 @@
 ghost use Rattle.std.specs.Prelude.{◌≡◌, ◌⊎◌, MatchResult};
 ghost use Rattle.pciplan_words.specs.declared.asked.Asked.{Asked};
 ghost use Rattle.pciplan_cli.specs.Asked.{IsTaskOf, IsRefusedFor};
-ghost use Rattle.pciplan_cli.specs.SettleAsked.{IsListOf, HasNoList};
+ghost use Rattle.pciplan_cli.specs.SettleAsked.{AreFixed, IsListOf, HasNoList, HasNoSlots};
 ghost use Rattle.pciplan_cli.specs.declared.failure.Failure.{Failure};
 
 use crate::failure::{Failure, PoolOption};
-use crate::invocation::{SettleLists, Task};
+use crate::invocation::{SettleLists, SettleRequest, Task};
 use crate::option_words::roots_of;
 use pci_base::range::RootRange;
+use pci_base::slot::Slot;
 use pciplan_lists::list_word::list_of_word;
+use pciplan_lists::slot_list::slots_of_word;
 use pciplan_words::asked::SettleWords;
 use std::alloc::Global;
 
@@ -22,23 +24,37 @@ fn list_of(alloc: Global, word: &str, option: PoolOption) -> Result<Vec<RootRang
     list_of_word(alloc, word)?.ok_or(Failure::Pool(option))
 }
 
+/// The slots of the word of `--fixed`, none where there is no word.
+fn fixed_of(alloc: Global, word: Option<&str>) -> Result<Vec<Slot>, Failure>
+    ensures { MatchResult result (AreFixed word.entry)
+        (λ failure. (failure ≡ Failure.Memory)
+        ⊎ ((failure ≡ Failure.Fixed) × HasNoSlots word.entry)) }
+{
+    match word {
+        None => Ok(Vec::new(alloc)),
+        Some(list) => slots_of_word(alloc, list)?.ok_or(Failure::Fixed),
+    }
+}
+
 /// The settling that is asked for.
 pub fn settling_of(alloc: Global, asked: &SettleWords<'_>) -> Result<Task, Failure>
     ensures { MatchResult result (IsTaskOf (Asked.Settle asked.now))
         (IsRefusedFor (Asked.Settle asked.now)) }
 {
-    if !asked.anew {
-        return Err(Failure::Usage);
-    }
     let roots = roots_of(asked.root).ok_or(Failure::Root)?;
     let lists = SettleLists {
         io: list_of(alloc, asked.io, PoolOption::Io)?,
         mem: list_of(alloc, asked.mem, PoolOption::Mem)?,
         pref: list_of(alloc, asked.pref, PoolOption::Pref)?,
     };
-    Ok(Task::Settle {
-        lists,
-        writes: asked.writes,
+    let request = SettleRequest {
         roots,
+        lists,
+        fixed: fixed_of(alloc, asked.fixed)?,
+        anew: asked.anew,
+    };
+    Ok(Task::Settle {
+        request,
+        writes: asked.writes,
     })
 }

@@ -3,21 +3,21 @@ ghost use Rattle.std.specs.Prelude.{◌≡◌, map, IfOk, IsTrue};
 ghost use Rattle.std.specs.List.{All};
 ghost use Rattle.pci_plan.specs.Writes.{is_plain, write_value};
 ghost use Rattle.pci_tree.specs.Admission.{IsAdmitted};
-ghost use Rattle.pci_tree.specs.Roots.{buses_of};
 ghost use Rattle.pciplan_cli.specs.Answers.{answer_of, done};
 ghost use Rattle.pci_settle.specs.Lists.{lists_value};
-ghost use Rattle.pciplan_cli.specs.SettleAnswers.{IsSettlingTold, lists_said, settled_text};
+ghost use Rattle.pci_settle_writes.specs.Requests.{request};
+ghost use Rattle.pciplan_cli.specs.SettleAnswers.{IsSettlingTold, request_said, settled_text};
 
-use crate::invocation::SettleLists;
+use crate::invocation::SettleRequest;
 use crate::planning::lines_of;
 use crate::reply::{Reply, Text, done, refused};
 use pci_base::memory::{OutOfMemory, Refused};
+use pci_base::slot::Slot;
 use pci_dump::dump::Dump;
 use pci_settle::list::Lists;
-use pci_settle_writes::settle::{Settled, settle_anew};
+use pci_settle_writes::settle::{Settled, settle};
 use pci_tree::admit::admit_with;
 use pci_tree::admitted::Admitted;
-use pci_tree::roots::Roots;
 use std::alloc::Allocator;
 
 /// What settling answers: its writes, or the settled dump.
@@ -42,45 +42,50 @@ fn settle_admitted<A: Allocator + Copy>(
     alloc: A,
     admitted: &Admitted<A>,
     lists: &Lists,
+    fixed: &[Slot],
+    anew: bool,
     writes: bool,
 ) -> Result<Reply<A>, OutOfMemory>
     requires { IsAdmitted admitted.now }
     ensures { IfOk result (λ reply. IsSettlingTold record {
-      lists = lists_value lists.now;
+      request = request admitted.now.roots (lists_value lists.now) fixed.now anew;
       writes = writes;
-      roots = admitted.now.roots;
     } admitted.now.dump admitted.now.probe (answer_of reply)) }
 {
-    match settle_anew(alloc, admitted, lists) {
+    match settle(alloc, admitted, lists, fixed, anew) {
         Ok(settled) => settled_reply(alloc, settled, writes),
         Err(Refused::Fault(fault)) => refused(alloc, &fault),
         Err(Refused::Memory) => Err(OutOfMemory),
     }
 }
 
-/// Settles a dump and its probe anew in these lists, with these root buses: writes in the place of the settled dump, where
-/// they are asked for.
+/// Settles a dump and its probe as it is asked for: writes in the place of the settled dump, where they are asked for.
 pub fn settle_pair<A: Allocator + Copy>(
     alloc: A,
     dump: Dump<A>,
     probe: Dump<A>,
-    lists: &SettleLists,
+    request: &SettleRequest,
     writes: bool,
-    roots: Roots,
 ) -> Result<Reply<A>, OutOfMemory>
     ensures { IfOk result (λ reply. IsSettlingTold record {
-      lists = lists_said lists.now;
+      request = request_said request.now;
       writes = writes;
-      roots = buses_of roots;
     } dump probe (answer_of reply)) }
 {
     let lists = Lists {
-        io: lists.io.as_slice(),
-        mem: lists.mem.as_slice(),
-        pref: lists.pref.as_slice(),
+        io: request.lists.io.as_slice(),
+        mem: request.lists.mem.as_slice(),
+        pref: request.lists.pref.as_slice(),
     };
-    match admit_with(alloc, dump, probe, roots) {
-        Ok(admitted) => settle_admitted(alloc, &admitted, &lists, writes),
+    match admit_with(alloc, dump, probe, request.roots) {
+        Ok(admitted) => settle_admitted(
+            alloc,
+            &admitted,
+            &lists,
+            request.fixed.as_slice(),
+            request.anew,
+            writes,
+        ),
         Err(Refused::Fault(fault)) => refused(alloc, &fault),
         Err(Refused::Memory) => Err(OutOfMemory),
     }

@@ -18,7 +18,7 @@ nowhere test [] none = refl
 nowhere test (x ∷ xs) none = ap (λ b. cond b (x ∷ filter test xs) (filter test xs)) (none x) ∙ nowhere test xs none
 
 module _ (q : Request) (s : System) (anew : IsTrue q.anew) where
-  none_stands : (others : ℕ) (r : Region) → stands_within q s others r ≡ false
+  pub none_stands : (others : ℕ) (r : Region) → stands_within q s others r ≡ false
   unfolding stands_within
   none_stands zero r = refl
   none_stands (suc others) r =

@@ -3,8 +3,9 @@ use crate::failing::{leaves_beginnings, tells_failed_reads};
 use crate::program::{line_of, prints};
 use crate::refused_tasks::is_refused_in_turn;
 use pci_base::range::{Range, RootRange};
+use pci_base::slot::Slot;
 use pci_tree::roots::Roots;
-use pciplan_cli::invocation::{SettleLists, Task};
+use pciplan_cli::invocation::{SettleLists, SettleRequest, Task};
 use std::alloc::{AllocError, Global};
 use std::test::Fail;
 use test_support::board::{Texts, bridge, device, texts_of};
@@ -19,17 +20,25 @@ fn list_of(alloc: Global, first: u64, last: u64) -> Result<Vec<RootRange>, Alloc
     Ok(list)
 }
 
-/// Settling in 60 KB of I/O, memory from E0000000h to this address, and no prefetchable memory.
-fn task_to(alloc: Global, last: u64, writes: bool) -> Result<Task, AllocError> {
-    Ok(Task::Settle {
-        lists: SettleLists {
-            io: list_of(alloc, 0x1000, 0xffff)?,
-            mem: list_of(alloc, 0xe000_0000, last)?,
-            pref: Vec::new(alloc),
-        },
-        writes,
+/// Settling in 60 KB of I/O, memory from E0000000h to this address, and no prefetchable memory; with the functions at this
+/// device of bus 00 not to be written, where one is named, and else all placed anew.
+fn task_to(alloc: Global, last: u64, fixed: Option<u8>, writes: bool) -> Result<Task, AllocError> {
+    let lists = SettleLists {
+        io: list_of(alloc, 0x1000, 0xffff)?,
+        mem: list_of(alloc, 0xe000_0000, last)?,
+        pref: Vec::new(alloc),
+    };
+    let mut slots = Vec::new(alloc);
+    if let Some(slot) = fixed.and_then(|dev| Slot::new(0, dev, 0)) {
+        slots.push(slot)?;
+    }
+    let request = SettleRequest {
         roots: Roots::host(),
-    })
+        lists,
+        fixed: slots,
+        anew: fixed.is_none(),
+    };
+    Ok(Task::Settle { request, writes })
 }
 
 /// A bridge with a BAR behind it that is on at its own window's place, and a BAR beside it.
@@ -81,9 +90,34 @@ fn writes_of_settling_are_printed(rt: HostRuntime) -> Result<(), Fail> {
 }
 
 #[test]
+fn what_stands_is_left_where_it_is(rt: HostRuntime) -> Result<(), Fail> {
+    let texts = settled(rt.alloc())?;
+    let words = [
+        "settle",
+        "d",
+        "p",
+        "--io",
+        "none",
+        "--mem",
+        "e0000000-e01fffff",
+        "--pref",
+        "none",
+        "--fixed",
+        "00:01.0,01:00.0",
+        "--writes",
+    ];
+    prints(
+        &rt,
+        &words,
+        (texts.dump.as_str(), texts.probe.as_str()),
+        ("00:02.0 10.4 e0000000\n00:02.0 04.2 0002\n", "", 0),
+    )
+}
+
+#[test]
 fn settling_that_is_refused_a_growth_says_just_that(rt: HostRuntime) -> Result<(), Fail> {
     let texts = settled(rt.alloc())?;
-    let task = task_to(rt.alloc(), LAST, true)?;
+    let task = task_to(rt.alloc(), LAST, None, true)?;
     assert!(rt; is_refused_in_turn(&rt, &line_of(&rt, task), &texts));
     Ok(())
 }
@@ -91,7 +125,7 @@ fn settling_that_is_refused_a_growth_says_just_that(rt: HostRuntime) -> Result<(
 #[test]
 fn so_does_one_that_prints_the_dump(rt: HostRuntime) -> Result<(), Fail> {
     let texts = settled(rt.alloc())?;
-    let task = task_to(rt.alloc(), LAST, false)?;
+    let task = task_to(rt.alloc(), LAST, None, false)?;
     assert!(rt; is_refused_in_turn(&rt, &line_of(&rt, task), &texts));
     Ok(())
 }
@@ -99,7 +133,23 @@ fn so_does_one_that_prints_the_dump(rt: HostRuntime) -> Result<(), Fail> {
 #[test]
 fn so_does_one_without_room(rt: HostRuntime) -> Result<(), Fail> {
     let texts = settled(rt.alloc())?;
-    let task = task_to(rt.alloc(), LAST - 1, true)?;
+    let task = task_to(rt.alloc(), LAST - 1, None, true)?;
+    assert!(rt; is_refused_in_turn(&rt, &line_of(&rt, task), &texts));
+    Ok(())
+}
+
+#[test]
+fn so_does_one_that_leaves_what_stands(rt: HostRuntime) -> Result<(), Fail> {
+    let texts = settled(rt.alloc())?;
+    let task = task_to(rt.alloc(), LAST, Some(1), true)?;
+    assert!(rt; is_refused_in_turn(&rt, &line_of(&rt, task), &texts));
+    Ok(())
+}
+
+#[test]
+fn so_does_one_whose_fixed_part_does_not_stand(rt: HostRuntime) -> Result<(), Fail> {
+    let texts = settled(rt.alloc())?;
+    let task = task_to(rt.alloc(), LAST, Some(2), true)?;
     assert!(rt; is_refused_in_turn(&rt, &line_of(&rt, task), &texts));
     Ok(())
 }
@@ -107,7 +157,7 @@ fn so_does_one_without_room(rt: HostRuntime) -> Result<(), Fail> {
 #[test]
 fn a_writer_that_fails_holds_a_beginning_of_the_writes(rt: HostRuntime) -> Result<(), Fail> {
     let texts = settled(rt.alloc())?;
-    let task = task_to(rt.alloc(), LAST, true)?;
+    let task = task_to(rt.alloc(), LAST, None, true)?;
     leaves_beginnings(&rt, &line_of(&rt, task), &texts, 7, &[0, 1, 100]);
     Ok(())
 }
@@ -115,7 +165,7 @@ fn a_writer_that_fails_holds_a_beginning_of_the_writes(rt: HostRuntime) -> Resul
 #[test]
 fn a_read_that_fails_leaves_nothing_settled(rt: HostRuntime) -> Result<(), Fail> {
     let texts = settled(rt.alloc())?;
-    let task = task_to(rt.alloc(), LAST, true)?;
+    let task = task_to(rt.alloc(), LAST, None, true)?;
     tells_failed_reads(&rt, &line_of(&rt, task), &texts, 0);
     Ok(())
 }

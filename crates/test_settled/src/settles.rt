@@ -7,7 +7,7 @@ use pci_base::window_kind::WindowKind;
 use pci_plan::write::Write;
 use pci_settle::list::Lists;
 use pci_settle_writes::lack::SettleFault;
-use pci_settle_writes::settle::settle_anew;
+use pci_settle_writes::settle::settle;
 use std::alloc::Global;
 use std::test::Fail;
 use test_support::board::{Function, bridge, device};
@@ -41,7 +41,7 @@ fn settles(
     let Some(admitted) = admitted(alloc, roots, board) else {
         return false;
     };
-    let Ok(settled) = settle_anew(alloc, &admitted, &lists) else {
+    let Ok(settled) = settle(alloc, &admitted, &lists, &[], true) else {
         return false;
     };
     let writes = settled.writes.all.as_slice();
@@ -168,7 +168,7 @@ fn fault_in(alloc: Global, board: &[(u8, u8, Function)], mem: &[RootRange]) -> O
     let Some(admitted) = admitted(alloc, &[0], board) else {
         return None;
     };
-    match settle_anew(alloc, &admitted, &lists).err() {
+    match settle(alloc, &admitted, &lists, &[], true).err() {
         Some(Refused::Fault(fault)) => Some(fault),
         _ => None,
     }

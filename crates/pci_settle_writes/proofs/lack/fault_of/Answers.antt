@@ -13,7 +13,6 @@ use Rattle.pci_settled.specs.declared.anew.Unplaced.TheVariants as unplaced
 use Rattle.pci_settle_writes.specs.declared.lack.SettleFault.TheVariants as fault
 use Rattle.pci_settle_writes.specs.Lacks.{IsNamed, IsFaultOf, no_room}
 use Rattle.pci_settle_writes.proofs.Lacking.{lack_is}
-use Rattle.pci_settle_writes.proofs.Refusals.{named}
 use Rattle.pci_settle_writes.proofs.lack.fault_of.Goals as goal
 use Rattle.pci_settle_writes.proofs.lack.fault_of.Goals.{After-records-records}
 use Rattle.pci_settle_writes.proofs.lack.fault_of.Given.{Over}
@@ -31,7 +30,7 @@ module _ (g : Over) (c : After-records-records g) where
       function_at (system_in c.args.admitted.now) c.records-records.result.now has k r (slice_get_read c.records-records.result.now (length c.records-records.result.now) k r refl (omega (arith, n, within)) is)
 
   named_here : IsNamed (system_in c.args.admitted.now) c.args.unplaced
-  named_here = named c.args.admitted.now.roots c.requires.0 (system_in c.args.admitted.now) c.outline-outline.ensures.admitted.system c.args.unplaced c.requires.1
+  named_here = c.requires
 
   -- what has no place, by its kind
   named_as : (u : Unplaced) → c.args.unplaced ≡ u → IsNamed (system_in c.args.admitted.now) u

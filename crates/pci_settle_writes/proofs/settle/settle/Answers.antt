@@ -1,0 +1,31 @@
+use Rattle.std.proofs.Common.{◌≡◌, ◌∙◌, false, refl, sym, ap}
+use Rattle.settle_spec.specs.Lists.{are_bad_lists}
+use Rattle.pci_settle.specs.Lists.{lists_value}
+use Rattle.pci_settle_writes.proofs.SettledSound.{dump_sound, writes_reach, writes_stop}
+use Rattle.pci_settle_writes.proofs.settle.settle.Goals as goal
+
+pub returns-clause-sound : goal.returns-clause-sound
+returns-clause-sound g c =
+    let a = c.args.admitted.now in
+    let l = lists_value c.args.lists.now in
+    let fine : are_bad_lists a.roots l ≡ false = sym (c.are_bad.ensures ∙ ap (λ rs. are_bad_lists rs l) (c.roots-roots.ensures ∙ c.outline.ensures.roots)) ∙ c.if-are_bad.false in
+    let ended = c.in_ok-settled.ensures.ends in
+    dump_sound a c.outline.ensures.admitted l fine c.args.lists.now.pref.now refl c.end_in_64_bits.ensures c.args.fixed.now c.args.anew ended.room c.in_ok-settled.settled.dump ended.by.settled
+
+pub returns-clause-reached : goal.returns-clause-reached
+returns-clause-reached g c =
+    let a = c.args.admitted.now in
+    let l = lists_value c.args.lists.now in
+    let fine : are_bad_lists a.roots l ≡ false = sym (c.are_bad.ensures ∙ ap (λ rs. are_bad_lists rs l) (c.roots-roots.ensures ∙ c.outline.ensures.roots)) ∙ c.if-are_bad.false in
+    let ended = c.in_ok-settled.ensures.ends in
+    writes_reach a c.outline.ensures.admitted l fine c.args.lists.now.pref.now refl c.end_in_64_bits.ensures c.args.fixed.now c.args.anew ended.room c.in_ok-settled.settled.dump ended.by.settled _
+    ended.by.writes_are
+
+pub returns-clause-stops : goal.returns-clause-stops
+returns-clause-stops g c =
+    let a = c.args.admitted.now in
+    let l = lists_value c.args.lists.now in
+    let fine : are_bad_lists a.roots l ≡ false = sym (c.are_bad.ensures ∙ ap (λ rs. are_bad_lists rs l) (c.roots-roots.ensures ∙ c.outline.ensures.roots)) ∙ c.if-are_bad.false in
+    let ended = c.in_ok-settled.ensures.ends in
+    writes_stop a c.outline.ensures.admitted l fine c.args.lists.now.pref.now refl c.end_in_64_bits.ensures c.args.fixed.now c.args.anew ended.room c.in_ok-settled.settled.dump ended.by.settled _
+    ended.by.writes_are c.in_ok-settled.settled.writes.closings ended.by.closing

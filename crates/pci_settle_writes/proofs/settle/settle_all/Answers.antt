@@ -1,0 +1,34 @@
+use Rattle.std.proofs.Common.{◌∙◌, length, map, refl, sym, ap, subst}
+use Rattle.std.proofs.lemmas.Result.{IfOk-weaker, IfErr-weaker}
+use Rattle.pci_spec.specs.Decoded.{HasRecords}
+use Rattle.pci_function.specs.Values.{record_value}
+use Rattle.pci_place.specs.Above.{system_in}
+use Rattle.pci_place.proofs.Records.{same_count}
+use Rattle.pci_settle.specs.Lists.{lists_value}
+use Rattle.pci_settle.specs.Kept.{AreNone}
+use Rattle.pci_settled.proofs.NothingLeft.{can_be_left}
+use Rattle.pci_settle_writes.proofs.HeldTables.{told_anew}
+use Rattle.pci_settle_writes.proofs.settle.settle_all.Goals as goal
+
+pub settle_held-requires-clause-left : goal.settle_held-requires-clause-left
+settle_held-requires-clause-left g c = can_be_left c.args.admitted.now.roots (system_in c.args.admitted.now) (lists_value c.args.lists.now) _ refl refl
+
+pub returns-clause-ends : goal.returns-clause-ends
+returns-clause-ends g c =
+    let has : HasRecords (system_in c.args.admitted.now) (map record_value c.records.result.now)
+    = subst (λ rs. HasRecords (system_in c.args.admitted.now) rs) (sym c.records.ensures.value) c.outline-outline.ensures.records in
+    let count = ap length c.as_slice-kept.ensures.value ∙ c.in_ok-none.ensures.count ∙ sym (same_count (system_in c.args.admitted.now) c.records.result.now has) in
+    let none = subst AreNone (sym c.as_slice-kept.ensures.value) c.in_ok-none.ensures.none in
+    IfOk-weaker c.settle_held.result _ _
+    (λ x ends q is anew flags. ends q (told_anew c.args.admitted.now (lists_value c.args.lists.now) c.args.fixed.now _ refl refl c.as_slice-kept.result.now count none q is anew flags))
+    c.settle_held.ensures.ends
+
+pub returns-clause-refusal : goal.returns-clause-refusal
+returns-clause-refusal g c =
+    let has : HasRecords (system_in c.args.admitted.now) (map record_value c.records.result.now)
+    = subst (λ rs. HasRecords (system_in c.args.admitted.now) rs) (sym c.records.ensures.value) c.outline-outline.ensures.records in
+    let count = ap length c.as_slice-kept.ensures.value ∙ c.in_ok-none.ensures.count ∙ sym (same_count (system_in c.args.admitted.now) c.records.result.now has) in
+    let none = subst AreNone (sym c.as_slice-kept.ensures.value) c.in_ok-none.ensures.none in
+    IfErr-weaker c.settle_held.result _ _
+    (λ e ends q is anew flags. ends q (told_anew c.args.admitted.now (lists_value c.args.lists.now) c.args.fixed.now _ refl refl c.as_slice-kept.result.now count none q is anew flags))
+    c.settle_held.ensures.refusal
