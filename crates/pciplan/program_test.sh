@@ -131,6 +131,34 @@ for machine in desk old port roots; do
 done
 case_of 'roots: one root bus alone' 1 "no 58 Orphan 40:00.0$lf" '' check roots.dump roots.probe
 
+# settled NAME ROOTS WRITES DUMP: settling the dump in the machine's addresses makes these writes; then it is sound.
+settled() {
+    title=$1 machine=${4%.*} roots=$2
+    lists='--io 700-ffff --mem 80000000-febfffff --pref none'
+    # shellcheck disable=SC2086
+    case_of "$title" 0 "$3" '' settle --root "$roots" "$4" "${machine%_*}.probe" $lists --writes
+    # shellcheck disable=SC2086
+    ./pciplan settle --root "$roots" "$4" "${machine%_*}.probe" $lists >settled.txt
+    case_of "$title: check" 0 "yes$lf" '' check --root "$roots" settled.txt "${machine%_*}.probe"
+}
+
+# machines as they stand, and with the BARs of one function cleared, which alone is written then
+sed '/^02:02.0/,/^$/s/^10: 01 c1 00 00 00 30 64 fe/10: 01 00 00 00 00 00 00 00/' old.dump >old_cleared.dump
+sed '/^43:00.0/,/^$/s/^10: 04 00 00 fe/10: 04 00 00 00/' roots.dump >roots_cleared.dump
+settled 'old: settle' 00 '' old.dump
+settled 'roots: settle' 00,40 '' roots.dump
+settled 'old: settle, 02:02.0 cleared' 00 "02:02.0 04.2 0100
+02:02.0 10.4 0000c101
+02:02.0 14.4 fe600000
+02:02.0 04.2 0103$lf" old_cleared.dump
+settled 'roots: settle, 43:00.0 cleared' 00,40 "43:00.0 04.2 0504
+43:00.0 10.4 fe000004
+43:00.0 04.2 0507$lf" roots_cleared.dump
+# shellcheck disable=SC2086
+case_of 'desk: settle' 1 "no 52 VgaEnable 00:02.0$lf" '' settle desk.dump desk.probe $pools
+# shellcheck disable=SC2086
+case_of 'port: settle' 1 "no 26 WindowMask 00:06.0 1c$lf" '' settle port.dump port.probe $pools
+
 # derived NAME REMARKS VERDICT STATUS [FAULT]: the probe that is derived of the machine is the file NAME.derived, which
 # the caller made; an exact one is the same or has the fault.
 derived() {
