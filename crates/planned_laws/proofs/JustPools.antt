@@ -10,6 +10,7 @@ use Rattle.settle_spec.specs.Stands.{is_listed}
 use Rattle.settle_laws.proofs.InLists.{within_from}
 use Rattle.settle_laws.proofs.PoolLists.{can_settle_where_planned}
 use Rattle.planned_laws.specs.SettledPlans.{PlannedIsSettled, PlannedIsSettledInItsPools, just_in}
+use Rattle.planned_laws.specs.Switching.{PlannedIsStanding}
 use Rattle.planned_laws.proofs.Settled.{nothing_settled}
 use Rattle.planned_laws.proofs.ShownPlaces.{plan_is_laid_out}
 use Rattle.planned_laws.proofs.Standing.{all_stand, leaves_nothing}
@@ -21,6 +22,18 @@ planned_is_settled q s t pools ws n plannable rising plan has fine =
     let none = leaves_nothing q t pools system plan.sound laid has in
     nothing_settled q t system plan.sound fine (all_stand q t pools system plan.sound laid has plannable.can.good)
     (λ f listed left. absurd (both_ways (has_left q t f) (none f listed) left))
+
+pub planned_is_standing : PlannedIsStanding
+planned_is_standing q s t pools ws n plannable rising plan has =
+    let system = moved_system s t plan.planned.moved plannable.system in
+    let laid = plan_is_laid_out q.roots s t pools plannable rising plan.planned plan.placed in
+    record {
+      system = system;
+      nested = plan.sound.nested;
+      profile = plan.sound.profile;
+      chains = plan.sound.chains;
+      stand = all_stand q t pools system plan.sound laid has plannable.can.good;
+    }
 
 pool_listed : (roots : List ℕ) (pools : Pools) (fixed : List Slot) (root : ℕ) (c : WindowKind) → is_listed (just_in roots pools fixed) root (pool_of pools c) c ≡ true
 pool_listed roots pools fixed root IoWindow = or_left (is_within pools.io pools.io) false (within_from pools.io pools.io (omega arith, omega arith))

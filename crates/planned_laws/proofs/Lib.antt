@@ -5,3 +5,6 @@ mod Placed
 mod Settled
 mod ShownPlaces
 mod Standing
+mod StandingSound
+mod Switched
+mod SwitchedStands

@@ -1,1 +1,2 @@
 pub mod SettledPlans
+pub mod Switching

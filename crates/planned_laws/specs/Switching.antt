@@ -1,0 +1,86 @@
+-- Laws of Command where each part stands: whatever it enables, if nothing is cut off the system is sound, and nothing is to be settled.
+use Rattle.std.specs.Prelude.{◌≡◌, ◌≢◌, ℕ, ◌<◌, ◌≤◌, IsTrue, IsFalse, List, []}
+use Rattle.std.specs.Int.{bit_at}
+use Rattle.std.specs.List.{AllZip, Contains}
+use Rattle.std.specs.List.Sorted.{IsStrictlyIncreasing}
+use Rattle.pci_spec.specs.Number.{byte_at, IsImage}
+use Rattle.pci_spec.specs.Registers.{COMMAND}
+use Rattle.pci_spec.specs.System.{System, Function, IsSystem, Space, Io, is_space_on}
+use Rattle.pci_spec.specs.Bus.{IsNested}
+use Rattle.pci_spec.specs.Sound.{HasChains, IsInProfile, IsSound}
+use Rattle.pci_spec.specs.Machine.{Write}
+use Rattle.plan_spec.specs.Plan.{Pools}
+use Rattle.plan_spec.specs.PlanPromise.{IsPlanOf}
+use Rattle.plan_spec.specs.Planning.Plannable.{IsPlannable}
+use Rattle.settle_spec.specs.Lists.{Request, are_bad_lists}
+use Rattle.settle_spec.specs.Parts.{Region, regions, has_left}
+use Rattle.settle_spec.specs.Stands.{region_space, stands}
+use Rattle.settle_spec.specs.Registers.{settled}
+use Rattle.settle_spec.specs.Writes.{Settled, is_cut_off_in, settle}
+use Rattle.settle_laws.specs.PlacesLaws.{CanSettle}
+use Rattle.planned_laws.specs.SettledPlans.{HasPools}
+
+-- A system whose bus ranges nest, that is in the profile and whose capability lists end, and in which each part stands.
+pub record IsStandingSystem (q : Request) (s : System) : Type 0 where
+  pub system : IsSystem s
+  pub nested : IsNested q.roots s
+  pub profile : IsInProfile q.roots s
+  pub chains : HasChains s
+  pub stand : (r : Region) → Contains (regions q s) r → IsTrue (stands q s r)
+
+-- I/O is off where an I/O BAR is left, and what is on with a BAR or ROM of its own has all bridges above on.
+pub record IsUncut (q : Request) (s : System) : Type 0 where
+  pub left : (f : Function) → Contains s f → IsTrue (has_left q s f) → IsFalse (is_space_on f Io)
+  pub above : (f : Function) (space : Space) → Contains s f → IsFalse (is_cut_off_in q s f space)
+
+-- Where each part stands and that is kept, the system is sound,
+abbrev pub StandingIsSound : Type 0
+StandingIsSound =
+    (q : Request) (s : System) → IsStandingSystem q s → IsUncut q s → IsSound q.roots s
+
+-- and nothing is to be settled, whatever is fixed.
+abbrev pub StandingIsSettled : Type 0
+StandingIsSettled =
+    (q : Request) (s : System) → IsStandingSystem q s → IsUncut q s
+    → IsFalse (are_bad_lists q.roots q.lists) → settle q s ≡ Settled []
+
+-- ---- other values of Command
+
+-- A function that differs at most in the bits of Command that enable a space.
+pub record IsSwitched (old new : Function) : Type 0 where
+  pub slot : new.slot ≡ old.slot
+  pub probe : new.probe ≡ old.probe
+  pub image : IsImage new.image
+  pub bytes : (offset : ℕ) → offset ≢ COMMAND
+      → byte_at new.image offset ≡ byte_at old.image offset
+  pub bits : (i : ℕ) → 2 ≤ i → i < 8
+      → bit_at (byte_at new.image COMMAND) i ≡ bit_at (byte_at old.image COMMAND) i
+
+-- Each part stands whatever Command enables.
+abbrev pub SwitchedStands : Type 0
+SwitchedStands =
+    (q : Request) (s t : System) → IsStandingSystem q s → AllZip IsSwitched s t
+    → IsStandingSystem q t
+
+-- Where all parts are enabled, nothing is cut off.
+abbrev pub EnabledIsUncut : Type 0
+EnabledIsUncut =
+    (q : Request) (s : System) → IsStandingSystem q s
+    → ((r : Region) → Contains (regions q s) r → IsTrue (is_space_on r.function (region_space r)))
+    → ((f : Function) → Contains s f → IsTrue (has_left q s f) → IsFalse (is_space_on f Io))
+    → IsUncut q s
+
+-- ---- what planning and settling come to
+
+-- What a plan comes to is such a system, where lists have its pools,
+abbrev pub PlannedIsStanding : Type 0
+PlannedIsStanding =
+    (q : Request) (s t : System) (pools : Pools) (ws : List Write) (n : ℕ)
+    → IsPlannable q.roots s pools → IsStrictlyIncreasing q.roots → IsPlanOf q.roots s t pools ws n
+    → HasPools q pools → IsStandingSystem q t
+
+-- and so is what settling comes to that leaves what stands.
+abbrev pub SettledIsStanding : Type 0
+SettledIsStanding =
+    (q : Request) (s : System) → CanSettle q s → IsFalse q.anew
+    → IsStandingSystem q (settled q s)
