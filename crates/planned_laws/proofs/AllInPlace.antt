@@ -1,16 +1,18 @@
 -- Each part stands where each lies in its list or window and no two beside one another share an address, whichever comes first.
-use Rattle.std.proofs.Common.{◌≡◌, ◌&&◌, inl, inr, Bool, true, false, not, arith, refl, sym, ◌∙◌, ap, subst}
-use Rattle.std.specs.Bool.{◌==◌}
+use Rattle.std.proofs.Common.{◌≡◌, ◌&&◌, ℕ, ◌+◌, ◌*◌, inl, inr, List, Bool, true, false, not, arith, refl, sym, ◌∙◌, ap, subst}
+use Rattle.std.specs.Bool.{◌==◌, nat_lt}
 use Rattle.std.specs.List.{Contains, list_all}
-use Rattle.std.proofs.lemmas.Bool.{and_from, and_parts, both_ways, eq-eqb, false_from_ne_true}
-use Rattle.pci_spec.specs.Slot.{Slot, same_slot}
-use Rattle.pci_spec.specs.System.{System, IsSystem, Part, Bar, Rom, Window, is_bridge, is_window, register_of}
-use Rattle.pci_spec.specs.Bus.{IsNested}
-use Rattle.pci_spec.proofs.BusRanges.{all_from}
+use Rattle.std.proofs.lemmas.Bool.{and_from, and_parts, both_ways, cases_Bool, eq-eqb, eqb-true, false_from_ne_true, lt-ltb, or_cases, or_left, or_right}
+use Rattle.pci_spec.specs.Slot.{Slot, same_slot, slot_number}
+use Rattle.pci_spec.specs.Decoded.{Range}
+use Rattle.pci_spec.specs.System.{System, Function, IsSystem, Part, Bar, Rom, Window, is_bridge, is_window, register_of}
+use Rattle.pci_spec.specs.Bus.{are_siblings, is_root, IsNested}
+use Rattle.pci_spec.proofs.BusRanges.{all_from, root_means}
 use Rattle.pci_spec.proofs.Members.{in_flat_map_to, IsInPiece, in_map_to, IsMade, in_filter_to}
 use Rattle.pci_spec.proofs.Nesting.{one_function}
-use Rattle.plan_spec.specs.Planning.Layout.{AreTwo}
+use Rattle.plan_spec.specs.Planning.Layout.{AreBeside, AreTwo, LieApart}
 use Rattle.plan_spec.proofs.Planning.LaidOut.{opening}
+use Rattle.plan_spec.proofs.Planning.Writes.{same_fields}
 use Rattle.settle_spec.specs.FirstPlace.{are_apart}
 use Rattle.settle_spec.specs.Lists.{Request}
 use Rattle.settle_spec.specs.Parts.{Region, regions, regions_of, parts_of, header_parts, addresses, is_part}
@@ -23,6 +25,28 @@ use Rattle.settle_laws.proofs.HeaderParts.{IsPart, one_part, register_low}
 same_slot_itself : (s : Slot) → same_slot s s ≡ true
 same_slot_itself s = and_from (s.bus == s.bus && s.device == s.device) (s.function == s.function)
     (and_from (s.bus == s.bus) (s.device == s.device) (eq-eqb s.bus s.bus refl) (eq-eqb s.device s.device refl)) (eq-eqb s.function s.function refl)
+
+-- what lies apart is apart
+pub apart_from : (r t : Range) → LieApart r t → are_apart r t ≡ true
+apart_from r t (inl under) = or_left (nat_lt r.last t.first) (nat_lt t.last r.first) (lt-ltb r.last t.first under)
+apart_from r t (inr above) = or_right (nat_lt r.last t.first) (nat_lt t.last r.first) (lt-ltb t.last r.first above)
+
+-- parts of two ranks are two
+pub two_of : (r t : Region) → (rank r ≡ rank t → ⊥) → AreTwo r.function r.part t.function t.part
+two_of r t differ = elim (cases_Bool (same_slot r.function.slot t.function.slot)) [
+  | inr other ↦ inl other
+  | inl same ↦
+      let slot = same_fields r.function.slot t.function.slot same in
+      inr (λ register. differ (λ i. slot_number (slot i) * 256 + register i))
+]
+
+pub beside_of : (roots : List ℕ) (f g : Function) → are_siblings roots f.slot.bus g.slot.bus ≡ true → AreBeside roots f g
+beside_of roots f g beside = elim (or_cases (f.slot.bus == g.slot.bus) (is_root roots f.slot.bus && is_root roots g.slot.bus) beside) [
+  | inl same ↦ inl (eqb-true f.slot.bus g.slot.bus same)
+  | inr both ↦
+      let parts = and_parts (is_root roots f.slot.bus) (is_root roots g.slot.bus) both in
+      inr ((root_means roots f.slot.bus).0 parts.0, (root_means roots g.slot.bus).0 parts.1)
+]
 
 module _ (q : Request) (s : System) where
   abbrev pub looked_at : Region → Bool

@@ -3,6 +3,7 @@ mod Examples
 mod JustPools
 mod Placed
 mod Settled
+mod SettledStands
 mod ShownPlaces
 mod Standing
 mod StandingSound

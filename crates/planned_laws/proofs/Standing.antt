@@ -1,9 +1,8 @@
 -- Where everything has its place in pools that the lists have, each part stands, and no I/O BAR is left.
-use Rattle.std.proofs.Common.{◌≡◌, ◌&&◌, ◌||◌, ℕ, zero, suc, ◌+◌, ◌*◌, ◌<◌, inl, inr, List, [], ◌∷◌, map, Bool, true, false, cond, not, arith, refl, sym, ◌∙◌, ap, subst}
-use Rattle.std.specs.Bool.{nat_le, nat_lt, ◌==◌, if◌then◌else◌}
+use Rattle.std.proofs.Common.{◌≡◌, ◌&&◌, ◌||◌, ℕ, zero, suc, ◌<◌, inl, inr, List, [], ◌∷◌, map, Bool, true, false, cond, not, arith, refl, sym, ◌∙◌, ap, subst}
+use Rattle.std.specs.Bool.{nat_le, nat_lt, if◌then◌else◌}
 use Rattle.std.specs.List.{Contains, filter, list_any, range_with_len}
-use Rattle.std.proofs.lemmas.Bool.{and_from, and_parts, and_right, both_ways, cases_Bool, eqb-true, leb-true, lt-ltb, or_cases, or_left, or_right}
-use Rattle.pci_spec.specs.Slot.{same_slot, slot_number}
+use Rattle.std.proofs.lemmas.Bool.{and_from, and_parts, and_right, both_ways, cases_Bool, leb-true, lt-ltb, or_left, or_right}
 use Rattle.pci_spec.specs.Header.{layout, bar_count}
 use Rattle.pci_spec.specs.Bar.{bar_at, has_bar, is_io, is_prefetchable}
 use Rattle.pci_spec.specs.Rom.{has_rom, rom_is_on}
@@ -15,12 +14,11 @@ use Rattle.pci_spec.specs.Sound.{IsSound}
 use Rattle.pci_spec.proofs.BusRanges.{root_means}
 use Rattle.pci_spec.proofs.Members.{in_map_to, IsMade, in_range_to}
 use Rattle.plan_spec.specs.Plan.{Pools, pool_of, are_bad, bridges_above, class_of, is_open, is_served}
-use Rattle.plan_spec.specs.Planning.Layout.{is_item, AreBeside, AreTwo, IsInside, LieApart, IsLaidOut}
+use Rattle.plan_spec.specs.Planning.Layout.{is_item, IsInside, IsLaidOut}
 use Rattle.plan_spec.proofs.Planning.AboveBuses.{root_or_led}
 use Rattle.plan_spec.proofs.Planning.Behind.{Passes, any_gives, any_from}
 use Rattle.plan_spec.proofs.Planning.LaidOut.{opening}
 use Rattle.plan_spec.proofs.Planning.Safe.{order_of}
-use Rattle.plan_spec.proofs.Planning.Writes.{same_fields}
 use Rattle.settle_spec.specs.FirstPlace.{are_apart}
 use Rattle.settle_spec.specs.Lists.{Request, RootRange, is_had_by, ranges_of}
 use Rattle.settle_spec.specs.Parts.{Region, regions, header_bars, header_parts, addresses, has_left, is_empty, is_left, is_part, is_within, upper_pools, is_in_memory, is_in_prefetch, bridge_over, class_in, same_space}
@@ -31,12 +29,8 @@ use Rattle.settle_laws.proofs.InLists.{within_from}
 use Rattle.settle_laws.proofs.Kept.{off_roots, one_space}
 use Rattle.settle_laws.proofs.PartClasses.{by_tests, by_windows}
 use Rattle.planned_laws.specs.SettledPlans.{HasPools}
-use Rattle.planned_laws.proofs.AllInPlace.{all_in_place, looked, looked_at}
+use Rattle.planned_laws.proofs.AllInPlace.{all_in_place, apart_from, beside_of, looked, looked_at, two_of}
 use Rattle.planned_laws.proofs.Placed.{beside_apart, classes_agree, in_memory, in_prefetch, not_in_memory, open_above, over, space_by_class}
-
-apart_from : (r t : Range) → LieApart r t → are_apart r t ≡ true
-apart_from r t (inl under) = or_left (nat_lt r.last t.first) (nat_lt t.last r.first) (lt-ltb r.last t.first under)
-apart_from r t (inr above) = or_right (nat_lt r.last t.first) (nat_lt t.last r.first) (lt-ltb t.last r.first above)
 
 within_gives : (r w : Range) → is_within r w ≡ true → IsInside r w
 within_gives r w h =
@@ -170,22 +164,6 @@ module _ (q : Request) (t : System) (pools : Pools) (system : IsSystem t) (sound
 
     -- ---- apart
 
-    two_of : (r u : Region) → (rank r ≡ rank u → ⊥) → AreTwo r.function r.part u.function u.part
-    two_of r u differ = elim (cases_Bool (same_slot r.function.slot u.function.slot)) [
-      | inr other ↦ inl other
-      | inl same ↦
-          let slot = same_fields r.function.slot u.function.slot same in
-          inr (λ register. differ (λ i. slot_number (slot i) * 256 + register i))
-    ]
-
-    beside_of : (f g : Function) → are_siblings q.roots f.slot.bus g.slot.bus ≡ true → AreBeside q.roots f g
-    beside_of f g beside = elim (or_cases (f.slot.bus == g.slot.bus) (is_root q.roots f.slot.bus && is_root q.roots g.slot.bus) beside) [
-      | inl same ↦ inl (eqb-true f.slot.bus g.slot.bus same)
-      | inr both ↦
-          let roots = and_parts (is_root q.roots f.slot.bus) (is_root q.roots g.slot.bus) both in
-          inr ((root_means q.roots f.slot.bus).0 roots.0, (root_means q.roots g.slot.bus).0 roots.1)
-    ]
-
     two_apart : (r u : Region) → Contains (regions q t) r → Contains (regions q t) u → are_beside q r u ≡ true → (rank r ≡ rank u → ⊥) → are_apart (addresses r) (addresses u) ≡ true
     two_apart r u in_r in_u beside differ =
         let is_r = has_place r in_r in
@@ -193,7 +171,7 @@ module _ (q : Request) (t : System) (pools : Pools) (system : IsSystem t) (sound
         let parts = and_parts (are_siblings q.roots r.function.slot.bus u.function.slot.bus) (same_space (region_space r) (region_space u)) beside in
         apart_from (addresses r) (addresses u)
         (beside_apart q.roots t pools system sound laid good r.function u.function r.part u.part is_r.listed is_u.listed is_r.item is_u.item
-        (one_space (region_space r) (region_space u) parts.1) (beside_of r.function u.function parts.0) (two_of r u differ))
+        (one_space (region_space r) (region_space u) parts.1) (beside_of q.roots r.function u.function parts.0) (two_of r u differ))
 
     -- The law: each part stands.
     pub all_stand : (r : Region) → Contains (regions q t) r → stands q t r ≡ true

@@ -1,9 +1,10 @@
 -- Laws of Command where each part stands: whatever it enables, if nothing is cut off the system is sound, and nothing is to be settled.
-use Rattle.std.specs.Prelude.{◌≡◌, ◌≢◌, ℕ, ◌<◌, ◌≤◌, IsTrue, IsFalse, List, []}
+use Rattle.std.specs.Prelude.{◌≡◌, ◌≢◌, ℕ, ◌<◌, ◌≤◌, false, IsTrue, IsFalse, List, []}
 use Rattle.std.specs.Int.{bit_at}
 use Rattle.std.specs.List.{AllZip, Contains}
 use Rattle.std.specs.List.Sorted.{IsStrictlyIncreasing}
 use Rattle.pci_spec.specs.Number.{byte_at, IsImage}
+use Rattle.pci_spec.specs.Slot.{Slot}
 use Rattle.pci_spec.specs.Registers.{COMMAND}
 use Rattle.pci_spec.specs.System.{System, Function, IsSystem, Space, Io, is_space_on}
 use Rattle.pci_spec.specs.Bus.{IsNested}
@@ -79,8 +80,18 @@ PlannedIsStanding =
     → IsPlannable q.roots s pools → IsStrictlyIncreasing q.roots → IsPlanOf q.roots s t pools ws n
     → HasPools q pools → IsStandingSystem q t
 
--- and so is what settling comes to that leaves what stands.
+-- the same lists, where what stands is kept, but for what is fixed
+abbrev pub keeping : Request → List Slot → Request
+keeping q fixed = record q { fixed = fixed; anew = false }
+
+-- and so is what settling comes to, whether all was placed anew or not.
 abbrev pub SettledIsStanding : Type 0
 SettledIsStanding =
-    (q : Request) (s : System) → CanSettle q s → IsFalse q.anew
-    → IsStandingSystem q (settled q s)
+    (q : Request) (s : System) (fixed : List Slot) → CanSettle q s
+    → IsStandingSystem (keeping q fixed) (settled q s)
+
+-- So what all was placed anew in is not written when it is settled and what stands is kept, whatever is fixed then.
+abbrev pub SettledAnewIsSettled : Type 0
+SettledAnewIsSettled =
+    (q : Request) (s : System) (fixed : List Slot) → CanSettle q s
+    → settle (keeping q fixed) (settled q s) ≡ Settled []

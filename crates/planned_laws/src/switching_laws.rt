@@ -1,6 +1,6 @@
 //! Laws of what Command enables where each part stands. These functions do nothing: each contract is a law.
 
-ghost use Rattle.planned_laws.specs.Switching.{StandingIsSound, StandingIsSettled, SwitchedStands, EnabledIsUncut, PlannedIsStanding, SettledIsStanding};
+ghost use Rattle.planned_laws.specs.Switching.{StandingIsSound, StandingIsSettled, SwitchedStands, EnabledIsUncut, PlannedIsStanding, SettledIsStanding, SettledAnewIsSettled};
 
 /// A system in which each part stands is sound, and settled, if what is on has all bridges above on, and
 /// I/O is off where an I/O BAR is left.
@@ -20,4 +20,5 @@ pub fn standing_systems_can_be_switched()
 pub fn plans_and_settling_lead_to_standing_systems()
     ensures planned { PlannedIsStanding }
     ensures settled { SettledIsStanding }
+    ensures again { SettledAnewIsSettled }
 {}
