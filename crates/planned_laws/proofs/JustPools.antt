@@ -9,7 +9,7 @@ use Rattle.settle_spec.specs.Parts.{has_left, is_within}
 use Rattle.settle_spec.specs.Stands.{is_listed}
 use Rattle.settle_laws.proofs.InLists.{within_from}
 use Rattle.settle_laws.proofs.PoolLists.{can_settle_where_planned}
-use Rattle.planned_laws.specs.SettledPlans.{PlannedIsSettled, PlannedIsSettledInItsPools, just_in}
+use Rattle.planned_laws.specs.SettledPlans.{HasPools, PlannedIsSettled, PlannedIsSettledInItsPools, just_in}
 use Rattle.planned_laws.specs.Switching.{PlannedIsStanding}
 use Rattle.planned_laws.proofs.Settled.{nothing_settled}
 use Rattle.planned_laws.proofs.ShownPlaces.{plan_is_laid_out}
@@ -40,8 +40,10 @@ pool_listed roots pools fixed root IoWindow = or_left (is_within pools.io pools.
 pool_listed roots pools fixed root MemoryWindow = or_left (is_within pools.memory pools.memory) false (within_from pools.memory pools.memory (omega arith, omega arith))
 pool_listed roots pools fixed root PrefetchWindow = or_left (is_within pools.prefetch pools.prefetch) false (within_from pools.prefetch pools.prefetch (omega arith, omega arith))
 
+pub has_just_pools : (roots : List ℕ) (pools : Pools) (fixed : List Slot) → HasPools (just_in roots pools fixed) pools
+has_just_pools roots pools fixed = record { kept = refl; listed = λ root c is_one. pool_listed roots pools fixed root c }
+
 pub planned_is_settled_in_its_pools : PlannedIsSettledInItsPools
 planned_is_settled_in_its_pools roots s t pools ws n fixed p rising plan =
-    planned_is_settled (just_in roots pools fixed) s t pools ws n p rising plan
-    record { kept = refl; listed = λ root c is_one. pool_listed roots pools fixed root c }
+    planned_is_settled (just_in roots pools fixed) s t pools ws n p rising plan (has_just_pools roots pools fixed)
     (can_settle_where_planned roots s pools p.system p.nested p.profile p.chains rising p.addresses p.can).lists

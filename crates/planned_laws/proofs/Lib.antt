@@ -9,3 +9,4 @@ mod Standing
 mod StandingSound
 mod Switched
 mod SwitchedStands
+mod Uncut

@@ -34,12 +34,19 @@ pub record IsUncut (q : Request) (s : System) : Type 0 where
   pub left : (f : Function) → Contains s f → IsTrue (has_left q s f) → IsFalse (is_space_on f Io)
   pub above : (f : Function) (space : Space) → Contains s f → IsFalse (is_cut_off_in q s f space)
 
--- Where each part stands and that is kept, the system is sound,
+-- Where each part stands, a system is sound if that is kept,
 abbrev pub StandingIsSound : Type 0
 StandingIsSound =
     (q : Request) (s : System) → IsStandingSystem q s → IsUncut q s → IsSound q.roots s
 
--- and nothing is to be settled, whatever is fixed.
+-- and only then, as far as I/O is off where it has to be.
+abbrev pub SoundIsUncut : Type 0
+SoundIsUncut =
+    (q : Request) (s : System) → IsStandingSystem q s → IsSound q.roots s
+    → ((f : Function) → Contains s f → IsTrue (has_left q s f) → IsFalse (is_space_on f Io))
+    → IsUncut q s
+
+-- Then nothing is to be settled, whatever is fixed.
 abbrev pub StandingIsSettled : Type 0
 StandingIsSettled =
     (q : Request) (s : System) → IsStandingSystem q s → IsUncut q s

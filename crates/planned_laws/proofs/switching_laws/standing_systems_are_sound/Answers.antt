@@ -1,9 +1,13 @@
 use Rattle.planned_laws.proofs.Settled.{nothing_settled}
 use Rattle.planned_laws.proofs.StandingSound.{standing_sound}
+use Rattle.planned_laws.proofs.Uncut.{sound_is_uncut}
 use Rattle.planned_laws.proofs.switching_laws.standing_systems_are_sound.Goals as goal
 
 pub returns-clause-sound : goal.returns-clause-sound
 returns-clause-sound c = standing_sound
+
+pub returns-clause-uncut : goal.returns-clause-uncut
+returns-clause-uncut c = sound_is_uncut
 
 pub returns-clause-settled : goal.returns-clause-settled
 returns-clause-settled c = λ q s is uncut fine. nothing_settled q s is.system (standing_sound q s is uncut) fine is.stand uncut.left
