@@ -97,7 +97,7 @@ SettledIsStanding =
     (q : Request) (s : System) (fixed : List Slot) → CanSettle q s
     → IsStandingSystem (keeping q fixed) (settled q s)
 
--- So what all was placed anew in is not written when it is settled and what stands is kept, whatever is fixed then.
+-- So settling that once more, with what stands kept, writes nothing, whatever is fixed then.
 abbrev pub SettledAnewIsSettled : Type 0
 SettledAnewIsSettled =
     (q : Request) (s : System) (fixed : List Slot) → CanSettle q s
