@@ -280,10 +280,10 @@ done | sort >got
 same 'the program takes the commands and options of the page, and no other of them'
 
 # The names that the program's definitions have, so that none is missing in the page.
-words=$top/crates/pciplan_words/src/words.rt
+words=$top/crates/pciplan_words/src/commands.rt
 {
-    sed -n 's/.*of_texts(alloc, "\([a-z]*\)").*/\1/p' "$words"
-    sed -n 's/^const [A-Z_]*: &str = "\([a-z-]*\)";$/--\1/p' "$words"
+    sed -n 's/^ *name: "\([a-z]*\)",$/\1/p' "$words"
+    sed -n 's/^pub const [A-Z_]*: &str = "\([a-z-]*\)";$/--\1/p' "$words"
 } | sort >got
 tr ' ' '\n' <synopsis | tr -d = | sort -u >wanted
 same 'the page has the names of the definitions'

@@ -1,5 +1,7 @@
 -- What clap's contracts tell of the command and of the words of a command line.
-use Rattle.std.proofs.Common.{◌≡◌, ◌⊎◌, ◌≢◌, ◌||◌, List, [], ◌∷◌, true, false, Option, None, Some, Result, Ok, Err, MatchOption, MatchResult, option_map, refl, sym, ◌∙◌, ap, ap₂, subst, inl, inr, length, arith}
+use Rattle.std.proofs.Common.{◌≡◌, ◌⊎◌, ◌≢◌, ◌||◌, List, [], ◌∷◌, true, false, Option, None, Some, Result, Ok, Err, MatchOption, MatchResult, option_map, refl, sym, ◌∙◌, ap, ap₂, subst, inl, inr, length, ◌<◌, ◌+◌, ℕ, fold, take, get_or, arith}
+use Rattle.std.proofs.Math.Bool.{or-false}
+use Rattle.std.proofs.lemmas.List.Sums.{fold_more}
 use Rattle.std.proofs.lemmas.Option.{none-some, same_Some}
 use Rattle.std.specs.Box.{box_value}
 use Rattle.std.specs.Prelude.{ok_or}
@@ -16,10 +18,13 @@ use Rattle.clap.specs.declared.error.kind.ErrorKind.TheVariants.{OutOfMemory}
 use Rattle.clap.specs.declared.parser.matches.ArgMatches.{ArgMatches}
 use Rattle.clap.specs.declared.parser.matches.ArgMatches.TheViews.{out-ArgMatches, out-SubCommand}
 use Rattle.clap.proofs.OnLiterals.{clap_on_literals}
+use Rattle.pciplan_words.specs.Arguments.{app_of_subcommand, argument_rule, with_argument, with_entry}
 use Rattle.pciplan_words.specs.CommandLines.{commands, IsGiven, HasNoLine}
 use Rattle.pciplan_words.specs.CommandWords.{IsSaid}
 use Rattle.pciplan_words.specs.declared.asked.Asked.{Asked}
 use Rattle.pciplan_words.specs.declared.asked.Given.{Given}
+use Rattle.pciplan_words.specs.declared.commands.Argument.{Argument}
+use Rattle.pciplan_words.specs.declared.commands.Subcommand.{Subcommand}
 use Rattle.pciplan_words.specs.declared.asked.WordsFault.{WordsFault}
 use Rattle.pciplan_words.specs.declared.asked.WordsFault.TheVariants.{Usage, Memory}
 
@@ -28,15 +33,28 @@ pub with_arg : {old new : Command} {arg : Arg} {app : App} {rule : Rule} → Add
     → arg.global ≡ false → app_of new ≡ with_rule app rule
 with_arg adds app_is rule_is local = adds.shape local ∙ ap₂ with_rule app_is rule_is
 
-pub local_arg : {old new : Command} {arg : Arg} → AddsArg old arg new → (out-Command old).has_globals ≡ false → arg.global ≡ false
-    → (out-Command new).has_globals ≡ false
-local_arg adds old_local local = adds.globals ∙ ap₂ ◌||◌ old_local local
+pub local_arg : {old new : Command} {arg : Arg} → AddsArg old arg new → arg.global ≡ false → (out-Command new).has_globals ≡ (out-Command old).has_globals
+local_arg {old} adds local = adds.globals ∙ ap (λ b. (out-Command old).has_globals || b) local ∙ or-false _
+
+-- with the arguments, or the subcommands, of a table up to the next one
+pub with_next_arg : {old new : Command} {arg : Arg} (start : App) (arguments : List Argument) (i : ℕ) (d : Argument) → i < length arguments
+    → AddsArg old arg new → app_of old ≡ fold with_argument start (take i arguments) → rule_of arg ≡ argument_rule (get_or arguments i d)
+    → arg.global ≡ false → app_of new ≡ fold with_argument start (take (i + 1) arguments)
+with_next_arg start arguments i d within adds old_is rule_is local =
+    with_arg adds old_is rule_is local ∙ sym (fold_more with_argument start arguments i d within)
 
 -- with one more subcommand, and the two settings of the program
 pub with_sub : {old new sub : Command} {app below : App} → AddsSubcommand old sub new → app_of old ≡ app → app_of sub ≡ below
     → (out-Command sub).has_globals ≡ false → app_of new ≡ with_subcommand app below.top
 with_sub adds app_is below_is local =
     adds.shape local ∙ ap₂ (λ (a b : App). with_subcommand a b.top) app_is below_is
+
+pub with_next_sub : {old new sub : Command} (start : App) (subcommands : List Subcommand) (i : ℕ) (d : Subcommand) → i < length subcommands
+    → AddsSubcommand old sub new → app_of old ≡ fold with_entry start (take i subcommands)
+    → app_of sub ≡ app_of_subcommand (get_or subcommands i d) → (out-Command sub).has_globals ≡ false
+    → app_of new ≡ fold with_entry start (take (i + 1) subcommands)
+with_next_sub start subcommands i d within adds old_is sub_is local =
+    with_sub adds old_is sub_is local ∙ sym (fold_more with_entry start subcommands i d within)
 
 pub without_name : (old new : Command) (app : App) → out-Command new ≡ record (out-Command old) { no_binary_name = true } → app_of old ≡ app
     → app_of new ≡ record app { top = record app.top { no_binary_name = true } }

@@ -1,2 +1,3 @@
+pub mod Arguments
 pub mod CommandWords
 pub mod CommandLines

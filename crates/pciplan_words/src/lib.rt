@@ -4,4 +4,5 @@
 #![tactic(auto)]
 
 pub mod asked;
+mod commands;
 pub mod words;

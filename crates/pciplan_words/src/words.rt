@@ -1,9 +1,8 @@
 //! The words of the command line.
-ghost use Rattle.std.specs.Prelude.{◌≡◌, ◌≢◌, ◌⊎◌, List, ℕ, false, map, IfOk, MatchOption, MatchResult};
-ghost use Rattle.clap.specs.Words.{app_of, found_of, kind_of, rows_of, rule_of};
+ghost use Rattle.std.specs.Prelude.{◌≡◌, ◌≢◌, ◌⊎◌, List, ℕ, map, MatchOption, MatchResult};
+ghost use Rattle.clap.specs.Words.{found_of, kind_of, rows_of};
 ghost use Rattle.clap.specs.declared.error.kind.ErrorKind.{ErrorKind};
-ghost use Rattle.clap.specs.declared.builder.command.Command.TheViews.{out-Command};
-ghost use Rattle.pciplan_words.specs.CommandLines.{flag_rule, option_rule, pool_rule, with_paths, listing, mapping, planning, settling, probing, commands, IsGiven, HasNoLine};
+ghost use Rattle.pciplan_words.specs.CommandLines.{IsGiven, HasNoLine};
 ghost use Rattle.pciplan_words.specs.CommandWords.{HasFaultsWords, HasMapWords, HasPlanWords, HasSettleWords, IsAsked, IsSaid};
 ghost use Rattle.pciplan_words.specs.declared.asked.Asked.{Asked};
 ghost use Rattle.pciplan_words.specs.declared.asked.PlanWords.{PlanWords};
@@ -11,49 +10,12 @@ ghost use Rattle.pciplan_words.specs.declared.asked.SettleWords.{SettleWords};
 ghost use Rattle.pciplan_words.specs.declared.asked.WordsFault.{WordsFault};
 
 use crate::asked::{Asked, FaultsWords, Given, MapWords, PlanWords, SettleWords, WordsFault};
-use clap::{Arg, ArgAction, ArgMatches, Command};
+use crate::commands::{
+    ANEW, DUMP, EXACT, FIXED, HOST_IO, HOST_MEM, IO, LEAST, MEM, MODEL, PREF, PROBE, ROOT, WHY,
+    WRITES, command,
+};
+use clap::ArgMatches;
 use std::alloc::{AllocError, Global};
-
-/// The names of the two texts among the words.
-const DUMP: &str = "DUMP";
-
-const PROBE: &str = "PROBE";
-
-/// The name of the option that lists the root buses.
-const ROOT: &str = "root";
-
-/// The name of the option that lists the words by which functions are taken.
-const MODEL: &str = "model";
-
-/// The names of the options that list the addresses that the host sends to its root buses, of I/O and of memory.
-const HOST_IO: &str = "host-io";
-
-const HOST_MEM: &str = "host-mem";
-
-/// The name of the option that asks for what stands behind faults.
-const WHY: &str = "why";
-
-/// The name of the option that asks for the writes of a plan or of settling.
-const WRITES: &str = "writes";
-
-/// The name of the option that lists the slots whose functions may not be written.
-const FIXED: &str = "fixed";
-
-/// The name of the option that leaves nothing where it stands.
-const ANEW: &str = "anew";
-
-/// The names of the options that name the pools, or lists of ranges.
-const IO: &str = "io";
-
-const MEM: &str = "mem";
-
-const PREF: &str = "pref";
-
-/// The name of the option that lets nothing be assumed.
-const EXACT: &str = "exact";
-
-/// The name of the option that lets the least size be assumed of enabled registers.
-const LEAST: &str = "least";
 
 impl From<AllocError> for WordsFault {
     ghost from_gives = { λ _ fault. fault ≡ WordsFault.Memory };
@@ -76,122 +38,6 @@ impl From<clap::Error> for WordsFault {
             WordsFault::Usage
         }
     }
-}
-
-/// A subcommand that takes the two texts.
-fn of_texts<'a>(alloc: Global, name: &'a str) -> Result<Command<'a>, AllocError>
-    ensures app { IfOk result (λ command. app_of command ≡ with_paths name.now) }
-    ensures local { IfOk result (λ command. (out-Command command).has_globals ≡ false) }
-{
-    let dump = Arg::new(alloc, DUMP).required(true);
-    let probe = Arg::new(alloc, PROBE).required(true);
-    Command::new(alloc, name).arg(dump)?.arg(probe)
-}
-
-/// The required option of this name, of a pool or a list.
-fn pool_arg<'a>(alloc: Global, name: &'a str) -> Arg<'a>
-    ensures rule { rule_of result ≡ pool_rule name.now }
-    ensures local { result.global ≡ false }
-{
-    word_arg(alloc, name).required(true)
-}
-
-/// The option of this name, which takes a word.
-fn word_arg<'a>(alloc: Global, name: &'a str) -> Arg<'a>
-    ensures rule { rule_of result ≡ option_rule name.now }
-    ensures local { result.global ≡ false }
-{
-    Arg::new(alloc, name).long(name)
-}
-
-/// The option of this name, which takes no word.
-fn flag_arg<'a>(alloc: Global, name: &'a str) -> Arg<'a>
-    ensures rule { rule_of result ≡ flag_rule name.now }
-    ensures local { result.global ≡ false }
-{
-    Arg::new(alloc, name).long(name).action(ArgAction::SetTrue)
-}
-
-/// `pciplan faults DUMP PROBE [--root LIST] [--model WORDS] [--host-io LIST] [--host-mem LIST] [--why]`.
-fn faults_command<'a>(alloc: Global) -> Result<Command<'a>, AllocError>
-    ensures app { IfOk result (λ command. app_of command ≡ listing) }
-    ensures local { IfOk result (λ command. (out-Command command).has_globals ≡ false) }
-{
-    of_texts(alloc, "faults")?
-        .arg(word_arg(alloc, ROOT))?
-        .arg(word_arg(alloc, MODEL))?
-        .arg(word_arg(alloc, HOST_IO))?
-        .arg(word_arg(alloc, HOST_MEM))?
-        .arg(flag_arg(alloc, WHY))
-}
-
-/// `pciplan map DUMP PROBE [--root LIST] [--model WORDS] [--host-io LIST] [--host-mem LIST]`.
-fn map_command<'a>(alloc: Global) -> Result<Command<'a>, AllocError>
-    ensures app { IfOk result (λ command. app_of command ≡ mapping) }
-    ensures local { IfOk result (λ command. (out-Command command).has_globals ≡ false) }
-{
-    of_texts(alloc, "map")?
-        .arg(word_arg(alloc, ROOT))?
-        .arg(word_arg(alloc, MODEL))?
-        .arg(word_arg(alloc, HOST_IO))?
-        .arg(word_arg(alloc, HOST_MEM))
-}
-
-/// `pciplan plan DUMP PROBE --io A-B --mem A-B --pref A-B [--writes] [--why] [--root LIST]`.
-fn plan_command<'a>(alloc: Global) -> Result<Command<'a>, AllocError>
-    ensures app { IfOk result (λ command. app_of command ≡ planning) }
-    ensures local { IfOk result (λ command. (out-Command command).has_globals ≡ false) }
-{
-    of_texts(alloc, "plan")?
-        .arg(pool_arg(alloc, IO))?
-        .arg(pool_arg(alloc, MEM))?
-        .arg(pool_arg(alloc, PREF))?
-        .arg(flag_arg(alloc, WRITES))?
-        .arg(flag_arg(alloc, WHY))?
-        .arg(word_arg(alloc, ROOT))
-}
-
-/// `pciplan settle DUMP PROBE --io LIST --mem LIST --pref LIST [--root LIST] [--fixed SLOTS] [--anew] [--writes]`.
-fn settle_command<'a>(alloc: Global) -> Result<Command<'a>, AllocError>
-    ensures app { IfOk result (λ command. app_of command ≡ settling) }
-    ensures local { IfOk result (λ command. (out-Command command).has_globals ≡ false) }
-{
-    of_texts(alloc, "settle")?
-        .arg(pool_arg(alloc, IO))?
-        .arg(pool_arg(alloc, MEM))?
-        .arg(pool_arg(alloc, PREF))?
-        .arg(word_arg(alloc, ROOT))?
-        .arg(word_arg(alloc, FIXED))?
-        .arg(flag_arg(alloc, ANEW))?
-        .arg(flag_arg(alloc, WRITES))
-}
-
-/// `pciplan probe DUMP SIZES [--exact] [--least]`.
-fn probe_command<'a>(alloc: Global) -> Result<Command<'a>, AllocError>
-    ensures app { IfOk result (λ command. app_of command ≡ probing) }
-    ensures local { IfOk result (λ command. (out-Command command).has_globals ≡ false) }
-{
-    of_texts(alloc, "probe")?
-        .arg(flag_arg(alloc, EXACT))?
-        .arg(flag_arg(alloc, LEAST))
-}
-
-/// `pciplan show DUMP PROBE`, `pciplan check [--root LIST] DUMP PROBE`, `pciplan size DUMP PROBE`, and `pciplan faults`,
-/// `pciplan map`, `pciplan plan`, `pciplan settle` and `pciplan probe`.
-fn command<'a>(alloc: Global) -> Result<Command<'a>, AllocError>
-    ensures { IfOk result (λ command. app_of command ≡ commands) }
-{
-    Command::new(alloc, "pciplan")
-        .no_binary_name(true)
-        .subcommand_required(true)
-        .subcommand(of_texts(alloc, "show")?)?
-        .subcommand(of_texts(alloc, "check")?.arg(word_arg(alloc, ROOT))?)?
-        .subcommand(faults_command(alloc)?)?
-        .subcommand(map_command(alloc)?)?
-        .subcommand(of_texts(alloc, "size")?)?
-        .subcommand(plan_command(alloc)?)?
-        .subcommand(settle_command(alloc)?)?
-        .subcommand(probe_command(alloc)?)
 }
 
 /// The words of the options of `faults`.
