@@ -3,9 +3,9 @@ use Rattle.std.proofs.Common.{◌≡◌, ◌⊎◌, inr, List, ℕ, sym}
 use Rattle.std.specs.Prelude.{Result, Ok, Err, IfOk, IfErr, MatchResult}
 use Rattle.std.proofs.lemmas.Result.{IfErr-at_err}
 use Rattle.pciplan_cli.specs.Invocations.{IsRefusedFor, HasBadWords}
-use Rattle.pciplan_cli.specs.Statuses.{status_of}
+use Rattle.pciplan_tasks.specs.Statuses.{status_of}
 use Rattle.pciplan_cli.specs.declared.invocation.Invocation.{Invocation}
-use Rattle.pciplan_cli.specs.declared.failure.Failure.{Failure}
+use Rattle.pciplan_tasks.specs.declared.failure.Failure.{Failure}
 
 -- what holds of the line that the words make holds of one that they make
 pub with_line : {W E : Type 0} (P : W → Invocation → Type 0) (Q : Invocation → Type 0) (words : Result W E) (line : Invocation)

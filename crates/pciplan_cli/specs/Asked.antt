@@ -13,11 +13,11 @@ use Rattle.pciplan_lists.specs.PoolWords.{IsPoolWord, HasNoPool}
 use Rattle.pciplan_words.specs.declared.asked.Asked.{Asked}
 use Rattle.pciplan_words.specs.declared.asked.Asked.TheVariants as asked
 use Rattle.pciplan_words.specs.declared.asked.PlanWords.{PlanWords}
-use Rattle.pciplan_cli.specs.declared.invocation.Task.{Task}
-use Rattle.pciplan_cli.specs.declared.invocation.Task.TheVariants as task
-use Rattle.pciplan_cli.specs.declared.failure.PoolOption.TheVariants.{Io, Mem, Pref}
-use Rattle.pciplan_cli.specs.declared.failure.Failure.{Failure}
-use Rattle.pciplan_cli.specs.declared.failure.Failure.TheVariants.{Usage, Root, Pool}
+use Rattle.pciplan_tasks.specs.declared.task.Task.{Task}
+use Rattle.pciplan_tasks.specs.declared.task.Task.TheVariants as task
+use Rattle.pciplan_tasks.specs.declared.failure.PoolOption.TheVariants.{Io, Mem, Pref}
+use Rattle.pciplan_tasks.specs.declared.failure.Failure.{Failure}
+use Rattle.pciplan_tasks.specs.declared.failure.Failure.TheVariants.{Usage, Root, Pool}
 
 -- the planning that the words ask for: each pool is that of its own option
 pub record IsPlanningOf (words : PlanWords) (planning : Task) : Type 0 where

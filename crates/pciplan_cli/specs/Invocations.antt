@@ -4,9 +4,9 @@ use Rattle.std.specs.String.{string_bytes}
 use Rattle.pciplan_words.specs.CommandLines.{IsGiven, HasNoLine}
 use Rattle.pciplan_words.specs.declared.asked.Asked.{Asked}
 use Rattle.pciplan_cli.specs.Asked.{IsTaskOf, IsRefusedFor as IsWordRefused}
-use Rattle.pciplan_cli.specs.Statuses.{status_of}
-use Rattle.pciplan_cli.specs.declared.failure.Failure.{Failure}
-use Rattle.pciplan_cli.specs.declared.failure.Failure.TheVariants.{Usage, Memory}
+use Rattle.pciplan_tasks.specs.Statuses.{status_of}
+use Rattle.pciplan_tasks.specs.declared.failure.Failure.{Failure}
+use Rattle.pciplan_tasks.specs.declared.failure.Failure.TheVariants.{Usage, Memory}
 use Rattle.pciplan_cli.specs.declared.invocation.Invocation.{Invocation}
 
 -- the command line of the words

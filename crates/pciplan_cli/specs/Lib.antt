@@ -1,12 +1,4 @@
-pub mod Statuses
-pub mod Answers
-pub mod PlanAnswers
-pub mod SettleAnswers
-pub mod FaultsAnswers
-pub mod MapAnswers
 pub mod MapAsked
-pub mod TakenAnswers
-pub mod GivenAnswers
 pub mod ModelWords
 pub mod RootWords
 pub mod OptionWords
@@ -15,5 +7,4 @@ pub mod SettleAsked
 pub mod Asked
 pub mod Invocations
 pub mod Opened
-pub mod ProbeAnswers
-pub mod Tasks
+pub mod CarriedOut

@@ -8,11 +8,11 @@ use Rattle.pci_tree.specs.Roots.{buses_of}
 use Rattle.pci_tree.specs.declared.roots.Roots.{Roots}
 use Rattle.pciplan_words.specs.declared.asked.MapWords.{MapWords}
 use Rattle.pciplan_cli.specs.OptionWords.{AreRootsOf, AreWordsOf, AreRangesOf, HasNoRoots, HasNoWords, HasNoRanges}
-use Rattle.pciplan_cli.specs.declared.invocation.HostLists.{HostLists}
-use Rattle.pciplan_cli.specs.declared.invocation.Task.{Task}
-use Rattle.pciplan_cli.specs.declared.invocation.Task.TheVariants as task
-use Rattle.pciplan_cli.specs.declared.failure.Failure.{Failure}
-use Rattle.pciplan_cli.specs.declared.failure.Failure.TheVariants.{Root, Model, Host, Memory}
+use Rattle.pciplan_tasks.specs.declared.task.HostLists.{HostLists}
+use Rattle.pciplan_tasks.specs.declared.task.Task.{Task}
+use Rattle.pciplan_tasks.specs.declared.task.Task.TheVariants as task
+use Rattle.pciplan_tasks.specs.declared.failure.Failure.{Failure}
+use Rattle.pciplan_tasks.specs.declared.failure.Failure.TheVariants.{Root, Model, Host, Memory}
 
 pub record IsMapOf (asked : MapWords) (t : Task) : Type 0 where
   pub roots : Roots

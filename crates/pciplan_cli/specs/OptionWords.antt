@@ -13,8 +13,8 @@ use Rattle.pciplan_lists.specs.ListWords.{IsListWord}
 use Rattle.pciplan_lists.specs.HostLists.{IsGoodHostList}
 use Rattle.pciplan_cli.specs.ModelWords.{IsModelWord}
 use Rattle.pciplan_cli.specs.RootWords.{IsRootWord}
-use Rattle.pciplan_cli.specs.declared.failure.Failure.{Failure}
-use Rattle.pciplan_cli.specs.declared.failure.Failure.TheVariants.{Host, Memory}
+use Rattle.pciplan_tasks.specs.declared.failure.Failure.{Failure}
+use Rattle.pciplan_tasks.specs.declared.failure.Failure.TheVariants.{Host, Memory}
 
 -- the roots of the word of `--root`: bus 00 alone where there is none
 abbrev pub AreRootsOf : Option (Bor (List ℕ)) → Roots → Type 0

@@ -9,12 +9,12 @@ use Rattle.pciplan_lists.specs.ListWords.{IsListWord}
 use Rattle.pciplan_lists.specs.SlotWords.{IsSlotListWord}
 use Rattle.pciplan_words.specs.declared.asked.SettleWords.{SettleWords}
 use Rattle.pciplan_cli.specs.OptionWords.{AreRootsOf, HasNoRoots}
-use Rattle.pciplan_cli.specs.declared.invocation.SettleRequest.{SettleRequest}
-use Rattle.pciplan_cli.specs.declared.invocation.Task.{Task}
-use Rattle.pciplan_cli.specs.declared.invocation.Task.TheVariants as task
-use Rattle.pciplan_cli.specs.declared.failure.PoolOption.TheVariants.{Io, Mem, Pref}
-use Rattle.pciplan_cli.specs.declared.failure.Failure.{Failure}
-use Rattle.pciplan_cli.specs.declared.failure.Failure.TheVariants.{Root, Pool, Fixed, Memory}
+use Rattle.pciplan_tasks.specs.declared.task.SettleRequest.{SettleRequest}
+use Rattle.pciplan_tasks.specs.declared.task.Task.{Task}
+use Rattle.pciplan_tasks.specs.declared.task.Task.TheVariants as task
+use Rattle.pciplan_tasks.specs.declared.failure.PoolOption.TheVariants.{Io, Mem, Pref}
+use Rattle.pciplan_tasks.specs.declared.failure.Failure.{Failure}
+use Rattle.pciplan_tasks.specs.declared.failure.Failure.TheVariants.{Root, Pool, Fixed, Memory}
 
 -- a list of ranges in this word
 abbrev pub IsListOf : Bor (List ℕ) → Vec RootRange → Type 0

@@ -3,14 +3,14 @@ ghost use Rattle.std.specs.Prelude.{◌≡◌, true, MatchOption, MatchResult};
 ghost use Rattle.pciplan_words.specs.declared.asked.Asked.{Asked};
 ghost use Rattle.pciplan_cli.specs.Asked.{IsAssumingOf, IsTaskOf, IsRefusedFor};
 
-use crate::failure::{Failure, PoolOption};
 use crate::faults_asked::faults_of;
-use crate::invocation::Task;
 use crate::map_asked::map_of;
 use crate::option_words::{pool_of, roots_of};
 use crate::settle_asked::settling_of;
 use pci_place::pools::Pools;
 use pci_probe::assuming::Assuming;
+use pciplan_tasks::failure::{Failure, PoolOption};
+use pciplan_tasks::task::Task;
 use pciplan_words::asked::{Asked, PlanWords};
 use std::alloc::Global;
 

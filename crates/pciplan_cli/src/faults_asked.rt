@@ -4,11 +4,11 @@ ghost use Rattle.pciplan_words.specs.declared.asked.Asked.{Asked};
 ghost use Rattle.pciplan_cli.specs.Asked.{IsTaskOf, IsRefusedFor};
 ghost use Rattle.pciplan_cli.specs.FaultsAsked.{is_given};
 
-use crate::failure::Failure;
-use crate::invocation::{HostLists, Task};
 use crate::option_words::{ranges_of, roots_of, words_of};
 use pci_base::space::Space;
 use pci_model::words::Words;
+use pciplan_tasks::failure::Failure;
+use pciplan_tasks::task::{HostLists, Task};
 use pciplan_words::asked::FaultsWords;
 use std::alloc::Global;
 

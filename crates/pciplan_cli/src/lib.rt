@@ -1,7 +1,7 @@
-//! The command line of `pciplan`: its tasks, its messages and its statuses.
+//! The command line of `pciplan`: the task that its words ask for, and the program.
 //!
-//! [`run::run`] carries a task out over two texts that are handed in, and [`program::program`] over texts that it opens
-//! by their paths: it is all that `main` calls.
+//! [`program::program`] carries a task of `pciplan_tasks` out over texts that it opens by their paths: it is all that
+//! `main` calls.
 //!
 //! ```text
 //! let words = program::words_of(&rt); // as in `check DUMP PROBE`
@@ -11,27 +11,14 @@
 #![tactic(auto)]
 
 pub mod asked;
-pub mod failure;
-pub mod faulting;
-pub mod faulting_given;
 pub mod faults_asked;
 pub mod invocation;
 mod map_asked;
-pub mod mapping;
 pub mod model_words;
 pub mod opened;
 pub mod option_words;
-pub mod planning;
-pub mod probing;
 pub mod program;
-pub mod reply;
 pub mod root_list;
-pub mod run;
 mod settle_asked;
-pub mod settling;
-pub mod shortage_line;
-pub mod sizing;
-pub mod taking;
 
-pub use failure::Failure;
-pub use invocation::{Invocation, Task};
+pub use invocation::Invocation;

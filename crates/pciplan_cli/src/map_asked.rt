@@ -3,10 +3,10 @@ ghost use Rattle.std.specs.Prelude.{MatchResult};
 ghost use Rattle.pciplan_words.specs.declared.asked.Asked.{Asked};
 ghost use Rattle.pciplan_cli.specs.Asked.{IsTaskOf, IsRefusedFor};
 
-use crate::failure::Failure;
-use crate::invocation::{HostLists, Task};
 use crate::option_words::{ranges_of, roots_of, words_of};
 use pci_base::space::Space;
+use pciplan_tasks::failure::Failure;
+use pciplan_tasks::task::{HostLists, Task};
 use pciplan_words::asked::MapWords;
 use std::alloc::Global;
 

@@ -2,10 +2,9 @@
 ghost use Rattle.std.specs.Prelude.{◌≡◌, MatchOption, MatchResult};
 ghost use Rattle.pci_tree.specs.Roots.{buses_of};
 ghost use Rattle.pciplan_lists.specs.PoolWords.{HasNoPool, IsPoolWord};
-ghost use Rattle.pciplan_cli.specs.declared.failure.Failure.{Failure};
+ghost use Rattle.pciplan_tasks.specs.declared.failure.Failure.{Failure};
 ghost use Rattle.pciplan_cli.specs.OptionWords.{AreRootsOf, AreWordsOf, AreRangesOf, HasNoRoots, HasNoWords, IsNoListFor};
 
-use crate::failure::{Failure, PoolOption};
 use crate::model_words::words_of_list;
 use crate::root_list::roots_of_list;
 use pci_base::range::{Range, RootRange};
@@ -15,6 +14,7 @@ use pci_tree::roots::Roots;
 use pciplan_lists::host_list::is_good_host_list;
 use pciplan_lists::list_word::list_of_word;
 use pciplan_lists::pool_word::pool_of_word;
+use pciplan_tasks::failure::{Failure, PoolOption};
 use std::alloc::Global;
 
 /// The root buses of the word of `--root`, bus 00 alone where there is none.

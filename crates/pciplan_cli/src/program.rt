@@ -2,15 +2,17 @@
 ghost use Rattle.std.specs.Prelude.{◌≡◌, ◌≢◌, ◌⊎◌, ◌<◌, ◌≤◌, ◌+◌, ℕ, List, Option, IfErr, IfOk, MatchResult, map, string_bytes};
 ghost use Rattle.std.specs.IoError.{error_kind};
 ghost use Rattle.pciplan_cli.specs.Invocations.{IsInvocationOf, HasBadWords};
-ghost use Rattle.pciplan_cli.specs.Tasks.{HasDump, HasFailed, IsCarriedOut, IsCarriedOutBegun, IsFailureOf, IsTaskRefused};
+ghost use Rattle.pciplan_cli.specs.CarriedOut.{IsCarriedOut, IsCarriedOutBegun};
+ghost use Rattle.pciplan_tasks.specs.Tasks.{HasDump, HasFailed, IsFailureOf, IsTaskRefused};
 
-use crate::failure::{Failure, report};
-use crate::invocation::{Invocation, Task, start};
+use crate::invocation::{Invocation, start};
 use crate::opened::Opening;
-use crate::run::run;
 use pci_dump::read_fault::ReadFault;
 use pci_dump::reader::read_dump;
 use pci_dump::streams::{Sink, Source};
+use pciplan_tasks::failure::{Failure, report};
+use pciplan_tasks::run::run;
+use pciplan_tasks::task::Task;
 use std::alloc::{AllocError, Allocator, Global};
 use std::io::ErrorKind;
 use std::rt::Env;
@@ -129,7 +131,7 @@ pub fn carry_out<A: Allocator + Copy, D: Opening, P: Opening, O: Sink, E: Sink>(
     if probe.open(line.probe.as_str()).is_err() {
         return report(err, without_second(alloc, &line.task, dump));
     }
-    run(alloc, line, dump, probe, out, err)
+    run(alloc, &line.task, dump, probe, out, err)
 }
 
 /// Does what the words ask for: writes the answer to `out` or a message to `err`, and answers the status. 0 or 1

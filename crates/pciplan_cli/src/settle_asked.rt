@@ -3,15 +3,15 @@ ghost use Rattle.std.specs.Prelude.{◌≡◌, ◌⊎◌, MatchResult};
 ghost use Rattle.pciplan_words.specs.declared.asked.Asked.{Asked};
 ghost use Rattle.pciplan_cli.specs.Asked.{IsTaskOf, IsRefusedFor};
 ghost use Rattle.pciplan_cli.specs.SettleAsked.{AreFixed, IsListOf, HasNoList, HasNoSlots};
-ghost use Rattle.pciplan_cli.specs.declared.failure.Failure.{Failure};
+ghost use Rattle.pciplan_tasks.specs.declared.failure.Failure.{Failure};
 
-use crate::failure::{Failure, PoolOption};
-use crate::invocation::{SettleLists, SettleRequest, Task};
 use crate::option_words::roots_of;
 use pci_base::range::RootRange;
 use pci_base::slot::Slot;
 use pciplan_lists::list_word::list_of_word;
 use pciplan_lists::slot_list::slots_of_word;
+use pciplan_tasks::failure::{Failure, PoolOption};
+use pciplan_tasks::task::{SettleLists, SettleRequest, Task};
 use pciplan_words::asked::SettleWords;
 use std::alloc::Global;
 

@@ -2,7 +2,8 @@
 use pci_dump::std_streams::Outgoing;
 use pci_place::pools::Pools;
 use pci_tree::roots::Roots;
-use pciplan_cli::invocation::{Task, start};
+use pciplan_cli::invocation::start;
+use pciplan_tasks::task::Task;
 use std::alloc::{AllocError, Global};
 use test_support::board::{Function, Texts, bridge, device, texts_of};
 

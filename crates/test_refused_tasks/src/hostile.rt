@@ -1,10 +1,10 @@
 //! Listings and sizes where a text is none, or a read, a write or a growth fails.
 use crate::failing::{leaves_beginnings, with_failing_read};
-use crate::program::{line_of, prints};
+use crate::program::prints;
 use crate::refused_tasks::is_refused_in_turn;
 use pci_dump::std_streams::{Incoming, Outgoing};
-use pciplan_cli::invocation::Task;
-use pciplan_cli::run::run;
+use pciplan_tasks::run::run;
+use pciplan_tasks::task::Task;
 use std::alloc::{AllocError, Global};
 use std::test::Fail;
 use test_support::board::{Texts, bridge, device, list_at, texts_of};
@@ -53,13 +53,7 @@ fn each_read_that_fails_ends_with_status_4(rt: HostRuntime) -> Result<(), Fail> 
             (at, 0, b"pciplan: dump: 1 Io\n".as_slice()),
             (0, at, b"pciplan: probe: 1 Io\n".as_slice()),
         ] {
-            let got = with_failing_read(
-                &rt,
-                &line_of(&rt, Task::Show),
-                &example,
-                dump_fails,
-                probe_fails,
-            );
+            let got = with_failing_read(&rt, &Task::Show, &example, dump_fails, probe_fails);
             if got.status == 4 {
                 failed = failed.max(dump_fails);
                 assert!(rt; got.out.is_empty(), "{at}");
@@ -77,7 +71,7 @@ fn each_read_that_fails_ends_with_status_4(rt: HostRuntime) -> Result<(), Fail> 
 fn a_writer_that_fails_holds_a_beginning(rt: HostRuntime) -> Result<(), Fail> {
     let example = example(rt.alloc())?;
     for task in [Task::Show, Task::Size] {
-        leaves_beginnings(&rt, &line_of(&rt, task), &example, 7, &[0, 1, 100, 300]);
+        leaves_beginnings(&rt, &task, &example, 7, &[0, 1, 100, 300]);
     }
     Ok(())
 }
@@ -93,7 +87,7 @@ fn a_message_that_cannot_be_written_changes_no_status(rt: HostRuntime) -> Result
     let mut out = Vec::new(rt.alloc());
     let status = run(
         rt.alloc(),
-        &line_of(&rt, Task::Show),
+        &Task::Show,
         &mut Incoming::new(b"G".as_slice()),
         &mut Incoming::new(b"".as_slice()),
         &mut Outgoing::new(&mut out),
@@ -109,7 +103,7 @@ fn a_message_that_cannot_be_written_changes_no_status(rt: HostRuntime) -> Result
 fn a_refused_growth_writes_nothing(rt: HostRuntime) -> Result<(), Fail> {
     let example = example(rt.alloc())?;
     for task in [Task::Show, Task::Size] {
-        assert!(rt; is_refused_in_turn(&rt, &line_of(&rt, task), &example));
+        assert!(rt; is_refused_in_turn(&rt, &task, &example));
     }
     Ok(())
 }

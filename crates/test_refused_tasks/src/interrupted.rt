@@ -1,8 +1,7 @@
 //! Verdicts where a read or a write fails.
 use crate::failing::{leaves_beginnings, with_failing_read};
-use crate::program::line_of;
 use pci_tree::roots::Roots;
-use pciplan_cli::invocation::Task;
+use pciplan_tasks::task::Task;
 use std::test::Fail;
 use test_support::samples::{clash, tree};
 
@@ -22,13 +21,7 @@ fn a_read_that_fails_leaves_no_verdict(rt: HostRuntime) -> Result<(), Fail> {
             (at, 0, b"pciplan: dump: 1 Io\n".as_slice()),
             (0, at, b"pciplan: probe: 1 Io\n".as_slice()),
         ] {
-            let got = with_failing_read(
-                &rt,
-                &line_of(&rt, task()),
-                &texts,
-                dump_fails,
-                probe_fails,
-            );
+            let got = with_failing_read(&rt, &task(), &texts, dump_fails, probe_fails);
             assert_eq!(rt; got.status, if at < 6 { 4 } else { 1 }, "{at}");
             assert!(rt; got.out.is_empty() == (got.status == 4), "{at}");
             assert!(rt; got.status == 1 || got.err.as_slice() == message, "{at}");
@@ -40,7 +33,7 @@ fn a_read_that_fails_leaves_no_verdict(rt: HostRuntime) -> Result<(), Fail> {
 #[test]
 fn a_write_that_fails_leaves_a_beginning_of_the_line(rt: HostRuntime) -> Result<(), Fail> {
     for texts in [clash(rt.alloc())?, tree(rt.alloc())?] {
-        leaves_beginnings(&rt, &line_of(&rt, task()), &texts, 1, &[0, 1, 2, 3]);
+        leaves_beginnings(&rt, &task(), &texts, 1, &[0, 1, 2, 3]);
     }
     Ok(())
 }

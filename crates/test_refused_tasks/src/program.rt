@@ -1,7 +1,8 @@
 //! The program, run on texts that are held in memory.
 use pci_dump::std_streams::{Incoming, Outgoing};
-use pciplan_cli::invocation::{Invocation, Task, start};
-use pciplan_cli::run::run;
+use pciplan_cli::invocation::start;
+use pciplan_tasks::run::run;
+use pciplan_tasks::task::Task;
 use std::alloc::Allocator;
 use std::test::Fail;
 
@@ -13,20 +14,11 @@ pub struct Answer {
     pub err: Vec<u8>,
 }
 
-/// The line of a task. The paths of its texts don't matter, as the texts are handed in.
-pub fn line_of(rt: &impl AllocGlobal, task: Task) -> Invocation {
-    Invocation {
-        task,
-        dump: String::new(rt.alloc()),
-        probe: String::new(rt.alloc()),
-    }
-}
-
-/// What a line's task answers to two texts, where it grows by `alloc`.
+/// What a task answers to two texts, where it grows by `alloc`.
 pub fn run_by<A: Allocator + Copy>(
     rt: &impl AllocGlobal,
     alloc: A,
-    line: &Invocation,
+    task: &Task,
     dump: &str,
     probe: &str,
 ) -> Answer {
@@ -34,7 +26,7 @@ pub fn run_by<A: Allocator + Copy>(
     let mut err = Vec::new(rt.alloc());
     let status = run(
         alloc,
-        line,
+        task,
         &mut Incoming::new(dump.as_bytes()),
         &mut Incoming::new(probe.as_bytes()),
         &mut Outgoing::new(&mut out),
@@ -44,8 +36,8 @@ pub fn run_by<A: Allocator + Copy>(
 }
 
 /// The same with all the memory that it asks for.
-pub fn run_line(rt: &impl AllocGlobal, line: &Invocation, dump: &str, probe: &str) -> Answer {
-    run_by(rt, rt.alloc(), line, dump, probe)
+pub fn run_task(rt: &impl AllocGlobal, task: &Task, dump: &str, probe: &str) -> Answer {
+    run_by(rt, rt.alloc(), task, dump, probe)
 }
 
 /// What a line of words answers to two texts.
@@ -58,7 +50,7 @@ fn run_words(rt: &impl AllocGlobal, words: &[&str], dump: &str, probe: &str) -> 
             Err(status) => status,
             Ok(line) => run(
                 rt.alloc(),
-                &line,
+                &line.task,
                 &mut Incoming::new(dump.as_bytes()),
                 &mut Incoming::new(probe.as_bytes()),
                 &mut Outgoing::new(&mut out),

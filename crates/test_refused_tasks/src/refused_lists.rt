@@ -1,11 +1,10 @@
 //! Lists of all faults where a read, a write or a growth fails.
 use crate::failing::{leaves_beginnings, tells_failed_reads};
-use crate::program::line_of;
 use crate::refused_tasks::is_refused_in_turn;
 use pci_base::range::{Range, RootRange};
 use pci_model::words::{VgaWord, Words};
 use pci_tree::roots::Roots;
-use pciplan_cli::invocation::{HostLists, Task};
+use pciplan_tasks::task::{HostLists, Task};
 use std::alloc::{AllocError, Global};
 use std::test::Fail;
 use test_support::board::{Texts, bridge, device, texts_of};
@@ -81,35 +80,35 @@ fn misplaced(alloc: Global) -> Result<Texts, AllocError> {
 #[test]
 fn a_list_that_is_refused_a_growth_says_just_that(rt: HostRuntime) -> Result<(), Fail> {
     let texts = judged(rt.alloc())?;
-    assert!(rt; is_refused_in_turn(&rt, &line_of(&rt, task()), &texts));
+    assert!(rt; is_refused_in_turn(&rt, &task(), &texts));
     Ok(())
 }
 
 #[test]
 fn so_does_one_of_an_earlier_phase(rt: HostRuntime) -> Result<(), Fail> {
     let texts = misplaced(rt.alloc())?;
-    assert!(rt; is_refused_in_turn(&rt, &line_of(&rt, task()), &texts));
+    assert!(rt; is_refused_in_turn(&rt, &task(), &texts));
     Ok(())
 }
 
 #[test]
 fn so_does_one_by_words(rt: HostRuntime) -> Result<(), Fail> {
     let texts = judged(rt.alloc())?;
-    assert!(rt; is_refused_in_turn(&rt, &line_of(&rt, task_by(Some(ALL_WORDS))), &texts));
+    assert!(rt; is_refused_in_turn(&rt, &task_by(Some(ALL_WORDS)), &texts));
     Ok(())
 }
 
 #[test]
 fn a_writer_that_fails_holds_a_beginning_of_the_list(rt: HostRuntime) -> Result<(), Fail> {
     let texts = judged(rt.alloc())?;
-    leaves_beginnings(&rt, &line_of(&rt, task()), &texts, 7, &[0, 1, 100, 300]);
+    leaves_beginnings(&rt, &task(), &texts, 7, &[0, 1, 100, 300]);
     Ok(())
 }
 
 #[test]
 fn a_read_that_fails_leaves_no_list(rt: HostRuntime) -> Result<(), Fail> {
     let texts = judged(rt.alloc())?;
-    tells_failed_reads(&rt, &line_of(&rt, task()), &texts, 1);
+    tells_failed_reads(&rt, &task(), &texts, 1);
     Ok(())
 }
 
@@ -127,7 +126,7 @@ fn given(alloc: Global) -> Result<Texts, AllocError> {
 #[test]
 fn so_does_one_with_what_is_given(rt: HostRuntime) -> Result<(), Fail> {
     for texts in [given(rt.alloc())?, misplaced(rt.alloc())?] {
-        assert!(rt; is_refused_in_turn(&rt, &line_of(&rt, task_given(rt.alloc(), false)?), &texts));
+        assert!(rt; is_refused_in_turn(&rt, &task_given(rt.alloc(), false)?, &texts));
     }
     Ok(())
 }
@@ -137,9 +136,9 @@ fn with_what_is_given_a_read_or_a_write_that_fails_leaves_no_more(
     rt: HostRuntime,
 ) -> Result<(), Fail> {
     let texts = given(rt.alloc())?;
-    let line = line_of(&rt, task_given(rt.alloc(), false)?);
-    leaves_beginnings(&rt, &line, &texts, 7, &[0, 1, 100]);
-    tells_failed_reads(&rt, &line, &texts, 1);
+    let task = task_given(rt.alloc(), false)?;
+    leaves_beginnings(&rt, &task, &texts, 7, &[0, 1, 100]);
+    tells_failed_reads(&rt, &task, &texts, 1);
     Ok(())
 }
 
@@ -158,7 +157,7 @@ fn given_behind(alloc: Global) -> Result<Texts, AllocError> {
 #[test]
 fn so_does_one_with_reasons_and_what_is_given(rt: HostRuntime) -> Result<(), Fail> {
     for texts in [given_behind(rt.alloc())?, misplaced(rt.alloc())?] {
-        assert!(rt; is_refused_in_turn(&rt, &line_of(&rt, task_given(rt.alloc(), true)?), &texts));
+        assert!(rt; is_refused_in_turn(&rt, &task_given(rt.alloc(), true)?, &texts));
     }
     Ok(())
 }
@@ -168,8 +167,8 @@ fn with_reasons_too_a_read_or_a_write_that_fails_leaves_no_more(
     rt: HostRuntime,
 ) -> Result<(), Fail> {
     let texts = given_behind(rt.alloc())?;
-    let line = line_of(&rt, task_given(rt.alloc(), true)?);
-    leaves_beginnings(&rt, &line, &texts, 7, &[0, 1, 100, 300]);
-    tells_failed_reads(&rt, &line, &texts, 1);
+    let task = task_given(rt.alloc(), true)?;
+    leaves_beginnings(&rt, &task, &texts, 7, &[0, 1, 100, 300]);
+    tells_failed_reads(&rt, &task, &texts, 1);
     Ok(())
 }

@@ -1,11 +1,11 @@
 //! Maps where a read, a write or a growth fails.
 use crate::failing::{leaves_beginnings, tells_failed_reads};
-use crate::program::{line_of, prints};
+use crate::program::prints;
 use crate::refused_tasks::is_refused_in_turn;
 use pci_base::range::{Range, RootRange};
 use pci_model::words::{VgaWord, Words};
 use pci_tree::roots::Roots;
-use pciplan_cli::invocation::{HostLists, Task};
+use pciplan_tasks::task::{HostLists, Task};
 use std::alloc::{AllocError, Global};
 use std::test::Fail;
 use test_support::board::{Texts, bridge, device, texts_of};
@@ -91,7 +91,7 @@ fn a_map_is_printed(rt: HostRuntime) -> Result<(), Fail> {
 #[test]
 fn a_map_that_is_refused_a_growth_says_just_that(rt: HostRuntime) -> Result<(), Fail> {
     let texts = mapped(rt.alloc())?;
-    assert!(rt; is_refused_in_turn(&rt, &line_of(&rt, task()), &texts));
+    assert!(rt; is_refused_in_turn(&rt, &task(), &texts));
     Ok(())
 }
 
@@ -106,7 +106,7 @@ fn so_does_one_by_words(rt: HostRuntime) -> Result<(), Fail> {
         unnumbered: true,
         vga: Some(VgaWord::Vga),
     };
-    assert!(rt; is_refused_in_turn(&rt, &line_of(&rt, task_by(Some(words))), &texts));
+    assert!(rt; is_refused_in_turn(&rt, &task_by(Some(words)), &texts));
     Ok(())
 }
 
@@ -114,27 +114,27 @@ fn so_does_one_by_words(rt: HostRuntime) -> Result<(), Fail> {
 fn so_does_one_of_what_the_host_sends(rt: HostRuntime) -> Result<(), Fail> {
     let texts = mapped(rt.alloc())?;
     let task = task_sent(rt.alloc())?;
-    assert!(rt; is_refused_in_turn(&rt, &line_of(&rt, task), &texts));
+    assert!(rt; is_refused_in_turn(&rt, &task, &texts));
     Ok(())
 }
 
 #[test]
 fn so_does_one_of_what_is_not_admitted(rt: HostRuntime) -> Result<(), Fail> {
     let texts = texts_of(rt.alloc(), &[device("01:00.0", 0, &[])])?;
-    assert!(rt; is_refused_in_turn(&rt, &line_of(&rt, task()), &texts));
+    assert!(rt; is_refused_in_turn(&rt, &task(), &texts));
     Ok(())
 }
 
 #[test]
 fn a_writer_that_fails_holds_a_beginning_of_the_map(rt: HostRuntime) -> Result<(), Fail> {
     let texts = mapped(rt.alloc())?;
-    leaves_beginnings(&rt, &line_of(&rt, task()), &texts, 7, &[0, 1, 100, 300]);
+    leaves_beginnings(&rt, &task(), &texts, 7, &[0, 1, 100, 300]);
     Ok(())
 }
 
 #[test]
 fn a_read_that_fails_leaves_no_map(rt: HostRuntime) -> Result<(), Fail> {
     let texts = mapped(rt.alloc())?;
-    tells_failed_reads(&rt, &line_of(&rt, task()), &texts, 0);
+    tells_failed_reads(&rt, &task(), &texts, 0);
     Ok(())
 }

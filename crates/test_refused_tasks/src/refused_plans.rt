@@ -1,10 +1,9 @@
 //! The program's plans, with the first growth refused, then with the second, and so on until no refusal is met.
-use crate::program::line_of;
 use crate::refused_tasks::is_refused_in_turn;
 use pci_base::range::Range;
 use pci_place::pools::Pools;
 use pci_tree::roots::Roots;
-use pciplan_cli::invocation::Task;
+use pciplan_tasks::task::Task;
 use std::test::Fail;
 use test_support::board::{device, texts_of};
 use test_support::planned::{IO_POOL, MEMORY_POOL, PREFETCH_POOL, boards};
@@ -25,7 +24,7 @@ fn a_plan_that_is_refused_a_growth_says_just_that(rt: HostRuntime) -> Result<(),
                 why: true,
                 roots: Roots::host(),
             };
-            assert!(rt; is_refused_in_turn(&rt, &line_of(&rt, task), &texts));
+            assert!(rt; is_refused_in_turn(&rt, &task, &texts));
         }
     }
     Ok(())
@@ -51,6 +50,6 @@ fn a_shortage_that_is_refused_a_growth_says_just_that(rt: HostRuntime) -> Result
         why: true,
         roots: Roots::host(),
     };
-    assert!(rt; is_refused_in_turn(&rt, &line_of(&rt, task), &texts));
+    assert!(rt; is_refused_in_turn(&rt, &task, &texts));
     Ok(())
 }

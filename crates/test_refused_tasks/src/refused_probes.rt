@@ -1,9 +1,8 @@
 //! Deriving a probe where a read, a write or a growth fails.
 use crate::failing::{leaves_beginnings, with_failing_read};
-use crate::program::line_of;
 use crate::refused_tasks::is_refused_in_turn;
 use pci_probe::assuming::Assuming;
-use pciplan_cli::invocation::Task;
+use pciplan_tasks::task::Task;
 use std::alloc::{AllocError, Global};
 use std::fmt::Write;
 use std::test::Fail;
@@ -44,8 +43,8 @@ fn example(alloc: Global) -> Result<Texts, AllocError> {
 #[test]
 fn a_probe_that_is_refused_a_growth_says_just_that(rt: HostRuntime) -> Result<(), Fail> {
     let texts = example(rt.alloc())?;
-    assert!(rt; is_refused_in_turn(&rt, &line_of(&rt, task()), &texts));
-    leaves_beginnings(&rt, &line_of(&rt, task()), &texts, 7, &[0, 1, 100, 300]);
+    assert!(rt; is_refused_in_turn(&rt, &task(), &texts));
+    leaves_beginnings(&rt, &task(), &texts, 7, &[0, 1, 100, 300]);
     Ok(())
 }
 
@@ -58,7 +57,7 @@ fn a_probe_is_derived_of_what_can_be_read(rt: HostRuntime) -> Result<(), Fail> {
             (at, 0, b"pciplan: dump: 1 Io\n".as_slice()),
             (0, at, b"pciplan: sizes: 1 Io\n".as_slice()),
         ] {
-            let got = with_failing_read(&rt, &line_of(&rt, task()), &texts, dump_fails, sizes_fail);
+            let got = with_failing_read(&rt, &task(), &texts, dump_fails, sizes_fail);
             if got.status == 4 {
                 failed = failed.max(sizes_fail);
                 assert!(rt; got.out.is_empty(), "{at}");

@@ -1,11 +1,11 @@
 //! The program's settling where a read, a write or a growth fails.
 use crate::failing::{leaves_beginnings, tells_failed_reads};
-use crate::program::{line_of, prints};
+use crate::program::prints;
 use crate::refused_tasks::is_refused_in_turn;
 use pci_base::range::{Range, RootRange};
 use pci_base::slot::Slot;
 use pci_tree::roots::Roots;
-use pciplan_cli::invocation::{SettleLists, SettleRequest, Task};
+use pciplan_tasks::task::{SettleLists, SettleRequest, Task};
 use std::alloc::{AllocError, Global};
 use std::test::Fail;
 use test_support::board::{Texts, bridge, device, texts_of};
@@ -118,7 +118,7 @@ fn what_stands_is_left_where_it_is(rt: HostRuntime) -> Result<(), Fail> {
 fn settling_that_is_refused_a_growth_says_just_that(rt: HostRuntime) -> Result<(), Fail> {
     let texts = settled(rt.alloc())?;
     let task = task_to(rt.alloc(), LAST, None, true)?;
-    assert!(rt; is_refused_in_turn(&rt, &line_of(&rt, task), &texts));
+    assert!(rt; is_refused_in_turn(&rt, &task, &texts));
     Ok(())
 }
 
@@ -126,7 +126,7 @@ fn settling_that_is_refused_a_growth_says_just_that(rt: HostRuntime) -> Result<(
 fn so_does_one_that_prints_the_dump(rt: HostRuntime) -> Result<(), Fail> {
     let texts = settled(rt.alloc())?;
     let task = task_to(rt.alloc(), LAST, None, false)?;
-    assert!(rt; is_refused_in_turn(&rt, &line_of(&rt, task), &texts));
+    assert!(rt; is_refused_in_turn(&rt, &task, &texts));
     Ok(())
 }
 
@@ -134,7 +134,7 @@ fn so_does_one_that_prints_the_dump(rt: HostRuntime) -> Result<(), Fail> {
 fn so_does_one_without_room(rt: HostRuntime) -> Result<(), Fail> {
     let texts = settled(rt.alloc())?;
     let task = task_to(rt.alloc(), LAST - 1, None, true)?;
-    assert!(rt; is_refused_in_turn(&rt, &line_of(&rt, task), &texts));
+    assert!(rt; is_refused_in_turn(&rt, &task, &texts));
     Ok(())
 }
 
@@ -142,7 +142,7 @@ fn so_does_one_without_room(rt: HostRuntime) -> Result<(), Fail> {
 fn so_does_one_that_leaves_what_stands(rt: HostRuntime) -> Result<(), Fail> {
     let texts = settled(rt.alloc())?;
     let task = task_to(rt.alloc(), LAST, Some(1), true)?;
-    assert!(rt; is_refused_in_turn(&rt, &line_of(&rt, task), &texts));
+    assert!(rt; is_refused_in_turn(&rt, &task, &texts));
     Ok(())
 }
 
@@ -150,7 +150,7 @@ fn so_does_one_that_leaves_what_stands(rt: HostRuntime) -> Result<(), Fail> {
 fn so_does_one_whose_fixed_part_does_not_stand(rt: HostRuntime) -> Result<(), Fail> {
     let texts = settled(rt.alloc())?;
     let task = task_to(rt.alloc(), LAST, Some(2), true)?;
-    assert!(rt; is_refused_in_turn(&rt, &line_of(&rt, task), &texts));
+    assert!(rt; is_refused_in_turn(&rt, &task, &texts));
     Ok(())
 }
 
@@ -158,7 +158,7 @@ fn so_does_one_whose_fixed_part_does_not_stand(rt: HostRuntime) -> Result<(), Fa
 fn a_writer_that_fails_holds_a_beginning_of_the_writes(rt: HostRuntime) -> Result<(), Fail> {
     let texts = settled(rt.alloc())?;
     let task = task_to(rt.alloc(), LAST, None, true)?;
-    leaves_beginnings(&rt, &line_of(&rt, task), &texts, 7, &[0, 1, 100]);
+    leaves_beginnings(&rt, &task, &texts, 7, &[0, 1, 100]);
     Ok(())
 }
 
@@ -166,6 +166,6 @@ fn a_writer_that_fails_holds_a_beginning_of_the_writes(rt: HostRuntime) -> Resul
 fn a_read_that_fails_leaves_nothing_settled(rt: HostRuntime) -> Result<(), Fail> {
     let texts = settled(rt.alloc())?;
     let task = task_to(rt.alloc(), LAST, None, true)?;
-    tells_failed_reads(&rt, &line_of(&rt, task), &texts, 0);
+    tells_failed_reads(&rt, &task, &texts, 0);
     Ok(())
 }

@@ -1,7 +1,7 @@
 //! The program's tasks with the first growth refused, then with the second, and so on until no refusal is met.
-use crate::program::{Answer, line_of, run_by, run_line};
+use crate::program::{Answer, run_by, run_task};
 use pci_tree::roots::Roots;
-use pciplan_cli::invocation::{Invocation, Task};
+use pciplan_tasks::task::Task;
 use std::test::Fail;
 use test_support::board::Texts;
 use test_support::refusing::{MANY, Refusing};
@@ -17,13 +17,13 @@ fn is_want_of_memory(got: &Answer) -> bool {
     got.status == 3 && got.out.is_empty() && got.err.as_slice() == b"pciplan: 2 Memory\n".as_slice()
 }
 
-/// Whether a line's task that is refused a growth, whichever it is, says just that, and else what it says with memory.
-pub fn is_refused_in_turn(rt: &HostRuntime, line: &Invocation, texts: &Texts) -> bool {
-    let whole = run_line(rt, line, texts.dump.as_str(), texts.probe.as_str());
+/// Whether a task that is refused a growth, whichever it is, says just that, and else what it says with memory.
+pub fn is_refused_in_turn(rt: &HostRuntime, task: &Task, texts: &Texts) -> bool {
+    let whole = run_task(rt, task, texts.dump.as_str(), texts.probe.as_str());
     let heap = Refusing::new(rt.alloc());
     for n in 1..MANY {
         heap.refuse(n);
-        let got = run_by(rt, &heap, line, texts.dump.as_str(), texts.probe.as_str());
+        let got = run_by(rt, &heap, task, texts.dump.as_str(), texts.probe.as_str());
         if heap.is_due() {
             return 1 < n && is_same(&got, &whole);
         }
@@ -39,7 +39,7 @@ fn a_task_that_is_refused_a_growth_says_just_that(rt: HostRuntime) -> Result<(),
     let roots = Roots::host();
     for (texts, _) in samples(rt.alloc())? {
         for task in [Task::Show, Task::Check { roots }, Task::Size] {
-            assert!(rt; is_refused_in_turn(&rt, &line_of(&rt, task), &texts));
+            assert!(rt; is_refused_in_turn(&rt, &task, &texts));
         }
     }
     Ok(())

@@ -1,6 +1,6 @@
 use Rattle.std.proofs.Common.{rules, ◌≡◌, ◌∙◌, sym, subst, List, Option, ℕ}
 use Rattle.std.specs.Prelude.{string_bytes}
-use Rattle.pciplan_cli.specs.Tasks.{IsFailureOf}
+use Rattle.pciplan_tasks.specs.Tasks.{IsFailureOf}
 use Rattle.pciplan_cli.proofs.program.carry_out.Goals as goal
 
 pub returns-then-is_err-2-clause-refused : goal.returns-then-is_err-2-clause-refused

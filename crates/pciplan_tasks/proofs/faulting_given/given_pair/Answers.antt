@@ -1,0 +1,23 @@
+use Rattle.std.proofs.Common.{◌∙◌, ap, map, subst}
+use Rattle.std.specs.Prelude.{◌==◌, length}
+use Rattle.std.specs.String.{string_bytes}
+use Rattle.given_spec.specs.FaultLines.{AreSound}
+use Rattle.pci_tree.specs.Roots.{buses_of}
+use Rattle.pci_given.specs.AllLines.{judged_of}
+use Rattle.pci_claims.specs.Values.{given_value}
+use Rattle.pciplan_tasks.specs.GivenAnswers.{IsListText}
+use Rattle.pciplan_tasks.proofs.Faults.{line_is, none_of_items}
+use Rattle.pciplan_tasks.proofs.GivenFaults.{given_told}
+use Rattle.pciplan_tasks.proofs.faulting_given.given_pair.Goals as goal
+
+pub returns : goal.returns
+returns g c =
+    let given = given_value c.args.given.now in
+    let roots = buses_of c.args.roots in
+    let found = c.in_ok-found.found in
+    let items = found.faults.items in
+    given_told given roots c.args.dump.now c.args.probe.now (map judged_of items) found.judged c.args.why (string_bytes c.in_ok-text.text) _ c.in_ok-found.ensures.all
+    (none_of_items judged_of items (AreSound given roots c.args.dump.now c.args.probe.now) c.in_ok-found.ensures.none) c.in_ok-found.ensures.judged
+    (subst (λ all. IsListText given found.judged c.args.why (map judged_of all) (string_bytes c.in_ok-text.text)) c.as_slice-faults.ensures.value c.in_ok-text.ensures)
+    (line_is judged_of items c.is_empty.result (string_bytes c.in_ok-text.text) (string_bytes c.new.result)
+    (c.is_empty.ensures ∙ ap (λ all. length all == 0) c.as_slice-faults.ensures.value) c.new.ensures.bytes)

@@ -1,0 +1,82 @@
+-- What the program answers where two texts are to be settled.
+use Rattle.std.specs.Prelude.{◌≡◌, ◌⊎◌, ℕ, List, map, Bool, if◌then◌else◌}
+use Rattle.std.specs.List.{flat_map}
+use Rattle.pci_spec.specs.Text.{Block, text_of}
+use Rattle.pci_spec.specs.System.{system_of}
+use Rattle.pci_spec.specs.Sound.{IsSound}
+use Rattle.pci_spec.specs.Machine.{Write}
+use Rattle.pci_spec.specs.Line.{write_line}
+use Rattle.settle_spec.specs.Lists.{Lists, Request}
+use Rattle.settle_spec.specs.Writes.{Settled, settle}
+use Rattle.pci_place.specs.Above.{system_in}
+use Rattle.pci_settle.specs.Lists.{root_range_value}
+use Rattle.pci_base.specs.declared.memory.Refused.TheVariants as refused
+use Rattle.pci_settle_writes.specs.Requests.{request}
+use Rattle.pci_settle_writes.specs.Dumps.{IsSettledDump}
+use Rattle.pci_settle_writes.specs.Endings.{IsRefusal}
+use Rattle.pci_settle_writes.specs.FaultText.{settle_fault_text}
+use Rattle.pci_settle_writes.specs.declared.lack.SettleFault.{SettleFault}
+use Rattle.pci_tree.specs.Admission.{Admission, IsAdmitted}
+use Rattle.pci_tree.specs.Roots.{buses_of}
+use Rattle.pciplan_tasks.specs.Answers.{Answer}
+use Rattle.pciplan_tasks.specs.Answers as told
+use Rattle.pciplan_tasks.specs.PlanAnswers.{IsRefusedText}
+use Rattle.pciplan_tasks.specs.declared.task.SettleLists.{SettleLists}
+use Rattle.pciplan_tasks.specs.declared.task.SettleRequest.{SettleRequest}
+
+-- lists as settling has them
+abbrev pub lists_said : SettleLists → Lists
+lists_said l = record {
+  io = map root_range_value l.io.items;
+  memory = map root_range_value l.mem.items;
+  prefetch = map root_range_value l.pref.items;
+}
+
+-- what is asked of settling
+abbrev pub request_said : SettleRequest → Request
+request_said r = request (buses_of r.roots) (lists_said r.lists) r.fixed.items r.anew
+
+-- what is asked for: how two texts are settled, and whether as writes
+pub record Asked : Type 0 where
+  pub request : Request
+  pub writes : Bool
+
+-- two dumps with the root buses
+abbrev pub admission_of : Asked → List Block → List Block → Admission
+admission_of asked dump probe = record {
+  roots = asked.request.roots;
+  dump = dump;
+  probe = probe;
+}
+
+-- What settling comes to: the writes, and the dump after them, titles as they are.
+pub record IsSettled (q : Request) (a : Admission) (after : List Block) (writes : List Write) : Type 0 where
+  pub titles : map (λ (b : Block). b.title) after ≡ map (λ (b : Block). b.title) a.dump
+  pub settled : IsSettledDump q a after
+  pub is : settle q (system_in a) ≡ Settled writes
+
+-- a line for each write where the writes are asked for, else the settled dump
+abbrev pub settled_text : Bool → List Write → List Block → List ℕ
+settled_text is_writes writes after = if is_writes then flat_map write_line writes else text_of after
+
+-- what settling comes to, which is sound
+pub record IsSettledText (asked : Asked) (dump probe : List Block) (answer : Answer) : Type 0 where
+  pub after : List Block
+  pub writes : List Write
+  pub admitted : IsAdmitted (admission_of asked dump probe)
+  pub is : IsSettled asked.request (admission_of asked dump probe) after writes
+  pub sound : IsSound asked.request.roots (system_of after probe)
+  pub line : answer ≡ told.done (settled_text asked.writes writes after)
+
+-- the line of the fault for which nothing is settled, where the two are admitted
+pub record IsNotSettledText (asked : Asked) (dump probe : List Block) (answer : Answer) : Type 0 where
+  pub fault : SettleFault
+  pub admitted : IsAdmitted (admission_of asked dump probe)
+  pub stands : IsRefusal (admission_of asked dump probe) asked.request (refused.Fault fault)
+  pub line : answer ≡ told.refused (told.no_line (settle_fault_text fault))
+
+-- `settle`: what settling comes to, or the line of a fault
+abbrev pub IsSettlingTold : Asked → List Block → List Block → Answer → Type 0
+IsSettlingTold asked dump probe answer =
+    IsSettledText asked dump probe answer ⊎ IsRefusedText asked.request.roots dump probe answer
+    ⊎ IsNotSettledText asked dump probe answer

@@ -1,0 +1,126 @@
+-- What a task answers to the two texts that are left, and why it doesn't.
+use Rattle.std.specs.Prelude.{◌≡◌, ◌≢◌, ◌⊎◌, ◌+◌, ℕ, List, [], Option, Some, Bool, true, false}
+use Rattle.std.specs.Io.KnownBytes.{Appends}
+use Rattle.pci_spec.specs.Text.{Block, IsTextOf}
+use Rattle.pci_spec.specs.SizesText.{SizesBlock, IsSizesTextOf}
+use Rattle.pci_dump.specs.Begun.{AppendsBeginning}
+use Rattle.pci_dump.specs.ReadFault.{IsTextFault}
+use Rattle.pci_dump.specs.declared.read_fault.ReadFault.{ReadFault}
+use Rattle.pci_dump.specs.declared.read_fault.ReadFault.TheVariants as faults
+use Rattle.pci_probe.specs.Assuming.{assuming_of}
+use Rattle.pci_probe.specs.SizesFault.{IsSizesTextFault}
+use Rattle.pci_tree.specs.Roots.{buses_of}
+use Rattle.pci_place.specs.Pools.{pools_value}
+use Rattle.pci_check.specs.Audits.{IsDumpOf}
+use Rattle.pciplan_tasks.specs.Answers.{Answer, IsShown, IsChecked, IsSized, IsTold}
+use Rattle.pciplan_tasks.specs.FaultsAnswers.{AreTold}
+use Rattle.pciplan_tasks.specs.GivenAnswers.{IsAnswerGiven}
+use Rattle.pciplan_tasks.specs.MapAnswers.{IsMapped, sent_by}
+use Rattle.pciplan_tasks.specs.PlanAnswers.{IsPlanned}
+use Rattle.pciplan_tasks.specs.SettleAnswers.{IsSettlingTold, request_said}
+use Rattle.pciplan_tasks.specs.ProbeAnswers.{probe_answer}
+use Rattle.pciplan_tasks.specs.Statuses.{status_of}
+use Rattle.pciplan_tasks.specs.TakenAnswers.{IsAnswerBy}
+use Rattle.pciplan_tasks.specs.declared.task.Task.{Task}
+use Rattle.pciplan_tasks.specs.declared.task.Task.TheVariants as task
+use Rattle.pciplan_tasks.specs.declared.failure.Failure.{Failure}
+use Rattle.pciplan_tasks.specs.declared.failure.Failure.TheVariants.{Dump, Probe, Sizes, Memory}
+
+-- the sizes whose text was left, where the bytes are told
+abbrev pub AreSizesOf : Option (List ℕ) → List SizesBlock → Type 0
+AreSizesOf left sizes = (bytes : List ℕ) → left ≡ Some bytes → IsSizesTextOf bytes sizes
+
+-- what is answered to the dump and to the blocks of the second text that were left
+pub record IsAnswerTo {B : Type 0} (IsSecond : Option (List ℕ) → List B → Type 0)
+    (Means : List Block → List B → Answer → Type 0)
+    (dump_left second_left : Option (List ℕ)) (answer : Answer) : Type 0 where
+  pub dump : List Block
+  pub second : List B
+  pub dump_text : IsDumpOf dump_left dump
+  pub second_text : IsSecond second_left second
+  pub means : Means dump second answer
+
+-- what a task answers to a dump and its probe; that of a derived probe is none of these
+abbrev pub IsPairAnswer : Task → List Block → List Block → Answer → Type 0
+IsPairAnswer task.Show = IsShown
+IsPairAnswer (task.Check roots) = IsChecked (buses_of roots)
+IsPairAnswer (task.Faults roots words why) = IsAnswerBy words (AreTold (buses_of roots) why)
+IsPairAnswer (task.FaultsGiven roots words host why) =
+    IsAnswerGiven words host (buses_of roots) why
+IsPairAnswer (task.Map roots words host) =
+    IsAnswerBy words (IsMapped (sent_by host) (buses_of roots))
+IsPairAnswer task.Size = IsSized
+IsPairAnswer (task.Plan pools writes why roots) =
+    IsPlanned record {
+      pools = pools_value pools;
+      writes = writes;
+      why = why;
+      roots = buses_of roots;
+    }
+IsPairAnswer (task.Settle request writes) =
+    IsSettlingTold record { request = request_said request; writes = writes }
+IsPairAnswer (task.Probe assuming) = λ dump probe answer. ⊥
+
+-- the task takes a whole dump and a whole probe: the verdict reads both side by side, and a derived probe takes sizes
+abbrev pub IsOfWholePair : Task → Type 0
+IsOfWholePair (task.Check roots) = ⊥
+IsOfWholePair (task.Probe assuming) = ⊥
+IsOfWholePair _ = Unit {0}
+
+-- what each task answers
+abbrev pub IsAnswerOf : Task → Option (List ℕ) → Option (List ℕ) → Answer → Type 0
+IsAnswerOf (task.Probe assuming) =
+    IsAnswerTo AreSizesOf
+    (λ dump sizes answer. answer ≡ probe_answer (assuming_of assuming) dump sizes)
+IsAnswerOf t = IsAnswerTo IsDumpOf (IsPairAnswer t)
+
+-- the answer was written, and the remarks, if standard error takes them; without remarks it is as before
+pub record IsAnswered (task : Task) (dump_left second_left : Option (List ℕ)) (status : ℕ)
+    (before after err_before err_after : Option (List ℕ)) (err_failed same : Type 0) : Type 0 where
+  pub answer : Answer
+  pub is : IsAnswerOf task dump_left second_left answer
+  pub named : status ≡ answer.status
+  pub written : Appends before after answer.text
+  pub remarked : IsTold err_before err_after err_failed answer.remarks
+  pub silent : answer.remarks ≡ [] → same
+
+-- a beginning of the answer was written
+pub record IsBegun (task : Task)
+    (dump_left second_left before after : Option (List ℕ)) : Type 0 where
+  pub answer : Answer
+  pub is : IsAnswerOf task dump_left second_left answer
+  pub begun : AppendsBeginning before after answer.text
+
+-- whether the second text is one of sizes, and no probe
+abbrev pub takes_sizes : Task → Bool
+takes_sizes (task.Probe assuming) = true
+takes_sizes _ = false
+
+-- the fault of the text that was left, where the bytes are told and none was met in reading
+abbrev pub IsFaultOfLeft : (List ℕ → ReadFault → Type 0) → Option (List ℕ) → ReadFault → Type 0
+IsFaultOfLeft IsFault left fault =
+    (bytes : List ℕ) → left ≡ Some bytes → fault ≢ faults.Io → fault ≢ faults.Memory
+    → IsFault bytes fault
+
+abbrev pub HasDump : Option (List ℕ) → Type 0
+HasDump left = (dump : List Block) × ((bytes : List ℕ) → left ≡ Some bytes → IsTextOf bytes dump)
+
+-- why the two texts aren't read: the second one's fault is told only where the dump's text is one
+abbrev pub IsFailureOf : Task → Option (List ℕ) → Option (List ℕ) → Failure → Type 0
+IsFailureOf task dump_left second_left (Dump fault) = IsFaultOfLeft IsTextFault dump_left fault
+IsFailureOf task dump_left second_left (Probe fault) =
+    (takes_sizes task ≡ false) × HasDump dump_left × IsFaultOfLeft IsTextFault second_left fault
+IsFailureOf task dump_left second_left (Sizes fault) =
+    (takes_sizes task ≡ true) × HasDump dump_left × IsFaultOfLeft IsSizesTextFault second_left fault
+IsFailureOf task dump_left second_left Memory = Unit {0}
+IsFailureOf task dump_left second_left _ = ⊥
+
+-- one of the two isn't read, by a fault of its text
+abbrev pub IsTaskRefused : Task → Option (List ℕ) → Option (List ℕ) → Type 0
+IsTaskRefused task dump_left second_left =
+    (failure : Failure) × (status_of failure ≡ 2) × IsFailureOf task dump_left second_left failure
+
+-- a read of the dump or of the second text failed, or a write
+abbrev pub HasFailed : ℕ → ℕ → ℕ → ℕ → ℕ → ℕ → Type 0
+HasFailed dump_before dump_after second_before second_after before after =
+    (dump_after ≡ dump_before + 1) ⊎ (second_after ≡ second_before + 1) ⊎ (after ≡ before + 1)

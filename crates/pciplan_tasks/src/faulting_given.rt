@@ -1,0 +1,120 @@
+//! Lists all faults of a dump and its probe, with what is given beside them.
+ghost use Rattle.std.specs.Prelude.{◌≡◌, map, option_map, IfOk};
+ghost use Rattle.std.specs.String.{string_bytes};
+ghost use Rattle.pci_spec.specs.System.{system_of};
+ghost use Rattle.pci_tree.specs.Roots.{buses_of};
+ghost use Rattle.pci_claims.specs.Values.{given_value, host_value, legacy_value};
+ghost use Rattle.pci_given.specs.AllLines.{judged_of};
+ghost use Rattle.pciplan_tasks.specs.Answers.{answer_of};
+ghost use Rattle.pciplan_tasks.specs.GivenAnswers.{AreToldGiven, IsAnswerGiven, IsListText, legacy_by, vga_of};
+
+use crate::reply::{Reply, Text};
+use crate::taking::taken;
+use crate::task::HostLists;
+use pci_base::memory::OutOfMemory;
+use pci_base::range::RootRange;
+use pci_claims::given::{Given, LegacyBridge};
+use pci_claims::vga::legacy_bridges;
+use pci_dump::dump::Dump;
+use pci_given::any_fault::AnyFault;
+use pci_given::every::all_faults;
+use pci_given::text::list_text;
+use pci_given_why::list::reasoned_text;
+use pci_model::words::Words;
+use pci_tree::outline::Outline;
+use pci_tree::roots::Roots;
+use std::alloc::Allocator;
+
+/// The bridges of a dump with legacy parts, where the words take VGA Enable.
+fn legacy_by<A: Allocator, B: Allocator>(
+    alloc: A,
+    dump: &Dump<B>,
+    words: Option<Words>,
+) -> Result<Vec<LegacyBridge, A>, OutOfMemory>
+    ensures { IfOk result (λ legacy. map legacy_value legacy.items
+        ≡ legacy_by (vga_of words) (system_of dump.now dump.now)) }
+{
+    match words {
+        None => Ok(Vec::new(alloc)),
+        Some(words) => match words.vga {
+            None => Ok(Vec::new(alloc)),
+            Some(word) => legacy_bridges(alloc, dump, word),
+        },
+    }
+}
+
+/// The ranges that are said of a space.
+pub fn ranges_of(list: &Option<Vec<RootRange>>) -> Option<&[RootRange]>
+    ensures { option_map (λ ranges. map host_value ranges.now) result
+        ≡ option_map (λ v. map host_value v.items) list.now }
+{
+    match list {
+        None => None,
+        Some(list) => Some(list.as_slice()),
+    }
+}
+
+/// The text of the list. Reasons are told of what was judged; behind faults of earlier phases there are none.
+fn text_of<A: Allocator + Copy>(
+    alloc: A,
+    given: &Given<'_>,
+    judged: &Option<Outline<A>>,
+    faults: &[AnyFault],
+    why: bool,
+) -> Result<String<A>, OutOfMemory>
+    ensures { IfOk result (λ text. IsListText (given_value given.now) judged.now why
+        (map judged_of faults.now) (string_bytes text)) }
+{
+    match (judged, why) {
+        (Some(outline), true) => reasoned_text(alloc, given, outline, faults),
+        _ => list_text(alloc, faults),
+    }
+}
+
+/// All faults of a dump and its probe with these root buses, with what is given, with reasons or without.
+fn given_pair<A: Allocator + Copy>(
+    alloc: A,
+    dump: &Dump<A>,
+    probe: &Dump<A>,
+    roots: Roots,
+    given: &Given<'_>,
+    why: bool,
+) -> Result<Reply<A>, OutOfMemory>
+    ensures { IfOk result (λ reply. AreToldGiven (given_value given.now) (buses_of roots) why
+        dump.now probe.now (answer_of reply)) }
+{
+    let found = all_faults(alloc, dump, probe, roots, given)?;
+    let faults = found.faults.as_slice();
+    let text = text_of(alloc, given, &found.judged, faults, why)?;
+    Ok(Reply {
+        refused: !faults.is_empty(),
+        text: Text::Lines(text),
+        remarks: String::new(alloc),
+    })
+}
+
+/// All faults of a dump and its probe with these root buses, as words take them, with what the host sends and the bridges
+/// with legacy parts, with reasons or without.
+pub fn faults_given<A: Allocator + Copy>(
+    alloc: A,
+    dump: &Dump<A>,
+    probe: &Dump<A>,
+    roots: Roots,
+    words: Option<Words>,
+    host: &HostLists,
+    why: bool,
+) -> Result<Reply<A>, OutOfMemory>
+    ensures { IfOk result (λ reply. IsAnswerGiven words host.now (buses_of roots) why dump.now
+        probe.now (answer_of reply)) }
+{
+    let legacy = legacy_by(alloc, dump, words)?;
+    let given = Given {
+        io: ranges_of(&host.io),
+        memory: ranges_of(&host.mem),
+        legacy: &legacy,
+    };
+    match taken(alloc, dump, probe, words)? {
+        None => given_pair(alloc, dump, probe, roots, &given, why),
+        Some(taken) => given_pair(alloc, &taken.dump, &taken.probe, roots, &given, why),
+    }
+}

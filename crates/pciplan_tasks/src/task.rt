@@ -1,0 +1,87 @@
+//! The tasks.
+
+use pci_base::range::RootRange;
+use pci_base::slot::Slot;
+use pci_model::words::Words;
+use pci_place::pools::Pools;
+use pci_probe::assuming::Assuming;
+use pci_tree::roots::Roots;
+
+/// The ranges that the host sends to its root buses, of I/O and of memory; None of a space of which nothing is said: it
+/// sends all of it to each.
+#[derive(Drop)]
+pub struct HostLists {
+    pub io: Option<Vec<RootRange>>,
+    pub mem: Option<Vec<RootRange>>,
+}
+
+/// The ranges that may be settled in, of I/O, of memory and of prefetchable memory.
+#[derive(Drop)]
+pub struct SettleLists {
+    pub io: Vec<RootRange>,
+    pub mem: Vec<RootRange>,
+    pub pref: Vec<RootRange>,
+}
+
+/// What is to be settled, and how.
+#[derive(Drop)]
+pub struct SettleRequest {
+    pub roots: Roots,
+    pub lists: SettleLists,
+    /// The slots whose functions may not be written. One that the dump doesn't have says nothing.
+    pub fixed: Vec<Slot>,
+    /// Whether nothing is left where it stands.
+    pub anew: bool,
+}
+
+/// What is to be done with a dump and its probe.
+#[derive(Drop)]
+pub enum Task {
+    /// Lists what the functions decode to.
+    Show,
+    /// Judges them as a system with these root buses.
+    Check {
+        roots: Roots,
+    },
+    /// Lists all faults of the same system, its functions taken by these words where there are any, with what stands behind
+    /// each where that is asked for.
+    Faults {
+        roots: Roots,
+        words: Option<Words>,
+        why: bool,
+    },
+    /// Lists all faults of the same system, with what is given beside it: the bridges with legacy parts, where the words
+    /// take VGA Enable, and what the host sends to its root buses; with what stands behind each where that is asked for.
+    FaultsGiven {
+        roots: Roots,
+        words: Option<Words>,
+        host: HostLists,
+        why: bool,
+    },
+    /// Prints the map of the same system, with what the host sends to its root buses.
+    Map {
+        roots: Roots,
+        words: Option<Words>,
+        host: HostLists,
+    },
+    /// Sizes every function of a machine of the two texts.
+    Size,
+    /// Plans them in these pools, with these root buses: the planned dump, or the writes that lead there. Where a class
+    /// has no room it may be asked for what it lacks.
+    Plan {
+        pools: Pools,
+        writes: bool,
+        why: bool,
+        roots: Roots,
+    },
+    /// Settles them as it is asked for: the settled dump, or the writes that lead there.
+    Settle {
+        request: SettleRequest,
+        writes: bool,
+    },
+    /// Derives the probe from the dump and the sizes that Linux tells, which are the second text, assuming the least size of
+    /// these registers where none is told.
+    Probe {
+        assuming: Assuming,
+    },
+}
