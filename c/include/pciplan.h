@@ -1,4 +1,4 @@
-/* The verdict and the plan of pciplan, and the accesses that put a plan onto a machine, from C: link
+/* The verdict, the plan and the settling of pciplan, and the accesses that put these onto a machine, from C: link
    crates/pciplan_c/out/libpciplan_c.a, which `rt lib` makes there.
 
    The library holds no state, keeps nothing between calls, starts no thread and touches no file. Besides memcpy, memmove,
@@ -39,14 +39,15 @@ extern "C" {
 uint8_t pciplan_supported(void);
 
 enum pciplan_status {
-    PCIPLAN_YES = 0,     /* check: both texts list the same slots, and their system is sound; plan: there is one */
+    PCIPLAN_YES = 0,     /* check: both texts list the same slots, and their system is sound; plan and settle: it is done */
     PCIPLAN_NO = 1,      /* that isn't so, and a fault that is there is named */
-    PCIPLAN_REFUSED = 2, /* the roots are no list of roots, else the dump is no text, else the probe is none */
+    PCIPLAN_REFUSED = 2, /* the roots are no list of roots, else a word of settle has no meaning, else the dump is no text,
+                            else the probe is none */
     PCIPLAN_MEMORY = 3,  /* a growth was refused */
     PCIPLAN_SHORT = 4    /* line or writes is too short */
 };
 
-/* So long a line holds every answer of pciplan_check and of pciplan_plan. */
+/* So long a line holds every answer of pciplan_check, of pciplan_plan and of pciplan_settle. */
 #define PCIPLAN_LINE 96
 
 /* Judges the texts of a dump and of its probe. roots are the buses on which the host's accesses start, each above the
@@ -95,8 +96,44 @@ uint8_t pciplan_plan(const uint8_t *dump, size_t dump_len,
                      size_t *safe_from,
                      uint8_t *line, size_t line_len, size_t *line_used);
 
-/* What a plan of this dump starts from: the registers that are compared before its first write, with what they show in the
-   dump. Of each function, the lowest slot first, they are Command and then the address registers by rising offset.
+/* Bytes that lie in memory. */
+struct pciplan_text {
+    const uint8_t *at;
+    size_t len;
+};
+
+/* What is asked of pciplan_settle, in words as on the command line (docs/FORMATS.md).
+
+   io, mem and pref are the lists in which what gets a new place is placed, and windows and BARs on the root buses that stay
+   lie in: "none", or ranges joined by commas, each "A-B" of all root buses or "bb:A-B" of one, as "1000-ffff" or
+   "00:e0000000-e7ffffff,e8000000-e8ffffff", with both ends in 1 to 16 lower-case hex digits. fixed lists the slots of
+   which no register may be written, as "00:1f.0,01:00.0", each above the one before it; none where it has no byte. anew is
+   0 where what stands stays where it is, else all is placed anew. */
+struct pciplan_settle_words {
+    struct pciplan_text io, mem, pref, fixed;
+    uint8_t anew;
+};
+
+/* Settles the texts of a dump and of its probe: what stands where it works stays there, and all else is placed in the lists.
+
+   At YES writes, *writes_used, *safe_from, line and *line_used are as pciplan_plan leaves them. *safe_from is 0 where what
+   the dump shows is sound, else the number of the first writes, which close functions. Where all is settled already there
+   are no writes.
+
+   At NO a fault of the texts or of settling is named, as "no 74 Fixed 00:1f.0 10". At REFUSED a message stands in line:
+   "root", else "pool io", "pool mem", "pool pref" or "fixed" for the first word without a meaning, else a message of
+   pciplan_check. At MEMORY and SHORT all is as pciplan_plan leaves it. */
+uint8_t pciplan_settle(const uint8_t *dump, size_t dump_len,
+                       const uint8_t *probe, size_t probe_len,
+                       const uint8_t *roots, size_t roots_len,
+                       const struct pciplan_settle_words *words,
+                       struct pciplan_write *writes, size_t writes_len, size_t *writes_used,
+                       size_t *safe_from,
+                       uint8_t *line, size_t line_len, size_t *line_used);
+
+/* What a plan or a settling of this dump starts from: the registers that are compared before its first write, with what
+   they show in the dump. Of each function, the lowest slot first, they are Command and then the address registers by rising
+   offset.
 
    At YES they stand at the front of registers, and *registers_used of them count; what follows them isn't changed. At
    REFUSED the dump is no text (pciplan_check says why); registers isn't changed, and *registers_used is 0. At MEMORY
@@ -111,8 +148,8 @@ enum pciplan_kind {
     PCIPLAN_READ_BACK = 2 /* it was just written, is read, and is to show the value */
 };
 
-/* An access by which a plan is put onto a machine: its register and value, how many of the plan's writes stand where it is
-   the last access, and its kind. */
+/* An access by which a plan or a settling is put onto a machine: its register and value, how many of the writes stand where
+   it is the last access, and its kind. */
 struct pciplan_access {
     struct pciplan_write at;
     size_t done;

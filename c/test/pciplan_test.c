@@ -66,6 +66,17 @@ static struct text text_of(const char *path)
     return t;
 }
 
+/* Where these bytes stand in a text. */
+static uint8_t *at_text(struct text t, const char *bytes)
+{
+    size_t len = strlen(bytes);
+    for (size_t i = 0; i + len <= t.len; i++)
+        if (memcmp(t.bytes + i, bytes, len) == 0)
+            return t.bytes + i;
+    fail("not found", bytes);
+    return NULL;
+}
+
 /* ---- calls */
 
 struct call {
@@ -190,34 +201,54 @@ static int is_write(struct pciplan_write w, struct pciplan_write v)
            w.width == v.width && w.value == v.value;
 }
 
+/* What a call leaves in memory of the caller's. */
+struct left {
+    struct pciplan_write put[ROOM];
+    uint8_t line[PCIPLAN_LINE];
+    size_t writes_used, safe_from, line_used;
+};
+
+static const struct pciplan_write none = {FILLED, FILLED, FILLED, FILLED, FILLED, FILLED};
+
+/* What stands there before a call. */
+static struct left nothing_left(void)
+{
+    struct left left = {.writes_used = UNTOLD, .safe_from = UNTOLD, .line_used = UNTOLD};
+    for (size_t i = 0; i < ROOM; i++)
+        left.put[i] = none;
+    memset(left.line, FILLED, sizeof left.line);
+    return left;
+}
+
+/* Sees that a call with this status left just these writes and this line, or what it needs of them. */
+static void is_left(const char *name, const struct left *left, uint8_t status, const struct pciplan_write *made,
+                    size_t count, size_t safe_from, const char *line)
+{
+    int held_back = status == PCIPLAN_MEMORY || status == PCIPLAN_SHORT;
+    int told = status != PCIPLAN_MEMORY;
+    size_t len = strlen(line);
+    for (size_t i = 0; i < ROOM; i++)
+        if (!is_write(left->put[i], status == PCIPLAN_YES && i < count ? made[i] : none))
+            fail("another write", name);
+    for (size_t i = 0; i < sizeof left->line; i++)
+        if (left->line[i] != (!held_back && i < len ? (uint8_t)line[i] : FILLED))
+            fail("another line", name);
+    if (left->writes_used != (told ? count : UNTOLD) || left->line_used != (told ? len : UNTOLD) ||
+        left->safe_from != (status == PCIPLAN_YES ? safe_from : UNTOLD))
+        fail("another number", name);
+}
+
 /* Makes a call, and sees to all that it leaves whatever the status. The answer is the status. */
 static uint8_t planned(const struct plan_call *c, struct text dump, struct text probe, size_t refused)
 {
-    static const struct pciplan_write none = {FILLED, FILLED, FILLED, FILLED, FILLED, FILLED};
     static const uint8_t host = 0;
-    struct pciplan_write put[ROOM];
-    uint8_t line[PCIPLAN_LINE];
-    size_t writes_used = UNTOLD, safe_from = UNTOLD, line_used = UNTOLD;
-    for (size_t i = 0; i < ROOM; i++)
-        put[i] = none;
-    memset(line, FILLED, sizeof line);
+    struct left left = nothing_left();
     growths = 0;
     refuse = refused;
     uint8_t status = pciplan_plan(dump.bytes, dump.len - c->dump_cut, probe.bytes, probe.len, &host, c->roots_len,
-                                  c->pools, put, c->writes_len, &writes_used, &safe_from, line, c->line_len,
-                                  &line_used);
-    int held_back = status == PCIPLAN_MEMORY || status == PCIPLAN_SHORT;
-    for (size_t i = 0; i < ROOM; i++)
-        if (!is_write(put[i], status == PCIPLAN_YES && i < ALL ? writes[i] : none))
-            fail("another write", c->name);
-    size_t len = strlen(c->line);
-    for (size_t i = 0; i < sizeof line; i++)
-        if (line[i] != (!held_back && i < len ? (uint8_t)c->line[i] : FILLED))
-            fail("another line", c->name);
-    int told = status != PCIPLAN_MEMORY;
-    if (writes_used != (told ? c->writes_used : UNTOLD) || line_used != (told ? len : UNTOLD) ||
-        safe_from != (status == PCIPLAN_YES ? 0 : UNTOLD))
-        fail("another number", c->name);
+                                  c->pools, left.put, c->writes_len, &left.writes_used, &left.safe_from, left.line,
+                                  c->line_len, &left.line_used);
+    is_left(c->name, &left, status, writes, c->writes_used, 0, c->line);
     return status;
 }
 
@@ -243,10 +274,107 @@ static size_t plans(void)
     return refusals;
 }
 
+/* ---- settlings of a board that runs, where a card was plugged in */
+
+#define PLUGGED "../crates/pciplan/data/plugged.txt"
+#define PLUGGED_PROBE "../crates/pciplan/data/plugged_probe.txt"
+
+/* A device on the root bus, which stands behind both windows. */
+#define DEVICE "10: 00 00 20 e0"
+
+static const struct pciplan_write card[] = {
+    {0x02, 0x00, 0, 0x10, 4, 0xe0100000}, {0x02, 0x00, 0, 0x04, 2, 0x0002},
+};
+
+/* The device stands on a window, and goes. */
+static const struct pciplan_write moved[] = {
+    {0x00, 0x1f, 0, 0x04, 2, 0x0000},     {0x00, 0x1f, 0, 0x10, 4, 0xe0200000},
+    {0x02, 0x00, 0, 0x10, 4, 0xe0100000}, {0x00, 0x1f, 0, 0x04, 2, 0x0002},
+    {0x02, 0x00, 0, 0x04, 2, 0x0002},
+};
+
+#define MEM "e0000000-e02fffff"
+
+struct settle_call {
+    const char *name;
+    const char *mem, *fixed;
+    const char *device; /* the register of the device, where it isn't as in the text */
+    size_t roots_len;
+    size_t writes_len;
+    size_t line_len;
+    uint8_t status;
+    const struct pciplan_write *writes;
+    size_t writes_used, safe_from;
+    const char *line;
+};
+
+static const struct settle_call settle_calls[] = {
+    {"card", MEM, "", NULL, 1, ROOM, PCIPLAN_LINE, PCIPLAN_YES, card, COUNT(card), 0, ""},
+    {"card, all else fixed", MEM, "00:01.0,00:02.0,00:1f.0,01:00.0", NULL, 1, COUNT(card), 0, PCIPLAN_YES, card,
+     COUNT(card), 0, ""},
+    {"card and device", MEM, "", "10: 00 00 00 e0", 1, ROOM, PCIPLAN_LINE, PCIPLAN_YES, moved, COUNT(moved), 1, ""},
+    {"too few writes for the card", MEM, "", NULL, 1, 1, PCIPLAN_LINE, PCIPLAN_SHORT, card, COUNT(card), 0, ""},
+    {"card fixed", MEM, "02:00.0", NULL, 1, ROOM, PCIPLAN_LINE, PCIPLAN_NO, NULL, 0, 0, "no 74 Fixed 02:00.0 10\n"},
+    {"no ranges", "none", "", NULL, 1, ROOM, PCIPLAN_LINE, PCIPLAN_NO, NULL, 0, 0,
+     "no 72 NoRoom mem 00:01.0 20 100000 100000\n"},
+    {"no list", "e0000000-", "02", NULL, 1, ROOM, PCIPLAN_LINE, PCIPLAN_REFUSED, NULL, 0, 0, "pool mem"},
+    {"no slots", MEM, "02:00.0,", NULL, 1, ROOM, PCIPLAN_LINE, PCIPLAN_REFUSED, NULL, 0, 0, "fixed"},
+    {"settled without roots", "", "", NULL, 0, ROOM, PCIPLAN_LINE, PCIPLAN_REFUSED, NULL, 0, 0, "root"},
+    {"line too short for a fault", MEM, "02:00.0", NULL, 1, ROOM, 22, PCIPLAN_SHORT, NULL, 0, 0,
+     "no 74 Fixed 02:00.0 10\n"},
+};
+
+static struct pciplan_text word(const char *text)
+{
+    struct pciplan_text t = {(const uint8_t *)text, strlen(text)};
+    return t;
+}
+
+/* Makes a call, and sees to all that it leaves whatever the status. The answer is the status. */
+static uint8_t settled(const struct settle_call *c, struct text dump, struct text probe, size_t refused)
+{
+    static const uint8_t host = 0;
+    struct pciplan_settle_words words = {word("none"), word(c->mem), word("none"), word(c->fixed), 0};
+    struct left left = nothing_left();
+    growths = 0;
+    refuse = refused;
+    uint8_t status = pciplan_settle(dump.bytes, dump.len, probe.bytes, probe.len, &host, c->roots_len, &words, left.put,
+                                    c->writes_len, &left.writes_used, &left.safe_from, left.line, c->line_len,
+                                    &left.line_used);
+    is_left(c->name, &left, status, c->writes, c->writes_used, c->safe_from, c->line);
+    return status;
+}
+
+/* Makes all calls for settlings. The answer is how many growths were refused. */
+static size_t settlings(void)
+{
+    struct text dump = text_of(PLUGGED);
+    struct text probe = text_of(PLUGGED_PROBE);
+    size_t refusals = 0;
+    for (size_t i = 0; i < COUNT(settle_calls); i++) {
+        const struct settle_call *c = &settle_calls[i];
+        uint8_t *device = at_text(dump, DEVICE);
+        if (c->device != NULL)
+            memcpy(device, c->device, strlen(c->device));
+        if (settled(c, dump, probe, 0) != c->status)
+            fail("another status", c->name);
+        size_t all = growths;
+        for (size_t n = 1; n <= all; n++) {
+            if (settled(c, dump, probe, n) != PCIPLAN_MEMORY)
+                fail("a refused growth isn't told", c->name);
+            refusals++;
+        }
+        memcpy(device, DEVICE, strlen(DEVICE));
+    }
+    free(dump.bytes);
+    free(probe.bytes);
+    return refusals;
+}
+
 int main(void)
 {
-    size_t refusals = verdicts() + plans();
-    printf("%zu calls answered as they should be, %zu growths refused in turn\n", COUNT(calls) + COUNT(plan_calls),
-           refusals);
+    size_t refusals = verdicts() + plans() + settlings();
+    printf("%zu calls answered as they should be, %zu growths refused in turn\n",
+           COUNT(calls) + COUNT(plan_calls) + COUNT(settle_calls), refusals);
     return 0;
 }

@@ -1,74 +1,28 @@
--- No line that says a verdict, or why there is none or no plan, is longer than 96 bytes.
-use Rattle.std.proofs.Common.{◌≡◌, ℕ, suc, ◌+◌, ◌^◌, ◌≤◌, ◌<◌, List, [], ◌∷◌, ◌++◌, length, refl, arith, Some, codes}
-use Rattle.std.specs.Fmt.{decimal}
-use Rattle.std.proofs.lemmas.Fmt.{length-decimal-le}
-use Rattle.std.proofs.lemmas.List.{length-append}
-use Rattle.pci_spec.specs.System.{Io, Memory}
-use Rattle.pci_spec.specs.Fault.{Fault, NoVendor, HeaderKind, BarType, BarMask, BarPair, RomMask, WindowMask, CapRange, CapLoop, CapCut, SlotsDiffer, StrayProbe, LoneFunction, PaletteSnoop, VgaEnable, IsaEnable, Subtractive, InReset, PowerState, BusRange, Orphan, Unreached, Clash, Split}
-use Rattle.pci_spec.specs.Line.{verdict_line, fault_text, field}
+-- No line that says a verdict, or why there is none or why there are no writes, is longer than 96 bytes.
+use Rattle.std.proofs.Common.{◌≡◌, ℕ, ◌+◌, ◌-◌, ◌^◌, ◌≤◌, ◌<◌, ◌++◌, length, replicate, refl, ap, arith, Some, codes}
+use Rattle.std.proofs.lemmas.List.{length-append, length-replicate}
+use Rattle.pci_spec.specs.Slot.{Slot}
+use Rattle.pci_spec.specs.Line.{verdict_line, fault_text, field, hex_number}
 use Rattle.pci_spec.specs.Window as windows
+use Rattle.pci_spec.proofs.HexTexts.{padded_hex}
 use Rattle.plan_spec.specs.Plan as plan
 use Rattle.plan_spec.specs.PlanLine.{plan_fault_text}
-use Rattle.pci_dump.specs.declared.read_fault.ReadFault.{ReadFault}
-use Rattle.pci_dump.specs.declared.read_fault.ReadFault.TheVariants as faults
+use Rattle.pci_base.specs.WindowKinds.{kind_value}
 use Rattle.pci_function.specs.Fault.{fault_of}
 use Rattle.pci_check.specs.Audits.{outcome_line}
 use Rattle.pci_check.specs.declared.outcome.Outcome.{Outcome}
 use Rattle.pci_check.specs.declared.outcome.Outcome.TheVariants.{Yes, No}
 use Rattle.pci_plan.specs.Plans.{plan_fault_of}
-use Rattle.pciplan_c.specs.Refusals.{read_fault_line, read_fault_text, refusal_line, refusal_text}
-use Rattle.pciplan_c.specs.PlanAnswers.{no_plan_line, no_plan_text}
-use Rattle.pciplan_c.specs.declared.no_plan.NoPlan.{NoPlan}
-use Rattle.pciplan_c.specs.declared.no_plan.NoPlan.TheVariants.{Refused, NotAdmitted, NotPlanned}
-use Rattle.pciplan_c.specs.declared.refusal.Refusal.{Refusal}
-use Rattle.pciplan_c.specs.declared.refusal.Refusal.TheVariants.{Root, Dump, Probe}
-
--- the text of a fault has so many bytes
-abbrev IsShort : Fault → ℕ → Type 0
-IsShort fault bytes = length (fault_text fault) ≡ bytes
-
-short : (fault : Fault) (bytes : ℕ) → IsShort fault bytes → bytes ≤ 60 → length (fault_text fault) ≤ 60
-short fault bytes is few = omega (arith, is, few)
-
-fault_short : (fault : Fault) → length (fault_text fault) ≤ 60
-fault_short (NoVendor slot) = short (NoVendor slot) 19 refl (omega arith)
-fault_short (HeaderKind slot) = short (HeaderKind slot) 21 refl (omega arith)
-fault_short (BarType slot register) = short (BarType slot register) 21 refl (omega arith)
-fault_short (BarMask slot register) = short (BarMask slot register) 21 refl (omega arith)
-fault_short (BarPair slot register) = short (BarPair slot register) 21 refl (omega arith)
-fault_short (RomMask slot register) = short (RomMask slot register) 21 refl (omega arith)
-fault_short (WindowMask slot register) = short (WindowMask slot register) 24 refl (omega arith)
-fault_short (CapRange slot place) = short (CapRange slot place) 22 refl (omega arith)
-fault_short (CapLoop slot place) = short (CapLoop slot place) 21 refl (omega arith)
-fault_short (CapCut slot place) = short (CapCut slot place) 20 refl (omega arith)
-fault_short (SlotsDiffer slot) = short (SlotsDiffer slot) 22 refl (omega arith)
-fault_short (StrayProbe slot offset) = short (StrayProbe slot offset) 24 refl (omega arith)
-fault_short (LoneFunction slot) = short (LoneFunction slot) 23 refl (omega arith)
-fault_short (PaletteSnoop slot) = short (PaletteSnoop slot) 23 refl (omega arith)
-fault_short (VgaEnable slot) = short (VgaEnable slot) 20 refl (omega arith)
-fault_short (IsaEnable slot) = short (IsaEnable slot) 20 refl (omega arith)
-fault_short (Subtractive slot) = short (Subtractive slot) 22 refl (omega arith)
-fault_short (InReset slot) = short (InReset slot) 18 refl (omega arith)
-fault_short (PowerState slot) = short (PowerState slot) 21 refl (omega arith)
-fault_short (BusRange slot) = short (BusRange slot) 19 refl (omega arith)
-fault_short (Orphan slot) = short (Orphan slot) 17 refl (omega arith)
-fault_short (Unreached slot register Io address bridge) = short (Unreached slot register Io address bridge) 50 refl (omega arith)
-fault_short (Unreached slot register Memory address bridge) = short (Unreached slot register Memory address bridge) 59 refl (omega arith)
-fault_short (Clash bus Io address first first_register second second_register) = short (Clash bus Io address first first_register second second_register) 49 refl (omega arith)
-fault_short (Clash bus Memory address first first_register second second_register) = short (Clash bus Memory address first first_register second second_register) 58 refl (omega arith)
-fault_short (Split Io address first first_register second second_register) = short (Split Io address first first_register second second_register) 42 refl (omega arith)
-fault_short (Split Memory address first first_register second second_register) = short (Split Memory address first first_register second second_register) 51 refl (omega arith)
-
--- a text that a short one ends
-ended : (head tail : List ℕ) (few most : ℕ) → length tail ≤ few → length head + few ≤ most → length (head ++ tail) ≤ most
-ended head tail few most short_tail room = let both = length-append head tail in omega (arith, both, short_tail, room)
-
--- a line that says it
-line_length : (text : List ℕ) → length (codes "no" ++ field text ++ 10 ∷ []) ≡ length text + 4
-line_length text =
-    let end = length-append text (10 ∷ []) in
-    let here : length (codes "no" ++ field text ++ 10 ∷ []) ≡ suc (suc (suc (length (text ++ 10 ∷ [])))) = refl in
-    omega (arith, end, here)
+use Rattle.pci_settle_writes.specs.FaultText.{hex_text, sizes_text, part_text, settle_fault_text}
+use Rattle.pci_settle_writes.specs.declared.lack.SettleFault.{SettleFault}
+use Rattle.pci_settle_writes.specs.declared.lack.SettleFault.TheVariants as settle
+pub use Rattle.pciplan_held.proofs.Lengths.{refusal_short}
+use Rattle.pciplan_held.proofs.Lengths.{ended, fault_short, line_length, unread_short}
+use Rattle.pciplan_c.specs.NoWrites.{no_writes_numbers, no_writes_text, settle_fault_numbers, settle_word_text}
+use Rattle.pciplan_c.specs.declared.no_writes.NoWrites.{NoWrites}
+use Rattle.pciplan_c.specs.declared.no_writes.NoWrites.TheVariants.{BadWord, Unread, NotPlanned, NotSettled}
+use Rattle.pciplan_c.specs.declared.settle_words.SettleWord.{SettleWord}
+use Rattle.pciplan_c.specs.declared.settle_words.SettleWord.TheVariants as word
 
 pub line_short : (outcome : Outcome) → length (outcome_line outcome) ≤ 96
 line_short Yes = let yes : length (outcome_line Yes) ≡ 4 = refl in omega (arith, yes)
@@ -76,27 +30,6 @@ line_short (No fault) =
     let few = fault_short (fault_of fault) in
     let line : length (verdict_line (Some (fault_of fault))) ≡ length (fault_text (fault_of fault)) + 4 = line_length (fault_text (fault_of fault)) in
     omega (arith, few, line)
-
--- ---- why texts are refused
-
-number_short : (n : ℕ) → n < 2 ^ 64 → length (decimal n) ≤ 20
-number_short n less = length-decimal-le 20 n (omega arith) (omega (arith, less)) less
-
-said_short : (fault : ReadFault) → read_fault_line fault < 2 ^ 64 → length (read_fault_text fault) ≤ 60
-said_short faults.Io less = let bytes : length (read_fault_text faults.Io) ≡ 4 = refl in omega (arith, bytes)
-said_short faults.Memory less = let bytes : length (read_fault_text faults.Memory) ≡ 8 = refl in omega (arith, bytes)
-said_short (faults.BadSlot n) less = ended (codes "3 BadSlot ") (decimal n) 20 60 (number_short n less) (let head : length (codes "3 BadSlot ") ≡ 10 = refl in omega (arith, head))
-said_short (faults.BadTitle n) less = ended (codes "4 BadTitle ") (decimal n) 20 60 (number_short n less) (let head : length (codes "4 BadTitle ") ≡ 11 = refl in omega (arith, head))
-said_short (faults.BadLine n) less = ended (codes "5 BadLine ") (decimal n) 20 60 (number_short n less) (let head : length (codes "5 BadLine ") ≡ 10 = refl in omega (arith, head))
-said_short (faults.NoBlank n) less = ended (codes "6 NoBlank ") (decimal n) 20 60 (number_short n less) (let head : length (codes "6 NoBlank ") ≡ 10 = refl in omega (arith, head))
-said_short (faults.Order n) less = ended (codes "7 Order ") (decimal n) 20 60 (number_short n less) (let head : length (codes "7 Order ") ≡ 8 = refl in omega (arith, head))
-said_short (faults.TooMany n) less = ended (codes "8 TooMany ") (decimal n) 20 60 (number_short n less) (let head : length (codes "8 TooMany ") ≡ 10 = refl in omega (arith, head))
-said_short (faults.Ended n) less = ended (codes "9 Ended ") (decimal n) 20 60 (number_short n less) (let head : length (codes "9 Ended ") ≡ 8 = refl in omega (arith, head))
-
-pub refusal_short : (refusal : Refusal) → refusal_line refusal < 2 ^ 64 → length (refusal_text refusal) ≤ 96
-refusal_short Root less = let bytes : length (refusal_text Root) ≡ 4 = refl in omega (arith, bytes)
-refusal_short (Dump fault) less = ended (codes "dump: ") (read_fault_text fault) 60 96 (said_short fault less) (let head : length (codes "dump: ") ≡ 6 = refl in omega (arith, head))
-refusal_short (Probe fault) less = ended (codes "probe: ") (read_fault_text fault) 60 96 (said_short fault less) (let head : length (codes "probe: ") ≡ 7 = refl in omega (arith, head))
 
 -- ---- why there is no plan
 
@@ -111,13 +44,59 @@ plan_fault_short (plan.NoWindow slot) = let bytes : length (plan_fault_text (pla
 plan_fault_short (plan.NoRoom class) = room_short class
 plan_fault_short (plan.NotAccepted fault) = ended (codes "73 NotAccepted ") (fault_text fault) 60 92 (fault_short fault) (let head : length (codes "73 NotAccepted ") ≡ 15 = refl in omega (arith, head))
 
-pub no_plan_short : (why : NoPlan) → no_plan_line why < 2 ^ 64 → length (no_plan_text why) ≤ 96
-no_plan_short (Refused refusal) less = refusal_short refusal less
-no_plan_short (NotAdmitted fault) less =
-    let few = fault_short (fault_of fault) in
-    let bytes : length (verdict_line (Some (fault_of fault))) ≡ length (fault_text (fault_of fault)) + 4 = line_length (fault_text (fault_of fault)) in
-    omega (arith, few, bytes)
-no_plan_short (NotPlanned fault) less =
-    let few = plan_fault_short (plan_fault_of fault) in
+-- ---- why nothing is settled
+
+size_short : (n : ℕ) → n < 2 ^ 64 → length (hex_text n) ≤ 16
+size_short n less =
+    let whole = ap length (padded_hex 16 n (omega arith) (omega arith) (omega (arith, less))) in
+    let parts = length-append (replicate (16 - length (hex_text n)) 48) (hex_text n) in
+    let zeros = length-replicate {A = ℕ} (16 - length (hex_text n)) 48 in
+    let all : length (hex_number 16 n) ≡ 16 = refl in
+    omega (arith, whole, parts, zeros, all)
+
+part_short : (class : windows.WindowKind) (slot : Slot) (register : ℕ) → length (part_text class slot register) ≤ 15
+part_short windows.IoWindow slot register = let bytes : length (part_text windows.IoWindow slot register) ≡ 13 = refl in omega (arith, bytes)
+part_short windows.MemoryWindow slot register = let bytes : length (part_text windows.MemoryWindow slot register) ≡ 14 = refl in omega (arith, bytes)
+part_short windows.PrefetchWindow slot register = let bytes : length (part_text windows.PrefetchWindow slot register) ≡ 15 = refl in omega (arith, bytes)
+
+sizes_short : (size alignment : ℕ) → size < 2 ^ 64 → alignment < 2 ^ 64 → length (sizes_text size alignment) ≤ 33
+sizes_short size alignment few less =
+    let parts = length-append (hex_text size) (field (hex_text alignment)) in
+    let one = size_short size few in
+    let other = size_short alignment less in
+    omega (arith, parts, one, other)
+
+settle_fault_short : (fault : SettleFault) → (settle_fault_numbers fault).0 < 2 ^ 64 → (settle_fault_numbers fault).1 < 2 ^ 64
+    → length (settle_fault_text fault) ≤ 92
+settle_fault_short settle.BadLists few less = let bytes : length (settle_fault_text settle.BadLists) ≡ 11 = refl in omega (arith, bytes)
+settle_fault_short (settle.NoRoom lack) few less =
+    let part = part_short (kind_value lack.class) lack.slot lack.register in
+    let sizes = sizes_short lack.size lack.alignment few less in
+    let end = length-append (field (part_text (kind_value lack.class) lack.slot lack.register)) (field (sizes_text lack.size lack.alignment)) in
+    ended (codes "72 NoRoom") (field (part_text (kind_value lack.class) lack.slot lack.register) ++ field (sizes_text lack.size lack.alignment)) 50 92
+    (omega (arith, part, sizes, end)) (let head : length (codes "72 NoRoom") ≡ 9 = refl in omega (arith, head))
+settle_fault_short (settle.TooLarge class slot) few less =
+    let part = part_short (kind_value class) slot (windows.window_register (kind_value class)) in
+    ended (codes "72 NoRoom") (field (part_text (kind_value class) slot (windows.window_register (kind_value class)))) 50 92
+    (omega (arith, part)) (let head : length (codes "72 NoRoom") ≡ 9 = refl in omega (arith, head))
+settle_fault_short (settle.Fixed slot reg) few less = let bytes : length (settle_fault_text (settle.Fixed slot reg)) ≡ 19 = refl in omega (arith, bytes)
+
+word_short : (bad : SettleWord) → length (settle_word_text bad) ≤ 96
+word_short word.Io = let bytes : length (settle_word_text word.Io) ≡ 7 = refl in omega (arith, bytes)
+word_short word.Mem = let bytes : length (settle_word_text word.Mem) ≡ 8 = refl in omega (arith, bytes)
+word_short word.Pref = let bytes : length (settle_word_text word.Pref) ≡ 9 = refl in omega (arith, bytes)
+word_short word.Fixed = let bytes : length (settle_word_text word.Fixed) ≡ 5 = refl in omega (arith, bytes)
+
+-- ---- why there are no writes
+
+pub no_writes_short : (why : NoWrites) → (no_writes_numbers why).0 < 2 ^ 64 → (no_writes_numbers why).1 < 2 ^ 64 → length (no_writes_text why) ≤ 96
+no_writes_short (BadWord bad) few less = word_short bad
+no_writes_short (Unread unread) few less = unread_short unread few
+no_writes_short (NotPlanned fault) few less =
+    let short = plan_fault_short (plan_fault_of fault) in
     let bytes = line_length (plan_fault_text (plan_fault_of fault)) in
-    omega (arith, few, bytes)
+    omega (arith, short, bytes)
+no_writes_short (NotSettled fault) few less =
+    let short = settle_fault_short fault few less in
+    let bytes = line_length (settle_fault_text fault) in
+    omega (arith, short, bytes)

@@ -1,3 +1,3 @@
-pub mod NoPlans
 pub mod Lengths
-pub mod PlanWrites
+pub mod WordBytes
+pub mod Settlings

@@ -1,8 +1,9 @@
 -- What is answered to two texts and a list of root buses, and where its text is put.
-use Rattle.std.specs.Prelude.{◌≡◌, ◌<◌, ℕ, List, ◌++◌, length, drop, Some}
+use Rattle.std.specs.Prelude.{◌≡◌, ◌<◌, ℕ, List, length, Some}
 use Rattle.pci_tree.specs.Roots.{IsRootList}
 use Rattle.pci_check.specs.Audits.{IsAudited, outcome_line}
-use Rattle.pciplan_c.specs.Refusals.{IsRefusalOf, refusal_text}
+use Rattle.pciplan_held.specs.Puts.{IsPutInto}
+use Rattle.pciplan_held.specs.Refusals.{IsRefusalOf, refusal_text}
 use Rattle.pciplan_c.specs.declared.answer.Answer.{Answer}
 use Rattle.pciplan_c.specs.declared.answer.Answer.TheVariants.{Verdict, Refused}
 
@@ -16,10 +17,6 @@ abbrev pub IsAnswerOf : List ℕ → List ℕ → List ℕ → Answer → Type 0
 IsAnswerOf roots dump probe (Verdict outcome) =
     IsRootList roots × IsAudited roots (Some dump) (Some probe) outcome
 IsAnswerOf roots dump probe (Refused refusal) = IsRefusalOf roots dump probe refusal
-
--- the items stand at the front, and the rest is as it was
-abbrev pub IsPutInto : {T : Type 0} → List T → List T → List T → Type 0
-IsPutInto old new items = new ≡ items ++ drop (length items) old
 
 -- the answer to the two texts, with its text at the front of the bytes
 pub record IsTold (roots dump probe : List ℕ) (answer : Answer) (old new : List ℕ)

@@ -1,84 +1,81 @@
--- Where the answer of planning is put.
+-- Where it is put what planning or settling comes to: writes that are so, with from how many on they may stop, or why there
+-- are none.
 use Rattle.std.specs.Prelude.{◌≡◌, ◌<◌, ℕ, List, length}
-use Rattle.plan_spec.specs.Plan.{Pools}
-use Rattle.pciplan_c.specs.Answers.{IsPutInto}
-use Rattle.pciplan_c.specs.PlanAnswers.{no_plan_text, no_plan_status, IsNoPlanOf, ArePlanned}
-use Rattle.pciplan_c.specs.declared.no_plan.NoPlan.{NoPlan}
-use Rattle.pciplan_c.specs.declared.register_write.RegisterWrite.{RegisterWrite}
-use Rattle.pciplan_c.specs.declared.planning.Ending.{Ending}
-use Rattle.pciplan_c.specs.declared.planning.Ending.TheVariants as ends
-use Rattle.pciplan_c.specs.declared.planning.HeldBack.{HeldBack}
-use Rattle.pciplan_c.specs.declared.planning.NotPut.{NotPut}
-use Rattle.pciplan_c.specs.declared.planning.NotPut.TheVariants as not_put
-use Rattle.pciplan_c.specs.declared.planning.HeldBack.TheVariants.{Memory, Writes, Line}
+use Rattle.pciplan_held.specs.Puts.{IsPutInto}
+use Rattle.pciplan_held.specs.declared.register_write.RegisterWrite.{RegisterWrite}
+use Rattle.pciplan_c.specs.NoWrites.{no_writes_text, no_writes_status}
+use Rattle.pciplan_c.specs.declared.no_writes.NoWrites.{NoWrites}
+use Rattle.pciplan_c.specs.declared.ending.Ending.{Ending}
+use Rattle.pciplan_c.specs.declared.ending.Ending.TheVariants as ends
+use Rattle.pciplan_c.specs.declared.ending.HeldBack.{HeldBack}
+use Rattle.pciplan_c.specs.declared.ending.HeldBack.TheVariants.{Memory, Writes, Line}
+use Rattle.pciplan_c.specs.declared.ending.NotPut.{NotPut}
+use Rattle.pciplan_c.specs.declared.ending.NotPut.TheVariants as not_put
 
--- the writes of a plan stand at the front of the array
-pub record ArePut (roots dump probe : List ℕ) (pools : Pools) (old new : List RegisterWrite)
+-- the writes stand at the front of the array
+pub record ArePut (AreSo : List RegisterWrite → ℕ → Type 0) (old new : List RegisterWrite)
     (count safe_from : ℕ) : Type 0 where
   pub writes : List RegisterWrite
-  pub planned : ArePlanned roots dump probe pools writes safe_from
+  pub so : AreSo writes safe_from
   pub put : IsPutInto old new writes
   pub number : count ≡ length writes
 
 -- they are more than the array has room for
-pub record AreTooMany (roots dump probe : List ℕ) (pools : Pools) (array : List RegisterWrite)
+pub record AreTooMany (AreSo : List RegisterWrite → ℕ → Type 0) (array : List RegisterWrite)
     (needed : ℕ) : Type 0 where
   pub writes : List RegisterWrite
   pub safe_from : ℕ
-  pub planned : ArePlanned roots dump probe pools writes safe_from
+  pub so : AreSo writes safe_from
   pub number : needed ≡ length writes
   pub more : length array < needed
 
 -- why no writes are put
-abbrev pub IsNotPut : List ℕ → List ℕ → List ℕ → Pools → List RegisterWrite → NotPut → Type 0
-IsNotPut roots dump probe pools array (not_put.NoPlan why) = IsNoPlanOf roots dump probe pools why
-IsNotPut roots dump probe pools array not_put.Memory = Unit {0}
-IsNotPut roots dump probe pools array (not_put.Writes needed) =
-    AreTooMany roots dump probe pools array needed
+abbrev pub IsNotPut : (List RegisterWrite → ℕ → Type 0) → (NoWrites → Type 0) → List RegisterWrite
+    → NotPut → Type 0
+IsNotPut AreSo IsWhy array (not_put.NoWrites why) = IsWhy why
+IsNotPut AreSo IsWhy array not_put.Memory = Unit {0}
+IsNotPut AreSo IsWhy array (not_put.Writes needed) = AreTooMany AreSo array needed
 
--- why there is no plan stands at the front of the line
-pub record IsNoPlanTold (roots dump probe : List ℕ) (pools : Pools) (status : ℕ) (old new : List ℕ)
+-- why there are none stands at the front of the line
+pub record IsNoneTold (IsWhy : NoWrites → Type 0) (status : ℕ) (old new : List ℕ)
     (used : ℕ) : Type 0 where
-  pub why : NoPlan
-  pub stands : IsNoPlanOf roots dump probe pools why
-  pub named : status ≡ no_plan_status why
-  pub text : IsPutInto old new (no_plan_text why)
-  pub count : used ≡ length (no_plan_text why)
+  pub why : NoWrites
+  pub stands : IsWhy why
+  pub named : status ≡ no_writes_status why
+  pub text : IsPutInto old new (no_writes_text why)
+  pub count : used ≡ length (no_writes_text why)
 
 -- it is longer than the line
-pub record IsNoPlanTooLong (roots dump probe : List ℕ) (pools : Pools) (line : List ℕ)
-    (needed : ℕ) : Type 0 where
-  pub why : NoPlan
-  pub stands : IsNoPlanOf roots dump probe pools why
-  pub count : needed ≡ length (no_plan_text why)
+pub record IsNoneTooLong (IsWhy : NoWrites → Type 0) (line : List ℕ) (needed : ℕ) : Type 0 where
+  pub why : NoWrites
+  pub stands : IsWhy why
+  pub count : needed ≡ length (no_writes_text why)
   pub more : length line < needed
 
 -- this is told
-abbrev pub IsToldOf : NoPlan → List ℕ → List ℕ → Ending → Type 0
-IsToldOf why old new (ends.Plan count safe_from) = ⊥
-IsToldOf why old new (ends.NoPlan told used) =
-    (told ≡ why) × IsPutInto old new (no_plan_text why) × (used ≡ length (no_plan_text why))
+abbrev pub IsToldOf : NoWrites → List ℕ → List ℕ → Ending → Type 0
+IsToldOf why old new (ends.Writes count safe_from) = ⊥
+IsToldOf why old new (ends.NoWrites told used) =
+    (told ≡ why) × IsPutInto old new (no_writes_text why) × (used ≡ length (no_writes_text why))
 
 -- this is too long
-abbrev pub IsTooLongFor : NoPlan → List ℕ → HeldBack → Type 0
+abbrev pub IsTooLongFor : NoWrites → List ℕ → HeldBack → Type 0
 IsTooLongFor why line Memory = Unit {0}
 IsTooLongFor why line (Writes needed) = ⊥
-IsTooLongFor why line (Line needed) = (needed ≡ length (no_plan_text why)) × (length line < needed)
+IsTooLongFor why line (Line needed) =
+    (needed ≡ length (no_writes_text why)) × (length line < needed)
 
--- the writes were put into the array, or why there is no plan into the line
-abbrev pub IsEnding : List ℕ → List ℕ → List ℕ → Pools → List RegisterWrite → List RegisterWrite
-    → List ℕ → List ℕ → Ending → Type 0
-IsEnding roots dump probe pools array new_array line new_line (ends.Plan count safe_from) =
-    ArePut roots dump probe pools array new_array count safe_from × (new_line ≡ line)
-IsEnding roots dump probe pools array new_array line new_line (ends.NoPlan why used) =
-    IsNoPlanTold roots dump probe pools (no_plan_status why) line new_line used
-    × (new_array ≡ array)
+-- the writes were put into the array, or why there are none into the line
+abbrev pub IsEnding : (List RegisterWrite → ℕ → Type 0) → (NoWrites → Type 0) → List RegisterWrite
+    → List RegisterWrite → List ℕ → List ℕ → Ending → Type 0
+IsEnding AreSo IsWhy array new_array line new_line (ends.Writes count safe_from) =
+    ArePut AreSo array new_array count safe_from × (new_line ≡ line)
+IsEnding AreSo IsWhy array new_array line new_line (ends.NoWrites why used) =
+    IsNoneTold IsWhy (no_writes_status why) line new_line used × (new_array ≡ array)
 
 -- what has no room
-abbrev pub IsHeldBack : List ℕ → List ℕ → List ℕ → Pools → List RegisterWrite → List ℕ → HeldBack
-    → Type 0
-IsHeldBack roots dump probe pools array line Memory = Unit {0}
-IsHeldBack roots dump probe pools array line (Writes needed) =
-    AreTooMany roots dump probe pools array needed
-IsHeldBack roots dump probe pools array line (Line needed) =
-    IsNoPlanTooLong roots dump probe pools line needed
+abbrev pub IsHeldBack : (List RegisterWrite → ℕ → Type 0) → (NoWrites → Type 0) → List RegisterWrite
+    → List ℕ → HeldBack → Type 0
+IsHeldBack AreSo IsWhy array line Memory = Unit {0}
+IsHeldBack AreSo IsWhy array line (Writes needed) = AreTooMany AreSo array needed
+IsHeldBack AreSo IsWhy array line (Line needed) = IsNoneTooLong IsWhy line needed

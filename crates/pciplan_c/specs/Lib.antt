@@ -1,6 +1,7 @@
-pub mod Refusals
 pub mod Answers
-pub mod PlanAnswers
+pub mod NoWrites
 pub mod Endings
+pub mod PlanAnswers
+pub mod SettleWords
+pub mod SettleAnswers
 pub mod Stepping
-pub mod WritesPut

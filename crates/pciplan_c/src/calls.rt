@@ -7,19 +7,26 @@ ghost use Rattle.pci_steps.specs.Steps.{judged, steps_of};
 ghost use Rattle.pci_function.specs.declared.fault.Fault.{Fault};
 ghost use Rattle.pci_check.specs.declared.outcome.Outcome.TheVariants.{Yes, No};
 ghost use Rattle.pciplan_c.specs.Answers.{IsTold, IsTooLong};
-ghost use Rattle.pciplan_c.specs.Endings.{ArePut, AreTooMany, IsNoPlanTold, IsNoPlanTooLong};
-ghost use Rattle.pciplan_c.specs.PlanAnswers.{pools_of, value_of};
+ghost use Rattle.pciplan_held.specs.RegisterWrites.{value_of};
+ghost use Rattle.pciplan_c.specs.Endings.{ArePut, AreTooMany, IsNoneTold, IsNoneTooLong};
+ghost use Rattle.pciplan_c.specs.PlanAnswers.{ArePlanned, IsNoPlanOf, pools_of};
+ghost use Rattle.pciplan_c.specs.SettleAnswers.{AreSettled, IsNoSettlingOf};
 ghost use Rattle.pciplan_c.specs.Stepping.{IsStartPut, IsStartTooLong, answer_number, said_of, shown_by, step_value};
 ghost use Rattle.pciplan_c.specs.declared.answer.Answer.TheVariants.{Verdict, Refused};
-ghost use Rattle.pciplan_c.specs.declared.refusal.Refusal.{Refusal};
+ghost use Rattle.pciplan_held.specs.declared.refusal.Refusal.{Refusal};
 
-use crate::answer::{Answer, Withheld};
-use crate::planning::{Ending, HeldBack, plan_into};
-use crate::register_write::{PoolsOfC, RegisterWrite};
+use crate::answer::Answer;
+use crate::ending::{Ending, HeldBack};
+use crate::planning::plan_into;
+use crate::pools::PoolsOfC;
+use crate::settle_words::SettleWords;
+use crate::settling::settle_into;
 use crate::starting::{NoStart, start_into};
 use crate::stepping::{RegisterStep, judge, step_at};
 use crate::verdict::check_into;
 use pci_check::outcome::Outcome;
+use pciplan_held::put::Withheld;
+use pciplan_held::register_write::RegisterWrite;
 use std::alloc::Global;
 
 /// Judges the texts of a dump and of its probe, with the root buses that `roots` lists.
@@ -97,22 +104,24 @@ pub extern "C" fn pciplan_plan(
     line_used: &mut usize,
 ) -> u8
     ensures plan { result ≡ 0
-        → ArePut roots.now dump.now probe.now
-        (pools_of pools.now) writes.old writes.new writes_used.new safe_from.new
+        → ArePut (ArePlanned roots.now dump.now probe.now (pools_of pools.now)) writes.old writes.new
+        writes_used.new safe_from.new
         × (line.new ≡ line.old) × (line_used.new ≡ 0) }
     // where there is no plan no write is put that could be made by mistake
     ensures told { (result ≡ 1) ⊎ (result ≡ 2)
-        → IsNoPlanTold roots.now dump.now probe.now
-        (pools_of pools.now) result line.old line.new line_used.new
+        → IsNoneTold (IsNoPlanOf roots.now dump.now probe.now (pools_of pools.now)) result line.old
+        line.new line_used.new
         × (writes.new ≡ writes.old) × (writes_used.new ≡ 0) }
     ensures quiet { (result ≡ 3) ⊎ (result ≡ 4)
         → (writes.new ≡ writes.old) × (line.new ≡ line.old) }
     ensures memory { result ≡ 3
         → (writes_used.new ≡ writes_used.old) × (line_used.new ≡ line_used.old) }
     ensures room { result ≡ 4
-        → AreTooMany roots.now dump.now probe.now (pools_of pools.now) writes.old writes_used.new
+        → AreTooMany (ArePlanned roots.now dump.now probe.now (pools_of pools.now)) writes.old
+        writes_used.new
         × (line_used.new ≡ 0)
-        ⊎ IsNoPlanTooLong roots.now dump.now probe.now (pools_of pools.now) line.old line_used.new
+        ⊎ IsNoneTooLong (IsNoPlanOf roots.now dump.now probe.now (pools_of pools.now)) line.old
+        line_used.new
         × (writes_used.new ≡ 0) }
     // so with 96 bytes of line it is the writes that have no room
     ensures enough { result ≡ 4 → 96 ≤ length line.old → line_used.new ≡ 0 }
@@ -122,7 +131,7 @@ pub extern "C" fn pciplan_plan(
 {
     match plan_into(alloc, dump, probe, roots, pools, writes, line) {
         Ok(
-            Ending::Plan {
+            Ending::Writes {
                 count,
                 safe_from: safe,
             },
@@ -132,7 +141,87 @@ pub extern "C" fn pciplan_plan(
             *line_used = 0;
             0
         }
-        Ok(Ending::NoPlan { why, used }) => {
+        Ok(Ending::NoWrites { why, used }) => {
+            *writes_used = 0;
+            *line_used = used;
+            why.status()
+        }
+        Err(HeldBack::Memory) => 3,
+        Err(HeldBack::Writes(needed)) => {
+            *writes_used = needed;
+            *line_used = 0;
+            4
+        }
+        Err(HeldBack::Line(needed)) => {
+            *writes_used = 0;
+            *line_used = needed;
+            4
+        }
+    }
+}
+
+/// Settles the texts of a dump and of its probe as these words ask for it, with the root buses that `roots` lists: what
+/// stands stays where it is, where `anew` is 0, and all else is placed in the lists of ranges.
+///
+/// It answers 0 and puts the writes, in their order, at the front of `writes`; `writes_used` is how many they are, and a
+/// stop after `safe_from` of them or more leaves a sound system: 0 where it is sound at the start, else as many as close
+/// functions; `line_used` is 0. It answers 1 and the line `no ..` where the texts or the settling have a fault. It answers
+/// 2 and a message where `roots` is empty or doesn't rise, else where a word has no meaning (`pool io`, `pool mem`, `pool
+/// pref`, `fixed`), else as `pciplan_check` does. `line_used` is its length, and `writes_used` is 0.
+///
+/// It answers 3 where a growth was refused; then nothing was changed. It answers 4 where `writes` or `line` has no room;
+/// then both are as they were, and `writes_used` or `line_used` is what is needed, and the other one 0. With 96 bytes of
+/// `line` or more it is `writes` that has none. `safe_from` is changed at 0 alone.
+#[unsafe(no_mangle)]
+pub extern "C" fn pciplan_settle(
+    alloc: Global,
+    dump: &[u8],
+    probe: &[u8],
+    roots: &[u8],
+    words: &SettleWords<'_>,
+    writes: &mut [RegisterWrite],
+    writes_used: &mut usize,
+    safe_from: &mut usize,
+    line: &mut [u8],
+    line_used: &mut usize,
+) -> u8
+    ensures settled { result ≡ 0
+        → ArePut (AreSettled roots.now dump.now probe.now words.now) writes.old writes.new
+        writes_used.new safe_from.new
+        × (line.new ≡ line.old) × (line_used.new ≡ 0) }
+    // where nothing is settled no write is put that could be made by mistake
+    ensures told { (result ≡ 1) ⊎ (result ≡ 2)
+        → IsNoneTold (IsNoSettlingOf roots.now dump.now probe.now words.now) result line.old line.new
+        line_used.new
+        × (writes.new ≡ writes.old) × (writes_used.new ≡ 0) }
+    ensures quiet { (result ≡ 3) ⊎ (result ≡ 4)
+        → (writes.new ≡ writes.old) × (line.new ≡ line.old) }
+    ensures memory { result ≡ 3
+        → (writes_used.new ≡ writes_used.old) × (line_used.new ≡ line_used.old) }
+    ensures room { result ≡ 4
+        → AreTooMany (AreSettled roots.now dump.now probe.now words.now) writes.old writes_used.new
+        × (line_used.new ≡ 0)
+        ⊎ IsNoneTooLong (IsNoSettlingOf roots.now dump.now probe.now words.now) line.old line_used.new
+        × (writes_used.new ≡ 0) }
+    // so with 96 bytes of line it is the writes that have no room
+    ensures enough { result ≡ 4 → 96 ≤ length line.old → line_used.new ≡ 0 }
+    // of no use where nothing is settled
+    ensures safe { 0 < result → safe_from.new ≡ safe_from.old }
+    ensures known { result ≤ 4 }
+{
+    match settle_into(alloc, dump, probe, roots, words, writes, line) {
+        Ok(
+            Ending::Writes {
+                count,
+                safe_from: stop,
+            },
+        ) => {
+            *writes_used = count;
+            *safe_from = stop;
+            *line_used = 0;
+            0
+        }
+        Ok(Ending::NoWrites { why, used }) => {
             *writes_used = 0;
             *line_used = used;
             why.status()

@@ -1,22 +1,25 @@
-//! Verdicts and plans for callers in C: two texts and a list of root buses in, a status and a line of text out, or the
-//! register writes of a plan; and the accesses by which these are put onto a machine.
+//! Verdicts, plans and settlings for callers in C: two texts and a list of root buses in, a status and a line of text out,
+//! or register writes; and the accesses by which these are put onto a machine.
 //!
-//! `calls` has what C calls; what C has to uphold is said in c/include/pciplan.h. `verdict` and `planning`
-//! do the work over slices: they read the texts where they lie (`held`), and put what is answered into the caller's
-//! memory only once it is whole (`put`). As no hook of C can be called from here, a plan is put onto a machine by
+//! `calls` has what C calls; what C has to uphold is said in c/include/pciplan.h. `verdict`, `planning` and `settling` do
+//! the work over slices: they read the texts where they lie, and put what is answered into the caller's memory only once it
+//! is whole, by `pciplan_held`. `settle_words` reads what is asked of settling; `ending` has what planning and settling end
+//! with, and `no_writes` why there are no writes. As no hook of C can be called from here, a plan is put onto a machine by
 //! accesses that C makes one after another: `starting` and `stepping` say which, and what follows from each.
 #![tactic(auto)]
 
 pub mod answer;
 pub mod calls;
-pub mod held;
-pub mod no_plan;
+pub mod ending;
+pub mod no_writes;
 #[cfg(test)]
 mod plan_tests;
 pub mod planning;
-pub mod put;
-pub mod refusal;
-pub mod register_write;
+pub mod pools;
+#[cfg(test)]
+mod settle_tests;
+pub mod settle_words;
+pub mod settling;
 #[cfg(test)]
 mod start_tests;
 pub mod starting;

@@ -1,8 +1,10 @@
 //! Plans of a board that was never set up: a bridge with a device behind it, and a device beside it.
 use crate::calls::pciplan_plan;
-use crate::planning::{HeldBack, plan_into};
-use crate::register_write::{PoolsOfC, RegisterWrite};
+use crate::ending::HeldBack;
+use crate::planning::plan_into;
+use crate::pools::PoolsOfC;
 use crate::texts::{Pair, whole};
+use pciplan_held::register_write::RegisterWrite;
 use std::alloc::{AllocError, Global};
 use std::test::Fail;
 use test_support::refusing::Refusing;

@@ -1,10 +1,10 @@
 //! Calls on texts of emulated machines.
-use crate::answer::Withheld;
 use crate::calls::pciplan_check;
-use crate::refusal::Refusal;
 use crate::texts::{Pair, desk_pair, old_pair, roots_pair};
 use crate::verdict::check_into;
 use pci_dump::read_fault::ReadFault;
+use pciplan_held::put::Withheld;
+use pciplan_held::refusal::Refusal;
 use std::alloc::Global;
 use std::test::Fail;
 use test_support::refusing::Refusing;

@@ -2,14 +2,14 @@
 ghost use Rattle.std.specs.Prelude.{◌≡◌, ◌≤◌, ℕ, length, IfOk, IfErr};
 ghost use Rattle.pciplan_c.specs.Answers.{IsAnswerOf, IsTold, IsTooLong, answer_text};
 
-use crate::answer::{Answer, Withheld};
-use crate::held::{Bytes, Written};
-use crate::put::put;
-use crate::refusal::Refusal;
+use crate::answer::Answer;
 use pci_base::memory::OutOfMemory;
 use pci_check::audit::audit_with;
 use pci_check::outcome::AuditFault;
 use pci_tree::roots::Roots;
+use pciplan_held::held::{Bytes, Written};
+use pciplan_held::put::{Withheld, put};
+use pciplan_held::refusal::Refusal;
 use std::alloc::Allocator;
 
 /// An answer with its text.

@@ -1,11 +1,11 @@
 use Rattle.std.proofs.Common.{rules, arith, ◌≤◌}
-use Rattle.pciplan_c.specs.Endings.{IsNoPlanTooLong}
-use Rattle.pciplan_c.specs.PlanAnswers.{pools_of}
+use Rattle.pciplan_c.specs.Endings.{IsNoneTooLong}
+use Rattle.pciplan_c.specs.PlanAnswers.{IsNoPlanOf, pools_of}
 use Rattle.pciplan_c.proofs.calls.pciplan_plan.Goals as goal
 
 pub returns-in-Err-Line-clause-enough : goal.returns-in-Err-Line-clause-enough
 returns-in-Err-Line-clause-enough c short enough =
-    let long : IsNoPlanTooLong c.args.roots.now c.args.dump.now c.args.probe.now (pools_of c.args.pools.now) c.args.line.now c.in-Err-Line.needed = search rules in
+    let long : IsNoneTooLong (IsNoPlanOf c.args.roots.now c.args.dump.now c.args.probe.now (pools_of c.args.pools.now)) c.args.line.now c.in-Err-Line.needed = search rules in
     let few : c.in-Err-Line.needed ≤ 96 = search rules in
     let more = long.more in
     absurd (let impossible : ⊥ = omega (arith, few, more, enough) in impossible)

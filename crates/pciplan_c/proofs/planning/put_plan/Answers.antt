@@ -1,14 +1,14 @@
 use Rattle.std.proofs.Common.{map, refl, sym, subst, ◌∙◌}
 use Rattle.std.proofs.lemmas.List.{length-map}
 use Rattle.pci_plan.specs.Plans.{IsPlanIn}
-use Rattle.pciplan_c.proofs.PlanWrites.{write_of_c, writes_as_planned}
+use Rattle.pciplan_held.proofs.PlanWrites.{write_of_c, writes_as_planned}
 use Rattle.pciplan_c.proofs.planning.put_plan.Goals as goal
 
 pub returns-clause-why : goal.returns-clause-why
 returns-clause-why g c = λ roots dump probe texts. record {
   writes = map write_of_c c.writes.result.now;
   safe_from = c.in-Ok.plan.safe_from;
-  planned = record {
+  so = record {
     start = c.args.admitted.now;
     texts = texts;
     admitted = c.outline-outline.ensures.admitted;

@@ -6,8 +6,8 @@ use Rattle.std.proofs.lemmas.Option.{slice_get-map, slice_get-get_or}
 use Rattle.pci_steps.specs.Places.{IsPlaceAt}
 use Rattle.pci_steps.specs.declared.step.Kind.TheVariants.{ReadBack}
 use Rattle.pci_steps.proofs.Places.{step_compare, step_make, step_read_back, step_none}
-use Rattle.pciplan_c.specs.PlanAnswers.{value_of}
-use Rattle.pciplan_c.specs.declared.register_write.RegisterWrite.{RegisterWrite}
+use Rattle.pciplan_held.specs.RegisterWrites.{value_of}
+use Rattle.pciplan_held.specs.declared.register_write.RegisterWrite.{RegisterWrite}
 use Rattle.pciplan_c.proofs.stepping.step_at.Goals as goal
 
 -- an item that is none

@@ -1,10 +1,20 @@
--- Writes of a plan in an array of C's.
+-- Writes in an array of C's.
 use Rattle.std.specs.Prelude.{◌≡◌, ℕ, List, length, map}
+use Rattle.pci_spec.specs.Machine as spec
 use Rattle.pci_plan.specs.Writes.{write_value}
 use Rattle.pci_plan.specs.declared.write.Write.{Write}
-use Rattle.pciplan_c.specs.Answers.{IsPutInto}
-use Rattle.pciplan_c.specs.PlanAnswers.{value_of}
-use Rattle.pciplan_c.specs.declared.register_write.RegisterWrite.{RegisterWrite}
+use Rattle.pciplan_held.specs.Puts.{IsPutInto}
+use Rattle.pciplan_held.specs.declared.register_write.RegisterWrite.{RegisterWrite}
+
+-- a write as C has it
+abbrev pub value_of : RegisterWrite → spec.Write
+value_of w =
+    record {
+      slot = record { bus = w.bus; device = w.device; function = w.function };
+      offset = w.offset;
+      width = w.width;
+      value = w.value;
+    }
 
 -- they stand at its front, and the rest is as it was
 pub record AreWritesPut (writes : List Write) (old new : List RegisterWrite)

@@ -1,8 +1,15 @@
-//! Puts bytes of a text, or writes of a plan, into memory of the caller's.
+//! Puts bytes of a text, or registers, into memory of the caller's.
 ghost use Rattle.std.specs.Prelude.{◌≡◌, ◌<◌, length, IfOk, IfErr};
-ghost use Rattle.pciplan_c.specs.Answers.{IsPutInto};
+ghost use Rattle.pciplan_held.specs.Puts.{IsPutInto};
 
-use crate::answer::Withheld;
+/// Why nothing is answered.
+#[derive(Clone, Copy, Debug, PartialEq, Eq)]
+pub enum Withheld {
+    /// A growth was refused.
+    Memory,
+    /// The caller has no room: for so many bytes, or writes, it is needed.
+    NoRoom(usize),
+}
 
 /// Puts items at the front of others, and answers how many.
 ///

@@ -1,6 +1,6 @@
-//! Why there is no verdict.
+//! Why two texts are refused.
 ghost use Rattle.std.specs.Prelude.{◌≡◌, Some};
-ghost use Rattle.pciplan_c.specs.Refusals.{read_fault_line};
+ghost use Rattle.pciplan_held.specs.Refusals.{read_fault_line};
 
 use pci_dump::read_fault::ReadFault;
 use std::fmt;
@@ -34,7 +34,7 @@ fn line_of(fault: ReadFault) -> u64
 }
 
 impl Refusal {
-    ghost use Rattle.pciplan_c.specs.Refusals.{refusal_line};
+    ghost use Rattle.pciplan_held.specs.Refusals.{refusal_line};
 
     /// The line of a text that it names, or 0 where it names none.
     pub fn line(self) -> u64
@@ -53,7 +53,7 @@ impl Refusal {
 struct Said(ReadFault);
 
 impl fmt::Display for Said {
-    ghost use Rattle.pciplan_c.specs.Refusals.{read_fault_text};
+    ghost use Rattle.pciplan_held.specs.Refusals.{read_fault_text};
 
     ghost output = { λ s. Some (read_fault_text s.0) };
 
@@ -74,7 +74,7 @@ impl fmt::Display for Said {
 
 /// The message, as `dump: 5 BadLine 17`.
 impl fmt::Display for Refusal {
-    ghost use Rattle.pciplan_c.specs.Refusals.{refusal_text};
+    ghost use Rattle.pciplan_held.specs.Refusals.{refusal_text};
 
     ghost output = { λ r. Some (refusal_text r) };
 

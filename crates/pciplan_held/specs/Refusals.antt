@@ -6,8 +6,8 @@ use Rattle.pci_dump.specs.ReadFault.{IsTextFault}
 use Rattle.pci_dump.specs.declared.read_fault.ReadFault.{ReadFault}
 use Rattle.pci_dump.specs.declared.read_fault.ReadFault.TheVariants as faults
 use Rattle.pci_tree.specs.Roots.{IsRootList}
-use Rattle.pciplan_c.specs.declared.refusal.Refusal.{Refusal}
-use Rattle.pciplan_c.specs.declared.refusal.Refusal.TheVariants.{Root, Dump, Probe}
+use Rattle.pciplan_held.specs.declared.refusal.Refusal.{Refusal}
+use Rattle.pciplan_held.specs.declared.refusal.Refusal.TheVariants.{Root, Dump, Probe}
 
 -- a fault of a text: its number, its name and its line
 abbrev pub read_fault_text : ReadFault → List ℕ

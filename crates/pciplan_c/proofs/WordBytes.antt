@@ -1,0 +1,100 @@
+-- Words of lists and of slots are UTF-8, so bytes that aren't are no such words.
+use Rattle.std.proofs.Common.{◌≡◌, ℕ, zero, suc, ◌+◌, ◌/◌, ◌%◌, ◌<◌, nat_lt, List, [], ◌∷◌, ◌++◌, drop, length, codes, Option, None, Some, sym, ap, subst, arith, inl, inr}
+use Rattle.std.specs.Prelude.{IfSome}
+use Rattle.std.specs.Str.{IsUtf8, IsAscii}
+use Rattle.std.proofs.Math.Nat.{mod-lt}
+use Rattle.std.proofs.lemmas.Bool.{cases_lt, lt-ltb, le-ltb, cond-true, cond-false}
+use Rattle.std.proofs.lemmas.Str.{IsUtf8-append, IsUtf8-from_ascii, IsUtf8-nil}
+use Rattle.pci_spec.specs.Slot.{Slot}
+use Rattle.pci_spec.specs.Text.{hex_byte, hex_digit}
+use Rattle.pci_spec.specs.Line.{hex_number}
+use Rattle.pci_base.specs.declared.range.Range.{Range}
+use Rattle.pci_base.specs.declared.range.RootRange.{RootRange}
+use Rattle.pciplan_lists.specs.Joined.{AreJoined}
+use Rattle.pciplan_lists.specs.PoolWords.{IsAddressWord, IsPoolWord}
+use Rattle.pciplan_lists.specs.ListWords.{IsListWord, IsRangeWord, bus_text}
+use Rattle.pciplan_lists.specs.SlotWords.{IsSlotWord}
+use Rattle.pciplan_c.specs.SettleWords.{HasNoList, HasNoSlots}
+
+one : (byte : ℕ) → byte < 128 → IsAscii (byte ∷ [])
+one byte small zero = small
+one byte small (suc i) = omega arith
+
+-- a byte before others
+before : (byte : ℕ) (rest : List ℕ) → byte < 128 → IsUtf8 rest → IsUtf8 (byte ∷ rest)
+before byte rest small is = IsUtf8-append (byte ∷ []) rest (IsUtf8-from_ascii (byte ∷ []) (one byte small)) is
+
+digit_small : (d : ℕ) → d < 16 → hex_digit d < 128
+digit_small d small = elim (cases_lt d 10) [
+  | inl low ↦ (let is : hex_digit d ≡ 48 + d = cond-true (nat_lt d 10) _ _ (lt-ltb d 10 low) in omega (arith, is, small))
+  | inr high ↦ (let is : hex_digit d ≡ 87 + d = cond-false (nat_lt d 10) _ _ (le-ltb d 10 high) in omega (arith, is, small))
+]
+
+byte_utf8 : (n : ℕ) → n < 256 → IsUtf8 (hex_byte n)
+byte_utf8 n small =
+    before (hex_digit (n / 16)) (hex_digit (n % 16) ∷ []) (digit_small (n / 16) (omega (arith, small)))
+    (before (hex_digit (n % 16)) [] (digit_small (n % 16) (mod-lt n {m = 16} (omega arith))) IsUtf8-nil)
+
+number_utf8 : (digits n : ℕ) → IsUtf8 (hex_number digits n)
+number_utf8 zero n = IsUtf8-nil
+number_utf8 (suc digits) n =
+    IsUtf8-append (hex_number digits (n / 16)) (hex_digit (n % 16) ∷ []) (number_utf8 digits (n / 16))
+    (before (hex_digit (n % 16)) [] (digit_small (n % 16) (mod-lt n {m = 16} (omega arith))) IsUtf8-nil)
+
+address_utf8 : (word : List ℕ) (address : ℕ) → IsAddressWord word address → IsUtf8 word
+address_utf8 word address is = subst (λ w. IsUtf8 w) (sym is.text) (number_utf8 is.digits address)
+
+pool_utf8 : (word : List ℕ) (pool : Range) → IsPoolWord word pool → IsUtf8 word
+pool_utf8 word pool is = subst (λ w. IsUtf8 w) (sym is.parts)
+    (IsUtf8-append is.first (45 ∷ is.last) (address_utf8 is.first pool.first is.from)
+    (before 45 is.last (omega arith) (address_utf8 is.last pool.last is.to)))
+
+bus_utf8 : (root : Option ℕ) → IfSome root (λ bus. bus < 256) → IsUtf8 (bus_text root)
+bus_utf8 None below = IsUtf8-nil
+bus_utf8 (Some bus) below = IsUtf8-append (hex_byte bus) (58 ∷ []) (byte_utf8 bus below) (before 58 [] (omega arith) IsUtf8-nil)
+
+range_utf8 : (word : List ℕ) (r : RootRange) → IsRangeWord word r → IsUtf8 word
+range_utf8 word r is = subst (λ w. IsUtf8 w) (sym is.text)
+    (IsUtf8-append (bus_text r.root) is.addresses (bus_utf8 r.root is.below) (pool_utf8 is.addresses r.range is.range))
+
+slot_utf8 : (word : List ℕ) (s : Slot) → IsSlotWord word s → IsUtf8 word
+slot_utf8 word s is = subst (λ w. IsUtf8 w) (sym is.1)
+    (IsUtf8-append (hex_byte s.bus) ((58 ∷ hex_byte s.device) ++ (46 ∷ hex_digit s.function ∷ [])) (byte_utf8 s.bus (omega (arith, is.0.0)))
+    (before 58 (hex_byte s.device ++ (46 ∷ hex_digit s.function ∷ [])) (omega arith)
+    (IsUtf8-append (hex_byte s.device) (46 ∷ hex_digit s.function ∷ []) (byte_utf8 s.device (omega (arith, is.0.1)))
+    (before 46 (hex_digit s.function ∷ []) (omega arith)
+    (before (hex_digit s.function) [] (digit_small s.function (omega (arith, is.0.2))) IsUtf8-nil)))))
+
+-- ---- words that are joined by commas
+
+joined_utf8 : {X : Type 0} (IsWord : List ℕ → X → Type 0) → ((word : List ℕ) (x : X) → IsWord word x → IsUtf8 word)
+    → (text : List ℕ) (xs : List X) → AreJoined IsWord text xs → IsUtf8 text
+joined_utf8 IsWord each text [] are = subst (λ t. IsUtf8 t) (sym are) IsUtf8-nil
+joined_utf8 IsWord each text (x ∷ more) (rest, ahead, are) = subst (λ t. IsUtf8 t) (sym ahead.parts)
+    (before 44 (ahead.word ++ rest) (omega arith)
+    (IsUtf8-append ahead.word rest (each ahead.word x ahead.is) (joined_utf8 IsWord each rest more are)))
+
+-- what stands behind the first comma
+behind_utf8 : {X : Type 0} (IsWord : List ℕ → X → Type 0) → ((word : List ℕ) (x : X) → IsWord word x → IsUtf8 word)
+    → (word : List ℕ) (xs : List X) → AreJoined IsWord (44 ∷ word) xs → IsUtf8 word
+behind_utf8 IsWord each word [] are = absurd (omega (arith, ap length are))
+behind_utf8 IsWord each word (x ∷ more) (rest, ahead, are) = subst (λ t. IsUtf8 t) (sym (ap (drop 1) ahead.parts))
+    (IsUtf8-append ahead.word rest (each ahead.word x ahead.is) (joined_utf8 IsWord each rest more are))
+
+none_utf8 : IsUtf8 (codes "none")
+none_utf8 =
+    before 110 (111 ∷ 110 ∷ 101 ∷ []) (omega arith) (before 111 (110 ∷ 101 ∷ []) (omega arith)
+    (before 110 (101 ∷ []) (omega arith) (before 101 [] (omega arith) IsUtf8-nil)))
+
+list_utf8 : (word : List ℕ) (list : List RootRange) → IsListWord word list → IsUtf8 word
+list_utf8 word [] is = subst (λ w. IsUtf8 w) (sym is) none_utf8
+list_utf8 word (r ∷ more) is = behind_utf8 IsRangeWord range_utf8 word (r ∷ more) is
+
+-- ---- bytes that aren't UTF-8
+
+pub no_list : (word : List ℕ) → (IsUtf8 word → ⊥) → HasNoList word
+no_list word other = λ list is. other (list_utf8 word list is)
+
+pub no_slots : (word : List ℕ) → (IsUtf8 word → ⊥) → HasNoSlots word
+no_slots [] other = λ slots is. other IsUtf8-nil
+no_slots (byte ∷ more) other = λ slots is. other (behind_utf8 IsSlotWord slot_utf8 (byte ∷ more) slots is.joined)

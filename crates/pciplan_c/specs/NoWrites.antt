@@ -1,0 +1,51 @@
+-- How it is said that there are no writes.
+use Rattle.std.specs.Prelude.{ℕ, List, [], ◌∷◌, ◌++◌, codes}
+use Rattle.pci_spec.specs.Line.{field}
+use Rattle.plan_spec.specs.PlanLine.{plan_fault_text}
+use Rattle.pci_plan.specs.Plans.{plan_fault_of}
+use Rattle.pci_settle_writes.specs.FaultText.{settle_fault_text}
+use Rattle.pci_settle_writes.specs.declared.lack.SettleFault.{SettleFault}
+use Rattle.pci_settle_writes.specs.declared.lack.SettleFault.TheVariants as settle
+use Rattle.pciplan_held.specs.Texts.{unread_line, unread_status, unread_text}
+use Rattle.pciplan_c.specs.declared.no_writes.NoWrites.{NoWrites}
+use Rattle.pciplan_c.specs.declared.no_writes.NoWrites.TheVariants.{BadWord, Unread, NotPlanned, NotSettled}
+use Rattle.pciplan_c.specs.declared.settle_words.SettleWord.{SettleWord}
+use Rattle.pciplan_c.specs.declared.settle_words.SettleWord.TheVariants as word
+
+-- the message of a word without a meaning
+abbrev pub settle_word_text : SettleWord → List ℕ
+settle_word_text word.Io = codes "pool io"
+settle_word_text word.Mem = codes "pool mem"
+settle_word_text word.Pref = codes "pool pref"
+settle_word_text word.Fixed = codes "fixed"
+
+-- the line of a fault
+abbrev pub no_line : List ℕ → List ℕ
+no_line fault = codes "no" ++ field fault ++ 10 ∷ []
+
+-- the line, or the message
+abbrev pub no_writes_text : NoWrites → List ℕ
+no_writes_text (BadWord bad) = settle_word_text bad
+no_writes_text (Unread unread) = unread_text unread
+no_writes_text (NotPlanned fault) = no_line (plan_fault_text (plan_fault_of fault))
+no_writes_text (NotSettled fault) = no_line (settle_fault_text fault)
+
+abbrev pub no_writes_status : NoWrites → ℕ
+no_writes_status (BadWord bad) = 2
+no_writes_status (Unread unread) = unread_status unread
+no_writes_status (NotPlanned fault) = 1
+no_writes_status (NotSettled fault) = 1
+
+-- the size and the alignment of what has no room
+abbrev pub settle_fault_numbers : SettleFault → ℕ × ℕ
+settle_fault_numbers settle.BadLists = (0, 0)
+settle_fault_numbers (settle.NoRoom lack) = (lack.size, lack.alignment)
+settle_fault_numbers (settle.TooLarge class slot) = (0, 0)
+settle_fault_numbers (settle.Fixed slot reg) = (0, 0)
+
+-- what its text names in as many digits as there are: the line of a text, a size and an alignment, or 0 where it names none
+abbrev pub no_writes_numbers : NoWrites → ℕ × ℕ
+no_writes_numbers (BadWord bad) = (0, 0)
+no_writes_numbers (Unread unread) = (unread_line unread, 0)
+no_writes_numbers (NotPlanned fault) = (0, 0)
+no_writes_numbers (NotSettled fault) = settle_fault_numbers fault

@@ -1,0 +1,160 @@
+//! Settlings of a board that runs, where a card was plugged in behind its second bridge.
+use crate::calls::pciplan_settle;
+use crate::ending::HeldBack;
+use crate::plan_tests::{MANY, NONE};
+use crate::settle_words::SettleWords;
+use crate::settling::settle_into;
+use crate::texts::{Pair, whole};
+use pciplan_held::register_write::RegisterWrite;
+use std::alloc::{AllocError, Global};
+use std::test::Fail;
+use test_support::refusing::Refusing;
+
+const PLUGGED_DUMP: &str = "00:01.0
+00: 34 12 78 56 06 00 00 00 00 00 00 00 00 00 01 00
+10: 00 00 00 00 00 00 00 00 00 01 01 00 00 00 00 00
+20: 00 e0 00 e0 00 00 00 00 00 00 00 00 00 00 00 00
+
+00:02.0
+00: 34 12 78 56 06 00 00 00 00 00 00 00 00 00 01 00
+10: 00 00 00 00 00 00 00 00 00 02 02 00 00 00 00 00
+20: 10 e0 10 e0 00 00 00 00 00 00 00 00 00 00 00 00
+
+01:00.0
+00: 34 12 78 56 06 00 00 00 00 00 00 00 00 00 00 00
+10: 00 00 00 e0 00 00 00 00 00 00 00 00 00 00 00 00
+
+02:00.0
+00: 34 12 78 56 00 00 00 00 00 00 00 00 00 00 00 00";
+
+const PLUGGED_PROBE: &str = "00:01.0
+20: f0 ff f0 ff 00 00 00 00 00 00 00 00 00 00 00 00
+
+00:02.0
+20: f0 ff f0 ff 00 00 00 00 00 00 00 00 00 00 00 00
+
+01:00.0
+10: 00 c0 ff ff 00 00 00 00 00 00 00 00 00 00 00 00
+
+02:00.0
+10: 00 c0 ff ff 00 00 00 00 00 00 00 00 00 00 00 00";
+
+/// The texts of the board.
+fn plugged_pair(alloc: Global) -> Result<Pair, AllocError> {
+    Ok(Pair {
+        dump: whole(alloc, PLUGGED_DUMP)?,
+        probe: whole(alloc, PLUGGED_PROBE)?,
+    })
+}
+
+/// The writes of settling: the card's alone.
+const WRITES: [RegisterWrite; 2] = [
+    RegisterWrite {
+        bus: 2,
+        device: 0,
+        function: 0,
+        offset: 0x10,
+        width: 4,
+        value: 0xe010_0000,
+    },
+    RegisterWrite {
+        bus: 2,
+        device: 0,
+        function: 0,
+        offset: 0x04,
+        width: 2,
+        value: 0x0002,
+    },
+];
+
+/// What is asked for: the ranges of memory, what may not be written, and whether all is placed anew.
+fn asked<'a>(mem: &'a [u8], fixed: &'a [u8], anew: u8) -> SettleWords<'a> {
+    SettleWords {
+        io: b"none",
+        mem,
+        pref: b"none",
+        fixed,
+        anew,
+    }
+}
+
+/// A call: the ranges of memory, what is fixed, room for writes and bytes; the status, the counts of writes and bytes, and
+/// what is put into the line.
+type Call<'a> = (&'a [u8], &'a [u8], usize, usize, u8, usize, usize, &'a str);
+
+/// Whether a call answers this status and these counts, and puts exactly the card's writes and this line.
+fn is_as_said(alloc: Global, texts: &Pair, call: &Call) -> bool {
+    let (mem, fixed, few, bytes, status, count, used, text) = *call;
+    let mut put = [NONE; 4];
+    let mut line = [b'.'; 64];
+    let (mut writes_used, mut safe_from, mut line_used) = (99, 99, 99);
+    if put.len() < few || line.len() < bytes {
+        return false;
+    }
+    let answered = pciplan_settle(
+        alloc,
+        texts.dump.as_bytes(),
+        texts.probe.as_bytes(),
+        &[0],
+        &asked(mem, fixed, 0),
+        &mut put[..few],
+        &mut writes_used,
+        &mut safe_from,
+        &mut line[..bytes],
+        &mut line_used,
+    );
+    let made = if status == 0 { 2 } else { 0 };
+    answered == status
+        && writes_used == count
+        && safe_from == (if status == 0 { 0 } else { 99 })
+        && line_used == used
+        && put[..made] == WRITES[..made]
+        && put[made..].iter().all(|write| *write == NONE)
+        && text.len() <= 64
+        && line[..text.len()] == text.as_bytes()[..text.len()]
+        && line[text.len()..].iter().all(|byte| *byte == b'.')
+}
+
+#[test]
+fn a_settling_is_put_as_a_whole_or_not_at_all(rt: HostRuntime) -> Result<(), Fail> {
+    let texts = plugged_pair(rt.alloc())?;
+    let fixed = "no 74 Fixed 02:00.0 10\n";
+    let no_room = "no 72 NoRoom mem 00:01.0 20 100000 100000\n";
+    let cases: [Call; 8] = [
+        (b"e0000000-e02fffff", b"", 4, 64, 0, 2, 0, ""),
+        (b"e0000000-e02fffff", b"00:01.0,01:00.0", 2, 0, 0, 2, 0, ""),
+        (b"e0000000-e02fffff", b"", 1, 64, 4, 2, 0, ""),
+        (b"e0000000-e02fffff", b"02:00.0", 4, 64, 1, 0, 23, fixed),
+        (b"e0000000-e02fffff", b"02:00.0", 4, 22, 4, 0, 23, ""),
+        (b"none", b"", 4, 64, 1, 0, 42, no_room),
+        (b"0-", b"02:00", 4, 64, 2, 0, 8, "pool mem"),
+        (b"none", b"\xff", 4, 64, 2, 0, 5, "fixed"),
+    ];
+    for call in cases {
+        assert!(rt; is_as_said(rt.alloc(), &texts, &call), "{call:?}");
+    }
+    Ok(())
+}
+
+#[test]
+fn a_settling_that_is_refused_a_growth_says_just_that(rt: HostRuntime) -> Result<(), Fail> {
+    let texts = plugged_pair(rt.alloc())?;
+    let (dump, probe) = (texts.dump.as_bytes(), texts.probe.as_bytes());
+    let heap = Refusing::new(rt.alloc());
+    for anew in [0, 1] {
+        for n in 1..MANY {
+            heap.refuse(n);
+            let mut put = [NONE; 16];
+            let mut line = [b'.'; 64];
+            let words = asked(b"e0000000-e02fffff", b"01:00.0", anew);
+            let answered = settle_into(&heap, dump, probe, &[0], &words, &mut put, &mut line);
+            if heap.is_due() {
+                assert!(rt; 1 < n && answered.is_ok());
+                break;
+            }
+            assert!(rt; answered == Err(HeldBack::Memory));
+            assert!(rt; put == [NONE; 16] && line == [b'.'; 64]);
+        }
+    }
+    Ok(())
+}

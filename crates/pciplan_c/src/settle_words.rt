@@ -1,0 +1,125 @@
+//! The words by which C says what is asked of settling.
+ghost use Rattle.std.specs.Prelude.{◌≡◌, IfOk, IfErr, MatchResult};
+ghost use Rattle.pciplan_lists.specs.ListWords.{IsListWord};
+ghost use Rattle.pciplan_c.specs.SettleWords.{AreFixedBy, AreNoSlots, IsAskedBy, IsNoList, IsNotAsked};
+
+use pci_base::memory::Refused;
+use pci_base::range::RootRange;
+use pci_base::slot::Slot;
+use pciplan_lists::list_word::list_of_word;
+use pciplan_lists::slot_list::slots_of_word;
+use std::alloc::Allocator;
+use std::fmt;
+
+/// What is asked of settling, each word as on the command line.
+#[repr(C)]
+#[derive(Clone, Copy, Debug)]
+pub struct SettleWords<'a> {
+    /// The ranges of I/O: `none`, or ranges joined by commas, each `A-B` of all root buses or `bb:A-B` of one.
+    pub io: &'a [u8],
+    /// Those of memory.
+    pub mem: &'a [u8],
+    /// Those of prefetchable memory.
+    pub pref: &'a [u8],
+    /// The slots whose registers may not be written, joined by commas, each above the one before it; none where it is empty.
+    pub fixed: &'a [u8],
+    /// 0 where what stands keeps its place, else all is placed anew.
+    pub anew: u8,
+}
+
+/// A word of settling.
+#[derive(Clone, Copy, Debug, PartialEq, Eq)]
+pub enum SettleWord {
+    Io,
+    Mem,
+    Pref,
+    Fixed,
+}
+
+/// The message where it has no meaning.
+impl fmt::Display for SettleWord {
+    ghost use Rattle.std.specs.Prelude.{Some};
+    ghost use Rattle.pciplan_c.specs.NoWrites.{settle_word_text};
+
+    ghost output = { λ w. Some (settle_word_text w) };
+
+    fn fmt<W: fmt::Write>(&self, f: &mut fmt::Formatter<W>) -> fmt::Result {
+        match *self {
+            SettleWord::Io => write!(f, "pool io"),
+            SettleWord::Mem => write!(f, "pool mem"),
+            SettleWord::Pref => write!(f, "pool pref"),
+            SettleWord::Fixed => write!(f, "fixed"),
+        }
+    }
+}
+
+/// What is asked of settling.
+#[derive(Drop)]
+pub struct Asked<A: Allocator> {
+    pub io: Vec<RootRange, A>,
+    pub mem: Vec<RootRange, A>,
+    pub pref: Vec<RootRange, A>,
+    /// The functions whose registers may not be written.
+    pub fixed: Vec<Slot, A>,
+    /// Whether all is placed anew.
+    pub anew: bool,
+}
+
+/// The ranges of a list.
+fn list_of<A: Allocator>(
+    alloc: A,
+    word: &[u8],
+    named: SettleWord,
+) -> Result<Vec<RootRange, A>, Refused<SettleWord>>
+    ensures { MatchResult result (λ list. IsListWord word.now list.items) (IsNoList named word.now) }
+{
+    let Ok(text) = str::from_utf8(word) else {
+        return Err(Refused::Fault(named));
+    };
+    match list_of_word(alloc, text)? {
+        Some(list) => Ok(list),
+        None => Err(Refused::Fault(named)),
+    }
+}
+
+/// The slots of a list, none of an empty one.
+fn fixed_of<A: Allocator>(alloc: A, word: &[u8]) -> Result<Vec<Slot, A>, Refused<SettleWord>>
+    ensures { MatchResult result (λ slots. AreFixedBy word.now slots.items) (AreNoSlots word.now) }
+{
+    if word.is_empty() {
+        return Ok(Vec::new(alloc));
+    }
+    let Ok(text) = str::from_utf8(word) else {
+        return Err(Refused::Fault(SettleWord::Fixed));
+    };
+    match slots_of_word(alloc, text)? {
+        Some(slots) => Ok(slots),
+        None => Err(Refused::Fault(SettleWord::Fixed)),
+    }
+}
+
+/// What words ask of settling.
+///
+/// # Errors
+///
+/// `Memory` where a growth was refused, else the first word that has no meaning, in their order.
+pub fn asked_of<A: Allocator + Copy>(
+    alloc: A,
+    words: &SettleWords<'_>,
+) -> Result<Asked<A>, Refused<SettleWord>>
+    ensures asked { IfOk result (IsAskedBy words.now) }
+    ensures why { IfErr result (IsNotAsked words.now) }
+{
+    let io = list_of(alloc, words.io, SettleWord::Io)?;
+    let mem = list_of(alloc, words.mem, SettleWord::Mem)?;
+    let pref = list_of(alloc, words.pref, SettleWord::Pref)?;
+    let fixed = fixed_of(alloc, words.fixed)?;
+    let anew = words.anew != 0;
+    Ok(Asked {
+        io,
+        mem,
+        pref,
+        fixed,
+        anew,
+    })
+}

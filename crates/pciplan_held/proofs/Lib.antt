@@ -1,0 +1,3 @@
+pub mod NotAdmitted
+pub mod Lengths
+pub mod PlanWrites

@@ -1,0 +1,4 @@
+pub mod Refusals
+pub mod Puts
+pub mod RegisterWrites
+pub mod Texts
