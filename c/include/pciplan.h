@@ -10,13 +10,14 @@
      CMPXCHG16B). pciplan_supported says whether the processor has them. Firmware switches SSE on first (CR0.EM clear,
      CR0.MP set, CR4.OSFXSR set), or the first call is an invalid opcode.
      `rt lib --backend rattle --cpu x86-64` builds it for every x86-64 processor; then pciplan_supported needn't be asked.
-   - Stack: 32 KB for each call. 128 bytes below the stack pointer are in use: what interrupts on the same stack leaves
-     them alone (firmware is built with -mno-red-zone for that; this library isn't). In a build with `--backend rattle`
-     nothing was found that does so, and pciplan_plan needs 80 KB (docs/C.md).
-   - Memory: a check holds some 340 bytes a function at once, a plan some 1,860 and 17 KB more; lists grow by doubling. The
-     256 KB of c/memory/pciplan_fixed_memory.c hold a check of 512 functions or a plan of 128, also where these stand on one
-     bus, each with six BARs and a ROM, or are bridges in a row, or on one bus with all of their writes (c/test.sh measures
-     these).
+   - Stack: 32 KB for each call, 224 KB for pciplan_settle, which keeps tables of all buses there. 128 bytes below the
+     stack pointer are in use: what interrupts on the same stack leaves them alone (firmware is built with -mno-red-zone
+     for that; this library isn't). In a build with `--backend rattle` nothing was found that does so, and pciplan_plan
+     needs 80 KB (docs/C.md).
+   - Memory: a check holds some 340 bytes a function at once, a plan some 1,860 and 17 KB more, a settling up to 200 KB
+     more than a plan; lists grow by doubling. The 256 KB of c/memory/pciplan_fixed_memory.c hold a check of 512 functions
+     or a plan of 128, also where these stand on one bus, each with six BARs and a ROM, or are bridges in a row, or on one
+     bus with all of their writes (c/test.sh measures these).
    - Texts of at most 1,042 bytes a function, of at most 4,096 functions. A plan has at most 9 writes for a device and 11
      for a bridge; it compares 8 registers of a device and 10 of a bridge.
    - It may be called again while it runs, from another thread or an interrupt, if the three functions of memory may be.

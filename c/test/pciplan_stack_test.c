@@ -1,5 +1,5 @@
-/* Measures how much stack a check and a plan of a sound machine use, and what it starts from: pciplan_stack_test DUMP PROBE.
-   Each runs on a stack of its own, whose bytes were painted before. */
+/* Measures how much stack a check, a plan and a settling of a sound machine use, and what it starts from: pciplan_stack_test
+   DUMP PROBE. Each runs on a stack of its own, whose bytes were painted before. */
 #define _XOPEN_SOURCE 700
 #include <stdio.h>
 #include <stdlib.h>
@@ -14,6 +14,9 @@ enum { STACK = 256 * 1024, TEXT = 1 << 22, WRITES = 4096, PAINT = 0xa5 };
 #define CHECK_NEEDS (32 * 1024)
 #ifndef PLAN_NEEDS
 #define PLAN_NEEDS (32 * 1024)
+#endif
+#ifndef SETTLE_NEEDS
+#define SETTLE_NEEDS (224 * 1024)
 #endif
 
 static _Alignas(16) uint8_t stack[STACK];
@@ -56,6 +59,27 @@ static void plan(void)
                           line, sizeof line, &used);
 }
 
+#define TEXT_OF(words) {(const uint8_t *)words, sizeof words - 1}
+
+static void settle_as(uint8_t anew)
+{
+    const struct pciplan_settle_words asked = {TEXT_OF("1000-ffff"), TEXT_OF("80000000-febfffff"),
+                                               TEXT_OF("100000000-ffffffffff"), TEXT_OF("00:00.0"), anew};
+    size_t count, safe_from, used;
+    status = pciplan_settle(dump, dump_len, probe, probe_len, root, sizeof root, &asked, writes, WRITES, &count, &safe_from,
+                            line, sizeof line, &used);
+}
+
+static void settle(void)
+{
+    settle_as(0);
+}
+
+static void settle_anew(void)
+{
+    settle_as(1);
+}
+
 static void start(void)
 {
     size_t count;
@@ -85,7 +109,7 @@ static size_t stack_of(void (*call)(void))
 
 int main(int count, char **words)
 {
-    size_t of_check, of_plan, of_start;
+    size_t of_check, of_plan, of_settle, of_anew, of_start;
 
     if (count != 3)
         stop("usage: pciplan_stack_test DUMP PROBE");
@@ -93,7 +117,11 @@ int main(int count, char **words)
     probe_len = text_of(words[2], probe);
     of_check = stack_of(check);
     of_plan = stack_of(plan);
+    of_settle = stack_of(settle);
+    of_anew = stack_of(settle_anew);
     of_start = stack_of(start);
-    printf("a check used %zu bytes of stack, a plan %zu, its start %zu\n", of_check, of_plan, of_start);
-    return of_check > CHECK_NEEDS || of_plan > PLAN_NEEDS || of_start > CHECK_NEEDS;
+    printf("a check used %zu bytes of stack, a plan %zu, a settling %zu, one of all anew %zu, a start %zu\n", of_check,
+           of_plan, of_settle, of_anew, of_start);
+    return of_check > CHECK_NEEDS || of_plan > PLAN_NEEDS || of_settle > SETTLE_NEEDS || of_anew > SETTLE_NEEDS ||
+           of_start > CHECK_NEEDS;
 }
