@@ -1,0 +1,159 @@
+//! First places, items one after another, and what is around them.
+use pci_base::range::{Range, RootRange};
+use pci_base::slot::Slot;
+use pci_base::window_kind::WindowKind;
+use std::alloc::{AllocError, Global};
+
+/// So many addresses from a multiple of an alignment on, below 4 GB where they aren't wide.
+#[derive(Clone, Copy)]
+pub struct Extent {
+    pub size: u64,
+    pub alignment: u64,
+    pub wide: bool,
+}
+
+/// What is to be placed.
+#[derive(Clone, Copy)]
+pub struct Item {
+    pub slot: Slot,
+    pub register: u8,
+    pub extent: Extent,
+}
+
+/// Where items are placed: in a list, and what is wide in a further one.
+#[derive(Clone, Copy)]
+pub struct Site<'a> {
+    pub list: &'a [RootRange],
+    pub further: &'a [RootRange],
+}
+
+/// Items with their places, and the first that has none.
+#[derive(Drop)]
+pub struct Placing {
+    pub placed: Vec<(Item, Range)>,
+    pub lacking: Option<Item>,
+}
+
+/// A range that all roots have.
+pub fn shared(first: u64, last: u64) -> RootRange {
+    RootRange {
+        root: None,
+        range: Range { first, last },
+    }
+}
+
+/// The least multiple of a number from another one on.
+fn raised(from: u64, multiple: u64) -> Option<u64> {
+    match from.checked_rem(multiple)? {
+        0 => Some(from),
+        over => from.checked_add(multiple.checked_sub(over)?),
+    }
+}
+
+/// One of some ranges that shares an address with a range.
+fn in_the_way(taken: &[Range], range: Range) -> Option<Range> {
+    for one in taken {
+        if one.first <= range.last && range.first <= one.last {
+            return Some(*one);
+        }
+    }
+    None
+}
+
+/// The first place in a range: from the first multiple on, past each range that is taken.
+fn first_in(range: Range, taken: &[Range], extent: Extent) -> Option<Range> {
+    let mut first = raised(range.first, extent.alignment)?;
+    for _ in 0..=taken.len() {
+        let last = first.checked_add(extent.size.checked_sub(1)?)?;
+        if range.last < last || (!extent.wide && 0xffff_ffff < last) {
+            return None;
+        }
+        match in_the_way(taken, Range { first, last }) {
+            None => return Some(Range { first, last }),
+            Some(one) => first = raised(one.last.checked_add(1)?, extent.alignment)?,
+        }
+    }
+    None
+}
+
+/// The first place in the first range of a list that has one for an item.
+fn first_place(list: &[RootRange], taken: &[Range], item: &Item) -> Option<Range> {
+    for one in list {
+        if one.root.is_none() || one.root == Some(item.slot.bus()) {
+            if let Some(place) = first_in(one.range, taken, item.extent) {
+                return Some(place);
+            }
+        }
+    }
+    None
+}
+
+/// The order of items: falling alignments, falling sizes, slots, registers.
+fn rank(item: &Item) -> (u64, u64, u16, u8) {
+    let Extent {
+        size,
+        alignment,
+        ..
+    } = item.extent;
+    (!alignment, !size, item.slot.number(), item.register)
+}
+
+impl Site<'_> {
+    fn place_of(&self, taken: &[Range], item: &Item) -> Option<Range> {
+        match first_place(self.list, taken, item) {
+            None if item.extent.wide => first_place(self.further, taken, item),
+            place => place,
+        }
+    }
+
+    /// Places items in their order, each off those before it and off what is taken.
+    pub fn place(
+        &self,
+        alloc: Global,
+        items: Vec<Item>,
+        taken: Vec<Range>,
+    ) -> Result<Placing, AllocError> {
+        let (mut items, mut taken, mut placed) = (items, taken, Vec::new(alloc));
+        items.sort_unstable_by_key(rank);
+        let mut lacking = None;
+        for item in &items {
+            let Some(place) = self.place_of(&taken, item) else {
+                lacking = Some(*item);
+                break;
+            };
+            placed.push((*item, place))?;
+            taken.push(place)?;
+        }
+        Ok(Placing { placed, lacking })
+    }
+}
+
+/// The least window of a class around items: each is placed from 0 on, at any address.
+pub fn window_around(
+    alloc: Global,
+    items: Vec<Item>,
+    class: WindowKind,
+    wide: bool,
+) -> Result<Extent, AllocError> {
+    let page = class.page_size();
+    let (mut items, mut all_wide, mut alignment) = (items, wide, page);
+    for item in items.iter_mut() {
+        all_wide = all_wide && item.extent.wide;
+        alignment = alignment.max(item.extent.alignment);
+        item.extent.wide = true;
+    }
+    let everywhere = [shared(0, u64::MAX)];
+    let site = Site {
+        list: &everywhere,
+        further: &[],
+    };
+    let mut end = 0u64;
+    for (_, place) in &site.place(alloc, items, Vec::new(alloc))?.placed {
+        end = end.max(place.last.saturating_add(1));
+    }
+    Ok(Extent {
+        size: raised(end, page).unwrap_or(u64::MAX),
+        alignment,
+        wide: all_wide,
+    })
+}
