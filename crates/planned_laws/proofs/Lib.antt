@@ -2,6 +2,7 @@ mod AllInPlace
 mod Examples
 mod JustPools
 mod Placed
+mod RootRanges
 mod Settled
 mod SettledStands
 mod ShownPlaces

@@ -32,7 +32,7 @@ use Rattle.planned_laws.specs.SettledPlans.{HasPools}
 use Rattle.planned_laws.proofs.AllInPlace.{all_in_place, apart_from, beside_of, looked, looked_at, two_of}
 use Rattle.planned_laws.proofs.Placed.{beside_apart, classes_agree, in_memory, in_prefetch, not_in_memory, open_above, over, space_by_class}
 
-within_gives : (r w : Range) → is_within r w ≡ true → IsInside r w
+pub within_gives : (r w : Range) → is_within r w ≡ true → IsInside r w
 within_gives r w h =
     let parts = and_parts (nat_le w.first r.first) (nat_le r.last w.last) h in
     (leb-true w.first r.first parts.0, leb-true r.last w.last parts.1)
@@ -46,7 +46,7 @@ listed_in q bus r MemoryWindow h = or_left (is_listed q bus r MemoryWindow) (is_
 listed_in q bus r PrefetchWindow h = or_right (is_listed q bus r MemoryWindow) (is_listed q bus r PrefetchWindow) h
 
 -- a range in which another lies has all that lies in that
-listed_inside : (q : Request) (bus : ℕ) (r w : Range) (c : WindowKind) → IsInside r w → is_listed q bus w c ≡ true → is_listed q bus r c ≡ true
+pub listed_inside : (q : Request) (bus : ℕ) (r w : Range) (c : WindowKind) → IsInside r w → is_listed q bus w c ≡ true → is_listed q bus r c ≡ true
 listed_inside q bus r w c inside h =
     let found : Passes (is_within w) (ranges_of q c bus) = any_gives (is_within w) (ranges_of q c bus) h in
     any_from (is_within r) (ranges_of q c bus) found.x found.listed (within_from r found.x (inside_through r w found.x inside (within_gives w found.x found.is)))

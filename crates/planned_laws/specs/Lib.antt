@@ -1,2 +1,3 @@
+pub mod InLists
 pub mod SettledPlans
 pub mod Switching

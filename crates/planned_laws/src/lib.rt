@@ -2,5 +2,6 @@
 //! part stands Command can be switched. What they speak of is in `plan_spec` and `settle_spec`.
 #![tactic(auto)]
 
+pub mod list_laws;
 pub mod settled_plan_laws;
 pub mod switching_laws;
