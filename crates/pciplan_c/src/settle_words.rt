@@ -1,5 +1,5 @@
 //! The words by which C says what is asked of settling.
-ghost use Rattle.std.specs.Prelude.{◌≡◌, IfOk, IfErr, MatchResult};
+ghost use Rattle.std.specs.Prelude.{IfOk, IfErr, MatchResult};
 ghost use Rattle.pciplan_lists.specs.ListWords.{IsListWord};
 ghost use Rattle.pciplan_c.specs.SettleWords.{AreFixedBy, AreNoSlots, IsAskedBy, IsNoList, IsNotAsked};
 
