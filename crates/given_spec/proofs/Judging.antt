@@ -268,7 +268,7 @@ module _ (given : Given) (roots : List ℕ) (s : System) (system : IsSystem s) w
 
   -- of those that are looked for in headers none hangs on what is given
   profile_kept : ((fault : Fault) → IsIn given roots s fault → ⊥) → sound.IsInProfile roots s
-  profile_kept none fault number = elim fault as (λ fault. IsTrue (sound.is_profile_number (plain.fault_number fault)) → plain.IsIn roots s fault → ⊥) [
+  profile_kept none fault number = elim fault as (λ fault. IsTrue (sound.is_of_profile fault) → plain.IsIn roots s fault → ⊥) [
     | Unreached slot register space a bridge ↦ λ number. absurd (both_ways false refl number)
     | Clash bus space a first fr second sr ↦ λ number. absurd (both_ways false refl number)
     | Split space a first fr second sr ↦ λ number. absurd (both_ways false refl number)

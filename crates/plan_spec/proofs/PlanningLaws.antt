@@ -1,12 +1,11 @@
 -- The laws of planning, from the lemmas that planning stands on.
-use Rattle.std.proofs.Common.{◌≡◌, ◌&&◌, ℕ, zero, suc, ◌+◌, ◌<◌, ◌≤◌, inl, inr, List, [], ◌∷◌, refl, true, arith, ap}
-use Rattle.std.specs.Bool.{nat_le, ◌==◌}
+use Rattle.std.proofs.Common.{◌≡◌, ℕ, zero, suc, ◌+◌, ◌<◌, ◌≤◌, inl, inr, List, [], ◌∷◌, refl, true, arith, ap}
 use Rattle.std.specs.List.{sum}
-use Rattle.std.proofs.lemmas.Bool.{cases_lt, or_cases, or_left, or_right}
+use Rattle.std.proofs.lemmas.Bool.{cases_lt}
 use Rattle.std.proofs.lemmas.List.Elements.{All-weaker}
 use Rattle.pci_spec.specs.Decoded.{IsDecodable}
-use Rattle.pci_spec.specs.Fault.{fault_number}
-use Rattle.pci_spec.specs.Sound.{is_profile_number}
+use Rattle.pci_spec.specs.Fault.{Fault, NoVendor, HeaderKind, BarType, BarMask, BarPair, RomMask, WindowMask, CapRange, CapLoop, CapCut, SlotsDiffer, StrayProbe, LoneFunction, PaletteSnoop, VgaEnable, IsaEnable, Subtractive, InReset, PowerState, BusRange, Orphan, Unreached, Clash, Split, fault_number}
+use Rattle.pci_spec.specs.Sound.{is_of_profile}
 use Rattle.plan_spec.specs.Planning.Safety.{IsSafe}
 use Rattle.plan_spec.specs.PlanningLaws.{CutIsSound, OffIsSound, IdleCommandIsFree, MovedIsSystem, MovedIsNested, MovedIsInProfile, MovedHasChains, ProfileDecodes, LargestFirstIsAligned, TakesAddress, PlacedFillsItsRange, PlacedTakesOnce, FewWritesEach, WindowIsLeastPower, LaidOutIsSound, RomsCanBeOn, PlacesAreATable, PlannedNumbersAreFinal}
 use Rattle.pci_spec.specs.ProbeLaws.{is_reading_number}
@@ -71,14 +70,34 @@ moved_has_chains s t moved system chains = moved_chains s t system moved chains
 -- ---- the profile
 
 -- faults of reading are of the profile
-reading_in_profile : (n : ℕ) → is_reading_number n ≡ true → is_profile_number n ≡ true
-reading_in_profile n reading = elim (or_cases (nat_le 20 n && nat_le n 26) (n == 31) reading) [
-  | inl low ↦ or_left _ _ (or_left _ _ (or_left _ _ low))
-  | inr stray ↦ or_left _ _ (or_right _ _ stray)
-]
+reading_in_profile : (fault : Fault) → is_reading_number (fault_number fault) ≡ true → is_of_profile fault ≡ true
+reading_in_profile (NoVendor slot) reading = refl
+reading_in_profile (HeaderKind slot) reading = refl
+reading_in_profile (BarType slot register) reading = refl
+reading_in_profile (BarMask slot register) reading = refl
+reading_in_profile (BarPair slot register) reading = refl
+reading_in_profile (RomMask slot register) reading = refl
+reading_in_profile (WindowMask slot register) reading = refl
+reading_in_profile (CapRange slot place) reading = reading
+reading_in_profile (CapLoop slot place) reading = reading
+reading_in_profile (CapCut slot place) reading = reading
+reading_in_profile (SlotsDiffer slot) reading = refl
+reading_in_profile (StrayProbe slot offset) reading = refl
+reading_in_profile (LoneFunction slot) reading = refl
+reading_in_profile (PaletteSnoop slot) reading = refl
+reading_in_profile (VgaEnable slot) reading = refl
+reading_in_profile (IsaEnable slot) reading = refl
+reading_in_profile (Subtractive slot) reading = refl
+reading_in_profile (InReset slot) reading = refl
+reading_in_profile (PowerState slot) reading = refl
+reading_in_profile (BusRange slot) reading = reading
+reading_in_profile (Orphan slot) reading = reading
+reading_in_profile (Unreached slot register space address bridge) reading = reading
+reading_in_profile (Clash bus space address first first_register second second_register) reading = reading
+reading_in_profile (Split space address first first_register second second_register) reading = reading
 
 pub profile_decodes : ProfileDecodes
-profile_decodes roots s profile = All-weaker IsReadable IsDecodable (λ f readable. readable.decodable) s (readable_of_none roots s (λ fault reading. profile fault (reading_in_profile (fault_number fault) reading)))
+profile_decodes roots s profile = All-weaker IsReadable IsDecodable (λ f readable. readable.decodable) s (readable_of_none roots s (λ fault reading. profile fault (reading_in_profile fault reading)))
 
 -- ---- largest first
 

@@ -1,5 +1,5 @@
 -- What is told behind a fault with what is given: lines, what a bridge misses, what is taken.
-use Rattle.std.proofs.Common.{◌≡◌, ℕ, List, [], ◌∷◌, ◌++◌, codes, refl, Bool, true, false, map, ◌≤◌, lit≤, lit<, inl, inr}
+use Rattle.std.proofs.Common.{◌≡◌, ℕ, List, [], ◌∷◌, ◌++◌, codes, refl, Bool, true, false, map, lit≤, lit<, inl, inr}
 use Rattle.std.proofs.lemmas.Bool.{both_ways}
 use Rattle.pci_spec.specs.System.{Function, Io, Memory, Bar}
 use Rattle.pci_spec.specs.Why as plain

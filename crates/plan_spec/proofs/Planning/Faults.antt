@@ -8,9 +8,9 @@ use Rattle.pci_spec.specs.Header.{layout, bar_count, rom_register}
 use Rattle.pci_spec.specs.Bar.{BarFault, bar_fault}
 use Rattle.pci_spec.specs.Bar as bars
 use Rattle.pci_spec.specs.System.{System, IsSystem, IsFunction, is_bridge}
-use Rattle.pci_spec.specs.Fault.{Fault, NoVendor, HeaderKind, BarType, BarMask, BarPair, RomMask, WindowMask, CapRange, CapLoop, CapCut, SlotsDiffer, StrayProbe, LoneFunction, PaletteSnoop, VgaEnable, IsaEnable, Subtractive, InReset, PowerState, BusRange, Orphan, Unreached, Clash, Split, IsIn, SomeAt, HasBarFault, HasRomFault, HasWindowFault, fault_number}
+use Rattle.pci_spec.specs.Fault.{Fault, NoVendor, HeaderKind, BarType, BarMask, BarPair, RomMask, WindowMask, CapRange, CapLoop, CapCut, SlotsDiffer, StrayProbe, LoneFunction, PaletteSnoop, VgaEnable, IsaEnable, Subtractive, InReset, PowerState, BusRange, Orphan, Unreached, Clash, Split, IsIn, SomeAt, HasBarFault, HasRomFault, HasWindowFault}
 use Rattle.plan_spec.specs.Plan.{IsMoved}
-use Rattle.pci_spec.specs.Sound.{is_profile_number, HasChains, IsInProfile}
+use Rattle.pci_spec.specs.Sound.{is_of_profile, HasChains, IsInProfile}
 use Rattle.plan_spec.proofs.Planning.Moved.{layout_same, bridge_same}
 use Rattle.plan_spec.proofs.Planning.Kept.{images_of}
 use Rattle.pci_spec.proofs.Pairs.{member_back}
@@ -32,7 +32,7 @@ module _ (roots : List ℕ) (s t : System) (system : IsSystem s) (chains : HasCh
       let inside : h.0 < bar_count (layout f.image) = subst (λ k. h.0 < bar_count k) (layout_same f g m is.image) h.1 in
       (f, (listed.0, listed.1, listed.2), sym m.slot ∙ there.2, (h.0, inside, h.2, sym (bar_fault_same f g m is.image is.probe h.0 inside) ∙ h.3))
 
-  pub fault_before : (fault : Fault) → is_profile_number (fault_number fault) ≡ true → IsIn roots t fault → IsIn roots s fault
+  pub fault_before : (fault : Fault) → is_of_profile fault ≡ true → IsIn roots t fault → IsIn roots s fault
   fault_before (NoVendor slot) k there = no_vendor_before roots s t system pairs slot there
   fault_before (HeaderKind slot) k there = kind_before roots s t system pairs slot there
   fault_before (BarType slot register) k there = bar_before slot register bars.BarType there

@@ -1,5 +1,5 @@
 -- What writes do to a system, and to what is on in it.
-use Rattle.std.proofs.Common.{◌≡◌, ℕ, zero, ◌+◌, ◌-◌, ◌*◌, ◌/◌, ◌%◌, ◌^◌, ◌<◌, ◌≤◌, ◌⊎◌, inl, inr, List, Bool, true, false, cond, ◌&&◌, ◌||◌, arith, sym, ◌∙◌, ap, length, get_or}
+use Rattle.std.proofs.Common.{◌≡◌, ℕ, ◌+◌, ◌-◌, ◌*◌, ◌/◌, ◌%◌, ◌^◌, ◌<◌, ◌≤◌, ◌⊎◌, inl, inr, List, true, false, cond, ◌&&◌, ◌||◌, arith, sym, ◌∙◌, ap, length, get_or}
 use Rattle.std.specs.Bool.{nat_le, nat_lt, ◌==◌}
 use Rattle.std.specs.List.{Contains}
 use Rattle.std.specs.Int.{bit_at}
@@ -11,7 +11,7 @@ use Rattle.pci_spec.specs.Number.{byte_at, has_bit}
 use Rattle.pci_spec.specs.Slot.{Slot, same_slot, slot_number}
 use Rattle.pci_spec.specs.Header.{layout, command}
 use Rattle.pci_spec.specs.System.{System, Function}
-use Rattle.pci_spec.specs.Machine.{Target, Write, in_fields, writable_by, writable_fields, writable_bits, byte_of_bits, written_bit, written_byte, written, target_of, write_function, write_system}
+use Rattle.pci_spec.specs.Machine.{Target, Write, in_fields, writable_fields, writable_bits, byte_of_bits, written_bit, written_byte, written, target_of, write_function, write_system}
 use Rattle.pci_spec.proofs.Bits.{digit, digit_of_bit, bit_at-number_of_bits, bit_at-mod}
 use Rattle.plan_spec.specs.Planning.Safety.{is_on}
 use Rattle.pci_spec.proofs.WritableBits.{enables_are_fields}

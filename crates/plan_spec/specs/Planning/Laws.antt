@@ -3,9 +3,9 @@ use Rattle.std.specs.Prelude.{◌≡◌, ℕ, suc, ◌⊎◌, map, None, ◌-◌
 use Rattle.std.specs.List.{Contains, All, AllZip, flat_map, sum}
 use Rattle.pci_spec.specs.System.{System, Function, IsSystem, Part, Space, Claims, is_bridge, is_window, is_prefetchable_part, passes, Window}
 use Rattle.pci_spec.specs.Bus.{IsNested, LeadsTo}
-use Rattle.pci_spec.specs.Sound.{IsSingle, IsHome, HasChains, IsInProfile, IsSound, is_profile_number}
+use Rattle.pci_spec.specs.Sound.{IsSingle, IsHome, HasChains, IsInProfile, IsSound, is_of_profile}
 use Rattle.pci_spec.specs.Number.{IsImage, has_bit}
-use Rattle.pci_spec.specs.Fault.{Fault, fault_number, IsIn}
+use Rattle.pci_spec.specs.Fault.{Fault, IsIn}
 use Rattle.pci_spec.specs.Machine.{Write, target_of, after_writes, write_system, system_after}
 use Rattle.plan_spec.specs.Plan.{IsMoved, Pools, pool_of, window_size, own_sizes, window_over, items_on, fits, raised_to, greatest, are_bad, has_behind, IsPlanned}
 use Rattle.plan_spec.specs.Planning.Placing.{IsFalling, IsHeld, starts}
@@ -137,8 +137,7 @@ FitHasRoom =
 abbrev pub BringsNoFault : Type 0
 BringsNoFault =
     (roots : List ℕ) (s t : System) → IsSystem s → HasChains s → AllZip IsMoved s t
-    → (fault : Fault) → IsTrue (is_profile_number (fault_number fault)) → IsIn roots t fault
-    → IsIn roots s fault
+    → (fault : Fault) → IsTrue (is_of_profile fault) → IsIn roots t fault → IsIn roots s fault
 
 -- ---- of systems in which everything has its place
 

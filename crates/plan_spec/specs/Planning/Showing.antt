@@ -1,5 +1,5 @@
 -- What registers have to hold to show a range.
-use Rattle.std.specs.Prelude.{ℕ, ◌+◌, ◌/◌, ◌%◌, ◌^◌, List}
+use Rattle.std.specs.Prelude.{ℕ, ◌+◌, ◌%◌, ◌^◌, List}
 use Rattle.pci_spec.specs.Bar.{BarKind, IoBar, Memory32, Memory64, Reserved, bar_at, bar_kind, whole_bar, first_bit}
 use Rattle.pci_spec.specs.Rom.{rom_at}
 
