@@ -21,9 +21,6 @@ pub struct Invocation {
     pub probe: String,
 }
 
-/// A command line.
-pub type Line = Invocation;
-
 /// What the words say.
 fn given_by<'a>(alloc: Global, words: &'a [&'a str]) -> Result<Given<'a>, Failure>
     ensures { MatchResult result
