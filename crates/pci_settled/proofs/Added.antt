@@ -14,7 +14,7 @@ use Rattle.pci_settle.specs.Turns.{HasExtent}
 use Rattle.pci_settle.specs.Buses.{AreInTurn}
 use Rattle.settle_spec.specs.Items.{new_window, stays}
 use Rattle.pci_settled.specs.declared.candidate.Candidate.{Candidate}
-use Rattle.pci_settled.specs.declared.held.Staying.{Staying}
+use Rattle.pci_settled.specs.declared.staying.Staying.{Staying}
 use Rattle.pci_settled.specs.Candidates.{of_class, candidate_value, IsLawful, AreAddedOf}
 
 module _ {X Y : Type 0} (f : X → Y) (old : List Y) (xs : List X) where

@@ -27,9 +27,10 @@ use Rattle.pci_settled.specs.declared.anew.Unplaced.TheVariants as unplaced
 use Rattle.pci_settled.specs.declared.candidate.Candidate.{Candidate}
 use Rattle.pci_settled.specs.declared.candidate.SpaceWindows.{SpaceWindows}
 use Rattle.pci_settled.specs.declared.places.Places.{Places}
-use Rattle.pci_settled.specs.declared.held.Held.{Held}
-use Rattle.pci_settled.specs.declared.held.Staying.{Staying}
-use Rattle.pci_settled.specs.Held.{AreHeld, AreHeldIn, IsStaying}
+use Rattle.pci_stand.specs.declared.held.Held.{Held}
+use Rattle.pci_settled.specs.declared.staying.Staying.{Staying}
+use Rattle.pci_stand.specs.Held.{AreHeld, AreHeldIn}
+use Rattle.pci_settled.specs.Staying.{IsStaying}
 use Rattle.pci_settled.specs.Candidates.{candidate_value, HasWindowsIn, KnowsRequest}
 use Rattle.pci_settled.specs.Places.{range_in}
 use Rattle.pci_settled.specs.Spaces.{HasNone, KeepsOthers, space_lack, AreSpacePlacesIn}

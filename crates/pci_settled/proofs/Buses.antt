@@ -21,15 +21,16 @@ use Rattle.pci_settle.specs.declared.placing.Wanted.{Wanted}
 use Rattle.pci_settle.specs.Placings.{HasList, AreWanted, AreEnding, placing_of}
 use Rattle.pci_settled.specs.declared.candidate.Candidate.{Candidate}
 use Rattle.pci_settled.specs.declared.candidate.SpaceWindows.{SpaceWindows}
-use Rattle.pci_settled.specs.declared.held.Staying.{Staying}
+use Rattle.pci_settled.specs.declared.staying.Staying.{Staying}
 use Rattle.pci_settled.specs.Candidates.{candidate_value, IsLawful, IsWithin, KnowsWindows, AreCandidatesOf}
 use Rattle.pci_settled.specs.Columns.{wanted_value, HasRootColumns}
 use Rattle.pci_settled.specs.BusPlaces.{bus_placing, AreWithin, ArePlacesIn, AreRootPlaces}
 use Rattle.pci_settled.proofs.Notes.{drop_none}
 use Rattle.pci_settled.proofs.Wanted.{no_candidate, are_within, are_parts, wanted_lawful, are_wanted, lacking_less, are_ending}
 use Rattle.pci_settled.proofs.Columns.{root_lists_for}
-use Rattle.pci_settled.specs.Held.{held_range, is_on, IsStaying}
-use Rattle.pci_settled.proofs.Helds.{same_taken}
+use Rattle.pci_stand.specs.Held.{held_range, is_on}
+use Rattle.pci_settled.specs.Staying.{IsStaying}
+use Rattle.pci_stand.proofs.Helds.{same_taken}
 
 -- what a slice of a list gives back
 pub slice_back : {X : Type 0} (len : ℕ) (new old : List X) → length new ≡ length old → len ≡ length old → take len (new ++ drop (length new) old) ≡ new

@@ -2,7 +2,6 @@ pub mod Added
 pub mod Spaces
 pub mod Parts
 pub mod Notes
-pub mod Helds
 pub mod Wanted
 pub mod Columns
 pub mod Reached

@@ -10,8 +10,8 @@ use Rattle.pci_settle.specs.declared.own.Terms.{Terms}
 use Rattle.pci_settle.specs.Placings.{placing_of}
 use Rattle.pci_settled.specs.declared.candidate.Candidate.{Candidate}
 use Rattle.pci_settled.specs.declared.candidate.SpaceWindows.{SpaceWindows}
-use Rattle.pci_settled.specs.declared.held.Staying.{Staying}
-use Rattle.pci_settled.specs.Held.{IsStaying}
+use Rattle.pci_settled.specs.declared.staying.Staying.{Staying}
+use Rattle.pci_settled.specs.Staying.{IsStaying}
 use Rattle.pci_settled.specs.Candidates.{candidate_value, IsWithin, IsLawful, HasPart, HasSpaceWindows}
 use Rattle.pci_settled.specs.Columns.{AreListsFor}
 use Rattle.pci_settled.specs.Places.{AreEndingAt}

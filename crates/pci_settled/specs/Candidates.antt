@@ -16,8 +16,8 @@ use Rattle.pci_settle.specs.Buses.{AreWindows}
 use Rattle.pci_settle.specs.NewWindows.{HasNewWindows}
 use Rattle.pci_settled.specs.declared.candidate.Candidate.{Candidate}
 use Rattle.pci_settled.specs.declared.candidate.SpaceWindows.{SpaceWindows}
-use Rattle.pci_settled.specs.declared.held.Staying.{Staying}
-use Rattle.pci_settled.specs.Held.{IsStaying}
+use Rattle.pci_settled.specs.declared.staying.Staying.{Staying}
+use Rattle.pci_settled.specs.Staying.{IsStaying}
 
 abbrev pub of_class : Class → Item → Candidate
 of_class class i = record { class = class; item = i }

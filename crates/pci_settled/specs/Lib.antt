@@ -1,4 +1,4 @@
-pub mod Held
+pub mod Staying
 pub mod Candidates
 pub mod Columns
 pub mod Places

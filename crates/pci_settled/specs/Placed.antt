@@ -17,8 +17,8 @@ use Rattle.pci_settle.specs.NewWindows.{HasNewWindows, IsTooLarge}
 use Rattle.pci_settled.specs.declared.places.Places.{Places}
 use Rattle.pci_settled.specs.declared.anew.Unplaced.{Unplaced}
 use Rattle.pci_settled.specs.declared.anew.Unplaced.TheVariants as unplaced
-use Rattle.pci_settled.specs.declared.held.Staying.{Staying}
-use Rattle.pci_settled.specs.Held.{IsStaying}
+use Rattle.pci_settled.specs.declared.staying.Staying.{Staying}
+use Rattle.pci_settled.specs.Staying.{IsStaying}
 use Rattle.pci_settled.specs.Candidates.{candidate_value}
 use Rattle.pci_settled.specs.Places.{range_in, placed_at}
 use Rattle.pci_settled.specs.Spaces.{HasNewPlaces, space_lack}

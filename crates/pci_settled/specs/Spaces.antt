@@ -14,10 +14,10 @@ use Rattle.pci_settle.specs.declared.own.Terms.{Terms}
 use Rattle.pci_settle.specs.Kept.{nothing_kept}
 use Rattle.pci_settled.specs.declared.candidate.Candidate.{Candidate}
 use Rattle.pci_settled.specs.declared.candidate.SpaceWindows.{SpaceWindows}
-use Rattle.pci_settled.specs.declared.held.Staying.{Staying}
+use Rattle.pci_settled.specs.declared.staying.Staying.{Staying}
 use Rattle.pci_settled.specs.declared.places.Places.{Places}
 use Rattle.pci_settled.specs.Candidates.{candidate_value, HasSpaceWindows}
-use Rattle.pci_settled.specs.Held.{IsStaying}
+use Rattle.pci_settled.specs.Staying.{IsStaying}
 use Rattle.pci_settled.specs.Windows.{window_at, range_alone}
 use Rattle.pci_settled.specs.Places.{range_in, placed_at, NotesOf}
 

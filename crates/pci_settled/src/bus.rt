@@ -10,12 +10,13 @@ ghost use Rattle.pci_function.specs.Values.{record_value};
 ghost use Rattle.pci_tree.specs.Roots.{buses_of};
 ghost use Rattle.pci_place.specs.Above.{AreAboves, system_in};
 ghost use Rattle.pci_settled.specs.Candidates.{AreSpaceWindows, KnowsWindows, IsWithin};
-ghost use Rattle.pci_settled.specs.Held.{AreByLevel};
+ghost use Rattle.pci_stand.specs.Held.{AreByLevel};
 ghost use Rattle.pci_settled.specs.Columns.{kind_number, column, wanted_value};
 ghost use Rattle.pci_settled.specs.BusPlaces.{bus_placing, ArePlacesIn, AreWithin};
 
 use crate::candidate::{Candidate, SpaceWindows, candidates_on};
-use crate::held::{Staying, taken_on};
+use crate::staying::Staying;
+use pci_stand::held::taken_on;
 use pci_base::memory::OutOfMemory;
 use pci_base::range::Range;
 use pci_base::slot::BUSES;

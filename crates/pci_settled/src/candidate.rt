@@ -7,7 +7,7 @@ ghost use Rattle.pci_place.specs.Above.{AreAboves, system_in};
 ghost use Rattle.pci_settle.specs.Buses.{AreWindows};
 ghost use Rattle.pci_settled.specs.Candidates.{of_class, IsLawful, AreAddedOf, AreSpaceWindows, AreCandidatesOf};
 
-use crate::held::Staying;
+use crate::staying::Staying;
 use pci_base::memory::OutOfMemory;
 use pci_base::slot::BUSES;
 use pci_base::space::Space;

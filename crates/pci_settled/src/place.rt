@@ -7,13 +7,14 @@ ghost use Rattle.pci_settle.specs.Lists.{lists_value};
 ghost use Rattle.pci_settle.specs.Own.{AreTerms};
 ghost use Rattle.pci_settle.specs.Buses.{AreWindows};
 ghost use Rattle.pci_settled.specs.Candidates.{AreSpaceWindows, HasWindowsIn, KnowsRequest};
-ghost use Rattle.pci_settled.specs.Held.{AreByLevel};
+ghost use Rattle.pci_stand.specs.Held.{AreByLevel};
 ghost use Rattle.pci_settled.specs.Spaces.{HasNone, KeepsOthers};
 ghost use Rattle.pci_settled.specs.Placed.{HasWindowsOf, IsTooLargeOf, IsTooLargeIn, IsUnplacedIn, HasPlacesIn, AreAllNone, CanBeLeft, ArePlacesOff, IsUnplacedOff};
 
 use crate::anew::Unplaced;
 use crate::candidate::SpaceWindows;
-use crate::held::{Staying, held_parts};
+use crate::staying::Staying;
+use pci_stand::held::held_parts;
 use crate::places::Places;
 use crate::space::place_space;
 use pci_base::memory::{OutOfMemory, Refused};

@@ -7,14 +7,14 @@ ghost use Rattle.pci_place.specs.Above.{AreAboves, system_in};
 ghost use Rattle.pci_settle.specs.Lists.{lists_value};
 ghost use Rattle.pci_settle.specs.Own.{AreTerms};
 ghost use Rattle.pci_settled.specs.Candidates.{AreSpaceWindows, KnowsWindows};
-ghost use Rattle.pci_settled.specs.Held.{AreByLevel};
+ghost use Rattle.pci_stand.specs.Held.{AreByLevel};
 ghost use Rattle.pci_settled.specs.Columns.{HasRootColumns};
 ghost use Rattle.pci_settled.specs.BusPlaces.{bus_placing, AreRootPlaces, AreWithin};
 
 use crate::bus::{BusPlaces, place_bus};
 use crate::candidate::SpaceWindows;
 use crate::column::{Column, add_column, column_of};
-use crate::held::Staying;
+use crate::staying::Staying;
 use pci_base::memory::OutOfMemory;
 use pci_base::range::Range;
 use pci_base::slot::BUSES;

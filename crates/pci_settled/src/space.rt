@@ -6,14 +6,14 @@ ghost use Rattle.pci_tree.specs.Roots.{buses_of};
 ghost use Rattle.pci_place.specs.Above.{AreAboves, system_in};
 ghost use Rattle.pci_settle.specs.Lists.{lists_value};
 ghost use Rattle.pci_settle.specs.Own.{AreTerms};
-ghost use Rattle.pci_settled.specs.Held.{AreByLevel};
+ghost use Rattle.pci_stand.specs.Held.{AreByLevel};
 ghost use Rattle.pci_settled.specs.Candidates.{AreSpaceWindows, HasWindowsIn, KnowsWindows, KnowsRequest};
 ghost use Rattle.pci_settled.specs.Spaces.{IsFirstRoot, AreNotedOnRoots, AreNotedBehind, HasNone, KeepsOthers, AreSpacePlacesIn};
 
 use crate::bus::place_bus;
 use crate::candidate::{Candidate, SpaceWindows};
 use crate::column::{add_column, column_behind};
-use crate::held::Staying;
+use crate::staying::Staying;
 use crate::places::{Places, note_bus};
 use crate::root::place_roots;
 use crate::window::{plain_window, prefetch_window};

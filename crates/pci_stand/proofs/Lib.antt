@@ -8,3 +8,4 @@ pub mod Passing
 pub mod Whole
 pub mod Steps
 pub mod Flags
+pub mod Helds

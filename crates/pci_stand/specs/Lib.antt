@@ -7,3 +7,4 @@ pub mod Order
 pub mod Boards
 pub mod Passing
 pub mod Flags
+pub mod Held

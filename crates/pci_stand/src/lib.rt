@@ -6,6 +6,7 @@
 
 pub mod collect;
 pub mod fixed;
+pub mod held;
 pub mod order;
 pub mod pass;
 pub mod place;

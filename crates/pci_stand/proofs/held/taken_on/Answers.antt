@@ -1,7 +1,7 @@
 use Rattle.std.proofs.Common.{◌≤◌, rules}
 use Rattle.pci_base.specs.Space.{space_of}
-use Rattle.pci_settled.proofs.Helds.{row_order, row_sorted, taken_listed}
-use Rattle.pci_settled.proofs.held.taken_on.Goals as goal
+use Rattle.pci_stand.proofs.Helds.{row_order, row_sorted, taken_listed}
+use Rattle.pci_stand.proofs.held.taken_on.Goals as goal
 
 pub slice_bounds-add_taken-count : goal.slice_bounds-add_taken-count
 slice_bounds-add_taken-count g c =

@@ -1,4 +1,4 @@
--- What stays where it is, and what is taken by it.
+-- The addresses of the parts that stay where they are.
 use Rattle.std.specs.Prelude.{◌≡◌, ℕ, ◌≤◌, ◌==◌, Bool, ◌&&◌, IsTrue, List, slice_index_or}
 use Rattle.std.specs.List.{All, Contains}
 use Rattle.std.specs.List.Sorted.{IsNonDecreasingBy}
@@ -12,13 +12,9 @@ use Rattle.pci_base.specs.declared.range.Range.{Range}
 use Rattle.pci_base.specs.Ranges.{decoded_range_of}
 use Rattle.pci_base.specs.Space as code
 use Rattle.pci_settle.specs.declared.kept.Kept.{Kept}
-use Rattle.pci_settle.specs.declared.own.Terms.{Terms}
 use Rattle.pci_settle.specs.Kept.{part_value, kept_of, nothing_kept, AreKept}
-use Rattle.pci_settle.specs.Over.{AreOpenOver}
-use Rattle.pci_settle.specs.Own.{AreTerms}
 use Rattle.pci_stand.specs.declared.region.Region.{Region as CodeRegion}
-use Rattle.pci_settled.specs.declared.held.Held.{Held}
-use Rattle.pci_settled.specs.declared.held.Staying.{Staying}
+use Rattle.pci_stand.specs.declared.held.Held.{Held}
 
 -- ---- addresses of parts
 
@@ -67,11 +63,3 @@ pub record AreHeld (q : Request) (s : System) (held : List Held) : Type 0 where
 abbrev pub AreHeldIn : List ℕ → System → Lists → List Kept → List Held → Type 0
 AreHeldIn roots s l kept held =
     (q : Request) → q.roots ≡ roots → q.lists ≡ l → AreKept s (stays q s) kept → AreHeld q s held
-
--- what is asked for below these roots, in lists that tell this, leaves these windows and parts where they stand
-pub record IsStaying (q : Request) (roots : List ℕ) (s : System) (t : Terms) (st : Staying) : Type 0 where
-  pub rooted : q.roots ≡ roots
-  pub terms : AreTerms q.lists t
-  pub overs_are : AreOpenOver q s st.left.over.now
-  pub keeps_is : AreKept s (stays q s) st.left.kept.now
-  pub held_is : AreHeld q s st.held.now

@@ -34,8 +34,8 @@ use Rattle.pci_settle.proofs.Tables.{none_noted}
 use Rattle.pci_stand.specs.declared.region.Region.{Region as CodeRegion}
 use Rattle.pci_stand.specs.Known.{Known, asked, known, known_of, region_value, AreParts}
 use Rattle.pci_stand.proofs.Passing.{levels_one, spaces_one, one_space}
-use Rattle.pci_settled.specs.declared.held.Held.{Held}
-use Rattle.pci_settled.specs.Held.{is_kept, held_of, held_range, is_on, IsForward, IsHeldBy, AreHeld, AreHeldIn}
+use Rattle.pci_stand.specs.declared.held.Held.{Held}
+use Rattle.pci_stand.specs.Held.{is_kept, held_of, held_range, is_on, IsForward, IsHeldBy, AreHeld, AreHeldIn}
 
 -- ---- filters of a slice
 

@@ -2,8 +2,8 @@ use Rattle.std.proofs.Common.{◌∙◌, sym}
 use Rattle.std.proofs.lemmas.Bool.{eqb-true}
 use Rattle.pci_place.specs.Above.{system_in}
 use Rattle.pci_settle.specs.Lists.{lists_value}
-use Rattle.pci_settled.proofs.Helds.{nothing_held, chosen_sorted, are_held, held_forward}
-use Rattle.pci_settled.proofs.held.held_parts.Goals as goal
+use Rattle.pci_stand.proofs.Helds.{nothing_held, chosen_sorted, are_held, held_forward}
+use Rattle.pci_stand.proofs.held.held_parts.Goals as goal
 
 pub returns-then-is_empty-clause-held : goal.returns-then-is_empty-clause-held
 returns-then-is_empty-clause-held g c =

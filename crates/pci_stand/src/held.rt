@@ -6,17 +6,16 @@ ghost use Rattle.pci_base.specs.Space.{space_of};
 ghost use Rattle.pci_place.specs.Above.{system_in};
 ghost use Rattle.pci_settle.specs.Lists.{lists_value};
 ghost use Rattle.pci_settle.specs.Spots.{AreListed};
-ghost use Rattle.pci_settled.specs.Held.{is_kept, held_of, held_level, held_range, is_on, AreByLevel, AreHeldIn};
+ghost use Rattle.pci_stand.specs.Held.{is_kept, held_of, held_level, held_range, is_on, AreByLevel, AreHeldIn};
 
+use crate::collect::regions;
+use crate::region::Region;
 use pci_base::memory::OutOfMemory;
 use pci_base::range::Range;
 use pci_base::space::Space;
 use pci_settle::bus::kept_by;
 use pci_settle::kept::Kept;
 use pci_settle::list::Lists;
-use pci_settle::over::Left;
-use pci_stand::collect::regions;
-use pci_stand::region::Region;
 use pci_tree::admitted::Admitted;
 use std::alloc::Allocator;
 
@@ -27,14 +26,6 @@ pub struct Held {
     pub level: u16,
     pub space: Space,
     pub range: Range,
-}
-
-/// What stays where it is.
-#[derive(Clone, Copy, Debug)]
-pub struct Staying<'a> {
-    pub left: Left<'a>,
-    /// The addresses of all parts that stay, by rising levels.
-    pub held: &'a [Held],
 }
 
 /// Whether a part keeps its place.

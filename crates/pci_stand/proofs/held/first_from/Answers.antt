@@ -1,8 +1,8 @@
 use Rattle.std.proofs.Common.{rules, ltb}
 use Rattle.std.proofs.lemmas.Bool.{ltb-true, ltb-false}
 use Rattle.std.proofs.lemmas.List.Sorted.{IsPartitionPoint-from_clause, IsPartitionedBy-ltb}
-use Rattle.pci_settled.specs.Held.{held_level}
-use Rattle.pci_settled.proofs.held.first_from.Goals as goal
+use Rattle.pci_stand.specs.Held.{held_level}
+use Rattle.pci_stand.proofs.held.first_from.Goals as goal
 
 pub returns-clause-before : goal.returns-clause-before
 returns-clause-before c k d low high =

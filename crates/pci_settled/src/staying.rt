@@ -1,0 +1,11 @@
+//! What stays where it is, while all else is placed.
+use pci_settle::over::Left;
+use pci_stand::held::Held;
+
+/// What stays where it is.
+#[derive(Clone, Copy, Debug)]
+pub struct Staying<'a> {
+    pub left: Left<'a>,
+    /// The addresses of all parts that stay, by rising levels.
+    pub held: &'a [Held],
+}
