@@ -3,10 +3,15 @@ ghost use Rattle.std.specs.Prelude.{◌≡◌, slice_index_or};
 ghost use Rattle.std.specs.Option.{option_map};
 ghost use Rattle.settle_spec.specs.Parts.{is_within};
 ghost use Rattle.pci_base.specs.Ranges.{decoded_range_of};
+ghost use Rattle.pci_base.specs.WindowKinds.{kind_value};
+ghost use Rattle.pci_image.specs.Windows.{window_of};
+ghost use Rattle.pci_tree.specs.Passes.{range_in};
 ghost use Rattle.pci_settle.specs.Over.{is_held, no_windows};
 
 use crate::kept::Kept;
 use pci_base::range::Range;
+use pci_base::window_kind::WindowKind;
+use pci_image::window::Windows;
 use pci_place::above::Above;
 
 /// The open windows of memory of the bridge over a bus; None on a root.
@@ -55,6 +60,16 @@ pub fn is_held(outer: Option<Range>, inner: Range) -> bool
     match outer {
         None => false,
         Some(outer) => is_within(inner, outer),
+    }
+}
+
+/// The addresses of a window, where it is open.
+pub fn open_range(windows: &Windows, kind: WindowKind) -> Option<Range>
+    ensures { option_map decoded_range_of result ≡ range_in (window_of windows.now (kind_value kind)) }
+{
+    match windows.get(kind) {
+        Some(window) => window.range(),
+        None => None,
     }
 }
 

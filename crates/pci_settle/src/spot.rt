@@ -1,5 +1,6 @@
 //! The first free place in ranges of addresses.
 ghost use Rattle.std.specs.Prelude.{ℕ, ◌≡◌, ◌≤◌, ◌<◌, ◌+◌, ◌^◌, IfSome, IfNone, IsTrue, List, map, SomeIff};
+ghost use Rattle.std.specs.List.Sorted.{IsPermutation};
 ghost use Rattle.settle_spec.specs.FirstPlace.{is_spot, ends_in as place_ends_in, first_in, first_place as place_in_ranges};
 ghost use Rattle.plan_spec.specs.Plan.{raised_to};
 ghost use Rattle.plan_spec.specs.Place.{range_from};
@@ -8,6 +9,7 @@ ghost use Rattle.pci_settle.specs.Spots.{extent_value, IsExtent, AreInOrder, IsB
 
 use crate::extent::Extent;
 use pci_base::range::Range;
+use std::alloc::Allocator;
 
 /// A free place, and where it belongs in the list of what is taken.
 #[derive(Clone, Copy, Debug, PartialEq, Eq)]
@@ -158,4 +160,12 @@ pub fn first_place(ranges: &[Range], taken: &[Range], extent: Extent, start: &mu
         from = Spot::lowest();
     }
     false
+}
+
+/// Sorts what is taken by rising first addresses, so that free places can be looked for along it.
+pub fn sort_by_first<A: Allocator>(taken: &mut Vec<Range, A>)
+    ensures permutation { IsPermutation taken.old.items taken.new.items }
+    ensures order { AreInOrder taken.new.items }
+{
+    taken.sort_unstable_by_key(|range| range.first);
 }

@@ -4,8 +4,6 @@ ghost use Rattle.std.specs.Option.{option_map};
 ghost use Rattle.pci_base.specs.Ranges.{decoded_range_of};
 ghost use Rattle.pci_base.specs.Space.{space_of};
 ghost use Rattle.pci_base.specs.WindowKinds.{kind_value};
-ghost use Rattle.pci_image.specs.Windows.{window_of};
-ghost use Rattle.pci_tree.specs.Passes.{range_in};
 ghost use Rattle.pci_settled.specs.Windows.{window_at, plain_of, prefetch_of};
 
 use crate::places::Places;
@@ -13,19 +11,9 @@ use pci_base::range::Range;
 use pci_base::space::Space;
 use pci_base::window_kind::WindowKind;
 use pci_function::record::Bridge;
-use pci_image::window::Windows;
 use pci_settle::bus::kept_by;
 use pci_settle::kept::Kept;
-
-/// The addresses of a window, where it is open.
-fn open_range(windows: &Windows, kind: WindowKind) -> Option<Range>
-    ensures { option_map decoded_range_of result ≡ range_in (window_of windows.now (kind_value kind)) }
-{
-    match windows.get(kind) {
-        Some(window) => window.range(),
-        None => None,
-    }
-}
+use pci_settle::over::open_range;
 
 /// The addresses of a bridge's window: those that it keeps, or those that it gets.
 fn window_at(kept: &Kept, bridge: &Bridge, places: &Places, kind: WindowKind) -> Option<Range>

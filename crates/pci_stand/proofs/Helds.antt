@@ -2,7 +2,7 @@
 use Rattle.std.proofs.Common.{◌≡◌, inl, inr, ℕ, ◌+◌, ◌<◌, ◌≤◌, List, [], ◌∷◌, ◌++◌, map, length, take, drop, get_or, append-nil, Bool, true, false, cond, ◌&&◌, not, arith, refl, sym, ◌∙◌, ap, subst, Some}
 use Rattle.std.specs.Bool.{◌==◌}
 use Rattle.std.specs.List.{All, AllWithin, Contains, filter, slice_range}
-use Rattle.std.specs.List.Sorted.{IsPermutation, IsNonDecreasingBy}
+use Rattle.std.specs.List.Sorted.{IsPermutation}
 use Rattle.std.proofs.lemmas.Bool.{cases_lt, and_parts, and_from, eqb-true, eq-eqb, both_ways, false_from_ne_true}
 use Rattle.std.proofs.lemmas.Option.{slice_get-get_or}
 use Rattle.std.proofs.lemmas.List.{length-take, get_or-take, length-drop, get_or-drop}
@@ -28,7 +28,7 @@ use Rattle.pci_base.specs.declared.space.Space.TheVariants as spaces
 use Rattle.pci_place.specs.Items.{function_in, no_function}
 use Rattle.pci_settle.specs.declared.kept.Kept.{Kept}
 use Rattle.pci_settle.specs.Kept.{part_value, AreKept}
-use Rattle.pci_settle.specs.Spots.{AreListed}
+use Rattle.pci_settle.specs.Spots.{AreInOrder, AreListed}
 use Rattle.pci_settle.proofs.Headers.{header_has}
 use Rattle.pci_settle.proofs.Tables.{none_noted}
 use Rattle.pci_stand.specs.declared.region.Region.{Region as CodeRegion}
@@ -232,9 +232,9 @@ module _ (held : List Held) (n : ℕ) (space : Space) (taken : List Range) (same
         is = made.is;
       }
 
-  pub taken_listed : All IsForward held → IsNonDecreasingBy (λ (r : Range). r.first) taken → AreListed taken
+  pub taken_listed : All IsForward held → AreInOrder taken → AreListed taken
   taken_listed forward order = record {
-    order = λ j k d less within. order j k d (omega (arith, less)) within;
+    order = order;
     forward = λ k d within. (
         let x = on_it (get_or taken k d) (Contains-get_or taken k d within) in
         subst (λ (r : Range). r.first ≤ r.last) x.is (All-contains IsForward held x.from forward x.listed));

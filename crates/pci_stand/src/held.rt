@@ -16,6 +16,7 @@ use pci_base::space::Space;
 use pci_settle::bus::kept_by;
 use pci_settle::kept::Kept;
 use pci_settle::list::Lists;
+use pci_settle::spot::sort_by_first;
 use pci_tree::admitted::Admitted;
 use std::alloc::Allocator;
 
@@ -122,14 +123,6 @@ fn add_taken<A: Allocator>(
         }
     }
     Ok(())
-}
-
-/// Sorts ranges by rising first addresses.
-fn sort_by_first<A: Allocator>(taken: &mut Vec<Range, A>)
-    ensures permutation { IsPermutation taken.old.items taken.new.items }
-    ensures order { IsNonDecreasingBy (λ r. r.first) taken.new.items }
-{
-    taken.sort_unstable_by_key(|range| range.first);
 }
 
 /// What is taken on a level in a space by the parts that stay there, by rising first addresses.

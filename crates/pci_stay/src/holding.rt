@@ -12,14 +12,13 @@ ghost use Rattle.pci_stay.specs.Rooms.{region_bus};
 ghost use Rattle.pci_stay.specs.Holding.{IsAsking, IsHeldFrom, IsHolding, AreHolding};
 
 use crate::room::has_places;
-use crate::windows::open_range;
 use pci_base::memory::OutOfMemory;
 use pci_base::slot::BUSES;
 use pci_base::window_kind::{ByKind, WindowKind};
 use pci_place::above::Above;
 use pci_settle::extent::Extent;
 use pci_settle::kept::Kept;
-use pci_settle::over::OpenWindows;
+use pci_settle::over::{OpenWindows, open_range};
 use pci_settle::own::Terms;
 use pci_stand::region::Region;
 use pci_tree::admitted::Admitted;

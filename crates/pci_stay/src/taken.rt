@@ -1,10 +1,10 @@
 //! What is taken on a bus by the parts that keep their places there.
-ghost use Rattle.std.specs.Prelude.{◌≡◌, ◌<◌, ◌≤◌, IfOk, OnOk, length, map};
+ghost use Rattle.std.specs.Prelude.{◌≡◌, ◌<◌, ◌≤◌, IfOk, length, map};
 ghost use Rattle.std.specs.List.{All, AllWithin, filter};
 ghost use Rattle.std.specs.List.Sorted.{IsPermutation, IsNonDecreasingBy};
 ghost use Rattle.settle_spec.specs.Parts.{same_space};
 ghost use Rattle.pci_base.specs.Space.{space_of};
-ghost use Rattle.pci_settle.specs.Spots.{AreInOrder, AreListed};
+ghost use Rattle.pci_settle.specs.Spots.{AreListed};
 ghost use Rattle.pci_stand.specs.Passing.{IsReady};
 ghost use Rattle.pci_stay.specs.Rooms.{region_bus, region_range, is_taken, is_taken_on};
 
@@ -12,6 +12,7 @@ use pci_base::memory::OutOfMemory;
 use pci_base::range::Range;
 use pci_base::space::Space;
 use pci_settle::kept::Kept;
+use pci_settle::spot::sort_by_first;
 use pci_stand::region::Region;
 use std::alloc::Allocator;
 
@@ -43,20 +44,9 @@ fn is_taken(region: &Region, space: Space, table: &[Kept]) -> bool
     is_same(space, region.space) && table[region.function].keeps(region.part)
 }
 
-/// Sorts ranges by their first addresses.
-fn sort_by_first<A: Allocator + Copy>(taken: &mut Vec<Range, A>) -> Result<(), OutOfMemory>
-    ensures permutation { IsPermutation taken.old.items taken.new.items }
-    ensures order { OnOk result (AreInOrder taken.new.items) }
-{
-    match taken.sort_by_key(|range| range.first) {
-        Ok(()) => Ok(()),
-        Err(_) => Err(OutOfMemory),
-    }
-}
-
 /// The ranges of the parts of a space that keep their places on a bus, by rising first addresses. The parts stand in slot
 /// order, so those of the bus stand in a row.
-pub fn taken_on<A: Allocator + Copy>(
+pub fn taken_on<A: Allocator>(
     alloc: A,
     regions: &[Region],
     bus: u8,
@@ -79,6 +69,6 @@ pub fn taken_on<A: Allocator + Copy>(
             taken.push(region.range)?;
         }
     }
-    sort_by_first(&mut taken)?;
+    sort_by_first(&mut taken);
     Ok(taken)
 }

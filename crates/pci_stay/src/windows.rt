@@ -1,26 +1,20 @@
 //! The windows of bridges: those that are open, and the new ones around what is behind them.
 ghost use Rattle.std.specs.Prelude.{◌≡◌, IfOk, IfErr, OnOk};
-ghost use Rattle.std.specs.Option.{option_map};
 ghost use Rattle.pci_spec.specs.System.{System};
 ghost use Rattle.settle_spec.specs.Lists.{Request};
-ghost use Rattle.pci_base.specs.Ranges.{decoded_range_of};
 ghost use Rattle.pci_base.specs.WindowKinds.{kind_value};
-ghost use Rattle.pci_image.specs.Windows.{window_of};
-ghost use Rattle.pci_tree.specs.Passes.{range_in};
 ghost use Rattle.pci_place.specs.Above.{AreAboves, system_in};
 ghost use Rattle.pci_settle.specs.Buses.{AreWindows};
 ghost use Rattle.pci_stay.specs.Windows.{AreOpenFor, HasWindowsOf, IsTooLargeOf, HasAllWindows, AreAllLawful, IsTooLargeIn};
 
 use pci_base::memory::Refused;
-use pci_base::range::Range;
 use pci_base::slot::BUSES;
 use pci_base::window_kind::{ByKind, WindowKind};
 use pci_function::record::Record;
-use pci_image::window::Windows;
 use pci_place::above::Above;
 use pci_settle::extent::Extent;
 use pci_settle::new_window::new_windows;
-use pci_settle::over::OpenWindows;
+use pci_settle::over::{OpenWindows, open_range};
 use pci_settle::own::Terms;
 use pci_tree::admitted::Admitted;
 use std::alloc::Allocator;
@@ -31,16 +25,6 @@ pub struct TooLarge {
     pub class: WindowKind,
     /// Which of the functions, in slot order.
     pub function: usize,
-}
-
-/// The addresses of a window, where it is open.
-pub fn open_range(windows: &Windows, kind: WindowKind) -> Option<Range>
-    ensures { option_map decoded_range_of result ≡ range_in (window_of windows.now (kind_value kind)) }
-{
-    match windows.get(kind) {
-        Some(window) => window.range(),
-        None => None,
-    }
 }
 
 /// The open windows over each bus that tell the classes of the BARs there, where nothing is placed anew.

@@ -24,7 +24,7 @@ pub returns-clause-listed : goal.returns-clause-listed
 returns-clause-listed g c =
     let rs = c.args.regions.now in
     record {
-      order = c.in_ok-sort_by_first.ensures.order;
+      order = c.sort_by_first.ensures.order;
       forward = row_forward rs c.args.bus (space_of c.args.space) c.args.table.now (length c.args.table.now) c.requires.ready c.loop-index.index c.sort_by_first.new.taken.items
           (subst (λ xs. IsPermutation xs c.sort_by_first.new.taken.items) c.loop-index.invariant c.sort_by_first.ensures.permutation);
     }
