@@ -22,9 +22,9 @@ use Rattle.pci_settle.specs.Placings.{HasList, AreWanted, AreEnding, placing_of}
 use Rattle.pci_settled.specs.declared.candidate.Candidate.{Candidate}
 use Rattle.pci_settled.specs.declared.candidate.SpaceWindows.{SpaceWindows}
 use Rattle.pci_settled.specs.declared.staying.Staying.{Staying}
-use Rattle.pci_settled.specs.Candidates.{candidate_value, IsLawful, IsWithin, KnowsWindows, AreCandidatesOf}
+use Rattle.pci_settled.specs.Candidates.{candidate_value, IsLawful, IsWithin, HasSpaceWindows, KnowsWindows, AreCandidatesOf}
 use Rattle.pci_settled.specs.Columns.{wanted_value, HasRootColumns}
-use Rattle.pci_settled.specs.BusPlaces.{bus_placing, AreWithin, ArePlacesIn, AreRootPlaces}
+use Rattle.pci_settled.specs.BusPlaces.{bus_placing, AreWithin, ArePlacesIn}
 use Rattle.pci_settled.proofs.Notes.{drop_none}
 use Rattle.pci_settled.proofs.Wanted.{no_candidate, are_within, are_parts, wanted_lawful, are_wanted, lacking_less, are_ending}
 use Rattle.pci_settled.proofs.Columns.{root_lists_for}
@@ -91,7 +91,8 @@ module _ (roots : List ℕ) (s : System) (system : IsSystem s) (space : Space) (
                 subst (λ (j : ItemValue). 0 < j.extent.alignment) made.is (All-contains IsLawful cs made.from all made.has).alignment
 
 pub root_places : {V : Type 0} (f : V → List Range) (roots : List ℕ) (s : System) → IsSystem s → IsNested roots s → (space : Space) (l : Lists) (t : Terms) (st : Staying) (w : SpaceWindows) (root : ℕ) → root < 256 → is_root roots root ≡ true
-    → (rs : List ℕ) → rs ≡ roots → (all slice : List V) → slice ≡ all → HasRootColumns rs l space 256 (map f all) → (placing : Placing) → ArePlacesIn roots s space t st w root (map f slice) placing → AreRootPlaces roots s space l t st w root placing
+    → (rs : List ℕ) → rs ≡ roots → (all slice : List V) → slice ≡ all → HasRootColumns rs l space 256 (map f all) → (placing : Placing) → ArePlacesIn roots s space t st w root (map f slice) placing
+    → (q : Request) → IsStaying q roots s t st → q.lists ≡ l → HasSpaceWindows q s space t w → placing ≡ placing_on q s space root
 root_places f roots s system nested space l t st w root low is_one rs rs_are all slice slice_is columns placing are q stay same has =
     are q (λ over. placed_of (placing_on q s space over)) stay has
     (root_lists_for q s l space root (map f slice) (λ over. placed_of (placing_on q s space over)) system (subst (λ xs. is_root xs root ≡ true) (sym stay.rooted) is_one) same

@@ -24,9 +24,9 @@ use Rattle.pci_settle.specs.Placings.{at_places, lacks_first}
 use Rattle.pci_settle.proofs.Walks.{left_next}
 use Rattle.pci_settled.specs.declared.candidate.Candidate.{Candidate}
 use Rattle.pci_settled.specs.declared.places.Places.{Places}
-use Rattle.pci_settled.specs.Candidates.{candidate_value, HasPart}
-use Rattle.pci_settled.specs.BusPlaces.{bus_placing}
-use Rattle.pci_settled.specs.Places.{IsPart, range_in, placed_at, or_kept}
+use Rattle.pci_settled.specs.Candidates.{candidate_value, IsWithin, HasPart}
+use Rattle.pci_settled.specs.BusPlaces.{bus_placing, AreWithin}
+use Rattle.pci_settled.specs.Places.{IsPart, range_in, placed_at, or_kept, AreNotable}
 use Rattle.pci_settled.proofs.Parts.{rank_one}
 
 -- ---- items at their places
@@ -203,3 +203,14 @@ are_part s candidates each k d less = by_part (get_or candidates k d).item.part 
     by_part (parts.Bar n) f c there = let low = ltb-true n (bar_count (layout f.image)) there in let most = few (layout f.image) in omega (arith, low, most)
     by_part parts.Rom f c there = tt
     by_part parts.Window f c there = tt
+
+-- so what is placed on a bus can be noted
+pub notable : (s : System) (candidates : List Candidate) (places : List ℕ) (lack : Option ℕ) → AreWithin s candidates places lack → (functions : ℕ) → functions ≡ length s → AreNotable functions candidates places lack
+notable s candidates places lack within functions same = record {
+  each = subst (λ n. All (IsWithin n) candidates) (sym same) within.functions;
+  parts = are_part s candidates within.parts;
+  lawful = within.lawful;
+  count = within.count;
+  lacking = within.lacking;
+  ends = within.ends;
+}

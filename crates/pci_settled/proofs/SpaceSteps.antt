@@ -15,7 +15,7 @@ use Rattle.pci_spec.proofs.BusRanges.{root_means}
 use Rattle.pci_spec.proofs.Members.{in_head, in_filter_to, in_range_to}
 use Rattle.settle_spec.specs.Lists.{Lists, Request}
 use Rattle.settle_spec.specs.Items.{Placing, place_all}
-use Rattle.settle_spec.specs.Places.{placed_of, ranges_for, space_items, taken_at, placing_on}
+use Rattle.settle_spec.specs.Places.{placed_of, first_lack, ranges_for, space_items, taken_at, placing_on}
 use Rattle.settle_spec.proofs.Buses.{placing_by_bus}
 use Rattle.pci_base.specs.declared.range.Range.{Range}
 use Rattle.pci_base.specs.Ranges.{decoded_range_of}
@@ -65,6 +65,23 @@ none_set flags off = by (set_in flags) refl
 
 pub known_of : (roots : List ℕ) (s : System) (space : Space) (l : Lists) (t : Terms) (st : Staying) (w : SpaceWindows) → KnowsRequest roots s l t st → HasWindowsIn roots s space t st w → KnowsWindows roots s space t st w
 known_of roots s space l t st w known windows = record { request = known.request; stay = known.stay; has = windows known.request known.stay }
+
+-- ---- on the roots
+
+-- what is placed on one of the roots is noted
+pub roots_noted : (roots : List ℕ) (s : System) (space : Space) (l : Lists) (t : Terms) (st : Staying) (w : SpaceWindows) (root : ℕ) → root < 256 → is_root roots root ≡ true → (old new : List Places) (lack : Option Candidate) (placing : Placing)
+    → ((q : Request) → IsStaying q roots s t st → q.lists ≡ l → HasSpaceWindows q s space t w → placing ≡ placing_on q s space root) → NotesOf s (placed_of placing) old new → option_map (candidate_value s) lack ≡ first_lack placing None → AreNotedOnRoots roots s space l t st w old new lack
+roots_noted roots s space l t st w root low is_one old new lack placing are noted lacking = inr (
+  root,
+  λ q stay same has. (
+      let is = are q stay same has in
+      record {
+        small = low;
+        on = subst (λ xs. is_root xs root ≡ true) (sym stay.rooted) is_one;
+        noted = subst (λ p. NotesOf s (placed_of p) old new) is noted;
+        lacking = lacking ∙ ap (λ p. first_lack p None) is;
+      }),
+)
 
 -- ---- behind a bridge
 

@@ -2,9 +2,9 @@
 use Rattle.std.specs.Prelude.{◌≡◌, ℕ, ◌<◌, List, map, length, Option, IfSome, IfNone}
 use Rattle.std.specs.List.{All}
 use Rattle.pci_spec.specs.System.{System, Space}
-use Rattle.settle_spec.specs.Lists.{Lists, Request}
+use Rattle.settle_spec.specs.Lists.{Request}
 use Rattle.settle_spec.specs.Items.{Placed, Placing, place_all}
-use Rattle.settle_spec.specs.Places.{space_items, taken_at, ranges_for, placing_on}
+use Rattle.settle_spec.specs.Places.{space_items, taken_at, ranges_for}
 use Rattle.pci_base.specs.declared.range.Range.{Range}
 use Rattle.pci_settle.specs.declared.own.Terms.{Terms}
 use Rattle.pci_settle.specs.Placings.{placing_of}
@@ -36,9 +36,3 @@ ArePlacesIn roots s space t st w bus lists placing =
     (q : Request) (placed : ℕ → List Placed) → IsStaying q roots s t st → HasSpaceWindows q s space t w
     → AreListsFor q s space placed bus lists
     → placing ≡ place_all (ranges_for q s placed) (taken_at q s space bus) (space_items q s space bus)
-
--- those on the roots, in lists that are asked for
-abbrev pub AreRootPlaces : List ℕ → System → Space → Lists → Terms → Staying → SpaceWindows → ℕ → Placing → Type 0
-AreRootPlaces roots s space l t st w root placing =
-    (q : Request) → IsStaying q roots s t st → q.lists ≡ l → HasSpaceWindows q s space t w
-    → placing ≡ placing_on q s space root

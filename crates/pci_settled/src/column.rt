@@ -5,12 +5,15 @@ ghost use Rattle.settle_spec.specs.Lists as lists;
 ghost use Rattle.pci_base.specs.Space.{space_of};
 ghost use Rattle.pci_base.specs.Ranges.{decoded_range_of};
 ghost use Rattle.pci_settle.specs.Lists.{lists_value, root_range_value};
-ghost use Rattle.pci_settled.specs.Columns.{had, AreColumn, range_list};
+ghost use Rattle.pci_tree.specs.Roots.{buses_of};
+ghost use Rattle.pci_settled.specs.Columns.{had, AreColumn, range_list, HasRootColumns};
 
 use pci_base::memory::OutOfMemory;
 use pci_base::range::{Range, RootRange};
+use pci_base::slot::BUSES;
 use pci_base::space::Space;
-use pci_settle::list::{Lists, ranges_of};
+use pci_settle::list::{Lists, is_root, ranges_of};
+use pci_tree::roots::Roots;
 use std::alloc::Allocator;
 
 /// The ranges of a space that the items of a bus can have.
@@ -134,4 +137,27 @@ pub fn add_column<A: Allocator>(
     lists.push(wide)?;
     lists.push(prefetch)?;
     Ok(())
+}
+
+/// A column for each bus: the ranges that it has where it is a root, else none.
+pub fn root_lists<A: Allocator + Copy>(
+    alloc: A,
+    roots: &Roots,
+    space: Space,
+    lists: &Lists,
+) -> Result<Vec<Vec<Range, A>, A>, OutOfMemory>
+    ensures { IfOk result (λ all. HasRootColumns (buses_of roots.now) (lists_value lists.now)
+        (space_of space) 256 (map (λ list. list.items) all.items)) }
+{
+    let mut all = Vec::new(alloc);
+    for bus in 0..BUSES {
+        let bus = bus as u8;
+        let column = if is_root(roots, bus) {
+            column_of(alloc, space, lists, bus)?
+        } else {
+            Column::empty(alloc)
+        };
+        add_column(&mut all, column)?;
+    }
+    Ok(all)
 }

@@ -10,7 +10,6 @@ pub mod candidate;
 pub mod column;
 pub mod place;
 pub mod places;
-pub mod root;
 pub mod space;
 pub mod staying;
 pub mod window;

@@ -12,10 +12,9 @@ ghost use Rattle.pci_settled.specs.Spaces.{IsFirstRoot, AreNotedOnRoots, AreNote
 
 use crate::bus::place_bus;
 use crate::candidate::{Candidate, SpaceWindows};
-use crate::column::{add_column, column_behind};
+use crate::column::{add_column, column_behind, root_lists};
 use crate::staying::Staying;
 use crate::places::{Places, note_bus};
-use crate::root::place_roots;
 use crate::window::{plain_window, prefetch_window};
 use pci_base::memory::OutOfMemory;
 use pci_base::slot::BUSES;
@@ -42,7 +41,8 @@ fn first_root(roots: &Roots) -> Option<u8>
     None
 }
 
-/// Places what is on the roots, and notes it where all has a place. The answer is the first item that has none.
+/// Places what is on the roots: each item in the ranges that its own root has, off what stays on the roots and those
+/// before it. Notes it where all has a place; the answer is the first item that has none.
 fn place_on_roots<A: Allocator + Copy, B: Allocator>(
     alloc: A,
     admitted: &Admitted<B>,
@@ -69,8 +69,10 @@ fn place_on_roots<A: Allocator + Copy, B: Allocator>(
     let Some(root) = first_root(&roots) else {
         return Ok(None);
     };
-    let places = place_roots(
-        alloc, admitted, root, space, lists, aboves, terms, staying, windows,
+    let all = root_lists(alloc, &roots, space, lists)?;
+    let columns = all.as_slice();
+    let places = place_bus(
+        alloc, admitted, root, space, aboves, terms, staying, windows, columns,
     )?;
     Ok(note_bus(&places, table))
 }

@@ -1,25 +1,15 @@
-use Rattle.std.proofs.Common.{◌++◌, ◌∷◌, [], ◌∙◌, map, sym, ap, subst, Vec}
-use Rattle.std.specs.List.{All}
+use Rattle.std.proofs.Common.{◌++◌, ◌∷◌, [], ◌∙◌, map, sym, ap, Vec}
 use Rattle.pci_base.specs.Space.{space_of}
 use Rattle.pci_base.specs.declared.range.Range.{Range}
 use Rattle.pci_place.specs.Above.{system_in}
-use Rattle.pci_settled.specs.Candidates.{IsWithin}
-use Rattle.pci_settled.proofs.Notes.{are_part}
+use Rattle.pci_settled.proofs.Notes.{notable}
 use Rattle.pci_settled.proofs.SpaceSteps.{three_are, behind_noted}
 use Rattle.pci_settled.proofs.space.place_behind.Goals as goal
 
 pub note_bus-requires : goal.note_bus-requires
 note_bus-requires g c =
-    let s = system_in c.args.admitted.now in
-    let within = c.in_ok-places.ensures.within in
-    record {
-      each = subst (λ n. All (IsWithin n) c.in_ok-places.places.candidates.items) (sym c.requires.count) within.functions;
-      parts = are_part s c.in_ok-places.places.candidates.items within.parts;
-      lawful = within.lawful;
-      count = within.count;
-      lacking = within.lacking;
-      ends = within.ends;
-    }
+    let places = c.in_ok-places.places in
+    notable (system_in c.args.admitted.now) places.candidates.items places.places.items places.lack c.in_ok-places.ensures.within _ c.requires.count
 
 pub returns : goal.returns
 returns g c =

@@ -7,8 +7,8 @@ use Rattle.pci_settle.specs.Lists.{lists_value}
 use Rattle.pci_settled.specs.declared.column.Column.{Column}
 use Rattle.pci_settled.specs.Columns.{AreColumn}
 use Rattle.pci_settled.proofs.Columns.{columns_more}
-use Rattle.pci_settled.proofs.root.root_lists.Goals as goal
-use Rattle.pci_settled.proofs.root.root_lists.Goals.{then-is_root+in_ok-column, else-is_root}
+use Rattle.pci_settled.proofs.column.root_lists.Goals as goal
+use Rattle.pci_settled.proofs.column.root_lists.Goals.{then-is_root+in_ok-column, else-is_root}
 
 pub loop-bus-preserved : goal.loop-bus-preserved
 loop-bus-preserved g c =
