@@ -13,6 +13,7 @@ use Rattle.pci_settle.specs.declared.own.Terms.{Terms}
 use Rattle.pci_settle.specs.Turns.{HasExtent}
 use Rattle.pci_settle.specs.Buses.{AreInTurn}
 use Rattle.settle_spec.specs.Items.{new_window, stays}
+use Rattle.pci_settled.specs.Staying.{setting}
 use Rattle.pci_settled.specs.declared.candidate.Candidate.{Candidate}
 use Rattle.pci_settled.specs.declared.staying.Staying.{Staying}
 use Rattle.pci_settled.specs.Candidates.{of_class, candidate_value, IsLawful, AreAddedOf}
@@ -32,7 +33,7 @@ module _ {X Y : Type 0} (f : X → Y) (old : List Y) (xs : List X) where
 
 module _ (s : System) (class : Class) (items : List Item) (old new : List Candidate) (added : new ≡ old ++ map (of_class class) items) where
   pub added_of : (roots : List ℕ) (t : Terms) (st : Staying) (windows : List (Option Extent)) (bus : ℕ) → AreInTurn roots s (kind_value class) t windows st.left.over.now st.left.kept.now bus items
-      → AreAddedOf roots s (kind_value class) t st windows bus old new
+      → AreAddedOf (setting roots s t st) (kind_value class) windows bus old new
   added_of roots t st windows bus turn q stay has =
       ap (map (candidate_value s)) added
       ∙ map-append (candidate_value s) old (map (of_class class) items)

@@ -30,8 +30,8 @@ use Rattle.pci_settled.specs.declared.places.Places.{Places}
 use Rattle.pci_stand.specs.declared.held.Held.{Held}
 use Rattle.pci_settled.specs.declared.staying.Staying.{Staying}
 use Rattle.pci_stand.specs.Held.{AreHeld, AreHeldIn}
-use Rattle.pci_settled.specs.Staying.{IsStaying}
-use Rattle.pci_settled.specs.Candidates.{candidate_value, HasWindowsIn, KnowsRequest}
+use Rattle.pci_settled.specs.Staying.{IsStaying, setting}
+use Rattle.pci_settled.specs.Candidates.{candidate_value, HasWindowsIn, KnowsRequest, pass}
 use Rattle.pci_settled.specs.Places.{range_in}
 use Rattle.pci_settled.specs.Spaces.{HasNone, KeepsOthers, space_lack, AreSpacePlacesIn}
 use Rattle.pci_settled.specs.Placed.{IsTooLargeIn, HasPlacesIn, IsUnplacedIn, AreAllNone, IsLeaving, CanBeLeft, ArePlacesOff, IsUnplacedOff}
@@ -60,16 +60,16 @@ pub no_windows : AreWindows (replicate 256 None)
 no_windows = All-replicate (λ (o : Option Extent). IfSome o IsExtent) 256 None tt
 
 module _ (roots : List ℕ) (s : System) (space : Space) (l : Lists) (t : Terms) (st : Staying) where
-  pub space_placed : (w : SpaceWindows) (table : List Places) → HasWindowsIn roots s space t st w → AreSpacePlacesIn roots s space l t st w table None → HasPlacesIn roots s space l t st table
+  pub space_placed : (w : SpaceWindows) (table : List Places) → HasWindowsIn (pass roots s space t st w) → AreSpacePlacesIn (pass roots s space t st w) l table None → HasPlacesIn (setting roots s t st) space l table
   space_placed w table windows are q stay same =
       let placed = are q stay same (windows q stay) in
       record { lack = placed.lack_is; places = placed.places }
 
-  pub space_lacks : (w : SpaceWindows) (table : List Places) (c : Candidate) → HasWindowsIn roots s space t st w → AreSpacePlacesIn roots s space l t st w table (Some c)
-      → (q : Request) → IsStaying q roots s t st → q.lists ≡ l → space_lack q s space q.roots ≡ Some (candidate_value s c)
+  pub space_lacks : (w : SpaceWindows) (table : List Places) (c : Candidate) → HasWindowsIn (pass roots s space t st w) → AreSpacePlacesIn (pass roots s space t st w) l table (Some c)
+      → (q : Request) → IsStaying q (setting roots s t st) → q.lists ≡ l → space_lack q s space q.roots ≡ Some (candidate_value s c)
   space_lacks w table c windows are q stay same = (are q stay same (windows q stay)).lack_is
 
-  pub too_large : (e : Refused Unplaced) → IsTooLargeIn roots s space t st e → IsUnplacedIn roots s space l t st e
+  pub too_large : (e : Refused Unplaced) → IsTooLargeIn (setting roots s t st) space e → IsUnplacedIn (setting roots s t st) space l e
   too_large refused.Memory is = tt
   too_large (refused.Fault (unplaced.Lacks x)) is = absurd is
   too_large (refused.Fault (unplaced.TooLarge class k)) (of, is) = (of, λ q stay same. is q stay)
@@ -128,7 +128,7 @@ still_none s start table count none kept k f d part at there of =
     kept.others k f d part at there (λ io. not_both (space_of f part) io of) ∙ none k d part (omega (arith, inside, count))
 
 module _ (roots : List ℕ) (s : System) (l : Lists) (t : Terms) (terms : AreTerms l t) (left : Left) (held : List Held) (are : AreHeldIn roots s l left.kept.now held) (st : Staying) (left_is : st.left ≡ left) (held_is : st.held.now ≡ held) where
-  stay_of : (q : Request) → IsLeaving q roots s l left → IsStaying q roots s t st
+  stay_of : (q : Request) → IsLeaving q roots s l left → IsStaying q (setting roots s t st)
   stay_of q leaving = record {
     rooted = leaving.rooted;
     terms = subst (λ x. AreTerms x t) (sym leaving.lists) terms;
@@ -137,10 +137,10 @@ module _ (roots : List ℕ) (s : System) (l : Lists) (t : Terms) (terms : AreTer
     held_is = subst (AreHeld q s) (sym held_is) (are q leaving.rooted leaving.lists leaving.keeps_is);
   }
 
-  pub request_known : CanBeLeft roots s l left → KnowsRequest roots s l t st
+  pub request_known : CanBeLeft roots s l left → KnowsRequest (setting roots s t st) l
   request_known can = record { request = can.request; stay = stay_of can.request can.leaving; lists = can.leaving.lists }
 
-  pub both_placed : (first table : List Places) → length table ≡ length s → HasPlacesIn roots s Io l t st first → KeepsOthers s Memory first table → HasPlacesIn roots s Memory l t st table → ArePlacesOff roots s l left table
+  pub both_placed : (first table : List Places) → length table ≡ length s → HasPlacesIn (setting roots s t st) Io l first → KeepsOthers s Memory first table → HasPlacesIn (setting roots s t st) Memory l table → ArePlacesOff roots s l left table
   both_placed first table count io kept memory q leaving =
       let placed = io q (stay_of q leaving) leaving.lists in
       let other = memory q (stay_of q leaving) leaving.lists in
@@ -153,7 +153,7 @@ module _ (roots : List ℕ) (s : System) (l : Lists) (t : Terms) (terms : AreTer
         ];
       }
 
-  pub io_unplaced : (e : Refused Unplaced) → IsUnplacedIn roots s Io l t st e → IsUnplacedOff roots s l left e
+  pub io_unplaced : (e : Refused Unplaced) → IsUnplacedIn (setting roots s t st) Io l e → IsUnplacedOff roots s l left e
   io_unplaced refused.Memory is = tt
   io_unplaced (refused.Fault (unplaced.Lacks x)) is = λ q leaving. lacking_io q s q.roots (candidate_value s x) (is q (stay_of q leaving) leaving.lists)
   io_unplaced (refused.Fault (unplaced.TooLarge class k)) (of, is) = λ q leaving. record {
@@ -161,7 +161,7 @@ module _ (roots : List ℕ) (s : System) (l : Lists) (t : Terms) (terms : AreTer
     io = λ memory. absurd (not_both (window_space (kind_value class)) of memory);
   }
 
-  pub memory_unplaced : (first : List Places) → HasPlacesIn roots s Io l t st first → (e : Refused Unplaced) → IsUnplacedIn roots s Memory l t st e → IsUnplacedOff roots s l left e
+  pub memory_unplaced : (first : List Places) → HasPlacesIn (setting roots s t st) Io l first → (e : Refused Unplaced) → IsUnplacedIn (setting roots s t st) Memory l e → IsUnplacedOff roots s l left e
   memory_unplaced first io refused.Memory is = tt
   memory_unplaced first io (refused.Fault (unplaced.Lacks x)) is = λ q leaving.
       lacking_memory q s q.roots (io q (stay_of q leaving) leaving.lists).lack ∙ is q (stay_of q leaving) leaving.lists

@@ -22,14 +22,14 @@ use Rattle.pci_settle.specs.Placings.{HasList, AreWanted, AreEnding, placing_of}
 use Rattle.pci_settled.specs.declared.candidate.Candidate.{Candidate}
 use Rattle.pci_settled.specs.declared.candidate.SpaceWindows.{SpaceWindows}
 use Rattle.pci_settled.specs.declared.staying.Staying.{Staying}
-use Rattle.pci_settled.specs.Candidates.{candidate_value, IsLawful, IsWithin, HasSpaceWindows, KnowsWindows, AreCandidatesOf}
+use Rattle.pci_settled.specs.Candidates.{candidate_value, IsLawful, IsWithin, HasSpaceWindows, KnowsWindows, AreCandidatesOf, pass}
 use Rattle.pci_settled.specs.Columns.{wanted_value, HasRootColumns}
 use Rattle.pci_settled.specs.BusPlaces.{bus_placing, AreWithin, ArePlacesIn}
 use Rattle.pci_settled.proofs.Notes.{drop_none}
 use Rattle.pci_settled.proofs.Wanted.{no_candidate, are_within, are_parts, wanted_lawful, are_wanted, lacking_less, are_ending}
 use Rattle.pci_settled.proofs.Columns.{root_lists_for}
 use Rattle.pci_stand.specs.Held.{held_range, is_on}
-use Rattle.pci_settled.specs.Staying.{IsStaying}
+use Rattle.pci_settled.specs.Staying.{IsStaying, setting}
 use Rattle.pci_stand.proofs.Helds.{same_taken}
 
 -- what a slice of a list gives back
@@ -39,12 +39,12 @@ slice_back len new old same long =
     ∙ ap (take len) (append-nil new)
     ∙ take_all len new (omega (arith, same, long))
 
-module _ (roots : List ℕ) (s : System) (system : IsSystem s) (space : Space) (t : Terms) (st : Staying) (w : SpaceWindows) (bus : ℕ) (candidates : List Candidate) (are : AreCandidatesOf roots s space t st w bus candidates)
+module _ (roots : List ℕ) (s : System) (system : IsSystem s) (space : Space) (t : Terms) (st : Staying) (w : SpaceWindows) (bus : ℕ) (candidates : List Candidate) (are : AreCandidatesOf (pass roots s space t st w) bus candidates)
     (rs : List ℕ) (rs_are : rs ≡ roots) (slice : List Candidate) (slice_is : slice ≡ candidates) (wanted : List Wanted) (wanted_is : wanted ≡ map (wanted_value rs s) slice) where
-  wanted_own : (q : Request) → IsStaying q roots s t st → wanted ≡ map (wanted_value q.roots s) candidates
+  wanted_own : (q : Request) → IsStaying q (setting roots s t st) → wanted ≡ map (wanted_value q.roots s) candidates
   wanted_own q stay = wanted_is ∙ ap (λ xs. map (wanted_value xs s) slice) (rs_are ∙ sym stay.rooted) ∙ ap (map (wanted_value q.roots s)) slice_is
 
-  module _ (known : KnowsWindows roots s space t st w) where
+  module _ (known : KnowsWindows (pass roots s space t st w)) where
     abbrev q0 : Request
     q0 = known.request
 
@@ -74,7 +74,7 @@ module _ (roots : List ℕ) (s : System) (system : IsSystem s) (space : Space) (
 
         pub places_in : (n : ℕ) → n ≡ cond (is_root rs bus) 0 (bus + 1) → All IsLawful candidates → (lists : List (List Range)) (taken : List Range) → IsPermutation (map held_range (filter (is_on n space) st.held.now)) taken
             → ((ranges : ItemValue → List DecodedRange) (items : List ItemValue) → AreWanted lists ranges items ws → place_all ranges (map decoded_range_of taken) items ≡ placing_of items places lack)
-            → ArePlacesIn roots s space t st w bus lists (bus_placing s candidates final lack)
+            → ArePlacesIn (pass roots s space t st w) bus lists (bus_placing s candidates final lack)
         places_in n n_is lawful lists taken is_taken placing q placed stay has for =
             let items = are q stay has in
             let values = map (candidate_value s) candidates in
@@ -91,8 +91,8 @@ module _ (roots : List ℕ) (s : System) (system : IsSystem s) (space : Space) (
                 subst (λ (j : ItemValue). 0 < j.extent.alignment) made.is (All-contains IsLawful cs made.from all made.has).alignment
 
 pub root_places : {V : Type 0} (f : V → List Range) (roots : List ℕ) (s : System) → IsSystem s → IsNested roots s → (space : Space) (l : Lists) (t : Terms) (st : Staying) (w : SpaceWindows) (root : ℕ) → root < 256 → is_root roots root ≡ true
-    → (rs : List ℕ) → rs ≡ roots → (all slice : List V) → slice ≡ all → HasRootColumns rs l space 256 (map f all) → (placing : Placing) → ArePlacesIn roots s space t st w root (map f slice) placing
-    → (q : Request) → IsStaying q roots s t st → q.lists ≡ l → HasSpaceWindows q s space t w → placing ≡ placing_on q s space root
+    → (rs : List ℕ) → rs ≡ roots → (all slice : List V) → slice ≡ all → HasRootColumns rs l space 256 (map f all) → (placing : Placing) → ArePlacesIn (pass roots s space t st w) root (map f slice) placing
+    → (q : Request) → IsStaying q (setting roots s t st) → q.lists ≡ l → HasSpaceWindows q s space t w → placing ≡ placing_on q s space root
 root_places f roots s system nested space l t st w root low is_one rs rs_are all slice slice_is columns placing are q stay same has =
     are q (λ over. placed_of (placing_on q s space over)) stay has
     (root_lists_for q s l space root (map f slice) (λ over. placed_of (placing_on q s space over)) system (subst (λ xs. is_root xs root ≡ true) (sym stay.rooted) is_one) same

@@ -35,8 +35,8 @@ use Rattle.pci_settled.specs.declared.candidate.Candidate.{Candidate}
 use Rattle.pci_settled.specs.declared.candidate.SpaceWindows.{SpaceWindows}
 use Rattle.pci_settled.specs.declared.staying.Staying.{Staying}
 use Rattle.pci_settled.specs.declared.places.Places.{Places}
-use Rattle.pci_settled.specs.Candidates.{candidate_value, HasSpaceWindows, HasWindowsIn, KnowsWindows, KnowsRequest}
-use Rattle.pci_settled.specs.Staying.{IsStaying}
+use Rattle.pci_settled.specs.Candidates.{candidate_value, HasSpaceWindows, HasWindowsIn, KnowsWindows, KnowsRequest, pass}
+use Rattle.pci_settled.specs.Staying.{IsStaying, setting}
 use Rattle.pci_settled.specs.Columns.{range_list}
 use Rattle.pci_settled.specs.Windows.{window_at, plain_of, prefetch_of}
 use Rattle.pci_settled.specs.BusPlaces.{ArePlacesIn}
@@ -63,14 +63,14 @@ none_set flags off = by (set_in flags) refl
 
 -- ---- something that is asked for
 
-pub known_of : (roots : List ℕ) (s : System) (space : Space) (l : Lists) (t : Terms) (st : Staying) (w : SpaceWindows) → KnowsRequest roots s l t st → HasWindowsIn roots s space t st w → KnowsWindows roots s space t st w
+pub known_of : (roots : List ℕ) (s : System) (space : Space) (l : Lists) (t : Terms) (st : Staying) (w : SpaceWindows) → KnowsRequest (setting roots s t st) l → HasWindowsIn (pass roots s space t st w) → KnowsWindows (pass roots s space t st w)
 known_of roots s space l t st w known windows = record { request = known.request; stay = known.stay; has = windows known.request known.stay }
 
 -- ---- on the roots
 
 -- what is placed on one of the roots is noted
 pub roots_noted : (roots : List ℕ) (s : System) (space : Space) (l : Lists) (t : Terms) (st : Staying) (w : SpaceWindows) (root : ℕ) → root < 256 → is_root roots root ≡ true → (old new : List Places) (lack : Option Candidate) (placing : Placing)
-    → ((q : Request) → IsStaying q roots s t st → q.lists ≡ l → HasSpaceWindows q s space t w → placing ≡ placing_on q s space root) → NotesOf s (placed_of placing) old new → option_map (candidate_value s) lack ≡ first_lack placing None → AreNotedOnRoots roots s space l t st w old new lack
+    → ((q : Request) → IsStaying q (setting roots s t st) → q.lists ≡ l → HasSpaceWindows q s space t w → placing ≡ placing_on q s space root) → NotesOf s (placed_of placing) old new → option_map (candidate_value s) lack ≡ first_lack placing None → AreNotedOnRoots (pass roots s space t st w) l old new lack
 roots_noted roots s space l t st w root low is_one old new lack placing are noted lacking = inr (
   root,
   λ q stay same has. (
@@ -96,7 +96,7 @@ pub behind_noted : (roots : List ℕ) (s : System) (space : Space) (t : Terms) (
     → (own : Kept) → ((part : Part) → kept_of own part ≡ kept_of (get_or st.left.kept.now k nothing_kept) part)
     → (plain prefetch : Option Range) → option_map decoded_range_of plain ≡ plain_of space (window_at own b (get_or old k e)) → option_map decoded_range_of prefetch ≡ prefetch_of space (window_at own b (get_or old k e))
     → (lists : List (List Range)) → lists ≡ range_list plain ∷ (range_list plain ∷ (range_list prefetch ∷ []))
-    → (placing : Placing) → ArePlacesIn roots s space t st w b.secondary lists placing → (IsSystem s → NotesOf s (placed_of placing) old new) → AreNotedBehind roots s space t st w k b old new
+    → (placing : Placing) → ArePlacesIn (pass roots s space t st w) b.secondary lists placing → (IsSystem s → NotesOf s (placed_of placing) old new) → AreNotedBehind (pass roots s space t st w) k b old new
 behind_noted roots s space t st w b off k old new within e own own_is plain prefetch plain_is prefetch_is lists lists_are placing are noted q placed d system stay has over =
     let p = get_or old k e in
     let windows = window_at own b p in
@@ -105,18 +105,18 @@ behind_noted roots s space t st w b off k old new within e own own_is plain pref
     ∙ ap (λ on. cond on (passes.range_in (window_of b.windows c)) (option_map decoded_range_of (range_in p (Window c)))) (sym (own_is (Window c)))) in
     let for = window_lists_for q s space placed b.secondary plain prefetch windows (ap (λ rs. is_root rs b.secondary) stay.rooted ∙ off) plain_is prefetch_is
     (subst (HasWindowsOver q s space placed b.secondary) same over) in
-    subst (λ r. NotesOf s (placed_of r) old new) (subst (λ ls. ArePlacesIn roots s space t st w b.secondary ls placing) lists_are are q placed stay has for) (noted system)
+    subst (λ r. NotesOf s (placed_of r) old new) (subst (λ ls. ArePlacesIn (pass roots s space t st w) b.secondary ls placing) lists_are are q placed stay has for) (noted system)
 
 -- ---- the table so far, whatever is asked for
 
 pub record IsSpaceTo (roots : List ℕ) (s : System) (space : Space) (l : Lists) (t : Terms) (st : Staying) (w : SpaceWindows) (n : ℕ) (start table : List Places) : Type 0 where
   pub count : length table ≡ length s
   pub others : KeepsOthers s space start table
-  pub lacks : (q : Request) → IsStaying q roots s t st → q.lists ≡ l → HasSpaceWindows q s space t w → space_lack q s space q.roots ≡ None
-  pub placed : (q : Request) → IsStaying q roots s t st → q.lists ≡ l → HasSpaceWindows q s space t w → IsPlacedTo q s space n table
+  pub lacks : (q : Request) → IsStaying q (setting roots s t st) → q.lists ≡ l → HasSpaceWindows q s space t w → space_lack q s space q.roots ≡ None
+  pub placed : (q : Request) → IsStaying q (setting roots s t st) → q.lists ≡ l → HasSpaceWindows q s space t w → IsPlacedTo q s space n table
 
-module _ (roots : List ℕ) (s : System) (system : IsSystem s) (nested : IsNested roots s) (space : Space) (l : Lists) (t : Terms) (st : Staying) (w : SpaceWindows) (known : KnowsRequest roots s l t st) (windows : HasWindowsIn roots s space t st w) where
-  nested_for : (q : Request) → IsStaying q roots s t st → IsNested q.roots s
+module _ (roots : List ℕ) (s : System) (system : IsSystem s) (nested : IsNested roots s) (space : Space) (l : Lists) (t : Terms) (st : Staying) (w : SpaceWindows) (known : KnowsRequest (setting roots s t st) l) (windows : HasWindowsIn (pass roots s space t st w)) where
+  nested_for : (q : Request) → IsStaying q (setting roots s t st) → IsNested q.roots s
   nested_for q stay = subst (λ xs. IsNested xs s) (sym stay.rooted) nested
 
   abbrev q1 : Request
@@ -125,9 +125,9 @@ module _ (roots : List ℕ) (s : System) (system : IsSystem s) (nested : IsNeste
   -- ---- the roots
 
   abbrev OnRoots : List Places → List Places → Option Candidate → ℕ → Type 0
-  OnRoots old new lack root = (q : Request) → IsStaying q roots s t st → q.lists ≡ l → HasSpaceWindows q s space t w → AreNotedFor q s space old new lack root
+  OnRoots old new lack root = (q : Request) → IsStaying q (setting roots s t st) → q.lists ≡ l → HasSpaceWindows q s space t w → AreNotedFor q s space old new lack root
 
-  pub roots_lack : (old new : List Places) (lack : Option Candidate) → AreNotedOnRoots roots s space l t st w old new lack → (q : Request) → IsStaying q roots s t st → q.lists ≡ l → HasSpaceWindows q s space t w
+  pub roots_lack : (old new : List Places) (lack : Option Candidate) → AreNotedOnRoots (pass roots s space t st w) l old new lack → (q : Request) → IsStaying q (setting roots s t st) → q.lists ≡ l → HasSpaceWindows q s space t w
       → space_lack q s space q.roots ≡ option_map (candidate_value s) lack
   roots_lack old new lack (inl none) q stay same has =
       ap (space_lack q s space) (stay.rooted ∙ none.none) ∙ sym (ap (option_map (candidate_value s)) none.lacking)
@@ -135,13 +135,13 @@ module _ (roots : List ℕ) (s : System) (system : IsSystem s) (nested : IsNeste
       let noted = are q stay same has in
       lack_same q s space root noted.on q.roots refl ∙ sym noted.lacking
 
-  pub roots_others : (old new : List Places) (lack : Option Candidate) → length new ≡ length old → AreNotedOnRoots roots s space l t st w old new lack → KeepsOthers s space old new
+  pub roots_others : (old new : List Places) (lack : Option Candidate) → length new ≡ length old → AreNotedOnRoots (pass roots s space t st w) l old new lack → KeepsOthers s space old new
   roots_others old new lack size (inl none) = subst (KeepsOthers s space old) (sym none.same) (others_same s space old)
   roots_others old new lack size (inr (root, are)) =
       let noted = are q1 known.stay known.lists (windows q1 known.stay) in
       others_kept q1 s system (nested_for q1 known.stay) space root noted.small old new size noted.noted
 
-  pub roots_placed : (old new : List Places) → length old ≡ length s → length new ≡ length old → HasNone s space old → AreNotedOnRoots roots s space l t st w old new None
+  pub roots_placed : (old new : List Places) → length old ≡ length s → length new ≡ length old → HasNone s space old → AreNotedOnRoots (pass roots s space t st w) l old new None
       → IsSpaceTo roots s space l t st w 0 old new
   roots_placed old new count size none are = record {
     count = size ∙ count;
@@ -150,7 +150,7 @@ module _ (roots : List ℕ) (s : System) (system : IsSystem s) (nested : IsNeste
     placed = λ q stay same has. by_roots q stay same has are;
   }
     where
-      by_roots : (q : Request) → IsStaying q roots s t st → q.lists ≡ l → HasSpaceWindows q s space t w → AreNotedOnRoots roots s space l t st w old new None → IsPlacedTo q s space 0 new
+      by_roots : (q : Request) → IsStaying q (setting roots s t st) → q.lists ≡ l → HasSpaceWindows q s space t w → AreNotedOnRoots (pass roots s space t st w) l old new None → IsPlacedTo q s space 0 new
       by_roots q stay same has (inl nowhere) =
           subst (IsPlacedTo q s space 0) (sym nowhere.same) (placed_nowhere q s system (nested_for q stay) space (stay.rooted ∙ nowhere.none) old none)
       by_roots q stay same has (inr (root, are)) =
@@ -186,7 +186,7 @@ module _ (roots : List ℕ) (s : System) (system : IsSystem s) (nested : IsNeste
       pub bus_off : is_root roots b.secondary ≡ false
       bus_off = ap (λ rs. is_root rs b.secondary) (sym known.stay.rooted) ∙ ap (is_root q1.roots) leads_to ∙ no_root q1 s system (nested_for q1 known.stay) space n here.f here.at is_one
 
-      pub space_more : (new : List Places) → length new ≡ length old → AreNotedBehind roots s space t st w n b old new → IsSpaceTo roots s space l t st w (n + 1) start new
+      pub space_more : (new : List Places) → length new ≡ length old → AreNotedBehind (pass roots s space t st w) n b old new → IsSpaceTo roots s space l t st w (n + 1) start new
       space_more new size are = record {
         count = size ∙ was.count;
         others = others_more s space start old new was.others
@@ -195,7 +195,7 @@ module _ (roots : List ℕ) (s : System) (system : IsSystem s) (nested : IsNeste
         placed = λ q stay same has. placed_more q s system (nested_for q stay) space n here.f here.at is_one small old new (was.placed q stay same has) (noted_for q stay same has);
       }
         where
-          noted_for : (q : Request) → IsStaying q roots s t st → q.lists ≡ l → HasSpaceWindows q s space t w → NotesOf s (placed_of (placing_on q s space (secondary here.f))) old new
+          noted_for : (q : Request) → IsStaying q (setting roots s t st) → q.lists ≡ l → HasSpaceWindows q s space t w → NotesOf s (placed_of (placing_on q s space (secondary here.f))) old new
           noted_for q stay same has =
               let placed = λ (over : ℕ). placed_of (placing_on q s space over) in
               let over : HasWindowsOver q s space placed b.secondary (windows_by st old n no_places b) =
@@ -206,7 +206,7 @@ module _ (roots : List ℕ) (s : System) (system : IsSystem s) (nested : IsNeste
 
   -- ---- all of them
 
-  pub space_all : (n : ℕ) → length s ≤ n → (start table : List Places) → IsSpaceTo roots s space l t st w n start table → (q : Request) → IsStaying q roots s t st → q.lists ≡ l → HasSpaceWindows q s space t w
+  pub space_all : (n : ℕ) → length s ≤ n → (start table : List Places) → IsSpaceTo roots s space l t st w n start table → (q : Request) → IsStaying q (setting roots s t st) → q.lists ≡ l → HasSpaceWindows q s space t w
       → AreSpacePlaces q s space table None
   space_all n past start table is q stay same has = record {
     lack_is = is.lacks q stay same has;

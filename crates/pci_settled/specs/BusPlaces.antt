@@ -1,18 +1,15 @@
 -- The places of the items of a bus.
 use Rattle.std.specs.Prelude.{◌≡◌, ℕ, ◌<◌, List, map, length, Option, IfSome, IfNone}
 use Rattle.std.specs.List.{All}
-use Rattle.pci_spec.specs.System.{System, Space}
+use Rattle.pci_spec.specs.System.{System}
 use Rattle.settle_spec.specs.Lists.{Request}
 use Rattle.settle_spec.specs.Items.{Placed, Placing, place_all}
 use Rattle.settle_spec.specs.Places.{space_items, taken_at, ranges_for}
 use Rattle.pci_base.specs.declared.range.Range.{Range}
-use Rattle.pci_settle.specs.declared.own.Terms.{Terms}
 use Rattle.pci_settle.specs.Placings.{placing_of}
 use Rattle.pci_settled.specs.declared.candidate.Candidate.{Candidate}
-use Rattle.pci_settled.specs.declared.candidate.SpaceWindows.{SpaceWindows}
-use Rattle.pci_settled.specs.declared.staying.Staying.{Staying}
 use Rattle.pci_settled.specs.Staying.{IsStaying}
-use Rattle.pci_settled.specs.Candidates.{candidate_value, IsWithin, IsLawful, HasPart, HasSpaceWindows}
+use Rattle.pci_settled.specs.Candidates.{candidate_value, IsWithin, IsLawful, HasPart, Pass, HasWindowsOf}
 use Rattle.pci_settled.specs.Columns.{AreListsFor}
 use Rattle.pci_settled.specs.Places.{AreEndingAt}
 
@@ -31,8 +28,10 @@ pub record AreWithin (s : System) (candidates : List Candidate) (places : List �
   pub ends : IfNone lack (AreEndingAt candidates places)
 
 -- they are those in some lists of ranges, whatever is told of places on other buses
-abbrev pub ArePlacesIn : List ℕ → System → Space → Terms → Staying → SpaceWindows → ℕ → List (List Range) → Placing → Type 0
-ArePlacesIn roots s space t st w bus lists placing =
-    (q : Request) (placed : ℕ → List Placed) → IsStaying q roots s t st → HasSpaceWindows q s space t w
-    → AreListsFor q s space placed bus lists
-    → placing ≡ place_all (ranges_for q s placed) (taken_at q s space bus) (space_items q s space bus)
+abbrev pub ArePlacesIn : Pass → ℕ → List (List Range) → Placing → Type 0
+ArePlacesIn p bus lists placing =
+    (q : Request) (placed : ℕ → List Placed) → IsStaying q p.setting → HasWindowsOf q p
+    → AreListsFor q p.setting.system p.space placed bus lists
+    → placing
+    ≡ place_all (ranges_for q p.setting.system placed) (taken_at q p.setting.system p.space bus)
+    (space_items q p.setting.system p.space bus)

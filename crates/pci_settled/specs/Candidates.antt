@@ -7,6 +7,7 @@ use Rattle.settle_spec.specs.Items.{Item as ItemValue, items_on, new_window, sta
 use Rattle.settle_spec.specs.Places.{space_items}
 use Rattle.pci_base.specs.declared.window_kind.WindowKind.{WindowKind as Class}
 use Rattle.pci_base.specs.WindowKinds.{kind_value}
+use Rattle.pci_tree.specs.Admission.{Admission}
 use Rattle.pci_settle.specs.declared.extent.Extent.{Extent}
 use Rattle.pci_settle.specs.declared.item.Item.{Item}
 use Rattle.pci_settle.specs.declared.own.Terms.{Terms}
@@ -17,7 +18,7 @@ use Rattle.pci_settle.specs.NewWindows.{HasNewWindows}
 use Rattle.pci_settled.specs.declared.candidate.Candidate.{Candidate}
 use Rattle.pci_settled.specs.declared.candidate.SpaceWindows.{SpaceWindows}
 use Rattle.pci_settled.specs.declared.staying.Staying.{Staying}
-use Rattle.pci_settled.specs.Staying.{IsStaying}
+use Rattle.pci_settled.specs.Staying.{Setting, setting, setting_of, IsStaying}
 
 abbrev pub of_class : Class → Item → Candidate
 of_class class i = record { class = class; item = i }
@@ -41,11 +42,12 @@ HasPart s c =
 -- ---- of a class
 
 -- to some items those of a bus in a class are added, in turn
-abbrev pub AreAddedOf : List ℕ → System → WindowKind → Terms → Staying → List (Option Extent) → ℕ → List Candidate → List Candidate → Type 0
-AreAddedOf roots s c t st windows bus old new =
-    (q : Request) → IsStaying q roots s t st → HasNewWindows q s c t windows
-    → map (candidate_value s) new
-    ≡ map (candidate_value s) old ++ items_on q s c (stays q s) (new_window q s c) bus
+abbrev pub AreAddedOf : Setting → WindowKind → List (Option Extent) → ℕ → List Candidate → List Candidate → Type 0
+AreAddedOf p c windows bus old new =
+    (q : Request) → IsStaying q p → HasNewWindows q p.system c p.terms windows
+    → map (candidate_value p.system) new
+    ≡ map (candidate_value p.system) old
+    ++ items_on q p.system c (stays q p.system) (new_window q p.system c) bus
 
 -- ---- of a space
 
@@ -59,25 +61,41 @@ HasSpaceWindows q s Io t w = HasNewWindows q s IoWindow t w.plain
 HasSpaceWindows q s Memory t w =
     HasNewWindows q s MemoryWindow t w.plain × HasNewWindows q s PrefetchWindow t w.prefetch
 
+-- what the places of a space are found by: the new windows of its classes too
+pub record Pass : Type 0 where
+  pub setting : Setting
+  pub space : Space
+  pub windows : SpaceWindows
+
+abbrev pub pass : List ℕ → System → Space → Terms → Staying → SpaceWindows → Pass
+pass roots s space t st w = record { setting = setting roots s t st; space = space; windows = w }
+
+abbrev pub pass_of : Admission → Space → Terms → Staying → SpaceWindows → Pass
+pass_of a space t st w = record { setting = setting_of a t st; space = space; windows = w }
+
+-- they are those of what is asked for
+abbrev pub HasWindowsOf : Request → Pass → Type 0
+HasWindowsOf q p = HasSpaceWindows q p.setting.system p.space p.setting.terms p.windows
+
 -- they are the new windows, whatever is asked for in these terms
-abbrev pub HasWindowsIn : List ℕ → System → Space → Terms → Staying → SpaceWindows → Type 0
-HasWindowsIn roots s space t st w = (q : Request) → IsStaying q roots s t st → HasSpaceWindows q s space t w
+abbrev pub HasWindowsIn : Pass → Type 0
+HasWindowsIn p = (q : Request) → IsStaying q p.setting → HasWindowsOf q p
 
 -- something can be asked for of which they are the new windows
-pub record KnowsWindows (roots : List ℕ) (s : System) (space : Space) (t : Terms)
-    (st : Staying) (w : SpaceWindows) : Type 0 where
+pub record KnowsWindows (p : Pass) : Type 0 where
   pub request : Request
-  pub stay : IsStaying request roots s t st
-  pub has : HasSpaceWindows request s space t w
+  pub stay : IsStaying request p.setting
+  pub has : HasWindowsOf request p
 
 -- something can be asked for in these lists of which this stays
-pub record KnowsRequest (roots : List ℕ) (s : System) (l : Lists) (t : Terms) (st : Staying) : Type 0 where
+pub record KnowsRequest (p : Setting) (l : Lists) : Type 0 where
   pub request : Request
-  pub stay : IsStaying request roots s t st
+  pub stay : IsStaying request p
   pub lists : request.lists ≡ l
 
 -- the items of a bus in a space
-abbrev pub AreCandidatesOf : List ℕ → System → Space → Terms → Staying → SpaceWindows → ℕ → List Candidate → Type 0
-AreCandidatesOf roots s space t st w bus candidates =
-    (q : Request) → IsStaying q roots s t st → HasSpaceWindows q s space t w
-    → map (candidate_value s) candidates ≡ space_items q s space bus
+abbrev pub AreCandidatesOf : Pass → ℕ → List Candidate → Type 0
+AreCandidatesOf p bus candidates =
+    (q : Request) → IsStaying q p.setting → HasWindowsOf q p
+    → map (candidate_value p.setting.system) candidates
+    ≡ space_items q p.setting.system p.space bus

@@ -10,38 +10,36 @@ use Rattle.pci_base.specs.declared.memory.Refused.TheVariants as refused
 use Rattle.pci_base.specs.WindowKinds.{kind_value}
 use Rattle.pci_settle.specs.declared.extent.Extent.{Extent}
 use Rattle.pci_settle.specs.declared.over.Left.{Left}
-use Rattle.pci_settle.specs.declared.own.Terms.{Terms}
 use Rattle.pci_settle.specs.Kept.{AreKept}
 use Rattle.pci_settle.specs.Over.{AreOpenOver}
 use Rattle.pci_settle.specs.NewWindows.{HasNewWindows, IsTooLarge}
 use Rattle.pci_settled.specs.declared.places.Places.{Places}
 use Rattle.pci_settled.specs.declared.anew.Unplaced.{Unplaced}
 use Rattle.pci_settled.specs.declared.anew.Unplaced.TheVariants as unplaced
-use Rattle.pci_settled.specs.declared.staying.Staying.{Staying}
-use Rattle.pci_settled.specs.Staying.{IsStaying}
+use Rattle.pci_settled.specs.Staying.{Setting, IsStaying}
 use Rattle.pci_settled.specs.Candidates.{candidate_value}
 use Rattle.pci_settled.specs.Places.{range_in, placed_at}
 use Rattle.pci_settled.specs.Spaces.{HasNewPlaces, space_lack}
 
 -- ---- windows
 
-abbrev pub HasWindowsOf : List ℕ → System → WindowKind → Terms → Staying → List (Option Extent) → Type 0
-HasWindowsOf roots s c t st windows =
-    (q : Request) → IsStaying q roots s t st → HasNewWindows q s c t windows
+abbrev pub HasClassWindows : Setting → WindowKind → List (Option Extent) → Type 0
+HasClassWindows p c windows =
+    (q : Request) → IsStaying q p → HasNewWindows q p.system c p.terms windows
 
 -- a new window of a class is too large, or there was no memory
-abbrev pub IsTooLargeOf : List ℕ → System → WindowKind → Terms → Staying → Refused Unplaced → Type 0
-IsTooLargeOf roots s c t st refused.Memory = ⊤
-IsTooLargeOf roots s c t st (refused.Fault (unplaced.Lacks x)) = ⊥
-IsTooLargeOf roots s c t st (refused.Fault (unplaced.TooLarge class k)) =
-    (kind_value class ≡ c) × ((q : Request) → IsStaying q roots s t st → IsTooLarge q s c k)
+abbrev pub IsTooLargeOf : Setting → WindowKind → Refused Unplaced → Type 0
+IsTooLargeOf p c refused.Memory = ⊤
+IsTooLargeOf p c (refused.Fault (unplaced.Lacks x)) = ⊥
+IsTooLargeOf p c (refused.Fault (unplaced.TooLarge class k)) =
+    (kind_value class ≡ c) × ((q : Request) → IsStaying q p → IsTooLarge q p.system c k)
 
-abbrev pub IsTooLargeIn : List ℕ → System → Space → Terms → Staying → Refused Unplaced → Type 0
-IsTooLargeIn roots s space t st refused.Memory = ⊤
-IsTooLargeIn roots s space t st (refused.Fault (unplaced.Lacks x)) = ⊥
-IsTooLargeIn roots s space t st (refused.Fault (unplaced.TooLarge class k)) =
+abbrev pub IsTooLargeIn : Setting → Space → Refused Unplaced → Type 0
+IsTooLargeIn p space refused.Memory = ⊤
+IsTooLargeIn p space (refused.Fault (unplaced.Lacks x)) = ⊥
+IsTooLargeIn p space (refused.Fault (unplaced.TooLarge class k)) =
     (window_space (kind_value class) ≡ space)
-    × ((q : Request) → IsStaying q roots s t st → IsTooLarge q s (kind_value class) k)
+    × ((q : Request) → IsStaying q p → IsTooLarge q p.system (kind_value class) k)
 
 -- ---- of a space
 
@@ -50,19 +48,19 @@ pub record IsSpacePlaced (q : Request) (s : System) (space : Space) (table : Lis
   pub lack : space_lack q s space q.roots ≡ None
   pub places : HasNewPlaces q s space table
 
-abbrev pub HasPlacesIn : List ℕ → System → Space → Lists → Terms → Staying → List Places → Type 0
-HasPlacesIn roots s space l t st table =
-    (q : Request) → IsStaying q roots s t st → q.lists ≡ l → IsSpacePlaced q s space table
+abbrev pub HasPlacesIn : Setting → Space → Lists → List Places → Type 0
+HasPlacesIn p space l table =
+    (q : Request) → IsStaying q p → q.lists ≡ l → IsSpacePlaced q p.system space table
 
 -- an item on the roots is the first that lacks a place, or a new window is too large, or there was no memory
-abbrev pub IsUnplacedIn : List ℕ → System → Space → Lists → Terms → Staying → Refused Unplaced → Type 0
-IsUnplacedIn roots s space l t st refused.Memory = ⊤
-IsUnplacedIn roots s space l t st (refused.Fault (unplaced.Lacks x)) =
-    (q : Request) → IsStaying q roots s t st → q.lists ≡ l
-    → space_lack q s space q.roots ≡ Some (candidate_value s x)
-IsUnplacedIn roots s space l t st (refused.Fault (unplaced.TooLarge class k)) =
+abbrev pub IsUnplacedIn : Setting → Space → Lists → Refused Unplaced → Type 0
+IsUnplacedIn p space l refused.Memory = ⊤
+IsUnplacedIn p space l (refused.Fault (unplaced.Lacks x)) =
+    (q : Request) → IsStaying q p → q.lists ≡ l
+    → space_lack q p.system space q.roots ≡ Some (candidate_value p.system x)
+IsUnplacedIn p space l (refused.Fault (unplaced.TooLarge class k)) =
     (window_space (kind_value class) ≡ space)
-    × ((q : Request) → IsStaying q roots s t st → q.lists ≡ l → IsTooLarge q s (kind_value class) k)
+    × ((q : Request) → IsStaying q p → q.lists ≡ l → IsTooLarge q p.system (kind_value class) k)
 
 -- ---- of both
 

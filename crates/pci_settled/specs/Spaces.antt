@@ -10,13 +10,11 @@ use Rattle.settle_spec.specs.Parts.{bridge_over}
 use Rattle.settle_spec.specs.Items.{Item as ItemValue, Placed, place_all}
 use Rattle.settle_spec.specs.Places.{placed_of, space_items, taken_at, window_ranges, ranges_for, placing_on, new_place, first_lack}
 use Rattle.pci_function.specs.declared.record.Bridge.{Bridge}
-use Rattle.pci_settle.specs.declared.own.Terms.{Terms}
 use Rattle.pci_settle.specs.Kept.{nothing_kept}
 use Rattle.pci_settled.specs.declared.candidate.Candidate.{Candidate}
-use Rattle.pci_settled.specs.declared.candidate.SpaceWindows.{SpaceWindows}
 use Rattle.pci_settled.specs.declared.staying.Staying.{Staying}
 use Rattle.pci_settled.specs.declared.places.Places.{Places}
-use Rattle.pci_settled.specs.Candidates.{candidate_value, HasSpaceWindows}
+use Rattle.pci_settled.specs.Candidates.{candidate_value, Pass, HasWindowsOf}
 use Rattle.pci_settled.specs.Staying.{IsStaying}
 use Rattle.pci_settled.specs.Windows.{window_at, range_alone}
 use Rattle.pci_settled.specs.Places.{range_in, placed_at, NotesOf}
@@ -40,11 +38,11 @@ pub record HaveNoRoot (roots : List ℕ) (old new : List Places) (lack : Option 
   pub same : new ≡ old
   pub lacking : lack ≡ None
 
-abbrev pub AreNotedOnRoots : List ℕ → System → Space → Lists → Terms → Staying → SpaceWindows → List Places → List Places → Option Candidate → Type 0
-AreNotedOnRoots roots s space l t st w old new lack =
-    HaveNoRoot roots old new lack
-    ⊎ ((root : ℕ) × ((q : Request) → IsStaying q roots s t st → q.lists ≡ l → HasSpaceWindows q s space t w
-    → AreNotedFor q s space old new lack root))
+abbrev pub AreNotedOnRoots : Pass → Lists → List Places → List Places → Option Candidate → Type 0
+AreNotedOnRoots p l old new lack =
+    HaveNoRoot p.setting.roots old new lack
+    ⊎ ((root : ℕ) × ((q : Request) → IsStaying q p.setting → q.lists ≡ l → HasWindowsOf q p
+    → AreNotedFor q p.setting.system p.space old new lack root))
 
 -- these windows are those over a bus
 abbrev pub HasWindowsOver : Request → System → Space → (ℕ → List Placed) → ℕ → (WindowKind → Option DecodedRange) → Type 0
@@ -58,14 +56,16 @@ windows_by st table k d b =
     window_at (slice_index_or st.left.kept.now k nothing_kept) b (slice_index_or table k d)
 
 -- what is placed in them is noted
-abbrev pub AreNotedBehind : List ℕ → System → Space → Terms → Staying → SpaceWindows → ℕ → Bridge → List Places → List Places → Type 0
-AreNotedBehind roots s space t st w k b old new =
-    (q : Request) (placed : ℕ → List Placed) (d : Places) → IsSystem s → IsStaying q roots s t st
-    → HasSpaceWindows q s space t w
-    → HasWindowsOver q s space placed b.secondary (windows_by st old k d b)
-    → NotesOf s
-    (placed_of (place_all (ranges_for q s placed) (taken_at q s space b.secondary) (space_items q s space b.secondary)))
-    old new
+abbrev pub AreNotedBehind : Pass → ℕ → Bridge → List Places → List Places → Type 0
+AreNotedBehind p k b old new =
+    (q : Request) (placed : ℕ → List Placed) (d : Places) → IsSystem p.setting.system
+    → IsStaying q p.setting → HasWindowsOf q p
+    → HasWindowsOver q p.setting.system p.space placed b.secondary
+    (windows_by p.setting.staying old k d b)
+    → NotesOf p.setting.system
+    (placed_of (place_all (ranges_for q p.setting.system placed)
+    (taken_at q p.setting.system p.space b.secondary)
+    (space_items q p.setting.system p.space b.secondary))) old new
 
 -- ---- of all buses
 
@@ -102,7 +102,7 @@ pub record AreSpacePlaces (q : Request) (s : System) (space : Space) (table : Li
   pub lack_is : space_lack q s space q.roots ≡ option_map (candidate_value s) lack
   pub places : IfNone lack (HasNewPlaces q s space table)
 
-abbrev pub AreSpacePlacesIn : List ℕ → System → Space → Lists → Terms → Staying → SpaceWindows → List Places → Option Candidate → Type 0
-AreSpacePlacesIn roots s space l t st w table lack =
-    (q : Request) → IsStaying q roots s t st → q.lists ≡ l → HasSpaceWindows q s space t w
-    → AreSpacePlaces q s space table lack
+abbrev pub AreSpacePlacesIn : Pass → Lists → List Places → Option Candidate → Type 0
+AreSpacePlacesIn p l table lack =
+    (q : Request) → IsStaying q p.setting → q.lists ≡ l → HasWindowsOf q p
+    → AreSpacePlaces q p.setting.system p.space table lack

@@ -1,8 +1,10 @@
--- What stays where it is, of what is asked for.
+-- What places are found by, and what is asked for that leaves it so.
 use Rattle.std.specs.Prelude.{◌≡◌, ℕ, List}
 use Rattle.pci_spec.specs.System.{System}
 use Rattle.settle_spec.specs.Lists.{Request}
 use Rattle.settle_spec.specs.Items.{stays}
+use Rattle.pci_tree.specs.Admission.{Admission}
+use Rattle.pci_place.specs.Above.{system_in}
 use Rattle.pci_settle.specs.declared.own.Terms.{Terms}
 use Rattle.pci_settle.specs.Kept.{AreKept}
 use Rattle.pci_settle.specs.Over.{AreOpenOver}
@@ -10,10 +12,23 @@ use Rattle.pci_settle.specs.Own.{AreTerms}
 use Rattle.pci_stand.specs.Held.{AreHeld}
 use Rattle.pci_settled.specs.declared.staying.Staying.{Staying}
 
--- what is asked for below these roots, in lists that tell this, leaves these windows and parts where they stand
-pub record IsStaying (q : Request) (roots : List ℕ) (s : System) (t : Terms) (st : Staying) : Type 0 where
-  pub rooted : q.roots ≡ roots
-  pub terms : AreTerms q.lists t
-  pub overs_are : AreOpenOver q s st.left.over.now
-  pub keeps_is : AreKept s (stays q s) st.left.kept.now
-  pub held_is : AreHeld q s st.held.now
+-- what places are found by: the root buses, the system, what is told of the lists, and what stays
+pub record Setting : Type 0 where
+  pub roots : List ℕ
+  pub system : System
+  pub terms : Terms
+  pub staying : Staying
+
+abbrev pub setting : List ℕ → System → Terms → Staying → Setting
+setting roots s t st = record { roots = roots; system = s; terms = t; staying = st }
+
+abbrev pub setting_of : Admission → Terms → Staying → Setting
+setting_of a t st = setting a.roots (system_in a) t st
+
+-- what is asked for below its roots, in lists that tell its terms, leaves these windows and parts where they stand
+pub record IsStaying (q : Request) (p : Setting) : Type 0 where
+  pub rooted : q.roots ≡ p.roots
+  pub terms : AreTerms q.lists p.terms
+  pub overs_are : AreOpenOver q p.system p.staying.left.over.now
+  pub keeps_is : AreKept p.system (stays q p.system) p.staying.left.kept.now
+  pub held_is : AreHeld q p.system p.staying.held.now

@@ -9,14 +9,13 @@ ghost use Rattle.pci_base.specs.WindowKinds.{kind_value};
 ghost use Rattle.pci_function.specs.Values.{record_value};
 ghost use Rattle.pci_tree.specs.Roots.{buses_of};
 ghost use Rattle.pci_place.specs.Above.{AreAboves, system_in};
-ghost use Rattle.pci_settled.specs.Candidates.{AreSpaceWindows, KnowsWindows, IsWithin};
+ghost use Rattle.pci_settled.specs.Candidates.{AreSpaceWindows, KnowsWindows, IsWithin, pass_of};
 ghost use Rattle.pci_stand.specs.Held.{AreByLevel};
 ghost use Rattle.pci_settled.specs.Columns.{kind_number, column, wanted_value};
 ghost use Rattle.pci_settled.specs.BusPlaces.{bus_placing, ArePlacesIn, AreWithin};
 
 use crate::candidate::{Candidate, SpaceWindows, candidates_on};
 use crate::staying::Staying;
-use pci_stand::held::taken_on;
 use pci_base::memory::OutOfMemory;
 use pci_base::range::Range;
 use pci_base::slot::BUSES;
@@ -28,6 +27,7 @@ use pci_settle::list::is_root;
 use pci_settle::own::Terms;
 use pci_settle::placing::{Wanted, place_all};
 use pci_stand::collect::level;
+use pci_stand::held::taken_on;
 use pci_tree::admitted::Admitted;
 use pci_tree::roots::Roots;
 use std::alloc::Allocator;
@@ -106,12 +106,13 @@ pub fn place_bus<A: Allocator + Copy, B: Allocator>(
     requires above { AreAboves (system_in admitted.now) aboves.now }
     requires held { AreByLevel staying.now.held.now }
     requires lawful { AreSpaceWindows windows.now }
-    requires known { KnowsWindows admitted.now.roots (system_in admitted.now) (space_of space) terms
-        staying.now windows.now }
+    requires known { KnowsWindows
+        (pass_of admitted.now (space_of space) terms staying.now windows.now) }
     requires some { 3 ≤ length lists.now }
     requires roots { IsTrue (is_root admitted.now.roots bus) → length lists.now ≡ 768 }
-    ensures placing { IfOk result (λ places. ArePlacesIn admitted.now.roots (system_in admitted.now)
-        (space_of space) terms staying.now windows.now bus (map (λ list. list.items) lists.now)
+    ensures placing { IfOk result (λ places. ArePlacesIn
+        (pass_of admitted.now (space_of space) terms staying.now windows.now)
+        bus (map (λ list. list.items) lists.now)
         (bus_placing (system_in admitted.now) places.candidates.items places.places.items places.lack)) }
     ensures within { IfOk result (λ places. AreWithin (system_in admitted.now) places.candidates.items
         places.places.items places.lack) }

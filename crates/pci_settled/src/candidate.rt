@@ -5,7 +5,8 @@ ghost use Rattle.pci_base.specs.Space.{space_of};
 ghost use Rattle.pci_base.specs.WindowKinds.{kind_value};
 ghost use Rattle.pci_place.specs.Above.{AreAboves, system_in};
 ghost use Rattle.pci_settle.specs.Buses.{AreWindows};
-ghost use Rattle.pci_settled.specs.Candidates.{of_class, IsLawful, AreAddedOf, AreSpaceWindows, AreCandidatesOf};
+ghost use Rattle.pci_settled.specs.Candidates.{of_class, IsLawful, AreAddedOf, AreSpaceWindows, AreCandidatesOf, pass_of};
+ghost use Rattle.pci_settled.specs.Staying.{setting_of};
 
 use crate::staying::Staying;
 use pci_base::memory::OutOfMemory;
@@ -64,8 +65,8 @@ fn add_class<A: Allocator + Copy, B: Allocator>(
     windows: &[Option<Extent>; BUSES],
 ) -> Result<(), OutOfMemory>
     requires { AreAboves (system_in admitted.now) aboves.now }
-    ensures added { OnOk result (AreAddedOf admitted.now.roots (system_in admitted.now)
-        (kind_value class) terms staying.now windows.now bus candidates.old.items candidates.new.items) }
+    ensures added { OnOk result (AreAddedOf (setting_of admitted.now terms staying.now)
+        (kind_value class) windows.now bus candidates.old.items candidates.new.items) }
     ensures lawful { AreWindows windows.now → All IsLawful candidates.old.items
         → OnOk result (All IsLawful candidates.new.items) }
 {
@@ -88,8 +89,9 @@ pub fn candidates_on<A: Allocator + Copy, B: Allocator>(
     windows: &SpaceWindows,
 ) -> Result<Vec<Candidate, A>, OutOfMemory>
     requires { AreAboves (system_in admitted.now) aboves.now }
-    ensures items { IfOk result (λ candidates. AreCandidatesOf admitted.now.roots
-        (system_in admitted.now) (space_of space) terms staying.now windows.now bus candidates.items) }
+    ensures items { IfOk result (λ candidates. AreCandidatesOf
+        (pass_of admitted.now (space_of space) terms staying.now windows.now)
+        bus candidates.items) }
     // places are looked for by sizes and alignments
     ensures lawful { AreSpaceWindows windows.now → IfOk result (λ candidates. All IsLawful candidates.items) }
 {

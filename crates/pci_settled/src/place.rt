@@ -6,17 +6,17 @@ ghost use Rattle.pci_place.specs.Above.{AreAboves, system_in};
 ghost use Rattle.pci_settle.specs.Lists.{lists_value};
 ghost use Rattle.pci_settle.specs.Own.{AreTerms};
 ghost use Rattle.pci_settle.specs.Buses.{AreWindows};
-ghost use Rattle.pci_settled.specs.Candidates.{AreSpaceWindows, HasWindowsIn, KnowsRequest};
+ghost use Rattle.pci_settled.specs.Candidates.{AreSpaceWindows, HasWindowsIn, KnowsRequest, pass_of};
 ghost use Rattle.pci_stand.specs.Held.{AreByLevel};
 ghost use Rattle.pci_settled.specs.Spaces.{HasNone, KeepsOthers};
-ghost use Rattle.pci_settled.specs.Placed.{HasWindowsOf, IsTooLargeOf, IsTooLargeIn, IsUnplacedIn, HasPlacesIn, AreAllNone, CanBeLeft, ArePlacesOff, IsUnplacedOff};
+ghost use Rattle.pci_settled.specs.Placed.{HasClassWindows, IsTooLargeOf, IsTooLargeIn, IsUnplacedIn, HasPlacesIn, AreAllNone, CanBeLeft, ArePlacesOff, IsUnplacedOff};
+ghost use Rattle.pci_settled.specs.Staying.{setting_of};
 
 use crate::anew::Unplaced;
 use crate::candidate::SpaceWindows;
-use crate::staying::Staying;
-use pci_stand::held::held_parts;
 use crate::places::Places;
 use crate::space::place_space;
+use crate::staying::Staying;
 use pci_base::memory::{OutOfMemory, Refused};
 use pci_base::slot::BUSES;
 use pci_base::space::Space;
@@ -27,6 +27,7 @@ use pci_settle::list::Lists;
 use pci_settle::new_window::new_windows;
 use pci_settle::over::Left;
 use pci_settle::own::Terms;
+use pci_stand::held::held_parts;
 use pci_tree::admitted::Admitted;
 use std::alloc::Allocator;
 
@@ -41,11 +42,11 @@ fn class_windows<A: Allocator + Copy, B: Allocator>(
     windows: &mut [Option<Extent>; BUSES],
 ) -> Result<(), Refused<Unplaced>>
     requires { AreAboves (system_in admitted.now) aboves.now }
-    ensures windows { OnOk result (HasWindowsOf admitted.now.roots (system_in admitted.now)
-        (kind_value class) terms staying.now windows.new) }
+    ensures windows { OnOk result (HasClassWindows (setting_of admitted.now terms staying.now)
+        (kind_value class) windows.new) }
     ensures lawful { AreWindows windows.new }
-    ensures fault { IfErr result (IsTooLargeOf admitted.now.roots (system_in admitted.now)
-        (kind_value class) terms staying.now) }
+    ensures fault { IfErr result (IsTooLargeOf (setting_of admitted.now terms staying.now)
+        (kind_value class)) }
 {
     match new_windows(
         alloc,
@@ -71,11 +72,11 @@ fn space_windows<A: Allocator + Copy, B: Allocator>(
     staying: &Staying,
 ) -> Result<SpaceWindows, Refused<Unplaced>>
     requires { AreAboves (system_in admitted.now) aboves.now }
-    ensures windows { IfOk result (HasWindowsIn admitted.now.roots (system_in admitted.now)
-        (space_of space) terms staying.now) }
+    ensures windows { IfOk result (λ windows. HasWindowsIn
+        (pass_of admitted.now (space_of space) terms staying.now windows)) }
     ensures lawful { IfOk result AreSpaceWindows }
-    ensures fault { IfErr result (IsTooLargeIn admitted.now.roots (system_in admitted.now)
-        (space_of space) terms staying.now) }
+    ensures fault { IfErr result (IsTooLargeIn (setting_of admitted.now terms staying.now)
+        (space_of space)) }
 {
     let mut plain = [None; BUSES];
     let mut prefetch = [None; BUSES];
@@ -130,16 +131,15 @@ fn place_in<A: Allocator + Copy, B: Allocator>(
     requires above { AreAboves (system_in admitted.now) aboves.now }
     requires terms { AreTerms (lists_value lists.now) terms }
     requires held { AreByLevel staying.now.held.now }
-    requires known { KnowsRequest admitted.now.roots (system_in admitted.now) (lists_value lists.now)
-        terms staying.now }
+    requires known { KnowsRequest (setting_of admitted.now terms staying.now) (lists_value lists.now) }
     requires count { length table.old ≡ length (system_in admitted.now) }
     requires none { HasNone (system_in admitted.now) (space_of space) table.old }
-    ensures placed { OnOk result (HasPlacesIn admitted.now.roots (system_in admitted.now)
-        (space_of space) (lists_value lists.now) terms staying.now table.new) }
+    ensures placed { OnOk result (HasPlacesIn (setting_of admitted.now terms staying.now)
+        (space_of space) (lists_value lists.now) table.new) }
     ensures others { OnOk result (KeepsOthers (system_in admitted.now) (space_of space) table.old
         table.new) }
-    ensures fault { IfErr result (IsUnplacedIn admitted.now.roots (system_in admitted.now)
-        (space_of space) (lists_value lists.now) terms staying.now) }
+    ensures fault { IfErr result (IsUnplacedIn (setting_of admitted.now terms staying.now)
+        (space_of space) (lists_value lists.now)) }
 {
     let windows = space_windows(alloc, admitted, space, aboves, terms, staying)?;
     match place_space(

@@ -7,14 +7,15 @@ ghost use Rattle.pci_place.specs.Above.{AreAboves, system_in};
 ghost use Rattle.pci_settle.specs.Lists.{lists_value};
 ghost use Rattle.pci_settle.specs.Own.{AreTerms};
 ghost use Rattle.pci_stand.specs.Held.{AreByLevel};
-ghost use Rattle.pci_settled.specs.Candidates.{AreSpaceWindows, HasWindowsIn, KnowsWindows, KnowsRequest};
+ghost use Rattle.pci_settled.specs.Candidates.{AreSpaceWindows, HasWindowsIn, KnowsWindows, KnowsRequest, pass_of};
 ghost use Rattle.pci_settled.specs.Spaces.{IsFirstRoot, AreNotedOnRoots, AreNotedBehind, HasNone, KeepsOthers, AreSpacePlacesIn};
+ghost use Rattle.pci_settled.specs.Staying.{setting_of};
 
 use crate::bus::place_bus;
 use crate::candidate::{Candidate, SpaceWindows};
 use crate::column::{add_column, column_behind, root_lists};
-use crate::staying::Staying;
 use crate::places::{Places, note_bus};
+use crate::staying::Staying;
 use crate::window::{plain_window, prefetch_window};
 use pci_base::memory::OutOfMemory;
 use pci_base::slot::BUSES;
@@ -58,11 +59,12 @@ fn place_on_roots<A: Allocator + Copy, B: Allocator>(
     requires terms { AreTerms (lists_value lists.now) terms }
     requires held { AreByLevel staying.now.held.now }
     requires lawful { AreSpaceWindows windows.now }
-    requires known { KnowsWindows admitted.now.roots (system_in admitted.now) (space_of space) terms
-        staying.now windows.now }
+    requires known { KnowsWindows
+        (pass_of admitted.now (space_of space) terms staying.now windows.now) }
     requires count { length table.old ≡ length (system_in admitted.now) }
-    ensures noted { IfOk result (AreNotedOnRoots admitted.now.roots (system_in admitted.now)
-        (space_of space) (lists_value lists.now) terms staying.now windows.now table.old table.new) }
+    ensures noted { IfOk result (AreNotedOnRoots
+        (pass_of admitted.now (space_of space) terms staying.now windows.now)
+        (lists_value lists.now) table.old table.new) }
 {
     let outline = admitted.outline();
     let roots = outline.roots();
@@ -96,11 +98,12 @@ fn place_behind<A: Allocator + Copy, B: Allocator>(
     requires above { AreAboves (system_in admitted.now) aboves.now }
     requires held { AreByLevel staying.now.held.now }
     requires lawful { AreSpaceWindows windows.now }
-    requires known { KnowsWindows admitted.now.roots (system_in admitted.now) (space_of space) terms
-        staying.now windows.now }
+    requires known { KnowsWindows
+        (pass_of admitted.now (space_of space) terms staying.now windows.now) }
     requires count { length table.old ≡ length (system_in admitted.now) }
-    ensures noted { OnOk result (AreNotedBehind admitted.now.roots (system_in admitted.now)
-        (space_of space) terms staying.now windows.now function bridge.now table.old table.new) }
+    ensures noted { OnOk result (AreNotedBehind
+        (pass_of admitted.now (space_of space) terms staying.now windows.now)
+        function bridge.now table.old table.new) }
 {
     let places = &table[function];
     let kept = kept_by(staying.left.kept, function);
@@ -146,15 +149,15 @@ pub fn place_space<A: Allocator + Copy, B: Allocator>(
     requires terms { AreTerms (lists_value lists.now) terms }
     requires held { AreByLevel staying.now.held.now }
     requires lawful { AreSpaceWindows windows.now }
-    requires windows { HasWindowsIn admitted.now.roots (system_in admitted.now) (space_of space)
-        terms staying.now windows.now }
-    requires known { KnowsRequest admitted.now.roots (system_in admitted.now) (lists_value lists.now)
-        terms staying.now }
+    requires windows { HasWindowsIn
+        (pass_of admitted.now (space_of space) terms staying.now windows.now) }
+    requires known { KnowsRequest (setting_of admitted.now terms staying.now) (lists_value lists.now) }
     requires count { length table.old ≡ length (system_in admitted.now) }
     // what isn't placed keeps its entry, which is none
     requires none { HasNone (system_in admitted.now) (space_of space) table.old }
-    ensures placed { IfOk result (AreSpacePlacesIn admitted.now.roots (system_in admitted.now)
-        (space_of space) (lists_value lists.now) terms staying.now windows.now table.new) }
+    ensures placed { IfOk result (AreSpacePlacesIn
+        (pass_of admitted.now (space_of space) terms staying.now windows.now)
+        (lists_value lists.now) table.new) }
     // both spaces are placed in one table
     ensures others { OnOk result (KeepsOthers (system_in admitted.now) (space_of space) table.old
         table.new) }

@@ -3,6 +3,7 @@ use Rattle.std.proofs.lemmas.Result.{err_from_is_err_and}
 use Rattle.pci_base.specs.Space.{space_of}
 use Rattle.pci_place.specs.Above.{system_in}
 use Rattle.pci_settle.specs.Lists.{lists_value}
+use Rattle.pci_settled.specs.Candidates.{pass_of}
 use Rattle.pci_settled.specs.Spaces.{AreSpacePlacesIn}
 use Rattle.pci_settled.proofs.BothSpaces.{space_placed, too_large}
 use Rattle.pci_settled.proofs.place.place_in.Goals as goal
@@ -17,4 +18,4 @@ pub returns-in-None-clause-placed : goal.returns-in-None-clause-placed
 returns-in-None-clause-placed g c =
     space_placed c.args.admitted.now.roots (system_in c.args.admitted.now) (space_of c.args.space) (lists_value c.args.lists.now) c.args.terms c.args.staying.now c.in_ok-windows.windows c.place_space.new.table
     c.in_ok-windows.ensures.windows
-    (subst (AreSpacePlacesIn c.args.admitted.now.roots (system_in c.args.admitted.now) (space_of c.args.space) (lists_value c.args.lists.now) c.args.terms c.args.staying.now c.in_ok-windows.windows c.place_space.new.table) c.in-None.is c.in_ok-candidate.ensures.placed)
+    (subst (AreSpacePlacesIn (pass_of c.args.admitted.now (space_of c.args.space) c.args.terms c.args.staying.now c.in_ok-windows.windows) (lists_value c.args.lists.now) c.place_space.new.table) c.in-None.is c.in_ok-candidate.ensures.placed)

@@ -6,6 +6,7 @@ use Rattle.pci_function.specs.Values.{record_value}
 use Rattle.pci_place.specs.Above.{system_in}
 use Rattle.pci_place.proofs.Records.{same_count}
 use Rattle.pci_settle.specs.Lists.{lists_value}
+use Rattle.pci_settled.specs.Candidates.{pass_of}
 use Rattle.pci_settled.specs.Spaces.{AreNotedOnRoots}
 use Rattle.pci_settled.proofs.SpaceSteps.{IsSpaceTo, known_of, roots_lack, roots_others, roots_placed, bus_off, space_same, space_more, space_all, none_if_some, none_of}
 use Rattle.pci_settled.proofs.space.place_space.Goals as goal
@@ -41,7 +42,7 @@ loop-function-init g c =
     let l = lists_value c.args.lists.now in
     roots_placed c.args.admitted.now.roots s admitted.system admitted.nested (space_of c.args.space) l c.args.terms c.args.staying.now c.args.windows.now c.requires.known c.requires.windows
     c.args.table.now c.place_on_roots.new.table c.requires.count c.place_on_roots.auto.table c.requires.none
-    (subst (AreNotedOnRoots c.args.admitted.now.roots s (space_of c.args.space) l c.args.terms c.args.staying.now c.args.windows.now c.args.table.now c.place_on_roots.new.table)
+    (subst (AreNotedOnRoots (pass_of c.args.admitted.now (space_of c.args.space) c.args.terms c.args.staying.now c.args.windows.now) l c.args.table.now c.place_on_roots.new.table)
     (none_of c.in_ok-lack.lack (sym c.is_some.ensures ∙ c.if-is_some.false)) c.in_ok-lack.ensures.noted)
 
 pub place_behind-requires-clause-behind : goal.place_behind-requires-clause-behind
