@@ -11,7 +11,6 @@ use pci_base::range::Range;
 use pci_base::space::Space;
 use pci_base::window_kind::WindowKind;
 use pci_function::record::Bridge;
-use pci_settle::bus::kept_by;
 use pci_settle::kept::Kept;
 use pci_settle::over::open_range;
 
