@@ -19,7 +19,7 @@ use Rattle.pci_why.proofs.Evidences.{region_in}
 use Rattle.pci_map.specs.Values.{value_of}
 use Rattle.pci_map.specs.Inside.{is_in}
 use Rattle.pci_map.specs.Left.{NoneHas, IsFirst}
-use Rattle.pci_map.specs.Ways.{IsHolding, IsHoldingAt, IsFirstJudged, IsFirstAt}
+use Rattle.pci_map.specs.Ways.{io_spot, memory_spot, prefetchable_spot, IsHolding, IsHoldingAt, IsFirstJudged, IsFirstAt}
 use Rattle.pci_map.specs.declared.left.Judged.{Judged}
 use Rattle.pci_map.proofs.Values.{part_is}
 use Rattle.pci_map.proofs.Insides.{window_claims_of, claims_of}
@@ -73,25 +73,25 @@ module _ (s : System) (unique : (f g : Function) → Contains s f → Contains s
       not_it PrefetchWindow Memory other refl address (and_parts (window_claims b PrefetchWindow a) (not (window_claims b MemoryWindow a)) first).0
 
   module _ (roots : List ℕ) where
-    first_of : (k : WindowKind) (space : Space) (w : Judged) (h : IsHolding roots s slot (window_register k) space a w) → IsTrue (is_first_window space k a b) → IsFirstJudged roots s space b a w
+    first_of : (k : WindowKind) (space : Space) (w : Judged) (h : IsHolding roots s record { slot = slot; register = window_register k; space = space } a w) → IsTrue (is_first_window space k a b) → IsFirstJudged roots s space b a w
     first_of k space w h first = record { first = first_is k space w.window h.is.found h.has first; judged = h.is.judged }
 
-    claims_of_held : (k : WindowKind) (space : Space) (w : Judged) → IsHolding roots s slot (window_register k) space a w → IsTrue (window_claims b k a)
+    claims_of_held : (k : WindowKind) (space : Space) (w : Judged) → IsHolding roots s record { slot = slot; register = window_register k; space = space } a w → IsTrue (window_claims b k a)
     claims_of_held k space w h = claims_it k space w.window h.is.found h.has
 
-    io_first : (o : Option Judged) → IsAddress Io a → IsHoldingAt roots s slot IO_BASE Io a o → IsFirstAt roots s Io b a o
+    io_first : (o : Option Judged) → IsAddress Io a → IsHoldingAt roots s (io_spot slot) a o → IsFirstAt roots s Io b a o
     io_first None address none = io_none none address
     io_first (Some w) address h = first_of IoWindow Io w h (claims_of_held IoWindow Io w h)
 
-    memory_first : (o : Option Judged) → is_some o ≡ true → IsHoldingAt roots s slot MEMORY_BASE Memory a o → IsFirstAt roots s Memory b a o
+    memory_first : (o : Option Judged) → is_some o ≡ true → IsHoldingAt roots s (memory_spot slot) a o → IsFirstAt roots s Memory b a o
     memory_first None some h = absurd (false≢true some)
     memory_first (Some w) some h = first_of MemoryWindow Memory w h (claims_of_held MemoryWindow Memory w h)
 
-    none_held : (o : Option Judged) → is_some o ≡ false → IsHoldingAt roots s slot MEMORY_BASE Memory a o → NoneHas s slot MEMORY_BASE Memory a
+    none_held : (o : Option Judged) → is_some o ≡ false → IsHoldingAt roots s (memory_spot slot) a o → NoneHas s slot MEMORY_BASE Memory a
     none_held None none h = h
     none_held (Some w) none h = absurd (false≢true (sym none))
 
-    prefetch_first : (o : Option Judged) → IsAddress Memory a → NoneHas s slot MEMORY_BASE Memory a → IsHoldingAt roots s slot PREFETCHABLE_BASE Memory a o → IsFirstAt roots s Memory b a o
+    prefetch_first : (o : Option Judged) → IsAddress Memory a → NoneHas s slot MEMORY_BASE Memory a → IsHoldingAt roots s (prefetchable_spot slot) a o → IsFirstAt roots s Memory b a o
     prefetch_first None address none other = memory_none none other address
     prefetch_first (Some w) address none h =
         first_of PrefetchWindow Memory w h (and_from (window_claims b PrefetchWindow a) (not (window_claims b MemoryWindow a)) (claims_of_held PrefetchWindow Memory w h)
@@ -101,13 +101,13 @@ module _ (s : System) (unique : (f g : Function) → Contains s f → Contains s
         ]))
 
     -- of a space that is told in other words
-    pub io_any : (space : Space) (o : Option Judged) → space ≡ Io → IsAddress space a → IsHoldingAt roots s slot IO_BASE Io a o → IsFirstAt roots s space b a o
+    pub io_any : (space : Space) (o : Option Judged) → space ≡ Io → IsAddress space a → IsHoldingAt roots s (io_spot slot) a o → IsFirstAt roots s space b a o
     io_any space o is address h = subst (λ sp. IsFirstAt roots s sp b a o) (sym is) (io_first o (subst (λ sp. IsAddress sp a) is address) h)
 
-    pub memory_any : (space : Space) (o : Option Judged) → space ≡ Memory → is_some o ≡ true → IsHoldingAt roots s slot MEMORY_BASE Memory a o → IsFirstAt roots s space b a o
+    pub memory_any : (space : Space) (o : Option Judged) → space ≡ Memory → is_some o ≡ true → IsHoldingAt roots s (memory_spot slot) a o → IsFirstAt roots s space b a o
     memory_any space o is some h = subst (λ sp. IsFirstAt roots s sp b a o) (sym is) (memory_first o some h)
 
-    pub prefetch_any : (space : Space) (m o : Option Judged) → space ≡ Memory → is_some m ≡ false → IsAddress space a → IsHoldingAt roots s slot MEMORY_BASE Memory a m
-        → IsHoldingAt roots s slot PREFETCHABLE_BASE Memory a o → IsFirstAt roots s space b a o
+    pub prefetch_any : (space : Space) (m o : Option Judged) → space ≡ Memory → is_some m ≡ false → IsAddress space a → IsHoldingAt roots s (memory_spot slot) a m
+        → IsHoldingAt roots s (prefetchable_spot slot) a o → IsFirstAt roots s space b a o
     prefetch_any space m o is none address memory h =
         subst (λ sp. IsFirstAt roots s sp b a o) (sym is) (prefetch_first o (subst (λ sp. IsAddress sp a) is address) (none_held m none memory) h)

@@ -13,27 +13,40 @@ use Rattle.pci_map.specs.Left.{IsBridgeAbove, NoneHas, IsFirst, IsLeftIf}
 use Rattle.pci_map.specs.declared.left.Judged.{Judged}
 use Rattle.pci_map.specs.declared.left.Windows.{Windows}
 
--- the window at a slot and a register, with whether it is left
-pub record IsJudged (roots : List ℕ) (s : System) (slot : Slot) (reg : ℕ) (space : Space)
-    (w : Judged) : Type 0 where
-  pub found : IsFoundIn s slot reg space w.window
-  pub judged : IsLeftIf roots s (value_of space w.window) w.left
+-- where a bridge's window stands: its register, and the space of its addresses
+pub record Spot : Type 0 where
+  pub slot : Slot
+  pub register : ℕ
+  pub space : Space
+
+abbrev pub io_spot : Slot → Spot
+io_spot slot = record { slot = slot; register = IO_BASE; space = Io }
+
+abbrev pub memory_spot : Slot → Spot
+memory_spot slot = record { slot = slot; register = MEMORY_BASE; space = Memory }
+
+abbrev pub prefetchable_spot : Slot → Spot
+prefetchable_spot slot = record { slot = slot; register = PREFETCHABLE_BASE; space = Memory }
+
+-- the window at a spot, with whether it is left
+pub record IsJudged (roots : List ℕ) (s : System) (spot : Spot) (w : Judged) : Type 0 where
+  pub found : IsFoundIn s spot.slot spot.register spot.space w.window
+  pub judged : IsLeftIf roots s (value_of spot.space w.window) w.left
 
 -- that window, where one there claims an address
-abbrev pub IsJudgedAt : List ℕ → System → Slot → ℕ → Space → Option Judged → Type 0
-IsJudgedAt roots s slot reg space o =
-    MatchOption o (NoneClaims s slot reg space) (λ w. IsJudged roots s slot reg space w)
+abbrev pub IsJudgedAt : List ℕ → System → Spot → Option Judged → Type 0
+IsJudgedAt roots s spot o =
+    MatchOption o (NoneClaims s spot.slot spot.register spot.space) (λ w. IsJudged roots s spot w)
 
 -- that window, which has an address
-pub record IsHolding (roots : List ℕ) (s : System) (slot : Slot) (reg : ℕ) (space : Space)
-    (a : ℕ) (w : Judged) : Type 0 where
-  pub is : IsJudged roots s slot reg space w
+pub record IsHolding (roots : List ℕ) (s : System) (spot : Spot) (a : ℕ) (w : Judged) : Type 0 where
+  pub is : IsJudged roots s spot w
   pub has : IsTrue (is_in w.window a)
 
 -- that window, where it has an address
-abbrev pub IsHoldingAt : List ℕ → System → Slot → ℕ → Space → ℕ → Option Judged → Type 0
-IsHoldingAt roots s slot reg space a o =
-    MatchOption o (NoneHas s slot reg space a) (λ w. IsHolding roots s slot reg space a w)
+abbrev pub IsHoldingAt : List ℕ → System → Spot → ℕ → Option Judged → Type 0
+IsHoldingAt roots s spot a o =
+    MatchOption o (NoneHas s spot.slot spot.register spot.space a) (λ w. IsHolding roots s spot a w)
 
 -- the first window of a bridge that has an address, with whether it is left
 pub record IsFirstJudged (roots : List ℕ) (s : System) (space : Space) (b : Function) (a : ℕ)
@@ -49,9 +62,9 @@ IsFirstAt roots s space b a o =
 
 -- the windows of the bridge at a slot
 pub record AreWindowsOf (roots : List ℕ) (s : System) (slot : Slot) (ws : Windows) : Type 0 where
-  pub io : IsJudgedAt roots s slot IO_BASE Io ws.io
-  pub memory : IsJudgedAt roots s slot MEMORY_BASE Memory ws.memory
-  pub prefetchable : IsJudgedAt roots s slot PREFETCHABLE_BASE Memory ws.prefetchable
+  pub io : IsJudgedAt roots s (io_spot slot) ws.io
+  pub memory : IsJudgedAt roots s (memory_spot slot) ws.memory
+  pub prefetchable : IsJudgedAt roots s (prefetchable_spot slot) ws.prefetchable
 
 -- the windows of the bridge that leads to a bus, which is no root
 pub record AreAbove (roots : List ℕ) (s : System) (bus : ℕ) (ws : Windows) : Type 0 where

@@ -1,14 +1,13 @@
 //! Whether a region is left: no windows lead to it from a root bus.
 ghost use Rattle.std.specs.Prelude.{◌≡◌, ℕ, ◌<◌, length, List};
-ghost use Rattle.pci_spec.specs.Slot.{Slot as SlotValue};
-ghost use Rattle.pci_spec.specs.System.{System, Space as SpaceValue, IsAddress};
+ghost use Rattle.pci_spec.specs.System.{System, IsAddress};
 ghost use Rattle.pci_spec.specs.Why.{IsRegionIn};
 ghost use Rattle.pci_base.specs.Space.{space_of};
 ghost use Rattle.pci_tree.specs.Outline.{Tree};
 ghost use Rattle.pci_tree.specs.declared.region.Region.{Region as RegionValue};
 ghost use Rattle.pci_map.specs.Values.{value_of};
 ghost use Rattle.pci_map.specs.Left.{IsTreeOf, IsLeftIf};
-ghost use Rattle.pci_map.specs.Ways.{IsJudgedAt, IsHoldingAt, AreAbove, IsFirstAt, AreWays};
+ghost use Rattle.pci_map.specs.Ways.{Spot, IsJudgedAt, IsHoldingAt, AreAbove, IsFirstAt, AreWays};
 
 use super::inside::has;
 use pci_base::space::Space;
@@ -31,8 +30,8 @@ pub struct Windows {
 
 /// A window, where it has an address.
 fn holding(judged: Option<Judged>, address: u64) -> Option<Judged>
-    ensures { (roots : List ℕ) (s : System) (slot : SlotValue) (reg : ℕ) (space : SpaceValue)
-        → IsJudgedAt roots s slot reg space judged → IsHoldingAt roots s slot reg space address result }
+    ensures { (roots : List ℕ) (s : System) (spot : Spot)
+        → IsJudgedAt roots s spot judged → IsHoldingAt roots s spot address result }
 {
     let Some(judged) = judged else {
         return None;

@@ -66,7 +66,7 @@ fn judge<A: Allocator + Copy>(
     requires { slot.bus < length ways.now }
     ensures { IfOk result (λ o. (s : System) → IsTreeOf outline.now s
         → AreWays outline.now.roots s ways.now
-        → IsJudgedAt outline.now.roots s slot reg (space_of space) o) }
+        → IsJudgedAt outline.now.roots s record { slot = slot; register = reg; space = space_of space } o) }
 {
     let Some(window) = region_at(alloc, outline, slot, reg, space)? else {
         return Ok(None);
