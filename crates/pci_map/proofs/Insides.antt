@@ -184,7 +184,7 @@ module _ (s : System) (space : Space) (w : Region) (iw : IsRegionIn s (value_of 
     ))
 
     pub inside_is : (given : Given) (roots : List ℕ) (o : Option Region) (out : List Region) → IsEarlier s space w o → w.slot.bus < bus → AreInPlace given roots s space (filter (is_held w o) qs) out
-        → IsInside given roots s space w bus out runs
+        → IsInside record { given = given; roots = roots; system = s; space = space } w bus out runs
     inside_is given roots o out early rises placed = record {
       rises = rises;
       each = λ q has. sorted.each q (in_filter_to (is_held w o) qs q (placed.each q has)).0;

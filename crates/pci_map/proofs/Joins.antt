@@ -11,7 +11,7 @@ use Rattle.map_spec.specs.MapText.{free_line, region_line, lines_text}
 use Rattle.pci_base.specs.declared.range.Range.{Range}
 use Rattle.pci_base.specs.Ranges.{decoded_range_of}
 use Rattle.pci_tree.specs.declared.region.Region.{Region}
-use Rattle.pci_map.specs.Values.{value_of}
+use Rattle.pci_map.specs.Values.{Mapped, value_of}
 use Rattle.pci_map.specs.Walk.{ahead, Entry, Run, At, entries, run_entries, merged, IsPlaced, IsSeated}
 
 abbrev joined : Lines → Lines → Lines
@@ -64,19 +64,22 @@ text_seat depth space q inside = ap (λ t. region_line depth q ++ t) (append-nil
 -- ---- some lines, and those that come
 
 -- a text got some of the lines, and the others are to come
-pub record IsPartly (given : Given) (roots : List ℕ) (s : System) (space : Space) (depth : ℕ) (all coming : List Entry) (old new : List ℕ) : Type 0 where
+pub record IsPartly (m : Mapped) (depth : ℕ) (all coming : List Entry) (old new : List ℕ) : Type 0 where
   pub lines : Lines
   pub so : entries lines ++ coming ≡ all
-  pub inside : AreAllInside given roots s space lines
-  pub text : new ≡ old ++ lines_text depth space lines
+  pub inside : AreAllInside m.given m.roots m.system m.space lines
+  pub text : new ≡ old ++ lines_text depth m.space lines
 
 module _ (given : Given) (roots : List ℕ) (s : System) (space : Space) (depth : ℕ) (all : List Entry) (old : List ℕ) where
-  pub none_yet : IsPartly given roots s space depth all all old old
+  abbrev the_space : Mapped
+  the_space = record { given = given; roots = roots; system = s; space = space }
+
+  pub none_yet : IsPartly the_space depth all all old old
   unfolding lines_text
   none_yet = record { lines = End; so = refl; inside = tt; text = sym (append-nil old) }
 
-  more_lines : (now new : List ℕ) (more : Lines) (coming : List Entry) → IsPartly given roots s space depth all (entries more ++ coming) old now → AreAllInside given roots s space more
-      → new ≡ now ++ lines_text depth space more → IsPartly given roots s space depth all coming old new
+  more_lines : (now new : List ℕ) (more : Lines) (coming : List Entry) → IsPartly the_space depth all (entries more ++ coming) old now → AreAllInside given roots s space more
+      → new ≡ now ++ lines_text depth space more → IsPartly the_space depth all coming old new
   more_lines now new more coming is inside text = record {
     lines = joined is.lines more;
     so = ap (λ es. es ++ coming) (entries_joined is.lines more) ∙ append_assoc (entries is.lines) (entries more) coming ∙ is.so;
@@ -85,15 +88,15 @@ module _ (given : Given) (roots : List ℕ) (s : System) (space : Space) (depth 
         ∙ ap (λ t. old ++ t) (sym (text_joined depth space is.lines more));
   }
 
-  more_runs : (now new : List ℕ) (rs : List Range) (coming : List Entry) → IsPartly given roots s space depth all (run_entries rs ++ coming) old now
-      → new ≡ now ++ flat_map (free_line depth space) (map decoded_range_of rs) → IsPartly given roots s space depth all coming old new
+  more_runs : (now new : List ℕ) (rs : List Range) (coming : List Entry) → IsPartly the_space depth all (run_entries rs ++ coming) old now
+      → new ≡ now ++ flat_map (free_line depth space) (map decoded_range_of rs) → IsPartly the_space depth all coming old new
   more_runs now new rs coming is text =
       more_lines now new (free_lines (map decoded_range_of rs)) coming
-      (subst (λ es. IsPartly given roots s space depth all (es ++ coming) old now) (sym (entries_free (map decoded_range_of rs))) is)
+      (subst (λ es. IsPartly the_space depth all (es ++ coming) old now) (sym (entries_free (map decoded_range_of rs))) is)
       (inside_free given roots s space (map decoded_range_of rs)) (text ∙ ap (λ t. now ++ t) (sym (text_free depth space (map decoded_range_of rs))))
 
-  one_seat : (now new : List ℕ) (q : Region) (coming : List Entry) → IsPartly given roots s space depth all (At (value_of space q) ∷ coming) old now → IsSeated given roots s space depth q now new
-      → IsPartly given roots s space depth all coming old new
+  one_seat : (now new : List ℕ) (q : Region) (coming : List Entry) → IsPartly the_space depth all (At (value_of space q) ∷ coming) old now → IsSeated the_space depth q now new
+      → IsPartly the_space depth all coming old new
   one_seat now new q coming is seat =
       more_lines now new (Sits (value_of space q) seat.inside End) coming is (seat.is, seat.deeper, tt)
       (seat.text ∙ ap (λ t. now ++ t) (sym (text_seat depth space (value_of space q) seat.inside)))
@@ -101,22 +104,22 @@ module _ (given : Given) (roots : List ℕ) (s : System) (space : Space) (depth 
   -- one more region, with the runs before it
   pub next_seat : (now mid new : List ℕ) (q : Region) (qs here : List Region) (left before behind : List Range) (count : ℕ) → here ≡ q ∷ qs → count ≡ ahead q.first left
       → before ≡ take count left → behind ≡ drop count left
-      → IsPartly given roots s space depth all (merged space here left) old now → mid ≡ now ++ flat_map (free_line depth space) (map decoded_range_of before)
-      → IsSeated given roots s space depth q mid new → IsPartly given roots s space depth all (merged space qs behind) old new
+      → IsPartly the_space depth all (merged space here left) old now → mid ≡ now ++ flat_map (free_line depth space) (map decoded_range_of before)
+      → IsSeated the_space depth q mid new → IsPartly the_space depth all (merged space qs behind) old new
   unfolding merged
   next_seat now mid new q qs here left before behind count is_here is_count is_before is_behind partly runs seat =
-      let split : IsPartly given roots s space depth all (merged space (q ∷ qs) left) old now = subst (λ h. IsPartly given roots s space depth all (merged space h left) old now) is_here partly in
-      let counted : IsPartly given roots s space depth all (run_entries (take count left) ++ (At (value_of space q) ∷ merged space qs (drop count left))) old now =
-      subst (λ n. IsPartly given roots s space depth all (run_entries (take n left) ++ (At (value_of space q) ∷ merged space qs (drop n left))) old now) (sym is_count) split in
+      let split : IsPartly the_space depth all (merged space (q ∷ qs) left) old now = subst (λ h. IsPartly the_space depth all (merged space h left) old now) is_here partly in
+      let counted : IsPartly the_space depth all (run_entries (take count left) ++ (At (value_of space q) ∷ merged space qs (drop count left))) old now =
+      subst (λ n. IsPartly the_space depth all (run_entries (take n left) ++ (At (value_of space q) ∷ merged space qs (drop n left))) old now) (sym is_count) split in
       let coming = At (value_of space q) ∷ merged space qs (drop count left) in
       let past = more_runs now mid (take count left) coming counted (runs ∙ ap (λ rs. now ++ flat_map (free_line depth space) (map decoded_range_of rs)) is_before) in
-      subst (λ rs. IsPartly given roots s space depth all (merged space qs rs) old new) (sym is_behind) (one_seat mid new q (merged space qs (drop count left)) past seat)
+      subst (λ rs. IsPartly the_space depth all (merged space qs rs) old new) (sym is_behind) (one_seat mid new q (merged space qs (drop count left)) past seat)
 
   -- the runs behind the last region
-  pub last_runs : (now new : List ℕ) (none : List Region) (left : List Range) → none ≡ [] → IsPartly given roots s space depth all (merged space none left) old now
-      → new ≡ now ++ flat_map (free_line depth space) (map decoded_range_of left) → IsPlaced given roots s space depth all old new
+  pub last_runs : (now new : List ℕ) (none : List Region) (left : List Range) → none ≡ [] → IsPartly the_space depth all (merged space none left) old now
+      → new ≡ now ++ flat_map (free_line depth space) (map decoded_range_of left) → IsPlaced the_space depth all old new
   unfolding merged
   last_runs now new none left is_none partly text =
-      let split : IsPartly given roots s space depth all (run_entries left) old now = subst (λ h. IsPartly given roots s space depth all (merged space h left) old now) is_none partly in
-      let whole = more_runs now new left [] (subst (λ es. IsPartly given roots s space depth all es old now) (sym (append-nil (run_entries left))) split) text in
+      let split : IsPartly the_space depth all (run_entries left) old now = subst (λ h. IsPartly the_space depth all (merged space h left) old now) is_none partly in
+      let whole = more_runs now new left [] (subst (λ es. IsPartly the_space depth all es old now) (sym (append-nil (run_entries left))) split) text in
       record { lines = whole.lines; entries = sym (append-nil (entries whole.lines)) ∙ whole.so; inside = whole.inside; text = whole.text }

@@ -48,7 +48,7 @@ module _ (s : System) (rs : List Record) (space : Space) (w : Region) (has : Has
     no_bridge none = false≢true (sym (ap is_some none) ∙ same_bridge r iw.f stands_for ∙ bridge_is)
 
     pub opened : (given : Given) (roots : List ℕ) (b : Bridge) (o : Option Region) (qs out : List Region) → IsNested roots s → r.bridge ≡ Some b → IsEarlier s space w o → AreSortedRegionsOf s b.secondary space qs
-        → AreInPlace given roots s space (filter (is_held w o) qs) out → IsInside given roots s space w b.secondary out (gaps (range_at w) 0 (map range_at qs))
+        → AreInPlace given roots s space (filter (is_held w o) qs) out → IsInside record { given = given; roots = roots; system = s; space = space } w b.secondary out (gaps (range_at w) 0 (map range_at qs))
     opened given roots b o qs out nested is early sorted placed =
         let leads : secondary iw.f ≡ b.secondary = sym (same_secondary r iw.f stands_for bridge_is) ∙ ap secondary_in is in
         let rises : iw.f.slot.bus < secondary iw.f = ((bus_order_means iw.f).0 (nested.order iw.f iw.listed bridge_is)).1 in

@@ -11,7 +11,6 @@ use Rattle.pci_spec.specs.Bus.{is_root}
 use Rattle.pci_spec.proofs.Members.{in_nil, in_cons_cases}
 use Rattle.pci_spec.proofs.BusRanges.{root_means}
 use Rattle.given_spec.specs.Given.{Given}
-use Rattle.map_spec.specs.Lines.{OnRoot}
 use Rattle.map_spec.specs.Map.{Root, IsRootOf}
 use Rattle.map_spec.specs.MapText.{space_lines, root_text}
 use Rattle.pci_map.specs.Walk.{IsSpaceTold}
@@ -29,7 +28,7 @@ module _ (given : Given) (roots : List ℕ) (s : System) where
     text = sym (append-nil text);
   }
 
-  pub told_root : (bus : ℕ) (old mid new : List ℕ) → is_root roots bus ≡ true → IsSpaceTold given roots s Io bus (OnRoot bus) old mid → IsSpaceTold given roots s Memory bus (OnRoot bus) mid new
+  pub told_root : (bus : ℕ) (old mid new : List ℕ) → is_root roots bus ≡ true → IsSpaceTold record { given = given; roots = roots; system = s; space = Io } bus old mid → IsSpaceTold record { given = given; roots = roots; system = s; space = Memory } bus mid new
       → AreRootsTold given roots s (bus ∷ []) old new
   told_root bus old mid new root io memory =
       let one : Root = record { bus = bus; io = io.lines; memory = memory.lines } in record {

@@ -17,7 +17,7 @@ use Rattle.pci_tree.specs.declared.region.Part.TheVariants as parts
 use Rattle.pci_tree.specs.declared.region.Region.{Region}
 use Rattle.pci_tree.specs.Regions.{IsRegionOn}
 use Rattle.pci_tree.specs.Outline.{AreSortedRegionsOf}
-use Rattle.pci_map.specs.Values.{part_at, part_of, value_of}
+use Rattle.pci_map.specs.Values.{Mapped, part_at, part_of, value_of}
 use Rattle.pci_map.specs.Inside.{IsInside}
 use Rattle.pci_map.specs.Above.{AreInPlace}
 use Rattle.pci_map.specs.Walk.{ahead, Entry, Run, At, entries, run_entries, merged, IsPlaced, IsSeated, IsSpaceTold}
@@ -25,6 +25,9 @@ use Rattle.pci_map.proofs.Values.{told_region, given_region}
 use Rattle.pci_map.proofs.Merges.{lines_are}
 
 module _ (given : Given) (roots : List ℕ) (s : System) (space : Space) where
+  abbrev the_space : Mapped
+  the_space = record { given = given; roots = roots; system = s; space = space }
+
   -- an enabled region of the bus claims its first address
   claims_first : (bus : ℕ) (q : Region) → IsRegionOn s bus space q → IsClaimedOn s bus space q.first
   claims_first bus q on = record {
@@ -35,7 +38,7 @@ module _ (given : Given) (roots : List ℕ) (s : System) (space : Space) where
     claims = (on.is.claims q.first).0 (omega arith, on.is.some);
   }
 
-  pub lines_inside : (w : Region) (bus : ℕ) (qs : List Region) (rs : List Range) (lines : Lines) → IsInside given roots s space w bus qs rs → entries lines ≡ merged space qs rs
+  pub lines_inside : (w : Region) (bus : ℕ) (qs : List Region) (rs : List Range) (lines : Lines) → IsInside the_space w bus qs rs → entries lines ≡ merged space qs rs
       → AreLinesAt given roots s space (Inside (value_of space w)) lines
   lines_inside w bus qs rs lines inside is =
       lines_are given roots s space (Inside (value_of space w)) lines qs rs is
@@ -75,7 +78,7 @@ module _ (given : Given) (roots : List ℕ) (s : System) (space : Space) where
   none_inside parts.Rom reg v not_window = refl
   none_inside parts.Window reg v not_window = absurd (not_window refl)
 
-  pub seat_alone : (depth : ℕ) (q : Region) (old new : List ℕ) → (q.part ≡ parts.Window → ⊥) → new ≡ old ++ region_line depth (value_of space q) → IsSeated given roots s space depth q old new
+  pub seat_alone : (depth : ℕ) (q : Region) (old new : List ℕ) → (q.part ≡ parts.Window → ⊥) → new ≡ old ++ region_line depth (value_of space q) → IsSeated the_space depth q old new
   unfolding lines_text
   seat_alone depth q old new not_window text = record {
     inside = End;
@@ -84,13 +87,13 @@ module _ (given : Given) (roots : List ℕ) (s : System) (space : Space) where
     text = text ∙ ap (λ t. old ++ t) (sym (append-nil (region_line depth (value_of space q))));
   }
 
-  window_inside : (q : Region) (bus : ℕ) (qs : List Region) (rs : List Range) (lines : Lines) → q.part ≡ parts.Window → IsInside given roots s space q bus qs rs → entries lines ≡ merged space qs rs
+  window_inside : (q : Region) (bus : ℕ) (qs : List Region) (rs : List Range) (lines : Lines) → q.part ≡ parts.Window → IsInside the_space q bus qs rs → entries lines ≡ merged space qs rs
       → AreInside given roots s space (part_of q) (value_of space q) lines
   window_inside q bus qs rs lines window inside is =
       subst (λ p. AreInside given roots s space (part_at p q.reg) (value_of space q) lines) (sym window) (lines_inside q bus qs rs lines inside is)
 
-  pub seat_of_window : (depth deeper : ℕ) (q : Region) (bus : ℕ) (qs : List Region) (rs : List Range) (old mid new : List ℕ) → deeper ≡ depth + 1 → q.part ≡ parts.Window → IsInside given roots s space q bus qs rs
-      → mid ≡ old ++ region_line depth (value_of space q) → IsPlaced given roots s space deeper (merged space qs rs) mid new → IsSeated given roots s space depth q old new
+  pub seat_of_window : (depth deeper : ℕ) (q : Region) (bus : ℕ) (qs : List Region) (rs : List Range) (old mid new : List ℕ) → deeper ≡ depth + 1 → q.part ≡ parts.Window → IsInside the_space q bus qs rs
+      → mid ≡ old ++ region_line depth (value_of space q) → IsPlaced the_space deeper (merged space qs rs) mid new → IsSeated the_space depth q old new
   seat_of_window depth deeper q bus qs rs old mid new one window inside line placed = record {
     inside = placed.lines;
     is = window_inside q bus qs rs placed.lines window inside placed.entries;
@@ -120,7 +123,7 @@ module _ (given : Given) (roots : List ℕ) (s : System) (space : Space) where
 
   module _ (bus : ℕ) (all qs : List Region) (rs : List Range) (sorted : AreSortedRegionsOf s bus space all) (placed : AreInPlace given roots s space all qs)
       (free : AreRuns (IsFreeOn given s bus space) (map decoded_range_of rs)) where
-    pub told_none : (text : List ℕ) → qs ≡ [] → rs ≡ [] → IsSpaceTold given roots s space bus (OnRoot bus) text text
+    pub told_none : (text : List ℕ) → qs ≡ [] → rs ≡ [] → IsSpaceTold the_space bus text text
     unfolding merged
     told_none text none no_runs = record {
       lines = End;
@@ -129,7 +132,7 @@ module _ (given : Given) (roots : List ℕ) (s : System) (space : Space) where
     }
 
     pub told_some : (old mid new : List ℕ) → (qs ≡ [] → rs ≡ [] → ⊥) → mid ≡ old ++ bus_heading bus space
-        → IsPlaced given roots s space 1 (merged space qs rs) mid new → IsSpaceTold given roots s space bus (OnRoot bus) old new
+        → IsPlaced the_space 1 (merged space qs rs) mid new → IsSpaceTold the_space bus old new
     told_some old mid new some line is = record {
       lines = is.lines;
       are = (lines_on_root bus all qs rs sorted placed free is.lines is.entries, is.inside);

@@ -5,13 +5,12 @@ use Rattle.pci_spec.specs.Registers.{MEMORY_BASE, PREFETCHABLE_BASE}
 use Rattle.pci_spec.specs.System.{System, Space}
 use Rattle.pci_spec.specs.Why as why
 use Rattle.pci_spec.specs.Why.{IsRegionIn, AreRuns}
-use Rattle.given_spec.specs.Given.{Given}
 use Rattle.map_spec.specs.Lines.{BelongsUnder, IsFreeIn, IsOutOfPlace}
 use Rattle.pci_base.specs.declared.range.Range.{Range}
 use Rattle.pci_base.specs.Ranges.{decoded_range_of}
 use Rattle.pci_tree.specs.Regions.{IsRegionOn}
 use Rattle.pci_tree.specs.Outline.{IsBefore}
-use Rattle.pci_map.specs.Values.{value_of}
+use Rattle.pci_map.specs.Values.{Mapped, value_of}
 use Rattle.pci_tree.specs.declared.region.Region.{Region}
 use Rattle.pci_why.specs.Found.{NoneClaims, IsFoundIn}
 
@@ -32,16 +31,17 @@ IsEarlier s space w o =
 
 -- Just the regions that belong under a window and aren't out of place, in order, and the greatest runs of what is free
 -- of it; and the bus behind its bridge, which is a higher one.
-pub record IsInside (given : Given) (roots : List ℕ) (s : System) (space : Space) (w : Region)
-    (bus : ℕ) (regions : List Region) (runs : List Range) : Type 0 where
+pub record IsInside (m : Mapped) (w : Region) (bus : ℕ) (regions : List Region)
+    (runs : List Range) : Type 0 where
   pub rises : w.slot.bus < bus
-  pub each : (q : Region) → Contains regions q → IsRegionOn s bus space q
+  pub each : (q : Region) → Contains regions q → IsRegionOn m.system bus m.space q
   pub belong : (q : Region) → Contains regions q
-      → BelongsUnder s (value_of space w) (value_of space q)
+      → BelongsUnder m.system (value_of m.space w) (value_of m.space q)
   pub within : (q : Region) → Contains regions q
-      → IsOutOfPlace given roots s (value_of space q) → ⊥
-  pub complete : (v : why.Region) → IsRegionIn s v → v.space ≡ space
-      → BelongsUnder s (value_of space w) v → (IsOutOfPlace given roots s v → ⊥)
-      → Contains (map (value_of space) regions) v
+      → IsOutOfPlace m.given m.roots m.system (value_of m.space q) → ⊥
+  pub complete : (v : why.Region) → IsRegionIn m.system v → v.space ≡ m.space
+      → BelongsUnder m.system (value_of m.space w) v
+      → (IsOutOfPlace m.given m.roots m.system v → ⊥)
+      → Contains (map (value_of m.space) regions) v
   pub sorted : AllPairs IsBefore regions
-  pub free : AreRuns (IsFreeIn s (value_of space w)) (map decoded_range_of runs)
+  pub free : AreRuns (IsFreeIn m.system (value_of m.space w)) (map decoded_range_of runs)

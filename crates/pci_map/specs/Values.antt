@@ -1,14 +1,27 @@
--- The regions of an outline as the definitions have them.
-use Rattle.std.specs.Prelude.{ℕ, ◌-◌, ◌/◌, ◌==◌, if◌then◌else◌}
+-- What is mapped, and the regions of an outline as the definitions have them.
+use Rattle.std.specs.Prelude.{ℕ, ◌-◌, ◌/◌, ◌==◌, if◌then◌else◌, List}
 use Rattle.pci_spec.specs.Registers.{IO_BASE, MEMORY_BASE}
 use Rattle.pci_spec.specs.Window.{WindowKind, IoWindow, MemoryWindow, PrefetchWindow}
-use Rattle.pci_spec.specs.System.{Space}
+use Rattle.pci_spec.specs.System.{System, Space}
 use Rattle.pci_spec.specs.System as system
 use Rattle.pci_spec.specs.Why as why
+use Rattle.given_spec.specs.Given.{Given}
 use Rattle.pci_tree.specs.declared.region.Part.{Part}
 use Rattle.pci_tree.specs.declared.region.Part.TheVariants.{Bar, Rom, Window}
 use Rattle.pci_tree.specs.declared.region.Region.{Region}
+use Rattle.pci_tree.specs.Outline.{Tree}
 use Rattle.pci_why.specs.Fits.{told}
+
+-- what is mapped: a space of a system, with what is given
+pub record Mapped : Type 0 where
+  pub given : Given
+  pub roots : List ℕ
+  pub system : System
+  pub space : Space
+
+-- of the root buses of an outline
+abbrev pub mapped_of : Given → Tree → System → Space → Mapped
+mapped_of given t s space = record { given = given; roots = t.roots; system = s; space = space }
 
 -- the window whose register this is
 abbrev pub kind_at : ℕ → WindowKind

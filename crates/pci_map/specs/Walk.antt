@@ -4,14 +4,13 @@ use Rattle.std.specs.List.{Contains}
 use Rattle.pci_spec.specs.System.{System, Space}
 use Rattle.pci_spec.specs.Decoded as decoded
 use Rattle.pci_spec.specs.Why as why
-use Rattle.given_spec.specs.Given.{Given}
-use Rattle.map_spec.specs.Lines.{Lines, End, Free, Sits, Place, AreInside, AreAllInside, AreAllLines}
+use Rattle.map_spec.specs.Lines.{Lines, End, Free, Sits, OnRoot, AreInside, AreAllInside, AreAllLines}
 use Rattle.map_spec.specs.MapText.{region_line, lines_text, space_lines}
 use Rattle.pci_base.specs.declared.range.Range.{Range}
 use Rattle.pci_base.specs.Ranges.{decoded_range_of}
 use Rattle.pci_tree.specs.declared.region.Region.{Region}
 use Rattle.pci_tree.specs.Regions.{IsRegionOn}
-use Rattle.pci_map.specs.Values.{part_of, value_of}
+use Rattle.pci_map.specs.Values.{Mapped, part_of, value_of}
 
 -- how many of the first runs begin before an address
 unfoldable pub ahead : ℕ → List Range → ℕ
@@ -39,28 +38,25 @@ merged space (q ∷ qs) rs =
     ++ (At (value_of space q) ∷ merged space qs (drop (ahead q.first rs) rs))
 
 -- a text got the lines of some regions and runs, with all that is inside
-pub record IsPlaced (given : Given) (roots : List ℕ) (s : System) (space : Space) (depth : ℕ)
-    (all : List Entry) (old new : List ℕ) : Type 0 where
+pub record IsPlaced (m : Mapped) (depth : ℕ) (all : List Entry) (old new : List ℕ) : Type 0 where
   pub lines : Lines
   pub entries : entries lines ≡ all
-  pub inside : AreAllInside given roots s space lines
-  pub text : new ≡ old ++ lines_text depth space lines
+  pub inside : AreAllInside m.given m.roots m.system m.space lines
+  pub text : new ≡ old ++ lines_text depth m.space lines
 
 -- a text got the line of a region, and what is inside it
-pub record IsSeated (given : Given) (roots : List ℕ) (s : System) (space : Space) (depth : ℕ)
-    (q : Region) (old new : List ℕ) : Type 0 where
+pub record IsSeated (m : Mapped) (depth : ℕ) (q : Region) (old new : List ℕ) : Type 0 where
   pub inside : Lines
-  pub is : AreInside given roots s space (part_of q) (value_of space q) inside
-  pub deeper : AreAllInside given roots s space inside
+  pub is : AreInside m.given m.roots m.system m.space (part_of q) (value_of m.space q) inside
+  pub deeper : AreAllInside m.given m.roots m.system m.space inside
   pub text : new
-      ≡ old ++ (region_line depth (value_of space q) ++ lines_text (suc depth) space inside)
+      ≡ old ++ (region_line depth (value_of m.space q) ++ lines_text (suc depth) m.space inside)
 
 abbrev pub AreOnBus : System → ℕ → Space → List Region → Type 0
 AreOnBus s bus space qs = (q : Region) → Contains qs q → IsRegionOn s bus space q
 
 -- a text got all lines of a space of a root bus
-pub record IsSpaceTold (given : Given) (roots : List ℕ) (s : System) (space : Space) (bus : ℕ)
-    (place : Place) (old new : List ℕ) : Type 0 where
+pub record IsSpaceTold (m : Mapped) (bus : ℕ) (old new : List ℕ) : Type 0 where
   pub lines : Lines
-  pub are : AreAllLines given roots s space place lines
-  pub text : new ≡ old ++ space_lines bus space lines
+  pub are : AreAllLines m.given m.roots m.system m.space (OnRoot bus) lines
+  pub text : new ≡ old ++ space_lines bus m.space lines

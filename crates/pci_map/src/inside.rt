@@ -7,7 +7,7 @@ ghost use Rattle.given_spec.specs.Given.{Given as GivenValue};
 ghost use Rattle.pci_base.specs.Space.{space_of};
 ghost use Rattle.pci_spec.specs.Why.{IsRegionIn};
 ghost use Rattle.pci_tree.specs.declared.region.Part.TheVariants.{Window};
-ghost use Rattle.pci_map.specs.Values.{value_of};
+ghost use Rattle.pci_map.specs.Values.{value_of, mapped_of};
 ghost use Rattle.pci_map.specs.Above.{AreSentAbove};
 ghost use Rattle.pci_map.specs.Inside.{is_in, is_held, IsEarlier, IsInside};
 
@@ -101,8 +101,8 @@ pub fn look_inside<A: Allocator + Copy>(
     ensures { IfOk result (λ o. (given : GivenValue) (s : System)
         → AreSentAbove given outline.now s above.now
         → IsRegionIn s (value_of (space_of space) window.now) → window.now.part ≡ Window
-        → MatchOption o ⊥ (λ i. IsInside given outline.now.roots s (space_of space) window.now i.bus
-        i.regions.items i.runs.items)) }
+        → MatchOption o ⊥ (λ i. IsInside (mapped_of given outline.now s (space_of space)) window.now
+        i.bus i.regions.items i.runs.items)) }
 {
     let Some(function) = record_at(outline.records(), window.slot) else {
         return Ok(None);

@@ -4,13 +4,13 @@ ghost use Rattle.std.specs.List.{flat_map};
 ghost use Rattle.std.specs.String.{string_bytes};
 ghost use Rattle.pci_spec.specs.System.{System};
 ghost use Rattle.given_spec.specs.Given.{Given as GivenValue};
-ghost use Rattle.map_spec.specs.Lines.{OnRoot};
 ghost use Rattle.map_spec.specs.MapText.{free_line};
 ghost use Rattle.pci_base.specs.Ranges.{decoded_range_of};
 ghost use Rattle.pci_base.specs.Space.{space_of};
 ghost use Rattle.pci_tree.specs.declared.region.Part.TheVariants.{Window};
 ghost use Rattle.pci_tree.specs.Regions.{IsRegionOn};
 ghost use Rattle.pci_claims.specs.Values.{given_value};
+ghost use Rattle.pci_map.specs.Values.{mapped_of};
 ghost use Rattle.pci_map.specs.Above.{AreSentAbove};
 ghost use Rattle.pci_map.specs.Inside.{IsInside};
 ghost use Rattle.pci_map.specs.Walk.{ahead, merged, IsPlaced, IsSeated, AreOnBus, IsSpaceTold};
@@ -76,8 +76,8 @@ fn inside_of<A: Allocator + Copy>(
         → AreSentAbove given outline.now s above.now
         → IsRegionOn s bus (space_of space) region.now
         → MatchOption o (region.now.part ≡ Window → ⊥)
-        (λ i. IsInside given outline.now.roots s (space_of space) region.now i.bus i.regions.items
-        i.runs.items × (region.now.part ≡ Window))) }
+        (λ i. IsInside (mapped_of given outline.now s (space_of space)) region.now i.bus
+        i.regions.items i.runs.items × (region.now.part ≡ Window))) }
 {
     if region.part != Part::Window {
         return Ok(None);
@@ -109,7 +109,8 @@ fn push_seat<A: Allocator + Copy, B: Allocator>(
     ensures { OnOk result ((given : GivenValue) (s : System)
         → AreSentAbove given outline.now s above.now
         → IsRegionOn s bus (space_of space) region.now
-        → IsSeated given outline.now.roots s (space_of space) depth region.now (string_bytes text.old) (string_bytes text.new)) }
+        → IsSeated (mapped_of given outline.now s (space_of space)) depth region.now
+        (string_bytes text.old) (string_bytes text.new)) }
 {
     push_region(text, depth, space, region)?;
     let Some(inside) = inside_of(alloc, outline, above, space, bus, region)? else {
@@ -133,7 +134,7 @@ fn push_place<A: Allocator + Copy, B: Allocator>(
     ensures { OnOk result ((given : GivenValue) (s : System)
         → AreSentAbove given outline.now s above.now
         → AreOnBus s place.now.bus (space_of space) place.now.regions.items
-        → IsPlaced given outline.now.roots s (space_of space) depth
+        → IsPlaced (mapped_of given outline.now s (space_of space)) depth
         (merged (space_of space) place.now.regions.items place.now.runs.items)
         (string_bytes text.old) (string_bytes text.new)) }
 {
@@ -158,7 +159,7 @@ pub fn push_space<A: Allocator + Copy, B: Allocator>(
 ) -> Result<(), OutOfMemory>
     ensures { OnOk result ((s : System)
         → AreSentAbove (given_value given.now) outline.now s above.now
-        → IsSpaceTold (given_value given.now) outline.now.roots s (space_of space) bus (OnRoot bus)
+        → IsSpaceTold (mapped_of (given_value given.now) outline.now s (space_of space)) bus
         (string_bytes text.old) (string_bytes text.new)) }
 {
     let all = outline.sorted(bus, space)?;

@@ -39,4 +39,4 @@ returns g c = λ given s above is window.
     c.records.ensures.rising window c.in-Some.function.now c.in-Some.ensures.0 c.in-Some.ensures.1 given c.args.outline.now.roots c.in-Some-bridge.bridge earlier qs out
     (c.records.ensures.nested s above.tree.records) c.in-Some-bridge.is (c.in_ok-earlier.ensures s above.tree.records) sorted placed in
     let runs : c.in_ok-runs.runs.items ≡ gaps (range_at w) 0 (map range_at qs) = c.in_ok-runs.ensures ∙ ap (λ xs. gaps (range_at w) 0 (map range_at xs)) c.as_slice.ensures.value in
-    subst (λ (rs : List Range). IsInside given c.args.outline.now.roots s space w bus out rs) (sym runs) found
+    subst (λ (rs : List Range). IsInside record { given = given; roots = c.args.outline.now.roots; system = s; space = space } w bus out rs) (sym runs) found

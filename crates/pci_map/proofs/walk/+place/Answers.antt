@@ -20,7 +20,7 @@ push_place-loop-region-init g t c = λ given s above on.
     let space = space_of c.args.space in
     let qs : List Region = c.args.place.now.regions.items in
     let all = merged space qs c.args.place.now.runs.items in
-    subst (λ (left : List Range). IsPartly given c.args.outline.now.roots s space c.args.depth all (merged space qs left) (string_bytes c.args.text.now) (string_bytes c.args.text.now)) (sym c.as_slice-left.ensures.value)
+    subst (λ (left : List Range). IsPartly record { given = given; roots = c.args.outline.now.roots; system = s; space = space } c.args.depth all (merged space qs left) (string_bytes c.args.text.now) (string_bytes c.args.text.now)) (sym c.as_slice-left.ensures.value)
     (none_yet given c.args.outline.now.roots s space c.args.depth all (string_bytes c.args.text.now))
 
 pub push_place-loop-region-preserved : goal.push_place-loop-region-preserved
@@ -53,7 +53,7 @@ pub push_seat-returns-in_default : goal.push_seat-returns-in_default
 push_seat-returns-in_default g t c = λ given s above on.
     seat_alone given c.args.outline.now.roots s (space_of c.args.space) c.args.depth c.args.region.now (string_bytes c.args.text.now) (string_bytes c.push_region.new.text)
     (subst (λ o. MatchOption o (c.args.region.now.part ≡ Window → ⊥)
-    (λ i. IsInside given c.args.outline.now.roots s (space_of c.args.space) c.args.region.now i.bus i.regions.items i.runs.items × (c.args.region.now.part ≡ Window))) c.in_default.is (c.in_ok-inside.ensures.inside given s above on))
+    (λ i. IsInside record { given = given; roots = c.args.outline.now.roots; system = s; space = space_of c.args.space } c.args.region.now i.bus i.regions.items i.runs.items × (c.args.region.now.part ≡ Window))) c.in_default.is (c.in_ok-inside.ensures.inside given s above on))
     c.in_ok-push_region.ensures
 
 pub push_seat-returns : goal.push_seat-returns
@@ -61,7 +61,7 @@ push_seat-returns g t c =
     on_ok_weaker c.push_place.result
     (λ last given s above on. (
     let inside = subst (λ o. MatchOption o (c.args.region.now.part ≡ Window → ⊥)
-    (λ i. IsInside given c.args.outline.now.roots s (space_of c.args.space) c.args.region.now i.bus i.regions.items i.runs.items × (c.args.region.now.part ≡ Window))) c.in-Some.is (c.in_ok-inside.ensures.inside given s above on) in
+    (λ i. IsInside record { given = given; roots = c.args.outline.now.roots; system = s; space = space_of c.args.space } c.args.region.now i.bus i.regions.items i.runs.items × (c.args.region.now.part ≡ Window))) c.in-Some.is (c.in_ok-inside.ensures.inside given s above on) in
     seat_of_window given c.args.outline.now.roots s (space_of c.args.space) c.args.depth (c.args.depth + 1) c.args.region.now c.in-Some.inside.bus c.in-Some.inside.regions.items c.in-Some.inside.runs.items
     (string_bytes c.args.text.now) (string_bytes c.push_region.new.text) (string_bytes c.push_place.new.text) refl inside.1 inside.0
     c.in_ok-push_region.ensures (last given s above inside.0.each)))
