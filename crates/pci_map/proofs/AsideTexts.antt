@@ -19,34 +19,37 @@ use Rattle.pci_tree.specs.Ways.{slots_of}
 use Rattle.pci_tree.proofs.Lifting.{Has}
 use Rattle.pci_why.specs.Found.{IsFoundIn, NoneClaims}
 use Rattle.pci_map.specs.Values.{value_of}
-use Rattle.pci_map.specs.Asides.{AreFoundBy, IsAside, HasNoAside, IsAt, IsAtRegister, IsBelow, IsOf, IsAmong, AreAsides}
+use Rattle.pci_map.specs.Asides.{AreFoundBy, IsAside, HasNoAside, IsAt, IsAtRegister, IsBelow, IsOf, IsAmong, AsideTexts, AreAsides}
 use Rattle.pci_map.specs.Left.{IsLeftIf}
 use Rattle.pci_map.proofs.Lefts.{AreOne}
 use Rattle.pci_map.proofs.Tolds.{none_of, none_found, found_not, found_one, both_spaces, below_none, one_register, all_registers, among_none, next_function, all_functions}
 
+abbrev texts : List ℕ → List ℕ → AsideTexts
+texts outside unreached = record { outside = outside; unreached = unreached }
+
 module _ (given : Given) (roots : List ℕ) (s : System) (unique : AreOne s) (slot : Slot) (reg : ℕ) (space : Space) where
-  pub none_aside : (out left : List ℕ) → NoneClaims s slot reg space → AreAsides given roots s (IsAt slot reg space) out out left left
+  pub none_aside : (out left : List ℕ) → NoneClaims s slot reg space → AreAsides given roots s (IsAt slot reg space) (texts out left) (texts out left)
   none_aside out left none = record {
     out = none_found (IsOutOfPlace given roots s) s unique slot reg space out none;
     left = none_found (IsOnlyLeft given roots s) s unique slot reg space left none;
   }
 
   module _ (q : outline.Region) (found : IsFoundIn s slot reg space q) where
-    pub told_outside : (out new left : List ℕ) → IsOutOfPlace given roots s (value_of space q) → new ≡ out ++ region_line 1 (value_of space q) → AreAsides given roots s (IsAt slot reg space) out new left left
+    pub told_outside : (out new left : List ℕ) → IsOutOfPlace given roots s (value_of space q) → new ≡ out ++ region_line 1 (value_of space q) → AreAsides given roots s (IsAt slot reg space) (texts out left) (texts new left)
     told_outside out new left is_out text = record {
       out = found_one (IsOutOfPlace given roots s) s unique slot reg space q found out new is_out text;
       left = found_not (IsOnlyLeft given roots s) s unique slot reg space q found left (λ only. only.within is_out);
     }
 
     pub told_reached : (out left : List ℕ) → (IsOutOfPlace given roots s (value_of space q) → ⊥) → (windows : List Region) × HasWay roots s (value_of space q) windows
-        → AreAsides given roots s (IsAt slot reg space) out out left left
+        → AreAsides given roots s (IsAt slot reg space) (texts out left) (texts out left)
     told_reached out left within way = record {
       out = found_not (IsOutOfPlace given roots s) s unique slot reg space q found out within;
       left = found_not (IsOnlyLeft given roots s) s unique slot reg space q found left (λ only. only.left way.0 way.1);
     }
 
     pub told_left : (out left new : List ℕ) → (IsOutOfPlace given roots s (value_of space q) → ⊥) → IsLeft roots s (value_of space q) → new ≡ left ++ region_line 1 (value_of space q)
-        → AreAsides given roots s (IsAt slot reg space) out out left new
+        → AreAsides given roots s (IsAt slot reg space) (texts out left) (texts out new)
     told_left out left new within is_left text = record {
       out = found_not (IsOutOfPlace given roots s) s unique slot reg space q found out within;
       left = found_one (IsOnlyLeft given roots s) s unique slot reg space q found left new record { left = is_left; within = within } text;
@@ -75,7 +78,7 @@ module _ (given : Given) (roots : List ℕ) (s : System) where
       ]
 
   pub no_asides : (unique : AreOne s) (slot : Slot) (io memory : List outline.Region) (out left : List ℕ) → AreFoundBy s slot Io io → AreFoundBy s slot Memory memory
-      → HasNoAside given roots s Io io → HasNoAside given roots s Memory memory → AreAsides given roots s (IsOf slot) out out left left
+      → HasNoAside given roots s Io io → HasNoAside given roots s Memory memory → AreAsides given roots s (IsOf slot) (texts out left) (texts out left)
   no_asides unique slot io memory out left found_io found_memory none_io none_memory = record {
     out = none_of (IsOutOfPlace given roots s) s unique slot io memory out found_io found_memory (λ q has is_out. none_io q has (inl is_out)) (λ q has is_out. none_memory q has (inl is_out));
     left = none_of (IsOnlyLeft given roots s) s unique slot io memory left found_io found_memory (λ q has only. none_io q has (inr only.left)) (λ q has only. none_memory q has (inr only.left));
@@ -84,42 +87,42 @@ module _ (given : Given) (roots : List ℕ) (s : System) where
 -- ---- those of more
 
 module _ (given : Given) (roots : List ℕ) (s : System) where
-  pub both_spaces_aside : (unique : AreOne s) (slot : Slot) (reg : ℕ) (out mid_out new_out left mid_left new_left : List ℕ) → AreAsides given roots s (IsAt slot reg Io) out mid_out left mid_left
-      → AreAsides given roots s (IsAt slot reg Memory) mid_out new_out mid_left new_left → AreAsides given roots s (IsAtRegister slot reg) out new_out left new_left
+  pub both_spaces_aside : (unique : AreOne s) (slot : Slot) (reg : ℕ) (out mid_out new_out left mid_left new_left : List ℕ) → AreAsides given roots s (IsAt slot reg Io) (texts out left) (texts mid_out mid_left)
+      → AreAsides given roots s (IsAt slot reg Memory) (texts mid_out mid_left) (texts new_out new_left) → AreAsides given roots s (IsAtRegister slot reg) (texts out left) (texts new_out new_left)
   both_spaces_aside unique slot reg out mid_out new_out left mid_left new_left io memory = record {
     out = both_spaces (IsOutOfPlace given roots s) s unique slot reg out mid_out new_out io.out memory.out;
     left = both_spaces (IsOnlyLeft given roots s) s unique slot reg left mid_left new_left io.left memory.left;
   }
 
-  pub none_below : (slot : Slot) (out left : List ℕ) → AreAsides given roots s (IsBelow slot 0) out out left left
+  pub none_below : (slot : Slot) (out left : List ℕ) → AreAsides given roots s (IsBelow slot 0) (texts out left) (texts out left)
   none_below slot out left = record { out = below_none (IsOutOfPlace given roots s) s slot out; left = below_none (IsOnlyLeft given roots s) s slot left }
 
-  pub one_register_aside : (slot : Slot) (k : ℕ) (out mid_out new_out left mid_left new_left : List ℕ) → AreAsides given roots s (IsBelow slot (4 * k)) out mid_out left mid_left
-      → AreAsides given roots s (IsAtRegister slot (4 * k)) mid_out new_out mid_left new_left → AreAsides given roots s (IsBelow slot (4 * (k + 1))) out new_out left new_left
+  pub one_register_aside : (slot : Slot) (k : ℕ) (out mid_out new_out left mid_left new_left : List ℕ) → AreAsides given roots s (IsBelow slot (4 * k)) (texts out left) (texts mid_out mid_left)
+      → AreAsides given roots s (IsAtRegister slot (4 * k)) (texts mid_out mid_left) (texts new_out new_left) → AreAsides given roots s (IsBelow slot (4 * (k + 1))) (texts out left) (texts new_out new_left)
   one_register_aside slot k out mid_out new_out left mid_left new_left first second = record {
     out = one_register (IsOutOfPlace given roots s) s slot k out mid_out new_out first.out second.out;
     left = one_register (IsOnlyLeft given roots s) s slot k left mid_left new_left first.left second.left;
   }
 
-  pub all_registers_aside : (slot : Slot) (out new_out left new_left : List ℕ) → AreAsides given roots s (IsBelow slot 64) out new_out left new_left → AreAsides given roots s (IsOf slot) out new_out left new_left
+  pub all_registers_aside : (slot : Slot) (out new_out left new_left : List ℕ) → AreAsides given roots s (IsBelow slot 64) (texts out left) (texts new_out new_left) → AreAsides given roots s (IsOf slot) (texts out left) (texts new_out new_left)
   all_registers_aside slot out new_out left new_left told = record {
     out = all_registers (IsOutOfPlace given roots s) s slot out new_out told.out;
     left = all_registers (IsOnlyLeft given roots s) s slot left new_left told.left;
   }
 
-  pub none_among : (out left : List ℕ) → AreAsides given roots s (IsAmong []) out out left left
+  pub none_among : (out left : List ℕ) → AreAsides given roots s (IsAmong []) (texts out left) (texts out left)
   none_among out left = record { out = among_none (IsOutOfPlace given roots s) s out; left = among_none (IsOnlyLeft given roots s) s left }
 
   pub next_function_aside : (rs : List Record) (k : ℕ) (r : Record) (out mid_out new_out left mid_left new_left : List ℕ) → RiseBySlot rs → k < length rs → get_or rs k r ≡ r
-      → AreAsides given roots s (IsAmong (slots_of (take k rs))) out mid_out left mid_left → AreAsides given roots s (IsOf r.slot) mid_out new_out mid_left new_left
-      → AreAsides given roots s (IsAmong (slots_of (take (k + 1) rs))) out new_out left new_left
+      → AreAsides given roots s (IsAmong (slots_of (take k rs))) (texts out left) (texts mid_out mid_left) → AreAsides given roots s (IsOf r.slot) (texts mid_out mid_left) (texts new_out new_left)
+      → AreAsides given roots s (IsAmong (slots_of (take (k + 1) rs))) (texts out left) (texts new_out new_left)
   next_function_aside rs k r out mid_out new_out left mid_left new_left rise within at first second = record {
     out = next_function (IsOutOfPlace given roots s) s rs k r out mid_out new_out rise within at first.out second.out;
     left = next_function (IsOnlyLeft given roots s) s rs k r left mid_left new_left rise within at first.left second.left;
   }
 
-  pub all_functions_aside : (rs : List Record) (k : ℕ) (out new_out left new_left : List ℕ) → Has s rs → length rs ≤ k → AreAsides given roots s (IsAmong (slots_of (take k rs))) out new_out left new_left
-      → AreAsides given roots s (IsRegionIn s) out new_out left new_left
+  pub all_functions_aside : (rs : List Record) (k : ℕ) (out new_out left new_left : List ℕ) → Has s rs → length rs ≤ k → AreAsides given roots s (IsAmong (slots_of (take k rs))) (texts out left) (texts new_out new_left)
+      → AreAsides given roots s (IsRegionIn s) (texts out left) (texts new_out new_left)
   all_functions_aside rs k out new_out left new_left has past told = record {
     out = all_functions (IsOutOfPlace given roots s) s rs k out new_out has past told.out;
     left = all_functions (IsOnlyLeft given roots s) s rs k left new_left has past told.left;

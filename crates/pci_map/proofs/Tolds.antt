@@ -351,7 +351,7 @@ below : (Q : Region → Type 0) (s : System) (empty text : List ℕ) (heading : 
     → section heading text ≡ under_heading heading (map (region_line 1) told.told)
 below Q s empty text heading told none = ap (section heading) (told.text ∙ ap (λ t. t ++ flat_map (region_line 1) told.told) none) ∙ section_told heading told.told
 
-pub asides_below : (given : Given) (roots : List ℕ) (s : System) (no_out out said no_left left left_said old mid new : List ℕ) → no_out ≡ [] → no_left ≡ [] → AreAsides given roots s (IsRegionIn s) no_out out no_left left
+pub asides_below : (given : Given) (roots : List ℕ) (s : System) (no_out out said no_left left left_said old mid new : List ℕ) → no_out ≡ [] → no_left ≡ [] → AreAsides given roots s (IsRegionIn s) record { outside = no_out; unreached = no_left } record { outside = out; unreached = left }
     → said ≡ out → left_said ≡ left → mid ≡ old ++ section (codes "outside") said → new ≡ mid ++ section (codes "unreached") left_said → AreAsidesTold given roots s old new
 asides_below given roots s no_out out said no_left left left_said old mid new none nothing told is_out is_left first second = record {
   outside = told.out.told;

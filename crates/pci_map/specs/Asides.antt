@@ -77,11 +77,16 @@ pub record AreTold (Q : Region → Type 0) (s : System) (P : Region → Type 0)
   pub rising : AllPairs (λ p q. region_number p < region_number q) told
   pub text : new ≡ old ++ flat_map (region_line 1) told
 
--- two texts got the lines of those of which P holds: one of those that are out of place, one of those that are only left
+-- the lines of those that are out of place, and of those that are only left
+pub record AsideTexts : Type 0 where
+  pub outside : List ℕ
+  pub unreached : List ℕ
+
+-- both texts got the lines of those of which P holds
 pub record AreAsides (given : Given) (roots : List ℕ) (s : System) (P : Region → Type 0)
-    (old_outside new_outside old_unreached new_unreached : List ℕ) : Type 0 where
-  pub out : AreTold (IsOutOfPlace given roots s) s P old_outside new_outside
-  pub left : AreTold (IsOnlyLeft given roots s) s P old_unreached new_unreached
+    (old new : AsideTexts) : Type 0 where
+  pub out : AreTold (IsOutOfPlace given roots s) s P old.outside new.outside
+  pub left : AreTold (IsOnlyLeft given roots s) s P old.unreached new.unreached
 
 -- a text got the lines of all of both, each below their heading
 pub record AreAsidesTold (given : Given) (roots : List ℕ) (s : System) (old new : List ℕ) : Type 0 where

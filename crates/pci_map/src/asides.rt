@@ -26,6 +26,7 @@ use pci_function::record::Record;
 use pci_tree::outline::Outline;
 use pci_tree::region::{Region, add_regions};
 use std::alloc::{Allocator, Global};
+use std::marker::Model;
 
 /// How many registers of four bytes a header has (PCI 3.0, 6.1).
 const REGISTERS: u8 = 16;
@@ -37,6 +38,15 @@ struct Asides<A: Allocator = Global> {
     outside: String<A>,
     /// Those of the others that are left.
     unreached: String<A>,
+}
+
+impl<A: Allocator> Model for Asides<A> {
+    ghost use Rattle.std.specs.String.{string_bytes};
+    ghost use Rattle.pci_map.specs.Asides.{AsideTexts};
+
+    ghost Value = { AsideTexts };
+
+    ghost view = { λ a. record { outside = string_bytes a.outside; unreached = string_bytes a.unreached } };
 }
 
 /// Fills a list with the regions of a function and a space.
@@ -135,8 +145,7 @@ fn push_aside_in<A: Allocator, B: Allocator>(
     requires { length ways.now ≡ 256 }
     ensures { OnOk result ((given : GivenValue) (t : Tree) (s : System) → AreSentAbove given t s above.now
         → AreWays t.roots s ways.now → AreFoundBy s slot (space_of space) regions.now
-        → AreAsides given t.roots s (IsAt slot reg (space_of space)) (string_bytes asides.old.outside)
-        (string_bytes asides.new.outside) (string_bytes asides.old.unreached) (string_bytes asides.new.unreached)) }
+        → AreAsides given t.roots s (IsAt slot reg (space_of space)) asides.old asides.new) }
 {
     let Some(region) = at_register(regions, reg) else {
         return Ok(());
@@ -166,8 +175,7 @@ fn push_aside_at<A: Allocator, B: Allocator>(
     requires { length ways.now ≡ 256 }
     ensures { OnOk result ((given : GivenValue) (t : Tree) (s : System) → AreSentAbove given t s above.now
         → AreWays t.roots s ways.now → AreFoundBy s slot Io io.now → AreFoundBy s slot Memory memory.now
-        → AreAsides given t.roots s (IsAtRegister slot reg) (string_bytes asides.old.outside)
-        (string_bytes asides.new.outside) (string_bytes asides.old.unreached) (string_bytes asides.new.unreached)) }
+        → AreAsides given t.roots s (IsAtRegister slot reg) asides.old asides.new) }
 {
     push_aside_in(asides, ways, above, io, Space::Io, slot, reg)?;
     push_aside_in(asides, ways, above, memory, Space::Mem, slot, reg)
@@ -185,8 +193,7 @@ fn push_by_register<A: Allocator, B: Allocator>(
     requires { length ways.now ≡ 256 }
     ensures { OnOk result ((given : GivenValue) (t : Tree) (s : System) → AreSentAbove given t s above.now
         → AreWays t.roots s ways.now → AreFoundBy s slot Io io.now → AreFoundBy s slot Memory memory.now
-        → AreAsides given t.roots s (IsOf slot) (string_bytes asides.old.outside)
-        (string_bytes asides.new.outside) (string_bytes asides.old.unreached) (string_bytes asides.new.unreached)) }
+        → AreAsides given t.roots s (IsOf slot) asides.old asides.new) }
 {
     for register in 0..REGISTERS {
         push_aside_at(asides, ways, above, io, memory, slot, 4 * register)?;
@@ -206,8 +213,7 @@ fn push_asides_of<A: Allocator, B: Allocator>(
     requires { length ways.now ≡ 256 }
     ensures { OnOk result ((given : GivenValue) (t : Tree) (s : System) → AreSentAbove given t s above.now
         → AreWays t.roots s ways.now → AreFoundBy s slot Io io.now → AreFoundBy s slot Memory memory.now
-        → AreAsides given t.roots s (IsOf slot) (string_bytes asides.old.outside)
-        (string_bytes asides.new.outside) (string_bytes asides.old.unreached) (string_bytes asides.new.unreached)) }
+        → AreAsides given t.roots s (IsOf slot) asides.old asides.new) }
 {
     if has_aside(ways, above, io, Space::Io, slot)
         || has_aside(ways, above, memory, Space::Mem, slot)
@@ -225,8 +231,7 @@ fn push_all<A: Allocator + Copy, B: Allocator>(
     above: &[Sent<A>],
 ) -> Result<(), OutOfMemory>
     ensures { OnOk result ((given : GivenValue) (s : System) → AreSentAbove given outline.now s above.now
-        → AreAsides given outline.now.roots s (IsRegionIn s) (string_bytes asides.old.outside)
-        (string_bytes asides.new.outside) (string_bytes asides.old.unreached) (string_bytes asides.new.unreached)) }
+        → AreAsides given outline.now.roots s (IsRegionIn s) asides.old asides.new) }
 {
     let ways = find_ways(alloc, outline)?;
     // These two lists serve all functions.

@@ -1,5 +1,4 @@
 use Rattle.std.proofs.Common.{sym, subst, List}
-use Rattle.std.specs.String.{string_bytes}
 use Rattle.pci_spec.specs.Decoded as decoded
 use Rattle.pci_spec.specs.Decoded.{HasRecords}
 use Rattle.pci_spec.specs.System.{Io, Memory}
@@ -10,15 +9,15 @@ use Rattle.pci_map.proofs.AsideTexts.{none_among, next_function_aside, all_funct
 use Rattle.pci_map.proofs.asides.push_all.Goals as goal
 
 pub loop-function-init : goal.loop-function-init
-loop-function-init g c = λ given s above. none_among given c.args.outline.now.roots s (string_bytes c.args.asides.now.outside) (string_bytes c.args.asides.now.unreached)
+loop-function-init g c = λ given s above. none_among given c.args.outline.now.roots s c.args.asides.now.outside c.args.asides.now.unreached
 
 pub loop-function-preserved : goal.loop-function-preserved
 loop-function-preserved g c = λ given s above.
     let is = record_in s c.records-records.result.now c.loop-function.function-index c.function-item.result (subst (λ (rs : List decoded.Record). HasRecords s rs) (sym c.records-records.ensures.value) above.tree.records)
     c.records-records.ensures.rising c.records-records.ensures.lawful c.loop-function-test.true (sym c.function-item.is) in
-    next_function_aside given c.args.outline.now.roots s c.records-records.result.now c.loop-function.function-index c.function-item.result (string_bytes c.args.asides.now.outside)
-    (string_bytes c.loop-function.asides.outside) (string_bytes c.push_asides_of.new.asides.outside) (string_bytes c.args.asides.now.unreached) (string_bytes c.loop-function.asides.unreached)
-    (string_bytes c.push_asides_of.new.asides.unreached) c.records-records.ensures.rising c.loop-function-test.true (sym c.function-item.is)
+    next_function_aside given c.args.outline.now.roots s c.records-records.result.now c.loop-function.function-index c.function-item.result c.args.asides.now.outside
+    c.loop-function.asides.outside c.push_asides_of.new.asides.outside c.args.asides.now.unreached c.loop-function.asides.unreached
+    c.push_asides_of.new.asides.unreached c.records-records.ensures.rising c.loop-function-test.true (sym c.function-item.is)
     (c.loop-function.invariant given s above)
     (c.in_ok-push_asides_of.ensures given c.args.outline.now s above (subst (AreWays c.args.outline.now.roots s) (sym c.as_slice.ensures.value) (c.in_ok-ways.ensures.ways s above.tree))
     (subst (AreFoundBy s c.function-item.result.slot Io) (sym c.as_slice-io.ensures.value) (c.in_ok-find_both.ensures s is).0)
@@ -26,6 +25,6 @@ loop-function-preserved g c = λ given s above.
 
 pub returns : goal.returns
 returns g c = λ given s above.
-    all_functions_aside given c.args.outline.now.roots s c.records-records.result.now c.loop-function.function-index (string_bytes c.args.asides.now.outside) (string_bytes c.loop-function.asides.outside)
-    (string_bytes c.args.asides.now.unreached) (string_bytes c.loop-function.asides.unreached)
+    all_functions_aside given c.args.outline.now.roots s c.records-records.result.now c.loop-function.function-index c.args.asides.now.outside c.loop-function.asides.outside
+    c.args.asides.now.unreached c.loop-function.asides.unreached
     (subst (λ (rs : List decoded.Record). HasRecords s rs) (sym c.records-records.ensures.value) above.tree.records) c.loop-function-test.false (c.loop-function.invariant given s above)

@@ -1,5 +1,4 @@
 use Rattle.std.proofs.Common.{take}
-use Rattle.std.specs.String.{string_bytes}
 use Rattle.pci_spec.specs.System.{System}
 use Rattle.given_spec.specs.Given.{Given}
 use Rattle.pci_tree.specs.Ways.{slots_of}
@@ -10,5 +9,4 @@ use Rattle.pci_map.proofs.asides.push_all.Given as goal
 abbrev pub invariant-loop-function : goal.invariant-loop-function
 invariant-loop-function g l =
     (given : Given) (s : System) → AreSentAbove given l.outline s l.above
-    → AreAsides given l.outline.roots s (IsAmong (slots_of (take l.function-index l.records))) (string_bytes l.initial.asides.outside) (string_bytes l.asides.outside) (string_bytes l.initial.asides.unreached)
-    (string_bytes l.asides.unreached)
+    → AreAsides given l.outline.roots s (IsAmong (slots_of (take l.function-index l.records))) l.initial.asides l.asides

@@ -1,5 +1,4 @@
 use Rattle.std.proofs.Common.{◌*◌}
-use Rattle.std.specs.String.{string_bytes}
 use Rattle.pci_spec.specs.System.{System, Io, Memory}
 use Rattle.given_spec.specs.Given.{Given}
 use Rattle.pci_tree.specs.Outline.{Tree}
@@ -11,5 +10,4 @@ use Rattle.pci_map.proofs.asides.push_by_register.Given as goal
 abbrev pub invariant-loop-register : goal.invariant-loop-register
 invariant-loop-register g l =
     (given : Given) (t : Tree) (s : System) → AreSentAbove given t s l.above → AreWays t.roots s l.ways → AreFoundBy s l.slot Io l.io → AreFoundBy s l.slot Memory l.memory
-    → AreAsides given t.roots s (IsBelow l.slot (4 * l.register)) (string_bytes l.initial.asides.outside) (string_bytes l.asides.outside) (string_bytes l.initial.asides.unreached)
-    (string_bytes l.asides.unreached)
+    → AreAsides given t.roots s (IsBelow l.slot (4 * l.register)) l.initial.asides l.asides
