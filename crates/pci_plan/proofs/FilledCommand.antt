@@ -1,5 +1,5 @@
 -- What a filling's function has to decode, by its record.
-use Rattle.std.proofs.Common.{◌≡◌, ◌*◌, [], ◌∷◌, map, refl, Bool, true, false, cond, not, ◌||◌, sym, ◌∙◌, ap}
+use Rattle.std.proofs.Common.{◌≡◌, ℕ, ◌+◌, ◌*◌, ◌/◌, ◌<◌, ◌≤◌, [], ◌∷◌, map, refl, Bool, true, false, cond, not, ◌||◌, sym, ◌∙◌, ap, arith}
 use Rattle.std.specs.List.{list_any}
 use Rattle.std.specs.Option.{is_some}
 use Rattle.std.proofs.lemmas.Bool.{both_ways}
@@ -28,6 +28,23 @@ one_if false = refl
 pub two_if : (b : Bool) → 2 * bool_byte b ≡ cond b 2 0
 two_if true = refl
 two_if false = refl
+
+bit_most : (b : Bool) → bool_byte b ≤ 1
+bit_most true = omega arith
+bit_most false = omega arith
+
+-- a word whose two lowest bits are clear has room for them
+pub rest_fits : (word : ℕ) → word < 65536 → word / 4 * 4 < 65536
+rest_fits word small = omega (arith, small)
+
+pub io_fits : (word io : ℕ) (a : Bool) → word < 65536 → io ≡ bool_byte a → word / 4 * 4 + io < 65536
+io_fits word io a small is = let most = bit_most a in omega (arith, small, is, most)
+
+pub memory_fits : (memory : ℕ) (b : Bool) → memory ≡ bool_byte b → 2 * memory < 65536
+memory_fits memory b is = let most = bit_most b in omega (arith, is, most)
+
+pub both_fit : (word io memory : ℕ) (a b : Bool) → word < 65536 → io ≡ bool_byte a → memory ≡ bool_byte b → word / 4 * 4 + io + 2 * memory < 65536
+both_fit word io memory a b small is_io is_memory = let io_most = bit_most a in let memory_most = bit_most b in omega (arith, small, is_io, is_memory, io_most, memory_most)
 
 -- one test or another, where the first one was made, and where the second had to be
 pub or_first : (a b c : Bool) → c ≡ a → c ≡ true → c ≡ (a || b)

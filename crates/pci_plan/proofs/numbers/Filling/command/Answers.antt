@@ -1,10 +1,23 @@
-use Rattle.std.proofs.Common.{◌+◌, ◌*◌, ◌/◌, ◌∙◌, ap, cond}
+use Rattle.std.proofs.Common.{arith, ◌+◌, ◌*◌, ◌/◌, ◌∙◌, ap, cond}
 use mir.Val.{bool_byte}
 use Rattle.pci_spec.specs.Header.{command}
 use Rattle.pci_spec.specs.Machine.{without_low}
 use Rattle.plan_spec.specs.Planning.Numbers.{needs_io, needs_memory}
-use Rattle.pci_plan.proofs.FilledCommand.{one_if, two_if}
+use Rattle.pci_plan.proofs.FilledCommand.{one_if, two_if, rest_fits, io_fits, memory_fits, both_fit}
 use Rattle.pci_plan.proofs.numbers.Filling.command.Goals as goal
+
+pub overflow_mul-rest : goal.overflow_mul-rest
+overflow_mul-rest c = omega (arith, rest_fits c.u16.result c.u16.type_inv)
+
+pub overflow_add-result : goal.overflow_add-result
+overflow_add-result c = omega (arith, io_fits c.u16.result c.from.result c.needs_io.result c.u16.type_inv c.from.ensures)
+
+pub overflow_mul-result : goal.overflow_mul-result
+overflow_mul-result c = omega (arith, memory_fits c.from-2.result c.needs_memory.result c.from-2.ensures)
+
+pub overflow_add-result-2 : goal.overflow_add-result-2
+overflow_add-result-2 c =
+    omega (arith, both_fit c.u16.result c.from.result c.from-2.result c.needs_io.result c.needs_memory.result c.u16.type_inv c.from.ensures c.from-2.ensures)
 
 pub returns : goal.returns
 returns c of =
