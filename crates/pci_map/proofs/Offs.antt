@@ -1,8 +1,8 @@
 -- The lines of BARs that are off, and lines below a heading.
-use Rattle.std.proofs.Common.{◌≡◌, ℕ, List, [], ◌∷◌, ◌++◌, map, refl, sym, ◌∙◌, ap, subst, codes, Bool, true, false, not, if◌then◌else◌, append-nil}
+use Rattle.std.proofs.Common.{◌≡◌, ℕ, ◌+◌, ◌<◌, List, [], ◌∷◌, ◌++◌, map, take, length, get_or, refl, sym, ◌∙◌, ap, subst, codes, Bool, true, false, not, if◌then◌else◌, append-nil}
 use Rattle.std.specs.List.{Contains, flat_map, filter}
 use Rattle.std.proofs.lemmas.Grind.{flat_map-append}
-use Rattle.std.proofs.lemmas.List.{append_assoc}
+use Rattle.std.proofs.lemmas.List.{append_assoc, map_more}
 use Rattle.pci_spec.specs.Slot.{Slot}
 use Rattle.pci_spec.specs.Text.{hex_byte, slot_text}
 use Rattle.pci_spec.specs.Header.{command}
@@ -88,3 +88,13 @@ section_some heading [] old one two new some first second last = absurd (some re
 section_some heading (x ∷ xs) old one two new some first second last =
     last ∙ ap (λ t. t ++ (x ∷ xs)) (second ∙ ap (λ t. t ++ codes "\n") first)
     ∙ append_assoc (old ++ heading) (codes "\n") (x ∷ xs) ∙ append_assoc old heading (10 ∷ x ∷ xs)
+
+-- the text of one more, behind those of the ones before it
+pub texts_more : {X Y : Type 0} (value : X → Y) (line : Y → List ℕ) (xs : List X) (k : ℕ) (x : X) (start now new : List ℕ) → k < length xs → x ≡ get_or xs k x
+    → now ≡ start ++ flat_map line (map value (take k xs)) → new ≡ now ++ line (value x) → new ≡ start ++ flat_map line (map value (take (k + 1) xs))
+texts_more value line xs k x start now new within at before pushed =
+    let early = map value (take k xs) in
+    let more : map value (take (k + 1) xs) ≡ early ++ value x ∷ [] = map_more value xs k x within ∙ ap (λ y. early ++ value y ∷ []) (sym at) in
+    pushed ∙ ap (λ t. t ++ line (value x)) before ∙ append_assoc start (flat_map line early) (line (value x))
+    ∙ ap (λ t. start ++ (flat_map line early ++ t)) (sym (append-nil (line (value x))))
+    ∙ ap (λ t. start ++ t) (sym (ap (flat_map line) more ∙ flat_map-append line early (value x ∷ [])))
