@@ -1,14 +1,13 @@
 use crate::host_list::is_good_host_list;
 use crate::list_word::list_of_word;
 use crate::slot_list::slots_of_word;
-use pci_base::memory::OutOfMemory;
-use pci_base::range::{Range, RootRange};
+use pci_base::range::RootRange;
 use pci_base::slot::Slot;
 use pci_tree::roots::Roots;
 use std::alloc::Global;
 
 /// Words of lists, and their ranges: the root bus or None, the first and the last address.
-const LISTS: [(&str, &[(Option<u8>, u64, u64)]); 16] = [
+const LISTS: &[(&str, &[(Option<u8>, u64, u64)])] = &[
     ("none", &[]),
     ("0-0", &[(None, 0, 0)]),
     ("1000-1fff", &[(None, 0x1000, 0x1fff)]),
@@ -34,7 +33,7 @@ const LISTS: [(&str, &[(Option<u8>, u64, u64)]); 16] = [
 ];
 
 /// Words of no list.
-const OTHERS: [&str; 40] = [
+const OTHERS: &[&str] = &[
     "",
     ",",
     "none,",
@@ -78,7 +77,7 @@ const OTHERS: [&str; 40] = [
 ];
 
 /// Lists of what the host sends to the root buses 00 and 40, and whether they are taken.
-const HOST_LISTS: [(&str, bool); 18] = [
+const HOST_LISTS: &[(&str, bool)] = &[
     ("none", true),
     ("1000-1fff", true),
     ("0-ffffffffffffffff", true),
@@ -100,7 +99,7 @@ const HOST_LISTS: [(&str, bool); 18] = [
 ];
 
 /// Words of slots, and the slots: bus, device and function.
-const SLOT_LISTS: [(&str, &[(u8, u8, u8)]); 6] = [
+const SLOT_LISTS: &[(&str, &[(u8, u8, u8)])] = &[
     ("00:02.0", &[(0x00, 0x02, 0)]),
     ("ff:1f.7", &[(0xff, 0x1f, 7)]),
     ("00:02.0,01:00.0", &[(0x00, 0x02, 0), (0x01, 0x00, 0)]),
@@ -113,7 +112,7 @@ const SLOT_LISTS: [(&str, &[(u8, u8, u8)]); 6] = [
 ];
 
 /// Words of no slots.
-const NO_SLOTS: [&str; 16] = [
+const NO_SLOTS: &[&str] = &[
     "",
     ",",
     "none",
@@ -132,89 +131,100 @@ const NO_SLOTS: [&str; 16] = [
     "0000:00:02.0",
 ];
 
+/// Whether a range is as the table has it.
+fn is_range(one: &RootRange, named: &(Option<u8>, u64, u64)) -> bool {
+    (one.root, one.range.first, one.range.last) == *named
+}
+
 /// The ranges as the table has them.
 fn same(list: &[RootRange], ranges: &[(Option<u8>, u64, u64)]) -> bool {
     list.len() == ranges.len()
-        && list.iter().zip(ranges).all(|(one, (root, first, last))| {
-            *one == RootRange {
-                root: *root,
-                range: Range {
-                    first: *first,
-                    last: *last,
-                },
-            }
-        })
+        && list
+            .iter()
+            .zip(ranges)
+            .all(|(one, named)| is_range(one, named))
 }
 
-fn has_ranges(
-    alloc: Global,
-    word: &str,
-    ranges: &[(Option<u8>, u64, u64)],
-) -> Result<bool, OutOfMemory> {
-    Ok(match list_of_word(alloc, word)? {
-        Some(list) => same(&list, ranges),
-        None => false,
-    })
+fn has_ranges(alloc: Global, word: &str, ranges: &[(Option<u8>, u64, u64)]) -> bool {
+    match list_of_word(alloc, word) {
+        Ok(Some(list)) => same(&list, ranges),
+        _ => false,
+    }
+}
+
+fn is_no_list(alloc: Global, word: &str) -> bool {
+    matches!(list_of_word(alloc, word), Ok(None))
+}
+
+/// Whether a slot is as the table has it.
+fn is_slot(slot: Slot, numbers: &(u8, u8, u8)) -> bool {
+    let (bus, dev, fun) = *numbers;
+    Slot::new(bus, dev, fun) == Some(slot)
 }
 
 /// The slots as the table has them.
 fn same_slots(slots: &[Slot], numbers: &[(u8, u8, u8)]) -> bool {
     slots.len() == numbers.len()
-        && slots.iter().zip(numbers).all(|(slot, (bus, dev, fun))| Slot::new(*bus, *dev, *fun)
-            == Some(*slot))
+        && slots
+            .iter()
+            .zip(numbers)
+            .all(|(slot, named)| is_slot(*slot, named))
 }
 
-fn has_slots(alloc: Global, word: &str, numbers: &[(u8, u8, u8)]) -> Result<bool, OutOfMemory> {
-    Ok(match slots_of_word(alloc, word)? {
-        Some(slots) => same_slots(&slots, numbers),
-        None => false,
-    })
+fn has_slots(alloc: Global, word: &str, numbers: &[(u8, u8, u8)]) -> bool {
+    match slots_of_word(alloc, word) {
+        Ok(Some(slots)) => same_slots(&slots, numbers),
+        _ => false,
+    }
+}
+
+fn is_no_slots(alloc: Global, word: &str) -> bool {
+    matches!(slots_of_word(alloc, word), Ok(None))
+}
+
+/// Whether a list of what the host sends is taken, where it is one.
+fn is_taken(alloc: Global, roots: &Roots, word: &str) -> Option<bool> {
+    match list_of_word(alloc, word) {
+        Ok(Some(list)) => Some(is_good_host_list(roots, &list)),
+        _ => None,
+    }
 }
 
 #[test]
 fn a_list_has_its_slots(rt: HostRuntime) {
     for (word, numbers) in SLOT_LISTS {
-        assert!(rt; has_slots(rt.alloc(), word, numbers) == Ok(true), "{word}");
+        assert!(rt; has_slots(rt.alloc(), word, numbers), "{word}");
     }
 }
 
 #[test]
 fn words_of_no_slots_are_refused(rt: HostRuntime) {
     for word in NO_SLOTS {
-        let is_refused = match slots_of_word(rt.alloc(), word) {
-            Ok(slots) => slots.is_none(),
-            Err(OutOfMemory) => false,
-        };
-        assert!(rt; is_refused, "{word}");
+        assert!(rt; is_no_slots(rt.alloc(), word), "{word}");
     }
 }
 
 #[test]
 fn a_list_has_its_ranges_in_the_order_of_its_word(rt: HostRuntime) {
     for (word, ranges) in LISTS {
-        assert!(rt; has_ranges(rt.alloc(), word, ranges) == Ok(true), "{word}");
+        assert!(rt; has_ranges(rt.alloc(), word, ranges), "{word}");
     }
 }
 
 #[test]
 fn other_words_are_refused(rt: HostRuntime) {
     for word in OTHERS {
-        let is_refused = match list_of_word(rt.alloc(), word) {
-            Ok(list) => list.is_none(),
-            Err(OutOfMemory) => false,
-        };
-        assert!(rt; is_refused, "{word}");
+        assert!(rt; is_no_list(rt.alloc(), word), "{word}");
     }
 }
 
 #[test]
 fn lists_of_what_the_host_sends_are_taken_or_refused(rt: HostRuntime) {
     let roots = Roots::of(&[0x00, 0x40]).unwrap_or(Roots::host());
-    for (word, is_taken) in HOST_LISTS {
-        let taken = match list_of_word(rt.alloc(), word) {
-            Ok(Some(list)) => Some(is_good_host_list(&roots, &list)),
-            _ => None,
-        };
-        assert!(rt; taken == Some(is_taken), "{word}");
+    for (word, taken) in HOST_LISTS {
+        assert!(rt;
+            is_taken(rt.alloc(), &roots, word) == Some(*taken),
+            "{word}"
+        );
     }
 }
