@@ -1,12 +1,10 @@
 //! Writes that stop: what is left after each beginning of a plan's writes is judged.
-use crate::samples::{SAMPLES, Sample, nth_sample};
+use crate::samples::{SAMPLES, Sample};
 use pci_base::slot::Slot;
 use pci_check::check::check;
 use pci_check::verdict::Verdict;
 use pci_dump::block::Block;
 use pci_dump::dump::Dump;
-use pci_dump::reader::read_dump;
-use pci_dump::std_streams::Incoming;
 use pci_machine::machine::Machine;
 use pci_machine::port::ConfigPort;
 use pci_place::pools::Pools;
@@ -18,18 +16,14 @@ use pci_tree::admitted::Admitted;
 use pci_tree::roots::Roots;
 use std::alloc::Global;
 use std::test::Fail;
-use test_support::board::Texts;
+use test_support::row::{Row, dumps_of_rows};
 
-/// The dump of a text.
-fn read(alloc: Global, text: &str) -> Option<Dump> {
-    read_dump(alloc, &mut Incoming::new(text.as_bytes())).ok()
-}
-
-/// The admission of two texts.
-fn admitted(alloc: Global, texts: &Texts, roots: Roots) -> Option<Admitted> {
-    let dump = read(alloc, texts.dump.as_str())?;
-    let probe = read(alloc, texts.probe.as_str())?;
-    admit_with(alloc, dump, probe, roots).ok()
+/// A board with these roots.
+fn admitted(alloc: Global, board: &[Row], roots: Roots) -> Option<Admitted> {
+    match dumps_of_rows(alloc, board) {
+        Some((dump, probe)) => admit_with(alloc, dump, probe, roots).ok(),
+        None => None,
+    }
 }
 
 /// An equal dump.
@@ -146,20 +140,19 @@ fn is_planned(alloc: Global, start: &Admitted, pools: &Pools, safe_from: usize) 
 
 /// Whether the writes of a sample may stop where it says.
 fn is_safe_sample(alloc: Global, sample: &Sample) -> bool {
-    let Some((pools, roots)) = sample.place.read(alloc) else {
+    let Some(roots) = Roots::of(sample.roots) else {
         return false;
     };
-    match admitted(alloc, &sample.start, roots) {
-        Some(start) => is_planned(alloc, &start, &pools, sample.safe_from),
+    match admitted(alloc, sample.board, roots) {
+        Some(start) => is_planned(alloc, &start, &sample.pools, sample.safe_from),
         None => false,
     }
 }
 
 #[test]
 fn writes_may_stop_anywhere_once_they_are_safe(rt: HostRuntime) -> Result<(), Fail> {
-    for n in 0..SAMPLES {
-        let sample = nth_sample(rt.alloc(), n)?;
-        assert!(rt; is_safe_sample(rt.alloc(), &sample), "sample {n}");
+    for (n, sample) in SAMPLES.iter().enumerate() {
+        assert!(rt; is_safe_sample(rt.alloc(), sample), "sample {n}");
     }
     Ok(())
 }

@@ -14,4 +14,5 @@ pub mod fakes;
 pub mod planned;
 pub mod refusing;
 pub mod registers;
+pub mod row;
 pub mod samples;
