@@ -9,6 +9,7 @@ use pci_early::early::faults_from;
 use pci_function::fault::Fault;
 use pci_tree::admit::outline_of;
 use pci_tree::roots::Roots;
+use std::alloc::Global;
 use std::test::Fail;
 
 /// Registers of four bytes, by their offsets; all else is 0.
@@ -30,12 +31,11 @@ const WINDOW: (u8, u32) = (0x20, 0xfff0_fff0);
 /// Where no function answers.
 const NOTHING: (u8, u32) = (0x00, 0xffff_ffff);
 
-/// Status says that there is a capabilities list, and it begins at 40h.
-const LIST: [(u8, u32); 2] = [(0x04, 0x0010_0000), (0x34, 0x40)];
+/// Status says that there is a capabilities list.
+const LISTED: (u8, u32) = (0x04, 0x0010_0000);
 
-fn slot(bus: u8, device: u8, function: u8) -> Result<Slot, Fail> {
-    Ok(Slot::new(bus, device, function).ok_or("a slot")?)
-}
+/// It begins at 40h.
+const LIST: (u8, u32) = (0x34, 0x40);
 
 fn image(registers: Registers) -> Image {
     let mut image = Image([0; IMAGE_LEN]);
@@ -51,62 +51,113 @@ fn image(registers: Registers) -> Image {
 }
 
 /// Appends a function to a dump.
-fn add(dump: &mut Dump, slot: Slot, registers: Registers) -> Result<(), Fail> {
-    dump.push(Block {
+fn add(dump: &mut Dump, slot: Slot, registers: Registers) -> bool {
+    let block = Block {
         slot,
         title: None,
         image: image(registers),
-    })?;
-    Ok(())
+    };
+    dump.push(block).is_ok()
+}
+
+/// A line for each fault.
+fn lines_of(alloc: Global, faults: &[Fault]) -> Option<String> {
+    let mut text = String::new(alloc);
+    for fault in faults {
+        writeln!(text, "{fault}").ok()?;
+    }
+    Some(text)
+}
+
+/// The same of the faults of two texts from a first one on.
+fn lines_from(
+    alloc: Global,
+    dump: &Dump,
+    probe: &Dump,
+    roots: &Roots,
+    first: Fault,
+) -> Option<String> {
+    match faults_from(alloc, dump, probe, roots, first) {
+        Ok(faults) => lines_of(alloc, &faults),
+        Err(_) => None,
+    }
 }
 
 /// All faults of a dump and its probe, in one text.
-fn list_of(rt: &HostRuntime, dump: &Dump, probe: &Dump, roots: Roots) -> Result<String, Fail> {
-    let mut text = String::new(rt.alloc());
-    match outline_of(rt.alloc(), dump, probe, roots) {
-        Ok(_) => Ok(text),
-        Err(Refused::Memory) => Err("no memory".into()),
-        Err(Refused::Fault(first)) => {
-            for fault in &faults_from(rt.alloc(), dump, probe, &roots, first)? {
-                text.push_str(format!(in rt.alloc(); "{fault}\n")?.as_str())?;
-            }
-            Ok(text)
-        }
+fn list_of(alloc: Global, dump: &Dump, probe: &Dump, roots: Roots) -> Option<String> {
+    match outline_of(alloc, dump, probe, roots) {
+        Ok(_) => Some(String::new(alloc)),
+        Err(Refused::Memory) => None,
+        Err(Refused::Fault(first)) => lines_from(alloc, dump, probe, &roots, first),
     }
 }
 
 /// The same of some functions.
-fn list_for(rt: &HostRuntime, roots: Roots, functions: &[Placed]) -> Result<String, Fail> {
-    let mut dump = Dump::empty(rt.alloc());
-    let mut probe = Dump::empty(rt.alloc());
-    for &(bus, device, function, registers, read_backs) in functions {
-        let slot = slot(bus, device, function)?;
-        add(&mut dump, slot, registers)?;
-        add(&mut probe, slot, read_backs)?;
+fn list_for(alloc: Global, roots: Roots, functions: &[Placed]) -> Option<String> {
+    let mut dump = Dump::empty(alloc);
+    let mut probe = Dump::empty(alloc);
+    for (bus, device, function, registers, read_backs) in functions {
+        let slot = Slot::new(*bus, *device, *function)?;
+        if !add(&mut dump, slot, registers) || !add(&mut probe, slot, read_backs) {
+            return None;
+        }
     }
-    list_of(rt, &dump, &probe, roots)
+    list_of(alloc, &dump, &probe, roots)
+}
+
+/// Fails where the list of some functions isn't that.
+fn is_listed(
+    rt: &HostRuntime,
+    roots: &[u8],
+    functions: &[Placed],
+    wanted: &str,
+) -> Result<(), Fail> {
+    let roots = Roots::of(roots).ok_or("no roots")?;
+    let list = list_for(rt.alloc(), roots, functions).ok_or("no list")?;
+    if list.as_str() == wanted {
+        Ok(())
+    } else {
+        Err(Fail::new(format_args!("listed:\n{list}")))
+    }
+}
+
+/// A text of some devices of bus 00, all with these registers.
+fn devices(alloc: Global, devices: &[u8], registers: Registers) -> Option<Dump> {
+    let mut dump = Dump::empty(alloc);
+    for device in devices {
+        if !add(&mut dump, Slot::new(0, *device, 0)?, registers) {
+            return None;
+        }
+    }
+    Some(dump)
+}
+
+/// All faults of a dump of some devices of bus 00, at which nothing answers, and of a probe of others.
+fn list_of_devices(alloc: Global, dumped: &[u8], probed: &[u8]) -> Option<String> {
+    match (
+        devices(alloc, dumped, &[NOTHING]),
+        devices(alloc, probed, &[]),
+    ) {
+        (Some(dump), Some(probe)) => list_of(alloc, &dump, &probe, Roots::host()),
+        _ => None,
+    }
 }
 
 #[test]
 fn each_slot_of_one_text_alone_has_a_line(rt: HostRuntime) -> Result<(), Fail> {
-    let mut dump = Dump::empty(rt.alloc());
-    let mut probe = Dump::empty(rt.alloc());
-    for device in [1, 2, 5, 6] {
-        add(&mut dump, slot(0, device, 0)?, &[NOTHING])?;
+    match list_of_devices(rt.alloc(), &[1, 2, 5, 6], &[2, 3, 5, 7]) {
+        Some(list) => assert!(rt;
+            list.as_str()
+                == "30 SlotsDiffer 00:01.0\n30 SlotsDiffer 00:03.0\n30 SlotsDiffer 00:06.0\n30 SlotsDiffer 00:07.0\n"
+        ),
+        None => assert!(rt; false),
     }
-    for device in [2, 3, 5, 7] {
-        add(&mut probe, slot(0, device, 0)?, &[])?;
-    }
-    assert!(rt;
-        list_of(&rt, &dump, &probe, Roots::host())?.as_str()
-            == "30 SlotsDiffer 00:01.0\n30 SlotsDiffer 00:03.0\n30 SlotsDiffer 00:06.0\n30 SlotsDiffer 00:07.0\n"
-    );
     Ok(())
 }
 
 #[test]
 fn each_function_has_one_line_of_identity(rt: HostRuntime) -> Result<(), Fail> {
-    let functions: [Placed; 4] = [
+    const FUNCTIONS: &[Placed] = &[
         (0, 1, 0, &[NOTHING], &[(0x3c, 1)]),
         (
             0,
@@ -118,23 +169,20 @@ fn each_function_has_one_line_of_identity(rt: HostRuntime) -> Result<(), Fail> {
         (0, 3, 0, &[DEVICE, (0x04, 0x20)], &[]),
         (0, 4, 0, &[DEVICE, (0x0c, 0x0002_0000)], &[(0x3c, 1)]),
     ];
-    assert!(rt;
-        list_for(&rt, Roots::host(), &functions)?.as_str()
-            == "20 NoVendor 00:01.0\n31 StrayProbe 00:02.0 3d\n21 HeaderKind 00:04.0\n"
-    );
-    Ok(())
+    const LINES: &str = "20 NoVendor 00:01.0\n31 StrayProbe 00:02.0 3d\n21 HeaderKind 00:04.0\n";
+    is_listed(&rt, &[0], FUNCTIONS, LINES)
 }
 
 #[test]
 fn each_register_has_one_line(rt: HostRuntime) -> Result<(), Fail> {
-    let functions: [Placed; 4] = [
+    const FUNCTIONS: &[Placed] = &[
         (
             0,
             1,
             0,
             &[
                 DEVICE,
-                LIST[0],
+                LISTED,
                 (0x34, 0x10),
                 (0x10, 2),
                 (0x18, 4),
@@ -157,19 +205,18 @@ fn each_register_has_one_line(rt: HostRuntime) -> Result<(), Fail> {
             &[DEVICE, BRIDGE, TO_BUS_1, (0x10, 1)],
             &[(0x14, 0xf), (0x1c, 0xf1f0), (0x20, 0xfff0_fff1), (0x24, 1)],
         ),
-        (0, 4, 0, &[DEVICE, LIST[0], LIST[1], (0x40, 0x4000)], &[]),
+        (0, 4, 0, &[DEVICE, LISTED, LIST, (0x40, 0x4000)], &[]),
     ];
-    let lines =
+    const LINES: &str =
         "22 BarType 00:01.0 10\n23 BarMask 00:01.0 14\n24 BarPair 00:01.0 24\n25 RomMask 00:01.0 30\n\
         27 CapRange 00:01.0 10\n23 BarMask 00:03.0 10\n23 BarMask 00:03.0 14\n26 WindowMask 00:03.0 1c\n\
         26 WindowMask 00:03.0 20\n26 WindowMask 00:03.0 24\n28 CapLoop 00:04.0 40\n";
-    assert!(rt; list_for(&rt, Roots::host(), &functions)?.as_str() == lines);
-    Ok(())
+    is_listed(&rt, &[0], FUNCTIONS, LINES)
 }
 
 #[test]
 fn each_fault_of_a_profile_has_a_line(rt: HostRuntime) -> Result<(), Fail> {
-    let functions: [Placed; 3] = [
+    const FUNCTIONS: &[Placed] = &[
         (
             0,
             1,
@@ -180,7 +227,7 @@ fn each_fault_of_a_profile_has_a_line(rt: HostRuntime) -> Result<(), Fail> {
                 (0x08, 0x0604_0100),
                 BRIDGE,
                 TO_BUS_1,
-                LIST[1],
+                LIST,
                 (0x3c, 0x004c_0000),
                 (0x40, 1),
                 (0x44, 3),
@@ -190,29 +237,25 @@ fn each_fault_of_a_profile_has_a_line(rt: HostRuntime) -> Result<(), Fail> {
         (0, 2, 1, &[DEVICE], &[]),
         (0, 3, 0, &[DEVICE, (0x04, 0x20)], &[]),
     ];
-    let lines =
+    const LINES: &str =
         "51 PaletteSnoop 00:01.0\n52 VgaEnable 00:01.0\n53 IsaEnable 00:01.0\n54 Subtractive 00:01.0\n\
         55 InReset 00:01.0\n56 PowerState 00:01.0\n51 PaletteSnoop 00:03.0\n";
-    assert!(rt; list_for(&rt, Roots::host(), &functions)?.as_str() == lines);
-    Ok(())
+    is_listed(&rt, &[0], FUNCTIONS, LINES)
 }
 
 #[test]
 fn each_fault_of_a_place_has_a_line(rt: HostRuntime) -> Result<(), Fail> {
-    let functions: [Placed; 4] = [
+    const FUNCTIONS: &[Placed] = &[
         (0, 1, 1, &[DEVICE], &[]),
         (1, 0, 0, &[DEVICE], &[]),
         (2, 3, 4, &[DEVICE, BRIDGE, TO_BUS_1], &[WINDOW]),
         (3, 0, 0, &[DEVICE], &[]),
     ];
-    let lines =
+    const LINES: &str =
         "50 LoneFunction 00:01.1\n50 LoneFunction 02:03.4\n58 Orphan 02:03.4\n57 BusRange 02:03.4\n\
         58 Orphan 03:00.0\n";
-    assert!(rt; list_for(&rt, Roots::host(), &functions)?.as_str() == lines);
-    let roots = Roots::of(&[0, 2, 3]).ok_or("roots")?;
-    assert!(rt;
-        list_for(&rt, roots, &functions)?.as_str()
-            == "50 LoneFunction 00:01.1\n50 LoneFunction 02:03.4\n57 BusRange 02:03.4\n"
-    );
-    Ok(())
+    is_listed(&rt, &[0], FUNCTIONS, LINES)?;
+    const OF_THREE: &str =
+        "50 LoneFunction 00:01.1\n50 LoneFunction 02:03.4\n57 BusRange 02:03.4\n";
+    is_listed(&rt, &[0, 2, 3], FUNCTIONS, OF_THREE)
 }

@@ -1,19 +1,15 @@
 //! The lists of all faults of judging.
-use pci_dump::reader::read_dump;
-use pci_dump::std_streams::Incoming;
+use crate::boards::admitted;
 use pci_faults::judging::all_of_judging;
-use pci_tree::admit::admit_with;
-use pci_tree::roots::Roots;
+use pci_tree::admitted::Admitted;
 use std::alloc::Global;
 use std::test::Fail;
-use test_support::board::{Function, Texts, bridge, device, texts_of};
+use test_support::row::Row;
+use test_support::row::Row::{Bridge, Device};
 
-/// A line for each fault of an admitted pair of texts.
-fn lines_of(alloc: Global, texts: &Texts, roots: Roots) -> Option<String> {
-    let dump = read_dump(alloc, &mut Incoming::new(texts.dump.as_bytes())).ok()?;
-    let probe = read_dump(alloc, &mut Incoming::new(texts.probe.as_bytes())).ok()?;
-    let admitted = admit_with(alloc, dump, probe, roots).ok()?;
-    let faults = all_of_judging(alloc, admitted.outline()).ok()?;
+/// A line for each fault of a board.
+fn lines_of(alloc: Global, board: &Admitted) -> Option<String> {
+    let faults = all_of_judging(alloc, board.outline()).ok()?;
     let mut lines = String::new(alloc);
     for fault in faults.iter() {
         writeln!(lines, "{fault}").ok()?;
@@ -21,28 +17,33 @@ fn lines_of(alloc: Global, texts: &Texts, roots: Roots) -> Option<String> {
     Some(lines)
 }
 
+/// Whether they are these.
+fn are_lines(alloc: Global, board: &Admitted, wanted: &str) -> bool {
+    match lines_of(alloc, board) {
+        Some(lines) => lines.as_str() == wanted,
+        None => false,
+    }
+}
+
 /// Whether the faults of a board are these lines.
-fn has_lines(alloc: Global, board: &[Function], roots: &[u8], wanted: &str) -> bool {
-    match (texts_of(alloc, board), Roots::of(roots)) {
-        (Ok(texts), Some(roots)) => match lines_of(alloc, &texts, roots) {
-            Some(lines) => lines.as_str() == wanted,
-            None => false,
-        },
-        _ => false,
+fn has_lines(alloc: Global, board: &[Row], roots: &[u8], wanted: &str) -> bool {
+    match admitted(alloc, board, roots) {
+        Some(board) => are_lines(alloc, &board, wanted),
+        None => false,
     }
 }
 
 #[test]
 fn a_clash_is_told_at_the_least_address_of_each_later_region(rt: HostRuntime) -> Result<(), Fail> {
-    let board = [
-        device("00:01.0", 2, &[(0x10, 0xe000_0000, 0xf000_0000)]),
-        device("00:02.0", 2, &[(0x10, 0xe100_0000, 0xfff0_0000)]),
-        device("00:03.0", 2, &[(0x10, 0xe080_0000, 0xfff0_0000)]),
+    const BOARD: &[Row] = &[
+        Device("00:01.0", 2, &[(0x10, 0xe000_0000, 0xf000_0000)]),
+        Device("00:02.0", 2, &[(0x10, 0xe100_0000, 0xfff0_0000)]),
+        Device("00:03.0", 2, &[(0x10, 0xe080_0000, 0xfff0_0000)]),
     ];
     assert!(rt;
         has_lines(
             rt.alloc(),
-            &board,
+            BOARD,
             &[0],
             "61 Clash bus 00 mem 00000000e0800000 00:01.0 10 00:03.0 10\n\
          61 Clash bus 00 mem 00000000e1000000 00:01.0 10 00:02.0 10\n",
@@ -53,10 +54,10 @@ fn a_clash_is_told_at_the_least_address_of_each_later_region(rt: HostRuntime) ->
 
 #[test]
 fn each_region_is_named_second_once(rt: HostRuntime) -> Result<(), Fail> {
-    let board = [
-        device("00:01.0", 2, &[(0x10, 0xe000_0000, 0xffe0_0000)]),
-        device("00:02.0", 2, &[(0x10, 0xe010_0000, 0xfff0_0000)]),
-        device(
+    const BOARD: &[Row] = &[
+        Device("00:01.0", 2, &[(0x10, 0xe000_0000, 0xffe0_0000)]),
+        Device("00:02.0", 2, &[(0x10, 0xe010_0000, 0xfff0_0000)]),
+        Device(
             "00:03.0",
             2,
             &[
@@ -68,7 +69,7 @@ fn each_region_is_named_second_once(rt: HostRuntime) -> Result<(), Fail> {
     assert!(rt;
         has_lines(
             rt.alloc(),
-            &board,
+            BOARD,
             &[0],
             "61 Clash bus 00 mem 00000000e0100000 00:01.0 10 00:02.0 10\n\
          61 Clash bus 00 mem 00000000e0100000 00:01.0 10 00:03.0 10\n\
@@ -80,10 +81,10 @@ fn each_region_is_named_second_once(rt: HostRuntime) -> Result<(), Fail> {
 
 #[test]
 fn each_bar_and_rom_behind_a_bridge_that_is_off_has_a_line(rt: HostRuntime) -> Result<(), Fail> {
-    let board = [
-        bridge("00:01.0", 0, (0, 1, 1), &[(0x20, 0xe000_e000, 0xfff0_fff0)]),
-        device("01:00.0", 2, &[(0x10, 0xe000_0000, 0xffff_f000)]),
-        device(
+    const BOARD: &[Row] = &[
+        Bridge("00:01.0", 0, (0, 1, 1), &[(0x20, 0xe000_e000, 0xfff0_fff0)]),
+        Device("01:00.0", 2, &[(0x10, 0xe000_0000, 0xffff_f000)]),
+        Device(
             "01:01.0",
             2,
             &[
@@ -95,7 +96,7 @@ fn each_bar_and_rom_behind_a_bridge_that_is_off_has_a_line(rt: HostRuntime) -> R
     assert!(rt;
         has_lines(
             rt.alloc(),
-            &board,
+            BOARD,
             &[0],
             "60 Unreached 01:00.0 10 mem 00000000e0000000 bridge 00:01.0\n\
          60 Unreached 01:01.0 10 mem 00000000e0010000 bridge 00:01.0\n\
@@ -107,8 +108,8 @@ fn each_bar_and_rom_behind_a_bridge_that_is_off_has_a_line(rt: HostRuntime) -> R
 
 #[test]
 fn the_least_address_that_the_first_bridge_misses_is_told(rt: HostRuntime) -> Result<(), Fail> {
-    let board = [
-        bridge(
+    const BOARD: &[Row] = &[
+        Bridge(
             "00:01.0",
             2,
             (0, 1, 1),
@@ -117,12 +118,12 @@ fn the_least_address_that_the_first_bridge_misses_is_told(rt: HostRuntime) -> Re
                 (0x24, 0xe020_e020, 0xfff0_fff0),
             ],
         ),
-        device("01:00.0", 2, &[(0x10, 0xe000_0008, 0xffc0_0008)]),
+        Device("01:00.0", 2, &[(0x10, 0xe000_0008, 0xffc0_0008)]),
     ];
     assert!(rt;
         has_lines(
             rt.alloc(),
-            &board,
+            BOARD,
             &[0],
             "60 Unreached 01:00.0 10 mem 00000000e0100000 bridge 00:01.0\n",
         )
@@ -132,15 +133,15 @@ fn the_least_address_that_the_first_bridge_misses_is_told(rt: HostRuntime) -> Re
 
 #[test]
 fn splits_follow_clashes(rt: HostRuntime) -> Result<(), Fail> {
-    let board = [
-        device("00:01.0", 2, &[(0x10, 0xe000_0000, 0xfff0_0000)]),
-        device("40:01.0", 2, &[(0x10, 0xe000_0000, 0xfff0_0000)]),
-        device("40:02.0", 2, &[(0x10, 0xe008_0000, 0xfff8_0000)]),
+    const BOARD: &[Row] = &[
+        Device("00:01.0", 2, &[(0x10, 0xe000_0000, 0xfff0_0000)]),
+        Device("40:01.0", 2, &[(0x10, 0xe000_0000, 0xfff0_0000)]),
+        Device("40:02.0", 2, &[(0x10, 0xe008_0000, 0xfff8_0000)]),
     ];
     assert!(rt;
         has_lines(
             rt.alloc(),
-            &board,
+            BOARD,
             &[0, 0x40],
             "61 Clash bus 40 mem 00000000e0080000 40:01.0 10 40:02.0 10\n\
          62 Split mem 00000000e0000000 00:01.0 10 40:01.0 10\n\
@@ -152,7 +153,7 @@ fn splits_follow_clashes(rt: HostRuntime) -> Result<(), Fail> {
 
 #[test]
 fn a_sound_board_has_none(rt: HostRuntime) -> Result<(), Fail> {
-    let board = [device("00:01.0", 2, &[(0x10, 0xe000_0000, 0xfff0_0000)])];
-    assert!(rt; has_lines(rt.alloc(), &board, &[0], ""));
+    const BOARD: &[Row] = &[Device("00:01.0", 2, &[(0x10, 0xe000_0000, 0xfff0_0000)])];
+    assert!(rt; has_lines(rt.alloc(), BOARD, &[0], ""));
     Ok(())
 }

@@ -1,50 +1,46 @@
 //! The text of a map.
+use crate::boards::admitted;
 use pci_claims::given::Given;
-use pci_dump::reader::read_dump;
-use pci_dump::std_streams::Incoming;
 use pci_map::text::map_text;
-use pci_tree::admit::admit_with;
-use pci_tree::roots::Roots;
+use pci_tree::admitted::Admitted;
 use std::alloc::Global;
 use std::test::Fail;
-use test_support::board::{Function, Texts, bridge, device, texts_of};
+use test_support::row::Row;
+use test_support::row::Row::{Bridge, Device};
 
-/// The map of an admitted pair of texts.
-fn lines_of(alloc: Global, texts: &Texts, roots: Roots) -> Option<String> {
-    let dump = read_dump(alloc, &mut Incoming::new(texts.dump.as_bytes())).ok()?;
-    let probe = read_dump(alloc, &mut Incoming::new(texts.probe.as_bytes())).ok()?;
-    let admitted = admit_with(alloc, dump, probe, roots).ok()?;
+/// Whether the lines of a board, with nothing given, are these.
+fn are_lines(alloc: Global, board: &Admitted, wanted: &str) -> bool {
     let given = Given {
         io: None,
         memory: None,
         legacy: &[],
     };
-    map_text(alloc, admitted.outline(), &given).ok()
+    match map_text(alloc, board.outline(), &given) {
+        Ok(lines) => lines.as_str() == wanted,
+        Err(_) => false,
+    }
 }
 
-/// Whether the lines of a board are these.
-fn has_lines(alloc: Global, board: &[Function], roots: &[u8], wanted: &str) -> bool {
-    match (texts_of(alloc, board), Roots::of(roots)) {
-        (Ok(texts), Some(roots)) => match lines_of(alloc, &texts, roots) {
-            Some(lines) => lines.as_str() == wanted,
-            None => false,
-        },
-        _ => false,
+/// The same of a board below these roots.
+fn has_lines(alloc: Global, board: &[Row], roots: &[u8], wanted: &str) -> bool {
+    match admitted(alloc, board, roots) {
+        Some(board) => are_lines(alloc, &board, wanted),
+        None => false,
     }
 }
 
 #[test]
 fn regions_that_overlap_stand_one_after_the_other(rt: HostRuntime) -> Result<(), Fail> {
-    let board = [
-        bridge("00:01.0", 2, (0, 1, 1), &[(0x20, 0xe010_e000, 0xfff0_fff0)]),
-        device("01:00.0", 2, &[(0x10, 0xe010_0000, 0xfff0_0000)]),
-        device("01:01.0", 2, &[(0x10, 0xe018_0000, 0xfff8_0000)]),
-        device("40:00.0", 0, &[(0x10, 0xe000_0000, 0xffff_f000)]),
+    const BOARD: &[Row] = &[
+        Bridge("00:01.0", 2, (0, 1, 1), &[(0x20, 0xe010_e000, 0xfff0_fff0)]),
+        Device("01:00.0", 2, &[(0x10, 0xe010_0000, 0xfff0_0000)]),
+        Device("01:01.0", 2, &[(0x10, 0xe018_0000, 0xfff8_0000)]),
+        Device("40:00.0", 0, &[(0x10, 0xe000_0000, 0xffff_f000)]),
     ];
     assert!(rt;
         has_lines(
             rt.alloc(),
-            &board,
+            BOARD,
             &[0, 0x40],
             "bus 00 mem\n  00000000e0000000-00000000e01fffff 2M window 00:01.0 20\n    \
              00000000e0000000-00000000e00fffff 1M free\n    \
@@ -58,10 +54,10 @@ fn regions_that_overlap_stand_one_after_the_other(rt: HostRuntime) -> Result<(),
 
 #[test]
 fn what_belongs_under_a_window_that_is_left_is_left(rt: HostRuntime) -> Result<(), Fail> {
-    let board = [
-        bridge("00:01.0", 2, (0, 1, 2), &[(0x20, 0xe010_e000, 0xfff0_fff0)]),
-        bridge("01:00.0", 2, (1, 2, 2), &[(0x20, 0xf000_f000, 0xfff0_fff0)]),
-        device(
+    const BOARD: &[Row] = &[
+        Bridge("00:01.0", 2, (0, 1, 2), &[(0x20, 0xe010_e000, 0xfff0_fff0)]),
+        Bridge("01:00.0", 2, (1, 2, 2), &[(0x20, 0xf000_f000, 0xfff0_fff0)]),
+        Device(
             "01:01.0",
             3,
             &[
@@ -69,12 +65,12 @@ fn what_belongs_under_a_window_that_is_left_is_left(rt: HostRuntime) -> Result<(
                 (0x14, 0xe010_0000, 0xfff0_0000),
             ],
         ),
-        device("02:00.0", 2, &[(0x10, 0xf000_0000, 0xfff0_0000)]),
+        Device("02:00.0", 2, &[(0x10, 0xf000_0000, 0xfff0_0000)]),
     ];
     assert!(rt;
         has_lines(
             rt.alloc(),
-            &board,
+            BOARD,
             &[0],
             "bus 00 mem\n  00000000e0000000-00000000e01fffff 2M window 00:01.0 20\n    \
              00000000e0000000-00000000e00fffff 1M free\n    \

@@ -1,46 +1,80 @@
+//! What is told behind faults.
 use pci_base::slot::Slot;
 use pci_base::space::Space;
-use pci_dump::reader::read_dump;
-use pci_dump::std_streams::Incoming;
 use pci_function::fault::Fault;
 use pci_tree::admit::outline_of;
+use pci_tree::outline::Outline;
 use pci_tree::roots::Roots;
 use pci_why::off::push_off;
 use pci_why::why::push_why;
+use std::alloc::Global;
 use std::test::Fail;
-use test_support::board::{Function, bridge, device, texts_of};
+use test_support::row::Row::{Bridge, Device};
+use test_support::row::{Row, dumps_of_rows};
 
-/// A slot.
-fn slot(bus: u8, device: u8) -> Result<Slot, Fail> {
-    match Slot::new(bus, device, 0) {
-        Some(slot) => Ok(slot),
-        None => Err(Fail::new(format_args!("no slot {bus} {device}"))),
+/// A fault by the devices that it names.
+enum Named {
+    /// A BAR or ROM of memory of a device on bus 01 that the bridge 00:01.0 doesn't pass: its register and the address.
+    Unreached(u8, u8, u64),
+    /// The first BARs of two devices of one bus: the bus, the address and the devices.
+    Clash(u8, u64, u8, u8),
+}
+
+use Named::{Clash, Unreached};
+
+fn unreached(device: u8, reg: u8, address: u64) -> Option<Fault> {
+    Some(Fault::Unreached {
+        slot: Slot::new(1, device, 0)?,
+        reg,
+        space: Space::Mem,
+        address,
+        bridge: Slot::new(0, 1, 0)?,
+    })
+}
+
+fn clash(bus: u8, address: u64, first: u8, second: u8) -> Option<Fault> {
+    Some(Fault::Clash {
+        bus,
+        space: Space::Mem,
+        address,
+        first: Slot::new(bus, first, 0)?,
+        first_reg: 0x10,
+        second: Slot::new(bus, second, 0)?,
+        second_reg: 0x10,
+    })
+}
+
+/// The fault itself.
+fn fault_of(named: &Named) -> Option<Fault> {
+    match named {
+        Unreached(device, reg, address) => unreached(*device, *reg, *address),
+        Clash(bus, address, first, second) => clash(*bus, *address, *first, *second),
     }
 }
 
-/// What is told behind some faults of a board, and the lines of its BARs that are off.
-fn told(rt: &HostRuntime, board: &[Function], faults: &[Fault]) -> Result<String, Fail> {
-    let alloc = rt.alloc();
-    let texts = texts_of(alloc, board)?;
-    let dump = read_dump(alloc, &mut Incoming::new(texts.dump.as_bytes()))?;
-    let probe = read_dump(alloc, &mut Incoming::new(texts.probe.as_bytes()))?;
-    let outline = outline_of(alloc, &dump, &probe, Roots::host())?;
+/// What is told behind some faults, and the lines of the BARs that are off.
+fn told(alloc: Global, outline: &Outline, faults: &[Named]) -> Option<String> {
     let mut text = String::new(alloc);
-    for fault in faults {
-        push_why(alloc, &mut text, &outline, fault)?;
+    for named in faults {
+        let fault = fault_of(named)?;
+        push_why(alloc, &mut text, outline, &fault).ok()?;
     }
-    push_off(&mut text, &outline)?;
-    Ok(text)
+    push_off(&mut text, outline).ok()?;
+    Some(text)
 }
 
-/// Fails where that isn't these lines.
-fn is_told(
-    rt: &HostRuntime,
-    board: &[Function],
-    faults: &[Fault],
-    wanted: &[&str],
-) -> Result<(), Fail> {
-    let text = told(rt, board, faults)?;
+/// The same of a board.
+fn told_of(alloc: Global, board: &[Row], faults: &[Named]) -> Option<String> {
+    let (dump, probe) = dumps_of_rows(alloc, board)?;
+    match outline_of(alloc, &dump, &probe, Roots::host()) {
+        Ok(outline) => told(alloc, &outline, faults),
+        Err(_) => None,
+    }
+}
+
+/// Fails where what is told isn't these lines.
+fn is_told(rt: &HostRuntime, board: &[Row], faults: &[Named], wanted: &[&str]) -> Result<(), Fail> {
+    let text = told_of(rt.alloc(), board, faults).ok_or("nothing told")?;
     let mut lines = String::new(rt.alloc());
     for line in wanted {
         lines.push_str(line)?;
@@ -52,39 +86,15 @@ fn is_told(
     }
 }
 
-/// A BAR or ROM of memory on bus 01 that the bridge 00:01.0 doesn't pass.
-fn unreached(device: u8, reg: u8, address: u64) -> Result<Fault, Fail> {
-    Ok(Fault::Unreached {
-        slot: slot(1, device)?,
-        reg,
-        space: Space::Mem,
-        address,
-        bridge: slot(0, 1)?,
-    })
-}
-
-/// The first BARs of two devices of one bus.
-fn clash(bus: u8, address: u64, first: u8, second: u8) -> Result<Fault, Fail> {
-    Ok(Fault::Clash {
-        bus,
-        space: Space::Mem,
-        address,
-        first: slot(bus, first)?,
-        first_reg: 0x10,
-        second: slot(bus, second)?,
-        second_reg: 0x10,
-    })
-}
-
 #[test]
 fn two_clashes_with_one_bar(rt: HostRuntime) -> Result<(), Fail> {
-    let board = [
-        device("00:01.0", 2, &[(0x10, 0xe000_0000, 0xf000_0000)]),
-        device("00:02.0", 2, &[(0x10, 0xe100_0000, 0xfff0_0000)]),
-        device("00:03.0", 2, &[(0x10, 0xe080_0000, 0xfff0_0000)]),
+    const BOARD: &[Row] = &[
+        Device("00:01.0", 2, &[(0x10, 0xe000_0000, 0xf000_0000)]),
+        Device("00:02.0", 2, &[(0x10, 0xe100_0000, 0xfff0_0000)]),
+        Device("00:03.0", 2, &[(0x10, 0xe080_0000, 0xfff0_0000)]),
     ];
-    let faults = [clash(0, 0xe080_0000, 1, 3)?, clash(0, 0xe100_0000, 1, 2)?];
-    let wanted = [
+    const FAULTS: &[Named] = &[Clash(0, 0xe080_0000, 1, 3), Clash(0, 0xe100_0000, 1, 2)];
+    const WANTED: &[&str] = &[
         "  first 00:01.0 10 bar mem 00000000e0000000-00000000efffffff 256M\n",
         "  second 00:03.0 10 bar mem 00000000e0800000-00000000e08fffff 1M\n",
         "  shared 00000000e0800000-00000000e08fffff 1M\n",
@@ -92,15 +102,15 @@ fn two_clashes_with_one_bar(rt: HostRuntime) -> Result<(), Fail> {
         "  second 00:02.0 10 bar mem 00000000e1000000-00000000e10fffff 1M\n",
         "  shared 00000000e1000000-00000000e10fffff 1M\n",
     ];
-    is_told(&rt, &board, &faults, &wanted)
+    is_told(&rt, BOARD, FAULTS, WANTED)
 }
 
 #[test]
 fn behind_a_bridge_that_is_off(rt: HostRuntime) -> Result<(), Fail> {
-    let board = [
-        bridge("00:01.0", 0, (0, 1, 1), &[(0x20, 0xe000_e000, 0xfff0_fff0)]),
-        device("01:00.0", 2, &[(0x10, 0xe000_0000, 0xffff_f000)]),
-        device(
+    const BOARD: &[Row] = &[
+        Bridge("00:01.0", 0, (0, 1, 1), &[(0x20, 0xe000_e000, 0xfff0_fff0)]),
+        Device("01:00.0", 2, &[(0x10, 0xe000_0000, 0xffff_f000)]),
+        Device(
             "01:01.0",
             2,
             &[
@@ -109,12 +119,12 @@ fn behind_a_bridge_that_is_off(rt: HostRuntime) -> Result<(), Fail> {
             ],
         ),
     ];
-    let faults = [
-        unreached(0, 0x10, 0xe000_0000)?,
-        unreached(1, 0x10, 0xe001_0000)?,
-        unreached(1, 0x30, 0xe002_0000)?,
+    const FAULTS: &[Named] = &[
+        Unreached(0, 0x10, 0xe000_0000),
+        Unreached(1, 0x10, 0xe001_0000),
+        Unreached(1, 0x30, 0xe002_0000),
     ];
-    let wanted = [
+    const WANTED: &[&str] = &[
         "  needs 01:00.0 10 bar mem 00000000e0000000-00000000e0000fff 4K\n",
         "  bridge 00:01.0 off mem 00000000e0000000-00000000e00fffff\n",
         "  missed 00000000e0000000-00000000e0000fff 4K\n",
@@ -128,13 +138,13 @@ fn behind_a_bridge_that_is_off(rt: HostRuntime) -> Result<(), Fail> {
         "  missed 00000000e0020000-00000000e00207ff 2K\n",
         "  fits none\n",
     ];
-    is_told(&rt, &board, &faults, &wanted)
+    is_told(&rt, BOARD, FAULTS, WANTED)
 }
 
 #[test]
 fn two_runs_beside_a_prefetchable_window(rt: HostRuntime) -> Result<(), Fail> {
-    let board = [
-        bridge(
+    const BOARD: &[Row] = &[
+        Bridge(
             "00:01.0",
             2,
             (0, 1, 1),
@@ -143,34 +153,34 @@ fn two_runs_beside_a_prefetchable_window(rt: HostRuntime) -> Result<(), Fail> {
                 (0x24, 0xe020_e020, 0xfff0_fff0),
             ],
         ),
-        device("01:00.0", 2, &[(0x10, 0xe000_0008, 0xffc0_0008)]),
+        Device("01:00.0", 2, &[(0x10, 0xe000_0008, 0xffc0_0008)]),
     ];
-    let faults = [unreached(0, 0x10, 0xe010_0000)?];
-    let wanted = [
+    const FAULTS: &[Named] = &[Unreached(0, 0x10, 0xe010_0000)];
+    const WANTED: &[&str] = &[
         "  needs 01:00.0 10 bar mem pref 00000000e0000000-00000000e03fffff 4M\n",
         "  bridge 00:01.0 on mem 00000000e0000000-00000000e00fffff pref 00000000e0200000-00000000e02fffff\n",
         "  missed 00000000e0100000-00000000e01fffff 1M\n",
         "  missed 00000000e0300000-00000000e03fffff 1M\n",
         "  fits none\n",
     ];
-    is_told(&rt, &board, &faults, &wanted)
+    is_told(&rt, BOARD, FAULTS, WANTED)
 }
 
 #[test]
 fn a_clash_behind_a_bridge_and_a_bar_that_is_off(rt: HostRuntime) -> Result<(), Fail> {
-    let board = [
-        bridge("00:01.0", 2, (0, 1, 1), &[(0x20, 0xe000_e000, 0xfff0_fff0)]),
-        device("01:00.0", 2, &[(0x10, 0xe000_0000, 0xffff_f000)]),
-        device("01:01.0", 2, &[(0x10, 0xe000_0000, 0xffff_0000)]),
-        device("01:02.0", 0, &[(0x10, 0, 0xffff_ff00)]),
+    const BOARD: &[Row] = &[
+        Bridge("00:01.0", 2, (0, 1, 1), &[(0x20, 0xe000_e000, 0xfff0_fff0)]),
+        Device("01:00.0", 2, &[(0x10, 0xe000_0000, 0xffff_f000)]),
+        Device("01:01.0", 2, &[(0x10, 0xe000_0000, 0xffff_0000)]),
+        Device("01:02.0", 0, &[(0x10, 0, 0xffff_ff00)]),
     ];
-    let faults = [clash(1, 0xe000_0000, 0, 1)?];
-    let wanted = [
+    const FAULTS: &[Named] = &[Clash(1, 0xe000_0000, 0, 1)];
+    const WANTED: &[&str] = &[
         "  first 01:00.0 10 bar mem 00000000e0000000-00000000e0000fff 4K\n",
         "  second 01:01.0 10 bar mem 00000000e0000000-00000000e000ffff 64K\n",
         "  shared 00000000e0000000-00000000e0000fff 4K\n",
         "  fits 00000000e0010000-00000000e001ffff 64K\n",
         "off 01:02.0 10 bar mem 0000000000000000-00000000000000ff 256\n",
     ];
-    is_told(&rt, &board, &faults, &wanted)
+    is_told(&rt, BOARD, FAULTS, WANTED)
 }
