@@ -1,13 +1,15 @@
 //! Boards, and which parts of them stay.
-use crate::boards::{admitted, shared};
+use crate::boards::{Listed, admitted, list_of};
 use pci_base::range::RootRange;
 use pci_base::window_kind::WindowKind;
 use pci_settle::kept::Kept;
 use pci_settle::list::Lists;
 use pci_stay::staying::staying;
+use pci_tree::admitted::Admitted;
 use std::alloc::Global;
 use std::test::Fail;
-use test_support::board::{Function, bridge, device};
+use test_support::row::Row;
+use test_support::row::Row::{Bridge, Device};
 
 /// Of a function whether its first BAR stays, and its window of memory.
 type Stays = (bool, bool);
@@ -17,20 +19,8 @@ fn is_kept(kept: &Kept, wanted: &Stays) -> bool {
     (kept.bar(0), kept.window(WindowKind::Memory)) == *wanted
 }
 
-/// Whether of a board below root 00 with one range of memory just these stay, function by function.
-fn stay(alloc: Global, board: &[(u8, u8, Function)], mem: &[RootRange], wanted: &[Stays]) -> bool {
-    let none: [RootRange; 0] = [];
-    let lists = Lists {
-        io: &none,
-        mem,
-        pref: &none,
-    };
-    let Some(admitted) = admitted(alloc, &[0], board) else {
-        return false;
-    };
-    let Ok(table) = staying(alloc, &admitted, &lists, &[]) else {
-        return false;
-    };
+/// Whether of a table just these stay, function by function.
+fn are_kept(table: &[Kept], wanted: &[Stays]) -> bool {
     table.len() == wanted.len()
         && table
             .iter()
@@ -38,113 +28,82 @@ fn stay(alloc: Global, board: &[(u8, u8, Function)], mem: &[RootRange], wanted: 
             .all(|(kept, one)| is_kept(kept, one))
 }
 
+/// Whether of a board just these stay in a list of memory, with none of I/O and of prefetchable memory.
+fn stay_in(alloc: Global, admitted: &Admitted, mem: &[RootRange], wanted: &[Stays]) -> bool {
+    let lists = Lists {
+        io: &[],
+        mem,
+        pref: &[],
+    };
+    match staying(alloc, admitted, &lists, &[]) {
+        Ok(table) => are_kept(table.as_slice(), wanted),
+        Err(_) => false,
+    }
+}
+
+/// The same of a board below root 00.
+fn stay(alloc: Global, board: &[Row], mem: &[Listed], wanted: &[Stays]) -> bool {
+    match (admitted(alloc, &[0], board), list_of(alloc, mem)) {
+        (Some(admitted), Some(mem)) => stay_in(alloc, &admitted, mem.as_slice(), wanted),
+        _ => false,
+    }
+}
+
 #[test]
 fn what_stands_with_room_stays(rt: HostRuntime) -> Result<(), Fail> {
-    let board = [
-        (
-            0,
-            1,
-            bridge("00:01.0", 2, (0, 1, 1), &[(0x20, 0xe010_e000, 0xfff0_fff0)]),
-        ),
-        (
-            1,
-            0,
-            device("01:00.0", 2, &[(0x10, 0xe000_0000, 0xffff_f000)]),
-        ),
-        (
-            1,
-            1,
-            device("01:01.0", 2, &[(0x10, 0xe000_0000, 0xffff_f000)]),
-        ),
+    const BOARD: &[Row] = &[
+        Bridge("00:01.0", 2, (0, 1, 1), &[(0x20, 0xe010_e000, 0xfff0_fff0)]),
+        Device("01:00.0", 2, &[(0x10, 0xe000_0000, 0xffff_f000)]),
+        Device("01:01.0", 2, &[(0x10, 0xe000_0000, 0xffff_f000)]),
     ];
-    let mem = [shared(0xe000_0000, 0xefff_ffff)];
-    let wanted = [(false, true), (true, false), (false, false)];
-    assert!(rt; stay(rt.alloc(), &board, &mem, &wanted));
+    const MEM: &[Listed] = &[(None, 0xe000_0000, 0xefff_ffff)];
+    const WANTED: &[Stays] = &[(false, true), (true, false), (false, false)];
+    assert!(rt; stay(rt.alloc(), BOARD, MEM, WANTED));
     Ok(())
 }
 
 #[test]
 fn nothing_stays_in_a_window_without_room(rt: HostRuntime) -> Result<(), Fail> {
-    let board = [
-        (
-            0,
-            1,
-            bridge("00:01.0", 2, (0, 1, 1), &[(0x20, 0xe000_e000, 0xfff0_fff0)]),
-        ),
-        (
-            1,
-            0,
-            device("01:00.0", 2, &[(0x10, 0xe000_0000, 0xfff0_0000)]),
-        ),
-        (
-            1,
-            1,
-            device("01:01.0", 2, &[(0x10, 0xf000_0000, 0xffff_f000)]),
-        ),
+    const BOARD: &[Row] = &[
+        Bridge("00:01.0", 2, (0, 1, 1), &[(0x20, 0xe000_e000, 0xfff0_fff0)]),
+        Device("01:00.0", 2, &[(0x10, 0xe000_0000, 0xfff0_0000)]),
+        Device("01:01.0", 2, &[(0x10, 0xf000_0000, 0xffff_f000)]),
     ];
-    let mem = [shared(0xe000_0000, 0xefff_ffff)];
-    let wanted = [(false, false), (false, false), (false, false)];
-    assert!(rt; stay(rt.alloc(), &board, &mem, &wanted));
+    const MEM: &[Listed] = &[(None, 0xe000_0000, 0xefff_ffff)];
+    const WANTED: &[Stays] = &[(false, false), (false, false), (false, false)];
+    assert!(rt; stay(rt.alloc(), BOARD, MEM, WANTED));
     Ok(())
 }
 
 #[test]
 fn a_window_below_one_without_room_moves(rt: HostRuntime) -> Result<(), Fail> {
-    let board = [
-        (
-            0,
-            1,
-            bridge("00:01.0", 2, (0, 1, 2), &[(0x20, 0xe000_e000, 0xfff0_fff0)]),
-        ),
-        (
-            0,
-            2,
-            device("00:02.0", 2, &[(0x10, 0xe100_0000, 0xffff_f000)]),
-        ),
-        (
-            1,
-            0,
-            bridge("01:00.0", 2, (1, 2, 2), &[(0x20, 0xe000_e000, 0xfff0_fff0)]),
-        ),
-        (
-            1,
-            1,
-            device("01:01.0", 2, &[(0x10, 0xf000_0000, 0xffff_f000)]),
-        ),
-        (
-            2,
-            0,
-            device("02:00.0", 2, &[(0x10, 0xe000_0000, 0xffff_f000)]),
-        ),
+    const BOARD: &[Row] = &[
+        Bridge("00:01.0", 2, (0, 1, 2), &[(0x20, 0xe000_e000, 0xfff0_fff0)]),
+        Device("00:02.0", 2, &[(0x10, 0xe100_0000, 0xffff_f000)]),
+        Bridge("01:00.0", 2, (1, 2, 2), &[(0x20, 0xe000_e000, 0xfff0_fff0)]),
+        Device("01:01.0", 2, &[(0x10, 0xf000_0000, 0xffff_f000)]),
+        Device("02:00.0", 2, &[(0x10, 0xe000_0000, 0xffff_f000)]),
     ];
-    let mem = [shared(0xe000_0000, 0xefff_ffff)];
+    const MEM: &[Listed] = &[(None, 0xe000_0000, 0xefff_ffff)];
     // the window over bus 1 is full of the one over bus 2, which has room
-    let wanted = [
+    const WANTED: &[Stays] = &[
         (false, false),
         (true, false),
         (false, false),
         (false, false),
         (false, false),
     ];
-    assert!(rt; stay(rt.alloc(), &board, &mem, &wanted));
+    assert!(rt; stay(rt.alloc(), BOARD, MEM, WANTED));
     Ok(())
 }
 
 #[test]
 fn what_lies_in_no_list_moves(rt: HostRuntime) -> Result<(), Fail> {
-    let board = [
-        (
-            0,
-            1,
-            device("00:01.0", 2, &[(0x10, 0xe000_0000, 0xffff_f000)]),
-        ),
-        (
-            0,
-            2,
-            device("00:02.0", 2, &[(0x10, 0xd000_0000, 0xffff_f000)]),
-        ),
+    const BOARD: &[Row] = &[
+        Device("00:01.0", 2, &[(0x10, 0xe000_0000, 0xffff_f000)]),
+        Device("00:02.0", 2, &[(0x10, 0xd000_0000, 0xffff_f000)]),
     ];
-    let mem = [shared(0xe000_0000, 0xefff_ffff)];
-    assert!(rt; stay(rt.alloc(), &board, &mem, &[(true, false), (false, false)]));
+    const MEM: &[Listed] = &[(None, 0xe000_0000, 0xefff_ffff)];
+    assert!(rt; stay(rt.alloc(), BOARD, MEM, &[(true, false), (false, false)]));
     Ok(())
 }
