@@ -3,13 +3,14 @@ use crate::program::{Answer, run_task};
 use pci_dump::std_streams::{Incoming, Outgoing};
 use pciplan_tasks::run::run;
 use pciplan_tasks::task::Task;
-use std::process::Abort;
+use std::alloc::Global;
+use std::test::Fail;
 use test_support::board::Texts;
 use test_support::fakes::{Narrow, Pieces};
 
 /// What a task answers where one read of each text fails, counted from 1; 0 is none. A read gives up to 500 bytes.
 pub fn with_failing_read(
-    rt: &impl AllocGlobal,
+    alloc: Global,
     task: &Task,
     texts: &Texts,
     dump_fails: u64,
@@ -17,20 +18,20 @@ pub fn with_failing_read(
 ) -> Answer {
     let mut dump = Pieces::new(texts.dump.as_bytes(), 500, dump_fails);
     let mut probe = Pieces::new(texts.probe.as_bytes(), 500, probe_fails);
-    run_on_pieces(rt, task, &mut dump, &mut probe)
+    run_on_pieces(alloc, task, &mut dump, &mut probe)
 }
 
 /// What a task answers to texts that come in pieces.
 fn run_on_pieces(
-    rt: &impl AllocGlobal,
+    alloc: Global,
     task: &Task,
     dump: &mut Pieces<'_>,
     probe: &mut Pieces<'_>,
 ) -> Answer {
-    let mut out = Vec::new(rt.alloc());
-    let mut err = Vec::new(rt.alloc());
+    let mut out = Vec::new(alloc);
+    let mut err = Vec::new(alloc);
     let status = run(
-        rt.alloc(),
+        alloc,
         task,
         dump,
         probe,
@@ -48,70 +49,104 @@ fn is_told(got: &Answer, message: &[u8], status: u8) -> bool {
     }
 }
 
-/// Asserts that a task whose read of a text fails, whichever it is, tells that and nothing else, and answers with this
+/// Whether a task one of whose reads of a text fails tells that, of either text.
+fn is_told_of_both(alloc: Global, task: &Task, texts: &Texts, at: u64, status: u8) -> bool {
+    let dump = with_failing_read(alloc, task, texts, at, 0);
+    let probe = with_failing_read(alloc, task, texts, 0, at);
+    is_told(&dump, b"pciplan: dump: 1 Io\n".as_slice(), status)
+        && is_told(&probe, b"pciplan: probe: 1 Io\n".as_slice(), status)
+}
+
+/// Fails unless a task whose read of a text fails, whichever it is, tells that and nothing else, and answers with this
 /// status where none does.
-pub fn tells_failed_reads(rt: &(impl Abort + AllocGlobal), task: &Task, texts: &Texts, status: u8) {
+pub fn tells_failed_reads(
+    alloc: Global,
+    task: &Task,
+    texts: &Texts,
+    status: u8,
+) -> Result<(), Fail> {
     for at in 1..16u64 {
-        let dump = with_failing_read(rt, task, texts, at, 0);
-        assert!(rt;
-            is_told(&dump, b"pciplan: dump: 1 Io\n".as_slice(), status),
-            "{at}"
-        );
-        let probe = with_failing_read(rt, task, texts, 0, at);
-        assert!(rt;
-            is_told(&probe, b"pciplan: probe: 1 Io\n".as_slice(), status),
-            "{at}"
-        );
+        if !is_told_of_both(alloc, task, texts, at, status) {
+            return Err(Fail::new(format_args!("read {at} fails and isn't told")));
+        }
     }
+    Ok(())
 }
 
 /// What a task answers, whose answer goes to a writer.
-fn with_writer(rt: &impl AllocGlobal, task: &Task, texts: &Texts, writer: Narrow) -> Answer {
-    let mut writer = writer;
-    let mut err = Vec::new(rt.alloc());
+fn with_writer(alloc: Global, task: &Task, texts: &Texts, writer: &mut Narrow) -> (u8, Vec<u8>) {
+    let mut err = Vec::new(alloc);
     let status = run(
-        rt.alloc(),
+        alloc,
         task,
         &mut Incoming::new(texts.dump.as_bytes()),
         &mut Incoming::new(texts.probe.as_bytes()),
-        &mut Outgoing::new(&mut writer),
+        &mut Outgoing::new(writer),
         &mut Outgoing::new(&mut err),
     );
-    Answer {
-        status,
-        out: writer.taken,
-        err,
-    }
+    (status, err)
 }
 
-/// Asserts that writers with too little room, which take up to `step` bytes at once, hold a beginning of the answer.
+/// Whether a writer without room was told of, and holds a beginning of the answer.
+fn is_beginning(status: u8, err: &[u8], taken: &[u8], whole: &[u8]) -> bool {
+    status == 4
+        && err == b"pciplan: 10 Io\n".as_slice()
+        && whole.get(..taken.len()).is_some_and(|front| front == taken)
+}
+
+/// What a writer has room for.
+#[derive(Clone, Copy)]
+struct Room {
+    room: usize,
+    /// How many bytes it takes at once.
+    step: usize,
+    /// Whether it fails where it has no room, and doesn't take nothing.
+    fails: bool,
+}
+
+/// Whether a writer without room for the whole answer holds all that it has room for.
+fn leaves_beginning(alloc: Global, task: &Task, texts: &Texts, room: Room, whole: &[u8]) -> bool {
+    let mut writer = Narrow {
+        taken: Vec::new(alloc),
+        room: room.room,
+        step: room.step,
+        fails: room.fails,
+    };
+    let (status, err) = with_writer(alloc, task, texts, &mut writer);
+    let taken = writer.taken.as_slice();
+    taken.len() == room.room && is_beginning(status, err.as_slice(), taken, whole)
+}
+
+/// Whether writers that fail and writers that take nothing both do.
+fn leave_beginnings(
+    alloc: Global,
+    task: &Task,
+    texts: &Texts,
+    (room, step): (usize, usize),
+    whole: &[u8],
+) -> bool {
+    for fails in [true, false] {
+        let room = Room { room, step, fails };
+        if !leaves_beginning(alloc, task, texts, room, whole) {
+            return false;
+        }
+    }
+    true
+}
+
+/// Fails unless writers with too little room, which take up to `step` bytes at once, hold a beginning of the answer.
 pub fn leaves_beginnings(
-    rt: &(impl Abort + AllocGlobal),
+    alloc: Global,
     task: &Task,
     texts: &Texts,
     step: usize,
     rooms: &[usize],
-) {
-    let whole = run_task(rt, task, texts.dump.as_str(), texts.probe.as_str());
+) -> Result<(), Fail> {
+    let whole = run_task(alloc, task, texts.dump.as_str(), texts.probe.as_str());
     for room in rooms {
-        for fails in [true, false] {
-            let writer = Narrow {
-                taken: Vec::new(rt.alloc()),
-                room: *room,
-                step,
-                fails,
-            };
-            let got = with_writer(rt, task, texts, writer);
-            assert_eq!(rt; got.status, 4, "{room}");
-            assert!(rt;
-                got.err.as_slice() == b"pciplan: 10 Io\n".as_slice(),
-                "{room}"
-            );
-            let front = whole.out.get(..*room);
-            assert!(rt;
-                front.is_some_and(|front| front == got.out.as_slice()),
-                "{room}"
-            );
+        if !leave_beginnings(alloc, task, texts, (*room, step), whole.out.as_slice()) {
+            return Err(Fail::new(format_args!("with room for {room}")));
         }
     }
+    Ok(())
 }

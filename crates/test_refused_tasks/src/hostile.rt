@@ -39,7 +39,12 @@ fn a_text_that_is_none_has_its_message(rt: HostRuntime) -> Result<(), Fail> {
         (dump, other, "pciplan: probe: 9 Ended 52\n"),
         (dump, "G", "pciplan: probe: 3 BadSlot 1\n"),
     ] {
-        prints(&rt, &["show", "d", "p"], (dump, probe), ("", message, 2))?;
+        prints(
+            rt.alloc(),
+            &["show", "d", "p"],
+            (dump, probe),
+            ("", message, 2),
+        )?;
     }
     Ok(())
 }
@@ -53,7 +58,7 @@ fn each_read_that_fails_ends_with_status_4(rt: HostRuntime) -> Result<(), Fail> 
             (at, 0, b"pciplan: dump: 1 Io\n".as_slice()),
             (0, at, b"pciplan: probe: 1 Io\n".as_slice()),
         ] {
-            let got = with_failing_read(&rt, &Task::Show, &example, dump_fails, probe_fails);
+            let got = with_failing_read(rt.alloc(), &Task::Show, &example, dump_fails, probe_fails);
             if got.status == 4 {
                 failed = failed.max(dump_fails);
                 assert!(rt; got.out.is_empty(), "{at}");
@@ -71,7 +76,7 @@ fn each_read_that_fails_ends_with_status_4(rt: HostRuntime) -> Result<(), Fail> 
 fn a_writer_that_fails_holds_a_beginning(rt: HostRuntime) -> Result<(), Fail> {
     let example = example(rt.alloc())?;
     for task in [Task::Show, Task::Size] {
-        leaves_beginnings(&rt, &task, &example, 7, &[0, 1, 100, 300]);
+        leaves_beginnings(rt.alloc(), &task, &example, 7, &[0, 1, 100, 300])?;
     }
     Ok(())
 }
@@ -103,7 +108,7 @@ fn a_message_that_cannot_be_written_changes_no_status(rt: HostRuntime) -> Result
 fn a_refused_growth_writes_nothing(rt: HostRuntime) -> Result<(), Fail> {
     let example = example(rt.alloc())?;
     for task in [Task::Show, Task::Size] {
-        assert!(rt; is_refused_in_turn(&rt, &task, &example));
+        assert!(rt; is_refused_in_turn(rt.alloc(), &task, &example));
     }
     Ok(())
 }

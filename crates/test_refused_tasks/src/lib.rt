@@ -8,6 +8,8 @@ mod hostile;
 #[cfg(test)]
 mod interrupted;
 #[cfg(test)]
+mod on_boards;
+#[cfg(test)]
 mod opening;
 #[cfg(test)]
 mod program;

@@ -3,7 +3,7 @@ use pci_dump::std_streams::{Incoming, Outgoing};
 use pciplan_cli::invocation::start;
 use pciplan_tasks::run::run;
 use pciplan_tasks::task::Task;
-use std::alloc::Allocator;
+use std::alloc::{Allocator, Global};
 use std::test::Fail;
 
 /// What a run left: its status, and what it wrote.
@@ -14,16 +14,16 @@ pub struct Answer {
     pub err: Vec<u8>,
 }
 
-/// What a task answers to two texts, where it grows by `alloc`.
+/// What a task answers to two texts, where it grows by `alloc`, and what it writes by `heap`.
 pub fn run_by<A: Allocator + Copy>(
-    rt: &impl AllocGlobal,
+    heap: Global,
     alloc: A,
     task: &Task,
     dump: &str,
     probe: &str,
 ) -> Answer {
-    let mut out = Vec::new(rt.alloc());
-    let mut err = Vec::new(rt.alloc());
+    let mut out = Vec::new(heap);
+    let mut err = Vec::new(heap);
     let status = run(
         alloc,
         task,
@@ -36,20 +36,20 @@ pub fn run_by<A: Allocator + Copy>(
 }
 
 /// The same with all the memory that it asks for.
-pub fn run_task(rt: &impl AllocGlobal, task: &Task, dump: &str, probe: &str) -> Answer {
-    run_by(rt, rt.alloc(), task, dump, probe)
+pub fn run_task(alloc: Global, task: &Task, dump: &str, probe: &str) -> Answer {
+    run_by(alloc, alloc, task, dump, probe)
 }
 
 /// What a line of words answers to two texts.
-fn run_words(rt: &impl AllocGlobal, words: &[&str], dump: &str, probe: &str) -> Answer {
-    let mut out = Vec::new(rt.alloc());
-    let mut err = Vec::new(rt.alloc());
+fn run_words(alloc: Global, words: &[&str], dump: &str, probe: &str) -> Answer {
+    let mut out = Vec::new(alloc);
+    let mut err = Vec::new(alloc);
     let status = {
         let mut errors = Outgoing::new(&mut err);
-        match start(rt.alloc(), words, &mut errors) {
+        match start(alloc, words, &mut errors) {
             Err(status) => status,
             Ok(line) => run(
-                rt.alloc(),
+                alloc,
                 &line.task,
                 &mut Incoming::new(dump.as_bytes()),
                 &mut Incoming::new(probe.as_bytes()),
@@ -84,10 +84,10 @@ fn is_answer(got: &Answer, wanted: (&str, &str, u8)) -> Result<(), Fail> {
 ///
 /// What isn't as it is wanted.
 pub fn prints(
-    rt: &impl AllocGlobal,
+    alloc: Global,
     words: &[&str],
     texts: (&str, &str),
     wanted: (&str, &str, u8),
 ) -> Result<(), Fail> {
-    is_answer(&run_words(rt, words, texts.0, texts.1), wanted)
+    is_answer(&run_words(alloc, words, texts.0, texts.1), wanted)
 }

@@ -1,30 +1,31 @@
 //! Lists of all faults where a read, a write or a growth fails.
-use crate::failing::{leaves_beginnings, tells_failed_reads};
-use crate::refused_tasks::is_refused_in_turn;
+use crate::on_boards::{Made, is_cut_off, is_refused, is_unread};
 use pci_base::range::{Range, RootRange};
 use pci_model::words::{VgaWord, Words};
 use pci_tree::roots::Roots;
 use pciplan_tasks::task::{HostLists, Task};
-use std::alloc::{AllocError, Global};
+use std::alloc::Global;
 use std::test::Fail;
-use test_support::board::{Texts, bridge, device, texts_of};
+use test_support::board::Register;
+use test_support::row::Row;
+use test_support::row::Row::{Bridge, Device};
 
 /// A list with reasons.
-fn task() -> Task {
+fn task() -> Made {
     task_by(None)
 }
 
 /// The same of functions that are taken by words.
-fn task_by(words: Option<Words>) -> Task {
-    Task::Faults {
+fn task_by(words: Option<Words>) -> Made {
+    Ok(Task::Faults {
         roots: Roots::host(),
         words,
         why: true,
-    }
+    })
 }
 
 /// A list with what is given: what the host sends of memory, and bridges with legacy parts; with reasons or without.
-fn task_given(alloc: Global, why: bool) -> Result<Task, AllocError> {
+fn task_given(alloc: Global, why: bool) -> Made {
     let mut sent = Vec::new(alloc);
     sent.push(RootRange {
         root: None,
@@ -58,117 +59,97 @@ const ALL_WORDS: Words = Words {
 };
 
 /// A bridge that is off above a BAR, a clash, and a BAR that is off.
-fn judged(alloc: Global) -> Result<Texts, AllocError> {
-    let board = [
-        bridge("00:01.0", 0, (0, 1, 1), &[(0x20, 0xe000_e000, 0xfff0_fff0)]),
-        device("00:02.0", 2, &[(0x10, 0xe100_0000, 0xfff0_0000)]),
-        device("00:03.0", 2, &[(0x10, 0xe100_0000, 0xfff0_0000)]),
-        device("00:04.0", 0, &[(0x10, 0xe200_0000, 0xfff0_0000)]),
-        device("01:00.0", 2, &[(0x10, 0xe000_0000, 0xffff_f000)]),
-    ];
-    texts_of(alloc, &board)
-}
+const JUDGED: &[Row] = &[
+    Bridge("00:01.0", 0, (0, 1, 1), &[(0x20, 0xe000_e000, 0xfff0_fff0)]),
+    Device("00:02.0", 2, &[(0x10, 0xe100_0000, 0xfff0_0000)]),
+    Device("00:03.0", 2, &[(0x10, 0xe100_0000, 0xfff0_0000)]),
+    Device("00:04.0", 0, &[(0x10, 0xe200_0000, 0xfff0_0000)]),
+    Device("01:00.0", 2, &[(0x10, 0xe000_0000, 0xffff_f000)]),
+];
 
 /// Two functions whose buses no bridge leads to.
-fn misplaced(alloc: Global) -> Result<Texts, AllocError> {
-    texts_of(
-        alloc,
-        &[device("01:00.0", 0, &[]), device("02:00.0", 0, &[])],
-    )
-}
+const MISPLACED: &[Row] = &[Device("01:00.0", 0, &[]), Device("02:00.0", 0, &[])];
 
 #[test]
 fn a_list_that_is_refused_a_growth_says_just_that(rt: HostRuntime) -> Result<(), Fail> {
-    let texts = judged(rt.alloc())?;
-    assert!(rt; is_refused_in_turn(&rt, &task(), &texts));
-    Ok(())
+    is_refused(rt.alloc(), task(), JUDGED)
 }
 
 #[test]
 fn so_does_one_of_an_earlier_phase(rt: HostRuntime) -> Result<(), Fail> {
-    let texts = misplaced(rt.alloc())?;
-    assert!(rt; is_refused_in_turn(&rt, &task(), &texts));
-    Ok(())
+    is_refused(rt.alloc(), task(), MISPLACED)
 }
 
 #[test]
 fn so_does_one_by_words(rt: HostRuntime) -> Result<(), Fail> {
-    let texts = judged(rt.alloc())?;
-    assert!(rt; is_refused_in_turn(&rt, &task_by(Some(ALL_WORDS)), &texts));
-    Ok(())
+    is_refused(rt.alloc(), task_by(Some(ALL_WORDS)), JUDGED)
 }
 
 #[test]
 fn a_writer_that_fails_holds_a_beginning_of_the_list(rt: HostRuntime) -> Result<(), Fail> {
-    let texts = judged(rt.alloc())?;
-    leaves_beginnings(&rt, &task(), &texts, 7, &[0, 1, 100, 300]);
-    Ok(())
+    is_cut_off(rt.alloc(), task(), JUDGED, 7, &[0, 1, 100, 300])
 }
 
 #[test]
 fn a_read_that_fails_leaves_no_list(rt: HostRuntime) -> Result<(), Fail> {
-    let texts = judged(rt.alloc())?;
-    tells_failed_reads(&rt, &task(), &texts, 1);
-    Ok(())
+    is_unread(rt.alloc(), task(), JUDGED, 1)
 }
 
+/// A window that is closed, and VGA Enable.
+const CLOSED: &[Register] = &[(0x20, 0x0000_fff0, 0xfff0_fff0), (0x3c, 0x0008_0000, 0)];
+
 /// Two bridges with legacy parts, and a BAR outside of what the host sends.
-fn given(alloc: Global) -> Result<Texts, AllocError> {
-    let closed = [(0x20, 0x0000_fff0, 0xfff0_fff0), (0x3c, 0x0008_0000, 0)];
-    let board = [
-        bridge("00:01.0", 3, (0, 1, 1), &closed),
-        bridge("00:02.0", 3, (0, 2, 2), &closed),
-        device("00:03.0", 2, &[(0x10, 0xe100_0000, 0xfff0_0000)]),
-    ];
-    texts_of(alloc, &board)
-}
+const GIVEN: &[Row] = &[
+    Bridge("00:01.0", 3, (0, 1, 1), CLOSED),
+    Bridge("00:02.0", 3, (0, 2, 2), CLOSED),
+    Device("00:03.0", 2, &[(0x10, 0xe100_0000, 0xfff0_0000)]),
+];
 
 #[test]
 fn so_does_one_with_what_is_given(rt: HostRuntime) -> Result<(), Fail> {
-    for texts in [given(rt.alloc())?, misplaced(rt.alloc())?] {
-        assert!(rt; is_refused_in_turn(&rt, &task_given(rt.alloc(), false)?, &texts));
-    }
-    Ok(())
+    is_refused(rt.alloc(), task_given(rt.alloc(), false), GIVEN)?;
+    is_refused(rt.alloc(), task_given(rt.alloc(), false), MISPLACED)
 }
 
 #[test]
 fn with_what_is_given_a_read_or_a_write_that_fails_leaves_no_more(
     rt: HostRuntime,
 ) -> Result<(), Fail> {
-    let texts = given(rt.alloc())?;
-    let task = task_given(rt.alloc(), false)?;
-    leaves_beginnings(&rt, &task, &texts, 7, &[0, 1, 100]);
-    tells_failed_reads(&rt, &task, &texts, 1);
-    Ok(())
+    is_cut_off(
+        rt.alloc(),
+        task_given(rt.alloc(), false),
+        GIVEN,
+        7,
+        &[0, 1, 100],
+    )?;
+    is_unread(rt.alloc(), task_given(rt.alloc(), false), GIVEN, 1)
 }
 
 /// The same, with a BAR that the first of them doesn't pass.
-fn given_behind(alloc: Global) -> Result<Texts, AllocError> {
-    let closed = [(0x20, 0x0000_fff0, 0xfff0_fff0), (0x3c, 0x0008_0000, 0)];
-    let board = [
-        bridge("00:01.0", 3, (0, 1, 1), &closed),
-        bridge("00:02.0", 3, (0, 2, 2), &closed),
-        device("00:03.0", 2, &[(0x10, 0xe100_0000, 0xfff0_0000)]),
-        device("01:00.0", 2, &[(0x10, 0x000c_0000, 0xffff_0000)]),
-    ];
-    texts_of(alloc, &board)
-}
+const GIVEN_BEHIND: &[Row] = &[
+    Bridge("00:01.0", 3, (0, 1, 1), CLOSED),
+    Bridge("00:02.0", 3, (0, 2, 2), CLOSED),
+    Device("00:03.0", 2, &[(0x10, 0xe100_0000, 0xfff0_0000)]),
+    Device("01:00.0", 2, &[(0x10, 0x000c_0000, 0xffff_0000)]),
+];
 
 #[test]
 fn so_does_one_with_reasons_and_what_is_given(rt: HostRuntime) -> Result<(), Fail> {
-    for texts in [given_behind(rt.alloc())?, misplaced(rt.alloc())?] {
-        assert!(rt; is_refused_in_turn(&rt, &task_given(rt.alloc(), true)?, &texts));
-    }
-    Ok(())
+    is_refused(rt.alloc(), task_given(rt.alloc(), true), GIVEN_BEHIND)?;
+    is_refused(rt.alloc(), task_given(rt.alloc(), true), MISPLACED)
 }
 
 #[test]
 fn with_reasons_too_a_read_or_a_write_that_fails_leaves_no_more(
     rt: HostRuntime,
 ) -> Result<(), Fail> {
-    let texts = given_behind(rt.alloc())?;
-    let task = task_given(rt.alloc(), true)?;
-    leaves_beginnings(&rt, &task, &texts, 7, &[0, 1, 100, 300]);
-    tells_failed_reads(&rt, &task, &texts, 1);
-    Ok(())
+    let alloc = rt.alloc();
+    is_cut_off(
+        alloc,
+        task_given(alloc, true),
+        GIVEN_BEHIND,
+        7,
+        &[0, 1, 100, 300],
+    )?;
+    is_unread(alloc, task_given(alloc, true), GIVEN_BEHIND, 1)
 }

@@ -1,34 +1,33 @@
 //! Maps where a read, a write or a growth fails.
-use crate::failing::{leaves_beginnings, tells_failed_reads};
-use crate::program::prints;
-use crate::refused_tasks::is_refused_in_turn;
+use crate::on_boards::{Made, is_cut_off, is_printed, is_refused, is_unread};
 use pci_base::range::{Range, RootRange};
 use pci_model::words::{VgaWord, Words};
 use pci_tree::roots::Roots;
 use pciplan_tasks::task::{HostLists, Task};
-use std::alloc::{AllocError, Global};
+use std::alloc::Global;
 use std::test::Fail;
-use test_support::board::{Texts, bridge, device, texts_of};
+use test_support::row::Row;
+use test_support::row::Row::{Bridge, Device};
 
 /// A map of functions that are taken as they are, or by words.
-fn task_by(words: Option<Words>) -> Task {
-    Task::Map {
+fn task_by(words: Option<Words>) -> Made {
+    Ok(Task::Map {
         roots: Roots::host(),
         words,
         host: HostLists {
             io: None,
             mem: None,
         },
-    }
+    })
 }
 
 /// A map of functions that are taken as they are.
-fn task() -> Task {
+fn task() -> Made {
     task_by(None)
 }
 
 /// A map with what the host sends of memory.
-fn task_sent(alloc: Global) -> Result<Task, AllocError> {
+fn task_sent(alloc: Global) -> Made {
     let mut sent = Vec::new(alloc);
     sent.push(RootRange {
         root: None,
@@ -48,20 +47,21 @@ fn task_sent(alloc: Global) -> Result<Task, AllocError> {
 }
 
 /// Windows in a window, a BAR in the inner one, a BAR and a window that no window holds, and a BAR that is off.
-fn mapped(alloc: Global) -> Result<Texts, AllocError> {
-    let inner = [
-        (0x20, 0xe000_e000, 0xfff0_fff0),
-        (0x24, 0xf000_f000, 0xfff0_fff0),
-    ];
-    let board = [
-        bridge("00:01.0", 2, (0, 1, 2), &[(0x20, 0xe010_e000, 0xfff0_fff0)]),
-        bridge("01:00.0", 2, (1, 2, 2), &inner),
-        device("01:01.0", 1, &[(0x10, 0x0000_1001, 0xffff_ffe1)]),
-        device("02:00.0", 2, &[(0x10, 0xe000_0000, 0xffff_f000)]),
-        device("02:01.0", 0, &[(0x10, 0xe000_1000, 0xffff_f000)]),
-    ];
-    texts_of(alloc, &board)
-}
+const MAPPED: &[Row] = &[
+    Bridge("00:01.0", 2, (0, 1, 2), &[(0x20, 0xe010_e000, 0xfff0_fff0)]),
+    Bridge(
+        "01:00.0",
+        2,
+        (1, 2, 2),
+        &[
+            (0x20, 0xe000_e000, 0xfff0_fff0),
+            (0x24, 0xf000_f000, 0xfff0_fff0),
+        ],
+    ),
+    Device("01:01.0", 1, &[(0x10, 0x0000_1001, 0xffff_ffe1)]),
+    Device("02:00.0", 2, &[(0x10, 0xe000_0000, 0xffff_f000)]),
+    Device("02:01.0", 0, &[(0x10, 0xe000_1000, 0xffff_f000)]),
+];
 
 /// What is printed of it.
 const MAP: &str = "bus 00 mem
@@ -77,64 +77,52 @@ off
   00000000e0001000-00000000e0001fff 4K bar 02:01.0 10
 ";
 
+/// All words there are.
+const WORDS: Words = Words {
+    ide: true,
+    power: true,
+    reset: true,
+    subtractive: true,
+    unnumbered: true,
+    vga: Some(VgaWord::Vga),
+};
+
 #[test]
 fn a_map_is_printed(rt: HostRuntime) -> Result<(), Fail> {
-    let texts = mapped(rt.alloc())?;
-    prints(
-        &rt,
+    is_printed(
+        rt.alloc(),
         &["map", "d", "p", "--model", "power"],
-        (texts.dump.as_str(), texts.probe.as_str()),
-        (MAP, "", 0),
+        MAPPED,
+        MAP,
     )
 }
 
 #[test]
 fn a_map_that_is_refused_a_growth_says_just_that(rt: HostRuntime) -> Result<(), Fail> {
-    let texts = mapped(rt.alloc())?;
-    assert!(rt; is_refused_in_turn(&rt, &task(), &texts));
-    Ok(())
+    is_refused(rt.alloc(), task(), MAPPED)
 }
 
 #[test]
 fn so_does_one_by_words(rt: HostRuntime) -> Result<(), Fail> {
-    let texts = mapped(rt.alloc())?;
-    let words = Words {
-        ide: true,
-        power: true,
-        reset: true,
-        subtractive: true,
-        unnumbered: true,
-        vga: Some(VgaWord::Vga),
-    };
-    assert!(rt; is_refused_in_turn(&rt, &task_by(Some(words)), &texts));
-    Ok(())
+    is_refused(rt.alloc(), task_by(Some(WORDS)), MAPPED)
 }
 
 #[test]
 fn so_does_one_of_what_the_host_sends(rt: HostRuntime) -> Result<(), Fail> {
-    let texts = mapped(rt.alloc())?;
-    let task = task_sent(rt.alloc())?;
-    assert!(rt; is_refused_in_turn(&rt, &task, &texts));
-    Ok(())
+    is_refused(rt.alloc(), task_sent(rt.alloc()), MAPPED)
 }
 
 #[test]
 fn so_does_one_of_what_is_not_admitted(rt: HostRuntime) -> Result<(), Fail> {
-    let texts = texts_of(rt.alloc(), &[device("01:00.0", 0, &[])])?;
-    assert!(rt; is_refused_in_turn(&rt, &task(), &texts));
-    Ok(())
+    is_refused(rt.alloc(), task(), &[Device("01:00.0", 0, &[])])
 }
 
 #[test]
 fn a_writer_that_fails_holds_a_beginning_of_the_map(rt: HostRuntime) -> Result<(), Fail> {
-    let texts = mapped(rt.alloc())?;
-    leaves_beginnings(&rt, &task(), &texts, 7, &[0, 1, 100, 300]);
-    Ok(())
+    is_cut_off(rt.alloc(), task(), MAPPED, 7, &[0, 1, 100, 300])
 }
 
 #[test]
 fn a_read_that_fails_leaves_no_map(rt: HostRuntime) -> Result<(), Fail> {
-    let texts = mapped(rt.alloc())?;
-    tells_failed_reads(&rt, &task(), &texts, 0);
-    Ok(())
+    is_unread(rt.alloc(), task(), MAPPED, 0)
 }

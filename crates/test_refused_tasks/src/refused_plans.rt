@@ -1,12 +1,16 @@
 //! The program's plans, with the first growth refused, then with the second, and so on until no refusal is met.
+use crate::on_boards::is_refused;
 use crate::refused_tasks::is_refused_in_turn;
 use pci_base::range::Range;
 use pci_place::pools::Pools;
 use pci_tree::roots::Roots;
 use pciplan_tasks::task::Task;
+use std::alloc::Global;
 use std::test::Fail;
-use test_support::board::{device, texts_of};
+use test_support::board::Texts;
 use test_support::planned::{IO_POOL, MEMORY_POOL, PREFETCH_POOL, boards};
+use test_support::row::Row;
+use test_support::row::Row::Device;
 
 const POOLS: Pools = Pools {
     io: IO_POOL,
@@ -14,18 +18,26 @@ const POOLS: Pools = Pools {
     pref: PREFETCH_POOL,
 };
 
+/// A plan with reasons in some pools.
+fn task(pools: Pools, writes: bool) -> Task {
+    Task::Plan {
+        pools,
+        writes,
+        why: true,
+        roots: Roots::host(),
+    }
+}
+
+/// Whether a plan that is refused a growth says just that, where it is printed as a dump and as writes.
+fn are_refused_in_turn(alloc: Global, texts: &Texts) -> bool {
+    is_refused_in_turn(alloc, &task(POOLS, false), texts)
+        && is_refused_in_turn(alloc, &task(POOLS, true), texts)
+}
+
 #[test]
 fn a_plan_that_is_refused_a_growth_says_just_that(rt: HostRuntime) -> Result<(), Fail> {
     for (texts, _) in boards(rt.alloc())? {
-        for writes in [false, true] {
-            let task = Task::Plan {
-                pools: POOLS,
-                writes,
-                why: true,
-                roots: Roots::host(),
-            };
-            assert!(rt; is_refused_in_turn(&rt, &task, &texts));
-        }
+        assert!(rt; are_refused_in_turn(rt.alloc(), &texts));
     }
     Ok(())
 }
@@ -42,14 +54,6 @@ const NARROW: Pools = Pools {
 
 #[test]
 fn a_shortage_that_is_refused_a_growth_says_just_that(rt: HostRuntime) -> Result<(), Fail> {
-    let board = [device("00:01.0", 2, &[(0x10, 0xe000_0000, 0xfff0_0000)])];
-    let texts = texts_of(rt.alloc(), &board)?;
-    let task = Task::Plan {
-        pools: NARROW,
-        writes: false,
-        why: true,
-        roots: Roots::host(),
-    };
-    assert!(rt; is_refused_in_turn(&rt, &task, &texts));
-    Ok(())
+    const BOARD: &[Row] = &[Device("00:01.0", 2, &[(0x10, 0xe000_0000, 0xfff0_0000)])];
+    is_refused(rt.alloc(), Ok(task(NARROW, false)), BOARD)
 }

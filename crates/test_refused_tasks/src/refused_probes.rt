@@ -1,5 +1,6 @@
 //! Deriving a probe where a read, a write or a growth fails.
 use crate::failing::{leaves_beginnings, with_failing_read};
+use crate::program::Answer;
 use crate::refused_tasks::is_refused_in_turn;
 use pci_probe::assuming::Assuming;
 use pciplan_tasks::task::Task;
@@ -43,9 +44,26 @@ fn example(alloc: Global) -> Result<Texts, AllocError> {
 #[test]
 fn a_probe_that_is_refused_a_growth_says_just_that(rt: HostRuntime) -> Result<(), Fail> {
     let texts = example(rt.alloc())?;
-    assert!(rt; is_refused_in_turn(&rt, &task(), &texts));
-    leaves_beginnings(&rt, &task(), &texts, 7, &[0, 1, 100, 300]);
-    Ok(())
+    assert!(rt; is_refused_in_turn(rt.alloc(), &task(), &texts));
+    leaves_beginnings(rt.alloc(), &task(), &texts, 7, &[0, 1, 100, 300])
+}
+
+/// Whether a run whose read failed tells that and nothing else, and another one the read back that it assumed.
+fn is_told(got: &Answer, message: &[u8]) -> bool {
+    match got.status {
+        4 => got.out.is_empty() && got.err.as_slice() == message,
+        0 => got.err.as_slice() == b"pciplan: assumed 00:02.0 10\n".as_slice(),
+        _ => false,
+    }
+}
+
+/// Whether that is so where a read of either text fails, and then whether it is the sizes of which one failed.
+fn is_told_of_both(alloc: Global, texts: &Texts, at: u64) -> (bool, bool) {
+    let dump = with_failing_read(alloc, &task(), texts, at, 0);
+    let sizes = with_failing_read(alloc, &task(), texts, 0, at);
+    let are_told = is_told(&dump, b"pciplan: dump: 1 Io\n".as_slice())
+        && is_told(&sizes, b"pciplan: sizes: 1 Io\n".as_slice());
+    (are_told, sizes.status == 4)
 }
 
 #[test]
@@ -53,19 +71,10 @@ fn a_probe_is_derived_of_what_can_be_read(rt: HostRuntime) -> Result<(), Fail> {
     let texts = example(rt.alloc())?;
     let mut failed = 0u64;
     for at in 1..9u64 {
-        for (dump_fails, sizes_fail, message) in [
-            (at, 0, b"pciplan: dump: 1 Io\n".as_slice()),
-            (0, at, b"pciplan: sizes: 1 Io\n".as_slice()),
-        ] {
-            let got = with_failing_read(&rt, &task(), &texts, dump_fails, sizes_fail);
-            if got.status == 4 {
-                failed = failed.max(sizes_fail);
-                assert!(rt; got.out.is_empty(), "{at}");
-                assert!(rt; got.err.as_slice() == message, "{at}");
-            } else {
-                assert_eq!(rt; got.status, 0, "{at}");
-                assert!(rt; got.err.as_slice() == b"pciplan: assumed 00:02.0 10\n".as_slice());
-            }
+        let (are_told, is_failed) = is_told_of_both(rt.alloc(), &texts, at);
+        assert!(rt; are_told, "{at}");
+        if is_failed {
+            failed = at;
         }
     }
     assert!(rt; 1 < failed && failed < 8, "{failed}");

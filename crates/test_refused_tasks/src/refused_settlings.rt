@@ -1,14 +1,13 @@
 //! The program's settling where a read, a write or a growth fails.
-use crate::failing::{leaves_beginnings, tells_failed_reads};
-use crate::program::prints;
-use crate::refused_tasks::is_refused_in_turn;
+use crate::on_boards::{Made, is_cut_off, is_printed, is_refused, is_unread};
 use pci_base::range::{Range, RootRange};
 use pci_base::slot::Slot;
 use pci_tree::roots::Roots;
 use pciplan_tasks::task::{SettleLists, SettleRequest, Task};
 use std::alloc::{AllocError, Global};
 use std::test::Fail;
-use test_support::board::{Texts, bridge, device, texts_of};
+use test_support::row::Row;
+use test_support::row::Row::{Bridge, Device};
 
 /// A list with one range of all root buses.
 fn list_of(alloc: Global, first: u64, last: u64) -> Result<Vec<RootRange>, AllocError> {
@@ -20,36 +19,42 @@ fn list_of(alloc: Global, first: u64, last: u64) -> Result<Vec<RootRange>, Alloc
     Ok(list)
 }
 
-/// Settling in 60 KB of I/O, memory from E0000000h to this address, and no prefetchable memory; with the functions at this
-/// device of bus 00 not to be written, where one is named, and else all placed anew.
-fn task_to(alloc: Global, last: u64, fixed: Option<u8>, writes: bool) -> Result<Task, AllocError> {
-    let lists = SettleLists {
+/// The function at a device of bus 00, where one is named.
+fn fixed_at(alloc: Global, device: Option<u8>) -> Result<Vec<Slot>, AllocError> {
+    let mut slots = Vec::new(alloc);
+    if let Some(slot) = device.and_then(|dev| Slot::new(0, dev, 0)) {
+        slots.push(slot)?;
+    }
+    Ok(slots)
+}
+
+/// 60 KB of I/O, memory from E0000000h to this address, and no prefetchable memory.
+fn lists_to(alloc: Global, last: u64) -> Result<SettleLists, AllocError> {
+    Ok(SettleLists {
         io: list_of(alloc, 0x1000, 0xffff)?,
         mem: list_of(alloc, 0xe000_0000, last)?,
         pref: Vec::new(alloc),
-    };
-    let mut slots = Vec::new(alloc);
-    if let Some(slot) = fixed.and_then(|dev| Slot::new(0, dev, 0)) {
-        slots.push(slot)?;
-    }
+    })
+}
+
+/// Settling in these lists, with the function at this device of bus 00 not to be written, where one is named, and else all
+/// placed anew.
+fn task_to(alloc: Global, last: u64, fixed: Option<u8>, writes: bool) -> Made {
     let request = SettleRequest {
         roots: Roots::host(),
-        lists,
-        fixed: slots,
+        lists: lists_to(alloc, last)?,
+        fixed: fixed_at(alloc, fixed)?,
         anew: fixed.is_none(),
     };
     Ok(Task::Settle { request, writes })
 }
 
 /// A bridge with a BAR behind it that is on at its own window's place, and a BAR beside it.
-fn settled(alloc: Global) -> Result<Texts, AllocError> {
-    let board = [
-        bridge("00:01.0", 2, (0, 1, 1), &[(0x20, 0xe010_e010, 0xfff0_fff0)]),
-        device("00:02.0", 0, &[(0x10, 0x0000_0000, 0xfff0_0000)]),
-        device("01:00.0", 2, &[(0x10, 0xe010_0000, 0xffff_f000)]),
-    ];
-    texts_of(alloc, &board)
-}
+const BOARD: &[Row] = &[
+    Bridge("00:01.0", 2, (0, 1, 1), &[(0x20, 0xe010_e010, 0xfff0_fff0)]),
+    Device("00:02.0", 0, &[(0x10, 0x0000_0000, 0xfff0_0000)]),
+    Device("01:00.0", 2, &[(0x10, 0xe010_0000, 0xffff_f000)]),
+];
 
 /// The writes that settle it.
 const WRITES: &str = "01:00.0 04.2 0000
@@ -67,8 +72,7 @@ const LAST: u64 = 0xe01f_ffff;
 
 #[test]
 fn writes_of_settling_are_printed(rt: HostRuntime) -> Result<(), Fail> {
-    let texts = settled(rt.alloc())?;
-    let words = [
+    const WORDS: &[&str] = &[
         "settle",
         "d",
         "p",
@@ -81,18 +85,12 @@ fn writes_of_settling_are_printed(rt: HostRuntime) -> Result<(), Fail> {
         "--anew",
         "--writes",
     ];
-    prints(
-        &rt,
-        &words,
-        (texts.dump.as_str(), texts.probe.as_str()),
-        (WRITES, "", 0),
-    )
+    is_printed(rt.alloc(), WORDS, BOARD, WRITES)
 }
 
 #[test]
 fn what_stands_is_left_where_it_is(rt: HostRuntime) -> Result<(), Fail> {
-    let texts = settled(rt.alloc())?;
-    let words = [
+    const WORDS: &[&str] = &[
         "settle",
         "d",
         "p",
@@ -106,66 +104,47 @@ fn what_stands_is_left_where_it_is(rt: HostRuntime) -> Result<(), Fail> {
         "00:01.0,01:00.0",
         "--writes",
     ];
-    prints(
-        &rt,
-        &words,
-        (texts.dump.as_str(), texts.probe.as_str()),
-        ("00:02.0 10.4 e0000000\n00:02.0 04.2 0002\n", "", 0),
-    )
+    const FEW: &str = "00:02.0 10.4 e0000000\n00:02.0 04.2 0002\n";
+    is_printed(rt.alloc(), WORDS, BOARD, FEW)
 }
 
 #[test]
 fn settling_that_is_refused_a_growth_says_just_that(rt: HostRuntime) -> Result<(), Fail> {
-    let texts = settled(rt.alloc())?;
-    let task = task_to(rt.alloc(), LAST, None, true)?;
-    assert!(rt; is_refused_in_turn(&rt, &task, &texts));
-    Ok(())
+    is_refused(rt.alloc(), task_to(rt.alloc(), LAST, None, true), BOARD)
 }
 
 #[test]
 fn so_does_one_that_prints_the_dump(rt: HostRuntime) -> Result<(), Fail> {
-    let texts = settled(rt.alloc())?;
-    let task = task_to(rt.alloc(), LAST, None, false)?;
-    assert!(rt; is_refused_in_turn(&rt, &task, &texts));
-    Ok(())
+    is_refused(rt.alloc(), task_to(rt.alloc(), LAST, None, false), BOARD)
 }
 
 #[test]
 fn so_does_one_without_room(rt: HostRuntime) -> Result<(), Fail> {
-    let texts = settled(rt.alloc())?;
-    let task = task_to(rt.alloc(), LAST - 1, None, true)?;
-    assert!(rt; is_refused_in_turn(&rt, &task, &texts));
-    Ok(())
+    is_refused(rt.alloc(), task_to(rt.alloc(), LAST - 1, None, true), BOARD)
 }
 
 #[test]
 fn so_does_one_that_leaves_what_stands(rt: HostRuntime) -> Result<(), Fail> {
-    let texts = settled(rt.alloc())?;
-    let task = task_to(rt.alloc(), LAST, Some(1), true)?;
-    assert!(rt; is_refused_in_turn(&rt, &task, &texts));
-    Ok(())
+    is_refused(rt.alloc(), task_to(rt.alloc(), LAST, Some(1), true), BOARD)
 }
 
 #[test]
 fn so_does_one_whose_fixed_part_does_not_stand(rt: HostRuntime) -> Result<(), Fail> {
-    let texts = settled(rt.alloc())?;
-    let task = task_to(rt.alloc(), LAST, Some(2), true)?;
-    assert!(rt; is_refused_in_turn(&rt, &task, &texts));
-    Ok(())
+    is_refused(rt.alloc(), task_to(rt.alloc(), LAST, Some(2), true), BOARD)
 }
 
 #[test]
 fn a_writer_that_fails_holds_a_beginning_of_the_writes(rt: HostRuntime) -> Result<(), Fail> {
-    let texts = settled(rt.alloc())?;
-    let task = task_to(rt.alloc(), LAST, None, true)?;
-    leaves_beginnings(&rt, &task, &texts, 7, &[0, 1, 100]);
-    Ok(())
+    is_cut_off(
+        rt.alloc(),
+        task_to(rt.alloc(), LAST, None, true),
+        BOARD,
+        7,
+        &[0, 1, 100],
+    )
 }
 
 #[test]
 fn a_read_that_fails_leaves_nothing_settled(rt: HostRuntime) -> Result<(), Fail> {
-    let texts = settled(rt.alloc())?;
-    let task = task_to(rt.alloc(), LAST, None, true)?;
-    tells_failed_reads(&rt, &task, &texts, 0);
-    Ok(())
+    is_unread(rt.alloc(), task_to(rt.alloc(), LAST, None, true), BOARD, 0)
 }

@@ -2,6 +2,7 @@
 use crate::program::{Answer, run_by, run_task};
 use pci_tree::roots::Roots;
 use pciplan_tasks::task::Task;
+use std::alloc::Global;
 use std::test::Fail;
 use test_support::board::Texts;
 use test_support::refusing::{MANY, Refusing};
@@ -18,12 +19,18 @@ fn is_want_of_memory(got: &Answer) -> bool {
 }
 
 /// Whether a task that is refused a growth, whichever it is, says just that, and else what it says with memory.
-pub fn is_refused_in_turn(rt: &HostRuntime, task: &Task, texts: &Texts) -> bool {
-    let whole = run_task(rt, task, texts.dump.as_str(), texts.probe.as_str());
-    let heap = Refusing::new(rt.alloc());
+pub fn is_refused_in_turn(alloc: Global, task: &Task, texts: &Texts) -> bool {
+    let whole = run_task(alloc, task, texts.dump.as_str(), texts.probe.as_str());
+    let heap = Refusing::new(alloc);
     for n in 1..MANY {
         heap.refuse(n);
-        let got = run_by(rt, &heap, task, texts.dump.as_str(), texts.probe.as_str());
+        let got = run_by(
+            alloc,
+            &heap,
+            task,
+            texts.dump.as_str(),
+            texts.probe.as_str(),
+        );
         if heap.is_due() {
             return 1 < n && is_same(&got, &whole);
         }
@@ -34,13 +41,18 @@ pub fn is_refused_in_turn(rt: &HostRuntime, task: &Task, texts: &Texts) -> bool 
     false
 }
 
+/// The same of a listing, a verdict and a probe.
+fn are_refused_in_turn(alloc: Global, texts: &Texts) -> bool {
+    let roots = Roots::host();
+    is_refused_in_turn(alloc, &Task::Show, texts)
+        && is_refused_in_turn(alloc, &Task::Check { roots }, texts)
+        && is_refused_in_turn(alloc, &Task::Size, texts)
+}
+
 #[test]
 fn a_task_that_is_refused_a_growth_says_just_that(rt: HostRuntime) -> Result<(), Fail> {
-    let roots = Roots::host();
     for (texts, _) in samples(rt.alloc())? {
-        for task in [Task::Show, Task::Check { roots }, Task::Size] {
-            assert!(rt; is_refused_in_turn(&rt, &task, &texts));
-        }
+        assert!(rt; are_refused_in_turn(rt.alloc(), &texts));
     }
     Ok(())
 }
