@@ -1,4 +1,4 @@
-use crate::rows::{Line, ROWS, Registers, Row};
+use crate::rows::{Line, Registers, Row, rows};
 use pci_base::image::Image;
 use pci_image::fault::ImageFault;
 use pci_probe::assuming::Assuming;
@@ -72,40 +72,40 @@ fn fault_of(row: &Row, assuming: Assuming) -> Option<DeriveFault> {
 
 #[test]
 fn functions_have_these_probes(rt: HostRuntime) {
-    for row in &ROWS {
+    for row in rows() {
         match row.2 {
             Ok((registers, expected)) => assert!(rt; has_probe(row, registers, expected)),
-            Err(fault) => assert_eq!(rt; fault_of(row, Assuming::Disabled), Some(fault)),
+            Err(fault) => assert!(rt; fault_of(row, Assuming::Disabled) == Some(fault)),
         }
     }
 }
 
 #[test]
 fn an_exact_probe_has_nothing_assumed(rt: HostRuntime) {
-    for row in &ROWS {
+    for row in rows() {
         let expected = match row.2 {
             Ok((_, assumed)) => assumed
                 .first()
                 .map(|register| DeriveFault::NoSize(*register)),
             Err(fault) => Some(fault),
         };
-        assert_eq!(rt; fault_of(row, Assuming::Nothing), expected);
+        assert!(rt; fault_of(row, Assuming::Nothing) == expected);
     }
 }
 
 #[test]
 fn no_size_is_wanting_where_the_least_is_assumed(rt: HostRuntime) {
-    for row in &ROWS {
+    for row in rows() {
         let number = fault_of(row, Assuming::Any).map(DeriveFault::number);
-        assert_ne!(rt; number, Some(32));
+        assert!(rt; number != Some(32));
     }
 }
 
 #[test]
 fn faults_have_these_numbers(rt: HostRuntime) {
-    assert_eq!(rt; DeriveFault::Header(ImageFault::HeaderKind).number(), 21);
-    assert_eq!(rt; DeriveFault::NoSize(0x10).number(), 32);
-    assert_eq!(rt; DeriveFault::OtherSize(0x10).number(), 33);
+    assert!(rt; DeriveFault::Header(ImageFault::HeaderKind).number() == 21);
+    assert!(rt; DeriveFault::NoSize(0x10).number() == 32);
+    assert!(rt; DeriveFault::OtherSize(0x10).number() == 33);
 }
 
 #[test]
@@ -117,5 +117,5 @@ fn a_register_is_derived_alone(rt: HostRuntime) {
         flags: 0x4_0200,
     };
     let derived = register(&Image([0; 256]), &lines, false, 0x10);
-    assert_eq!(rt; derived, Derived::Known(0xffff_0000));
+    assert!(rt; derived == Derived::Known(0xffff_0000));
 }

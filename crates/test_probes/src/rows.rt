@@ -18,7 +18,7 @@ pub struct Row(
 /// Header Type of a bridge, among the four bytes from 0Ch on.
 const BRIDGE: u32 = 0x0001_0000;
 
-pub const ROWS: [Row; 31] = [
+static ROWS: [Row; 31] = [
     // BARs: 128 KB of memory, 64 bytes of I/O, 64 MB and 512 KB of 64 bits
     Row(
         &[(0x04, 2), (0x10, 0xfebc_0000)],
@@ -216,3 +216,8 @@ pub const ROWS: [Row; 31] = [
         Err(DeriveFault::Header(ImageFault::HeaderKind)),
     ),
 ];
+
+/// The rows. A function that names the table itself is proved over all of it once more.
+pub fn rows() -> &'static [Row] {
+    &ROWS
+}

@@ -6,7 +6,9 @@ use pci_dump::read_fault::ReadFault;
 use pci_dump::std_streams::Incoming;
 use pci_dump::streams::{Failed, Source};
 use pci_probe::line::ResourceLine;
+use pci_probe::sizes::SizesBlock;
 use pci_probe::sizes_reader::read_sizes;
+use std::alloc::AllocError;
 use std::test::Fail;
 
 /// Two functions of a machine, as its sysfs shows them: a network card, and a display with a ROM.
@@ -105,82 +107,116 @@ fn outcome(rt: &HostRuntime, rest: &[u8], step: usize, torn: bool) -> Result<usi
     }
 }
 
-#[test]
-fn a_text_is_read_whole_in_any_cutting(rt: HostRuntime) -> Result<(), Fail> {
+/// Whether a block is the network card's.
+fn is_card(block: &SizesBlock) -> bool {
+    let registers = ResourceLine {
+        first: 0xfea0_4000,
+        last: 0xfea0_4fff,
+        flags: 0x4_0200,
+    };
+    let rom = ResourceLine {
+        first: 0xfe98_0000,
+        last: 0xfe9f_ffff,
+        flags: 0x4_6200,
+    };
+    Some(block.slot) == Slot::new(0, 2, 0)
+        && block.lines[0] == registers
+        && block.lines[1] == ResourceLine::default()
+        && block.lines[6] == rom
+}
+
+/// Whether a block is the display's.
+fn is_display(block: &SizesBlock) -> bool {
+    let last = ResourceLine {
+        first: 0xffff_ffff_ffff_f000,
+        last: u64::MAX,
+        flags: 0x14_220c,
+    };
+    Some(block.slot) == Slot::new(1, 31, 7) && block.lines[2] == last
+}
+
+/// Whether the two functions are read from their text by std's reader.
+fn are_read(rt: &HostRuntime) -> bool {
     match read_sizes(rt.alloc(), &mut Incoming::new(TWO.as_slice())) {
-        Ok(sizes) => match sizes.blocks() {
-            [card, display] => {
-                assert_eq!(rt; Some(card.slot), Slot::new(0, 2, 0));
-                assert_eq!(rt; Some(display.slot), Slot::new(1, 31, 7));
-                assert_eq!(rt;
-                    card.lines[0],
-                    ResourceLine {
-                        first: 0xfea0_4000,
-                        last: 0xfea0_4fff,
-                        flags: 0x4_0200
-                    }
-                );
-                assert_eq!(rt; card.lines[1], ResourceLine::default());
-                assert_eq!(rt;
-                    card.lines[6],
-                    ResourceLine {
-                        first: 0xfe98_0000,
-                        last: 0xfe9f_ffff,
-                        flags: 0x4_6200
-                    }
-                );
-                assert_eq!(rt;
-                    display.lines[2],
-                    ResourceLine {
-                        first: 0xffff_ffff_ffff_f000,
-                        last: u64::MAX,
-                        flags: 0x14_220c
-                    }
-                );
-            }
-            _ => assert!(rt; false),
-        },
-        Err(_) => assert!(rt; false),
+        Ok(sizes) => {
+            matches!(sizes.blocks(), [card, display] if is_card(card) && is_display(display))
+        }
+        Err(_) => false,
     }
-    for step in [1, 7, 407, 816, 9000] {
-        assert_eq!(rt; outcome(&rt, &TWO, step, false), Ok(2));
-        assert_eq!(rt; outcome(&rt, &TWO, step, true), Err(ReadFault::Io));
-        assert_eq!(rt; outcome(&rt, b"", step, false), Ok(0));
-    }
-    Ok(())
 }
 
 #[test]
-fn each_fault_has_its_line(rt: HostRuntime) -> Result<(), Fail> {
-    for (place, byte, fault) in &CHANGED {
-        let mut text = TWO;
-        if let Some(cell) = text.get_mut(*place) {
-            *cell = *byte;
-        }
-        assert_eq!(rt; outcome(&rt, &text, 816, false), Err(*fault));
+fn a_text_is_read_whole_in_any_cutting(rt: HostRuntime) {
+    assert!(rt; are_read(&rt));
+    for step in [1, 7, 407, 816, 9000] {
+        assert!(rt; outcome(&rt, &TWO, step, false) == Ok(2), "{step}");
+        assert!(rt;
+            outcome(&rt, &TWO, step, true) == Err(ReadFault::Io),
+            "{step}"
+        );
+        assert!(rt; outcome(&rt, b"", step, false) == Ok(0), "{step}");
     }
+}
+
+/// The two functions' text with a byte in place of that at a place.
+fn text_with(rt: &HostRuntime, place: usize, byte: u8) -> Result<Vec<u8>, AllocError> {
+    let mut text = TWO.to_vec(rt.alloc())?;
+    if let Some(cell) = text.get_mut(place) {
+        *cell = byte;
+    }
+    Ok(text)
+}
+
+/// The text of the second function, and so many bytes of the first one's behind it.
+fn second_and(rt: &HostRuntime, count: usize) -> Result<Vec<u8>, AllocError> {
     let (first, second) = TWO.split_at(408);
-    for (count, fault) in &BEHIND {
-        let mut text = Vec::new(rt.alloc());
-        text.extend_from_slice(second)?;
-        text.extend_from_slice(first.get(..*count).unwrap_or(&[]))?;
-        assert_eq!(rt; outcome(&rt, &text, 100, false), Err(*fault));
+    let mut text = second.to_vec(rt.alloc())?;
+    text.extend_from_slice(first.get(..count).unwrap_or(&[]))?;
+    Ok(text)
+}
+
+/// Whether a text is refused by this fault.
+fn is_refused(
+    rt: &HostRuntime,
+    text: Result<Vec<u8>, AllocError>,
+    step: usize,
+    fault: ReadFault,
+) -> bool {
+    match text {
+        Ok(text) => outcome(rt, &text, step, false) == Err(fault),
+        Err(_) => false,
     }
+}
+
+/// How many lines a text has that ends, cut before each byte but its first, in the line that is cut; or a cut after
+/// which it doesn't.
+fn lines_of(rt: &HostRuntime, text: &[u8]) -> Result<u64, usize> {
     let mut line = 1u64;
     for cut in 1..408 {
-        let Some(front) = first.get(..cut) else {
-            continue;
+        let Some(front) = text.get(..cut) else {
+            return Err(cut);
         };
         if front.last() == Some(&b'\n') {
             line = line.wrapping_add(1);
         }
-        assert_eq!(rt;
-            outcome(&rt, front, 100, false),
-            Err(ReadFault::Ended(line))
-        );
+        if outcome(rt, front, 100, false) != Err(ReadFault::Ended(line)) {
+            return Err(cut);
+        }
     }
-    assert_eq!(rt; line, 9);
-    Ok(())
+    Ok(line)
+}
+
+#[test]
+fn each_fault_has_its_line(rt: HostRuntime) {
+    for (place, byte, fault) in &CHANGED {
+        let text = text_with(&rt, *place, *byte);
+        assert!(rt; is_refused(&rt, text, 816, *fault), "{place}");
+    }
+    for (count, fault) in &BEHIND {
+        let text = second_and(&rt, *count);
+        assert!(rt; is_refused(&rt, text, 100, *fault), "{count}");
+    }
+    assert!(rt; lines_of(&rt, &TWO) == Ok(9));
 }
 
 /// A hex digit.
@@ -188,32 +224,35 @@ fn digit(number: u8) -> u8 {
     b"0123456789abcdef"[usize::from(number % 16)]
 }
 
-#[test]
-fn a_text_has_4096_blocks_at_most(rt: HostRuntime) -> Result<(), Fail> {
+/// Appends the blocks of the functions of a bus.
+fn push_bus(text: &mut Vec<u8>, bus: u8) -> Result<(), AllocError> {
     let (_slot, lines) = TWO.split_at(415);
-    let mut text = Vec::new(rt.alloc());
-    for bus in 0..16u8 {
-        for device in 0..32u8 {
-            for function in 0..8u8 {
-                let slot = [
-                    b'0',
-                    digit(bus),
-                    b':',
-                    digit(device / 16),
-                    digit(device),
-                    b'.',
-                    digit(function),
-                ];
-                text.extend_from_slice(&slot)?;
-                text.extend_from_slice(lines)?;
-            }
+    for device in 0..32u8 {
+        for function in 0..8u8 {
+            let slot = [
+                b'0',
+                digit(bus),
+                b':',
+                digit(device / 16),
+                digit(device),
+                b'.',
+                digit(function),
+            ];
+            text.extend_from_slice(&slot)?;
+            text.extend_from_slice(lines)?;
         }
     }
-    assert_eq!(rt; outcome(&rt, &text, 5000, false), Ok(4096));
+    Ok(())
+}
+
+#[test]
+fn a_text_has_4096_blocks_at_most(rt: HostRuntime) -> Result<(), Fail> {
+    let mut text = Vec::new(rt.alloc());
+    for bus in 0..16u8 {
+        push_bus(&mut text, bus)?;
+    }
+    assert!(rt; outcome(&rt, &text, 5000, false) == Ok(4096));
     text.push(b'1')?;
-    assert_eq!(rt;
-        outcome(&rt, &text, 5000, false),
-        Err(ReadFault::TooMany(36_865))
-    );
+    assert!(rt; outcome(&rt, &text, 5000, false) == Err(ReadFault::TooMany(36_865)));
     Ok(())
 }

@@ -4,12 +4,11 @@ use pci_base::memory::Refused;
 use pci_base::slot::Slot;
 use pci_dump::block::{Block, Title};
 use pci_dump::dump::{Dump, PushFault};
+use pci_probe::assumed::AssumedRegister;
 use pci_probe::assuming::Assuming;
-use pci_probe::probe::{Derivation, probe_of};
+use pci_probe::probe::probe_of;
 use pci_probe::probe_fault::ProbeFault;
 use pci_probe::sizes::{Sizes, SizesBlock};
-use std::fmt::Write;
-use std::test::Fail;
 
 /// Functions of bus 00 by their device numbers: what they show, what is told of them, of
 /// which registers a size may be assumed, and their read backs with the remarks, or the fault.
@@ -40,7 +39,7 @@ const WIDE: &[Line] = &[(0, 0, 0xfff, 0x14_0204)];
 
 const UNTOLD: &[Line] = &[];
 
-const SYSTEMS: [System; 17] = [
+static SYSTEMS: [System; 17] = [
     System(&[], &[], Assuming::Nothing, Ok((&[], &[]))),
     System(
         &[(1, ENABLED), (2, ENABLED)],
@@ -163,30 +162,35 @@ fn slot(device: u8) -> Slot {
     Slot::new(0, device, 0).unwrap_or_default()
 }
 
-/// A system's dump, whose blocks have a title, and its sizes.
-fn texts(rt: &HostRuntime, system: &System) -> Result<(Dump, Sizes), Fail> {
+/// The dump of these functions, each with a title, where their slots rise.
+fn dump_of(rt: &HostRuntime, functions: &[(u8, Registers)]) -> Option<Dump> {
     let mut dump = Dump::empty(rt.alloc());
-    for (device, registers) in system.0 {
+    for (device, registers) in functions {
         let pushed = dump.push(Block {
             slot: slot(*device),
             title: Title::of(b"Device"),
             image: shown(registers),
         });
         if pushed.is_err() {
-            return Err(Fail::from("a row's slots don't rise"));
+            return None;
         }
     }
+    Some(dump)
+}
+
+/// The sizes of functions of which these lines are told.
+fn sizes_of(rt: &HostRuntime, functions: &[(u8, &[Line])]) -> Option<Sizes> {
     let mut sizes = Sizes::empty(rt.alloc());
-    for (device, lines) in system.1 {
+    for (device, lines) in functions {
         let pushed = sizes.push(SizesBlock {
             slot: slot(*device),
             lines: told(lines),
         });
         if pushed.is_err() {
-            return Err(Fail::from("a row's slots don't rise"));
+            return None;
         }
     }
-    Ok((dump, sizes))
+    Some(sizes)
 }
 
 /// Whether a block of a probe is of this device, and holds these read backs.
@@ -207,56 +211,65 @@ fn has_blocks(blocks: &[Block], system: &System, read_backs: &[Registers]) -> bo
     blocks.len() == read_backs.len()
 }
 
+/// Whether a remark on a register that is assumed has this text.
+fn is_remark(rt: &HostRuntime, register: &AssumedRegister, text: &str) -> bool {
+    match format!(in rt.alloc(); "{register}") {
+        Ok(remark) => remark.as_str() == text,
+        Err(_) => false,
+    }
+}
+
 /// Whether these are the remarks on registers that are assumed.
-fn has_remarks(rt: &HostRuntime, derivation: &Derivation, remarks: &[&str]) -> Result<bool, Fail> {
-    let mut text = String::new(rt.alloc());
-    for register in &derivation.assumed {
-        writeln!(text, "{register}")?;
+fn has_remarks(rt: &HostRuntime, assumed: &[AssumedRegister], remarks: &[&str]) -> bool {
+    for (register, text) in assumed.iter().zip(remarks) {
+        if !is_remark(rt, register, text) {
+            return false;
+        }
     }
-    let mut wanted = String::new(rt.alloc());
-    for remark in remarks {
-        writeln!(wanted, "{remark}")?;
-    }
-    Ok(text == wanted)
+    assumed.len() == remarks.len()
 }
 
 /// Whether a probe is refused with a fault of this text.
-fn is_refused(rt: &HostRuntime, refused: &Refused<ProbeFault>, text: &str) -> Result<bool, Fail> {
-    match refused {
-        Refused::Fault(fault) => Ok(format!(in rt.alloc(); "{fault}")?.as_str() == text),
-        Refused::Memory => Ok(false),
+fn is_refused(rt: &HostRuntime, refused: &Refused<ProbeFault>, text: &str) -> bool {
+    let Refused::Fault(fault) = refused else {
+        return false;
+    };
+    match format!(in rt.alloc(); "{fault}") {
+        Ok(shown) => shown.as_str() == text,
+        Err(_) => false,
+    }
+}
+
+/// Whether what is derived of a dump and sizes is what a system's row says.
+fn is_derived_as_said(rt: &HostRuntime, dump: &Dump, sizes: &Sizes, system: &System) -> bool {
+    match (probe_of(rt.alloc(), dump, sizes, system.2), system.3) {
+        (Ok(derivation), Ok((read_backs, remarks))) => {
+            has_blocks(derivation.probe.blocks(), system, read_backs)
+                && has_remarks(rt, &derivation.assumed, remarks)
+        }
+        (Err(refused), Err(text)) => is_refused(rt, &refused, text),
+        _ => false,
     }
 }
 
 /// Whether a system's probe is derived, or refused, as its row says.
-fn is_as_its_row_says(rt: &HostRuntime, system: &System) -> Result<bool, Fail> {
-    let (dump, sizes) = texts(rt, system)?;
-    let derivation = match probe_of(rt.alloc(), &dump, &sizes, system.2) {
-        Ok(derivation) => derivation,
-        Err(refused) => {
-            return match system.3 {
-                Ok(_) => Ok(false),
-                Err(text) => is_refused(rt, &refused, text),
-            };
-        }
-    };
-    match system.3 {
-        Ok((read_backs, remarks)) => {
-            Ok(
-                has_blocks(derivation.probe.blocks(), system, read_backs)
-                    && has_remarks(rt, &derivation, remarks)?,
-            )
-        }
-        Err(_) => Ok(false),
+fn is_as_its_row_says(rt: &HostRuntime, system: &System) -> bool {
+    match (dump_of(rt, system.0), sizes_of(rt, system.1)) {
+        (Some(dump), Some(sizes)) => is_derived_as_said(rt, &dump, &sizes, system),
+        _ => false,
     }
 }
 
 #[test]
-fn systems_have_these_probes(rt: HostRuntime) -> Result<(), Fail> {
+fn systems_have_these_probes(rt: HostRuntime) {
     for (row, system) in SYSTEMS.iter().enumerate() {
-        assert!(rt; is_as_its_row_says(&rt, system)?, "{row}");
+        assert!(rt; is_as_its_row_says(&rt, system), "{row}");
     }
-    Ok(())
+}
+
+/// Whether a block is refused because it isn't above the one before.
+fn is_not_above(sizes: &mut Sizes, block: SizesBlock) -> bool {
+    sizes.push(block) == Err(Refused::Fault(PushFault::NotAbove))
 }
 
 #[test]
@@ -267,15 +280,13 @@ fn blocks_of_sizes_rise(rt: HostRuntime) {
         lines: told(SIZED),
     };
     assert!(rt; sizes.push(above).is_ok());
-    assert_eq!(rt;
-        sizes.push(above).err(),
-        Some(Refused::Fault(PushFault::NotAbove))
-    );
-    assert_eq!(rt;
-        sizes.push(SizesBlock::default()).err(),
-        Some(Refused::Fault(PushFault::NotAbove))
-    );
-    assert_eq!(rt; sizes.blocks().len(), 1);
-    assert_eq!(rt; ProbeFault::SlotsDiffer(slot(1)).number(), 30);
-    assert_eq!(rt; ProbeFault::OtherSize(slot(1), 0x10).number(), 33);
+    assert!(rt; is_not_above(&mut sizes, above));
+    assert!(rt; is_not_above(&mut sizes, SizesBlock::default()));
+    assert!(rt; sizes.blocks().len() == 1);
+}
+
+#[test]
+fn faults_of_a_probe_have_these_numbers(rt: HostRuntime) {
+    assert!(rt; ProbeFault::SlotsDiffer(slot(1)).number() == 30);
+    assert!(rt; ProbeFault::OtherSize(slot(1), 0x10).number() == 33);
 }
