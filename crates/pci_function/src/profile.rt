@@ -14,7 +14,8 @@ use pci_base::image::Image;
 use pci_base::offset::{BRIDGE_CONTROL, COMMAND, POWER_CONTROL, VENDOR_ID};
 use pci_base::slot::Slot;
 use pci_image::capability::POWER_MANAGEMENT;
-use pci_image::header::{NO_VENDOR, class_code, layout};
+use pci_image::header::{NO_VENDOR, class_code};
+use pci_image::layout::Layout;
 
 /// The bit number of VGA palette snooping in Command (PCI 3.0, 6.2.2).
 const PALETTE_SNOOP: u8 = 5;
@@ -49,14 +50,14 @@ pub fn controls_bridge(image: &Image, bit: u8) -> bool
     requires { bit ≤ 15 }
     ensures { result ≡ controls_bridge image.now.0 bit }
 {
-    layout(image) == 1 && has_bit(image.u16(BRIDGE_CONTROL), bit)
+    Layout::of(image) == Some(Layout::Bridge) && has_bit(image.u16(BRIDGE_CONTROL), bit)
 }
 
 /// Whether a function is a bridge that takes what nothing else claims, by its Class Code (PCI 3.0, 6.2.1).
 pub fn is_subtractive_bridge(image: &Image) -> bool
     ensures { result ≡ is_subtractive_bridge image.now.0 }
 {
-    layout(image) == 1 && class_code(image) == SUBTRACTIVE
+    Layout::of(image) == Some(Layout::Bridge) && class_code(image) == SUBTRACTIVE
 }
 
 /// The fault of a function's identity or probe: 20 `NoVendor`, else 21 `HeaderKind`, else 31 `StrayProbe` with the
@@ -80,10 +81,9 @@ pub fn identity_fault(slot: Slot, image: &Image, probe: &Image) -> Option<Fault>
     if image.u16(VENDOR_ID) == NO_VENDOR {
         return Some(Fault::NoVendor(slot));
     }
-    let layout = layout(image);
-    if 1 < layout {
+    let Some(layout) = Layout::of(image) else {
         return Some(Fault::HeaderKind(slot));
-    }
+    };
     match stray_byte(layout, probe) {
         None => None,
         Some(offset) => Some(Fault::StrayProbe(slot, offset)),
@@ -102,7 +102,7 @@ fn bridge_fault(slot: Slot, image: &Image, probe: &Image) -> Option<Fault>
           probe = probe.now.0;
         } (fault_of e)) }
 {
-    if layout(image) != 1 {
+    if Layout::of(image) != Some(Layout::Bridge) {
         return None;
     }
     let control = image.u16(BRIDGE_CONTROL);

@@ -1,10 +1,15 @@
 //! What judging needs of a function: its slot, what Command enables, and the ranges that its registers decode to.
 ghost use Rattle.std.specs.Prelude.{◌≡◌, [], None};
+ghost use Rattle.std.specs.Option.{is_some};
+ghost use Rattle.pci_spec.specs.Header.{rom_place};
+ghost use Rattle.pci_image.specs.Layouts.{is_of_bridge};
 ghost use Rattle.pci_function.specs.Values.{record_value};
 
 use arrayvec::ArrayVec;
 use pci_base::slot::Slot;
 use pci_image::bar::Bar;
+use pci_image::layout::Layout;
+use pci_image::register::rom_register;
 use pci_image::rom::Rom;
 use pci_image::window::Windows;
 
@@ -46,5 +51,22 @@ impl Record {
             rom: None,
             bridge: None,
         }
+    }
+
+    /// The layout of the function's header.
+    pub fn layout(&self) -> Layout
+        ensures { is_of_bridge result ≡ is_some self.now.bridge }
+    {
+        match self.bridge {
+            None => Layout::Device,
+            Some(_) => Layout::Bridge,
+        }
+    }
+
+    /// The offset of the function's Expansion ROM Base Address register.
+    pub fn rom_register(&self) -> u8
+        ensures { result ≡ rom_place (is_some self.now.bridge) }
+    {
+        rom_register(self.layout())
     }
 }

@@ -3,6 +3,7 @@ ghost use Rattle.std.specs.Prelude.{◌≡◌};
 ghost use Rattle.pci_spec.specs.Header.{class_code, layout};
 
 use super::fault::ImageFault;
+use super::layout::Layout;
 use super::register::rom_register;
 use pci_base::image::Image;
 use pci_base::offset::{BASE_CLASS, HEADER_TYPE, INTERFACE, SUB_CLASS, VENDOR_ID};
@@ -54,6 +55,7 @@ impl<'a> Header<'a> {
     ghost use Rattle.pci_spec.specs.Header.{bar_count, rom_register};
     ghost use Rattle.pci_spec.specs.Fault.{has_no_vendor};
     ghost use Rattle.pci_image.specs.Header.{HasHeader, IsHeaderOf, header_layout};
+    ghost use Rattle.pci_image.specs.Layouts.{layout_number};
     ghost use Rattle.pci_image.specs.Faults.{IsImageFaultIn, image_fault_number};
 
     /// The header of an image.
@@ -75,10 +77,20 @@ impl<'a> Header<'a> {
         if image.u16(VENDOR_ID) == NO_VENDOR {
             return Err(ImageFault::NoVendor);
         }
-        match layout(image) {
-            0 => Ok(Header::Type0(Header0 { image })),
-            1 => Ok(Header::Type1(Header1 { image })),
-            _ => Err(ImageFault::HeaderKind),
+        match Layout::of(image) {
+            Some(Layout::Device) => Ok(Header::Type0(Header0 { image })),
+            Some(Layout::Bridge) => Ok(Header::Type1(Header1 { image })),
+            None => Err(ImageFault::HeaderKind),
+        }
+    }
+
+    /// Its layout.
+    pub fn layout(&self) -> Layout
+        ensures { layout_number result ≡ header_layout self.now }
+    {
+        match self {
+            Header::Type0(_) => Layout::Device,
+            Header::Type1(_) => Layout::Bridge,
         }
     }
 
@@ -86,20 +98,14 @@ impl<'a> Header<'a> {
     pub fn bar_count(&self) -> u8
         ensures { result ≡ bar_count (header_layout self.now) }
     {
-        match self {
-            Header::Type0(_) => 6,
-            Header::Type1(_) => 2,
-        }
+        self.layout().bar_count()
     }
 
     /// The offset of the header's Expansion ROM Base Address register.
     pub fn rom_register(&self) -> u8
         ensures { result ≡ rom_register (header_layout self.now) }
     {
-        match self {
-            Header::Type0(_) => rom_register(false),
-            Header::Type1(_) => rom_register(true),
-        }
+        rom_register(self.layout())
     }
 }
 

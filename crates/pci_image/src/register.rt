@@ -6,8 +6,10 @@ ghost use Rattle.std.specs.Prelude.{◌≡◌, ◌<◌, ℕ, false, map, slice_i
 ghost use Rattle.std.specs.List.{list_all, list_any};
 ghost use Rattle.pci_spec.specs.Registers.{device_header, bridge_header};
 ghost use Rattle.pci_spec.specs.Header as header;
+ghost use Rattle.pci_image.specs.Layouts.{is_of_bridge};
 ghost use Rattle.pci_image.specs.Registers.{register_value, is_readable};
 
+use super::layout::Layout;
 use pci_base::offset::{
     BASE_ADDRESS, BRIDGE_EXPANSION_ROM, COMMAND, EXPANSION_ROM, INTERRUPT_LINE, IO_BASE,
     IO_BASE_UPPER, MEMORY_BASE, PREFETCHABLE_BASE, PREFETCHABLE_BASE_UPPER,
@@ -114,43 +116,51 @@ static BRIDGE_BYTES: [bool; HEADER_LEN] = [
     A, A, A, A, O, O, O, O, A, A, A, A, O, O, O, O, // 30: the I/O window; the expansion ROM at 38
 ];
 
-/// The registers of a device's or a bridge's header that a write can change.
-pub fn registers(bridge: bool) -> &'static [Register]
+/// The registers of a header that a write can change.
+pub fn registers(layout: Layout) -> &'static [Register]
     // a machine in memory takes the bits that can be written from here
     ensures table { map register_value result.now
-        ≡ (if bridge then bridge_header else device_header) }
+        ≡ (if is_of_bridge layout then bridge_header else device_header) }
     // so that each read back can be taken from a probe as one number
     ensures readable { IsTrue (list_all is_readable result.now) }
 {
-    if bridge { &BRIDGE } else { &DEVICE }
+    match layout {
+        Layout::Device => &DEVICE,
+        Layout::Bridge => &BRIDGE,
+    }
 }
 
 /// Those that address decoding is set by, by rising offset.
-pub fn address_registers(bridge: bool) -> &'static [Register]
+pub fn address_registers(layout: Layout) -> &'static [Register]
     // place and width are all that sizing, comparing and planning go by
     ensures { map (λ r. (r.offset, r.width)) result.now
-        ≡ header.address_registers (if bridge then 1 else 0) }
+        ≡ header.registers_by (is_of_bridge layout) }
 {
-    if bridge { &BRIDGE[..9] } else { &DEVICE[..7] }
+    match layout {
+        Layout::Device => &DEVICE[..7],
+        Layout::Bridge => &BRIDGE[..9],
+    }
 }
 
 /// Which bytes of a header lie in one of those.
-pub fn address_bytes(bridge: bool) -> &'static [bool; HEADER_LEN]
+pub fn address_bytes(layout: Layout) -> &'static [bool; HEADER_LEN]
     // the same registers byte by byte: a probe is looked through for bytes outside them
     ensures { (offset : ℕ) → offset < 64
         → slice_index_or result.now offset false
-        ≡ list_any (header.is_in_register offset) (header.registers_by bridge) }
+        ≡ list_any (header.is_in_register offset) (header.registers_by (is_of_bridge layout)) }
 {
-    if bridge { &BRIDGE_BYTES } else { &DEVICE_BYTES }
+    match layout {
+        Layout::Device => &DEVICE_BYTES,
+        Layout::Bridge => &BRIDGE_BYTES,
+    }
 }
 
-/// The offset of the Expansion ROM Base Address register of a device or a bridge.
-pub fn rom_register(bridge: bool) -> u8
-    ensures { result ≡ header.rom_place bridge }
+/// The offset of the Expansion ROM Base Address register of a header.
+pub fn rom_register(layout: Layout) -> u8
+    ensures { result ≡ header.rom_place (is_of_bridge layout) }
 {
-    if bridge {
-        BRIDGE_EXPANSION_ROM
-    } else {
-        EXPANSION_ROM
+    match layout {
+        Layout::Device => EXPANSION_ROM,
+        Layout::Bridge => BRIDGE_EXPANSION_ROM,
     }
 }

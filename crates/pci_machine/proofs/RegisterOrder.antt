@@ -14,6 +14,9 @@ use Rattle.pci_spec.specs.Fault.{is_in_address_register}
 use Rattle.pci_spec.specs.Machine.{Target, sizing_ones, register_at, read_back, written, sized}
 use Rattle.pci_spec.specs.Port.{IsTarget, is_access, fits}
 use Rattle.pci_spec.specs.Sizing.{IsPlain, DiffersWithin, DiffersInRegisters, is_address_register}
+use Rattle.pci_image.specs.declared.layout.Layout.{Layout}
+use Rattle.pci_image.specs.declared.layout.Layout.TheVariants.{Device, Bridge}
+use Rattle.pci_image.specs.Layouts.{layout_number}
 use Rattle.pci_machine.proofs.Targets.{find-none}
 use Rattle.pci_machine.proofs.Bytes.{IsImage-written}
 use Rattle.pci_machine.proofs.Sizing.{digit_of_number}
@@ -92,33 +95,29 @@ is_sound kind r =
     is_access r.0 r.1 && fits r.1 (sizing_ones kind r.0)
     && (nat_le 0x10 r.0 && nat_le (r.0 + r.1) 256 && (not (kind == 1) || nat_le (r.0 + r.1) 0x1e || nat_le 0x20 r.0))
 
--- the layout of a header, by whether it is a bridge's
-abbrev pub layout_of : Bool → ℕ
-layout_of bridge = cond bridge 1 0
-
 -- each address register is such, in both layouts
-all_sound : (bridge : Bool) → list_all (is_sound (layout_of bridge)) (address_registers (layout_of bridge)) ≡ true
-all_sound true = refl
-all_sound false = refl
+all_sound : (known : Layout) → list_all (is_sound (layout_number known)) (address_registers (layout_number known)) ≡ true
+all_sound Device = refl
+all_sound Bridge = refl
 
 -- the registers of both layouts stand one behind the other
-pub registers_rise : (bridge : Bool) → rise_from 0 (address_registers (layout_of bridge)) ≡ true
-registers_rise true = refl
-registers_rise false = refl
+pub registers_rise : (known : Layout) → rise_from 0 (address_registers (layout_number known)) ≡ true
+registers_rise Device = refl
+registers_rise Bridge = refl
 
 -- the register at a place of the table is such
-pub sound_at : (bridge : Bool) (k : ℕ) (r : ℕ × ℕ) → k < length (address_registers (layout_of bridge)) → get_or (address_registers (layout_of bridge)) k r ≡ r
-    → is_sound (layout_of bridge) r ≡ true
-sound_at bridge k r below is =
+pub sound_at : (known : Layout) (k : ℕ) (r : ℕ × ℕ) → k < length (address_registers (layout_number known)) → get_or (address_registers (layout_number known)) k r ≡ r
+    → is_sound (layout_number known) r ≡ true
+sound_at known k r below is =
     true_from_ne_false _ (λ miss.
-    both_ways (list_all (is_sound (layout_of bridge)) (address_registers (layout_of bridge)))
-    (list_all_at (is_sound (layout_of bridge)) (address_registers (layout_of bridge)) k r below (ap (is_sound (layout_of bridge)) is ∙ miss)) (all_sound bridge))
+    both_ways (list_all (is_sound (layout_number known)) (address_registers (layout_number known)))
+    (list_all_at (is_sound (layout_number known)) (address_registers (layout_number known)) k r below (ap (is_sound (layout_number known)) is ∙ miss)) (all_sound known))
 
 -- each register of the table begins one
-pub register_begins : (bridge : Bool) (k : ℕ) (r : ℕ × ℕ) → k < length (address_registers (layout_of bridge)) → get_or (address_registers (layout_of bridge)) k r ≡ r
-    → is_address_register (layout_of bridge) r.0 ≡ true
-register_begins bridge k r below is =
-    list_any_at (λ (q : ℕ × ℕ). q.0 == r.0) (address_registers (layout_of bridge)) k r below (ap (λ (q : ℕ × ℕ). q.0 == r.0) is ∙ eq-eqb r.0 r.0 refl)
+pub register_begins : (known : Layout) (k : ℕ) (r : ℕ × ℕ) → k < length (address_registers (layout_number known)) → get_or (address_registers (layout_number known)) k r ≡ r
+    → is_address_register (layout_number known) r.0 ≡ true
+register_begins known k r below is =
+    list_any_at (λ (q : ℕ × ℕ). q.0 == r.0) (address_registers (layout_number known)) k r below (ap (λ (q : ℕ × ℕ). q.0 == r.0) is ∙ eq-eqb r.0 r.0 refl)
 
 pub record IsSound (kind : ℕ) (r : ℕ × ℕ) : Type 0 where
   pub access : is_access r.0 r.1 ≡ true
@@ -166,14 +165,14 @@ register_plain t kind r target is sound place from inside =
     ]))
 
 -- what differs in one register differs in address registers alone
-pub within_registers : (bridge : Bool) (k : ℕ) (r : ℕ × ℕ) (image other : List ℕ) → k < length (address_registers (layout_of bridge)) → get_or (address_registers (layout_of bridge)) k r ≡ r
-    → layout image ≡ layout_of bridge → DiffersWithin r.0 r.1 image other → DiffersInRegisters image other
-within_registers bridge k r image other below is kind differs = record {
+pub within_registers : (known : Layout) (k : ℕ) (r : ℕ × ℕ) (image other : List ℕ) → k < length (address_registers (layout_number known)) → get_or (address_registers (layout_number known)) k r ≡ r
+    → layout image ≡ layout_number known → DiffersWithin r.0 r.1 image other → DiffersInRegisters image other
+within_registers known k r image other below is kind differs = record {
   full = differs.full;
   outside = λ place none. differs.outside place (
       let miss : holds_place place r ≡ false = false_from_ne_true _ (λ hit.
-      both_ways (is_in_address_register (layout_of bridge) place) (ap (λ n. is_in_address_register n place) (sym kind) ∙ none)
-      (list_any_at (holds_place place) (address_registers (layout_of bridge)) k r below (ap (holds_place place) is ∙ hit))) in
+      both_ways (is_in_address_register (layout_number known) place) (ap (λ n. is_in_address_register n place) (sym kind) ∙ none)
+      (list_any_at (holds_place place) (address_registers (layout_number known)) k r below (ap (holds_place place) is ∙ hit))) in
       elim (and_cases (nat_le r.0 place) (nat_lt place (r.0 + r.1)) miss) [
         | inl before ↦ inl (leb-false r.0 place before)
         | inr after ↦ inr (ltb-false place (r.0 + r.1) after)
@@ -181,17 +180,17 @@ within_registers bridge k r image other below is kind differs = record {
 }
 
 -- the bytes that were read back, with those of one register more
-pub found_more : (t : Target) (bridge : Bool) (k : ℕ) (r : ℕ × ℕ) (before after : List ℕ) (ones value : ℕ) → IsTarget t → layout t.image ≡ layout_of bridge
-    → k < length (address_registers (layout_of bridge)) → get_or (address_registers (layout_of bridge)) k r ≡ r → is_sound (layout_of bridge) r ≡ true
-    → ones ≡ sizing_ones (layout_of bridge) r.0 → value ≡ number_at (written t r.0 r.1 ones) r.0 r.1
+pub found_more : (t : Target) (known : Layout) (k : ℕ) (r : ℕ × ℕ) (before after : List ℕ) (ones value : ℕ) → IsTarget t → layout t.image ≡ layout_number known
+    → k < length (address_registers (layout_number known)) → get_or (address_registers (layout_number known)) k r ≡ r → is_sound (layout_number known) r ≡ true
+    → ones ≡ sizing_ones (layout_number known) r.0 → value ≡ number_at (written t r.0 r.1 ones) r.0 r.1
     → ((j : ℕ) → j < r.1 → byte_at after (r.0 + j) ≡ value / 256 ^ j % 256)
     → ((place : ℕ) → (place < r.0) ⊎ (r.0 + r.1 ≤ place) → byte_at after place ≡ byte_at before place)
-    → (place : ℕ) → byte_at before place ≡ read_back t place (found_in (take k (address_registers (layout_of bridge))) place)
-    → byte_at after place ≡ read_back t place (found_in (take (k + 1) (address_registers (layout_of bridge))) place)
-found_more t bridge k r before after ones value target kind below is sound ones_are value_is inside outside place so_far =
-    let registers = address_registers (layout_of bridge) in
-    let more = found_in-more 0 registers (registers_rise bridge) k r below is place in
-    let parts = sound_parts (layout_of bridge) r sound in
+    → (place : ℕ) → byte_at before place ≡ read_back t place (found_in (take k (address_registers (layout_number known))) place)
+    → byte_at after place ≡ read_back t place (found_in (take (k + 1) (address_registers (layout_number known))) place)
+found_more t known k r before after ones value target kind below is sound ones_are value_is inside outside place so_far =
+    let registers = address_registers (layout_number known) in
+    let more = found_in-more 0 registers (registers_rise known) k r below is place in
+    let parts = sound_parts (layout_number known) r sound in
     elim (cases_Bool (holds_place place r)) [
       | inl hit ↦
           let from = leb-true r.0 place (and_parts (nat_le r.0 place) (nat_lt place (r.0 + r.1)) hit).0 in
@@ -211,10 +210,10 @@ found_more t bridge k r before after ones value target kind below is sound ones_
     ]
 
 -- the bytes of all registers are what sizing finds
-pub found_all : (t : Target) (bridge : Bool) (n : ℕ) (bytes : List ℕ) → layout t.image ≡ layout_of bridge → length bytes ≡ 256 → length (address_registers (layout_of bridge)) ≤ n
-    → ((place : ℕ) → place < 256 → byte_at bytes place ≡ read_back t place (found_in (take n (address_registers (layout_of bridge))) place)) → bytes ≡ sized t
+pub found_all : (t : Target) (known : Layout) (n : ℕ) (bytes : List ℕ) → layout t.image ≡ layout_number known → length bytes ≡ 256 → length (address_registers (layout_number known)) ≤ n
+    → ((place : ℕ) → place < 256 → byte_at bytes place ≡ read_back t place (found_in (take n (address_registers (layout_number known))) place)) → bytes ≡ sized t
 unfolding sized
-found_all t bridge n bytes kind full all found =
+found_all t known n bytes kind full all found =
     fill_by_all (λ place. read_back t place (register_at (layout t.image) place)) bytes 256 0 full (λ place below.
-    found place below ∙ ap (λ rs. read_back t place (found_in rs place)) (take_all n (address_registers (layout_of bridge)) all)
+    found place below ∙ ap (λ rs. read_back t place (found_in rs place)) (take_all n (address_registers (layout_number known)) all)
     ∙ ap (λ m. read_back t place (register_at m place)) (sym kind))

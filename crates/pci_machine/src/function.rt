@@ -16,7 +16,7 @@ use pci_base::image::Image;
 use pci_base::slot::Slot;
 use pci_function::decode::decode;
 use pci_image::fault::ImageFault;
-use pci_image::header::layout;
+use pci_image::layout::Layout;
 
 /// The registers of the function at a slot, if its address registers decode. The fault is one of 20
 /// to 26: of BARs the lowest, else that of the ROM, else of windows the lowest.
@@ -44,11 +44,11 @@ pub fn registers_of(slot: Slot, image: &Image, probe: &Image) -> Result<ConfigSp
     } (image_fault_at slot e)) }
 {
     let _record = decode(slot, image, probe)?;
-    let bridge = layout(image) == 1;
+    let layout = Layout::or_device(image);
     Ok(ConfigSpace {
         slot,
         image: *image,
-        writable: writable_bytes(bridge, probe),
-        clearing: clearing_bytes(bridge),
+        writable: writable_bytes(layout, probe),
+        clearing: clearing_bytes(layout),
     })
 }

@@ -4,34 +4,35 @@ ghost use Rattle.pci_spec.specs.Number.{IsImage};
 ghost use Rattle.pci_spec.specs.Machine.{Field, in_fields, bar_field, fields_of, cleared_fields, writable_by, clearing_by, without_low};
 ghost use Rattle.pci_spec.specs.Number.{number_at};
 ghost use Rattle.pci_spec.specs.Port as port;
+ghost use Rattle.pci_image.specs.Layouts.{is_of_bridge};
 ghost use Rattle.pci_image.specs.Registers.{is_readable, role_value};
 ghost use Rattle.pci_machine.specs.Masks.{HasBits, AddsField, AddsFields};
 
 use pci_base::image::{IMAGE_LEN, Image, byte_of};
 use pci_base::offset::BASE_ADDRESS;
 use pci_image::bar::starts_bar;
+use pci_image::layout::Layout;
 use pci_image::register::{Register, Role, registers};
 
-/// The bits of each byte that a write sets, by what the registers of a device or a bridge read
-/// back.
-pub fn writable_bytes(bridge: bool, probe: &Image) -> [u8; IMAGE_LEN]
-    ensures bits { HasBits result (in_fields (writable_by bridge probe.now.0)) }
+/// The bits of each byte that a write sets, by what the registers of a header read back.
+pub fn writable_bytes(layout: Layout, probe: &Image) -> [u8; IMAGE_LEN]
+    ensures bits { HasBits result (in_fields (writable_by (is_of_bridge layout) probe.now.0)) }
     ensures image { IsImage result }
 {
     let mut bytes = [0; IMAGE_LEN];
-    for register in registers(bridge) {
+    for register in registers(layout) {
         add_register(&mut bytes, *register, probe);
     }
     bytes
 }
 
-/// The bits of each byte that a written one clears, in a device or a bridge.
-pub fn clearing_bytes(bridge: bool) -> [u8; IMAGE_LEN]
-    ensures bits { HasBits result (in_fields (clearing_by bridge)) }
+/// The bits of each byte that a written one clears, in a header.
+pub fn clearing_bytes(layout: Layout) -> [u8; IMAGE_LEN]
+    ensures bits { HasBits result (in_fields (clearing_by (is_of_bridge layout))) }
     ensures image { IsImage result }
 {
     let mut bytes = [0; IMAGE_LEN];
-    for register in registers(bridge) {
+    for register in registers(layout) {
         add_cleared(&mut bytes, *register);
     }
     bytes

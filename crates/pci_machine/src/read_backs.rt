@@ -1,10 +1,11 @@
 //! What all address registers of a function read back.
 ghost use Rattle.std.specs.Prelude.{◌≡◌, ◌+◌, ℕ, List, IsTrue, IfOk, IfErr, OnOk, OnErr, if◌then◌else◌};
-ghost use Rattle.pci_spec.specs.Header.{layout};
+ghost use Rattle.pci_spec.specs.Header as header;
 ghost use Rattle.pci_spec.specs.Machine as machine;
 ghost use Rattle.pci_spec.specs.Machine.{sized};
 ghost use Rattle.pci_spec.specs.Port as ports;
 ghost use Rattle.pci_spec.specs.Sizing.{function_at, DiffersInRegisters, is_address_register};
+ghost use Rattle.pci_image.specs.Layouts.{layout_number};
 ghost use Rattle.pci_machine.specs.Failing.{FailedAt};
 ghost use Rattle.pci_machine.specs.Outcome.{failures_of_stop};
 
@@ -14,26 +15,27 @@ use crate::read_back::read_back;
 use pci_base::image::{IMAGE_LEN, Image, put};
 use pci_base::offset::IO_BASE;
 use pci_base::slot::Slot;
+use pci_image::layout::Layout;
 use pci_image::register::{Register, address_registers, rom_register};
 
 /// What the address registers of a function read back, in an image that has 0 elsewhere.
 pub fn read_backs<P: ConfigPort>(
     port: &mut P,
     slot: Slot,
-    bridge: bool,
+    layout: Layout,
 ) -> Result<Image, AccessFault>
     requires there { IsTrue (ports.has_function (P.targets port.old) slot) }
     requires lawful { ports.IsLawful (P.targets port.old) }
     // by the other layout a device's BARs would be taken for the registers of windows
-    requires header { layout (function_at (P.targets port.old) slot).image
-        ≡ (if bridge then 1 else 0) }
+    requires header { header.layout (function_at (P.targets port.old) slot).image
+        ≡ layout_number layout }
     ensures read_backs { IfOk result
         (λ image. image.0 ≡ sized (function_at (P.targets port.old) slot)) }
     ensures kept { OnOk result (P.targets port.new ≡ P.targets port.old) }
     // the fault of sizing tells at which register it stopped
     ensures stop { IfErr result (λ stop. (stop.fault ≡ PortError.Failed)
         × IsTrue (is_address_register
-        (layout (function_at (P.targets port.old) slot).image) stop.offset)) }
+        (header.layout (function_at (P.targets port.old) slot).image) stop.offset)) }
     ensures failed { IfErr result (λ stop.
         FailedAt P.failures P.reads P.writes slot stop.offset port.old port.new) }
     ensures left { OnErr result
@@ -45,8 +47,8 @@ pub fn read_backs<P: ConfigPort>(
     ensures lawful { ports.IsLawful (P.targets port.new) }
 {
     let mut bytes = [0; IMAGE_LEN];
-    for register in address_registers(bridge) {
-        let ones = sizing_ones(bridge, *register);
+    for register in address_registers(layout) {
+        let ones = sizing_ones(layout, *register);
         let value = read_back(port, slot, register.offset, register.width, ones)?;
         put(&mut bytes, register.offset, register.width, value);
     }
@@ -55,12 +57,12 @@ pub fn read_backs<P: ConfigPort>(
 
 /// What sizing writes to an address register: ones, but zeros to the bits of a ROM register below
 /// its address (PCI 3.0, 6.2.5.1 and 6.2.5.2).
-fn sizing_ones(bridge: bool, register: Register) -> u32
-    ensures { result ≡ machine.sizing_ones (if bridge then 1 else 0) register.offset }
+fn sizing_ones(layout: Layout, register: Register) -> u32
+    ensures { result ≡ machine.sizing_ones (layout_number layout) register.offset }
 {
-    if register.offset == rom_register(bridge) {
+    if register.offset == rom_register(layout) {
         0xffff_f800
-    } else if bridge && register.offset == IO_BASE {
+    } else if layout == Layout::Bridge && register.offset == IO_BASE {
         0xffff
     } else {
         0xffff_ffff

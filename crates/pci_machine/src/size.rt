@@ -5,11 +5,13 @@
 //! its decode bits are cleared first, and put back at the end.
 ghost use Rattle.std.specs.Prelude.{◌≡◌, ◌≢◌, ◌+◌, ◌%◌, ℕ, List, true, None, IsTrue, IsFalse, IsOk, IfOk, IfErr, OnOk, OnErr, IfSome, MatchOption, if◌then◌else◌};
 ghost use Rattle.pci_spec.specs.Registers as table;
-ghost use Rattle.pci_spec.specs.Header.{command, layout};
+ghost use Rattle.pci_spec.specs.Header.{command};
+ghost use Rattle.pci_spec.specs.Header as header;
 ghost use Rattle.pci_spec.specs.Machine.{sized};
 ghost use Rattle.pci_spec.specs.Fault.{has_no_vendor, has_other_layout};
 ghost use Rattle.pci_spec.specs.Port as ports;
 ghost use Rattle.pci_spec.specs.Sizing.{function_at, DiffersInRegisters, IsSizable, IsStuck, is_written_to};
+ghost use Rattle.pci_image.specs.Layouts.{layout_number};
 ghost use Rattle.pci_machine.specs.Failing.{FailedAt};
 ghost use Rattle.pci_machine.specs.Outcome.{failures_of_stop};
 ghost use Rattle.pci_machine.specs.SizeOutcome.{SizingLeaves, TellsOffset, failures_of_size};
@@ -24,6 +26,7 @@ use pci_base::offset::{COMMAND, HEADER_TYPE, VENDOR_ID};
 use pci_base::slot::Slot;
 use pci_image::fault::ImageFault;
 use pci_image::header::{LAYOUT_BITS, NO_VENDOR};
+use pci_image::layout::Layout;
 
 /// What the address registers of the function at a slot read back, in an image that has 0
 /// elsewhere. No memory is taken, and all functions are as they were.
@@ -57,12 +60,12 @@ pub fn size<P: ConfigPort>(port: &mut P, slot: Slot) -> Result<Image, SizeFault>
         → result ≡ Err (SizeFault.Port table.VENDOR_ID PortError.NoFunction None) }
     ensures counted { P.failures port.new ≡ P.failures port.old + failures_of_size result }
 {
-    let bridge = is_bridge(port, slot)?;
+    let layout = layout_at(port, slot)?;
     let quiet = match Quiet::begin(port, slot) {
         Ok(quiet) => quiet,
         Err(stop) => return Err(stopped(stop, None)),
     };
-    let found = match read_when_quiet(port, slot, bridge) {
+    let found = match read_when_quiet(port, slot, layout) {
         Ok(found) => found,
         Err(stop) => return Err(stopped(stop, Some(quiet.give_up()))),
     };
@@ -75,15 +78,15 @@ pub fn size<P: ConfigPort>(port: &mut P, slot: Slot) -> Result<Image, SizeFault>
     }
 }
 
-/// Whether a function is a bridge, by its header, and not a device.
-fn is_bridge<P: ConfigPort>(port: &mut P, slot: Slot) -> Result<bool, SizeFault>
+/// The layout of the header of the function at a slot.
+fn layout_at<P: ConfigPort>(port: &mut P, slot: Slot) -> Result<Layout, SizeFault>
     ensures there { OnOk result (IsTrue (ports.has_function (P.targets port.old) slot)) }
     ensures vendor { OnOk result
         (IsFalse (has_no_vendor (function_at (P.targets port.old) slot).image)) }
     ensures header { OnOk result
         (IsFalse (has_other_layout (function_at (P.targets port.old) slot).image)) }
-    ensures bridge { IfOk result (λ bridge. layout (function_at (P.targets port.old) slot).image
-        ≡ (if bridge then 1 else 0)) }
+    ensures layout { IfOk result (λ known. header.layout (function_at (P.targets port.old) slot).image
+        ≡ layout_number known) }
     ensures fault { IfErr result (SizingLeaves (P.targets port.old) slot (P.targets port.new)) }
     ensures failed { IfErr result (TellsOffset (λ offset.
         FailedAt P.failures P.reads P.writes slot offset port.old port.new)) }
@@ -111,8 +114,8 @@ fn is_bridge<P: ConfigPort>(port: &mut P, slot: Slot) -> Result<bool, SizeFault>
         Err(stop) => return Err(stopped(stop, None)),
     };
     match header & u32::from(LAYOUT_BITS) {
-        0 => Ok(false),
-        1 => Ok(true),
+        0 => Ok(Layout::Device),
+        1 => Ok(Layout::Bridge),
         _ => Err(SizeFault::Header(ImageFault::HeaderKind)),
     }
 }
@@ -132,12 +135,12 @@ fn stopped(stop: AccessFault, command: Option<u16>) -> SizeFault
 fn read_when_quiet<P: ConfigPort>(
     port: &mut P,
     slot: Slot,
-    bridge: bool,
+    layout: Layout,
 ) -> Result<Option<Image>, AccessFault>
     requires there { IsTrue (ports.has_function (P.targets port.old) slot) }
     requires lawful { ports.IsLawful (P.targets port.old) }
-    requires header { layout (function_at (P.targets port.old) slot).image
-        ≡ (if bridge then 1 else 0) }
+    requires header { header.layout (function_at (P.targets port.old) slot).image
+        ≡ layout_number layout }
     ensures read_backs { IfOk result
         (λ found. IfSome found (λ image. image.0 ≡ sized (function_at (P.targets port.old) slot))) }
     ensures quiet { IfOk result
@@ -146,7 +149,7 @@ fn read_when_quiet<P: ConfigPort>(
     ensures kept { OnOk result (P.targets port.new ≡ P.targets port.old) }
     ensures stop { IfErr result (λ stop. (stop.fault ≡ PortError.Failed)
         × IsTrue
-        (is_written_to (layout (function_at (P.targets port.old) slot).image) stop.offset)) }
+        (is_written_to (header.layout (function_at (P.targets port.old) slot).image) stop.offset)) }
     ensures failed { IfErr result (λ stop.
         FailedAt P.failures P.reads P.writes slot stop.offset port.old port.new) }
     ensures left { OnErr result
@@ -160,6 +163,6 @@ fn read_when_quiet<P: ConfigPort>(
     if command & u32::from(DECODE_BITS) != 0 {
         return Ok(None);
     }
-    let image = read_backs(port, slot, bridge)?;
+    let image = read_backs(port, slot, layout)?;
     Ok(Some(image))
 }

@@ -1,13 +1,13 @@
 -- Numbers that are put into an image, one after another.
-use Rattle.std.proofs.Common.{◌≡◌, ℕ, zero, suc, ◌+◌, ◌*◌, ◌^◌, ◌<◌, ◌≤◌, ◌⊎◌, inl, inr, List, [], ◌∷◌, ◌++◌, length, get_or, take, Bool, true, false, ◌||◌, arith, sym, ◌∙◌, ap, subst, refl}
+use Rattle.std.proofs.Common.{◌≡◌, ℕ, zero, suc, ◌+◌, ◌*◌, ◌^◌, ◌<◌, ◌≤◌, ◌⊎◌, inl, inr, List, [], ◌∷◌, ◌++◌, length, get_or, take, false, ◌||◌, arith, sym, ◌∙◌, ap, subst, refl}
 use Rattle.std.specs.List.{AllPairs, Contains, list_any}
-use Rattle.std.specs.Bool.{nat_le, nat_lt, ◌==◌, if◌then◌else◌}
+use Rattle.std.specs.Bool.{nat_le, nat_lt, ◌==◌}
 use Rattle.std.proofs.lemmas.Bool.{and_from, both_ways, cases_lt, eqb-false, le-leb, lt-ltb, or_parts}
 use Rattle.std.proofs.lemmas.List.{get_or_default, get_or-take, length-take-le}
 use Rattle.std.proofs.lemmas.List.Elements.{Contains-push_cases}
 use Rattle.std.proofs.lemmas.List.Folds.{list_any-append}
 use Rattle.pci_spec.specs.Number.{byte_at, number_at, IsImage}
-use Rattle.pci_spec.specs.Header.{address_registers, is_in_register, layout, registers_by}
+use Rattle.pci_spec.specs.Header.{address_registers, is_in_register, layout}
 use Rattle.pci_spec.specs.System.{Function}
 use Rattle.plan_spec.specs.Planning.Numbers.{IsFilled}
 use Rattle.pci_spec.proofs.Members.{in_nil}
@@ -86,8 +86,3 @@ filled_with f value new_command middle new put is shown same = record {
       let five = eqb-false place 5 parts.1 in
       same place (elim (cases_lt place 4) [ inl low ↦ inl low | inr high ↦ inr (omega (arith, high, four, five)) ]) ∙ put.others place none;
 }
-
--- the registers of a header, by whether it is a bridge's
-pub registers_of : (kind : ℕ) (bridge : Bool) → bridge ≡ (kind == 1) → address_registers (if bridge then 1 else 0) ≡ address_registers kind
-registers_of kind true e = ap registers_by e
-registers_of kind false e = ap registers_by e

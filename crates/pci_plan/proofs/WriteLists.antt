@@ -40,13 +40,10 @@ access_by : (bridge : Bool) → list_all (λ q. is_access q.0 q.1) (registers_by
 access_by true = refl
 access_by false = refl
 
-by_bridge : (b : Bool) → address_registers (if b then 1 else 0) ≡ (if b then address_registers 1 else address_registers 0)
+-- the registers of a header, by its layout and by whether it is a bridge's
+pub by_bridge : (bridge : Bool) → address_registers (if bridge then 1 else 0) ≡ registers_by bridge
 by_bridge true = refl
 by_bridge false = refl
-
--- the registers of the code are those of the header
-pub registers_of_layout : (k : ℕ) → address_registers (if k == 1 then 1 else 0) ≡ address_registers k
-registers_of_layout k = by_bridge (k == 1)
 
 -- each is a lawful access
 pub register_access : (items : List Register) (k : ℕ) → map pair_of items ≡ address_registers k → (i : ℕ) (d : Register) → i < length items

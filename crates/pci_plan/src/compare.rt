@@ -9,7 +9,7 @@ use pci_base::image::Image;
 use pci_base::offset::COMMAND;
 use pci_base::slot::Slot;
 use pci_dump::block::Block;
-use pci_image::header::layout;
+use pci_image::layout::Layout;
 use pci_image::register::address_registers;
 use pci_machine::port::ConfigPort;
 
@@ -54,7 +54,7 @@ fn compare_function<P: ConfigPort>(
         (P.failures port.old) slot image.now.0 (P.failures port.new)) }
 {
     compare_register(port, slot, image, COMMAND, 2)?;
-    for register in address_registers(layout(image) == 1) {
+    for register in address_registers(Layout::or_device(image)) {
         compare_register(port, slot, image, register.offset, register.width)?;
     }
     Ok(())

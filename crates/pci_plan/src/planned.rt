@@ -29,7 +29,7 @@ pub fn filled(filling: &Filling<'_>) -> Image
         { image = result.0 } }
 {
     let mut image = *filling.image;
-    for register in address_registers(filling.record.bridge.is_some()) {
+    for register in address_registers(filling.record.layout()) {
         put(
             &mut image.0,
             register.offset,

@@ -12,7 +12,7 @@ use pci_base::memory::OutOfMemory;
 use pci_base::offset::COMMAND;
 use pci_base::slot::Slot;
 use pci_dump::block::Block;
-use pci_image::header::layout;
+use pci_image::layout::Layout;
 use pci_image::register::address_registers;
 use std::alloc::Allocator;
 
@@ -73,7 +73,7 @@ fn add_registers<A: Allocator>(
     ensures { OnOk result (map write_value writes.new.items
         ≡ map write_value writes.old.items ++ registers_of (block_change old.now new.now)) }
 {
-    for register in address_registers(layout(&old.image) == 1) {
+    for register in address_registers(Layout::or_device(&old.image)) {
         let value = new.image.number(register.offset, register.width);
         if value != old.image.number(register.offset, register.width) {
             writes.push(Write {

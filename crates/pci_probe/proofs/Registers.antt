@@ -14,8 +14,10 @@ use Rattle.pci_spec.specs.Machine.{register_at}
 use Rattle.pci_spec.specs.Resource.{ResourceLine}
 use Rattle.pci_spec.specs.Derived.{Derived, register_derived, read_back_of, is_assumed, derived_byte, derived_probe, assumed_registers}
 use Rattle.pci_spec.specs.NoProbe.{Assuming, NoProbe, register_fault, first_at, no_probe}
+use Rattle.pci_image.specs.declared.layout.Layout.{Layout}
+use Rattle.pci_image.specs.Layouts.{layout_number}
 use Rattle.pci_image.specs.declared.register.Register.{Register}
-use Rattle.pci_machine.proofs.RegisterOrder.{holds_place, found_in, found_in-more, registers_rise, layout_of}
+use Rattle.pci_machine.proofs.RegisterOrder.{holds_place, found_in, found_in-more, registers_rise}
 
 -- ---- the first fault of some registers
 
@@ -53,9 +55,9 @@ first_at-found fault (x ∷ xs) (suc k) found is = or_of (first_at-found fault x
 
 -- ---- what was derived of the registers so far
 
-module _ (assuming : Assuming) (image : List ℕ) (lines : List ResourceLine) (bridge : Bool) where
+module _ (assuming : Assuming) (image : List ℕ) (lines : List ResourceLine) (known : Layout) where
   abbrev registers : List (ℕ × ℕ)
-  registers = address_registers (layout_of bridge)
+  registers = address_registers (layout_number known)
 
   abbrev offsets : List ℕ
   offsets = map (λ (r : ℕ × ℕ). r.0) registers
@@ -96,7 +98,7 @@ module _ (assuming : Assuming) (image : List ℕ) (lines : List ResourceLine) (b
     offset_in = omega (arith, below, length-map {B = ℕ} registers (λ (q : ℕ × ℕ). q.0))
 
     -- a register without a read back is the first
-    pub derived_fault : (probe assumed : List ℕ) (found : NoProbe) → HasDerived k probe assumed → layout image ≡ layout_of bridge → fault r.0 ≡ Some found
+    pub derived_fault : (probe assumed : List ℕ) (found : NoProbe) → HasDerived k probe assumed → layout image ≡ layout_number known → fault r.0 ≡ Some found
         → no_probe assuming image lines ≡ Some found
     unfolding no_probe
     derived_fault probe assumed found so_far kind faulty =
@@ -110,7 +112,7 @@ module _ (assuming : Assuming) (image : List ℕ) (lines : List ResourceLine) (b
         → (place : ℕ) → byte_at before place ≡ derived_byte image lines place (found_in (take k registers) place)
         → byte_at after place ≡ derived_byte image lines place (found_in (take (k + 1) registers) place)
     bytes_more before after value value_is inside outside place so_far =
-        let more = found_in-more 0 registers (registers_rise bridge) k r below is place in
+        let more = found_in-more 0 registers (registers_rise known) k r below is place in
         elim (cases_Bool (holds_place place r)) [
           | inl hit ↦
               let parts = and_parts (nat_le r.0 place) (nat_lt place (r.0 + r.1)) hit in
@@ -156,7 +158,7 @@ module _ (assuming : Assuming) (image : List ℕ) (lines : List ResourceLine) (b
 
   -- ---- all registers
 
-  module _ (k : ℕ) (probe assumed : List ℕ) (kind : layout image ≡ layout_of bridge) (all : length registers ≤ k) (has : HasDerived k probe assumed) where
+  module _ (k : ℕ) (probe assumed : List ℕ) (kind : layout image ≡ layout_number known) (all : length registers ≤ k) (has : HasDerived k probe assumed) where
     all_offsets : length offsets ≤ k
     all_offsets = omega (arith, all, length-map {B = ℕ} registers (λ (q : ℕ × ℕ). q.0))
 
@@ -182,16 +184,16 @@ module _ (assuming : Assuming) (image : List ℕ) (lines : List ResourceLine) (b
 -- ---- the register of a turn
 
 -- in the code's table
-module _ (items : List Register) (bridge : Bool) (table : map (λ (r : Register). (r.offset, r.width)) items ≡ address_registers (layout_of bridge)) where
-  pub length_of_table : length items ≡ length (address_registers (layout_of bridge))
+module _ (items : List Register) (known : Layout) (table : map (λ (r : Register). (r.offset, r.width)) items ≡ address_registers (layout_number known)) where
+  pub length_of_table : length items ≡ length (address_registers (layout_number known))
   length_of_table = sym (length-map {B = ℕ × ℕ} items (λ (r : Register). (r.offset, r.width))) ∙ ap length table
 
   module _ (k : ℕ) (within : k < length items) (d : Register) where
     abbrev pub here : ℕ × ℕ
     here = ((get_or items k d).offset, (get_or items k d).width)
 
-    pub in_table : k < length (address_registers (layout_of bridge))
+    pub in_table : k < length (address_registers (layout_number known))
     in_table = omega (arith, within, length_of_table)
 
-    pub at_place : get_or (address_registers (layout_of bridge)) k here ≡ here
+    pub at_place : get_or (address_registers (layout_number known)) k here ≡ here
     at_place = ap (λ rs. get_or rs k here) (sym table) ∙ get_or-map (λ (r : Register). (r.offset, r.width)) items k d here within

@@ -1,16 +1,18 @@
 //! What is derived for a BAR (PCI 3.0, 6.2.5.1).
 ghost use Rattle.std.specs.Prelude.{◌≡◌, ◌+◌, ◌-◌, ◌*◌, ◌%◌, ◌^◌, ◌<◌, ◌≤◌, true, false, ⊤, if◌then◌else◌, MatchOption};
 ghost use Rattle.pci_spec.specs.Bar as bars;
-ghost use Rattle.pci_spec.specs.Header.{layout};
+ghost use Rattle.pci_spec.specs.Header as header;
 ghost use Rattle.pci_spec.specs.Machine.{without_low};
 ghost use Rattle.pci_spec.specs.Resource.{address_count, tells_bar};
 ghost use Rattle.pci_spec.specs.Derived as spec;
+ghost use Rattle.pci_image.specs.Layouts.{layout_number};
 ghost use Rattle.pci_probe.specs.Derived.{derived_of};
 
 use super::derived::Derived;
 use super::line::ResourceLine;
 use pci_base::image::Image;
 use pci_base::offset::{BASE_ADDRESS, COMMAND};
+use pci_image::layout::Layout;
 
 /// Whether a BAR maps into I/O space, by what it shows.
 fn is_io(value: u64) -> bool
@@ -114,19 +116,18 @@ fn derived(line: ResourceLine, wide: bool, enabled: bool, value: u64) -> Derived
 }
 
 /// What is derived for the BAR at register `n`, of its line.
-pub fn bar(image: &Image, line: ResourceLine, bridge: bool, n: u8) -> Derived
+pub fn bar(image: &Image, line: ResourceLine, layout: Layout, n: u8) -> Derived
     // no 64-bit BAR starts in the last BAR register, and which that is hangs on the layout
-    requires header { layout image.now.0 ≡ (if bridge then 1 else 0) }
+    requires header { header.layout image.now.0 ≡ layout_number layout }
     requires few { n < 6 }
     ensures { derived_of result
         ≡ spec.derived_bar line (spec.bar_width image.now.0 n)
         (spec.is_enabled image.now.0 (spec.shown_bar image.now.0 n))
         (spec.shown_bar image.now.0 n) }
 {
-    let count = if bridge { 2 } else { 6 };
     let register = BASE_ADDRESS + 4 * n;
     let low = image.u32(register);
-    let wide = is_wide(low) && n + 1 < count;
+    let wide = is_wide(low) && n + 1 < layout.bar_count();
     let value = if wide {
         u64::from(low) + 0x1_0000_0000 * u64::from(image.u32(register + 4))
     } else {

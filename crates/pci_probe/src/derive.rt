@@ -4,6 +4,7 @@ ghost use Rattle.pci_spec.specs.Header.{layout};
 ghost use Rattle.pci_spec.specs.Derived.{derived_probe, assumed_registers, read_back_of, is_assumed};
 ghost use Rattle.pci_spec.specs.NoProbe.{no_probe, register_fault};
 ghost use Rattle.pci_image.specs.Header.{HasHeader};
+ghost use Rattle.pci_image.specs.Layouts.{layout_number};
 ghost use Rattle.pci_probe.specs.Assuming.{assuming_of};
 ghost use Rattle.pci_probe.specs.Derived.{derived_of, IsNarrow};
 ghost use Rattle.pci_probe.specs.Fault.{IsDeriveFault, IsHeaderFault, IsFaultOf};
@@ -17,17 +18,17 @@ use arrayvec::ArrayVec;
 use pci_base::image::{IMAGE_LEN, Image, put};
 use pci_image::fault::ImageFault;
 use pci_image::header::Header;
+use pci_image::layout::Layout;
 use pci_image::register::address_registers;
 
-/// Whether a function is a bridge, by its header, and not a device.
-pub(crate) fn is_bridge(image: &Image) -> Result<bool, ImageFault>
+/// The layout of a function's header.
+pub(crate) fn layout_of(image: &Image) -> Result<Layout, ImageFault>
     ensures header { OnOk result (HasHeader image.now.0) }
-    ensures layout { IfOk result (λ bridge. layout image.now.0 ≡ (if bridge then 1 else 0)) }
+    ensures layout { IfOk result (λ known. layout image.now.0 ≡ layout_number known) }
     ensures fault { IfErr result (IsHeaderFault image.now.0) }
 {
     match Header::of(image) {
-        Ok(Header::Type0(_)) => Ok(false),
-        Ok(Header::Type1(_)) => Ok(true),
+        Ok(header) => Ok(header.layout()),
         Err(fault) => Err(fault),
     }
 }
@@ -79,14 +80,14 @@ pub fn derive(
         (λ registers. registers.items ≡ assumed_registers image.now.0 lines.now) }
     ensures fault { IfErr result (IsDeriveFault assuming image.now.0 lines.now) }
 {
-    let bridge = match is_bridge(image) {
-        Ok(bridge) => bridge,
+    let layout = match layout_of(image) {
+        Ok(layout) => layout,
         Err(fault) => return Err(DeriveFault::Header(fault)),
     };
     let mut assumed = ArrayVec::new();
     probe.0 = [0; IMAGE_LEN];
-    for place in address_registers(bridge) {
-        let derived = register(image, lines, bridge, place.offset);
+    for place in address_registers(layout) {
+        let derived = register(image, lines, layout, place.offset);
         let (read_back, is_assumed) = taken(derived, assuming, place.offset)?;
         put(&mut probe.0, place.offset, place.width, read_back);
         if is_assumed {

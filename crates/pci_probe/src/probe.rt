@@ -12,7 +12,7 @@ ghost use Rattle.pci_probe.specs.Derivation.{IsFaultOfFunction, told};
 
 use super::assumed::AssumedRegister;
 use super::assuming::Assuming;
-use super::derive::{derive, is_bridge};
+use super::derive::{derive, layout_of};
 use super::fault::DeriveFault;
 use super::lone::lone_slot;
 use super::probe_fault::ProbeFault;
@@ -38,7 +38,7 @@ fn header_fault(dump: &[Block]) -> Option<ProbeFault>
         (λ fault. first_of identity_fault dump.now ≡ Some (fault_value fault)) }
 {
     for block in dump {
-        match is_bridge(&block.image) {
+        match layout_of(&block.image) {
             Ok(_) => {}
             Err(fault) => return Some(ProbeFault::at(block.slot, DeriveFault::Header(fault))),
         }

@@ -20,7 +20,6 @@ use pci_base::offset::BASE_ADDRESS;
 use pci_base::window_kind::WindowKind;
 use pci_function::record::{Bridge, Record};
 use pci_image::bar::Bar;
-use pci_image::register::rom_register;
 use pci_image::window::Window;
 use pci_place::above::{Above, aboves};
 use pci_plan::write::Write;
@@ -77,7 +76,7 @@ fn rom_without(record: &Record, told: &Kept) -> Option<u8>
     ensures { result ≡ rom_without «record».now told.now }
 {
     if is_rom_on(record.rom) && !told.rom {
-        Some(rom_register(record.bridge.is_some()))
+        Some(record.rom_register())
     } else {
         None
     }

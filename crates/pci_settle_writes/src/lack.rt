@@ -10,7 +10,6 @@ use pci_base::offset::BASE_ADDRESS;
 use pci_base::slot::Slot;
 use pci_base::window_kind::WindowKind;
 use pci_function::record::Record;
-use pci_image::register::rom_register;
 use pci_settle::item::Part;
 use pci_settled::anew::Unplaced;
 use pci_settled::candidate::Candidate;
@@ -141,7 +140,7 @@ fn register_of(record: &Record, class: WindowKind, part: Part) -> u8
 {
     match part {
         Part::Bar(n) => BASE_ADDRESS + 4 * n,
-        Part::Rom => rom_register(record.bridge.is_some()),
+        Part::Rom => record.rom_register(),
         Part::Window => class.register(),
     }
 }

@@ -18,7 +18,7 @@ use pci_base::slot::BUSES;
 use pci_base::space::Space;
 use pci_dump::block::Block;
 use pci_function::record::Record;
-use pci_image::header::layout;
+use pci_image::layout::Layout;
 use pci_image::register::{Register, address_registers};
 use pci_place::above::{Above, aboves};
 use pci_settle::list::Lists;
@@ -40,7 +40,7 @@ pub fn differs(old: &Image, new: &Image, register: &Register) -> bool
 fn is_changed(old: &Image, new: &Image) -> bool
     ensures { result ≡ is_image_changed old.now.0 new.now.0 }
 {
-    for register in address_registers(layout(old) == 1) {
+    for register in address_registers(Layout::or_device(old)) {
         if differs(old, new, register) {
             return true;
         }

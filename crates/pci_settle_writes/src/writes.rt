@@ -17,7 +17,7 @@ use pci_base::memory::OutOfMemory;
 use pci_base::offset::COMMAND;
 use pci_base::slot::Slot;
 use pci_dump::block::Block;
-use pci_image::header::layout;
+use pci_image::layout::Layout;
 use pci_image::register::address_registers;
 use pci_plan::write::Write;
 use pci_settle::list::Lists;
@@ -80,7 +80,7 @@ fn add_registers<A: Allocator>(
     ensures { OnOk result (map write_value writes.new.items
         ≡ map write_value writes.old.items ++ registers_of (block_change old.now new.now)) }
 {
-    for register in address_registers(layout(&old.image) == 1) {
+    for register in address_registers(Layout::or_device(&old.image)) {
         if differs(&old.image, &new.image, register) {
             writes.push(Write {
                 slot: old.slot,

@@ -13,7 +13,6 @@ use pci_base::offset::BASE_ADDRESS;
 use pci_base::window_kind::{ByKind, WindowKind};
 use pci_function::record::Record;
 use pci_image::bar::Bar;
-use pci_image::register::rom_register;
 use pci_image::window::Windows;
 use pci_settled::places::Places;
 
@@ -65,7 +64,7 @@ fn with_parts(record: &Record, image: &Image, places: &Places, kept: &ByKind<boo
         write_windows(&mut placed.0, &bridge.windows, places, kept);
     }
     if let Some(place) = places.rom {
-        let register = rom_register(record.bridge.is_some());
+        let register = record.rom_register();
         write_rom(&mut placed.0, image.u32(register), register, place);
     }
     placed

@@ -6,7 +6,7 @@ ghost use Rattle.pci_steps.specs.Steps.{shown_by, all_shown};
 use pci_base::memory::OutOfMemory;
 use pci_base::offset::COMMAND;
 use pci_dump::block::Block;
-use pci_image::header::layout;
+use pci_image::layout::Layout;
 use pci_image::register::address_registers;
 use pci_plan::write::Write;
 use std::alloc::Allocator;
@@ -22,7 +22,7 @@ fn add_shown<A: Allocator>(all: &mut Vec<Write, A>, block: &Block) -> Result<(),
         width: 2,
         value: block.image.number(COMMAND, 2),
     })?;
-    for register in address_registers(layout(&block.image) == 1) {
+    for register in address_registers(Layout::or_device(&block.image)) {
         all.push(Write {
             slot: block.slot,
             off: register.offset,

@@ -1,6 +1,7 @@
 use crate::rows::{Line, Registers, Row, rows};
 use pci_base::image::Image;
 use pci_image::fault::ImageFault;
+use pci_image::layout::Layout;
 use pci_probe::assuming::Assuming;
 use pci_probe::derive::derive;
 use pci_probe::derived::Derived;
@@ -116,6 +117,6 @@ fn a_register_is_derived_alone(rt: HostRuntime) {
         last: 0xffff,
         flags: 0x4_0200,
     };
-    let derived = register(&Image([0; 256]), &lines, false, 0x10);
+    let derived = register(&Image([0; 256]), &lines, Layout::Device, 0x10);
     assert!(rt; derived == Derived::Known(0xffff_0000));
 }

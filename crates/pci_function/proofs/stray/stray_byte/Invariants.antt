@@ -1,6 +1,7 @@
 use Rattle.std.proofs.Common.{◌≡◌, ℕ, ◌<◌, false}
 use Rattle.pci_function.proofs.stray.stray_byte.Given as goal
 use Rattle.pci_spec.specs.Fault.{is_stray_by}
+use Rattle.pci_image.specs.Layouts.{layout_number}
 
 abbrev pub invariant-loop-offset : goal.invariant-loop-offset
-invariant-loop-offset l = (k : ℕ) → k < l.offset → is_stray_by l.layout l.probe.0 k ≡ false
+invariant-loop-offset l = (k : ℕ) → k < l.offset → is_stray_by (layout_number l.layout) l.probe.0 k ≡ false

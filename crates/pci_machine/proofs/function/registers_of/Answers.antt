@@ -3,6 +3,7 @@ use Rattle.pci_spec.specs.Number.{byte_at}
 use Rattle.pci_spec.specs.Header.{layout}
 use Rattle.pci_spec.specs.Machine.{Target, writable_bits, clearing_bits, in_fields}
 use Rattle.pci_spec.specs.Port.{IsTarget}
+use Rattle.pci_image.specs.Layouts.{is_of_bridge}
 use Rattle.pci_machine.specs.Masks.{HasBits}
 use Rattle.pci_spec.specs.Machine.{writable_by, clearing_by}
 use Rattle.pci_machine.proofs.MaskBits.{are_writable_bits, are_clearing_bits}
@@ -13,7 +14,7 @@ pub returns-clause-made : goal.returns-clause-made
 returns-clause-made c =
     let image = c.args.image.now.0 in
     let probe = c.args.probe.now.0 in
-    let bridge : (c.layout-bridge.result == 1) ≡ (layout image == 1) = ap (λ n. n == 1) c.layout-bridge.ensures in
+    let bridge : is_of_bridge c.or_device-layout.result ≡ (layout image == 1) = c.or_device-layout.ensures in
     let writable : c.writable_bytes.result ≡ writable_bits image probe =
     are_writable_bits image probe c.writable_bytes.result c.writable_bytes.ensures.image.full c.writable_bytes.ensures.image.bytes
     (subst (λ b. HasBits c.writable_bytes.result (in_fields (writable_by b probe))) bridge c.writable_bytes.ensures.bits) in

@@ -1,4 +1,4 @@
-use Rattle.std.proofs.Common.{◌≡◌, ℕ, ◌+◌, ◌<◌, List, Bool, ◌++◌, [], ◌∷◌, length, map, take, get_or, arith, sym, ◌∙◌, ap, subst, if◌then◌else◌}
+use Rattle.std.proofs.Common.{◌≡◌, ℕ, ◌+◌, ◌<◌, List, ◌++◌, [], ◌∷◌, length, map, take, get_or, arith, sym, ◌∙◌, ap, subst, if◌then◌else◌}
 use Rattle.std.specs.Option.{is_some}
 use Rattle.std.specs.List.{AllPairs, Contains}
 use Rattle.std.proofs.lemmas.List.{length-map, take_all, take_more}
@@ -14,8 +14,8 @@ use Rattle.pci_image.specs.declared.register.Register.{Register}
 use Rattle.pci_image.specs.declared.register.Role.TheVariants as roles
 use Rattle.pci_plan.specs.Fillings.{FillingOf}
 use Rattle.pci_plan.proofs.FilledWindows.{bridge_is, function_is}
-use Rattle.pci_plan.proofs.FilledImages.{ArePut, none_put, more_put, earlier_apart, filled_with, registers_of}
-use Rattle.pci_plan.proofs.WriteLists.{register_access}
+use Rattle.pci_plan.proofs.FilledImages.{ArePut, none_put, more_put, earlier_apart, filled_with}
+use Rattle.pci_plan.proofs.WriteLists.{by_bridge, register_access}
 use Rattle.pci_plan.proofs.planned.filled.Goals as goal
 use Rattle.pci_plan.proofs.planned.filled.Goals.{After-address_registers-register-items}
 
@@ -33,10 +33,10 @@ module _ (c : After-address_registers-register-items) where
   items = c.address_registers-register-items.result.now
 
   by_record : map pair items ≡ address_registers (if is_some c.args.filling.now.record.now.bridge then 1 else 0)
-  by_record = c.address_registers-register-items.ensures ∙ ap (λ (b : Bool). address_registers (if b then 1 else 0)) c.is_some.ensures
+  by_record = c.address_registers-register-items.ensures ∙ ap registers_by c.layout.ensures ∙ sym (by_bridge (is_some c.args.filling.now.record.now.bridge))
 
   by_function : (of : FillingOf c.args.filling.now) → map pair items ≡ address_registers (layout of.function.image)
-  by_function of = by_record ∙ registers_of (layout of.function.image) (is_some c.args.filling.now.record.now.bridge) (bridge_is c.args.filling.now of)
+  by_function of = c.address_registers-register-items.ensures ∙ ap registers_by (c.layout.ensures ∙ bridge_is c.args.filling.now of)
 
   here : (k : ℕ) → k < length items → Contains (map pair items) (pair (get_or items k no_register))
   here k within = in_map_from pair items (get_or items k no_register) (Contains-get_or items k no_register within)

@@ -7,9 +7,10 @@ use Rattle.pci_spec.specs.NoProbe.{NoProbe, register_fault, no_probe}
 use Rattle.pci_spec.specs.NoProbe as spec
 use Rattle.pci_spec.specs.Resource.{ResourceLine}
 use Rattle.pci_image.specs.Header.{HasHeader}
+use Rattle.pci_image.specs.Layouts.{layout_number}
 use Rattle.pci_image.specs.declared.register.Register.{Register}
 use Rattle.pci_image.specs.declared.register.Role.TheVariants as roles
-use Rattle.pci_machine.proofs.RegisterOrder.{layout_of, sound_at, sound_parts, register_begins}
+use Rattle.pci_machine.proofs.RegisterOrder.{sound_at, sound_parts, register_begins}
 use Rattle.pci_probe.specs.declared.fault.DeriveFault.{DeriveFault}
 use Rattle.pci_probe.specs.declared.fault.DeriveFault.TheVariants.{Header, NoSize, OtherSize}
 use Rattle.pci_probe.specs.Assuming.{assuming_of}
@@ -30,7 +31,7 @@ fault_of assuming image lines (NoSize register) found is header first = (header,
 fault_of assuming image lines (OtherSize register) found is header first = (header, first (spec.OtherSize register) is)
 
 pub loop-place-init : goal.loop-place-init
-loop-place-init c = derived_none (assuming_of c.args.assuming) c.args.image.now.0 c.args.lines.now c.in-Ok.bridge c.new-assumed.result.items c.new-assumed.ensures
+loop-place-init c = derived_none (assuming_of c.args.assuming) c.args.image.now.0 c.args.lines.now c.in-Ok.layout c.new-assumed.result.items c.new-assumed.ensures
 
 pub register-derived-requires-clause-begins : goal.register-derived-requires-clause-begins
 register-derived-requires-clause-begins c =
@@ -38,48 +39,48 @@ register-derived-requires-clause-begins c =
     let table = c.address_registers-place-items.ensures in
     let k = c.loop-place.place-index in
     let within = c.loop-place-test.true in
-    register_begins c.in-Ok.bridge k (here items c.in-Ok.bridge table k within none) (in_table items c.in-Ok.bridge table k within none) (at_place items c.in-Ok.bridge table k within none)
+    register_begins c.in-Ok.layout k (here items c.in-Ok.layout table k within none) (in_table items c.in-Ok.layout table k within none) (at_place items c.in-Ok.layout table k within none)
 
 pub returns-in_err-read_back-clause-fault : goal.returns-in_err-read_back-clause-fault
 returns-in_err-read_back-clause-fault c =
-    let bridge = c.in-Ok.bridge in
+    let known = c.in-Ok.layout in
     let items = c.address_registers-place-items.result.now in
     let table = c.address_registers-place-items.ensures in
     let k = c.loop-place.place-index in
     let within = c.loop-place-test.true in
-    let register = here items bridge table k within none in
+    let register = here items known table k within none in
     let derived = c.register-derived.ensures.derived in
     let p = err_from_is_err_and c.from_residual.result c.from_residual.ensures.1 in
     rw (p.1, p.2) (fault_of c.args.assuming c.args.image.now.0 c.args.lines.now c.in_err-read_back.field-0.0 (register_fault (assuming_of c.args.assuming) register.0 (derived_of c.register-derived.result))
     c.in_err-read_back.ensures.fault c.in-Ok.ensures.header (λ found is.
-    derived_fault (assuming_of c.args.assuming) c.args.image.now.0 c.args.lines.now bridge k register (in_table items bridge table k within none) (at_place items bridge table k within none)
+    derived_fault (assuming_of c.args.assuming) c.args.image.now.0 c.args.lines.now known k register (in_table items known table k within none) (at_place items known table k within none)
     c.loop-place.probe.0 c.loop-place.assumed.items found c.loop-place.invariant c.in-Ok.ensures.layout (sym (ap (register_fault (assuming_of c.args.assuming) register.0) derived) ∙ is)))
 
 pub put-requires : goal.put-requires
 put-requires c =
-    let bridge = c.in-Ok.bridge in
+    let known = c.in-Ok.layout in
     let items = c.address_registers-place-items.result.now in
     let table = c.address_registers-place-items.ensures in
     let k = c.loop-place.place-index in
     let within = c.loop-place-test.true in
-    let register = here items bridge table k within none in
-    (sound_parts (layout_of bridge) register (sound_at bridge k register (in_table items bridge table k within none) (at_place items bridge table k within none))).access
+    let register = here items known table k within none in
+    (sound_parts (layout_number known) register (sound_at known k register (in_table items known table k within none) (at_place items known table k within none))).access
 
 pub loop-place-preserved : goal.loop-place-preserved
 loop-place-preserved c =
-    let bridge = c.in-Ok.bridge in
+    let known = c.in-Ok.layout in
     let image = c.args.image.now.0 in
     let lines = c.args.lines.now in
     let items = c.address_registers-place-items.result.now in
     let table = c.address_registers-place-items.ensures in
     let k = c.loop-place.place-index in
     let within = c.loop-place-test.true in
-    let register = here items bridge table k within none in
+    let register = here items known table k within none in
     let derived = c.register-derived.ensures.derived in
     let taken = c.in_ok-read_back.ensures in
     let assumes : c.in_ok-read_back.is_assumed ≡ is_assumed (register_derived image lines register.0) = taken.read_back.1 ∙ ap is_assumed derived in
     let so_far = c.loop-place.assumed.items in
-    derived_more (assuming_of c.args.assuming) image lines bridge k register (in_table items bridge table k within none) (at_place items bridge table k within none)
+    derived_more (assuming_of c.args.assuming) image lines known k register (in_table items known table k within none) (at_place items known table k within none)
     c.loop-place.probe.0 c.put.new.bytes c.loop-place.assumed.items c.if-is_assumed.assumed.items c.in_ok-read_back.read_back c.loop-place.invariant
     (sym (ap (register_fault (assuming_of c.args.assuming) register.0) derived) ∙ taken.told) c.put.array_long (taken.read_back.0 ∙ ap read_back_of derived) c.put.ensures.inside c.put.ensures.outside
     (elim c.if-is_assumed.branch [
@@ -92,20 +93,20 @@ loop-place-preserved c =
 pub returns-clause-told : goal.returns-clause-told
 returns-clause-told c =
     let items = c.address_registers-place-items.result.now in
-    let long = length_of_table items c.in-Ok.bridge c.address_registers-place-items.ensures in
-    told_all (assuming_of c.args.assuming) c.args.image.now.0 c.args.lines.now c.in-Ok.bridge c.loop-place.place-index c.loop-place.probe.0 c.loop-place.assumed.items
+    let long = length_of_table items c.in-Ok.layout c.address_registers-place-items.ensures in
+    told_all (assuming_of c.args.assuming) c.args.image.now.0 c.args.lines.now c.in-Ok.layout c.loop-place.place-index c.loop-place.probe.0 c.loop-place.assumed.items
     c.in-Ok.ensures.layout (omega (arith, c.loop-place-test.false, long)) c.loop-place.invariant
 
 pub returns-clause-probe : goal.returns-clause-probe
 returns-clause-probe c =
     let items = c.address_registers-place-items.result.now in
-    let long = length_of_table items c.in-Ok.bridge c.address_registers-place-items.ensures in
-    derived_all (assuming_of c.args.assuming) c.args.image.now.0 c.args.lines.now c.in-Ok.bridge c.loop-place.place-index c.loop-place.probe.0 c.loop-place.assumed.items
+    let long = length_of_table items c.in-Ok.layout c.address_registers-place-items.ensures in
+    derived_all (assuming_of c.args.assuming) c.args.image.now.0 c.args.lines.now c.in-Ok.layout c.loop-place.place-index c.loop-place.probe.0 c.loop-place.assumed.items
     c.in-Ok.ensures.layout (omega (arith, c.loop-place-test.false, long)) c.loop-place.invariant
 
 pub returns-clause-assumed : goal.returns-clause-assumed
 returns-clause-assumed c =
     let items = c.address_registers-place-items.result.now in
-    let long = length_of_table items c.in-Ok.bridge c.address_registers-place-items.ensures in
-    assumed_all (assuming_of c.args.assuming) c.args.image.now.0 c.args.lines.now c.in-Ok.bridge c.loop-place.place-index c.loop-place.probe.0 c.loop-place.assumed.items
+    let long = length_of_table items c.in-Ok.layout c.address_registers-place-items.ensures in
+    assumed_all (assuming_of c.args.assuming) c.args.image.now.0 c.args.lines.now c.in-Ok.layout c.loop-place.place-index c.loop-place.probe.0 c.loop-place.assumed.items
     c.in-Ok.ensures.layout (omega (arith, c.loop-place-test.false, long)) c.loop-place.invariant

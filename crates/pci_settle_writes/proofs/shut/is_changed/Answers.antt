@@ -1,9 +1,9 @@
 use Rattle.std.proofs.Common.{◌≡◌, ◌∙◌, List, map, sym, ap}
 use Rattle.std.specs.Bool.{◌==◌, if◌then◌else◌}
-use Rattle.pci_spec.specs.Header.{layout, address_registers}
+use Rattle.pci_spec.specs.Header.{layout, address_registers, registers_by}
 use Rattle.pci_image.specs.declared.register.Register.{Register}
 use Rattle.pci_image.specs.declared.register.Role.TheVariants as roles
-use Rattle.pci_plan.proofs.WriteLists.{pair_of, registers_of_layout, register_access}
+use Rattle.pci_plan.proofs.WriteLists.{pair_of, register_access}
 use Rattle.pci_settle_writes.proofs.ChangedRegisters.{changed_at}
 use Rattle.pci_settle_writes.proofs.shut.is_changed.Goals as goal
 
@@ -13,7 +13,7 @@ none = record { offset = 0; width = 0; role = roles.Bar 0 }
 pub differs-requires : goal.differs-requires
 differs-requires c =
     let image = c.args.old.now.0 in
-    let table = c.address_registers-register-items.ensures ∙ ap (λ n. address_registers (if n == 1 then 1 else 0)) c.layout.ensures ∙ registers_of_layout (layout image) in
+    let table = c.address_registers-register-items.ensures ∙ ap registers_by c.or_device.ensures in
     register_access c.address_registers-register-items.result.now (layout image) table c.loop-register.register-index none c.loop-register-test.true
 
 pub returns-then-differs : goal.returns-then-differs
@@ -21,5 +21,5 @@ returns-then-differs c =
     let image = c.args.old.now.0 in
     let items : List Register = c.address_registers-register-items.result.now in
     let table : map pair_of items ≡ address_registers (layout image) =
-    c.address_registers-register-items.ensures ∙ ap (λ n. address_registers (if n == 1 then 1 else 0)) c.layout.ensures ∙ registers_of_layout (layout image) in
+    c.address_registers-register-items.ensures ∙ ap registers_by c.or_device.ensures in
     sym (changed_at items image c.args.new.now.0 table c.loop-register.register-index none c.loop-register-test.true (sym c.differs.ensures ∙ c.if-differs.true))

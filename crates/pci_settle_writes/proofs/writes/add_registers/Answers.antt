@@ -1,9 +1,9 @@
 use Rattle.std.proofs.Common.{◌∙◌, ap}
 use Rattle.std.specs.Bool.{◌==◌, if◌then◌else◌}
-use Rattle.pci_spec.specs.Header.{layout, address_registers}
+use Rattle.pci_spec.specs.Header.{layout, address_registers, registers_by}
 use Rattle.pci_image.specs.declared.register.Register.{Register}
 use Rattle.pci_image.specs.declared.register.Role.TheVariants as roles
-use Rattle.pci_plan.proofs.WriteLists.{registers_of_layout, register_access}
+use Rattle.pci_plan.proofs.WriteLists.{register_access}
 use Rattle.pci_settle_writes.proofs.writes.add_registers.Goals as goal
 
 abbrev none : Register
@@ -12,11 +12,11 @@ none = record { offset = 0; width = 0; role = roles.Bar 0 }
 pub differs-requires : goal.differs-requires
 differs-requires g c =
     let image = c.old.inside.image.0 in
-    let table = c.address_registers-register-items.ensures ∙ ap (λ n. address_registers (if n == 1 then 1 else 0)) c.layout.ensures ∙ registers_of_layout (layout image) in
+    let table = c.address_registers-register-items.ensures ∙ ap registers_by c.or_device.ensures in
     register_access c.address_registers-register-items.result.now (layout image) table c.loop-register.register-index none c.loop-register-test.true
 
 pub number-requires : goal.number-requires
 number-requires g c =
     let image = c.old.inside.image.0 in
-    let table = c.address_registers-register-items.ensures ∙ ap (λ n. address_registers (if n == 1 then 1 else 0)) c.layout.ensures ∙ registers_of_layout (layout image) in
+    let table = c.address_registers-register-items.ensures ∙ ap registers_by c.or_device.ensures in
     register_access c.address_registers-register-items.result.now (layout image) table c.loop-register.register-index none c.loop-register-test.true
