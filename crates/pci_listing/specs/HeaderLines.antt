@@ -4,6 +4,7 @@ use Rattle.pci_spec.specs.Slot.{Slot}
 use Rattle.pci_spec.specs.Text.{slot_text}
 use Rattle.pci_spec.specs.Line.{hex_number}
 use Rattle.pci_spec.specs.Listing.{words, decimal_text}
+use Rattle.pci_image.specs.Layouts.{layout_number}
 use Rattle.pci_listing.specs.declared.listing.header.HeaderLine.{HeaderLine}
 use Rattle.pci_listing.specs.declared.listing.header.Identity.{Identity}
 
@@ -27,4 +28,4 @@ header_text slot kind vendor device class command status =
 
 abbrev pub header_line_text : HeaderLine → List ℕ
 header_line_text l =
-    header_text l.slot l.kind l.identity.vendor l.identity.device l.identity.class l.command l.status
+    header_text l.slot (layout_number l.layout) l.identity.vendor l.identity.device l.identity.class l.command l.status

@@ -24,7 +24,7 @@ use pci_function::fault::Fault;
 use pci_function::record::{Bridge, Record};
 use pci_image::bar::Bar;
 use pci_image::capability::{Cap, chain};
-use pci_image::header::layout;
+use pci_image::layout::Layout;
 use pci_image::rom::Rom;
 use std::alloc::{AllocError, Allocator};
 
@@ -129,7 +129,7 @@ pub fn push_function<A: Allocator>(
         Ok(record) => record,
         Err(fault) => return Err(Refused::Fault(Fault::of_image(slot, fault))),
     };
-    let first = HeaderLine::of(slot, layout(image), image);
+    let first = HeaderLine::of(slot, Layout::or_device(image), image);
     first.push_to(text)?;
     push_record(text, &record)?;
     let caps = match chain(image) {

@@ -1,7 +1,7 @@
 //! The first line of a function: its slot and its identity, Command and Status.
 ghost use Rattle.std.specs.Prelude.{◌≡◌, ◌<◌, ◌++◌, OnOk};
 ghost use Rattle.std.specs.String.{string_bytes};
-ghost use Rattle.pci_spec.specs.Header.{layout};
+ghost use Rattle.pci_spec.specs.Header as header;
 ghost use Rattle.pci_spec.specs.Listing.{header_line};
 
 use crate::hex_text::{end_line, push_decimal, push_hex, push_slot, push_word};
@@ -9,6 +9,7 @@ use pci_base::image::Image;
 use pci_base::offset::{COMMAND, DEVICE_ID, STATUS, VENDOR_ID};
 use pci_base::slot::Slot;
 use pci_image::header::class_code;
+use pci_image::layout::Layout;
 use std::alloc::{AllocError, Allocator};
 
 /// Who made the function, and what it is (PCI 3.0, 6.2.1).
@@ -41,26 +42,24 @@ impl Identity {
 #[derive(Clone, Copy)]
 pub struct HeaderLine {
     slot: Slot,
-    kind: u8,
+    layout: Layout,
     identity: Identity,
     command: u16,
     status: u16,
-    ghost known: { kind < 2 },
 }
 
 impl HeaderLine {
+    ghost use Rattle.pci_image.specs.Layouts.{layout_number};
     ghost use Rattle.pci_listing.specs.HeaderLines.{header_line_text};
 
-    /// The line of a function with this image, whose header is of this kind: 0 for a device, 1 for a
-    /// bridge.
-    pub fn of(slot: Slot, kind: u8, image: &Image) -> HeaderLine
-        requires known { kind < 2 }
-        requires header { kind ≡ layout image.now.0 }
+    /// The line of a function with this image, whose header has this layout.
+    pub fn of(slot: Slot, layout: Layout, image: &Image) -> HeaderLine
+        requires { layout_number layout ≡ header.layout image.now.0 }
         ensures { header_line_text result ≡ header_line slot image.now.0 }
     {
         HeaderLine {
             slot,
-            kind,
+            layout,
             identity: Identity {
                 vendor: image.u16(VENDOR_ID),
                 device: image.u16(DEVICE_ID),
@@ -78,7 +77,7 @@ impl HeaderLine {
     {
         push_slot(text, self.slot)?;
         text.push_str(" type ")?;
-        push_decimal(text, self.kind)?;
+        push_decimal(text, self.layout.number())?;
         text.push_str(" ")?;
         self.identity.push_to(text)?;
         text.push_str(" command ")?;

@@ -1,11 +1,15 @@
 use Rattle.std.proofs.Common.{◌≡◌, ◌<◌, ◌≤◌, ◌==◌, ◌||◌, not, false, refl, inl, inr, ℕ, ◌++◌, List, map, length, sym, ◌∙◌, ap, subst, arith}
-use Rattle.std.proofs.lemmas.Bool.{both_ways, cases_lt, ne_eqb}
+use Rattle.std.proofs.lemmas.Bool.{both_ways, cases_lt, ne_eqb, eqb-true, eqb-false}
 use Rattle.std.proofs.lemmas.List.{length-map}
 use Rattle.std.specs.List.{flat_map, All}
 use Rattle.std.specs.String.{string_bytes}
+use Rattle.pci_spec.specs.Header.{layout}
 use Rattle.pci_spec.specs.System.{Function}
 use Rattle.pci_spec.specs.Decoded.{record_of}
 use Rattle.pci_spec.specs.Listing.{header_line, capability_line, places_of}
+use Rattle.pci_image.specs.declared.layout.Layout.{Layout}
+use Rattle.pci_image.specs.declared.layout.Layout.TheVariants.{Device, Bridge}
+use Rattle.pci_image.specs.Layouts.{is_of_bridge, layout_number}
 use Rattle.pci_image.specs.declared.capability.Cap.{Cap}
 use Rattle.pci_image.specs.Caps.{place_of}
 use Rattle.pci_function.proofs.Examined.{chain_fault}
@@ -26,8 +30,13 @@ known n e = elim (cases_lt n 2) [
       absurd (both_ways _ e (rw (device, bridge) refl))
 ]
 
-pub of-first-requires-clause-known : goal.of-first-requires-clause-known
-of-first-requires-clause-known g c = subst (λ n. n < 2) (sym c.layout.ensures) (known _ c.in-Ok.ensures.decoded.decodable.header)
+number_of : (n : ℕ) (l : Layout) → n < 2 → is_of_bridge l ≡ (n == 1) → layout_number l ≡ n
+number_of n Device low is = let no = eqb-false n 1 (sym is) in omega (arith, low, no)
+number_of n Bridge low is = sym (eqb-true n 1 (sym is))
+
+pub of-first-requires : goal.of-first-requires
+of-first-requires g c =
+    number_of (layout c.args.image.now.0) c.or_device.result (known _ c.in-Ok.ensures.decoded.decodable.header) c.or_device.ensures
 
 pub push_capabilities-requires : goal.push_capabilities-requires
 push_capabilities-requires g c =

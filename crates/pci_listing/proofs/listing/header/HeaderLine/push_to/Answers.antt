@@ -14,6 +14,7 @@ returns g c =
       c.in_ok-push_to.ensures,
       c.in_ok-push_str-2.ensures.bytes,
       c.in_ok-push_decimal.ensures,
+      c.number.ensures.number,
       c.in_ok-push_str.ensures.bytes,
       c.in_ok-push_slot.ensures,
     )
