@@ -27,7 +27,8 @@ use pci_function::profile::{
 };
 use pci_function::record::{Bridge, Record};
 use pci_image::bar::{Bar, BarKind};
-use pci_image::header::{class_code, layout};
+use pci_image::header::class_code;
+use pci_image::layout::Layout;
 use pci_image::window::{Window, Windows};
 
 /// Class 01, sub-class 01: an IDE controller (PCI IDE Controller 1.0, 2.1).
@@ -82,7 +83,7 @@ pub fn bridge_aside(image: &mut Image, blocks: &[Block], words: Words)
 fn is_ide(image: &Image) -> bool
     ensures { result ≡ taken.is_ide image.now.0 }
 {
-    layout(image) == 0 && class_code(image) / 0x100 == IDE_CONTROLLER
+    Layout::of(image) == Some(Layout::Device) && class_code(image) / 0x100 == IDE_CONTROLLER
 }
 
 /// Whether a BAR's register is of a channel in compatibility mode, by the programming interface.
@@ -184,7 +185,7 @@ fn may_have_parts(image: &Image, words: Words) -> bool
     ensures { (slot : SlotValue) (probe : List ℕ) → result ≡ taken.may_have_parts_by (words_value words) record
         { slot = slot; image = image.now.0; probe = probe } }
 {
-    (words.ide && is_ide(image)) || (words.unnumbered && layout(image) == 1)
+    (words.ide && is_ide(image)) || (words.unnumbered && Layout::of(image) == Some(Layout::Bridge))
 }
 
 /// Leaves the channels of an IDE controller and an unnumbered bridge's buses aside, where these count, of a function that
