@@ -93,9 +93,8 @@ module _ (value mask : ℕ) (memory : is_io mask ≡ false) (same : bit_and valu
       rw (memory, memory_test, bit) refl
 
 -- the prefetchable bit of a memory register
-pub prefetchable-read : (mask : ℕ) → bit_and mask 1 ≡ 0 → not (nat_eq (bit_and mask 8) 0) ≡ is_prefetchable mask
-prefetchable-read mask memory =
-    let io = bit-clear mask 0 memory (omega arith) in
+pub prefetchable-read : (mask : ℕ) → is_io mask ≡ false → not (nat_eq (bit_and mask 8) 0) ≡ is_prefetchable mask
+prefetchable-read mask io =
     elim (cases_eq (bit_and mask 8) 0) [
       | inl none ↦ let test = eq-eqb _ 0 none in let bit = bit-clear mask 3 none (omega arith) in rw (io, test, bit) refl
       | inr some ↦ let test = ne_eqb _ 0 some in let bit = bit-set mask 3 some in rw (io, test, bit) refl

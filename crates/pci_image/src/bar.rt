@@ -78,9 +78,6 @@ impl Bar {
     }
 }
 
-/// Bit 0 of a register: the BAR maps into I/O space.
-const IO_SPACE: u32 = 0b1;
-
 /// Bit 1 of an I/O register, which is reserved.
 const IO_RESERVED: u32 = 0b10;
 
@@ -105,13 +102,28 @@ const MEMORY_ENCODING: u32 = 0b1111;
 /// The binary logarithm of the largest size of an I/O BAR, 256 addresses (6.2.5.1).
 const IO_LARGEST: u32 = 8;
 
+/// Whether a BAR maps into I/O space, by bit 0 of its register; of two registers together it is that of the lower one
+/// (6.2.5.1).
+pub fn is_io(register: u64) -> bool
+    ensures { result ≡ bar.is_io register }
+{
+    register % 2 == 1
+}
+
+/// Whether a register is the lower half of a 64-bit memory BAR: bit 0 is clear, bits 2:1 are 10b (6.2.5.1).
+pub fn is_wide(register: u32) -> bool
+    ensures { result ≡ bar.is_wide register }
+{
+    !is_io(u64::from(register)) && register / 2 % 4 == 2
+}
+
 /// The kind of an implemented BAR, by its value and its read back.
 fn kind_of(reg: u8, value: u32, mask: u32) -> Result<BarKind, ImageFault>
     ensures { MatchResult result
         (λ kind. (broken_encoding value mask ≡ None) × (decoded_kind_of kind ≡ bar_kind mask))
         (IsBarFault reg (broken_encoding value mask)) }
 {
-    if mask & IO_SPACE != 0 {
+    if is_io(u64::from(mask)) {
         return if value & IO_ENCODING == mask & IO_ENCODING && mask & IO_RESERVED == 0 {
             Ok(BarKind::Io)
         } else {
@@ -126,13 +138,6 @@ fn kind_of(reg: u8, value: u32, mask: u32) -> Result<BarKind, ImageFault>
         MEMORY_64 => Ok(BarKind::Mem64),
         _ => Err(ImageFault::BarType(reg)),
     }
-}
-
-/// Whether a BAR register is the lower half of a 64-bit memory BAR.
-fn is_wide(mask: u32) -> bool
-    ensures { result ≡ bar.is_wide mask }
-{
-    mask % 2 != 1 && mask / 2 % 4 == 2
 }
 
 /// Whether BAR register n starts a BAR, and is not the upper half of one, by what registers read
@@ -154,7 +159,7 @@ pub fn starts_bar(probe: &Image, n: u8) -> bool
 fn is_prefetchable(mask: u32) -> bool
     ensures { result ≡ is_prefetchable mask }
 {
-    mask & IO_SPACE == 0 && mask & PREFETCHABLE != 0
+    !is_io(u64::from(mask)) && mask & PREFETCHABLE != 0
 }
 
 /// The binary logarithm k of a BAR's size, by its read back: it has 2 ^ k addresses.

@@ -10,7 +10,7 @@ ghost use Rattle.pci_machine.specs.Masks.{HasBits, AddsField, AddsFields};
 
 use pci_base::image::{IMAGE_LEN, Image, byte_of};
 use pci_base::offset::BASE_ADDRESS;
-use pci_image::bar::starts_bar;
+use pci_image::bar::{is_io, starts_bar};
 use pci_image::layout::Layout;
 use pci_image::register::{Register, Role, registers};
 
@@ -127,6 +127,6 @@ fn bar_bits(probe: &Image, n: u8) -> u32
     if !starts_bar(probe, n) {
         return mask;
     }
-    let encodings = if mask % 2 == 1 { 4 } else { 16 };
+    let encodings = if is_io(u64::from(mask)) { 4 } else { 16 };
     mask / encodings * encodings
 }

@@ -12,21 +12,8 @@ use super::derived::Derived;
 use super::line::ResourceLine;
 use pci_base::image::Image;
 use pci_base::offset::{BASE_ADDRESS, COMMAND};
+use pci_image::bar::{is_io, is_wide};
 use pci_image::layout::Layout;
-
-/// Whether a BAR maps into I/O space, by what it shows.
-fn is_io(value: u64) -> bool
-    ensures { result ≡ bars.is_io value }
-{
-    value % 2 == 1
-}
-
-/// Whether a BAR register is the lower half of a 64-bit memory BAR.
-fn is_wide(value: u32) -> bool
-    ensures { result ≡ bars.is_wide value }
-{
-    value % 2 != 1 && value / 2 % 4 == 2
-}
 
 /// How many encodings the low bits of a BAR have; it has as many addresses at least.
 fn encodings(value: u64) -> u64
