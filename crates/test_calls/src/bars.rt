@@ -28,7 +28,7 @@ fn lists(function: &Registers, expected: &[Bar]) -> bool {
 
 /// A register at 10h, its read back, and the first and last address of the I/O BAR that it is: of 4,
 /// 32 and 256 bytes, with and without bits 31:16.
-const IO_BARS: [(u32, u32, u64, u64); 5] = [
+static IO_BARS: [(u32, u32, u64, u64); 5] = [
     (0x0000_e001, 0xffff_fffd, 0xe000, 0xe003),
     (0x0000_e001, 0x0000_ffe1, 0xe000, 0xe01f),
     (0x0000_e011, 0xffff_fff1, 0xe010, 0xe01f),
@@ -38,7 +38,7 @@ const IO_BARS: [(u32, u32, u64, u64); 5] = [
 
 #[test]
 fn an_io_bar_has_the_range_that_its_comparator_answers(rt: HostRuntime) {
-    for (value, read_back, first, last) in IO_BARS {
+    for &(value, read_back, first, last) in &IO_BARS {
         let function = device().register(0x10, value, read_back);
         let expected = bar(BarKind::Io, false, first, last);
         assert!(rt; lists(&function, &[expected]), "{expected:?}");
@@ -47,7 +47,7 @@ fn an_io_bar_has_the_range_that_its_comparator_answers(rt: HostRuntime) {
 
 /// Likewise of 32-bit memory, of 16 bytes, 1 MB and 2 GB, and whether it is prefetchable. Bit 3 of a
 /// read back is no size.
-const MEMORY_BARS: [(u32, u32, bool, u64, u64); 5] = [
+static MEMORY_BARS: [(u32, u32, bool, u64, u64); 5] = [
     (0x0000_0008, 0xffff_fff8, true, 0, 0xf),
     (0xffff_fff0, 0xffff_fff0, false, 0xffff_fff0, 0xffff_ffff),
     (0xfe00_0008, 0xfff0_0008, true, 0xfe00_0000, 0xfe0f_ffff),
@@ -57,7 +57,7 @@ const MEMORY_BARS: [(u32, u32, bool, u64, u64); 5] = [
 
 #[test]
 fn a_32_bit_bar_has_the_range_that_its_comparator_answers(rt: HostRuntime) {
-    for (value, read_back, prefetch, first, last) in MEMORY_BARS {
+    for &(value, read_back, prefetch, first, last) in &MEMORY_BARS {
         let function = device().register(0x10, value, read_back);
         let expected = bar(BarKind::Mem32, prefetch, first, last);
         assert!(rt; lists(&function, &[expected]), "{expected:?}");
@@ -65,7 +65,7 @@ fn a_32_bit_bar_has_the_range_that_its_comparator_answers(rt: HostRuntime) {
 }
 
 /// The registers at 10h and 14h with their read backs, and the range of the prefetchable BAR that they are.
-const WIDE_BARS: [([u32; 4], u64, u64); 6] = [
+static WIDE_BARS: [([u32; 4], u64, u64); 6] = [
     (
         [0xf000_000c, 0xf000_000c, 0xffff_ffff, 0xffff_ffff],
         0xffff_ffff_f000_0000,
@@ -100,7 +100,7 @@ const WIDE_BARS: [([u32; 4], u64, u64); 6] = [
 
 #[test]
 fn a_64_bit_bar_takes_the_register_after_it(rt: HostRuntime) {
-    for (registers, first, last) in WIDE_BARS {
+    for &(registers, first, last) in &WIDE_BARS {
         let function = with_pair(registers);
         let expected = bar(BarKind::Mem64, true, first, last);
         assert!(rt; lists(&function, &[expected]), "{expected:?}");
@@ -174,7 +174,7 @@ fn is_refused(function: &Registers, fault: ImageFault) -> bool {
 }
 
 /// A register of a device, its value, its read back, and the fault.
-const NO_BARS: [(u8, u32, u32, ImageFault); 17] = [
+static NO_BARS: [(u8, u32, u32, ImageFault); 17] = [
     // a hole
     (0x10, 0xfff0_0000, 0xfff0_f000, ImageFault::BarMask(0x10)),
     (0x10, 0x0000_e001, 0xffff_0fe1, ImageFault::BarMask(0x10)),
@@ -204,7 +204,7 @@ const NO_BARS: [(u8, u32, u32, ImageFault); 17] = [
 
 #[test]
 fn a_register_that_is_no_bar_is_refused(rt: HostRuntime) {
-    for (register, value, read_back, fault) in NO_BARS {
+    for &(register, value, read_back, fault) in &NO_BARS {
         let function = device().register(register, value, read_back);
         assert!(rt; is_refused(&function, fault), "{fault:?}");
     }
@@ -213,7 +213,7 @@ fn a_register_that_is_no_bar_is_refused(rt: HostRuntime) {
 }
 
 /// The registers at 10h and 14h of a device with their read backs, and the fault.
-const NO_PAIRS: [([u32; 4], ImageFault); 3] = [
+static NO_PAIRS: [([u32; 4], ImageFault); 3] = [
     // holes between and in two halves
     (
         [0x0000_0004, 0xf000_0004, 0x0000_0000, 0xffff_fffe],
@@ -232,7 +232,7 @@ const NO_PAIRS: [([u32; 4], ImageFault); 3] = [
 
 #[test]
 fn two_registers_that_are_no_bar_are_refused(rt: HostRuntime) {
-    for (registers, fault) in NO_PAIRS {
+    for &(registers, fault) in &NO_PAIRS {
         let function = with_pair(registers);
         assert!(rt; is_refused(&function, fault), "{fault:?}");
     }

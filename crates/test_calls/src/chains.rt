@@ -70,7 +70,7 @@ fn length_of(function: &Registers) -> Result<usize, ImageFault> {
 }
 
 /// The place and the control of a message capability, and its length.
-const MESSAGES: [(u8, [u8; 2], Result<usize, ImageFault>); 7] = [
+static MESSAGES: [(u8, [u8; 2], Result<usize, ImageFault>); 7] = [
     // a reserved count of vectors is no fault
     (0x40, [0x0c, 0x00], Ok(10)),
     (0xf4, [0x00, 0x00], Ok(10)),
@@ -83,7 +83,7 @@ const MESSAGES: [(u8, [u8; 2], Result<usize, ImageFault>); 7] = [
 
 #[test]
 fn a_message_capability_is_as_long_as_its_control_says(rt: HostRuntime) {
-    for (place, control, length) in MESSAGES {
+    for &(place, control, length) in &MESSAGES {
         let [low, high] = control;
         let function = list_at(place).bytes(place, &[0x05, 0x00, low, high]);
         assert!(rt; length_of(&function) == length, "{length:?}");
@@ -91,7 +91,7 @@ fn a_message_capability_is_as_long_as_its_control_says(rt: HostRuntime) {
 }
 
 /// The pointer to a list, two of its bytes, and its fault.
-const ENDLESS: [(u8, [(u8, u8); 2], ImageFault); 6] = [
+static ENDLESS: [(u8, [(u8, u8); 2], ImageFault); 6] = [
     (
         0x43,
         [(0x40, 0x09), (0x41, 0x3c)],
@@ -119,7 +119,7 @@ fn is_refused(function: &Registers, fault: ImageFault) -> bool {
 
 #[test]
 fn a_list_that_does_not_end_well_is_refused(rt: HostRuntime) {
-    for (pointer, bytes, fault) in ENDLESS {
+    for &(pointer, bytes, fault) in &ENDLESS {
         let mut function = list_at(pointer);
         for (offset, byte) in bytes {
             function = function.byte(offset, byte);

@@ -30,7 +30,7 @@ fn a_header_is_of_one_of_two_layouts(rt: HostRuntime) {
     assert!(rt; fault_of(&absent) == Some(ImageFault::NoVendor));
 }
 
-const NUMBERED: [(ImageFault, u8); 10] = [
+static NUMBERED: [(ImageFault, u8); 10] = [
     (ImageFault::NoVendor, 20),
     (ImageFault::HeaderKind, 21),
     (ImageFault::BarType(0x10), 22),
@@ -45,7 +45,7 @@ const NUMBERED: [(ImageFault, u8); 10] = [
 
 #[test]
 fn faults_have_their_numbers(rt: HostRuntime) {
-    for (fault, number) in NUMBERED {
+    for &(fault, number) in &NUMBERED {
         assert!(rt; fault.number() == number, "{number}");
     }
 }

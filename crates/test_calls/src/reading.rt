@@ -1,9 +1,10 @@
-use crate::texts::{STEPS, block, example, joined, outcome, reads_as};
+use crate::texts::{STEPS, block, joined, outcome, reads_as};
 use pci_dump::block::{Block, Title};
 use pci_dump::read_fault::ReadFault;
 use pci_dump::reader::{Reader, read_dump};
 use std::alloc::AllocError;
 use std::test::Fail;
+use test_support::example::DUMP;
 use test_support::fakes::Pieces;
 
 /// What a reader answers next.
@@ -40,13 +41,11 @@ fn is_read_as_example(text: &[u8], step: usize) -> bool {
 }
 
 #[test]
-fn the_example_is_read_in_any_cutting(rt: HostRuntime) -> Result<(), Fail> {
-    let text = example(&rt)?;
-    assert!(rt; text.len() == 849);
+fn the_example_is_read_in_any_cutting(rt: HostRuntime) {
+    assert!(rt; DUMP.len() == 849);
     for step in STEPS {
-        assert!(rt; is_read_as_example(&text, step), "{step}");
+        assert!(rt; is_read_as_example(DUMP.as_bytes(), step), "{step}");
     }
-    Ok(())
 }
 
 /// How many lines a text of 849 bytes has that ends, cut after each byte, in the line that is cut; or a cut after which
@@ -68,10 +67,8 @@ fn lines_of(rt: &HostRuntime, text: &[u8]) -> Result<u64, usize> {
 }
 
 #[test]
-fn cut_after_each_byte_the_example_ends_there(rt: HostRuntime) -> Result<(), Fail> {
-    let text = example(&rt)?;
-    assert_eq!(rt; lines_of(&rt, &text), Ok(18));
-    Ok(())
+fn cut_after_each_byte_the_example_ends_there(rt: HostRuntime) {
+    assert!(rt; lines_of(&rt, DUMP.as_bytes()) == Ok(18));
 }
 
 /// What the example with byte `at`, counted from 1 in line `line`, made a `G` is read as.
@@ -114,8 +111,8 @@ fn idle_byte(rt: &HostRuntime, text: &mut [u8]) -> Option<usize> {
 
 #[test]
 fn each_byte_of_the_example_counts(rt: HostRuntime) -> Result<(), Fail> {
-    let mut text = example(&rt)?;
-    assert_eq!(rt; idle_byte(&rt, &mut text), None);
+    let mut text = DUMP.as_bytes().to_vec(rt.alloc())?;
+    assert!(rt; idle_byte(&rt, &mut text) == None);
     Ok(())
 }
 

@@ -4,7 +4,7 @@ use pci_image::rom::register::rom;
 use test_support::registers::{bridge, device};
 
 /// A register at 30h, its read back, whether the ROM that it is is on, and its range.
-const ROMS: [(u32, u32, bool, u64, u64); 3] = [
+static ROMS: [(u32, u32, bool, u64, u64); 3] = [
     (0xfe00_0001, 0xffff_f800, true, 0xfe00_0000, 0xfe00_07ff),
     (0xfe00_0000, 0xffff_f800, false, 0xfe00_0000, 0xfe00_07ff),
     (0x0000_0000, 0xff00_0000, false, 0, 0xff_ffff),
@@ -12,7 +12,7 @@ const ROMS: [(u32, u32, bool, u64, u64); 3] = [
 
 #[test]
 fn a_rom_has_the_range_that_its_comparator_answers(rt: HostRuntime) {
-    for (value, read_back, on, first, last) in ROMS {
+    for &(value, read_back, on, first, last) in &ROMS {
         let function = device().register(0x30, value, read_back);
         let expected = Rom {
             reg: 0x30,
@@ -44,7 +44,7 @@ fn the_rom_register_is_the_one_of_its_header(rt: HostRuntime) {
 }
 
 /// Values and read backs of a register that is no ROM.
-const NO_ROMS: [(u32, u32); 7] = [
+static NO_ROMS: [(u32, u32); 7] = [
     // 1 KB and 32 MB
     (0, 0xffff_fc00),
     (0, 0xfe00_0000),
@@ -59,7 +59,7 @@ const NO_ROMS: [(u32, u32); 7] = [
 
 #[test]
 fn a_register_that_is_no_rom_is_refused(rt: HostRuntime) {
-    for (value, read_back) in NO_ROMS {
+    for &(value, read_back) in &NO_ROMS {
         let function = device().register(0x30, value, read_back);
         assert!(rt; rom(&function.image, &function.probe) == Err(ImageFault::RomMask(0x30)));
     }

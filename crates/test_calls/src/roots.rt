@@ -26,7 +26,7 @@ fn roots_rise_and_are_some(rt: HostRuntime) {
 }
 
 /// Buses, and whether they are among the roots 00 and 80.
-const BUSES: [(u8, bool); 6] = [
+static BUSES: [(u8, bool); 6] = [
     (0, true),
     (1, false),
     (0x7f, false),
@@ -37,7 +37,7 @@ const BUSES: [(u8, bool); 6] = [
 
 /// Whether roots are just those of these buses.
 fn are_listed(roots: &Roots) -> bool {
-    for (bus, is_root) in BUSES {
+    for &(bus, is_root) in &BUSES {
         if roots.has(bus) != is_root {
             return false;
         }

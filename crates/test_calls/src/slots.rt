@@ -1,7 +1,7 @@
 use pci_base::slot::Slot;
 
 /// Bus, device and function of a slot, and its text.
-const SHOWN: [(u8, u8, u8, &str); 3] = [
+static SHOWN: [(u8, u8, u8, &str); 3] = [
     (0, 0, 0, "00:00.0"),
     (0x0a, 0x1f, 7, "0a:1f.7"),
     (0xff, 1, 2, "ff:01.2"),
@@ -28,7 +28,7 @@ fn is_shown(rt: &HostRuntime, numbers: (u8, u8, u8), text: &str) -> bool {
 
 #[test]
 fn a_slot_is_shown_by_bus_device_and_function(rt: HostRuntime) {
-    for (bus, dev, fun, text) in SHOWN {
+    for &(bus, dev, fun, text) in &SHOWN {
         assert!(rt; is_shown(&rt, (bus, dev, fun), text), "{text}");
     }
 }
@@ -40,7 +40,7 @@ fn a_bus_has_32_devices_of_8_functions(rt: HostRuntime) {
 }
 
 /// Numbers of slots, each above the one before.
-const RISING: [(u8, u8, u8); 6] = [
+static RISING: [(u8, u8, u8); 6] = [
     (0, 0, 1),
     (0, 0, 2),
     (0, 1, 0),
@@ -52,7 +52,7 @@ const RISING: [(u8, u8, u8); 6] = [
 /// Whether each of those slots is above the one before.
 fn are_rising() -> bool {
     let mut before = None;
-    for (bus, dev, fun) in RISING {
+    for &(bus, dev, fun) in &RISING {
         let slot = Slot::new(bus, dev, fun);
         if slot <= before {
             return false;
