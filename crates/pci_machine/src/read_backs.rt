@@ -1,5 +1,5 @@
 //! What all address registers of a function read back.
-ghost use Rattle.std.specs.Prelude.{◌≡◌, ◌+◌, ℕ, List, IsTrue, IfOk, IfErr, OnOk, OnErr, if◌then◌else◌};
+ghost use Rattle.std.specs.Prelude.{◌≡◌, ◌+◌, ℕ, List, IsTrue, IfOk, IfErr, OnOk, OnErr};
 ghost use Rattle.pci_spec.specs.Header as header;
 ghost use Rattle.pci_spec.specs.Machine as machine;
 ghost use Rattle.pci_spec.specs.Machine.{sized};

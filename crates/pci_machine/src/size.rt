@@ -3,7 +3,7 @@
 //!
 //! Ones in an address register would let the function decode addresses that belong to others. So
 //! its decode bits are cleared first, and put back at the end.
-ghost use Rattle.std.specs.Prelude.{◌≡◌, ◌≢◌, ◌+◌, ◌%◌, ℕ, List, true, None, IsTrue, IsFalse, IsOk, IfOk, IfErr, OnOk, OnErr, IfSome, MatchOption, if◌then◌else◌};
+ghost use Rattle.std.specs.Prelude.{◌≡◌, ◌≢◌, ◌+◌, ◌%◌, ℕ, List, None, IsTrue, IsFalse, IsOk, IfOk, IfErr, OnOk, OnErr, IfSome, MatchOption};
 ghost use Rattle.pci_spec.specs.Registers as table;
 ghost use Rattle.pci_spec.specs.Header.{command};
 ghost use Rattle.pci_spec.specs.Header as header;

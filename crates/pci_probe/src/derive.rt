@@ -1,5 +1,5 @@
 //! A function's probe, derived from what it shows and what Linux tells of it.
-ghost use Rattle.std.specs.Prelude.{◌≡◌, None, OnOk, IfOk, IfErr, if◌then◌else◌};
+ghost use Rattle.std.specs.Prelude.{◌≡◌, None, OnOk, IfOk, IfErr};
 ghost use Rattle.pci_spec.specs.Header.{layout};
 ghost use Rattle.pci_spec.specs.Derived.{derived_probe, assumed_registers, read_back_of, is_assumed};
 ghost use Rattle.pci_spec.specs.NoProbe.{no_probe, register_fault};

@@ -1,5 +1,5 @@
 //! What is derived for each address register of a function.
-ghost use Rattle.std.specs.Prelude.{◌≡◌, ◌<◌, true, if◌then◌else◌};
+ghost use Rattle.std.specs.Prelude.{◌≡◌, ◌<◌, true};
 ghost use Rattle.pci_spec.specs.Header as header;
 ghost use Rattle.pci_spec.specs.Sizing.{is_address_register};
 ghost use Rattle.pci_spec.specs.Derived as spec;

@@ -1,5 +1,4 @@
 use Rattle.std.proofs.Common.{◌∙◌, ap}
-use Rattle.std.specs.Bool.{◌==◌, if◌then◌else◌}
 use Rattle.pci_spec.specs.Header.{layout, address_registers, registers_by}
 use Rattle.pci_image.specs.declared.register.Register.{Register}
 use Rattle.pci_image.specs.declared.register.Role.TheVariants as roles
