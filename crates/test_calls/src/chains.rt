@@ -91,7 +91,7 @@ fn a_message_capability_is_as_long_as_its_control_says(rt: HostRuntime) {
 }
 
 /// The pointer to a list, two of its bytes, and its fault.
-static ENDLESS: [(u8, [(u8, u8); 2], ImageFault); 6] = [
+const ENDLESS: [(u8, [(u8, u8); 2], ImageFault); 6] = [
     (
         0x43,
         [(0x40, 0x09), (0x41, 0x3c)],
@@ -119,7 +119,7 @@ fn is_refused(function: &Registers, fault: ImageFault) -> bool {
 
 #[test]
 fn a_list_that_does_not_end_well_is_refused(rt: HostRuntime) {
-    for &(pointer, bytes, fault) in &ENDLESS {
+    for (pointer, bytes, fault) in ENDLESS {
         let mut function = list_at(pointer);
         for (offset, byte) in bytes {
             function = function.byte(offset, byte);

@@ -6,7 +6,6 @@ use pci_base::slot::Slot;
 use pci_dump::block::Block;
 use pci_dump::dump::Dump;
 use pci_early::early::faults_from;
-use pci_function::fault::Fault;
 use pci_tree::admit::outline_of;
 use pci_tree::roots::Roots;
 use std::alloc::Global;
@@ -60,46 +59,29 @@ fn add(dump: &mut Dump, slot: Slot, registers: Registers) -> bool {
     dump.push(block).is_ok()
 }
 
-/// A line for each fault.
-fn lines_of(alloc: Global, faults: &[Fault]) -> Option<String> {
-    let mut text = String::new(alloc);
-    for fault in faults {
-        writeln!(text, "{fault}").ok()?;
-    }
-    Some(text)
-}
-
-/// The same of the faults of two texts from a first one on.
-fn lines_from(
-    alloc: Global,
-    dump: &Dump,
-    probe: &Dump,
-    roots: &Roots,
-    first: Fault,
-) -> Option<String> {
-    match faults_from(alloc, dump, probe, roots, first) {
-        Ok(faults) => lines_of(alloc, &faults),
-        Err(_) => None,
-    }
-}
-
 /// All faults of a dump and its probe, in one text.
-fn list_of(alloc: Global, dump: &Dump, probe: &Dump, roots: Roots) -> Option<String> {
+fn list_of(alloc: Global, dump: &Dump, probe: &Dump, roots: Roots) -> Result<String, Fail> {
+    let mut text = String::new(alloc);
     match outline_of(alloc, dump, probe, roots) {
-        Ok(_) => Some(String::new(alloc)),
-        Err(Refused::Memory) => None,
-        Err(Refused::Fault(first)) => lines_from(alloc, dump, probe, &roots, first),
+        Ok(_) => Ok(text),
+        Err(Refused::Memory) => Err("no memory".into()),
+        Err(Refused::Fault(first)) => {
+            for fault in &faults_from(alloc, dump, probe, &roots, first)? {
+                text.push_str(format!(in alloc; "{fault}\n")?.as_str())?;
+            }
+            Ok(text)
+        }
     }
 }
 
 /// The same of some functions.
-fn list_for(alloc: Global, roots: Roots, functions: &[Placed]) -> Option<String> {
+fn list_for(alloc: Global, roots: Roots, functions: &[Placed]) -> Result<String, Fail> {
     let mut dump = Dump::empty(alloc);
     let mut probe = Dump::empty(alloc);
     for (bus, device, function, registers, read_backs) in functions {
-        let slot = Slot::new(*bus, *device, *function)?;
+        let slot = Slot::new(*bus, *device, *function).ok_or("a slot")?;
         if !add(&mut dump, slot, registers) || !add(&mut probe, slot, read_backs) {
-            return None;
+            return Err("no dump".into());
         }
     }
     list_of(alloc, &dump, &probe, roots)
@@ -113,7 +95,7 @@ fn is_listed(
     wanted: &str,
 ) -> Result<(), Fail> {
     let roots = Roots::of(roots).ok_or("no roots")?;
-    let list = list_for(rt.alloc(), roots, functions).ok_or("no list")?;
+    let list = list_for(rt.alloc(), roots, functions)?;
     if list.as_str() == wanted {
         Ok(())
     } else {
@@ -133,25 +115,23 @@ fn devices(alloc: Global, devices: &[u8], registers: Registers) -> Option<Dump> 
 }
 
 /// All faults of a dump of some devices of bus 00, at which nothing answers, and of a probe of others.
-fn list_of_devices(alloc: Global, dumped: &[u8], probed: &[u8]) -> Option<String> {
+fn list_of_devices(alloc: Global, dumped: &[u8], probed: &[u8]) -> Result<String, Fail> {
     match (
         devices(alloc, dumped, &[NOTHING]),
         devices(alloc, probed, &[]),
     ) {
         (Some(dump), Some(probe)) => list_of(alloc, &dump, &probe, Roots::host()),
-        _ => None,
+        _ => Err("no dump".into()),
     }
 }
 
 #[test]
 fn each_slot_of_one_text_alone_has_a_line(rt: HostRuntime) -> Result<(), Fail> {
-    match list_of_devices(rt.alloc(), &[1, 2, 5, 6], &[2, 3, 5, 7]) {
-        Some(list) => assert!(rt;
-            list.as_str()
-                == "30 SlotsDiffer 00:01.0\n30 SlotsDiffer 00:03.0\n30 SlotsDiffer 00:06.0\n30 SlotsDiffer 00:07.0\n"
-        ),
-        None => assert!(rt; false),
-    }
+    let list = list_of_devices(rt.alloc(), &[1, 2, 5, 6], &[2, 3, 5, 7])?;
+    assert!(rt;
+        list.as_str()
+            == "30 SlotsDiffer 00:01.0\n30 SlotsDiffer 00:03.0\n30 SlotsDiffer 00:06.0\n30 SlotsDiffer 00:07.0\n"
+    );
     Ok(())
 }
 
