@@ -62,19 +62,19 @@ returns-then-bytes-ne10-clause-err c =
     let bytes = c.args.bytes.now in
     let most = c.last_zeros_into-zeros.ensures.within in
     let past = c.loop-row-test.false in
-    let all = at_end c.loop-row.row 16 bytes c.loop-row.image (drop (52 * c.loop-row.row) bytes) (omega arith) c.loop-row.invariant.small c.loop-row.invariant.so_far in
+    let all = at_end _ 16 bytes c.loop-row.image (drop (52 * c.loop-row.row) bytes) (omega arith) c.loop-row.invariant.small c.loop-row.invariant.so_far in
     let rest = ap (λ (k : ℕ). drop (52 * k) bytes) (let e : c.loop-row.row ≡ 16 = omega arith in e) in
     blank_stops bytes c.loop-row.image (drop (52 * 16) bytes) (get_or bytes 832 0) c.loop-row.invariant.long all.0 (subst (λ (t : List ℕ). bytes ≡ rows_text 0 16 (take (16 * 16) c.loop-row.image) ++ t) rest all.1) (blank_at bytes c.if-bytes-lt-LINES_LEN.false) c.if-bytes-ne10.true
 
 pub returns-clause-ok : goal.returns-clause-ok
 returns-clause-ok c =
     let bytes = c.args.bytes.now in
-    let all = at_end c.loop-row.row 16 bytes c.loop-row.image (drop (52 * c.loop-row.row) bytes) (omega arith) c.loop-row.invariant.small c.loop-row.invariant.so_far in
+    let all = at_end _ 16 bytes c.loop-row.image (drop (52 * c.loop-row.row) bytes) (omega arith) c.loop-row.invariant.small c.loop-row.invariant.so_far in
     let rest = ap (λ (k : ℕ). drop (52 * k) bytes) (let e : c.loop-row.row ≡ 16 = omega arith in e) in
     blank_there bytes c.loop-row.image (drop (52 * 16) bytes) c.loop-row.invariant.long all.0 (subst (λ (t : List ℕ). bytes ≡ rows_text 0 16 (take (16 * 16) c.loop-row.image) ++ t) rest all.1)
     (blank_at bytes c.if-bytes-lt-LINES_LEN.false ∙ ap (λ (x : ℕ). x ∷ drop 1 (drop (52 * 16) bytes)) c.if-bytes-ne10.false)
 
 pub returns-clause-image : goal.returns-clause-image
 returns-clause-image c =
-    let all = at_end c.loop-row.row 16 _ c.loop-row.image _ (omega arith) c.loop-row.invariant.small c.loop-row.invariant.so_far in
+    let all = at_end _ 16 _ c.loop-row.image _ (omega arith) c.loop-row.invariant.small c.loop-row.invariant.so_far in
     (c.loop-row.invariant.long, subst AreSmall (whole_image _ c.loop-row.invariant.long) all.0)
