@@ -17,25 +17,15 @@ use pci_base::window_kind::WindowKind;
 use pci_function::fault::Fault;
 use pci_image::bar::bar_fault;
 use pci_image::capability::places;
-use pci_image::header::layout;
+use pci_image::layout::Layout;
 use pci_image::rom::register::rom;
 use pci_image::window::Window;
-
-/// How many Base Address registers a bridge has (Bridge 1.2, 3.2.5).
-const BARS_OF_BRIDGE: u8 = 2;
-
-/// How many Base Address registers a device has (PCI 3.0, 6.2.5.1).
-const BARS_OF_DEVICE: u8 = 6;
 
 /// How many Base Address registers the header has.
 fn bar_count(image: &Image) -> u8
     ensures { result ≡ bar_count (layout image.now.0) }
 {
-    if layout(image) == 1 {
-        BARS_OF_BRIDGE
-    } else {
-        BARS_OF_DEVICE
-    }
+    Layout::or_device(image).bar_count()
 }
 
 /// Of 22 to 24 the first of BAR register `n`, where the header has that register.
@@ -77,7 +67,8 @@ fn window_fault(slot: Slot, image: &Image, probe: &Image, kind: WindowKind) -> O
         && breaks_window_rule (kind_value kind) image.now.0 probe.now.0)
         (Fault.WindowMask slot (window_register (kind_value kind))) }
 {
-    let breaks = layout(image) == 1 && Window::breaks_rule(kind, image, probe);
+    let is_bridge = Layout::or_device(image) == Layout::Bridge;
+    let breaks = is_bridge && Window::breaks_rule(kind, image, probe);
     breaks.then_some(Fault::WindowMask(slot, kind.register()))
 }
 

@@ -34,7 +34,7 @@ pub const NO_VENDOR: u16 = 0xffff;
 pub const LAYOUT_BITS: u8 = 0x7f;
 
 /// The layout of an image's header: 0 for a device, 1 for a bridge, and others that aren't decoded (6.2.1).
-pub fn layout(image: &Image) -> u8
+pub(crate) fn layout(image: &Image) -> u8
     ensures { result ≡ layout image.now.0 }
 {
     image.u8(HEADER_TYPE) & LAYOUT_BITS
