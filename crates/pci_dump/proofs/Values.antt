@@ -1,5 +1,5 @@
 -- A line of values by its places, and by its cells.
-use Rattle.std.proofs.Common.{◌≡◌, replicate, inl, inr, ℕ, zero, suc, ◌+◌, ◌-◌, ◌*◌, ◌/◌, ◌%◌, ◌<◌, List, [], ◌∷◌, ◌++◌, refl, arith, sym, ◌∙◌, ap, subst, length, get_or, take, drop, append-nil}
+use Rattle.std.proofs.Common.{◌≡◌, replicate, inl, inr, ℕ, zero, suc, ◌+◌, ◌*◌, ◌/◌, ◌%◌, ◌<◌, List, [], ◌∷◌, ◌++◌, refl, arith, sym, ◌∙◌, ap, subst, length, get_or, take, drop, append-nil}
 use Rattle.std.proofs.Common.{Bool, true, false, cond}
 use Rattle.std.specs.Prelude.{nat_lt, ◌==◌}
 use Rattle.pci_spec.specs.Number.{each_from}

@@ -1,5 +1,5 @@
-use Rattle.std.proofs.Common.{◌≡◌, ◌∙◌, ℕ, sym, ap, arith, take, length, get_or}
-use Rattle.std.proofs.lemmas.List.{take_all, length-take}
+use Rattle.std.proofs.Common.{◌∙◌, sym, ap, arith, take, length}
+use Rattle.std.proofs.lemmas.List.{take_all}
 use Rattle.std.proofs.lemmas.Simd.{length-zip2}
 use Rattle.pci_spec.proofs.Forms.{small_take}
 use Rattle.pci_dump.proofs.SixteenLanes.{minus, same_vectors}

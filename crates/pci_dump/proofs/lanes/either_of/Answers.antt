@@ -1,4 +1,4 @@
-use Rattle.std.proofs.Common.{◌≡◌, ◌∙◌, ℕ, sym, arith, get_or}
+use Rattle.std.proofs.Common.{◌∙◌, sym, arith, get_or}
 use Rattle.std.proofs.lemmas.Simd.{get_or-zip2, length-zip2}
 use Rattle.pci_dump.proofs.SixteenLanes.{either, both_zero, zero_of_both}
 use Rattle.pci_dump.proofs.lanes.either_of.Goals as goal
