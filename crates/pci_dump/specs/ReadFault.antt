@@ -1,5 +1,6 @@
--- The numbers of a text's faults, and what it means that a text has one.
-use Rattle.std.specs.Prelude.{ℕ, List}
+-- A text's faults: their numbers, how they are said, and what it means that a text has one.
+use Rattle.std.specs.Prelude.{ℕ, List, ◌++◌, codes}
+use Rattle.std.specs.Fmt.{decimal}
 use Rattle.pci_spec.specs.Text.{IsFaultOf, BadSlot, BadTitle, BadLine, NoBlank, Order, TooMany, Ended}
 use Rattle.pci_dump.specs.declared.read_fault.ReadFault.{ReadFault}
 use Rattle.pci_dump.specs.declared.read_fault.ReadFault.TheVariants as faults
@@ -14,6 +15,18 @@ read_fault_number (faults.NoBlank n) = 6
 read_fault_number (faults.Order n) = 7
 read_fault_number (faults.TooMany n) = 8
 read_fault_number (faults.Ended n) = 9
+
+-- how a fault is said: its number, its name and its line
+abbrev pub read_fault_text : ReadFault → List ℕ
+read_fault_text faults.Io = codes "1 Io"
+read_fault_text faults.Memory = codes "2 Memory"
+read_fault_text (faults.BadSlot n) = codes "3 BadSlot " ++ decimal n
+read_fault_text (faults.BadTitle n) = codes "4 BadTitle " ++ decimal n
+read_fault_text (faults.BadLine n) = codes "5 BadLine " ++ decimal n
+read_fault_text (faults.NoBlank n) = codes "6 NoBlank " ++ decimal n
+read_fault_text (faults.Order n) = codes "7 Order " ++ decimal n
+read_fault_text (faults.TooMany n) = codes "8 TooMany " ++ decimal n
+read_fault_text (faults.Ended n) = codes "9 Ended " ++ decimal n
 
 -- it is the fault of this text, and so not of a reader or of memory
 abbrev pub IsTextFault : List ℕ → ReadFault → Type 0

@@ -1,38 +1,29 @@
 //! Why reading or writing a text stopped.
-ghost use Rattle.std.specs.Prelude.{◌≡◌};
+ghost use Rattle.std.specs.Prelude.{◌≡◌, Some, codes};
 
+use std::fmt;
 use thiserror::Error;
 
-/// Why a text is refused. `n` is a line of the text, counted from 1. The text of a fault is its
-/// number, its name and its line, as in `5 BadLine 17`.
+/// Why a text is refused: what is wrong, and in which line of the text, counted from 1.
 #[derive(Clone, Copy, Debug, PartialEq, Eq, Error)]
 pub enum ReadFault {
     /// 1: a read failed.
-    #[error("1 Io")]
     Io,
     /// 2: a growth was refused.
-    #[error("2 Memory")]
     Memory,
     /// 3: a byte isn't one of the first eight of a slot line.
-    #[error("3 BadSlot {0}")]
     BadSlot(u64),
     /// 4: a later byte of a slot line is wrong.
-    #[error("4 BadTitle {0}")]
     BadTitle(u64),
     /// 5: a byte of a byte line is wrong.
-    #[error("5 BadLine {0}")]
     BadLine(u64),
     /// 6: the line after the byte lines isn't empty.
-    #[error("6 NoBlank {0}")]
     NoBlank(u64),
     /// 7: a slot isn't above the one before it.
-    #[error("7 Order {0}")]
     Order(u64),
     /// 8: bytes follow 4,096 blocks.
-    #[error("8 TooMany {0}")]
     TooMany(u64),
     /// 9: the text ends within a block.
-    #[error("9 Ended {0}")]
     Ended(u64),
 }
 
@@ -57,11 +48,31 @@ impl ReadFault {
     }
 }
 
-/// Why a text couldn't be written. Its text is its number and its name.
+/// The fault's number, its name and its line, as in `5 BadLine 17`.
+impl fmt::Display for ReadFault {
+    ghost use Rattle.pci_dump.specs.ReadFault.{read_fault_text};
+
+    ghost output = { λ f. Some (read_fault_text f) };
+
+    fn fmt<W: fmt::Write>(&self, f: &mut fmt::Formatter<W>) -> fmt::Result {
+        match *self {
+            ReadFault::Io => write!(f, "1 Io"),
+            ReadFault::Memory => write!(f, "2 Memory"),
+            ReadFault::BadSlot(line) => write!(f, "3 BadSlot {line}"),
+            ReadFault::BadTitle(line) => write!(f, "4 BadTitle {line}"),
+            ReadFault::BadLine(line) => write!(f, "5 BadLine {line}"),
+            ReadFault::NoBlank(line) => write!(f, "6 NoBlank {line}"),
+            ReadFault::Order(line) => write!(f, "7 Order {line}"),
+            ReadFault::TooMany(line) => write!(f, "8 TooMany {line}"),
+            ReadFault::Ended(line) => write!(f, "9 Ended {line}"),
+        }
+    }
+}
+
+/// Why a text couldn't be written.
 #[derive(Clone, Copy, Debug, PartialEq, Eq, Error)]
 pub enum WriteFault {
     /// 10: a write failed.
-    #[error("10 Io")]
     Io,
 }
 
@@ -72,6 +83,17 @@ impl WriteFault {
     {
         match self {
             WriteFault::Io => 10,
+        }
+    }
+}
+
+/// The fault's number and its name.
+impl fmt::Display for WriteFault {
+    ghost output = { λ _. Some (codes "10 Io") };
+
+    fn fmt<W: fmt::Write>(&self, f: &mut fmt::Formatter<W>) -> fmt::Result {
+        match *self {
+            WriteFault::Io => write!(f, "10 Io"),
         }
     }
 }

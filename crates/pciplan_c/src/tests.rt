@@ -2,9 +2,7 @@
 use crate::calls::pciplan_check;
 use crate::texts::{Pair, desk_pair, old_pair, roots_pair};
 use crate::verdict::check_into;
-use pci_dump::read_fault::ReadFault;
 use pciplan_held::put::Withheld;
-use pciplan_held::refusal::Refusal;
 use std::alloc::Global;
 use std::test::Fail;
 use test_support::refusing::Refusing;
@@ -77,26 +75,6 @@ fn each_call_is_answered_as_it_should_be(rt: HostRuntime) -> Result<(), Fail> {
     ];
     for call in cases {
         assert!(rt; is_as_said(rt.alloc(), &call), "{call:?}");
-    }
-    Ok(())
-}
-
-#[test]
-fn faults_are_said_as_the_reader_says_them(rt: HostRuntime) -> Result<(), Fail> {
-    for fault in [
-        ReadFault::Io,
-        ReadFault::Memory,
-        ReadFault::BadSlot(1),
-        ReadFault::BadTitle(20),
-        ReadFault::BadLine(300),
-        ReadFault::NoBlank(4000),
-        ReadFault::Order(50000),
-        ReadFault::TooMany(73729),
-        ReadFault::Ended(u64::MAX),
-    ] {
-        let said = format!(in rt.alloc(); "{}", Refusal::Probe(fault))?;
-        let expected = format!(in rt.alloc(); "probe: {fault}")?;
-        assert!(rt; said == expected);
     }
     Ok(())
 }

@@ -8,8 +8,9 @@ use Rattle.pci_spec.specs.Fault.{Fault, NoVendor, HeaderKind, BarType, BarMask, 
 use Rattle.pci_spec.specs.Line.{verdict_line, fault_text, field}
 use Rattle.pci_dump.specs.declared.read_fault.ReadFault.{ReadFault}
 use Rattle.pci_dump.specs.declared.read_fault.ReadFault.TheVariants as faults
+use Rattle.pci_dump.specs.ReadFault.{read_fault_text}
 use Rattle.pci_function.specs.Fault.{fault_of}
-use Rattle.pciplan_held.specs.Refusals.{read_fault_line, read_fault_text, refusal_line, refusal_text}
+use Rattle.pciplan_held.specs.Refusals.{read_fault_line, refusal_line, refusal_text}
 use Rattle.pciplan_held.specs.Texts.{unread_line, unread_text}
 use Rattle.pciplan_held.specs.declared.refusal.Refusal.{Refusal}
 use Rattle.pciplan_held.specs.declared.refusal.Refusal.TheVariants.{Root, Dump, Probe}

@@ -1,25 +1,12 @@
 -- Why two texts and a list of root buses are refused, and how that is said.
 use Rattle.std.specs.Prelude.{ℕ, List, ◌++◌, codes}
-use Rattle.std.specs.Fmt.{decimal}
 use Rattle.pci_spec.specs.Text.{Block, IsTextOf}
-use Rattle.pci_dump.specs.ReadFault.{IsTextFault}
+use Rattle.pci_dump.specs.ReadFault.{IsTextFault, read_fault_text}
 use Rattle.pci_dump.specs.declared.read_fault.ReadFault.{ReadFault}
 use Rattle.pci_dump.specs.declared.read_fault.ReadFault.TheVariants as faults
 use Rattle.pci_tree.specs.Roots.{IsRootList}
 use Rattle.pciplan_held.specs.declared.refusal.Refusal.{Refusal}
 use Rattle.pciplan_held.specs.declared.refusal.Refusal.TheVariants.{Root, Dump, Probe}
-
--- a fault of a text: its number, its name and its line
-abbrev pub read_fault_text : ReadFault → List ℕ
-read_fault_text faults.Io = codes "1 Io"
-read_fault_text faults.Memory = codes "2 Memory"
-read_fault_text (faults.BadSlot n) = codes "3 BadSlot " ++ decimal n
-read_fault_text (faults.BadTitle n) = codes "4 BadTitle " ++ decimal n
-read_fault_text (faults.BadLine n) = codes "5 BadLine " ++ decimal n
-read_fault_text (faults.NoBlank n) = codes "6 NoBlank " ++ decimal n
-read_fault_text (faults.Order n) = codes "7 Order " ++ decimal n
-read_fault_text (faults.TooMany n) = codes "8 TooMany " ++ decimal n
-read_fault_text (faults.Ended n) = codes "9 Ended " ++ decimal n
 
 -- the line that a fault of a text names, or 0 where it names none
 abbrev pub read_fault_line : ReadFault → ℕ

@@ -48,30 +48,6 @@ impl Refusal {
     }
 }
 
-/// A fault of a text as it is said: its number, its name and its line.
-#[derive(Clone, Copy)]
-struct Said(ReadFault);
-
-impl fmt::Display for Said {
-    ghost use Rattle.pciplan_held.specs.Refusals.{read_fault_text};
-
-    ghost output = { λ s. Some (read_fault_text s.0) };
-
-    fn fmt<W: fmt::Write>(&self, f: &mut fmt::Formatter<W>) -> fmt::Result {
-        match self.0 {
-            ReadFault::Io => write!(f, "1 Io"),
-            ReadFault::Memory => write!(f, "2 Memory"),
-            ReadFault::BadSlot(line) => write!(f, "3 BadSlot {line}"),
-            ReadFault::BadTitle(line) => write!(f, "4 BadTitle {line}"),
-            ReadFault::BadLine(line) => write!(f, "5 BadLine {line}"),
-            ReadFault::NoBlank(line) => write!(f, "6 NoBlank {line}"),
-            ReadFault::Order(line) => write!(f, "7 Order {line}"),
-            ReadFault::TooMany(line) => write!(f, "8 TooMany {line}"),
-            ReadFault::Ended(line) => write!(f, "9 Ended {line}"),
-        }
-    }
-}
-
 /// The message, as `dump: 5 BadLine 17`.
 impl fmt::Display for Refusal {
     ghost use Rattle.pciplan_held.specs.Refusals.{refusal_text};
@@ -81,8 +57,8 @@ impl fmt::Display for Refusal {
     fn fmt<W: fmt::Write>(&self, f: &mut fmt::Formatter<W>) -> fmt::Result {
         match *self {
             Refusal::Root => write!(f, "root"),
-            Refusal::Dump(fault) => write!(f, "dump: {}", Said(fault)),
-            Refusal::Probe(fault) => write!(f, "probe: {}", Said(fault)),
+            Refusal::Dump(fault) => write!(f, "dump: {fault}"),
+            Refusal::Probe(fault) => write!(f, "probe: {fault}"),
         }
     }
 }
