@@ -1,12 +1,12 @@
 //! The two layouts of a configuration header (PCI 3.0, 6.1; Bridge 1.2, 3.2).
 ghost use Rattle.std.specs.Prelude.{◌≡◌};
-ghost use Rattle.pci_spec.specs.Header.{class_code, layout};
+ghost use Rattle.pci_spec.specs.Header.{class_code};
 
 use super::fault::ImageFault;
 use super::layout::Layout;
 use super::register::rom_register;
 use pci_base::image::Image;
-use pci_base::offset::{BASE_CLASS, HEADER_TYPE, INTERFACE, SUB_CLASS, VENDOR_ID};
+use pci_base::offset::{BASE_CLASS, INTERFACE, SUB_CLASS, VENDOR_ID};
 
 /// An image with a type 0 header: a device.
 #[derive(Clone, Copy, Debug, PartialEq, Eq)]
@@ -29,16 +29,6 @@ pub enum Header<'a> {
 
 /// The Vendor ID of a function that doesn't answer (6.2.1).
 pub const NO_VENDOR: u16 = 0xffff;
-
-/// The bits of Header Type that give the layout; the other one says multi-function (6.2.1).
-pub const LAYOUT_BITS: u8 = 0x7f;
-
-/// The layout of an image's header: 0 for a device, 1 for a bridge, and others that aren't decoded (6.2.1).
-pub(crate) fn layout(image: &Image) -> u8
-    ensures { result ≡ layout image.now.0 }
-{
-    image.u8(HEADER_TYPE) & LAYOUT_BITS
-}
 
 /// Base class, sub-class and programming interface, as one number of 24 bits (6.2.1).
 pub fn class_code(image: &Image) -> u32

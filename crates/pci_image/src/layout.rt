@@ -1,11 +1,14 @@
 //! Which of the two layouts a configuration header has (PCI 3.0, 6.1; Bridge 1.2, 3.2).
-ghost use Rattle.std.specs.Prelude.{◌≡◌, ◌<◌, ◌==◌, IsTrue, MatchOption};
+ghost use Rattle.std.specs.Prelude.{◌≡◌, ◌<◌, ◌≤◌, ◌%◌, ◌==◌, IsTrue, MatchOption};
 ghost use Rattle.pci_spec.specs.Header.{bar_count, layout};
 ghost use Rattle.pci_spec.specs.Fault.{has_other_layout};
 ghost use Rattle.pci_image.specs.Layouts.{is_of_bridge, layout_number};
 
-use super::header::layout;
 use pci_base::image::Image;
+use pci_base::offset::HEADER_TYPE;
+
+/// The bits of Header Type that give the layout; the other one says multi-function (PCI 3.0, 6.2.1).
+const LAYOUT_BITS: u8 = 0x7f;
 
 /// A layout of a configuration header that is decoded, by Header Type without its bit 7 (PCI 3.0, 6.2.1).
 #[derive(Clone, Copy, Debug, PartialEq, Eq)]
@@ -17,26 +20,33 @@ pub enum Layout {
 }
 
 impl Layout {
-    /// The layout of an image's header, where it is one of the two.
-    pub fn of(image: &Image) -> Option<Layout>
-        ensures { MatchOption result (IsTrue (has_other_layout image.now.0))
-            (λ known. layout image.now.0 ≡ layout_number known) }
+    /// The layout that a Header Type tells, where it is one of the two.
+    pub fn of_header_type(header_type: u8) -> Option<Layout>
+        ensures { MatchOption result (2 ≤ header_type % 128)
+            (λ known. header_type % 128 ≡ layout_number known) }
     {
-        match layout(image) {
+        match header_type & LAYOUT_BITS {
             0 => Some(Layout::Device),
             1 => Some(Layout::Bridge),
             _ => None,
         }
     }
 
+    /// The layout of an image's header, where it is one of the two.
+    pub fn of(image: &Image) -> Option<Layout>
+        ensures { MatchOption result (IsTrue (has_other_layout image.now.0))
+            (λ known. layout image.now.0 ≡ layout_number known) }
+    {
+        Layout::of_header_type(image.u8(HEADER_TYPE))
+    }
+
     /// The layout of an image's header, where one that isn't decoded is taken for a device's.
     pub fn or_device(image: &Image) -> Layout
         ensures { is_of_bridge result ≡ (layout image.now.0 == 1) }
     {
-        if layout(image) == 1 {
-            Layout::Bridge
-        } else {
-            Layout::Device
+        match Layout::of(image) {
+            Some(layout) => layout,
+            None => Layout::Device,
         }
     }
 

@@ -25,7 +25,7 @@ use pci_base::image::Image;
 use pci_base::offset::{COMMAND, HEADER_TYPE, VENDOR_ID};
 use pci_base::slot::Slot;
 use pci_image::fault::ImageFault;
-use pci_image::header::{LAYOUT_BITS, NO_VENDOR};
+use pci_image::header::NO_VENDOR;
 use pci_image::layout::Layout;
 
 /// What the address registers of the function at a slot read back, in an image that has 0
@@ -113,10 +113,9 @@ fn layout_at<P: ConfigPort>(port: &mut P, slot: Slot) -> Result<Layout, SizeFaul
         Ok(header) => header,
         Err(stop) => return Err(stopped(stop, None)),
     };
-    match header & u32::from(LAYOUT_BITS) {
-        0 => Ok(Layout::Device),
-        1 => Ok(Layout::Bridge),
-        _ => Err(SizeFault::Header(ImageFault::HeaderKind)),
+    match Layout::of_header_type(header as u8) {
+        Some(layout) => Ok(layout),
+        None => Err(SizeFault::Header(ImageFault::HeaderKind)),
     }
 }
 
