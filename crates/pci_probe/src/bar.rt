@@ -12,6 +12,7 @@ use super::derived::Derived;
 use super::line::ResourceLine;
 use pci_base::image::Image;
 use pci_base::offset::{BASE_ADDRESS, COMMAND};
+use pci_base::space::Space;
 use pci_image::bar::{is_io, is_wide};
 use pci_image::layout::Layout;
 
@@ -120,11 +121,6 @@ pub fn bar(image: &Image, line: ResourceLine, layout: Layout, n: u8) -> Derived
     } else {
         low.into()
     };
-    let command = image.u16(COMMAND);
-    let enabled = if is_io(value) {
-        command % 2 == 1
-    } else {
-        command / 2 % 2 == 1
-    };
-    derived(line, wide, enabled, value)
+    let space = if is_io(value) { Space::Io } else { Space::Mem };
+    derived(line, wide, space.is_on(image.u16(COMMAND)), value)
 }

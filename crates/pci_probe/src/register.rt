@@ -13,6 +13,7 @@ use super::rom::rom;
 use super::window::window;
 use pci_base::image::Image;
 use pci_base::offset::{BASE_ADDRESS, COMMAND};
+use pci_base::space::Space;
 use pci_image::bar::starts_bar;
 use pci_image::layout::Layout;
 use pci_image::register::rom_register;
@@ -49,7 +50,7 @@ pub fn register(image: &Image, lines: &[ResourceLine; 7], layout: Layout, offset
     if offset < bars_end {
         bar_register(image, lines, layout, (offset - BASE_ADDRESS) / 4)
     } else if offset == rom_register {
-        let enabled = image.u16(COMMAND) / 2 % 2 == 1;
+        let enabled = Space::Mem.is_on(image.u16(COMMAND));
         rom(lines[6], enabled, image.u32(rom_register))
     } else {
         window(image, offset)

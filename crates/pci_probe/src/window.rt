@@ -11,6 +11,7 @@ use pci_base::offset::{
     COMMAND, IO_BASE, MEMORY_BASE, PREFETCHABLE_BASE, PREFETCHABLE_BASE_UPPER,
     PREFETCHABLE_LIMIT_UPPER,
 };
+use pci_base::space::Space;
 use pci_base::window_kind::WindowKind;
 
 /// The low nibble of a window's base, unless all its registers show 0.
@@ -58,14 +59,14 @@ pub fn window(image: &Image, offset: u8) -> Derived
     let command = image.u16(COMMAND);
     if offset == IO_BASE {
         match nibble(WindowKind::Io, image) {
-            None => absent(command % 2 == 1),
+            None => absent(Space::Io.is_on(command)),
             Some(nibble) => Derived::Known(0xf0f0 + 0x101 * nibble),
         }
     } else if offset == MEMORY_BASE {
         Derived::Known(0xfff0_fff0)
     } else if offset == PREFETCHABLE_BASE {
         match nibble(WindowKind::Prefetchable, image) {
-            None => absent(command / 2 % 2 == 1),
+            None => absent(Space::Mem.is_on(command)),
             Some(nibble) => Derived::Known(0xfff0_fff0 + 0x1_0001 * nibble),
         }
     } else if offset == PREFETCHABLE_BASE_UPPER || offset == PREFETCHABLE_LIMIT_UPPER {
