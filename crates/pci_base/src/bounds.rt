@@ -240,6 +240,7 @@ impl Bounds {
 
     /// Of a window that is closed: its base at the last page below 64 KB of I/O or 4 GB of memory, its limit at page 0.
     pub fn closed(kind: WindowKind, nibble: u16) -> Bounds
+        // it stands below the bits of the page, as with an open window
         requires { nibble < 16 }
         ensures { spec_bounds_of result ≡ closed_bounds (kind_value kind) nibble }
     {

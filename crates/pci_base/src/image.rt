@@ -31,6 +31,7 @@ impl Image {
 
     /// The little-endian number of four bytes at an offset that is a multiple of four.
     pub fn u32(&self, off: u8) -> u32
+        // as an access is made: so all four bytes lie within the image
         requires { off % 4 ≡ 0 }
         ensures { result ≡ number_at self.now.0 off 4 }
     {
@@ -39,6 +40,7 @@ impl Image {
 
     /// The little-endian number of 1, 2 or 4 bytes at an offset that is a multiple of their number.
     pub fn number(&self, off: u8, width: u8) -> u32
+        // an access of configuration space lies within one doubleword
         requires { IsTrue (port.is_access off width) }
         ensures { result ≡ number_at self.now.0 off width }
     {
@@ -60,6 +62,7 @@ pub fn byte_of(value: u32, j: u8) -> u8
 
 /// Puts the bytes of a number at an offset, the low byte first.
 pub fn put(bytes: &mut [u8; IMAGE_LEN], off: u8, width: u8, value: u32)
+    // as an access is made: so all its bytes lie within the image
     requires { IsTrue (port.is_access off width) }
     ensures inside { (j : ℕ) → j < width → slice_index bytes.new (off + j) ≡ value / 256 ^ j % 256 }
     // registers are put one after another, and none may undo the one before

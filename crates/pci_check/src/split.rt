@@ -38,6 +38,7 @@ pub fn of_roots<A: Allocator + Copy>(
     roots: &Roots,
     space: Space,
 ) -> Result<Vec<Region, A>, OutOfMemory>
+    // the caller has them at hand, and they are not read off the outline again
     requires { buses_of roots.now ≡ outline.now.roots }
     ensures { IfOk result (λ v. AreRootsListed outline.now (space_of space) v.items) }
 {

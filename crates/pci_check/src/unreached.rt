@@ -167,7 +167,9 @@ pub fn unreached_at<A: Allocator + Copy>(
     region: &Region,
     space: Space,
 ) -> Option<Fault>
+    // made once, for all regions
     requires reached { AreReachesOf outline.now reached.now }
+    // one way alone leads to each bus, so the bridge that is named is the one at fault
     requires nested { AlwaysNested outline.now }
     ensures fault { MatchOption result
         (IsWholeInEach outline.now reached.now (space_of space) region.now)
@@ -202,6 +204,7 @@ pub fn first_unreached<A: Allocator + Copy>(
     io: &[Region],
     memory: &[Region],
 ) -> Option<Fault>
+    // made once, for all buses
     requires reached { AreReachesOf outline.now reached.now }
     // one way alone leads to each bus, so the bridge that is named is the one at fault
     requires nested { AlwaysNested outline.now }

@@ -110,6 +110,7 @@ pub fn claims_among<A: Allocator + Copy>(
     bus: u8,
     space: Space,
 ) -> Result<Vec<Claim<A>, A>, OutOfMemory>
+    // looked for once, for all buses
     requires { AreBridgesOf outline.now bridges.now }
     ensures { IfOk result (λ v. AreClaimsInEach (given_value given.now) outline.now bus
         (space_of space) v.items) }

@@ -101,6 +101,7 @@ pub fn claim_of<A: Allocator + Copy>(
     region: &Region,
     reach: &[Range],
 ) -> Result<Claim<A>, OutOfMemory>
+    // two rising lists have in common what one walk along both meets
     requires { IsCanonical reach.now }
     ensures { IfOk result (λ c. IsClaimOfRegion region.now reach.now c) }
 {
@@ -137,6 +138,7 @@ pub fn legacy_claim_of<A: Allocator + Copy>(
     space: Space,
     reach: &[Range],
 ) -> Result<Claim<A>, OutOfMemory>
+    // as with a region's
     requires { IsCanonical reach.now }
     ensures { IfOk result (λ c. IsClaimOfLegacy (given_value given.now) (space_of space) function.now
         reach.now c) }
@@ -164,6 +166,7 @@ fn is_below(rs: &[Range], ss: &[Range]) -> bool
 
 /// The least address that two lists have in common.
 pub fn least_common(rs: &[Range], ss: &[Range]) -> Option<u64>
+    // both rise, so one walk along the two meets the least first
     requires first { IsCanonical rs.now }
     requires second { IsCanonical ss.now }
     ensures { MatchOption result ((a : ℕ) → Covers rs.now a → Covers ss.now a → ⊥)

@@ -114,6 +114,7 @@ pub fn common<A: Allocator>(
     rs: &[Range],
     ss: &[Range],
 ) -> Result<Vec<Range, A>, OutOfMemory>
+    // both rise, so one walk along the two meets all, and what is met rises too
     requires first { IsCanonical rs.now }
     requires second { IsCanonical ss.now }
     ensures { IfOk result (λ v. IsCommon rs.now ss.now v.items) }

@@ -78,7 +78,9 @@ pub fn passed_on<A: Allocator + Copy>(
     function: &Record,
     kind: WindowKind,
 ) -> Result<Vec<Range, A>, OutOfMemory>
+    // what gets to a bus rises, so what gets behind it does too
     requires canonical { IsCanonical above.now }
+    // an empty window would be an empty range, which no such list has
     requires spans { HasSpans function.now }
     ensures { IfOk result (λ v. IsPassedOnWith (given_value given.now) (kind_value kind) above.now
         function.now v.items) }

@@ -22,6 +22,7 @@ pub fn claims_of_roots<A: Allocator + Copy>(
     bridges: &[Slot],
     space: Space,
 ) -> Result<Vec<Claim<A>, A>, OutOfMemory>
+    // looked for once, for all buses
     requires { AreBridgesOf outline.now bridges.now }
     ensures { IfOk result (λ v. AreRootClaimsInEach (given_value given.now) outline.now
         (space_of space) v.items) }

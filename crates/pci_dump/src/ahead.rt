@@ -140,6 +140,7 @@ impl ReadAhead {
         source: &mut S,
         block: &mut Block,
     ) -> Result<bool, ReadFault>
+        // what was read ahead of one source would be wrong before another
         requires { IsOver self.old (S.left source.old) }
         ensures over { IsOver self.new (S.left source.new) }
         ensures ok { IfOk result (λ taken. TakesBlockOrNone taken

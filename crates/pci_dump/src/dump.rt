@@ -107,6 +107,7 @@ impl<A: Allocator> Dump<A> {
     ///
     /// Errors: 2 `OutOfMemory` where the growth was refused.
     pub fn push_next(&mut self, block: Block) -> Result<(), OutOfMemory>
+        // the caller goes along the slots of a dump, so neither can be refused
         requires above { IsAboveLast (last_slot self.old) block.slot }
         requires room { length self.old < BLOCKS_MAX }
         ensures { OnOk result (self.new ≡ self.old ++ block ∷ []) }

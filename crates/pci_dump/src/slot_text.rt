@@ -9,6 +9,7 @@ use pci_base::slot::Slot;
 
 /// The slot that seven bytes spell.
 pub fn slot_of(text: &[u8]) -> Option<Slot>
+    // `bb:dd.f`
     requires { length text.now ≡ 7 }
     ensures some { IfSome result (λ s. IsSlot s × (text.now ≡ slot_text s)) }
     ensures none { IfNone result (Fits slot_cells text.now → ⊥) }

@@ -64,9 +64,11 @@ pub fn function_faults<A: Allocator>(
     dump: &[Block],
     probe: &[Block],
 ) -> Result<Vec<Fault, A>, OutOfMemory>
+    // the functions of both stand at the same places
     requires dump { IsDump dump.now }
     requires probe { IsDump probe.now }
     requires same { slots_of dump.now ≡ slots_of probe.now }
+    // a fault of an earlier phase leaves nothing to be decoded
     requires none { (f : Function) → Contains (system_of dump.now probe.now) f
         → HasNoneBefore (number_of phase) f }
     ensures { IfOk result (λ found. AreJust (IsBeforeAt (system_of dump.now probe.now))

@@ -92,9 +92,11 @@ pub fn place_faults<A: Allocator + Copy>(
     probe: &[Block],
     roots: &Roots,
 ) -> Result<Vec<Fault, A>, OutOfMemory>
+    // the functions of both stand at the same places
     requires dump { IsDump dump.now }
     requires probe { IsDump probe.now }
     requires same { slots_of dump.now ≡ slots_of probe.now }
+    // a function's place is read off what it decodes to
     requires none { (f : Function) → Contains (system_of dump.now probe.now) f
         → HasNoneBefore 4 f }
     ensures { IfOk result (λ found. AreJust (IsBeforeAt (system_of dump.now probe.now))

@@ -61,6 +61,7 @@ pub fn add_clashes<A: Allocator + Copy>(
     outline: &Outline<A>,
     reached: &Reached<A>,
 ) -> Result<(), OutOfMemory>
+    // made once, for all buses
     requires { AreReachesOf outline.now reached.now }
     ensures { OnOk result (AreLinesAdded (λ c b sp. c ≡ Clashes) outline.now out.old.items
         out.new.items) }

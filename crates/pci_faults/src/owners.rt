@@ -100,6 +100,7 @@ impl<A: Allocator + Copy> Owners<A> {
 
     /// Gives the addresses of a range that have no owner to one.
     pub fn add(&mut self, range: Range, owner: usize) -> Result<(), OutOfMemory>
+        // an empty range has no address to give
         requires { range.first ≤ range.last }
         ensures { OnOk result (IsAdded self.old self.new range owner) }
     {

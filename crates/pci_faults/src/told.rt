@@ -47,6 +47,7 @@ pub fn add_told<A: Allocator>(
     space: Space,
     shares: &[Share],
 ) -> Result<(), OutOfMemory>
+    // a share names two of the regions by their index
     requires { AreWithin (length regions.now) shares.now }
     ensures { OnOk result
         (out.new.items ≡ out.old.items ++ map (told among space regions.now) shares.now) }

@@ -60,7 +60,9 @@ pub fn add_unreached<A: Allocator + Copy>(
     outline: &Outline<A>,
     reached: &Reached<A>,
 ) -> Result<(), OutOfMemory>
+    // made once, for all buses
     requires reached { AreReachesOf outline.now reached.now }
+    // one way alone leads to each bus
     requires nested { AlwaysNested outline.now }
     ensures { OnOk result (AreLinesAdded (λ c b sp. c ≡ Reach) outline.now out.old.items
         out.new.items) }

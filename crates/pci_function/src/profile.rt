@@ -47,6 +47,7 @@ pub fn snoops_palette(image: &Image) -> bool
 
 /// Whether a function is a bridge whose Bridge Control has a bit (Bridge 1.2, 3.2.5).
 pub fn controls_bridge(image: &Image, bit: u8) -> bool
+    // Bridge Control has 16 bits
     requires { bit ≤ 15 }
     ensures { result ≡ controls_bridge image.now.0 bit }
 {
@@ -131,6 +132,7 @@ fn is_not_in_d0_at(image: &Image, place: u8) -> bool
 
 /// Whether one of the capabilities of a function shows another power state than D0.
 pub fn is_not_in_d0(image: &Image, places: &[u8]) -> bool
+    // each of them has its body within the image
     requires { IsChain image.now.0 places.now }
     ensures { IsTrue result ↔ IsNotInD0 image.now.0 }
 {

@@ -137,6 +137,7 @@ pub fn add_told<A: Allocator + Copy>(
     space: Space,
     shares: &[Share],
 ) -> Result<(), OutOfMemory>
+    // a share names two of the claims by their index
     requires { AreWithin (length claims.now) shares.now }
     ensures { OnOk result
         (out.new.items ≡ out.old.items ++ map (told among space claims.now) shares.now) }

@@ -8,6 +8,7 @@ use pci_tree::ranges::{least_outside, meet};
 
 /// The least address of a range that is sent, and that a bridge doesn't pass.
 pub fn least_missed(range: Range, sent: &[Range], passed: &[Range]) -> Option<u64>
+    // both rise, so the first address that is found is the least
     requires sent { IsCanonical sent.now }
     requires passed { IsCanonical passed.now }
     ensures { MatchOption result

@@ -108,7 +108,9 @@ pub fn stop_of_lost<A: Allocator + Copy>(
     region: &Region,
     space: Space,
 ) -> Result<Option<Stop>, OutOfMemory>
+    // made once, for all regions
     requires reached { AreReachesOf outline.now reached.now }
+    // one way alone leads to each bus
     requires nested { AlwaysNested outline.now }
     ensures { IfOk result (λ o. MatchOption o
         (IsNeverUnreached (given_value given.now) outline.now (space_of space) region.now)

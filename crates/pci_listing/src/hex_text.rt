@@ -23,6 +23,7 @@ pub fn push_hex<A: Allocator>(
     number: u64,
     digits: u32,
 ) -> Result<(), AllocError>
+    // no number of 64 bits has more
     requires { digits ≤ 16 }
     ensures { OnOk result
         (string_bytes text.new ≡ string_bytes text.old ++ hex_number digits number) }

@@ -19,6 +19,7 @@ pub type Cells = ArrayVec<u8, CELLS_MAX>;
 /// Puts characters behind those that are there.
 #[inline(always)]
 pub fn put(cells: &mut Cells, characters: &[u8])
+    // the array is as long as the longest line
     requires { array_vec_len cells.old + length characters.now ≤ CELLS_MAX }
     ensures text { cells.new.items ≡ cells.old.items ++ characters.now }
     ensures len { array_vec_len cells.new ≡ array_vec_len cells.old + length characters.now }
@@ -70,6 +71,7 @@ pub fn put_slot(cells: &mut Cells, slot: Slot)
 /// Appends the characters to a text.
 #[inline(always)]
 pub fn push_cells<A: Allocator>(text: &mut String<A>, cells: &Cells) -> Result<(), AllocError>
+    // so the text stays UTF-8, and that isn't looked at again
     requires { IsAscii cells.now.items }
     ensures { OnOk result (string_bytes text.new ≡ string_bytes text.old ++ cells.now.items) }
 {

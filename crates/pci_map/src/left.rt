@@ -63,6 +63,7 @@ fn first_window(windows: &Windows, space: Space, address: u64) -> Option<Judged>
 /// Whether a region of a bus with this first address is left: the bus is no root, and no window of the bridge there holds
 /// the address, or the first that does is left itself. Of each bus that is no root the windows above it are given.
 pub fn is_left(ways: &[Option<Windows>], bus: u8, space: Space, address: u64) -> bool
+    // bus numbers index it
     requires { bus < length ways.now }
     ensures { (t : Tree) (s : System) (q : RegionValue) → IsTreeOf t s → AreWays t.roots s ways.now
         → IsRegionIn s (value_of (space_of space) q) → q.slot.bus ≡ bus → q.first ≡ address

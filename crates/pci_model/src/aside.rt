@@ -61,6 +61,7 @@ pub fn vga_aside(image: &mut Image, words: Words)
 
 /// Leaves a bridge's reset and its subtractive decoding aside, where these count and nothing is listed behind it.
 pub fn bridge_aside(image: &mut Image, blocks: &[Block], words: Words)
+    // the functions of a bus stand together, and are found by halving
     requires { IsDump blocks.now }
     ensures { (slot : SlotValue) (probe : List ℕ)
         → record { slot = slot; image = image.new.0; probe = probe }

@@ -21,6 +21,7 @@ fn first_from(blocks: &[Block], bus: u8) -> usize
 
 /// Whether a function of a dump is listed on a bus behind a bridge.
 pub fn is_anyone_behind(blocks: &[Block], bridge: &Image) -> bool
+    // the functions of a bus stand together, and are found by halving
     requires { IsDump blocks.now }
     ensures { (slot : SlotValue) (probe : List ℕ) → result ≡ is_anyone_behind (slots_of blocks.now) record
         { slot = slot; image = bridge.now.0; probe = probe } }

@@ -172,7 +172,9 @@ pub fn items_of<A: Allocator, B: Allocator>(
     aboves: &[Above; BUSES],
     needs: &Needs,
 ) -> Result<Vec<Item, A>, OutOfMemory>
+    // which windows lead to a BAR decides its class
     requires aboves { AreAboves (system_in admitted.now) aboves.now }
+    // a window is as large as what is behind it, which is counted before
     requires needs { AreNeeds admitted.now.roots (system_in admitted.now) (pools_value pools.now)
         (kind_value class) needs.now }
     ensures items { IfOk result (λ items. AreItems admitted.now.roots (system_in admitted.now)

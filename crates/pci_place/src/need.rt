@@ -80,6 +80,7 @@ pub fn bar_size(bar: &Bar) -> u128
 
 /// How many addresses a ROM has.
 pub fn rom_size(rom: &Rom) -> u128
+    // else the difference would be below 0
     requires { rom.now.first ≤ rom.now.last }
     ensures size { result ≡ span rom.now.first rom.now.last }
     ensures bound { result ≤ 2 ^ 64 }

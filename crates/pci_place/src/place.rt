@@ -104,10 +104,12 @@ pub fn place_class<A: Allocator + Copy, B: Allocator>(
     // what fits its pool ends below 2^64, so each place can be kept in 64 bits
     requires plannable { CanBePlanned admitted.now.roots (system_in admitted.now)
         (pools_value pools.now) }
+    // which windows lead to a BAR decides its class
     requires aboves { AreAboves (system_in admitted.now) aboves.now }
     // a window is as large as what is behind it, so all of that has to be counted
     requires needs { AreNeeds admitted.now.roots (system_in admitted.now) (pools_value pools.now)
         (kind_value class) needs.now }
+    // a function's place stands where its record does
     requires count { length places.old ≡ length (system_in admitted.now) }
     ensures placed { OnOk result (HasPlaces admitted.now.roots (system_in admitted.now)
         (pools_value pools.now) (kind_value class) places.new) }

@@ -48,6 +48,7 @@ fn need_of_roots(roots: &Roots, needs: &Needs) -> u128
 pub fn raised(size: u128, first: u64) -> u128
     // the size of the largest item, which is there wherever something is placed
     requires some { 0 < size }
+    // no window is larger, so nothing overflows 128 bits
     requires limited { size ≤ 2 ^ 65 }
     ensures raised { result ≡ raised_to size first }
     // so that what all roots need can be added to it in 128 bits
@@ -63,6 +64,7 @@ pub fn has_room<A: Allocator>(
     class: WindowKind,
     needs: &Needs,
 ) -> bool
+    // counted before, for placing too
     requires { AreNeeds admitted.now.roots (system_in admitted.now) (pools_value pools.now)
         (kind_value class) needs.now }
     ensures { result

@@ -265,8 +265,10 @@ pub fn look_at_place(
     ends: &[Option<u8>; BUSES],
     function: &Record,
 ) -> Misplaced
+    // function 0 of a device is found by halving
     requires rising { RiseBySlot records.now }
     requires slots { All (λ r. IsSlot r.slot) records.now }
+    // made once, for all functions
     requires ends { AreLeastEnds records.now ends.now }
     // a list of all faults tells each of the three, whichever of them is looked for first
     ensures { IsMisplacedBy (buses_of roots.now) records.now function.now result }
@@ -281,6 +283,7 @@ pub fn look_at_place(
 
 /// The fault of the first function, in slot order, that isn't in its place.
 pub fn first_place_fault(records: &[Record], roots: &Roots) -> Option<Fault>
+    // function 0 of a device is found by halving
     requires rising { RiseBySlot records.now }
     requires slots { All (λ r. IsSlot r.slot) records.now }
     ensures { MatchOption result (All (IsInPlace (buses_of roots.now) records.now) records.now)

@@ -128,6 +128,7 @@ pub fn passed_on<A: Allocator>(
     rs: &[Range],
     forwarded: Forwarded,
 ) -> Result<Vec<Range, A>, OutOfMemory>
+    // what gets to a bus rises, so what gets behind it does too
     requires canonical { IsCanonical rs.now }
     // two windows with a gap, lower one first, keep a rising list rising
     requires lawful { IsPassed forwarded }

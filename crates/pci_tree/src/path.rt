@@ -41,6 +41,7 @@ pub fn path(
 ) -> Option<ArrayVec<Slot, 255>>
     // each step up comes to a lower bus, so it ends, after 255 bridges at most
     requires forest { IsForest records.now }
+    // a step up is one look into this table
     requires bridge_to_bus { IsBridgeToBus records.now bridge_to_bus.now }
     // a bridge that led to a root would make a second, longer way
     requires clear { AreClear (buses_of roots.now) records.now }

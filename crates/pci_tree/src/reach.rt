@@ -127,7 +127,9 @@ pub fn reaches<A: Allocator + Copy>(
 ) -> Result<Vec<Reach<A>, A>, OutOfMemory>
     // each bridge leads to a higher bus, so the bus above was done when it is met
     requires forest { IsForest records.now }
+    // the bus above is found by one look into this table
     requires bridge_to_bus { IsBridgeToBus records.now bridge_to_bus.now }
+    // an empty window would pass on an empty range, which no such list has
     requires spans { All HasSpans records.now }
     // bus numbers index it
     ensures size { IfOk result (λ v. length v.items ≡ 256) }

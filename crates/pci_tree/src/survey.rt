@@ -191,6 +191,7 @@ impl<A: Allocator> Survey<A> {
 
     /// Notes 30 `SlotsDiffer` for a slot that one side alone has. No other fault comes before it.
     pub fn only(&mut self, slot: Slot)
+        // of slots that differ the first one is told
         requires { IfSome self.old.fault (λ e. phase_of e ≢ 0) }
         ensures { self.new ≡ record {
           roots = self.old.roots;

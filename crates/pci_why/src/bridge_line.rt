@@ -115,6 +115,7 @@ pub fn push_ranges<A: Allocator>(
     space: Space,
     ranges: &[Range],
 ) -> Result<(), AllocError>
+    // the line of a range tells how many addresses it has
     requires { All (λ r. r.first ≤ r.last) ranges.now }
     ensures { OnOk result (string_bytes text.new ≡ string_bytes text.old ++ flat_map
         (range_line word.now (space_of space)) (map decoded_range_of ranges.now)) }
@@ -133,6 +134,7 @@ pub fn push_missed<A: Allocator + Copy, B: Allocator>(
     space: Space,
     region: &Region,
 ) -> Result<(), OutOfMemory>
+    // an empty window would be an empty range, which no list of what is passed has
     requires { HasSpans function.now }
     ensures { OnOk result (AreMissedTold function.now (space_of space) region.now
         (string_bytes text.old) (string_bytes text.new)) }

@@ -99,6 +99,7 @@ pub fn push_fit<A: Allocator>(
     space: Space,
     fit: Option<Range>,
 ) -> Result<(), AllocError>
+    // the line of a place tells how many addresses it has
     requires { IfSome fit (λ r. r.first ≤ r.last) }
     ensures { OnOk result (string_bytes text.new
         ≡ string_bytes text.old ++ fits_line (space_of space) (option_map decoded_range_of fit)) }

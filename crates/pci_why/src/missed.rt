@@ -36,6 +36,7 @@ pub fn outside<A: Allocator>(
     range: Range,
     ranges: &[Range],
 ) -> Result<Vec<Range, A>, OutOfMemory>
+    // the runs between them are found in one walk
     requires { IsCanonical ranges.now }
     ensures { IfOk result (λ v. IsOutside range ranges.now v.items) }
 {

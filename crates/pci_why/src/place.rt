@@ -37,6 +37,7 @@ fn start_in(range: &Range, from: u128) -> u128
 /// The least multiple of `count` from `from` on, such that one range has that many addresses from there on, all of them
 /// below `end`.
 pub fn least_from(ranges: &[Range], from: u128, count: u128, end: u128) -> Option<u128>
+    // there is no multiple of 0 to go on to
     requires some { 0 < count }
     requires small { count ≤ 2 ^ 64 }
     requires from { from ≤ 2 ^ 64 }
@@ -75,6 +76,7 @@ pub fn least_free(
     count: u128,
     end: u128,
 ) -> Option<u128>
+    // there is no multiple of 0 to go on to
     requires some { 0 < count }
     requires small { count ≤ 2 ^ 64 }
     requires end { end ≤ 2 ^ 64 }

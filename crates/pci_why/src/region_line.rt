@@ -56,6 +56,7 @@ pub fn push_extent<A: Allocator>(
     space: Space,
     range: Range,
 ) -> Result<(), AllocError>
+    // else it has no number of addresses to tell
     requires { range.first ≤ range.last }
     ensures { OnOk result (string_bytes text.new
         ≡ string_bytes text.old ++ words (extent_words (space_of space) (decoded_range_of range))) }

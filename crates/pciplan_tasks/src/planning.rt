@@ -51,6 +51,7 @@ fn push_write<A: Allocator>(text: &mut String<A>, write: &RegisterWrite) -> Resu
 
 /// A line for each write.
 pub fn lines_of<A: Allocator>(alloc: A, writes: &[RegisterWrite]) -> Result<String<A>, OutOfMemory>
+    // a write of 1, 2 or 4 bytes has so many digits
     requires { All (λ w. IsTrue (is_plain w)) writes.now }
     ensures { IfOk result
         (λ text. string_bytes text ≡ flat_map write_line (map write_value writes.now)) }
