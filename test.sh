@@ -12,12 +12,15 @@ room=$(mktemp -d) || exit 1
 trap 'rm -rf "$room"' EXIT
 boards=${BOARDS:-50}
 
-# A copy, so that what checks keep stays as it is. The slow planner's boards have to be of each sort, so there are more of them.
+# A copy, so that what checks keep stays as it is. The slow planner's and settler's boards have to be of each sort, so there
+# are more of them.
 mkdir "$room/tree" "$room/told"
 tar -C "$top" --exclude=out --exclude=.git -cf - . | tar -C "$room/tree" -xf - || exit 1
 cd "$room/tree" || exit 1
 sed -i -e "s/in 0\.\.[0-9]*u64 {/in 0..${boards}u64 {/" \
-    -e "s/(rt.alloc(), \([0-9]*\), [0-9]*000)/(rt.alloc(), \1, \1 + 4 * $boards)/" crates/*/src/by_rule.rt crates/*/src/slow_*.rt
+    -e "s/plan_all(rt.alloc(), \([0-9]*\), [0-9]*)/plan_all(rt.alloc(), \1, \1 + 4 * $boards)/" \
+    -e "s/settle_all(rt.alloc(), \([0-9]*\), [0-9]*)/settle_all(rt.alloc(), \1, \1 + 3 * $boards)/" \
+    crates/*/src/by_rule.rt crates/*/src/slow_*.rt
 
 # program: builds pciplan, with checks compiled in. `rt try` keeps no file, so it is copied while it waits for its first
 # text, which is a pipe; the words before `check` are how it was started.
