@@ -9,7 +9,7 @@ use Rattle.pci_spec.specs.Slot.{Slot, same_slot}
 use Rattle.pci_spec.specs.System.{System, Function, Space, IsSystem, IsFunction, Leads, is_prefetchable_part, is_window}
 use Rattle.pci_spec.specs.System as system
 use Rattle.pci_spec.specs.Bus.{IsNested}
-use Rattle.pci_spec.specs.Fault.{NoVendor, HeaderKind, BarType, BarMask, BarPair, RomMask, WindowMask, CapRange, CapLoop, CapCut, SlotsDiffer, StrayProbe, LoneFunction, PaletteSnoop, VgaEnable, IsaEnable, Subtractive, InReset, PowerState, BusRange, Orphan, Unreached, Clash, Split}
+use Rattle.pci_spec.specs.Fault.{NoVendor, HeaderKind, BarType, BarMask, BarPair, RomMask, WindowMask, CapRange, CapLoop, CapCut, SlotsDiffer, StrayProbe, LoneFunction, PaletteSnoop, VgaEnable, IsaEnable, Subtractive, InReset, PowerState, BusRange, Orphan, Unreached, Clash, Split, address_in, named_region}
 use Rattle.pci_spec.specs.Fault as plain
 use Rattle.pci_spec.specs.Sound as sound
 use Rattle.pci_spec.proofs.BusRanges.{all_gives}
@@ -92,7 +92,7 @@ module _ (given : Given) (roots : List ℕ) (s : System) where
 
   -- a region that claims an address
   pub on_bus : (f : Function) (p : Part) (space : Space) (a bus : ℕ) → Contains s f → f.slot.bus ≡ bus → Claims given f p space a
-      → ClaimsOnBus given s bus space a f.slot (register_of f p)
+      → ClaimsOnBus given s bus (address_in space a) (named_region f.slot (register_of f p))
   on_bus f p space a bus listed at claims = (f, p, listed, refl, at, refl, claims)
 
   pub may_decided : (f g : Function) (p q : Part) → MayBoth f p g q ⊎ (((f.slot ≡ g.slot) × (register_of f p ≡ register_of g q) → ⊥) × (may_share f.slot (register_of f p) g.slot (register_of g q) ≡ false))
@@ -152,12 +152,12 @@ module _ (given : Given) (roots : List ℕ) (s : System) where
 
     -- what is passed on all the way is sent, and each bridge passes it
     pub passed_is_sent : (space : Space) (pf : Bool) (a root bus : ℕ) (bridges : List Function) → Contains roots root → Leads s root bridges bus
-        → IsPassedTo given roots s space pf a bus → IsTrue (starts given space root a)
+        → IsPassedTo given roots s (address_in space a) pf bus → IsTrue (starts given space root a)
     passed_is_sent space pf a root bus bridges starts_at leads way =
         subst (λ n. IsTrue (starts given space n a)) (sym (same_way root bus bridges starts_at leads way.0 way.3 way.1 way.4).0) way.2
 
     pub passed_by_each : (space : Space) (pf : Bool) (a root bus : ℕ) (bridges : List Function) → Contains roots root → Leads s root bridges bus
-        → IsPassedTo given roots s space pf a bus → (b : Function) → Contains bridges b → passes given space pf a b ≡ true
+        → IsPassedTo given roots s (address_in space a) pf bus → (b : Function) → Contains bridges b → passes given space pf a b ≡ true
     passed_by_each space pf a root bus bridges starts_at leads way b on_the_way =
         let same = (same_way root bus bridges starts_at leads way.0 way.3 way.1 way.4).1 in
         let all : list_all (passes given space pf a) bridges ≡ true = subst (λ others. list_all (passes given space pf a) others ≡ true) (sym same) way.5 in
@@ -166,13 +166,13 @@ module _ (given : Given) (roots : List ℕ) (s : System) where
     home_has_no_outside : IsHome given roots s → HasNoOutside
     home_has_no_outside home slot register space a o =
         both_ways _ o.none (passed_is_sent space (is_prefetchable_part o.f o.part) a o.root slot.bus o.bridges o.is_root o.leads
-        (subst (λ (x : Slot). IsPassedTo given roots s space (is_prefetchable_part o.f o.part) a x.bus) o.named.0 (home o.f o.part space a o.listed o.no_window o.claims)))
+        (subst (λ (x : Slot). IsPassedTo given roots s (address_in space a) (is_prefetchable_part o.f o.part) x.bus) o.named.0 (home o.f o.part space a o.listed o.no_window o.claims)))
 
-    pub passed_not_unreached : (slot : Slot) (register : ℕ) (space : Space) (a : ℕ) (bridge : Slot) (u : IsUnreached given roots s slot register space a bridge)
-        → IsPassedTo given roots s space (is_prefetchable_part u.f u.part) a u.f.slot.bus → ⊥
+    pub passed_not_unreached : (slot : Slot) (register : ℕ) (space : Space) (a : ℕ) (bridge : Slot) (u : IsUnreached given roots s (named_region slot register) (address_in space a) bridge)
+        → IsPassedTo given roots s (address_in space a) (is_prefetchable_part u.f u.part) u.f.slot.bus → ⊥
     passed_not_unreached slot register space a bridge u way =
         both_ways _ u.stops (passed_by_each space (is_prefetchable_part u.f u.part) a u.root slot.bus u.bridges u.is_root u.leads
-        (subst (λ (x : Slot). IsPassedTo given roots s space (is_prefetchable_part u.f u.part) a x.bus) u.named.0 way) u.b u.on_the_way)
+        (subst (λ (x : Slot). IsPassedTo given roots s (address_in space a) (is_prefetchable_part u.f u.part) x.bus) u.named.0 way) u.b u.on_the_way)
 
     home_has_no_unreached : IsHome given roots s → HasNoUnreached
     home_has_no_unreached home slot register space a bridge u =
@@ -180,8 +180,8 @@ module _ (given : Given) (roots : List ℕ) (s : System) where
 
     -- an address that is sent, and that no bridge on the way stops, is passed on all the way
     pub passed_where_none_stops : (f : Function) (p : system.Part) (space : Space) (a : ℕ) → Contains s f → is_window p ≡ false → system.Claims f p space a
-        → (IsOutside given roots s f.slot (system.register_of f p) space a → ⊥)
-        → ((bridge : Slot) → IsUnreached given roots s f.slot (system.register_of f p) space a bridge → ⊥) → IsPassedTo given roots s space (is_prefetchable_part f p) a f.slot.bus
+        → (IsOutside given roots s (named_region f.slot (system.register_of f p)) (address_in space a) → ⊥)
+        → ((bridge : Slot) → IsUnreached given roots s (named_region f.slot (system.register_of f p)) (address_in space a) bridge → ⊥) → IsPassedTo given roots s (address_in space a) (is_prefetchable_part f p) f.slot.bus
     passed_where_none_stops f p space a listed no_window claims not_outside none =
         let way = a_way_to_each roots s nested f listed in
         elim (cases_Bool (starts given space way.0 a)) [

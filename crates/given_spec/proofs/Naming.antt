@@ -5,10 +5,10 @@ use Rattle.std.specs.List.{Contains}
 use Rattle.std.proofs.lemmas.Bool.{cases_order, cases_Bool, both_ways, and_parts, and_from}
 use Rattle.std.proofs.Math.Bool.{or_comm}
 use Rattle.pci_spec.specs.Slot.{Slot, IsSlot, slot_number, same_slot}
-use Rattle.pci_spec.specs.System.{System, Function, Space, IsSystem, IsFunction, Leads, has_part, is_window, is_prefetchable_part}
+use Rattle.pci_spec.specs.System.{System, Function, Space, IsSystem, has_part, is_window}
 use Rattle.pci_spec.specs.System as plain
 use Rattle.pci_spec.specs.Bus.{IsNested}
-use Rattle.pci_spec.specs.Fault.{Unreached, Clash, Split}
+use Rattle.pci_spec.specs.Fault.{Unreached, Clash, Split, address_in, named_region, named_regions}
 use Rattle.pci_spec.specs.JudgingLaws.{region_number}
 use Rattle.pci_spec.proofs.Firsts.{slot_of}
 use Rattle.pci_spec.proofs.Nesting.{one_function}
@@ -48,10 +48,10 @@ module _ {X : Type 0} (m : X → ℕ) (P : ℕ → X → Type 0)
 -- ---- names of regions
 
 -- a region has a slot, and a register below offset 40h
-named_slot : (given : Given) (s : System) → IsSystem s → (bus : ℕ) (space : Space) (a : ℕ) (slot : Slot) (register : ℕ) → ClaimsOnBus given s bus space a slot register → IsSlot slot
+named_slot : (given : Given) (s : System) → IsSystem s → (bus : ℕ) (space : Space) (a : ℕ) (slot : Slot) (register : ℕ) → ClaimsOnBus given s bus (address_in space a) (named_region slot register) → IsSlot slot
 named_slot given s system bus space a slot register (f, part, listed, at, on, named, claims) = subst IsSlot at (slot_of s system f listed)
 
-pub named_register : (given : Given) (s : System) (bus : ℕ) (space : Space) (a : ℕ) (slot : Slot) (register : ℕ) → ClaimsOnBus given s bus space a slot register → register < 256
+pub named_register : (given : Given) (s : System) (bus : ℕ) (space : Space) (a : ℕ) (slot : Slot) (register : ℕ) → ClaimsOnBus given s bus (address_in space a) (named_region slot register) → register < 256
 named_register given s bus space a slot register (f, Own part, listed, at, on, named, claims) = let less = register_of-lt f part claims.there in omega (arith, less, named)
 named_register given s bus space a slot register (f, Legacy, listed, at, on, named, claims) = omega (arith, named)
 
@@ -73,7 +73,7 @@ turned s t r q apart = elim (cases_Bool (may_share t q s r)) [
 ]
 
 pub swapped : (given : Given) (roots : List ℕ) (s : System) (bus : ℕ) (space : Space) (a : ℕ) (first : Slot) (fr : ℕ) (second : Slot) (sr : ℕ)
-    → IsClash given roots s bus space a first fr second sr → IsClash given roots s bus space a second sr first fr
+    → IsClash given roots s bus (address_in space a) (named_regions first fr second sr) → IsClash given roots s bus (address_in space a) (named_regions second sr first fr)
 swapped given roots s bus space a first fr second sr clash = record {
   gets = clash.gets;
   claims_first = clash.claims_second;
@@ -83,7 +83,7 @@ swapped given roots s bus space a first fr second sr clash = record {
 }
 
 pub swapped_split : (given : Given) (roots : List ℕ) (s : System) (space : Space) (a : ℕ) (first : Slot) (fr : ℕ) (second : Slot) (sr : ℕ)
-    → IsSplit given roots s space a first fr second sr → IsSplit given roots s space a second sr first fr
+    → IsSplit given roots s (address_in space a) (named_regions first fr second sr) → IsSplit given roots s (address_in space a) (named_regions second sr first fr)
 swapped_split given roots s space a first fr second sr split = record {
   root_first = split.root_second;
   root_second = split.root_first;
@@ -99,20 +99,20 @@ module _ (given : Given) (roots : List ℕ) (s : System) (system : IsSystem s) w
 
   -- a clash with an earlier region has a line
   line_of_clash : (bus : ℕ) (space : Space) (a : ℕ) (first : Slot) (fr : ℕ) (second : Slot) (sr : ℕ)
-      → IsClash given roots s bus space a first fr second sr → region_number first fr < region_number second sr
-      → ((b : ℕ) (at : Slot) (register : ℕ) → IsClashOf given roots s bus space b at register second sr → ⊥)
+      → IsClash given roots s bus (address_in space a) (named_regions first fr second sr) → region_number first fr < region_number second sr
+      → ((b : ℕ) (at : Slot) (register : ℕ) → IsClashOf given roots s bus (address_in space b) (named_regions at register second sr) → ⊥)
       → ⊥
   line_of_clash bus space a first fr second sr clash rise none =
-      none_there number (λ b r. IsClash given roots s bus space b r.0 r.1 second sr × (number r < region_number second sr))
+      none_there number (λ b r. IsClash given roots s bus (address_in space b) (named_regions r.0 r.1 second sr) × (number r < region_number second sr))
       (λ b r p least. none b r.0 r.1 record { there = p.0; rise = p.1; least = λ e slot register other up. least e (slot, register) (other, up) }) a (first, fr)
       (clash, rise)
 
   line_of_split : (space : Space) (a : ℕ) (first : Slot) (fr : ℕ) (second : Slot) (sr : ℕ)
-      → IsSplit given roots s space a first fr second sr → region_number first fr < region_number second sr
-      → ((b : ℕ) (at : Slot) (register : ℕ) → IsSplitOf given roots s space b at register second sr → ⊥)
+      → IsSplit given roots s (address_in space a) (named_regions first fr second sr) → region_number first fr < region_number second sr
+      → ((b : ℕ) (at : Slot) (register : ℕ) → IsSplitOf given roots s (address_in space b) (named_regions at register second sr) → ⊥)
       → ⊥
   line_of_split space a first fr second sr split rise none =
-      none_there number (λ b r. IsSplit given roots s space b r.0 r.1 second sr × (number r < region_number second sr))
+      none_there number (λ b r. IsSplit given roots s (address_in space b) (named_regions r.0 r.1 second sr) × (number r < region_number second sr))
       (λ b r p least. none b r.0 r.1 record { there = p.0; rise = p.1; least = λ e slot register other up. least e (slot, register) (other, up) }) a (first, fr)
       (split, rise)
 
@@ -138,10 +138,10 @@ module _ (given : Given) (roots : List ℕ) (s : System) (system : IsSystem s) w
   -- ---- regions outside the host's ranges
 
   -- what is outside has a line
-  pub line_of_outside : (slot : Slot) (register : ℕ) (space : Space) (a : ℕ) → IsOutside given roots s slot register space a
-      → ((sp : Space) (b : ℕ) → IsOutsideOf given roots s slot register sp b → ⊥) → ⊥
+  pub line_of_outside : (slot : Slot) (register : ℕ) (space : Space) (a : ℕ) → IsOutside given roots s (named_region slot register) (address_in space a)
+      → ((sp : Space) (b : ℕ) → IsOutsideOf given roots s (named_region slot register) (address_in sp b) → ⊥) → ⊥
   line_of_outside slot register space a outside none =
-      none_there (λ (x : Space). 0) (λ n x. IsOutside given roots s slot register x n)
+      none_there (λ (x : Space). 0) (λ n x. IsOutside given roots s (named_region slot register) (address_in x n))
       (λ n x p least. none x n record {
         there = p;
         least = λ sp b other. elim (least b sp other) [ inl up ↦ omega (arith, up) | inr same ↦ (let e = same.0 in omega (arith, e)) ];
@@ -152,17 +152,17 @@ module _ (given : Given) (roots : List ℕ) (s : System) (system : IsSystem s) w
 
     -- a bridge on the way has a slot
     bridge_slot : (slot : Slot) (register : ℕ) (space : Space) (a : ℕ) (bridge : Slot)
-        → IsUnreached given roots s slot register space a bridge → IsSlot bridge
+        → IsUnreached given roots s (named_region slot register) (address_in space a) bridge → IsSlot bridge
     bridge_slot slot register space a bridge u =
         subst IsSlot u.named_bridge (slot_of s system u.b (below_the_end roots s nested u.root u.bridges slot.bus u.leads u.b u.on_the_way).0)
 
     -- what keeps an address from a region has a line
-    line_of_unreached : (slot : Slot) (register : ℕ) (space : Space) (a : ℕ) (bridge : Slot) → IsUnreached given roots s slot register space a bridge
-        → ((sp : Space) (b : ℕ) (other : Slot) → IsUnreachedOf given roots s slot register sp b other → ⊥)
+    line_of_unreached : (slot : Slot) (register : ℕ) (space : Space) (a : ℕ) (bridge : Slot) → IsUnreached given roots s (named_region slot register) (address_in space a) bridge
+        → ((sp : Space) (b : ℕ) (other : Slot) → IsUnreachedOf given roots s (named_region slot register) (address_in sp b) other → ⊥)
         → ⊥
     line_of_unreached slot register space a bridge unreached none =
         let low = bridge_slot slot register in
-        none_there (λ (x : Space × ℕ × Slot). x.1) (λ n x. (slot_number x.2 ≡ n) × IsUnreached given roots s slot register x.0 x.1 x.2)
+        none_there (λ (x : Space × ℕ × Slot). x.1) (λ n x. (slot_number x.2 ≡ n) × IsUnreached given roots s (named_region slot register) (address_in x.0 x.1) x.2)
         (λ n x p least. none x.0 x.1 x.2 record {
           there = p.1;
           first = λ sp b other u. elim (least (slot_number other) (sp, b, other) (refl, u)) [

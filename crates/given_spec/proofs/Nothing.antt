@@ -7,9 +7,9 @@ use Rattle.std.proofs.Math.Bool.{and-false, or-false}
 use Rattle.pci_spec.specs.Slot.{Slot, same_slot}
 use Rattle.pci_spec.specs.Header.{layout, rom_register}
 use Rattle.pci_spec.specs.Window.{WindowKind, IoWindow, MemoryWindow, PrefetchWindow, window_register}
-use Rattle.pci_spec.specs.System.{System, Function, Space, Io, Memory, Leads, Bar, Rom, Window, is_prefetchable_part}
+use Rattle.pci_spec.specs.System.{System, Function, Space, Io, Memory, Bar, Rom, Window, is_prefetchable_part}
 use Rattle.pci_spec.specs.System as system
-use Rattle.pci_spec.specs.Fault.{Unreached, Clash, Split}
+use Rattle.pci_spec.specs.Fault.{Unreached, Clash, Split, address_in, named_region, named_regions}
 use Rattle.pci_spec.specs.Fault as plain
 use Rattle.given_spec.specs.Given.{nothing_given, legacy_claims}
 use Rattle.given_spec.specs.Claims.{Own, Legacy, Gets, IsPassedTo, ClaimsOnBus, may_share, are_window_and_legacy, is_window_register}
@@ -47,7 +47,7 @@ same_gets roots s space a bus = (
 
 pub same_passed_to : SamePassedTo
 same_passed_to roots s space pf a bus = (
-  λ (h : IsPassedTo nothing_given roots s space pf a bus). (h.0, h.1, h.3, h.4, sym (all_same _ _ h.3 (same_passes space pf a)) ∙ h.5),
+  λ (h : IsPassedTo nothing_given roots s (address_in space a) pf bus). (h.0, h.1, h.3, h.4, sym (all_same _ _ h.3 (same_passes space pf a)) ∙ h.5),
   λ (h : system.IsPassedTo roots s space pf a bus). (h.0, h.1, starts_anywhere space h.0 a, h.2, h.3, all_same _ _ h.2 (same_passes space pf a) ∙ h.4),
 )
 
@@ -70,11 +70,11 @@ not_at_control f (Bar n) e = omega (arith, e)
 not_at_control f Rom e = rom_not (layout f.image) e
 not_at_control f (Window kind) e = let less = window_register-lt kind in omega (arith, less, e)
 
-claims_own : (s : System) (bus : ℕ) (space : Space) (a : ℕ) (slot : Slot) (register : ℕ) → ClaimsOnBus nothing_given s bus space a slot register → plain.ClaimsOnBus s bus space a slot register
+claims_own : (s : System) (bus : ℕ) (space : Space) (a : ℕ) (slot : Slot) (register : ℕ) → ClaimsOnBus nothing_given s bus (address_in space a) (named_region slot register) → plain.ClaimsOnBus s bus (address_in space a) (named_region slot register)
 claims_own s bus space a slot register (f, Own part, listed, at, on, named, claims) = (f, part, listed, at, on, named, claims)
 claims_own s bus space a slot register (f, Legacy, listed, at, on, named, claims) = absurd (no_legacy_claims f space a claims)
 
-own_claims : (s : System) (bus : ℕ) (space : Space) (a : ℕ) (slot : Slot) (register : ℕ) → plain.ClaimsOnBus s bus space a slot register → ClaimsOnBus nothing_given s bus space a slot register
+own_claims : (s : System) (bus : ℕ) (space : Space) (a : ℕ) (slot : Slot) (register : ℕ) → plain.ClaimsOnBus s bus (address_in space a) (named_region slot register) → ClaimsOnBus nothing_given s bus (address_in space a) (named_region slot register)
 own_claims s bus space a slot register (f, part, listed, at, on, named, claims) = (f, Own part, listed, at, on, named, claims)
 
 -- registers that aren't that of Bridge Control
@@ -84,13 +84,13 @@ not_shared s t r q hr hq =
     let two : are_window_and_legacy q r ≡ false = ap (λ x. is_window_register q && x) (ne_eqb r 0x3e hr) ∙ and-false (is_window_register q) in
     ap (λ x. same_slot s t && (x || are_window_and_legacy q r)) one ∙ ap (λ x. same_slot s t && x) two ∙ and-false (same_slot s t)
 
-named_own : (s : System) (bus : ℕ) (space : Space) (a : ℕ) (slot : Slot) (register : ℕ) → plain.ClaimsOnBus s bus space a slot register → register ≡ 0x3e → ⊥
+named_own : (s : System) (bus : ℕ) (space : Space) (a : ℕ) (slot : Slot) (register : ℕ) → plain.ClaimsOnBus s bus (address_in space a) (named_region slot register) → register ≡ 0x3e → ⊥
 named_own s bus space a slot register c e = not_at_control c.0 c.1 (c.5 ∙ e)
 
 pub same_faults : SameFaults
 same_faults roots s fault = elim fault as (λ fault. (IsIn nothing_given roots s (Known fault) → plain.IsIn roots s fault) × (plain.IsIn roots s fault → IsIn nothing_given roots s (Known fault))) [
   | Unreached slot register space a bridge ↦ (
-    λ (u : IsUnreached nothing_given roots s slot register space a bridge). record {
+    λ (u : IsUnreached nothing_given roots s (named_region slot register) (address_in space a) bridge). record {
       f = u.f;
       part = u.part;
       listed = u.listed;
@@ -106,7 +106,7 @@ same_faults roots s fault = elim fault as (λ fault. (IsIn nothing_given roots s
       named_bridge = u.named_bridge;
       stops = sym (same_passes space (is_prefetchable_part u.f u.part) a u.b) ∙ u.stops;
     },
-    λ (u : plain.IsUnreached roots s slot register space a bridge). record {
+    λ (u : plain.IsUnreached roots s (named_region slot register) (address_in space a) bridge). record {
       f = u.f;
       part = u.part;
       listed = u.listed;
@@ -125,13 +125,13 @@ same_faults roots s fault = elim fault as (λ fault. (IsIn nothing_given roots s
     },
   )
   | Clash bus space a first fr second sr ↦ (
-    λ (c : IsClash nothing_given roots s bus space a first fr second sr). record {
+    λ (c : IsClash nothing_given roots s bus (address_in space a) (named_regions first fr second sr)). record {
       gets = (same_gets roots s space a bus).0 c.gets;
       claims_first = claims_own s bus space a first fr c.claims_first;
       claims_second = claims_own s bus space a second sr c.claims_second;
       differ = c.differ;
     },
-    λ (c : plain.IsClash roots s bus space a first fr second sr). record {
+    λ (c : plain.IsClash roots s bus (address_in space a) (named_regions first fr second sr)). record {
       gets = (same_gets roots s space a bus).1 c.gets;
       claims_first = own_claims s bus space a first fr c.claims_first;
       claims_second = own_claims s bus space a second sr c.claims_second;
@@ -140,14 +140,14 @@ same_faults roots s fault = elim fault as (λ fault. (IsIn nothing_given roots s
     },
   )
   | Split space a first fr second sr ↦ (
-    λ (c : IsSplit nothing_given roots s space a first fr second sr). record {
+    λ (c : IsSplit nothing_given roots s (address_in space a) (named_regions first fr second sr)). record {
       root_first = c.root_first;
       root_second = c.root_second;
       buses = c.buses;
       claims_first = claims_own s first.bus space a first fr c.claims_first;
       claims_second = claims_own s second.bus space a second sr c.claims_second;
     },
-    λ (c : plain.IsSplit roots s space a first fr second sr). record {
+    λ (c : plain.IsSplit roots s (address_in space a) (named_regions first fr second sr)). record {
       root_first = c.root_first;
       root_second = c.root_second;
       buses = c.buses;

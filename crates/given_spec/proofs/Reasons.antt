@@ -9,7 +9,7 @@ use Rattle.pci_spec.specs.Slot.{Slot}
 use Rattle.pci_spec.specs.System.{System, Function, Space, Io, Memory}
 use Rattle.pci_spec.specs.System as system
 use Rattle.pci_spec.specs.Bus.{is_root}
-use Rattle.pci_spec.specs.Fault.{Unreached, Clash, Split}
+use Rattle.pci_spec.specs.Fault.{Unreached, Clash, Split, named_region, named_regions}
 use Rattle.pci_spec.specs.Fault as faults
 use Rattle.pci_spec.specs.Decoded.{Range, InRange}
 use Rattle.pci_spec.specs.Why.{IsRun, AreRuns, range_line, is_wide_part}
@@ -155,12 +155,12 @@ abbrev PlainTwo : System → Space → Slot → ℕ → Slot → ℕ → List �
 PlainTwo s space first fr second sr lines =
     (p : plain.Region) × (q : plain.Region) × plain.IsNamed p first fr space × plain.IsNamed q second sr space × plain.IsBehindTwo s p q lines
 
-named_two_plain : (s : System) (space : Space) (first : Slot) (fr : ℕ) (second : Slot) (sr : ℕ) (lines : List ℕ) → AreNamedTwo nothing_given s space first fr second sr lines → PlainTwo s space first fr second sr lines
+named_two_plain : (s : System) (space : Space) (first : Slot) (fr : ℕ) (second : Slot) (sr : ℕ) (lines : List ℕ) → AreNamedTwo nothing_given s space (named_regions first fr second sr) lines → PlainTwo s space first fr second sr lines
 named_two_plain s space first fr second sr lines (Own p, Own q, np, nq, behind) = (p, q, np, nq, two_plain s space p q lines nq.2 behind)
 named_two_plain s space first fr second sr lines (Legacy b sp, q, np, nq, behind) = absurd (no_legacy_claims b sp behind.first.1 behind.first.2)
 named_two_plain s space first fr second sr lines (Own p, Legacy b sp, np, nq, behind) = absurd (no_legacy_claims b sp behind.second.1 behind.second.2)
 
-plain_named_two : (s : System) (space : Space) (first : Slot) (fr : ℕ) (second : Slot) (sr : ℕ) (lines : List ℕ) → PlainTwo s space first fr second sr lines → AreNamedTwo nothing_given s space first fr second sr lines
+plain_named_two : (s : System) (space : Space) (first : Slot) (fr : ℕ) (second : Slot) (sr : ℕ) (lines : List ℕ) → PlainTwo s space first fr second sr lines → AreNamedTwo nothing_given s space (named_regions first fr second sr) lines
 plain_named_two s space first fr second sr lines (p, q, np, nq, behind) = (Own p, Own q, np, nq, plain_two s space p q lines nq.2 behind)
 
 evidence_same : (roots : List ℕ) (s : System) (fault : faults.Fault) (lines : List ℕ) → IsEvidence nothing_given roots s (Known fault) lines ↔ plain.IsEvidence s fault lines
@@ -256,11 +256,11 @@ plain_fit_behind roots s q lines is h =
 abbrev PlainAdvice : List ℕ → System → Slot → ℕ → Space → List ℕ → Type 0
 PlainAdvice roots s slot register space lines = (q : plain.Region) × plain.IsNamed q slot register space × plain.IsRegionIn s q × plain.IsFitBehind roots s q lines
 
-advice_plain : (roots : List ℕ) (s : System) (slot : Slot) (register : ℕ) (space : Space) (lines : List ℕ) → IsAdviceFor nothing_given roots s slot register space lines → PlainAdvice roots s slot register space lines
+advice_plain : (roots : List ℕ) (s : System) (slot : Slot) (register : ℕ) (space : Space) (lines : List ℕ) → IsAdviceFor nothing_given roots s (named_region slot register) space lines → PlainAdvice roots s slot register space lines
 advice_plain roots s slot register space lines (Own q, named, is, fit) = (q, named, is, fit_behind_plain roots s q lines is fit)
 advice_plain roots s slot register space lines (Legacy b sp, named, is, fit) = absurd (no_legacy_claims b sp is.1 is.2)
 
-plain_advice : (roots : List ℕ) (s : System) (slot : Slot) (register : ℕ) (space : Space) (lines : List ℕ) → PlainAdvice roots s slot register space lines → IsAdviceFor nothing_given roots s slot register space lines
+plain_advice : (roots : List ℕ) (s : System) (slot : Slot) (register : ℕ) (space : Space) (lines : List ℕ) → PlainAdvice roots s slot register space lines → IsAdviceFor nothing_given roots s (named_region slot register) space lines
 plain_advice roots s slot register space lines (q, named, is, fit) = (Own q, named, is, plain_fit_behind roots s q lines is fit)
 
 advice_same : (roots : List ℕ) (s : System) (fault : faults.Fault) (lines : List ℕ) → IsAdvice nothing_given roots s (Known fault) lines ↔ plain.IsAdvice roots s fault lines
@@ -268,8 +268,8 @@ advice_same roots s fault lines = elim fault as (λ fault. IsKnownAdvice nothing
   | Unreached slot register space a bridge ↦ (advice_plain roots s slot register space lines, plain_advice roots s slot register space lines)
   | Clash bus space a first fr second sr ↦ (advice_plain roots s second sr space lines, plain_advice roots s second sr space lines)
   | Split space a first fr second sr ↦ (
-    λ h. subst (λ b. MatchBool b (IsAdviceFor nothing_given roots s second sr space lines) (lines ≡ [])) (said_of_none space) h,
-    λ h. subst (λ b. MatchBool b (IsAdviceFor nothing_given roots s second sr space lines) (lines ≡ [])) (sym (said_of_none space)) h,
+    λ h. subst (λ b. MatchBool b (IsAdviceFor nothing_given roots s (named_region second sr) space lines) (lines ≡ [])) (said_of_none space) h,
+    λ h. subst (λ b. MatchBool b (IsAdviceFor nothing_given roots s (named_region second sr) space lines) (lines ≡ [])) (sym (said_of_none space)) h,
   )
   | _ ↦ (λ h. h, λ h. h)
 ]

@@ -5,6 +5,7 @@ use Rattle.pci_spec.specs.Slot.{Slot, same_slot}
 use Rattle.pci_spec.specs.Registers.{BRIDGE_CONTROL, IO_BASE, MEMORY_BASE, PREFETCHABLE_BASE}
 use Rattle.pci_spec.specs.System.{System, Space, Function, IsAddress, Leads}
 use Rattle.pci_spec.specs.System as system
+use Rattle.pci_spec.specs.Fault.{Address, RegionName}
 use Rattle.given_spec.specs.Given.{Given, starts, legacy_claims}
 
 -- a part of a function: one that its address registers show, or the legacy parts of a bridge
@@ -37,10 +38,11 @@ passes given space prefetchable a b =
     system.passes space prefetchable a b || legacy_claims given space a b
 
 -- an address of a region, to which accesses start on a root bus, is passed on all the way from there to a bus
-abbrev pub IsPassedTo : Given → List ℕ → System → Space → Bool → ℕ → ℕ → Type 0
-IsPassedTo given roots s space prefetchable a bus =
-    (root : ℕ) × Contains roots root × IsTrue (starts given space root a) × (bridges : List Function)
-    × Leads s root bridges bus × IsTrue (list_all (passes given space prefetchable a) bridges)
+abbrev pub IsPassedTo : Given → List ℕ → System → Address → Bool → ℕ → Type 0
+IsPassedTo given roots s at prefetchable bus =
+    (root : ℕ) × Contains roots root × IsTrue (starts given at.space root at.address)
+    × (bridges : List Function) × Leads s root bridges bus
+    × IsTrue (list_all (passes given at.space prefetchable at.address) bridges)
 
 -- an access of the host, which starts on those root buses to which the host sends it, gets to a bus
 abbrev pub Gets : Given → List ℕ → System → Space → ℕ → ℕ → Type 0
@@ -49,10 +51,10 @@ Gets given roots s space a bus =
     × Leads s root bridges bus × IsTrue (list_all (forwards given space a) bridges)
 
 -- a region of the bus, named by its slot and register, claims the address
-abbrev pub ClaimsOnBus : Given → System → ℕ → Space → ℕ → Slot → ℕ → Type 0
-ClaimsOnBus given s bus space address slot register =
-    (f : Function) × (part : Part) × Contains s f × (f.slot ≡ slot) × (slot.bus ≡ bus)
-    × (register_of f part ≡ register) × Claims given f part space address
+abbrev pub ClaimsOnBus : Given → System → ℕ → Address → RegionName → Type 0
+ClaimsOnBus given s bus at region =
+    (f : Function) × (part : Part) × Contains s f × (f.slot ≡ region.slot) × (region.slot.bus ≡ bus)
+    × (register_of f part ≡ region.register) × Claims given f part at.space at.address
 
 -- ---- one exception
 

@@ -9,6 +9,7 @@ use Rattle.pci_spec.specs.Fault as plain
 use Rattle.pci_spec.specs.Sound as sound
 use Rattle.pci_spec.specs.Why as why
 use Rattle.pci_spec.specs.FaultsText as faults_text
+use Rattle.pci_spec.specs.Fault.{address_in, named_region}
 use Rattle.given_spec.specs.Given.{Given, nothing_given, starts}
 use Rattle.given_spec.specs.Claims.{Own, Legacy, Claims, forwards, passes, Gets, IsPassedTo}
 use Rattle.given_spec.specs.Fault.{Fault, Known, IsIn, IsOutside}
@@ -50,13 +51,13 @@ SameGets =
 abbrev pub SamePassedTo : Type 0
 SamePassedTo =
     (roots : List ℕ) (s : System) (space : Space) (prefetchable : Bool) (a bus : ℕ)
-    → IsPassedTo nothing_given roots s space prefetchable a bus
+    → IsPassedTo nothing_given roots s (address_in space a) prefetchable bus
     ↔ system.IsPassedTo roots s space prefetchable a bus
 
 abbrev pub NoneOutside : Type 0
 NoneOutside =
     (roots : List ℕ) (s : System) (slot : Slot) (register : ℕ) (space : Space) (a : ℕ)
-    → IsOutside nothing_given roots s slot register space a → ⊥
+    → IsOutside nothing_given roots s (named_region slot register) (address_in space a) → ⊥
 
 -- the exception needs a legacy part, as no other register is named 3Eh
 abbrev pub SameFaults : Type 0
@@ -106,7 +107,8 @@ IsWithinHost given roots s f part =
 -- no line says that it is outside
 abbrev pub IsNotOutside : Given → List ℕ → System → Slot → ℕ → Type 0
 IsNotOutside given roots s slot register =
-    (space : Space) (address : ℕ) → IsOutsideOf given roots s slot register space address → ⊥
+    (space : Space) (address : ℕ) → IsOutsideOf given roots s (named_region slot register)
+    (address_in space address) → ⊥
 
 -- A BAR or ROM has a line of 63 exactly where it isn't within what the host sends to its root.
 abbrev pub LineWhereOutside : Type 0

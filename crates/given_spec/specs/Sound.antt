@@ -5,6 +5,7 @@ use Rattle.pci_spec.specs.System.{System, Function, Space, is_prefetchable_part,
 use Rattle.pci_spec.specs.System as system
 use Rattle.pci_spec.specs.Bus.{IsNested}
 use Rattle.pci_spec.specs.Sound.{IsInProfile, HasChains}
+use Rattle.pci_spec.specs.Fault.{address_in}
 use Rattle.given_spec.specs.Given.{Given, starts}
 use Rattle.given_spec.specs.Claims.{Part, Claims, Gets, IsPassedTo, register_of, may_share}
 
@@ -34,7 +35,7 @@ abbrev pub IsHome : Given → List ℕ → System → Type 0
 IsHome given roots s =
     (f : Function) (p : system.Part) (space : Space) (a : ℕ) → Contains s f → is_window p ≡ false
     → system.Claims f p space a →
-    IsPassedTo given roots s space (is_prefetchable_part f p) a f.slot.bus
+    IsPassedTo given roots s (address_in space a) (is_prefetchable_part f p) f.slot.bus
 
 pub record IsSound (given : Given) (roots : List ℕ) (s : System) : Type 0 where
   pub single : IsSingle given roots s

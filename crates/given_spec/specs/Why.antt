@@ -8,7 +8,7 @@ use Rattle.pci_spec.specs.Registers.{BRIDGE_CONTROL}
 use Rattle.pci_spec.specs.Text.{hex_byte, slot_text}
 use Rattle.pci_spec.specs.System.{System, Function, Space, Io, Memory, Leads, is_space_on}
 use Rattle.pci_spec.specs.Bus.{is_root}
-use Rattle.pci_spec.specs.Fault.{Unreached, Clash, Split}
+use Rattle.pci_spec.specs.Fault.{Unreached, Clash, Split, RegionName, TwoRegions, address_in, named_region, named_regions}
 use Rattle.pci_spec.specs.Fault as faults
 use Rattle.pci_spec.specs.Decoded.{Range, InRange, decoded_windows}
 use Rattle.pci_spec.specs.Line.{space_text}
@@ -140,10 +140,10 @@ pub record IsBehindTwo (given : Given) (s : System) (space : Space) (p q : Regio
       ≡ region_line given (codes "first") p ++ (region_line given (codes "second") q
       ++ flat_map (range_line (codes "shared") space) shared)
 
-abbrev pub AreNamedTwo : Given → System → Space → Slot → ℕ → Slot → ℕ → List ℕ → Type 0
-AreNamedTwo given s space first first_register second second_register lines =
-    (p : Region) × (q : Region) × IsNamed p first first_register space
-    × IsNamed q second second_register space × IsBehindTwo given s space p q lines
+abbrev pub AreNamedTwo : Given → System → Space → TwoRegions → List ℕ → Type 0
+AreNamedTwo given s space two lines =
+    (p : Region) × (q : Region) × IsNamed p two.first.slot two.first.register space
+    × IsNamed q two.second.slot two.second.register space × IsBehindTwo given s space p q lines
 
 abbrev pub IsKnownEvidence : Given → System → faults.Fault → List ℕ → Type 0
 IsKnownEvidence given s (Unreached slot register space address bridge) lines =
@@ -151,9 +151,9 @@ IsKnownEvidence given s (Unreached slot register space address bridge) lines =
     × IsBehindUnreached given s q bridge lines
 IsKnownEvidence given s (Clash bus space address first first_register second second_register)
     lines =
-    AreNamedTwo given s space first first_register second second_register lines
+    AreNamedTwo given s space (named_regions first first_register second second_register) lines
 IsKnownEvidence given s (Split space address first first_register second second_register) lines =
-    AreNamedTwo given s space first first_register second second_register lines
+    AreNamedTwo given s space (named_regions first first_register second second_register) lines
 IsKnownEvidence given s fault lines = lines ≡ []
 
 -- the lines that tell with what ranges a fault is there; of others than those of judging none
@@ -190,7 +190,7 @@ pub record IsPlaceFor (given : Given) (roots : List ℕ) (s : System) (q : plain
   pub aligned : first % address_count q.range ≡ 0
   pub fits : first + address_count q.range ≤ place_end q.space wide
   pub reached : (a : ℕ) → first ≤ a → a < first + address_count q.range
-      → IsPassedTo given roots s q.space q.prefetchable a q.slot.bus
+      → IsPassedTo given roots s (address_in q.space a) q.prefetchable q.slot.bus
   pub free : (a : ℕ) → first ≤ a → a < first + address_count q.range
       → IsTaken given roots s q a → ⊥
 
@@ -224,29 +224,29 @@ IsFitBehind given roots s (Own q) lines =
     (IsFit given roots s q lines)
 IsFitBehind given roots s (Legacy b space) lines = lines ≡ []
 
-abbrev pub IsAdviceFor : Given → List ℕ → System → Slot → ℕ → Space → List ℕ → Type 0
-IsAdviceFor given roots s slot register space lines =
-    (q : Region) × IsNamed q slot register space × IsRegionIn given s q
+abbrev pub IsAdviceFor : Given → List ℕ → System → RegionName → Space → List ℕ → Type 0
+IsAdviceFor given roots s region space lines =
+    (q : Region) × IsNamed q region.slot region.register space × IsRegionIn given s q
     × IsFitBehind given roots s q lines
 
 abbrev pub IsKnownAdvice : Given → List ℕ → System → faults.Fault → List ℕ → Type 0
 IsKnownAdvice given roots s (Unreached slot register space address bridge) lines =
-    IsAdviceFor given roots s slot register space lines
+    IsAdviceFor given roots s (named_region slot register) space lines
 IsKnownAdvice given roots s (Clash bus space address first first_register second second_register)
     lines =
-    IsAdviceFor given roots s second second_register space lines
+    IsAdviceFor given roots s (named_region second second_register) space lines
 -- the second region stands on a root bus
 IsKnownAdvice given roots s (Split space address first first_register second second_register)
     lines =
     MatchBool (is_said given space)
-    (IsAdviceFor given roots s second second_register space lines) (lines ≡ [])
+    (IsAdviceFor given roots s (named_region second second_register) space lines) (lines ≡ [])
 IsKnownAdvice given roots s fault lines = lines ≡ []
 
 -- the line of the region that isn't sent or reached, or the second of two
 abbrev pub IsAdvice : Given → List ℕ → System → Fault → List ℕ → Type 0
 IsAdvice given roots s (Known fault) lines = IsKnownAdvice given roots s fault lines
 IsAdvice given roots s (Outside slot register space address) lines =
-    IsAdviceFor given roots s slot register space lines
+    IsAdviceFor given roots s (named_region slot register) space lines
 
 -- all lines behind a fault
 pub record IsWhy (given : Given) (roots : List ℕ) (s : System) (fault : Fault)

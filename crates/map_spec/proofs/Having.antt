@@ -27,7 +27,7 @@ module _ (given : Given) (roots : List ℕ) (s : System) (space : Space) where
   abbrev IsOf : Region → Type 0
   IsOf q = IsRegionIn s q × (q.space ≡ space) × (IsOutOfPlace given roots s q → ⊥)
 
-  inside_of : (part : Part) (w q : Region) (lines : Lines) → AreInside given roots s space part w lines → Contains (regions_at lines) q → IsOf q
+  inside_of : (part : Part) (w q : Region) (lines : Lines) → AreInside part lines (AreLinesAt given roots s space (Inside w) lines) → Contains (regions_at lines) q → IsOf q
   inside_of (Bar n) w q lines none has = absurd (in_nil q (subst (λ ls. Contains (regions_at ls) q) none has))
   inside_of Rom w q lines none has = absurd (in_nil q (subst (λ ls. Contains (regions_at ls) q) none has))
   inside_of (Window kind) w q lines are has = (are.regions q has, are.of_space q has, are.within q has)
@@ -62,7 +62,7 @@ module _ (given : Given) (roots : List ℕ) (s : System) (space : Space) where
   below_window (Free r rest) w q kind window inside has of under = below_window rest w q kind window inside has of under
   below_window (Sits p below rest) w q kind window inside has of under = elim (in_cons_cases p (all_regions below ++ all_regions rest) w has) [
     | inl first ↦ (
-        let here : AreLinesAt given roots s space (Inside p) below = subst (λ part. AreInside given roots s space part p below) (ap (λ (z : Region). z.part) first ∙ window) inside.0 in
+        let here : AreLinesAt given roots s space (Inside p) below = subst (λ part. AreInside part below (AreLinesAt given roots s space (Inside p) below)) (ap (λ (z : Region). z.part) first ∙ window) inside.0 in
         let there : Contains (regions_at below) q = here.complete q of.0 of.1 (subst (λ z. BelongsUnder s z q) (sym first) under) of.2 in
         in_tail p (all_regions below ++ all_regions rest) q (Contains-append_left (all_regions below) (all_regions rest) q (stands_there below q there)))
     | inr later ↦ in_tail p (all_regions below ++ all_regions rest) q (elim (Contains-append_cases (all_regions below) (all_regions rest) w later) [

@@ -8,6 +8,7 @@ use Rattle.pci_spec.specs.System.{System, Function, Space, Io, Memory, Part, Bar
 use Rattle.pci_spec.specs.Bus.{secondary}
 use Rattle.pci_spec.specs.Decoded.{Range, InRange}
 use Rattle.pci_spec.specs.Why.{Region, IsRegionIn, AreRuns}
+use Rattle.pci_spec.specs.Fault.{address_in, named_region}
 use Rattle.given_spec.specs.Given.{Given, ranges_said, starts}
 use Rattle.given_spec.specs.Fault.{IsOutside}
 
@@ -47,7 +48,7 @@ StandsAt s (Inside w) q = BelongsUnder s w q
 -- A BAR or a ROM has an address to which no access of the host starts on the root above it: its line is at no place.
 pub record IsOutOfPlace (given : Given) (roots : List ℕ) (s : System) (q : Region) : Type 0 where
   pub address : ℕ
-  pub outside : IsOutside given roots s q.slot q.register q.space address
+  pub outside : IsOutside given roots s (named_region q.slot q.register) (address_in q.space address)
 
 -- an enabled region of a bus claims an address
 pub record IsClaimedOn (s : System) (bus : ℕ) (space : Space) (a : ℕ) : Type 0 where
@@ -139,19 +140,19 @@ pub record AreLinesAt (given : Given) (roots : List ℕ) (s : System) (space : S
   pub free : AreRuns (IsFreeAt given s space place) (runs_at lines)
   pub rising : AllPairs IsBefore (marks lines)
 
--- what is inside a region: only a window has something inside
-abbrev pub AreInside : Given → List ℕ → System → Space → Part → Region → Lines → Type 0
-AreInside given roots s space (Bar n) q lines = lines ≡ End
-AreInside given roots s space Rom q lines = lines ≡ End
-AreInside given roots s space (Window kind) q lines = AreLinesAt given roots s space (Inside q) lines
+-- what is inside a region: of a window lines of which P holds, of others nothing
+abbrev pub AreInside : Part → Lines → Type 0 → Type 0
+AreInside (Bar n) lines P = lines ≡ End
+AreInside Rom lines P = lines ≡ End
+AreInside (Window kind) lines P = P
 
 -- inside each region of some lines, all the way down
 abbrev pub AreAllInside : Given → List ℕ → System → Space → Lines → Type 0
 AreAllInside given roots s space End = Unit {0}
 AreAllInside given roots s space (Free r rest) = AreAllInside given roots s space rest
 AreAllInside given roots s space (Sits q inside rest) =
-    AreInside given roots s space q.part q inside × AreAllInside given roots s space inside
-    × AreAllInside given roots s space rest
+    AreInside q.part inside (AreLinesAt given roots s space (Inside q) inside)
+    × AreAllInside given roots s space inside × AreAllInside given roots s space rest
 
 -- the lines of a place, with all that is inside
 abbrev pub AreAllLines : Given → List ℕ → System → Space → Place → Lines → Type 0

@@ -5,7 +5,7 @@ use Rattle.std.specs.Option.{is_some}
 use Rattle.std.proofs.lemmas.Bool.{cases_eq}
 use Rattle.pci_spec.specs.Slot.{Slot}
 use Rattle.pci_spec.specs.System.{System, Space, Io, Memory, Gets, IsPassedTo}
-use Rattle.pci_spec.specs.Fault.{Clash, ClaimsOnBus}
+use Rattle.pci_spec.specs.Fault.{Clash, ClaimsOnBus, address_in, named_region}
 use Rattle.pci_spec.specs.Order.{IsFirst}
 use Rattle.pci_spec.specs.JudgingLaws.{HasNoUnreached, HasNoClashAt}
 use Rattle.pci_spec.proofs.Firsts.{slot_of, least_clash_is_first}
@@ -71,8 +71,8 @@ module _ (t : Tree) (bus : ℕ) (space : Space) (regions : List Region) (allowed
         reached = home;
         there = record {
           gets = gets_of_passed t.roots s space a bus (((reached s tree).exact a).0 is.covered).1;
-          claims_first = subst (λ n. ClaimsOnBus s n space a first.slot first.reg) one.1 one.2;
-          claims_second = subst (λ n. ClaimsOnBus s n space a second.slot second.reg) two.1 two.2;
+          claims_first = subst (λ n. ClaimsOnBus s n (address_in space a) (named_region first.slot first.reg)) one.1 one.2;
+          claims_second = subst (λ n. ClaimsOnBus s n (address_in space a) (named_region second.slot second.reg)) two.1 two.2;
           differ = differ s system IsThis space regions are allowed a first second is;
         };
         lower_buses = lower;

@@ -8,7 +8,7 @@ use Rattle.std.proofs.lemmas.List.Elements.{Contains-get_or}
 use Rattle.pci_spec.specs.Slot.{Slot, IsSlot}
 use Rattle.pci_spec.specs.System.{System, Function, Space, Io, Memory, Part, Claims, IsPassedTo, is_window, is_prefetchable_part, register_of}
 use Rattle.pci_spec.specs.Decoded.{record_of}
-use Rattle.pci_spec.specs.Fault.{Unreached}
+use Rattle.pci_spec.specs.Fault.{Unreached, address_in, named_region}
 use Rattle.pci_spec.specs.Order.{IsFirst}
 use Rattle.pci_spec.specs.JudgingLaws.{region_number, IsFirstStop as StopsFirst}
 use Rattle.pci_spec.specs.AllFaults.{IsUnreachedOf}
@@ -48,16 +48,16 @@ module _ (t : Tree) (reaches : Reaches) (reached : AreReachesOf t reaches) (nest
 
   -- where one stops it
   module _ (space : Space) (r : Region) (path : List Slot) (k address : ℕ) (bridge : Slot) (paths : (s : System) → HasTree t s → IsPathTo t.roots s path r.slot.bus)
-      (stop : IsFirstStop reaches space path r.slot.bus r k address) (named : bridge ≡ get_or path k bridge)
+      (stop : IsFirstStop reaches space path r k address) (named : bridge ≡ get_or path k bridge)
       (s : System) (tree : HasTree t s) (bus : ℕ) (on : IsRegionOn s bus space r) (no_window : is_of_window r.part ≡ false) where
-    stops_first : StopsFirst t.roots s r.slot r.reg space address bridge
-    stops_first = subst (λ (x : Slot). StopsFirst t.roots s r.slot r.reg space address x) (sym named)
+    stops_first : StopsFirst t.roots s (named_region r.slot r.reg) (address_in space address) bridge
+    stops_first = subst (λ (x : Slot). StopsFirst t.roots s (named_region r.slot r.reg) (address_in space address) x) (sym named)
         (first_stop t.roots s tree.system (nested s tree) reaches space (reached s tree space) bus r on path (paths s tree) no_window k address stop bridge)
 
     pub unreached_fault : AreHomeBelow t.roots s (number_of r) → IsFirst t.roots s (Unreached r.slot r.reg space address bridge)
     unreached_fault lesser = least_unreached_is_first t.roots s tree.system (nested s tree) r.slot r.reg space address bridge record { stop = stops_first; lesser_regions = lesser }
 
-    pub unreached_line : IsUnreachedOf t.roots s r.slot r.reg space address bridge
+    pub unreached_line : IsUnreachedOf t.roots s (named_region r.slot r.reg) (address_in space address) bridge
     unreached_line = line_of_stop t.roots s tree.system (nested s tree) r.slot r.reg space address bridge stops_first
 
   -- ---- the regions of a bus

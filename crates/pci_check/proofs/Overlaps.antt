@@ -8,7 +8,7 @@ use Rattle.std.proofs.lemmas.List.Elements.{Contains-get_or}
 use Rattle.std.proofs.lemmas.List.Sorted.{Contains-permutation, IsPermutation-sym}
 use Rattle.pci_spec.specs.Slot.{Slot}
 use Rattle.pci_spec.specs.System.{System, IsSystem, Space}
-use Rattle.pci_spec.specs.Fault.{ClaimsOnBus}
+use Rattle.pci_spec.specs.Fault.{ClaimsOnBus, address_in, named_region}
 use Rattle.pci_spec.specs.JudgingLaws.{region_number}
 use Rattle.pci_spec.proofs.Regions.{region_number-same}
 use Rattle.pci_spec.proofs.Firsts.{named_slot, named_register}
@@ -107,7 +107,7 @@ number_same s t r q slot register = ap (λ (x : Slot). region_number x r) slot �
 
 module _ (s : System) (system : IsSystem s) (IsOne : ℕ → Type 0) (space : Space) (regions : List Region) (are : AreRegionsOn s IsOne space regions) (allowed : List Range) where
   -- a region of the list that claims an address does so on its bus
-  pub claims_of : (a : ℕ) (r : Region) → IsClaimantIn regions a r → (bus : ℕ) × IsOne bus × ClaimsOnBus s bus space a r.slot r.reg
+  pub claims_of : (a : ℕ) (r : Region) → IsClaimantIn regions a r → (bus : ℕ) × IsOne bus × ClaimsOnBus s bus (address_in space a) (named_region r.slot r.reg)
   claims_of a r c =
       let of = are.each r c.has in
       let on = of.2 in
@@ -119,7 +119,7 @@ module _ (s : System) (system : IsSystem s) (IsOne : ℕ → Type 0) (space : Sp
     claimant : IsClaimantIn regions a r
     number : number_of r ≡ region_number slot register
 
-  in_list : (a bus : ℕ) (slot : Slot) (register : ℕ) → IsOne bus → ClaimsOnBus s bus space a slot register → IsIn a slot register
+  in_list : (a bus : ℕ) (slot : Slot) (register : ℕ) → IsOne bus → ClaimsOnBus s bus (address_in space a) (named_region slot register) → IsIn a slot register
   in_list a bus slot register one (f, p, listed, at, on, named, claims) =
       let found = are.complete bus one f p a listed (ap (λ (x : Slot). x.bus) at ∙ on) claims in
       record {
@@ -128,7 +128,7 @@ module _ (s : System) (system : IsSystem s) (IsOne : ℕ → Type 0) (space : Sp
         number = number_same found.q.slot slot found.q.reg register (found.is.slot ∙ at) (found.is.register ∙ named);
       }
 
-  same_where_numbers : (a b c : ℕ) (slot other : Slot) (register named : ℕ) → ClaimsOnBus s b space a slot register → ClaimsOnBus s c space a other named
+  same_where_numbers : (a b c : ℕ) (slot other : Slot) (register named : ℕ) → ClaimsOnBus s b (address_in space a) (named_region slot register) → ClaimsOnBus s c (address_in space a) (named_region other named)
       → region_number slot register ≡ region_number other named → (slot ≡ other) × (register ≡ named)
   same_where_numbers a b c slot other register named one two e =
       region_number-same slot other register named (named_slot s system b space a slot register one) (named_slot s system c space a other named two)
@@ -136,7 +136,7 @@ module _ (s : System) (system : IsSystem s) (IsOne : ℕ → Type 0) (space : Sp
 
   -- what claims an address that no two regions claim is one region
   pub one_claims : (a b c : ℕ) (slot other : Slot) (register named : ℕ) → Covers allowed a → IsUnshared regions allowed a → IsOne b → IsOne c
-      → ClaimsOnBus s b space a slot register → ClaimsOnBus s c space a other named → (slot ≡ other) × (register ≡ named)
+      → ClaimsOnBus s b (address_in space a) (named_region slot register) → ClaimsOnBus s c (address_in space a) (named_region other named) → (slot ≡ other) × (register ≡ named)
   one_claims a b c slot other register named covered none one_b one_c one two =
       let first = in_list a b slot register one_b one in
       let second = in_list a c other named one_c two in
@@ -149,14 +149,14 @@ module _ (s : System) (system : IsSystem s) (IsOne : ℕ → Type 0) (space : Sp
         let e = number_same first.slot second.slot first.reg second.reg same.0 same.1 in
         omega (arith, rise, e)
 
-    pub least : (bus : ℕ) (slot : Slot) (register : ℕ) → IsOne bus → ClaimsOnBus s bus space a slot register → number_of first ≤ region_number slot register
+    pub least : (bus : ℕ) (slot : Slot) (register : ℕ) → IsOne bus → ClaimsOnBus s bus (address_in space a) (named_region slot register) → number_of first ≤ region_number slot register
     least bus slot register one claims =
         let at = in_list a bus slot register one claims in
         let up = is.least at.r at.claimant in
         let e = at.number in
         omega (arith, up, e)
 
-    pub next_least : (bus : ℕ) (slot : Slot) (register : ℕ) → IsOne bus → ClaimsOnBus s bus space a slot register → ((slot ≡ first.slot) × (register ≡ first.reg) → ⊥)
+    pub next_least : (bus : ℕ) (slot : Slot) (register : ℕ) → IsOne bus → ClaimsOnBus s bus (address_in space a) (named_region slot register) → ((slot ≡ first.slot) × (register ≡ first.reg) → ⊥)
         → number_of second ≤ region_number slot register
     next_least bus slot register one claims other =
         let at = in_list a bus slot register one claims in

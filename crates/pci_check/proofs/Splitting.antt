@@ -6,7 +6,7 @@ use Rattle.std.proofs.lemmas.Bool.{cases_eq}
 use Rattle.std.proofs.lemmas.List.Elements.{Contains-append_left, Contains-append_right, Contains-append_cases}
 use Rattle.pci_spec.specs.Slot.{Slot, IsSlot}
 use Rattle.pci_spec.specs.System.{System, IsSystem, Space, Io, Memory, IsAddress}
-use Rattle.pci_spec.specs.Fault.{Split, ClaimsOnBus}
+use Rattle.pci_spec.specs.Fault.{Split, ClaimsOnBus, address_in, named_region}
 use Rattle.pci_spec.specs.Order.{IsFirst}
 use Rattle.pci_spec.specs.JudgingLaws.{HasNoUnreached, HasNoClash, HasNoSplitAt}
 use Rattle.pci_spec.proofs.Members.{in_nil, pairs_nil, pairs_append}
@@ -115,8 +115,8 @@ module _ (t : Tree) (space : Space) (regions : List Region) (allowed : List Rang
       let apart_two = differ s system (Contains t.roots) space regions are allowed a first second is in
       let one = claims_of s system (Contains t.roots) space regions are allowed a first is.claims_first in
       let two = claims_of s system (Contains t.roots) space regions are allowed a second is.claims_second in
-      let claims_first : ClaimsOnBus s first.slot.bus space a first.slot first.reg = subst (λ n. ClaimsOnBus s n space a first.slot first.reg) (sym one.2.4) one.2 in
-      let claims_second : ClaimsOnBus s second.slot.bus space a second.slot second.reg = subst (λ n. ClaimsOnBus s n space a second.slot second.reg) (sym two.2.4) two.2 in
+      let claims_first : ClaimsOnBus s first.slot.bus (address_in space a) (named_region first.slot first.reg) = subst (λ n. ClaimsOnBus s n (address_in space a) (named_region first.slot first.reg)) (sym one.2.4) one.2 in
+      let claims_second : ClaimsOnBus s second.slot.bus (address_in space a) (named_region second.slot second.reg) = subst (λ n. ClaimsOnBus s n (address_in space a) (named_region second.slot second.reg)) (sym two.2.4) two.2 in
       let root : Contains t.roots first.slot.bus = subst (Contains t.roots) (sym one.2.4) one.1 in
       least_split_is_first t.roots s system space a first.slot first.reg second.slot second.reg record {
         reached = home;
@@ -127,7 +127,7 @@ module _ (t : Tree) (space : Space) (regions : List Region) (allowed : List Rang
           buses = λ same. apart first.slot.bus space a first.slot first.reg second.slot second.reg record {
             gets = gets_of_passed t.roots s space a first.slot.bus (first.slot.bus, root, [], refl, refl);
             claims_first = claims_first;
-            claims_second = subst (λ n. ClaimsOnBus s n space a second.slot second.reg) (sym same) claims_second;
+            claims_second = subst (λ n. ClaimsOnBus s n (address_in space a) (named_region second.slot second.reg)) (sym same) claims_second;
             differ = apart_two;
           };
           claims_first = claims_first;

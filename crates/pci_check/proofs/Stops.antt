@@ -15,6 +15,7 @@ use Rattle.pci_tree.specs.Ranges.{Covers}
 use Rattle.pci_tree.specs.Regions.{IsRegionOn, name_of}
 use Rattle.pci_tree.specs.Outline.{IsPathTo, IsReachTo}
 use Rattle.pci_check.specs.Stops.{is_of_window, Reaches, ranges_at, IsWholeAt, IsBusBehind, IsWholeBehind, IsFirstStop}
+use Rattle.pci_spec.specs.Fault.{address_in, named_region}
 
 -- ---- parts of a way
 
@@ -134,7 +135,7 @@ module _ (roots : List ℕ) (s : System) (system : IsSystem s) (nested : IsNeste
       subst (λ (b : Function). passes space (is_prefetchable_part f part) a b ≡ true) is
       (passes_behind m c (omega (arith, lt, within)) a (passed_behind m c (omega (arith, lt, within)) (whole m lt) a claims))
 
-  module _ (no_window : is_of_window r.part ≡ false) (k address : ℕ) (stop : IsFirstStop reaches space path r.slot.bus r k address) (d : Slot) where
+  module _ (no_window : is_of_window r.part ≡ false) (k address : ℕ) (stop : IsFirstStop reaches space path r k address) (d : Slot) where
     in_bridges : k < length is_path.bridges
     in_bridges = let n = long in let within = stop.within in omega (arith, n, within)
 
@@ -157,7 +158,7 @@ module _ (roots : List ℕ) (s : System) (system : IsSystem s) (nested : IsNeste
         ) in
         stop.lost.outside (((reached r.prefetch stop.bus stop.small).exact address).1 (claims.address, way)))
 
-    pub first_stop : StopsFirst roots s r.slot r.reg space address (get_or path k d)
+    pub first_stop : StopsFirst roots s (named_region r.slot r.reg) (address_in space address) (get_or path k d)
     first_stop = record {
       f = f;
       part = part;

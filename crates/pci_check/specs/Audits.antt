@@ -68,14 +68,23 @@ pub record IsRead (left : Option (List ℕ)) (before after : ℕ) : Type 0 where
   pub text : IsDumpOf left dump
   pub whole : after ≡ before
 
+-- what a text had left before it was read, and the counts of failed reads before and after
+pub record Reading : Type 0 where
+  pub left : Option (List ℕ)
+  pub before : ℕ
+  pub after : ℕ
+
+abbrev pub reading : Option (List ℕ) → ℕ → ℕ → Reading
+reading left before after = record { left = left; before = before; after = after }
+
 -- why there is no verdict: the dump's text, or the probe's where the dump's is one
-abbrev pub IsTextRefusal : Option (List ℕ) → ℕ → ℕ → Option (List ℕ) → ℕ → ℕ → AuditFault → Type 0
-IsTextRefusal dump_left before after probe_left probe_before probe_after (Dump fault) =
-    IsReadFaultOf dump_left before after fault
-IsTextRefusal dump_left before after probe_left probe_before probe_after (Probe fault) =
-    IsRead dump_left before after × IsReadFaultOf probe_left probe_before probe_after fault
-IsTextRefusal dump_left before after probe_left probe_before probe_after Memory = Unit {0}
-IsTextRefusal dump_left before after probe_left probe_before probe_after Write = Unit {0}
+abbrev pub IsTextRefusal : Reading → Reading → AuditFault → Type 0
+IsTextRefusal dump probe (Dump fault) = IsReadFaultOf dump.left dump.before dump.after fault
+IsTextRefusal dump probe (Probe fault) =
+    IsRead dump.left dump.before dump.after
+    × IsReadFaultOf probe.left probe.before probe.after fault
+IsTextRefusal dump probe Memory = Unit {0}
+IsTextRefusal dump probe Write = Unit {0}
 
 -- a beginning of the line of the two texts' outcome was written
 pub record HasBegun (roots : List ℕ) (dump_left probe_left : Option (List ℕ))

@@ -9,6 +9,7 @@ use Rattle.pci_spec.specs.Decoded.{HasRecords}
 use Rattle.pci_spec.specs.Fault as faults
 use Rattle.pci_spec.specs.AllFaults.{IsUnreachedOf}
 use Rattle.pci_spec.specs.Order.{IsFirst}
+use Rattle.pci_spec.specs.Fault.{address_in, named_region}
 use Rattle.pci_base.specs.declared.range.Range.{Range}
 use Rattle.pci_function.specs.declared.fault.Fault.{Fault}
 use Rattle.pci_tree.specs.declared.region.Region.{Region}
@@ -92,14 +93,14 @@ pub record IsLeastLost (reaches : Reaches) (space : Space) (bus : ℕ) (r : Regi
   pub least : (b : ℕ) → b < a → Spans r b → Covers (ranges_at reaches space r.prefetch bus) b
 
 -- the first bridge of a path that stops a region, and the least address that it stops
-pub record IsFirstStop (reaches : Reaches) (space : Space) (path : List Slot) (end : ℕ) (r : Region)
+pub record IsFirstStop (reaches : Reaches) (space : Space) (path : List Slot) (r : Region)
     (k a : ℕ) : Type 0 where
   pub within : k < length path
   pub bus : ℕ
   pub small : bus < 256
-  pub behind : IsBusBehind path end k bus
+  pub behind : IsBusBehind path r.slot.bus k bus
   pub lost : IsLeastLost reaches space bus r a
-  pub before : (j : ℕ) → j < k → IsWholeBehind reaches space path end r j
+  pub before : (j : ℕ) → j < k → IsWholeBehind reaches space path r.slot.bus r j
 
 -- what the search for such a region answers
 abbrev pub IsOutsideAnswer : Reaches → Space → ℕ → List Region → Option ℕ → Type 0
@@ -123,7 +124,7 @@ IsEarlier io i memory m (foremost.Memory k) =
 abbrev pub IsLineOf : List ℕ → System → Space → Region → faults.Fault → Type 0
 IsLineOf roots s space r (faults.Unreached slot register sp address bridge) =
     (slot ≡ r.slot) × (register ≡ r.reg) × (sp ≡ space)
-    × IsUnreachedOf roots s slot register sp address bridge
+    × IsUnreachedOf roots s (named_region slot register) (address_in sp address) bridge
 IsLineOf roots s space r fault = ⊥
 
 -- the fault of a region whose addresses aren't all passed on to its bus

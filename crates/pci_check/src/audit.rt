@@ -2,7 +2,7 @@
 ghost use Rattle.std.specs.Prelude.{◌≡◌, ◌≢◌, ◌+◌, ℕ, List, [], ◌∷◌, Option, IfOk, IfErr, string_bytes};
 ghost use Rattle.std.specs.Io.KnownBytes.{Appends};
 ghost use Rattle.pci_tree.specs.Roots.{buses_of};
-ghost use Rattle.pci_check.specs.Audits.{IsAudited, IsTextRefusal, HasBegun, outcome_line};
+ghost use Rattle.pci_check.specs.Audits.{IsAudited, IsTextRefusal, HasBegun, outcome_line, reading};
 ghost use Rattle.pci_check.specs.SideBySide.{IsSurveyOfTexts};
 
 use super::judge::judge;
@@ -46,8 +46,9 @@ pub fn judge_texts<A: Allocator + Copy, D: Source, P: Source>(
 ) -> Result<Outcome, AuditFault>
     ensures outcome { IfOk result
         (IsAudited (buses_of roots) (D.left dump.old) (P.left probe.old)) }
-    ensures fault { IfErr result (IsTextRefusal (D.left dump.old) (D.failures dump.old)
-        (D.failures dump.new) (P.left probe.old) (P.failures probe.old) (P.failures probe.new)) }
+    ensures fault { IfErr result (IsTextRefusal
+        (reading (D.left dump.old) (D.failures dump.old) (D.failures dump.new))
+        (reading (P.left probe.old) (P.failures probe.old) (P.failures probe.new))) }
     // nothing is written here, so a caller has no 10 to answer
     ensures read { IfErr result (λ fault. fault ≢ AuditFault.Write) }
 {
@@ -84,8 +85,9 @@ pub fn audit_with<A: Allocator + Copy, D: Source, P: Source, O: Sink>(
     // what is answered and what is written can't differ
     ensures line { IfOk result
         (λ outcome. Appends (O.taken out.old) (O.taken out.new) (outcome_line outcome)) }
-    ensures fault { IfErr result (IsTextRefusal (D.left dump.old) (D.failures dump.old)
-        (D.failures dump.new) (P.left probe.old) (P.failures probe.old) (P.failures probe.new)) }
+    ensures fault { IfErr result (IsTextRefusal
+        (reading (D.left dump.old) (D.failures dump.old) (D.failures dump.new))
+        (reading (P.left probe.old) (P.failures probe.old) (P.failures probe.new))) }
     // where a text is refused no part of a line goes out
     ensures quiet { IfErr result (λ fault. fault ≢ AuditFault.Write → out.new ≡ out.old) }
     // both texts were judged then: only the line of their verdict didn't get out
@@ -113,8 +115,9 @@ pub fn audit<A: Allocator + Copy, D: Source, P: Source, O: Sink>(
     ensures outcome { IfOk result (IsAudited (0 ∷ []) (D.left dump.old) (P.left probe.old)) }
     ensures line { IfOk result
         (λ outcome. Appends (O.taken out.old) (O.taken out.new) (outcome_line outcome)) }
-    ensures fault { IfErr result (IsTextRefusal (D.left dump.old) (D.failures dump.old)
-        (D.failures dump.new) (P.left probe.old) (P.failures probe.old) (P.failures probe.new)) }
+    ensures fault { IfErr result (IsTextRefusal
+        (reading (D.left dump.old) (D.failures dump.old) (D.failures dump.new))
+        (reading (P.left probe.old) (P.failures probe.old) (P.failures probe.new))) }
     ensures quiet { IfErr result (λ fault. fault ≢ AuditFault.Write → out.new ≡ out.old) }
     ensures begun { IfErr result (λ fault. fault ≡ AuditFault.Write
         → HasBegun (0 ∷ []) (D.left dump.old) (P.left probe.old) (O.taken out.old)

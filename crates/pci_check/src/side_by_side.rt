@@ -4,7 +4,7 @@ ghost use Rattle.pci_spec.specs.Text.{Block as BlockValue};
 ghost use Rattle.pci_spec.specs.Stops.{IsAboveLast};
 ghost use Rattle.pci_dump.specs.State.{IsOver, state_of};
 ghost use Rattle.pci_tree.specs.Roots.{buses_of};
-ghost use Rattle.pci_check.specs.Audits.{IsDumpOf, IsReadFaultOf, IsTextRefusal};
+ghost use Rattle.pci_check.specs.Audits.{IsDumpOf, IsReadFaultOf, IsTextRefusal, reading};
 ghost use Rattle.pci_check.specs.SideBySide.{Texts, IsTaken, IsRest, IsOpen, IsBeside, AreBeside, IsBesideOrDecided, IsTakenBySurvey, IsDecided, IsSurveyOfTexts};
 
 use super::outcome::AuditFault;
@@ -184,8 +184,9 @@ pub(crate) fn survey_texts<A: Allocator, D: Source, P: Source>(
 ) -> Result<Survey<A>, AuditFault>
     ensures survey { IfOk result
         (λ v. IsSurveyOfTexts (buses_of roots) (D.left dump.old) (P.left probe.old) v) }
-    ensures fault { IfErr result (IsTextRefusal (D.left dump.old) (D.failures dump.old)
-        (D.failures dump.new) (P.left probe.old) (P.failures probe.old) (P.failures probe.new)) }
+    ensures fault { IfErr result (IsTextRefusal
+        (reading (D.left dump.old) (D.failures dump.old) (D.failures dump.new))
+        (reading (P.left probe.old) (P.failures probe.old) (P.failures probe.new))) }
     ensures read { IfErr result (λ fault. fault ≢ AuditFault.Write) }
 {
     let mut both = SideBySide::new(alloc, roots);

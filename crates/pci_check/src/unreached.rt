@@ -148,7 +148,7 @@ fn first_stop<A: Allocator + Copy>(
     ensures { MatchOption result ((k : ℕ) → k < length path.now
         → IsWholeBehind reached.now (space_of space) path.now region.now.slot.bus region.now k)
         (λ s. IsFirstStop reached.now
-        (space_of space) path.now region.now.slot.bus region.now s.index s.address) }
+        (space_of space) path.now region.now s.index s.address) }
 {
     let end = region.slot.bus();
     for i in 0..path.len() {

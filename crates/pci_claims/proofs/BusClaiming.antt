@@ -11,6 +11,7 @@ use Rattle.pci_spec.specs.Slot.{Slot, slot_number}
 use Rattle.pci_spec.specs.System.{System, Function, Space, is_bridge, is_space_on}
 use Rattle.pci_spec.specs.Bus.{IsNested}
 use Rattle.pci_spec.specs.Decoded.{record_of}
+use Rattle.pci_spec.specs.Fault.{address_in, named_region}
 use Rattle.pci_spec.proofs.Members.{in_nil, in_filter_to, in_filter_from, in_map_to, in_map_from, pairs_append, pairs_filter, pairs_map, pairs_nil}
 use Rattle.pci_spec.proofs.Regions.{register_of-lt}
 use Rattle.pci_base.specs.declared.range.Range.{Range}
@@ -28,7 +29,7 @@ use Rattle.given_spec.specs.Claims.{Own, Legacy, ClaimsOnBus}
 use Rattle.pci_claims.specs.Passed.{is_piece_at}
 use Rattle.pci_claims.specs.Reached.{IsAccessReach}
 use Rattle.pci_claims.specs.Claim.{Claimed, IsClaimOn, IsClaimOfRegion, IsClaimOfLegacy}
-use Rattle.pci_claims.specs.BusClaims.{number_of, AreRegionClaims, IsBridgeAt, IsLegacyClaimAt, AreLegacyClaims, AreLegacyAdded, AreBridgesOf, IsNamedOn, AreClaimsOn}
+use Rattle.pci_claims.specs.BusClaims.{number_of, AreRegionClaims, IsBridgeAt, IsLegacyClaimAt, AreLegacyClaims, AreMoreClaims, AreBridgesOf, IsNamedOn, AreClaimsOn}
 use Rattle.pci_claims.proofs.RegionClaims.{not_legacy}
 use Rattle.pci_claims.proofs.Linking.{legacy_same}
 use Rattle.pci_claims.proofs.Rooted.{sent_there}
@@ -57,20 +58,20 @@ module _ (given : Given) (space : Space) (records : List Record) (reach : List R
   legacy_numbered : (slot : Slot) (c : Claimed) → IsLegacyClaimAt given space records reach slot c → number_of c ≡ place slot
   legacy_numbered slot c (r, at, is) = number_same c.slot slot c.register 0x3e (is.slot ∙ at.1) is.register
 
-  pub no_legacy : (claims : List Claimed) → AreLegacyAdded given space records reach [] claims claims
+  pub no_legacy : (claims : List Claimed) → AreMoreClaims (AreLegacyClaims given space records reach []) claims claims
   no_legacy claims = record { more = []; appended = sym (append-nil claims); made = made_none (IsLegacyClaimAt given space records reach) IsHere place number_of legacy_numbered }
 
   module _ (slots : List Slot) (i : ℕ) (slot : Slot) (before mid : List Claimed) (within : i < length slots) (at : slot ≡ get_or slots i slot)
-      (added : AreLegacyAdded given space records reach (take i slots) before mid) where
+      (added : AreMoreClaims (AreLegacyClaims given space records reach (take i slots)) before mid) where
     pub one_legacy_more : (r : Record) (c : Claimed) (after : List Claimed) → IsBridgeAt records space slot r → IsClaimOfLegacy given space r reach c → after ≡ mid ++ c ∷ []
-        → AreLegacyAdded given space records reach (take (i + 1) slots) before after
+        → AreMoreClaims (AreLegacyClaims given space records reach (take (i + 1) slots)) before after
     one_legacy_more r c after here is pushed = record {
       more = added.more ++ c ∷ [];
       appended = pushed ∙ ap (λ (l : List Claimed). l ++ c ∷ []) added.appended ∙ append_assoc before added.more (c ∷ []);
       made = made_more (IsLegacyClaimAt given space records reach) IsHere place number_of legacy_numbered slots i slot added.more within at added.made c (r, here, is);
     }
 
-    pub no_legacy_more : ((r : Record) → IsBridgeAt records space slot r → ⊥) → AreLegacyAdded given space records reach (take (i + 1) slots) before mid
+    pub no_legacy_more : ((r : Record) → IsBridgeAt records space slot r → ⊥) → AreMoreClaims (AreLegacyClaims given space records reach (take (i + 1) slots)) before mid
     no_legacy_more none = record {
       more = added.more;
       appended = added.appended;
@@ -144,7 +145,7 @@ module _ (given : Given) (t : Tree) (s : System) (tree : HasTree t s) (bus : ℕ
     slot_is : f.slot ≡ slot
     register_is : register ≡ 0x3e
 
-  claimant : (slot : Slot) (register a : ℕ) → ClaimsOnBus given s bus space a slot register → IsRegionNamed slot register ⊎ IsLegacyNamed a slot register
+  claimant : (slot : Slot) (register a : ℕ) → ClaimsOnBus given s bus (address_in space a) (named_region slot register) → IsRegionNamed slot register ⊎ IsLegacyNamed a slot register
   claimant slot register a (f, Own part, listed, at, on_bus, named, claims) =
       let found = are.complete f part a listed (ap (λ (x : Slot). x.bus) at ∙ on_bus) claims in
       inl record { q = found.q; has = found.has; slot_is = found.is.slot ∙ at; register_is = found.is.register ∙ named }

@@ -6,6 +6,7 @@ use Rattle.std.specs.List.{Contains, list_any}
 use Rattle.std.proofs.lemmas.Bool.{and_from, and_parts}
 use Rattle.pci_spec.specs.Slot.{Slot, slot_number}
 use Rattle.pci_spec.specs.System.{System, Function, Space, IsSystem}
+use Rattle.pci_spec.specs.Fault.{address_in, named_region}
 use Rattle.pci_spec.proofs.Nesting.{one_function}
 use Rattle.pci_base.specs.declared.range.Range.{Range}
 use Rattle.pci_base.specs.Space.{is_on}
@@ -35,7 +36,7 @@ legacy_on given space r legacy pieces out said on are is = record {
 }
 
 -- what Bridge Control names is the legacy part
-legacy_is : (given : Given) (s : System) → IsSystem s → (space : Space) (f : Function) (slot : Slot) → Contains s f → slot ≡ f.slot → (a : ℕ) → ClaimsOnBus given s f.slot.bus space a slot 0x3e
+legacy_is : (given : Given) (s : System) → IsSystem s → (space : Space) (f : Function) (slot : Slot) → Contains s f → slot ≡ f.slot → (a : ℕ) → ClaimsOnBus given s f.slot.bus (address_in space a) (named_region slot 0x3e)
     → LegacyClaims given f space a
 legacy_is given s sound space f slot in_s e a (g, Own part, listed, at, there, named, claims) = absurd (not_legacy g part named)
 legacy_is given s sound space f slot in_s e a (g, Legacy, listed, at, there, named, claims) =
@@ -61,7 +62,7 @@ legacy_claim given space r reach own pieces legacy is = record {
             record { address = got.0; claims = legacy_same given space a r f e ∙ (legacy.exact a).0 both.0 },
           ),
         )),
-    λ (h : Gets given roots s space a f.slot.bus × ClaimsOnBus given s f.slot.bus space a r.slot 0x3e). (
+    λ (h : Gets given roots s space a f.slot.bus × ClaimsOnBus given s f.slot.bus (address_in space a) (named_region r.slot 0x3e)). (
         let claimed : LegacyClaims given f space a = legacy_is given s sound space f r.slot in_s (same_slot_of r f e) a h.1 in
         (is.exact a).1 ((legacy.exact a).1 (sym (legacy_same given space a r f e) ∙ claimed.claims), (gets.exact a).1 (claimed.address, h.0))),
   );

@@ -6,6 +6,7 @@ use Rattle.std.proofs.lemmas.Bool.{cases_lt, both_ways, false_from_ne_true}
 use Rattle.pci_spec.specs.Slot.{Slot}
 use Rattle.pci_spec.specs.System.{System, Function, Space, Claims, Leads}
 use Rattle.pci_spec.specs.Decoded.{record_of}
+use Rattle.pci_spec.specs.Fault.{address_in, named_region}
 use Rattle.pci_spec.proofs.Firsts.{same_region}
 use Rattle.pci_spec.proofs.Members.{in_map_from}
 use Rattle.pci_base.specs.declared.range.Range.{Range}
@@ -55,7 +56,7 @@ module _ (given : Given) (t : Tree) (space : Space) (r : Region) (path : List Sl
   root_is s tree = root_of s (paths s tree).root (paths s tree).bridges r.slot.bus path root (paths s tree).leads (paths s tree).named is_root
 
   -- an address that is outside is the region's, and isn't sent to the root
-  outside_is : (s : System) → HasTree t s → (bus : ℕ) → IsRegionOn s bus space r → (sp : Space) (a : ℕ) → IsOutside given t.roots s r.slot r.reg sp a
+  outside_is : (s : System) → HasTree t s → (bus : ℕ) → IsRegionOn s bus space r → (sp : Space) (a : ℕ) → IsOutside given t.roots s (named_region r.slot r.reg) (address_in sp a)
       → Holds (range r) a × (starts given space root a ≡ false)
   outside_is s tree bus on sp a outside =
       let first : Claims on.f on.part space r.first = (on.is.claims r.first).0 (omega arith, on.is.some) in

@@ -6,6 +6,7 @@ use Rattle.std.proofs.lemmas.List.{take_all}
 use Rattle.pci_spec.specs.Slot.{Slot, slot_number}
 use Rattle.pci_spec.specs.Window.{WindowKind}
 use Rattle.pci_spec.specs.System.{System, Function, Space, Io, Memory, IsAddress, window_space}
+use Rattle.pci_spec.specs.Fault.{address_in}
 use Rattle.pci_spec.proofs.Members.{in_map_from}
 use Rattle.pci_base.specs.declared.range.Range.{Range}
 use Rattle.pci_base.specs.Space.{is_prefetch, kind_in}
@@ -19,7 +20,7 @@ use Rattle.given_spec.specs.Claims.{passes, IsPassedTo}
 use Rattle.pci_claims.specs.Passed.{passes_with, IsPassedOnWith}
 use Rattle.pci_claims.specs.Sent.{IsSentTo}
 use Rattle.pci_claims.specs.Outside.{IsRootOf}
-use Rattle.pci_claims.specs.Reached.{PassesAt, IsReachAlong, IsReachWith, IsReachInEach, IsAccessReach, IsAccessReachInEach}
+use Rattle.pci_claims.specs.Reached.{PassesAt, IsReachAlong, IsReachTo, IsReachInEach, IsAccessReach, IsAccessReachInEach}
 use Rattle.pci_claims.proofs.Outsides.{root_of}
 use Rattle.pci_claims.proofs.Walking.{all_more, all_before, all_here, way_passes}
 
@@ -80,7 +81,7 @@ module _ (given : Given) (kind : WindowKind) (records : List Record) (root : ℕ
 -- ---- in a system
 
 pub reach_with : (given : Given) (kind : WindowKind) (roots : List ℕ) (s : System) (rs : List Record) (path : List Slot) (bus root : ℕ) (out : List Range) → Has s rs → RiseBySlot rs
-    → IsPathTo roots s path bus → IsRootOf path bus root → IsReachAlong given kind rs root path out → IsReachWith given roots s (window_space kind) (is_prefetch kind) bus out
+    → IsPathTo roots s path bus → IsRootOf path bus root → IsReachAlong given kind rs root path out → IsReachTo given roots s kind bus out
 reach_with given kind roots s rs path bus root out is rise way at reach =
     let here : way.root ≡ root = root_of s way.root way.bridges bus path root way.leads way.named at in record {
       canonical = reach.canonical;
@@ -97,7 +98,7 @@ reach_with given kind roots s rs path bus root out is rise way at reach =
                 (way_passes given kind s rs is rise a way.root way.bridges bus way.leads).0 (subst (All (PassesAt given kind rs a)) (sym way.named) gets.2),
               ),
             )),
-        λ (h : IsAddress (window_space kind) a × IsPassedTo given roots s (window_space kind) (is_prefetch kind) a bus). (
+        λ (h : IsAddress (window_space kind) a × IsPassedTo given roots s (address_in (window_space kind) a) (is_prefetch kind) bus). (
             let (address, (from, in_roots, sent, bridges, leads, pass)) = h in
             let only : (from ≡ way.root) × (bridges ≡ way.bridges) = way.only from bridges in_roots leads in
             (reach.exact a).1 (
@@ -112,7 +113,7 @@ reach_with given kind roots s rs path bus root out is rise way at reach =
 -- ---- any access
 
 pub access_of : (given : Given) (roots : List ℕ) (s : System) (space : Space) (bus : ℕ) (out : List Range)
-    → IsReachWith given roots s (window_space (kind_in space true)) (is_prefetch (kind_in space true)) bus out → IsAccessReach given roots s space bus out
+    → IsReachTo given roots s (kind_in space true) bus out → IsAccessReach given roots s space bus out
 access_of given roots s Io bus out is = record { canonical = is.canonical; exact = is.exact }
 access_of given roots s Memory bus out is = record { canonical = is.canonical; exact = is.exact }
 

@@ -6,6 +6,7 @@ use Rattle.pci_spec.specs.Header.{layout, rom_place}
 use Rattle.pci_spec.specs.Window.{IoWindow, MemoryWindow, PrefetchWindow}
 use Rattle.pci_spec.specs.System.{System, Function, Space, Part, Bar, Rom, Window, IsSystem}
 use Rattle.pci_spec.specs.System as system
+use Rattle.pci_spec.specs.Fault.{address_in, named_region}
 use Rattle.pci_spec.proofs.Firsts.{same_region}
 use Rattle.pci_base.specs.declared.range.Range.{Range}
 use Rattle.pci_tree.specs.declared.region.Region.{Region}
@@ -31,7 +32,7 @@ not_legacy f (Window MemoryWindow) e = omega (arith, e)
 not_legacy f (Window PrefetchWindow) e = omega (arith, e)
 
 -- what a region claims by its name is the region's
-claimed_is : (given : Given) (s : System) → IsSystem s → (bus : ℕ) (space : Space) (r : Region) → IsRegionOn s bus space r → (a : ℕ) → ClaimsOnBus given s bus space a r.slot r.reg
+claimed_is : (given : Given) (s : System) → IsSystem s → (bus : ℕ) (space : Space) (r : Region) → IsRegionOn s bus space r → (a : ℕ) → ClaimsOnBus given s bus (address_in space a) (named_region r.slot r.reg)
     → ((r.first ≤ a) × (a ≤ r.last)) × system.IsAddress space a
 claimed_is given s sound bus space r on a (f, Own part, listed, at, there, named, claims) =
     let first : system.Claims on.f on.part space r.first = (on.is.claims r.first).0 (omega arith, on.is.some) in
@@ -59,7 +60,7 @@ region_claim r reach own pieces held is = record {
             (on.is.claims a).0 ((held a).0 both.0),
           ),
         )),
-    λ (h : Gets given roots s space a bus × ClaimsOnBus given s bus space a r.slot r.reg). (
+    λ (h : Gets given roots s space a bus × ClaimsOnBus given s bus (address_in space a) (named_region r.slot r.reg)). (
         let claimed = claimed_is given s sound bus space r on a h.1 in
         (is.exact a).1 ((held a).1 claimed.0, (gets.exact a).1 (claimed.1, h.0))),
   );

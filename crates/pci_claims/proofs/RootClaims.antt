@@ -6,6 +6,7 @@ use Rattle.std.proofs.lemmas.Bool.{cases_eq}
 use Rattle.std.proofs.lemmas.List.Elements.{Contains-append_left, Contains-append_right, Contains-append_cases}
 use Rattle.pci_spec.specs.Slot.{Slot, IsSlot}
 use Rattle.pci_spec.specs.System.{System, IsSystem, Space}
+use Rattle.pci_spec.specs.Fault.{address_in, named_region}
 use Rattle.pci_spec.proofs.Members.{in_nil, pairs_nil, pairs_append}
 use Rattle.pci_spec.proofs.Firsts.{slot_of}
 use Rattle.pci_tree.specs.Ranges.{Covers}
@@ -67,7 +68,7 @@ module _ (given : Given) (t : Tree) (space : Space) where
       sent_of : (c : Claimed) → Contains claims c → IsClaimSent given s space c
       sent_of c has =
           let at = (on.named c has).on_bus in
-          subst (λ n. (a : ℕ) → Covers c.pieces a ↔ (IsTrue (starts given space n a) × ClaimsOnBus given s n space a c.slot c.register)) (sym at) (λ a. (
+          subst (λ n. (a : ℕ) → Covers c.pieces a ↔ (IsTrue (starts given space n a) × ClaimsOnBus given s n (address_in space a) (named_region c.slot c.register))) (sym at) (λ a. (
             λ covers. (on.sent root c has a covers, ((on.each c has a).0 covers).1),
             λ both. (on.each c has a).1 ((bus, root, both.0, [], refl, refl), both.1),
           ))
@@ -85,7 +86,7 @@ module _ (given : Given) (t : Tree) (space : Space) where
         each = λ c has. elim (Contains-append_cases before claims c has) [ inl old ↦ are.each c old | inr new ↦ sent_of c new ];
         complete = λ slot register a lower claims_it. elim (cases_eq slot.bus bus) [
           | inl same ↦ (
-              let (c, there, at, named) = on.complete slot register a (subst (λ n. ClaimsOnBus given s n space a slot register) same claims_it) in
+              let (c, there, at, named) = on.complete slot register a (subst (λ n. ClaimsOnBus given s n (address_in space a) (named_region slot register)) same claims_it) in
               (c, Contains-append_right before claims c there, at, named))
           | inr differ ↦ (
               let less = lower.0 in

@@ -7,6 +7,7 @@ use Rattle.pci_spec.specs.Registers.{BRIDGE_CONTROL}
 use Rattle.pci_spec.specs.System.{System, Function, Space, is_bridge}
 use Rattle.pci_spec.specs.Decoded.{HasRecords}
 use Rattle.pci_spec.specs.JudgingLaws.{region_number}
+use Rattle.pci_spec.specs.Fault.{address_in, named_region}
 use Rattle.pci_base.specs.declared.range.Range.{Range}
 use Rattle.pci_base.specs.Space.{is_on}
 use Rattle.pci_function.specs.declared.record.Record.{Record}
@@ -36,7 +37,8 @@ pub record IsNamedOn (s : System) (bus : ℕ) (c : Claimed) : Type 0 where
 pub record AreClaimsOn (given : Given) (roots : List ℕ) (s : System) (bus : ℕ) (space : Space)
     (claims : List Claimed) : Type 0 where
   pub each : (c : Claimed) → Contains claims c → IsClaimOn given roots s bus space c
-  pub complete : (slot : Slot) (register a : ℕ) → ClaimsOnBus given s bus space a slot register
+  pub complete : (slot : Slot) (register a : ℕ)
+      → ClaimsOnBus given s bus (address_in space a) (named_region slot register)
       → (c : Claimed) × Contains claims c × (c.slot ≡ slot) × (c.register ≡ register)
   pub rising : AllPairs (λ c d. number_of c < number_of d) claims
   -- also of a claim that answers no address
@@ -76,11 +78,11 @@ AreLegacyClaims given space records reach slots claims =
     (λ slot. region_number slot BRIDGE_CONTROL) number_of slots claims
 
 -- they come behind others
-pub record AreLegacyAdded (given : Given) (space : Space) (records : List Record)
-    (reach : List Range) (slots : List Slot) (before after : List Claimed) : Type 0 where
+pub record AreMoreClaims (AreMade : List Claimed
+    → Type 0) (before after : List Claimed) : Type 0 where
   pub more : List Claimed
   pub appended : after ≡ before ++ more
-  pub made : AreLegacyClaims given space records reach slots more
+  pub made : AreMade more
 
 -- the slots of the bridges
 abbrev pub AreBridgesOf : Tree → List Slot → Type 0

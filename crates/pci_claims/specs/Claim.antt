@@ -5,6 +5,7 @@ use Rattle.pci_spec.specs.Slot.{Slot}
 use Rattle.pci_spec.specs.Registers.{BRIDGE_CONTROL}
 use Rattle.pci_spec.specs.System.{System, Function, Space, IsSystem}
 use Rattle.pci_spec.specs.Decoded.{record_of}
+use Rattle.pci_spec.specs.Fault.{address_in, named_region}
 use Rattle.pci_base.specs.declared.range.Range.{Range}
 use Rattle.pci_function.specs.declared.record.Record.{Record}
 use Rattle.pci_function.specs.Values.{record_value}
@@ -36,7 +37,8 @@ pub record Claimed : Type 0 where
 abbrev pub IsClaimOn : Given → List ℕ → System → ℕ → Space → Claimed → Type 0
 IsClaimOn given roots s bus space c =
     (a : ℕ) → Covers c.pieces a
-    ↔ (Gets given roots s space a bus × ClaimsOnBus given s bus space a c.slot c.register)
+    ↔ (Gets given roots s space a bus × ClaimsOnBus given s bus (address_in space a)
+    (named_region c.slot c.register))
 
 -- both answer an address that they may not share
 pub record AreAtOdds (c d : Claimed) (a : ℕ) : Type 0 where

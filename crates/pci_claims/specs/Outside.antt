@@ -3,6 +3,7 @@ use Rattle.std.specs.Prelude.{◌≡◌, ℕ, ◌<◌, false, IsTrue, List, leng
 use Rattle.std.specs.List.{HoldsAt}
 use Rattle.pci_spec.specs.Slot.{Slot}
 use Rattle.pci_spec.specs.System.{System, Space, IsAddress}
+use Rattle.pci_spec.specs.Fault.{address_in, named_region}
 use Rattle.pci_base.specs.declared.range.Range.{Range}
 use Rattle.pci_tree.specs.declared.region.Region.{Region}
 use Rattle.pci_tree.specs.Ranges.{Holds}
@@ -33,10 +34,11 @@ pub record IsRootOf (path : List Slot) (end root : ℕ) : Type 0 where
 abbrev pub IsNeverOutside : Given → Tree → Space → Region → Type 0
 IsNeverOutside given t space r =
     (s : System) → HasTree t s → (bus : ℕ) → IsRegionOn s bus space r → is_of_window r.part ≡ false
-    → (sp : Space) (a : ℕ) → IsOutside given t.roots s r.slot r.reg sp a → ⊥
+    → (sp : Space) (a : ℕ) → IsOutside given t.roots s (named_region r.slot r.reg) (address_in sp a)
+    → ⊥
 
 -- in each such system a list of all faults names the region with this address
 abbrev pub IsOutsideLine : Given → Tree → Space → Region → ℕ → Type 0
 IsOutsideLine given t space r a =
     (s : System) → HasTree t s → (bus : ℕ) → IsRegionOn s bus space r → is_of_window r.part ≡ false
-    → IsOutsideOf given t.roots s r.slot r.reg space a
+    → IsOutsideOf given t.roots s (named_region r.slot r.reg) (address_in space a)

@@ -1,10 +1,11 @@
 -- What gets to a bus, with what is given.
-use Rattle.std.specs.Prelude.{◌≡◌, ℕ, ◌↔◌, Bool, IsTrue, List}
+use Rattle.std.specs.Prelude.{◌≡◌, ℕ, ◌↔◌, IsTrue, List}
 use Rattle.std.specs.List.{All, Contains}
 use Rattle.pci_spec.specs.Slot.{Slot}
 use Rattle.pci_spec.specs.Window.{WindowKind}
 use Rattle.pci_spec.specs.System.{System, Space, IsAddress, window_space}
 use Rattle.pci_spec.specs.Decoded.{HasRecords}
+use Rattle.pci_spec.specs.Fault.{address_in}
 use Rattle.pci_base.specs.declared.range.Range.{Range}
 use Rattle.pci_base.specs.Space.{is_prefetch}
 use Rattle.pci_function.specs.declared.record.Record.{Record}
@@ -27,19 +28,21 @@ pub record IsReachAlong (given : Given) (kind : WindowKind) (records : List Reco
       ↔ (IsAddress (window_space kind) a × IsTrue (starts given (window_space kind) root a)
       × All (PassesAt given kind records a) slots)
 
--- ranges that rise with a gap between two, and have just the addresses of a space that are passed on to a bus from a root
--- on which accesses to them start
-pub record IsReachWith (given : Given) (roots : List ℕ) (s : System) (space : Space)
-    (prefetch : Bool) (bus : ℕ) (out : List Range) : Type 0 where
+-- ranges that rise with a gap between two, and have just the addresses of a space that are reached
+pub record AreReached (space : Space) (IsReached : ℕ → Type 0) (out : List Range) : Type 0 where
   pub canonical : IsCanonical out
-  pub exact : (a : ℕ) → Covers out a
-      ↔ (IsAddress space a × IsPassedTo given roots s space prefetch a bus)
+  pub exact : (a : ℕ) → Covers out a ↔ (IsAddress space a × IsReached a)
 
--- they are those of each system with the tree
+-- those of a kind of access that are passed on to a bus from a root on which accesses to them start
+abbrev pub IsReachTo : Given → List ℕ → System → WindowKind → ℕ → List Range → Type 0
+IsReachTo given roots s kind bus =
+    AreReached (window_space kind)
+    (λ a. IsPassedTo given roots s (address_in (window_space kind) a) (is_prefetch kind) bus)
+
+-- in each system with the tree
 abbrev pub IsReachInEach : Given → Tree → WindowKind → ℕ → List Range → Type 0
 IsReachInEach given t kind bus out =
-    (s : System) → HasRecords s t.records
-    → IsReachWith given t.roots s (window_space kind) (is_prefetch kind) bus out
+    (s : System) → HasRecords s t.records → IsReachTo given t.roots s kind bus out
 
 -- the same of the addresses at which some access gets to the bus
 pub record IsAccessReach (given : Given) (roots : List ℕ) (s : System) (space : Space) (bus : ℕ)

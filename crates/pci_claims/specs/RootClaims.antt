@@ -3,6 +3,7 @@ use Rattle.std.specs.Prelude.{◌≡◌, ℕ, ◌<◌, ◌↔◌, IsTrue, List}
 use Rattle.std.specs.List.{AllPairs, Contains}
 use Rattle.pci_spec.specs.Slot.{Slot}
 use Rattle.pci_spec.specs.System.{System, Space}
+use Rattle.pci_spec.specs.Fault.{address_in, named_region}
 use Rattle.pci_tree.specs.Ranges.{Covers}
 use Rattle.pci_tree.specs.Outline.{Tree}
 use Rattle.pci_check.specs.Trees.{HasTree}
@@ -16,7 +17,7 @@ abbrev pub IsClaimSent : Given → System → Space → Claimed → Type 0
 IsClaimSent given s space c =
     (a : ℕ) → Covers c.pieces a
     ↔ (IsTrue (starts given space c.slot.bus a)
-    × ClaimsOnBus given s c.slot.bus space a c.slot c.register)
+    × ClaimsOnBus given s c.slot.bus (address_in space a) (named_region c.slot c.register))
 
 -- of each region of some buses that claims an address of the space there is one claim, by slot and register
 pub record AreClaimsOver (given : Given) (IsOne : ℕ → Type 0) (s : System) (space : Space)
@@ -25,7 +26,7 @@ pub record AreClaimsOver (given : Given) (IsOne : ℕ → Type 0) (s : System) (
   pub named : (c : Claimed) → Contains claims c → IsNamedOn s c.slot.bus c
   pub each : (c : Claimed) → Contains claims c → IsClaimSent given s space c
   pub complete : (slot : Slot) (register a : ℕ) → IsOne slot.bus
-      → ClaimsOnBus given s slot.bus space a slot register
+      → ClaimsOnBus given s slot.bus (address_in space a) (named_region slot register)
       → (c : Claimed) × Contains claims c × (c.slot ≡ slot) × (c.register ≡ register)
   pub rising : AllPairs (λ c d. number_of c < number_of d) claims
 

@@ -6,7 +6,7 @@ ghost use Rattle.pci_base.specs.Space.{space_of};
 ghost use Rattle.pci_tree.specs.Ranges.{IsCanonical};
 ghost use Rattle.pci_tree.specs.Outline.{RiseBySlot};
 ghost use Rattle.pci_claims.specs.Values.{given_value};
-ghost use Rattle.pci_claims.specs.BusClaims.{number_of, AreRegionClaims, AreLegacyAdded, AreBridgesOf, AreClaimsInEach};
+ghost use Rattle.pci_claims.specs.BusClaims.{number_of, AreRegionClaims, AreLegacyClaims, AreMoreClaims, AreBridgesOf, AreClaimsInEach};
 
 use super::claim::{Claim, claim_of, legacy_claim_of};
 use super::given::Given;
@@ -52,8 +52,8 @@ fn add_legacy_claims<A: Allocator + Copy>(
     // found by halving
     requires rising { RiseBySlot records.now }
     requires canonical { IsCanonical reach.now }
-    ensures { OnOk result (AreLegacyAdded (given_value given.now) (space_of space) records.now
-        reach.now bridges.now claims.old.items claims.new.items) }
+    ensures { OnOk result (AreMoreClaims (AreLegacyClaims (given_value given.now)
+        (space_of space) records.now reach.now bridges.now) claims.old.items claims.new.items) }
 {
     for slot in bridges {
         if let Some(bridge) = record_at(records, *slot) {

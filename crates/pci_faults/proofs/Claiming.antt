@@ -6,7 +6,7 @@ use Rattle.std.proofs.lemmas.List.{get_or_default, get_or-map}
 use Rattle.std.proofs.lemmas.List.Elements.{Contains-get_or}
 use Rattle.pci_spec.specs.Slot.{Slot, IsSlot}
 use Rattle.pci_spec.specs.System.{System, IsSystem, Space as SpaceValue, IsAddress}
-use Rattle.pci_spec.specs.Fault.{ClaimsOnBus, IsClash, IsSplit}
+use Rattle.pci_spec.specs.Fault.{ClaimsOnBus, IsClash, IsSplit, address_in, named_region, named_regions}
 use Rattle.pci_spec.specs.Fault as faults
 use Rattle.pci_spec.specs.Order.{Clashes, Splits, judging_key}
 use Rattle.pci_spec.specs.JudgingLaws.{region_number}
@@ -34,7 +34,7 @@ use Rattle.pci_faults.specs.Lines.{region_at, nowhere, told, AreJust, AreLinesAd
 use Rattle.pci_faults.proofs.Naming.{IsAtPlace, IsSharedAs, IsLeastMeeting, number_at, rise_at, place_rise, just_told}
 
 module _ (s : System) (system : IsSystem s) (IsOne : ℕ → Type 0) (space : SpaceValue) (regions : List Region) (are : AreRegionsOn s IsOne space regions) where
-  claims_at : (k a : ℕ) → k < length regions → SpansAt regions k a → (bus : ℕ) × IsOne bus × ClaimsOnBus s bus space a (region_at regions k).slot (region_at regions k).reg
+  claims_at : (k a : ℕ) → k < length regions → SpansAt regions k a → (bus : ℕ) × IsOne bus × ClaimsOnBus s bus (address_in space a) (named_region (region_at regions k).slot (region_at regions k).reg)
   claims_at k a within spans = claims_of s system IsOne space regions are [] a (region_at regions k) record { has = Contains-get_or regions k nowhere within; claims = spans nowhere }
 
   -- the place of a region that claims an address
@@ -44,7 +44,7 @@ module _ (s : System) (system : IsSystem s) (IsOne : ℕ → Type 0) (space : Sp
     at : IsAtPlace regions k slot register
     spans : SpansAt regions k a
 
-  claimed_at : (a bus : ℕ) (slot : Slot) (register : ℕ) → IsOne bus → ClaimsOnBus s bus space a slot register → IsClaimedAt a slot register
+  claimed_at : (a bus : ℕ) (slot : Slot) (register : ℕ) → IsOne bus → ClaimsOnBus s bus (address_in space a) (named_region slot register) → IsClaimedAt a slot register
   claimed_at a bus slot register one (f, p, listed, at, on, named, claims) =
       let found = are.complete bus one f p a listed (ap (λ (x : Slot). x.bus) at ∙ on) claims in
       let is : (d : Region) → get_or regions found.has.0 d ≡ found.q = λ d. get_or_default regions found.has.0 d found.q found.has.1 ∙ found.has.2 in
@@ -105,12 +105,12 @@ module _ (roots : List ℕ) (s : System) (system : IsSystem s) (bus : ℕ) (spac
   }
 
   abbrev Clashing : ℕ → Slot → ℕ → Slot → ℕ → Type 0
-  Clashing a f r g q = IsClash roots s bus (space_of space) a f r g q
+  Clashing a f r g q = IsClash roots s bus (address_in (space_of space) a) (named_regions f r g q)
 
-  claims_here : (k a : ℕ) → k < length regions → SpansAt regions k a → ClaimsOnBus s bus (space_of space) a (region_at regions k).slot (region_at regions k).reg
+  claims_here : (k a : ℕ) → k < length regions → SpansAt regions k a → ClaimsOnBus s bus (address_in (space_of space) a) (named_region (region_at regions k).slot (region_at regions k).reg)
   claims_here k a within spans =
       let c = claims_at s system IsThis (space_of space) regions on_this_bus k a within spans in
-      subst (λ n. ClaimsOnBus s n (space_of space) a (region_at regions k).slot (region_at regions k).reg) c.1 c.2
+      subst (λ n. ClaimsOnBus s n (address_in (space_of space) a) (named_region (region_at regions k).slot (region_at regions k).reg)) c.1 c.2
 
   clash_of : (a i k : ℕ) → IsShared (Bus bus) regions allowed a i k → Clashing a (region_at regions i).slot (region_at regions i).reg (region_at regions k).slot (region_at regions k).reg
   clash_of a i k shared =
@@ -162,7 +162,7 @@ module _ (roots : List ℕ) (s : System) (system : IsSystem s) (bus : ℕ) (spac
 
   line_only : (fault : faults.Fault) → Line fault → (a : ℕ) × (f : Slot) × (r : ℕ) × (g : Slot) × (q : ℕ) × IsLeastMeeting Clashing a f r g q × (tell a f r g q ≡ fault)
   line_only (faults.Clash b sp a f r g q) ((one, e, h), line) =
-      let here = subst (λ n. IsClashOf roots s n (space_of space) a f r g q) e (subst (λ (x : SpaceValue). IsClashOf roots s b x a f r g q) h line) in (
+      let here = subst (λ n. IsClashOf roots s n (address_in (space_of space) a) (named_regions f r g q)) e (subst (λ (x : SpaceValue). IsClashOf roots s b (address_in x a) (named_regions f r g q)) h line) in (
         a,
         f,
         r,
@@ -189,12 +189,12 @@ module _ (roots : List ℕ) (s : System) (system : IsSystem s) (space : Space) (
   IsRoot = Contains roots
 
   abbrev Splitting : ℕ → Slot → ℕ → Slot → ℕ → Type 0
-  Splitting a f r g q = IsSplit roots s (space_of space) a f r g q
+  Splitting a f r g q = IsSplit roots s (address_in (space_of space) a) (named_regions f r g q)
 
   -- a region of the roots that claims an address
   record IsRootClaim (a k : ℕ) : Type 0 where
     root : Contains roots (region_at regions k).slot.bus
-    claims : ClaimsOnBus s (region_at regions k).slot.bus (space_of space) a (region_at regions k).slot (region_at regions k).reg
+    claims : ClaimsOnBus s (region_at regions k).slot.bus (address_in (space_of space) a) (named_region (region_at regions k).slot (region_at regions k).reg)
 
   root_claim : (k a : ℕ) → k < length regions → SpansAt regions k a → IsRootClaim a k
   root_claim k a within spans =
@@ -202,7 +202,7 @@ module _ (roots : List ℕ) (s : System) (system : IsSystem s) (space : Space) (
       let on = sym c.2.4 in
       record {
         root = subst (Contains roots) on c.1;
-        claims = subst (λ n. ClaimsOnBus s n (space_of space) a (region_at regions k).slot (region_at regions k).reg) on c.2;
+        claims = subst (λ n. ClaimsOnBus s n (address_in (space_of space) a) (named_region (region_at regions k).slot (region_at regions k).reg)) on c.2;
       }
 
   split_of : (a i k : ℕ) → IsShared Roots regions allowed a i k → Splitting a (region_at regions i).slot (region_at regions i).reg (region_at regions k).slot (region_at regions k).reg
@@ -271,7 +271,7 @@ module _ (roots : List ℕ) (s : System) (system : IsSystem s) (space : Space) (
 
   split_only : (fault : faults.Fault) → SplitLine fault → (a : ℕ) × (f : Slot) × (r : ℕ) × (g : Slot) × (q : ℕ) × IsLeastMeeting Splitting a f r g q × (tell_split a f r g q ≡ fault)
   split_only (faults.Split sp a f r g q) ((one, none, h), line) =
-      let here = subst (λ (x : SpaceValue). IsSplitOf roots s x a f r g q) h line in
+      let here = subst (λ (x : SpaceValue). IsSplitOf roots s (address_in x a) (named_regions f r g q)) h line in
       (a, f, r, g, q, record { there = here.there; rise = here.rise; least = λ c slot register. here.least c slot register }, ap (λ (x : SpaceValue). faults.Split x a f r g q) (sym h))
   split_only (faults.Unreached slot register sp a b) (at, line) = absurd (let no : ⊥ = cc in no)
   split_only (faults.Clash b sp a f r g q) (at, line) = absurd (let no : ⊥ = cc in no)

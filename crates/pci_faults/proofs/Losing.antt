@@ -9,6 +9,7 @@ use Rattle.pci_spec.specs.System.{System, Space as SpaceValue, Claims, IsPassedT
 use Rattle.pci_spec.specs.Fault as faults
 use Rattle.pci_spec.specs.Order.{Reach, judging_key}
 use Rattle.pci_spec.specs.AllFaults.{IsUnreachedOf}
+use Rattle.pci_spec.specs.Fault.{address_in, named_region}
 use Rattle.pci_spec.proofs.Firsts.{slot_of}
 use Rattle.pci_spec.proofs.Regions.{slot_from}
 use Rattle.pci_spec.proofs.AllFaults.{home_not_unreached, same_part}
@@ -32,7 +33,7 @@ added_nowhere t P Q a b none added = record { more = added.more; appended = adde
 module _ (t : Tree) (space : SpaceValue) (regions : List Region) where
   -- the line of the region at a place
   abbrev pub IsLineAt : ℕ → System → faults.Fault → Type 0
-  IsLineAt k s (faults.Unreached slot register sp a b) = IsAtPlace regions k slot register × (sp ≡ space) × IsUnreachedOf t.roots s slot register sp a b
+  IsLineAt k s (faults.Unreached slot register sp a b) = IsAtPlace regions k slot register × (sp ≡ space) × IsUnreachedOf t.roots s (named_region slot register) (address_in sp a) b
   IsLineAt k s fault = ⊥
 
   -- a line of one of the first so many
@@ -59,8 +60,8 @@ module _ (t : Tree) (bus : ℕ) (space : SpaceValue) (regions : List Region) (li
       let slot : v ≡ u = sym at_other.slot_is ∙ at.slot_is in
       let register : q ≡ r = sym at_other.register_is ∙ at.register_is in
       let same_space : sq ≡ sp = h ∙ sym e in
-      let moved : IsUnreachedOf t.roots s u r sp b d = subst (λ (x : SpaceValue). IsUnreachedOf t.roots s u r x b d) same_space
-      (subst (λ n. IsUnreachedOf t.roots s u n sq b d) register (subst (λ (x : Slot). IsUnreachedOf t.roots s x q sq b d) slot two)) in
+      let moved : IsUnreachedOf t.roots s (named_region u r) (address_in sp b) d = subst (λ (x : SpaceValue). IsUnreachedOf t.roots s (named_region u r) (address_in x b) d) same_space
+      (subst (λ n. IsUnreachedOf t.roots s (named_region u n) (address_in sq b) d) register (subst (λ (x : Slot). IsUnreachedOf t.roots s (named_region x q) (address_in sq b) d) slot two)) in
       let there = one.first sp b d moved.there in
       let back = moved.first sp a c one.there in
       let both : (c ≡ d) × (a ≡ b) = elim there [
@@ -118,8 +119,8 @@ module _ (t : Tree) (bus : ℕ) (space : SpaceValue) (regions : List Region) (li
         let claimed = (is_on.is.claims (region_at regions n).first).0 (omega arith, some) in
         let same_slot : slot ≡ f.slot = sym named.slot_is ∙ is_on.is.slot in
         let same_register : register ≡ register_of f part = sym named.register_is ∙ is_on.is.register in
-        let moved : IsUnreachedOf t.roots s f.slot (register_of f part) sp a b = subst (λ m. IsUnreachedOf t.roots s f.slot m sp a b) same_register
-        (subst (λ (x : Slot). IsUnreachedOf t.roots s x register sp a b) same_slot line) in
+        let moved : IsUnreachedOf t.roots s (named_region f.slot (register_of f part)) (address_in sp a) b = subst (λ m. IsUnreachedOf t.roots s (named_region f.slot m) (address_in sp a) b) same_register
+        (subst (λ (x : Slot). IsUnreachedOf t.roots s (named_region x register) (address_in sp a) b) same_slot line) in
         let no_window : is_window part ≡ false = ap is_window (sym (same_part t.roots s tree.system (nested s tree) f part is_on.listed claimed.there sp a b moved.there)) ∙ moved.there.no_window in
         home_not_unreached t.roots s tree.system (nested s tree) f part is_on.listed claimed.there
         (λ sq c claims.

@@ -4,7 +4,7 @@ use Rattle.std.proofs.lemmas.Bool.{cases_order}
 use Rattle.pci_spec.specs.Slot.{Slot, IsSlot, slot_number}
 use Rattle.pci_spec.specs.System.{System, IsSystem, Space, Io, Memory, IsAddress}
 use Rattle.pci_spec.specs.Bus.{IsNested}
-use Rattle.pci_spec.specs.Fault.{Fault, Unreached, Clash, Split, ClaimsOnBus}
+use Rattle.pci_spec.specs.Fault.{Fault, Unreached, Clash, Split, ClaimsOnBus, address_in, named_region}
 use Rattle.pci_spec.specs.Order.{precedes, slot_key, space_key, judging_key}
 use Rattle.pci_spec.specs.JudgingLaws.{region_number}
 use Rattle.pci_spec.specs.AllFaults.{IsNamed}
@@ -227,7 +227,7 @@ address_small Io a h = omega (arith, h)
 address_small Memory a h = h
 
 module _ (roots : List ℕ) (s : System) (system : IsSystem s) (nested : IsNested roots s) where
-  region_of : (bus : ℕ) (space : Space) (a : ℕ) (slot : Slot) (register : ℕ) → ClaimsOnBus s bus space a slot register → IsRegion slot register
+  region_of : (bus : ℕ) (space : Space) (a : ℕ) (slot : Slot) (register : ℕ) → ClaimsOnBus s bus (address_in space a) (named_region slot register) → IsRegion slot register
   region_of bus space a slot register claims = record { slot = named_slot s system bus space a slot register claims; register = named_register s bus space a slot register claims }
 
   pub spelled : (f : Fault) → IsNamed roots s f → IsSpelled f

@@ -5,6 +5,7 @@ use Rattle.pci_spec.specs.System as system
 use Rattle.pci_spec.specs.Fault as faults
 use Rattle.pci_spec.specs.Order.{Check, Reach, Clashes, Splits, judging_key}
 use Rattle.pci_spec.specs.AllFaults.{IsUnreachedOf, IsClashOf, IsSplitOf, AreAllOfJudging}
+use Rattle.pci_spec.specs.Fault.{address_in, named_region, named_regions}
 use Rattle.pci_base.specs.declared.space.Space.{Space}
 use Rattle.pci_function.specs.declared.fault.Fault.{Fault}
 use Rattle.pci_function.specs.declared.fault.Fault.TheVariants.{Clash, Split}
@@ -65,12 +66,15 @@ pub record AreAdded (t : Tree) (P : system.System → faults.Fault → Type 0)
 abbrev pub IsLine : (Check → ℕ → system.Space → Type 0) → List ℕ → system.System → faults.Fault
     → Type 0
 IsLine At roots s (faults.Unreached slot register space address bridge) =
-    At Reach slot.bus space × IsUnreachedOf roots s slot register space address bridge
+    At Reach slot.bus space × IsUnreachedOf roots s (named_region slot register)
+    (address_in space address) bridge
 IsLine At roots s (faults.Clash bus space address first first_register second second_register) =
     At Clashes bus space
-    × IsClashOf roots s bus space address first first_register second second_register
+    × IsClashOf roots s bus (address_in space address)
+    (named_regions first first_register second second_register)
 IsLine At roots s (faults.Split space address first first_register second second_register) =
-    At Splits 0 space × IsSplitOf roots s space address first first_register second second_register
+    At Splits 0 space × IsSplitOf roots s (address_in space address)
+    (named_regions first first_register second second_register)
 IsLine At roots s fault = ⊥
 
 -- they come behind those of a list

@@ -5,7 +5,7 @@ use Rattle.std.specs.List.Sorted.{IsPermutation, IsNonDecreasingBy}
 use Rattle.std.proofs.lemmas.Bool.{cases_eq}
 use Rattle.pci_spec.specs.Slot.{Slot, IsSlot}
 use Rattle.pci_spec.specs.System.{System, Space, Io, Memory, IsSystem, IsAddress}
-use Rattle.pci_spec.specs.Fault.{Clash}
+use Rattle.pci_spec.specs.Fault.{Clash, address_in, named_region}
 use Rattle.pci_spec.specs.Fault as plain
 use Rattle.pci_spec.proofs.Firsts.{slot_of, space_key-same}
 use Rattle.pci_check.proofs.Clashing.{io_is_not_memory}
@@ -83,7 +83,7 @@ module _ (given : Given) (roots : List ℕ) (s : System) where
   moved_line A B to f line = absurd (search rules)
 
   -- a bus has a number below 256
-  pub low_bus : IsSystem s → (bus : ℕ) (space : Space) (a : ℕ) (slot : Slot) (register : ℕ) → ClaimsOnBus given s bus space a slot register → IsSlot slot × (bus < 256)
+  pub low_bus : IsSystem s → (bus : ℕ) (space : Space) (a : ℕ) (slot : Slot) (register : ℕ) → ClaimsOnBus given s bus (address_in space a) (named_region slot register) → IsSlot slot × (bus < 256)
   low_bus system bus space a slot register claims =
       let is : IsSlot slot = subst IsSlot claims.3 (slot_of s system claims.0 claims.2) in
       let on = claims.4 in
@@ -125,11 +125,11 @@ address_small Io a h = omega (arith, h)
 address_small Memory a h = h
 
 module _ (given : Given) (roots : List ℕ) (s : System) (system : IsSystem s) where
-  pub address_of : (bus : ℕ) (space : Space) (a : ℕ) (slot : Slot) (register : ℕ) → ClaimsOnBus given s bus space a slot register → a < 2 ^ 64
+  pub address_of : (bus : ℕ) (space : Space) (a : ℕ) (slot : Slot) (register : ℕ) → ClaimsOnBus given s bus (address_in space a) (named_region slot register) → a < 2 ^ 64
   address_of bus space a slot register (f, Own part, listed, at, on, named, claims) = address_small space a claims.address
   address_of bus space a slot register (f, Legacy, listed, at, on, named, claims) = address_small space a claims.address
 
-  pub region_of : (bus : ℕ) (space : Space) (a : ℕ) (slot : Slot) (register : ℕ) → ClaimsOnBus given s bus space a slot register → IsRegion slot register
+  pub region_of : (bus : ℕ) (space : Space) (a : ℕ) (slot : Slot) (register : ℕ) → ClaimsOnBus given s bus (address_in space a) (named_region slot register) → IsRegion slot register
   region_of bus space a slot register claims = record {
     slot = (low_bus given roots s system bus space a slot register claims).0;
     register = named_register given s bus space a slot register claims;

@@ -6,6 +6,7 @@ use Rattle.pci_spec.specs.System.{System, Space as SpaceValue}
 use Rattle.pci_spec.specs.Fault as plain
 use Rattle.pci_spec.specs.Order.{judging_key}
 use Rattle.pci_spec.specs.JudgingLaws.{region_number}
+use Rattle.pci_spec.specs.Fault.{address_in, named_region, named_regions}
 use Rattle.pci_base.specs.declared.space.Space.{Space}
 use Rattle.pci_base.specs.Space.{space_of}
 use Rattle.pci_function.specs.declared.fault.Fault.{Fault}
@@ -26,7 +27,7 @@ use Rattle.pci_given.specs.Clashes.{claim_at, nobody, AreMeeting, AreMeetings, t
 use Rattle.pci_given.proofs.Telling.{IsNamedAt, number_at, named_at, IsMeetingAs, rise_at, place_rise, just_told}
 
 module _ (given : Given) (roots : List ℕ) (s : System) (bus : ℕ) (space : Space) (claims : List Claimed) (are : AreClaimsOn given roots s bus (space_of space) claims) where
-  claimed_at : (slot : Slot) (register a : ℕ) → ClaimsOnBus given s bus (space_of space) a slot register → (k : ℕ) × IsNamedAt claims k slot register
+  claimed_at : (slot : Slot) (register a : ℕ) → ClaimsOnBus given s bus (address_in (space_of space) a) (named_region slot register) → (k : ℕ) × IsNamedAt claims k slot register
   claimed_at slot register a claims_it =
       let (c, has, same_slot, same_register) = are.complete slot register a claims_it in
       named_at claims c slot register has same_slot same_register
@@ -34,7 +35,7 @@ module _ (given : Given) (roots : List ℕ) (s : System) (bus : ℕ) (space : Sp
   -- ---- clashes
 
   abbrev Clashing : ℕ → Slot → ℕ → Slot → ℕ → Type 0
-  Clashing a f r g q = IsClash given roots s bus (space_of space) a f r g q
+  Clashing a f r g q = IsClash given roots s bus (address_in (space_of space) a) (named_regions f r g q)
 
   clash_of : (a i k : ℕ) → AreMeeting (Bus bus) claims a i k → Clashing a (claim_at claims i).slot (claim_at claims i).register (claim_at claims k).slot (claim_at claims k).register
   clash_of a i k clash =
@@ -52,12 +53,12 @@ module _ (given : Given) (roots : List ℕ) (s : System) (bus : ℕ) (space : Sp
         apart = clash.meet.apart;
       }
 
-  answers : (k a : ℕ) (slot : Slot) (register : ℕ) → IsNamedAt claims k slot register → Gets given roots s (space_of space) a bus → ClaimsOnBus given s bus (space_of space) a slot register
+  answers : (k a : ℕ) (slot : Slot) (register : ℕ) → IsNamedAt claims k slot register → Gets given roots s (space_of space) a bus → ClaimsOnBus given s bus (address_in (space_of space) a) (named_region slot register)
       → Covers (claim_at claims k).pieces a
   answers k a slot register at gets claims_it = (are.each (claim_at claims k) (Contains-get_or claims k nobody at.within) a).1 (
     gets,
-    subst (λ n. ClaimsOnBus given s bus (space_of space) a (claim_at claims k).slot n) (sym at.register_is)
-        (subst (λ (x : Slot). ClaimsOnBus given s bus (space_of space) a x register) (sym at.slot_is) claims_it),
+    subst (λ n. ClaimsOnBus given s bus (address_in (space_of space) a) (named_region (claim_at claims k).slot n)) (sym at.register_is)
+        (subst (λ (x : Slot). ClaimsOnBus given s bus (address_in (space_of space) a) (named_region x register)) (sym at.slot_is) claims_it),
   )
 
   apart_at : (i k : ℕ) (f : Slot) (r : ℕ) (g : Slot) (q : ℕ) → IsNamedAt claims i f r → IsNamedAt claims k g q → may_share f r g q ≡ false
@@ -109,7 +110,7 @@ module _ (given : Given) (roots : List ℕ) (s : System) (bus : ℕ) (space : Sp
 
   line_only : (fault : plain.Fault) → Line fault → (a : ℕ) × (f : Slot) × (r : ℕ) × (g : Slot) × (q : ℕ) × IsLeastMeeting Clashing a f r g q × (tell a f r g q ≡ fault)
   line_only (plain.Clash b sp a f r g q) ((e, h), line) =
-      let here = subst (λ n. IsClashOf given roots s n (space_of space) a f r g q) e (subst (λ (z : SpaceValue). IsClashOf given roots s b z a f r g q) h line) in (
+      let here = subst (λ n. IsClashOf given roots s n (address_in (space_of space) a) (named_regions f r g q)) e (subst (λ (z : SpaceValue). IsClashOf given roots s b (address_in z a) (named_regions f r g q)) h line) in (
         a,
         f,
         r,

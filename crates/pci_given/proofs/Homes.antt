@@ -8,6 +8,7 @@ use Rattle.pci_spec.specs.System as system
 use Rattle.pci_spec.specs.System.{System}
 use Rattle.pci_spec.specs.Fault as plain
 use Rattle.pci_spec.specs.Order.{precedes}
+use Rattle.pci_spec.specs.Fault.{address_in, named_region}
 use Rattle.pci_spec.proofs.Members.{in_nil, pairs_nil}
 use Rattle.pci_spec.proofs.Firsts.{same_region, slot_of}
 use Rattle.pci_spec.proofs.Verdicts.{passed_by_each}
@@ -46,7 +47,7 @@ never_where_reached given t reaches space r nested are home s tree bus on no_win
 -- ---- where windows pass all of each BAR and ROM
 
 module _ (given : Given) (t : Tree) (nested : AlwaysNested t) (home : AreHome t) where
-  never_unreached : (s : System) → HasTree t s → (slot : Slot) (register : ℕ) (space : Space) (a : ℕ) (bridge : Slot) → IsUnreached given t.roots s slot register space a bridge → ⊥
+  never_unreached : (s : System) → HasTree t s → (slot : Slot) (register : ℕ) (space : Space) (a : ℕ) (bridge : Slot) → IsUnreached given t.roots s (named_region slot register) (address_in space a) bridge → ⊥
   never_unreached s tree slot register space a bridge u =
       let prefetch = is_prefetchable_part u.f u.part in
       let passed : IsPassedTo t.roots s space prefetch a slot.bus =

@@ -8,6 +8,7 @@ use Rattle.pci_spec.specs.System.{System, Space}
 use Rattle.pci_spec.specs.Fault as plain
 use Rattle.pci_spec.specs.Order.{precedes, slot_key}
 use Rattle.pci_spec.specs.JudgingLaws.{region_number}
+use Rattle.pci_spec.specs.Fault.{address_in, named_region}
 use Rattle.pci_spec.proofs.FirstLines.{same_precedes}
 use Rattle.pci_spec.proofs.Members.{in_map_to, in_map_from, pairs_map}
 use Rattle.pci_base.specs.Space.{space_of}
@@ -64,7 +65,7 @@ not_known given roots s f line number = absurd (search rules)
 
 module _ (given : Given) (t : Tree) (s : System) (tree : HasTree t s) (list : List BarOrRom) (bars : AreBarsAndRomsOf s list) (lines : List Outside) (made : AreOutsideLines given t list lines) where
   abbrev IsLineAt : Slot → ℕ → Space → ℕ → Type 0
-  IsLineAt slot register space a = IsOutsideOf given t.roots s slot register space a
+  IsLineAt slot register space a = IsOutsideOf given t.roots s (named_region slot register) (address_in space a)
 
   line_of : (o : Outside) → Contains lines o → IsLineAt o.slot o.reg (space_of o.space) o.address
   line_of o has =

@@ -10,7 +10,7 @@ use Rattle.std.proofs.lemmas.List.Sorted.{Contains-permutation}
 use Rattle.std.proofs.lemmas.List.Quantifiers.{all_pairs_push}
 use Rattle.pci_spec.specs.Slot.{Slot, same_slot}
 use Rattle.pci_spec.specs.System.{System, Space, is_bridge, is_space_on}
-use Rattle.pci_spec.specs.Fault.{Clash, Split}
+use Rattle.pci_spec.specs.Fault.{Clash, Split, address_in, named_region}
 use Rattle.pci_spec.specs.Fault as plain
 use Rattle.pci_spec.proofs.Members.{in_nil, in_head, in_cons_cases, in_map_to, pairs_nil}
 use Rattle.pci_spec.proofs.BusRanges.{any_gives}
@@ -157,7 +157,7 @@ module _ (given : Given) (s : System) (IsOne : ℕ → Type 0) (space : Space) (
     register_is : register ≡ 0x3e
     holds : legacy_holds bridge.is_wide space a ≡ true
 
-  claimant : (b : ℕ) (slot : Slot) (register a : ℕ) → IsOne b → ClaimsOnBus given s b space a slot register → IsRegionAt slot register a ⊎ IsLegacyAt slot register a
+  claimant : (b : ℕ) (slot : Slot) (register a : ℕ) → IsOne b → ClaimsOnBus given s b (address_in space a) (named_region slot register) → IsRegionAt slot register a ⊎ IsLegacyAt slot register a
   claimant b slot register a one (f, Own part, listed, at, on_bus, named, claims) =
       let found = are.complete b one f part a listed (ap (λ (x : Slot). x.bus) at ∙ on_bus) claims in
       let held = (found.is.claims a).1 claims in
@@ -208,8 +208,8 @@ of_bus s bus space regions are = record {
 module _ (given : Given) (t : Tree) where
   no_clash : (bus : ℕ) (space : Space) (s : System) → IsQuiet given s (λ b. b ≡ bus) space → (f : plain.Fault) → IsClashLine (IsOnBusIn bus space) given t.roots s f → ⊥
   no_clash bus space s quiet (Clash b sp a p m q n) (at, is) =
-      quiet a b b p q m n at.0 at.0 (subst (λ (x : Space). ClaimsOnBus given s b x a p m) at.1 is.there.claims_first)
-      (subst (λ (x : Space). ClaimsOnBus given s b x a q n) at.1 is.there.claims_second) is.there.differ is.there.apart
+      quiet a b b p q m n at.0 at.0 (subst (λ (x : Space). ClaimsOnBus given s b (address_in x a) (named_region p m)) at.1 is.there.claims_first)
+      (subst (λ (x : Space). ClaimsOnBus given s b (address_in x a) (named_region q n)) at.1 is.there.claims_second) is.there.differ is.there.apart
   no_clash bus space s quiet f line = absurd (search rules)
 
   pub no_clashes : (bus : ℕ) (space : Space) (list : List Fault) → IsQuietInEach given t (λ b. b ≡ bus) space → AreClashesAdded (IsOnBusIn bus space) given t list list
@@ -222,8 +222,8 @@ module _ (given : Given) (t : Tree) where
   no_split : (space : Space) (s : System) → IsQuiet given s (Contains t.roots) space → (f : plain.Fault) → IsSplitLine (IsIn space) given t.roots s f → ⊥
   no_split space s quiet (Split sp a p m q n) (at, is) =
       let differ : p ≡ q → ⊥ = λ same. is.there.buses (ap (λ (x : Slot). x.bus) same) in
-      quiet a p.bus q.bus p q m n is.there.root_first is.there.root_second (subst (λ (x : Space). ClaimsOnBus given s p.bus x a p m) at is.there.claims_first)
-      (subst (λ (x : Space). ClaimsOnBus given s q.bus x a q n) at is.there.claims_second) (λ same. differ same.0) (shared_by_one p q m n differ)
+      quiet a p.bus q.bus p q m n is.there.root_first is.there.root_second (subst (λ (x : Space). ClaimsOnBus given s p.bus (address_in x a) (named_region p m)) at is.there.claims_first)
+      (subst (λ (x : Space). ClaimsOnBus given s q.bus (address_in x a) (named_region q n)) at is.there.claims_second) (λ same. differ same.0) (shared_by_one p q m n differ)
   no_split space s quiet f line = absurd (search rules)
 
   pub no_splits : (space : Space) (list : List Fault) → IsQuietInEach given t (Contains t.roots) space → AreSplitsAdded (IsIn space) given t list list

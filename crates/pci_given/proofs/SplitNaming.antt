@@ -8,6 +8,7 @@ use Rattle.pci_spec.specs.System.{System, Space as SpaceValue}
 use Rattle.pci_spec.specs.Fault as plain
 use Rattle.pci_spec.specs.Order.{judging_key}
 use Rattle.pci_spec.specs.JudgingLaws.{region_number}
+use Rattle.pci_spec.specs.Fault.{address_in, named_region, named_regions}
 use Rattle.pci_base.specs.declared.space.Space.{Space}
 use Rattle.pci_base.specs.Space.{space_of}
 use Rattle.pci_function.specs.declared.fault.Fault.{Fault}
@@ -28,13 +29,13 @@ use Rattle.pci_given.specs.Splits.{IsSplitLine, IsIn, AreSplitsAdded}
 use Rattle.pci_given.proofs.Telling.{IsNamedAt, number_at, named_at, IsMeetingAs, place_rise, just_told}
 
 module _ (given : Given) (roots : List ℕ) (s : System) (space : Space) (claims : List Claimed) (are : AreClaimsOver given (Contains roots) s (space_of space) claims) where
-  claimed_at : (slot : Slot) (register a : ℕ) → Contains roots slot.bus → ClaimsOnBus given s slot.bus (space_of space) a slot register → (k : ℕ) × IsNamedAt claims k slot register
+  claimed_at : (slot : Slot) (register a : ℕ) → Contains roots slot.bus → ClaimsOnBus given s slot.bus (address_in (space_of space) a) (named_region slot register) → (k : ℕ) × IsNamedAt claims k slot register
   claimed_at slot register a root claims_it =
       let (c, has, same_slot, same_register) = are.complete slot register a root claims_it in
       named_at claims c slot register has same_slot same_register
 
   abbrev Splitting : ℕ → Slot → ℕ → Slot → ℕ → Type 0
-  Splitting a f r g q = IsSplit given roots s (space_of space) a f r g q
+  Splitting a f r g q = IsSplit given roots s (address_in (space_of space) a) (named_regions f r g q)
 
   split_of : (a i k : ℕ) → AreMeeting Roots claims a i k → Splitting a (claim_at claims i).slot (claim_at claims i).register (claim_at claims k).slot (claim_at claims k).register
   split_of a i k meeting =
@@ -54,10 +55,10 @@ module _ (given : Given) (roots : List ℕ) (s : System) (space : Space) (claims
       }
 
   answers : (k a : ℕ) (slot : Slot) (register : ℕ) → IsNamedAt claims k slot register → IsTrue (starts given (space_of space) slot.bus a)
-      → ClaimsOnBus given s slot.bus (space_of space) a slot register → Covers (claim_at claims k).pieces a
+      → ClaimsOnBus given s slot.bus (address_in (space_of space) a) (named_region slot register) → Covers (claim_at claims k).pieces a
   answers k a slot register at sent claims_it = (are.each (claim_at claims k) (Contains-get_or claims k nobody at.within) a).1
-      (subst (λ n. IsTrue (starts given (space_of space) (claim_at claims k).slot.bus a) × ClaimsOnBus given s (claim_at claims k).slot.bus (space_of space) a (claim_at claims k).slot n) (sym at.register_is)
-      (subst (λ (x : Slot). IsTrue (starts given (space_of space) x.bus a) × ClaimsOnBus given s x.bus (space_of space) a x register) (sym at.slot_is) (sent, claims_it)))
+      (subst (λ n. IsTrue (starts given (space_of space) (claim_at claims k).slot.bus a) × ClaimsOnBus given s (claim_at claims k).slot.bus (address_in (space_of space) a) (named_region (claim_at claims k).slot n)) (sym at.register_is)
+      (subst (λ (x : Slot). IsTrue (starts given (space_of space) x.bus a) × ClaimsOnBus given s x.bus (address_in (space_of space) a) (named_region x register)) (sym at.slot_is) (sent, claims_it)))
 
   splitting_as : (a : ℕ) (f : Slot) (r : ℕ) (g : Slot) (q : ℕ) → Splitting a f r g q → region_number f r < region_number g q → IsMeetingAs Roots claims a f r g q
   splitting_as a f r g q split less =
@@ -100,7 +101,7 @@ module _ (given : Given) (roots : List ℕ) (s : System) (space : Space) (claims
 
   line_only : (fault : plain.Fault) → Line fault → (a : ℕ) × (f : Slot) × (r : ℕ) × (g : Slot) × (q : ℕ) × IsLeastMeeting Splitting a f r g q × (tell a f r g q ≡ fault)
   line_only (plain.Split sp a f r g q) (h, line) =
-      let here = subst (λ (z : SpaceValue). IsSplitOf given roots s z a f r g q) h line in
+      let here = subst (λ (z : SpaceValue). IsSplitOf given roots s (address_in z a) (named_regions f r g q)) h line in
       (a, f, r, g, q, record { there = here.there; rise = here.rise; least = λ c slot register. here.least c slot register }, ap (λ (z : SpaceValue). plain.Split z a f r g q) (sym h))
   line_only fault line = absurd (search rules)
 

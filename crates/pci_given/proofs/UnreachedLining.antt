@@ -7,6 +7,7 @@ use Rattle.pci_spec.specs.Slot.{Slot, slot_number, IsSlot}
 use Rattle.pci_spec.specs.System.{System, Space}
 use Rattle.pci_spec.specs.Fault as plain
 use Rattle.pci_spec.specs.Order.{precedes, slot_key}
+use Rattle.pci_spec.specs.Fault.{address_in, named_region}
 use Rattle.pci_spec.proofs.FirstLines.{same_precedes}
 use Rattle.pci_spec.proofs.Members.{in_map_to, in_map_from, pairs_map}
 use Rattle.pci_base.specs.Space.{space_of}
@@ -60,7 +61,7 @@ same_fault s t r q space other a b slot register same =
 
 -- two lines of one region
 one_line : (given : Given) (roots : List ℕ) (s : System) (slot : Slot) (register : ℕ) (space : Space) (a e : ℕ) (b c : Slot)
-    → IsUnreachedOf given roots s slot register space a b → IsUnreachedOf given roots s slot register space e c → (a ≡ e) × (b ≡ c)
+    → IsUnreachedOf given roots s (named_region slot register) (address_in space a) b → IsUnreachedOf given roots s (named_region slot register) (address_in space e) c → (a ≡ e) × (b ≡ c)
 one_line given roots s slot register space a e b c one other = elim (one.first space e c other.there) [
   | inl less ↦ elim (other.first space a b one.there) [
     | inl more ↦ absurd (let no : ⊥ = omega (arith, less, more) in no)
@@ -74,7 +75,7 @@ one_line given roots s slot register space a e b c one other = elim (one.first s
 
 module _ (given : Given) (t : Tree) (s : System) (tree : HasTree t s) (list : List BarOrRom) (bars : AreBarsAndRomsOf s list) (lines : List Fault) (made : AreUnreachedLines given t list lines) where
   abbrev IsLineAt : Slot → ℕ → Space → ℕ → Slot → Type 0
-  IsLineAt slot register space a bridge = IsUnreachedOf given t.roots s slot register space a bridge
+  IsLineAt slot register space a bridge = IsUnreachedOf given t.roots s (named_region slot register) (address_in space a) bridge
 
   abbrev known : Fault → spec.Fault
   known f = Known (fault_of f)

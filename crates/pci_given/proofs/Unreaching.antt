@@ -12,6 +12,7 @@ use Rattle.pci_spec.specs.System.{System, Function, Space, Io, Memory, Claims, L
 use Rattle.pci_spec.specs.Bus.{IsNested}
 use Rattle.pci_spec.specs.Decoded.{HasRecords, record_of}
 use Rattle.pci_spec.specs.Decoded as decoded
+use Rattle.pci_spec.specs.Fault.{address_in, named_region}
 use Rattle.pci_spec.proofs.Firsts.{same_region, slot_of}
 use Rattle.pci_spec.proofs.Members.{in_map_from}
 use Rattle.pci_spec.proofs.Ways.{buses_rise}
@@ -130,7 +131,7 @@ module _ (given : Given) (t : Tree) (space : Space) (r : Region) (records : List
       sent : IsSent given space root a
       stops : passes given space (is_prefetchable_part on.f on.part) a b ≡ false
 
-    stopped : (sp : Space) (a : ℕ) (other : Slot) → IsUnreached given t.roots s r.slot r.reg sp a other → Stopped a other
+    stopped : (sp : Space) (a : ℕ) (other : Slot) → IsUnreached given t.roots s (named_region r.slot r.reg) (address_in sp a) other → Stopped a other
     stopped sp a other u =
         let first : Claims on.f on.part space r.first = (on.is.claims r.first).0 (omega arith, on.is.some) in
         let one = same_region s tree.system u.f on.f u.part on.part sp space a r.first u.listed on.listed
@@ -152,7 +153,7 @@ module _ (given : Given) (t : Tree) (space : Space) (r : Region) (records : List
     not_stopped a other stop all =
         both_ways _ stop.stops (pass_of stop.b stop.on_the_way a (all a ((on.is.claims a).1 stop.claims) (to_kind a stop.sent)))
 
-    module _ (no_window : is_of_window r.part ≡ false) (bridge : Slot) (address : ℕ) (is : IsFirstStop given kind records root (range r) path bridge address) where
+    module _ (no_window : is_of_window r.part ≡ false) (bridge : Slot) (address : ℕ) (is : IsFirstStop (IsSent given (window_space kind) root) (PassesAt given kind records) (range r) path bridge address) where
       within : is.place < length way.bridges
       within = let n = long in let less = is.within in omega (arith, n, less)
 
@@ -166,7 +167,7 @@ module _ (given : Given) (t : Tree) (space : Space) (r : Region) (records : List
       sent : IsSent given space root address
       sent = subst (λ (x : Space). IsSent given x root address) (kind_space space r.prefetch) is.sent
 
-      there : IsUnreached given t.roots s r.slot r.reg space address bridge
+      there : IsUnreached given t.roots s (named_region r.slot r.reg) (address_in space address) bridge
       there = record {
         f = on.f;
         part = on.part;
@@ -219,7 +220,7 @@ module _ (given : Given) (t : Tree) (space : Space) (r : Region) (records : List
       not_stopped s tree bus on a other stop (subst (PassesSent given kind records root (range r)) (slot_is s tree bus on stop.b stop.on_the_way r.slot)
       (all stop.on_the_way.0 r.slot (omega (arith, n, inside))))
 
-  pub unreached_line : (bridge : Slot) (address : ℕ) → IsFirstStop given kind records root (range r) path bridge address → IsUnreachedLine given t space r address bridge
+  pub unreached_line : (bridge : Slot) (address : ℕ) → IsFirstStop (IsSent given (window_space kind) root) (PassesAt given kind records) (range r) path bridge address → IsUnreachedLine given t space r address bridge
   unreached_line bridge address is s tree bus on no_window = record {
     there = there s tree bus on no_window bridge address is;
     first = λ sp a other u. not_before s tree bus on no_window bridge address is a other (stopped s tree bus on sp a other u);

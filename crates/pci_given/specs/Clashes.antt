@@ -4,6 +4,7 @@ use Rattle.std.specs.List.{AllPairs, Contains}
 use Rattle.pci_spec.specs.System.{System}
 use Rattle.pci_spec.specs.System as system
 use Rattle.pci_spec.specs.Fault as plain
+use Rattle.pci_spec.specs.Fault.{address_in, named_regions}
 use Rattle.pci_base.specs.declared.space.Space.{Space}
 use Rattle.pci_function.specs.declared.fault.Fault.{Fault}
 use Rattle.pci_function.specs.declared.fault.Fault.TheVariants.{Clash, Split}
@@ -105,7 +106,8 @@ abbrev pub IsClashLine : (ℕ → system.Space → Type 0) → Given → List �
 IsClashLine At given roots s
     (plain.Clash bus space address first first_register second second_register) =
     At bus space
-    × IsClashOf given roots s bus space address first first_register second second_register
+    × IsClashOf given roots s bus (address_in space address)
+    (named_regions first first_register second second_register)
 IsClashLine At given roots s fault = ⊥
 
 -- they come behind those of a list, in each system with the tree

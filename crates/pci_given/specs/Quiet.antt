@@ -4,6 +4,7 @@ use Rattle.std.specs.List.{Contains}
 use Rattle.pci_spec.specs.Slot.{Slot}
 use Rattle.pci_spec.specs.Registers.{BRIDGE_CONTROL}
 use Rattle.pci_spec.specs.System.{System, Space}
+use Rattle.pci_spec.specs.Fault.{address_in, named_region}
 use Rattle.pci_base.specs.declared.range.Range.{Range}
 use Rattle.pci_tree.specs.declared.region.Region.{Region}
 use Rattle.pci_tree.specs.Ranges.{Covers}
@@ -41,7 +42,8 @@ pub record AreQuiet (space : Space) (regions : List Region) (legacy : List Legac
 abbrev pub IsQuiet : Given → System → (ℕ → Type 0) → Space → Type 0
 IsQuiet given s IsOne space =
     (a b c : ℕ) (p q : Slot) (m n : ℕ) → IsOne b → IsOne c
-    → ClaimsOnBus given s b space a p m → ClaimsOnBus given s c space a q n
+    → ClaimsOnBus given s b (address_in space a) (named_region p m)
+    → ClaimsOnBus given s c (address_in space a) (named_region q n)
     → ((p ≡ q) × (m ≡ n) → ⊥) → may_share p m q n ≡ false → ⊥
 
 -- in each system with the tree

@@ -2,6 +2,7 @@
 use Rattle.std.specs.Prelude.{◌≡◌, ℕ, List, map}
 use Rattle.pci_spec.specs.System.{System, Space}
 use Rattle.pci_spec.specs.Fault as plain
+use Rattle.pci_spec.specs.Fault.{address_in, named_regions}
 use Rattle.pci_function.specs.declared.fault.Fault.{Fault}
 use Rattle.pci_function.specs.Fault.{fault_of}
 use Rattle.pci_tree.specs.Outline.{Tree}
@@ -16,7 +17,8 @@ use Rattle.given_spec.specs.Numbered.{AreAllNumbered}
 abbrev pub IsSplitLine : (Space → Type 0) → Given → List ℕ → System → plain.Fault → Type 0
 IsSplitLine In given roots s
     (plain.Split space address first first_register second second_register) =
-    In space × IsSplitOf given roots s space address first first_register second second_register
+    In space × IsSplitOf given roots s (address_in space address)
+    (named_regions first first_register second second_register)
 IsSplitLine In given roots s fault = ⊥
 
 -- they come behind those of a list, in each system with the tree

@@ -4,6 +4,7 @@ use Rattle.std.specs.List.{All, HoldsAt}
 use Rattle.pci_spec.specs.Slot.{Slot}
 use Rattle.pci_spec.specs.Window.{WindowKind}
 use Rattle.pci_spec.specs.System.{System, Space, window_space}
+use Rattle.pci_spec.specs.Fault.{address_in, named_region}
 use Rattle.pci_base.specs.declared.range.Range.{Range}
 use Rattle.pci_function.specs.declared.record.Record.{Record}
 use Rattle.pci_tree.specs.declared.region.Region.{Region}
@@ -25,27 +26,27 @@ PassesSent given kind records root range slot =
     → PassesAt given kind records a slot
 
 -- the first slot of a path whose bridge doesn't, and the least address that it doesn't pass
-pub record IsFirstStop (given : Given) (kind : WindowKind) (records : List Record) (root : ℕ)
-    (range : Range) (path : List Slot) (bridge : Slot) (a : ℕ) : Type 0 where
+pub record IsFirstStop (IsSentThere : ℕ → Type 0) (IsPassedAt : ℕ → Slot → Type 0) (range : Range)
+    (path : List Slot) (bridge : Slot) (a : ℕ) : Type 0 where
   pub place : ℕ
   pub within : place < length path
   pub at : HoldsAt (λ slot. slot ≡ bridge) path place
-  pub before : All (PassesSent given kind records root range) (take place path)
+  pub before : All (λ slot. (b : ℕ) → Holds range b → IsSentThere b → IsPassedAt b slot)
+      (take place path)
   pub held : Holds range a
-  pub sent : IsSent given (window_space kind) root a
-  pub stopped : PassesAt given kind records a bridge → ⊥
-  pub least : (b : ℕ) → b < a → Holds range b → IsSent given (window_space kind) root b
-      → PassesAt given kind records b bridge
+  pub sent : IsSentThere a
+  pub stopped : IsPassedAt a bridge → ⊥
+  pub least : (b : ℕ) → b < a → Holds range b → IsSentThere b → IsPassedAt b bridge
 
 -- in each system with the tree that has the region, a BAR or a ROM, it has no fault 60
 abbrev pub IsNeverUnreached : Given → Tree → Space → Region → Type 0
 IsNeverUnreached given t space r =
     (s : System) → HasTree t s → (bus : ℕ) → IsRegionOn s bus space r → is_of_window r.part ≡ false
     → (sp : Space) (a : ℕ) (bridge : Slot)
-    → IsUnreached given t.roots s r.slot r.reg sp a bridge → ⊥
+    → IsUnreached given t.roots s (named_region r.slot r.reg) (address_in sp a) bridge → ⊥
 
 -- in each such system a list of all faults names the region with this address and this bridge
 abbrev pub IsUnreachedLine : Given → Tree → Space → Region → ℕ → Slot → Type 0
 IsUnreachedLine given t space r a bridge =
     (s : System) → HasTree t s → (bus : ℕ) → IsRegionOn s bus space r → is_of_window r.part ≡ false
-    → IsUnreachedOf given t.roots s r.slot r.reg space a bridge
+    → IsUnreachedOf given t.roots s (named_region r.slot r.reg) (address_in space a) bridge

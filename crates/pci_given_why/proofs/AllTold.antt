@@ -5,7 +5,7 @@ use Rattle.std.specs.Option.{is_some, option_map}
 use Rattle.std.proofs.lemmas.List.{append_assoc}
 use Rattle.pci_spec.specs.Slot.{Slot}
 use Rattle.pci_spec.specs.System.{System, Space}
-use Rattle.pci_spec.specs.Fault.{Unreached, Clash, Split}
+use Rattle.pci_spec.specs.Fault.{Unreached, Clash, Split, named_region, named_regions}
 use Rattle.pci_base.specs.declared.space.Space.{Space as CodeSpace}
 use Rattle.pci_function.specs.declared.fault.Fault.{Fault as CodeFault}
 use Rattle.pci_function.specs.declared.fault.Fault.TheVariants as code
@@ -24,26 +24,26 @@ use Rattle.pci_given_why.specs.Whys.{IsEvidenceTold, IsAdviceTold, IsWhyTold}
 
 -- ---- with what ranges it is there
 
-pub outside_evident : (given : Given) (t : Tree) (slot : Slot) (reg : ℕ) (space : Space) (a : ℕ) (old new : List ℕ) → IsOutsideTold given t slot reg space old new
+pub outside_evident : (given : Given) (t : Tree) (slot : Slot) (reg : ℕ) (space : Space) (a : ℕ) (old new : List ℕ) → IsOutsideTold given t (named_region slot reg) space old new
     → IsEvidenceTold given t (Outside slot reg space a) old new
 outside_evident given t slot reg space a old new told s tree there =
     let o = told s a tree there in
     record { lines = o.lines; text = o.text; are = o.are }
 
-pub unreached_evident : (given : Given) (t : Tree) (slot : Slot) (reg : ℕ) (space : Space) (a : ℕ) (bridge : Slot) (old new : List ℕ) → IsUnreachedTold given t slot reg space bridge old new
+pub unreached_evident : (given : Given) (t : Tree) (slot : Slot) (reg : ℕ) (space : Space) (a : ℕ) (bridge : Slot) (old new : List ℕ) → IsUnreachedTold given t (named_region slot reg) space bridge old new
     → IsEvidenceTold given t (Known (Unreached slot reg space a bridge)) old new
 unreached_evident given t slot reg space a bridge old new told s tree there =
     let u = told s a tree there in
     record { lines = u.lines; text = u.text; are = u.are }
 
 pub clash_evident : (given : Given) (t : Tree) (bus : ℕ) (space : Space) (a : ℕ) (first : Slot) (first_reg : ℕ) (second : Slot) (second_reg : ℕ) (old new : List ℕ)
-    → AreTwoTold given t space first first_reg second second_reg old new → IsEvidenceTold given t (Known (Clash bus space a first first_reg second second_reg)) old new
+    → AreTwoTold given t space (named_regions first first_reg second second_reg) old new → IsEvidenceTold given t (Known (Clash bus space a first first_reg second second_reg)) old new
 clash_evident given t bus space a first first_reg second second_reg old new told s tree there =
     let two = told s a bus bus tree there.claims_first there.claims_second in
     record { lines = two.lines; text = two.text; are = two.are }
 
 pub split_evident : (given : Given) (t : Tree) (space : Space) (a : ℕ) (first : Slot) (first_reg : ℕ) (second : Slot) (second_reg : ℕ) (old new : List ℕ)
-    → AreTwoTold given t space first first_reg second second_reg old new → IsEvidenceTold given t (Known (Split space a first first_reg second second_reg)) old new
+    → AreTwoTold given t space (named_regions first first_reg second second_reg) old new → IsEvidenceTold given t (Known (Split space a first first_reg second second_reg)) old new
 split_evident given t space a first first_reg second second_reg old new told s tree there =
     let two = told s a first.bus second.bus tree there.claims_first there.claims_second in
     record { lines = two.lines; text = two.text; are = two.are }
@@ -51,26 +51,26 @@ split_evident given t space a first first_reg second second_reg old new told s t
 -- ---- where a region would fit
 
 -- of a region of the system
-fit_of : (given : Given) (t : Tree) (slot : Slot) (reg : ℕ) (space : Space) (old new : List ℕ) → IsFitTold given t slot reg space old new → (s : System) → HasTree t s
-    → (q : Region) → IsNamed q slot reg space → IsRegionIn given s q → Appends (IsAdviceFor given t.roots s slot reg space) old new
+fit_of : (given : Given) (t : Tree) (slot : Slot) (reg : ℕ) (space : Space) (old new : List ℕ) → IsFitTold given t (named_region slot reg) space old new → (s : System) → HasTree t s
+    → (q : Region) → IsNamed q slot reg space → IsRegionIn given s q → Appends (IsAdviceFor given t.roots s (named_region slot reg) space) old new
 fit_of given t slot reg space old new told s tree q named is =
     let f = told s q tree named is in
     record { lines = f.lines; text = f.text; are = (q, named, is, f.are) }
 
-pub outside_advised : (given : Given) (t : Tree) (slot : Slot) (reg : ℕ) (space : Space) (a : ℕ) (old new : List ℕ) → IsFitTold given t slot reg space old new
+pub outside_advised : (given : Given) (t : Tree) (slot : Slot) (reg : ℕ) (space : Space) (a : ℕ) (old new : List ℕ) → IsFitTold given t (named_region slot reg) space old new
     → IsAdviceTold given t (Outside slot reg space a) old new
 outside_advised given t slot reg space a old new told s evidence tree (q, named, behind) =
     let f = fit_of given t slot reg space old new told s tree (Own q) named behind.is in
     record { lines = f.lines; text = f.text; are = f.are }
 
-pub unreached_advised : (given : Given) (t : Tree) (slot : Slot) (reg : ℕ) (space : Space) (a : ℕ) (bridge : Slot) (old new : List ℕ) → IsFitTold given t slot reg space old new
+pub unreached_advised : (given : Given) (t : Tree) (slot : Slot) (reg : ℕ) (space : Space) (a : ℕ) (bridge : Slot) (old new : List ℕ) → IsFitTold given t (named_region slot reg) space old new
     → IsAdviceTold given t (Known (Unreached slot reg space a bridge)) old new
 unreached_advised given t slot reg space a bridge old new told s evidence tree (q, named, behind) =
     let f = fit_of given t slot reg space old new told s tree (Own q) named behind.is in
     record { lines = f.lines; text = f.text; are = f.are }
 
 pub clash_advised : (given : Given) (t : Tree) (bus : ℕ) (space : Space) (a : ℕ) (first : Slot) (first_reg : ℕ) (second : Slot) (second_reg : ℕ) (old new : List ℕ)
-    → IsFitTold given t second second_reg space old new → IsAdviceTold given t (Known (Clash bus space a first first_reg second second_reg)) old new
+    → IsFitTold given t (named_region second second_reg) space old new → IsAdviceTold given t (Known (Clash bus space a first first_reg second second_reg)) old new
 clash_advised given t bus space a first first_reg second second_reg old new told s evidence tree (p, q, named_p, named_q, two) =
     let f = fit_of given t second second_reg space old new told s tree q named_q two.second in
     record { lines = f.lines; text = f.text; are = f.are }
@@ -81,13 +81,13 @@ said_is None f said e = ap is_some e
 said_is (Some x) f said e = ap is_some e
 
 pub split_advised : (given : Given) (t : Tree) (space : Space) (a : ℕ) (first : Slot) (first_reg : ℕ) (second : Slot) (second_reg : ℕ) (old new : List ℕ) → is_said given space ≡ true
-    → IsFitTold given t second second_reg space old new → IsAdviceTold given t (Known (Split space a first first_reg second second_reg)) old new
+    → IsFitTold given t (named_region second second_reg) space old new → IsAdviceTold given t (Known (Split space a first first_reg second second_reg)) old new
 split_advised given t space a first first_reg second second_reg old new said told s evidence tree (p, q, named_p, named_q, two) =
     let f = fit_of given t second second_reg space old new told s tree q named_q two.second in
     record {
       lines = f.lines;
       text = f.text;
-      are = subst (λ b. MatchBool b (IsAdviceFor given t.roots s second second_reg space f.lines) (f.lines ≡ [])) (sym said) f.are;
+      are = subst (λ b. MatchBool b (IsAdviceFor given t.roots s (named_region second second_reg) space f.lines) (f.lines ≡ [])) (sym said) f.are;
     }
 
 -- where all of the space is sent to each root bus
@@ -96,7 +96,7 @@ pub split_without : (given : Given) (t : Tree) (space : Space) (a : ℕ) (first 
 split_without given t space a first first_reg second second_reg old none s evidence tree told = record {
   lines = [];
   text = sym (append-nil old);
-  are = subst (λ b. MatchBool b (IsAdviceFor given t.roots s second second_reg space []) (◌≡◌ {A = List ℕ} [] [])) (sym none) refl;
+  are = subst (λ b. MatchBool b (IsAdviceFor given t.roots s (named_region second second_reg) space []) (◌≡◌ {A = List ℕ} [] [])) (sym none) refl;
 }
 
 -- ---- faults of earlier phases

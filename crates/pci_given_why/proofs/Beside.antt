@@ -5,6 +5,7 @@ use Rattle.std.specs.List.{Contains}
 use Rattle.pci_spec.specs.Slot.{Slot}
 use Rattle.pci_spec.specs.System.{System, Space}
 use Rattle.pci_spec.specs.Bus.{IsNested}
+use Rattle.pci_spec.specs.Fault.{address_in, named_region}
 use Rattle.given_spec.specs.Given.{Given, starts}
 use Rattle.given_spec.specs.Claims.{ClaimsOnBus}
 use Rattle.pci_claims.specs.Claim.{Claimed}
@@ -14,7 +15,7 @@ use Rattle.pci_claims.proofs.Rooted.{sent_there}
 use Rattle.pci_given_why.specs.Free.{ClaimsBeside, AreClaimsBeside}
 
 -- a region of a bus that claims the address
-claimed_on : (given : Given) (roots : List ℕ) (s : System) (bus : ℕ) (space : Space) (a : ℕ) (slot : Slot) (register : ℕ) → (b : ClaimsBeside given roots s bus space a slot register) → ClaimsOnBus given s b.f.slot.bus space a slot register
+claimed_on : (given : Given) (roots : List ℕ) (s : System) (bus : ℕ) (space : Space) (a : ℕ) (slot : Slot) (register : ℕ) → (b : ClaimsBeside given roots s bus (address_in space a) (named_region slot register)) → ClaimsOnBus given s b.f.slot.bus (address_in space a) (named_region slot register)
 claimed_on given roots s bus space a slot register b = (b.f, b.part, b.listed, b.slot_is, ap (λ (x : Slot). x.bus) (sym b.slot_is), b.register_is, b.claims)
 
 -- on a bus that is no root they are those of the bus
@@ -34,7 +35,7 @@ on_one_bus given roots s bus space claims no_root are = record {
       });
   complete = λ slot register a gets b. elim b.beside [
     | inl same ↦ (
-        let on_bus : ClaimsOnBus given s bus space a slot register = subst (λ n. ClaimsOnBus given s n space a slot register) same (claimed_on given roots s bus space a slot register b) in
+        let on_bus : ClaimsOnBus given s bus (address_in space a) (named_region slot register) = subst (λ n. ClaimsOnBus given s n (address_in space a) (named_region slot register)) same (claimed_on given roots s bus space a slot register b) in
         let (c, has, slot_is, register_is) = are.complete slot register a on_bus in
         record {
           c = c;
@@ -43,7 +44,7 @@ on_one_bus given roots s bus space claims no_root are = record {
           register_is = register_is;
           covered = (are.each c has a).1 (
             gets,
-            subst (λ n. ClaimsOnBus given s bus space a n c.register) (sym slot_is) (subst (λ n. ClaimsOnBus given s bus space a slot n) (sym register_is) on_bus),
+            subst (λ n. ClaimsOnBus given s bus (address_in space a) (named_region n c.register)) (sym slot_is) (subst (λ n. ClaimsOnBus given s bus (address_in space a) (named_region slot n)) (sym register_is) on_bus),
           );
         })
     | inr rooted ↦ absurd (no_root rooted.0)
@@ -77,8 +78,8 @@ on_all_roots given roots s bus space claims nested root are = record {
         )
         | inr rooted ↦ (rooted.1, rooted.2)
       ] in
-      let on_bus : ClaimsOnBus given s slot.bus space a slot register =
-      subst (λ (x : Slot). ClaimsOnBus given s x.bus space a slot register) b.slot_is (claimed_on given roots s bus space a slot register b) in
+      let on_bus : ClaimsOnBus given s slot.bus (address_in space a) (named_region slot register) =
+      subst (λ (x : Slot). ClaimsOnBus given s x.bus (address_in space a) (named_region slot register)) b.slot_is (claimed_on given roots s bus space a slot register b) in
       let (c, has, slot_is, register_is) = are.complete slot register a (subst (λ (x : Slot). Contains roots x.bus) b.slot_is sent.0) on_bus in
       record {
         c = c;
@@ -87,7 +88,7 @@ on_all_roots given roots s bus space claims nested root are = record {
         register_is = register_is;
         covered = (are.each c has a).1 (
           subst (λ (x : Slot). IsTrue (starts given space x.bus a)) (b.slot_is ∙ sym slot_is) sent.1,
-          subst (λ (x : Slot). ClaimsOnBus given s x.bus space a x c.register) (sym slot_is) (subst (λ n. ClaimsOnBus given s slot.bus space a slot n) (sym register_is) on_bus),
+          subst (λ (x : Slot). ClaimsOnBus given s x.bus (address_in space a) (named_region x c.register)) (sym slot_is) (subst (λ n. ClaimsOnBus given s slot.bus (address_in space a) (named_region slot n)) (sym register_is) on_bus),
         );
       });
 }

@@ -13,6 +13,7 @@ use Rattle.pci_spec.specs.Decoded.{Bridge, IsDecodable, record_of, decoded_windo
 use Rattle.pci_spec.specs.Decoded as decoded
 use Rattle.pci_spec.specs.Listing.{inner_line, on_text}
 use Rattle.pci_spec.specs.Why.{Region as RegionValue, region_line, range_line, windows_text}
+use Rattle.pci_spec.specs.Fault.{address_in, named_region}
 use Rattle.pci_base.specs.declared.range.Range.{Range}
 use Rattle.pci_base.specs.Ranges.{decoded_range_of}
 use Rattle.pci_base.specs.Space.{kind_in, is_prefetch}
@@ -82,7 +83,7 @@ missed_exact given q part space r b passed missed same is bridge are outside a =
 -- ---- behind the fault
 
 module _ (given : Given) (roots : List ℕ) (s : System) (rs : List Record) (slot : Slot) (reg : ℕ) (space : Space) (a : ℕ) (bridge : Slot) (is : Has s rs)
-    (there : IsUnreached given roots s slot reg space a bridge) where
+    (there : IsUnreached given roots s (named_region slot reg) (address_in space a) bridge) where
   -- the region that is named is there, and the record of the bridge
   pub no_region_missing : NoneClaims s slot reg space → ⊥
   no_region_missing none = none there.f there.part a there.listed there.named.0 there.named.1 there.claims
@@ -94,7 +95,7 @@ module _ (given : Given) (roots : List ℕ) (s : System) (rs : List Record) (slo
 
   pub unreached_told : (q : Region) (r : Record) (old first second new : List ℕ) → RiseBySlot rs → Contains rs r → r.slot ≡ bridge → IsFoundIn s slot reg space q
       → first ≡ old ++ line_of (codes "needs") space q → second ≡ first ++ line_of_bridge given (record_value r) space q.prefetch → AreMissedTold given r space q second new
-      → Appends (IsBehindOne given s slot reg space bridge) old new
+      → Appends (IsBehindOne given s (named_region slot reg) space bridge) old new
   unreached_told q r old first second new rise has at found needs line missed =
       let way = on_the_way s there.root there.bridges slot.bus there.b there.leads there.on_the_way in
       let stands : record_value r ≡ record_of there.b = stands_for s rs r there.b is rise has way.0 (at ∙ sym there.named_bridge) in

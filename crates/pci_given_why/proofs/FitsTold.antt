@@ -13,6 +13,7 @@ use Rattle.pci_spec.specs.Decoded.{record_of}
 use Rattle.pci_spec.specs.Decoded as decoded
 use Rattle.pci_spec.specs.Why.{Region as RegionValue, is_wide_part, fits_line}
 use Rattle.pci_spec.specs.Why as why
+use Rattle.pci_spec.specs.Fault.{named_region}
 use Rattle.pci_spec.proofs.BusRanges.{root_means}
 use Rattle.pci_spec.proofs.Firsts.{same_region}
 use Rattle.pci_base.specs.declared.range.Range.{Range}
@@ -104,12 +105,12 @@ module _ (given : Given) (t : Tree) (slot : Slot) (reg : ℕ) (space : Space) (o
   nothing = sym (append-nil old)
 
   -- nothing is told where nothing is found
-  pub told_none : ((s : System) → HasTree t s → NoneClaims s slot reg space) → IsFitTold given t slot reg space old old
+  pub told_none : ((s : System) → HasTree t s → NoneClaims s slot reg space) → IsFitTold given t (named_region slot reg) space old old
   told_none none s (Own v) tree named is = absurd (never_named s slot reg space (none s tree) v named is)
   told_none none s (Legacy b of_space) tree named is = record { lines = []; text = nothing; are = refl }
 
   -- nothing is told on a root bus to which all of the space is sent
-  pub told_on_root : (is_root t.roots slot.bus && not (is_said given space)) ≡ true → IsFitTold given t slot reg space old old
+  pub told_on_root : (is_root t.roots slot.bus && not (is_said given space)) ≡ true → IsFitTold given t (named_region slot reg) space old old
   told_on_root off s (Own v) tree named is =
       let moved : (is_root t.roots v.slot.bus && not (is_said given v.space)) ≡ true =
       ap (λ (x : Slot). is_root t.roots x.bus && not (is_said given v.space)) named.0 ∙ ap (λ sp. is_root t.roots slot.bus && not (is_said given sp)) named.2 ∙ off in
@@ -123,7 +124,7 @@ module _ (given : Given) (t : Tree) (slot : Slot) (reg : ℕ) (space : Space) (o
   -- elsewhere the least place is
   pub told_fit : (q : outline.Region) (rs : List Record) (r : Record) (wide : Bool) (fit : Option Range) (new : List ℕ) → ((s : System) → HasTree t s → IsFoundIn s slot reg space q) → t.records ≡ map record_value rs
       → ((s : System) → decoded.HasRecords s t.records → IsNested t.roots s) → RiseBySlot rs → Contains rs r → r.slot ≡ slot → (is_root t.roots slot.bus && not (is_said given space)) ≡ false
-      → IsTrue wide ↔ IsWideIn r q → IsFitFor given t space q wide fit → new ≡ old ++ fits_line space (option_map decoded_range_of fit) → IsFitTold given t slot reg space old new
+      → IsTrue wide ↔ IsWideIn r q → IsFitFor given t space q wide fit → new ≡ old ++ fits_line space (option_map decoded_range_of fit) → IsFitTold given t (named_region slot reg) space old new
   told_fit q rs r wide fit new found records nested rise has at on exact fits text s (Own v) tree named is =
       let here = found s tree in
       let rs_is : Has s rs = subst (λ xs. decoded.HasRecords s xs) records tree.records in

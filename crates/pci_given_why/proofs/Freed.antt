@@ -6,12 +6,13 @@ use Rattle.std.proofs.lemmas.Bool.{or_cases, and_parts, and_from}
 use Rattle.std.proofs.Math.Bool.{or-true}
 use Rattle.pci_spec.specs.Slot.{Slot}
 use Rattle.pci_spec.specs.Window.{MemoryWindow, PrefetchWindow}
-use Rattle.pci_spec.specs.System.{System, Function, Space, Io, Memory, IsAddress, window_space, window_claims}
+use Rattle.pci_spec.specs.System.{System, Function, Space, Io, Memory, IsAddress, window_claims}
 use Rattle.pci_spec.specs.Decoded.{record_of}
 use Rattle.pci_spec.specs.Why.{Region}
+use Rattle.pci_spec.specs.Fault.{address_in}
 use Rattle.pci_spec.proofs.Members.{in_map_from}
 use Rattle.pci_base.specs.declared.range.Range.{Range}
-use Rattle.pci_base.specs.Space.{kind_in, is_prefetch}
+use Rattle.pci_base.specs.Space.{kind_in}
 use Rattle.pci_tree.specs.Outline.{Tree}
 use Rattle.pci_tree.specs.Ranges.{Holds, Covers}
 use Rattle.pci_check.specs.Trees.{HasTree}
@@ -20,7 +21,7 @@ use Rattle.given_spec.specs.Claims.{Gets, IsPassedTo, passes, forwards, register
 use Rattle.given_spec.specs.Why.{IsTaken}
 use Rattle.pci_claims.specs.Claim.{Claimed}
 use Rattle.pci_claims.specs.Gathered.{IsGathered, IsCommon}
-use Rattle.pci_claims.specs.Reached.{IsReachWith}
+use Rattle.pci_claims.specs.Reached.{AreReached, IsReachTo}
 use Rattle.pci_why.specs.Missed.{IsOutside}
 use Rattle.pci_given_why.specs.Free.{IsAnswered, AreOfOthers, AreClaimsBeside, IsFreeFor}
 
@@ -46,13 +47,13 @@ all_forward given space prefetch a (b ∷ bridges) h =
     let both = and_parts (passes given space prefetch a b) (list_all (passes given space prefetch a) bridges) h in
     and_from (forwards given space a b) (list_all (forwards given space a) bridges) (forwards_of given space prefetch a b both.0) (all_forward given space prefetch a bridges both.1)
 
-gets_of : (given : Given) (roots : List ℕ) (s : System) (space : Space) (prefetch : Bool) (a bus : ℕ) → IsPassedTo given roots s space prefetch a bus → Gets given roots s space a bus
+gets_of : (given : Given) (roots : List ℕ) (s : System) (space : Space) (prefetch : Bool) (a bus : ℕ) → IsPassedTo given roots s (address_in space a) prefetch bus → Gets given roots s space a bus
 gets_of given roots s space prefetch a bus (root, is_root, sent, bridges, leads, pass) = (root, is_root, sent, bridges, leads, all_forward given space prefetch a bridges pass)
 
 -- ---- what gets there
 
 pub reach_of_kind : (given : Given) (roots : List ℕ) (s : System) (space : Space) (prefetch : Bool) (bus : ℕ) (out : List Range)
-    → IsReachWith given roots s (window_space (kind_in space prefetch)) (is_prefetch (kind_in space prefetch)) bus out → IsReachWith given roots s space prefetch bus out
+    → IsReachTo given roots s (kind_in space prefetch) bus out → AreReached space (λ a. IsPassedTo given roots s (address_in space a) prefetch bus) out
 reach_of_kind given roots s Io prefetch bus out is = record { canonical = is.canonical; exact = is.exact }
 reach_of_kind given roots s Memory false bus out is = record { canonical = is.canonical; exact = is.exact }
 reach_of_kind given roots s Memory true bus out is = record { canonical = is.canonical; exact = is.exact }
@@ -92,7 +93,7 @@ module _ (given : Given) (roots : List ℕ) (s : System) (q : Region) (claims : 
         covered = of.covered;
       }
 
-  pub free_exact : (reach others taken left out : List Range) (whole : Range) → IsReachWith given roots s q.space q.prefetchable q.slot.bus reach → AreOfOthers claims q.slot q.register others
+  pub free_exact : (reach others taken left out : List Range) (whole : Range) → AreReached q.space (λ a. IsPassedTo given roots s (address_in q.space a) q.prefetchable q.slot.bus) reach → AreOfOthers claims q.slot q.register others
       → IsGathered others taken → ((a : ℕ) → Holds whole a ↔ IsAddress q.space a) → IsOutside whole taken left → IsCommon reach left out → (a : ℕ) → Covers out a ↔ IsFreeFor given roots s q a
   free_exact reach others taken left out whole gets are gathers all outside both a = (
     λ (h : Covers out a). (

@@ -10,6 +10,7 @@ use Rattle.pci_spec.specs.Listing.{range_text}
 use Rattle.pci_spec.specs.Decoded.{record_of}
 use Rattle.pci_spec.proofs.Members.{in_map_from}
 use Rattle.pci_spec.specs.Why.{Region as RegionValue, region_line}
+use Rattle.pci_spec.specs.Fault.{address_in, named_region}
 use Rattle.pci_base.specs.declared.range.Range.{Range}
 use Rattle.pci_base.specs.Ranges.{decoded_range_of}
 use Rattle.pci_tree.specs.declared.region.Region.{Region}
@@ -43,7 +44,7 @@ slot_there t s f slot tree listed at none =
 
 -- ---- the fault
 
-module _ (given : Given) (roots : List ℕ) (s : System) (slot : Slot) (reg : ℕ) (space : Space) (a : ℕ) (there : IsOutside given roots s slot reg space a) where
+module _ (given : Given) (roots : List ℕ) (s : System) (slot : Slot) (reg : ℕ) (space : Space) (a : ℕ) (there : IsOutside given roots s (named_region slot reg) (address_in space a)) where
   -- the region that is named is there
   pub no_region_missing : NoneClaims s slot reg space → ⊥
   no_region_missing none = none there.f there.part a there.listed there.named.0 there.named.1 there.claims
@@ -54,7 +55,7 @@ module _ (given : Given) (roots : List ℕ) (s : System) (slot : Slot) (reg : �
 
   pub outside_told : (q : Region) (root : ℕ) (ranges : List HostRange) (old first new : List ℕ) → IsFoundIn s slot reg space q → Contains roots root × (bridges : List Function) × Leads s root bridges slot.bus
       → ranges_said given space ≡ Some ranges → first ≡ old ++ line_of (codes "needs") space q → new ≡ first ++ host_line space (ranges_for root ranges)
-      → Appends (IsBehindOne given roots s slot reg space) old new
+      → Appends (IsBehindOne given roots s (named_region slot reg) space) old new
   outside_told q root ranges old first new found (is_root, bridges, leads) said needs host =
       let v : RegionValue = told q found.part space in
       let host_text = host_line space (ranges_for root ranges) in

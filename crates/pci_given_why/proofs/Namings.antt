@@ -8,6 +8,7 @@ use Rattle.std.proofs.lemmas.List.Folds.{Any-from_list_any}
 use Rattle.pci_spec.specs.Slot.{Slot, same_slot}
 use Rattle.pci_spec.specs.System.{System, Function, Space, Io, Memory, IsAddress}
 use Rattle.pci_spec.specs.Decoded.{record_of}
+use Rattle.pci_spec.specs.Fault.{address_in, named_region}
 use Rattle.pci_base.specs.declared.range.Range.{Range}
 use Rattle.pci_base.specs.Space.{is_on}
 use Rattle.pci_function.specs.declared.record.Record.{Record}
@@ -36,7 +37,7 @@ use Rattle.pci_given_why.proofs.Recorded.{stands_for, has_record}
 
 -- no region that they name claims an address
 abbrev pub IsNone : Given → System → Slot → ℕ → Space → Type 0
-IsNone given s slot reg space = (a bus : ℕ) → ClaimsOnBus given s bus space a slot reg → ⊥
+IsNone given s slot reg space = (a bus : ℕ) → ClaimsOnBus given s bus (address_in space a) (named_region slot reg) → ⊥
 
 -- ---- lists of addresses
 
@@ -70,7 +71,7 @@ none_without_record given s rs slot space is none a bus (f, LegacyPart, listed, 
 module _ (given : Given) (s : System) (rs : List Record) (r : Record) (slot : Slot) (space : Space) (out : List Range) (is : Has s rs) (rise : RiseBySlot rs) (has : Contains rs r) (at_slot : r.slot ≡ slot)
     (legacy : IsLegacyOf given space r out) where
   -- what the legacy part at the slot claims
-  pub legacy_covers : (a bus : ℕ) → ClaimsOnBus given s bus space a slot 0x3e → Covers out a
+  pub legacy_covers : (a bus : ℕ) → ClaimsOnBus given s bus (address_in space a) (named_region slot 0x3e) → Covers out a
   legacy_covers a bus (f, OwnPart part, listed, at, there, named, claims) = absurd (not_legacy f part named)
   legacy_covers a bus (f, LegacyPart, listed, at, there, named, claims) =
       (legacy.exact a).1 (sym (legacy_same given space a r f (stands_for s rs r f is rise has listed (at_slot ∙ sym at))) ∙ claims.claims)
@@ -84,7 +85,7 @@ module _ (given : Given) (s : System) (rs : List Record) (r : Record) (slot : Sl
     λ (h : LegacyClaims given f space a). (legacy.exact a).1 (sym (legacy_same given space a r f e) ∙ h.claims),
   )
 
-  pub legacy_is_named : (narrow : Bool) → narrow ≡ is_narrow given slot → (a : ℕ) → Covers out a → IsNamedIn given s slot 0x3e space (shown.Legacy slot narrow) out
+  pub legacy_is_named : (narrow : Bool) → narrow ≡ is_narrow given slot → (a : ℕ) → Covers out a → IsNamedIn given s (named_region slot 0x3e) space (shown.Legacy slot narrow) out
   legacy_is_named narrow is_narrow_is a covered =
       let own = function_for s rs r is has in
       let f = own.0 in
@@ -105,11 +106,11 @@ none_of_own given s slot reg space other none a bus (f, OwnPart part, listed, at
 none_of_own given s slot reg space other none a bus (f, LegacyPart, listed, at, there, named, claims) = other (sym named)
 
 module _ (given : Given) (s : System) (slot : Slot) (reg : ℕ) (space : Space) (q : Region) (out : List Range) (other : reg ≡ 0x3e → ⊥) (is : IsFoundIn s slot reg space q) (own : IsOwnOf q out) where
-  own_covers : (a bus : ℕ) → ClaimsOnBus given s bus space a slot reg → Covers out a
+  own_covers : (a bus : ℕ) → ClaimsOnBus given s bus (address_in space a) (named_region slot reg) → Covers out a
   own_covers a bus (f, OwnPart part, listed, at, there, named, claims) = (own.1 a).1 (is.all f part a listed at named claims)
   own_covers a bus (f, LegacyPart, listed, at, there, named, claims) = absurd (other (sym named))
 
-  pub own_is_named : IsNamedIn given s slot reg space (shown.Own q) out
+  pub own_is_named : IsNamedIn given s (named_region slot reg) space (shown.Own q) out
   own_is_named = record {
     region = Own (told q is.part space);
     is = region_in s is.f is.part space q is.listed is.is;

@@ -8,6 +8,7 @@ use Rattle.pci_spec.specs.Decoded as decoded
 use Rattle.pci_spec.specs.Listing.{inner_line, on_text}
 use Rattle.pci_spec.specs.Why.{windows_text, range_line}
 use Rattle.pci_spec.specs.Why as plain
+use Rattle.pci_spec.specs.Fault.{RegionName, address_in}
 use Rattle.pci_base.specs.declared.range.Range.{Range}
 use Rattle.pci_base.specs.Ranges.{decoded_range_of}
 use Rattle.pci_base.specs.Space.{is_on, kind_in}
@@ -44,12 +45,14 @@ pub record AreMissedTold (given : Given) (r : Record) (space : Space) (q : Regio
       ≡ old ++ flat_map (range_line (codes "missed") space) (map decoded_range_of missed)
 
 -- what stands behind the region that a slot and a register name
-abbrev pub IsBehindOne : Given → System → Slot → ℕ → Space → Slot → List ℕ → Type 0
-IsBehindOne given s slot reg space bridge lines =
-    (q : plain.Region) × plain.IsNamed q slot reg space × IsBehindUnreached given s q bridge lines
+abbrev pub IsBehindOne : Given → System → RegionName → Space → Slot → List ℕ → Type 0
+IsBehindOne given s region space bridge lines =
+    (q : plain.Region) × plain.IsNamed q region.slot region.register space
+    × IsBehindUnreached given s q bridge lines
 
 -- in each system with the tree where it is unreached
-abbrev pub IsUnreachedTold : Given → Tree → Slot → ℕ → Space → Slot → List ℕ → List ℕ → Type 0
-IsUnreachedTold given t slot reg space bridge old new =
-    (s : System) (a : ℕ) → HasTree t s → IsUnreached given t.roots s slot reg space a bridge
-    → Appends (IsBehindOne given s slot reg space bridge) old new
+abbrev pub IsUnreachedTold : Given → Tree → RegionName → Space → Slot → List ℕ → List ℕ → Type 0
+IsUnreachedTold given t region space bridge old new =
+    (s : System) (a : ℕ) → HasTree t s
+    → IsUnreached given t.roots s region (address_in space a) bridge
+    → Appends (IsBehindOne given s region space bridge) old new

@@ -6,6 +6,7 @@ use Rattle.pci_spec.specs.System.{System, Function, Space, IsAddress}
 use Rattle.pci_spec.specs.System as system
 use Rattle.pci_spec.specs.Bus.{IsNested}
 use Rattle.pci_spec.specs.Why.{Region as RegionValue}
+use Rattle.pci_spec.specs.Fault.{Address, RegionName, address_in, named_region}
 use Rattle.given_spec.specs.Given.{Given, starts}
 use Rattle.given_spec.specs.Claims.{Part, Claims, Gets, IsPassedTo, register_of, may_share}
 use Rattle.given_spec.specs.Why.{IsTaken}
@@ -48,15 +49,15 @@ IsBesideBus given roots bus space a f =
     × IsTrue (starts given space f.slot.bus a))
 
 -- a region of such a function, named by its slot and register, claims the address
-pub record ClaimsBeside (given : Given) (roots : List ℕ) (s : System) (bus : ℕ) (space : Space)
-    (a : ℕ) (slot : Slot) (register : ℕ) : Type 0 where
+pub record ClaimsBeside (given : Given) (roots : List ℕ) (s : System) (bus : ℕ) (at : Address)
+    (region : RegionName) : Type 0 where
   pub f : Function
   pub part : Part
   pub listed : Contains s f
-  pub slot_is : f.slot ≡ slot
-  pub register_is : register_of f part ≡ register
-  pub beside : IsBesideBus given roots bus space a f
-  pub claims : Claims given f part space a
+  pub slot_is : f.slot ≡ region.slot
+  pub register_is : register_of f part ≡ region.register
+  pub beside : IsBesideBus given roots bus at.space at.address f
+  pub claims : Claims given f part at.space at.address
 
 -- a claim of the region that a slot and a register name has the address
 pub record HasClaimOf (claims : List Claimed) (slot : Slot) (register a : ℕ) : Type 0 where
@@ -70,9 +71,10 @@ pub record HasClaimOf (claims : List Claimed) (slot : Slot) (register a : ℕ) :
 pub record AreClaimsBeside (given : Given) (roots : List ℕ) (s : System) (bus : ℕ) (space : Space)
     (claims : List Claimed) : Type 0 where
   pub each : (c : Claimed) (a : ℕ) → Contains claims c → Covers c.pieces a
-      → ClaimsBeside given roots s bus space a c.slot c.register
+      → ClaimsBeside given roots s bus (address_in space a) (named_region c.slot c.register)
   pub complete : (slot : Slot) (register a : ℕ) → Gets given roots s space a bus
-      → ClaimsBeside given roots s bus space a slot register → HasClaimOf claims slot register a
+      → ClaimsBeside given roots s bus (address_in space a) (named_region slot register)
+      → HasClaimOf claims slot register a
 
 -- in each system with the tree, whose buses nest
 abbrev pub AreClaimsBesideInEach : Given → Tree → ℕ → Space → List Claimed → Type 0
@@ -86,7 +88,7 @@ AreClaimsBesideInEach given t bus space claims =
 pub record IsFreeFor (given : Given) (roots : List ℕ) (s : System) (q : RegionValue)
     (a : ℕ) : Type 0 where
   pub address : IsAddress q.space a
-  pub reached : IsPassedTo given roots s q.space q.prefetchable a q.slot.bus
+  pub reached : IsPassedTo given roots s (address_in q.space a) q.prefetchable q.slot.bus
   pub free : IsTaken given roots s q a → ⊥
 
 -- just those addresses, in each system with the tree that has the region

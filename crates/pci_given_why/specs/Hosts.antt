@@ -4,6 +4,7 @@ use Rattle.std.specs.List.{Contains}
 use Rattle.pci_spec.specs.Slot.{Slot}
 use Rattle.pci_spec.specs.System.{System, Space, Function, Leads}
 use Rattle.pci_spec.specs.Why as plain
+use Rattle.pci_spec.specs.Fault.{RegionName, address_in}
 use Rattle.pci_tree.specs.Outline.{Tree}
 use Rattle.pci_check.specs.Trees.{HasTree}
 use Rattle.pci_why.specs.Evidence.{Appends}
@@ -22,12 +23,13 @@ abbrev pub IsNowhere : Tree → Slot → Type 0
 IsNowhere t slot = Contains (map (λ r. r.slot) t.records) slot → ⊥
 
 -- what stands behind the region that a slot and a register name
-abbrev pub IsBehindOne : Given → List ℕ → System → Slot → ℕ → Space → List ℕ → Type 0
-IsBehindOne given roots s slot reg space lines =
-    (q : plain.Region) × plain.IsNamed q slot reg space × IsBehindOutside given roots s q lines
+abbrev pub IsBehindOne : Given → List ℕ → System → RegionName → Space → List ℕ → Type 0
+IsBehindOne given roots s region space lines =
+    (q : plain.Region) × plain.IsNamed q region.slot region.register space
+    × IsBehindOutside given roots s q lines
 
 -- in each system with the tree where it is outside
-abbrev pub IsOutsideTold : Given → Tree → Slot → ℕ → Space → List ℕ → List ℕ → Type 0
-IsOutsideTold given t slot reg space old new =
-    (s : System) (a : ℕ) → HasTree t s → IsOutside given t.roots s slot reg space a
-    → Appends (IsBehindOne given t.roots s slot reg space) old new
+abbrev pub IsOutsideTold : Given → Tree → RegionName → Space → List ℕ → List ℕ → Type 0
+IsOutsideTold given t region space old new =
+    (s : System) (a : ℕ) → HasTree t s → IsOutside given t.roots s region (address_in space a)
+    → Appends (IsBehindOne given t.roots s region space) old new

@@ -2,6 +2,7 @@
 use Rattle.std.specs.Prelude.{◌≡◌, ℕ, ◌≤◌, ◌↔◌, List}
 use Rattle.pci_spec.specs.Slot.{Slot}
 use Rattle.pci_spec.specs.System.{System, Space}
+use Rattle.pci_spec.specs.Fault.{RegionName, address_in, named_region}
 use Rattle.pci_base.specs.declared.range.Range.{Range}
 use Rattle.pci_tree.specs.Ranges.{Covers}
 use Rattle.pci_tree.specs.Outline.{Tree}
@@ -25,22 +26,23 @@ HasAddress (Own q) = q.first ≤ q.last
 HasAddress (Legacy slot is_narrow) = Unit {0}
 
 -- it is that of a system, with just the addresses that this claims
-pub record IsNamedIn (given : Given) (s : System) (slot : Slot) (reg : ℕ) (space : Space)
+pub record IsNamedIn (given : Given) (s : System) (name : RegionName) (space : Space)
     (one : Shown) (addresses : List Range) : Type 0 where
   pub region : Region
   pub is : IsRegionIn given s region
-  pub named : IsNamed region slot reg space
+  pub named : IsNamed region name.slot name.register space
   pub line : (word : List ℕ) → shown_line word space one ≡ region_line given word region
   pub exact : (a : ℕ) → Covers addresses a ↔ Holds given region a
   -- no other region that they name claims an address
-  pub all : (a bus : ℕ) → ClaimsOnBus given s bus space a slot reg → Covers addresses a
+  pub all : (a bus : ℕ) → ClaimsOnBus given s bus (address_in space a) name → Covers addresses a
 
 -- of each system with the tree
-abbrev pub IsNamedInEach : Given → Tree → Slot → ℕ → Space → Shown → List Range → Type 0
-IsNamedInEach given t slot reg space one addresses =
-    (s : System) → HasTree t s → IsNamedIn given s slot reg space one addresses
+abbrev pub IsNamedInEach : Given → Tree → RegionName → Space → Shown → List Range → Type 0
+IsNamedInEach given t name space one addresses =
+    (s : System) → HasTree t s → IsNamedIn given s name space one addresses
 
 -- no region of such a system that they name claims an address
 abbrev pub NoneNamed : Given → Tree → Slot → ℕ → Space → Type 0
 NoneNamed given t slot reg space =
-    (s : System) (a bus : ℕ) → HasTree t s → ClaimsOnBus given s bus space a slot reg → ⊥
+    (s : System) (a bus : ℕ) → HasTree t s
+    → ClaimsOnBus given s bus (address_in space a) (named_region slot reg) → ⊥

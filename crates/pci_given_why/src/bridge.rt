@@ -6,6 +6,7 @@ ghost use Rattle.pci_function.specs.Values.{record_value};
 ghost use Rattle.pci_tree.specs.Reaches.{HasSpans};
 ghost use Rattle.pci_claims.specs.Values.{given_value};
 ghost use Rattle.pci_given_why.specs.Bridges.{line_of_bridge, AreMissedTold, IsUnreachedTold};
+ghost use Rattle.pci_spec.specs.Fault.{named_region};
 
 use super::legacy::push_legacy_word;
 use pci_base::memory::OutOfMemory;
@@ -82,8 +83,9 @@ pub fn push_unreached<A: Allocator + Copy, B: Allocator>(
     space: Space,
     bridge: Slot,
 ) -> Result<(), OutOfMemory>
-    ensures { OnOk result (IsUnreachedTold (given_value given.now) outline.now slot reg
-        (space_of space) bridge (string_bytes text.old) (string_bytes text.new)) }
+    ensures { OnOk result (IsUnreachedTold (given_value given.now) outline.now
+        (named_region slot reg) (space_of space) bridge (string_bytes text.old)
+        (string_bytes text.new)) }
 {
     let Some(region) = region_at(alloc, outline, slot, reg, space)? else {
         return Ok(());

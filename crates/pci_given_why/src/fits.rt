@@ -2,6 +2,7 @@
 ghost use Rattle.std.specs.Prelude.{◌≡◌, ◌≤◌, ◌&&◌, not, IfOk, IfSome, OnOk};
 ghost use Rattle.std.specs.String.{string_bytes};
 ghost use Rattle.pci_spec.specs.Bus.{is_root};
+ghost use Rattle.pci_spec.specs.Fault.{named_region};
 ghost use Rattle.given_spec.specs.Why.{is_said};
 ghost use Rattle.pci_base.specs.Space.{space_of};
 ghost use Rattle.pci_claims.specs.Values.{given_value};
@@ -69,8 +70,8 @@ pub fn push_fits<A: Allocator + Copy, B: Allocator>(
     reg: u8,
     space: Space,
 ) -> Result<(), OutOfMemory>
-    ensures { OnOk result (IsFitTold (given_value given.now) outline.now slot reg (space_of space)
-        (string_bytes text.old) (string_bytes text.new)) }
+    ensures { OnOk result (IsFitTold (given_value given.now) outline.now (named_region slot reg)
+        (space_of space) (string_bytes text.old) (string_bytes text.new)) }
 {
     let Some(region) = region_at(alloc, outline, slot, reg, space)? else {
         return Ok(());

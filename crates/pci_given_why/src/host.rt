@@ -2,6 +2,7 @@
 ghost use Rattle.std.specs.Prelude.{◌≡◌, ◌++◌, ◌∷◌, [], map, IfOk, MatchOption, OnOk};
 ghost use Rattle.std.specs.String.{string_bytes};
 ghost use Rattle.pci_spec.specs.Listing.{range_text};
+ghost use Rattle.pci_spec.specs.Fault.{named_region};
 ghost use Rattle.pci_base.specs.Ranges.{decoded_range_of};
 ghost use Rattle.pci_base.specs.Space.{space_of};
 ghost use Rattle.given_spec.specs.Why.{ranges_for, ranges_words, host_line};
@@ -107,8 +108,8 @@ pub fn push_outside<A: Allocator + Copy, B: Allocator>(
     reg: u8,
     space: Space,
 ) -> Result<(), OutOfMemory>
-    ensures { OnOk result (IsOutsideTold (given_value given.now) outline.now slot reg (space_of space)
-        (string_bytes text.old) (string_bytes text.new)) }
+    ensures { OnOk result (IsOutsideTold (given_value given.now) outline.now (named_region slot reg)
+        (space_of space) (string_bytes text.old) (string_bytes text.new)) }
 {
     let Some(region) = region_at(alloc, outline, slot, reg, space)? else {
         return Ok(());

@@ -5,6 +5,7 @@ ghost use Rattle.pci_base.specs.Space.{space_of};
 ghost use Rattle.pci_tree.specs.Ranges.{IsCanonical};
 ghost use Rattle.pci_claims.specs.Values.{given_value};
 ghost use Rattle.pci_given_why.specs.Named.{shown_line, HasAddress, IsNamedInEach, NoneNamed};
+ghost use Rattle.pci_spec.specs.Fault.{named_region};
 
 use super::legacy::{is_narrow, push_legacy_line};
 use pci_base::memory::OutOfMemory;
@@ -53,8 +54,8 @@ fn legacy_named<A: Allocator + Copy>(
     ensures some { IfOk result (λ o. IfSome o (λ n. HasAddress n.shown)) }
     ensures exact { IfOk result (λ o. MatchOption o
         (NoneNamed (given_value given.now) outline.now slot BRIDGE_CONTROL (space_of space))
-        (λ n. IsNamedInEach (given_value given.now) outline.now slot BRIDGE_CONTROL (space_of space) n.shown
-        n.addresses.items)) }
+        (λ n. IsNamedInEach (given_value given.now) outline.now (named_region slot BRIDGE_CONTROL)
+        (space_of space) n.shown n.addresses.items)) }
 {
     let Some(function) = record_at(outline.records(), slot) else {
         return Ok(None);
@@ -85,8 +86,8 @@ fn own_named<A: Allocator + Copy>(
     ensures some { IfOk result (λ o. IfSome o (λ n. HasAddress n.shown)) }
     ensures exact { IfOk result (λ o. MatchOption o
         (NoneNamed (given_value given.now) outline.now slot reg (space_of space))
-        (λ n. IsNamedInEach (given_value given.now) outline.now slot reg (space_of space) n.shown
-        n.addresses.items)) }
+        (λ n. IsNamedInEach (given_value given.now) outline.now (named_region slot reg)
+        (space_of space) n.shown n.addresses.items)) }
 {
     let Some(region) = region_at(alloc, outline, slot, reg, space)? else {
         return Ok(None);
@@ -114,8 +115,8 @@ pub fn region_named<A: Allocator + Copy>(
     ensures some { IfOk result (λ o. IfSome o (λ n. HasAddress n.shown)) }
     ensures exact { IfOk result (λ o. MatchOption o
         (NoneNamed (given_value given.now) outline.now slot reg (space_of space))
-        (λ n. IsNamedInEach (given_value given.now) outline.now slot reg (space_of space) n.shown
-        n.addresses.items)) }
+        (λ n. IsNamedInEach (given_value given.now) outline.now (named_region slot reg)
+        (space_of space) n.shown n.addresses.items)) }
 {
     if reg == BRIDGE_CONTROL {
         legacy_named(alloc, given, outline, slot, space)

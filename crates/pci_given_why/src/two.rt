@@ -4,6 +4,7 @@ ghost use Rattle.std.specs.String.{string_bytes};
 ghost use Rattle.pci_base.specs.Space.{space_of};
 ghost use Rattle.pci_claims.specs.Values.{given_value};
 ghost use Rattle.pci_given_why.specs.Two.{AreTwoTold};
+ghost use Rattle.pci_spec.specs.Fault.{named_regions};
 
 use super::named::{push_shown, region_named};
 use pci_base::memory::OutOfMemory;
@@ -26,7 +27,8 @@ pub fn push_two<A: Allocator + Copy, B: Allocator>(
     second: (Slot, u8),
 ) -> Result<(), OutOfMemory>
     ensures { OnOk result (AreTwoTold (given_value given.now) outline.now (space_of space)
-        first.0 first.1 second.0 second.1 (string_bytes text.old) (string_bytes text.new)) }
+        (named_regions first.0 first.1 second.0 second.1) (string_bytes text.old)
+        (string_bytes text.new)) }
 {
     let Some(p) = region_named(alloc, given, outline, first.0, first.1, space)? else {
         return Ok(());

@@ -8,6 +8,7 @@ use Rattle.std.proofs.lemmas.List.Elements.{Contains-append_cases, Contains-appe
 use Rattle.pci_spec.specs.Slot.{Slot}
 use Rattle.pci_spec.specs.System.{System, Space, Io, Memory, Claims, Leads, is_window, register_of}
 use Rattle.pci_spec.specs.System as system
+use Rattle.pci_spec.specs.Fault.{address_in, named_region}
 use Rattle.pci_spec.proofs.Members.{in_nil, in_cons_cases, in_head, pairs_nil, pairs_cons, pairs_head, pairs_tail, pairs_append}
 use Rattle.pci_spec.proofs.Regions.{part_same}
 use Rattle.given_spec.specs.Given.{Given, starts, starts_in, ranges_said}
@@ -54,14 +55,14 @@ module _ (given : Given) (t : Tree) (s : System) (one : AreOne s) (space : Space
   IsOut = IsOutOfPlace given t.roots s (value_of space q)
 
   -- it is of the region's part
-  part_is : (a : ℕ) (o : IsOutside given t.roots s q.slot q.reg space a) → o.part ≡ on.part
+  part_is : (a : ℕ) (o : IsOutside given t.roots s (named_region q.slot q.reg) (address_in space a)) → o.part ≡ on.part
   part_is a o =
       let same : o.f ≡ on.f = one o.f on.f o.listed on.listed (o.named.0 ∙ on.is.slot) in
       let claims : Claims on.f o.part space a = subst (λ f. Claims f o.part space a) same o.claims in
       let own : Claims on.f on.part space q.first = (on.is.claims q.first).0 (omega arith, on.is.some) in
       part_same on.f o.part on.part claims.there own.there (ap (λ f. register_of f o.part) (sym same) ∙ o.named.1 ∙ on.is.register)
 
-  held : (a : ℕ) → IsOutside given t.roots s q.slot q.reg space a → Holds (range_at q) a
+  held : (a : ℕ) → IsOutside given t.roots s (named_region q.slot q.reg) (address_in space a) → Holds (range_at q) a
   held a o =
       let same : o.f ≡ on.f = one o.f on.f o.listed on.listed (o.named.0 ∙ on.is.slot) in
       (on.is.claims a).1 (subst (λ p. Claims on.f p space a) (part_is a o) (subst (λ f. Claims f o.part space a) same o.claims))

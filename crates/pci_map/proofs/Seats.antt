@@ -73,7 +73,7 @@ module _ (given : Given) (roots : List ℕ) (s : System) (space : Space) where
 
   -- ---- a region, and what is inside it
 
-  none_inside : (part : Part) (reg : ℕ) (v : why.Region) → (part ≡ parts.Window → ⊥) → AreInside given roots s space (part_at part reg) v End
+  none_inside : (part : Part) (reg : ℕ) (v : why.Region) → (part ≡ parts.Window → ⊥) → AreInside (part_at part reg) End (AreLinesAt given roots s space (Inside v) End)
   none_inside parts.Bar reg v not_window = refl
   none_inside parts.Rom reg v not_window = refl
   none_inside parts.Window reg v not_window = absurd (not_window refl)
@@ -88,9 +88,9 @@ module _ (given : Given) (roots : List ℕ) (s : System) (space : Space) where
   }
 
   window_inside : (q : Region) (bus : ℕ) (qs : List Region) (rs : List Range) (lines : Lines) → q.part ≡ parts.Window → IsInside the_space q bus qs rs → entries lines ≡ merged space qs rs
-      → AreInside given roots s space (part_of q) (value_of space q) lines
+      → AreInside (part_of q) lines (AreLinesAt given roots s space (Inside (value_of space q)) lines)
   window_inside q bus qs rs lines window inside is =
-      subst (λ p. AreInside given roots s space (part_at p q.reg) (value_of space q) lines) (sym window) (lines_inside q bus qs rs lines inside is)
+      subst (λ p. AreInside (part_at p q.reg) lines (AreLinesAt given roots s space (Inside (value_of space q)) lines)) (sym window) (lines_inside q bus qs rs lines inside is)
 
   pub seat_of_window : (depth deeper : ℕ) (q : Region) (bus : ℕ) (qs : List Region) (rs : List Range) (old mid new : List ℕ) → deeper ≡ depth + 1 → q.part ≡ parts.Window → IsInside the_space q bus qs rs
       → mid ≡ old ++ region_line depth (value_of space q) → IsPlaced the_space deeper (merged space qs rs) mid new → IsSeated the_space depth q old new

@@ -4,7 +4,7 @@ use Rattle.std.specs.List.{Contains}
 use Rattle.pci_spec.specs.System.{System, Space}
 use Rattle.pci_spec.specs.Decoded as decoded
 use Rattle.pci_spec.specs.Why as why
-use Rattle.map_spec.specs.Lines.{Lines, End, Free, Sits, OnRoot, AreInside, AreAllInside, AreAllLines}
+use Rattle.map_spec.specs.Lines.{Lines, End, Free, Sits, OnRoot, Inside, AreLinesAt, AreInside, AreAllInside, AreAllLines}
 use Rattle.map_spec.specs.MapText.{region_line, lines_text, space_lines}
 use Rattle.pci_base.specs.declared.range.Range.{Range}
 use Rattle.pci_base.specs.Ranges.{decoded_range_of}
@@ -47,7 +47,8 @@ pub record IsPlaced (m : Mapped) (depth : ℕ) (all : List Entry) (old new : Lis
 -- a text got the line of a region, and what is inside it
 pub record IsSeated (m : Mapped) (depth : ℕ) (q : Region) (old new : List ℕ) : Type 0 where
   pub inside : Lines
-  pub is : AreInside m.given m.roots m.system m.space (part_of q) (value_of m.space q) inside
+  pub is : AreInside (part_of q) inside (AreLinesAt m.given m.roots m.system m.space (Inside
+      (value_of m.space q)) inside)
   pub deeper : AreAllInside m.given m.roots m.system m.space inside
   pub text : new
       ≡ old ++ (region_line depth (value_of m.space q) ++ lines_text (suc depth) m.space inside)

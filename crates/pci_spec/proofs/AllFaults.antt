@@ -6,7 +6,7 @@ use Rattle.std.proofs.lemmas.Bool.{cases_order, cases_eq}
 use Rattle.pci_spec.specs.Slot.{Slot, IsSlot, slot_number}
 use Rattle.pci_spec.specs.System.{System, Function, Space, Part, Claims, IsPassedTo, IsSystem, has_part, is_prefetchable_part, is_window, register_of}
 use Rattle.pci_spec.specs.Bus.{IsNested}
-use Rattle.pci_spec.specs.Fault.{Fault, Unreached, Clash, Split, IsUnreached, IsClash, IsSplit}
+use Rattle.pci_spec.specs.Fault.{Fault, Unreached, Clash, Split, IsUnreached, IsClash, IsSplit, address_in, named_region, named_regions}
 use Rattle.pci_spec.specs.Sound.{IsSingle, IsHome}
 use Rattle.pci_spec.specs.JudgingLaws.{region_number, HasNoUnreached, HasNoClash, HasNoSplit}
 use Rattle.pci_spec.specs.AllFaults.{IsUnreachedOf, IsClashOf, IsSplitOf, IsNamed, AreAllOfJudging}
@@ -71,7 +71,7 @@ number r = region_number r.0 r.1
 
 -- two regions that clash, the other way round
 pub swapped : (roots : List ℕ) (s : System) (bus : ℕ) (space : Space) (a : ℕ) (first : Slot) (fr : ℕ) (second : Slot) (sr : ℕ)
-    → IsClash roots s bus space a first fr second sr → IsClash roots s bus space a second sr first fr
+    → IsClash roots s bus (address_in space a) (named_regions first fr second sr) → IsClash roots s bus (address_in space a) (named_regions second sr first fr)
 swapped roots s bus space a first fr second sr clash = record {
   gets = clash.gets;
   claims_first = clash.claims_second;
@@ -80,7 +80,7 @@ swapped roots s bus space a first fr second sr clash = record {
 }
 
 pub swapped_split : (roots : List ℕ) (s : System) (space : Space) (a : ℕ) (first : Slot) (fr : ℕ) (second : Slot) (sr : ℕ)
-    → IsSplit roots s space a first fr second sr → IsSplit roots s space a second sr first fr
+    → IsSplit roots s (address_in space a) (named_regions first fr second sr) → IsSplit roots s (address_in space a) (named_regions second sr first fr)
 swapped_split roots s space a first fr second sr split = record {
   root_first = split.root_second;
   root_second = split.root_first;
@@ -92,26 +92,26 @@ swapped_split roots s space a first fr second sr split = record {
 module _ (roots : List ℕ) (s : System) (system : IsSystem s) where
   -- a clash with an earlier region has a line, which isn't after it
   pub line_of_clash : (bus : ℕ) (space : Space) (a : ℕ) (first : Slot) (fr : ℕ) (second : Slot) (sr : ℕ)
-      → IsClash roots s bus space a first fr second sr → region_number first fr < region_number second sr
-      → ((b : ℕ) (at : Slot) (register : ℕ) → IsClashOf roots s bus space b at register second sr → IsNotAfter b (region_number at register) a (region_number first fr) → ⊥)
+      → IsClash roots s bus (address_in space a) (named_regions first fr second sr) → region_number first fr < region_number second sr
+      → ((b : ℕ) (at : Slot) (register : ℕ) → IsClashOf roots s bus (address_in space b) (named_regions at register second sr) → IsNotAfter b (region_number at register) a (region_number first fr) → ⊥)
       → ⊥
   line_of_clash bus space a first fr second sr clash rise none =
-      none_up_to number (λ b r. IsClash roots s bus space b r.0 r.1 second sr × (number r < region_number second sr)) a (first, fr)
+      none_up_to number (λ b r. IsClash roots s bus (address_in space b) (named_regions r.0 r.1 second sr) × (number r < region_number second sr)) a (first, fr)
       (λ b r p before least. none b r.0 r.1 record { there = p.0; rise = p.1; least = λ e slot register other up. least e (slot, register) (other, up) } before)
       (clash, rise)
 
   pub line_of_split : (space : Space) (a : ℕ) (first : Slot) (fr : ℕ) (second : Slot) (sr : ℕ)
-      → IsSplit roots s space a first fr second sr → region_number first fr < region_number second sr
-      → ((b : ℕ) (at : Slot) (register : ℕ) → IsSplitOf roots s space b at register second sr → IsNotAfter b (region_number at register) a (region_number first fr) → ⊥)
+      → IsSplit roots s (address_in space a) (named_regions first fr second sr) → region_number first fr < region_number second sr
+      → ((b : ℕ) (at : Slot) (register : ℕ) → IsSplitOf roots s (address_in space b) (named_regions at register second sr) → IsNotAfter b (region_number at register) a (region_number first fr) → ⊥)
       → ⊥
   line_of_split space a first fr second sr split rise none =
-      none_up_to number (λ b r. IsSplit roots s space b r.0 r.1 second sr × (number r < region_number second sr)) a (first, fr)
+      none_up_to number (λ b r. IsSplit roots s (address_in space b) (named_regions r.0 r.1 second sr) × (number r < region_number second sr)) a (first, fr)
       (λ b r p before least. none b r.0 r.1 record { there = p.0; rise = p.1; least = λ e slot register other up. least e (slot, register) (other, up) } before)
       (split, rise)
 
   -- regions of which none is second don't clash
   never_clash : (bus : ℕ) (space : Space) (a : ℕ) (first : Slot) (fr : ℕ) (second : Slot) (sr : ℕ)
-      → IsNeverSecond roots s first fr → IsNeverSecond roots s second sr → IsClash roots s bus space a first fr second sr → ⊥
+      → IsNeverSecond roots s first fr → IsNeverSecond roots s second sr → IsClash roots s bus (address_in space a) (named_regions first fr second sr) → ⊥
   never_clash bus space a first fr second sr of_first of_second clash = elim (cases_order (region_number first fr) (region_number second sr)) [
     | inl same ↦ clash.differ (region_number-same first second fr sr
         (named_slot s system bus space a first fr clash.claims_first) (named_slot s system bus space a second sr clash.claims_second)
@@ -121,7 +121,7 @@ module _ (roots : List ℕ) (s : System) (system : IsSystem s) where
   ]
 
   never_split : (space : Space) (a : ℕ) (first : Slot) (fr : ℕ) (second : Slot) (sr : ℕ)
-      → IsNeverSecond roots s first fr → IsNeverSecond roots s second sr → IsSplit roots s space a first fr second sr → ⊥
+      → IsNeverSecond roots s first fr → IsNeverSecond roots s second sr → IsSplit roots s (address_in space a) (named_regions first fr second sr) → ⊥
   never_split space a first fr second sr of_first of_second split = elim (cases_order (region_number first fr) (region_number second sr)) [
     | inl same ↦ split.buses (ap (λ (x : Slot). x.bus) (region_number-same first second fr sr
         (named_slot s system first.bus space a first fr split.claims_first) (named_slot s system second.bus space a second sr split.claims_second)
@@ -134,17 +134,17 @@ module _ (roots : List ℕ) (s : System) (system : IsSystem s) where
 
 -- a bridge on the way has a slot
 pub bridge_slot : (roots : List ℕ) (s : System) → IsSystem s → IsNested roots s → (slot : Slot) (register : ℕ) (space : Space) (a : ℕ) (bridge : Slot)
-    → IsUnreached roots s slot register space a bridge → IsSlot bridge
+    → IsUnreached roots s (named_region slot register) (address_in space a) bridge → IsSlot bridge
 bridge_slot roots s system nested slot register space a bridge u =
     subst IsSlot u.named_bridge (slot_of s system u.b (below_the_end roots s nested u.root u.bridges slot.bus u.leads u.b u.on_the_way).0)
 
 -- what keeps an address from a region has a line, which isn't after it
-pub line_of_unreached : (roots : List ℕ) (s : System) → IsSystem s → IsNested roots s → (slot : Slot) (register : ℕ) (space : Space) (a : ℕ) (bridge : Slot) → IsUnreached roots s slot register space a bridge
-    → ((sp : Space) (b : ℕ) (other : Slot) → IsUnreachedOf roots s slot register sp b other → IsNotAfter (slot_number other) b (slot_number bridge) a → ⊥)
+pub line_of_unreached : (roots : List ℕ) (s : System) → IsSystem s → IsNested roots s → (slot : Slot) (register : ℕ) (space : Space) (a : ℕ) (bridge : Slot) → IsUnreached roots s (named_region slot register) (address_in space a) bridge
+    → ((sp : Space) (b : ℕ) (other : Slot) → IsUnreachedOf roots s (named_region slot register) (address_in sp b) other → IsNotAfter (slot_number other) b (slot_number bridge) a → ⊥)
     → ⊥
 line_of_unreached roots s system nested slot register space a bridge unreached none =
     let low = bridge_slot roots s system nested slot register in
-    none_up_to (λ (x : Space × ℕ × Slot). x.1) (λ n x. (slot_number x.2 ≡ n) × IsUnreached roots s slot register x.0 x.1 x.2) (slot_number bridge) (space, a, bridge)
+    none_up_to (λ (x : Space × ℕ × Slot). x.1) (λ n x. (slot_number x.2 ≡ n) × IsUnreached roots s (named_region slot register) (address_in x.0 x.1) x.2) (slot_number bridge) (space, a, bridge)
     (λ n x p before least. none x.0 x.1 x.2 record {
       there = p.1;
       first = λ sp b other u. elim (least (slot_number other) (sp, b, other) (refl, u)) [
@@ -156,10 +156,10 @@ line_of_unreached roots s system nested slot register space a bridge unreached n
 -- what is unreached by the name of a function's part is that part
 module _ (roots : List ℕ) (s : System) (system : IsSystem s) (nested : IsNested roots s) (f : Function) (part : Part)
     (listed : Contains s f) (there : IsTrue (has_part f part)) where
-  same_function : (space : Space) (a : ℕ) (bridge : Slot) (u : IsUnreached roots s f.slot (register_of f part) space a bridge) → u.f ≡ f
+  same_function : (space : Space) (a : ℕ) (bridge : Slot) (u : IsUnreached roots s (named_region f.slot (register_of f part)) (address_in space a) bridge) → u.f ≡ f
   same_function space a bridge u = one_function s system u.f f u.listed listed (ap slot_number u.named.0)
 
-  pub same_part : (space : Space) (a : ℕ) (bridge : Slot) (u : IsUnreached roots s f.slot (register_of f part) space a bridge) → u.part ≡ part
+  pub same_part : (space : Space) (a : ℕ) (bridge : Slot) (u : IsUnreached roots s (named_region f.slot (register_of f part)) (address_in space a) bridge) → u.part ≡ part
   same_part space a bridge u =
       part_same f u.part part (subst (λ (g : Function). IsTrue (has_part g u.part)) (same_function space a bridge u) u.claims.there) there
       (ap (λ (g : Function). register_of g u.part) (sym (same_function space a bridge u)) ∙ u.named.1)

@@ -6,7 +6,7 @@ use Rattle.std.proofs.lemmas.Bool.{cases_order}
 use Rattle.pci_spec.specs.Slot.{Slot, IsSlot, slot_number}
 use Rattle.pci_spec.specs.System.{System, Space, IsSystem}
 use Rattle.pci_spec.specs.Bus.{IsNested}
-use Rattle.pci_spec.specs.Fault.{Fault, Unreached, Clash, Split, IsIn, IsUnreached, IsClash, IsSplit, ClaimsOnBus}
+use Rattle.pci_spec.specs.Fault.{Fault, Unreached, Clash, Split, IsIn, IsUnreached, IsClash, IsSplit, ClaimsOnBus, address_in, named_region, named_regions}
 use Rattle.pci_spec.specs.Order.{precedes, slot_key, space_key, judging_key}
 use Rattle.pci_spec.specs.JudgingLaws.{region_number}
 use Rattle.pci_spec.specs.AllFaults.{IsClashOf, IsSplitOf, IsNamed, AreAllOfJudging}
@@ -121,7 +121,7 @@ turned a b f g u fr gr ur hf hg hu less h before =
     ]
 
 module _ (roots : List ℕ) (s : System) (system : IsSystem s) (fault : Fault) (rest : List Fault) (all : AreAllOfJudging roots s (fault ∷ rest)) where
-  lawful : (bus : ℕ) (space : Space) (a : ℕ) (slot : Slot) (register : ℕ) → ClaimsOnBus s bus space a slot register → IsLawful slot register
+  lawful : (bus : ℕ) (space : Space) (a : ℕ) (slot : Slot) (register : ℕ) → ClaimsOnBus s bus (address_in space a) (named_region slot register) → IsLawful slot register
   lawful bus space a slot register c = record { slot_is = named_slot s system bus space a slot register c; register_is = named_register s bus space a slot register c }
 
   -- a line of the list stands after what stands before its first
@@ -129,7 +129,7 @@ module _ (roots : List ℕ) (s : System) (system : IsSystem s) (fault : Fault) (
   line_after other line h named = precedes_each roots s fault rest all (judging_key other) h line (all.complete line named)
 
   none_unreached : IsNested roots s → (t : Slot) (r : ℕ) (space : Space) (a : ℕ) (bridge : Slot)
-      → IsTrue (precedes (judging_key (Unreached t r space a bridge)) (judging_key fault)) → IsUnreached roots s t r space a bridge → ⊥
+      → IsTrue (precedes (judging_key (Unreached t r space a bridge)) (judging_key fault)) → IsUnreached roots s (named_region t r) (address_in space a) bridge → ⊥
   none_unreached nested t r space a bridge h u = line_of_unreached roots s system nested t r space a bridge u (λ sp b other line before.
       stops_in_order t r a b bridge other (subst IsSlot u.named.0 (slot_of s system u.f u.listed))
       (let low = register_of-lt u.f u.part u.claims.there in let at = u.named.1 in omega (arith, low, at))
@@ -138,11 +138,11 @@ module _ (roots : List ℕ) (s : System) (system : IsSystem s) (fault : Fault) (
       (line_after (Unreached t r space a bridge) (Unreached t r sp b other) h line)) before)
 
   none_clash : (bus : ℕ) (space : Space) (a : ℕ) (f : Slot) (fr : ℕ) (g : Slot) (gr : ℕ)
-      → IsTrue (precedes (judging_key (Clash bus space a f fr g gr)) (judging_key fault)) → IsClash roots s bus space a f fr g gr → ⊥
+      → IsTrue (precedes (judging_key (Clash bus space a f fr g gr)) (judging_key fault)) → IsClash roots s bus (address_in space a) (named_regions f fr g gr) → ⊥
   none_clash bus space a f fr g gr h clash =
       let of_f = lawful bus space a f fr clash.claims_first in
       let of_g = lawful bus space a g gr clash.claims_second in
-      let stripped = λ (b : ℕ) (u : Slot) (ur : ℕ) (v : Slot) (vr : ℕ) (line : IsClashOf roots s bus space b u ur v vr).
+      let stripped = λ (b : ℕ) (u : Slot) (ur : ℕ) (v : Slot) (vr : ℕ) (line : IsClashOf roots s bus (address_in space b) (named_regions u ur v vr)).
       strip (space_key space) (a ∷ slot_key f ++ (fr ∷ slot_key g) ++ (gr ∷ [])) (b ∷ slot_key u ++ (ur ∷ slot_key v) ++ (vr ∷ []))
       (strip bus (space_key space ∷ a ∷ slot_key f ++ (fr ∷ slot_key g) ++ (gr ∷ [])) (space_key space ∷ b ∷ slot_key u ++ (ur ∷ slot_key v) ++ (vr ∷ []))
       (strip 1 (bus ∷ space_key space ∷ a ∷ slot_key f ++ (fr ∷ slot_key g) ++ (gr ∷ [])) (bus ∷ space_key space ∷ b ∷ slot_key u ++ (ur ∷ slot_key v) ++ (vr ∷ []))
@@ -157,11 +157,11 @@ module _ (roots : List ℕ) (s : System) (system : IsSystem s) (fault : Fault) (
       ]
 
   none_split : (space : Space) (a : ℕ) (f : Slot) (fr : ℕ) (g : Slot) (gr : ℕ)
-      → IsTrue (precedes (judging_key (Split space a f fr g gr)) (judging_key fault)) → IsSplit roots s space a f fr g gr → ⊥
+      → IsTrue (precedes (judging_key (Split space a f fr g gr)) (judging_key fault)) → IsSplit roots s (address_in space a) (named_regions f fr g gr) → ⊥
   none_split space a f fr g gr h split =
       let of_f = lawful f.bus space a f fr split.claims_first in
       let of_g = lawful g.bus space a g gr split.claims_second in
-      let stripped = λ (b : ℕ) (u : Slot) (ur : ℕ) (v : Slot) (vr : ℕ) (line : IsSplitOf roots s space b u ur v vr).
+      let stripped = λ (b : ℕ) (u : Slot) (ur : ℕ) (v : Slot) (vr : ℕ) (line : IsSplitOf roots s (address_in space b) (named_regions u ur v vr)).
       strip (space_key space) (a ∷ slot_key f ++ (fr ∷ slot_key g) ++ (gr ∷ [])) (b ∷ slot_key u ++ (ur ∷ slot_key v) ++ (vr ∷ []))
       (strip 2 (space_key space ∷ a ∷ slot_key f ++ (fr ∷ slot_key g) ++ (gr ∷ [])) (space_key space ∷ b ∷ slot_key u ++ (ur ∷ slot_key v) ++ (vr ∷ []))
       (line_after (Split space a f fr g gr) (Split space b u ur v vr) h line)) in

@@ -9,7 +9,7 @@ use Rattle.std.proofs.lemmas.List.Kept.{AllPairs-from_increasing}
 use Rattle.pci_spec.specs.Slot.{Slot, IsSlot, slot_number}
 use Rattle.pci_spec.specs.System.{System, Function, IsFunction, Space, Io, Memory, Part, Claims, IsSystem, Leads, is_prefetchable_part, passes, register_of}
 use Rattle.pci_spec.specs.Bus.{IsNested}
-use Rattle.pci_spec.specs.Fault.{IsIn, IsUnreached, IsClash, IsSplit, ClaimsOnBus, Unreached, Clash, Split}
+use Rattle.pci_spec.specs.Fault.{IsIn, IsUnreached, IsClash, IsSplit, ClaimsOnBus, Unreached, Clash, Split, address_in, named_region, named_regions}
 use Rattle.pci_spec.specs.Order.{precedes, slot_key, space_key, judging_key}
 use Rattle.pci_spec.specs.AllFaults.{IsUnreachedOf}
 use Rattle.pci_spec.specs.JudgingLaws.{region_number, IsFirstStop, IsLeastUnreached, IsLeastClash, IsLeastSplit, LeastUnreachedIsFirst, LeastClashIsFirst, LeastSplitIsFirst}
@@ -26,10 +26,10 @@ no h = absurd (let contradiction : ⊥ = both_ways false refl h in contradiction
 pub slot_of : (s : System) → IsSystem s → (f : Function) → Contains s f → IsSlot f.slot
 slot_of s system f listed = (All-contains IsFunction s f system.each listed).slot
 
-pub named_slot : (s : System) → IsSystem s → (bus : ℕ) (space : Space) (a : ℕ) (slot : Slot) (register : ℕ) → ClaimsOnBus s bus space a slot register → IsSlot slot
+pub named_slot : (s : System) → IsSystem s → (bus : ℕ) (space : Space) (a : ℕ) (slot : Slot) (register : ℕ) → ClaimsOnBus s bus (address_in space a) (named_region slot register) → IsSlot slot
 named_slot s system bus space a slot register c = subst IsSlot c.3 (slot_of s system c.0 c.2)
 
-pub named_register : (s : System) (bus : ℕ) (space : Space) (a : ℕ) (slot : Slot) (register : ℕ) → ClaimsOnBus s bus space a slot register → register < 256
+pub named_register : (s : System) (bus : ℕ) (space : Space) (a : ℕ) (slot : Slot) (register : ℕ) → ClaimsOnBus s bus (address_in space a) (named_region slot register) → register < 256
 named_register s bus space a slot register c = let less = register_of-lt c.0 c.1 c.6.there in let e = c.5 in omega (arith, less, e)
 
 -- keys of two regions: where one pair precedes another, its first region is lesser, or the same and its second lesser
@@ -62,15 +62,15 @@ space_key-same Memory Memory e = refl
 
 module _ (roots : List ℕ) (s : System) (system : IsSystem s) (bus : ℕ) (space : Space) (address : ℕ)
     (first : Slot) (first_register : ℕ) (second : Slot) (second_register : ℕ)
-    (is : IsLeastClash roots s bus space address first first_register second second_register) where
+    (is : IsLeastClash roots s bus (address_in space address) (named_regions first first_register second second_register)) where
   -- at one address, the two least regions
-  no_lesser_pair : (f g : Slot) (r q : ℕ) → IsClash roots s bus space address f r g q
+  no_lesser_pair : (f g : Slot) (r q : ℕ) → IsClash roots s bus (address_in space address) (named_regions f r g q)
       → precedes (slot_key f ++ (r ∷ slot_key g) ++ (q ∷ [])) (slot_key first ++ (first_register ∷ slot_key second) ++ (second_register ∷ [])) ≡ true → ⊥
   no_lesser_pair f g r q clash h =
       let one = clash.claims_first in
       let two = clash.claims_second in
-      let lawful = λ (slot : Slot) (register : ℕ) (c : ClaimsOnBus s bus space address slot register). named_slot s system bus space address slot register c in
-      let low = λ (slot : Slot) (register : ℕ) (c : ClaimsOnBus s bus space address slot register). named_register s bus space address slot register c in
+      let lawful = λ (slot : Slot) (register : ℕ) (c : ClaimsOnBus s bus (address_in space address) (named_region slot register)). named_slot s system bus space address slot register c in
+      let low = λ (slot : Slot) (register : ℕ) (c : ClaimsOnBus s bus (address_in space address) (named_region slot register)). named_register s bus space address slot register c in
       elim (pair_precedes f first g second r first_register q second_register (lawful f r one) (lawful first first_register is.there.claims_first) (lawful g q two)
       (lawful second second_register is.there.claims_second) (low f r one) (low first first_register is.there.claims_first) (low g q two)
       (low second second_register is.there.claims_second) h) [
@@ -79,24 +79,24 @@ module _ (roots : List ℕ) (s : System) (system : IsSystem s) (bus : ℕ) (spac
             let least = is.next_least g q two (λ same. clash.differ (slot ∙ sym same.0, register ∙ sym same.1)) in omega (arith, less, least)
       ]
 
-  same_space : (sp : Space) (a : ℕ) (f g : Slot) (r q : ℕ) → IsClash roots s bus sp a f r g q → sp ≡ space
+  same_space : (sp : Space) (a : ℕ) (f g : Slot) (r q : ℕ) → IsClash roots s bus (address_in sp a) (named_regions f r g q) → sp ≡ space
       → precedes (a ∷ slot_key f ++ (r ∷ slot_key g) ++ (q ∷ [])) (address ∷ slot_key first ++ (first_register ∷ slot_key second) ++ (second_register ∷ [])) ≡ true → ⊥
   same_space sp a f g r q clash e h =
-      let here = subst (λ (x : Space). IsClash roots s bus x a f r g q) e clash in
+      let here = subst (λ (x : Space). IsClash roots s bus (address_in x a) (named_regions f r g q)) e clash in
       elim (precedes-cases a address (slot_key f ++ (r ∷ slot_key g) ++ (q ∷ [])) (slot_key first ++ (first_register ∷ slot_key second) ++ (second_register ∷ [])) h) [
         | inl less ↦ is.lower_addresses a less f r g q here
-        | inr (same, rest) ↦ no_lesser_pair f g r q (subst (λ x. IsClash roots s bus space x f r g q) same here) rest
+        | inr (same, rest) ↦ no_lesser_pair f g r q (subst (λ x. IsClash roots s bus (address_in space x) (named_regions f r g q)) same here) rest
       ]
 
-  same_bus : (sp : Space) (a : ℕ) (f g : Slot) (r q : ℕ) → IsClash roots s bus sp a f r g q
+  same_bus : (sp : Space) (a : ℕ) (f g : Slot) (r q : ℕ) → IsClash roots s bus (address_in sp a) (named_regions f r g q)
       → precedes (space_key sp ∷ a ∷ slot_key f ++ (r ∷ slot_key g) ++ (q ∷ [])) (space_key space ∷ address ∷ slot_key first ++ (first_register ∷ slot_key second) ++ (second_register ∷ [])) ≡ true → ⊥
   same_bus sp a f g r q clash h =
       elim (precedes-cases (space_key sp) (space_key space) (a ∷ slot_key f ++ (r ∷ slot_key g) ++ (q ∷ [])) (address ∷ slot_key first ++ (first_register ∷ slot_key second) ++ (second_register ∷ [])) h) [
-        | inl less ↦ (let spaces = lower_space sp space less in is.io_before_memory spaces.1 a f r g q (subst (λ (x : Space). IsClash roots s bus x a f r g q) spaces.0 clash))
+        | inl less ↦ (let spaces = lower_space sp space less in is.io_before_memory spaces.1 a f r g q (subst (λ (x : Space). IsClash roots s bus (address_in x a) (named_regions f r g q)) spaces.0 clash))
         | inr (same, rest) ↦ same_space sp a f g r q clash (space_key-same sp space same) rest
       ]
 
-  none_before_clash : (b : ℕ) (sp : Space) (a : ℕ) (f g : Slot) (r q : ℕ) → IsClash roots s b sp a f r g q
+  none_before_clash : (b : ℕ) (sp : Space) (a : ℕ) (f g : Slot) (r q : ℕ) → IsClash roots s b (address_in sp a) (named_regions f r g q)
       → precedes (judging_key (Clash b sp a f r g q)) (judging_key (Clash bus space address first first_register second second_register)) ≡ true → ⊥
   none_before_clash b sp a f g r q clash h =
       elim (precedes-cases 1 1 (b ∷ space_key sp ∷ a ∷ slot_key f ++ (r ∷ slot_key g) ++ (q ∷ [])) (bus ∷ space_key space ∷ address ∷ slot_key first ++ (first_register ∷ slot_key second) ++ (second_register ∷ [])) h) [
@@ -104,7 +104,7 @@ module _ (roots : List ℕ) (s : System) (system : IsSystem s) (bus : ℕ) (spac
         | inr (one, rest) ↦
             elim (precedes-cases b bus (space_key sp ∷ a ∷ slot_key f ++ (r ∷ slot_key g) ++ (q ∷ [])) (space_key space ∷ address ∷ slot_key first ++ (first_register ∷ slot_key second) ++ (second_register ∷ [])) rest) [
               | inl less ↦ is.lower_buses b less sp a f r g q clash
-              | inr (same, later) ↦ same_bus sp a f g r q (subst (λ x. IsClash roots s x sp a f r g q) same clash) later
+              | inr (same, later) ↦ same_bus sp a f g r q (subst (λ x. IsClash roots s x (address_in sp a) (named_regions f r g q)) same clash) later
             ]
       ]
 
@@ -124,14 +124,14 @@ least_clash_is_first roots s system bus space address first first_register secon
 
 module _ (roots : List ℕ) (s : System) (system : IsSystem s) (space : Space) (address : ℕ)
     (first : Slot) (first_register : ℕ) (second : Slot) (second_register : ℕ)
-    (is : IsLeastSplit roots s space address first first_register second second_register) where
-  no_lesser_split : (f g : Slot) (r q : ℕ) → IsSplit roots s space address f r g q
+    (is : IsLeastSplit roots s (address_in space address) (named_regions first first_register second second_register)) where
+  no_lesser_split : (f g : Slot) (r q : ℕ) → IsSplit roots s (address_in space address) (named_regions f r g q)
       → precedes (slot_key f ++ (r ∷ slot_key g) ++ (q ∷ [])) (slot_key first ++ (first_register ∷ slot_key second) ++ (second_register ∷ [])) ≡ true → ⊥
   no_lesser_split f g r q split h =
       let one = split.claims_first in
       let two = split.claims_second in
-      let lawful = λ (slot : Slot) (register : ℕ) (c : ClaimsOnBus s slot.bus space address slot register). named_slot s system slot.bus space address slot register c in
-      let low = λ (slot : Slot) (register : ℕ) (c : ClaimsOnBus s slot.bus space address slot register). named_register s slot.bus space address slot register c in
+      let lawful = λ (slot : Slot) (register : ℕ) (c : ClaimsOnBus s slot.bus (address_in space address) (named_region slot register)). named_slot s system slot.bus space address slot register c in
+      let low = λ (slot : Slot) (register : ℕ) (c : ClaimsOnBus s slot.bus (address_in space address) (named_region slot register)). named_register s slot.bus space address slot register c in
       elim (pair_precedes f first g second r first_register q second_register (lawful f r one) (lawful first first_register is.there.claims_first) (lawful g q two)
       (lawful second second_register is.there.claims_second) (low f r one) (low first first_register is.there.claims_first) (low g q two)
       (low second second_register is.there.claims_second) h) [
@@ -140,23 +140,23 @@ module _ (roots : List ℕ) (s : System) (system : IsSystem s) (space : Space) (
             let least = is.next_least g q split.root_second two (λ same. split.buses (ap (λ (x : Slot). x.bus) (slot ∙ sym same.0))) in omega (arith, less, least)
       ]
 
-  same_space_split : (sp : Space) (a : ℕ) (f g : Slot) (r q : ℕ) → IsSplit roots s sp a f r g q → sp ≡ space
+  same_space_split : (sp : Space) (a : ℕ) (f g : Slot) (r q : ℕ) → IsSplit roots s (address_in sp a) (named_regions f r g q) → sp ≡ space
       → precedes (a ∷ slot_key f ++ (r ∷ slot_key g) ++ (q ∷ [])) (address ∷ slot_key first ++ (first_register ∷ slot_key second) ++ (second_register ∷ [])) ≡ true → ⊥
   same_space_split sp a f g r q split e h =
-      let here = subst (λ (x : Space). IsSplit roots s x a f r g q) e split in
+      let here = subst (λ (x : Space). IsSplit roots s (address_in x a) (named_regions f r g q)) e split in
       elim (precedes-cases a address (slot_key f ++ (r ∷ slot_key g) ++ (q ∷ [])) (slot_key first ++ (first_register ∷ slot_key second) ++ (second_register ∷ [])) h) [
         | inl less ↦ is.lower_addresses a less f r g q here
-        | inr (same, rest) ↦ no_lesser_split f g r q (subst (λ x. IsSplit roots s space x f r g q) same here) rest
+        | inr (same, rest) ↦ no_lesser_split f g r q (subst (λ x. IsSplit roots s (address_in space x) (named_regions f r g q)) same here) rest
       ]
 
-  none_before_split : (sp : Space) (a : ℕ) (f g : Slot) (r q : ℕ) → IsSplit roots s sp a f r g q
+  none_before_split : (sp : Space) (a : ℕ) (f g : Slot) (r q : ℕ) → IsSplit roots s (address_in sp a) (named_regions f r g q)
       → precedes (judging_key (Split sp a f r g q)) (judging_key (Split space address first first_register second second_register)) ≡ true → ⊥
   none_before_split sp a f g r q split h =
       elim (precedes-cases 2 2 (space_key sp ∷ a ∷ slot_key f ++ (r ∷ slot_key g) ++ (q ∷ [])) (space_key space ∷ address ∷ slot_key first ++ (first_register ∷ slot_key second) ++ (second_register ∷ [])) h) [
         | inl less ↦ absurd (let impossible : ⊥ = omega (arith, less) in impossible)
         | inr (two, rest) ↦
             elim (precedes-cases (space_key sp) (space_key space) (a ∷ slot_key f ++ (r ∷ slot_key g) ++ (q ∷ [])) (address ∷ slot_key first ++ (first_register ∷ slot_key second) ++ (second_register ∷ [])) rest) [
-              | inl less ↦ (let spaces = lower_space sp space less in is.io_before_memory spaces.1 a f r g q (subst (λ (x : Space). IsSplit roots s x a f r g q) spaces.0 split))
+              | inl less ↦ (let spaces = lower_space sp space less in is.io_before_memory spaces.1 a f r g q (subst (λ (x : Space). IsSplit roots s (address_in x a) (named_regions f r g q)) spaces.0 split))
               | inr (same, later) ↦ same_space_split sp a f g r q split (space_key-same sp space same) later
             ]
       ]
@@ -214,7 +214,7 @@ same_region s system f g p q sp space a e in_f in_g slot register claims_f claim
 
 module _ (roots : List ℕ) (s : System) (system : IsSystem s) (nested : IsNested roots s)
     (slot : Slot) (register : ℕ) (space : Space) (address : ℕ) (bridge : Slot)
-    (is : IsFirstStop roots s slot register space address bridge) where
+    (is : IsFirstStop roots s (named_region slot register) (address_in space address) bridge) where
   -- what stops an address of the same region
   record Stopped (a : ℕ) (other : Slot) : Type 0 where
     b : Function
@@ -223,7 +223,7 @@ module _ (roots : List ℕ) (s : System) (system : IsSystem s) (nested : IsNeste
     claims : Claims is.f is.part space a
     stops : passes space (is_prefetchable_part is.f is.part) a b ≡ false
 
-  stopped : (t : Slot) (r : ℕ) (sp : Space) (a : ℕ) (other : Slot) → IsUnreached roots s t r sp a other → t ≡ slot → r ≡ register → Stopped a other
+  stopped : (t : Slot) (r : ℕ) (sp : Space) (a : ℕ) (other : Slot) → IsUnreached roots s (named_region t r) (address_in sp a) other → t ≡ slot → r ≡ register → Stopped a other
   stopped t r sp a other u same_slot same_register =
       let same = same_region s system u.f is.f u.part is.part sp space a address u.listed is.listed
       (u.named.0 ∙ same_slot ∙ sym is.named.0) (u.named.1 ∙ same_register ∙ sym is.named.1) u.claims is.claims in
@@ -265,7 +265,7 @@ module _ (roots : List ℕ) (s : System) (system : IsSystem s) (nested : IsNeste
             inl (subst (λ (x : Slot). slot_number bridge < slot_number x) stop.named (subst (λ (x : Slot). slot_number x < slot_number stop.b.slot) is.named_bridge less))
       ]
 
-  stop_is_there : IsUnreached roots s slot register space address bridge
+  stop_is_there : IsUnreached roots s (named_region slot register) (address_in space address) bridge
   stop_is_there = record {
     f = is.f;
     part = is.part;
@@ -284,7 +284,7 @@ module _ (roots : List ℕ) (s : System) (system : IsSystem s) (nested : IsNeste
   }
 
   -- it is the line of its region
-  pub line_of_stop : IsUnreachedOf roots s slot register space address bridge
+  pub line_of_stop : IsUnreachedOf roots s (named_region slot register) (address_in space address) bridge
   line_of_stop = record {
     there = stop_is_there;
     first = λ sp a other u. not_before a other (stopped slot register sp a other u refl refl);
@@ -303,8 +303,8 @@ module _ (roots : List ℕ) (s : System) (system : IsSystem s) (nested : IsNeste
 
 module _ (roots : List ℕ) (s : System) (system : IsSystem s) (nested : IsNested roots s)
     (slot : Slot) (register : ℕ) (space : Space) (address : ℕ) (bridge : Slot)
-    (least : IsLeastUnreached roots s slot register space address bridge) where
-  none_before_unreached : (t : Slot) (r : ℕ) (sp : Space) (a : ℕ) (other : Slot) → IsUnreached roots s t r sp a other
+    (least : IsLeastUnreached roots s (named_region slot register) (address_in space address) bridge) where
+  none_before_unreached : (t : Slot) (r : ℕ) (sp : Space) (a : ℕ) (other : Slot) → IsUnreached roots s (named_region t r) (address_in sp a) other
       → precedes (judging_key (Unreached t r sp a other)) (judging_key (Unreached slot register space address bridge)) ≡ true → ⊥
   none_before_unreached t r sp a other u h =
       let is = least.stop in

@@ -9,7 +9,7 @@ use Rattle.pci_spec.specs.Header.{command, class_code, layout, bridge_control, s
 use Rattle.pci_spec.specs.Capability.{HasLowPlace, ComesTwiceTo, HasCutBody}
 use Rattle.pci_spec.specs.System.{System, Function, Space, is_bridge, Leads, Gets, forwards, passes, is_prefetchable_part}
 use Rattle.pci_spec.specs.Bus.{has_bus_order, has_no_root_behind, has_lawful_buses, is_inside, share_no_bus, are_siblings, is_root, is_led_to}
-use Rattle.pci_spec.specs.Fault.{Fault, IsIn, NoVendor, HeaderKind, BarType, BarMask, BarPair, RomMask, WindowMask, CapRange, CapLoop, CapCut, SlotsDiffer, StrayProbe, LoneFunction, PaletteSnoop, VgaEnable, IsaEnable, Subtractive, InReset, PowerState, BusRange, Orphan, Unreached, Clash, Split, SomeAt, IsNotInD0, has_no_vendor, has_other_layout, has_function_zero, IsUnreached, ClaimsOnBus}
+use Rattle.pci_spec.specs.Fault.{Fault, IsIn, NoVendor, HeaderKind, BarType, BarMask, BarPair, RomMask, WindowMask, CapRange, CapLoop, CapCut, SlotsDiffer, StrayProbe, LoneFunction, PaletteSnoop, VgaEnable, IsaEnable, Subtractive, InReset, PowerState, BusRange, Orphan, Unreached, Clash, Split, SomeAt, IsNotInD0, has_no_vendor, has_other_layout, has_function_zero, IsUnreached, ClaimsOnBus, address_in, named_region}
 use Rattle.pci_spec.specs.Order.{image_at, is_before, IsFirstIn}
 use Rattle.pci_spec.specs.ToldAlike.{IsToldAlike, IsToldAtLeast, IsReadable}
 use Rattle.pci_spec.specs.ProbeLaws.{GreaterHaveTheFaults, AlikeHaveTheSameFaults, AlikeHaveTheSameFirstFault, AlikeAreSoundTogether}
@@ -177,7 +177,7 @@ module _ (roots : List ℕ) (s t : System) (is_s : All IsReadable s) (is_t : All
       let way = way_too root bridges bus leads in
       (root, starts, way.others, way.leads, sym (forwarded_same space a bridges way.others way.mates) ∙ all)
 
-  claims_on_bus_too : (bus : ℕ) (space : Space) (a : ℕ) (slot : Slot) (register : ℕ) → ClaimsOnBus s bus space a slot register → ClaimsOnBus t bus space a slot register
+  claims_on_bus_too : (bus : ℕ) (space : Space) (a : ℕ) (slot : Slot) (register : ℕ) → ClaimsOnBus s bus (address_in space a) (named_region slot register) → ClaimsOnBus t bus (address_in space a) (named_region slot register)
   claims_on_bus_too bus space a slot register (f, part, listed, named, on, by, claims) =
       let m = mate_of f listed in
       let now = m.listed in
@@ -188,7 +188,7 @@ module _ (roots : List ℕ) (s t : System) (is_s : All IsReadable s) (is_t : All
 
   -- ---- faults of judging
 
-  unreached_too : (slot : Slot) (register : ℕ) (space : Space) (a : ℕ) (bridge : Slot) → IsUnreached roots s slot register space a bridge → IsUnreached roots t slot register space a bridge
+  unreached_too : (slot : Slot) (register : ℕ) (space : Space) (a : ℕ) (bridge : Slot) → IsUnreached roots s (named_region slot register) (address_in space a) bridge → IsUnreached roots t (named_region slot register) (address_in space a) bridge
   unreached_too slot register space a bridge u =
       let m = mate_of u.f u.listed in
       let is_f = m.mate.is_f.decodable in

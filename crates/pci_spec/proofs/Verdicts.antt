@@ -5,7 +5,7 @@ use Rattle.std.proofs.lemmas.Bool.{and_cases, cases_eq, cases_Bool, both_ways}
 use Rattle.pci_spec.specs.Slot.{Slot}
 use Rattle.pci_spec.specs.System.{System, Function, Space, Part, Claims, Gets, IsPassedTo, IsSystem, Leads, is_prefetchable_part, is_window, passes, register_of}
 use Rattle.pci_spec.specs.Bus.{IsNested}
-use Rattle.pci_spec.specs.Fault.{IsUnreached, ClaimsOnBus}
+use Rattle.pci_spec.specs.Fault.{IsUnreached, ClaimsOnBus, address_in, named_region}
 use Rattle.pci_spec.specs.Sound.{IsSingle, IsHome, IsSameRegion}
 use Rattle.pci_spec.specs.JudgingLaws.{HasNoUnreached, HasNoClash, HasNoSplit, SingleWithoutClashes, HomeWithoutUnreached}
 use Rattle.pci_spec.proofs.BusRanges.{all_gives}
@@ -39,7 +39,7 @@ no_split roots s single space address first fr second sr split =
 
 -- a region that claims an address
 pub on_bus : (s : System) (f : Function) (p : Part) (space : Space) (a bus : ℕ) → Contains s f → f.slot.bus ≡ bus → Claims f p space a
-    → ClaimsOnBus s bus space a f.slot (register_of f p)
+    → ClaimsOnBus s bus (address_in space a) (named_region f.slot (register_of f p))
 on_bus s f p space a bus listed at claims = (f, p, listed, refl, at, refl, claims)
 
 single_on_a_bus : (roots : List ℕ) (s : System) → HasNoClash roots s → (space : Space) (a bus : ℕ) → Gets roots s space a bus
@@ -99,7 +99,7 @@ passed_by_each roots s system nested space prefetchable a root bus bridges start
 
 -- a region that is passed on all the way isn't unreached
 pub passed_not_unreached : (roots : List ℕ) (s : System) → IsSystem s → IsNested roots s → (slot : Slot) (register : ℕ) (space : Space) (a : ℕ) (bridge : Slot)
-    → (u : IsUnreached roots s slot register space a bridge) → IsPassedTo roots s space (is_prefetchable_part u.f u.part) a u.f.slot.bus → ⊥
+    → (u : IsUnreached roots s (named_region slot register) (address_in space a) bridge) → IsPassedTo roots s space (is_prefetchable_part u.f u.part) a u.f.slot.bus → ⊥
 passed_not_unreached roots s system nested slot register space a bridge u way =
     let there : IsPassedTo roots s space (is_prefetchable_part u.f u.part) a slot.bus =
     subst (λ (x : Slot). IsPassedTo roots s space (is_prefetchable_part u.f u.part) a x.bus) u.named.0 way in
@@ -107,7 +107,7 @@ passed_not_unreached roots s system nested slot register space a bridge u way =
 
 -- an address of a region that no bridge on the way stops is passed on all the way
 pub passed_where_none_stops : (roots : List ℕ) (s : System) → IsNested roots s → (f : Function) (p : Part) (space : Space) (a : ℕ) → Contains s f → is_window p ≡ false → Claims f p space a
-    → ((bridge : Slot) → IsUnreached roots s f.slot (register_of f p) space a bridge → ⊥) → IsPassedTo roots s space (is_prefetchable_part f p) a f.slot.bus
+    → ((bridge : Slot) → IsUnreached roots s (named_region f.slot (register_of f p)) (address_in space a) bridge → ⊥) → IsPassedTo roots s space (is_prefetchable_part f p) a f.slot.bus
 passed_where_none_stops roots s nested f p space a listed no_window claims none =
     let way = a_way_to_each roots s nested f listed in
     elim (cases_Bool (list_all (passes space (is_prefetchable_part f p) a) way.2)) [
@@ -134,7 +134,7 @@ passed_where_none_stops roots s nested f p space a listed no_window claims none 
 
 pub home_without_unreached : HomeWithoutUnreached
 home_without_unreached roots s system nested = (
-  λ (h : IsHome roots s) slot register space a bridge (u : IsUnreached roots s slot register space a bridge).
+  λ (h : IsHome roots s) slot register space a bridge (u : IsUnreached roots s (named_region slot register) (address_in space a) bridge).
       passed_not_unreached roots s system nested slot register space a bridge u (h u.f u.part space a u.listed u.no_window u.claims),
   λ (h : HasNoUnreached roots s) f p space a listed no_window claims.
       passed_where_none_stops roots s nested f p space a listed no_window claims (λ bridge. h f.slot (register_of f p) space a bridge),

@@ -5,7 +5,7 @@ use Rattle.std.specs.List.{Contains}
 use Rattle.pci_spec.specs.Slot.{Slot}
 use Rattle.pci_spec.specs.System.{System, Function, Space, Part, Claims, Gets, IsPassedTo, IsSystem, has_part, is_prefetchable_part, is_window, register_of}
 use Rattle.pci_spec.specs.Bus.{IsNested}
-use Rattle.pci_spec.specs.Fault.{Fault}
+use Rattle.pci_spec.specs.Fault.{Fault, address_in, named_region, named_regions}
 use Rattle.pci_spec.specs.Order.{IsFirst}
 use Rattle.pci_spec.specs.Sound.{IsSingle, IsHome, IsSameRegion}
 use Rattle.pci_spec.specs.AllFaults.{IsUnreachedOf, IsClashOf, IsSplitOf, AreAllOfJudging}
@@ -34,7 +34,7 @@ IsPartHome roots s f part =
 abbrev pub IsNotUnreached : List ℕ → System → Slot → ℕ → Type 0
 IsNotUnreached roots s slot register =
     (space : Space) (address : ℕ) (bridge : Slot)
-    → IsUnreachedOf roots s slot register space address bridge → ⊥
+    → IsUnreachedOf roots s (named_region slot register) (address_in space address) bridge → ⊥
 
 -- A BAR or ROM has a line exactly where it isn't home.
 abbrev pub LineWhereNotHome : Type 0
@@ -47,9 +47,11 @@ LineWhereNotHome =
 -- no line names the region as the second of two
 pub record IsNeverSecond (roots : List ℕ) (s : System) (slot : Slot) (register : ℕ) : Type 0 where
   pub of_a_bus : (bus : ℕ) (space : Space) (address : ℕ) (first : Slot) (first_register : ℕ)
-      → IsClashOf roots s bus space address first first_register slot register → ⊥
+      → IsClashOf roots s bus (address_in space address)
+      (named_regions first first_register slot register) → ⊥
   pub of_roots : (space : Space) (address : ℕ) (first : Slot) (first_register : ℕ)
-      → IsSplitOf roots s space address first first_register slot register → ⊥
+      → IsSplitOf roots s (address_in space address)
+      (named_regions first first_register slot register) → ⊥
 
 -- At most one of some regions claims an access.
 pub record IsSingleAmong (Has : Function → Part → Type 0) (roots : List ℕ)

@@ -14,6 +14,34 @@ use Rattle.pci_spec.specs.Text.{Block, slots_of}
 use Rattle.pci_spec.specs.System.{System, Function, system_of, Space, Part, Claims, register_of, is_window, is_prefetchable_part, is_bridge, Leads, Gets, passes}
 use Rattle.pci_spec.specs.Bus.{has_lawful_buses, is_led_to}
 
+-- ---- what a fault names
+
+-- an address, with its space
+pub record Address : Type 0 where
+  pub space : Space
+  pub address : ℕ
+
+-- a region, by the slot of its function and its register
+pub record RegionName : Type 0 where
+  pub slot : Slot
+  pub register : ℕ
+
+pub record TwoRegions : Type 0 where
+  pub first : RegionName
+  pub second : RegionName
+
+abbrev pub address_in : Space → ℕ → Address
+address_in space address = record { space = space; address = address }
+
+abbrev pub named_region : Slot → ℕ → RegionName
+named_region slot register = record { slot = slot; register = register }
+
+abbrev pub named_regions : Slot → ℕ → Slot → ℕ → TwoRegions
+named_regions first first_register second second_register = record {
+  first = named_region first first_register;
+  second = named_region second second_register;
+}
+
 -- a fault, with the function and the register that it names
 pub data Fault : Type 0 where
   NoVendor : (slot : Slot) → Fault
@@ -135,45 +163,44 @@ has_function_zero s slot =
     list_any (λ f. f.slot.bus == slot.bus && f.slot.device == slot.device && f.slot.function == 0) s
 
 -- An enabled BAR or ROM claims the address, and a bridge on the way from a root to it doesn't pass it.
-pub record IsUnreached (roots : List ℕ) (s : System) (slot : Slot) (register : ℕ) (space : Space)
-    (address : ℕ) (bridge : Slot) : Type 0 where
+pub record IsUnreached (roots : List ℕ) (s : System) (region : RegionName) (at : Address)
+    (bridge : Slot) : Type 0 where
   pub f : Function
   pub part : Part
   pub listed : Contains s f
-  pub named : (f.slot ≡ slot) × (register_of f part ≡ register)
+  pub named : (f.slot ≡ region.slot) × (register_of f part ≡ region.register)
   pub no_window : is_window part ≡ false
-  pub claims : Claims f part space address
+  pub claims : Claims f part at.space at.address
   pub bridges : List Function
   pub root : ℕ
   pub starts : Contains roots root
-  pub leads : Leads s root bridges slot.bus
+  pub leads : Leads s root bridges region.slot.bus
   pub b : Function
   pub on_the_way : Contains bridges b
   pub named_bridge : b.slot ≡ bridge
-  pub stops : passes space (is_prefetchable_part f part) address b ≡ false
+  pub stops : passes at.space (is_prefetchable_part f part) at.address b ≡ false
 
 -- a region of the bus, named by its slot and register, claims the address
-abbrev pub ClaimsOnBus : System → ℕ → Space → ℕ → Slot → ℕ → Type 0
-ClaimsOnBus s bus space address slot register =
-    (f : Function) × (part : Part) × Contains s f × (f.slot ≡ slot) × (slot.bus ≡ bus)
-    × (register_of f part ≡ register) × Claims f part space address
+abbrev pub ClaimsOnBus : System → ℕ → Address → RegionName → Type 0
+ClaimsOnBus s bus at region =
+    (f : Function) × (part : Part) × Contains s f × (f.slot ≡ region.slot) × (region.slot.bus ≡ bus)
+    × (register_of f part ≡ region.register) × Claims f part at.space at.address
 
 -- an access to the address gets to the bus, and two regions of the bus claim it
-pub record IsClash (roots : List ℕ) (s : System) (bus : ℕ) (space : Space) (address : ℕ)
-    (first : Slot) (first_register : ℕ) (second : Slot) (second_register : ℕ) : Type 0 where
-  pub gets : Gets roots s space address bus
-  pub claims_first : ClaimsOnBus s bus space address first first_register
-  pub claims_second : ClaimsOnBus s bus space address second second_register
-  pub differ : (first ≡ second) × (first_register ≡ second_register) → ⊥
+pub record IsClash (roots : List ℕ) (s : System) (bus : ℕ) (at : Address)
+    (two : TwoRegions) : Type 0 where
+  pub gets : Gets roots s at.space at.address bus
+  pub claims_first : ClaimsOnBus s bus at two.first
+  pub claims_second : ClaimsOnBus s bus at two.second
+  pub differ : (two.first.slot ≡ two.second.slot) × (two.first.register ≡ two.second.register) → ⊥
 
 -- two regions on two root buses claim the address
-pub record IsSplit (roots : List ℕ) (s : System) (space : Space) (address : ℕ) (first : Slot)
-    (first_register : ℕ) (second : Slot) (second_register : ℕ) : Type 0 where
-  pub root_first : Contains roots first.bus
-  pub root_second : Contains roots second.bus
-  pub buses : first.bus ≢ second.bus
-  pub claims_first : ClaimsOnBus s first.bus space address first first_register
-  pub claims_second : ClaimsOnBus s second.bus space address second second_register
+pub record IsSplit (roots : List ℕ) (s : System) (at : Address) (two : TwoRegions) : Type 0 where
+  pub root_first : Contains roots two.first.slot.bus
+  pub root_second : Contains roots two.second.slot.bus
+  pub buses : two.first.slot.bus ≢ two.second.slot.bus
+  pub claims_first : ClaimsOnBus s two.first.slot.bus at two.first
+  pub claims_second : ClaimsOnBus s two.second.slot.bus at two.second
 
 -- the fault is there, in the system with these root buses
 abbrev pub IsIn : List ℕ → System → Fault → Type 0
@@ -209,11 +236,13 @@ IsIn roots s (BusRange slot) =
     SomeAt s slot (λ f. IsTrue (is_bridge f && not (has_lawful_buses roots s f)))
 IsIn roots s (Orphan slot) = SomeAt s slot (λ f. IsTrue (not (is_led_to roots s slot.bus)))
 IsIn roots s (Unreached slot register space address bridge) =
-    IsUnreached roots s slot register space address bridge
+    IsUnreached roots s (named_region slot register) (address_in space address) bridge
 IsIn roots s (Clash bus space address first first_register second second_register) =
-    IsClash roots s bus space address first first_register second second_register
+    IsClash roots s bus (address_in space address)
+    (named_regions first first_register second second_register)
 IsIn roots s (Split space address first first_register second second_register) =
-    IsSplit roots s space address first first_register second second_register
+    IsSplit roots s (address_in space address)
+    (named_regions first first_register second second_register)
 
 -- exactly one of two dumps lists the slot
 abbrev pub IsInOne : List Block → List Block → Slot → Type 0

@@ -4,7 +4,7 @@ use Rattle.std.specs.List.{Contains}
 use Rattle.pci_spec.specs.Slot.{Slot, slot_number}
 use Rattle.pci_spec.specs.System.{System, Function, Space, Io, Memory, Part, Claims, IsPassedTo, IsSystem, Leads, is_prefetchable_part, is_window, passes, register_of}
 use Rattle.pci_spec.specs.Bus.{IsNested}
-use Rattle.pci_spec.specs.Fault.{IsIn, IsClash, IsSplit, ClaimsOnBus, Unreached, Clash, Split}
+use Rattle.pci_spec.specs.Fault.{IsIn, IsClash, IsSplit, ClaimsOnBus, Unreached, Clash, Split, Address, RegionName, TwoRegions, address_in, named_region, named_regions}
 use Rattle.pci_spec.specs.Order.{IsFirst}
 use Rattle.pci_spec.specs.Sound.{IsSingle, IsHome}
 
@@ -49,79 +49,81 @@ HomeWithoutUnreached =
 abbrev pub region_number : Slot → ℕ → ℕ
 region_number slot register = slot_number slot * 256 + register
 
+abbrev pub number_of : RegionName → ℕ
+number_of region = region_number region.slot region.register
+
 -- A BAR or ROM with an address that isn't passed all the way, the first bridge on its way that doesn't pass all of it,
 -- and the least address that this bridge doesn't pass.
-pub record IsFirstStop (roots : List ℕ) (s : System) (slot : Slot) (register : ℕ) (space : Space)
-    (address : ℕ) (bridge : Slot) : Type 0 where
+pub record IsFirstStop (roots : List ℕ) (s : System) (region : RegionName) (missed : Address)
+    (bridge : Slot) : Type 0 where
   pub f : Function
   pub part : Part
   pub listed : Contains s f
-  pub named : (f.slot ≡ slot) × (register_of f part ≡ register)
+  pub named : (f.slot ≡ region.slot) × (register_of f part ≡ region.register)
   pub no_window : is_window part ≡ false
-  pub claims : Claims f part space address
+  pub claims : Claims f part missed.space missed.address
   pub bridges : List Function
   pub root : ℕ
   pub starts : Contains roots root
-  pub leads : Leads s root bridges slot.bus
+  pub leads : Leads s root bridges region.slot.bus
   pub b : Function
   pub place : ℕ
   pub within : place < length bridges
   pub at : slice_index_or bridges place b ≡ b
   pub named_bridge : b.slot ≡ bridge
-  pub stops : passes space (is_prefetchable_part f part) address b ≡ false
+  pub stops : passes missed.space (is_prefetchable_part f part) missed.address b ≡ false
   -- the bridges before it pass the whole region
   pub earlier_bridges : (c : Function) → Contains (take place bridges) c → (a : ℕ)
-      → Claims f part space a → passes space (is_prefetchable_part f part) a c ≡ true
+      → Claims f part missed.space a → passes missed.space (is_prefetchable_part f part) a c ≡ true
   -- it passes the region's lower addresses
-  pub lower_addresses : (a : ℕ) → a < address → Claims f part space a
-      → passes space (is_prefetchable_part f part) a b ≡ true
+  pub lower_addresses : (a : ℕ) → a < missed.address → Claims f part missed.space a
+      → passes missed.space (is_prefetchable_part f part) a b ≡ true
 
 -- Of such regions the least.
-pub record IsLeastUnreached (roots : List ℕ) (s : System) (slot : Slot) (register : ℕ)
-    (space : Space) (address : ℕ) (bridge : Slot) : Type 0 where
-  pub stop : IsFirstStop roots s slot register space address bridge
+pub record IsLeastUnreached (roots : List ℕ) (s : System) (region : RegionName) (missed : Address)
+    (bridge : Slot) : Type 0 where
+  pub stop : IsFirstStop roots s region missed bridge
   -- lesser regions are passed all the way
   pub lesser_regions : (g : Function) (q : Part) (sp : Space) (a : ℕ) → Contains s g
       → is_window q ≡ false
-      → region_number g.slot (register_of g q) < region_number slot register → Claims g q sp a
+      → region_number g.slot (register_of g q) < number_of region → Claims g q sp a
       → IsPassedTo roots s sp (is_prefetchable_part g q) a g.slot.bus
 
 -- Where every region is reached: on the lowest bus with a clash, in I/O before memory, at the least address, the two least regions.
-pub record IsLeastClash (roots : List ℕ) (s : System) (bus : ℕ) (space : Space) (address : ℕ)
-    (first : Slot) (first_register : ℕ) (second : Slot) (second_register : ℕ) : Type 0 where
+pub record IsLeastClash (roots : List ℕ) (s : System) (bus : ℕ) (at : Address)
+    (two : TwoRegions) : Type 0 where
   pub reached : HasNoUnreached roots s
-  pub there : IsClash roots s bus space address first first_register second second_register
+  pub there : IsClash roots s bus at two
   pub lower_buses : (b : ℕ) → b < bus → (sp : Space) (a : ℕ) → HasNoClashAt roots s b sp a
-  pub io_before_memory : space ≡ Memory → (a : ℕ) → HasNoClashAt roots s bus Io a
-  pub lower_addresses : (a : ℕ) → a < address → HasNoClashAt roots s bus space a
-  pub least : (slot : Slot) (register : ℕ) → ClaimsOnBus s bus space address slot register
-      → region_number first first_register ≤ region_number slot register
-  pub next_least : (slot : Slot) (register : ℕ) → ClaimsOnBus s bus space address slot register
-      → ((slot ≡ first) × (register ≡ first_register) → ⊥)
-      → region_number second second_register ≤ region_number slot register
+  pub io_before_memory : at.space ≡ Memory → (a : ℕ) → HasNoClashAt roots s bus Io a
+  pub lower_addresses : (a : ℕ) → a < at.address → HasNoClashAt roots s bus at.space a
+  pub least : (slot : Slot) (register : ℕ) → ClaimsOnBus s bus at (named_region slot register)
+      → number_of two.first ≤ region_number slot register
+  pub next_least : (slot : Slot) (register : ℕ) → ClaimsOnBus s bus at (named_region slot register)
+      → ((slot ≡ two.first.slot) × (register ≡ two.first.register) → ⊥)
+      → number_of two.second ≤ region_number slot register
 
 -- Where every region is reached and none clash: in I/O before memory, at the least address, the two least regions on root buses.
-pub record IsLeastSplit (roots : List ℕ) (s : System) (space : Space) (address : ℕ) (first : Slot)
-    (first_register : ℕ) (second : Slot) (second_register : ℕ) : Type 0 where
+pub record IsLeastSplit (roots : List ℕ) (s : System) (at : Address) (two : TwoRegions) : Type 0 where
   pub reached : HasNoUnreached roots s
   pub apart : HasNoClash roots s
-  pub there : IsSplit roots s space address first first_register second second_register
-  pub io_before_memory : space ≡ Memory → (a : ℕ) → HasNoSplitAt roots s Io a
-  pub lower_addresses : (a : ℕ) → a < address → HasNoSplitAt roots s space a
+  pub there : IsSplit roots s at two
+  pub io_before_memory : at.space ≡ Memory → (a : ℕ) → HasNoSplitAt roots s Io a
+  pub lower_addresses : (a : ℕ) → a < at.address → HasNoSplitAt roots s at.space a
   pub least : (slot : Slot) (register : ℕ) → Contains roots slot.bus
-      → ClaimsOnBus s slot.bus space address slot register
-      → region_number first first_register ≤ region_number slot register
+      → ClaimsOnBus s slot.bus at (named_region slot register)
+      → number_of two.first ≤ region_number slot register
   pub next_least : (slot : Slot) (register : ℕ) → Contains roots slot.bus
-      → ClaimsOnBus s slot.bus space address slot register
-      → ((slot ≡ first) × (register ≡ first_register) → ⊥)
-      → region_number second second_register ≤ region_number slot register
+      → ClaimsOnBus s slot.bus at (named_region slot register)
+      → ((slot ≡ two.first.slot) × (register ≡ two.first.register) → ⊥)
+      → number_of two.second ≤ region_number slot register
 
 -- The least of each kind is the first fault of judging.
 abbrev pub LeastUnreachedIsFirst : Type 0
 LeastUnreachedIsFirst =
     (roots : List ℕ) (s : System) → IsSystem s → IsNested roots s
     → (slot : Slot) (register : ℕ) (space : Space) (address : ℕ) (bridge : Slot)
-    → IsLeastUnreached roots s slot register space address bridge
+    → IsLeastUnreached roots s (named_region slot register) (address_in space address) bridge
     → IsFirst roots s (Unreached slot register space address bridge)
 
 abbrev pub LeastClashIsFirst : Type 0
@@ -129,7 +131,8 @@ LeastClashIsFirst =
     (roots : List ℕ) (s : System) → IsSystem s
     → (bus : ℕ) (space : Space) (address : ℕ) (first : Slot) (first_register : ℕ) (second : Slot)
     (second_register : ℕ)
-    → IsLeastClash roots s bus space address first first_register second second_register
+    → IsLeastClash roots s bus (address_in space address)
+    (named_regions first first_register second second_register)
     → IsFirst roots s (Clash bus space address first first_register second second_register)
 
 abbrev pub LeastSplitIsFirst : Type 0
@@ -137,5 +140,6 @@ LeastSplitIsFirst =
     (roots : List ℕ) (s : System) → IsSystem s
     → (space : Space) (address : ℕ) (first : Slot) (first_register : ℕ) (second : Slot)
     (second_register : ℕ)
-    → IsLeastSplit roots s space address first first_register second second_register
+    → IsLeastSplit roots s (address_in space address)
+    (named_regions first first_register second second_register)
     → IsFirst roots s (Split space address first first_register second second_register)

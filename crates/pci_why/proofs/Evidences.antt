@@ -11,7 +11,7 @@ use Rattle.pci_spec.specs.Text.{slot_text}
 use Rattle.pci_spec.specs.Window.{WindowKind, IoWindow, MemoryWindow, PrefetchWindow}
 use Rattle.pci_spec.specs.System.{System, Function, Space, Io, Memory, Claims, Leads, is_bridge, passes}
 use Rattle.pci_spec.specs.System as system
-use Rattle.pci_spec.specs.Fault.{Clash, Split, IsUnreached, ClaimsOnBus}
+use Rattle.pci_spec.specs.Fault.{Clash, Split, IsUnreached, ClaimsOnBus, address_in, named_region, named_regions}
 use Rattle.pci_spec.specs.Decoded.{Bridge, IsDecodable, record_of, bridge_of, decoded_windows}
 use Rattle.pci_spec.specs.Decoded as decoded
 use Rattle.pci_spec.specs.Listing.{inner_line, on_text}
@@ -127,7 +127,7 @@ missed_exact q part space r b passed missed same is bridge exact outside a =
 -- ---- behind the faults
 
 pub unreached_told : (roots : List ℕ) (s : System) (rs : List Record) (slot : Slot) (reg : ℕ) (space : Space) (a : ℕ) (bridge : Slot) (q : Region) (r : Record) (old first second new : List ℕ)
-    → Has s rs → RiseBySlot rs → Contains rs r → r.slot ≡ bridge → IsFoundIn s slot reg space q → IsUnreached roots s slot reg space a bridge
+    → Has s rs → RiseBySlot rs → Contains rs r → r.slot ≡ bridge → IsFoundIn s slot reg space q → IsUnreached roots s (named_region slot reg) (address_in space a) bridge
     → first ≡ old ++ line_of (codes "needs") space q → second ≡ first ++ line_of_bridge (record_value r) space q.prefetch → AreMissedTold r space q second new
     → Appends (IsBehindOne s slot reg space bridge) old new
 unreached_told roots s rs slot reg space a bridge q r old first second new is rise has at found there needs line missed =
@@ -161,14 +161,14 @@ unreached_told roots s rs slot reg space a bridge q r old first second new is ri
 
 -- an address that is claimed at both places is of both regions
 pub in_both : (s : System) (first second : Slot) (first_reg second_reg : ℕ) (space : Space) (a bus other : ℕ) (p q : Region) → IsFoundIn s first first_reg space p
-    → IsFoundIn s second second_reg space q → ClaimsOnBus s bus space a first first_reg → ClaimsOnBus s other space a second second_reg → IsInBoth p q a
+    → IsFoundIn s second second_reg space q → ClaimsOnBus s bus (address_in space a) (named_region first first_reg) → ClaimsOnBus s other (address_in space a) (named_region second second_reg) → IsInBoth p q a
 in_both s first second first_reg second_reg space a bus other p q at_p at_q (f, part, listed, slot, on_bus, named, claims) (g, part_g, listed_g, slot_g, on_bus_g, named_g, claims_g) =
     (at_p.all f part a listed slot named claims, at_q.all g part_g a listed_g slot_g named_g claims_g)
 
 pub two_told : (s : System) (first second : Slot) (first_reg second_reg : ℕ) (space : Space) (p q : Region) (shared : Range) (old one two new : List ℕ) → IsFoundIn s first first_reg space p
     → IsFoundIn s second second_reg space q → shared.first ≤ shared.last → ((a : ℕ) → ((shared.first ≤ a) × (a ≤ shared.last)) ↔ IsInBoth p q a)
     → one ≡ old ++ line_of (codes "first") space p → two ≡ one ++ line_of (codes "second") space q → new ≡ two ++ range_line (codes "shared") space (decoded_range_of shared)
-    → Appends (AreBehindTwo s space first first_reg second second_reg) old new
+    → Appends (AreBehindTwo s space (named_regions first first_reg second second_reg)) old new
 two_told s first second first_reg second_reg space p q shared old one two new at_p at_q some exact one_is two_is new_is =
     let v : RegionValue = told p at_p.part space in
     let w : RegionValue = told q at_q.part space in
@@ -196,7 +196,7 @@ two_told s first second first_reg second_reg space p q shared old one two new at
     }
 
 -- the record of the bridge that is named is there
-pub no_bridge_missing : (roots : List ℕ) (s : System) (rs : List Record) (slot : Slot) (reg : ℕ) (space : Space) (a : ℕ) (bridge : Slot) → Has s rs → IsUnreached roots s slot reg space a bridge
+pub no_bridge_missing : (roots : List ℕ) (s : System) (rs : List Record) (slot : Slot) (reg : ℕ) (space : Space) (a : ℕ) (bridge : Slot) → Has s rs → IsUnreached roots s (named_region slot reg) (address_in space a) bridge
     → (Contains (slots_of rs) bridge → ⊥) → ⊥
 no_bridge_missing roots s rs slot reg space a bridge is there none =
     let way = on_the_way s there.root there.bridges slot.bus there.b there.leads there.on_the_way in
@@ -205,9 +205,9 @@ no_bridge_missing roots s rs slot reg space a bridge is there none =
 
 -- a clash is told by its two regions, and a split
 pub clash_told : (t : Tree) (bus : ℕ) (space : Space) (a : ℕ) (first : Slot) (first_reg : ℕ) (second : Slot) (second_reg : ℕ) (old new : List ℕ)
-    → AreTwoTold t space first first_reg second second_reg old new → IsEvidenceTold t (Clash bus space a first first_reg second second_reg) old new
+    → AreTwoTold t space (named_regions first first_reg second second_reg) old new → IsEvidenceTold t (Clash bus space a first first_reg second second_reg) old new
 clash_told t bus space a first first_reg second second_reg old new told s has there = told s a bus bus has there.claims_first there.claims_second
 
 pub split_told : (t : Tree) (space : Space) (a : ℕ) (first : Slot) (first_reg : ℕ) (second : Slot) (second_reg : ℕ) (old new : List ℕ)
-    → AreTwoTold t space first first_reg second second_reg old new → IsEvidenceTold t (Split space a first first_reg second second_reg) old new
+    → AreTwoTold t space (named_regions first first_reg second second_reg) old new → IsEvidenceTold t (Split space a first first_reg second second_reg) old new
 split_told t space a first first_reg second second_reg old new told s has there = told s a first.bus second.bus has there.claims_first there.claims_second

@@ -5,10 +5,10 @@ use Rattle.std.proofs.lemmas.Bool.{cases_order}
 use Rattle.std.proofs.lemmas.List.{get_or_default}
 use Rattle.pci_base.specs.declared.range.Range.{Range}
 use Rattle.pci_tree.specs.declared.region.Region.{Region}
-use Rattle.pci_why.specs.Places.{IsLeastFrom, IsClear, IsFreeAt, IsLeastFree, IsPast}
+use Rattle.pci_why.specs.Places.{IsLeastFrom, IsClear, IsFreeAt, IsLeastFree, IsPast, IsReachedAt}
 
 module _ (ranges : List Range) (regions : List Region) (own : Region) (count end : ℕ) where
-  module _ (k from : ℕ) (so : IsPast ranges regions own count end k from) where
+  module _ (k from : ℕ) (so : IsPast (IsReachedAt ranges count end) regions own count k from) where
     -- a place that is clear of all regions
     pub from_free : (p : ℕ) → IsFreeAt ranges regions own count end p → from ≤ p
     from_free p free = so.least p free.reached (λ i d below within. free.clear i d within)

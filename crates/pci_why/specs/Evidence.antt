@@ -2,7 +2,7 @@
 use Rattle.std.specs.Prelude.{◌≡◌, ℕ, ◌≤◌, ◌++◌, List}
 use Rattle.pci_spec.specs.Slot.{Slot}
 use Rattle.pci_spec.specs.System.{System, Space}
-use Rattle.pci_spec.specs.Fault.{Fault, IsIn, IsUnreached, ClaimsOnBus}
+use Rattle.pci_spec.specs.Fault.{RegionName, TwoRegions, Fault, IsIn, IsUnreached, ClaimsOnBus, address_in}
 use Rattle.pci_spec.specs.Decoded.{HasRecords}
 use Rattle.pci_spec.specs.Why.{Region as RegionValue, IsNamed, IsBehindUnreached, IsBehindTwo, IsEvidence}
 use Rattle.pci_tree.specs.Outline.{Tree}
@@ -24,23 +24,25 @@ IsBehindOne s slot reg space bridge lines =
     (q : RegionValue) × IsNamed q slot reg space × IsBehindUnreached s q bridge lines
 
 -- in each system with these records where it is unreached
-abbrev pub IsUnreachedTold : Tree → Slot → ℕ → Space → Slot → List ℕ → List ℕ → Type 0
-IsUnreachedTold t slot reg space bridge old new =
-    (s : System) (a : ℕ) → HasRecords s t.records → IsUnreached t.roots s slot reg space a bridge
-    → Appends (IsBehindOne s slot reg space bridge) old new
+abbrev pub IsUnreachedTold : Tree → RegionName → Space → Slot → List ℕ → List ℕ → Type 0
+IsUnreachedTold t region space bridge old new =
+    (s : System) (a : ℕ) → HasRecords s t.records
+    → IsUnreached t.roots s region (address_in space a) bridge
+    → Appends (IsBehindOne s region.slot region.register space bridge) old new
 
 -- what stands behind two regions
-abbrev pub AreBehindTwo : System → Space → Slot → ℕ → Slot → ℕ → List ℕ → Type 0
-AreBehindTwo s space first first_reg second second_reg lines =
-    (p : RegionValue) × (q : RegionValue) × IsNamed p first first_reg space
-    × IsNamed q second second_reg space × IsBehindTwo s p q lines
+abbrev pub AreBehindTwo : System → Space → TwoRegions → List ℕ → Type 0
+AreBehindTwo s space two lines =
+    (p : RegionValue) × (q : RegionValue) × IsNamed p two.first.slot two.first.register space
+    × IsNamed q two.second.slot two.second.register space × IsBehindTwo s p q lines
 
 -- in each system with these records where both claim some address
-abbrev pub AreTwoTold : Tree → Space → Slot → ℕ → Slot → ℕ → List ℕ → List ℕ → Type 0
-AreTwoTold t space first first_reg second second_reg old new =
+abbrev pub AreTwoTold : Tree → Space → TwoRegions → List ℕ → List ℕ → Type 0
+AreTwoTold t space two old new =
     (s : System) (a bus other : ℕ) → HasRecords s t.records
-    → ClaimsOnBus s bus space a first first_reg → ClaimsOnBus s other space a second second_reg
-    → Appends (AreBehindTwo s space first first_reg second second_reg) old new
+    → ClaimsOnBus s bus (address_in space a) two.first
+    → ClaimsOnBus s other (address_in space a) two.second
+    → Appends (AreBehindTwo s space two) old new
 
 -- in each system with these records where the fault is there
 abbrev pub IsEvidenceTold : Tree → Fault → List ℕ → List ℕ → Type 0

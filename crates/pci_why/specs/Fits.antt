@@ -5,7 +5,7 @@ use Rattle.std.specs.List.{Any, Contains}
 use Rattle.pci_spec.specs.Slot.{Slot}
 use Rattle.pci_spec.specs.System.{System, Function, Space, Claims}
 use Rattle.pci_spec.specs.System as system
-use Rattle.pci_spec.specs.Fault.{Fault, ClaimsOnBus, IsIn}
+use Rattle.pci_spec.specs.Fault.{Fault, ClaimsOnBus, IsIn, address_in, named_region}
 use Rattle.pci_spec.specs.Decoded.{HasRecords}
 use Rattle.pci_spec.specs.Why.{Region as RegionValue, IsNamed, IsRegionIn, IsPlaceFor, IsLeastPlace, IsFitBehind, IsAdvice, IsWhy}
 use Rattle.pci_image.specs.declared.bar.Bar.{Bar}
@@ -56,7 +56,8 @@ IsAdviceFor roots s slot reg space lines =
 -- in each system with these records where the region claims some address
 abbrev pub IsFitTold : Tree → Slot → ℕ → Space → List ℕ → List ℕ → Type 0
 IsFitTold t slot reg space old new =
-    (s : System) (a bus : ℕ) → HasRecords s t.records → ClaimsOnBus s bus space a slot reg
+    (s : System) (a bus : ℕ) → HasRecords s t.records
+    → ClaimsOnBus s bus (address_in space a) (named_region slot reg)
     → Appends (IsAdviceFor t.roots s slot reg space) old new
 
 -- in each system with these records where the fault is there, where the region that could be moved would fit

@@ -38,11 +38,11 @@ pub record IsLeastFree (ranges : List Range) (regions : List Region) (own : Regi
   pub least : (n : ℕ) → IsFreeAt ranges regions own count end n → p ≤ n
 
 -- of the regions before an index: all others end before a number, and no place that clears them begins below it
-pub record IsPast (ranges : List Range) (regions : List Region) (own : Region) (count end k : ℕ)
+pub record IsPast (IsReached : ℕ → Type 0) (regions : List Region) (own : Region) (count k : ℕ)
     (from : ℕ) : Type 0 where
   pub past : (i : ℕ) (d : Region) → i < k → i < length regions
       → IsSame own (slice_index_or regions i d) ⊎ ((slice_index_or regions i d).last < from)
-  pub least : (p : ℕ) → IsReachedAt ranges count end p
+  pub least : (p : ℕ) → IsReached p
       → ((i : ℕ) (d : Region) → i < k → i < length regions
       → IsClear own count p (slice_index_or regions i d))
       → from ≤ p

@@ -5,6 +5,7 @@ ghost use Rattle.pci_base.specs.Space.{space_of};
 ghost use Rattle.pci_function.specs.Fault.{fault_of};
 ghost use Rattle.pci_why.specs.Fits.{IsAdviceTold, IsWhyTold};
 ghost use Rattle.pci_why.specs.Evidence.{IsInBoth, IsUnreachedTold, AreTwoTold, IsEvidenceTold};
+ghost use Rattle.pci_spec.specs.Fault.{named_region, named_regions};
 
 use super::bridge_line::{push_bridge_line, push_missed};
 use super::find::{record_at, region_at};
@@ -30,8 +31,8 @@ fn push_unreached<A: Allocator + Copy, B: Allocator>(
     space: Space,
     bridge: Slot,
 ) -> Result<(), OutOfMemory>
-    ensures { OnOk result (IsUnreachedTold outline.now slot reg (space_of space) bridge
-        (string_bytes text.old) (string_bytes text.new)) }
+    ensures { OnOk result (IsUnreachedTold outline.now (named_region slot reg)
+        (space_of space) bridge (string_bytes text.old) (string_bytes text.new)) }
 {
     let Some(region) = region_at(alloc, outline, slot, reg, space)? else {
         return Ok(());
@@ -70,8 +71,9 @@ fn push_two<A: Allocator + Copy, B: Allocator>(
     first: (Slot, u8),
     second: (Slot, u8),
 ) -> Result<(), OutOfMemory>
-    ensures { OnOk result (AreTwoTold outline.now (space_of space) first.0 first.1 second.0 second.1
-        (string_bytes text.old) (string_bytes text.new)) }
+    ensures { OnOk result (AreTwoTold outline.now (space_of space)
+        (named_regions first.0 first.1 second.0 second.1) (string_bytes text.old)
+        (string_bytes text.new)) }
 {
     let Some(p) = region_at(alloc, outline, first.0, first.1, space)? else {
         return Ok(());

@@ -5,7 +5,7 @@ use Rattle.pci_spec.specs.Number.{each_from}
 use Rattle.pci_spec.specs.Slot.{Slot}
 use Rattle.pci_spec.specs.Window.{IoWindow}
 use Rattle.pci_spec.specs.System.{Function, System, Io, Memory, Bar, Window, Claims}
-use Rattle.pci_spec.specs.Fault.{Clash, Unreached}
+use Rattle.pci_spec.specs.Fault.{Clash, Unreached, address_in}
 use Rattle.pci_spec.proofs.Bits.{interval-agrees}
 use Rattle.pci_spec.proofs.Examples.Samples.{slot, device, bridge, host}
 use Rattle.given_spec.specs.Given.{Given}
@@ -105,7 +105,7 @@ no_clash_with_itself c = both_ways true c.apart refl
 abbrev behind : ℕ → System
 behind address = vga_bridge 1 2 0x010100 8 ∷ device (slot 1 0 0) 2 ((0x10, address) ∷ []) ((0x10, 0xffff0000) ∷ []) ∷ []
 
-passed : IsPassedTo (legacy_at (legacy_bridges Vga (behind 0xa0000))) host (behind 0xa0000) Memory false 0xa0000 1
+passed : IsPassedTo (legacy_at (legacy_bridges Vga (behind 0xa0000))) host (behind 0xa0000) (address_in Memory 0xa0000) false 1
 passed = (0, (0, lit< tt, refl), refl, vga_bridge 1 2 0x010100 8 ∷ [], ((0, lit< tt, refl), refl, refl, refl), refl)
 
 above : Claims (device (slot 1 0 0) 2 ((0x10, 0xc0000) ∷ []) ((0x10, 0xffff0000) ∷ [])) (Bar 0) Memory 0xc0000

@@ -7,7 +7,7 @@ use Rattle.std.proofs.lemmas.Nat.{pow_below}
 use Rattle.pci_spec.specs.Slot.{Slot}
 use Rattle.pci_spec.specs.Bar.{Memory32, is_run}
 use Rattle.pci_spec.specs.System.{Function, System, Space, Memory, Part, Bar, Rom, Window, Claims, Leads, is_bridge, register_of}
-use Rattle.pci_spec.specs.Fault.{Fault, IsIn, IsClash, ClaimsOnBus, NoVendor, HeaderKind, BarType, BarMask, BarPair, RomMask, WindowMask, CapRange, CapLoop, CapCut, SlotsDiffer, StrayProbe, LoneFunction, PaletteSnoop, VgaEnable, IsaEnable, Subtractive, InReset, PowerState, BusRange, Orphan, Unreached, Clash, Split}
+use Rattle.pci_spec.specs.Fault.{Fault, IsIn, IsClash, ClaimsOnBus, NoVendor, HeaderKind, BarType, BarMask, BarPair, RomMask, WindowMask, CapRange, CapLoop, CapCut, SlotsDiffer, StrayProbe, LoneFunction, PaletteSnoop, VgaEnable, IsaEnable, Subtractive, InReset, PowerState, BusRange, Orphan, Unreached, Clash, Split, address_in, named_region, named_regions}
 use Rattle.pci_spec.specs.Order.{IsFirst, precedes, judging_key}
 use Rattle.pci_spec.proofs.Bits.{agree-interval, run_number}
 use Rattle.pci_spec.proofs.Absent.{in_pair, not_lawful, no_rom}
@@ -61,7 +61,7 @@ pub record IsOf (d bus : ℕ) (space : Space) (at : Slot) (register : ℕ) : Typ
   pub bus_is : bus ≡ 0
   pub space_is : space ≡ Memory
 
-pub region : (bus : ℕ) (space : Space) (a : ℕ) (at : Slot) (register : ℕ) → ClaimsOnBus s bus space a at register
+pub region : (bus : ℕ) (space : Space) (a : ℕ) (at : Slot) (register : ℕ) → ClaimsOnBus s bus (address_in space a) (named_region at register)
     → IsOf 1 bus space at register ⊎ (IsOf 2 bus space at register × (0xe0080000 ≤ a))
 region bus space a at register (f, part, listed, named, on_bus, by, claims) = elim (in_pair large in_its_upper_half f listed) [
   | inl is ↦
@@ -112,7 +112,7 @@ named d e bus space a x xr y yr f g h =
     (subst (λ z. IsBefore (Clash 0 z a x xr y yr)) f.space_is
     (subst (λ z. IsBefore (Clash z space a x xr y yr)) f.bus_is h)))))
 
-no_clash_before : (bus : ℕ) (space : Space) (a : ℕ) (x : Slot) (xr : ℕ) (y : Slot) (yr : ℕ) → IsBefore (Clash bus space a x xr y yr) → IsClash host s bus space a x xr y yr → ⊥
+no_clash_before : (bus : ℕ) (space : Space) (a : ℕ) (x : Slot) (xr : ℕ) (y : Slot) (yr : ℕ) → IsBefore (Clash bus space a x xr y yr) → IsClash host s bus (address_in space a) (named_regions x xr y yr) → ⊥
 no_clash_before bus space a x xr y yr h clash = elim (region bus space a x xr clash.claims_first) [
   | inl f ↦ elim (region bus space a y yr clash.claims_second) [
     | inl g ↦ clash.differ (f.slot_is ∙ sym g.slot_is, f.register_is ∙ sym g.register_is)

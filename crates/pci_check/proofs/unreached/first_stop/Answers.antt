@@ -1,19 +1,20 @@
 use Rattle.std.proofs.Common.{◌<◌, ℕ, arith, length, subst}
 use Rattle.pci_base.specs.Space.{space_of}
-use Rattle.pci_check.specs.Stops.{IsWholeBehind, IsFirstStop}
+use Rattle.pci_check.specs.Stops.{IsBusBehind, IsWholeBehind}
 use Rattle.pci_check.proofs.Losing.{whole_more}
 use Rattle.pci_check.proofs.unreached.first_stop.Goals as goal
 
 pub returns-in-Some : goal.returns-in-Some
 returns-in-Some g c =
-    subst (λ end. IsFirstStop c.args.reached.now (space_of c.args.space) c.args.path.now end c.args.region.now c.loop-i.i c.in-Some.address) c.bus-end.ensures (record {
+    record {
       within = omega arith;
       bus = c.bus_behind.result;
       small = omega arith;
-      behind = c.bus_behind.ensures;
+      behind = subst (λ end. IsBusBehind c.args.path.now end c.loop-i.i c.bus_behind.result) c.bus-end.ensures c.bus_behind.ensures;
       lost = c.in-Some.ensures;
-      before = c.loop-i.invariant;
-    })
+      before = subst (λ end. (j : ℕ) → j < c.loop-i.i → IsWholeBehind c.args.reached.now (space_of c.args.space) c.args.path.now end c.args.region.now j) c.bus-end.ensures
+          c.loop-i.invariant;
+    }
 
 pub loop-i-preserved : goal.loop-i-preserved
 loop-i-preserved g c =

@@ -1,13 +1,12 @@
 use Rattle.std.proofs.Common.{List, subst}
 use Rattle.std.proofs.lemmas.Result.{IfOk-weaker}
-use Rattle.pci_spec.specs.System.{window_space}
 use Rattle.pci_spec.specs.Window.{WindowKind}
 use Rattle.pci_base.specs.declared.range.Range.{Range}
-use Rattle.pci_base.specs.Space.{space_of, is_prefetch}
+use Rattle.pci_base.specs.Space.{space_of}
 use Rattle.pci_claims.specs.Values.{given_value}
 use Rattle.pci_claims.specs.Claim.{Claimed}
 use Rattle.pci_claims.specs.Gathered.{IsCommon}
-use Rattle.pci_claims.specs.Reached.{IsReachWith}
+use Rattle.pci_claims.specs.Reached.{IsReachTo}
 use Rattle.pci_why.specs.Missed.{IsOutside}
 use Rattle.pci_why.specs.Fits.{told}
 use Rattle.pci_given_why.specs.Free.{AreOfOthers, AreClaimsBeside}
@@ -32,7 +31,7 @@ returns-clause-exact g c =
     (subst (λ n. AreClaimsBeside given roots s n space c.in_ok-claims.claims.items) c.bus.ensures (c.in_ok-claims.ensures s tree nested))
     reach c.in_ok-pieces_of_others.field-0.items c.in_ok-taken.taken.items left v.items c.whole.result
     (reach_of_kind given roots s space q.prefetch q.slot.bus reach
-    (subst (λ (k : WindowKind). IsReachWith given roots s (window_space k) (is_prefetch k) q.slot.bus reach) c.kind-kind.ensures
+    (subst (λ (k : WindowKind). IsReachTo given roots s k q.slot.bus reach) c.kind-kind.ensures
     ((rw c.in-Some.is at c.in_ok-reach.ensures.exact) s tree.records)))
     (subst (λ (l : List Claimed). AreOfOthers l q.slot q.reg c.in_ok-pieces_of_others.field-0.items) c.deref.ensures.value c.in_ok-pieces_of_others.ensures)
     c.in_ok-taken.ensures c.whole.ensures.exact

@@ -4,9 +4,10 @@ use Rattle.pci_base.specs.Space.{space_of}
 use Rattle.pci_claims.specs.Values.{given_value}
 use Rattle.pci_given_why.specs.Named.{IsNamedInEach, NoneNamed}
 use Rattle.pci_given_why.proofs.named.region_named.Goals as goal
+use Rattle.pci_spec.specs.Fault.{named_region}
 
 pub returns-then-reg-eq-BRIDGE_CONTROL-clause-exact : goal.returns-then-reg-eq-BRIDGE_CONTROL-clause-exact
 returns-then-reg-eq-BRIDGE_CONTROL-clause-exact g c =
     subst (λ reg. IfOk c.legacy_named.result (λ o. MatchOption o (NoneNamed (given_value c.args.given.now) c.args.outline.now c.args.slot reg (space_of c.args.space))
-    (λ n. IsNamedInEach (given_value c.args.given.now) c.args.outline.now c.args.slot reg (space_of c.args.space) n.shown n.addresses.items)))
+    (λ n. IsNamedInEach (given_value c.args.given.now) c.args.outline.now (named_region c.args.slot reg) (space_of c.args.space) n.shown n.addresses.items)))
     (sym c.if-reg-eq-BRIDGE_CONTROL.true) c.legacy_named.ensures.exact
