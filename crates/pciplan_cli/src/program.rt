@@ -1,8 +1,10 @@
 //! The program, from its words to its status.
 ghost use Rattle.std.specs.Prelude.{◌≡◌, ◌≢◌, ◌⊎◌, ◌<◌, ◌≤◌, ◌+◌, ℕ, List, Option, IfErr, IfOk, MatchResult, map, string_bytes};
 ghost use Rattle.std.specs.IoError.{error_kind};
+ghost use Rattle.std.specs.Io.KnownBytes.{Appends};
 ghost use Rattle.pciplan_cli.specs.Invocations.{IsInvocationOf, HasBadWords};
-ghost use Rattle.pciplan_cli.specs.CarriedOut.{IsCarriedOut, IsCarriedOutBegun};
+ghost use Rattle.pciplan_cli.specs.CarriedOut.{IsCarriedOut, IsCarriedOutBegun, texts};
+ghost use Rattle.pciplan_tasks.specs.Answers.{AreRemarked};
 ghost use Rattle.pciplan_tasks.specs.Tasks.{HasDump, HasFailed, IsFailureOf, IsTaskRefused};
 
 use crate::invocation::{Invocation, start};
@@ -110,10 +112,11 @@ pub fn carry_out<A: Allocator + Copy, D: Opening, P: Opening, O: Sink, E: Sink>(
     out: &mut O,
     err: &mut E,
 ) -> u8
-    ensures done { result < 2 → IsCarriedOut line.now (D.stands dump.old) (P.stands probe.old)
-        (D.bytes_at dump.old) (P.bytes_at probe.old) result (O.taken out.old) (O.taken out.new)
-        (E.taken err.old) (E.taken err.new) (E.failures err.new ≡ E.failures err.old + 1)
-        (err.new ≡ err.old) }
+    ensures done { result < 2 → IsCarriedOut line.now (texts (D.stands dump.old) (D.bytes_at dump.old))
+        (texts (P.stands probe.old) (P.bytes_at probe.old)) result
+        (Appends (O.taken out.old) (O.taken out.new))
+        (AreRemarked (E.taken err.old) (E.taken err.new)
+        (E.failures err.new ≡ E.failures err.old + 1) (err.new ≡ err.old)) }
     ensures quiet { (result ≡ 2) ⊎ (result ≡ 3) → out.new ≡ out.old }
     ensures begun { result ≡ 4 → (out.new ≡ out.old)
         ⊎ IsCarriedOutBegun line.now (D.bytes_at dump.old) (P.bytes_at probe.old) (O.taken out.old)
@@ -152,10 +155,11 @@ pub fn program<D: Opening, P: Opening, O: Sink, E: Sink>(
     ensures done { result < 2
         → MatchResult words
         (λ words. (line : Invocation) × IsInvocationOf (map string_bytes words.items) line
-        × IsCarriedOut line (D.stands dump.old) (P.stands probe.old) (D.bytes_at dump.old)
-        (P.bytes_at probe.old) result
-        (O.taken out.old) (O.taken out.new) (E.taken err.old) (E.taken err.new)
-        (E.failures err.new ≡ E.failures err.old + 1) (err.new ≡ err.old))
+        × IsCarriedOut line (texts (D.stands dump.old) (D.bytes_at dump.old))
+        (texts (P.stands probe.old) (P.bytes_at probe.old)) result
+        (Appends (O.taken out.old) (O.taken out.new))
+        (AreRemarked (E.taken err.old) (E.taken err.new)
+        (E.failures err.new ≡ E.failures err.old + 1) (err.new ≡ err.old)))
         (λ _. ⊥) }
     ensures quiet { (result ≡ 2) ⊎ (result ≡ 3) → out.new ≡ out.old }
     ensures begun { result ≡ 4

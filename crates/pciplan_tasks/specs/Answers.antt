@@ -54,6 +54,11 @@ abbrev pub IsTold : Option (List ℕ) → Option (List ℕ) → Type 0 → List 
 IsTold before after failed text =
     Appends before after text ⊎ (failed × AppendsBeginning before after text)
 
+-- the remarks went out so, and where there are none all is the same
+abbrev pub AreRemarked : Option (List ℕ) → Option (List ℕ) → Type 0 → Type 0 → List ℕ → Type 0
+AreRemarked before after failed same remarks =
+    IsTold before after failed remarks × (remarks ≡ [] → same)
+
 -- the listing, where each function has one
 pub record IsShownText (dump probe : List Block) (answer : Answer) : Type 0 where
   pub listable : AreListable dump probe

@@ -51,8 +51,15 @@ pub record AreToldGiven (given : Given) (roots : List ℕ) (why : Bool) (dump pr
   pub is : IsFaultsText given roots (system_of dump probe) why faults text
   pub line : answer ≡ list_answer faults text
 
--- `faults` with what is given: of the two as words take them, beside what the dump as it is gives
-abbrev pub IsAnswerGiven : Option Words → HostLists → List ℕ → Bool → List Block → List Block → Answer
-    → Type 0
-IsAnswerGiven words host roots why dump probe answer =
-    IsAnswerBy words (AreToldGiven (given_of host words dump) roots why) dump probe answer
+-- what `faults` is asked beside the two texts: how functions are taken, what the host sends and where, and for reasons
+pub record GivenAsked : Type 0 where
+  pub words : Option Words
+  pub host : HostLists
+  pub roots : List ℕ
+  pub why : Bool
+
+-- of the two as words take them, beside what the dump as it is gives
+abbrev pub IsAnswerGiven : GivenAsked → List Block → List Block → Answer → Type 0
+IsAnswerGiven asked dump probe answer =
+    IsAnswerBy asked.words (AreToldGiven (given_of asked.host asked.words dump) asked.roots asked.why)
+    dump probe answer

@@ -1,6 +1,5 @@
 -- What a task answers to the two texts that are left, and why it doesn't.
-use Rattle.std.specs.Prelude.{◌≡◌, ◌≢◌, ◌⊎◌, ◌+◌, ℕ, List, [], Option, Some, Bool, true, false}
-use Rattle.std.specs.Io.KnownBytes.{Appends}
+use Rattle.std.specs.Prelude.{◌≡◌, ◌≢◌, ◌⊎◌, ◌+◌, ℕ, List, Option, Some, Bool, true, false}
 use Rattle.pci_spec.specs.Text.{Block, IsTextOf}
 use Rattle.pci_spec.specs.SizesText.{SizesBlock, IsSizesTextOf}
 use Rattle.pci_dump.specs.Begun.{AppendsBeginning}
@@ -12,7 +11,7 @@ use Rattle.pci_probe.specs.SizesFault.{IsSizesTextFault}
 use Rattle.pci_tree.specs.Roots.{buses_of}
 use Rattle.pci_place.specs.Pools.{pools_value}
 use Rattle.pci_check.specs.Audits.{IsDumpOf}
-use Rattle.pciplan_tasks.specs.Answers.{Answer, IsShown, IsChecked, IsSized, IsTold}
+use Rattle.pciplan_tasks.specs.Answers.{Answer, IsShown, IsChecked, IsSized}
 use Rattle.pciplan_tasks.specs.FaultsAnswers.{AreTold}
 use Rattle.pciplan_tasks.specs.GivenAnswers.{IsAnswerGiven}
 use Rattle.pciplan_tasks.specs.MapAnswers.{IsMapped, sent_by}
@@ -46,7 +45,7 @@ IsPairAnswer task.Show = IsShown
 IsPairAnswer (task.Check roots) = IsChecked (buses_of roots)
 IsPairAnswer (task.Faults roots words why) = IsAnswerBy words (AreTold (buses_of roots) why)
 IsPairAnswer (task.FaultsGiven roots words host why) =
-    IsAnswerGiven words host (buses_of roots) why
+    IsAnswerGiven record { words = words; host = host; roots = buses_of roots; why = why }
 IsPairAnswer (task.Map roots words host) =
     IsAnswerBy words (IsMapped (sent_by host) (buses_of roots))
 IsPairAnswer task.Size = IsSized
@@ -74,15 +73,14 @@ IsAnswerOf (task.Probe assuming) =
     (λ dump sizes answer. answer ≡ probe_answer (assuming_of assuming) dump sizes)
 IsAnswerOf t = IsAnswerTo IsDumpOf (IsPairAnswer t)
 
--- the answer was written, and the remarks, if standard error takes them; without remarks it is as before
+-- an answer of the task, whose text is written and whose remarks are told
 pub record IsAnswered (task : Task) (dump_left second_left : Option (List ℕ)) (status : ℕ)
-    (before after err_before err_after : Option (List ℕ)) (err_failed same : Type 0) : Type 0 where
+    (IsWritten AreTold : List ℕ → Type 0) : Type 0 where
   pub answer : Answer
   pub is : IsAnswerOf task dump_left second_left answer
   pub named : status ≡ answer.status
-  pub written : Appends before after answer.text
-  pub remarked : IsTold err_before err_after err_failed answer.remarks
-  pub silent : answer.remarks ≡ [] → same
+  pub written : IsWritten answer.text
+  pub remarked : AreTold answer.remarks
 
 -- a beginning of the answer was written
 pub record IsBegun (task : Task)

@@ -104,8 +104,9 @@ pub fn faults_given<A: Allocator + Copy>(
     host: &HostLists,
     why: bool,
 ) -> Result<Reply<A>, OutOfMemory>
-    ensures { IfOk result (λ reply. IsAnswerGiven words host.now (buses_of roots) why dump.now
-        probe.now (answer_of reply)) }
+    ensures { IfOk result (λ reply. IsAnswerGiven
+        (record { words = words; host = host.now; roots = buses_of roots; why = why })
+        dump.now probe.now (answer_of reply)) }
 {
     let legacy = legacy_by(alloc, dump, words)?;
     let given = Given {

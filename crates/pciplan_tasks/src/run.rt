@@ -1,6 +1,7 @@
 //! Carries out a task on two texts.
 ghost use Rattle.std.specs.Prelude.{◌≡◌, ◌⊎◌, ◌<◌, ◌≤◌, ◌+◌, IfOk, IfErr};
-ghost use Rattle.pciplan_tasks.specs.Answers.{IsShown, IsSized, answer_of, outcome_answer};
+ghost use Rattle.std.specs.Io.KnownBytes.{Appends};
+ghost use Rattle.pciplan_tasks.specs.Answers.{AreRemarked, IsShown, IsSized, answer_of, outcome_answer};
 ghost use Rattle.pciplan_tasks.specs.Statuses.{status_of};
 ghost use Rattle.pciplan_tasks.specs.Tasks.{HasFailed, IsAnswerOf, IsAnswered, IsBegun, IsFailureOf, IsOfWholePair, IsPairAnswer, IsTaskRefused};
 
@@ -201,8 +202,9 @@ pub fn run<A: Allocator + Copy, D: Source, P: Source, O: Sink, E: Sink>(
     // standard error may fail: what was asked for is answered all the same
     ensures answered { result < 2
         → IsAnswered task.now (D.left dump.old) (P.left probe.old) result
-        (O.taken out.old) (O.taken out.new) (E.taken err.old) (E.taken err.new)
-        (E.failures err.new ≡ E.failures err.old + 1) (err.new ≡ err.old) }
+        (Appends (O.taken out.old) (O.taken out.new))
+        (AreRemarked (E.taken err.old) (E.taken err.new)
+        (E.failures err.new ≡ E.failures err.old + 1) (err.new ≡ err.old)) }
     // who reads the output by a pipe gets nothing that looks like an answer
     ensures quiet { (result ≡ 2) ⊎ (result ≡ 3) → out.new ≡ out.old }
     ensures begun { result ≡ 4 → (out.new ≡ out.old)
