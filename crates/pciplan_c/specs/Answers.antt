@@ -18,10 +18,10 @@ IsAnswerOf roots dump probe (Verdict outcome) =
     IsRootList roots × IsAudited roots (Some dump) (Some probe) outcome
 IsAnswerOf roots dump probe (Refused refusal) = IsRefusalOf roots dump probe refusal
 
--- the answer to the two texts, with its text at the front of the bytes
-pub record IsTold (roots dump probe : List ℕ) (answer : Answer) (old new : List ℕ)
+-- an answer that is so, with its text at the front of the bytes
+pub record IsTold (IsSo : Answer → Type 0) (answer : Answer) (old new : List ℕ)
     (used : ℕ) : Type 0 where
-  pub answered : IsAnswerOf roots dump probe answer
+  pub answered : IsSo answer
   pub text : IsPutInto old new (answer_text answer)
   pub count : used ≡ length (answer_text answer)
 

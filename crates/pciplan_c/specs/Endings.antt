@@ -65,13 +65,21 @@ IsTooLongFor why line (Writes needed) = ⊥
 IsTooLongFor why line (Line needed) =
     (needed ≡ length (no_writes_text why)) × (length line < needed)
 
+-- what the caller lends
+pub record Lent : Type 0 where
+  pub array : List RegisterWrite
+  pub line : List ℕ
+
+abbrev pub lent : List RegisterWrite → List ℕ → Lent
+lent array line = record { array = array; line = line }
+
 -- the writes were put into the array, or why there are none into the line
-abbrev pub IsEnding : (List RegisterWrite → ℕ → Type 0) → (NoWrites → Type 0) → List RegisterWrite
-    → List RegisterWrite → List ℕ → List ℕ → Ending → Type 0
-IsEnding AreSo IsWhy array new_array line new_line (ends.Writes count safe_from) =
-    ArePut AreSo array new_array count safe_from × (new_line ≡ line)
-IsEnding AreSo IsWhy array new_array line new_line (ends.NoWrites why used) =
-    IsNoneTold IsWhy (no_writes_status why) line new_line used × (new_array ≡ array)
+abbrev pub IsEnding : (List RegisterWrite → ℕ → Type 0) → (NoWrites → Type 0) → Lent → Lent → Ending
+    → Type 0
+IsEnding AreSo IsWhy old new (ends.Writes count safe_from) =
+    ArePut AreSo old.array new.array count safe_from × (new.line ≡ old.line)
+IsEnding AreSo IsWhy old new (ends.NoWrites why used) =
+    IsNoneTold IsWhy (no_writes_status why) old.line new.line used × (new.array ≡ old.array)
 
 -- what has no room
 abbrev pub IsHeldBack : (List RegisterWrite → ℕ → Type 0) → (NoWrites → Type 0) → List RegisterWrite

@@ -2,7 +2,7 @@
 ghost use Rattle.std.specs.Prelude.{◌≡◌, ◌≤◌, ℕ, List, IfOk, IfErr};
 ghost use Rattle.pciplan_held.specs.Texts.{AreTexts};
 ghost use Rattle.pciplan_c.specs.PlanAnswers.{ArePlanned, IsNoPlanOf, pools_of};
-ghost use Rattle.pciplan_c.specs.Endings.{ArePut, IsEnding, IsHeldBack, IsNotPut};
+ghost use Rattle.pciplan_c.specs.Endings.{ArePut, IsEnding, IsHeldBack, IsNotPut, lent};
 
 use crate::ending::{Ending, HeldBack, NotPut, Steps, tell};
 use crate::no_writes::NoWrites;
@@ -103,7 +103,8 @@ pub fn plan_into<A: Allocator + Copy>(
 ) -> Result<Ending, HeldBack>
     ensures ending { IfOk result (IsEnding
         (ArePlanned roots.now dump.now probe.now (pools_of pools.now))
-        (IsNoPlanOf roots.now dump.now probe.now (pools_of pools.now)) writes.old writes.new line.old line.new) }
+        (IsNoPlanOf roots.now dump.now probe.now (pools_of pools.now))
+        (lent writes.old line.old) (lent writes.new line.new)) }
     // half a plan must not be taken for one
     ensures writes { IfErr result (λ _. writes.new ≡ writes.old) }
     ensures line { IfErr result (λ _. line.new ≡ line.old) }

@@ -3,7 +3,7 @@ ghost use Rattle.std.specs.Prelude.{◌≡◌, ◌≤◌, ℕ, List, IfOk, IfErr
 ghost use Rattle.pciplan_held.specs.Texts.{AreTexts};
 ghost use Rattle.pciplan_c.specs.SettleWords.{IsAskedBy};
 ghost use Rattle.pciplan_c.specs.SettleAnswers.{AreSettled, IsNoSettlingOf, IsSafeFrom};
-ghost use Rattle.pciplan_c.specs.Endings.{ArePut, IsEnding, IsHeldBack, IsNotPut};
+ghost use Rattle.pciplan_c.specs.Endings.{ArePut, IsEnding, IsHeldBack, IsNotPut, lent};
 ghost use Rattle.pciplan_c.specs.declared.settle_words.SettleWords.{SettleWords as WordsValue};
 
 use crate::ending::{Ending, HeldBack, NotPut, Steps, tell};
@@ -136,7 +136,8 @@ pub fn settle_into<A: Allocator + Copy>(
 ) -> Result<Ending, HeldBack>
     ensures ending { IfOk result (IsEnding
         (AreSettled roots.now dump.now probe.now words.now)
-        (IsNoSettlingOf roots.now dump.now probe.now words.now) writes.old writes.new line.old line.new) }
+        (IsNoSettlingOf roots.now dump.now probe.now words.now)
+        (lent writes.old line.old) (lent writes.new line.new)) }
     // some of the writes must not be taken for all
     ensures writes { IfErr result (λ _. writes.new ≡ writes.old) }
     ensures line { IfErr result (λ _. line.new ≡ line.old) }

@@ -89,7 +89,7 @@ pub fn check_into<A: Allocator + Copy>(
     line: &mut [u8],
 ) -> Result<Line, Withheld>
     ensures told { IfOk result
-        (λ l. IsTold roots.now dump.now probe.now l.answer line.old line.new l.used) }
+        (λ l. IsTold (IsAnswerOf roots.now dump.now probe.now) l.answer line.old line.new l.used) }
     ensures quiet { IfErr result (λ _. line.new ≡ line.old) }
     ensures room { IfErr result (λ why. (needed : ℕ) → why ≡ Withheld.NoRoom needed
         → IsTooLong roots.now dump.now probe.now line.old needed) }
