@@ -13,7 +13,7 @@ use Rattle.plan_spec.specs.Place.{start_within}
 use Rattle.plan_spec.specs.Planning.Numbers.{place_at}
 use Rattle.plan_spec.specs.Planning.Placing.{IsPower, IsFalling}
 use Rattle.plan_spec.specs.Planning.Room.{root_items}
-use Rattle.plan_spec.specs.Planning.Table.{Item, IsPlacedOn, IsPlacing, IsTable, is_placed, need_behind}
+use Rattle.plan_spec.specs.Planning.Table.{Item, size_at, IsOnSide, IsPlacedOn, IsPlacing, IsTable, is_placed, need_behind}
 use Rattle.plan_spec.proofs.Planning.Rooms.{table_by_fit}
 use Rattle.pci_spec.proofs.Examples.Samples.{host}
 use Rattle.plan_spec.proofs.Examples.Plans.{pools}
@@ -119,22 +119,22 @@ firsts_behind_it zero d less = refl
 firsts_behind_it (suc zero) d less = refl
 firsts_behind_it (suc (suc k)) d less = absurd (let no : ⊥ = omega (arith, less) in no)
 
-root_is_placed : IsPlacedOn start pools MemoryWindow first (λ f. Contains host f.slot.bus) (sum (root_items host start pools MemoryWindow)) 0xe0000000 on_the_root
+root_is_placed : IsPlacedOn (IsOnSide start pools MemoryWindow (λ f. Contains host f.slot.bus)) (size_at start pools MemoryWindow) first (sum (root_items host start pools MemoryWindow)) 0xe0000000 on_the_root
 unfolding start_within items_within doubled_to
 root_is_placed = record {
-  all = λ f p listed side there. each_of_start (λ f. Contains host f.slot.bus → IsThere MemoryWindow f p → StandsIn on_the_root f p)
-      (λ side. bridge_on_the_root p) (λ side. device_on_the_root p) (λ side. absurd (no_root_1 side)) f listed side there;
+  all = λ f p is. each_of_start (λ f. Contains host f.slot.bus → IsThere MemoryWindow f p → StandsIn on_the_root f p)
+      (λ side. bridge_on_the_root p) (λ side. device_on_the_root p) (λ side. absurd (no_root_1 side)) f is.0 is.1 is.2;
   falling = falling_pair 0x200000 0x100000 21 20 refl refl (lit≤ tt);
   aligned = λ some. refl;
   at = firsts_on_the_root;
   sums = refl;
 }
 
-behind_is_placed : IsPlacedOn start pools MemoryWindow first (λ f. f.slot.bus ≡ 1) (need_behind start pools MemoryWindow old_bridge) (first old_bridge (Window MemoryWindow)) behind_it
+behind_is_placed : IsPlacedOn (IsOnSide start pools MemoryWindow (λ f. f.slot.bus ≡ 1)) (size_at start pools MemoryWindow) first (need_behind start pools MemoryWindow old_bridge) (first old_bridge (Window MemoryWindow)) behind_it
 unfolding start_within items_within doubled_to
 behind_is_placed = record {
-  all = λ f p listed side there. each_of_start (λ f. f.slot.bus ≡ 1 → IsThere MemoryWindow f p → StandsIn behind_it f p)
-      (λ side. absurd (let e : 0 ≡ 1 = side in let no : ⊥ = omega (arith, e) in no)) (λ side. absurd (let e : 0 ≡ 1 = side in let no : ⊥ = omega (arith, e) in no)) (λ side. bars_behind_it p) f listed side there;
+  all = λ f p is. each_of_start (λ f. f.slot.bus ≡ 1 → IsThere MemoryWindow f p → StandsIn behind_it f p)
+      (λ side. absurd (let e : 0 ≡ 1 = side in let no : ⊥ = omega (arith, e) in no)) (λ side. absurd (let e : 0 ≡ 1 = side in let no : ⊥ = omega (arith, e) in no)) (λ side. bars_behind_it p) f is.0 is.1 is.2;
   falling = falling_pair 0x100000 0x1000 20 12 refl refl (lit≤ tt);
   aligned = λ some. refl;
   at = firsts_behind_it;
@@ -148,7 +148,7 @@ memory_is_placed = record {
   on_roots = root_is_placed;
   behind_items = λ b. behind_it;
   behind = λ b listed bridge some. each_of_start
-      (λ b. IsTrue (is_bridge b) → IsPlacedOn start pools MemoryWindow first (λ f. f.slot.bus ≡ secondary b) (need_behind start pools MemoryWindow b) (first b (Window MemoryWindow)) behind_it)
+      (λ b. IsTrue (is_bridge b) → IsPlacedOn (IsOnSide start pools MemoryWindow (λ f. f.slot.bus ≡ secondary b)) (size_at start pools MemoryWindow) first (need_behind start pools MemoryWindow b) (first b (Window MemoryWindow)) behind_it)
       (λ h. behind_is_placed) (λ h. absurd (no h)) (λ h. absurd (no h)) b listed bridge;
 }
 

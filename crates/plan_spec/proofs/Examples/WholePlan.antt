@@ -18,7 +18,7 @@ use Rattle.plan_spec.specs.Planning.Layout.{range_of, is_item, IsSwitchedOn}
 use Rattle.plan_spec.specs.Planning.Room.{root_items}
 use Rattle.plan_spec.specs.Planning.Safety.{IsSafe}
 use Rattle.plan_spec.specs.Planning.PlanWrites.{Change, plan_writes}
-use Rattle.plan_spec.specs.Planning.Table.{IsPlacedOn, IsPlacing, IsTable, IsShown, is_placed, size_in, need_behind}
+use Rattle.plan_spec.specs.Planning.Table.{size_at, IsOnSide, IsPlacedOn, IsPlacing, IsTable, IsShown, is_placed, size_in, need_behind}
 use Rattle.plan_spec.proofs.Planning.Behind.{all_gives}
 use Rattle.plan_spec.proofs.Planning.Rooms.{table_by_fit}
 use Rattle.plan_spec.proofs.Planning.Planned.{sound_by_table}
@@ -84,9 +84,9 @@ no_prefetchable : (f : Function) → Contains start f → HasNone PrefetchWindow
 unfolding items_within doubled_to
 no_prefetchable = each_of_start (HasNone PrefetchWindow) (none_by PrefetchWindow old_bridge (lit≤ tt) refl) (none_by PrefetchWindow old_device (lit≤ tt) refl) (none_by PrefetchWindow old_behind (lit≤ tt) refl)
 
-placed_on_none : (c : WindowKind) (Side : Function → Type 0) (at : ℕ) → ((f : Function) → Contains start f → HasNone c f) → IsPlacedOn start pools c first Side 0 at []
+placed_on_none : (c : WindowKind) (Side : Function → Type 0) (at : ℕ) → ((f : Function) → Contains start f → HasNone c f) → IsPlacedOn (IsOnSide start pools c Side) (size_at start pools c) first 0 at []
 placed_on_none c Side at nothing = record {
-  all = λ f p listed side there. absurd (nothing f listed p there);
+  all = λ f p is. absurd (nothing f is.0 p is.2);
   falling = record { powers = λ k less. absurd (let no : ⊥ = omega (arith, less) in no); falling = λ j k below less. absurd (let no : ⊥ = omega (arith, less) in no) };
   aligned = λ some. absurd (let no : ⊥ = omega (arith, some) in no);
   at = λ k d less. absurd (let no : ⊥ = omega (arith, less) in no);

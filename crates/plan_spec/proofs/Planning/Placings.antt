@@ -15,7 +15,7 @@ use Rattle.plan_spec.specs.Place.{Item, window_item, items_beside, start_of, pla
 use Rattle.plan_spec.specs.Planning.Placing.{IsFalling, starts}
 use Rattle.plan_spec.specs.Planning.Room.{root_items}
 use Rattle.plan_spec.specs.Planning.Numbers.{item_of, place_at}
-use Rattle.plan_spec.specs.Planning.Table.{Item as PlacedPart, need_behind, is_placed, size_at, IsPlacedOn, IsPlacing, IsTable}
+use Rattle.plan_spec.specs.Planning.Table.{Item as PlacedPart, need_behind, is_placed, size_at, IsOnSide, IsPlacedOn, IsPlacing, IsTable}
 use Rattle.pci_spec.proofs.Members.{in_nil, in_head, in_tail}
 use Rattle.pci_spec.proofs.BusRanges.{ordered, behind_is_no_root, root_means}
 use Rattle.plan_spec.proofs.Planning.Safe.{order_of}
@@ -96,9 +96,9 @@ module _ (roots : List ℕ) (s : System) (pools : Pools) (c : WindowKind) (syste
     -- what is placed on a bus, by its start and its sum
     placed_on : (Side : Function → Type 0) (total start : ℕ) → ((f : Function) → Contains s f → Side f → are_siblings roots bus f.slot.bus ≡ true)
         → start_of roots s pools c bus ≡ start → sum (item_sizes (items_beside roots s pools c bus)) ≡ total → IsAligned bus
-        → IsPlacedOn s pools c (place_at roots s pools) Side total start (parts bus)
+        → IsPlacedOn (IsOnSide s pools c Side) (size_at s pools c) (place_at roots s pools) total start (parts bus)
     placed_on Side total start beside starts_at adds aligned = record {
-      all = λ f p listed side there. all_there f p listed (beside f listed side) there;
+      all = λ f p is. all_there f p is.0 (beside f is.0 is.1) is.2;
       falling = subst IsFalling (sym (part_sizes bus)) (sorted_falling roots s pools c system nested small bus);
       aligned = λ some.
           let long = length-map (sorted bus) placed_part in
@@ -181,7 +181,7 @@ module _ (roots : List ℕ) (s : System) (pools : Pools) (c : WindowKind) (syste
   -- ---- all buses
 
   placed_behind : (b : Function) → Contains s b → is_bridge b ≡ true
-      → IsPlacedOn s pools c (place_at roots s pools) (λ f. f.slot.bus ≡ secondary b) (need_behind s pools c b) (place_at roots s pools b (Window c)) (parts (secondary b))
+      → IsPlacedOn (IsOnSide s pools c (λ f. f.slot.bus ≡ secondary b)) (size_at s pools c) (place_at roots s pools) (need_behind s pools c b) (place_at roots s pools b (Window c)) (parts (secondary b))
   placed_behind b listed bridge =
       placed_on (secondary b) (λ f. f.slot.bus ≡ secondary b) (need_behind s pools c b) (place_at roots s pools b (Window c))
       (λ f in_f at. or_left (secondary b == f.slot.bus) (is_root roots (secondary b) && is_root roots f.slot.bus) (eq-eqb (secondary b) f.slot.bus (sym at)))
@@ -191,7 +191,7 @@ module _ (roots : List ℕ) (s : System) (pools : Pools) (c : WindowKind) (syste
 
   abbrev RootPlacing : List PlacedPart → Type 0
   RootPlacing items =
-      IsPlacedOn s pools c (place_at roots s pools) (λ f. Contains roots f.slot.bus) (sum (root_items roots s pools c)) (raised_to (greatest (root_items roots s pools c)) (pool_of pools c).first) items
+      IsPlacedOn (IsOnSide s pools c (λ f. Contains roots f.slot.bus)) (size_at s pools c) (place_at roots s pools) (sum (root_items roots s pools c)) (raised_to (greatest (root_items roots s pools c)) (pool_of pools c).first) items
 
   placed_on_root : (bus : ℕ) → is_root roots bus ≡ true → IsStrictlyIncreasing roots → RootPlacing (parts bus)
   placed_on_root bus root rising =
@@ -203,7 +203,7 @@ module _ (roots : List ℕ) (s : System) (pools : Pools) (c : WindowKind) (syste
 
   no_roots : roots ≡ [] → RootPlacing []
   no_roots none = record {
-    all = λ f p listed side there. absurd (in_nil f.slot.bus (subst (λ xs. Contains xs f.slot.bus) none side));
+    all = λ f p is. absurd (in_nil f.slot.bus (subst (λ xs. Contains xs f.slot.bus) none is.1));
     falling = record { powers = λ k l. absurd (let impossible : ⊥ = omega (arith, l) in impossible); falling = λ j k lt l. absurd (let impossible : ⊥ = omega (arith, l) in impossible) };
     aligned = λ some. absurd (let impossible : ⊥ = omega (arith, some) in impossible);
     at = λ k d l. absurd (let impossible : ⊥ = omega (arith, l) in impossible);

@@ -18,7 +18,7 @@ use Rattle.pci_spec.proofs.BusRanges.{root_means}
 use Rattle.plan_spec.specs.Planning.Layout.{range_of, is_item, IsInside, LieApart, AreBeside, AreTwo, IsLaidOut}
 use Rattle.plan_spec.specs.Planning.Placing.{starts, IsPlacedFrom}
 use Rattle.plan_spec.specs.Planning.Room.{root_items}
-use Rattle.plan_spec.specs.Planning.Table.{Item, need_behind, is_placed, size_in, size_at, IsPlacedOn, IsTable, IsShown}
+use Rattle.plan_spec.specs.Planning.Table.{Item, need_behind, is_placed, size_in, size_at, IsOnSide, IsPlacedOn, IsTable, IsShown}
 use Rattle.plan_spec.proofs.Planning.Kept.{images_of}
 use Rattle.pci_spec.proofs.Pairs.{member_back}
 use Rattle.plan_spec.proofs.Planning.Moved.{bridge_same, secondary_same, layout_same}
@@ -47,7 +47,7 @@ pub record IsAt (start size first total : ℕ) : Type 0 where
   pub multiple : first % size ≡ 0
 
 module _ (s : System) (pools : Pools) (c : WindowKind) (first : Function → Part → ℕ) (Side : Function → Type 0) (total start : ℕ) (items : List Item)
-    (on : IsPlacedOn s pools c first Side total start items) where
+    (on : IsPlacedOn (IsOnSide s pools c Side) (size_at s pools c) first total start items) where
   abbrev sizes : List ℕ
   sizes = map (size_at s pools c) items
 
@@ -64,7 +64,7 @@ module _ (s : System) (pools : Pools) (c : WindowKind) (first : Function → Par
 
   at : (f : Function) (p : Part) → Contains s f → Side f → is_placed s pools c f p ≡ true → At f p
   at f p listed side there =
-      let found = on.all f p listed side there in
+      let found = on.all f p (listed, side, there) in
       let k = found.0 in
       let item : Item = record { function = f; part = p } in
       record {

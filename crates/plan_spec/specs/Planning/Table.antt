@@ -33,33 +33,37 @@ size_in s pools c f (Window kind) = window_size c (need_behind s pools c f)
 abbrev pub size_at : System → Pools → WindowKind → Item → ℕ
 size_at s pools c i = size_in s pools c i.function i.part
 
+-- the part is placed, and its function is on those buses
+abbrev pub IsOnSide : System → Pools → WindowKind → (Function → Type 0) → Function → Part → Type 0
+IsOnSide s pools c Side f p = Contains s f × Side f × IsTrue (is_placed s pools c f p)
+
 -- What stands on some buses is placed from a start on, largest first.
-pub record IsPlacedOn (s : System) (pools : Pools) (c : WindowKind) (first : Function → Part → ℕ)
-    (Side : Function → Type 0) (total start : ℕ) (items : List Item) : Type 0 where
-  pub all : (f : Function) (p : Part) → Contains s f → Side f → IsTrue (is_placed s pools c f p)
+pub record IsPlacedOn (IsOn : Function → Part → Type 0) (size : Item → ℕ)
+    (first : Function → Part → ℕ) (total start : ℕ) (items : List Item) : Type 0 where
+  pub all : (f : Function) (p : Part) → IsOn f p
       → (k : ℕ) × (k < length items)
       × ((d : Item) → slice_index_or items k d ≡ record { function = f; part = p })
-  pub falling : IsFalling (map (size_at s pools c) items)
-  pub aligned : 0 < length items → start % slice_index (map (size_at s pools c) items) 0 ≡ 0
+  pub falling : IsFalling (map size items)
+  pub aligned : 0 < length items → start % slice_index (map size items) 0 ≡ 0
   pub at : (k : ℕ) (d : Item) → k < length items
       → first (slice_index_or items k d).function (slice_index_or items k d).part
-      ≡ slice_index (starts start (map (size_at s pools c) items)) k
-  pub sums : sum (map (size_at s pools c) items) ≡ total
+      ≡ slice_index (starts start (map size items)) k
+  pub sums : sum (map size items) ≡ total
 
 -- what is on the roots is placed in the pool, and what is behind a bridge from the first address of its window on
 pub record IsTable (roots : List ℕ) (s : System) (pools : Pools) (c : WindowKind)
     (first : Function → Part → ℕ) : Type 0 where
   pub start : ℕ
   pub placed_roots : List Item
-  pub on_roots : IsPlacedOn s pools c first (λ f. Contains roots f.slot.bus)
-      (sum (root_items roots s pools c)) start placed_roots
+  pub on_roots : IsPlacedOn (IsOnSide s pools c (λ f. Contains roots f.slot.bus))
+      (size_at s pools c) first (sum (root_items roots s pools c)) start placed_roots
   pub low : 0 < length placed_roots → (pool_of pools c).first ≤ start
   pub high : 0 < length placed_roots
       → start + sum (root_items roots s pools c) ≤ (pool_of pools c).last + 1
   pub behind_items : Function → List Item
   pub behind : (b : Function) → Contains s b → IsTrue (is_bridge b) → 0 < need_behind s pools c b
-      → IsPlacedOn s pools c first (λ f. f.slot.bus ≡ secondary b) (need_behind s pools c b)
-      (first b (Window c)) (behind_items b)
+      → IsPlacedOn (IsOnSide s pools c (λ f. f.slot.bus ≡ secondary b)) (size_at s pools c) first
+      (need_behind s pools c b) (first b (Window c)) (behind_items b)
   pub small : (b : Function) → Contains s b → IsTrue (is_bridge b)
       → need_behind s pools c b ≤ 2 ^ 65
 
@@ -67,13 +71,13 @@ pub record IsTable (roots : List ℕ) (s : System) (pools : Pools) (c : WindowKi
 pub record IsPlacing (roots : List ℕ) (s : System) (pools : Pools) (c : WindowKind)
     (first : Function → Part → ℕ) : Type 0 where
   pub placed_roots : List Item
-  pub on_roots : IsPlacedOn s pools c first (λ f. Contains roots f.slot.bus)
-      (sum (root_items roots s pools c))
+  pub on_roots : IsPlacedOn (IsOnSide s pools c (λ f. Contains roots f.slot.bus))
+      (size_at s pools c) first (sum (root_items roots s pools c))
       (raised_to (greatest (root_items roots s pools c)) (pool_of pools c).first) placed_roots
   pub behind_items : Function → List Item
   pub behind : (b : Function) → Contains s b → IsTrue (is_bridge b) → 0 < need_behind s pools c b
-      → IsPlacedOn s pools c first (λ f. f.slot.bus ≡ secondary b) (need_behind s pools c b)
-      (first b (Window c)) (behind_items b)
+      → IsPlacedOn (IsOnSide s pools c (λ f. f.slot.bus ≡ secondary b)) (size_at s pools c) first
+      (need_behind s pools c b) (first b (Window c)) (behind_items b)
 
 -- the registers show the places of a table for each class, and no window but these is open
 pub record IsShown (s t : System) (pools : Pools) (first : Function → Part → ℕ)
