@@ -30,7 +30,7 @@ outside_evident given t slot reg space a old new told s tree there =
     let o = told s a tree there in
     record { lines = o.lines; text = o.text; are = o.are }
 
-pub unreached_evident : (given : Given) (t : Tree) (slot : Slot) (reg : ℕ) (space : Space) (a : ℕ) (bridge : Slot) (old new : List ℕ) → IsUnreachedTold given t (named_region slot reg) space bridge old new
+pub unreached_evident : (given : Given) (t : Tree) (slot : Slot) (reg : ℕ) (space : Space) (a : ℕ) (bridge : Slot) (old new : List ℕ) → IsUnreachedTold given t (record { region = named_region slot reg; space = space; bridge = bridge }) old new
     → IsEvidenceTold given t (Known (Unreached slot reg space a bridge)) old new
 unreached_evident given t slot reg space a bridge old new told s tree there =
     let u = told s a tree there in

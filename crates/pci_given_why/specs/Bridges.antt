@@ -50,9 +50,15 @@ IsBehindOne given s region space bridge lines =
     (q : plain.Region) × plain.IsNamed q region.slot region.register space
     × IsBehindUnreached given s q bridge lines
 
+-- a region of a space, and a bridge that doesn't pass all of it
+pub record Stopped : Type 0 where
+  pub region : RegionName
+  pub space : Space
+  pub bridge : Slot
+
 -- in each system with the tree where it is unreached
-abbrev pub IsUnreachedTold : Given → Tree → RegionName → Space → Slot → List ℕ → List ℕ → Type 0
-IsUnreachedTold given t region space bridge old new =
+abbrev pub IsUnreachedTold : Given → Tree → Stopped → List ℕ → List ℕ → Type 0
+IsUnreachedTold given t stopped old new =
     (s : System) (a : ℕ) → HasTree t s
-    → IsUnreached given t.roots s region (address_in space a) bridge
-    → Appends (IsBehindOne given s region space bridge) old new
+    → IsUnreached given t.roots s stopped.region (address_in stopped.space a) stopped.bridge
+    → Appends (IsBehindOne given s stopped.region stopped.space stopped.bridge) old new

@@ -84,8 +84,8 @@ pub fn push_unreached<A: Allocator + Copy, B: Allocator>(
     bridge: Slot,
 ) -> Result<(), OutOfMemory>
     ensures { OnOk result (IsUnreachedTold (given_value given.now) outline.now
-        (named_region slot reg) (space_of space) bridge (string_bytes text.old)
-        (string_bytes text.new)) }
+        (record { region = named_region slot reg; space = space_of space; bridge = bridge })
+        (string_bytes text.old) (string_bytes text.new)) }
 {
     let Some(region) = region_at(alloc, outline, slot, reg, space)? else {
         return Ok(());
