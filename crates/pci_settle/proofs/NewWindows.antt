@@ -34,13 +34,11 @@ use Rattle.pci_place.specs.Items.{function_in, no_function}
 use Rattle.pci_place.specs.Records.{IsRecordOf}
 use Rattle.pci_place.proofs.Records.{FunctionAt, same_count, function_at}
 use Rattle.pci_settle.specs.declared.extent.Extent.{Extent}
-use Rattle.pci_settle.specs.declared.over.OpenWindows.{OpenWindows}
-use Rattle.pci_settle.specs.declared.own.Terms.{Terms}
 use Rattle.pci_settle.specs.Spots.{extent_value, IsExtent}
 use Rattle.pci_settle.specs.Placings.{item_extent}
 use Rattle.pci_settle.specs.Own.{IsWindowOf}
-use Rattle.pci_settle.specs.Buses.{AreWindows, AreBehind}
-use Rattle.pci_settle.specs.NewWindows.{around_bus, IsEntry, IsPut, IsLeft, window_in, AreNewWindows}
+use Rattle.pci_settle.specs.Buses.{AreWindows, AreBehind, Classing, IsLeft}
+use Rattle.pci_settle.specs.NewWindows.{around_bus, IsEntry, IsPut, window_in, AreNewWindows}
 
 -- ---- upper halves
 
@@ -62,11 +60,11 @@ wide_window image probe = elim (cases_Bool (has_window PrefetchWindow probe)) [
 -- ---- the table
 
 -- the table has the windows of the functions from place k on, and nothing where no bridge leads
-pub record AreWindowsFrom (roots : List ℕ) (s : System) (c : WindowKind) (t : Terms) (overs : List OpenWindows) (k : ℕ) (windows : List (Option Extent)) : Type 0 where
+pub record AreWindowsFrom (p : Classing) (c : WindowKind) (k : ℕ) (windows : List (Option Extent)) : Type 0 where
   pub size : length windows ≡ 256
-  pub each : (q : Request) → IsLeft roots s t overs q → (j : ℕ) (g : Function) → k ≤ j → slice_get s j ≡ Some g → is_bridge g ≡ true
-      → IsWindowOf (has_of q s c g) (new_window q s c g) (get_or windows (secondary g) None)
-  pub none : (bus : ℕ) → bridge_over s bus ≡ None → get_or windows bus None ≡ None
+  pub each : (q : Request) → IsLeft p q → (j : ℕ) (g : Function) → k ≤ j → slice_get p.system j ≡ Some g → is_bridge g ≡ true
+      → IsWindowOf (has_of q p.system c g) (new_window q p.system c g) (get_or windows (secondary g) None)
+  pub none : (bus : ℕ) → bridge_over p.system bus ≡ None → get_or windows bus None ≡ None
   pub lawful : AreWindows windows
 
 empty_at : (bus : ℕ) → ◌≡◌ {A = Option Extent} (get_or (replicate 256 None) bus None) None
@@ -103,30 +101,30 @@ comes_later s system k j f g at_k at_j up = elim (cases_lt k j) [
   ]
 ]
 
-module _ (roots : List ℕ) (s : System) (system : IsSystem s) (nested : IsNested roots s) (c : WindowKind) (t : Terms) (overs : List OpenWindows) where
-  pub windows_none : (k : ℕ) → length s ≤ k → AreWindowsFrom roots s c t overs k (replicate 256 None)
+module _ (p : Classing) (system : IsSystem p.system) (nested : IsNested p.roots p.system) (c : WindowKind) where
+  pub windows_none : (k : ℕ) → length p.system ≤ k → AreWindowsFrom p c k (replicate 256 None)
   windows_none k past = record {
     size = refl;
-    each = λ q left j g up at bridge. (let within = slice_get_within s j g at in absurd (let no : ⊥ = omega (arith, past, up, within) in no));
+    each = λ q left j g up at bridge. (let within = slice_get_within p.system j g at in absurd (let no : ⊥ = omega (arith, past, up, within) in no));
     none = λ bus over. empty_at bus;
     lawful = All-replicate (λ o. IfSome o IsExtent) 256 None tt;
   }
 
-  nested_for : (q : Request) → IsLeft roots s t overs q → IsNested q.roots s
-  nested_for q left = subst (λ xs. IsNested xs s) (sym left.rooted) nested
+  nested_for : (q : Request) → IsLeft p q → IsNested q.roots p.system
+  nested_for q left = subst (λ xs. IsNested xs p.system) (sym left.rooted) nested
 
   -- ---- the next function
 
-  module _ (k : ℕ) (f : Function) (r : Record) (at : slice_get s k ≡ Some f) (is : IsRecordOf s f r) (old : List (Option Extent)) (was : AreWindowsFrom roots s c t overs (k + 1) old) where
+  module _ (k : ℕ) (f : Function) (r : Record) (at : slice_get p.system k ≡ Some f) (is : IsRecordOf p.system f r) (old : List (Option Extent)) (was : AreWindowsFrom p c (k + 1) old) where
     -- what isn't it comes later
-    later_of : (j : ℕ) (g : Function) → k ≤ j → slice_get s j ≡ Some g → (g ≡ f → ⊥) → k + 1 ≤ j
+    later_of : (j : ℕ) (g : Function) → k ≤ j → slice_get p.system j ≡ Some g → (g ≡ f → ⊥) → k + 1 ≤ j
     later_of j g up at_j other = elim (cases_eq j k) [
-      | inl same ↦ absurd (let one : Some g ≡ Some f = sym at_j ∙ ap (slice_get s) same ∙ at in let function : g ≡ f = cc in other function)
+      | inl same ↦ absurd (let one : Some g ≡ Some f = sym at_j ∙ ap (slice_get p.system) same ∙ at in let function : g ≡ f = cc in other function)
       | inr differ ↦ omega (arith, up, differ)
     ]
 
     -- one that is no bridge has no window
-    pub windows_same : r.bridge ≡ None → AreWindowsFrom roots s c t overs k old
+    pub windows_same : r.bridge ≡ None → AreWindowsFrom p c k old
     windows_same none = record {
       size = was.size;
       each = λ q left j g up at_j bridge.
@@ -144,45 +142,42 @@ module _ (roots : List ℕ) (s : System) (system : IsSystem s) (nested : IsNeste
       leads_to = ap (λ (x : decoded.Bridge). x.secondary) (same_bridge_of r f b is.value there)
 
       pub secondary_small : b.secondary < 256
-      secondary_small = let small = (All-contains IsFunction s f system.each is.listed).image.bytes 0x19 in let to = leads_to in omega (arith, to, small)
+      secondary_small = let small = (All-contains IsFunction p.system f system.each is.listed).image.bytes 0x19 in let to = leads_to in omega (arith, to, small)
 
       -- the windows on the bus behind it are in the table
-      are_behind : (q : Request) → IsLeft roots s t overs q → AreBehind q s c (new_window q s c) b.secondary t old
+      are_behind : (q : Request) → IsLeft p q → AreBehind q p.system c (new_window q p.system c) b.secondary old
       are_behind q left =
-          subst (λ bus. AreBehind q s c (new_window q s c) bus t old) (sym leads_to) record {
-            terms = left.terms;
-            each = λ g listed beside bridge. (
-                let j = listed.0 in
-                let at_j : slice_get s j ≡ Some g = at_place s g listed in
-                let on = on_it q.roots s system (nested_for q left) f g.slot.bus is.listed is_one beside in
-                let order = order_of roots s nested f is.listed is_one in
-                let later = comes_later s system k j f g at at_j (omega (arith, on, order)) in
-                was.each q left j g (omega (arith, later)) at_j bridge);
-          }
+          subst (λ bus. AreBehind q p.system c (new_window q p.system c) bus old) (sym leads_to) (λ g listed beside bridge.
+          let j = listed.0 in
+          let at_j : slice_get p.system j ≡ Some g = at_place p.system g listed in
+          let on = on_it q.roots p.system system (nested_for q left) f g.slot.bus is.listed is_one beside in
+          let order = order_of p.roots p.system nested f is.listed is_one in
+          let later = comes_later p.system system k j f g at at_j (omega (arith, on, order)) in
+          was.each q left j g (omega (arith, later)) at_j bridge)
 
-      around_is : (q : Request) (e : Function → ExtentValue) → around_bus q s c e b ≡ extent_around (page_size c) (same_class c PrefetchWindow && is_wide_window PrefetchWindow f.probe) (map item_extent (items_on q s c nothing e (secondary f)))
+      around_is : (q : Request) (e : Function → ExtentValue) → around_bus q p.system c e b ≡ extent_around (page_size c) (same_class c PrefetchWindow && is_wide_window PrefetchWindow f.probe) (map item_extent (items_on q p.system c nothing e (secondary f)))
       around_is q e =
-          ap (λ n. extent_around (page_size c) (same_class c PrefetchWindow && is_wide_in b.windows.pref) (map item_extent (items_on q s c nothing e n))) leads_to
-          ∙ ap (λ w. extent_around (page_size c) (same_class c PrefetchWindow && w) (map item_extent (items_on q s c nothing e (secondary f))))
+          ap (λ n. extent_around (page_size c) (same_class c PrefetchWindow && is_wide_in b.windows.pref) (map item_extent (items_on q p.system c nothing e n))) leads_to
+          ∙ ap (λ w. extent_around (page_size c) (same_class c PrefetchWindow && w) (map item_extent (items_on q p.system c nothing e (secondary f))))
           (ap (λ (x : decoded.Bridge). is_wide_in x.windows.prefetch) (same_bridge_of r f b is.value there) ∙ wide_window f.image f.probe)
 
-      new_is : (q : Request) → IsLeft roots s t overs q → around_bus q s c (new_window q s c) b ≡ new_window q s c f
-      new_is q left = around_is q (new_window q s c) ∙ sym (window_is_around q s c system (nested_for q left) f is.listed is_one)
+      new_is : (q : Request) → IsLeft p q → around_bus q p.system c (new_window q p.system c) b ≡ new_window q p.system c f
+      new_is q left = around_is q (new_window q p.system c) ∙ sym (window_is_around q p.system c system (nested_for q left) f is.listed is_one)
 
       abbrev behind : Request → List ItemValue
-      behind q = items_on q s c nothing (new_window q s c) b.secondary
+      behind q = items_on q p.system c nothing (new_window q p.system c) b.secondary
 
-      has_is : (q : Request) → IsLeft roots s t overs q → has_of q s c f ≡ nat_lt 0 (length (behind q))
+      has_is : (q : Request) → IsLeft p q → has_of q p.system c f ≡ nat_lt 0 (length (behind q))
       has_is q left =
-          items_are_behind q s c (new_window q s c) system (nested_for q left) f is.listed is_one
-          ∙ ap (λ n. nat_lt 0 (length (items_on q s c nothing (new_window q s c) n))) (sym leads_to)
+          items_are_behind q p.system c (new_window q p.system c) system (nested_for q left) f is.listed is_one
+          ∙ ap (λ n. nat_lt 0 (length (items_on q p.system c nothing (new_window q p.system c) n))) (sym leads_to)
 
-      entry_for : (q : Request) → IsLeft roots s t overs q → (entry : Option Extent) → IsEntry (behind q) (around_bus q s c (new_window q s c) b) entry → IsWindowOf (has_of q s c f) (new_window q s c f) entry
+      entry_for : (q : Request) → IsLeft p q → (entry : Option Extent) → IsEntry (behind q) (around_bus q p.system c (new_window q p.system c) b) entry → IsWindowOf (has_of q p.system c f) (new_window q p.system c f) entry
       entry_for q left None empty = has_is q left ∙ le-ltb 0 (length (behind q)) (omega (arith, empty))
       entry_for q left (Some x) (some, same) = (has_is q left ∙ lt-ltb 0 (length (behind q)) some, same ∙ new_is q left)
 
       -- its window is put into the table
-      pub windows_more : (new : List (Option Extent)) → IsPut roots s c t overs b old new true → AreWindows new → AreWindowsFrom roots s c t overs k new
+      pub windows_more : (new : List (Option Extent)) → IsPut p c b old new true → AreWindows new → AreWindowsFrom p c k new
       windows_more new is_put lawful =
           let size = was.size in
           let small = secondary_small in
@@ -194,84 +189,82 @@ module _ (roots : List ℕ) (s : System) (system : IsSystem s) (nested : IsNeste
             size = ap length put ∙ length-set old (secondary f) is_put.entry ∙ was.size;
             each = λ q left j g up at_j bridge. elim (cases_eq (secondary g) (secondary f)) [
               | inl same ↦
-                  let listed : Contains s g = (j, slice_get_within s j g at_j, get_or_from_slice_get s j g g at_j) in
-                  let one : g ≡ f = one_bridge roots s system nested g f listed is.listed bridge is_one same in
-                  let entry = entry_for q left is_put.entry (is_put.is q (new_window q s c) left.rooted left.overs_are (are_behind q left)) in
-                  subst (λ (x : Function). IsWindowOf (has_of q s c x) (new_window q s c x) (get_or new (secondary x) None)) (sym one)
-                  (subst (IsWindowOf (has_of q s c f) (new_window q s c f)) (sym here) entry)
+                  let listed : Contains p.system g = (j, slice_get_within p.system j g at_j, get_or_from_slice_get p.system j g g at_j) in
+                  let one : g ≡ f = one_bridge p.roots p.system system nested g f listed is.listed bridge is_one same in
+                  let entry = entry_for q left is_put.entry (is_put.is q (new_window q p.system c) left (are_behind q left)) in
+                  subst (λ (x : Function). IsWindowOf (has_of q p.system c x) (new_window q p.system c x) (get_or new (secondary x) None)) (sym one)
+                  (subst (IsWindowOf (has_of q p.system c f) (new_window q p.system c f)) (sym here) entry)
               | inr differ ↦
-                  subst (IsWindowOf (has_of q s c g) (new_window q s c g)) (sym (other (secondary g) differ))
+                  subst (IsWindowOf (has_of q p.system c g) (new_window q p.system c g)) (sym (other (secondary g) differ))
                   (was.each q left j g (later_of j g up at_j (λ same. differ (ap secondary same))) at_j bridge)
             ];
-            none = λ bus over. other bus (λ same. none_leads s bus over f (is.listed, is_one, sym same)) ∙ was.none bus over;
+            none = λ bus over. other bus (λ same. none_leads p.system bus over f (is.listed, is_one, sym same)) ∙ was.none bus over;
             lawful = lawful;
           }
 
       -- it is too large
-      pub too_large : (new : List (Option Extent)) → IsPut roots s c t overs b old new false → AreNewWindows roots s c t overs new (Some k)
+      pub too_large : (new : List (Option Extent)) → IsPut p c b old new false → AreNewWindows p c new (Some k)
       too_large new is_put q left =
-          let large = is_put.1 q (new_window q s c) left.rooted left.overs_are (are_behind q left) in
+          let large = is_put.1 q (new_window q p.system c) left (are_behind q left) in
           let some = large.some in
-          let here : f ≡ function_in s k = sym (get_or_from_slice_get s k f no_function at) in
-          let has : has_of q s c f ≡ true = has_is q left ∙ lt-ltb 0 (length (behind q)) some in
-          let size : 2 ^ 64 ≤ (new_window q s c f).size = subst (λ (e : ExtentValue). 2 ^ 64 ≤ e.size) (new_is q left) large.large in
+          let here : f ≡ function_in p.system k = sym (get_or_from_slice_get p.system k f no_function at) in
+          let has : has_of q p.system c f ≡ true = has_is q left ∙ lt-ltb 0 (length (behind q)) some in
+          let size : 2 ^ 64 ≤ (new_window q p.system c f).size = subst (λ (e : ExtentValue). 2 ^ 64 ≤ e.size) (new_is q left) large.large in
           record {
             too_large = record {
-              within = slice_get_within s k f at;
+              within = slice_get_within p.system k f at;
               bridge = subst (λ x. is_bridge x ≡ true) here is_one;
-              behind = subst (λ x. has_of q s c x ≡ true) here has;
-              large = subst (λ x. 2 ^ 64 ≤ (new_window q s c x).size) here size;
+              behind = subst (λ x. has_of q p.system c x ≡ true) here has;
+              large = subst (λ x. 2 ^ 64 ≤ (new_window q p.system c x).size) here size;
             };
             above = λ j up within bridge.
-                subst (λ xs. IsWindowOf (has_of q s c (function_in s j)) (new_window q s c (function_in s j)) (get_or xs (secondary (function_in s j)) None)) (sym is_put.0)
-                (was.each q left j (function_in s j) (omega (arith, up)) (slice_get-get_or s j no_function within) bridge);
+                subst (λ xs. IsWindowOf (has_of q p.system c (function_in p.system j)) (new_window q p.system c (function_in p.system j)) (get_or xs (secondary (function_in p.system j)) None)) (sym is_put.0)
+                (was.each q left j (function_in p.system j) (omega (arith, up)) (slice_get-get_or p.system j no_function within) bridge);
           }
 
   -- ---- the records, from the last to the first
 
-  module _ (records : List Record) (has : HasRecords s (map record_value records)) (done : ℕ) (r : Record) (less : done < length records) (read : r ≡ get_or records (length records - 1 - done) r)
-      (old : List (Option Extent)) (was : AreWindowsFrom roots s c t overs (length s - done) old) where
+  module _ (records : List Record) (has : HasRecords p.system (map record_value records)) (done : ℕ) (r : Record) (less : done < length records) (read : r ≡ get_or records (length records - 1 - done) r)
+      (old : List (Option Extent)) (was : AreWindowsFrom p c (length p.system - done) old) where
     abbrev place : ℕ
     place = length records - 1 - done
 
-    here : FunctionAt s r place
-    here = function_at s records has place r (slice_get_read records (length records) place r refl (omega (arith, less)) read)
+    here : FunctionAt p.system r place
+    here = function_at p.system records has place r (slice_get_read records (length records) place r refl (omega (arith, less)) read)
 
-    before : AreWindowsFrom roots s c t overs (place + 1) old
+    before : AreWindowsFrom p c (place + 1) old
     before =
-        let count = same_count s records has in
-        let from : length s - done ≡ place + 1 = omega (arith, count, less) in
-        subst (λ n. AreWindowsFrom roots s c t overs n old) from was
+        let count = same_count p.system records has in
+        let from : length p.system - done ≡ place + 1 = omega (arith, count, less) in
+        subst (λ n. AreWindowsFrom p c n old) from was
 
-    next : place ≡ length s - (done + 1)
-    next = let count = same_count s records has in omega (arith, count, less)
+    next : place ≡ length p.system - (done + 1)
+    next = let count = same_count p.system records has in omega (arith, count, less)
 
-    pub step_same : r.bridge ≡ None → AreWindowsFrom roots s c t overs (length s - (done + 1)) old
-    step_same none = subst (λ n. AreWindowsFrom roots s c t overs n old) next (windows_same place here.f r here.at here.is old before none)
+    pub step_same : r.bridge ≡ None → AreWindowsFrom p c (length p.system - (done + 1)) old
+    step_same none = subst (λ n. AreWindowsFrom p c n old) next (windows_same place here.f r here.at here.is old before none)
 
-    pub step_put : (b : Bridge) → r.bridge ≡ Some b → (new : List (Option Extent)) → IsPut roots s c t overs b old new true → AreWindows new → AreWindowsFrom roots s c t overs (length s - (done + 1)) new
-    step_put b there new put lawful = subst (λ n. AreWindowsFrom roots s c t overs n new) next (windows_more place here.f r here.at here.is old before b there new put lawful)
+    pub step_put : (b : Bridge) → r.bridge ≡ Some b → (new : List (Option Extent)) → IsPut p c b old new true → AreWindows new → AreWindowsFrom p c (length p.system - (done + 1)) new
+    step_put b there new put lawful = subst (λ n. AreWindowsFrom p c n new) next (windows_more place here.f r here.at here.is old before b there new put lawful)
 
-    pub step_large : (b : Bridge) → r.bridge ≡ Some b → (new : List (Option Extent)) → IsPut roots s c t overs b old new false → AreNewWindows roots s c t overs new (Some place)
+    pub step_large : (b : Bridge) → r.bridge ≡ Some b → (new : List (Option Extent)) → IsPut p c b old new false → AreNewWindows p c new (Some place)
     step_large b there new put = too_large place here.f r here.at here.is old before b there new put
 
   -- ---- all functions
 
-  over_bus : (windows : List (Option Extent)) → AreWindowsFrom roots s c t overs 0 windows → (q : Request) → IsLeft roots s t overs q → (bus : ℕ) → window_in windows bus ≡ window_to q s c bus
-  over_bus windows was q left bus = by (bridge_over s bus) refl
+  over_bus : (windows : List (Option Extent)) → AreWindowsFrom p c 0 windows → (q : Request) → IsLeft p q → (bus : ℕ) → window_in windows bus ≡ window_to q p.system c bus
+  over_bus windows was q left bus = by (bridge_over p.system bus) refl
     where
-      by : (o : Option Function) → bridge_over s bus ≡ o → window_in windows bus ≡ window_to q s c bus
-      by None over = ap (option_map extent_value) (was.none bus over) ∙ sym (ap (window_over q s c) over)
+      by : (o : Option Function) → bridge_over p.system bus ≡ o → window_in windows bus ≡ window_to q p.system c bus
+      by None over = ap (option_map extent_value) (was.none bus over) ∙ sym (ap (window_over q p.system c) over)
       by (Some f) over =
-          let leads = over_leads s bus f over in
-          let own = was.each q left leads.0.0 f (omega arith) (at_place s f leads.0) leads.1 in
-          ap (window_in windows) (sym leads.2) ∙ entry_is (has_of q s c f) (new_window q s c f) (get_or windows (secondary f) None) own ∙ sym (ap (window_over q s c) over)
+          let leads = over_leads p.system bus f over in
+          let own = was.each q left leads.0.0 f (omega arith) (at_place p.system f leads.0) leads.1 in
+          ap (window_in windows) (sym leads.2) ∙ entry_is (has_of q p.system c f) (new_window q p.system c f) (get_or windows (secondary f) None) own ∙ sym (ap (window_over q p.system c) over)
 
-  pub whole_windows : (windows : List (Option Extent)) → AreWindowsFrom roots s c t overs 0 windows → AreNewWindows roots s c t overs windows None
+  pub whole_windows : (windows : List (Option Extent)) → AreWindowsFrom p c 0 windows → AreNewWindows p c windows None
   whole_windows windows was q left = record {
     over = λ bus small. over_bus windows was q left bus;
-    behind = λ bus. record {
-      terms = left.terms;
-      each = λ f listed beside bridge. was.each q left listed.0 f (omega arith) (at_place s f listed) bridge;
-    };
+    terms = left.terms;
+    behind = λ bus f listed beside bridge. was.each q left listed.0 f (omega arith) (at_place p.system f listed) bridge;
   }

@@ -39,15 +39,14 @@ use Rattle.pci_settle.specs.declared.extent.Extent.{Extent}
 use Rattle.pci_settle.specs.declared.item.Item.{Item}
 use Rattle.pci_settle.specs.declared.item.Part.TheVariants as parts
 use Rattle.pci_settle.specs.declared.kept.Kept.{Kept}
-use Rattle.pci_settle.specs.declared.over.OpenWindows.{OpenWindows}
 use Rattle.pci_settle.specs.declared.over.Over.{Over}
 use Rattle.pci_settle.specs.declared.own.Terms.{Terms}
 use Rattle.pci_settle.specs.Kept.{kept_of, nothing_kept}
 use Rattle.pci_settle.specs.Over.{no_windows, IsOver}
-use Rattle.pci_settle.specs.Own.{is_own_bar, own_extent, bar_item, bar_items, rom_item, rom_items, window_items, record_items, item_value, IsWindowOf, IsAsked, AreByRank}
+use Rattle.pci_settle.specs.Own.{is_own_bar, own_extent, bar_item, bar_items, rom_item, rom_items, window_items, situation, record_items, item_value, IsWindowOf, IsAsked, AreByRank}
 use Rattle.pci_settle.specs.Spots.{IsExtent}
 use Rattle.pci_settle.specs.Turns.{HasExtent}
-use Rattle.pci_settle.specs.Buses.{window_behind, AreWindows, AreBehind, items_beside, AreOnBusTo, AreBelow, AreOnBus}
+use Rattle.pci_settle.specs.Buses.{window_behind, AreWindows, AreBehind, Listing, items_beside, AreOnBusTo, AreBelow, AreOnBus}
 use Rattle.pci_settle.proofs.Ranks.{first_rank, items_by_rank, items_in_slot}
 
 -- the record at a place
@@ -120,7 +119,7 @@ rom_lawful : (k : ℕ) (c : WindowKind) (kept : Kept) (o : Option CodeRom) → A
 rom_lawful k c kept None = All-nil HasExtent
 rom_lawful k c kept (Some rom) = rom_lawful_if k (rom.on && same_class c MemoryWindow && not kept.rom) rom
 
-record_lawful : (k : ℕ) (c : WindowKind) (over : Over) (t : Terms) (window : Option Extent) (kept : Kept) (r : Record) → IfSome window IsExtent → All HasExtent (record_items k c over t window kept r)
+record_lawful : (k : ℕ) (c : WindowKind) (over : Over) (t : Terms) (window : Option Extent) (kept : Kept) (r : Record) → IfSome window IsExtent → All HasExtent (record_items (situation k c over t window kept) r)
 record_lawful k c over t window kept r lawful =
     let own = filter (is_own_bar c over t kept) r.bars.items in
     All-append HasExtent (bar_items k c over t kept r.bars.items) (window_items k c kept window ++ rom_items k c kept r.rom)
@@ -142,10 +141,10 @@ more make s k f at =
     ∙ flat_map-append make (take k s) (f ∷ [])
     ∙ ap (λ xs. flat_map make (take k s) ++ xs) (append-nil (make f))
 
-module _ (roots : List ℕ) (s : System) (system : IsSystem s) (c : WindowKind) (t : Terms) (windows : List (Option Extent)) (overs : List OpenWindows) (kept : List Kept) (bus : ℕ) where
-  bus_none : AreOnBusTo roots s c t windows overs kept bus 0 []
+module _ (l : Listing) (system : IsSystem l.classing.system) where
+  bus_none : AreOnBusTo l 0 []
   bus_none = record {
-    all = λ q keeps extent leaving are. record {
+    all = λ a is. record {
       by_rank = record { same = IsPermutation-refl []; rising = pairs_nil HasLowerRank };
       below = λ j g up at i listed. absurd (in_nil i listed);
     };
@@ -153,66 +152,66 @@ module _ (roots : List ℕ) (s : System) (system : IsSystem s) (c : WindowKind) 
   }
 
   -- a function of another bus has none
-  skip_one : (k : ℕ) (f : Function) → slice_get s k ≡ Some f → are_siblings roots bus f.slot.bus ≡ false → (items : List Item)
-      → AreOnBusTo roots s c t windows overs kept bus k items → AreOnBusTo roots s c t windows overs kept bus (k + 1) items
+  skip_one : (k : ℕ) (f : Function) → slice_get l.classing.system k ≡ Some f → are_siblings l.classing.roots l.bus f.slot.bus ≡ false → (items : List Item)
+      → AreOnBusTo l k items → AreOnBusTo l (k + 1) items
   skip_one k f at apart items before = record {
-    all = λ q keeps extent leaving behind. (
-        let make = items_beside q s c keeps extent bus in
-        let apart' : are_siblings q.roots bus f.slot.bus ≡ false = ap (λ xs. are_siblings xs bus f.slot.bus) leaving.rooted ∙ apart in
-        let none : make f ≡ [] = ap (λ b. cond b (items_of q s c keeps extent f) []) apart' in
-        let before_it = before.all q keeps extent leaving behind in
+    all = λ a is. (
+        let make = items_beside a l in
+        let apart' : are_siblings a.request.roots l.bus f.slot.bus ≡ false = ap (λ xs. are_siblings xs l.bus f.slot.bus) is.left.rooted ∙ apart in
+        let none : make f ≡ [] = ap (λ b. cond b (items_of a.request l.classing.system l.class a.keeps a.extent f) []) apart' in
+        let before_it = before.all a is in
         record {
-          by_rank = subst (AreByRank (map (item_value s c) items))
-              (sym (more make s k f at ∙ ap (λ xs. flat_map make (take k s) ++ xs) none ∙ append-nil (flat_map make (take k s)))) before_it.by_rank;
+          by_rank = subst (AreByRank (map (item_value l.classing.system l.class) items))
+              (sym (more make l.classing.system k f at ∙ ap (λ xs. flat_map make (take k l.classing.system) ++ xs) none ∙ append-nil (flat_map make (take k l.classing.system)))) before_it.by_rank;
           below = λ j g up at_j i listed. before_it.below j g (omega (arith, up)) at_j i listed;
         });
     lawful = before.lawful;
   }
 
   -- and neither have more of them
-  skip_to : (n k : ℕ) (items : List Item) → k + n ≤ length s
-      → ((j : ℕ) (f : Function) → k ≤ j → j < k + n → slice_get s j ≡ Some f → are_siblings roots bus f.slot.bus ≡ false)
-      → AreOnBusTo roots s c t windows overs kept bus k items → AreOnBusTo roots s c t windows overs kept bus (k + n) items
-  skip_to zero k items within apart before = subst (λ m. AreOnBusTo roots s c t windows overs kept bus m items) (sym (add-zero k)) before
+  skip_to : (n k : ℕ) (items : List Item) → k + n ≤ length l.classing.system
+      → ((j : ℕ) (f : Function) → k ≤ j → j < k + n → slice_get l.classing.system j ≡ Some f → are_siblings l.classing.roots l.bus f.slot.bus ≡ false)
+      → AreOnBusTo l k items → AreOnBusTo l (k + n) items
+  skip_to zero k items within apart before = subst (λ m. AreOnBusTo l m items) (sym (add-zero k)) before
   skip_to (suc n) k items within apart before =
-      let inside : k + n < length s = omega (arith, within) in
-      let at = slice_get-get_or s (k + n) no_function inside in
+      let inside : k + n < length l.classing.system = omega (arith, within) in
+      let at = slice_get-get_or l.classing.system (k + n) no_function inside in
       let next : k + n + 1 ≡ k + suc n = omega arith in
-      subst (λ m. AreOnBusTo roots s c t windows overs kept bus m items) next
-      (skip_one (k + n) (get_or s (k + n) no_function) at (apart (k + n) _ (omega arith) (omega arith) at) items
+      subst (λ m. AreOnBusTo l m items) next
+      (skip_one (k + n) (get_or l.classing.system (k + n) no_function) at (apart (k + n) _ (omega arith) (omega arith) at) items
       (skip_to n k items (omega (arith, within)) (λ j f up under at_j. apart j f up (omega (arith, under)) at_j) before))
 
   -- all that stand below an address are all
-  below_all : (end : ℕ) (items : List Item) → ((f : Function) → Contains s f → are_siblings roots bus f.slot.bus ≡ true → f.slot.bus < end)
-      → AreBelow roots s c t windows overs kept bus end items → AreOnBusTo roots s c t windows overs kept bus (length s) items
+  below_all : (end : ℕ) (items : List Item) → ((f : Function) → Contains l.classing.system f → are_siblings l.classing.roots l.bus f.slot.bus ≡ true → f.slot.bus < end)
+      → AreBelow l end items → AreOnBusTo l (length l.classing.system) items
   below_all end items last below =
       let within = below.within in
-      let sum : below.count + (length s - below.count) ≡ length s = omega (arith, within) in
-      subst (λ m. AreOnBusTo roots s c t windows overs kept bus m items) sum
-      (skip_to (length s - below.count) below.count items (omega (arith, within))
-      (λ j f up under at. elim (cases_Bool (are_siblings roots bus f.slot.bus)) [
+      let sum : below.count + (length l.classing.system - below.count) ≡ length l.classing.system = omega (arith, within) in
+      subst (λ m. AreOnBusTo l m items) sum
+      (skip_to (length l.classing.system - below.count) below.count items (omega (arith, within))
+      (λ j f up under at. elim (cases_Bool (are_siblings l.classing.roots l.bus f.slot.bus)) [
         | inl beside ↦
-            let listed : Contains s f = (j, slice_get_within s j f at, get_or_from_slice_get s j f f at) in
+            let listed : Contains l.classing.system f = (j, slice_get_within l.classing.system j f at, get_or_from_slice_get l.classing.system j f f at) in
             let low = last f listed beside in
             let high = below.rest j f up at beside in
             absurd (let no : ⊥ = omega (arith, low, high) in no)
         | inr apart ↦ apart
       ]) below.first)
 
-  pub below_roots : (items : List Item) → AreBelow roots s c t windows overs kept bus 256 items → AreOnBusTo roots s c t windows overs kept bus (length s) items
-  below_roots items below = below_all 256 items (λ f listed beside. (slots_of s system f listed).0) below
+  pub below_roots : (items : List Item) → AreBelow l 256 items → AreOnBusTo l (length l.classing.system) items
+  below_roots items below = below_all 256 items (λ f listed beside. (slots_of l.classing.system system f listed).0) below
 
-  pub below_bus : (items : List Item) → is_root roots bus ≡ false → AreBelow roots s c t windows overs kept bus (bus + 1) items → AreOnBusTo roots s c t windows overs kept bus (length s) items
-  below_bus items other below = below_all (bus + 1) items (λ f listed beside. let same = own_bus roots bus f.slot.bus other beside in omega (arith, same)) below
+  pub below_bus : (items : List Item) → is_root l.classing.roots l.bus ≡ false → AreBelow l (l.bus + 1) items → AreOnBusTo l (length l.classing.system) items
+  below_bus items other below = below_all (l.bus + 1) items (λ f listed beside. let same = own_bus l.classing.roots l.bus f.slot.bus other beside in omega (arith, same)) below
 
-  pub all_on_bus : (items : List Item) → AreOnBusTo roots s c t windows overs kept bus (length s) items → AreOnBus roots s c t windows overs kept bus items
-  all_on_bus items are q keeps extent leaving behind =
-      subst (λ fs. AreByRank (map (item_value s c) items) (flat_map (items_beside q s c keeps extent bus) fs))
-      (take_all (length s) s (omega arith)) (are.all q keeps extent leaving behind).by_rank
+  pub all_on_bus : (items : List Item) → AreOnBusTo l (length l.classing.system) items → AreOnBus l items
+  all_on_bus items are a is =
+      subst (λ fs. AreByRank (map (item_value l.classing.system l.class) items) (flat_map (items_beside a l) fs))
+      (take_all (length l.classing.system) l.classing.system (omega arith)) (are.all a is).by_rank
 
   -- ---- bus by bus
 
-  pub below_none : AreBelow roots s c t windows overs kept bus 0 []
+  pub below_none : AreBelow l 0 []
   below_none = record {
     count = 0;
     within = omega arith;
@@ -222,49 +221,49 @@ module _ (roots : List ℕ) (s : System) (system : IsSystem s) (c : WindowKind) 
   }
 
   -- nothing of a bus that is no root is on a lower one
-  pub below_own : is_root roots bus ≡ false → AreBelow roots s c t windows overs kept bus bus []
+  pub below_own : is_root l.classing.roots l.bus ≡ false → AreBelow l l.bus []
   below_own other = record {
     count = 0;
     within = omega arith;
     lower = λ k f under at. absurd (let no : ⊥ = omega (arith, under) in no);
-    rest = λ k f up at beside. (let same = own_bus roots bus f.slot.bus other beside in omega (arith, same));
+    rest = λ k f up at beside. (let same = own_bus l.classing.roots l.bus f.slot.bus other beside in omega (arith, same));
     first = bus_none;
   }
 
-  pub below_skip : (end : ℕ) (items : List Item) → are_siblings roots bus end ≡ false → AreBelow roots s c t windows overs kept bus end items → AreBelow roots s c t windows overs kept bus (end + 1) items
+  pub below_skip : (end : ℕ) (items : List Item) → are_siblings l.classing.roots l.bus end ≡ false → AreBelow l end items → AreBelow l (end + 1) items
   below_skip end items apart below = record {
     count = below.count;
     within = below.within;
     lower = λ k f under at. (let low = below.lower k f under at in omega (arith, low));
     rest = λ k f up at beside. elim (cases_eq f.slot.bus end) [
-      | inl same ↦ absurd (both_ways (are_siblings roots bus end) apart (ap (are_siblings roots bus) (sym same) ∙ beside))
+      | inl same ↦ absurd (both_ways (are_siblings l.classing.roots l.bus end) apart (ap (are_siblings l.classing.roots l.bus) (sym same) ∙ beside))
       | inr differ ↦ (let high = below.rest k f up at beside in omega (arith, high, differ))
     ];
     first = below.first;
   }
 
-module _ (roots : List ℕ) (s : System) (system : IsSystem s) (records : List Record) (has : HasRecords s (map record_value records)) (c : WindowKind) (t : Terms) (windows : List (Option Extent)) (overs : List OpenWindows) (kept : List Kept) (bus : ℕ) where
+module _ (l : Listing) (system : IsSystem l.classing.system) (records : List Record) (has : HasRecords l.classing.system (map record_value records)) where
   -- the record of a function is on its bus
-  bus_at : (k : ℕ) (f : Function) → slice_get s k ≡ Some f → (r : Record) × (k < length records) × ((get_or records k r).slot.bus ≡ f.slot.bus)
+  bus_at : (k : ℕ) (f : Function) → slice_get l.classing.system k ≡ Some f → (r : Record) × (k < length records) × ((get_or records k r).slot.bus ≡ f.slot.bus)
   bus_at k f at =
-      let count = same_count s records has in
-      let within = slice_get_within s k f at in
+      let count = same_count l.classing.system records has in
+      let within = slice_get_within l.classing.system k f at in
       let inside : k < length records = omega (arith, count, within) in
       let r = record_at records k inside in
-      let found = function_at s records has k r.0 r.1 in
+      let found = function_at l.classing.system records has k r.0 r.1 in
       let both : Some found.f ≡ Some f = sym found.at ∙ at in
       let one : found.f ≡ f = cc in
       (r.0, inside, ap (λ (x : Record). x.slot.bus) (get_or_from_slice_get records k r.0 r.0 r.1) ∙ ap (λ (x : Slot). x.bus) (same_slot_of r.0 found.f found.is.value) ∙ ap (λ (x : Function). x.slot.bus) one)
 
   -- those below a bus are those of the functions before its first one
   pub below_first : (end first : ℕ) (items : List Item) → first ≤ length records → AllWithin (λ r. r.slot.bus < end) records 0 first → AllWithin (λ r. end ≤ r.slot.bus) records first (length records)
-      → AreBelow roots s c t windows overs kept bus end items → AreOnBusTo roots s c t windows overs kept bus first items
+      → AreBelow l end items → AreOnBusTo l first items
   below_first end first items bound before after below =
-      let count = same_count s records has in
+      let count = same_count l.classing.system records has in
       let within = below.within in
       let up : below.count ≤ first = elim (cases_lt first below.count) [
         | inl less ↦
-            let at = slice_get-get_or s first no_function (omega (arith, less, within)) in
+            let at = slice_get-get_or l.classing.system first no_function (omega (arith, less, within)) in
             let low = below.lower first _ less at in
             let here = bus_at first _ at in
             let on = here.2 in
@@ -273,9 +272,9 @@ module _ (roots : List ℕ) (s : System) (system : IsSystem s) (records : List R
         | inr le ↦ le
       ] in
       let sum : below.count + (first - below.count) ≡ first = omega (arith, up) in
-      subst (λ m. AreOnBusTo roots s c t windows overs kept bus m items) sum
-      (skip_to roots s system c t windows overs kept bus (first - below.count) below.count items (omega (arith, up, bound, count))
-      (λ j f from under at. elim (cases_Bool (are_siblings roots bus f.slot.bus)) [
+      subst (λ m. AreOnBusTo l m items) sum
+      (skip_to l system (first - below.count) below.count items (omega (arith, up, bound, count))
+      (λ j f from under at. elim (cases_Bool (are_siblings l.classing.roots l.bus f.slot.bus)) [
         | inl beside ↦
             let high = below.rest j f from at beside in
             let here = bus_at j f at in
@@ -286,9 +285,9 @@ module _ (roots : List ℕ) (s : System) (system : IsSystem s) (records : List R
       ]) below.first)
 
   pub below_next : (next end : ℕ) (items : List Item) → end ≤ length records → AllWithin (λ r. r.slot.bus < next) records 0 end → AllWithin (λ r. next ≤ r.slot.bus) records end (length records)
-      → AreOnBusTo roots s c t windows overs kept bus end items → AreBelow roots s c t windows overs kept bus next items
+      → AreOnBusTo l end items → AreBelow l next items
   below_next next end items bound before after are =
-      let count = same_count s records has in
+      let count = same_count l.classing.system records has in
       record {
         count = end;
         within = omega (arith, bound, count);
@@ -298,68 +297,68 @@ module _ (roots : List ℕ) (s : System) (system : IsSystem s) (records : List R
       }
 
   module _ (k : ℕ) (r : Record) (inside : k < length records) (is_at : r ≡ get_or records k r) where
-    found : FunctionAt s r k
-    found = function_at s records has k r (slice_get-get_or records k r inside ∙ ap Some (sym is_at))
+    found : FunctionAt l.classing.system r k
+    found = function_at l.classing.system records has k r (slice_get-get_or records k r inside ∙ ap Some (sym is_at))
 
     same_bus : (other : ℕ) → other ≡ r.slot.bus → other ≡ found.f.slot.bus
     same_bus other on = on ∙ ap (λ (x : Slot). x.bus) (same_slot_of r found.f found.is.value)
 
-    new_by : (q : Request) (extent : Function → ExtentValue) → AreBehind q s c extent bus t windows → IsTrue (are_siblings q.roots bus found.f.slot.bus) → (bridge : Option Bridge) → r.bridge ≡ bridge
-        → IsWindowOf (is_bridge found.f && has_of q s c found.f) (extent found.f) (window_behind windows bridge)
+    new_by : (q : Request) (extent : Function → ExtentValue) → AreBehind q l.classing.system l.class extent l.bus l.windows → IsTrue (are_siblings q.roots l.bus found.f.slot.bus) → (bridge : Option Bridge) → r.bridge ≡ bridge
+        → IsWindowOf (is_bridge found.f && has_of q l.classing.system l.class found.f) (extent found.f) (window_behind l.windows bridge)
     new_by q extent behind beside None e =
         let off : is_bridge found.f ≡ false = sym (same_bridge r found.f found.is.value) ∙ ap is_some e in
-        ap (λ b. b && has_of q s c found.f) off
+        ap (λ b. b && has_of q l.classing.system l.class found.f) off
     new_by q extent behind beside (Some b) e =
         let f = found.f in
         let bridge : is_bridge f ≡ true = sym (same_bridge r f found.is.value) ∙ ap is_some e in
         let same : b.secondary ≡ secondary f = ap (λ (x : decoded.Bridge). x.secondary) (same_bridge_of r f b found.is.value e) in
-        subst (λ n. IsWindowOf (is_bridge f && has_of q s c f) (extent f) (get_or windows n None)) (sym same)
-        (subst (λ d. IsWindowOf (d && has_of q s c f) (extent f) (get_or windows (secondary f) None)) (sym bridge) (behind.each f found.is.listed beside bridge))
+        subst (λ n. IsWindowOf (is_bridge f && has_of q l.classing.system l.class f) (extent f) (get_or l.windows n None)) (sym same)
+        (subst (λ d. IsWindowOf (d && has_of q l.classing.system l.class f) (extent f) (get_or l.windows (secondary f) None)) (sym bridge) (behind f found.is.listed beside bridge))
 
     -- a function of the bus
-    pub bus_step : (aboves : List Above) → AreAboves s aboves → (other : ℕ) → other ≡ r.slot.bus → (d : Above) (over : Over) → over ≡ record { above = get_or aboves other d; windows = get_or overs other no_windows }
-        → (window : Option Extent) → window ≡ window_behind windows r.bridge → (keep : Kept) → ((part : Part) → kept_of keep part ≡ kept_of (get_or kept k nothing_kept) part)
-        → are_siblings roots bus other ≡ true → (old next : List Item) → next ≡ old ++ record_items k c over t window keep r
-        → AreOnBusTo roots s c t windows overs kept bus k old → AreOnBusTo roots s c t windows overs kept bus (k + 1) next
+    pub bus_step : (aboves : List Above) → AreAboves l.classing.system aboves → (other : ℕ) → other ≡ r.slot.bus → (d : Above) (over : Over) → over ≡ record { above = get_or aboves other d; windows = get_or l.classing.overs other no_windows }
+        → (window : Option Extent) → window ≡ window_behind l.windows r.bridge → (keep : Kept) → ((part : Part) → kept_of keep part ≡ kept_of (get_or l.kept k nothing_kept) part)
+        → are_siblings l.classing.roots l.bus other ≡ true → (old next : List Item) → next ≡ old ++ record_items (situation k l.class over l.classing.terms window keep) r
+        → AreOnBusTo l k old → AreOnBusTo l (k + 1) next
     bus_step aboves are_above other on d over is_over window is_window keep is_kept beside old next e before =
         let f = found.f in
         let at = same_bus other on in
-        let new = record_items k c over t window keep r in
+        let new = record_items (situation k l.class over l.classing.terms window keep) r in
         record {
-          all = λ q keeps extent leaving behind. (
-              let beside' : are_siblings q.roots bus f.slot.bus ≡ true = ap (λ xs. are_siblings xs bus f.slot.bus) leaving.rooted ∙ ap (are_siblings roots bus) (sym at) ∙ beside in
-              let over_at : IsOver q s f.slot.bus record { above = get_or aboves f.slot.bus d; windows = get_or overs f.slot.bus no_windows } =
-              record { above = are_above f d found.is.listed; windows_are = leaving.overs_are f found.is.listed } in
-              let asked : IsAsked q s c keeps extent f k over t window keep r = record {
-                terms = behind.terms;
+          all = λ a is. (
+              let beside' : are_siblings a.request.roots l.bus f.slot.bus ≡ true = ap (λ xs. are_siblings xs l.bus f.slot.bus) is.left.rooted ∙ ap (are_siblings l.classing.roots l.bus) (sym at) ∙ beside in
+              let over_at : IsOver a.request l.classing.system f.slot.bus record { above = get_or aboves f.slot.bus d; windows = get_or l.classing.overs f.slot.bus no_windows } =
+              record { above = are_above f d found.is.listed; windows_are = is.left.overs_are f found.is.listed } in
+              let asked : IsAsked a l.classing.system f (situation k l.class over l.classing.terms window keep) r = record {
+                terms = is.left.terms;
                 is = found.is;
-                here = get_or_from_slice_get s k f no_function found.at;
-                over_is = subst (IsOver q s f.slot.bus) (sym is_over) (subst (λ n. IsOver q s f.slot.bus record { above = get_or aboves n d; windows = get_or overs n no_windows }) (sym at) over_at);
-                new = subst (IsWindowOf (is_bridge f && has_of q s c f) (extent f)) (sym is_window) (new_by q extent behind beside' r.bridge refl);
-                keeps_is = λ part there. is_kept part ∙ leaving.keeps_is k f part found.at there;
+                here = get_or_from_slice_get l.classing.system k f no_function found.at;
+                over_is = subst (IsOver a.request l.classing.system f.slot.bus) (sym is_over) (subst (λ n. IsOver a.request l.classing.system f.slot.bus record { above = get_or aboves n d; windows = get_or l.classing.overs n no_windows }) (sym at) over_at);
+                new = subst (IsWindowOf (is_bridge f && has_of a.request l.classing.system l.class f) (a.extent f)) (sym is_window) (new_by a.request a.extent is.behind beside' r.bridge refl);
+                keeps_is = λ part there. is_kept part ∙ is.keeps_is k f part found.at there;
               } in
-              let make = items_beside q s c keeps extent bus in
-              let own : make f ≡ items_of q s c keeps extent f = ap (λ b. cond b (items_of q s c keeps extent f) []) beside' in
-              let all_are : flat_map make (take (k + 1) s) ≡ flat_map make (take k s) ++ items_of q s c keeps extent f = more make s k f found.at ∙ ap (λ xs. flat_map make (take k s) ++ xs) own in
-              let values_are : map (item_value s c) next ≡ map (item_value s c) old ++ map (item_value s c) new = ap (map (item_value s c)) e ∙ map-append (item_value s c) old new in
-              let before_it = before.all q keeps extent leaving behind in
-              let here = items_by_rank q s c keeps extent f k over t window keep r asked in
-              let in_slot = items_in_slot q s c keeps extent f k over t window keep r asked in
+              let make = items_beside a l in
+              let own : make f ≡ items_of a.request l.classing.system l.class a.keeps a.extent f = ap (λ b. cond b (items_of a.request l.classing.system l.class a.keeps a.extent f) []) beside' in
+              let all_are : flat_map make (take (k + 1) l.classing.system) ≡ flat_map make (take k l.classing.system) ++ items_of a.request l.classing.system l.class a.keeps a.extent f = more make l.classing.system k f found.at ∙ ap (λ xs. flat_map make (take k l.classing.system) ++ xs) own in
+              let values_are : map (item_value l.classing.system l.class) next ≡ map (item_value l.classing.system l.class) old ++ map (item_value l.classing.system l.class) new = ap (map (item_value l.classing.system l.class)) e ∙ map-append (item_value l.classing.system l.class) old new in
+              let before_it = before.all a is in
+              let here = items_by_rank a.request l.classing.system l.class a.keeps a.extent f k over l.classing.terms window keep r asked in
+              let in_slot = items_in_slot a.request l.classing.system l.class a.keeps a.extent f k over l.classing.terms window keep r asked in
               record {
-                by_rank = subst (λ xs. AreByRank xs (flat_map make (take (k + 1) s))) (sym values_are)
-                    (subst (AreByRank (map (item_value s c) old ++ map (item_value s c) new)) (sym all_are) record {
-                      same = IsPermutation-append (map (item_value s c) old) (flat_map make (take k s)) (map (item_value s c) new) (items_of q s c keeps extent f) before_it.by_rank.same here.same;
-                      rising = pairs_append HasLowerRank (map (item_value s c) old) (map (item_value s c) new) before_it.by_rank.rising here.rising
+                by_rank = subst (λ xs. AreByRank xs (flat_map make (take (k + 1) l.classing.system))) (sym values_are)
+                    (subst (AreByRank (map (item_value l.classing.system l.class) old ++ map (item_value l.classing.system l.class) new)) (sym all_are) record {
+                      same = IsPermutation-append (map (item_value l.classing.system l.class) old) (flat_map make (take k l.classing.system)) (map (item_value l.classing.system l.class) new) (items_of a.request l.classing.system l.class a.keeps a.extent f) before_it.by_rank.same here.same;
+                      rising = pairs_append HasLowerRank (map (item_value l.classing.system l.class) old) (map (item_value l.classing.system l.class) new) before_it.by_rank.rising here.rising
                           (λ i j at_old at_new. let under = before_it.below k f (omega arith) found.at i at_old in let from = (in_slot j at_new).0 in omega (arith, under, from));
                     });
                 below = λ j g up at_j i listed. (
-                    let above_it = later_above s system k j f g found.at at_j (omega (arith, up)) in
-                    elim (Contains-append_cases (map (item_value s c) old) (map (item_value s c) new) i (subst (λ xs. Contains xs i) values_are listed)) [
+                    let above_it = later_above l.classing.system system k j f g found.at at_j (omega (arith, up)) in
+                    elim (Contains-append_cases (map (item_value l.classing.system l.class) old) (map (item_value l.classing.system l.class) new) i (subst (λ xs. Contains xs i) values_are listed)) [
                       | inl at_old ↦ before_it.below j g (omega (arith, up)) at_j i at_old
                       | inr at_new ↦ (let to = (in_slot i at_new).1 in omega (arith, to, above_it))
                     ]);
               });
           lawful = λ windows_lawful.
               subst (All HasExtent) (sym e) (All-append HasExtent old new (before.lawful windows_lawful)
-              (record_lawful k c over t window keep r (subst (λ o. IfSome o IsExtent) (sym is_window) (behind_lawful windows windows_lawful r.bridge))));
+              (record_lawful k l.class over l.classing.terms window keep r (subst (λ o. IfSome o IsExtent) (sym is_window) (behind_lawful l.windows windows_lawful r.bridge))));
         }

@@ -53,7 +53,7 @@ use Rattle.pci_settle.proofs.Headers.{filter_same, header_has}
 use Rattle.pci_settle.specs.Lists.{root_range_value}
 use Rattle.pci_settle.proofs.Walks.{left_next, left_none}
 use Rattle.pci_settle.specs.Own as own
-use Rattle.pci_settle.specs.Own.{last_of, AreTerms, code_pools, class_anew, bar_number, is_left_bar, is_own_bar, bar_item, bar_items, rom_item, rom_items, window_items, record_items, item_value, IsWindowOf, IsAsked}
+use Rattle.pci_settle.specs.Own.{last_of, AreTerms, code_pools, class_anew, bar_number, is_left_bar, is_own_bar, bar_item, bar_items, rom_item, rom_items, window_items, situation, record_items, item_value, IsWindowOf, IsAsked}
 
 -- ---- lists
 
@@ -201,7 +201,7 @@ module _ (q : Request) (s : System) (f : Function) (r : Record) (over : Over) (t
       (λ io. ap (λ b. not b && has_bit reg 3) io)
 
 module _ (q : Request) (s : System) (c : WindowKind) (keeps : Region → Bool) (extent : Function → ExtentValue) (f : Function) (k : ℕ) (over : Over) (t : Terms) (window : Option Extent) (kept : Kept) (r : Record)
-    (asked : IsAsked q s c keeps extent f k over t window kept r) where
+    (asked : IsAsked record { request = q; keeps = keeps; extent = extent } s f (situation k c over t window kept) r) where
   left_is : (bar : CodeBar) (n : ℕ) → decoded_bar_of bar ≡ decoded_bar f.image f.probe n → is_left_bar bar over.above t.has_io ≡ is_left q s f (Bar n)
   left_is bar n e =
       ap (λ b. b && not (t.has_io && over.above.io)) (kind_io f bar n e)
@@ -323,7 +323,7 @@ module _ (q : Request) (s : System) (c : WindowKind) (keeps : Region → Bool) (
       ∙ ap (λ xs. map value_of (filter is_mine (filter (is_part q s f) (header_bars f))) ++ xs) (roms_are r.rom (rom_of s f r asked.is) ∙ sym others_are)
       ∙ sym (found ∙ split)
 
-  pub values_are : map (item_value s c) (record_items k c over t window kept r)
+  pub values_are : map (item_value s c) (record_items (situation k c over t window kept) r)
       ≡ map (item_value s c) (bar_items k c over t kept r.bars.items) ++ (map (item_value s c) (window_items k c kept window) ++ map (item_value s c) (rom_items k c kept r.rom))
   values_are =
       map-append (item_value s c) (bar_items k c over t kept r.bars.items) (window_items k c kept window ++ rom_items k c kept r.rom)
@@ -352,7 +352,7 @@ module _ (q : Request) (s : System) (c : WindowKind) (keeps : Region → Bool) (
       ∙ ap (map region) (filter_same (λ p. is_own q s c (region p) && not (noted (region p))) (λ p. is_own q s c (region p) && not (keeps (region p))) (parts_of q s f) noted_part)
       ∙ sym (filter-map (λ i. is_own q s c i && not (keeps i)) region (parts_of q s f)))
 
-  pub items_are : IsPermutation (map (item_value s c) (record_items k c over t window kept r)) (items_of q s c keeps extent f)
+  pub items_are : IsPermutation (map (item_value s c) (record_items (situation k c over t window kept) r)) (items_of q s c keeps extent f)
   items_are =
       let bars = map (item_value s c) (bar_items k c over t kept r.bars.items) in
       let windows = map (item_value s c) (window_items k c kept window) in

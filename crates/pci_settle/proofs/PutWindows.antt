@@ -10,7 +10,6 @@ use Rattle.pci_spec.specs.System.{System, Function}
 use Rattle.plan_spec.specs.Plan.{same_class}
 use Rattle.settle_spec.specs.FirstPlace.{Extent as ExtentValue}
 use Rattle.settle_spec.specs.Lists.{Request}
-use Rattle.settle_spec.specs.Parts.{Region}
 use Rattle.settle_spec.specs.Items.{Item as ItemValue, in_turn, items_on, nothing, extent_around}
 use Rattle.settle_spec.specs.PlacingLaws.{HasLowerRank}
 use Rattle.settle_spec.proofs.InTurn.{turn_same, ranks_differ}
@@ -19,41 +18,35 @@ use Rattle.pci_function.specs.declared.record.Bridge.{Bridge}
 use Rattle.pci_place.specs.Above.{is_wide_in}
 use Rattle.pci_settle.specs.declared.extent.Extent.{Extent}
 use Rattle.pci_settle.specs.declared.item.Item.{Item}
-use Rattle.pci_settle.specs.declared.kept.Kept.{Kept}
-use Rattle.pci_settle.specs.declared.over.OpenWindows.{OpenWindows}
-use Rattle.pci_settle.specs.declared.own.Terms.{Terms}
 use Rattle.pci_settle.specs.Kept.{AreKept}
-use Rattle.pci_settle.specs.Over.{AreOpenOver}
 use Rattle.pci_settle.proofs.Tables.{none_noted}
 use Rattle.pci_settle.specs.Spots.{IsExtent}
 use Rattle.pci_settle.specs.Placings.{item_extent}
 use Rattle.pci_settle.specs.Turns.{IsValued}
 use Rattle.pci_settle.specs.Windows.{IsAround}
-use Rattle.pci_settle.specs.Own.{AreByRank, item_value}
-use Rattle.pci_settle.specs.Buses.{AreBehind, IsLeaving, items_beside, AreOnBus}
+use Rattle.pci_settle.specs.Own.{Asking, AreByRank, item_value}
+use Rattle.pci_settle.specs.Buses.{AreBehind, Classing, IsLeft, Listing, IsListingOf, items_beside, AreOnBus}
 use Rattle.pci_settle.specs.NewWindows.{around_bus, IsPut}
 
-module _ (roots : List ℕ) (s : System) (c : WindowKind) (t : Terms) (windows : List (Option Extent)) (overs : List OpenWindows) (kept : List Kept) (bus : ℕ) (items : List Item)
-    (on : AreOnBus roots s c t windows overs kept bus items) (q : Request) (keeps : Region → Bool) (extent : Function → ExtentValue)
-    (leaving : IsLeaving roots s q keeps overs kept) (behind : AreBehind q s c extent bus t windows) where
+module _ (l : Listing) (items : List Item) (on : AreOnBus l items) (a : Asking) (is : IsListingOf a l) where
   abbrev values : List ItemValue
-  values = map (item_value s c) items
+  values = map (item_value l.classing.system l.class) items
 
   abbrev all : List ItemValue
-  all = flat_map (items_beside q s c keeps extent bus) s
+  all = flat_map (items_beside a l) l.classing.system
 
   by_rank : AreByRank values all
-  by_rank = on q keeps extent leaving behind
+  by_rank = on a is
 
   pub values_rise : AllPairs HasLowerRank values
   values_rise = by_rank.rising
 
   -- sorted they are those of the definitions
-  pub turn_is : in_turn values ≡ items_on q s c keeps extent bus
+  pub turn_is : in_turn values ≡ items_on a.request l.classing.system l.class a.keeps a.extent l.bus
   turn_is = turn_moved values all (ranks_differ values by_rank.rising) by_rank.same
 
-  pub count_is : length (items_on q s c keeps extent bus) ≡ length items
-  count_is = length_permutation all (in_turn all) (turn_same all) ∙ length_permutation values all by_rank.same ∙ length-map items (item_value s c)
+  pub count_is : length (items_on a.request l.classing.system l.class a.keeps a.extent l.bus) ≡ length items
+  count_is = length_permutation all (in_turn all) (turn_same all) ∙ length_permutation values all by_rank.same ∙ length-map items (item_value l.classing.system l.class)
 
 -- an empty table keeps nothing
 pub none_kept : (s : System) → AreKept s nothing []
@@ -76,44 +69,51 @@ IsAroundItems c upper items window =
     (value : Item → ItemValue) → IsValued value → AllPairs HasLowerRank (map value items)
     → IsAround (extent_around (page_size c) upper (map item_extent (in_turn (map value items)))) window
 
-module _ (roots : List ℕ) (s : System) (c : WindowKind) (t : Terms) (overs : List OpenWindows) (b : Bridge) (windows : List (Option Extent)) (items : List Item)
-    (on : AreOnBus roots s c t windows overs [] b.secondary items) (new : List (Option Extent)) where
-  leaves : (q : Request) → q.roots ≡ roots → AreOpenOver q s overs → IsLeaving roots s q nothing overs []
-  leaves q same over = record { rooted = same; overs_are = over; keeps_is = none_kept s }
+module _ (p : Classing) (c : WindowKind) (b : Bridge) (windows : List (Option Extent)) (items : List Item)
+    (on : AreOnBus record { classing = p; class = c; bus = b.secondary; windows = windows; kept = [] } items) (new : List (Option Extent)) where
+  -- what is behind the bridge where nothing keeps its place
+  abbrev behind_it : Listing
+  behind_it = record { classing = p; class = c; bus = b.secondary; windows = windows; kept = [] }
 
-  pub none_put : length items ≡ 0 → new ≡ set windows b.secondary None → IsPut roots s c t overs b windows new true
+  abbrev of_all : Request → (Function → ExtentValue) → Asking
+  of_all q extent = record { request = q; keeps = nothing; extent = extent }
+
+  listed : (q : Request) (extent : Function → ExtentValue) → IsLeft p q → AreBehind q p.system c extent b.secondary windows → IsListingOf (of_all q extent) behind_it
+  listed q extent left behind = record { left = left; keeps_is = none_kept p.system; behind = behind }
+
+  pub none_put : length items ≡ 0 → new ≡ set windows b.secondary None → IsPut p c b windows new true
   none_put empty put = record {
     entry = None;
     put = put;
     lawful = tt;
-    is = λ q extent same over behind. count_is roots s c t windows overs [] b.secondary items on q nothing extent (leaves q same over) behind ∙ empty;
+    is = λ q extent left behind. count_is behind_it items on (of_all q extent) (listed q extent left behind) ∙ empty;
   }
 
   module _ (some : 0 < length items) (upper : Bool) (is_upper : upper ≡ (same_class c PrefetchWindow && is_wide_in b.windows.pref)) where
-    around_is : (q : Request) (extent : Function → ExtentValue) → q.roots ≡ roots → AreOpenOver q s overs → AreBehind q s c extent b.secondary t windows → (window : Option Extent) → IsAroundItems c upper items window
-        → IsAround (around_bus q s c extent b) window
-    around_is q extent same over behind window around =
+    around_is : (q : Request) (extent : Function → ExtentValue) → IsLeft p q → AreBehind q p.system c extent b.secondary windows → (window : Option Extent) → IsAroundItems c upper items window
+        → IsAround (around_bus q p.system c extent b) window
+    around_is q extent left behind window around =
         subst (λ xs. IsAround (extent_around (page_size c) (same_class c PrefetchWindow && is_wide_in b.windows.pref) (map item_extent xs)) window)
-        (turn_is roots s c t windows overs [] b.secondary items on q nothing extent (leaves q same over) behind)
-        (subst (λ w. IsAround (extent_around (page_size c) w (map item_extent (in_turn (map (item_value s c) items)))) window) is_upper
-        (around (item_value s c) (λ i. refl) (values_rise roots s c t windows overs [] b.secondary items on q nothing extent (leaves q same over) behind)))
+        (turn_is behind_it items on (of_all q extent) (listed q extent left behind))
+        (subst (λ w. IsAround (extent_around (page_size c) w (map item_extent (in_turn (map (item_value p.system c) items)))) window) is_upper
+        (around (item_value p.system c) (λ i. refl) (values_rise behind_it items on (of_all q extent) (listed q extent left behind))))
 
-    some_count : (q : Request) (extent : Function → ExtentValue) → q.roots ≡ roots → AreOpenOver q s overs → AreBehind q s c extent b.secondary t windows → 0 < length (items_on q s c nothing extent b.secondary)
-    some_count q extent same over behind = let e = count_is roots s c t windows overs [] b.secondary items on q nothing extent (leaves q same over) behind in omega (arith, e, some)
+    some_count : (q : Request) (extent : Function → ExtentValue) → IsLeft p q → AreBehind q p.system c extent b.secondary windows → 0 < length (items_on q p.system c nothing extent b.secondary)
+    some_count q extent left behind = let e = count_is behind_it items on (of_all q extent) (listed q extent left behind) in omega (arith, e, some)
 
-    pub some_put : (window : Extent) → IsExtent window → IsAroundItems c upper items (Some window) → new ≡ set windows b.secondary (Some window) → IsPut roots s c t overs b windows new true
+    pub some_put : (window : Extent) → IsExtent window → IsAroundItems c upper items (Some window) → new ≡ set windows b.secondary (Some window) → IsPut p c b windows new true
     some_put window lawful around put = record {
       entry = Some window;
       put = put;
       lawful = lawful;
-      is = λ q extent same over behind. (some_count q extent same over behind, around_is q extent same over behind (Some window) around);
+      is = λ q extent left behind. (some_count q extent left behind, around_is q extent left behind (Some window) around);
     }
 
-    pub large_put : IsAroundItems c upper items None → new ≡ windows → IsPut roots s c t overs b windows new false
+    pub large_put : IsAroundItems c upper items None → new ≡ windows → IsPut p c b windows new false
     large_put around put = (
       put,
-      λ q extent same over behind. record {
-        some = some_count q extent same over behind;
-        large = around_is q extent same over behind None around;
+      λ q extent left behind. record {
+        some = some_count q extent left behind;
+        large = around_is q extent left behind None around;
       },
     )

@@ -24,7 +24,7 @@ use Rattle.pci_settle.specs.declared.kept.Kept.{Kept}
 use Rattle.pci_settle.specs.declared.over.Over.{Over}
 use Rattle.pci_settle.specs.declared.own.Terms.{Terms}
 use Rattle.pci_settle.specs.Kept.{kept_of}
-use Rattle.pci_settle.specs.Own.{bar_items, rom_item, rom_items, window_items, record_items, item_value, IsWindowOf, IsAsked, AreByRank}
+use Rattle.pci_settle.specs.Own.{bar_items, rom_item, rom_items, window_items, situation, record_items, item_value, IsWindowOf, IsAsked, AreByRank}
 use Rattle.pci_settle.proofs.OwnItems.{bars_are, values_are, items_are}
 
 -- the rank of register 0 of a slot
@@ -54,7 +54,7 @@ single_rank : (i : ItemValue) → AllPairs HasLowerRank (i ∷ [])
 single_rank i = pairs_cons HasLowerRank i [] (λ j listed. absurd (in_nil j listed)) (pairs_nil HasLowerRank)
 
 module _ (q : Request) (s : System) (c : WindowKind) (keeps : Region → Bool) (extent : Function → ExtentValue) (f : Function) (k : ℕ) (over : Over) (t : Terms) (window : Option Extent) (kept : Kept) (r : Record)
-    (asked : IsAsked q s c keeps extent f k over t window kept r) where
+    (asked : IsAsked record { request = q; keeps = keeps; extent = extent } s f (situation k c over t window kept) r) where
   abbrev kind : ℕ
   kind = layout f.image
 
@@ -177,14 +177,14 @@ module _ (q : Request) (s : System) (c : WindowKind) (keeps : Region → Bool) (
         | inr at_rom ↦ (let b = rom_at r.rom j at_rom in let up = bar_below_rom kind bar.0 less in omega (arith, a, b, up))
       ]
 
-  items_rise : AllPairs HasLowerRank (map (item_value s c) (record_items k c over t window kept r))
+  items_rise : AllPairs HasLowerRank (map (item_value s c) (record_items (situation k c over t window kept) r))
   items_rise =
       subst (AllPairs HasLowerRank) (sym (values_are q s c keeps extent f k over t window kept r asked))
       (pairs_append HasLowerRank bar_values (window_values ++ rom_values) bars_rise
       (pairs_append HasLowerRank window_values rom_values (window_rises window) (rom_rises r.rom) below_rom) below_rest)
 
   -- they are of the registers of a slot
-  pub items_in_slot : (i : ItemValue) → Contains (map (item_value s c) (record_items k c over t window kept r)) i → (first_rank f ≤ rank i.region) × (rank i.region < first_rank f + 256)
+  pub items_in_slot : (i : ItemValue) → Contains (map (item_value s c) (record_items (situation k c over t window kept) r)) i → (first_rank f ≤ rank i.region) × (rank i.region < first_rank f + 256)
   items_in_slot i listed =
       let few = bars_few kind in
       let low = rom_low kind in
@@ -197,5 +197,5 @@ module _ (q : Request) (s : System) (c : WindowKind) (keeps : Region → Bool) (
         ]
       ]
 
-  pub items_by_rank : AreByRank (map (item_value s c) (record_items k c over t window kept r)) (items_of q s c keeps extent f)
+  pub items_by_rank : AreByRank (map (item_value s c) (record_items (situation k c over t window kept) r)) (items_of q s c keeps extent f)
   items_by_rank = record { same = items_are q s c keeps extent f k over t window kept r asked; rising = items_rise }

@@ -7,18 +7,17 @@ use Rattle.pci_spec.specs.Bus.{secondary}
 use Rattle.plan_spec.specs.Plan.{same_class}
 use Rattle.settle_spec.specs.FirstPlace.{Extent as ExtentValue}
 use Rattle.settle_spec.specs.Lists.{Request}
+use Rattle.settle_spec.specs.Parts.{Region}
 use Rattle.settle_spec.specs.Items.{Item as ItemValue, has_of, items_on, nothing, extent_around, new_window, window_to}
 use Rattle.pci_function.specs.declared.record.Bridge.{Bridge}
 use Rattle.pci_place.specs.Above.{is_wide_in}
 use Rattle.pci_place.specs.Items.{function_in}
 use Rattle.pci_settle.specs.declared.extent.Extent.{Extent}
-use Rattle.pci_settle.specs.declared.over.OpenWindows.{OpenWindows}
 use Rattle.pci_settle.specs.declared.own.Terms.{Terms}
-use Rattle.pci_settle.specs.Over.{AreOpenOver}
 use Rattle.pci_settle.specs.Spots.{extent_value, IsExtent}
 use Rattle.pci_settle.specs.Placings.{item_extent}
-use Rattle.pci_settle.specs.Own.{AreTerms, IsWindowOf}
-use Rattle.pci_settle.specs.Buses.{AreBehind}
+use Rattle.pci_settle.specs.Own.{AreTerms, Asking, IsWindowOf}
+use Rattle.pci_settle.specs.Buses.{AreBehind, Classing, IsLeft}
 
 -- ---- of one bridge
 
@@ -39,24 +38,24 @@ IsEntry items around None = length items ≡ 0
 IsEntry items around (Some x) = (0 < length items) × (extent_value x ≡ around)
 
 -- what holds of the items behind a bridge, whatever is asked for
-abbrev pub OfItems : List ℕ → System → WindowKind → Terms → List OpenWindows → List (Option Extent) → Bridge → (List ItemValue → ExtentValue → Type 0) → Type 0
-OfItems roots s c t overs windows b holds =
-    (q : Request) (extent : Function → ExtentValue) → q.roots ≡ roots → AreOpenOver q s overs
-    → AreBehind q s c extent b.secondary t windows
-    → holds (items_on q s c nothing extent b.secondary) (around_bus q s c extent b)
+abbrev pub OfItems : Classing → WindowKind → List (Option Extent) → Bridge → (List ItemValue → ExtentValue → Type 0) → Type 0
+OfItems p c windows b holds =
+    (q : Request) (extent : Function → ExtentValue) → IsLeft p q
+    → AreBehind q p.system c extent b.secondary windows
+    → holds (items_on q p.system c nothing extent b.secondary) (around_bus q p.system c extent b)
 
 -- the entry of the bus behind a bridge is put into a table
-pub record IsWindowPut (roots : List ℕ) (s : System) (c : WindowKind) (t : Terms)
-    (overs : List OpenWindows) (b : Bridge) (old new : List (Option Extent)) : Type 0 where
+pub record IsWindowPut (p : Classing) (c : WindowKind) (b : Bridge)
+    (old new : List (Option Extent)) : Type 0 where
   pub entry : Option Extent
   pub put : new ≡ set old b.secondary entry
   pub lawful : IfSome entry IsExtent
-  pub is : OfItems roots s c t overs old b (λ items around. IsEntry items around entry)
+  pub is : OfItems p c old b (λ items around. IsEntry items around entry)
 
 -- where it has fewer than 2^64 addresses
-abbrev pub IsPut : List ℕ → System → WindowKind → Terms → List OpenWindows → Bridge → List (Option Extent) → List (Option Extent) → Bool → Type 0
-IsPut roots s c t overs b old new true = IsWindowPut roots s c t overs b old new
-IsPut roots s c t overs b old new false = (new ≡ old) × OfItems roots s c t overs old b AreTooLarge
+abbrev pub IsPut : Classing → WindowKind → Bridge → List (Option Extent) → List (Option Extent) → Bool → Type 0
+IsPut p c b old new true = IsWindowPut p c b old new
+IsPut p c b old new false = (new ≡ old) × OfItems p c old b AreTooLarge
 
 -- ---- of all bridges
 
@@ -66,13 +65,6 @@ pub record IsAnew (q : Request) (roots : List ℕ) (t : Terms) : Type 0 where
   pub anew : IsTrue q.anew
   pub terms : AreTerms q.lists t
 
--- these open windows tell the classes of what is asked for below these roots, in lists that tell this
-pub record IsLeft (roots : List ℕ) (s : System) (t : Terms) (overs : List OpenWindows)
-    (q : Request) : Type 0 where
-  pub rooted : q.roots ≡ roots
-  pub terms : AreTerms q.lists t
-  pub overs_are : AreOpenOver q s overs
-
 -- the window in a table over a bus
 abbrev pub window_in : List (Option Extent) → ℕ → Option ExtentValue
 window_in windows bus = option_map extent_value (slice_index_or windows bus None)
@@ -81,7 +73,12 @@ window_in windows bus = option_map extent_value (slice_index_or windows bus None
 pub record HasNewWindows (q : Request) (s : System) (c : WindowKind) (t : Terms)
     (windows : List (Option Extent)) : Type 0 where
   pub over : (bus : ℕ) → bus < 256 → window_in windows bus ≡ window_to q s c bus
-  pub behind : (bus : ℕ) → AreBehind q s c (new_window q s c) bus t windows
+  pub terms : AreTerms q.lists t
+  pub behind : (bus : ℕ) → AreBehind q s c (new_window q s c) bus windows
+
+-- what is asked for, with the new windows of a class
+abbrev pub asking_of : Request → System → WindowKind → (Region → Bool) → Asking
+asking_of q s c keeps = record { request = q; keeps = keeps; extent = new_window q s c }
 
 -- the new window of a function has 2^64 addresses or more
 pub record IsTooLarge (q : Request) (s : System) (c : WindowKind) (k : ℕ) : Type 0 where
@@ -99,8 +96,8 @@ pub record IsLastTooLarge (q : Request) (s : System) (c : WindowKind) (windows :
       (slice_index_or windows (secondary (function_in s j)) None)
 
 -- the table has the new window over each bus, or a bridge is named whose new window has 2^64 addresses or more
-abbrev pub AreNewWindows : List ℕ → System → WindowKind → Terms → List OpenWindows → List (Option Extent) → Option ℕ → Type 0
-AreNewWindows roots s c t overs windows None =
-    (q : Request) → IsLeft roots s t overs q → HasNewWindows q s c t windows
-AreNewWindows roots s c t overs windows (Some k) =
-    (q : Request) → IsLeft roots s t overs q → IsLastTooLarge q s c windows k
+abbrev pub AreNewWindows : Classing → WindowKind → List (Option Extent) → Option ℕ → Type 0
+AreNewWindows p c windows None =
+    (q : Request) → IsLeft p q → HasNewWindows q p.system c p.terms windows
+AreNewWindows p c windows (Some k) =
+    (q : Request) → IsLeft p q → IsLastTooLarge q p.system c windows k

@@ -132,10 +132,27 @@ window_items k c kept (Some e) =
     if kept_of kept (Window c) then []
     else record { function = k; part = parts.Window; extent = e } ∷ []
 
+-- ---- all of them
+
+-- what the items of a record are found by: its place among the records, a class, what is over its bus, what is told of the
+-- lists, its new window, and what keeps its place
+pub record Situation : Type 0 where
+  pub place : ℕ
+  pub class : WindowKind
+  pub over : Over
+  pub terms : Terms
+  pub window : Option Extent
+  pub kept : Kept
+
+abbrev pub situation : ℕ → WindowKind → Over → Terms → Option Extent → Kept → Situation
+situation k c over t window kept =
+    record { place = k; class = c; over = over; terms = t; window = window; kept = kept }
+
 -- in the order of their registers
-abbrev pub record_items : ℕ → WindowKind → Over → Terms → Option Extent → Kept → Record → List Item
-record_items k c over t window kept r =
-    bar_items k c over t kept r.bars.items ++ (window_items k c kept window ++ rom_items k c kept r.rom)
+abbrev pub record_items : Situation → Record → List Item
+record_items o r =
+    bar_items o.place o.class o.over o.terms o.kept r.bars.items
+    ++ (window_items o.place o.class o.kept o.window ++ rom_items o.place o.class o.kept r.rom)
 
 -- ---- their values
 
@@ -156,17 +173,21 @@ abbrev pub IsWindowOf : Bool → ExtentValue → Option Extent → Type 0
 IsWindowOf there e None = there ≡ false
 IsWindowOf there e (Some x) = IsTrue there × (extent_value x ≡ e)
 
+-- what is asked for, which parts keep their places, and the extents of new windows
+pub record Asking : Type 0 where
+  pub request : Request
+  pub keeps : Region → Bool
+  pub extent : Function → ExtentValue
+
 -- the record is that of a function of a system, with these windows over it, this new one, and what keeps its place
-pub record IsAsked (q : Request) (s : System) (c : WindowKind) (keeps : Region → Bool) (extent : Function → ExtentValue)
-    (f : Function) (k : ℕ) (over : Over) (t : Terms) (window : Option Extent) (kept : Kept)
-    (r : Record) : Type 0 where
-  pub terms : AreTerms q.lists t
+pub record IsAsked (a : Asking) (s : System) (f : Function) (o : Situation) (r : Record) : Type 0 where
+  pub terms : AreTerms a.request.lists o.terms
   pub is : IsRecordOf s f r
-  pub here : function_in s k ≡ f
-  pub over_is : IsOver q s f.slot.bus over
-  pub new : IsWindowOf (is_bridge f && has_of q s c f) (extent f) window
+  pub here : function_in s o.place ≡ f
+  pub over_is : IsOver a.request s f.slot.bus o.over
+  pub new : IsWindowOf (is_bridge f && has_of a.request s o.class f) (a.extent f) o.window
   pub keeps_is : (part : Part) → IsTrue (has_part f part)
-      → kept_of kept part ≡ keeps record { function = f; part = part }
+      → kept_of o.kept part ≡ a.keeps record { function = f; part = part }
 
 -- the items of a list, by rising slots and registers
 pub record AreByRank (items all : List ItemValue) : Type 0 where
@@ -174,9 +195,8 @@ pub record AreByRank (items all : List ItemValue) : Type 0 where
   pub rising : AllPairs HasLowerRank items
 
 -- then its items are those of the function
-abbrev pub AreItemsOf : ℕ → WindowKind → Over → Terms → Option Extent → Kept → Record → Type 0
-AreItemsOf k c over t window kept r =
-    (q : Request) (s : System) (keeps : Region → Bool) (extent : Function → ExtentValue) (f : Function)
-    → IsAsked q s c keeps extent f k over t window kept r
-    → AreByRank (map (item_value s c) (record_items k c over t window kept r))
-    (items_of q s c keeps extent f)
+abbrev pub AreItemsOf : Situation → Record → Type 0
+AreItemsOf o r =
+    (a : Asking) (s : System) (f : Function) → IsAsked a s f o r
+    → AreByRank (map (item_value s o.class) (record_items o r))
+    (items_of a.request s o.class a.keeps a.extent f)

@@ -8,7 +8,7 @@ ghost use Rattle.pci_tree.specs.Outline.{RiseBySlot};
 ghost use Rattle.pci_base.specs.WindowKinds.{kind_value};
 ghost use Rattle.pci_place.specs.Above.{AreAboves, system_in};
 ghost use Rattle.pci_settle.specs.Kept.{kept_of, nothing_kept};
-ghost use Rattle.pci_settle.specs.Buses.{window_behind, AreWindows, AreBelow, AreOnBus, AreInTurn};
+ghost use Rattle.pci_settle.specs.Buses.{window_behind, AreWindows, listing_of, AreBelow, AreOnBus, AreInTurn};
 ghost use Rattle.pci_settle.specs.Turns.{HasExtent};
 
 use crate::extent::Extent;
@@ -71,10 +71,10 @@ fn add_bus<A: Allocator, B: Allocator>(
     requires { AreAboves (system_in admitted.now) aboves.now }
     // of the items of a bus, one of which this is, those on lower buses were there
     ensures { OnOk result ((on : ℕ) → IsTrue (are_siblings admitted.now.roots on bus)
-        → AreBelow admitted.now.roots (system_in admitted.now) (kind_value class) terms windows.now
-        left.now.over.now left.now.kept.now on bus items.old.items
-        → AreBelow admitted.now.roots (system_in admitted.now) (kind_value class) terms windows.now
-        left.now.over.now left.now.kept.now on (bus + 1) items.new.items) }
+        → AreBelow (listing_of admitted.now (kind_value class) on terms windows.now left.now)
+        bus items.old.items
+        → AreBelow (listing_of admitted.now (kind_value class) on terms windows.now left.now)
+        (bus + 1) items.new.items) }
 {
     let records = admitted.outline().records();
     let over = Over {
@@ -104,10 +104,10 @@ fn add_roots<A: Allocator, B: Allocator>(
 ) -> Result<(), OutOfMemory>
     requires { AreAboves (system_in admitted.now) aboves.now }
     ensures { OnOk result ((on : ℕ) → IsTrue (is_root admitted.now.roots on)
-        → AreBelow admitted.now.roots (system_in admitted.now) (kind_value class) terms windows.now
-        left.now.over.now left.now.kept.now on 0 items.old.items
-        → AreBelow admitted.now.roots (system_in admitted.now) (kind_value class) terms windows.now
-        left.now.over.now left.now.kept.now on 256 items.new.items) }
+        → AreBelow (listing_of admitted.now (kind_value class) on terms windows.now left.now)
+        0 items.old.items
+        → AreBelow (listing_of admitted.now (kind_value class) on terms windows.now left.now)
+        256 items.new.items) }
 {
     let roots = admitted.outline().roots();
     for bus in 0..BUSES {
@@ -132,8 +132,8 @@ pub fn items_on<A: Allocator, B: Allocator>(
     left: &Left,
 ) -> Result<Vec<Item, A>, OutOfMemory>
     requires { AreAboves (system_in admitted.now) aboves.now }
-    ensures items { IfOk result (λ items. AreOnBus admitted.now.roots (system_in admitted.now)
-        (kind_value class) terms windows.now left.now.over.now left.now.kept.now bus items.items) }
+    ensures items { IfOk result (λ items. AreOnBus
+        (listing_of admitted.now (kind_value class) bus terms windows.now left.now) items.items) }
     // a window around them is laid out from what has addresses and alignments
     ensures lawful { AreWindows windows.now → IfOk result (λ items. All HasExtent items.items) }
 {
@@ -161,8 +161,8 @@ pub fn items_in_turn<A: Allocator + Copy, B: Allocator>(
     left: &Left,
 ) -> Result<Vec<Item, A>, OutOfMemory>
     requires { AreAboves (system_in admitted.now) aboves.now }
-    ensures turn { IfOk result (λ items. AreInTurn admitted.now.roots (system_in admitted.now)
-        (kind_value class) terms windows.now left.now.over.now left.now.kept.now bus items.items) }
+    ensures turn { IfOk result (λ items. AreInTurn
+        (listing_of admitted.now (kind_value class) bus terms windows.now left.now) items.items) }
     // places are looked for by sizes and alignments
     ensures lawful { AreWindows windows.now → IfOk result (λ items. All HasExtent items.items) }
 {

@@ -4,7 +4,7 @@ ghost use Rattle.pci_spec.specs.Window.{PrefetchWindow};
 ghost use Rattle.plan_spec.specs.Plan.{same_class};
 ghost use Rattle.pci_base.specs.WindowKinds.{kind_value};
 ghost use Rattle.pci_place.specs.Above.{AreAboves, system_in, is_wide_in};
-ghost use Rattle.pci_settle.specs.Buses.{AreWindows};
+ghost use Rattle.pci_settle.specs.Buses.{AreWindows, classing_of};
 ghost use Rattle.pci_settle.specs.NewWindows.{IsPut, AreNewWindows};
 
 use crate::bus::items_on;
@@ -46,8 +46,8 @@ fn put_window<A: Allocator + Copy, B: Allocator>(
 ) -> Result<bool, OutOfMemory>
     requires above { AreAboves (system_in admitted.now) aboves.now }
     requires lawful { AreWindows windows.old }
-    ensures put { IfOk result (IsPut admitted.now.roots (system_in admitted.now)
-        (kind_value class) terms overs.now bridge.now windows.old windows.new) }
+    ensures put { IfOk result (IsPut (classing_of admitted.now terms overs.now)
+        (kind_value class) bridge.now windows.old windows.new) }
     ensures lawful { AreWindows windows.new }
 {
     let bus = bridge.secondary;
@@ -88,8 +88,8 @@ pub fn new_windows<A: Allocator + Copy, B: Allocator>(
 ) -> Result<Option<usize>, OutOfMemory>
     // the class of a BAR hangs on the windows of the bridges above it
     requires { AreAboves (system_in admitted.now) aboves.now }
-    ensures windows { IfOk result (AreNewWindows admitted.now.roots (system_in admitted.now)
-        (kind_value class) terms overs.now windows.new) }
+    ensures windows { IfOk result (AreNewWindows (classing_of admitted.now terms overs.now)
+        (kind_value class) windows.new) }
     // what is in the table has addresses and an alignment, also where there was no memory for all
     ensures lawful { AreWindows windows.new }
 {

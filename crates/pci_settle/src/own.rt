@@ -7,7 +7,7 @@ ghost use Rattle.settle_spec.specs.Lists as lists;
 ghost use Rattle.pci_base.specs.WindowKinds.{kind_value};
 ghost use Rattle.pci_place.specs.Pools.{pools_value};
 ghost use Rattle.pci_settle.specs.Lists.{root_range_value, lists_value};
-ghost use Rattle.pci_settle.specs.Own.{AreTerms, pools_to, class_anew, class_of, bar_number, is_left_bar, is_own_bar, IsSpanned, IsSized, bar_item, bar_items, rom_item, rom_items, window_items, record_items, AreItemsOf};
+ghost use Rattle.pci_settle.specs.Own.{AreTerms, pools_to, class_anew, class_of, bar_number, is_left_bar, is_own_bar, IsSpanned, IsSized, bar_item, bar_items, rom_item, rom_items, window_items, situation, record_items, AreItemsOf};
 
 use crate::extent::Extent;
 use crate::item::{Item, Part};
@@ -243,9 +243,11 @@ pub fn add_items<A: Allocator>(
     requires bars { All IsSized «record».now.bars.items }
     requires rom { IfSome «record».now.rom (λ rom. IsSpanned rom.first rom.last) }
     ensures items { OnOk result (items.new.items ≡ items.old.items
-        ++ record_items function (kind_value class) over.now terms window kept.now «record».now) }
+        ++ record_items (situation function (kind_value class) over.now terms window kept.now)
+        «record».now) }
     // they are those of the definitions, whatever system the record is of
-    ensures exact { AreItemsOf function (kind_value class) over.now terms window kept.now «record».now }
+    ensures exact { AreItemsOf (situation function (kind_value class) over.now terms window kept.now)
+        «record».now }
 {
     add_bars(
         items,

@@ -130,9 +130,11 @@ still_none s start table count none kept k f d part at there of =
 module _ (roots : List ℕ) (s : System) (l : Lists) (t : Terms) (terms : AreTerms l t) (left : Left) (held : List Held) (are : AreHeldIn roots s l left.kept.now held) (st : Staying) (left_is : st.left ≡ left) (held_is : st.held.now ≡ held) where
   stay_of : (q : Request) → IsLeaving q roots s l left → IsStaying q (setting roots s t st)
   stay_of q leaving = record {
-    rooted = leaving.rooted;
-    terms = subst (λ x. AreTerms x t) (sym leaving.lists) terms;
-    overs_are = subst (λ (x : Left). AreOpenOver q s x.over.now) (sym left_is) leaving.overs_are;
+    left = record {
+      rooted = leaving.rooted;
+      terms = subst (λ x. AreTerms x t) (sym leaving.lists) terms;
+      overs_are = subst (λ (x : Left). AreOpenOver q s x.over.now) (sym left_is) leaving.overs_are;
+    };
     keeps_is = subst (λ (x : Left). AreKept s (stays q s) x.kept.now) (sym left_is) leaving.keeps_is;
     held_is = subst (AreHeld q s) (sym held_is) (are q leaving.rooted leaving.lists leaving.keeps_is);
   }

@@ -42,7 +42,7 @@ slice_back len new old same long =
 module _ (roots : List ℕ) (s : System) (system : IsSystem s) (space : Space) (t : Terms) (st : Staying) (w : SpaceWindows) (bus : ℕ) (candidates : List Candidate) (are : AreCandidatesOf (pass roots s space t st w) bus candidates)
     (rs : List ℕ) (rs_are : rs ≡ roots) (slice : List Candidate) (slice_is : slice ≡ candidates) (wanted : List Wanted) (wanted_is : wanted ≡ map (wanted_value rs s) slice) where
   wanted_own : (q : Request) → IsStaying q (setting roots s t st) → wanted ≡ map (wanted_value q.roots s) candidates
-  wanted_own q stay = wanted_is ∙ ap (λ xs. map (wanted_value xs s) slice) (rs_are ∙ sym stay.rooted) ∙ ap (map (wanted_value q.roots s)) slice_is
+  wanted_own q stay = wanted_is ∙ ap (λ xs. map (wanted_value xs s) slice) (rs_are ∙ sym stay.left.rooted) ∙ ap (map (wanted_value q.roots s)) slice_is
 
   module _ (known : KnowsWindows (pass roots s space t st w)) where
     abbrev q0 : Request
@@ -58,7 +58,7 @@ module _ (roots : List ℕ) (s : System) (system : IsSystem s) (space : Space) (
       pub all_lawful : (count : ℕ) → 3 ≤ count → (is_root roots bus ≡ true → count ≡ 768) → All IsLawful candidates → All (HasList count) ws
       all_lawful count some all lawful =
           subst (All (HasList count)) (sym ws_are)
-          (wanted_lawful q0 s system space bus candidates here wanted (wanted_own q0 known.stay) count some (λ root. all (subst (λ xs. is_root xs bus ≡ true) known.stay.rooted root)) no_candidate lawful)
+          (wanted_lawful q0 s system space bus candidates here wanted (wanted_own q0 known.stay) count some (λ root. all (subst (λ xs. is_root xs bus ≡ true) known.stay.left.rooted root)) no_candidate lawful)
 
       module _ (places : List ℕ) (lack : Option ℕ) (final : List ℕ) (final_is : final ≡ places) where
         pub within_in : All IsLawful candidates → length places ≡ length candidates → IfSome lack (λ k. k < length ws) → IfNone lack (AreEnding ws places (length ws)) → AreWithin s candidates final lack
@@ -82,7 +82,7 @@ module _ (roots : List ℕ) (s : System) (system : IsSystem s) (space : Space) (
             ap (λ ps. bus_placing s candidates ps lack) final_is
             ∙ sym (placing (ranges_for q s placed) values want)
             ∙ same_places (ranges_for q s placed) values (map decoded_range_of taken) (taken_at q s space bus) (aligned values candidates refl lawful)
-            (same_taken st.held.now n space taken is_taken q s stay.held_is bus (n_is ∙ ap (λ xs. cond (is_root xs bus) 0 (bus + 1)) (rs_are ∙ sym stay.rooted)))
+            (same_taken st.held.now n space taken is_taken q s stay.held_is bus (n_is ∙ ap (λ xs. cond (is_root xs bus) 0 (bus + 1)) (rs_are ∙ sym stay.left.rooted)))
             ∙ ap (place_all (ranges_for q s placed) (taken_at q s space bus)) items
           where
             aligned : (values : List ItemValue) (cs : List Candidate) → map (candidate_value s) cs ≡ values → All IsLawful cs → (i : ItemValue) → Contains values i → 0 < i.extent.alignment
@@ -95,6 +95,6 @@ pub root_places : {V : Type 0} (f : V → List Range) (roots : List ℕ) (s : Sy
     → (q : Request) → IsStaying q (setting roots s t st) → q.lists ≡ l → HasSpaceWindows q s space t w → placing ≡ placing_on q s space root
 root_places f roots s system nested space l t st w root low is_one rs rs_are all slice slice_is columns placing are q stay same has =
     are q (λ over. placed_of (placing_on q s space over)) stay has
-    (root_lists_for q s l space root (map f slice) (λ over. placed_of (placing_on q s space over)) system (subst (λ xs. is_root xs root ≡ true) (sym stay.rooted) is_one) same
-    (subst (λ xs. HasRootColumns xs l space 256 (map f slice)) (rs_are ∙ sym stay.rooted) (subst (λ xs. HasRootColumns rs l space 256 (map f xs)) (sym slice_is) columns)))
-    ∙ sym (placing_by_bus q s system (subst (λ xs. IsNested xs s) (sym stay.rooted) nested) space root low)
+    (root_lists_for q s l space root (map f slice) (λ over. placed_of (placing_on q s space over)) system (subst (λ xs. is_root xs root ≡ true) (sym stay.left.rooted) is_one) same
+    (subst (λ xs. HasRootColumns xs l space 256 (map f slice)) (rs_are ∙ sym stay.left.rooted) (subst (λ xs. HasRootColumns rs l space 256 (map f xs)) (sym slice_is) columns)))
+    ∙ sym (placing_by_bus q s system (subst (λ xs. IsNested xs s) (sym stay.left.rooted) nested) space root low)

@@ -77,7 +77,7 @@ roots_noted roots s space l t st w root low is_one old new lack placing are note
       let is = are q stay same has in
       record {
         small = low;
-        on = subst (λ xs. is_root xs root ≡ true) (sym stay.rooted) is_one;
+        on = subst (λ xs. is_root xs root ≡ true) (sym stay.left.rooted) is_one;
         noted = subst (λ p. NotesOf s (placed_of p) old new) is noted;
         lacking = lacking ∙ ap (λ p. first_lack p None) is;
       }),
@@ -103,7 +103,7 @@ behind_noted roots s space t st w b off k old new within e own own_is plain pref
     let same : windows_by st old k d b ≡ windows =
     fun_ext (λ c. ap (λ x. window_at (get_or st.left.kept.now k nothing_kept) b x c) (get_or_default old k d e within)
     ∙ ap (λ on. cond on (passes.range_in (window_of b.windows c)) (option_map decoded_range_of (range_in p (Window c)))) (sym (own_is (Window c)))) in
-    let for = window_lists_for q s space placed b.secondary plain prefetch windows (ap (λ rs. is_root rs b.secondary) stay.rooted ∙ off) plain_is prefetch_is
+    let for = window_lists_for q s space placed b.secondary plain prefetch windows (ap (λ rs. is_root rs b.secondary) stay.left.rooted ∙ off) plain_is prefetch_is
     (subst (HasWindowsOver q s space placed b.secondary) same over) in
     subst (λ r. NotesOf s (placed_of r) old new) (subst (λ ls. ArePlacesIn (pass roots s space t st w) b.secondary ls placing) lists_are are q placed stay has for) (noted system)
 
@@ -117,7 +117,7 @@ pub record IsSpaceTo (roots : List ℕ) (s : System) (space : Space) (l : Lists)
 
 module _ (roots : List ℕ) (s : System) (system : IsSystem s) (nested : IsNested roots s) (space : Space) (l : Lists) (t : Terms) (st : Staying) (w : SpaceWindows) (known : KnowsRequest (setting roots s t st) l) (windows : HasWindowsIn (pass roots s space t st w)) where
   nested_for : (q : Request) → IsStaying q (setting roots s t st) → IsNested q.roots s
-  nested_for q stay = subst (λ xs. IsNested xs s) (sym stay.rooted) nested
+  nested_for q stay = subst (λ xs. IsNested xs s) (sym stay.left.rooted) nested
 
   abbrev q1 : Request
   q1 = known.request
@@ -130,7 +130,7 @@ module _ (roots : List ℕ) (s : System) (system : IsSystem s) (nested : IsNeste
   pub roots_lack : (old new : List Places) (lack : Option Candidate) → AreNotedOnRoots (pass roots s space t st w) l old new lack → (q : Request) → IsStaying q (setting roots s t st) → q.lists ≡ l → HasSpaceWindows q s space t w
       → space_lack q s space q.roots ≡ option_map (candidate_value s) lack
   roots_lack old new lack (inl none) q stay same has =
-      ap (space_lack q s space) (stay.rooted ∙ none.none) ∙ sym (ap (option_map (candidate_value s)) none.lacking)
+      ap (space_lack q s space) (stay.left.rooted ∙ none.none) ∙ sym (ap (option_map (candidate_value s)) none.lacking)
   roots_lack old new lack (inr (root, are)) q stay same has =
       let noted = are q stay same has in
       lack_same q s space root noted.on q.roots refl ∙ sym noted.lacking
@@ -152,7 +152,7 @@ module _ (roots : List ℕ) (s : System) (system : IsSystem s) (nested : IsNeste
     where
       by_roots : (q : Request) → IsStaying q (setting roots s t st) → q.lists ≡ l → HasSpaceWindows q s space t w → AreNotedOnRoots (pass roots s space t st w) l old new None → IsPlacedTo q s space 0 new
       by_roots q stay same has (inl nowhere) =
-          subst (IsPlacedTo q s space 0) (sym nowhere.same) (placed_nowhere q s system (nested_for q stay) space (stay.rooted ∙ nowhere.none) old none)
+          subst (IsPlacedTo q s space 0) (sym nowhere.same) (placed_nowhere q s system (nested_for q stay) space (stay.left.rooted ∙ nowhere.none) old none)
       by_roots q stay same has (inr (root, are)) =
           let noted = are q stay same has in
           placed_roots q s system (nested_for q stay) space root noted.small noted.on old new none noted.noted
@@ -184,7 +184,7 @@ module _ (roots : List ℕ) (s : System) (system : IsSystem s) (nested : IsNeste
 
       -- the bus behind it is no root
       pub bus_off : is_root roots b.secondary ≡ false
-      bus_off = ap (λ rs. is_root rs b.secondary) (sym known.stay.rooted) ∙ ap (is_root q1.roots) leads_to ∙ no_root q1 s system (nested_for q1 known.stay) space n here.f here.at is_one
+      bus_off = ap (λ rs. is_root rs b.secondary) (sym known.stay.left.rooted) ∙ ap (is_root q1.roots) leads_to ∙ no_root q1 s system (nested_for q1 known.stay) space n here.f here.at is_one
 
       pub space_more : (new : List Places) → length new ≡ length old → AreNotedBehind (pass roots s space t st w) n b old new → IsSpaceTo roots s space l t st w (n + 1) start new
       space_more new size are = record {

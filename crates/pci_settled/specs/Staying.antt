@@ -1,5 +1,5 @@
 -- What places are found by, and what is asked for that leaves it so.
-use Rattle.std.specs.Prelude.{◌≡◌, ℕ, List}
+use Rattle.std.specs.Prelude.{ℕ, List}
 use Rattle.pci_spec.specs.System.{System}
 use Rattle.settle_spec.specs.Lists.{Request}
 use Rattle.settle_spec.specs.Items.{stays}
@@ -7,8 +7,7 @@ use Rattle.pci_tree.specs.Admission.{Admission}
 use Rattle.pci_place.specs.Above.{system_in}
 use Rattle.pci_settle.specs.declared.own.Terms.{Terms}
 use Rattle.pci_settle.specs.Kept.{AreKept}
-use Rattle.pci_settle.specs.Over.{AreOpenOver}
-use Rattle.pci_settle.specs.Own.{AreTerms}
+use Rattle.pci_settle.specs.Buses.{Classing, IsLeft}
 use Rattle.pci_stand.specs.Held.{AreHeld}
 use Rattle.pci_settled.specs.declared.staying.Staying.{Staying}
 
@@ -25,10 +24,17 @@ setting roots s t st = record { roots = roots; system = s; terms = t; staying = 
 abbrev pub setting_of : Admission → Terms → Staying → Setting
 setting_of a t st = setting a.roots (system_in a) t st
 
+-- what it tells classes by
+abbrev pub classing : Setting → Classing
+classing p = record {
+  roots = p.roots;
+  system = p.system;
+  terms = p.terms;
+  overs = p.staying.left.over.now;
+}
+
 -- what is asked for below its roots, in lists that tell its terms, leaves these windows and parts where they stand
 pub record IsStaying (q : Request) (p : Setting) : Type 0 where
-  pub rooted : q.roots ≡ p.roots
-  pub terms : AreTerms q.lists p.terms
-  pub overs_are : AreOpenOver q p.system p.staying.left.over.now
+  pub left : IsLeft (classing p) q
   pub keeps_is : AreKept p.system (stays q p.system) p.staying.left.kept.now
   pub held_is : AreHeld q p.system p.staying.held.now

@@ -25,15 +25,13 @@ use Rattle.pci_base.specs.Space.{space_of}
 use Rattle.pci_place.specs.Items.{no_function}
 use Rattle.pci_place.proofs.Mapped.{kept_same}
 use Rattle.pci_place.proofs.Owned.{map_twice}
-use Rattle.pci_settle.specs.declared.extent.Extent.{Extent}
 use Rattle.pci_settle.specs.declared.item.Item.{Item}
 use Rattle.pci_settle.specs.declared.kept.Kept.{Kept}
-use Rattle.pci_settle.specs.declared.over.OpenWindows.{OpenWindows}
-use Rattle.pci_settle.specs.declared.own.Terms.{Terms}
 use Rattle.pci_settle.specs.declared.placing.Wanted.{Wanted}
 use Rattle.pci_settle.specs.Kept.{part_value, AreKept}
 use Rattle.pci_settle.specs.Own.{item_value}
-use Rattle.pci_settle.specs.Buses.{AreInTurn}
+use Rattle.pci_settle.specs.Buses.{Listing, AreInTurn}
+use Rattle.pci_settle.specs.NewWindows.{asking_of}
 use Rattle.pci_settle.specs.Placings.{HasList, IsWanted, AreWanted, placing_of, lacks_first}
 use Rattle.pci_settle.specs.Turns.{HasExtent}
 use Rattle.pci_settle.proofs.Headers.{filter_same, header_has}
@@ -129,56 +127,56 @@ pub wanted_lawful : (items : List Item) → All HasExtent items → (wanted : Li
 wanted_lawful items lawful wanted is lists one =
     subst (All (HasList lists)) (sym is) (All-map (HasList lists) wanted_value items (λ n d within. record { extent = lawful n d within; list = omega (arith, one) }))
 
-module _ (roots : List ℕ) (s : System) (c : WindowKind) (t : Terms) (overs : List OpenWindows) (windows : List (Option Extent)) (rs : List CodeRegion) (table : List Kept) (bus : ℕ) (range : Range)
-    (items : List Item) (turn : AreInTurn roots s c t windows overs table bus items) (lawful : All HasExtent items) (wanted : List Wanted) (wanted_is : wanted ≡ map wanted_value items)
-    (taken : List Range) (moved : IsPermutation (map region_range (filter (is_taken_on bus (window_space c) table) rs)) taken)
+module _ (l : Listing) (rs : List CodeRegion) (range : Range)
+    (items : List Item) (turn : AreInTurn l items) (lawful : All HasExtent items) (wanted : List Wanted) (wanted_is : wanted ≡ map wanted_value items)
+    (taken : List Range) (moved : IsPermutation (map region_range (filter (is_taken_on l.bus (window_space l.class) l.kept) rs)) taken)
     (lists : List (List Range)) (lists_are : lists ≡ (range ∷ []) ∷ []) (places : List ℕ) (lack : Option ℕ) (within : IfSome lack (λ k. k < length wanted))
     (placing : (ranges : ItemValue → List decoded.Range) (all : List ItemValue) → AreWanted lists ranges all wanted → place_all ranges (map decoded_range_of taken) all ≡ placing_of all places lack) where
   abbrev values : List ItemValue
-  values = map (item_value s c) items
+  values = map (item_value l.classing.system l.class) items
 
   long : length wanted ≡ length items
   long = ap length wanted_is ∙ length-map items wanted_value
 
-  module _ (q : Request) (keeps : Region → Bool) (b : Function) (is : IsRoomOf roots s c t overs windows rs table bus range q keeps b) where
+  module _ (q : Request) (keeps : Region → Bool) (b : Function) (is : IsRoomOf l rs range q keeps b) where
     abbrev in_window : ItemValue → List decoded.Range
-    in_window i = addresses (window_region c b) ∷ []
+    in_window i = addresses (window_region l.class b) ∷ []
 
-    values_are : values ≡ items_on q s c keeps (new_window q s c) bus
-    values_are = turn q keeps (new_window q s c) is.leaving is.behind
+    values_are : values ≡ items_on q l.classing.system l.class keeps (new_window q l.classing.system l.class) l.bus
+    values_are = turn (asking_of q l.classing.system l.class keeps) is.listed
 
     are_wanted : AreWanted lists in_window values wanted
     are_wanted = record {
-      count = length-map items (item_value s c) ∙ sym long;
-      each = λ k i w less. each k i w (let l = long in omega (arith, less, l));
+      count = length-map items (item_value l.classing.system l.class) ∙ sym long;
+      each = λ k i w less. each k i w (let size = long in omega (arith, less, size));
     }
       where
         each : (k : ℕ) (i : ItemValue) (w : Wanted) → k < length items → IsWanted lists in_window (get_or values k i) (get_or wanted k w)
         each k i w less =
             let item = item_at items k less in
-            let value : get_or values k i ≡ item_value s c item.0 = get_or-map (item_value s c) items k item.0 i less ∙ ap (item_value s c) item.1 in
+            let value : get_or values k i ≡ item_value l.classing.system l.class item.0 = get_or-map (item_value l.classing.system l.class) items k item.0 i less ∙ ap (item_value l.classing.system l.class) item.1 in
             let want : get_or wanted k w ≡ wanted_value item.0 = ap (λ ws. get_or ws k w) wanted_is ∙ get_or-map wanted_value items k item.0 w less ∙ ap wanted_value item.1 in
-            subst (λ x. IsWanted lists in_window x (get_or wanted k w)) (sym value) (subst (IsWanted lists in_window (item_value s c item.0)) (sym want) record {
+            subst (λ x. IsWanted lists in_window x (get_or wanted k w)) (sym value) (subst (IsWanted lists in_window (item_value l.classing.system l.class item.0)) (sym want) record {
               extent = refl;
               list = ap (λ r. r ∷ []) (sym is.range_is) ∙ sym (ap (λ ls. map decoded_range_of (get_or ls 0 [])) lists_are);
             })
 
     aligned : (i : ItemValue) → Contains values i → 0 < i.extent.alignment
     aligned i listed =
-        let made : IsMade (item_value s c) items i = in_map_to (item_value s c) items i listed in
+        let made : IsMade (item_value l.classing.system l.class) items i = in_map_to (item_value l.classing.system l.class) items i listed in
         let has = All-contains HasExtent items made.from lawful made.has in
         subst (λ (x : ItemValue). 0 < x.extent.alignment) made.is has.alignment
 
-    pub room_is : (all : Bool) → is_some lack ≡ not all → all ≡ has_places q s keeps b c
+    pub room_is : (all : Bool) → is_some lack ≡ not all → all ≡ has_places q l.classing.system keeps b l.class
     room_is all none =
-        let found = map region_range (filter (is_taken_on bus (window_space c) table) rs) in
+        let found = map region_range (filter (is_taken_on l.bus (window_space l.class) l.kept) rs) in
         sym (placed_where values places lack all none (within_values lack within))
         ∙ ap are_placed (sym (placing in_window values are_wanted))
         ∙ ap are_placed (sym (same_places in_window values (map decoded_range_of found) (map decoded_range_of taken) aligned (have_same found taken moved)))
-        ∙ ap (λ xs. are_placed (place_all in_window xs values)) (taken_is q s c keeps rs table is.parts is.leaving.keeps_is bus is.no_root)
-        ∙ ap (λ xs. are_placed (place_all in_window (taken_on q s c keeps bus) xs)) values_are
-        ∙ ap (λ n. are_placed (place_all in_window (taken_on q s c keeps n) (items_on q s c keeps (new_window q s c) n))) (sym is.bus_is)
+        ∙ ap (λ xs. are_placed (place_all in_window xs values)) (taken_is q l.classing.system l.class keeps rs l.kept is.parts is.listed.keeps_is l.bus is.no_root)
+        ∙ ap (λ xs. are_placed (place_all in_window (taken_on q l.classing.system l.class keeps l.bus) xs)) values_are
+        ∙ ap (λ n. are_placed (place_all in_window (taken_on q l.classing.system l.class keeps n) (items_on q l.classing.system l.class keeps (new_window q l.classing.system l.class) n))) (sym is.bus_is)
       where
         within_values : (o : Option ℕ) → IfSome o (λ k. k < length wanted) → IfSome o (λ k. k < length values)
         within_values None none = tt
-        within_values (Some k) less = (let l = long in let m = length-map items (item_value s c) in omega (arith, less, l, m))
+        within_values (Some k) less = (let size = long in let m = length-map items (item_value l.classing.system l.class) in omega (arith, less, size, m))

@@ -12,23 +12,23 @@ use Rattle.pci_base.specs.declared.window_kind.ByKind.{ByKind}
 use Rattle.pci_base.specs.WindowKinds.{kind_value, by_kind}
 use Rattle.pci_settle.specs.declared.extent.Extent.{Extent}
 use Rattle.pci_settle.specs.declared.kept.Kept.{Kept}
-use Rattle.pci_settle.specs.declared.over.OpenWindows.{OpenWindows}
-use Rattle.pci_settle.specs.declared.own.Terms.{Terms}
 use Rattle.pci_settle.specs.Kept.{kept_of, nothing_kept}
-use Rattle.pci_settle.specs.NewWindows.{IsLeft, HasNewWindows}
+use Rattle.pci_settle.specs.Buses.{Classing, IsLeft}
+use Rattle.pci_settle.specs.NewWindows.{HasNewWindows}
 use Rattle.pci_stand.specs.declared.region.Region.{Region as CodeRegion}
 use Rattle.pci_stand.specs.Boards.{AreOpen}
 use Rattle.pci_stand.specs.Known.{AreParts}
 use Rattle.pci_stand.specs.Tables.{stands_in}
 
 -- what is asked for of a lawful system, with the parts, the open windows and the new ones
-pub record IsAsking (roots : List ℕ) (s : System) (t : Terms) (overs : List OpenWindows)
-    (windows : ByKind (List (Option Extent))) (regions : List CodeRegion) (q : Request) : Type 0 where
-  pub system : IsSystem s
-  pub nested : IsNested q.roots s
-  pub left : IsLeft roots s t overs q
-  pub parts : AreParts q s regions
-  pub new : (class : CodeKind) → HasNewWindows q s (kind_value class) t (by_kind windows class)
+pub record IsAsking (p : Classing) (windows : ByKind (List (Option Extent))) (regions : List CodeRegion)
+    (q : Request) : Type 0 where
+  pub system : IsSystem p.system
+  pub nested : IsNested q.roots p.system
+  pub left : IsLeft p q
+  pub parts : AreParts q p.system regions
+  pub new : (class : CodeKind)
+      → HasNewWindows q p.system (kind_value class) p.terms (by_kind windows class)
 
 -- what a table tells of a part that its function has; of another one, whether it stands
 abbrev pub told_in : Request → System → List Kept → Region → Bool

@@ -1,23 +1,19 @@
 -- What is taken on a bus, and the room that a window has for what is behind it.
-use Rattle.std.specs.Prelude.{◌≡◌, ℕ, ◌==◌, Bool, ◌&&◌, IsFalse, List, Option, slice_index_or}
-use Rattle.pci_spec.specs.Window.{WindowKind}
-use Rattle.pci_spec.specs.System.{System, Function, Space, IsSystem}
+use Rattle.std.specs.Prelude.{◌≡◌, ℕ, ◌==◌, Bool, ◌&&◌, IsFalse, List, slice_index_or}
+use Rattle.pci_spec.specs.System.{Function, Space, IsSystem}
 use Rattle.pci_spec.specs.Bus.{secondary, is_root}
 use Rattle.settle_spec.specs.Lists.{Request}
 use Rattle.settle_spec.specs.Parts.{Region, addresses, same_space}
 use Rattle.settle_spec.specs.Stands.{window_region}
-use Rattle.settle_spec.specs.Items.{new_window}
 use Rattle.pci_base.specs.declared.range.Range.{Range}
 use Rattle.pci_base.specs.Ranges.{decoded_range_of}
 use Rattle.pci_base.specs.Space.{space_of}
-use Rattle.pci_settle.specs.declared.extent.Extent.{Extent}
 use Rattle.pci_settle.specs.declared.item.Item.{Item}
 use Rattle.pci_settle.specs.declared.kept.Kept.{Kept}
-use Rattle.pci_settle.specs.declared.over.OpenWindows.{OpenWindows}
-use Rattle.pci_settle.specs.declared.own.Terms.{Terms}
 use Rattle.pci_settle.specs.declared.placing.Wanted.{Wanted}
 use Rattle.pci_settle.specs.Kept.{part_value, kept_of, nothing_kept}
-use Rattle.pci_settle.specs.Buses.{AreBehind, IsLeaving}
+use Rattle.pci_settle.specs.Buses.{Listing, IsListingOf}
+use Rattle.pci_settle.specs.NewWindows.{asking_of}
 use Rattle.pci_stand.specs.declared.region.Region.{Region as CodeRegion}
 use Rattle.pci_stand.specs.Known.{AreParts}
 
@@ -44,14 +40,12 @@ is_taken_on bus space table r = bus == r.bus && is_taken space table r
 abbrev pub wanted_value : Item → Wanted
 wanted_value i = record { extent = i.extent; list = 0 }
 
--- these are the new windows and the parts on the bus behind a bridge, what keeps its place there, and its window
-pub record IsRoomOf (roots : List ℕ) (s : System) (c : WindowKind) (t : Terms) (overs : List OpenWindows)
-    (windows : List (Option Extent)) (regions : List CodeRegion) (table : List Kept) (bus : ℕ) (range : Range)
-    (q : Request) (keeps : Region → Bool) (b : Function) : Type 0 where
-  pub system : IsSystem s
-  pub leaving : IsLeaving roots s q keeps overs table
-  pub parts : AreParts q s regions
-  pub behind : AreBehind q s c (new_window q s c) bus t windows
-  pub bus_is : secondary b ≡ bus
-  pub no_root : IsFalse (is_root q.roots bus)
-  pub range_is : decoded_range_of range ≡ addresses (window_region c b)
+-- this is listed for the bus behind a bridge, and these are the parts of the system, and the bridge's window
+pub record IsRoomOf (l : Listing) (regions : List CodeRegion) (range : Range) (q : Request)
+    (keeps : Region → Bool) (b : Function) : Type 0 where
+  pub system : IsSystem l.classing.system
+  pub listed : IsListingOf (asking_of q l.classing.system l.class keeps) l
+  pub parts : AreParts q l.classing.system regions
+  pub bus_is : secondary b ≡ l.bus
+  pub no_root : IsFalse (is_root q.roots l.bus)
+  pub range_is : decoded_range_of range ≡ addresses (window_region l.class b)

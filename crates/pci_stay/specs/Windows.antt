@@ -1,5 +1,5 @@
 -- The windows of bridges: those that are open, and the new ones of all classes.
-use Rattle.std.specs.Prelude.{◌≡◌, ℕ, IsFalse, List, map, Option, ⊤}
+use Rattle.std.specs.Prelude.{◌≡◌, IsFalse, List, map, Option, ⊤}
 use Rattle.pci_spec.specs.Window.{WindowKind}
 use Rattle.pci_spec.specs.System.{System, IsSystem}
 use Rattle.pci_spec.specs.Bus.{IsNested}
@@ -14,10 +14,9 @@ use Rattle.pci_function.specs.declared.record.Record.{Record}
 use Rattle.pci_function.specs.Values.{record_value}
 use Rattle.pci_settle.specs.declared.extent.Extent.{Extent}
 use Rattle.pci_settle.specs.declared.over.OpenWindows.{OpenWindows}
-use Rattle.pci_settle.specs.declared.own.Terms.{Terms}
-use Rattle.pci_settle.specs.Buses.{AreWindows}
+use Rattle.pci_settle.specs.Buses.{AreWindows, Classing, IsLeft}
 use Rattle.pci_settle.specs.Over.{AreOpenOver}
-use Rattle.pci_settle.specs.NewWindows.{IsLeft, HasNewWindows, IsTooLarge}
+use Rattle.pci_settle.specs.NewWindows.{HasNewWindows, IsTooLarge}
 use Rattle.pci_stay.specs.declared.windows.TooLarge.{TooLarge}
 
 -- a lawful system with these records, of which nothing is placed anew
@@ -33,27 +32,27 @@ AreOpenFor q s records table = IsTree q s records → AreOpenOver q s table
 
 -- ---- new windows
 
-abbrev pub HasWindowsOf : List ℕ → System → WindowKind → Terms → List OpenWindows → List (Option Extent) → Type 0
-HasWindowsOf roots s c t overs windows =
-    (q : Request) → IsLeft roots s t overs q → HasNewWindows q s c t windows
+abbrev pub HasWindowsOf : Classing → WindowKind → List (Option Extent) → Type 0
+HasWindowsOf p c windows =
+    (q : Request) → IsLeft p q → HasNewWindows q p.system c p.terms windows
 
 -- a new window of a class is too large, or there was no memory
-abbrev pub IsTooLargeOf : List ℕ → System → WindowKind → Terms → List OpenWindows → Refused TooLarge → Type 0
-IsTooLargeOf roots s c t overs refused.Memory = ⊤
-IsTooLargeOf roots s c t overs (refused.Fault x) =
+abbrev pub IsTooLargeOf : Classing → WindowKind → Refused TooLarge → Type 0
+IsTooLargeOf p c refused.Memory = ⊤
+IsTooLargeOf p c (refused.Fault x) =
     (kind_value x.class ≡ c)
-    × ((q : Request) → IsLeft roots s t overs q → IsTooLarge q s c x.function)
+    × ((q : Request) → IsLeft p q → IsTooLarge q p.system c x.function)
 
 -- a table for each class has its new windows
-abbrev pub HasAllWindows : List ℕ → System → Terms → List OpenWindows → ByKind (List (Option Extent)) → Type 0
-HasAllWindows roots s t overs windows =
-    (class : CodeKind) → HasWindowsOf roots s (kind_value class) t overs (by_kind windows class)
+abbrev pub HasAllWindows : Classing → ByKind (List (Option Extent)) → Type 0
+HasAllWindows p windows =
+    (class : CodeKind) → HasWindowsOf p (kind_value class) (by_kind windows class)
 
 abbrev pub AreAllLawful : ByKind (List (Option Extent)) → Type 0
 AreAllLawful windows = (class : CodeKind) → AreWindows (by_kind windows class)
 
 -- a new window of some class is too large, or there was no memory
-abbrev pub IsTooLargeIn : List ℕ → System → Terms → List OpenWindows → Refused TooLarge → Type 0
-IsTooLargeIn roots s t overs refused.Memory = ⊤
-IsTooLargeIn roots s t overs (refused.Fault x) =
-    (q : Request) → IsLeft roots s t overs q → IsTooLarge q s (kind_value x.class) x.function
+abbrev pub IsTooLargeIn : Classing → Refused TooLarge → Type 0
+IsTooLargeIn p refused.Memory = ⊤
+IsTooLargeIn p (refused.Fault x) =
+    (q : Request) → IsLeft p q → IsTooLarge q p.system (kind_value x.class) x.function

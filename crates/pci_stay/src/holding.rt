@@ -6,6 +6,7 @@ ghost use Rattle.pci_spec.specs.System.{Function};
 ghost use Rattle.settle_spec.specs.Lists.{Request};
 ghost use Rattle.pci_base.specs.WindowKinds.{kind_value};
 ghost use Rattle.pci_place.specs.Above.{AreAboves, system_in};
+ghost use Rattle.pci_settle.specs.Buses.{classing_of};
 ghost use Rattle.pci_stand.specs.Passing.{IsReady, AreStanding};
 ghost use Rattle.pci_stay.specs.Windows.{AreAllLawful};
 ghost use Rattle.pci_stay.specs.Rooms.{region_bus};
@@ -44,7 +45,7 @@ fn window_holds<A: Allocator + Copy, B: Allocator>(
     requires function { function < length table.now }
     requires count { length table.now ≡ length (system_in admitted.now) }
     ensures { IfOk result (λ holds. (q : Request) → (f : Function)
-        → IsAsking admitted.now.roots (system_in admitted.now) terms over.now windows.now regions.now q
+        → IsAsking (classing_of admitted.now terms over.now) windows.now regions.now q
         → slice_get (system_in admitted.now) function ≡ Some f
         → IsHeldFrom q (system_in admitted.now) table.now (function + 1)
         → IsHolding q (system_in admitted.now) table.now f (kind_value class) holds) }
@@ -94,7 +95,7 @@ fn hold_bridge<A: Allocator + Copy, B: Allocator>(
     requires function { function < length table.old }
     requires count { length table.old ≡ length (system_in admitted.now) }
     ensures { OnOk result ((q : Request) → (f : Function)
-        → IsAsking admitted.now.roots (system_in admitted.now) terms over.now windows.now regions.now q
+        → IsAsking (classing_of admitted.now terms over.now) windows.now regions.now q
         → slice_get (system_in admitted.now) function ≡ Some f
         → IsHeldFrom q (system_in admitted.now) table.old (function + 1)
         → IsHeldFrom q (system_in admitted.now) table.new function) }
@@ -161,7 +162,7 @@ pub fn hold_all<A: Allocator + Copy, B: Allocator>(
     requires ready { All (IsReady (length table.old)) regions.now }
     requires count { length table.old ≡ length (system_in admitted.now) }
     ensures { OnOk result ((q : Request)
-        → IsAsking admitted.now.roots (system_in admitted.now) terms over.now windows.now regions.now q
+        → IsAsking (classing_of admitted.now terms over.now) windows.now regions.now q
         → AreStanding q (system_in admitted.now) table.old
         → AreHolding q (system_in admitted.now) table.new) }
 {

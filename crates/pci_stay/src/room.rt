@@ -9,7 +9,7 @@ ghost use Rattle.settle_spec.specs.Items.{has_places};
 ghost use Rattle.pci_base.specs.Space.{space_of};
 ghost use Rattle.pci_base.specs.WindowKinds.{kind_value};
 ghost use Rattle.pci_place.specs.Above.{AreAboves, system_in};
-ghost use Rattle.pci_settle.specs.Buses.{AreWindows};
+ghost use Rattle.pci_settle.specs.Buses.{AreWindows, classing_of, listing};
 ghost use Rattle.pci_stand.specs.Passing.{IsReady};
 ghost use Rattle.pci_stay.specs.Rooms.{region_bus, wanted_value, IsRoomOf};
 
@@ -74,8 +74,9 @@ pub fn has_places<A: Allocator + Copy, B: Allocator>(
     requires order { IsNonDecreasingBy region_bus regions.now }
     requires ready { All (IsReady (length table.now)) regions.now }
     ensures { IfOk result (λ room. (q : Request) → (keeps : RegionValue → Bool) → (b : Function)
-        → IsRoomOf admitted.now.roots (system_in admitted.now) (kind_value class) terms over.now
-        windows.now regions.now table.now bus range q keeps b
+        → IsRoomOf
+        (listing (classing_of admitted.now terms over.now) (kind_value class) bus windows.now table.now)
+        regions.now range q keeps b
         → room ≡ has_places q (system_in admitted.now) keeps b (kind_value class)) }
 {
     let left = Left { over, kept: table };

@@ -4,7 +4,7 @@ ghost use Rattle.pci_spec.specs.System.{System};
 ghost use Rattle.settle_spec.specs.Lists.{Request};
 ghost use Rattle.pci_base.specs.WindowKinds.{kind_value};
 ghost use Rattle.pci_place.specs.Above.{AreAboves, system_in};
-ghost use Rattle.pci_settle.specs.Buses.{AreWindows};
+ghost use Rattle.pci_settle.specs.Buses.{AreWindows, classing_of};
 ghost use Rattle.pci_stay.specs.Windows.{AreOpenFor, HasWindowsOf, IsTooLargeOf, HasAllWindows, AreAllLawful, IsTooLargeIn};
 
 use pci_base::memory::Refused;
@@ -54,11 +54,11 @@ fn class_windows<A: Allocator + Copy, B: Allocator>(
     windows: &mut [Option<Extent>; BUSES],
 ) -> Result<(), Refused<TooLarge>>
     requires { AreAboves (system_in admitted.now) aboves.now }
-    ensures windows { OnOk result (HasWindowsOf admitted.now.roots (system_in admitted.now)
-        (kind_value class) terms over.now windows.new) }
+    ensures windows { OnOk result (HasWindowsOf (classing_of admitted.now terms over.now)
+        (kind_value class) windows.new) }
     ensures lawful { AreWindows windows.new }
-    ensures fault { IfErr result (IsTooLargeOf admitted.now.roots (system_in admitted.now)
-        (kind_value class) terms over.now) }
+    ensures fault { IfErr result (IsTooLargeOf (classing_of admitted.now terms over.now)
+        (kind_value class)) }
 {
     match new_windows(alloc, admitted, class, aboves, terms, over, windows)? {
         Some(function) => Err(Refused::Fault(TooLarge { class, function })),
@@ -75,9 +75,9 @@ pub fn all_windows<A: Allocator + Copy, B: Allocator>(
     over: &[OpenWindows],
 ) -> Result<ByKind<[Option<Extent>; BUSES]>, Refused<TooLarge>>
     requires { AreAboves (system_in admitted.now) aboves.now }
-    ensures windows { IfOk result (HasAllWindows admitted.now.roots (system_in admitted.now) terms over.now) }
+    ensures windows { IfOk result (HasAllWindows (classing_of admitted.now terms over.now)) }
     ensures lawful { IfOk result AreAllLawful }
-    ensures fault { IfErr result (IsTooLargeIn admitted.now.roots (system_in admitted.now) terms over.now) }
+    ensures fault { IfErr result (IsTooLargeIn (classing_of admitted.now terms over.now)) }
 {
     let mut io = [None; BUSES];
     let mut memory = [None; BUSES];

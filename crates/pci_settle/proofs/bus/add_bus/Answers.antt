@@ -7,7 +7,7 @@ use Rattle.pci_place.specs.Above.{system_in}
 use Rattle.pci_place.specs.declared.above.Above.{Above}
 use Rattle.pci_settle.specs.declared.over.OpenWindows.{OpenWindows}
 use Rattle.pci_settle.specs.declared.over.Over.{Over}
-use Rattle.pci_settle.specs.Buses.{AreOnBusTo}
+use Rattle.pci_settle.specs.Buses.{listing_of, AreOnBusTo}
 use Rattle.pci_settle.proofs.Sized.{bars_sized, rom_sized}
 use Rattle.pci_settle.proofs.OnBus.{slots_in, record_of_place, below_first, below_next, bus_step}
 use Rattle.pci_settle.proofs.bus.add_bus.Goals as goal
@@ -36,7 +36,7 @@ loop-function-init g c = λ on beside below.
     let records = c.records-records.result.now in
     let has : HasRecords s (map record_value records) = subst (λ rs. HasRecords s rs) (sym c.records-records.ensures.value) c.outline.ensures.records in
     let first = c.first_from-first.ensures in
-    below_first c.args.admitted.now.roots s c.outline.ensures.admitted.system records has (kind_value c.args.class) c.args.terms c.args.windows.now c.args.left.now.over.now c.args.left.now.kept.now on c.args.bus c.first_from-first.result _
+    below_first (listing_of c.args.admitted.now (kind_value c.args.class) on c.args.terms c.args.windows.now c.args.left.now) c.outline.ensures.admitted.system records has c.args.bus c.first_from-first.result _
     first.bound first.before first.after below
 
 pub add_items-requires-clause-bars : goal.add_items-requires-clause-bars
@@ -69,7 +69,7 @@ loop-function-preserved g c = λ on beside below.
     let end = c.first_from-end.ensures.bound in
     let low : c.args.bus ≤ r.slot.bus = subst (λ x. c.args.bus ≤ x.slot.bus) (sym c.index-records-function.is) (c.first_from-first.ensures.after k r (omega arith) (omega (arith, end))) in
     let high : r.slot.bus < c.args.bus + 1 = subst (λ x. x.slot.bus < c.args.bus + 1) (sym c.index-records-function.is) (c.first_from-end.ensures.before k r (omega arith) (omega arith)) in
-    bus_step c.args.admitted.now.roots s c.outline.ensures.admitted.system records has (kind_value c.args.class) c.args.terms c.args.windows.now c.args.left.now.over.now c.args.left.now.kept.now on k r (omega (arith, end)) c.index-records-function.is
+    bus_step (listing_of c.args.admitted.now (kind_value c.args.class) on c.args.terms c.args.windows.now c.args.left.now) c.outline.ensures.admitted.system records has k r (omega (arith, end)) c.index-records-function.is
     c.args.aboves.now c.requires c.args.bus (omega (arith, low, high)) d record { above = above; windows = c.open_over.result } (ap (over_with above) c.open_over.ensures) c.window_behind-window.result c.window_behind-window.ensures
     c.kept_by-kept.result.now c.kept_by-kept.ensures beside c.loop-function.items.items c.add_items.new.items.items c.in_ok-add_items.ensures.items (c.loop-function.invariant on beside below)
 
@@ -82,5 +82,5 @@ returns g c = λ on beside below.
     let end = c.first_from-end.ensures in
     let up : c.first_from-first.result ≤ c.first_from-end.result = begins_before records c.args.bus _ c.first_from-first.result c.first_from-end.result refl first.bound first.before end.after in
     let done : c.loop-function.function ≡ c.first_from-end.result = (let high = c.loop-function.auto.function-end up in omega (arith, up, high)) in
-    below_next c.args.admitted.now.roots s c.outline.ensures.admitted.system records has (kind_value c.args.class) c.args.terms c.args.windows.now c.args.left.now.over.now c.args.left.now.kept.now on _ c.first_from-end.result _
-    end.bound end.before end.after (subst (λ n. AreOnBusTo c.args.admitted.now.roots s (kind_value c.args.class) c.args.terms c.args.windows.now c.args.left.now.over.now c.args.left.now.kept.now on n c.loop-function.items.items) done (c.loop-function.invariant on beside below))
+    below_next (listing_of c.args.admitted.now (kind_value c.args.class) on c.args.terms c.args.windows.now c.args.left.now) c.outline.ensures.admitted.system records has _ c.first_from-end.result _
+    end.bound end.before end.after (subst (λ n. AreOnBusTo (listing_of c.args.admitted.now (kind_value c.args.class) on c.args.terms c.args.windows.now c.args.left.now) n c.loop-function.items.items) done (c.loop-function.invariant on beside below))

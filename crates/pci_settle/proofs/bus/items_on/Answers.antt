@@ -3,7 +3,7 @@ use Rattle.std.specs.List.{All}
 use Rattle.pci_spec.specs.Bus.{is_root}
 use Rattle.pci_base.specs.WindowKinds.{kind_value}
 use Rattle.pci_place.specs.Above.{system_in}
-use Rattle.pci_settle.specs.Buses.{AreOnBusTo, AreBelow}
+use Rattle.pci_settle.specs.Buses.{listing_of, AreOnBusTo, AreBelow}
 use Rattle.pci_settle.specs.Turns.{HasExtent}
 use Rattle.pci_settle.proofs.OnBus.{itself_beside, below_none, below_own, below_roots, below_bus, all_on_bus}
 use Rattle.pci_settle.proofs.bus.items_on.Goals as goal
@@ -14,37 +14,36 @@ returns-clause-items g c =
     let roots = c.args.admitted.now.roots in
     let s = system_in c.args.admitted.now in
     let system = c.outline.ensures.admitted.system in
-    let class = kind_value c.args.class in
     let bus = c.args.bus in
+    let l = listing_of c.args.admitted.now (kind_value c.args.class) bus c.args.terms c.args.windows.now c.args.left.now in
     let is : c.is_root.result ≡ is_root roots bus = c.is_root.ensures ∙ ap (λ xs. is_root xs bus) (c.roots.ensures ∙ c.outline.ensures.roots) in
-    all_on_bus roots s system class c.args.terms c.args.windows.now c.args.left.now.over.now c.args.left.now.kept.now bus _ (elim c.if-is_root.branch [
+    all_on_bus l system _ (elim c.if-is_root.branch [
       | then-is_root+in_ok-add_roots w ↦
-          subst (AreOnBusTo roots s class c.args.terms c.args.windows.now c.args.left.now.over.now c.args.left.now.kept.now bus (length s)) (sym (ap (λ v. v.items) w.items-is))
-          (below_roots roots s system class c.args.terms c.args.windows.now c.args.left.now.over.now c.args.left.now.kept.now bus _ (w.in_ok-add_roots.ensures bus (sym is ∙ w.if-is_root.true)
-          (subst (AreBelow roots s class c.args.terms c.args.windows.now c.args.left.now.over.now c.args.left.now.kept.now bus 0) (sym c.new-items.ensures.items) (below_none roots s system class c.args.terms c.args.windows.now c.args.left.now.over.now c.args.left.now.kept.now bus))))
+          subst (AreOnBusTo l (length s)) (sym (ap (λ v. v.items) w.items-is))
+          (below_roots l system _ (w.in_ok-add_roots.ensures bus (sym is ∙ w.if-is_root.true)
+          (subst (AreBelow l 0) (sym c.new-items.ensures.items) (below_none l system))))
       | else-is_root+in_ok-add_bus w ↦
           let other = sym is ∙ w.if-is_root.false in
-          subst (AreOnBusTo roots s class c.args.terms c.args.windows.now c.args.left.now.over.now c.args.left.now.kept.now bus (length s)) (sym (ap (λ v. v.items) w.items-is))
-          (below_bus roots s system class c.args.terms c.args.windows.now c.args.left.now.over.now c.args.left.now.kept.now bus _ other (w.in_ok-add_bus.ensures bus (itself_beside roots bus)
-          (subst (AreBelow roots s class c.args.terms c.args.windows.now c.args.left.now.over.now c.args.left.now.kept.now bus bus) (sym c.new-items.ensures.items) (below_own roots s system class c.args.terms c.args.windows.now c.args.left.now.over.now c.args.left.now.kept.now bus other))))
+          subst (AreOnBusTo l (length s)) (sym (ap (λ v. v.items) w.items-is))
+          (below_bus l system _ other (w.in_ok-add_bus.ensures bus (itself_beside roots bus)
+          (subst (AreBelow l bus) (sym c.new-items.ensures.items) (below_own l system other))))
     ])
 
 pub returns-clause-lawful : goal.returns-clause-lawful
 returns-clause-lawful g c windows_lawful =
     let roots = c.args.admitted.now.roots in
-    let s = system_in c.args.admitted.now in
     let system = c.outline.ensures.admitted.system in
-    let class = kind_value c.args.class in
     let bus = c.args.bus in
+    let l = listing_of c.args.admitted.now (kind_value c.args.class) bus c.args.terms c.args.windows.now c.args.left.now in
     let is : c.is_root.result ≡ is_root roots bus = c.is_root.ensures ∙ ap (λ xs. is_root xs bus) (c.roots.ensures ∙ c.outline.ensures.roots) in
     elim c.if-is_root.branch [
       | then-is_root+in_ok-add_roots w ↦
           subst (All HasExtent) (sym (ap (λ v. v.items) w.items-is))
-          ((below_roots roots s system class c.args.terms c.args.windows.now c.args.left.now.over.now c.args.left.now.kept.now bus _ (w.in_ok-add_roots.ensures bus (sym is ∙ w.if-is_root.true)
-          (subst (AreBelow roots s class c.args.terms c.args.windows.now c.args.left.now.over.now c.args.left.now.kept.now bus 0) (sym c.new-items.ensures.items) (below_none roots s system class c.args.terms c.args.windows.now c.args.left.now.over.now c.args.left.now.kept.now bus)))).lawful windows_lawful)
+          ((below_roots l system _ (w.in_ok-add_roots.ensures bus (sym is ∙ w.if-is_root.true)
+          (subst (AreBelow l 0) (sym c.new-items.ensures.items) (below_none l system)))).lawful windows_lawful)
       | else-is_root+in_ok-add_bus w ↦
           let other = sym is ∙ w.if-is_root.false in
           subst (All HasExtent) (sym (ap (λ v. v.items) w.items-is))
-          ((below_bus roots s system class c.args.terms c.args.windows.now c.args.left.now.over.now c.args.left.now.kept.now bus _ other (w.in_ok-add_bus.ensures bus (itself_beside roots bus)
-          (subst (AreBelow roots s class c.args.terms c.args.windows.now c.args.left.now.over.now c.args.left.now.kept.now bus bus) (sym c.new-items.ensures.items) (below_own roots s system class c.args.terms c.args.windows.now c.args.left.now.over.now c.args.left.now.kept.now bus other)))).lawful windows_lawful)
+          ((below_bus l system _ other (w.in_ok-add_bus.ensures bus (itself_beside roots bus)
+          (subst (AreBelow l bus) (sym c.new-items.ensures.items) (below_own l system other)))).lawful windows_lawful)
     ]

@@ -64,13 +64,12 @@ returns g c = λ q f asking at held.
     noted_holds q s asking.system asking.nested c.args.function f at c.args.table.now held class c.in_ok-room.room bridge (sym c.window.ensures ∙ c.if-not-window.false)
     (c.in_ok-room.ensures q (told_in q s c.args.table.now) f record {
       system = asking.system;
-      leaving = record {
-        rooted = asking.left.rooted;
-        overs_are = asking.left.overs_are;
+      listed = record {
+        left = asking.left;
         keeps_is = told_kept q s asking.system asking.nested c.args.table.now;
+        behind = subst (AreBehind q s class (new_window q s class) b.secondary) (sym c.get.ensures) ((asking.new c.args.class).behind b.secondary);
       };
       parts = asking.parts;
-      behind = subst (AreBehind q s class (new_window q s class) b.secondary c.args.terms) (sym c.get.ensures) ((asking.new c.args.class).behind b.secondary);
       bus_is = to;
       no_root = false_from_ne_true (is_root q.roots b.secondary)
           (λ root. is_no_root q.roots s asking.system asking.nested f b.secondary is.listed bridge (at_secondary q.roots s asking.system asking.nested f b.secondary is.listed bridge to) root);

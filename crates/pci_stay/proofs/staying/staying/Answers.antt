@@ -1,9 +1,8 @@
-use Rattle.std.proofs.Common.{ℕ, List, map, length, refl, arith, sym, ◌∙◌, ap, subst}
+use Rattle.std.proofs.Common.{map, length, refl, arith, sym, ◌∙◌, ap, subst}
 use Rattle.std.specs.List.{All}
 use Rattle.std.specs.List.Sorted.{IsNonDecreasingBy}
 use Rattle.std.proofs.lemmas.List.Sorted.{IsPermutation-refl}
 use Rattle.std.proofs.lemmas.Result.{err_from_is_err_and}
-use Rattle.pci_spec.specs.System.{System}
 use Rattle.pci_spec.specs.Decoded.{HasRecords}
 use Rattle.settle_spec.specs.Lists.{Request}
 use Rattle.pci_base.specs.declared.memory.Refused.{Refused}
@@ -11,10 +10,8 @@ use Rattle.pci_base.specs.declared.memory.Refused.TheVariants as refused
 use Rattle.pci_function.specs.Values.{record_value}
 use Rattle.pci_place.specs.Above.{system_in}
 use Rattle.pci_place.proofs.Records.{same_count}
-use Rattle.pci_settle.specs.declared.over.OpenWindows.{OpenWindows}
-use Rattle.pci_settle.specs.declared.own.Terms.{Terms}
 use Rattle.pci_settle.specs.Lists.{lists_value}
-use Rattle.pci_settle.specs.NewWindows.{IsLeft}
+use Rattle.pci_settle.specs.Buses.{Classing, classing_of, IsLeft}
 use Rattle.pci_stand.specs.Known.{asked, AreParts}
 use Rattle.pci_stand.specs.Passing.{IsReady, AreStanding}
 use Rattle.pci_stand.proofs.Whole.{ready, slice_back}
@@ -25,9 +22,9 @@ use Rattle.pci_stay.specs.Staying.{AreStaying, IsTooLargeFor}
 use Rattle.pci_stay.proofs.Stays.{buses_rise}
 use Rattle.pci_stay.proofs.staying.staying.Goals as goal
 
-too_large : (roots : List ℕ) (s : System) (t : Terms) (overs : List OpenWindows) (q : Request) → IsLeft roots s t overs q → (x : Refused TooLarge) → IsTooLargeIn roots s t overs x → IsTooLargeFor q s x
-too_large roots s t overs q left refused.Memory told = tt
-too_large roots s t overs q left (refused.Fault x) told = told q left
+too_large : (p : Classing) (q : Request) → IsLeft p q → (x : Refused TooLarge) → IsTooLargeIn p x → IsTooLargeFor q p.system x
+too_large p q left refused.Memory told = tt
+too_large p q left (refused.Fault x) told = told q left
 
 pub returns-in_err-windows-clause-fault : goal.returns-in_err-windows-clause-fault
 returns-in_err-windows-clause-fault g c =
@@ -36,13 +33,13 @@ returns-in_err-windows-clause-fault g c =
     let admitted = c.outline.ensures.admitted in
     let records = c.records-records.result.now in
     let has : HasRecords s (map record_value records) = subst (λ rs. HasRecords s rs) (sym c.records-records.ensures.value) c.outline.ensures.records in
-    let left : IsLeft c.args.admitted.now.roots s c.of-terms.result c.open_windows-opened.result q = record {
+    let left : IsLeft (classing_of c.args.admitted.now c.of-terms.result c.open_windows-opened.result) q = record {
       rooted = refl;
       terms = c.of-terms.ensures;
       overs_are = c.open_windows-opened.ensures q s record { has = has; system = admitted.system; nested = admitted.nested; stands = refl };
     } in
     let p = err_from_is_err_and c.from_residual.result c.from_residual.ensures.1 in
-    rw (p.1, p.2) (too_large c.args.admitted.now.roots s c.of-terms.result c.open_windows-opened.result q left c.in_err-windows.field-0.0 c.in_err-windows.ensures.fault)
+    rw (p.1, p.2) (too_large (classing_of c.args.admitted.now c.of-terms.result c.open_windows-opened.result) q left c.in_err-windows.field-0.0 c.in_err-windows.ensures.fault)
 
 pub hold_all-requires-clause-order : goal.hold_all-requires-clause-order
 hold_all-requires-clause-order g c =
@@ -78,7 +75,7 @@ returns-clause-stay g c =
     let admitted = c.outline.ensures.admitted in
     let records = c.records-records.result.now in
     let has : HasRecords s (map record_value records) = subst (λ rs. HasRecords s rs) (sym c.records-records.ensures.value) c.outline.ensures.records in
-    let left : IsLeft c.args.admitted.now.roots s c.of-terms.result c.open_windows-opened.result q = record {
+    let left : IsLeft (classing_of c.args.admitted.now c.of-terms.result c.open_windows-opened.result) q = record {
       rooted = refl;
       terms = c.of-terms.ensures;
       overs_are = c.open_windows-opened.ensures q s record { has = has; system = admitted.system; nested = admitted.nested; stands = refl };
