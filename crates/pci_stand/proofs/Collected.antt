@@ -40,8 +40,8 @@ use Rattle.pci_stand.specs.declared.region.Owner.{Owner}
 use Rattle.pci_settle.specs.declared.kept.Part.TheVariants as parts
 use Rattle.pci_stand.specs.declared.region.Region.{Region as CodeRegion}
 use Rattle.pci_stand.specs.Regions.{owned, bar_region, bar_regions, window_regions, bridge_regions, rom_region, rom_regions, record_regions}
-use Rattle.pci_stand.specs.Known.{known, known_of, IsOwner, IsForward, AreParts}
-use Rattle.pci_stand.proofs.OfRecord.{record_parts}
+use Rattle.pci_stand.specs.Known.{known, known_of, IsForward, AreParts}
+use Rattle.pci_stand.proofs.OfRecord.{IsOwner, record_parts}
 
 -- ---- the parts of a record are of its function, and have addresses
 
@@ -135,23 +135,22 @@ module _ (q : Request) (s : System) (records : List Record) (has : HasRecords s 
         let slot : r.slot ≡ f.slot = same_slot_of r f found.is.value in
         let on_bus : o.bus ≡ f.slot.bus = bus ∙ ap (λ (x : Slot). x.bus) slot in
         let above = get_or aboves o.bus d in
-        let owner : IsOwner q s f o above t r = record {
+        let owner : IsOwner q s f o r = record {
           is = found.is;
           here = ap (function_in s) at ∙ get_or_from_slice_get s k f no_function found.at;
           bus = on_bus;
           level = high ∙ ap (level q) on_bus;
           fixed = fixed ∙ ap (λ x. list_any (same_slot x) q.fixed) slot;
           command = on ∙ ap (λ (x : decoded.Record). x.command) found.is.value;
-          over = subst (λ n. IsAbove s f.slot.bus (get_or aboves n d)) (sym on_bus) (are_above f d found.is.listed);
-          terms = terms;
         } in
+        let over : IsAbove s f.slot.bus above = subst (λ n. IsAbove s f.slot.bus (get_or aboves n d)) (sym on_bus) (are_above f d found.is.listed) in
         let new_ones = record_regions o above t r in
         let of = in_record o above t r (subst IsLawful (sym is_at) (lawful k r inside)) in
         record {
           same = ap (map (known s)) put
               ∙ map-append (known s) old new_ones
               ∙ ap (λ xs. xs ++ map (known s) new_ones) before.same
-              ∙ ap (λ xs. map (known_of q s) (flat_map (regions_of q s) (take k s)) ++ xs) (record_parts q s f o above t r owner)
+              ∙ ap (λ xs. map (known_of q s) (flat_map (regions_of q s) (take k s)) ++ xs) (record_parts q s f o above t r owner over terms)
               ∙ sym (map-append (known_of q s) (flat_map (regions_of q s) (take k s)) (regions_of q s f))
               ∙ ap (map (known_of q s)) (sym (one_more (regions_of q s) s k f found.at));
           within = subst (All (λ (x : CodeRegion). x.function < length s)) (sym put) (All-append (λ (x : CodeRegion). x.function < length s) old new_ones before.within

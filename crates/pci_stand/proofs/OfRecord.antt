@@ -1,10 +1,11 @@
 -- What a record has that can stand is what its function has.
 use Rattle.std.proofs.Common.{◌≡◌, ℕ, ◌-◌, ◌/◌, inl, inr, List, [], ◌∷◌, ◌++◌, map, refl, Bool, true, false, cond, not, ◌&&◌, ◌||◌, sym, ◌∙◌, ap, Option, Some, None, arith}
 use Rattle.std.specs.Option.{option_map, is_some}
-use Rattle.std.specs.List.{filter, range_with_len}
+use Rattle.std.specs.List.{filter, list_any, range_with_len}
 use Rattle.std.proofs.lemmas.Bool.{cases_Bool, eqb-true}
 use Rattle.std.proofs.lemmas.List.{map-append}
 use Rattle.std.proofs.lemmas.List.Elements.{filter-append}
+use Rattle.pci_spec.specs.Slot.{same_slot}
 use Rattle.pci_spec.specs.Header.{layout, bar_count, bar_register, command}
 use Rattle.pci_spec.specs.Bar.{bar_at, has_bar, is_io, is_prefetchable}
 use Rattle.pci_spec.specs.Rom.{has_rom, rom_is_on}
@@ -17,6 +18,7 @@ use Rattle.plan_spec.specs.Plan.{is_open}
 use Rattle.plan_spec.specs.Planning.Layout.{range_of}
 use Rattle.settle_spec.specs.Lists.{Request}
 use Rattle.settle_spec.specs.Parts.{Region, is_empty, is_left, is_part, header_bars, parts_of, regions_of}
+use Rattle.stand_laws.specs.Order.{level}
 use Rattle.pci_base.specs.Space as code
 use Rattle.pci_base.specs.Ranges.{range_of_decoded}
 use Rattle.pci_base.specs.WindowKinds.{kind_value}
@@ -36,6 +38,7 @@ use Rattle.pci_tree.specs.Passes.{range_in}
 use Rattle.pci_tree.proofs.Lifting.{same_bridge}
 use Rattle.pci_tree.proofs.RegionParts.{same_bridge_of}
 use Rattle.pci_place.specs.declared.above.Above.{Above}
+use Rattle.pci_place.specs.Above.{IsAbove}
 use Rattle.pci_place.specs.Classes.{is_io_kind}
 use Rattle.pci_place.specs.Items.{function_in}
 use Rattle.pci_place.specs.Records.{IsRecordOf}
@@ -45,13 +48,13 @@ use Rattle.pci_place.proofs.Parts.{bars_in, bars_of, rom_of, rom_there}
 use Rattle.pci_place.proofs.ClassOf.{kind_io}
 use Rattle.pci_place.proofs.Owned.{map_twice, no_rom, lacking_above}
 use Rattle.pci_settle.specs.declared.own.Terms.{Terms}
-use Rattle.pci_settle.specs.Own.{is_left_bar}
+use Rattle.pci_settle.specs.Own.{AreTerms, is_left_bar}
 use Rattle.pci_stand.specs.declared.region.Owner.{Owner}
 use Rattle.pci_settle.specs.declared.kept.Part.{Part as CodePart}
 use Rattle.pci_settle.specs.declared.kept.Part.TheVariants as parts
 use Rattle.pci_settle.specs.Kept.{part_value}
 use Rattle.pci_stand.specs.Regions.{owned, bar_space, bar_region, bar_regions, window_regions, bridge_regions, rom_region, rom_regions, record_regions}
-use Rattle.pci_stand.specs.Known.{Known, known, known_of, IsOwner}
+use Rattle.pci_stand.specs.Known.{Known, known, known_of}
 
 filter_twice : {X : Type 0} (has kept : X → Bool) (xs : List X) → filter (λ x. has x && kept x) xs ≡ filter kept (filter has xs)
 filter_twice has kept [] = refl
@@ -139,7 +142,16 @@ window_is s f r b is e PrefetchWindow =
     let bridge : is_bridge f ≡ true = sym (same_bridge r f is.value) ∙ ap is_some e in
     ap (λ (x : decoded.Bridge). range_in x.windows.prefetch) (same_bridge_of r f b is.value e) ∙ optional_there f PrefetchWindow bridge
 
-module _ (q : Request) (s : System) (f : Function) (o : Owner) (above : Above) (t : Terms) (r : Record) (owner : IsOwner q s f o above t r) where
+-- what the parts of a function share
+pub record IsOwner (q : Request) (s : System) (f : Function) (o : Owner) (r : Record) : Type 0 where
+  pub is : IsRecordOf s f r
+  pub here : function_in s o.function ≡ f
+  pub bus : o.bus ≡ f.slot.bus
+  pub level : o.level ≡ level q f.slot.bus
+  pub fixed : o.fixed ≡ list_any (same_slot f.slot) q.fixed
+  pub command : o.command ≡ command f.image
+
+module _ (q : Request) (s : System) (f : Function) (o : Owner) (above : Above) (t : Terms) (r : Record) (owner : IsOwner q s f o r) (over : IsAbove s f.slot.bus above) (terms : AreTerms q.lists t) where
   abbrev region : Part → Region
   region p = record { function = f; part = p }
 
@@ -161,9 +173,9 @@ module _ (q : Request) (s : System) (f : Function) (o : Owner) (above : Above) (
   left_is : (bar : CodeBar) (n : ℕ) → decoded_bar_of bar ≡ decoded_bar f.image f.probe n → not (is_left_bar bar above t.has_io) ≡ not (is_left q s f (Bar n))
   left_is bar n e =
       ap not (ap (λ b. b && not (t.has_io && above.io)) (kind_io f bar n e)
-      ∙ ap (λ b. is_io (bar_at f.probe n) && not (b && above.io)) owner.terms.io
+      ∙ ap (λ b. is_io (bar_at f.probe n) && not (b && above.io)) terms.io
       ∙ ap (λ b. is_io (bar_at f.probe n) && b) (not_and (is_empty q.lists.io) above.io)
-      ∙ ap (λ b. is_io (bar_at f.probe n) && (is_empty q.lists.io || b)) (lacking_above s f r owner.is above owner.over))
+      ∙ ap (λ b. is_io (bar_at f.probe n) && (is_empty q.lists.io || b)) (lacking_above s f r owner.is above over))
 
   bar_value : (bar : CodeBar) (n : ℕ) → decoded_bar_of bar ≡ decoded_bar f.image f.probe n → known s (bar_region o above bar) ≡ value (Bar n)
   bar_value bar n e =
@@ -171,7 +183,7 @@ module _ (q : Request) (s : System) (f : Function) (o : Owner) (above : Above) (
       (ap Bar (register_place bar.reg n (ap (λ (x : DecodedBar). x.register) e)))
       (bar_space_is bar.kind ∙ ap (λ b. cond b Io Memory) (kind_io f bar n e))
       refl refl
-      (ap (λ b. b && above.pref) (ap (λ (x : DecodedBar). x.prefetchable) e) ∙ ap (λ b. is_prefetchable (bar_at f.probe n) && b) owner.over.pref)
+      (ap (λ b. b && above.pref) (ap (λ (x : DecodedBar). x.prefetchable) e) ∙ ap (λ b. is_prefetchable (bar_at f.probe n) && b) over.pref)
       (ap (λ (x : DecodedBar). x.range) e)
 
   bars_are : map (known s) (bar_regions o above t r.bars.items) ≡ map value (filter (is_part q s f) (header_bars f))

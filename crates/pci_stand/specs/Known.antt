@@ -2,10 +2,9 @@
 use Rattle.std.specs.Prelude.{◌≡◌, ℕ, ◌<◌, ◌≤◌, Bool, false, ◌&&◌, List, map, length}
 use Rattle.std.specs.List.{All, list_any, list_all}
 use Rattle.pci_spec.specs.Slot.{Slot, same_slot}
-use Rattle.pci_spec.specs.Header.{command}
 use Rattle.pci_spec.specs.Window.{PrefetchWindow, has_window}
 use Rattle.pci_spec.specs.Decoded.{Range}
-use Rattle.pci_spec.specs.System.{System, Function, Space, is_enabled, is_prefetchable_part, space_of}
+use Rattle.pci_spec.specs.System.{System, Space, is_enabled, is_prefetchable_part, space_of}
 use Rattle.plan_spec.specs.Plan.{bridges_above}
 use Rattle.plan_spec.specs.Planning.Layout.{range_of}
 use Rattle.settle_spec.specs.Lists.{Lists, Request}
@@ -13,14 +12,7 @@ use Rattle.settle_spec.specs.Parts.{Region, regions}
 use Rattle.stand_laws.specs.Order.{level}
 use Rattle.pci_base.specs.Ranges.{decoded_range_of}
 use Rattle.pci_base.specs.Space as code
-use Rattle.pci_place.specs.declared.above.Above.{Above}
-use Rattle.pci_place.specs.Above.{IsAbove}
 use Rattle.pci_place.specs.Items.{function_in}
-use Rattle.pci_place.specs.Records.{IsRecordOf}
-use Rattle.pci_function.specs.declared.record.Record.{Record}
-use Rattle.pci_settle.specs.declared.own.Terms.{Terms}
-use Rattle.pci_settle.specs.Own.{AreTerms}
-use Rattle.pci_stand.specs.declared.region.Owner.{Owner}
 use Rattle.pci_stand.specs.declared.region.Region.{Region as CodeRegion}
 use Rattle.pci_settle.specs.Kept.{part_value}
 
@@ -69,18 +61,6 @@ known_of q s r = record {
   prefetch = is_prefetchable_part r.function r.part && is_led s r.function.slot.bus;
   range = range_of r.function r.part;
 }
-
--- what the parts of a function share
-pub record IsOwner (q : Request) (s : System) (f : Function) (o : Owner) (above : Above) (t : Terms)
-    (r : Record) : Type 0 where
-  pub is : IsRecordOf s f r
-  pub here : function_in s o.function ≡ f
-  pub bus : o.bus ≡ f.slot.bus
-  pub level : o.level ≡ level q f.slot.bus
-  pub fixed : o.fixed ≡ list_any (same_slot f.slot) q.fixed
-  pub command : o.command ≡ command f.image
-  pub over : IsAbove s f.slot.bus above
-  pub terms : AreTerms q.lists t
 
 -- a part has an address
 abbrev pub IsForward : CodeRegion → Type 0
