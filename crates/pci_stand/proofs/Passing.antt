@@ -26,8 +26,8 @@ use Rattle.pci_settle.specs.declared.kept.Kept.{Kept}
 use Rattle.pci_stand.specs.Known.{Known, region_value}
 use Rattle.pci_stand.specs.Boards.{IsKnown}
 use Rattle.pci_stand.specs.Tables.{stands_in}
-use Rattle.pci_stand.specs.Taken.{is_free, IsWithTaken, in_space, in_other, IsGoneTo}
-use Rattle.pci_stand.specs.Passing.{AreOrdered, IsTakenBy, AreTakenOn, IsPassed}
+use Rattle.pci_stand.specs.Taken.{is_free, IsWithTaken, in_space, in_other, taken_with, IsGoneTo}
+use Rattle.pci_stand.specs.Passing.{AreOrdered, IsStandingOn, AreTakenOn, IsPassed}
 
 -- ---- a range more
 
@@ -141,22 +141,22 @@ module _ (q : Request) (s : System) (nested : IsNested q.roots s) (rs : List Cod
     none_yet : (bus : ℕ) (table : List Kept) → ((t : Region) → Contains (regions q s) t → stands_in s table t ≡ true → level q t.function.slot.bus ≤ bus) → bus < r.level → (space : Space) → AreTakenOn q s (stands_in s table) r.level space []
     none_yet bus table below up space = record {
       each = λ x listed. absurd (in_nil x listed);
-      all = λ t listed is on of. absurd (let low = below t listed is in let no : ⊥ = omega (arith, low, on, up) in no);
+      all = λ t by. absurd (let low = below t by.listed by.stands in let on = by.on in let no : ⊥ = omega (arith, low, on, up) in no);
     }
 
-    pub gone : (bus new : ℕ) (io mem new_io new_mem : List Range) (table : List Kept) → IsGoneTo r.level bus io mem new new_io new_mem → IsPassed q s rs count bus io mem table → IsPassed q s rs count new new_io new_mem table
+    pub gone : (bus new : ℕ) (io mem new_io new_mem : List Range) (table : List Kept) → IsGoneTo r.level (taken_with bus io mem) (taken_with new new_io new_mem) → IsPassed q s rs count (taken_with bus io mem) table → IsPassed q s rs count (taken_with new new_io new_mem) table
     gone bus new io mem new_io new_mem table to passed = elim (cases_eq bus r.level) [
       | inl same ↦
           let kept = to.same same in
-          subst (λ n. IsPassed q s rs count n new_io new_mem table) (same ∙ sym to.there)
-          (subst (λ xs. IsPassed q s rs count bus xs new_mem table) (sym kept.0) (subst (λ xs. IsPassed q s rs count bus io xs table) (sym kept.1) passed))
+          subst (λ n. IsPassed q s rs count (taken_with n new_io new_mem) table) (same ∙ sym to.there)
+          (subst (λ xs. IsPassed q s rs count (taken_with bus xs new_mem) table) (sym kept.0) (subst (λ xs. IsPassed q s rs count (taken_with bus io xs) table) (sym kept.1) passed))
       | inr differ ↦
           let none = to.other differ in
           let least = passed.above count r (omega arith) within in
           let here : (get_or rs count r).level ≡ r.level = ap (λ (x : CodeRegion). x.level) (sym r_is) in
           let up : bus < r.level = omega (arith, least, here, differ) in
-          subst (λ n. IsPassed q s rs count n new_io new_mem table) (sym to.there)
-          (subst (λ xs. IsPassed q s rs count r.level xs new_mem table) (sym none.0) (subst (λ xs. IsPassed q s rs count r.level [] xs table) (sym none.1) record {
+          subst (λ n. IsPassed q s rs count (taken_with n new_io new_mem) table) (sym to.there)
+          (subst (λ xs. IsPassed q s rs count (taken_with r.level xs new_mem) table) (sym none.0) (subst (λ xs. IsPassed q s rs count (taken_with r.level [] xs) table) (sym none.1) record {
             size = passed.size;
             told = passed.told;
             io_taken = none_yet bus table passed.below up Io;
@@ -166,7 +166,7 @@ module _ (q : Request) (s : System) (nested : IsNested q.roots s) (rs : List Cod
           }))
     ]
 
-    module _ (io mem : List Range) (table : List Kept) (passed : IsPassed q s rs count r.level io mem table) where
+    module _ (io mem : List Range) (table : List Kept) (passed : IsPassed q s rs count (taken_with r.level io mem) table) where
       abbrev test : Region → Bool
       test = stands_in s table
 
@@ -190,11 +190,16 @@ module _ (q : Request) (s : System) (nested : IsNested q.roots s) (rs : List Cod
               by.stands,
               and_from (are_siblings q.roots t.function.slot.bus v.function.slot.bus) (same_space (region_space t) (region_space v)) (levels_one q t.function.slot.bus v.function.slot.bus (by.on ∙ level_is))
                   (spaces_one (region_space t) (region_space v) (by.in_space ∙ of)),
-              by.addresses_are ∙ made.is,
+              one.2 ∙ made.is,
             ));
         all = λ t listed is beside. (
             let sides = and_parts (are_siblings q.roots t.function.slot.bus v.function.slot.bus) (same_space (region_space t) (region_space v)) beside in
-            let has = (taken_is space).all t listed is (one_level q s t.function.slot.bus v.function.slot.bus sides.0 ∙ sym level_is) (one_space (region_space t) (region_space v) sides.1 ∙ sym of) in
+            let has = (taken_is space).all t record {
+              listed = listed;
+              stands = is;
+              on = one_level q s t.function.slot.bus v.function.slot.bus sides.0 ∙ sym level_is;
+              in_space = one_space (region_space t) (region_space v) sides.1 ∙ sym of;
+            } in
             subst (Contains (map decoded_range_of (taken_in space))) (sym has.2) (in_map_from decoded_range_of (taken_in space) has.0 has.1));
       }
 
@@ -224,7 +229,7 @@ module _ (q : Request) (s : System) (nested : IsNested q.roots s) (rs : List Cod
               let l = long in
               itself (subst (λ x. comes_first q x v ≡ true) among.is (subst (λ x. comes_first q (get_or vs among.at v) x ≡ true) v_is (ordered.order.order among.at count v low (omega (arith, within, l)))))
 
-      pub told_not : stands_if q s test v ≡ false → IsPassed q s rs (count + 1) r.level io mem table
+      pub told_not : stands_if q s test v ≡ false → IsPassed q s rs (count + 1) (taken_with r.level io mem) table
       told_not off = record {
         size = passed.size;
         told = told_more q s nested vs ordered.order count test passed.told (let l = long in omega (arith, within, l)) v v_is test (not_yet ∙ sym off) (λ t listed. inr refl);
@@ -241,13 +246,21 @@ module _ (q : Request) (s : System) (nested : IsNested q.roots s) (rs : List Cod
         still : (t : Region) → Contains s t.function → test t ≡ true → now t ≡ true
         still t listed is = elim (others t listed) [ inl same ↦ ap now same ∙ here | inr kept ↦ kept ∙ is ]
 
-        by_still : (space : Space) (x : Range) (t : Region) → IsTakenBy q s test r.level space x t → IsTakenBy q s now r.level space x t
-        by_still space x t by = record {
+        by_still : (space : Space) (t : Region) → IsStandingOn q s test r.level space t → IsStandingOn q s now r.level space t
+        by_still space t by = record {
           listed = by.listed;
           stands = still t (part_of q s t by.listed).listed by.stands;
           on = by.on;
           in_space = by.in_space;
-          addresses_are = by.addresses_are;
+        }
+
+        -- one that is told stood before
+        by_kept : (space : Space) (t : Region) → stands_in s next t ≡ test t → IsStandingOn q s now r.level space t → IsStandingOn q s test r.level space t
+        by_kept space t kept by = record {
+          listed = by.listed;
+          stands = sym kept ∙ by.stands;
+          on = by.on;
+          in_space = by.in_space;
         }
 
         -- in its space it is taken too
@@ -261,29 +274,29 @@ module _ (q : Request) (s : System) (nested : IsNested q.roots s) (rs : List Cod
                 stands = here;
                 on = sym level_is;
                 in_space = sym of;
-                addresses_are = sym range_is ∙ ap decoded_range_of (sym same);
               },
+              sym range_is ∙ ap decoded_range_of (sym same),
             )
-            | inr before ↦ (let one = was.each x before in (one.0, by_still space x one.0 one.1))
+            | inr before ↦ (let one = was.each x before in (one.0, by_still space one.0 one.1, one.2))
           ];
-          all = λ t listed is on of_t. elim (others t (part_of q s t listed).listed) [
+          all = λ t by. elim (others t (part_of q s t by.listed).listed) [
             | inl same ↦ (r.range, in_insert_here old k r.range bound, ap addresses same ∙ sym range_is)
-            | inr kept ↦ (let one = was.all t listed (sym kept ∙ is) on of_t in (one.0, in_insert_from old k r.range one.0 bound one.1, one.2))
+            | inr kept ↦ (let one = was.all t (by_kept space t kept by) in (one.0, in_insert_from old k r.range one.0 bound one.1, one.2))
           ];
         }
 
         -- and in the other one nothing more is
         taken_same : (space : Space) → (space ≡ region_space v → ⊥) → (old : List Range) → AreTakenOn q s test r.level space old → AreTakenOn q s now r.level space old
         taken_same space off old was = record {
-          each = λ x listed. (let one = was.each x listed in (one.0, by_still space x one.0 one.1));
-          all = λ t listed is on of_t. elim (others t (part_of q s t listed).listed) [
-            | inl same ↦ absurd (off (sym of_t ∙ ap region_space same))
-            | inr kept ↦ was.all t listed (sym kept ∙ is) on of_t
+          each = λ x listed. (let one = was.each x listed in (one.0, by_still space one.0 one.1, one.2));
+          all = λ t by. elim (others t (part_of q s t by.listed).listed) [
+            | inl same ↦ absurd (off (sym by.in_space ∙ ap region_space same))
+            | inr kept ↦ was.all t (by_kept space t kept by)
           ];
         }
 
         pub told_so : stands_if q s test v ≡ true → (space : Space) → space ≡ region_space v → (new_io new_mem : List Range) → IsWithTaken true r.range (in_space space io mem) (in_space space new_io new_mem) → in_other space new_io new_mem ≡ in_other space io mem
-            → IsPassed q s rs (count + 1) r.level new_io new_mem next
+            → IsPassed q s rs (count + 1) (taken_with r.level new_io new_mem) next
         told_so is space of new_io new_mem put other = record {
           size = size;
           told = told_more q s nested vs ordered.order count test passed.told (let l = long in omega (arith, within, l)) v v_is now (here ∙ sym is) others;

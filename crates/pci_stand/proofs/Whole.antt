@@ -34,6 +34,7 @@ use Rattle.pci_stand.specs.Boards.{IsKnown, AreOpen}
 use Rattle.pci_stand.specs.Order.{span_of, turn_number, turn_of, IsInTurn}
 use Rattle.pci_settle.specs.Kept.{IsPart, part_value, kept_of, nothing_kept, AreNone}
 use Rattle.pci_stand.specs.Tables.{index_of, stands_in}
+use Rattle.pci_stand.specs.Taken.{taken_with}
 use Rattle.pci_stand.specs.Passing.{IsReady, AreOrdered, AreTakenOn, IsPassed, AreStanding}
 use Rattle.pci_stand.proofs.Indexes.{table_at}
 
@@ -237,10 +238,10 @@ module _ (q : Request) (s : System) where
   -- ---- at the beginning, and in the end
 
   module _ (nested : IsNested q.roots s) (rs : List CodeRegion) (order : AreOrdered q s rs) where
-    pub passed_none : (table : List Kept) → length table ≡ length s → AreNone table → (bus : ℕ) (io mem : List Range) → bus ≡ 0 → io ≡ [] → mem ≡ [] → IsPassed q s rs 0 bus io mem table
+    pub passed_none : (table : List Kept) → length table ≡ length s → AreNone table → (bus : ℕ) (io mem : List Range) → bus ≡ 0 → io ≡ [] → mem ≡ [] → IsPassed q s rs 0 (taken_with bus io mem) table
     passed_none table size none bus io mem low no_io no_mem =
-        subst (λ n. IsPassed q s rs 0 n io mem table) (sym low)
-        (subst (λ xs. IsPassed q s rs 0 0 xs mem table) (sym no_io) (subst (λ xs. IsPassed q s rs 0 0 [] xs table) (sym no_mem) record {
+        subst (λ n. IsPassed q s rs 0 (taken_with n io mem) table) (sym low)
+        (subst (λ xs. IsPassed q s rs 0 (taken_with 0 xs mem) table) (sym no_io) (subst (λ xs. IsPassed q s rs 0 (taken_with 0 [] xs) table) (sym no_mem) record {
           size = size;
           told = told_none q s nested (map (region_value s) rs) order.order (stands_in s table) nothing_on;
           io_taken = none_taken Io;
@@ -268,7 +269,7 @@ module _ (q : Request) (s : System) where
         none_taken : (space : Space) → AreTakenOn q s (stands_in s table) 0 space []
         none_taken space = record {
           each = λ x listed. absurd (in_nil x listed);
-          all = λ t listed is on of. absurd (both_ways (stands_in s table t) (nothing_on t) is);
+          all = λ t by. absurd (both_ways (stands_in s table t) (nothing_on t) by.stands);
         }
 
     -- a part of a header that the function has is one of its parts
@@ -282,12 +283,12 @@ module _ (q : Request) (s : System) where
     has_in_header f (Window PrefetchWindow) there = Contains-append_right (header_bars f) (Window IoWindow ∷ Window MemoryWindow ∷ Window PrefetchWindow ∷ Rom ∷ []) (Window PrefetchWindow) (2, omega arith, refl)
 
     -- only open windows stand
-    pub open_alone : (count bus : ℕ) (io mem : List Range) (table : List Kept) → IsPassed q s rs count bus io mem table → AreOpen s table
+    pub open_alone : (count bus : ℕ) (io mem : List Range) (table : List Kept) → IsPassed q s rs count (taken_with bus io mem) table → AreOpen s table
     open_alone count bus io mem table passed c b listed is =
         let among = passed.told.only (record { function = b; part = Window c }) listed is in
         (part_of q s (record { function = b; part = Window c }) (order.order.only (record { function = b; part = Window c }) (subst (Contains (map (region_value s) rs)) among.is (Contains-get_or (map (region_value s) rs) among.at (record { function = b; part = Window c }) among.within)))).is
 
-    pub all_stand : IsSystem s → (bus : ℕ) (io mem : List Range) (table : List Kept) → IsPassed q s rs (length rs) bus io mem table → AreStanding q s table
+    pub all_stand : IsSystem s → (bus : ℕ) (io mem : List Range) (table : List Kept) → IsPassed q s rs (length rs) (taken_with bus io mem) table → AreStanding q s table
     all_stand system bus io mem table passed = record {
       count = passed.size;
       opens = open_alone (length rs) bus io mem table passed;

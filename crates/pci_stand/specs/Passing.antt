@@ -15,6 +15,7 @@ use Rattle.pci_stand.specs.Known.{region_value, IsForward}
 use Rattle.pci_stand.specs.Boards.{IsKnown, AreOpen}
 use Rattle.pci_settle.specs.Kept.{IsPart, kept_of}
 use Rattle.pci_stand.specs.Tables.{stands_in}
+use Rattle.pci_stand.specs.Taken.{Taken}
 
 -- a part that can be noted in a table of so many functions
 pub record IsReady (functions : ℕ) (r : CodeRegion) : Type 0 where
@@ -27,35 +28,33 @@ pub record AreOrdered (q : Request) (s : System) (rs : List CodeRegion) : Type 0
   pub known : All (IsKnown q s) rs
   pub order : AreInOrder q s (map (region_value s) rs)
 
--- a part that stands on a bus, in a space, and has these addresses
-pub record IsTakenBy (q : Request) (s : System) (test : Region → Bool) (bus : ℕ) (space : Space)
-    (x : Range) (t : Region) : Type 0 where
+-- a part that stands on a bus, in a space
+pub record IsStandingOn (q : Request) (s : System) (test : Region → Bool) (bus : ℕ) (space : Space)
+    (t : Region) : Type 0 where
   pub listed : Contains (regions q s) t
   pub stands : IsTrue (test t)
   pub on : level q t.function.slot.bus ≡ bus
   pub in_space : region_space t ≡ space
-  pub addresses_are : addresses t ≡ decoded_range_of x
 
 -- the ranges of what stands on a bus, in a space
 pub record AreTakenOn (q : Request) (s : System) (test : Region → Bool) (bus : ℕ) (space : Space)
     (taken : List Range) : Type 0 where
   pub each : (x : Range) → Contains taken x
-      → (t : Region) × IsTakenBy q s test bus space x t
-  pub all : (t : Region) → Contains (regions q s) t → IsTrue (test t)
-      → level q t.function.slot.bus ≡ bus → region_space t ≡ space
+      → (t : Region) × IsStandingOn q s test bus space t × (addresses t ≡ decoded_range_of x)
+  pub all : (t : Region) → IsStandingOn q s test bus space t
       → (x : Range) × Contains taken x × (addresses t ≡ decoded_range_of x)
 
 -- the first parts are told, and what is taken is what stands on the bus of the last of them
-pub record IsPassed (q : Request) (s : System) (rs : List CodeRegion) (count bus : ℕ)
-    (io mem : List Range) (table : List Kept) : Type 0 where
+pub record IsPassed (q : Request) (s : System) (rs : List CodeRegion) (count : ℕ) (taken : Taken)
+    (table : List Kept) : Type 0 where
   pub size : length table ≡ length s
   pub told : AreTold q s (map (region_value s) rs) count (stands_in s table)
-  pub io_taken : AreTakenOn q s (stands_in s table) bus Io io
-  pub mem_taken : AreTakenOn q s (stands_in s table) bus Memory mem
+  pub io_taken : AreTakenOn q s (stands_in s table) taken.level Io taken.io
+  pub mem_taken : AreTakenOn q s (stands_in s table) taken.level Memory taken.mem
   pub below : (t : Region) → Contains (regions q s) t → IsTrue (stands_in s table t)
-      → level q t.function.slot.bus ≤ bus
+      → level q t.function.slot.bus ≤ taken.level
   pub above : (k : ℕ) (d : CodeRegion) → count ≤ k → k < length rs
-      → bus ≤ (slice_index_or rs k d).level
+      → taken.level ≤ (slice_index_or rs k d).level
 
 -- a table by function in slot order, with what stands of each
 pub record AreStanding (q : Request) (s : System) (table : List Kept) : Type 0 where

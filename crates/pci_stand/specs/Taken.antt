@@ -39,9 +39,17 @@ abbrev pub in_other : Space → List Range → List Range → List Range
 in_other Io io mem = mem
 in_other Memory io mem = io
 
+-- what is taken on a bus: 0 for the roots, else one more than its number, and the ranges of each space
+pub record Taken : Type 0 where
+  pub level : ℕ
+  pub io : List Range
+  pub mem : List Range
+
+abbrev pub taken_with : ℕ → List Range → List Range → Taken
+taken_with level io mem = record { level = level; io = io; mem = mem }
+
 -- on the bus where one was before the same is taken, and on another one nothing
-pub record IsGoneTo (level old : ℕ) (old_io old_mem : List Range) (new : ℕ)
-    (io mem : List Range) : Type 0 where
-  pub there : new ≡ level
-  pub same : old ≡ level → (io ≡ old_io) × (mem ≡ old_mem)
-  pub other : old ≢ level → (io ≡ []) × (mem ≡ [])
+pub record IsGoneTo (level : ℕ) (old new : Taken) : Type 0 where
+  pub there : new.level ≡ level
+  pub same : old.level ≡ level → (new.io ≡ old.io) × (new.mem ≡ old.mem)
+  pub other : old.level ≢ level → (new.io ≡ []) × (new.mem ≡ [])

@@ -8,7 +8,7 @@ ghost use Rattle.pci_place.specs.Above.{system_in};
 ghost use Rattle.pci_settle.specs.Lists.{lists_value};
 ghost use Rattle.pci_stand.specs.Boards.{IsBoard};
 ghost use Rattle.pci_stand.specs.Known.{asked};
-ghost use Rattle.pci_stand.specs.Taken.{AreApartInOrder};
+ghost use Rattle.pci_stand.specs.Taken.{AreApartInOrder, taken_with};
 ghost use Rattle.pci_stand.specs.Passing.{IsReady, AreOrdered, IsPassed, AreStanding};
 
 use crate::collect::regions;
@@ -44,10 +44,10 @@ fn note_one<A: Allocator + Copy>(
     ensures mem { AreApartInOrder taken.new.mem.items }
     ensures passed { OnOk result ((q : Request) → (s : System)
         → IsBoard q s records.now (lists_value lists.now) → AreOrdered q s regions.now
-        → IsPassed q s regions.now index taken.old.level taken.old.io.items taken.old.mem.items
-        table.old
-        → IsPassed q s regions.now (index + 1) taken.new.level taken.new.io.items
-        taken.new.mem.items table.new) }
+        → IsPassed q s regions.now index
+        (taken_with taken.old.level taken.old.io.items taken.old.mem.items) table.old
+        → IsPassed q s regions.now (index + 1)
+        (taken_with taken.new.level taken.new.io.items taken.new.mem.items) table.new) }
 {
     let region = &regions[index];
     taken.go_to(region.level);
@@ -73,10 +73,10 @@ fn note_all<A: Allocator + Copy>(
     requires mem { AreApartInOrder taken.old.mem.items }
     ensures passed { OnOk result ((q : Request) → (s : System)
         → IsBoard q s records.now (lists_value lists.now) → AreOrdered q s regions.now
-        → IsPassed q s regions.now 0 taken.old.level taken.old.io.items taken.old.mem.items
-        table.old
-        → IsPassed q s regions.now (length regions.now) taken.new.level taken.new.io.items
-        taken.new.mem.items table.new) }
+        → IsPassed q s regions.now 0
+        (taken_with taken.old.level taken.old.io.items taken.old.mem.items) table.old
+        → IsPassed q s regions.now (length regions.now)
+        (taken_with taken.new.level taken.new.io.items taken.new.mem.items) table.new) }
 {
     for index in 0..regions.len() {
         note_one(records, over, lists, regions, index, taken, table)?;

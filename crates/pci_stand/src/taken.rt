@@ -2,7 +2,7 @@
 ghost use Rattle.std.specs.Prelude.{◌≡◌, ◌<◌, ◌≤◌, IfOk, IfSome, IfNone, [], false, length};
 ghost use Rattle.std.specs.List.{AllWithin};
 ghost use Rattle.pci_base.specs.Space.{space_of};
-ghost use Rattle.pci_stand.specs.Taken.{AreApartInOrder, is_free, IsGap, IsWithTaken, in_space, in_other, IsGoneTo};
+ghost use Rattle.pci_stand.specs.Taken.{AreApartInOrder, is_free, IsGap, IsWithTaken, in_space, in_other, taken_with, IsGoneTo};
 
 use pci_base::memory::OutOfMemory;
 use pci_base::range::Range;
@@ -72,8 +72,8 @@ impl<A: Allocator + Copy> Taken<A> {
 
     /// Goes to a bus: on another one than before nothing is taken yet.
     pub fn go_to(&mut self, level: u16)
-        ensures { IsGoneTo level self.old.level self.old.io.items self.old.mem.items self.new.level
-            self.new.io.items self.new.mem.items }
+        ensures { IsGoneTo level (taken_with self.old.level self.old.io.items self.old.mem.items)
+            (taken_with self.new.level self.new.io.items self.new.mem.items) }
     {
         if self.level != level {
             self.level = level;

@@ -3,7 +3,7 @@ use Rattle.settle_spec.specs.Lists.{Request}
 use Rattle.pci_spec.specs.System.{System}
 use Rattle.pci_settle.specs.Lists.{lists_value}
 use Rattle.pci_stand.specs.Boards.{IsBoard}
-use Rattle.pci_stand.specs.Taken.{AreApartInOrder}
+use Rattle.pci_stand.specs.Taken.{AreApartInOrder, taken_with}
 use Rattle.pci_stand.specs.Passing.{AreOrdered, IsPassed}
 use Rattle.pci_stand.proofs.pass.note_all.Given as goal
 
@@ -13,6 +13,6 @@ invariant-loop-index g l = record {
   io : AreApartInOrder l.taken.io.items;
   mem : AreApartInOrder l.taken.mem.items;
   passed : (q : Request) (s : System) → IsBoard q s l.records (lists_value l.lists) → AreOrdered q s l.regions
-      → IsPassed q s l.regions 0 l.fn.taken.level l.fn.taken.io.items l.fn.taken.mem.items l.fn.table
-      → IsPassed q s l.regions l.index l.taken.level l.taken.io.items l.taken.mem.items l.table;
+      → IsPassed q s l.regions 0 (taken_with l.fn.taken.level l.fn.taken.io.items l.fn.taken.mem.items) l.fn.table
+      → IsPassed q s l.regions l.index (taken_with l.taken.level l.taken.io.items l.taken.mem.items) l.table;
 }
