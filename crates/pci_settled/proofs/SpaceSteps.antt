@@ -125,7 +125,7 @@ module _ (roots : List ℕ) (s : System) (system : IsSystem s) (nested : IsNeste
   -- ---- the roots
 
   abbrev OnRoots : List Places → List Places → Option Candidate → ℕ → Type 0
-  OnRoots old new lack root = (q : Request) → IsStaying q (setting roots s t st) → q.lists ≡ l → HasSpaceWindows q s space t w → AreNotedFor q s space old new lack root
+  OnRoots old new lack root = (q : Request) → IsStaying q (setting roots s t st) → q.lists ≡ l → HasSpaceWindows q s space t w → AreNotedFor q (pass roots s space t st w) old new lack root
 
   pub roots_lack : (old new : List Places) (lack : Option Candidate) → AreNotedOnRoots (pass roots s space t st w) l old new lack → (q : Request) → IsStaying q (setting roots s t st) → q.lists ≡ l → HasSpaceWindows q s space t w
       → space_lack q s space q.roots ≡ option_map (candidate_value s) lack

@@ -26,12 +26,14 @@ IsFirstRoot roots None = roots ≡ []
 IsFirstRoot roots (Some root) = (root < 256) × IsTrue (is_root roots root)
 
 -- there is no root, or what is placed on one of them is noted, and the first item without a place is answered
-pub record AreNotedFor (q : Request) (s : System) (space : Space) (old new : List Places)
-    (lack : Option Candidate) (root : ℕ) : Type 0 where
+pub record AreNotedFor (q : Request) (p : Pass) (old new : List Places) (lack : Option Candidate)
+    (root : ℕ) : Type 0 where
   pub small : root < 256
   pub on : IsTrue (is_root q.roots root)
-  pub noted : NotesOf s (placed_of (placing_on q s space root)) old new
-  pub lacking : option_map (candidate_value s) lack ≡ first_lack (placing_on q s space root) None
+  pub noted : NotesOf p.setting.system
+      (placed_of (placing_on q p.setting.system p.space root)) old new
+  pub lacking : option_map (candidate_value p.setting.system) lack
+      ≡ first_lack (placing_on q p.setting.system p.space root) None
 
 pub record HaveNoRoot (roots : List ℕ) (old new : List Places) (lack : Option Candidate) : Type 0 where
   pub none : roots ≡ []
@@ -42,7 +44,7 @@ abbrev pub AreNotedOnRoots : Pass → Lists → List Places → List Places → 
 AreNotedOnRoots p l old new lack =
     HaveNoRoot p.setting.roots old new lack
     ⊎ ((root : ℕ) × ((q : Request) → IsStaying q p.setting → q.lists ≡ l → HasWindowsOf q p
-    → AreNotedFor q p.setting.system p.space old new lack root))
+    → AreNotedFor q p old new lack root))
 
 -- these windows are those over a bus
 abbrev pub HasWindowsOver : Request → System → Space → (ℕ → List Placed) → ℕ → (WindowKind → Option DecodedRange) → Type 0
