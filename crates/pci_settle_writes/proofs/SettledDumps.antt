@@ -29,8 +29,9 @@ use Rattle.pci_settle.specs.declared.own.Terms.{Terms}
 use Rattle.pci_settle.specs.Own.{AreTerms}
 use Rattle.pci_settled.specs.declared.places.Places.{Places}
 use Rattle.pci_settled.specs.Places.{range_in}
-use Rattle.pci_settling.specs.Images.{is_kept}
+use Rattle.pci_settling.specs.Images.{is_kept, IsPlaced}
 use Rattle.pci_settling.specs.Live.{IsRequestOf, HasAllPlaces, AreLiveBuses, is_live_on, is_live_behind}
+use Rattle.pci_settling.specs.declared.settled.Behind.{Behind}
 use Rattle.pci_settling.specs.Settled.{IsTold}
 use Rattle.pci_plan.proofs.PlannedDumps.{ArePlanned, next_planned, function_here}
 use Rattle.pci_settle.specs.declared.kept.Kept.{Kept}
@@ -71,27 +72,28 @@ module _ (roots : List ℕ) (s : System) (system : IsSystem s) (nested : IsNeste
   nested_for : IsNested q.roots s
   nested_for = subst (λ xs. IsNested xs s) (sym of.rooted) nested
 
-  -- all that the code tells of a function is right
-  pub told_here : (io memory : List Bool) → AreLiveBuses roots s Io t table io → AreLiveBuses roots s Memory t table memory → (aboves : List Above) → AreAboves s aboves
-      → (staying : List Kept) → IsTableOf s (stays q s) staying
-      → (k : ℕ) (f : Function) (r : Record) → slice_get s k ≡ Some f → IsRecordOf s f r → (image : List ℕ) → image ≡ f.image → (d p : Places) → p ≡ get_or table k d → (n h : Kept) → h ≡ get_or staying k n
-      → (bus : ℕ) → bus ≡ f.slot.bus → (none : Above) (here_io here_memory : Bool) → here_io ≡ is_live_behind io r.bridge → here_memory ≡ is_live_behind memory r.bridge
-      → IsTold q s f r image p h.windows (get_or aboves bus none) t here_io here_memory
-  told_here io memory io_is memory_is aboves are staying stay k f r at is image shown d p p_is n h h_is bus on_bus none here_io here_memory here_io_is here_memory_is = record {
-    placed = record {
-      places = record {
-        system = system;
-        nested = nested_for;
-        is = is;
-        each = λ part there. ap (λ x. range_in x part) p_is ∙ placed.each k f d part at there;
-      };
-      shown = shown;
-      windows = λ c there. kept_window h c ∙ ap (λ x. kept_of x (Window c)) h_is ∙ stay.each k f n (Window c) at there;
+  -- the places of a function are right, and the windows that stay
+  pub placed_here : (staying : List Kept) → IsTableOf s (stays q s) staying → (k : ℕ) (f : Function) (r : Record) → slice_get s k ≡ Some f → IsRecordOf s f r
+      → (d p : Places) → p ≡ get_or table k d → (n h : Kept) → h ≡ get_or staying k n → IsPlaced q s f r p h.windows
+  placed_here staying stay k f r at is d p p_is n h h_is = record {
+    places = record {
+      system = system;
+      nested = nested_for;
+      is = is;
+      each = λ part there. ap (λ x. range_in x part) p_is ∙ placed.each k f d part at there;
     };
+    windows = λ c there. kept_window h c ∙ ap (λ x. kept_of x (Window c)) h_is ∙ stay.each k f n (Window c) at there;
+  }
+
+  -- and so is what tells its Command
+  pub told_here : (io memory : List Bool) → AreLiveBuses roots s Io t table io → AreLiveBuses roots s Memory t table memory → (aboves : List Above) → AreAboves s aboves
+      → (f : Function) (r : Record) → IsRecordOf s f r → (bus : ℕ) → bus ≡ f.slot.bus → (none : Above) (here : Behind) → here.io ≡ is_live_behind io r.bridge → here.memory ≡ is_live_behind memory r.bridge
+      → IsTold q s f (get_or aboves bus none) t here
+  told_here io memory io_is memory_is aboves are f r is bus on_bus none here here_io_is here_memory_is = record {
     over = subst (λ n. IsAbove s f.slot.bus (get_or aboves n none)) (sym on_bus) (are f none is.listed);
     terms = of.terms;
-    io_behind = here_io_is ∙ behind_now Io io io_is f r is;
-    memory_behind = here_memory_is ∙ behind_now Memory memory memory_is f r is;
+    io = here_io_is ∙ behind_now Io io io_is f r is;
+    memory = here_memory_is ∙ behind_now Memory memory memory_is f r is;
   }
 
 -- ---- block by block

@@ -133,7 +133,7 @@ by_place (Some x) test some none any off on other first second = ap (λ b. cond 
 pub low_bus : (q : Request) (s : System) (f : Function) (r : Record) (p : Places) → HasPlaces q s f r p → f.slot.bus < 256
 low_bus q s f r p has = (All-contains IsFunction s f has.system.each has.is.listed).slot.0
 
-module _ (q : Request) (s : System) (f : Function) (r : Record) (image : List ℕ) (p : Places) (kept : ByKind Bool) (placed : IsPlaced q s f r image p kept) where
+module _ (q : Request) (s : System) (f : Function) (r : Record) (image : List ℕ) (p : Places) (kept : ByKind Bool) (image_is : image ≡ f.image) (placed : IsPlaced q s f r p kept) where
   abbrev has : HasPlaces q s f r p
   has = placed.places
 
@@ -302,4 +302,4 @@ module _ (q : Request) (s : System) (f : Function) (r : Record) (image : List �
       ∙ sym (fold_kept (λ im (x : Region). shown q s x (new_place q s x) im) region changes f.image (header_bars f ++ others))
 
   pub images_are : with_parts image p kept r ≡ settled_image q s f
-  images_are = ap (λ im. with_parts im p kept r) placed.shown ∙ same_parts
+  images_are = ap (λ im. with_parts im p kept r) image_is ∙ same_parts

@@ -74,10 +74,9 @@ is_kept kept IoWindow = kept.io
 is_kept kept MemoryWindow = kept.memory
 is_kept kept PrefetchWindow = kept.prefetchable
 
--- and its image, and the windows that stay
-pub record IsPlaced (q : Request) (s : System) (f : Function) (r : Record) (image : List ℕ)
-    (p : Places) (kept : ByKind Bool) : Type 0 where
+-- and the windows that stay
+pub record IsPlaced (q : Request) (s : System) (f : Function) (r : Record) (p : Places)
+    (kept : ByKind Bool) : Type 0 where
   pub places : HasPlaces q s f r p
-  pub shown : image ≡ f.image
   pub windows : (c : WindowKind) → IsTrue (has_part f (Window c))
       → is_kept kept c ≡ stays q s (window_region c f)

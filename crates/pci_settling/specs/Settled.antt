@@ -1,17 +1,16 @@
 -- A function as it is to be once all has its place.
-use Rattle.std.specs.Prelude.{◌≡◌, ℕ, ◌+◌, Bool, if◌then◌else◌, List}
+use Rattle.std.specs.Prelude.{◌≡◌, ℕ, ◌+◌, Bool, if◌then◌else◌}
 use Rattle.pci_spec.specs.Machine.{without_low}
 use Rattle.pci_spec.specs.System.{System, Function, Io, Memory}
 use Rattle.settle_spec.specs.Lists.{Request}
 use Rattle.settle_spec.specs.LiveLaws.{is_live, has_live_behind}
-use Rattle.pci_base.specs.declared.window_kind.ByKind.{ByKind}
 use Rattle.pci_function.specs.declared.record.Record.{Record}
 use Rattle.pci_place.specs.declared.above.Above.{Above}
 use Rattle.pci_place.specs.Above.{IsAbove}
 use Rattle.pci_settle.specs.declared.own.Terms.{Terms}
 use Rattle.pci_settle.specs.Own.{AreTerms}
 use Rattle.pci_settled.specs.declared.places.Places.{Places}
-use Rattle.pci_settling.specs.Images.{IsPlaced}
+use Rattle.pci_settling.specs.declared.settled.Behind.{Behind}
 use Rattle.pci_settling.specs.Claims.{is_enabled_by}
 
 -- Command, where something live in I/O or memory is behind the function or not
@@ -20,12 +19,10 @@ command_by p above t r io memory =
     without_low 4 r.command + (if is_enabled_by Io p above t r io then 1 else 0)
     + (if is_enabled_by Memory p above t r memory then 2 else 0)
 
--- all that tells a function of a system: its record and image, its places and the windows that stay, the windows above it,
--- and whether something live is behind it
-pub record IsTold (q : Request) (s : System) (f : Function) (r : Record) (image : List ℕ)
-    (p : Places) (kept : ByKind Bool) (above : Above) (t : Terms) (io memory : Bool) : Type 0 where
-  pub placed : IsPlaced q s f r image p kept
+-- what tells its Command beside its places: the windows above it, the lists, and whether something live is behind it
+pub record IsTold (q : Request) (s : System) (f : Function) (above : Above) (t : Terms)
+    (behind : Behind) : Type 0 where
   pub over : IsAbove s f.slot.bus above
   pub terms : AreTerms q.lists t
-  pub io_behind : io ≡ has_live_behind s (is_live q s Io) f
-  pub memory_behind : memory ≡ has_live_behind s (is_live q s Memory) f
+  pub io : behind.io ≡ has_live_behind s (is_live q s Io) f
+  pub memory : behind.memory ≡ has_live_behind s (is_live q s Memory) f

@@ -75,7 +75,7 @@ fn with_parts(record: &Record, image: &Image, places: &Places, kept: &ByKind<boo
 pub fn settled_image(record: &Record, image: &Image, places: &Places, kept: &ByKind<bool>) -> Image
     requires { All HasRegister «record».now.bars.items }
     ensures { (q : Request) (s : System) (f : Function)
-        → IsPlaced q s f «record».now image.now.0 places.now kept.now
+        → image.now.0 ≡ f.image → IsPlaced q s f «record».now places.now kept.now
         → result.0 ≡ settled_image q s f }
 {
     with_parts(record, image, places, kept)

@@ -5,6 +5,7 @@ ghost use Rattle.pci_spec.specs.System.{System, Function};
 ghost use Rattle.settle_spec.specs.Lists.{Request};
 ghost use Rattle.settle_spec.specs.Registers as registers;
 ghost use Rattle.pci_settling.specs.Shown.{HasRegister};
+ghost use Rattle.pci_settling.specs.Images.{IsPlaced};
 ghost use Rattle.pci_settling.specs.Settled.{command_by, IsTold};
 
 use crate::claim::is_enabled;
@@ -56,7 +57,8 @@ pub fn settled_function(
 ) -> Image
     requires { All HasRegister «record».now.bars.items }
     ensures { (q : Request) (s : System) (f : Function)
-        → IsTold q s f «record».now image.now.0 places.now kept.now above terms behind.io behind.memory
+        → image.now.0 ≡ f.image → IsPlaced q s f «record».now places.now kept.now
+        → IsTold q s f above terms behind
         → result.0 ≡ (registers.settled_function q s f).image }
 {
     let mut settled = settled_image(record, image, places, kept);

@@ -15,7 +15,7 @@ use Rattle.pci_place.proofs.Records.{same_count}
 use Rattle.pci_settle.specs.Lists.{lists_value}
 use Rattle.pci_settling.proofs.Registers.{have_registers}
 use Rattle.pci_plan.proofs.PlannedDumps.{ArePlanned, none_planned, found_count, next_above, all_planned}
-use Rattle.pci_settle_writes.proofs.SettledDumps.{IsSettledOf, IsHere, request_by, told_here, block_here, next_settled, all_settled}
+use Rattle.pci_settle_writes.proofs.SettledDumps.{IsSettledOf, IsHere, request_by, placed_here, told_here, block_here, next_settled, all_settled}
 use Rattle.pci_settle_writes.proofs.dump.settled_dump.Goals as goal
 use Rattle.pci_settle_writes.proofs.dump.settled_dump.Goals.{After-empty-dump}
 use Rattle.pci_settle_writes.proofs.dump.settled_dump.Given.{Over}
@@ -111,12 +111,13 @@ loop-k-preserved g c =
     let bus = c.from.ensures ∙ c.bus.ensures ∙ ap (λ (x : Slot). x.bus) (same_slot_of r f at.is.value) in
     subst (λ (found : List Block). ArePlanned (P g start) (a g start).dump (a g start).probe (k + 1) found) (sym c.in_ok-push_next.ensures)
     (next_settled (a g start) (admitted_is g start) (l g start) c.args.table.now c.args.staying.now k c.loop-k.dump c.loop-k.invariant old new r at less b slot title
-    (λ q by. c.settled_function-image.ensures q s f
-    (told_here (a g start).roots s (admitted_is g start).system (admitted_is g start).nested q c.of-terms.result c.args.table.now
-    (request_by q (a g start).roots (l g start) c.of-terms.result by.asked c.of-terms.ensures) by.places c.live_buses-io.result c.live_buses-memory.result c.live_buses-io.ensures c.live_buses-memory.ensures c.aboves-aboves.result c.aboves-aboves.ensures
-    c.args.staying.now by.stay
-    k f r at.at at.is c.block.inside.image.0 (ap (λ (x : Block). x.image) c.block.view_is) _ _ refl _ _ refl
-    c.from.result bus _ c.is_live_behind.result c.is_live_behind-in-loop-k.result c.is_live_behind.ensures c.is_live_behind-in-loop-k.ensures)))
+    (λ q by.
+    let of = request_by q (a g start).roots (l g start) c.of-terms.result by.asked c.of-terms.ensures in
+    c.settled_function-image.ensures q s f (ap (λ (x : Block). x.image) c.block.view_is)
+    (placed_here (a g start).roots s (admitted_is g start).system (admitted_is g start).nested q c.of-terms.result c.args.table.now of by.places c.args.staying.now by.stay k f r at.at at.is _ _ refl _ _ refl)
+    (told_here (a g start).roots s (admitted_is g start).system (admitted_is g start).nested q c.of-terms.result c.args.table.now of by.places
+    c.live_buses-io.result c.live_buses-memory.result c.live_buses-io.ensures c.live_buses-memory.ensures c.aboves-aboves.result c.aboves-aboves.ensures
+    f r at.is c.from.result bus _ record { io = c.is_live_behind.result; memory = c.is_live_behind-in-loop-k.result } c.is_live_behind.ensures c.is_live_behind-in-loop-k.ensures)))
 
 pub push_next-requires-clause-above : goal.push_next-requires-clause-above
 push_next-requires-clause-above g c =

@@ -4,8 +4,8 @@ use Rattle.pci_settling.proofs.Commands.{command_is}
 use Rattle.pci_settling.proofs.settled.settled_function.Goals as goal
 
 pub returns : goal.returns
-returns c = λ q s f told.
+returns c = λ q s f shown placed told.
     c.write.ensures
-    ∙ ap (λ image. with_number 2 4 c.into.result image) (c.settled_image-settled.ensures q s f told.placed)
+    ∙ ap (λ image. with_number 2 4 c.into.result image) (c.settled_image-settled.ensures q s f shown placed)
     ∙ ap (λ n. with_number 2 4 n (settled_image q s f)) (c.into.ensures ∙ c.settled_command-command.ensures
-    ∙ command_is q s f c.args.«record».now c.args.image.now.0 c.args.places.now c.args.kept.now c.args.above c.args.terms c.args.behind.io c.args.behind.memory told)
+    ∙ command_is q s f c.args.«record».now c.args.places.now placed.places c.args.above c.args.terms c.args.behind told)
