@@ -16,7 +16,6 @@ use Rattle.pci_settle.specs.declared.kept.Kept.{Kept}
 use Rattle.pci_settle.specs.declared.over.Left.{Left}
 use Rattle.pci_settle.specs.Kept.{kept_of, nothing_kept, AreNone}
 use Rattle.pci_settle.specs.Over.{AreOpenOver}
-use Rattle.pci_stand.specs.Flags.{AreFlags}
 use Rattle.pci_stand.specs.Known.{asked}
 use Rattle.pci_stand.specs.Passing.{AreStanding}
 use Rattle.pci_stay.specs.Staying.{AreStaying}
@@ -45,13 +44,12 @@ table_of_staying q s table are = record {
       ap (λ t. kept_of t part) (get_or_default table k d nothing_kept (subst (λ n. k < n) (sym are.count) within)) ∙ are.each k f part at there;
 }
 
-module _ (a : Admission) (l : Lists) (flags : List Bool) where
+module _ (a : Admission) (l : Lists) where
   -- where all is placed anew
   pub told_anew : (left : Left) → left.over.now ≡ [] → left.kept.now ≡ [] → (table : List Kept) → length table ≡ length (system_in a) → AreNone table
-      → (q : Request) → IsAskedOf q a.roots l → IsTrue q.anew → AreFlags q.fixed flags → AreTold q a l flags left table table
-  told_anew left no_windows none_kept table count none q is anew of_fixed = record {
+      → (q : Request) → IsAskedOf q a.roots l → IsTrue q.anew → AreTold q a l left table table
+  told_anew left no_windows none_kept table count none q is anew = record {
     asked = is;
-    flags = of_fixed;
     leaving = leaves a.roots (system_in a) l left no_windows none_kept q record { rooted = is.roots_are; anew = anew; lists = is.lists_are };
     stand = table_of_none (system_in a) (stands q (system_in a)) table (none_stands q (system_in a) anew (length (regions q (system_in a)))) count none;
     stay = table_of_none (system_in a) (stays q (system_in a)) table (none_stays q (system_in a) anew) count none;
@@ -71,10 +69,9 @@ module _ (a : Admission) (l : Lists) (flags : List Bool) where
     pub rest_can_be_left : CanBeLeft a.roots (system_in a) l left
     rest_can_be_left = record { request = asked a.roots l fixed; leaving = leaving_rest }
 
-    pub told_rest : AreFlags fixed flags → AreTold (asked a.roots l fixed) a l flags left standing staying
-    told_rest of_fixed = record {
+    pub told_rest : AreTold (asked a.roots l fixed) a l left standing staying
+    told_rest = record {
       asked = record { roots_are = refl; lists_are = refl };
-      flags = of_fixed;
       leaving = leaving_rest;
       stand = record { count = stand.count; each = stand.each };
       stay = table_of_staying (asked a.roots l fixed) (system_in a) staying stay;

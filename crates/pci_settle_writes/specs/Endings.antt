@@ -1,5 +1,5 @@
 -- How settling ends once its lists are fine, and why nothing is settled.
-use Rattle.std.specs.Prelude.{◌≡◌, ℕ, Bool, IsTrue, IsFalse, List, None, ⊤}
+use Rattle.std.specs.Prelude.{◌≡◌, ℕ, IsTrue, IsFalse, List, None, ⊤}
 use Rattle.pci_spec.specs.Slot.{Slot}
 use Rattle.pci_spec.specs.Text.{Block}
 use Rattle.pci_spec.specs.Window.{WindowKind}
@@ -20,7 +20,6 @@ use Rattle.pci_place.specs.Items.{function_in}
 use Rattle.pci_settle.specs.declared.kept.Kept.{Kept}
 use Rattle.pci_settle.specs.declared.over.Left.{Left}
 use Rattle.pci_settle.specs.NewWindows.{IsTooLarge}
-use Rattle.pci_stand.specs.Flags.{AreFlags}
 use Rattle.pci_settled.specs.Spaces.{space_lack}
 use Rattle.pci_settled.specs.Placed.{IsLeaving}
 use Rattle.pci_settle_writes.specs.declared.lack.SettleFault.{SettleFault}
@@ -74,10 +73,9 @@ IsLackOff a l left e = (q : Request) → IsLeaving q a.roots (system_in a) l lef
 -- ---- with tables of what stands and stays
 
 -- they are those of what is asked for
-pub record AreTold (q : Request) (a : Admission) (l : Lists) (fixed : List Bool) (left : Left)
+pub record AreTold (q : Request) (a : Admission) (l : Lists) (left : Left)
     (standing staying : List Kept) : Type 0 where
   pub asked : IsAskedOf q a.roots l
-  pub flags : AreFlags q.fixed fixed
   pub leaving : IsLeaving q a.roots (system_in a) l left
   pub stand : IsTableOf (system_in a) (stands q (system_in a)) standing
   pub stay : IsTableOf (system_in a) (stays q (system_in a)) staying

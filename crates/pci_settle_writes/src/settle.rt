@@ -113,10 +113,12 @@ fn settle_held<A: Allocator + Copy, B: Allocator>(
     ensures titles { IfOk result
         (λ x. map (λ b. b.title) x.dump ≡ map (λ b. b.title) admitted.now.dump) }
     ensures ends { IfOk result (λ x. (q : Request)
-        → AreTold q admitted.now (lists_value lists.now) fixed.now left.now standing.now staying.now
+        → AreFlags q.fixed fixed.now
+        → AreTold q admitted.now (lists_value lists.now) left.now standing.now staying.now
         → IsEnded q admitted.now x.dump (map write_value x.writes.all.items) x.writes.closings) }
     ensures refusal { IfErr result (λ e. (q : Request)
-        → AreTold q admitted.now (lists_value lists.now) fixed.now left.now standing.now staying.now
+        → AreFlags q.fixed fixed.now
+        → AreTold q admitted.now (lists_value lists.now) left.now standing.now staying.now
         → IsEndedBy admitted.now q e) }
 {
     if let Some(fault) = fixed_without(admitted, lists, fixed, standing) {

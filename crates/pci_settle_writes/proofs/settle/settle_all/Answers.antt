@@ -20,7 +20,7 @@ returns-clause-ends g c =
     let count = ap length c.as_slice-kept.ensures.value ∙ c.in_ok-none.ensures.count ∙ sym (same_count (system_in c.args.admitted.now) c.records.result.now has) in
     let none = subst AreNone (sym c.as_slice-kept.ensures.value) c.in_ok-none.ensures.none in
     IfOk-weaker c.settle_held.result _ _
-    (λ x ends q is anew flags. ends q (told_anew c.args.admitted.now (lists_value c.args.lists.now) c.args.fixed.now _ refl refl c.as_slice-kept.result.now count none q is anew flags))
+    (λ x ends q is anew flags. ends q flags (told_anew c.args.admitted.now (lists_value c.args.lists.now) _ refl refl c.as_slice-kept.result.now count none q is anew))
     c.settle_held.ensures.ends
 
 pub returns-clause-refusal : goal.returns-clause-refusal
@@ -30,5 +30,5 @@ returns-clause-refusal g c =
     let count = ap length c.as_slice-kept.ensures.value ∙ c.in_ok-none.ensures.count ∙ sym (same_count (system_in c.args.admitted.now) c.records.result.now has) in
     let none = subst AreNone (sym c.as_slice-kept.ensures.value) c.in_ok-none.ensures.none in
     IfErr-weaker c.settle_held.result _ _
-    (λ e ends q is anew flags. ends q (told_anew c.args.admitted.now (lists_value c.args.lists.now) c.args.fixed.now _ refl refl c.as_slice-kept.result.now count none q is anew flags))
+    (λ e ends q is anew flags. ends q flags (told_anew c.args.admitted.now (lists_value c.args.lists.now) _ refl refl c.as_slice-kept.result.now count none q is anew))
     c.settle_held.ensures.refusal

@@ -20,7 +20,7 @@ settle_held-requires-clause-left g c =
     let has : HasRecords s (map record_value c.records.result.now) = subst (λ rs. HasRecords s rs) (sym c.records.ensures.value) c.outline-outline.ensures.records in
     let admitted = c.outline-outline.ensures.admitted in
     let open_over : AreOpenOver q s c.open_windows-over.result = c.open_windows-over.ensures q s record { has = has; system = admitted.system; nested = admitted.nested; stands = refl } in
-    rest_can_be_left a l c.args.flags.now c.args.fixed.now _ c.as_slice-2.result.now c.as_slice-3.result.now open_over
+    rest_can_be_left a l c.args.fixed.now _ c.as_slice-2.result.now c.as_slice-3.result.now open_over
     (subst (AreStanding q s) (sym c.as_slice-2.ensures.value) c.in_ok-stand.ensures) (subst (AreStaying q s) (sym c.as_slice-3.ensures.value) c.in_ok-stay.ensures.stay)
     (c.as_slice.ensures.value ∙ sym c.as_slice-3.ensures.value)
 
@@ -33,10 +33,10 @@ returns-clause-ends g c =
     let has : HasRecords s (map record_value c.records.result.now) = subst (λ rs. HasRecords s rs) (sym c.records.ensures.value) c.outline-outline.ensures.records in
     let admitted = c.outline-outline.ensures.admitted in
     let open_over : AreOpenOver q s c.open_windows-over.result = c.open_windows-over.ensures q s record { has = has; system = admitted.system; nested = admitted.nested; stands = refl } in
-    IfOk-weaker c.settle_held.result _ _ (λ x ends. ends q
-    (told_rest a l c.args.flags.now c.args.fixed.now _ c.as_slice-2.result.now c.as_slice-3.result.now open_over
+    IfOk-weaker c.settle_held.result _ _ (λ x ends. ends q c.requires
+    (told_rest a l c.args.fixed.now _ c.as_slice-2.result.now c.as_slice-3.result.now open_over
     (subst (AreStanding q s) (sym c.as_slice-2.ensures.value) c.in_ok-stand.ensures) (subst (AreStaying q s) (sym c.as_slice-3.ensures.value) c.in_ok-stay.ensures.stay)
-    (c.as_slice.ensures.value ∙ sym c.as_slice-3.ensures.value) c.requires)) c.settle_held.ensures.ends
+    (c.as_slice.ensures.value ∙ sym c.as_slice-3.ensures.value))) c.settle_held.ensures.ends
 
 pub returns-clause-refusal : goal.returns-clause-refusal
 returns-clause-refusal g c =
@@ -47,7 +47,7 @@ returns-clause-refusal g c =
     let has : HasRecords s (map record_value c.records.result.now) = subst (λ rs. HasRecords s rs) (sym c.records.ensures.value) c.outline-outline.ensures.records in
     let admitted = c.outline-outline.ensures.admitted in
     let open_over : AreOpenOver q s c.open_windows-over.result = c.open_windows-over.ensures q s record { has = has; system = admitted.system; nested = admitted.nested; stands = refl } in
-    IfErr-weaker c.settle_held.result _ _ (λ e ends. ends q
-    (told_rest a l c.args.flags.now c.args.fixed.now _ c.as_slice-2.result.now c.as_slice-3.result.now open_over
+    IfErr-weaker c.settle_held.result _ _ (λ e ends. ends q c.requires
+    (told_rest a l c.args.fixed.now _ c.as_slice-2.result.now c.as_slice-3.result.now open_over
     (subst (AreStanding q s) (sym c.as_slice-2.ensures.value) c.in_ok-stand.ensures) (subst (AreStaying q s) (sym c.as_slice-3.ensures.value) c.in_ok-stay.ensures.stay)
-    (c.as_slice.ensures.value ∙ sym c.as_slice-3.ensures.value) c.requires)) c.settle_held.ensures.refusal
+    (c.as_slice.ensures.value ∙ sym c.as_slice-3.ensures.value))) c.settle_held.ensures.refusal
