@@ -40,10 +40,9 @@ use Rattle.pci_settle.specs.declared.item.Item.{Item}
 use Rattle.pci_settle.specs.declared.item.Part.TheVariants as parts
 use Rattle.pci_settle.specs.declared.kept.Kept.{Kept}
 use Rattle.pci_settle.specs.declared.over.Over.{Over}
-use Rattle.pci_settle.specs.declared.own.Terms.{Terms}
 use Rattle.pci_settle.specs.Kept.{kept_of, nothing_kept}
 use Rattle.pci_settle.specs.Over.{no_windows, IsOver}
-use Rattle.pci_settle.specs.Own.{is_own_bar, own_extent, bar_item, bar_items, rom_item, rom_items, window_items, situation, record_items, item_value, IsWindowOf, IsAsked, AreByRank}
+use Rattle.pci_settle.specs.Own.{is_own_bar, own_extent, bar_item, bar_items, rom_item, rom_items, window_items, Situation, situation, record_items, item_value, IsWindowOf, IsAsked, AreByRank}
 use Rattle.pci_settle.specs.Spots.{IsExtent}
 use Rattle.pci_settle.specs.Turns.{HasExtent}
 use Rattle.pci_settle.specs.Buses.{window_behind, AreWindows, AreBehind, Listing, items_beside, AreOnBusTo, AreBelow, AreOnBus}
@@ -119,12 +118,12 @@ rom_lawful : (k : ℕ) (c : WindowKind) (kept : Kept) (o : Option CodeRom) → A
 rom_lawful k c kept None = All-nil HasExtent
 rom_lawful k c kept (Some rom) = rom_lawful_if k (rom.on && same_class c MemoryWindow && not kept.rom) rom
 
-record_lawful : (k : ℕ) (c : WindowKind) (over : Over) (t : Terms) (window : Option Extent) (kept : Kept) (r : Record) → IfSome window IsExtent → All HasExtent (record_items (situation k c over t window kept) r)
-record_lawful k c over t window kept r lawful =
-    let own = filter (is_own_bar c over t kept) r.bars.items in
-    All-append HasExtent (bar_items k c over t kept r.bars.items) (window_items k c kept window ++ rom_items k c kept r.rom)
-    (All-map HasExtent (bar_item k) own (λ n d within. own_lawful (get_or own n d).first (get_or own n d).last (is_wide_kind (get_or own n d).kind)))
-    (All-append HasExtent (window_items k c kept window) (rom_items k c kept r.rom) (window_lawful k c kept window lawful) (rom_lawful k c kept r.rom))
+record_lawful : (o : Situation) (r : Record) → IfSome o.window IsExtent → All HasExtent (record_items o r)
+record_lawful o r lawful =
+    let own = filter (is_own_bar o.class o.over o.terms o.kept) r.bars.items in
+    All-append HasExtent (bar_items o.place o.class o.over o.terms o.kept r.bars.items) (window_items o.place o.class o.kept o.window ++ rom_items o.place o.class o.kept r.rom)
+    (All-map HasExtent (bar_item o.place) own (λ n d within. own_lawful (get_or own n d).first (get_or own n d).last (is_wide_kind (get_or own n d).kind)))
+    (All-append HasExtent (window_items o.place o.class o.kept o.window) (rom_items o.place o.class o.kept r.rom) (window_lawful o.place o.class o.kept o.window lawful) (rom_lawful o.place o.class o.kept r.rom))
 
 behind_lawful : (windows : List (Option Extent)) → AreWindows windows → (b : Option Bridge) → IfSome (window_behind windows b) IsExtent
 behind_lawful windows lawful None = tt
@@ -329,7 +328,8 @@ module _ (l : Listing) (system : IsSystem l.classing.system) (records : List Rec
               let beside' : are_siblings a.request.roots l.bus f.slot.bus ≡ true = ap (λ xs. are_siblings xs l.bus f.slot.bus) is.left.rooted ∙ ap (are_siblings l.classing.roots l.bus) (sym at) ∙ beside in
               let over_at : IsOver a.request l.classing.system f.slot.bus record { above = get_or aboves f.slot.bus d; windows = get_or l.classing.overs f.slot.bus no_windows } =
               record { above = are_above f d found.is.listed; windows_are = is.left.overs_are f found.is.listed } in
-              let asked : IsAsked a l.classing.system f (situation k l.class over l.classing.terms window keep) r = record {
+              let o = situation k l.class over l.classing.terms window keep in
+              let asked : IsAsked a l.classing.system f o r = record {
                 terms = is.left.terms;
                 is = found.is;
                 here = get_or_from_slice_get l.classing.system k f no_function found.at;
@@ -342,8 +342,8 @@ module _ (l : Listing) (system : IsSystem l.classing.system) (records : List Rec
               let all_are : flat_map make (take (k + 1) l.classing.system) ≡ flat_map make (take k l.classing.system) ++ items_of a.request l.classing.system l.class a.keeps a.extent f = more make l.classing.system k f found.at ∙ ap (λ xs. flat_map make (take k l.classing.system) ++ xs) own in
               let values_are : map (item_value l.classing.system l.class) next ≡ map (item_value l.classing.system l.class) old ++ map (item_value l.classing.system l.class) new = ap (map (item_value l.classing.system l.class)) e ∙ map-append (item_value l.classing.system l.class) old new in
               let before_it = before.all a is in
-              let here = items_by_rank a.request l.classing.system l.class a.keeps a.extent f k over l.classing.terms window keep r asked in
-              let in_slot = items_in_slot a.request l.classing.system l.class a.keeps a.extent f k over l.classing.terms window keep r asked in
+              let here = items_by_rank a l.classing.system f o r asked in
+              let in_slot = items_in_slot a l.classing.system f o r asked in
               record {
                 by_rank = subst (λ xs. AreByRank xs (flat_map make (take (k + 1) l.classing.system))) (sym values_are)
                     (subst (AreByRank (map (item_value l.classing.system l.class) old ++ map (item_value l.classing.system l.class) new)) (sym all_are) record {
@@ -360,5 +360,5 @@ module _ (l : Listing) (system : IsSystem l.classing.system) (records : List Rec
               });
           lawful = λ windows_lawful.
               subst (All HasExtent) (sym e) (All-append HasExtent old new (before.lawful windows_lawful)
-              (record_lawful k l.class over l.classing.terms window keep r (subst (λ o. IfSome o IsExtent) (sym is_window) (behind_lawful l.windows windows_lawful r.bridge))));
+              (record_lawful (situation k l.class over l.classing.terms window keep) r (subst (λ o. IfSome o IsExtent) (sym is_window) (behind_lawful l.windows windows_lawful r.bridge))));
         }

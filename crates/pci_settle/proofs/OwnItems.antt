@@ -19,7 +19,6 @@ use Rattle.pci_spec.specs.Decoded.{Range as DecodedRange}
 use Rattle.pci_spec.proofs.Members.{in_filter_to}
 use Rattle.plan_spec.specs.Plan.{same_class, greatest, size_of, class_of, is_open, is_served, bridges_above}
 use Rattle.plan_spec.specs.Planning.Layout.{range_of}
-use Rattle.settle_spec.specs.FirstPlace.{Extent as ExtentValue}
 use Rattle.settle_spec.specs.Lists.{RootRange, Request}
 use Rattle.settle_spec.specs.Parts.{Region, is_empty, is_left, is_part, header_bars, header_parts, parts_of, regions_of, is_within, holds_range, bridge_over, upper_pools, new_class, is_in_memory, class_in}
 use Rattle.settle_spec.specs.Stands.{window_region}
@@ -44,7 +43,6 @@ use Rattle.pci_base.specs.Ranges.{decoded_range_of}
 use Rattle.pci_base.specs.declared.range.Range.{Range as CodeRange}
 use Rattle.pci_base.specs.declared.range.RootRange.{RootRange as CodeRootRange}
 use Rattle.pci_settle.specs.declared.item.Part.TheVariants as parts
-use Rattle.pci_settle.specs.declared.kept.Kept.{Kept}
 use Rattle.pci_settle.specs.declared.over.Over.{Over}
 use Rattle.pci_settle.specs.declared.own.Terms.{Terms}
 use Rattle.pci_settle.specs.Kept.{kept_of}
@@ -53,7 +51,7 @@ use Rattle.pci_settle.proofs.Headers.{filter_same, header_has}
 use Rattle.pci_settle.specs.Lists.{root_range_value}
 use Rattle.pci_settle.proofs.Walks.{left_next, left_none}
 use Rattle.pci_settle.specs.Own as own
-use Rattle.pci_settle.specs.Own.{last_of, AreTerms, code_pools, class_anew, bar_number, is_left_bar, is_own_bar, bar_item, bar_items, rom_item, rom_items, window_items, situation, record_items, item_value, IsWindowOf, IsAsked}
+use Rattle.pci_settle.specs.Own.{last_of, AreTerms, code_pools, class_anew, bar_number, is_left_bar, is_own_bar, bar_item, bar_items, rom_item, rom_items, window_items, Situation, record_items, item_value, IsWindowOf, Asking, IsAsked}
 
 -- ---- lists
 
@@ -200,14 +198,13 @@ module _ (q : Request) (s : System) (f : Function) (r : Record) (over : Over) (t
       ∙ class_cases (is_io reg) (is_prefetchable reg) a (is_in_memory s f n) h (not (list_any (λ b. not (has_window PrefetchWindow b.probe)) (bridges_above s f.slot.bus))) (new_class q s f n)
       (λ io. ap (λ b. not b && has_bit reg 3) io)
 
-module _ (q : Request) (s : System) (c : WindowKind) (keeps : Region → Bool) (extent : Function → ExtentValue) (f : Function) (k : ℕ) (over : Over) (t : Terms) (window : Option Extent) (kept : Kept) (r : Record)
-    (asked : IsAsked record { request = q; keeps = keeps; extent = extent } s f (situation k c over t window kept) r) where
-  left_is : (bar : CodeBar) (n : ℕ) → decoded_bar_of bar ≡ decoded_bar f.image f.probe n → is_left_bar bar over.above t.has_io ≡ is_left q s f (Bar n)
+module _ (a : Asking) (s : System) (f : Function) (o : Situation) (r : Record) (asked : IsAsked a s f o r) where
+  left_is : (bar : CodeBar) (n : ℕ) → decoded_bar_of bar ≡ decoded_bar f.image f.probe n → is_left_bar bar o.over.above o.terms.has_io ≡ is_left a.request s f (Bar n)
   left_is bar n e =
-      ap (λ b. b && not (t.has_io && over.above.io)) (kind_io f bar n e)
-      ∙ ap (λ b. is_io (bar_at f.probe n) && not (b && over.above.io)) asked.terms.io
-      ∙ ap (λ b. is_io (bar_at f.probe n) && b) (not_and (is_empty q.lists.io) over.above.io)
-      ∙ ap (λ b. is_io (bar_at f.probe n) && (is_empty q.lists.io || b)) (lacking_above s f r asked.is over.above asked.over_is.above)
+      ap (λ b. b && not (o.terms.has_io && o.over.above.io)) (kind_io f bar n e)
+      ∙ ap (λ b. is_io (bar_at f.probe n) && not (b && o.over.above.io)) asked.terms.io
+      ∙ ap (λ b. is_io (bar_at f.probe n) && b) (not_and (is_empty a.request.lists.io) o.over.above.io)
+      ∙ ap (λ b. is_io (bar_at f.probe n) && (is_empty a.request.lists.io || b)) (lacking_above s f r asked.is o.over.above asked.over_is.above)
 
   -- ---- BARs
 
@@ -216,40 +213,40 @@ module _ (q : Request) (s : System) (c : WindowKind) (keeps : Region → Bool) (
 
   -- what the table tells of a part of the function
   abbrev pub noted : Region → Bool
-  noted i = kept_of kept i.part
+  noted i = kept_of o.kept i.part
 
   abbrev is_mine : Part → Bool
-  is_mine p = is_own q s c (region p) && not (noted (region p))
+  is_mine p = is_own a.request s o.class (region p) && not (noted (region p))
 
   abbrev mine_at : ℕ → Bool
-  mine_at n = not (is_left q s f (Bar n)) && (same_class c (class_in q s f (Bar n)) && not (kept_of kept (Bar n)))
+  mine_at n = not (is_left a.request s f (Bar n)) && (same_class o.class (class_in a.request s f (Bar n)) && not (kept_of o.kept (Bar n)))
 
   abbrev value_of : Part → ItemValue
-  value_of p = own_item c (region p)
+  value_of p = own_item o.class (region p)
 
-  bar_test : (bar : CodeBar) (n : ℕ) → decoded_bar_of bar ≡ decoded_bar f.image f.probe n → is_own_bar c over t kept bar ≡ mine_at n
+  bar_test : (bar : CodeBar) (n : ℕ) → decoded_bar_of bar ≡ decoded_bar f.image f.probe n → is_own_bar o.class o.over o.terms o.kept bar ≡ mine_at n
   bar_test bar n e =
-      ap (λ b. not b && same_class c (own.class_of bar over t.prefetch_last) && not (kept_of kept (Bar (bar_number bar)))) (left_is bar n e)
-      ∙ ap (λ k. not (is_left q s f (Bar n)) && same_class c k && not (kept_of kept (Bar (bar_number bar)))) (class_by q s f r over t asked.is asked.terms asked.over_is bar n e)
-      ∙ ap (λ m. not (is_left q s f (Bar n)) && same_class c (class_in q s f (Bar n)) && not (kept_of kept (Bar m))) (register_place bar.reg n (ap (λ (x : DecodedBar). x.register) e))
-      ∙ and_later (not (is_left q s f (Bar n))) (same_class c (class_in q s f (Bar n))) (not (kept_of kept (Bar n)))
+      ap (λ b. not b && same_class o.class (own.class_of bar o.over o.terms.prefetch_last) && not (kept_of o.kept (Bar (bar_number bar)))) (left_is bar n e)
+      ∙ ap (λ d. not (is_left a.request s f (Bar n)) && same_class o.class d && not (kept_of o.kept (Bar (bar_number bar)))) (class_by a.request s f r o.over o.terms asked.is asked.terms asked.over_is bar n e)
+      ∙ ap (λ m. not (is_left a.request s f (Bar n)) && same_class o.class (class_in a.request s f (Bar n)) && not (kept_of o.kept (Bar m))) (register_place bar.reg n (ap (λ (x : DecodedBar). x.register) e))
+      ∙ and_later (not (is_left a.request s f (Bar n))) (same_class o.class (class_in a.request s f (Bar n))) (not (kept_of o.kept (Bar n)))
 
-  bar_value : (bar : CodeBar) (n : ℕ) → decoded_bar_of bar ≡ decoded_bar f.image f.probe n → item_value s c (bar_item k bar) ≡ value_of (Bar n)
+  bar_value : (bar : CodeBar) (n : ℕ) → decoded_bar_of bar ≡ decoded_bar f.image f.probe n → item_value s o.class (bar_item o.place bar) ≡ value_of (Bar n)
   bar_value bar n e =
       let size = (bar_span f bar n e).1 in
-      value_same c (function_in s k) f (Bar ((bar.reg - 0x10) / 4)) (Bar n) (span bar.first bar.last) (size_of f (Bar n)) (span bar.first bar.last) (size_of f (Bar n)) _ _
+      value_same o.class (function_in s o.place) f (Bar ((bar.reg - 0x10) / 4)) (Bar n) (span bar.first bar.last) (size_of f (Bar n)) (span bar.first bar.last) (size_of f (Bar n)) _ _
       asked.here (ap Bar (register_place bar.reg n (ap (λ (x : DecodedBar). x.register) e))) size size (kind_wide f bar n e)
 
-  pub bars_are : map (item_value s c) (bar_items k c over t kept r.bars.items) ≡ map value_of (filter is_mine (filter (is_part q s f) (header_bars f)))
+  pub bars_are : map (item_value s o.class) (bar_items o.place o.class o.over o.terms o.kept r.bars.items) ≡ map value_of (filter is_mine (filter (is_part a.request s f) (header_bars f)))
   bars_are =
       let all = range_with_len 0 (bar_count (layout f.image)) in
-      map_twice (item_value s c) (bar_item k) (filter (is_own_bar c over t kept) r.bars.items)
-      ∙ kept_same decoded_bar_of (decoded_bar f.image f.probe) (is_own_bar c over t kept) mine_at bar_test (λ bar. item_value s c (bar_item k bar)) (λ n. value_of (Bar n)) bar_value
+      map_twice (item_value s o.class) (bar_item o.place) (filter (is_own_bar o.class o.over o.terms o.kept) r.bars.items)
+      ∙ kept_same decoded_bar_of (decoded_bar f.image f.probe) (is_own_bar o.class o.over o.terms o.kept) mine_at bar_test (λ bar. item_value s o.class (bar_item o.place bar)) (λ n. value_of (Bar n)) bar_value
       r.bars.items (bars_in f) (bars_of s f r asked.is)
-      ∙ ap (map (λ n. value_of (Bar n))) (sym (filter_later (has_bar f.probe) (λ n. not (is_left q s f (Bar n))) (λ n. same_class c (class_in q s f (Bar n)) && not (kept_of kept (Bar n))) all))
-      ∙ sym (map_twice value_of Bar (filter (λ n. is_mine (Bar n)) (filter (λ n. is_part q s f (Bar n)) all)))
-      ∙ ap (map value_of) (sym (filter-map is_mine Bar (filter (λ n. is_part q s f (Bar n)) all)))
-      ∙ ap (λ ps. map value_of (filter is_mine ps)) (sym (filter-map (is_part q s f) Bar all))
+      ∙ ap (map (λ n. value_of (Bar n))) (sym (filter_later (has_bar f.probe) (λ n. not (is_left a.request s f (Bar n))) (λ n. same_class o.class (class_in a.request s f (Bar n)) && not (kept_of o.kept (Bar n))) all))
+      ∙ sym (map_twice value_of Bar (filter (λ n. is_mine (Bar n)) (filter (λ n. is_part a.request s f (Bar n)) all)))
+      ∙ ap (map value_of) (sym (filter-map is_mine Bar (filter (λ n. is_part a.request s f (Bar n)) all)))
+      ∙ ap (λ ps. map value_of (filter is_mine ps)) (sym (filter-map (is_part a.request s f) Bar all))
 
   -- ---- the ROM
 
@@ -257,110 +254,110 @@ module _ (q : Request) (s : System) (c : WindowKind) (keeps : Region → Bool) (
   others = Window IoWindow ∷ Window MemoryWindow ∷ Window PrefetchWindow ∷ Rom ∷ []
 
   abbrev value_rom : Bool → List ItemValue
-  value_rom b = cond (b && (same_class c MemoryWindow && not kept.rom)) (value_of Rom ∷ []) []
+  value_rom b = cond (b && (same_class o.class MemoryWindow && not o.kept.rom)) (value_of Rom ∷ []) []
 
-  others_are : map value_of (filter is_mine (filter (is_part q s f) others)) ≡ value_rom (has_rom f.image f.probe && rom_is_on f.image)
+  others_are : map value_of (filter is_mine (filter (is_part a.request s f) others)) ≡ value_rom (has_rom f.image f.probe && rom_is_on f.image)
   others_are =
-      let rom : List Part = cond (is_part q s f Rom) (Rom ∷ []) [] in
+      let rom : List Part = cond (is_part a.request s f Rom) (Rom ∷ []) [] in
       let third : List Part = cond (is_open f PrefetchWindow) (Window PrefetchWindow ∷ rom) rom in
       let second : List Part = cond (is_open f MemoryWindow) (Window MemoryWindow ∷ third) third in
       ap (map value_of) (filter_off is_mine (is_open f IoWindow) (Window IoWindow) second refl
       ∙ filter_off is_mine (is_open f MemoryWindow) (Window MemoryWindow) third refl
       ∙ filter_off is_mine (is_open f PrefetchWindow) (Window PrefetchWindow) rom refl)
-      ∙ one_kept value_of is_mine (is_part q s f Rom) Rom
+      ∙ one_kept value_of is_mine (is_part a.request s f Rom) Rom
 
-  rom_value : (rom : CodeRom) → Some (decoded_rom_of rom) ≡ decoded_rom f.image f.probe → item_value s c (rom_item k rom) ≡ value_of Rom
+  rom_value : (rom : CodeRom) → Some (decoded_rom_of rom) ≡ decoded_rom f.image f.probe → item_value s o.class (rom_item o.place rom) ≡ value_of Rom
   rom_value rom e =
       let size = (rom_span f rom e).1 in
-      value_same c (function_in s k) f Rom Rom (span rom.first rom.last) (size_of f Rom) (span rom.first rom.last) (size_of f Rom) false false asked.here refl size size refl
+      value_same o.class (function_in s o.place) f Rom Rom (span rom.first rom.last) (size_of f Rom) (span rom.first rom.last) (size_of f Rom) false false asked.here refl size size refl
 
   roms_are : (rom : Option CodeRom) → option_map decoded_rom_of rom ≡ decoded_rom f.image f.probe
-      → map (item_value s c) (rom_items k c kept rom) ≡ value_rom (has_rom f.image f.probe && rom_is_on f.image)
+      → map (item_value s o.class) (rom_items o.place o.class o.kept rom) ≡ value_rom (has_rom f.image f.probe && rom_is_on f.image)
   roms_are None e = sym (ap (λ b. value_rom (b && rom_is_on f.image)) (no_rom (has_rom f.image f.probe) _ e))
   roms_are (Some rom) e =
       let there = rom_there (has_rom f.image f.probe) (decoded_rom_of rom) _ e in
       let on : rom.on ≡ rom_is_on f.image = ap (λ (x : DecodedRom). x.on) there.1 in
-      one_made (item_value s c) (rom.on && same_class c MemoryWindow && not kept.rom) (rom_item k rom)
-      ∙ ap (λ i. cond (rom.on && same_class c MemoryWindow && not kept.rom) (i ∷ []) []) (rom_value rom e)
-      ∙ ap (λ b. cond b (value_of Rom ∷ []) []) (and_later rom.on (same_class c MemoryWindow) (not kept.rom))
+      one_made (item_value s o.class) (rom.on && same_class o.class MemoryWindow && not o.kept.rom) (rom_item o.place rom)
+      ∙ ap (λ i. cond (rom.on && same_class o.class MemoryWindow && not o.kept.rom) (i ∷ []) []) (rom_value rom e)
+      ∙ ap (λ b. cond b (value_of Rom ∷ []) []) (and_later rom.on (same_class o.class MemoryWindow) (not o.kept.rom))
       ∙ ap value_rom on
       ∙ sym (ap (λ b. value_rom (b && rom_is_on f.image)) there.0)
 
   -- ---- the window
 
   abbrev value_window : Bool → List ItemValue
-  value_window b = cond b (record { region = window_region c f; class = c; extent = extent f } ∷ []) []
+  value_window b = cond b (record { region = window_region o.class f; class = o.class; extent = a.extent f } ∷ []) []
 
-  window_if : (keep : Bool) (e : Extent) → item_value s c record { function = k; part = parts.Window; extent = e } ≡ record { region = window_region c f; class = c; extent = extent f }
-      → map (item_value s c) (cond keep [] (record { function = k; part = parts.Window; extent = e } ∷ [])) ≡ value_window (not keep)
+  window_if : (keep : Bool) (e : Extent) → item_value s o.class record { function = o.place; part = parts.Window; extent = e } ≡ record { region = window_region o.class f; class = o.class; extent = a.extent f }
+      → map (item_value s o.class) (cond keep [] (record { function = o.place; part = parts.Window; extent = e } ∷ [])) ≡ value_window (not keep)
   window_if true e same = refl
   window_if false e same = ap (λ i. i ∷ []) same
 
-  windows_are : (o : Option Extent) → IsWindowOf (is_bridge f && has_of q s c f) (extent f) o
-      → map (item_value s c) (window_items k c kept o) ≡ value_window (is_bridge f && has_of q s c f && not (kept_of kept (Window c)))
-  windows_are None off = sym (ap (λ b. value_window (b && not (kept_of kept (Window c)))) off)
+  windows_are : (w : Option Extent) → IsWindowOf (is_bridge f && has_of a.request s o.class f) (a.extent f) w
+      → map (item_value s o.class) (window_items o.place o.class o.kept w) ≡ value_window (is_bridge f && has_of a.request s o.class f && not (kept_of o.kept (Window o.class)))
+  windows_are None off = sym (ap (λ b. value_window (b && not (kept_of o.kept (Window o.class)))) off)
   windows_are (Some e) (there, same) =
       let here = asked.here in
-      let first : item_value s c record { function = k; part = parts.Window; extent = e } ≡ record { region = window_region c f; class = c; extent = extent f } = cc in
-      window_if (kept_of kept (Window c)) e first ∙ sym (ap (λ b. value_window (b && not (kept_of kept (Window c)))) there)
+      let first : item_value s o.class record { function = o.place; part = parts.Window; extent = e } ≡ record { region = window_region o.class f; class = o.class; extent = a.extent f } = cc in
+      window_if (kept_of o.kept (Window o.class)) e first ∙ sym (ap (λ b. value_window (b && not (kept_of o.kept (Window o.class)))) there)
 
   -- ---- all of them
 
   abbrev mine : List ItemValue
-  mine = map (own_item c) (filter (λ i. is_own q s c i && not (noted i)) (regions_of q s f))
+  mine = map (own_item o.class) (filter (λ i. is_own a.request s o.class i && not (noted i)) (regions_of a.request s f))
 
-  mine_are : map (item_value s c) (bar_items k c over t kept r.bars.items) ++ map (item_value s c) (rom_items k c kept r.rom) ≡ mine
+  mine_are : map (item_value s o.class) (bar_items o.place o.class o.over o.terms o.kept r.bars.items) ++ map (item_value s o.class) (rom_items o.place o.class o.kept r.rom) ≡ mine
   mine_are =
-      let found : mine ≡ map value_of (filter is_mine (parts_of q s f)) =
-      ap (map (own_item c)) (filter-map (λ i. is_own q s c i && not (noted i)) region (parts_of q s f))
-      ∙ map_twice (own_item c) region (filter is_mine (parts_of q s f)) in
-      let split : map value_of (filter is_mine (parts_of q s f))
-      ≡ map value_of (filter is_mine (filter (is_part q s f) (header_bars f))) ++ map value_of (filter is_mine (filter (is_part q s f) others)) =
-      ap (λ ps. map value_of (filter is_mine ps)) (filter-append (is_part q s f) (header_bars f) others)
-      ∙ ap (map value_of) (filter-append is_mine (filter (is_part q s f) (header_bars f)) (filter (is_part q s f) others))
-      ∙ map-append value_of (filter is_mine (filter (is_part q s f) (header_bars f))) (filter is_mine (filter (is_part q s f) others)) in
-      ap (λ xs. xs ++ map (item_value s c) (rom_items k c kept r.rom)) bars_are
-      ∙ ap (λ xs. map value_of (filter is_mine (filter (is_part q s f) (header_bars f))) ++ xs) (roms_are r.rom (rom_of s f r asked.is) ∙ sym others_are)
+      let found : mine ≡ map value_of (filter is_mine (parts_of a.request s f)) =
+      ap (map (own_item o.class)) (filter-map (λ i. is_own a.request s o.class i && not (noted i)) region (parts_of a.request s f))
+      ∙ map_twice (own_item o.class) region (filter is_mine (parts_of a.request s f)) in
+      let split : map value_of (filter is_mine (parts_of a.request s f))
+      ≡ map value_of (filter is_mine (filter (is_part a.request s f) (header_bars f))) ++ map value_of (filter is_mine (filter (is_part a.request s f) others)) =
+      ap (λ ps. map value_of (filter is_mine ps)) (filter-append (is_part a.request s f) (header_bars f) others)
+      ∙ ap (map value_of) (filter-append is_mine (filter (is_part a.request s f) (header_bars f)) (filter (is_part a.request s f) others))
+      ∙ map-append value_of (filter is_mine (filter (is_part a.request s f) (header_bars f))) (filter is_mine (filter (is_part a.request s f) others)) in
+      ap (λ xs. xs ++ map (item_value s o.class) (rom_items o.place o.class o.kept r.rom)) bars_are
+      ∙ ap (λ xs. map value_of (filter is_mine (filter (is_part a.request s f) (header_bars f))) ++ xs) (roms_are r.rom (rom_of s f r asked.is) ∙ sym others_are)
       ∙ sym (found ∙ split)
 
-  pub values_are : map (item_value s c) (record_items (situation k c over t window kept) r)
-      ≡ map (item_value s c) (bar_items k c over t kept r.bars.items) ++ (map (item_value s c) (window_items k c kept window) ++ map (item_value s c) (rom_items k c kept r.rom))
+  pub values_are : map (item_value s o.class) (record_items o r)
+      ≡ map (item_value s o.class) (bar_items o.place o.class o.over o.terms o.kept r.bars.items) ++ (map (item_value s o.class) (window_items o.place o.class o.kept o.window) ++ map (item_value s o.class) (rom_items o.place o.class o.kept r.rom))
   values_are =
-      map-append (item_value s c) (bar_items k c over t kept r.bars.items) (window_items k c kept window ++ rom_items k c kept r.rom)
-      ∙ ap (λ xs. map (item_value s c) (bar_items k c over t kept r.bars.items) ++ xs) (map-append (item_value s c) (window_items k c kept window) (rom_items k c kept r.rom))
+      map-append (item_value s o.class) (bar_items o.place o.class o.over o.terms o.kept r.bars.items) (window_items o.place o.class o.kept o.window ++ rom_items o.place o.class o.kept r.rom)
+      ∙ ap (λ xs. map (item_value s o.class) (bar_items o.place o.class o.over o.terms o.kept r.bars.items) ++ xs) (map-append (item_value s o.class) (window_items o.place o.class o.kept o.window) (rom_items o.place o.class o.kept r.rom))
 
   -- what the table tells is what is to keep its place
-  noted_part : (p : Part) → Contains (parts_of q s f) p → (is_own q s c (region p) && not (noted (region p))) ≡ (is_own q s c (region p) && not (keeps (region p)))
+  noted_part : (p : Part) → Contains (parts_of a.request s f) p → (is_own a.request s o.class (region p) && not (noted (region p))) ≡ (is_own a.request s o.class (region p) && not (a.keeps (region p)))
   noted_part p listed = elim (cases_Bool (is_window p)) [
-    | inl window ↦
-        let no : (b : Bool) → (not (is_window p) && same_class c (class_in q s f p) && b) ≡ false = λ b. ap (λ w. not w && same_class c (class_in q s f p) && b) window in
-        no (not (noted (region p))) ∙ sym (no (not (keeps (region p))))
-    | inr plain ↦ ap (λ b. is_own q s c (region p) && not b) (asked.keeps_is p (header_has f p (in_filter_to (is_part q s f) (header_parts f) p listed).0 plain))
+    | inl is ↦
+        let no : (b : Bool) → (not (is_window p) && same_class o.class (class_in a.request s f p) && b) ≡ false = λ b. ap (λ w. not w && same_class o.class (class_in a.request s f p) && b) is in
+        no (not (noted (region p))) ∙ sym (no (not (a.keeps (region p))))
+    | inr plain ↦ ap (λ b. is_own a.request s o.class (region p) && not b) (asked.keeps_is p (header_has f p (in_filter_to (is_part a.request s f) (header_parts f) p listed).0 plain))
   ]
 
-  noted_window : (is_bridge f && has_of q s c f && not (kept_of kept (Window c))) ≡ (is_bridge f && has_of q s c f && not (keeps (window_region c f)))
+  noted_window : (is_bridge f && has_of a.request s o.class f && not (kept_of o.kept (Window o.class))) ≡ (is_bridge f && has_of a.request s o.class f && not (a.keeps (window_region o.class f)))
   noted_window = elim (cases_Bool (is_bridge f)) [
-    | inl bridge ↦ ap (λ b. is_bridge f && has_of q s c f && not b) (asked.keeps_is (Window c) bridge)
-    | inr other ↦ ap (λ b. b && has_of q s c f && not (kept_of kept (Window c))) other ∙ sym (ap (λ b. b && has_of q s c f && not (keeps (window_region c f))) other)
+    | inl bridge ↦ ap (λ b. is_bridge f && has_of a.request s o.class f && not b) (asked.keeps_is (Window o.class) bridge)
+    | inr other ↦ ap (λ b. b && has_of a.request s o.class f && not (kept_of o.kept (Window o.class))) other ∙ sym (ap (λ b. b && has_of a.request s o.class f && not (a.keeps (window_region o.class f))) other)
   ]
 
-  kept_are : mine ++ value_window (is_bridge f && has_of q s c f && not (kept_of kept (Window c))) ≡ items_of q s c keeps extent f
+  kept_are : mine ++ value_window (is_bridge f && has_of a.request s o.class f && not (kept_of o.kept (Window o.class))) ≡ items_of a.request s o.class a.keeps a.extent f
   kept_are =
       ap (λ b. mine ++ value_window b) noted_window
-      ∙ ap (λ rs. map (own_item c) rs ++ value_window (is_bridge f && has_of q s c f && not (keeps (window_region c f))))
-      (filter-map (λ i. is_own q s c i && not (noted i)) region (parts_of q s f)
-      ∙ ap (map region) (filter_same (λ p. is_own q s c (region p) && not (noted (region p))) (λ p. is_own q s c (region p) && not (keeps (region p))) (parts_of q s f) noted_part)
-      ∙ sym (filter-map (λ i. is_own q s c i && not (keeps i)) region (parts_of q s f)))
+      ∙ ap (λ rs. map (own_item o.class) rs ++ value_window (is_bridge f && has_of a.request s o.class f && not (a.keeps (window_region o.class f))))
+      (filter-map (λ i. is_own a.request s o.class i && not (noted i)) region (parts_of a.request s f)
+      ∙ ap (map region) (filter_same (λ p. is_own a.request s o.class (region p) && not (noted (region p))) (λ p. is_own a.request s o.class (region p) && not (a.keeps (region p))) (parts_of a.request s f) noted_part)
+      ∙ sym (filter-map (λ i. is_own a.request s o.class i && not (a.keeps i)) region (parts_of a.request s f)))
 
-  pub items_are : IsPermutation (map (item_value s c) (record_items (situation k c over t window kept) r)) (items_of q s c keeps extent f)
+  pub items_are : IsPermutation (map (item_value s o.class) (record_items o r)) (items_of a.request s o.class a.keeps a.extent f)
   items_are =
-      let bars = map (item_value s c) (bar_items k c over t kept r.bars.items) in
-      let windows = map (item_value s c) (window_items k c kept window) in
-      let roms = map (item_value s c) (rom_items k c kept r.rom) in
-      let right : bars ++ (roms ++ windows) ≡ items_of q s c keeps extent f =
+      let bars = map (item_value s o.class) (bar_items o.place o.class o.over o.terms o.kept r.bars.items) in
+      let windows = map (item_value s o.class) (window_items o.place o.class o.kept o.window) in
+      let roms = map (item_value s o.class) (rom_items o.place o.class o.kept r.rom) in
+      let right : bars ++ (roms ++ windows) ≡ items_of a.request s o.class a.keeps a.extent f =
       sym (append_assoc bars roms windows)
       ∙ ap (λ xs. xs ++ windows) mine_are
-      ∙ ap (λ xs. mine ++ xs) (windows_are window asked.new)
+      ∙ ap (λ xs. mine ++ xs) (windows_are o.window asked.new)
       ∙ kept_are in
-      subst (λ xs. IsPermutation xs (items_of q s c keeps extent f)) (sym values_are)
+      subst (λ xs. IsPermutation xs (items_of a.request s o.class a.keeps a.extent f)) (sym values_are)
       (subst (IsPermutation (bars ++ (windows ++ roms))) right (IsPermutation-append_right bars (windows ++ roms) (roms ++ windows) (IsPermutation-append_comm windows roms)))
