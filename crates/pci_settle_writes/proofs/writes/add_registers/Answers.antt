@@ -1,5 +1,5 @@
 use Rattle.std.proofs.Common.{◌∙◌, ap}
-use Rattle.pci_spec.specs.Header.{layout, address_registers, registers_by}
+use Rattle.pci_spec.specs.Header.{layout, registers_by}
 use Rattle.pci_image.specs.declared.register.Register.{Register}
 use Rattle.pci_image.specs.declared.register.Role.TheVariants as roles
 use Rattle.pci_plan.proofs.WriteLists.{register_access}
