@@ -10,7 +10,7 @@ use Rattle.pci_number.specs.Seen.{View, code, IsSeen}
 use Rattle.pci_number.specs.Steps.{IsPut, IsAlike, IsLooked, Absent, There, IsShownAt}
 use Rattle.pci_number.specs.Hushing.{Rest}
 use Rattle.pci_number.specs.Less.{IsLess, IsLessOf, IsLessStep, Wrap, IsCloseStood, IsHushStood, IsHushStanding}
-use Rattle.pci_number.specs.Stood.{AddsSteps, EndsSteps, IsOneMore}
+use Rattle.pci_number.specs.Stood.{AddsSteps, EndsSteps, IsOneMore, moment}
 use Rattle.pci_number.specs.declared.look.Found.{Found}
 use Rattle.pci_number.proofs.Bytes.{other_byte, alike_primary, alike_secondary, alike_subordinate, alike_then}
 use Rattle.pci_number.proofs.Reached.{rest_of}
@@ -35,10 +35,10 @@ u_not_s e = cc e
 
 -- such boards stood while it was closed, where that was done and where it stopped
 abbrev pub IsCloseOk : Board → Slot → List Board → Board → List Board → Type 0
-IsCloseOk before slot old now new = (v : View) (high last : ℕ) (image : List ℕ) (behind others : Nodes) → before ≡ v.fill (Node slot.device slot.function image behind others) → IsSeen v slot.bus (code slot) high last → all_after slot.device slot.function others ≡ true → is_type_1 image ≡ true → AddsSteps (IsLessStep v (Node slot.device slot.function image behind others)) before old now new
+IsCloseOk before slot old now new = (v : View) (high last : ℕ) (image : List ℕ) (behind others : Nodes) → before ≡ v.fill (Node slot.device slot.function image behind others) → IsSeen v slot.bus (code slot) high last → all_after slot.device slot.function others ≡ true → is_type_1 image ≡ true → AddsSteps (IsLessStep v (Node slot.device slot.function image behind others)) (moment before old) (moment now new)
 
 abbrev pub IsCloseEnd : Board → Slot → List Board → List Board → Type 0
-IsCloseEnd before slot old new = (v : View) (high last : ℕ) (image : List ℕ) (behind others : Nodes) → before ≡ v.fill (Node slot.device slot.function image behind others) → IsSeen v slot.bus (code slot) high last → all_after slot.device slot.function others ≡ true → is_type_1 image ≡ true → EndsSteps (IsLessStep v (Node slot.device slot.function image behind others)) before old new
+IsCloseEnd before slot old new = (v : View) (high last : ℕ) (image : List ℕ) (behind others : Nodes) → before ≡ v.fill (Node slot.device slot.function image behind others) → IsSeen v slot.bus (code slot) high last → all_after slot.device slot.function others ≡ true → is_type_1 image ≡ true → EndsSteps (IsLessStep v (Node slot.device slot.function image behind others)) (moment before old) new
 
 -- a byte of it was written
 less_step : (v : View) (d f : ℕ) (image first second : List ℕ) (behind others : Nodes) (was now : Board) → is_type_1 first ≡ true → was ≡ v.fill (Node d f first behind others) → now ≡ v.fill (Node d f second behind others) → IsLessOf (Node d f image behind others) (Node d f first behind others) → IsAlike first second → IsLess first second → IsLessStep v (Node d f image behind others) was now
@@ -51,24 +51,24 @@ less_step v d f image first second behind others was now bridge was_it is start 
   less = less_node d f first second behind others others bridge alike less (less_itself others);
 }
 
-pub close_first : {T E : Type 0} → (before first : Board) (slot : Slot) (old one : List Board) (r : Result T E) → IsErr r → IsOneMore before old first one → IsCloseStood before slot old r first one
+pub close_first : {T E : Type 0} → (before first : Board) (slot : Slot) (old one : List Board) (r : Result T E) → IsErr r → IsOneMore (moment before old) (moment first one) → IsCloseStood (moment before old) slot r (moment first one)
 close_first before first slot old one r err more = λ v high last image behind others is seen alone bridge.
     let R = IsLessStep v (Node slot.device slot.function image behind others) in
     stopped R r before old first one err (stops_one R before old before old first one (steps_none R before old) more)
 
-module _ (before first second third : Board) (slot : Slot) (old one two three : List Board) (p : IsPut before slot 0x1a 0 first) (p_stood : IsOneMore before old first one) where
+module _ (before first second third : Board) (slot : Slot) (old one two three : List Board) (p : IsPut before slot 0x1a 0 first) (p_stood : IsOneMore (moment before old) (moment first one)) where
   first_stood : IsCloseOk before slot old first one
   first_stood = λ v high last image behind others is seen alone bridge.
       let a = p v high last image behind others is seen alone in
       steps_one (IsLessStep v (Node slot.device slot.function image behind others)) before old first one p_stood
       (less_step v slot.device slot.function image image a.0 behind others before first bridge is a.1 (less_itself (Node slot.device slot.function image behind others)) (alike_subordinate image a.0 a.2) (a.3, inl (other_byte 0x1a image a.0 a.2 0x19 s_not_u)))
 
-  pub close_second : {T E : Type 0} → (r : Result T E) → IsErr r → IsOneMore first one second two → IsCloseStood before slot old r second two
+  pub close_second : {T E : Type 0} → (r : Result T E) → IsErr r → IsOneMore (moment first one) (moment second two) → IsCloseStood (moment before old) slot r (moment second two)
   close_second r err more = λ v high last image behind others is seen alone bridge.
       let R = IsLessStep v (Node slot.device slot.function image behind others) in
       stopped R r before old second two err (stops_one R before old first one second two (first_stood v high last image behind others is seen alone bridge) more)
 
-  module _ (q : IsPut first slot 0x19 0 second) (q_stood : IsOneMore first one second two) where
+  module _ (q : IsPut first slot 0x19 0 second) (q_stood : IsOneMore (moment first one) (moment second two)) where
     second_stood : IsCloseOk before slot old second two
     second_stood = λ v high last image behind others is seen alone bridge.
         let R = IsLessStep v (Node slot.device slot.function image behind others) in
@@ -82,12 +82,12 @@ module _ (before first second third : Board) (slot : Slot) (old one two three : 
         (less_node slot.device slot.function image a.0 behind others others bridge alike (a.3, inl (other_byte 0x1a image a.0 a.2 0x19 s_not_u)) (less_itself others))
         (alike_secondary a.0 b.0 b.2) (zero, inr b.3)))
 
-    pub close_third : {T E : Type 0} → (r : Result T E) → IsErr r → IsOneMore second two third three → IsCloseStood before slot old r third three
+    pub close_third : {T E : Type 0} → (r : Result T E) → IsErr r → IsOneMore (moment second two) (moment third three) → IsCloseStood (moment before old) slot r (moment third three)
     close_third r err more = λ v high last image behind others is seen alone bridge.
         let R = IsLessStep v (Node slot.device slot.function image behind others) in
         stopped R r before old third three err (stops_one R before old second two third three (second_stood v high last image behind others is seen alone bridge) more)
 
-    pub close_done : IsPut second slot 0x18 0 third → IsOneMore second two third three → IsCloseOk before slot old third three
+    pub close_done : IsPut second slot 0x18 0 third → IsOneMore (moment second two) (moment third three) → IsCloseOk before slot old third three
     close_done t t_stood = λ v high last image behind others is seen alone bridge.
         let R = IsLessStep v (Node slot.device slot.function image behind others) in
         let a = p v high last image behind others is seen alone in
@@ -103,7 +103,7 @@ module _ (before first second third : Board) (slot : Slot) (old one two three : 
 
 -- ---- all on a bus
 
-pub standing_start : (before : Board) (bus : ℕ) (old : List Board) → IsHushStanding before bus old 0 false before old
+pub standing_start : (before : Board) (bus : ℕ) (old : List Board) → IsHushStanding (moment before old) bus 0 false (moment before old)
 standing_start before bus old = λ v high last nodes is seen walkable. (
   record { view = v; nodes = nodes; device = 0 },
   record { is = is; seen = seen_alone v bus 0 high last seen; past = λ never. cc never; has = rest_of nodes walkable },
@@ -115,7 +115,7 @@ standing_start before bus old = λ v high last nodes is seen walkable. (
 none_between : (P : Type 0) (bus : ℕ) → 0 < bus → bus ≤ 0 → P
 none_between P bus over within = absurd (omega (arith, over, within))
 
-pub standing_pass : (before now : Board) (slot : Slot) (old new : List Board) (more : Bool) (found : Found) → slot.function ≤ 7 → IsLooked now slot more found → found.bridge ≡ false → IsHushStanding before slot.bus old (code slot) more now new → IsHushStanding before slot.bus old (code slot + 1) found.more now new
+pub standing_pass : (before now : Board) (slot : Slot) (old new : List Board) (more : Bool) (found : Found) → slot.function ≤ 7 → IsLooked now slot more found → found.bridge ≡ false → IsHushStanding (moment before old) slot.bus (code slot) more (moment now new) → IsHushStanding (moment before old) slot.bus (code slot + 1) found.more (moment now new)
 standing_pass before now slot old new more found low looked none standing = λ v high last nodes is seen walkable.
     let h = standing v high last nodes is seen walkable in
     let d = slot.device in
@@ -156,7 +156,7 @@ step_of_bus v nodes rest w node same was now step = record {
   less = w.less step.from step.to step.less;
 }
 
-pub standing_close : (before now after : Board) (slot : Slot) (old mid new : List Board) (more : Bool) (found : Found) → slot.function ≤ 7 → IsLooked now slot more found → found.bridge ≡ true → IsShownAt now slot 0 0 0 after → IsCloseOk now slot mid after new → IsHushStanding before slot.bus old (code slot) more now mid → IsHushStanding before slot.bus old (code slot + 1) found.more after new
+pub standing_close : (before now after : Board) (slot : Slot) (old mid new : List Board) (more : Bool) (found : Found) → slot.function ≤ 7 → IsLooked now slot more found → found.bridge ≡ true → IsShownAt now slot 0 0 0 after → IsCloseOk now slot mid after new → IsHushStanding (moment before old) slot.bus (code slot) more (moment now mid) → IsHushStanding (moment before old) slot.bus (code slot + 1) found.more (moment after new)
 standing_close before now after_it slot old mid new more found low looked one shown_0 stood standing = λ v high last nodes is seen walkable.
     let h = standing v high last nodes is seen walkable in
     let d = slot.device in
@@ -191,12 +191,12 @@ standing_close before now after_it slot old mid new more found low looked one sh
 
 -- ---- where it stops
 
-pub standing_left : {T E : Type 0} → (before now after : Board) (bus place : ℕ) (old mid new : List Board) (more : Bool) (r : Result T E) → IsErr r → new ≡ mid → IsHushStanding before bus old place more now mid → IsHushStood before bus old r after new
+pub standing_left : {T E : Type 0} → (before now after : Board) (bus place : ℕ) (old mid new : List Board) (more : Bool) (r : Result T E) → IsErr r → new ≡ mid → IsHushStanding (moment before old) bus place more (moment now mid) → IsHushStood (moment before old) bus r (moment after new)
 standing_left before now after bus place old mid new more r err same standing = λ v high last nodes is seen walkable.
     let h = standing v high last nodes is seen walkable in
     stopped (IsLessStep v nodes) r before old after new err (now, mid, h.3, inl same)
 
-pub standing_left_close : {T E : Type 0} → (before now after : Board) (slot : Slot) (old mid new : List Board) (more : Bool) (found : Found) (r : Result T E) → IsErr r → slot.function ≤ 7 → IsLooked now slot more found → found.bridge ≡ true → IsCloseEnd now slot mid new → IsHushStanding before slot.bus old (code slot) more now mid → IsHushStood before slot.bus old r after new
+pub standing_left_close : {T E : Type 0} → (before now after : Board) (slot : Slot) (old mid new : List Board) (more : Bool) (found : Found) (r : Result T E) → IsErr r → slot.function ≤ 7 → IsLooked now slot more found → found.bridge ≡ true → IsCloseEnd now slot mid new → IsHushStanding (moment before old) slot.bus (code slot) more (moment now mid) → IsHushStood (moment before old) slot.bus r (moment after new)
 standing_left_close before now after slot old mid new more found r err low looked one stood standing = λ v high last nodes is seen walkable.
     let h = standing v high last nodes is seen walkable in
     stopped (IsLessStep v nodes) r before old after new err (elim (looked h.0.view 0 0 h.0.device h.0.nodes h.1.is h.1.seen low h.1.past h.1.has) [
@@ -208,5 +208,5 @@ standing_left_close before now after slot old mid new more found r err low looke
           (stood h.0.view 0 0 image behind others (h.1.is ∙ ap h.0.view.fill same) h.1.seen alone (kind ∙ one)))
     ])
 
-pub standing_done : (before now : Board) (bus place : ℕ) (old new : List Board) (more : Bool) → IsHushStanding before bus old place more now new → (v : View) (high last : ℕ) (nodes : Nodes) → before ≡ v.fill nodes → IsSeen v bus 0 high last → is_walkable nodes ≡ true → AddsSteps (IsLessStep v nodes) before old now new
+pub standing_done : (before now : Board) (bus place : ℕ) (old new : List Board) (more : Bool) → IsHushStanding (moment before old) bus place more (moment now new) → (v : View) (high last : ℕ) (nodes : Nodes) → before ≡ v.fill nodes → IsSeen v bus 0 high last → is_walkable nodes ≡ true → AddsSteps (IsLessStep v nodes) (moment before old) (moment now new)
 standing_done before now bus place old new more standing v high last nodes is seen walkable = (standing v high last nodes is seen walkable).3

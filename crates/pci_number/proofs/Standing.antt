@@ -15,7 +15,7 @@ use Rattle.pci_number.specs.Seen.{View, code, IsSeen, IsRest, IsClosed, has_brid
 use Rattle.pci_number.specs.Steps.{IsLooked, Absent, There, IsAlike, IsOpened}
 use Rattle.pci_number.specs.Spare.{IsLed}
 use Rattle.pci_number.specs.Single.{IsApart, IsBusStood, IsWalkStanding}
-use Rattle.pci_number.specs.Stood.{Adds, Ends, IsOneMore}
+use Rattle.pci_number.specs.Stood.{Adds, Ends, IsOneMore, moment}
 use Rattle.pci_number.specs.declared.look.Found.{Found}
 use Rattle.pci_number.specs.declared.walk.Walk.{Walk}
 use Rattle.pci_number.proofs.Bytes.{alike_itself, alike_subordinate, alike_then}
@@ -208,7 +208,7 @@ module _ (before now : Board) (slot : Slot) (last : ℕ) (start walk : Walk) (ol
         (apart_there now slot last walk old new found.more b o.0 o.1 left o.3 o.4 o.5)))
 
   -- the bridge leads on
-  module _ (spare : ℕ) (far : Board) (inside : Walk) (begun : IsBegun spare now far slot last walk inside) (newest : List Board) (far_stood : (b : Bridge now slot last walk old new found.more) → Adds IsSingle old newest) (later : Board) (final : List Board) (put_stood : IsOneMore far newest later final) where
+  module _ (spare : ℕ) (far : Board) (inside : Walk) (begun : IsBegun spare now far slot last walk inside) (newest : List Board) (far_stood : (b : Bridge now slot last walk old new found.more) → Adds IsSingle old newest) (later : Board) (final : List Board) (put_stood : IsOneMore (moment far newest) (moment later final)) where
     pub stand_left_led : {T E : Type 0} → (r : Result T E) → IsErr r → IsBusStood before slot.bus last start old r final
     stand_left_led r err = λ v nodes is seen walkable closed apart.
         let b = at_bridge before now slot last start walk old new more found low looked one standing v nodes is seen walkable closed apart in

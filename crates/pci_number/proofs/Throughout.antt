@@ -12,7 +12,7 @@ use Rattle.number_spec.specs.Room.{last_behind}
 use Rattle.number_spec.specs.Spare.{spare_room}
 use Rattle.pci_number.specs.Walked.{IsBusNumbered}
 use Rattle.pci_number.specs.declared.walk.Walk.{Walk}
-use Rattle.pci_number.specs.Stood.{Adds, Ends, AddsSteps}
+use Rattle.pci_number.specs.Stood.{Adds, Ends, AddsSteps, moment}
 use Rattle.pci_number.proofs.RootView.{same_nodes}
 use Rattle.pci_number.proofs.Roots.{root_view, seen_root, behind_it, start}
 use Rattle.pci_number.proofs.Apart.{shut_spread, closed_shut, numbered_spread}
@@ -63,7 +63,7 @@ throughout_hush before root last old new r err hush = λ ready.
     }
 
 module _ (before mid : Board) (root last : ℕ) (bridges : Bool) (old hushed new : List Board) (hush : IsHushed before root bridges mid) (stood : IsHushOk before root old mid hushed) where
-  less_stood : IsReady before root last → AddsSteps (IsLessStep (root_view before root) (nodes_behind before root)) before old mid hushed
+  less_stood : IsReady before root last → AddsSteps (IsLessStep (root_view before root) (nodes_behind before root)) (moment before old) (moment mid hushed)
   less_stood ready = stood (root_view before root) root last (nodes_behind before root) (sym (same_nodes root before ready.one)) (seen_root before root last ready) ready.walkable
 
   shut_there : IsReady before root last → AreShut (nodes_behind mid root)

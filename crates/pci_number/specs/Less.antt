@@ -8,7 +8,7 @@ use Rattle.number_spec.specs.Numbered.{with_numbers, without_numbers}
 use Rattle.number_spec.specs.Spread.{IsShut}
 use Rattle.pci_number.specs.Seen.{View, code, IsSeen}
 use Rattle.pci_number.specs.Hushing.{Rest, IsRestOf}
-use Rattle.pci_number.specs.Stood.{AddsSteps, StepsOrEnds}
+use Rattle.pci_number.specs.Stood.{Moment, AddsSteps, StepsOrEnds}
 
 -- the nodes with the bus numbers of the bridges on this bus alone taken away
 abbrev pub without_own_numbers : Nodes → Nodes
@@ -46,23 +46,21 @@ pub record IsLessStep (v : View) (nodes : Nodes) (was : Board) (now : Board) : T
   pub less : IsLessOf from to
 
 -- While a bridge is closed it forwards less at each write.
-abbrev pub IsCloseStood : {T E : Type 0} → Board → Slot → List Board → Result T E → Board
-    → List Board → Type 0
-IsCloseStood before slot old result now new =
+abbrev pub IsCloseStood : {T E : Type 0} → Moment → Slot → Result T E → Moment → Type 0
+IsCloseStood from slot result to =
     (v : View) (high last : ℕ) (image : List ℕ) (behind others : Nodes)
-    → before ≡ v.fill (Node slot.device slot.function image behind others)
+    → from.board ≡ v.fill (Node slot.device slot.function image behind others)
     → IsSeen v slot.bus (code slot) high last → all_after slot.device slot.function others ≡ true
     → is_type_1 image ≡ true
     → StepsOrEnds (IsLessStep v (Node slot.device slot.function image behind others)) result
-    before old now new
+    from to
 
 -- While the bridges on a bus are closed they forward less at each write.
-abbrev pub IsHushStood : {T E : Type 0} → Board → ℕ → List Board → Result T E → Board
-    → List Board → Type 0
-IsHushStood before bus old result now new =
-    (v : View) (high last : ℕ) (nodes : Nodes) → before ≡ v.fill nodes
+abbrev pub IsHushStood : {T E : Type 0} → Moment → ℕ → Result T E → Moment → Type 0
+IsHushStood from bus result to =
+    (v : View) (high last : ℕ) (nodes : Nodes) → from.board ≡ v.fill nodes
     → IsSeen v bus 0 high last → is_walkable nodes ≡ true
-    → StepsOrEnds (IsLessStep v nodes) result before old now new
+    → StepsOrEnds (IsLessStep v nodes) result from to
 
 -- the nodes from a place on, put into the whole bus
 pub record Wrap (v : View) (nodes : Nodes) (rest : Rest) : Type 0 where
@@ -72,9 +70,9 @@ pub record Wrap (v : View) (nodes : Nodes) (rest : Rest) : Type 0 where
   pub start : IsLessOf nodes (wrap rest.nodes)
 
 -- the closing of the bridges on a bus under way
-abbrev pub IsHushStanding : Board → ℕ → List Board → ℕ → Bool → Board → List Board → Type 0
-IsHushStanding before bus old place more now new =
-    (v : View) (high last : ℕ) (nodes : Nodes) → before ≡ v.fill nodes
+abbrev pub IsHushStanding : Moment → ℕ → ℕ → Bool → Moment → Type 0
+IsHushStanding from bus place more to =
+    (v : View) (high last : ℕ) (nodes : Nodes) → from.board ≡ v.fill nodes
     → IsSeen v bus 0 high last → is_walkable nodes ≡ true
-    → (rest : Rest) × IsRestOf now bus place 0 0 more rest × Wrap v nodes rest
-    × AddsSteps (IsLessStep v nodes) before old now new
+    → (rest : Rest) × IsRestOf to.board bus place 0 0 more rest × Wrap v nodes rest
+    × AddsSteps (IsLessStep v nodes) from to

@@ -11,7 +11,8 @@ use Rattle.number_spec.specs.Ready.{IsReady}
 use Rattle.pci_number.specs.Seen.{View, code, IsSeen, IsClosed}
 use Rattle.pci_number.specs.Hushing.{Rest, IsRestOf}
 use Rattle.pci_number.specs.Less.{without_own_numbers, AreShut}
-use Rattle.pci_number.specs.Stood.{Adds, AddsOrEnds, AddsSteps}
+use Rattle.pci_number.specs.Stood.{Adds, AddsOrEnds, Moment, moment, AddsSteps}
+use Rattle.pci_number.specs.declared.stop.Stop.{Stop}
 use Rattle.pci_number.specs.declared.walk.Walk.{Walk}
 
 -- The board is single with these nodes where their bridges are spread over the buses above `high`,
@@ -22,28 +23,26 @@ IsApart v nodes high last =
     → IsSingle (v.fill after)
 
 -- A bridge that forwards nothing gets a bus.
-abbrev pub IsShowStood : {T E : Type 0} → Board → Slot → ℕ → List Board → Result T E
-    → List Board → Type 0
-IsShowStood before slot bus old result new =
+abbrev pub IsShowStood : {T E : Type 0} → Moment → Slot → ℕ → Result T E → List Board → Type 0
+IsShowStood from slot bus result new =
     (v : View) (high last : ℕ) (image : List ℕ) (behind others : Nodes)
-    → before ≡ v.fill (Node slot.device slot.function image behind others)
+    → from.board ≡ v.fill (Node slot.device slot.function image behind others)
     → IsSeen v slot.bus (code slot) high last → all_after slot.device slot.function others ≡ true
     → is_type_1 image ≡ true → shows image 0 0 0 ≡ true → IsClosed others
     → high + 1 ≤ bus → bus ≤ last
     → IsApart v (Node slot.device slot.function image behind others) high last
-    → AddsOrEnds IsSingle result old new
+    → AddsOrEnds IsSingle result from.history new
 
 -- The same, and the bridges on that bus are closed.
-abbrev pub IsOpenStood : {T E : Type 0} → Board → Slot → ℕ → ℕ → List Board → Result T E
-    → List Board → Type 0
-IsOpenStood before slot bus last old result new =
+abbrev pub IsOpenStood : Moment → Slot → ℕ → ℕ → Result Bool Stop → List Board → Type 0
+IsOpenStood from slot bus last result new =
     (v : View) (high : ℕ) (image : List ℕ) (behind others : Nodes)
-    → before ≡ v.fill (Node slot.device slot.function image behind others)
+    → from.board ≡ v.fill (Node slot.device slot.function image behind others)
     → IsSeen v slot.bus (code slot) high last → all_after slot.device slot.function others ≡ true
     → is_type_1 image ≡ true → shows image 0 0 0 ≡ true → IsClosed others
     → is_walkable behind ≡ true → high + 1 ≤ bus → bus ≤ last
     → IsApart v (Node slot.device slot.function image behind others) high last
-    → AddsOrEnds IsSingle result old new
+    → AddsOrEnds IsSingle result from.history new
 
 -- The bridges on a bus, which are closed, and those behind them get their numbers.
 abbrev pub IsBusStood : {T E : Type 0} → Board → ℕ → ℕ → Walk → List Board → Result T E
@@ -97,7 +96,7 @@ pub record IsSingleThroughout {T E : Type 0} (before : Board) (root : ℕ) (answ
   -- those that stood until the bridges on the root bus were closed
   pub closed : Board
   pub hushed : List Board
-  pub hushing : AddsSteps (IsHushStep before root) before old closed hushed
+  pub hushing : AddsSteps (IsHushStep before root) (moment before old) (moment closed hushed)
   pub done : ClosedOrStopped (nodes_behind closed root) answer hushed new
   -- each board after that is single,
   pub later : IsSingleBeside before root → AddsOrEnds IsSingle answer hushed new

@@ -23,9 +23,19 @@ abbrev pub AddsOrEnds : {T E : Type 0} → (Board → Type 0) → Result T E →
 AddsOrEnds P (Ok x) old new = Adds P old new
 AddsOrEnds P (Err e) old new = Ends P old new
 
--- one write at most was made, and this board stands now
-abbrev pub IsOneMore : Board → List Board → Board → List Board → Type 0
-IsOneMore before old board new = ((board ≡ before) × (new ≡ old)) ⊎ (new ≡ board ∷ old)
+-- the board that stands at a moment, and those that stood after each write up to then
+pub record Moment : Type 0 where
+  pub board : Board
+  pub history : List Board
+
+abbrev pub moment : Board → List Board → Moment
+moment board history = record { board = board; history = history }
+
+-- from one moment to another one write at most was made
+abbrev pub IsOneMore : Moment → Moment → Type 0
+IsOneMore from to =
+    ((to.board ≡ from.board) × (to.history ≡ from.history))
+    ⊎ (to.history ≡ to.board ∷ from.history)
 
 -- ---- from one board to the next
 
@@ -39,20 +49,20 @@ abbrev pub EachStep : (Board → Board → Type 0) → Board → List Board → 
 EachStep R before [] = Unit {0}
 EachStep R before (board ∷ boards) = R (latest before boards) board × EachStep R before boards
 
--- Boards have come to those that stood, from one to another, and this is said of each that has and
--- of the one before it.
-abbrev pub AddsSteps : (Board → Board → Type 0) → Board → List Board → Board → List Board → Type 0
-AddsSteps R before old now new =
-    (added : List Board) × (new ≡ added ++ old) × EachStep R before added
-    × (latest before added ≡ now)
+-- From one moment to another boards have come to those that stood, and this is said of each that has
+-- and of the one before it.
+abbrev pub AddsSteps : (Board → Board → Type 0) → Moment → Moment → Type 0
+AddsSteps R from to =
+    (added : List Board) × (to.history ≡ added ++ from.history) × EachStep R from.board added
+    × (latest from.board added ≡ to.board)
 
 -- The same, but that of one last board nothing is said.
-abbrev pub EndsSteps : (Board → Board → Type 0) → Board → List Board → List Board → Type 0
-EndsSteps R before old new =
-    (now : Board) × (taken : List Board) × AddsSteps R before old now taken
+abbrev pub EndsSteps : (Board → Board → Type 0) → Moment → List Board → Type 0
+EndsSteps R from new =
+    (now : Board) × (taken : List Board) × AddsSteps R from (moment now taken)
     × ((new ≡ taken) ⊎ ((board : Board) × (new ≡ board ∷ taken)))
 
-abbrev pub StepsOrEnds : {T E : Type 0} → (Board → Board → Type 0) → Result T E → Board
-    → List Board → Board → List Board → Type 0
-StepsOrEnds R (Ok x) before old now new = AddsSteps R before old now new
-StepsOrEnds R (Err e) before old now new = EndsSteps R before old new
+abbrev pub StepsOrEnds : {T E : Type 0} → (Board → Board → Type 0) → Result T E → Moment → Moment
+    → Type 0
+StepsOrEnds R (Ok x) from to = AddsSteps R from to
+StepsOrEnds R (Err e) from to = EndsSteps R from to.history

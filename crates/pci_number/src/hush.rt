@@ -4,6 +4,7 @@ ghost use Rattle.pci_number.specs.Stops.{failures_at, IsStop};
 ghost use Rattle.pci_number.specs.Steps.{IsShownAt, IsLeftAt, IsHushed, IsHushLeft};
 ghost use Rattle.pci_number.specs.Few.{IsHushFew};
 ghost use Rattle.pci_number.specs.Less.{IsCloseStood, IsHushStood};
+ghost use Rattle.pci_number.specs.Stood.{moment};
 
 use crate::look::{PLACES, look, slot_at};
 use crate::port::BoardPort;
@@ -17,8 +18,8 @@ use pci_base::slot::Slot;
 fn close<P: BoardPort>(port: &mut P, slot: Slot) -> Result<(), Stop>
     ensures closed { OnOk result (IsShownAt (P.board port.old) slot 0 0 0 (P.board port.new)) }
     ensures left { OnErr result (IsLeftAt (P.board port.old) slot (P.board port.new)) }
-    ensures stood { IsCloseStood (P.board port.old) slot (P.history port.old) result
-        (P.board port.new) (P.history port.new) }
+    ensures stood { IsCloseStood (moment (P.board port.old) (P.history port.old)) slot result
+        (moment (P.board port.new) (P.history port.new)) }
     ensures stop { IfErr result (IsStop (P.board port.new) (P.last_write port.new)) }
     ensures counted { P.failures port.new ≡ P.failures port.old + failures_at result }
     ensures few { P.writes port.new ≤ P.writes port.old + 3 }
@@ -34,8 +35,8 @@ pub fn hush<P: BoardPort>(port: &mut P, bus: u8) -> Result<bool, Stop>
     ensures hushed { IfOk result
         (λ bridges. IsHushed (P.board port.old) bus bridges (P.board port.new)) }
     ensures left { OnErr result (IsHushLeft (P.board port.old) bus (P.board port.new)) }
-    ensures stood { IsHushStood (P.board port.old) bus (P.history port.old) result
-        (P.board port.new) (P.history port.new) }
+    ensures stood { IsHushStood (moment (P.board port.old) (P.history port.old)) bus result
+        (moment (P.board port.new) (P.history port.new)) }
     ensures stop { IfErr result (IsStop (P.board port.new) (P.last_write port.new)) }
     ensures counted { P.failures port.new ≡ P.failures port.old + failures_at result }
     ensures few { IsHushFew (P.board port.old) bus (P.writes port.old) (P.writes port.new) }

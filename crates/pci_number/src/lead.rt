@@ -2,7 +2,7 @@
 ghost use Rattle.std.specs.Prelude.{◌≡◌, ◌+◌, ◌≤◌, IfOk, IfErr, OnErr};
 ghost use Rattle.pci_number.specs.Stops.{failures_at, IsStop};
 ghost use Rattle.pci_number.specs.Steps.{IsTouched};
-ghost use Rattle.pci_number.specs.Stood.{IsOneMore};
+ghost use Rattle.pci_number.specs.Stood.{IsOneMore, moment};
 ghost use Rattle.pci_number.specs.Spare.{IsLed};
 
 use crate::port::BoardPort;
@@ -25,8 +25,8 @@ pub fn lead_to<P: BoardPort>(
         (λ end. IsLed (P.board port.old) slot taken last spare end (P.board port.new)) }
     ensures above { IfOk result (λ end. taken ≤ end) }
     ensures left { OnErr result (IsTouched (P.board port.old) slot 26 (P.board port.new)) }
-    ensures stood { IsOneMore (P.board port.old) (P.history port.old) (P.board port.new)
-        (P.history port.new) }
+    ensures stood { IsOneMore (moment (P.board port.old) (P.history port.old))
+        (moment (P.board port.new) (P.history port.new)) }
     ensures stop { IfErr result (IsStop (P.board port.new) (P.last_write port.new)) }
     ensures counted { P.failures port.new ≡ P.failures port.old + failures_at result }
     ensures few { P.writes port.new ≤ P.writes port.old + 1 }

@@ -4,6 +4,7 @@ ghost use Rattle.pci_number.specs.Stops.{failures_at, IsStop};
 ghost use Rattle.pci_number.specs.Steps.{IsShownAt, IsLeftAt, IsOpened, IsOpenLeft};
 ghost use Rattle.pci_number.specs.Few.{IsOpenFew};
 ghost use Rattle.pci_number.specs.Single.{IsShowStood, IsOpenStood};
+ghost use Rattle.pci_number.specs.Stood.{moment};
 
 use crate::hush::hush;
 use crate::port::BoardPort;
@@ -17,7 +18,7 @@ fn show<P: BoardPort>(port: &mut P, slot: Slot, behind: u8) -> Result<(), Stop>
     ensures shown { OnOk result
         (IsShownAt (P.board port.old) slot slot.bus behind behind (P.board port.new)) }
     ensures left { OnErr result (IsLeftAt (P.board port.old) slot (P.board port.new)) }
-    ensures stood { IsShowStood (P.board port.old) slot behind (P.history port.old) result
+    ensures stood { IsShowStood (moment (P.board port.old) (P.history port.old)) slot behind result
         (P.history port.new) }
     ensures stop { IfErr result (IsStop (P.board port.new) (P.last_write port.new)) }
     ensures counted { P.failures port.new ≡ P.failures port.old + failures_at result }
@@ -37,7 +38,7 @@ pub fn open<P: BoardPort>(port: &mut P, slot: Slot, behind: u8, last: u8) -> Res
         (λ bridges. IsOpened (P.board port.old) slot behind last bridges (P.board port.new)) }
     ensures left { OnErr result (IsOpenLeft (P.board port.old) slot behind last
         (P.board port.new)) }
-    ensures stood { IsOpenStood (P.board port.old) slot behind last (P.history port.old) result
+    ensures stood { IsOpenStood (moment (P.board port.old) (P.history port.old)) slot behind last result
         (P.history port.new) }
     ensures stop { IfErr result (IsStop (P.board port.new) (P.last_write port.new)) }
     ensures counted { P.failures port.new ≡ P.failures port.old + failures_at result }

@@ -2,7 +2,7 @@
 ghost use Rattle.std.specs.Prelude.{◌≡◌, ◌+◌, ◌≤◌, IfErr, OnOk, OnErr};
 ghost use Rattle.pci_number.specs.Stops.{failures_at, IsStop};
 ghost use Rattle.pci_number.specs.Steps.{IsPut, IsTouched};
-ghost use Rattle.pci_number.specs.Stood.{IsOneMore};
+ghost use Rattle.pci_number.specs.Stood.{IsOneMore, moment};
 
 use crate::port::BoardPort;
 use crate::stop::{NotTaken, Stop};
@@ -16,8 +16,8 @@ use pci_base::slot::Slot;
 pub fn put<P: BoardPort>(port: &mut P, slot: Slot, offset: u8, number: u8) -> Result<(), Stop>
     ensures put { OnOk result (IsPut (P.board port.old) slot offset number (P.board port.new)) }
     ensures left { OnErr result (IsTouched (P.board port.old) slot offset (P.board port.new)) }
-    ensures stood { IsOneMore (P.board port.old) (P.history port.old) (P.board port.new)
-        (P.history port.new) }
+    ensures stood { IsOneMore (moment (P.board port.old) (P.history port.old))
+        (moment (P.board port.new) (P.history port.new)) }
     ensures stop { IfErr result (IsStop (P.board port.new) (P.last_write port.new)) }
     ensures counted { P.failures port.new ≡ P.failures port.old + failures_at result }
     ensures few { P.writes port.new ≤ P.writes port.old + 1 }

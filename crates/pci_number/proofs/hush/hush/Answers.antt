@@ -3,6 +3,7 @@ use Rattle.pci_number.specs.Steps.{IsShownAt, IsLeftAt, IsHushLeft}
 use Rattle.pci_number.specs.Hushing.{IsHushing}
 use Rattle.pci_number.specs.Few.{IsHushFew}
 use Rattle.pci_number.specs.Less.{IsHushStood, IsHushStanding}
+use Rattle.pci_number.specs.Stood.{moment}
 use Rattle.pci_number.proofs.Errs.{always_err}
 use Rattle.pci_number.proofs.Places.{place_of, to_slot, from_slot}
 use Rattle.pci_number.proofs.Few.{IsHushCounted, hush_count_start, hush_count_pass, hush_count_close, hush_few, hush_few_close}
@@ -52,14 +53,14 @@ loop-place-preserved g c =
     let counted = to_slot (λ b p. IsHushCounted before b p c.loop-place.more (board c.loop-place.port) made total) slot bus at place c.loop-place.invariant.few in
     let history = g.P.BoardPort.history in
     let old = history c.args.port.now in
-    let stood = to_slot (λ b p. IsHushStanding before b old p c.loop-place.more (board c.loop-place.port) (history c.loop-place.port)) slot bus at place c.loop-place.invariant.standing in
+    let stood = to_slot (λ b p. IsHushStanding (moment before old) b p c.loop-place.more (moment (board c.loop-place.port) (history c.loop-place.port))) slot bus at place c.loop-place.invariant.standing in
     let so_far = to_slot (λ b p. IsHushing before b p c.loop-place.more c.loop-place.bridges (board c.loop-place.port)) slot bus at place c.loop-place.invariant.hushing in
     elim c.if-found.branch [
       | then-found+in_ok-close w ↦ record {
         hushing = rw (w.port-is, w.bridges-is) (from_slot (λ b p. IsHushing before b (p + 1) found.more true (board w.close.new.port)) slot bus at place
             (hush_close before (board c.loop-place.port) (board w.close.new.port) slot c.loop-place.more c.loop-place.bridges found place.low c.in_ok-found.ensures.looked w.if-found.true
             (subst (λ b. IsShownAt b slot 0 0 0 (board w.close.new.port)) c.in_ok-found.ensures.same w.in_ok-close.ensures.closed) so_far));
-        standing = rw w.port-is (from_slot (λ b p. IsHushStanding before b old (p + 1) found.more (board w.close.new.port) (history w.close.new.port)) slot bus at place
+        standing = rw w.port-is (from_slot (λ b p. IsHushStanding (moment before old) b (p + 1) found.more (moment (board w.close.new.port) (history w.close.new.port))) slot bus at place
             (standing_close before (board c.loop-place.port) (board w.close.new.port) slot old (history c.loop-place.port) (history w.close.new.port) c.loop-place.more found place.low c.in_ok-found.ensures.looked w.if-found.true
             (subst (λ b. IsShownAt b slot 0 0 0 (board w.close.new.port)) c.in_ok-found.ensures.same w.in_ok-close.ensures.closed)
             (subst (λ h. IsCloseOk (board c.loop-place.port) slot h (board w.close.new.port) (history w.close.new.port)) c.in_ok-found.ensures.same_history
@@ -73,7 +74,7 @@ loop-place-preserved g c =
       | else-found w ↦ record {
         hushing = rw (w.port-is, w.bridges-is, c.in_ok-found.ensures.same) (from_slot (λ b p. IsHushing before b (p + 1) found.more c.loop-place.bridges (board c.loop-place.port)) slot bus at place
             (hush_pass before (board c.loop-place.port) slot c.loop-place.more c.loop-place.bridges found place.low c.in_ok-found.ensures.looked w.if-found.false so_far));
-        standing = rw (w.port-is, c.in_ok-found.ensures.same, c.in_ok-found.ensures.same_history) (from_slot (λ b p. IsHushStanding before b old (p + 1) found.more (board c.loop-place.port) (history c.loop-place.port)) slot bus at place
+        standing = rw (w.port-is, c.in_ok-found.ensures.same, c.in_ok-found.ensures.same_history) (from_slot (λ b p. IsHushStanding (moment before old) b (p + 1) found.more (moment (board c.loop-place.port) (history c.loop-place.port))) slot bus at place
             (standing_pass before (board c.loop-place.port) slot old (history c.loop-place.port) c.loop-place.more found place.low c.in_ok-found.ensures.looked w.if-found.false stood));
         counted = omega (arith, ap g.P.BoardPort.failures w.port-is, c.in_ok-found.ensures.counted, c.loop-place.invariant.counted);
         few = rw (w.port-is, c.in_ok-found.ensures.same, c.in_ok-found.ensures.no_more) (from_slot (λ b p. IsHushCounted before b (p + 1) found.more (board c.loop-place.port) made total) slot bus at place
@@ -129,11 +130,11 @@ returns-in_err-close-clause-stood g c =
     let old = history c.args.port.now in
     let slot = c.slot_at-slot.result in
     let place = place_of slot c.args.bus c.loop-place.place c.slot_at-slot.ensures in
-    subst (λ b. IsHushStood before b old c.from_residual-in_err-close.result (board c.close.new.port) (history c.close.new.port)) place.on
+    subst (λ b. IsHushStood (moment before old) b c.from_residual-in_err-close.result (moment (board c.close.new.port) (history c.close.new.port))) place.on
     (standing_left_close before (board c.loop-place.port) (board c.close.new.port) slot old (history c.loop-place.port) (history c.close.new.port) c.loop-place.more c.in_ok-found.found c.from_residual-in_err-close.result c.from_residual-in_err-close.ensures.0 place.low c.in_ok-found.ensures.looked c.if-found.true
     (subst (λ h. IsCloseEnd (board c.loop-place.port) slot h (history c.close.new.port)) c.in_ok-found.ensures.same_history
     (subst (λ b. IsCloseEnd b slot (history c.look.new.port) (history c.close.new.port)) c.in_ok-found.ensures.same c.in_err-close.ensures.stood))
-    (to_slot (λ b p. IsHushStanding before b old p c.loop-place.more (board c.loop-place.port) (history c.loop-place.port)) slot c.args.bus c.loop-place.place place c.loop-place.invariant.standing))
+    (to_slot (λ b p. IsHushStanding (moment before old) b p c.loop-place.more (moment (board c.loop-place.port) (history c.loop-place.port))) slot c.args.bus c.loop-place.place place c.loop-place.invariant.standing))
 
 pub returns-clause-stood : goal.returns-clause-stood
 returns-clause-stood g c =
