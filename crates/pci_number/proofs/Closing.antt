@@ -106,7 +106,8 @@ module _ (before first second third : Board) (slot : Slot) (old one two three : 
 pub standing_start : (before : Board) (bus : ℕ) (old : List Board) → IsHushStanding (moment before old) bus 0 false (moment before old)
 standing_start before bus old = λ v high last nodes is seen walkable. (
   record { view = v; nodes = nodes; device = 0 },
-  record { is = is; seen = seen_alone v bus 0 high last seen; past = λ never. cc never; has = rest_of nodes walkable },
+  record { is = is; past = λ never. cc never; has = rest_of nodes walkable },
+  seen_alone v bus 0 high last seen,
   record { wrap = λ after. after; fills = λ after. refl; less = λ a b less. less; start = less_itself nodes },
   steps_none (IsLessStep v nodes) before old,
 )
@@ -120,28 +121,29 @@ standing_pass before now slot old new more found low looked none standing = λ v
     let h = standing v high last nodes is seen walkable in
     let d = slot.device in
     let f = slot.function in
-    elim (looked h.0.view 0 0 h.0.device h.0.nodes h.1.is h.1.seen low h.1.past h.1.has) [
+    elim (looked h.0.view 0 0 h.0.device h.0.nodes h.1.is h.2 low h.1.past h.1.has) [
       | Absent device no_bridge past has ↦ (
         record { view = h.0.view; nodes = h.0.nodes; device = device },
-        record { is = h.1.is; seen = seen_on h.0.view slot.bus (code slot) (code slot + 1) 0 0 h.1.seen (omega arith); past = λ more_are. omega (arith, past more_are); has = has },
-        record { wrap = h.2.wrap; fills = h.2.fills; less = h.2.less; start = h.2.start },
-        h.3,
+        record { is = h.1.is; past = λ more_are. omega (arith, past more_are); has = has },
+        seen_on h.0.view slot.bus (code slot) (code slot + 1) 0 0 h.2 (omega arith),
+        record { wrap = h.3.wrap; fills = h.3.fills; less = h.3.less; start = h.3.start },
+        h.4,
       )
       | There image behind others device same kind inside alone past has ↦ (
         record { view = next h.0.view d f image behind; nodes = others; device = device },
         record {
           is = h.1.is ∙ ap h.0.view.fill same;
-          seen = seen_next h.0.view slot.bus (code slot) (code slot + 1) 0 0 0 d f image behind h.1.seen (omega arith) (omega arith) (omega arith) (λ bus over within. none_between _ bus over within);
           past = λ more_are. omega (arith, past more_are);
           has = has;
         },
+        seen_next h.0.view slot.bus (code slot) (code slot + 1) 0 0 0 d f image behind h.2 (omega arith) (omega arith) (omega arith) (λ bus over within. none_between _ bus over within),
         record {
-          wrap = λ after. h.2.wrap (Node d f image behind after);
-          fills = λ after. h.2.fills (Node d f image behind after);
-          less = λ a b less. h.2.less (Node d f image behind a) (Node d f image behind b) (less_after d f image behind a b less);
-          start = subst (λ n. IsLessOf nodes (h.2.wrap n)) same h.2.start;
+          wrap = λ after. h.3.wrap (Node d f image behind after);
+          fills = λ after. h.3.fills (Node d f image behind after);
+          less = λ a b less. h.3.less (Node d f image behind a) (Node d f image behind b) (less_after d f image behind a b less);
+          start = subst (λ n. IsLessOf nodes (h.3.wrap n)) same h.3.start;
         },
-        h.3,
+        h.4,
       )
     ]
 
@@ -161,31 +163,31 @@ standing_close before now after_it slot old mid new more found low looked one sh
     let h = standing v high last nodes is seen walkable in
     let d = slot.device in
     let f = slot.function in
-    elim (looked h.0.view 0 0 h.0.device h.0.nodes h.1.is h.1.seen low h.1.past h.1.has) [
+    elim (looked h.0.view 0 0 h.0.device h.0.nodes h.1.is h.2 low h.1.past h.1.has) [
       | Absent device no_bridge past has ↦ absurd (both_ways found.bridge no_bridge one)
       | There image behind others device same kind inside alone past has ↦
           let bridge : is_type_1 image ≡ true = kind ∙ one in
           let node = h.1.is ∙ ap h.0.view.fill same in
-          let s = shown_0 h.0.view 0 0 image behind others node h.1.seen alone in
+          let s = shown_0 h.0.view 0 0 image behind others node h.2 alone in
           let numbers = shown s.0 0 0 0 s.3 in
           let less : IsLess image s.0 = (numbers.subordinate, inr numbers.secondary) in (
             record { view = next h.0.view d f s.0 behind; nodes = others; device = device },
             record {
               is = s.1;
-              seen = seen_next h.0.view slot.bus (code slot) (code slot + 1) 0 0 0 d f s.0 behind h.1.seen (omega arith) (omega arith) (omega arith) (λ bus over within. none_between _ bus over within);
               past = λ more_are. omega (arith, past more_are);
               has = has;
             },
+            seen_next h.0.view slot.bus (code slot) (code slot + 1) 0 0 0 d f s.0 behind h.2 (omega arith) (omega arith) (omega arith) (λ bus over within. none_between _ bus over within),
             record {
-              wrap = λ after. h.2.wrap (Node d f s.0 behind after);
-              fills = λ after. h.2.fills (Node d f s.0 behind after);
-              less = λ a b rest. h.2.less (Node d f s.0 behind a) (Node d f s.0 behind b) (less_after d f s.0 behind a b rest);
-              start = less_then nodes (h.2.wrap (Node d f image behind others)) (h.2.wrap (Node d f s.0 behind others)) (subst (λ n. IsLessOf nodes (h.2.wrap n)) same h.2.start)
-                  (h.2.less (Node d f image behind others) (Node d f s.0 behind others) (less_node d f image s.0 behind others others bridge s.2 less (less_itself others)));
+              wrap = λ after. h.3.wrap (Node d f s.0 behind after);
+              fills = λ after. h.3.fills (Node d f s.0 behind after);
+              less = λ a b rest. h.3.less (Node d f s.0 behind a) (Node d f s.0 behind b) (less_after d f s.0 behind a b rest);
+              start = less_then nodes (h.3.wrap (Node d f image behind others)) (h.3.wrap (Node d f s.0 behind others)) (subst (λ n. IsLessOf nodes (h.3.wrap n)) same h.3.start)
+                  (h.3.less (Node d f image behind others) (Node d f s.0 behind others) (less_node d f image s.0 behind others others bridge s.2 less (less_itself others)));
             },
-            steps_then (IsLessStep v nodes) before old now mid after_it new h.3
-                (steps_as (IsLessStep h.0.view (Node d f image behind others)) (IsLessStep v nodes) (step_of_bus v nodes h.0 h.2 (Node d f image behind others) same) now mid after_it new
-                (stood h.0.view 0 0 image behind others node h.1.seen alone bridge)),
+            steps_then (IsLessStep v nodes) before old now mid after_it new h.4
+                (steps_as (IsLessStep h.0.view (Node d f image behind others)) (IsLessStep v nodes) (step_of_bus v nodes h.0 h.3 (Node d f image behind others) same) now mid after_it new
+                (stood h.0.view 0 0 image behind others node h.2 alone bridge)),
           )
     ]
 
@@ -194,19 +196,19 @@ standing_close before now after_it slot old mid new more found low looked one sh
 pub standing_left : {T E : Type 0} → (before now after : Board) (bus place : ℕ) (old mid new : List Board) (more : Bool) (r : Result T E) → IsErr r → new ≡ mid → IsHushStanding (moment before old) bus place more (moment now mid) → IsHushStood (moment before old) bus r (moment after new)
 standing_left before now after bus place old mid new more r err same standing = λ v high last nodes is seen walkable.
     let h = standing v high last nodes is seen walkable in
-    stopped (IsLessStep v nodes) r before old after new err (now, mid, h.3, inl same)
+    stopped (IsLessStep v nodes) r before old after new err (now, mid, h.4, inl same)
 
 pub standing_left_close : {T E : Type 0} → (before now after : Board) (slot : Slot) (old mid new : List Board) (more : Bool) (found : Found) (r : Result T E) → IsErr r → slot.function ≤ 7 → IsLooked now slot more found → found.bridge ≡ true → IsCloseEnd now slot mid new → IsHushStanding (moment before old) slot.bus (code slot) more (moment now mid) → IsHushStood (moment before old) slot.bus r (moment after new)
 standing_left_close before now after slot old mid new more found r err low looked one stood standing = λ v high last nodes is seen walkable.
     let h = standing v high last nodes is seen walkable in
-    stopped (IsLessStep v nodes) r before old after new err (elim (looked h.0.view 0 0 h.0.device h.0.nodes h.1.is h.1.seen low h.1.past h.1.has) [
+    stopped (IsLessStep v nodes) r before old after new err (elim (looked h.0.view 0 0 h.0.device h.0.nodes h.1.is h.2 low h.1.past h.1.has) [
       | Absent device no_bridge past has ↦ absurd (both_ways found.bridge no_bridge one)
       | There image behind others device same kind inside alone past has ↦
           let node = Node slot.device slot.function image behind others in
-          stops_then (IsLessStep v nodes) before old now mid new h.3
-          (stops_as (IsLessStep h.0.view node) (IsLessStep v nodes) (step_of_bus v nodes h.0 h.2 node same) now mid new
-          (stood h.0.view 0 0 image behind others (h.1.is ∙ ap h.0.view.fill same) h.1.seen alone (kind ∙ one)))
+          stops_then (IsLessStep v nodes) before old now mid new h.4
+          (stops_as (IsLessStep h.0.view node) (IsLessStep v nodes) (step_of_bus v nodes h.0 h.3 node same) now mid new
+          (stood h.0.view 0 0 image behind others (h.1.is ∙ ap h.0.view.fill same) h.2 alone (kind ∙ one)))
     ])
 
 pub standing_done : (before now : Board) (bus place : ℕ) (old new : List Board) (more : Bool) → IsHushStanding (moment before old) bus place more (moment now new) → (v : View) (high last : ℕ) (nodes : Nodes) → before ≡ v.fill nodes → IsSeen v bus 0 high last → is_walkable nodes ≡ true → AddsSteps (IsLessStep v nodes) (moment before old) (moment now new)
-standing_done before now bus place old new more standing v high last nodes is seen walkable = (standing v high last nodes is seen walkable).3
+standing_done before now bus place old new more standing v high last nodes is seen walkable = (standing v high last nodes is seen walkable).4

@@ -60,7 +60,8 @@ same_on after before same = sym (on_stays after) ∙ ap bridges_on same ∙ on_s
 
 pub record HushCount (now : Board) (bus : ℕ) (place : ℕ) (more : Bool) (nodes : Nodes) (made : ℕ) (total : ℕ) : Type 0 where
   pub rest : Rest
-  pub is : IsRestOf now bus place 0 0 more rest
+  pub is : IsRestOf now place more rest
+  pub seen : IsSeen rest.view bus place 0 0
   pub few : total + 3 * bridges_on rest.nodes ≤ made + 3 * bridges_on nodes
 
 abbrev pub IsHushCounted : Board → ℕ → ℕ → Bool → Board → ℕ → ℕ → Type 0
@@ -69,7 +70,8 @@ IsHushCounted before bus place more now made total = (v : View) (high last : ℕ
 pub hush_count_start : (before : Board) (bus made : ℕ) → IsHushCounted before bus 0 false before made made
 hush_count_start before bus made = λ v high last nodes is seen walkable. record {
   rest = record { view = v; nodes = nodes; device = 0 };
-  is = record { is = is; seen = seen_alone v bus 0 high last seen; past = λ never. cc never; has = rest_of nodes walkable };
+  is = record { is = is; past = λ never. cc never; has = rest_of nodes walkable };
+  seen = seen_alone v bus 0 high last seen;
   few = omega arith;
 }
 
@@ -78,20 +80,21 @@ hush_count_pass before now slot more found made total low looked none counted = 
     let h = counted v high last nodes is seen walkable in
     let d = slot.device in
     let f = slot.function in
-    elim (looked h.rest.view 0 0 h.rest.device h.rest.nodes h.is.is h.is.seen low h.is.past h.is.has) [
+    elim (looked h.rest.view 0 0 h.rest.device h.rest.nodes h.is.is h.seen low h.is.past h.is.has) [
       | Absent device no_bridge past has ↦ record {
         rest = record { view = h.rest.view; nodes = h.rest.nodes; device = device };
-        is = record { is = h.is.is; seen = seen_on h.rest.view slot.bus (code slot) (code slot + 1) 0 0 h.is.seen (omega arith); past = λ more_are. omega (arith, past more_are); has = has };
+        is = record { is = h.is.is; past = λ more_are. omega (arith, past more_are); has = has };
+        seen = seen_on h.rest.view slot.bus (code slot) (code slot + 1) 0 0 h.seen (omega arith);
         few = h.few;
       }
       | There image behind others device same kind inner alone past has ↦ record {
         rest = record { view = next h.rest.view d f image behind; nodes = others; device = device };
         is = record {
           is = h.is.is ∙ ap h.rest.view.fill same;
-          seen = seen_next h.rest.view slot.bus (code slot) (code slot + 1) 0 0 0 d f image behind h.is.seen (omega arith) (omega arith) (omega arith) (λ bus over within. none_between _ bus over within);
           past = λ more_are. omega (arith, past more_are);
           has = has;
         };
+        seen = seen_next h.rest.view slot.bus (code slot) (code slot + 1) 0 0 0 d f image behind h.seen (omega arith) (omega arith) (omega arith) (λ bus over within. none_between _ bus over within);
         few = omega (arith, h.few, ap bridges_on same, with_device d f image behind others (kind ∙ none));
       }
     ]
@@ -101,18 +104,18 @@ hush_count_close before now after slot more found made total more_made low looke
     let h = counted v high last nodes is seen walkable in
     let d = slot.device in
     let f = slot.function in
-    elim (looked h.rest.view 0 0 h.rest.device h.rest.nodes h.is.is h.is.seen low h.is.past h.is.has) [
+    elim (looked h.rest.view 0 0 h.rest.device h.rest.nodes h.is.is h.seen low h.is.past h.is.has) [
       | Absent device no_bridge past has ↦ absurd (both_ways found.bridge no_bridge one)
       | There image behind others device same kind inner alone past has ↦
-          let s = shown h.rest.view 0 0 image behind others (h.is.is ∙ ap h.rest.view.fill same) h.is.seen alone in
+          let s = shown h.rest.view 0 0 image behind others (h.is.is ∙ ap h.rest.view.fill same) h.seen alone in
           record {
             rest = record { view = next h.rest.view d f s.0 behind; nodes = others; device = device };
             is = record {
               is = s.1;
-              seen = seen_next h.rest.view slot.bus (code slot) (code slot + 1) 0 0 0 d f s.0 behind h.is.seen (omega arith) (omega arith) (omega arith) (λ bus over within. none_between _ bus over within);
               past = λ more_are. omega (arith, past more_are);
               has = has;
             };
+            seen = seen_next h.rest.view slot.bus (code slot) (code slot + 1) 0 0 0 d f s.0 behind h.seen (omega arith) (omega arith) (omega arith) (λ bus over within. none_between _ bus over within);
             few = omega (arith, h.few, three, ap bridges_on same, with_bridge d f image behind others (kind ∙ one));
           }
     ]
@@ -123,7 +126,7 @@ hush_few before now bus place more made total counted = λ v high last nodes is 
 pub hush_few_close : (before now : Board) (slot : Slot) (more : Bool) (found : Found) (made total more_made : ℕ) → slot.function ≤ 7 → IsLooked now slot more found → found.bridge ≡ true → more_made ≤ total + 3 → IsHushCounted before slot.bus (code slot) more now made total → IsHushFew before slot.bus made more_made
 hush_few_close before now slot more found made total more_made low looked one three counted = λ v high last nodes is seen walkable.
     let h = counted v high last nodes is seen walkable in
-    elim (looked h.rest.view 0 0 h.rest.device h.rest.nodes h.is.is h.is.seen low h.is.past h.is.has) [
+    elim (looked h.rest.view 0 0 h.rest.device h.rest.nodes h.is.is h.seen low h.is.past h.is.has) [
       | Absent device no_bridge past has ↦ absurd (both_ways found.bridge no_bridge one)
       | There image behind others device same kind inner alone past has ↦ omega (arith, h.few, three, ap bridges_on same, with_bridge slot.device slot.function image behind others (kind ∙ one))
     ]
@@ -140,7 +143,8 @@ open_few before first slot bus last made shown_by hushed_by total show three hus
 
 pub record WalkCount (now : Board) (bus : ℕ) (last : ℕ) (place : ℕ) (more : Bool) (taken : ℕ) (nodes : Nodes) (made : ℕ) (total : ℕ) : Type 0 where
   pub rest : Rest
-  pub is : IsRestOf now bus place taken last more rest
+  pub is : IsRestOf now place more rest
+  pub seen : IsSeen rest.view bus place taken last
   pub closed : IsClosed rest.nodes
   pub few : total + 8 * bridges rest.nodes + 3 * bridges_on nodes ≤ made + 8 * bridges nodes + 3 * bridges_on rest.nodes
 
@@ -150,7 +154,8 @@ IsWalkCounted before bus last start place more walk now made total = (v : View) 
 pub walk_count_start : (before : Board) (bus last : ℕ) (start : Walk) (made : ℕ) → IsWalkCounted before bus last start 0 false start before made made
 walk_count_start before bus last start made = λ v nodes is seen walkable closed. record {
   rest = record { view = v; nodes = nodes; device = 0 };
-  is = record { is = is; seen = seen; past = λ never. cc never; has = rest_of nodes walkable };
+  is = record { is = is; past = λ never. cc never; has = rest_of nodes walkable };
+  seen = seen;
   closed = closed;
   few = omega arith;
 }
@@ -160,10 +165,11 @@ walk_count_pass before now slot last start walk more found made total low looked
     let h = counted v nodes is seen walkable closed in
     let d = slot.device in
     let f = slot.function in
-    elim (looked h.rest.view walk.taken last h.rest.device h.rest.nodes h.is.is h.is.seen low h.is.past h.is.has) [
+    elim (looked h.rest.view walk.taken last h.rest.device h.rest.nodes h.is.is h.seen low h.is.past h.is.has) [
       | Absent device no_bridge past has ↦ record {
         rest = record { view = h.rest.view; nodes = h.rest.nodes; device = device };
-        is = record { is = h.is.is; seen = seen_on h.rest.view slot.bus (code slot) (code slot + 1) walk.taken last h.is.seen (omega arith); past = λ more_are. omega (arith, past more_are); has = has };
+        is = record { is = h.is.is; past = λ more_are. omega (arith, past more_are); has = has };
+        seen = seen_on h.rest.view slot.bus (code slot) (code slot + 1) walk.taken last h.seen (omega arith);
         closed = h.closed;
         few = h.few;
       }
@@ -173,10 +179,10 @@ walk_count_pass before now slot last start walk more found made total low looked
             rest = record { view = next h.rest.view d f image behind; nodes = others; device = device };
             is = record {
               is = h.is.is ∙ ap h.rest.view.fill same;
-              seen = seen_next h.rest.view slot.bus (code slot) (code slot + 1) walk.taken walk.taken last d f image behind h.is.seen (omega arith) (omega arith) (omega arith) (λ bus over within. device_is_idle image bus plain);
               past = λ more_are. omega (arith, past more_are);
               has = has;
             };
+            seen = seen_next h.rest.view slot.bus (code slot) (code slot + 1) walk.taken walk.taken last d f image behind h.seen (omega arith) (omega arith) (omega arith) (λ bus over within. device_is_idle image bus plain);
             closed = (subst IsClosed same h.closed).1;
             few = omega (arith, h.few, ap bridges same, ap bridges_on same, with_device d f image behind others plain);
           }
@@ -201,7 +207,7 @@ record CountAt (now : Board) (slot : Slot) (last : ℕ) (taken : ℕ) (more : Bo
   few : total + 5 + 8 * bridges behind + 8 * bridges others + 3 * bridges_on nodes ≤ made + 8 * bridges nodes + 3 * bridges_on others
 
 count_at : (now : Board) (slot : Slot) (last taken : ℕ) (more : Bool) (found : Found) (nodes : Nodes) (made total : ℕ) → slot.function ≤ 7 → IsLooked now slot more found → found.bridge ≡ true → WalkCount now slot.bus last (code slot) more taken nodes made total → CountAt now slot last taken found.more nodes made total
-count_at now slot last taken more found nodes made total low looked one h = elim (looked h.rest.view taken last h.rest.device h.rest.nodes h.is.is h.is.seen low h.is.past h.is.has) [
+count_at now slot last taken more found nodes made total low looked one h = elim (looked h.rest.view taken last h.rest.device h.rest.nodes h.is.is h.seen low h.is.past h.is.has) [
   | Absent device no_bridge past has ↦ absurd (both_ways found.bridge no_bridge one)
   | There image behind others device same kind inner alone past has ↦
       let shut = subst IsClosed same h.closed in
@@ -212,7 +218,7 @@ count_at now slot last taken more found nodes made total low looked one h = elim
         others = others;
         device = device;
         is = h.is.is ∙ ap h.rest.view.fill same;
-        seen = h.is.seen;
+        seen = h.seen;
         bridge = kind ∙ one;
         inner = inner;
         alone = alone;
@@ -234,10 +240,10 @@ walk_count_without before now slot last start walk after more found made total l
       rest = record { view = next b.view d f b.image b.behind; nodes = b.others; device = b.device };
       is = record {
         is = b.is;
-        seen = subst (λ n. IsSeen (next b.view d f b.image b.behind) slot.bus (code slot + 1) n last) (sym same_taken) (seen_next b.view slot.bus (code slot) (code slot + 1) walk.taken walk.taken last d f b.image b.behind b.seen (omega arith) (omega arith) (omega arith) (λ bus above within. above_is_idle b.image 0 0 0 bus b.shut (omega arith) (omega (arith, above))));
         past = λ more_are. omega (arith, b.past more_are);
         has = b.has;
       };
+      seen = subst (λ n. IsSeen (next b.view d f b.image b.behind) slot.bus (code slot + 1) n last) (sym same_taken) (seen_next b.view slot.bus (code slot) (code slot + 1) walk.taken walk.taken last d f b.image b.behind b.seen (omega arith) (omega arith) (omega arith) (λ bus above within. above_is_idle b.image 0 0 0 bus b.shut (omega arith) (omega (arith, above))));
       closed = b.closed;
       few = omega (arith, b.few);
     }
@@ -275,10 +281,10 @@ walk_count_led before now far later slot spare last start walk after_behind afte
       rest = record { view = next b.view d f p.0 a.nodes; nodes = b.others; device = b.device };
       is = record {
         is = p.1;
-        seen = seen_next b.view slot.bus (code slot) (code slot + 1) walk.taken after.taken last d f p.0 a.nodes b.seen (omega arith) (omega arith) (omega (arith, up)) (λ to over within. above_is_idle p.0 slot.bus (walk.taken + 1) after.taken to numbers up over);
         past = λ more_are. omega (arith, b.past more_are);
         has = b.has;
       };
+      seen = seen_next b.view slot.bus (code slot) (code slot + 1) walk.taken after.taken last d f p.0 a.nodes b.seen (omega arith) (omega arith) (omega (arith, up)) (λ to over within. above_is_idle p.0 slot.bus (walk.taken + 1) after.taken to numbers up over);
       closed = b.closed;
       few = omega (arith, b.few, far_few b.view b.image b.behind b.others b.is b.seen b.alone b.bridge b.closed b.inner, put_few);
     }

@@ -30,7 +30,8 @@ use Rattle.pci_number.proofs.Stood.{adds_none, adds_then, adds_more, ends_one, e
 pub stand_start : (before : Board) (bus last : ℕ) (start : Walk) (old : List Board) → IsWalkStanding before bus last start old 0 false start before old
 stand_start before bus last start old = λ v nodes is seen walkable closed apart. (
   record { view = v; nodes = nodes; device = 0 },
-  record { is = is; seen = seen; past = λ never. cc never; has = rest_of nodes walkable },
+  record { is = is; past = λ never. cc never; has = rest_of nodes walkable },
+  seen,
   closed,
   apart,
   adds_none IsSingle old,
@@ -42,27 +43,28 @@ stand_pass before now slot last start walk old new more found low looked none st
     let h = standing v nodes is seen walkable closed apart in
     let d = slot.device in
     let f = slot.function in
-    elim (looked h.0.view walk.taken last h.0.device h.0.nodes h.1.is h.1.seen low h.1.past h.1.has) [
+    elim (looked h.0.view walk.taken last h.0.device h.0.nodes h.1.is h.2 low h.1.past h.1.has) [
       | Absent device no_bridge past has ↦ (
         record { view = h.0.view; nodes = h.0.nodes; device = device },
-        record { is = h.1.is; seen = seen_on h.0.view slot.bus (code slot) (code slot + 1) walk.taken last h.1.seen (omega arith); past = λ more_are. omega (arith, past more_are); has = has },
-        h.2,
+        record { is = h.1.is; past = λ more_are. omega (arith, past more_are); has = has },
+        seen_on h.0.view slot.bus (code slot) (code slot + 1) walk.taken last h.2 (omega arith),
         h.3,
         h.4,
+        h.5,
       )
       | There image behind others device same kind inner alone past has ↦
           let plain : is_type_1 image ≡ false = kind ∙ none in
-          let apart_here : IsApart h.0.view (Node d f image behind others) walk.taken last = subst (λ n. IsApart h.0.view n walk.taken last) same h.3 in (
+          let apart_here : IsApart h.0.view (Node d f image behind others) walk.taken last = subst (λ n. IsApart h.0.view n walk.taken last) same h.4 in (
             record { view = next h.0.view d f image behind; nodes = others; device = device },
             record {
               is = h.1.is ∙ ap h.0.view.fill same;
-              seen = seen_next h.0.view slot.bus (code slot) (code slot + 1) walk.taken walk.taken last d f image behind h.1.seen (omega arith) (omega arith) (omega arith) (λ bus over within. device_is_idle image bus plain);
               past = λ more_are. omega (arith, past more_are);
               has = has;
             },
-            (subst IsClosed same h.2).1,
+            seen_next h.0.view slot.bus (code slot) (code slot + 1) walk.taken walk.taken last d f image behind h.2 (omega arith) (omega arith) (omega arith) (λ bus over within. device_is_idle image bus plain),
+            (subst IsClosed same h.3).1,
             (λ after same_after spread. apart_here (Node d f image behind after) (same_others d f image behind others after same_after) (inl ((λ bridge. absurd (both_ways (is_type_1 image) plain bridge)), spread))),
-            h.4,
+            h.5,
           )
     ]
 
@@ -88,10 +90,10 @@ pub record Bridge (now : Board) (slot : Slot) (last : ℕ) (walk : Walk) (old ne
 at_bridge : (before now : Board) (slot : Slot) (last : ℕ) (start walk : Walk) (old new : List Board) (more : Bool) (found : Found) → slot.function ≤ 7 → IsLooked now slot more found → found.bridge ≡ true → IsWalkStanding before slot.bus last start old (code slot) more walk now new → (v : View) (nodes : Nodes) → before ≡ v.fill nodes → IsSeen v slot.bus 0 start.taken last → is_walkable nodes ≡ true → IsClosed nodes → IsApart v nodes start.taken last → Bridge now slot last walk old new found.more
 at_bridge before now slot last start walk old new more found low looked one standing v nodes is seen walkable closed apart =
     let h = standing v nodes is seen walkable closed apart in
-    elim (looked h.0.view walk.taken last h.0.device h.0.nodes h.1.is h.1.seen low h.1.past h.1.has) [
+    elim (looked h.0.view walk.taken last h.0.device h.0.nodes h.1.is h.2 low h.1.past h.1.has) [
       | Absent device no_bridge past has ↦ absurd (both_ways found.bridge no_bridge one)
       | There image behind others device same kind inner alone past has ↦
-          let shut = subst IsClosed same h.2 in
+          let shut = subst IsClosed same h.3 in
           record {
             view = h.0.view;
             image = image;
@@ -99,7 +101,7 @@ at_bridge before now slot last start walk old new more found low looked one stan
             others = others;
             device = device;
             is = h.1.is ∙ ap h.0.view.fill same;
-            seen = h.1.seen;
+            seen = h.2;
             bridge = kind ∙ one;
             inner = inner;
             alone = alone;
@@ -107,8 +109,8 @@ at_bridge before now slot last start walk old new more found low looked one stan
             has = has;
             shut = shut.0 (kind ∙ one);
             closed = shut.1;
-            apart = subst (λ n. IsApart h.0.view n walk.taken last) same h.3;
-            stood = h.4;
+            apart = subst (λ n. IsApart h.0.view n walk.taken last) same h.4;
+            stood = h.5;
           }
     ]
 
@@ -121,10 +123,10 @@ stand_without before now slot last start walk walk_after old new more found low 
       record { view = next b.view d f b.image b.behind; nodes = b.others; device = b.device },
       record {
         is = b.is;
-        seen = subst (λ n. IsSeen (next b.view d f b.image b.behind) slot.bus (code slot + 1) n last) (sym same_taken) (seen_next b.view slot.bus (code slot) (code slot + 1) walk.taken walk.taken last d f b.image b.behind b.seen (omega arith) (omega arith) (omega arith) (λ bus above within. above_is_idle b.image 0 0 0 bus b.shut (omega arith) (omega (arith, above))));
         past = λ more_are. omega (arith, b.past more_are);
         has = b.has;
       },
+      subst (λ n. IsSeen (next b.view d f b.image b.behind) slot.bus (code slot + 1) n last) (sym same_taken) (seen_next b.view slot.bus (code slot) (code slot + 1) walk.taken walk.taken last d f b.image b.behind b.seen (omega arith) (omega arith) (omega arith) (λ bus above within. above_is_idle b.image 0 0 0 bus b.shut (omega arith) (omega (arith, above)))),
       b.closed,
       subst (λ n. IsApart (next b.view d f b.image b.behind) b.others n last) (sym same_taken)
           (apart_next b.view walk.taken walk.taken last d f b.image b.image b.behind b.behind b.others b.bridge (alike_itself b.image) refl b.apart (λ after spread. inl (shut_from b.image 0 b.shut, spread))),
@@ -153,10 +155,10 @@ stand_given before now later slot last start walk walk_after old new newer more 
       record { view = next b.view d f n.shown_now n.nodes; nodes = b.others; device = b.device },
       record {
         is = n.is;
-        seen = seen_next b.view slot.bus (code slot) (code slot + 1) walk.taken walk_after.taken last d f n.shown_now n.nodes b.seen (omega arith) (omega arith) (omega (arith, n.above)) (λ bus over within. above_is_idle n.shown_now slot.bus (walk.taken + 1) walk_after.taken bus n.numbers n.above over);
         past = λ more_are. omega (arith, b.past more_are);
         has = b.has;
       },
+      seen_next b.view slot.bus (code slot) (code slot + 1) walk.taken walk_after.taken last d f n.shown_now n.nodes b.seen (omega arith) (omega arith) (omega (arith, n.above)) (λ bus over within. above_is_idle n.shown_now slot.bus (walk.taken + 1) walk_after.taken bus n.numbers n.above over),
       b.closed,
       apart_next b.view walk.taken walk_after.taken last d f b.image n.shown_now b.behind n.nodes b.others b.bridge n.alike n.same b.apart (λ after spread.
           spread_lead walk.taken last slot.bus (walk.taken + 1) walk_after.taken d f n.shown_now n.nodes after n.numbers (omega arith) (omega (arith, left)) n.within (inr n.inner)
@@ -243,7 +245,7 @@ module _ (before now : Board) (slot : Slot) (last : ℕ) (start walk : Walk) (ol
 pub stand_left : {T E : Type 0} → (before now : Board) (bus place last : ℕ) (start walk : Walk) (old mid new : List Board) (more : Bool) (r : Result T E) → IsErr r → new ≡ mid → IsWalkStanding before bus last start old place more walk now mid → IsBusStood before bus last start old r new
 stand_left before now bus place last start walk old mid new more r err same standing = λ v nodes is seen walkable closed apart.
     let h = standing v nodes is seen walkable closed apart in
-    ended IsSingle r old new err (ends_same IsSingle old mid new h.4 same)
+    ended IsSingle r old new err (ends_same IsSingle old mid new h.5 same)
 
 pub stand_done : (before now : Board) (bus place last : ℕ) (start walk : Walk) (old new : List Board) (more : Bool) → IsWalkStanding before bus last start old place more walk now new → IsBusOk before bus last start old new
-stand_done before now bus place last start walk old new more standing = λ v nodes is seen walkable closed apart. (standing v nodes is seen walkable closed apart).4
+stand_done before now bus place last start walk old new more standing = λ v nodes is seen walkable closed apart. (standing v nodes is seen walkable closed apart).5

@@ -90,7 +90,8 @@ module _ (spare : ℕ) where
   pub walk_start : (before : Board) (bus last : ℕ) (start : Walk) → IsWalking spare before bus last start 0 false start before
   walk_start before bus last start = λ v nodes is seen walkable closed. (
     record { view = v; nodes = nodes; device = 0 },
-    record { is = is; seen = seen; past = λ never. cc never; has = rest_of nodes walkable },
+    record { is = is; past = λ never. cc never; has = rest_of nodes walkable },
+    seen,
     closed,
     (λ after numbered same. (after, refl, same, numbered, refl, refl)),
     (λ after same. (after, refl, same)),
@@ -101,28 +102,29 @@ module _ (spare : ℕ) where
       let h = walking v nodes is seen walkable closed in
       let d = slot.device in
       let f = slot.function in
-      elim (looked h.0.view walk.taken last h.0.device h.0.nodes h.1.is h.1.seen low h.1.past h.1.has) [
+      elim (looked h.0.view walk.taken last h.0.device h.0.nodes h.1.is h.2 low h.1.past h.1.has) [
         | Absent device no_bridge past has ↦ (
           record { view = h.0.view; nodes = h.0.nodes; device = device },
-          record { is = h.1.is; seen = seen_on h.0.view slot.bus (code slot) (code slot + 1) walk.taken last h.1.seen (omega arith); past = λ more_are. omega (arith, past more_are); has = has },
-          h.2,
+          record { is = h.1.is; past = λ more_are. omega (arith, past more_are); has = has },
+          seen_on h.0.view slot.bus (code slot) (code slot + 1) walk.taken last h.2 (omega arith),
           h.3,
           h.4,
+          h.5,
         )
         | There image behind others device same kind inner alone past has ↦
             let plain : is_type_1 image ≡ false = kind ∙ none in (
               record { view = next h.0.view d f image behind; nodes = others; device = device },
               record {
                 is = h.1.is ∙ ap h.0.view.fill same;
-                seen = seen_next h.0.view slot.bus (code slot) (code slot + 1) walk.taken walk.taken last d f image behind h.1.seen (omega arith) (omega arith) (omega arith) (λ bus over within. device_is_idle image bus plain);
                 past = λ more_are. omega (arith, past more_are);
                 has = has;
               },
-              (subst IsClosed same h.2).1,
+              seen_next h.0.view slot.bus (code slot) (code slot + 1) walk.taken walk.taken last d f image behind h.2 (omega arith) (omega arith) (omega arith) (λ bus over within. device_is_idle image bus plain),
+              (subst IsClosed same h.3).1,
               (λ after numbered same_after.
-                  let w = h.3 (Node d f image behind after) (rw plain numbered) (same_others d f image behind others after same_after ∙ ap without_numbers (sym same)) in
+                  let w = h.4 (Node d f image behind after) (rw plain numbered) (same_others d f image behind others after same_after ∙ ap without_numbers (sym same)) in
                   (w.0, w.1, w.2, w.3, sym (last_device walk.taken d f image behind after plain) ∙ w.4, ap (first_of walk.without) (sym (first_device slot.bus d f image behind after plain)) ∙ w.5)),
-              (λ after same_after. h.4 (Node d f image behind after) (same_others d f image behind others after same_after ∙ ap without_numbers (sym same))),
+              (λ after same_after. h.5 (Node d f image behind after) (same_others d f image behind others after same_after ∙ ap without_numbers (sym same))),
             )
       ]
 
@@ -148,10 +150,10 @@ module _ (spare : ℕ) where
   at_bridge : (before now : Board) (slot : Slot) (last : ℕ) (start walk : Walk) (more : Bool) (found : Found) → slot.function ≤ 7 → IsLooked now slot more found → found.bridge ≡ true → IsWalking spare before slot.bus last start (code slot) more walk now → (v : View) (nodes : Nodes) → before ≡ v.fill nodes → IsSeen v slot.bus 0 start.taken last → is_walkable nodes ≡ true → IsClosed nodes → AtBridge now slot last start walk found.more v nodes
   at_bridge before now slot last start walk more found low looked one walking v nodes is seen walkable closed =
       let h = walking v nodes is seen walkable closed in
-      elim (looked h.0.view walk.taken last h.0.device h.0.nodes h.1.is h.1.seen low h.1.past h.1.has) [
+      elim (looked h.0.view walk.taken last h.0.device h.0.nodes h.1.is h.2 low h.1.past h.1.has) [
         | Absent device no_bridge past has ↦ absurd (both_ways found.bridge no_bridge one)
         | There image behind others device same kind inner alone past has ↦
-            let shut = subst IsClosed same h.2 in
+            let shut = subst IsClosed same h.3 in
             record {
               view = h.0.view;
               image = image;
@@ -159,7 +161,7 @@ module _ (spare : ℕ) where
               others = others;
               device = device;
               is = h.1.is ∙ ap h.0.view.fill same;
-              seen = h.1.seen;
+              seen = h.2;
               bridge = kind ∙ one;
               inner = inner;
               alone = alone;
@@ -167,8 +169,8 @@ module _ (spare : ℕ) where
               has = has;
               shut = shut.0 (kind ∙ one);
               closed = shut.1;
-              numbered = λ after numbered same_after. h.3 after numbered (same_after ∙ ap without_numbers (sym same));
-              kept = λ after same_after. h.4 after (same_after ∙ ap without_numbers (sym same));
+              numbered = λ after numbered same_after. h.4 after numbered (same_after ∙ ap without_numbers (sym same));
+              kept = λ after same_after. h.5 after (same_after ∙ ap without_numbers (sym same));
             }
       ]
 
@@ -185,10 +187,10 @@ module _ (spare : ℕ) where
         record { view = next b.view d f b.image b.behind; nodes = b.others; device = b.device },
         record {
           is = b.is;
-          seen = subst (λ n. IsSeen (next b.view d f b.image b.behind) slot.bus (code slot + 1) n last) (sym same_taken) (seen_next b.view slot.bus (code slot) (code slot + 1) walk.taken walk.taken last d f b.image b.behind b.seen (omega arith) (omega arith) (omega arith) (λ bus above within. above_is_idle b.image 0 0 0 bus b.shut (omega arith) (omega (arith, above))));
           past = λ more_are. omega (arith, b.past more_are);
           has = b.has;
         },
+        subst (λ n. IsSeen (next b.view d f b.image b.behind) slot.bus (code slot + 1) n last) (sym same_taken) (seen_next b.view slot.bus (code slot) (code slot + 1) walk.taken walk.taken last d f b.image b.behind b.seen (omega arith) (omega arith) (omega arith) (λ bus above within. above_is_idle b.image 0 0 0 bus b.shut (omega arith) (omega (arith, above)))),
         b.closed,
         (λ after numbered same_after.
             let shut : shows b.image 0 0 0 ≡ true = b.shut in
@@ -223,10 +225,10 @@ module _ (spare : ℕ) where
         record { view = next b.view d f n.new n.nodes; nodes = b.others; device = b.device },
         record {
           is = n.is;
-          seen = seen_next b.view slot.bus (code slot) (code slot + 1) walk.taken walk_after.taken last d f n.new n.nodes b.seen (omega arith) (omega arith) (omega (arith, n.above)) (λ bus over within. above_is_idle n.new slot.bus (walk.taken + 1) walk_after.taken bus n.numbers n.above over);
           past = λ more_are. omega (arith, b.past more_are);
           has = b.has;
         },
+        seen_next b.view slot.bus (code slot) (code slot + 1) walk.taken walk_after.taken last d f n.new n.nodes b.seen (omega arith) (omega arith) (omega (arith, n.above)) (λ bus over within. above_is_idle n.new slot.bus (walk.taken + 1) walk_after.taken bus n.numbers n.above over),
         b.closed,
         (λ after numbered same_after.
             let w = b.numbered (Node d f n.new n.nodes after)
@@ -331,7 +333,7 @@ module _ (spare : ℕ) where
   pub walk_left : (before now after : Board) (bus place last : ℕ) (start walk : Walk) (more : Bool) → after ≡ now → IsWalking spare before bus last start place more walk now → IsBusLeft before bus last start after
   walk_left before now after bus place last start walk more kept walking = λ v nodes is seen walkable closed.
       let h = walking v nodes is seen walkable closed in
-      let w = h.4 h.0.nodes refl in
+      let w = h.5 h.0.nodes refl in
       (w.0, kept ∙ h.1.is ∙ w.1, w.2)
 
   -- at a bridge that may show other numbers, and so may those behind it
@@ -365,5 +367,5 @@ module _ (spare : ℕ) where
   walk_done before now bus last start walk more walking = λ v nodes is seen walkable closed.
       let h = walking v nodes is seen walkable closed in
       let none = no_more h.0.device more h.0.nodes h.1.has in
-      let w = h.3 NoMore refl (ap without_numbers (sym none)) in
+      let w = h.4 NoMore refl (ap without_numbers (sym none)) in
       (w.0, h.1.is ∙ ap h.0.view.fill none ∙ w.1, w.2, w.3, w.4, sym (first_or_none walk.without) ∙ w.5)

@@ -11,10 +11,8 @@ pub record Rest : Type 0 where
   pub nodes : Nodes
   pub device : ℕ
 
-pub record IsRestOf (now : Board) (bus : ℕ) (place : ℕ) (high : ℕ) (last : ℕ) (more : Bool)
-    (rest : Rest) : Type 0 where
+pub record IsRestOf (now : Board) (place : ℕ) (more : Bool) (rest : Rest) : Type 0 where
   pub is : now ≡ rest.view.fill rest.nodes
-  pub seen : IsSeen rest.view bus place high last
   pub past : more ≡ true → rest.device * 8 + 1 ≤ place
   pub has : IsRest place rest.device more rest.nodes
 
@@ -37,5 +35,5 @@ abbrev pub IsHushing : Board → ℕ → ℕ → Bool → Bool → Board → Typ
 IsHushing before bus place more bridges now =
     (v : View) (high last : ℕ) (nodes : Nodes) → before ≡ v.fill nodes
     → IsSeen v bus 0 high last → is_walkable nodes ≡ true
-    → (rest : Rest) × IsRestOf now bus place 0 0 more rest × ClosedUpTo v nodes bridges rest
-    × KeptUpTo v nodes rest
+    → (rest : Rest) × IsRestOf now place more rest × IsSeen rest.view bus place 0 0
+    × ClosedUpTo v nodes bridges rest × KeptUpTo v nodes rest

@@ -74,5 +74,5 @@ abbrev pub IsHushStanding : Moment → ℕ → ℕ → Bool → Moment → Type 
 IsHushStanding from bus place more to =
     (v : View) (high last : ℕ) (nodes : Nodes) → from.board ≡ v.fill nodes
     → IsSeen v bus 0 high last → is_walkable nodes ≡ true
-    → (rest : Rest) × IsRestOf to.board bus place 0 0 more rest × Wrap v nodes rest
-    × AddsSteps (IsLessStep v nodes) from to
+    → (rest : Rest) × IsRestOf to.board place more rest × IsSeen rest.view bus place 0 0
+    × Wrap v nodes rest × AddsSteps (IsLessStep v nodes) from to

@@ -59,7 +59,8 @@ IsWalkStanding before bus last start old place more walk now new =
     (v : View) (nodes : Nodes) → before ≡ v.fill nodes
     → IsSeen v bus 0 start.taken last → is_walkable nodes ≡ true → IsClosed nodes
     → IsApart v nodes start.taken last
-    → (rest : Rest) × IsRestOf now bus place walk.taken last more rest × IsClosed rest.nodes
+    → (rest : Rest) × IsRestOf now place more rest
+    × IsSeen rest.view bus place walk.taken last × IsClosed rest.nodes
     × IsApart rest.view rest.nodes walk.taken last × Adds IsSingle old new
 
 -- What is behind the other roots is single.

@@ -26,5 +26,6 @@ abbrev pub IsWalking : ℕ → Board → ℕ → ℕ → Walk → ℕ → Bool �
 IsWalking spare before bus last start place more walk now =
     (v : View) (nodes : Nodes) → before ≡ v.fill nodes
     → IsSeen v bus 0 start.taken last → is_walkable nodes ≡ true → IsClosed nodes
-    → (rest : Rest) × IsRestOf now bus place walk.taken last more rest × IsClosed rest.nodes
+    → (rest : Rest) × IsRestOf now place more rest
+    × IsSeen rest.view bus place walk.taken last × IsClosed rest.nodes
     × NumberedUpTo spare v nodes bus last start walk rest × KeptUpTo v nodes rest
