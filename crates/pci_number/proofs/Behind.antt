@@ -5,7 +5,7 @@ use Rattle.number_spec.specs.Board.{Board, IsSingle}
 use Rattle.number_spec.proofs.Kept.{same_walk}
 use Rattle.pci_number.specs.Steps.{IsOpened}
 use Rattle.pci_number.specs.Few.{IsOpenFew, IsBusFew}
-use Rattle.pci_number.specs.Walked.{IsBusNumbered}
+use Rattle.pci_number.specs.Walked.{IsBusNumbered, outset}
 use Rattle.pci_number.specs.Stood.{Adds}
 use Rattle.pci_number.specs.declared.walk.Walk.{Walk}
 use Rattle.pci_number.proofs.Few.{IsBegunFew, begun_few_alone, begun_few_wide}
@@ -33,10 +33,10 @@ module _ (spare : ℕ) (now mid : Board) (slot : Slot) (last : ℕ) (walk : Walk
     counted = none_failed;
   }
 
-  pub behind_wide : (far : Board) (after : Walk) (far_by far_failed : ℕ) (newest : List Board) → IsOpened now slot (walk.taken + 1) last true mid → IsBusNumbered spare mid (walk.taken + 1) last (one_more walk) after far → walk.taken + 1 ≤ after.taken → IsBusFew mid (walk.taken + 1) last (one_more walk) opened_by far_by → IsBusOk mid (walk.taken + 1) last (one_more walk) newer newest → far_failed ≡ failed → Behind spare now far slot last walk after total far_by old new newest more failed far_failed
+  pub behind_wide : (far : Board) (after : Walk) (far_by far_failed : ℕ) (newest : List Board) → IsOpened now slot (walk.taken + 1) last true mid → IsBusNumbered mid (outset (walk.taken + 1) last spare (one_more walk)) after far → walk.taken + 1 ≤ after.taken → IsBusFew mid (outset (walk.taken + 1) last spare (one_more walk)) opened_by far_by → IsBusOk mid (walk.taken + 1) last (one_more walk) newer newest → far_failed ≡ failed → Behind spare now far slot last walk after total far_by old new newest more failed far_failed
   behind_wide far after far_by far_failed newest gets bus up bus_few bus_ok none_failed = record {
     begun = begun_wide spare now mid far slot last walk after left gets bus up;
-    few = begun_few_wide now mid slot last walk total opened_by far_by left gets opened_few bus_few;
+    few = begun_few_wide spare now mid slot last walk total opened_by far_by left gets opened_few bus_few;
     stood = λ b.
         let o = opened_here now slot last walk old new more b true mid left gets in
         adds_then IsSingle old newer newest (stood_here now slot last walk old new newer more b left opened_ok)

@@ -12,12 +12,12 @@ use Rattle.number_spec.proofs.Kept.{same_walk}
 use Rattle.number_spec.proofs.Roomy.{shown}
 use Rattle.number_spec.proofs.Same.{kind_stays}
 use Rattle.pci_number.specs.Seen.{View, code, IsSeen, IsRest, IsClosed}
-use Rattle.pci_number.specs.Steps.{IsLooked, Absent, There, IsShownAt, IsHushed, IsOpened}
+use Rattle.pci_number.specs.Steps.{IsPut, IsLooked, Absent, There, IsShownAt, IsHushed, IsOpened}
 use Rattle.pci_number.specs.Hushing.{Rest, IsRestOf}
-use Rattle.pci_number.specs.Spare.{IsLed}
 use Rattle.pci_number.specs.Few.{bridges_on, IsFew, IsHushFew, IsOpenFew, IsBusFew}
 use Rattle.pci_number.specs.declared.look.Found.{Found}
 use Rattle.pci_number.specs.declared.walk.Walk.{Walk}
+use Rattle.pci_number.specs.Walked.{outset}
 use Rattle.pci_number.proofs.Hushing.{none_between}
 use Rattle.pci_number.proofs.Opening.{shows_another}
 use Rattle.pci_number.proofs.Reached.{rest_of}
@@ -261,20 +261,20 @@ pub begun_few_alone : (now : Board) (slot : Slot) (last : ℕ) (walk : Walk) (to
 begun_few_alone now slot last walk total opened_by left few = λ view image behind others is seen alone bridge closed walkable.
     omega (arith, few view walk.taken image behind others is seen alone bridge closed walkable (omega arith) (omega (arith, left)), some_on behind)
 
-pub begun_few_wide : (now mid : Board) (slot : Slot) (last : ℕ) (walk : Walk) (total opened_by far_by : ℕ) → walk.taken < last → IsOpened now slot (walk.taken + 1) last true mid → IsOpenFew now slot (walk.taken + 1) last total opened_by → IsBusFew mid (walk.taken + 1) last (one_more walk) opened_by far_by → IsBegunFew now slot last walk.taken total far_by
-begun_few_wide now mid slot last walk total opened_by far_by left gets few bus = λ view image behind others is seen alone bridge closed walkable.
+pub begun_few_wide : (spare : ℕ) (now mid : Board) (slot : Slot) (last : ℕ) (walk : Walk) (total opened_by far_by : ℕ) → walk.taken < last → IsOpened now slot (walk.taken + 1) last true mid → IsOpenFew now slot (walk.taken + 1) last total opened_by → IsBusFew mid (outset (walk.taken + 1) last spare (one_more walk)) opened_by far_by → IsBegunFew now slot last walk.taken total far_by
+begun_few_wide spare now mid slot last walk total opened_by far_by left gets few bus = λ view image behind others is seen alone bridge closed walkable.
     let o = gets view walk.taken image behind others is seen alone bridge closed walkable (omega arith) (omega (arith, left)) in
     let seen_behind = seen_inside view slot.bus (code slot) walk.taken last slot.bus (walk.taken + 1) last slot.device slot.function o.0 others seen (o.3.kind ∙ bridge) o.5 (omega arith) (omega (arith, left)) (omega arith) closed in
     let behind_it = bus (inside view slot.device slot.function o.0 others) o.1 o.2 seen_behind (same_walk o.1 behind o.4 ∙ walkable) o.6 in
     omega (arith, few view walk.taken image behind others is seen alone bridge closed walkable (omega arith) (omega (arith, left)), behind_it, same_bridges o.1 behind o.4, same_on o.1 behind o.4)
 
-pub walk_count_led : (before now far later : Board) (slot : Slot) (spare last : ℕ) (start walk after_behind after : Walk) (more : Bool) (found : Found) (made total far_by put_by : ℕ) → slot.function ≤ 7 → IsLooked now slot more found → found.bridge ≡ true → walk.taken < last → IsBegun spare now far slot last walk after_behind → IsLed far slot after_behind.taken last spare after.taken later → after_behind.taken ≤ after.taken → IsBegunFew now slot last walk.taken total far_by → put_by ≤ far_by + 1 → IsWalkCounted before slot.bus last start (code slot) more walk now made total → IsWalkCounted before slot.bus last start (code slot + 1) found.more after later made put_by
-walk_count_led before now far later slot spare last start walk after_behind after more found made total far_by put_by low looked one left begun led above far_few put_few counted = λ v nodes is seen walkable closed.
+pub walk_count_led : (before now far later : Board) (slot : Slot) (spare last : ℕ) (start walk after_behind after : Walk) (more : Bool) (found : Found) (made total far_by put_by : ℕ) → slot.function ≤ 7 → IsLooked now slot more found → found.bridge ≡ true → walk.taken < last → IsBegun spare now far slot last walk after_behind → IsPut far slot 0x1a after.taken later → after_behind.taken ≤ after.taken → IsBegunFew now slot last walk.taken total far_by → put_by ≤ far_by + 1 → IsWalkCounted before slot.bus last start (code slot) more walk now made total → IsWalkCounted before slot.bus last start (code slot + 1) found.more after later made put_by
+walk_count_led before now far later slot spare last start walk after_behind after more found made total far_by put_by low looked one left begun put above far_few put_few counted = λ v nodes is seen walkable closed.
     let b = count_at now slot last walk.taken more found nodes made total low looked one (counted v nodes is seen walkable closed) in
     let d = slot.device in
     let f = slot.function in
     let a = begun b.view b.image b.behind b.others b.is b.seen b.alone b.bridge b.closed b.inner in
-    let p = led b.view walk.taken last a.new a.nodes b.others a.is b.seen b.alone a.within in
+    let p = put b.view walk.taken last a.new a.nodes b.others a.is b.seen b.alone in
     let numbers = shows_another a.new p.0 slot.bus (walk.taken + 1) a.leads after.taken a.numbers p.2 p.3 in
     let up : walk.taken + 1 ≤ after.taken = omega (arith, a.above, above) in
     record {
@@ -291,18 +291,18 @@ walk_count_led before now far later slot spare last start walk after_behind afte
 
 -- ---- where it stops
 
-pub walk_few : (before now : Board) (bus last place : ℕ) (start walk : Walk) (more : Bool) (made total : ℕ) → IsWalkCounted before bus last start place more walk now made total → IsBusFew before bus last start made total
-walk_few before now bus last place start walk more made total counted = λ v nodes is seen walkable closed.
+pub walk_few : (spare : ℕ) (before now : Board) (bus last place : ℕ) (start walk : Walk) (more : Bool) (made total : ℕ) → IsWalkCounted before bus last start place more walk now made total → IsBusFew before (outset bus last spare start) made total
+walk_few spare before now bus last place start walk more made total counted = λ v nodes is seen walkable closed.
     let h = counted v nodes is seen walkable closed in
     omega (arith, h.few, some_on h.rest.nodes)
 
-pub walk_few_open : (before now : Board) (slot : Slot) (last : ℕ) (start walk : Walk) (more : Bool) (found : Found) (made total opened_by : ℕ) → slot.function ≤ 7 → IsLooked now slot more found → found.bridge ≡ true → walk.taken < last → IsOpenFew now slot (walk.taken + 1) last total opened_by → IsWalkCounted before slot.bus last start (code slot) more walk now made total → IsBusFew before slot.bus last start made opened_by
-walk_few_open before now slot last start walk more found made total opened_by low looked one left few counted = λ v nodes is seen walkable closed.
+pub walk_few_open : (spare : ℕ) (before now : Board) (slot : Slot) (last : ℕ) (start walk : Walk) (more : Bool) (found : Found) (made total opened_by : ℕ) → slot.function ≤ 7 → IsLooked now slot more found → found.bridge ≡ true → walk.taken < last → IsOpenFew now slot (walk.taken + 1) last total opened_by → IsWalkCounted before slot.bus last start (code slot) more walk now made total → IsBusFew before (outset slot.bus last spare start) made opened_by
+walk_few_open spare before now slot last start walk more found made total opened_by low looked one left few counted = λ v nodes is seen walkable closed.
     let b = count_at now slot last walk.taken more found nodes made total low looked one (counted v nodes is seen walkable closed) in
     omega (arith, b.few, opening now slot last walk found.more nodes made total opened_by b left few, some_on b.behind, some_on b.others)
 
-pub walk_few_led : (before now : Board) (slot : Slot) (last : ℕ) (start walk : Walk) (more : Bool) (found : Found) (made total far_by put_by : ℕ) → slot.function ≤ 7 → IsLooked now slot more found → found.bridge ≡ true → IsBegunFew now slot last walk.taken total far_by → put_by ≤ far_by + 1 → IsWalkCounted before slot.bus last start (code slot) more walk now made total → IsBusFew before slot.bus last start made put_by
-walk_few_led before now slot last start walk more found made total far_by put_by low looked one far_few put_few counted = λ v nodes is seen walkable closed.
+pub walk_few_led : (spare : ℕ) (before now : Board) (slot : Slot) (last : ℕ) (start walk : Walk) (more : Bool) (found : Found) (made total far_by put_by : ℕ) → slot.function ≤ 7 → IsLooked now slot more found → found.bridge ≡ true → IsBegunFew now slot last walk.taken total far_by → put_by ≤ far_by + 1 → IsWalkCounted before slot.bus last start (code slot) more walk now made total → IsBusFew before (outset slot.bus last spare start) made put_by
+walk_few_led spare before now slot last start walk more found made total far_by put_by low looked one far_few put_few counted = λ v nodes is seen walkable closed.
     let b = count_at now slot last walk.taken more found nodes made total low looked one (counted v nodes is seen walkable closed) in
     omega (arith, b.few, far_few b.view b.image b.behind b.others b.is b.seen b.alone b.bridge b.closed b.inner, put_few, some_on b.others)
 
@@ -313,8 +313,8 @@ few_at_hush before root last made total few = λ ready.
     let nodes = nodes_behind before root in
     omega (arith, few (root_view before root) root last nodes (sym (same_nodes root before ready.one)) (seen_root before root last ready) ready.walkable, some_on nodes)
 
-pub few_at_walk : (before mid : Board) (root last : ℕ) (found : Bool) (made hushed_by total : ℕ) → IsHushed before root found mid → IsHushFew before root made hushed_by → IsBusFew mid root last (start root) hushed_by total → IsFew before root last made total
-few_at_walk before mid root last found made hushed_by total hushed hush bus = λ ready.
+pub few_at_walk : (spare : ℕ) (before mid : Board) (root last : ℕ) (found : Bool) (made hushed_by total : ℕ) → IsHushed before root found mid → IsHushFew before root made hushed_by → IsBusFew mid (outset root last spare (start root)) hushed_by total → IsFew before root last made total
+few_at_walk spare before mid root last found made hushed_by total hushed hush bus = λ ready.
     let nodes = nodes_behind before root in
     let seen = seen_root before root last ready in
     let same = sym (same_nodes root before ready.one) in

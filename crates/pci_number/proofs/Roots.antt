@@ -14,7 +14,7 @@ use Rattle.number_spec.specs.Ready.{IsReady}
 use Rattle.number_spec.proofs.Kept.{same_walk}
 use Rattle.pci_number.specs.Seen.{View, IsSeen}
 use Rattle.pci_number.specs.Steps.{IsHushed, IsHushLeft}
-use Rattle.pci_number.specs.Walked.{IsBusNumbered, IsBusLeft}
+use Rattle.pci_number.specs.Walked.{IsBusNumbered, IsBusLeft, outset}
 use Rattle.pci_number.specs.Answer.{named_by, highest_of, IsAnswer, IsBoardKept}
 use Rattle.pci_number.specs.declared.number.Numbering.{Numbering}
 use Rattle.pci_number.specs.declared.walk.Walk.{Walk}
@@ -67,14 +67,14 @@ kept_at_hush before after root last left = λ ready.
 abbrev pub start : ℕ → Walk
 start root = record { taken = root; without = None }
 
-pub kept_at_walk : (before mid after : Board) (root last : ℕ) (bridges : Bool) → IsHushed before root bridges mid → IsBusLeft mid root last (start root) after → IsReady before root last → IsBoardKept before root after
-kept_at_walk before mid after root last bridges hushed left = λ ready.
+pub kept_at_walk : (spare : ℕ) (before mid after : Board) (root last : ℕ) (bridges : Bool) → IsHushed before root bridges mid → IsBusLeft mid (outset root last spare (start root)) after → IsReady before root last → IsBoardKept before root after
+kept_at_walk spare before mid after root last bridges hushed left = λ ready.
     let seen = seen_root before root last ready in
     let h = hushed (root_view before root) root last (nodes_behind before root) (sym (same_nodes root before ready.one)) seen ready.walkable in
     let w = left (root_view before root) h.0 h.1 seen (same_walk h.0 (nodes_behind before root) h.2 ∙ ready.walkable) h.3 in
     kept before after root last w.0 ready w.1 (w.2 ∙ h.2)
 
-pub answer_of : (spare : ℕ) (before mid after : Board) (root last : ℕ) (bridges : Bool) (walk : Walk) (answer : Numbering) → IsHushed before root bridges mid → IsBusNumbered spare mid root last (start root) walk after → named_by answer ≡ walk.without → highest_of answer ≡ walk.taken → IsReady before root last → IsAnswer spare before root last answer after
+pub answer_of : (spare : ℕ) (before mid after : Board) (root last : ℕ) (bridges : Bool) (walk : Walk) (answer : Numbering) → IsHushed before root bridges mid → IsBusNumbered mid (outset root last spare (start root)) walk after → named_by answer ≡ walk.without → highest_of answer ≡ walk.taken → IsReady before root last → IsAnswer spare before root last answer after
 answer_of spare before mid after root last bridges walk answer hushed numbered names highest = λ ready.
     let seen = seen_root before root last ready in
     let h = hushed (root_view before root) root last (nodes_behind before root) (sym (same_nodes root before ready.one)) seen ready.walkable in
@@ -87,7 +87,7 @@ answer_of spare before mid after root last bridges walk answer hushed numbered n
       highest = highest ∙ n.4 ∙ ap (last_behind root) (sym there);
     }
 
-pub kept_at_end : (spare : ℕ) (before mid after : Board) (root last : ℕ) (bridges : Bool) (walk : Walk) → IsHushed before root bridges mid → IsBusNumbered spare mid root last (start root) walk after → IsReady before root last → IsBoardKept before root after
+pub kept_at_end : (spare : ℕ) (before mid after : Board) (root last : ℕ) (bridges : Bool) (walk : Walk) → IsHushed before root bridges mid → IsBusNumbered mid (outset root last spare (start root)) walk after → IsReady before root last → IsBoardKept before root after
 kept_at_end spare before mid after root last bridges walk hushed numbered = λ ready.
     let seen = seen_root before root last ready in
     let h = hushed (root_view before root) root last (nodes_behind before root) (sym (same_nodes root before ready.one)) seen ready.walkable in

@@ -12,12 +12,13 @@ use Rattle.number_spec.specs.Spare.{spare_room}
 use Rattle.number_spec.specs.Spread.{IsSpread}
 use Rattle.number_spec.proofs.Kept.{same_walk}
 use Rattle.pci_number.specs.Seen.{View, code, IsSeen, IsRest, IsClosed, has_bridges}
-use Rattle.pci_number.specs.Steps.{IsLooked, Absent, There, IsAlike, IsOpened}
+use Rattle.pci_number.specs.Steps.{IsPut, IsLooked, Absent, There, IsAlike, IsOpened}
 use Rattle.pci_number.specs.Spare.{IsLed}
 use Rattle.pci_number.specs.Single.{IsApart, IsBusStood, IsWalkStanding}
 use Rattle.pci_number.specs.Stood.{Adds, Ends, IsOneMore, moment}
 use Rattle.pci_number.specs.declared.look.Found.{Found}
 use Rattle.pci_number.specs.declared.walk.Walk.{Walk}
+use Rattle.pci_number.specs.Walked.{outset}
 use Rattle.pci_number.proofs.Bytes.{alike_itself, alike_subordinate, alike_then}
 use Rattle.pci_number.proofs.Opening.{shows_another}
 use Rattle.pci_number.proofs.Reached.{rest_of}
@@ -27,8 +28,8 @@ use Rattle.pci_number.proofs.Apart.{shut_from, closed_spread, numbered_spread, s
 use Rattle.pci_number.proofs.Showing.{IsOpenOk}
 use Rattle.pci_number.proofs.Stood.{adds_none, adds_then, adds_more, ends_one, ends_same, ends_then, ended}
 
-pub stand_start : (before : Board) (bus last : ℕ) (start : Walk) (old : List Board) → IsWalkStanding before bus last start old 0 false start before old
-stand_start before bus last start old = λ v nodes is seen walkable closed apart. (
+pub stand_start : (spare : ℕ) (before : Board) (bus last : ℕ) (start : Walk) (old : List Board) → IsWalkStanding (moment before old) (outset bus last spare start) 0 false start (moment before old)
+stand_start spare before bus last start old = λ v nodes is seen walkable closed apart. (
   record { view = v; nodes = nodes; device = 0 },
   record { is = is; past = λ never. cc never; has = rest_of nodes walkable },
   seen,
@@ -38,8 +39,8 @@ stand_start before bus last start old = λ v nodes is seen walkable closed apart
 )
 
 -- a device
-pub stand_pass : (before now : Board) (slot : Slot) (last : ℕ) (start walk : Walk) (old new : List Board) (more : Bool) (found : Found) → slot.function ≤ 7 → IsLooked now slot more found → found.bridge ≡ false → IsWalkStanding before slot.bus last start old (code slot) more walk now new → IsWalkStanding before slot.bus last start old (code slot + 1) found.more walk now new
-stand_pass before now slot last start walk old new more found low looked none standing = λ v nodes is seen walkable closed apart.
+pub stand_pass : (spare : ℕ) (before now : Board) (slot : Slot) (last : ℕ) (start walk : Walk) (old new : List Board) (more : Bool) (found : Found) → slot.function ≤ 7 → IsLooked now slot more found → found.bridge ≡ false → IsWalkStanding (moment before old) (outset slot.bus last spare start) (code slot) more walk (moment now new) → IsWalkStanding (moment before old) (outset slot.bus last spare start) (code slot + 1) found.more walk (moment now new)
+stand_pass spare before now slot last start walk old new more found low looked none standing = λ v nodes is seen walkable closed apart.
     let h = standing v nodes is seen walkable closed apart in
     let d = slot.device in
     let f = slot.function in
@@ -87,8 +88,8 @@ pub record Bridge (now : Board) (slot : Slot) (last : ℕ) (walk : Walk) (old ne
   pub apart : IsApart view (Node slot.device slot.function image behind others) walk.taken last
   pub stood : Adds IsSingle old new
 
-at_bridge : (before now : Board) (slot : Slot) (last : ℕ) (start walk : Walk) (old new : List Board) (more : Bool) (found : Found) → slot.function ≤ 7 → IsLooked now slot more found → found.bridge ≡ true → IsWalkStanding before slot.bus last start old (code slot) more walk now new → (v : View) (nodes : Nodes) → before ≡ v.fill nodes → IsSeen v slot.bus 0 start.taken last → is_walkable nodes ≡ true → IsClosed nodes → IsApart v nodes start.taken last → Bridge now slot last walk old new found.more
-at_bridge before now slot last start walk old new more found low looked one standing v nodes is seen walkable closed apart =
+at_bridge : (spare : ℕ) (before now : Board) (slot : Slot) (last : ℕ) (start walk : Walk) (old new : List Board) (more : Bool) (found : Found) → slot.function ≤ 7 → IsLooked now slot more found → found.bridge ≡ true → IsWalkStanding (moment before old) (outset slot.bus last spare start) (code slot) more walk (moment now new) → (v : View) (nodes : Nodes) → before ≡ v.fill nodes → IsSeen v slot.bus 0 start.taken last → is_walkable nodes ≡ true → IsClosed nodes → IsApart v nodes start.taken last → Bridge now slot last walk old new found.more
+at_bridge spare before now slot last start walk old new more found low looked one standing v nodes is seen walkable closed apart =
     let h = standing v nodes is seen walkable closed apart in
     elim (looked h.0.view walk.taken last h.0.device h.0.nodes h.1.is h.2 low h.1.past h.1.has) [
       | Absent device no_bridge past has ↦ absurd (both_ways found.bridge no_bridge one)
@@ -115,9 +116,9 @@ at_bridge before now slot last start walk old new more found low looked one stan
     ]
 
 -- numbers ran out
-pub stand_without : (before now : Board) (slot : Slot) (last : ℕ) (start walk after : Walk) (old new : List Board) (more : Bool) (found : Found) → slot.function ≤ 7 → IsLooked now slot more found → found.bridge ≡ true → after.taken ≡ walk.taken → IsWalkStanding before slot.bus last start old (code slot) more walk now new → IsWalkStanding before slot.bus last start old (code slot + 1) found.more after now new
-stand_without before now slot last start walk walk_after old new more found low looked one same_taken standing = λ v nodes is seen walkable closed apart.
-    let b = at_bridge before now slot last start walk old new more found low looked one standing v nodes is seen walkable closed apart in
+pub stand_without : (spare : ℕ) (before now : Board) (slot : Slot) (last : ℕ) (start walk after : Walk) (old new : List Board) (more : Bool) (found : Found) → slot.function ≤ 7 → IsLooked now slot more found → found.bridge ≡ true → after.taken ≡ walk.taken → IsWalkStanding (moment before old) (outset slot.bus last spare start) (code slot) more walk (moment now new) → IsWalkStanding (moment before old) (outset slot.bus last spare start) (code slot + 1) found.more after (moment now new)
+stand_without spare before now slot last start walk walk_after old new more found low looked one same_taken standing = λ v nodes is seen walkable closed apart.
+    let b = at_bridge spare before now slot last start walk old new more found low looked one standing v nodes is seen walkable closed apart in
     let d = slot.device in
     let f = slot.function in (
       record { view = next b.view d f b.image b.behind; nodes = b.others; device = b.device },
@@ -146,9 +147,9 @@ record Stands (slot : Slot) (last : ℕ) (walk after : Walk) (view : View) (imag
   inner : IsSpread (walk.taken + 1) after.taken nodes
   stood : Adds IsSingle old new
 
-stand_given : (before now later : Board) (slot : Slot) (last : ℕ) (start walk after : Walk) (old new newer : List Board) (more : Bool) (found : Found) → slot.function ≤ 7 → IsLooked now slot more found → found.bridge ≡ true → walk.taken < last → IsWalkStanding before slot.bus last start old (code slot) more walk now new → ((b : Bridge now slot last walk old new found.more) → Stands slot last walk after b.view b.image b.behind b.others later old newer) → IsWalkStanding before slot.bus last start old (code slot + 1) found.more after later newer
-stand_given before now later slot last start walk walk_after old new newer more found low looked one left standing given = λ v nodes is seen walkable closed apart.
-    let b = at_bridge before now slot last start walk old new more found low looked one standing v nodes is seen walkable closed apart in
+stand_given : (spare : ℕ) (before now later : Board) (slot : Slot) (last : ℕ) (start walk after : Walk) (old new newer : List Board) (more : Bool) (found : Found) → slot.function ≤ 7 → IsLooked now slot more found → found.bridge ≡ true → walk.taken < last → IsWalkStanding (moment before old) (outset slot.bus last spare start) (code slot) more walk (moment now new) → ((b : Bridge now slot last walk old new found.more) → Stands slot last walk after b.view b.image b.behind b.others later old newer) → IsWalkStanding (moment before old) (outset slot.bus last spare start) (code slot + 1) found.more after (moment later newer)
+stand_given spare before now later slot last start walk walk_after old new newer more found low looked one left standing given = λ v nodes is seen walkable closed apart.
+    let b = at_bridge spare before now slot last start walk old new more found low looked one standing v nodes is seen walkable closed apart in
     let n = given b in
     let d = slot.device in
     let f = slot.function in (
@@ -193,36 +194,36 @@ IsBusEnd before bus last start old new = (v : View) (nodes : Nodes) → before �
 abbrev pub IsOpenEnd : Board → Slot → ℕ → ℕ → List Board → List Board → Type 0
 IsOpenEnd before slot bus last old new = (v : View) (high : ℕ) (image : List ℕ) (behind others : Nodes) → before ≡ v.fill (Node slot.device slot.function image behind others) → IsSeen v slot.bus (code slot) high last → all_after slot.device slot.function others ≡ true → is_type_1 image ≡ true → shows image 0 0 0 ≡ true → IsClosed others → is_walkable behind ≡ true → high + 1 ≤ bus → bus ≤ last → IsApart v (Node slot.device slot.function image behind others) high last → Ends IsSingle old new
 
-module _ (before now : Board) (slot : Slot) (last : ℕ) (start walk : Walk) (old new newer : List Board) (more : Bool) (found : Found) (low : slot.function ≤ 7) (looked : IsLooked now slot more found) (one : found.bridge ≡ true) (left : walk.taken < last) (standing : IsWalkStanding before slot.bus last start old (code slot) more walk now new) where
-  pub stand_left_open : {T E : Type 0} → (r : Result T E) → IsErr r → IsOpenEnd now slot (walk.taken + 1) last new newer → IsBusStood before slot.bus last start old r newer
+module _ (spare : ℕ) (before now : Board) (slot : Slot) (last : ℕ) (start walk : Walk) (old new newer : List Board) (more : Bool) (found : Found) (low : slot.function ≤ 7) (looked : IsLooked now slot more found) (one : found.bridge ≡ true) (left : walk.taken < last) (standing : IsWalkStanding (moment before old) (outset slot.bus last spare start) (code slot) more walk (moment now new)) where
+  pub stand_left_open : {T E : Type 0} → (r : Result T E) → IsErr r → IsOpenEnd now slot (walk.taken + 1) last new newer → IsBusStood (moment before old) (outset slot.bus last spare start) r newer
   stand_left_open r err gets = λ v nodes is seen walkable closed apart.
-      let b = at_bridge before now slot last start walk old new more found low looked one standing v nodes is seen walkable closed apart in
+      let b = at_bridge spare before now slot last start walk old new more found low looked one standing v nodes is seen walkable closed apart in
       ended IsSingle r old newer err (ends_then IsSingle old new newer b.stood
       (gets b.view walk.taken b.image b.behind b.others b.is b.seen b.alone b.bridge b.shut b.closed b.inner (omega arith) (omega (arith, left)) b.apart))
 
   module _ (mid : Board) (gets : IsOpened now slot (walk.taken + 1) last true mid) (stood : IsOpenOk now slot (walk.taken + 1) last new newer) (newest : List Board) where
-    pub stand_left_bus : {T E : Type 0} → (r : Result T E) → IsErr r → IsBusEnd mid (walk.taken + 1) last (one_more walk) newer newest → IsBusStood before slot.bus last start old r newest
+    pub stand_left_bus : {T E : Type 0} → (r : Result T E) → IsErr r → IsBusEnd mid (walk.taken + 1) last (one_more walk) newer newest → IsBusStood (moment before old) (outset slot.bus last spare start) r newest
     stand_left_bus r err bus = λ v nodes is seen walkable closed apart.
-        let b = at_bridge before now slot last start walk old new more found low looked one standing v nodes is seen walkable closed apart in
+        let b = at_bridge spare before now slot last start walk old new more found low looked one standing v nodes is seen walkable closed apart in
         let o = opened_here now slot last walk old new found.more b true mid left gets in
         ended IsSingle r old newest err (ends_then IsSingle old newer newest (stood_here now slot last walk old new newer found.more b left stood)
         (bus (inside b.view slot.device slot.function o.0 b.others) o.1 o.2 (seen_there now slot last walk old new found.more b o.0 left o.3 o.5) (same_walk o.1 b.behind o.4 ∙ b.inner) o.6
         (apart_there now slot last walk old new found.more b o.0 o.1 left o.3 o.4 o.5)))
 
   -- the bridge leads on
-  module _ (spare : ℕ) (far : Board) (inside : Walk) (begun : IsBegun spare now far slot last walk inside) (newest : List Board) (far_stood : (b : Bridge now slot last walk old new found.more) → Adds IsSingle old newest) (later : Board) (final : List Board) (put_stood : IsOneMore (moment far newest) (moment later final)) where
-    pub stand_left_led : {T E : Type 0} → (r : Result T E) → IsErr r → IsBusStood before slot.bus last start old r final
+  module _ (far : Board) (inside : Walk) (begun : IsBegun spare now far slot last walk inside) (newest : List Board) (far_stood : (b : Bridge now slot last walk old new found.more) → Adds IsSingle old newest) (later : Board) (final : List Board) (put_stood : IsOneMore (moment far newest) (moment later final)) where
+    pub stand_left_led : {T E : Type 0} → (r : Result T E) → IsErr r → IsBusStood (moment before old) (outset slot.bus last spare start) r final
     stand_left_led r err = λ v nodes is seen walkable closed apart.
-        let b = at_bridge before now slot last start walk old new more found low looked one standing v nodes is seen walkable closed apart in
+        let b = at_bridge spare before now slot last start walk old new more found low looked one standing v nodes is seen walkable closed apart in
         ended IsSingle r old final err (ends_one IsSingle far old newest later final (far_stood b) put_stood)
 
-    pub stand_led : (after : Walk) → IsLed far slot inside.taken last spare after.taken later → inside.taken ≤ after.taken → IsWalkStanding before slot.bus last start old (code slot + 1) found.more after later final
-    stand_led after led above = stand_given before now later slot last start walk after old new final more found low looked one left standing (λ b.
+    pub stand_led : (after : Walk) → IsPut far slot 0x1a after.taken later → IsLed far slot inside.taken last spare after.taken → inside.taken ≤ after.taken → IsWalkStanding (moment before old) (outset slot.bus last spare start) (code slot + 1) found.more after (moment later final)
+    stand_led after put led above = stand_given spare before now later slot last start walk after old new final more found low looked one left standing (λ b.
         let a = begun b.view b.image b.behind b.others b.is b.seen b.alone b.bridge b.closed b.inner in
-        let p = led b.view walk.taken last a.new a.nodes b.others a.is b.seen b.alone a.within in
+        let p = put b.view walk.taken last a.new a.nodes b.others a.is b.seen b.alone in
         let alike = alike_then b.image a.new p.0 a.alike (alike_subordinate a.new p.0 p.2) in
         let numbers : shows p.0 slot.bus (walk.taken + 1) after.taken ≡ true = shows_another a.new p.0 slot.bus (walk.taken + 1) a.leads after.taken a.numbers p.2 p.3 in
-        let within : after.taken ≤ last = omega (arith, p.4) in
+        let within : after.taken ≤ last = omega (arith, led a.within b.view walk.taken last a.new a.nodes b.others a.is b.seen b.alone) in
         let up_to : IsSpread (walk.taken + 1) inside.taken a.nodes = subst (λ n. IsSpread (walk.taken + 1) n a.nodes) (sym a.end) (numbered_spread (spare_room spare) last (walk.taken + 1) (walk.taken + 1) a.nodes a.inner) in
         let inner = spread_more (walk.taken + 1) inside.taken after.taken a.nodes above up_to in
         record {
@@ -242,10 +243,10 @@ module _ (before now : Board) (slot : Slot) (last : ℕ) (start walk : Walk) (ol
 
 -- ---- where it stops, or is done
 
-pub stand_left : {T E : Type 0} → (before now : Board) (bus place last : ℕ) (start walk : Walk) (old mid new : List Board) (more : Bool) (r : Result T E) → IsErr r → new ≡ mid → IsWalkStanding before bus last start old place more walk now mid → IsBusStood before bus last start old r new
-stand_left before now bus place last start walk old mid new more r err same standing = λ v nodes is seen walkable closed apart.
+pub stand_left : {T E : Type 0} → (spare : ℕ) (before now : Board) (bus place last : ℕ) (start walk : Walk) (old mid new : List Board) (more : Bool) (r : Result T E) → IsErr r → new ≡ mid → IsWalkStanding (moment before old) (outset bus last spare start) place more walk (moment now mid) → IsBusStood (moment before old) (outset bus last spare start) r new
+stand_left spare before now bus place last start walk old mid new more r err same standing = λ v nodes is seen walkable closed apart.
     let h = standing v nodes is seen walkable closed apart in
     ended IsSingle r old new err (ends_same IsSingle old mid new h.5 same)
 
-pub stand_done : (before now : Board) (bus place last : ℕ) (start walk : Walk) (old new : List Board) (more : Bool) → IsWalkStanding before bus last start old place more walk now new → IsBusOk before bus last start old new
-stand_done before now bus place last start walk old new more standing = λ v nodes is seen walkable closed apart. (standing v nodes is seen walkable closed apart).5
+pub stand_done : (spare : ℕ) (before now : Board) (bus place last : ℕ) (start walk : Walk) (old new : List Board) (more : Bool) → IsWalkStanding (moment before old) (outset bus last spare start) place more walk (moment now new) → IsBusOk before bus last start old new
+stand_done spare before now bus place last start walk old new more standing = λ v nodes is seen walkable closed apart. (standing v nodes is seen walkable closed apart).5

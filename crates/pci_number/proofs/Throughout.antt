@@ -10,7 +10,7 @@ use Rattle.pci_number.specs.Less.{without_own_numbers, AreShut, IsLessStep}
 use Rattle.pci_number.specs.Single.{IsHushStep, IsSingleBeside, EndsSingle, ClosedOrStopped, IsSingleThroughout}
 use Rattle.number_spec.specs.Room.{last_behind}
 use Rattle.number_spec.specs.Spare.{spare_room}
-use Rattle.pci_number.specs.Walked.{IsBusNumbered}
+use Rattle.pci_number.specs.Walked.{IsBusNumbered, outset}
 use Rattle.pci_number.specs.declared.walk.Walk.{Walk}
 use Rattle.pci_number.specs.Stood.{Adds, Ends, AddsSteps, moment}
 use Rattle.pci_number.proofs.RootView.{same_nodes}
@@ -101,7 +101,7 @@ module _ (before mid : Board) (root last : ℕ) (bridges : Bool) (old hushed new
         always = λ single. adds_then IsSingle old hushed new (steps_add R IsSingle (still_single before root last ready single) before old mid hushed (less_stood ready)) (adds (single_beside before root last ready single));
       }
 
-pub end_single : (spare : ℕ) (before mid after : Board) (root last : ℕ) (bridges : Bool) (walk : Walk) → IsHushed before root bridges mid → IsBusNumbered spare mid root last (start root) walk after → EndsSingle before root last after
+pub end_single : (spare : ℕ) (before mid after : Board) (root last : ℕ) (bridges : Bool) (walk : Walk) → IsHushed before root bridges mid → IsBusNumbered mid (outset root last spare (start root)) walk after → EndsSingle before root last after
 end_single spare before mid after root last bridges walk hushed numbered = λ ready beside.
     let seen = seen_root before root last ready in
     let h = hushed (root_view before root) root last (nodes_behind before root) (sym (same_nodes root before ready.one)) seen ready.walkable in

@@ -15,10 +15,10 @@ use Rattle.number_spec.proofs.Spare.{spare_stays}
 use Rattle.number_spec.proofs.Roomy.{closed as shut_of}
 use Rattle.number_spec.proofs.Roomy.{shown, opened, within_last}
 use Rattle.pci_number.specs.Seen.{View, code, IsSeen, IsRest, IsClosed, has_bridges}
-use Rattle.pci_number.specs.Steps.{IsLooked, Absent, There, IsAlike, IsTouched, IsOpened, IsOpenLeft}
+use Rattle.pci_number.specs.Steps.{IsPut, IsLooked, Absent, There, IsAlike, IsTouched, IsOpened, IsOpenLeft}
 use Rattle.pci_number.specs.Hushing.{KeptUpTo}
 use Rattle.pci_number.specs.Spare.{IsLed}
-use Rattle.pci_number.specs.Walked.{IsBusNumbered, IsBusLeft, named}
+use Rattle.pci_number.specs.Walked.{IsBusNumbered, IsBusLeft, named, outset}
 use Rattle.pci_number.specs.Walking.{NumberedUpTo, IsWalking}
 use Rattle.pci_number.specs.declared.look.Found.{Found}
 use Rattle.pci_number.specs.declared.walk.Walk.{Walk}
@@ -87,7 +87,7 @@ one_more walk = record { taken = walk.taken + 1; without = walk.without }
 -- ---- place by place
 
 module _ (spare : ℕ) where
-  pub walk_start : (before : Board) (bus last : ℕ) (start : Walk) → IsWalking spare before bus last start 0 false start before
+  pub walk_start : (before : Board) (bus last : ℕ) (start : Walk) → IsWalking before (outset bus last spare start) 0 false start before
   walk_start before bus last start = λ v nodes is seen walkable closed. (
     record { view = v; nodes = nodes; device = 0 },
     record { is = is; past = λ never. cc never; has = rest_of nodes walkable },
@@ -97,7 +97,7 @@ module _ (spare : ℕ) where
     (λ after same. (after, refl, same)),
   )
 
-  pub walk_pass : (before now : Board) (slot : Slot) (last : ℕ) (start walk : Walk) (more : Bool) (found : Found) → slot.function ≤ 7 → IsLooked now slot more found → found.bridge ≡ false → IsWalking spare before slot.bus last start (code slot) more walk now → IsWalking spare before slot.bus last start (code slot + 1) found.more walk now
+  pub walk_pass : (before now : Board) (slot : Slot) (last : ℕ) (start walk : Walk) (more : Bool) (found : Found) → slot.function ≤ 7 → IsLooked now slot more found → found.bridge ≡ false → IsWalking before (outset slot.bus last spare start) (code slot) more walk now → IsWalking before (outset slot.bus last spare start) (code slot + 1) found.more walk now
   walk_pass before now slot last start walk more found low looked none walking = λ v nodes is seen walkable closed.
       let h = walking v nodes is seen walkable closed in
       let d = slot.device in
@@ -144,10 +144,10 @@ module _ (spare : ℕ) where
     has : IsRest (code slot + 1) device more others
     shut : shows image 0 0 0 ≡ true
     closed : IsClosed others
-    numbered : NumberedUpTo spare v nodes slot.bus last start walk (record { view = view; nodes = Node slot.device slot.function image behind others; device = device })
+    numbered : NumberedUpTo v nodes (outset slot.bus last spare start) walk (record { view = view; nodes = Node slot.device slot.function image behind others; device = device })
     kept : KeptUpTo v nodes (record { view = view; nodes = Node slot.device slot.function image behind others; device = device })
 
-  at_bridge : (before now : Board) (slot : Slot) (last : ℕ) (start walk : Walk) (more : Bool) (found : Found) → slot.function ≤ 7 → IsLooked now slot more found → found.bridge ≡ true → IsWalking spare before slot.bus last start (code slot) more walk now → (v : View) (nodes : Nodes) → before ≡ v.fill nodes → IsSeen v slot.bus 0 start.taken last → is_walkable nodes ≡ true → IsClosed nodes → AtBridge now slot last start walk found.more v nodes
+  at_bridge : (before now : Board) (slot : Slot) (last : ℕ) (start walk : Walk) (more : Bool) (found : Found) → slot.function ≤ 7 → IsLooked now slot more found → found.bridge ≡ true → IsWalking before (outset slot.bus last spare start) (code slot) more walk now → (v : View) (nodes : Nodes) → before ≡ v.fill nodes → IsSeen v slot.bus 0 start.taken last → is_walkable nodes ≡ true → IsClosed nodes → AtBridge now slot last start walk found.more v nodes
   at_bridge before now slot last start walk more found low looked one walking v nodes is seen walkable closed =
       let h = walking v nodes is seen walkable closed in
       elim (looked h.0.view walk.taken last h.0.device h.0.nodes h.1.is h.2 low h.1.past h.1.has) [
@@ -175,7 +175,7 @@ module _ (spare : ℕ) where
       ]
 
   -- numbers ran out
-  pub walk_without : (before now : Board) (slot : Slot) (last : ℕ) (start walk after : Walk) (more : Bool) (found : Found) → slot.function ≤ 7 → IsLooked now slot more found → found.bridge ≡ true → last ≤ walk.taken → after.taken ≡ walk.taken → after.without ≡ named walk.without slot → IsWalking spare before slot.bus last start (code slot) more walk now → IsWalking spare before slot.bus last start (code slot + 1) found.more after now
+  pub walk_without : (before now : Board) (slot : Slot) (last : ℕ) (start walk after : Walk) (more : Bool) (found : Found) → slot.function ≤ 7 → IsLooked now slot more found → found.bridge ≡ true → last ≤ walk.taken → after.taken ≡ walk.taken → after.without ≡ named walk.without slot → IsWalking before (outset slot.bus last spare start) (code slot) more walk now → IsWalking before (outset slot.bus last spare start) (code slot + 1) found.more after now
   walk_without before now slot last start walk walk_after more found low looked one over same_taken names walking = λ v nodes is seen walkable closed.
       let b = at_bridge before now slot last start walk more found low looked one walking v nodes is seen walkable closed in
       let d = slot.device in
@@ -215,7 +215,7 @@ module _ (spare : ℕ) where
     inner : have_numbers (spare_room spare) last (walk.taken + 1) (walk.taken + 1) nodes ≡ true
     first : after.without ≡ first_of walk.without (first_without (walk.taken + 1) nodes)
 
-  walk_given : (before now later : Board) (slot : Slot) (last : ℕ) (start walk after : Walk) (more : Bool) (found : Found) → slot.function ≤ 7 → IsLooked now slot more found → found.bridge ≡ true → walk.taken < last → IsWalking spare before slot.bus last start (code slot) more walk now → ((v : View) (nodes : Nodes) (b : AtBridge now slot last start walk found.more v nodes) → Given slot last walk after b.view b.image b.behind b.others later) → IsWalking spare before slot.bus last start (code slot + 1) found.more after later
+  walk_given : (before now later : Board) (slot : Slot) (last : ℕ) (start walk after : Walk) (more : Bool) (found : Found) → slot.function ≤ 7 → IsLooked now slot more found → found.bridge ≡ true → walk.taken < last → IsWalking before (outset slot.bus last spare start) (code slot) more walk now → ((v : View) (nodes : Nodes) (b : AtBridge now slot last start walk found.more v nodes) → Given slot last walk after b.view b.image b.behind b.others later) → IsWalking before (outset slot.bus last spare start) (code slot + 1) found.more after later
   walk_given before now later slot last start walk walk_after more found low looked one left walking given = λ v nodes is seen walkable closed.
       let b = at_bridge before now slot last start walk more found low looked one walking v nodes is seen walkable closed in
       let n = given v nodes b in
@@ -286,7 +286,7 @@ module _ (spare : ℕ) where
       }
 
   -- the bridges behind it have their numbers
-  pub begun_wide : (now mid far : Board) (slot : Slot) (last : ℕ) (walk after : Walk) → walk.taken < last → IsOpened now slot (walk.taken + 1) last true mid → IsBusNumbered spare mid (walk.taken + 1) last (one_more walk) after far → walk.taken + 1 ≤ after.taken → IsBegun now far slot last walk after
+  pub begun_wide : (now mid far : Board) (slot : Slot) (last : ℕ) (walk after : Walk) → walk.taken < last → IsOpened now slot (walk.taken + 1) last true mid → IsBusNumbered mid (outset (walk.taken + 1) last spare (one_more walk)) after far → walk.taken + 1 ≤ after.taken → IsBegun now far slot last walk after
   begun_wide now mid far slot last walk after left gets bus above = λ view image behind others is seen alone bridge closed walkable.
       let o = gets view walk.taken image behind others is seen alone bridge closed walkable (omega arith) (omega (arith, left)) in
       let seen_behind = seen_inside view slot.bus (code slot) walk.taken last slot.bus (walk.taken + 1) last slot.device slot.function o.0 others seen (o.3.kind ∙ bridge) o.5 (omega arith) (omega (arith, left)) (omega arith) closed in
@@ -310,10 +310,10 @@ module _ (spare : ℕ) where
   room_stays : (image new : List ℕ) → IsAlike image new → spare_room spare new ≡ spare_room spare image
   room_stays image new alike = sym (spare_stays spare new 0 0 0) ∙ ap (spare_room spare) alike.cleared ∙ spare_stays spare image 0 0 0
 
-  pub walk_led : (before now far later : Board) (slot : Slot) (last : ℕ) (start walk inside after : Walk) (more : Bool) (found : Found) → slot.function ≤ 7 → IsLooked now slot more found → found.bridge ≡ true → walk.taken < last → IsBegun now far slot last walk inside → IsLed far slot inside.taken last spare after.taken later → inside.taken ≤ after.taken → after.without ≡ inside.without → IsWalking spare before slot.bus last start (code slot) more walk now → IsWalking spare before slot.bus last start (code slot + 1) found.more after later
-  walk_led before now far later slot last start walk inside after more found low looked one left begun led above names walking = walk_given before now later slot last start walk after more found low looked one left walking (λ v nodes b.
+  pub walk_led : (before now far later : Board) (slot : Slot) (last : ℕ) (start walk inside after : Walk) (more : Bool) (found : Found) → slot.function ≤ 7 → IsLooked now slot more found → found.bridge ≡ true → walk.taken < last → IsBegun now far slot last walk inside → IsPut far slot 0x1a after.taken later → IsLed far slot inside.taken last spare after.taken → inside.taken ≤ after.taken → after.without ≡ inside.without → IsWalking before (outset slot.bus last spare start) (code slot) more walk now → IsWalking before (outset slot.bus last spare start) (code slot + 1) found.more after later
+  walk_led before now far later slot last start walk inside after more found low looked one left begun put led above names walking = walk_given before now later slot last start walk after more found low looked one left walking (λ v nodes b.
       let a = begun b.view b.image b.behind b.others b.is b.seen b.alone b.bridge b.closed b.inner in
-      let p = led b.view walk.taken last a.new a.nodes b.others a.is b.seen b.alone a.within in
+      let p = put b.view walk.taken last a.new a.nodes b.others a.is b.seen b.alone in
       let kept = alike_subordinate a.new p.0 p.2 in
       record {
         new = p.0;
@@ -322,7 +322,7 @@ module _ (spare : ℕ) where
         alike = alike_then b.image a.new p.0 a.alike kept;
         same = a.same;
         numbers = shows_another a.new p.0 slot.bus (walk.taken + 1) a.leads after.taken a.numbers p.2 p.3;
-        end = omega (arith, p.4, a.end, room_stays a.new p.0 kept);
+        end = omega (arith, led a.within b.view walk.taken last a.new a.nodes b.others a.is b.seen b.alone, a.end, room_stays a.new p.0 kept);
         above = omega (arith, a.above, above);
         inner = a.inner;
         first = names ∙ a.first;
@@ -330,7 +330,7 @@ module _ (spare : ℕ) where
 
   -- ---- where it stops
 
-  pub walk_left : (before now after : Board) (bus place last : ℕ) (start walk : Walk) (more : Bool) → after ≡ now → IsWalking spare before bus last start place more walk now → IsBusLeft before bus last start after
+  pub walk_left : (before now after : Board) (bus place last : ℕ) (start walk : Walk) (more : Bool) → after ≡ now → IsWalking before (outset bus last spare start) place more walk now → IsBusLeft before (outset bus last spare start) after
   walk_left before now after bus place last start walk more kept walking = λ v nodes is seen walkable closed.
       let h = walking v nodes is seen walkable closed in
       let w = h.5 h.0.nodes refl in
@@ -342,13 +342,13 @@ module _ (spare : ℕ) where
       let w = b.kept (Node slot.device slot.function new behind b.others) (same_node slot.device slot.function b.image new b.behind behind b.others b.others b.bridge alike same refl) in
       (w.0, is ∙ w.1, w.2)
 
-  pub walk_left_open : (before now after : Board) (slot : Slot) (last : ℕ) (start walk : Walk) (more : Bool) (found : Found) → slot.function ≤ 7 → IsLooked now slot more found → found.bridge ≡ true → walk.taken < last → IsOpenLeft now slot (walk.taken + 1) last after → IsWalking spare before slot.bus last start (code slot) more walk now → IsBusLeft before slot.bus last start after
+  pub walk_left_open : (before now after : Board) (slot : Slot) (last : ℕ) (start walk : Walk) (more : Bool) (found : Found) → slot.function ≤ 7 → IsLooked now slot more found → found.bridge ≡ true → walk.taken < last → IsOpenLeft now slot (walk.taken + 1) last after → IsWalking before (outset slot.bus last spare start) (code slot) more walk now → IsBusLeft before (outset slot.bus last spare start) after
   walk_left_open before now after slot last start walk more found low looked one left gets walking = λ v nodes is seen walkable closed.
       let b = at_bridge before now slot last start walk more found low looked one walking v nodes is seen walkable closed in
       let o = gets b.view walk.taken b.image b.behind b.others b.is b.seen b.alone b.bridge b.closed b.inner (omega arith) (omega (arith, left)) in
       left_there now after slot last start walk found.more v nodes b o.0 o.1 o.2 o.3 o.4
 
-  pub walk_left_bus : (before now mid after : Board) (slot : Slot) (last : ℕ) (start walk : Walk) (more : Bool) (found : Found) → slot.function ≤ 7 → IsLooked now slot more found → found.bridge ≡ true → walk.taken < last → IsOpened now slot (walk.taken + 1) last true mid → IsBusLeft mid (walk.taken + 1) last (one_more walk) after → IsWalking spare before slot.bus last start (code slot) more walk now → IsBusLeft before slot.bus last start after
+  pub walk_left_bus : (before now mid after : Board) (slot : Slot) (last : ℕ) (start walk : Walk) (more : Bool) (found : Found) → slot.function ≤ 7 → IsLooked now slot more found → found.bridge ≡ true → walk.taken < last → IsOpened now slot (walk.taken + 1) last true mid → IsBusLeft mid (outset (walk.taken + 1) last spare (one_more walk)) after → IsWalking before (outset slot.bus last spare start) (code slot) more walk now → IsBusLeft before (outset slot.bus last spare start) after
   walk_left_bus before now mid after slot last start walk more found low looked one left gets bus walking = λ v nodes is seen walkable closed.
       let b = at_bridge before now slot last start walk more found low looked one walking v nodes is seen walkable closed in
       let o = gets b.view walk.taken b.image b.behind b.others b.is b.seen b.alone b.bridge b.closed b.inner (omega arith) (omega (arith, left)) in
@@ -356,14 +356,14 @@ module _ (spare : ℕ) where
       let r = bus (inside b.view slot.device slot.function o.0 b.others) o.1 o.2 inner (same_walk o.1 b.behind o.4 ∙ b.inner) o.6 in
       left_there now after slot last start walk found.more v nodes b o.0 r.0 r.1 o.3 (r.2 ∙ o.4)
 
-  pub walk_left_led : (before now far after : Board) (slot : Slot) (last : ℕ) (start walk behind : Walk) (more : Bool) (found : Found) → slot.function ≤ 7 → IsLooked now slot more found → found.bridge ≡ true → IsBegun now far slot last walk behind → IsTouched far slot 0x1a after → IsWalking spare before slot.bus last start (code slot) more walk now → IsBusLeft before slot.bus last start after
+  pub walk_left_led : (before now far after : Board) (slot : Slot) (last : ℕ) (start walk behind : Walk) (more : Bool) (found : Found) → slot.function ≤ 7 → IsLooked now slot more found → found.bridge ≡ true → IsBegun now far slot last walk behind → IsTouched far slot 0x1a after → IsWalking before (outset slot.bus last spare start) (code slot) more walk now → IsBusLeft before (outset slot.bus last spare start) after
   walk_left_led before now far after slot last start walk behind more found low looked one begun touched walking = λ v nodes is seen walkable closed.
       let b = at_bridge before now slot last start walk more found low looked one walking v nodes is seen walkable closed in
       let a = begun b.view b.image b.behind b.others b.is b.seen b.alone b.bridge b.closed b.inner in
       let p = touched b.view walk.taken last a.new a.nodes b.others a.is b.seen b.alone in
       left_there now after slot last start walk found.more v nodes b p.0 a.nodes p.1 (alike_then b.image a.new p.0 a.alike (alike_subordinate a.new p.0 p.2)) a.same
 
-  pub walk_done : (before now : Board) (bus last : ℕ) (start walk : Walk) (more : Bool) → IsWalking spare before bus last start 256 more walk now → IsBusNumbered spare before bus last start walk now
+  pub walk_done : (before now : Board) (bus last : ℕ) (start walk : Walk) (more : Bool) → IsWalking before (outset bus last spare start) 256 more walk now → IsBusNumbered before (outset bus last spare start) walk now
   walk_done before now bus last start walk more walking = λ v nodes is seen walkable closed.
       let h = walking v nodes is seen walkable closed in
       let none = no_more h.0.device more h.0.nodes h.1.has in

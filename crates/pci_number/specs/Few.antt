@@ -7,7 +7,7 @@ use Rattle.number_spec.specs.Walk.{all_after, is_walkable}
 use Rattle.number_spec.specs.NoBus.{bridges}
 use Rattle.number_spec.specs.Ready.{IsReady}
 use Rattle.pci_number.specs.Seen.{View, code, IsSeen, IsClosed}
-use Rattle.pci_number.specs.declared.walk.Walk.{Walk}
+use Rattle.pci_number.specs.Walked.{Outset}
 
 -- how many bridges there are on the bus itself
 abbrev pub bridges_on : Nodes → ℕ
@@ -39,8 +39,8 @@ IsOpenFew before slot bus last made total =
     → high + 1 ≤ bus → bus ≤ last → total ≤ made + 4 + 3 * bridges_on behind
 
 -- The bridges on a bus, which are closed, get numbers, and so do those behind them.
-abbrev pub IsBusFew : Board → ℕ → ℕ → Walk → ℕ → ℕ → Type 0
-IsBusFew before bus last start made total =
+abbrev pub IsBusFew : Board → Outset → ℕ → ℕ → Type 0
+IsBusFew before o made total =
     (v : View) (nodes : Nodes) → before ≡ v.fill nodes
-    → IsSeen v bus 0 start.taken last → is_walkable nodes ≡ true → IsClosed nodes
+    → IsSeen v o.bus 0 o.start.taken o.last → is_walkable nodes ≡ true → IsClosed nodes
     → total + 3 * bridges_on nodes ≤ made + 8 * bridges nodes

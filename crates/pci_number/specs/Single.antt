@@ -11,6 +11,7 @@ use Rattle.number_spec.specs.Ready.{IsReady}
 use Rattle.pci_number.specs.Seen.{View, code, IsSeen, IsClosed}
 use Rattle.pci_number.specs.Hushing.{Rest, IsRestOf}
 use Rattle.pci_number.specs.Less.{without_own_numbers, AreShut}
+use Rattle.pci_number.specs.Walked.{Outset}
 use Rattle.pci_number.specs.Stood.{Adds, AddsOrEnds, Moment, moment, AddsSteps}
 use Rattle.pci_number.specs.declared.stop.Stop.{Stop}
 use Rattle.pci_number.specs.declared.walk.Walk.{Walk}
@@ -45,23 +46,21 @@ IsOpenStood from slot bus last result new =
     → AddsOrEnds IsSingle result from.history new
 
 -- The bridges on a bus, which are closed, and those behind them get their numbers.
-abbrev pub IsBusStood : {T E : Type 0} → Board → ℕ → ℕ → Walk → List Board → Result T E
-    → List Board → Type 0
-IsBusStood before bus last start old result new =
-    (v : View) (nodes : Nodes) → before ≡ v.fill nodes
-    → IsSeen v bus 0 start.taken last → is_walkable nodes ≡ true → IsClosed nodes
-    → IsApart v nodes start.taken last → AddsOrEnds IsSingle result old new
+abbrev pub IsBusStood : {T E : Type 0} → Moment → Outset → Result T E → List Board → Type 0
+IsBusStood from o result new =
+    (v : View) (nodes : Nodes) → from.board ≡ v.fill nodes
+    → IsSeen v o.bus 0 o.start.taken o.last → is_walkable nodes ≡ true → IsClosed nodes
+    → IsApart v nodes o.start.taken o.last → AddsOrEnds IsSingle result from.history new
 
 -- the walk over a bus under way
-abbrev pub IsWalkStanding : Board → ℕ → ℕ → Walk → List Board → ℕ → Bool → Walk → Board
-    → List Board → Type 0
-IsWalkStanding before bus last start old place more walk now new =
-    (v : View) (nodes : Nodes) → before ≡ v.fill nodes
-    → IsSeen v bus 0 start.taken last → is_walkable nodes ≡ true → IsClosed nodes
-    → IsApart v nodes start.taken last
-    → (rest : Rest) × IsRestOf now place more rest
-    × IsSeen rest.view bus place walk.taken last × IsClosed rest.nodes
-    × IsApart rest.view rest.nodes walk.taken last × Adds IsSingle old new
+abbrev pub IsWalkStanding : Moment → Outset → ℕ → Bool → Walk → Moment → Type 0
+IsWalkStanding from o place more walk to =
+    (v : View) (nodes : Nodes) → from.board ≡ v.fill nodes
+    → IsSeen v o.bus 0 o.start.taken o.last → is_walkable nodes ≡ true → IsClosed nodes
+    → IsApart v nodes o.start.taken o.last
+    → (rest : Rest) × IsRestOf to.board place more rest
+    × IsSeen rest.view o.bus place walk.taken o.last × IsClosed rest.nodes
+    × IsApart rest.view rest.nodes walk.taken o.last × Adds IsSingle from.history to.history
 
 -- What is behind the other roots is single.
 abbrev pub IsSingleBeside : Board → ℕ → Type 0

@@ -1,7 +1,7 @@
 //! A bridge behind which all have their numbers.
 ghost use Rattle.std.specs.Prelude.{◌≡◌, ◌+◌, ◌≤◌, IfOk, IfErr, OnErr};
 ghost use Rattle.pci_number.specs.Stops.{failures_at, IsStop};
-ghost use Rattle.pci_number.specs.Steps.{IsTouched};
+ghost use Rattle.pci_number.specs.Steps.{IsPut, IsTouched};
 ghost use Rattle.pci_number.specs.Stood.{IsOneMore, moment};
 ghost use Rattle.pci_number.specs.Spare.{IsLed};
 
@@ -21,8 +21,8 @@ pub fn lead_to<P: BoardPort>(
     last: u8,
     spare: u8,
 ) -> Result<u8, Stop>
-    ensures led { IfOk result
-        (λ end. IsLed (P.board port.old) slot taken last spare end (P.board port.new)) }
+    ensures put { IfOk result (λ end. IsPut (P.board port.old) slot 26 end (P.board port.new)) }
+    ensures led { IfOk result (λ end. IsLed (P.board port.old) slot taken last spare end) }
     ensures above { IfOk result (λ end. taken ≤ end) }
     ensures left { OnErr result (IsTouched (P.board port.old) slot 26 (P.board port.new)) }
     ensures stood { IsOneMore (moment (P.board port.old) (P.history port.old))

@@ -1,9 +1,10 @@
 //! The walk that gives numbers.
 ghost use Rattle.std.specs.Prelude.{◌≡◌, ◌+◌, ◌≤◌, IfOk, IfErr, OnErr};
 ghost use Rattle.pci_number.specs.Stops.{failures_at, IsStop};
-ghost use Rattle.pci_number.specs.Walked.{IsBusNumbered, IsBusLeft, named};
+ghost use Rattle.pci_number.specs.Walked.{IsBusNumbered, IsBusLeft, named, outset};
 ghost use Rattle.pci_number.specs.Few.{IsBusFew};
 ghost use Rattle.pci_number.specs.Single.{IsBusStood};
+ghost use Rattle.pci_number.specs.Stood.{moment};
 
 use crate::lead::lead_to;
 use crate::look::{PLACES, look, slot_at};
@@ -46,14 +47,16 @@ pub fn number_bus<P: BoardPort>(
 ) -> Result<Walk, Stop>
     requires above { bus ≤ start.taken }
     ensures numbered { IfOk result
-        (λ walk. IsBusNumbered spare (P.board port.old) bus last start walk (P.board port.new)) }
+        (λ walk. IsBusNumbered (P.board port.old) (outset bus last spare start) walk
+        (P.board port.new)) }
     ensures above { IfOk result (λ walk. start.taken ≤ walk.taken) }
-    ensures left { OnErr result (IsBusLeft (P.board port.old) bus last start (P.board port.new)) }
-    ensures stood { IsBusStood (P.board port.old) bus last start (P.history port.old) result
-        (P.history port.new) }
+    ensures left { OnErr result (IsBusLeft (P.board port.old) (outset bus last spare start)
+        (P.board port.new)) }
+    ensures stood { IsBusStood (moment (P.board port.old) (P.history port.old))
+        (outset bus last spare start) result (P.history port.new) }
     ensures stop { IfErr result (IsStop (P.board port.new) (P.last_write port.new)) }
     ensures counted { P.failures port.new ≡ P.failures port.old + failures_at result }
-    ensures few { IsBusFew (P.board port.old) bus last start (P.writes port.old)
+    ensures few { IsBusFew (P.board port.old) (outset bus last spare start) (P.writes port.old)
         (P.writes port.new) }
 {
     let mut walk = start;

@@ -13,7 +13,7 @@ returns-in_err-hush-clause-kept g c =
 pub returns-in_err-walk-clause-kept : goal.returns-in_err-walk-clause-kept
 returns-in_err-walk-clause-kept g c =
     let board = g.P.BoardPort.board in
-    kept_at_walk (board c.args.port.now) (board c.hush.new.port) (board c.number_bus.new.port) c.args.root c.args.last c.in_ok-hush.field-0 c.in_ok-hush.ensures.hushed c.in_err-walk.ensures.left
+    kept_at_walk c.args.spare (board c.args.port.now) (board c.hush.new.port) (board c.number_bus.new.port) c.args.root c.args.last c.in_ok-hush.field-0 c.in_ok-hush.ensures.hushed c.in_err-walk.ensures.left
 
 pub returns-in-None-clause-answer : goal.returns-in-None-clause-answer
 returns-in-None-clause-answer g c =
@@ -46,21 +46,21 @@ pub returns-in_err-walk-clause-few : goal.returns-in_err-walk-clause-few
 returns-in_err-walk-clause-few g c =
     let board = g.P.BoardPort.board in
     let writes = g.P.BoardPort.writes in
-    few_at_walk (board c.args.port.now) (board c.hush.new.port) c.args.root c.args.last c.in_ok-hush.field-0 (writes c.args.port.now) (writes c.hush.new.port) (writes c.number_bus.new.port)
+    few_at_walk c.args.spare (board c.args.port.now) (board c.hush.new.port) c.args.root c.args.last c.in_ok-hush.field-0 (writes c.args.port.now) (writes c.hush.new.port) (writes c.number_bus.new.port)
     c.in_ok-hush.ensures.hushed c.in_ok-hush.ensures.few c.in_err-walk.ensures.few
 
 pub returns-in-None-clause-few : goal.returns-in-None-clause-few
 returns-in-None-clause-few g c =
     let board = g.P.BoardPort.board in
     let writes = g.P.BoardPort.writes in
-    few_at_walk (board c.args.port.now) (board c.hush.new.port) c.args.root c.args.last c.in_ok-hush.field-0 (writes c.args.port.now) (writes c.hush.new.port) (writes c.number_bus.new.port)
+    few_at_walk c.args.spare (board c.args.port.now) (board c.hush.new.port) c.args.root c.args.last c.in_ok-hush.field-0 (writes c.args.port.now) (writes c.hush.new.port) (writes c.number_bus.new.port)
     c.in_ok-hush.ensures.hushed c.in_ok-hush.ensures.few c.in_ok-walk.ensures.few
 
 pub returns-in-Some-clause-few : goal.returns-in-Some-clause-few
 returns-in-Some-clause-few g c =
     let board = g.P.BoardPort.board in
     let writes = g.P.BoardPort.writes in
-    few_at_walk (board c.args.port.now) (board c.hush.new.port) c.args.root c.args.last c.in_ok-hush.field-0 (writes c.args.port.now) (writes c.hush.new.port) (writes c.number_bus.new.port)
+    few_at_walk c.args.spare (board c.args.port.now) (board c.hush.new.port) c.args.root c.args.last c.in_ok-hush.field-0 (writes c.args.port.now) (writes c.hush.new.port) (writes c.number_bus.new.port)
     c.in_ok-hush.ensures.hushed c.in_ok-hush.ensures.few c.in_ok-walk.ensures.few
 
 pub returns-in_err-hush-clause-single : goal.returns-in_err-hush-clause-single

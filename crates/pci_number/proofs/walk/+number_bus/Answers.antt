@@ -2,11 +2,12 @@ use Rattle.std.proofs.Common.{◌≡◌, ◌+◌, ℕ, List, Bool, true, false, 
 use Rattle.pci_spec.specs.Slot.{Slot}
 use Rattle.number_spec.specs.Board.{Board}
 use Rattle.pci_number.specs.Steps.{IsOpened, IsOpenLeft}
-use Rattle.pci_number.specs.Walked.{IsBusLeft}
+use Rattle.pci_number.specs.Walked.{IsBusLeft, outset}
 use Rattle.pci_number.specs.Few.{IsOpenFew, IsBusFew}
 use Rattle.pci_number.specs.Walking.{IsWalking}
 use Rattle.pci_number.specs.Single.{IsBusStood, IsWalkStanding}
 use Rattle.pci_number.specs.declared.walk.Walk.{Walk}
+use Rattle.pci_number.specs.Stood.{moment}
 use Rattle.pci_number.proofs.Errs.{always_err}
 use Rattle.pci_number.proofs.Behind.{Behind, behind_alone, behind_wide}
 use Rattle.pci_number.proofs.Few.{IsBegunFew, IsWalkCounted, begun_few_alone, begun_few_wide, walk_count_start, walk_count_pass, walk_count_without, walk_count_led, walk_few, walk_few_open, walk_few_led}
@@ -20,7 +21,7 @@ use Rattle.pci_number.proofs.walk.+number_bus.Goals.{then-found+then-walk-last+i
 pub loop-place-init : goal.loop-place-init
 loop-place-init g t c = record {
   walking = walk_start c.args.spare (g.P.BoardPort.board c.args.port.now) c.args.bus c.args.last c.args.start;
-  standing = stand_start (g.P.BoardPort.board c.args.port.now) c.args.bus c.args.last c.args.start (g.P.BoardPort.history c.args.port.now);
+  standing = stand_start c.args.spare (g.P.BoardPort.board c.args.port.now) c.args.bus c.args.last c.args.start (g.P.BoardPort.history c.args.port.now);
   above = omega arith;
   counted = refl;
   few = walk_count_start (g.P.BoardPort.board c.args.port.now) c.args.bus c.args.last c.args.start (g.P.BoardPort.writes c.args.port.now);
@@ -39,10 +40,10 @@ returns-in_err-open-clause-left g t c =
     let slot = c.slot_at-slot.result in
     let place = place_of slot c.args.bus c.loop-place.place c.slot_at-slot.ensures in
     always_err c.from_residual-in_err-open.result _
-    (subst (λ b. IsBusLeft before b c.args.last c.args.start (board c.open.new.port)) place.on
+    (subst (λ b. IsBusLeft before (outset b c.args.last c.args.spare c.args.start) (board c.open.new.port)) place.on
     (walk_left_open c.args.spare before (board c.loop-place.port) (board c.open.new.port) slot c.args.last c.args.start c.loop-place.walk c.loop-place.more c.in_ok-found.found place.low c.in_ok-found.ensures.looked c.if-found.true c.if-walk-last.true
     (subst (λ b. IsOpenLeft b slot (c.loop-place.walk.taken + 1) c.args.last (board c.open.new.port)) c.in_ok-found.ensures.same c.in_err-open.ensures.left)
-    (to_slot (λ b p. IsWalking c.args.spare before b c.args.last c.args.start p c.loop-place.more c.loop-place.walk (board c.loop-place.port)) slot c.args.bus c.loop-place.place place c.loop-place.invariant.walking)))
+    (to_slot (λ b p. IsWalking before (outset b c.args.last c.args.spare c.args.start) p c.loop-place.more c.loop-place.walk (board c.loop-place.port)) slot c.args.bus c.loop-place.place place c.loop-place.invariant.walking)))
 
 -- a bridge that was opened, on the board as it was looked at
 is_open : (before now later : Board) → (slot : Slot) (bus last : ℕ) (b answer : Bool) → now ≡ before → b ≡ answer → IsOpened now slot bus last b later → IsOpened before slot bus last answer later
@@ -55,11 +56,11 @@ returns-in_err-walk-clause-left g t c =
     let slot = c.slot_at-slot.result in
     let place = place_of slot c.args.bus c.loop-place.place c.slot_at-slot.ensures in
     always_err c.from_residual-in_err-walk.result _
-    (subst (λ b. IsBusLeft before b c.args.last c.args.start (board c.number_bus.new.port)) place.on
+    (subst (λ b. IsBusLeft before (outset b c.args.last c.args.spare c.args.start) (board c.number_bus.new.port)) place.on
     (walk_left_bus c.args.spare before (board c.loop-place.port) (board c.open.new.port) (board c.number_bus.new.port) slot c.args.last c.args.start c.loop-place.walk c.loop-place.more c.in_ok-found.found place.low c.in_ok-found.ensures.looked c.if-found.true c.if-walk-last.true
     (is_open (board c.loop-place.port) (board c.look.new.port) (board c.open.new.port) slot (c.loop-place.walk.taken + 1) c.args.last c.in_ok-open.field-0 true c.in_ok-found.ensures.same c.if-branch.true c.in_ok-open.ensures.opened)
     c.in_err-walk.ensures.left
-    (to_slot (λ b p. IsWalking c.args.spare before b c.args.last c.args.start p c.loop-place.more c.loop-place.walk (board c.loop-place.port)) slot c.args.bus c.loop-place.place place c.loop-place.invariant.walking)))
+    (to_slot (λ b p. IsWalking before (outset b c.args.last c.args.spare c.args.start) p c.loop-place.more c.loop-place.walk (board c.loop-place.port)) slot c.args.bus c.loop-place.place place c.loop-place.invariant.walking)))
 
 -- the writes of opening a bridge, on the board as it was looked at
 few_from : (now before : Board) → (slot : Slot) (bus last total made opened_by : ℕ) → before ≡ now → made ≡ total → IsOpenFew before slot bus last made opened_by → IsOpenFew now slot bus last total opened_by
@@ -94,8 +95,8 @@ loop-place-preserved g t c =
     let history = g.P.BoardPort.history in
     let old = history c.args.port.now in
     let stood_now = history c.loop-place.port in
-    let stood = to_slot (λ b p. IsWalkStanding before b last start old p c.loop-place.more walk now stood_now) slot bus at place c.loop-place.invariant.standing in
-    let so_far = to_slot (λ b p. IsWalking c.args.spare before b last start p c.loop-place.more walk now) slot bus at place c.loop-place.invariant.walking in
+    let stood = to_slot (λ b p. IsWalkStanding (moment before old) (outset b last c.args.spare start) p c.loop-place.more walk (moment now stood_now)) slot bus at place c.loop-place.invariant.standing in
+    let so_far = to_slot (λ b p. IsWalking before (outset b last c.args.spare start) p c.loop-place.more walk now) slot bus at place c.loop-place.invariant.walking in
     elim c.if-found.branch [
       | then-found+then-walk-last+in_ok-open+in_ok-walk-2 w ↦
           let led_on = w.if-branch.walk in
@@ -117,34 +118,34 @@ loop-place-preserved g t c =
                 (omega (arith, w.in_ok-open.ensures.counted, c.in_ok-found.ensures.counted, c.loop-place.invariant.counted)))
           ] in
           record {
-            walking = rw (w.port-is, w.walk-is) (from_slot (λ b p. IsWalking c.args.spare before b last start (p + 1) found.more after (board w.lead_to.new.port)) slot bus at place
+            walking = rw (w.port-is, w.walk-is) (from_slot (λ b p. IsWalking before (outset b last c.args.spare start) (p + 1) found.more after (board w.lead_to.new.port)) slot bus at place
                 (walk_led c.args.spare before now far (board w.lead_to.new.port) slot last start walk led_on after c.loop-place.more found place.low looked w.if-found.true w.if-walk-last.true
-                behind.begun w.in_ok-walk-2.ensures.led w.in_ok-walk-2.ensures.above refl so_far));
-            standing = rw (w.port-is, w.walk-is) (from_slot (λ b p. IsWalkStanding before b last start old (p + 1) found.more after (board w.lead_to.new.port) (history w.lead_to.new.port)) slot bus at place
-                (stand_led before now slot last start walk old stood_now (history w.open.new.port) c.loop-place.more found place.low looked w.if-found.true w.if-walk-last.true stood
-                c.args.spare far led_on behind.begun (history w.if-branch.port) behind.stood (board w.lead_to.new.port) (history w.lead_to.new.port) w.in_ok-walk-2.ensures.stood
-                after w.in_ok-walk-2.ensures.led w.in_ok-walk-2.ensures.above));
+                behind.begun w.in_ok-walk-2.ensures.put w.in_ok-walk-2.ensures.led w.in_ok-walk-2.ensures.above refl so_far));
+            standing = rw (w.port-is, w.walk-is) (from_slot (λ b p. IsWalkStanding (moment before old) (outset b last c.args.spare start) (p + 1) found.more after (moment (board w.lead_to.new.port) (history w.lead_to.new.port))) slot bus at place
+                (stand_led c.args.spare before now slot last start walk old stood_now (history w.open.new.port) c.loop-place.more found place.low looked w.if-found.true w.if-walk-last.true stood
+                far led_on behind.begun (history w.if-branch.port) behind.stood (board w.lead_to.new.port) (history w.lead_to.new.port) w.in_ok-walk-2.ensures.stood
+                after w.in_ok-walk-2.ensures.put w.in_ok-walk-2.ensures.led w.in_ok-walk-2.ensures.above));
             above = omega (arith, ap (λ (x : Walk). x.taken) w.walk-is, w.in_ok-walk-2.ensures.above, behind.above, c.loop-place.invariant.above);
             counted = omega (arith, ap failures w.port-is, w.in_ok-walk-2.ensures.counted, behind.counted);
             few = rw (w.port-is, w.walk-is) (from_slot (λ b p. IsWalkCounted before b last start (p + 1) found.more after (board w.lead_to.new.port) made (writes w.lead_to.new.port)) slot bus at place
                 (walk_count_led before now far (board w.lead_to.new.port) slot c.args.spare last start walk led_on after c.loop-place.more found made total (writes w.if-branch.port) (writes w.lead_to.new.port) place.low looked w.if-found.true w.if-walk-last.true
-                behind.begun w.in_ok-walk-2.ensures.led w.in_ok-walk-2.ensures.above behind.few w.in_ok-walk-2.ensures.few count));
+                behind.begun w.in_ok-walk-2.ensures.put w.in_ok-walk-2.ensures.above behind.few w.in_ok-walk-2.ensures.few count));
           }
       | then-found+else-walk-last w ↦ record {
-        walking = rw (w.port-is, w.walk-is, c.in_ok-found.ensures.same) (from_slot (λ b p. IsWalking c.args.spare before b last start (p + 1) found.more w.and_without-walk.result now) slot bus at place
+        walking = rw (w.port-is, w.walk-is, c.in_ok-found.ensures.same) (from_slot (λ b p. IsWalking before (outset b last c.args.spare start) (p + 1) found.more w.and_without-walk.result now) slot bus at place
             (walk_without c.args.spare before now slot last start walk w.and_without-walk.result c.loop-place.more found place.low looked w.if-found.true w.if-walk-last.false w.and_without-walk.ensures.taken w.and_without-walk.ensures.named so_far));
-        standing = rw (w.port-is, w.walk-is, c.in_ok-found.ensures.same, c.in_ok-found.ensures.same_history) (from_slot (λ b p. IsWalkStanding before b last start old (p + 1) found.more w.and_without-walk.result (now) (stood_now)) slot bus at place
-            (stand_without before now slot last start walk w.and_without-walk.result old stood_now c.loop-place.more found place.low looked w.if-found.true w.and_without-walk.ensures.taken stood));
+        standing = rw (w.port-is, w.walk-is, c.in_ok-found.ensures.same, c.in_ok-found.ensures.same_history) (from_slot (λ b p. IsWalkStanding (moment before old) (outset b last c.args.spare start) (p + 1) found.more w.and_without-walk.result (moment now stood_now)) slot bus at place
+            (stand_without c.args.spare before now slot last start walk w.and_without-walk.result old stood_now c.loop-place.more found place.low looked w.if-found.true w.and_without-walk.ensures.taken stood));
         above = omega (arith, ap (λ (x : Walk). x.taken) w.walk-is, w.and_without-walk.ensures.taken, c.loop-place.invariant.above);
         counted = omega (arith, ap failures w.port-is, c.in_ok-found.ensures.counted, c.loop-place.invariant.counted);
         few = rw (w.port-is, w.walk-is, c.in_ok-found.ensures.same, c.in_ok-found.ensures.no_more) (from_slot (λ b p. IsWalkCounted before b last start (p + 1) found.more w.and_without-walk.result now made total) slot bus at place
             (walk_count_without before now slot last start walk w.and_without-walk.result c.loop-place.more found made total place.low looked w.if-found.true w.and_without-walk.ensures.taken count));
       }
       | else-found w ↦ record {
-        walking = rw (w.port-is, w.walk-is, c.in_ok-found.ensures.same) (from_slot (λ b p. IsWalking c.args.spare before b last start (p + 1) found.more walk now) slot bus at place
+        walking = rw (w.port-is, w.walk-is, c.in_ok-found.ensures.same) (from_slot (λ b p. IsWalking before (outset b last c.args.spare start) (p + 1) found.more walk now) slot bus at place
             (walk_pass c.args.spare before now slot last start walk c.loop-place.more found place.low looked w.if-found.false so_far));
-        standing = rw (w.port-is, w.walk-is, c.in_ok-found.ensures.same, c.in_ok-found.ensures.same_history) (from_slot (λ b p. IsWalkStanding before b last start old (p + 1) found.more walk (now) (stood_now)) slot bus at place
-            (stand_pass before now slot last start walk old stood_now c.loop-place.more found place.low looked w.if-found.false stood));
+        standing = rw (w.port-is, w.walk-is, c.in_ok-found.ensures.same, c.in_ok-found.ensures.same_history) (from_slot (λ b p. IsWalkStanding (moment before old) (outset b last c.args.spare start) (p + 1) found.more walk (moment now stood_now)) slot bus at place
+            (stand_pass c.args.spare before now slot last start walk old stood_now c.loop-place.more found place.low looked w.if-found.false stood));
         above = omega (arith, ap (λ (x : Walk). x.taken) w.walk-is, c.loop-place.invariant.above);
         counted = omega (arith, ap failures w.port-is, c.in_ok-found.ensures.counted, c.loop-place.invariant.counted);
         few = rw (w.port-is, w.walk-is, c.in_ok-found.ensures.same, c.in_ok-found.ensures.no_more) (from_slot (λ b p. IsWalkCounted before b last start (p + 1) found.more walk now made total) slot bus at place
@@ -157,13 +158,13 @@ returns-clause-numbered g t c =
     let board = g.P.BoardPort.board in
     let before = board c.args.port.now in
     walk_done c.args.spare before (board c.loop-place.port) c.args.bus c.args.last c.args.start c.loop-place.walk c.loop-place.more
-    (subst (λ p. IsWalking c.args.spare before c.args.bus c.args.last c.args.start p c.loop-place.more c.loop-place.walk (board c.loop-place.port)) (omega (arith, c.loop-place-test.false, c.loop-place.auto.place-end)) c.loop-place.invariant.walking)
+    (subst (λ p. IsWalking before (outset c.args.bus c.args.last c.args.spare c.args.start) p c.loop-place.more c.loop-place.walk (board c.loop-place.port)) (omega (arith, c.loop-place-test.false, c.loop-place.auto.place-end)) c.loop-place.invariant.walking)
 
 pub returns-in_err-found-clause-few : goal.returns-in_err-found-clause-few
 returns-in_err-found-clause-few g t c =
     let board = g.P.BoardPort.board in
     let writes = g.P.BoardPort.writes in
-    rw c.in_err-found.ensures.no_more (walk_few (board c.args.port.now) (board c.loop-place.port) c.args.bus c.args.last c.loop-place.place c.args.start c.loop-place.walk c.loop-place.more (writes c.args.port.now) (writes c.loop-place.port) c.loop-place.invariant.few)
+    rw c.in_err-found.ensures.no_more (walk_few c.args.spare (board c.args.port.now) (board c.loop-place.port) c.args.bus c.args.last c.loop-place.place c.args.start c.loop-place.walk c.loop-place.more (writes c.args.port.now) (writes c.loop-place.port) c.loop-place.invariant.few)
 
 pub returns-in_err-open-clause-few : goal.returns-in_err-open-clause-few
 returns-in_err-open-clause-few g t c =
@@ -177,8 +178,8 @@ returns-in_err-open-clause-few g t c =
     let slot = c.slot_at-slot.result in
     let place = place_of slot c.args.bus c.loop-place.place c.slot_at-slot.ensures in
     let count = to_slot (λ b p. IsWalkCounted before b c.args.last c.args.start p c.loop-place.more walk now made total) slot c.args.bus c.loop-place.place place c.loop-place.invariant.few in
-    subst (λ b. IsBusFew before b c.args.last c.args.start made (writes c.open.new.port)) place.on
-    (walk_few_open before now slot c.args.last c.args.start walk c.loop-place.more c.in_ok-found.found made total (writes c.open.new.port) place.low c.in_ok-found.ensures.looked c.if-found.true c.if-walk-last.true
+    subst (λ b. IsBusFew before (outset b c.args.last c.args.spare c.args.start) made (writes c.open.new.port)) place.on
+    (walk_few_open c.args.spare before now slot c.args.last c.args.start walk c.loop-place.more c.in_ok-found.found made total (writes c.open.new.port) place.low c.in_ok-found.ensures.looked c.if-found.true c.if-walk-last.true
     (few_from now (board c.look.new.port) slot (walk.taken + 1) c.args.last total (writes c.look.new.port) (writes c.open.new.port) c.in_ok-found.ensures.same c.in_ok-found.ensures.no_more c.in_err-open.ensures.few) count)
 
 pub returns-in_err-walk-clause-few : goal.returns-in_err-walk-clause-few
@@ -193,9 +194,9 @@ returns-in_err-walk-clause-few g t c =
     let slot = c.slot_at-slot.result in
     let place = place_of slot c.args.bus c.loop-place.place c.slot_at-slot.ensures in
     let count = to_slot (λ b p. IsWalkCounted before b c.args.last c.args.start p c.loop-place.more walk now made total) slot c.args.bus c.loop-place.place place c.loop-place.invariant.few in
-    subst (λ b. IsBusFew before b c.args.last c.args.start made (writes c.number_bus.new.port)) place.on
-    (walk_few_led before now slot c.args.last c.args.start walk c.loop-place.more c.in_ok-found.found made total (writes c.number_bus.new.port) (writes c.number_bus.new.port) place.low c.in_ok-found.ensures.looked c.if-found.true
-    (begun_few_wide now (board c.open.new.port) slot c.args.last walk total (writes c.open.new.port) (writes c.number_bus.new.port) c.if-walk-last.true
+    subst (λ b. IsBusFew before (outset b c.args.last c.args.spare c.args.start) made (writes c.number_bus.new.port)) place.on
+    (walk_few_led c.args.spare before now slot c.args.last c.args.start walk c.loop-place.more c.in_ok-found.found made total (writes c.number_bus.new.port) (writes c.number_bus.new.port) place.low c.in_ok-found.ensures.looked c.if-found.true
+    (begun_few_wide c.args.spare now (board c.open.new.port) slot c.args.last walk total (writes c.open.new.port) (writes c.number_bus.new.port) c.if-walk-last.true
     (is_open now (board c.look.new.port) (board c.open.new.port) slot (walk.taken + 1) c.args.last c.in_ok-open.field-0 true c.in_ok-found.ensures.same c.if-branch.true c.in_ok-open.ensures.opened)
     (few_from now (board c.look.new.port) slot (walk.taken + 1) c.args.last total (writes c.look.new.port) (writes c.open.new.port) c.in_ok-found.ensures.same c.in_ok-found.ensures.no_more c.in_ok-open.ensures.few) c.in_err-walk.ensures.few) (omega arith) count)
 
@@ -203,13 +204,13 @@ pub returns-clause-few : goal.returns-clause-few
 returns-clause-few g t c =
     let board = g.P.BoardPort.board in
     let writes = g.P.BoardPort.writes in
-    walk_few (board c.args.port.now) (board c.loop-place.port) c.args.bus c.args.last c.loop-place.place c.args.start c.loop-place.walk c.loop-place.more (writes c.args.port.now) (writes c.loop-place.port) c.loop-place.invariant.few
+    walk_few c.args.spare (board c.args.port.now) (board c.loop-place.port) c.args.bus c.args.last c.loop-place.place c.args.start c.loop-place.walk c.loop-place.more (writes c.args.port.now) (writes c.loop-place.port) c.loop-place.invariant.few
 
 pub returns-in_err-found-clause-stood : goal.returns-in_err-found-clause-stood
 returns-in_err-found-clause-stood g t c =
     let board = g.P.BoardPort.board in
     let history = g.P.BoardPort.history in
-    stand_left (board c.args.port.now) (board c.loop-place.port) c.args.bus c.loop-place.place c.args.last c.args.start c.loop-place.walk (history c.args.port.now) (history c.loop-place.port) (history c.look.new.port) c.loop-place.more c.from_residual.result c.from_residual.ensures.0
+    stand_left c.args.spare (board c.args.port.now) (board c.loop-place.port) c.args.bus c.loop-place.place c.args.last c.args.start c.loop-place.walk (history c.args.port.now) (history c.loop-place.port) (history c.look.new.port) c.loop-place.more c.from_residual.result c.from_residual.ensures.0
     c.in_err-found.ensures.same_history c.loop-place.invariant.standing
 
 pub returns-in_err-open-clause-stood : goal.returns-in_err-open-clause-stood
@@ -223,9 +224,9 @@ returns-in_err-open-clause-stood g t c =
     let slot = c.slot_at-slot.result in
     let walk = c.loop-place.walk in
     let place = place_of slot c.args.bus c.loop-place.place c.slot_at-slot.ensures in
-    let stood = to_slot (λ b p. IsWalkStanding before b c.args.last c.args.start old p c.loop-place.more walk now stood_now) slot c.args.bus c.loop-place.place place c.loop-place.invariant.standing in
-    subst (λ b. IsBusStood before b c.args.last c.args.start old c.from_residual-in_err-open.result (history c.open.new.port)) place.on
-    (stand_left_open before now slot c.args.last c.args.start walk old stood_now (history c.open.new.port) c.loop-place.more c.in_ok-found.found place.low c.in_ok-found.ensures.looked c.if-found.true c.if-walk-last.true stood
+    let stood = to_slot (λ b p. IsWalkStanding (moment before old) (outset b c.args.last c.args.spare c.args.start) p c.loop-place.more walk (moment now stood_now)) slot c.args.bus c.loop-place.place place c.loop-place.invariant.standing in
+    subst (λ b. IsBusStood (moment before old) (outset b c.args.last c.args.spare c.args.start) c.from_residual-in_err-open.result (history c.open.new.port)) place.on
+    (stand_left_open c.args.spare before now slot c.args.last c.args.start walk old stood_now (history c.open.new.port) c.loop-place.more c.in_ok-found.found place.low c.in_ok-found.ensures.looked c.if-found.true c.if-walk-last.true stood
     c.from_residual-in_err-open.result c.from_residual-in_err-open.ensures.0
     (open_end (board c.look.new.port) now slot (walk.taken + 1) c.args.last (history c.look.new.port) stood_now (history c.open.new.port) c.in_ok-found.ensures.same c.in_ok-found.ensures.same_history c.in_err-open.ensures.stood))
 
@@ -240,9 +241,9 @@ returns-in_err-walk-clause-stood g t c =
     let slot = c.slot_at-slot.result in
     let walk = c.loop-place.walk in
     let place = place_of slot c.args.bus c.loop-place.place c.slot_at-slot.ensures in
-    let stood = to_slot (λ b p. IsWalkStanding before b c.args.last c.args.start old p c.loop-place.more walk now stood_now) slot c.args.bus c.loop-place.place place c.loop-place.invariant.standing in
-    subst (λ b. IsBusStood before b c.args.last c.args.start old c.from_residual-in_err-walk.result (history c.number_bus.new.port)) place.on
-    (stand_left_bus before now slot c.args.last c.args.start walk old stood_now (history c.open.new.port) c.loop-place.more c.in_ok-found.found place.low c.in_ok-found.ensures.looked c.if-found.true c.if-walk-last.true stood (board c.open.new.port)
+    let stood = to_slot (λ b p. IsWalkStanding (moment before old) (outset b c.args.last c.args.spare c.args.start) p c.loop-place.more walk (moment now stood_now)) slot c.args.bus c.loop-place.place place c.loop-place.invariant.standing in
+    subst (λ b. IsBusStood (moment before old) (outset b c.args.last c.args.spare c.args.start) c.from_residual-in_err-walk.result (history c.number_bus.new.port)) place.on
+    (stand_left_bus c.args.spare before now slot c.args.last c.args.start walk old stood_now (history c.open.new.port) c.loop-place.more c.in_ok-found.found place.low c.in_ok-found.ensures.looked c.if-found.true c.if-walk-last.true stood (board c.open.new.port)
     (is_open now (board c.look.new.port) (board c.open.new.port) slot (walk.taken + 1) c.args.last c.in_ok-open.field-0 true c.in_ok-found.ensures.same c.if-branch.true c.in_ok-open.ensures.opened)
     (open_ok (board c.look.new.port) now slot (walk.taken + 1) c.args.last (history c.look.new.port) stood_now (history c.open.new.port) c.in_ok-found.ensures.same c.in_ok-found.ensures.same_history c.in_ok-open.ensures.stood)
     (history c.number_bus.new.port) c.from_residual-in_err-walk.result c.from_residual-in_err-walk.ensures.0 c.in_err-walk.ensures.stood)
@@ -251,7 +252,7 @@ pub returns-clause-stood : goal.returns-clause-stood
 returns-clause-stood g t c =
     let board = g.P.BoardPort.board in
     let history = g.P.BoardPort.history in
-    stand_done (board c.args.port.now) (board c.loop-place.port) c.args.bus c.loop-place.place c.args.last c.args.start c.loop-place.walk (history c.args.port.now) (history c.loop-place.port) c.loop-place.more c.loop-place.invariant.standing
+    stand_done c.args.spare (board c.args.port.now) (board c.loop-place.port) c.args.bus c.loop-place.place c.args.last c.args.start c.loop-place.walk (history c.args.port.now) (history c.loop-place.port) c.loop-place.more c.loop-place.invariant.standing
 
 -- where the bridge doesn't lead on
 
@@ -274,10 +275,10 @@ returns-in_err-walk-2-clause-left g t c =
           (is_open now (board c.look.new.port) (board c.open.new.port) slot (walk.taken + 1) last c.in_ok-open.field-0 false c.in_ok-found.ensures.same y.if-branch.false c.in_ok-open.ensures.opened))
     ] in
     always_err c.from_residual-in_err-walk-2.result _
-    (subst (λ b. IsBusLeft before b last c.args.start (board c.lead_to.new.port)) place.on
+    (subst (λ b. IsBusLeft before (outset b last c.args.spare c.args.start) (board c.lead_to.new.port)) place.on
     (walk_left_led c.args.spare before now (board c.if-branch.port) (board c.lead_to.new.port) slot last c.args.start walk c.if-branch.walk c.loop-place.more c.in_ok-found.found place.low c.in_ok-found.ensures.looked c.if-found.true
     begun c.in_err-walk-2.ensures.left
-    (to_slot (λ b p. IsWalking c.args.spare before b last c.args.start p c.loop-place.more walk now) slot c.args.bus c.loop-place.place place c.loop-place.invariant.walking)))
+    (to_slot (λ b p. IsWalking before (outset b last c.args.spare c.args.start) p c.loop-place.more walk now) slot c.args.bus c.loop-place.place place c.loop-place.invariant.walking)))
 
 pub returns-in_err-walk-2-clause-few : goal.returns-in_err-walk-2-clause-few
 returns-in_err-walk-2-clause-few g t c =
@@ -295,13 +296,13 @@ returns-in_err-walk-2-clause-few g t c =
     let opened_few = few_from now (board c.look.new.port) slot (walk.taken + 1) last total (writes c.look.new.port) (writes c.open.new.port) c.in_ok-found.ensures.same c.in_ok-found.ensures.no_more c.in_ok-open.ensures.few in
     let far_few : IsBegunFew now slot last walk.taken total (writes c.if-branch.port) = elim c.if-branch.branch [
       | then-branch+in_ok-walk y ↦ rw y.port-is
-          (begun_few_wide now (board c.open.new.port) slot last walk total (writes c.open.new.port) (writes y.number_bus.new.port) c.if-walk-last.true
+          (begun_few_wide c.args.spare now (board c.open.new.port) slot last walk total (writes c.open.new.port) (writes y.number_bus.new.port) c.if-walk-last.true
           (is_open now (board c.look.new.port) (board c.open.new.port) slot (walk.taken + 1) last c.in_ok-open.field-0 true c.in_ok-found.ensures.same y.if-branch.true c.in_ok-open.ensures.opened)
           opened_few y.in_ok-walk.ensures.few)
       | else-branch y ↦ rw y.port-is (begun_few_alone now slot last walk total (writes c.open.new.port) c.if-walk-last.true opened_few)
     ] in
-    subst (λ b. IsBusFew before b last c.args.start made (writes c.lead_to.new.port)) place.on
-    (walk_few_led before now slot last c.args.start walk c.loop-place.more c.in_ok-found.found made total (writes c.if-branch.port) (writes c.lead_to.new.port) place.low c.in_ok-found.ensures.looked c.if-found.true far_few c.in_err-walk-2.ensures.few count)
+    subst (λ b. IsBusFew before (outset b last c.args.spare c.args.start) made (writes c.lead_to.new.port)) place.on
+    (walk_few_led c.args.spare before now slot last c.args.start walk c.loop-place.more c.in_ok-found.found made total (writes c.if-branch.port) (writes c.lead_to.new.port) place.low c.in_ok-found.ensures.looked c.if-found.true far_few c.in_err-walk-2.ensures.few count)
 
 pub returns-in_err-walk-2-clause-stood : goal.returns-in_err-walk-2-clause-stood
 returns-in_err-walk-2-clause-stood g t c =
@@ -318,7 +319,7 @@ returns-in_err-walk-2-clause-stood g t c =
     let last = c.args.last in
     let total = writes c.loop-place.port in
     let place = place_of slot c.args.bus c.loop-place.place c.slot_at-slot.ensures in
-    let stood = to_slot (λ b p. IsWalkStanding before b last c.args.start old p c.loop-place.more walk now stood_now) slot c.args.bus c.loop-place.place place c.loop-place.invariant.standing in
+    let stood = to_slot (λ b p. IsWalkStanding (moment before old) (outset b last c.args.spare c.args.start) p c.loop-place.more walk (moment now stood_now)) slot c.args.bus c.loop-place.place place c.loop-place.invariant.standing in
     let opened_few = few_from now (board c.look.new.port) slot (walk.taken + 1) last total (writes c.look.new.port) (writes c.open.new.port) c.in_ok-found.ensures.same c.in_ok-found.ensures.no_more c.in_ok-open.ensures.few in
     let opened_ok = open_ok (board c.look.new.port) now slot (walk.taken + 1) last (history c.look.new.port) stood_now (history c.open.new.port) c.in_ok-found.ensures.same c.in_ok-found.ensures.same_history c.in_ok-open.ensures.stood in
     let behind : Behind c.args.spare now (board c.if-branch.port) slot last walk c.if-branch.walk total (writes c.if-branch.port) old stood_now (history c.if-branch.port) c.in_ok-found.found.more (failures c.args.port.now) (failures c.if-branch.port) = elim c.if-branch.branch [
@@ -334,7 +335,7 @@ returns-in_err-walk-2-clause-stood g t c =
           (is_open now (board c.look.new.port) (board c.open.new.port) slot (walk.taken + 1) last c.in_ok-open.field-0 false c.in_ok-found.ensures.same y.if-branch.false c.in_ok-open.ensures.opened)
           (omega (arith, c.in_ok-open.ensures.counted, c.in_ok-found.ensures.counted, c.loop-place.invariant.counted)))
     ] in
-    subst (λ b. IsBusStood before b last c.args.start old c.from_residual-in_err-walk-2.result (history c.lead_to.new.port)) place.on
-    (stand_left_led before now slot last c.args.start walk old stood_now (history c.open.new.port) c.loop-place.more c.in_ok-found.found place.low c.in_ok-found.ensures.looked c.if-found.true c.if-walk-last.true stood
-    c.args.spare (board c.if-branch.port) c.if-branch.walk behind.begun (history c.if-branch.port) behind.stood (board c.lead_to.new.port) (history c.lead_to.new.port) c.in_err-walk-2.ensures.stood
+    subst (λ b. IsBusStood (moment before old) (outset b last c.args.spare c.args.start) c.from_residual-in_err-walk-2.result (history c.lead_to.new.port)) place.on
+    (stand_left_led c.args.spare before now slot last c.args.start walk old stood_now (history c.open.new.port) c.loop-place.more c.in_ok-found.found place.low c.in_ok-found.ensures.looked c.if-found.true c.if-walk-last.true stood
+    (board c.if-branch.port) c.if-branch.walk behind.begun (history c.if-branch.port) behind.stood (board c.lead_to.new.port) (history c.lead_to.new.port) c.in_err-walk-2.ensures.stood
     c.from_residual-in_err-walk-2.result c.from_residual-in_err-walk-2.ensures.0)
