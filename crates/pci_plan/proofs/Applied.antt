@@ -41,7 +41,7 @@ use Rattle.pci_plan.specs.declared.apply_fault.ApplyFault.TheVariants.{Changed, 
 use Rattle.pci_plan.specs.Writes.{write_value}
 use Rattle.pci_place.specs.Above.{system_in}
 use Rattle.pci_plan.specs.Plans.{PlanValue, IsPlanValue, final_of}
-use Rattle.pci_plan.specs.Comparing.{ShowsAll, IsChangedAt, StartsAs, IsStartFault}
+use Rattle.pci_plan.specs.Comparing.{ShowsAll, IsChangedAt, StartsAs, IsStartFault, moment}
 use Rattle.pci_plan.specs.Making.{IsAccessible, AreReadBack, AreMade, IsStop}
 use Rattle.pci_plan.specs.Applying.{ShowsSystem, AreSound, writes_before, writes_made, AreReadBackUntil, ReadBackBy, HasImages, AreSoundWhileReadBack, IsApplyFault}
 use Rattle.pci_plan.proofs.Compares.{register_access}
@@ -202,7 +202,7 @@ module _ (p : PlanValue) (is : IsPlanValue p) where
       subst (λ slot. ShowsAll targets slot f.image) found.2 (subst (λ image. ShowsAll targets b.slot image) found.3 (starts b found.1))
 
   pub start_fault : (before : List Target) (failures : ℕ) (after : List Target) (failures_after : ℕ) (fault : ApplyFault)
-      → IsStartFault before failures p.start.dump failures_after fault → IsApplyFault before failures s p.writes after failures_after fault
+      → IsStartFault (moment before failures) p.start.dump failures_after fault → IsApplyFault (moment before failures) s p.writes (moment after failures_after) fault
   start_fault before failures after failures_after (Changed at offset) (b, listed, (here, changed)) =
       let found = function_of_block p.start.dump p.start.probe is.admitted.slots b listed in
       let f = found.0 in
@@ -223,14 +223,14 @@ module _ (p : PlanValue) (is : IsPlanValue p) where
   start_fault before failures after failures_after (Stuck done) (b, listed, fault) = absurd fault
 
   pub start_made : (before after : List Target) (failures failures_after : ℕ) (fault : ApplyFault)
-      → IsStartFault before failures p.start.dump failures_after fault → after ≡ before → after ≡ after_writes before (take (writes_before fault) p.writes)
+      → IsStartFault (moment before failures) p.start.dump failures_after fault → after ≡ before → after ≡ after_writes before (take (writes_before fault) p.writes)
   start_made before after failures failures_after (Changed at offset) reason same = same
   start_made before after failures failures_after (Port done) (b, listed, (none_made, refused)) same =
       same ∙ ap (λ n. after_writes before (take n p.writes)) (sym none_made)
   start_made before after failures failures_after (Stuck done) (b, listed, reason) same = absurd reason
 
   pub start_read_back : (before : List Target) (failures failures_after : ℕ) (fault : ApplyFault)
-      → IsStartFault before failures p.start.dump failures_after fault → AreReadBackUntil before failures p.writes failures_after fault
+      → IsStartFault (moment before failures) p.start.dump failures_after fault → AreReadBackUntil (moment before failures) p.writes failures_after fault
   start_read_back before failures failures_after (Changed at offset) reason = tt
   start_read_back before failures failures_after (Port done) (b, listed, (none_made, refused)) = inl none_made
   start_read_back before failures failures_after (Stuck done) (b, listed, reason) = absurd reason
@@ -238,7 +238,7 @@ module _ (p : PlanValue) (is : IsPlanValue p) where
   -- ---- making
 
   pub stop_fault : (before : List Target) (failures : ℕ) (after : List Target) (failures_after : ℕ) (fault : ApplyFault) → ShowsSystem before s
-      → IsStop before failures p.writes after failures_after fault → IsApplyFault before failures s p.writes after failures_after fault
+      → IsStop (moment before failures) p.writes (moment after failures_after) fault → IsApplyFault (moment before failures) s p.writes (moment after failures_after) fault
   stop_fault before failures after failures_after (Changed at offset) shows stop = absurd stop
   stop_fault before failures after failures_after (Port done) shows stop = record {
     within = stop.within;
@@ -260,13 +260,13 @@ module _ (p : PlanValue) (is : IsPlanValue p) where
   }
 
   pub stop_made : (before : List Target) (failures : ℕ) (after : List Target) (failures_after : ℕ) (fault : ApplyFault)
-      → IsStop before failures p.writes after failures_after fault → after ≡ after_writes before (take (writes_before fault) p.writes)
+      → IsStop (moment before failures) p.writes (moment after failures_after) fault → after ≡ after_writes before (take (writes_before fault) p.writes)
   stop_made before failures after failures_after (Changed at offset) stop = absurd stop
   stop_made before failures after failures_after (Port done) stop = stop.made
   stop_made before failures after failures_after (Stuck done) stop = stop.made
 
   pub stop_read_back : (before : List Target) (failures : ℕ) (after : List Target) (failures_after : ℕ) (fault : ApplyFault)
-      → IsStop before failures p.writes after failures_after fault → AreReadBackUntil before failures p.writes failures_after fault
+      → IsStop (moment before failures) p.writes (moment after failures_after) fault → AreReadBackUntil (moment before failures) p.writes failures_after fault
   stop_read_back before failures after failures_after (Changed at offset) stop = absurd stop
   stop_read_back before failures after failures_after (Port done) stop = inr stop.read_back
   stop_read_back before failures after failures_after (Stuck done) stop =
@@ -331,7 +331,7 @@ module _ (p : PlanValue) (is : IsPlanValue p) where
   -- so it is never refused there
   pub none_on_machine : (before : List Target) (failures : ℕ) (after : List Target) (failures_after : ℕ) (fault : ApplyFault)
       → before ≡ map target_of s → failures_after ≡ failures → after ≡ after_writes before (take (writes_before fault) p.writes)
-      → IsApplyFault before failures s p.writes after failures_after fault → ⊥
+      → IsApplyFault (moment before failures) s p.writes (moment after failures_after) fault → ⊥
   none_on_machine before failures after failures_after (Changed at offset) start quiet made reason =
       let f = reason.f in
       let other = reason.changed.other in
@@ -389,21 +389,21 @@ module _ (p : PlanValue) (is : IsPlanValue p) where
   -- ---- by the answer
 
   pub made_by : {T : Type 0} (r : Result T ApplyFault) (items : List CodeWrite) (before : List Target) (failures : ℕ) (after : List Target) (failures_after : ℕ) → map write_value items ≡ p.writes
-      → OnOk r (AreMade before (map write_value items) (length items) after) → IfErr r (IsStop before failures (map write_value items) after failures_after)
+      → OnOk r (AreMade before (map write_value items) (length items) after) → IfErr r (IsStop (moment before failures) (map write_value items) (moment after failures_after))
       → after ≡ after_writes before (take (writes_made p.writes r) p.writes)
   made_by (Ok x) items before failures after failures_after same made stop = (all_made items before after same made).made
   made_by (Err fault) items before failures after failures_after same made stop =
-      stop_made before failures after failures_after fault (subst (λ ws. IsStop before failures ws after failures_after fault) same stop)
+      stop_made before failures after failures_after fault (subst (λ ws. IsStop (moment before failures) ws (moment after failures_after) fault) same stop)
 
   pub read_back_by : {T : Type 0} (r : Result T ApplyFault) (items : List CodeWrite) (before : List Target) (failures : ℕ) (after : List Target) (failures_after : ℕ) → map write_value items ≡ p.writes
-      → OnOk r (AreMade before (map write_value items) (length items) after) → IfErr r (IsStop before failures (map write_value items) after failures_after)
-      → ReadBackBy before failures p.writes failures_after r
+      → OnOk r (AreMade before (map write_value items) (length items) after) → IfErr r (IsStop (moment before failures) (map write_value items) (moment after failures_after))
+      → ReadBackBy (moment before failures) p.writes failures_after r
   read_back_by (Ok x) items before failures after failures_after same made stop = (all_made items before after same made).read_back
   read_back_by (Err fault) items before failures after failures_after same made stop =
-      stop_read_back before failures after failures_after fault (subst (λ ws. IsStop before failures ws after failures_after fault) same stop)
+      stop_read_back before failures after failures_after fault (subst (λ ws. IsStop (moment before failures) ws (moment after failures_after) fault) same stop)
 
   pub ok_on_machine : {T : Type 0} (r : Result T ApplyFault) (before : List Target) (failures : ℕ) (after : List Target) (failures_after : ℕ)
-      → after ≡ after_writes before (take (writes_made p.writes r) p.writes) → IfErr r (IsApplyFault before failures s p.writes after failures_after)
+      → after ≡ after_writes before (take (writes_made p.writes r) p.writes) → IfErr r (IsApplyFault (moment before failures) s p.writes (moment after failures_after))
       → before ≡ map target_of s → failures_after ≡ failures → IsOk r
   ok_on_machine (Ok x) before failures after failures_after made reason start quiet = refl
   ok_on_machine (Err fault) before failures after failures_after made reason start quiet = absurd (none_on_machine before failures after failures_after fault start quiet made reason)

@@ -16,7 +16,7 @@ use Rattle.pci_plan.specs.declared.write.Write.{Write as CodeWrite}
 use Rattle.pci_plan.specs.Writes.{write_value}
 use Rattle.pci_plan.specs.declared.apply_fault.ApplyFault.{ApplyFault}
 use Rattle.pci_plan.specs.declared.apply_fault.ApplyFault.TheVariants.{Changed, Port, Stuck}
-use Rattle.pci_plan.specs.Comparing.{IsRefusedAt}
+use Rattle.pci_plan.specs.Comparing.{IsRefusedAt, moment}
 use Rattle.pci_plan.specs.Making.{IsLastWrite, AreReadBack, AreMade, IsStop}
 
 pub fold_more : (targets : List Target) (ws : List Write) (w : Write) → after_writes targets (ws ++ w ∷ []) ≡ write_targets (after_writes targets ws) w
@@ -86,12 +86,12 @@ module _ (before : List Target) (items : List CodeWrite) (i : ℕ) (within : i <
   gone_before : IsFalse (has_function now w.slot) → IsFalse (has_function before w.slot)
   gone_before none = sym (has_after before (take i ws) w.slot) ∙ ap (λ ts. has_function ts w.slot) (sym made.made) ∙ none
 
-  first_refused : (failures failures_after : ℕ) → IsRefusedAt now failures w.slot failures_after → IsRefusedAt before failures w.slot failures_after
+  first_refused : (failures failures_after : ℕ) → IsRefusedAt (moment now failures) w.slot failures_after → IsRefusedAt (moment before failures) w.slot failures_after
   first_refused failures failures_after (inl rose) = inl rose
   first_refused failures failures_after (inr none) = inr (gone_before none)
 
   -- why this write is the last is why all stop
-  pub stop_at : (after : List Target) (failures failures_after : ℕ) (fault : ApplyFault) → IsLastWrite now failures (write_value w) i after failures_after fault → IsStop before failures ws after failures_after fault
+  pub stop_at : (after : List Target) (failures failures_after : ℕ) (fault : ApplyFault) → IsLastWrite (moment now failures) (write_value w) i (moment after failures_after) fault → IsStop (moment before failures) ws (moment after failures_after) fault
   stop_at after failures failures_after (Changed slot offset) stop = absurd stop
   stop_at after failures failures_after (Port n) (inl (is, same, refused)) = record {
     within = omega (arith, is, within_ws);

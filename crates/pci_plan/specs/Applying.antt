@@ -6,7 +6,7 @@ use Rattle.pci_spec.specs.System.{System, Function}
 use Rattle.pci_spec.specs.Sound.{IsSound}
 use Rattle.pci_spec.specs.Machine.{Target, Write, target_of, after_writes, system_after}
 use Rattle.pci_spec.specs.Port.{has_function}
-use Rattle.pci_plan.specs.Comparing.{ShowsAll, IsChangedAt}
+use Rattle.pci_plan.specs.Comparing.{ShowsAll, IsChangedAt, Moment}
 use Rattle.pci_plan.specs.Making.{AreReadBack, AreReadBackOrFailed, IsShownOtherwise}
 use Rattle.pci_plan.specs.declared.apply_fault.ApplyFault.{ApplyFault}
 use Rattle.pci_plan.specs.declared.apply_fault.ApplyFault.TheVariants.{Changed, Port, Stuck}
@@ -31,20 +31,19 @@ writes_made writes (Err fault) = writes_before fault
 
 -- which writes read back as they were written, each before the next one was made: those before the one that sticks, and
 -- those before an access that failed, where it wasn't one of comparing
-abbrev pub AreReadBackUntil : List Target → ℕ → List Write → ℕ → ApplyFault → Type 0
-AreReadBackUntil before failures writes failures_after (Changed slot offset) = Unit {0}
-AreReadBackUntil before failures writes failures_after (Port done) =
-    (done ≡ 0) ⊎ AreReadBackOrFailed before failures writes failures_after done
-AreReadBackUntil before failures writes failures_after (Stuck done) =
-    AreReadBack before writes (done - 1)
+abbrev pub AreReadBackUntil : Moment → List Write → ℕ → ApplyFault → Type 0
+AreReadBackUntil before writes failures_after (Changed slot offset) = Unit {0}
+AreReadBackUntil before writes failures_after (Port done) =
+    (done ≡ 0) ⊎ AreReadBackOrFailed before writes failures_after done
+AreReadBackUntil before writes failures_after (Stuck done) =
+    AreReadBack before.targets writes (done - 1)
 
 -- or all of them, where none stopped the others
-abbrev pub ReadBackBy : {T : Type 0} → List Target → ℕ → List Write → ℕ → Result T ApplyFault
-    → Type 0
-ReadBackBy before failures writes failures_after (Ok x) =
-    AreReadBack before writes (length writes)
-ReadBackBy before failures writes failures_after (Err fault) =
-    AreReadBackUntil before failures writes failures_after fault
+abbrev pub ReadBackBy : {T : Type 0} → Moment → List Write → ℕ → Result T ApplyFault → Type 0
+ReadBackBy before writes failures_after (Ok x) =
+    AreReadBack before.targets writes (length writes)
+ReadBackBy before writes failures_after (Err fault) =
+    AreReadBackUntil before writes failures_after fault
 
 -- ---- functions of which other bits can be written
 
@@ -83,11 +82,11 @@ LacksFunction before start =
     (f : Function) × Contains start f × IsFalse (has_function before f.slot)
 
 -- an access failed or a function isn't there, while functions were compared or after some writes
-pub record IsCutShort (before : List Target) (failures : ℕ) (start : System) (writes : List Write)
+pub record IsCutShort (before : Moment) (start : System) (writes : List Write)
     (failures_after done : ℕ) : Type 0 where
   pub within : done ≤ length writes
-  pub started : 0 < done → ShowsSystem before start
-  pub cause : (failures < failures_after) ⊎ LacksFunction before start
+  pub started : 0 < done → ShowsSystem before.targets start
+  pub cause : (before.failures < failures_after) ⊎ LacksFunction before.targets start
 
 -- the last write that was made reads back otherwise
 pub record IsReadOtherwise (before : List Target) (start : System) (writes : List Write)
@@ -99,11 +98,10 @@ pub record IsReadOtherwise (before : List Target) (start : System) (writes : Lis
   pub listed : slice_get writes last ≡ Some write
   pub otherwise : IsShownOtherwise after write
 
-abbrev pub IsApplyFault : List Target → ℕ → System → List Write → List Target → ℕ → ApplyFault
-    → Type 0
-IsApplyFault before failures start writes after failures_after (Changed slot offset) =
-    IsChangedFrom before start slot offset
-IsApplyFault before failures start writes after failures_after (Port done) =
-    IsCutShort before failures start writes failures_after done
-IsApplyFault before failures start writes after failures_after (Stuck done) =
-    IsReadOtherwise before start writes after done
+abbrev pub IsApplyFault : Moment → System → List Write → Moment → ApplyFault → Type 0
+IsApplyFault before start writes after (Changed slot offset) =
+    IsChangedFrom before.targets start slot offset
+IsApplyFault before start writes after (Port done) =
+    IsCutShort before start writes after.failures done
+IsApplyFault before start writes after (Stuck done) =
+    IsReadOtherwise before.targets start writes after.targets done

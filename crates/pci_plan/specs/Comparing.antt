@@ -35,33 +35,41 @@ pub record IsChangedAt (targets : List Target) (slot : Slot) (image : List ℕ)
   pub listed : Contains (compared image) (offset, width)
   pub other : ShowsOther targets slot image offset width
 
--- an access failed, or no function is at the slot
-abbrev pub IsRefusedAt : List Target → ℕ → Slot → ℕ → Type 0
-IsRefusedAt targets failures slot failures_after =
-    (failures < failures_after) ⊎ IsFalse (has_function targets slot)
+-- the functions behind a port at a moment, and how many accesses have failed until then
+pub record Moment : Type 0 where
+  pub targets : List Target
+  pub failures : ℕ
 
--- why one register doesn't compare
-abbrev pub IsRegisterFault : List Target → ℕ → Slot → List ℕ → ℕ → ℕ → ℕ → ApplyFault → Type 0
-IsRegisterFault targets failures slot image offset width failures_after (Changed at place) =
-    (at ≡ slot) × (place ≡ offset) × ShowsOther targets slot image offset width
-IsRegisterFault targets failures slot image offset width failures_after (Port done) =
-    (done ≡ 0) × IsRefusedAt targets failures slot failures_after
-IsRegisterFault targets failures slot image offset width failures_after (Stuck done) = ⊥
+abbrev pub moment : List Target → ℕ → Moment
+moment targets failures = record { targets = targets; failures = failures }
+
+-- an access failed, or no function is at the slot
+abbrev pub IsRefusedAt : Moment → Slot → ℕ → Type 0
+IsRefusedAt before slot failures_after =
+    (before.failures < failures_after) ⊎ IsFalse (has_function before.targets slot)
+
+-- why one register, by its offset and width, doesn't compare
+abbrev pub IsRegisterFault : Moment → Slot → List ℕ → ℕ × ℕ → ℕ → ApplyFault → Type 0
+IsRegisterFault before slot image (offset, width) failures_after (Changed at place) =
+    (at ≡ slot) × (place ≡ offset) × ShowsOther before.targets slot image offset width
+IsRegisterFault before slot image (offset, width) failures_after (Port done) =
+    (done ≡ 0) × IsRefusedAt before slot failures_after
+IsRegisterFault before slot image (offset, width) failures_after (Stuck done) = ⊥
 
 -- why a function doesn't
-abbrev pub IsFunctionFault : List Target → ℕ → Slot → List ℕ → ℕ → ApplyFault → Type 0
-IsFunctionFault targets failures slot image failures_after (Changed at offset) =
-    (at ≡ slot) × IsChangedAt targets slot image offset
-IsFunctionFault targets failures slot image failures_after (Port done) =
-    (done ≡ 0) × IsRefusedAt targets failures slot failures_after
-IsFunctionFault targets failures slot image failures_after (Stuck done) = ⊥
+abbrev pub IsFunctionFault : Moment → Slot → List ℕ → ℕ → ApplyFault → Type 0
+IsFunctionFault before slot image failures_after (Changed at offset) =
+    (at ≡ slot) × IsChangedAt before.targets slot image offset
+IsFunctionFault before slot image failures_after (Port done) =
+    (done ≡ 0) × IsRefusedAt before slot failures_after
+IsFunctionFault before slot image failures_after (Stuck done) = ⊥
 
 -- each function shows what its block has
 abbrev pub StartsAs : List Target → List Block → Type 0
 StartsAs targets blocks = (b : Block) → Contains blocks b → ShowsAll targets b.slot b.image
 
 -- why one of them doesn't
-abbrev pub IsStartFault : List Target → ℕ → List Block → ℕ → ApplyFault → Type 0
-IsStartFault targets failures blocks failures_after fault =
+abbrev pub IsStartFault : Moment → List Block → ℕ → ApplyFault → Type 0
+IsStartFault before blocks failures_after fault =
     (b : Block) × Contains blocks b
-    × IsFunctionFault targets failures b.slot b.image failures_after fault
+    × IsFunctionFault before b.slot b.image failures_after fault

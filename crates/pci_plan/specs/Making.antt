@@ -3,7 +3,7 @@ use Rattle.std.specs.Prelude.{◌≡◌, ◌≢◌, ℕ, suc, ◌+◌, ◌<◌, 
 use Rattle.std.specs.List.{Contains}
 use Rattle.pci_spec.specs.Machine.{Target, Write, write_targets, after_writes}
 use Rattle.pci_spec.specs.Port.{is_access, fits, has_function, ShowsNumber}
-use Rattle.pci_plan.specs.Comparing.{IsRefusedAt}
+use Rattle.pci_plan.specs.Comparing.{Moment, IsRefusedAt}
 use Rattle.pci_plan.specs.declared.write.Write.{Write as CodeWrite}
 use Rattle.pci_plan.specs.declared.apply_fault.ApplyFault.{ApplyFault}
 use Rattle.pci_plan.specs.declared.apply_fault.ApplyFault.TheVariants.{Changed, Port, Stuck}
@@ -15,14 +15,15 @@ IsAccessible w = IsTrue (is_access w.off w.width && fits w.width w.value)
 -- ---- one write
 
 -- after so many others it wasn't made, as it was refused
-abbrev pub IsRefused : List Target → ℕ → Write → ℕ → List Target → ℕ → ℕ → Type 0
-IsRefused before failures w done after failures_after n =
-    (n ≡ done) × (after ≡ before) × IsRefusedAt before failures w.slot failures_after
+abbrev pub IsRefused : Moment → Write → ℕ → Moment → ℕ → Type 0
+IsRefused before w done after n =
+    (n ≡ done) × (after.targets ≡ before.targets) × IsRefusedAt before w.slot after.failures
 
 -- or it was made, and reading it back failed
-abbrev pub IsUnread : List Target → ℕ → Write → ℕ → List Target → ℕ → ℕ → Type 0
-IsUnread before failures w done after failures_after n =
-    (n ≡ done + 1) × (after ≡ write_targets before w) × (failures < failures_after)
+abbrev pub IsUnread : Moment → Write → ℕ → Moment → ℕ → Type 0
+IsUnread before w done after n =
+    (n ≡ done + 1) × (after.targets ≡ write_targets before.targets w)
+    × (before.failures < after.failures)
 
 -- it reads back otherwise
 pub record IsShownOtherwise (targets : List Target) (w : Write) : Type 0 where
@@ -31,13 +32,13 @@ pub record IsShownOtherwise (targets : List Target) (w : Write) : Type 0 where
   pub differs : shows ≢ w.value
 
 -- why it is the last, after `done` others: an access failed or the function isn't there, or it reads back otherwise
-abbrev pub IsLastWrite : List Target → ℕ → Write → ℕ → List Target → ℕ → ApplyFault → Type 0
-IsLastWrite before failures w done after failures_after (Changed slot offset) = ⊥
-IsLastWrite before failures w done after failures_after (Port n) =
-    IsRefused before failures w done after failures_after n
-    ⊎ IsUnread before failures w done after failures_after n
-IsLastWrite before failures w done after failures_after (Stuck n) =
-    (n ≡ done + 1) × (after ≡ write_targets before w) × IsShownOtherwise after w
+abbrev pub IsLastWrite : Moment → Write → ℕ → Moment → ApplyFault → Type 0
+IsLastWrite before w done after (Changed slot offset) = ⊥
+IsLastWrite before w done after (Port n) =
+    IsRefused before w done after n ⊎ IsUnread before w done after n
+IsLastWrite before w done after (Stuck n) =
+    (n ≡ done + 1) × (after.targets ≡ write_targets before.targets w)
+    × IsShownOtherwise after.targets w
 
 -- ---- all writes
 
@@ -48,26 +49,26 @@ AreReadBack before writes count =
     → ShowsNumber (after_writes before (take (suc k) writes)) w.slot w.offset w.width w.value
 
 -- the next write was refused: an access failed, or its function isn't there; each before it was read back
-pub record IsNextRefused (before : List Target) (failures : ℕ) (writes : List Write)
+pub record IsNextRefused (before : Moment) (writes : List Write)
     (failures_after done : ℕ) : Type 0 where
   pub next : Write
   pub listed : slice_get writes done ≡ Some next
-  pub read_back : AreReadBack before writes done
-  pub refused : IsRefusedAt before failures next.slot failures_after
+  pub read_back : AreReadBack before.targets writes done
+  pub refused : IsRefusedAt before next.slot failures_after
 
 -- or reading back the last one failed; each before it was read back
-pub record IsLastUnread (before : List Target) (failures : ℕ) (writes : List Write)
+pub record IsLastUnread (before : Moment) (writes : List Write)
     (failures_after done : ℕ) : Type 0 where
   pub last : ℕ
   pub is_last : done ≡ last + 1
-  pub read_back : AreReadBack before writes last
-  pub failed : failures < failures_after
+  pub read_back : AreReadBack before.targets writes last
+  pub failed : before.failures < failures_after
 
 -- which of the first writes were read back where an access ended them
-abbrev pub AreReadBackOrFailed : List Target → ℕ → List Write → ℕ → ℕ → Type 0
-AreReadBackOrFailed before failures writes failures_after done =
-    IsNextRefused before failures writes failures_after done
-    ⊎ IsLastUnread before failures writes failures_after done
+abbrev pub AreReadBackOrFailed : Moment → List Write → ℕ → ℕ → Type 0
+AreReadBackOrFailed before writes failures_after done =
+    IsNextRefused before writes failures_after done
+    ⊎ IsLastUnread before writes failures_after done
 
 -- the first writes were made, and each was read back
 pub record AreMade (before : List Target) (writes : List Write) (count : ℕ)
@@ -77,17 +78,17 @@ pub record AreMade (before : List Target) (writes : List Write) (count : ℕ)
   pub read_back : AreReadBack before writes count
 
 -- an access failed, or the function of a write isn't there
-abbrev pub IsPortCause : List Target → ℕ → List Write → ℕ → Type 0
-IsPortCause before failures writes failures_after =
-    (failures < failures_after)
-    ⊎ ((w : Write) × Contains writes w × IsFalse (has_function before w.slot))
+abbrev pub IsPortCause : Moment → List Write → ℕ → Type 0
+IsPortCause before writes failures_after =
+    (before.failures < failures_after)
+    ⊎ ((w : Write) × Contains writes w × IsFalse (has_function before.targets w.slot))
 
-pub record IsPortStop (before : List Target) (failures : ℕ) (writes : List Write)
-    (after : List Target) (failures_after done : ℕ) : Type 0 where
+pub record IsPortStop (before : Moment) (writes : List Write) (after : Moment)
+    (done : ℕ) : Type 0 where
   pub within : done ≤ length writes
-  pub made : after ≡ after_writes before (take done writes)
-  pub read_back : AreReadBackOrFailed before failures writes failures_after done
-  pub cause : IsPortCause before failures writes failures_after
+  pub made : after.targets ≡ after_writes before.targets (take done writes)
+  pub read_back : AreReadBackOrFailed before writes after.failures done
+  pub cause : IsPortCause before writes after.failures
 
 -- the last write that was made reads back otherwise
 pub record IsStuckStop (before : List Target) (writes : List Write) (after : List Target)
@@ -100,9 +101,8 @@ pub record IsStuckStop (before : List Target) (writes : List Write) (after : Lis
   pub read_back : AreReadBack before writes last
   pub otherwise : IsShownOtherwise after write
 
-abbrev pub IsStop : List Target → ℕ → List Write → List Target → ℕ → ApplyFault → Type 0
-IsStop before failures writes after failures_after (Changed slot offset) = ⊥
-IsStop before failures writes after failures_after (Port done) =
-    IsPortStop before failures writes after failures_after done
-IsStop before failures writes after failures_after (Stuck done) =
-    IsStuckStop before writes after done
+abbrev pub IsStop : Moment → List Write → Moment → ApplyFault → Type 0
+IsStop before writes after (Changed slot offset) = ⊥
+IsStop before writes after (Port done) = IsPortStop before writes after done
+IsStop before writes after (Stuck done) =
+    IsStuckStop before.targets writes after.targets done

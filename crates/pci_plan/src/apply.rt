@@ -3,6 +3,7 @@ ghost use Rattle.std.specs.Prelude.{◌≡◌, ◌≤◌, ◌⊎◌, map, take, 
 ghost use Rattle.pci_spec.specs.Sound.{IsSound};
 ghost use Rattle.pci_spec.specs.Machine.{target_of, after_writes};
 ghost use Rattle.pci_place.specs.Above.{system_in};
+ghost use Rattle.pci_plan.specs.Comparing.{moment};
 ghost use Rattle.pci_plan.specs.Plans.{final_of};
 ghost use Rattle.pci_plan.specs.Applying.{ShowsSystem, AreSound, writes_made, ReadBackBy, HasImages, AreSoundWhileReadBack, IsApplyFault};
 
@@ -39,11 +40,12 @@ pub fn apply<P: ConfigPort, A: Allocator>(
     ensures started { OnOk result (ShowsSystem (P.targets port.old) (system_in plan.now.start)) }
     ensures ended { OnOk result (ShowsSystem (P.targets port.new) (final_of plan.now)) }
     // so nothing is moved beside a function that stays on, though its Command is written again later
-    ensures read_back { ReadBackBy (P.targets port.old) (P.failures port.old) plan.now.writes
-        (P.failures port.new) result }
+    ensures read_back { ReadBackBy (moment (P.targets port.old) (P.failures port.old))
+        plan.now.writes (P.failures port.new) result }
     ensures counted { OnOk result (P.failures port.new ≡ P.failures port.old) }
-    ensures fault { IfErr result (IsApplyFault (P.targets port.old) (P.failures port.old)
-        (system_in plan.now.start) plan.now.writes (P.targets port.new) (P.failures port.new)) }
+    ensures fault { IfErr result (IsApplyFault (moment (P.targets port.old) (P.failures port.old))
+        (system_in plan.now.start) plan.now.writes
+        (moment (P.targets port.new) (P.failures port.new))) }
     // where the machine is as it was read, only its port can stop a plan
     ensures own_machine { P.targets port.old ≡ map target_of (system_in plan.now.start)
         → P.failures port.new ≡ P.failures port.old → IsOk result }

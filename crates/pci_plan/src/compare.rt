@@ -2,7 +2,7 @@
 ghost use Rattle.std.specs.Prelude.{◌≡◌, IsTrue, OnOk, IfErr};
 ghost use Rattle.pci_spec.specs.Number.{number_at};
 ghost use Rattle.pci_spec.specs.Port.{is_access, ShowsNumber};
-ghost use Rattle.pci_plan.specs.Comparing.{ShowsAll, StartsAs, IsRegisterFault, IsFunctionFault, IsStartFault};
+ghost use Rattle.pci_plan.specs.Comparing.{ShowsAll, StartsAs, IsRegisterFault, IsFunctionFault, IsStartFault, moment};
 
 use super::apply_fault::ApplyFault;
 use pci_base::image::Image;
@@ -26,8 +26,9 @@ fn compare_register<P: ConfigPort>(
     ensures shown { OnOk result
         (ShowsNumber (P.targets port.old) slot offset width (number_at image.now.0 offset width)) }
     ensures counted { OnOk result (P.failures port.new ≡ P.failures port.old) }
-    ensures fault { IfErr result (IsRegisterFault (P.targets port.old)
-        (P.failures port.old) slot image.now.0 offset width (P.failures port.new)) }
+    ensures fault { IfErr result
+        (IsRegisterFault (moment (P.targets port.old) (P.failures port.old)) slot image.now.0
+        (offset, width) (P.failures port.new)) }
 {
     match port.read(slot, offset, width) {
         Ok(value) => {
@@ -50,8 +51,9 @@ fn compare_function<P: ConfigPort>(
     ensures same { P.targets port.new ≡ P.targets port.old }
     ensures shown { OnOk result (ShowsAll (P.targets port.old) slot image.now.0) }
     ensures counted { OnOk result (P.failures port.new ≡ P.failures port.old) }
-    ensures fault { IfErr result (IsFunctionFault (P.targets port.old)
-        (P.failures port.old) slot image.now.0 (P.failures port.new)) }
+    ensures fault { IfErr result
+        (IsFunctionFault (moment (P.targets port.old) (P.failures port.old)) slot image.now.0
+        (P.failures port.new)) }
 {
     compare_register(port, slot, image, COMMAND, 2)?;
     for register in address_registers(Layout::or_device(image)) {
@@ -68,7 +70,8 @@ pub fn compare<P: ConfigPort>(port: &mut P, blocks: &[Block]) -> Result<(), Appl
     ensures started { OnOk result (StartsAs (P.targets port.old) blocks.now) }
     ensures counted { OnOk result (P.failures port.new ≡ P.failures port.old) }
     ensures fault { IfErr result
-        (IsStartFault (P.targets port.old) (P.failures port.old) blocks.now (P.failures port.new)) }
+        (IsStartFault (moment (P.targets port.old) (P.failures port.old)) blocks.now
+        (P.failures port.new)) }
 {
     for block in blocks {
         compare_function(port, block.slot, &block.image)?;

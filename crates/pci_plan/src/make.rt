@@ -3,6 +3,7 @@ ghost use Rattle.std.specs.Prelude.{◌≡◌, ◌<◌, ◌^◌, map, length, On
 ghost use Rattle.std.specs.List.{All};
 ghost use Rattle.pci_spec.specs.Machine.{write_targets};
 ghost use Rattle.pci_spec.specs.Port.{ShowsNumber};
+ghost use Rattle.pci_plan.specs.Comparing.{moment};
 ghost use Rattle.pci_plan.specs.Writes.{write_value};
 ghost use Rattle.pci_plan.specs.Making.{IsAccessible, IsLastWrite, AreMade, IsStop};
 
@@ -19,8 +20,8 @@ fn make_one<P: ConfigPort>(port: &mut P, write: Write, done: usize) -> Result<()
     ensures shown { OnOk result
         (ShowsNumber (P.targets port.new) write.slot write.off write.width write.value) }
     ensures counted { OnOk result (P.failures port.new ≡ P.failures port.old) }
-    ensures stop { IfErr result (IsLastWrite (P.targets port.old) (P.failures port.old)
-        (write_value write) done (P.targets port.new) (P.failures port.new)) }
+    ensures stop { IfErr result (IsLastWrite (moment (P.targets port.old) (P.failures port.old))
+        (write_value write) done (moment (P.targets port.new) (P.failures port.new))) }
 {
     match port.write(write.slot, write.off, write.width, write.value) {
         Ok(()) => {}
@@ -46,8 +47,8 @@ pub fn make<P: ConfigPort>(port: &mut P, writes: &[Write]) -> Result<(), ApplyFa
     ensures made { OnOk result (AreMade (P.targets port.old) (map write_value writes.now)
         (length writes.now) (P.targets port.new)) }
     ensures counted { OnOk result (P.failures port.new ≡ P.failures port.old) }
-    ensures stop { IfErr result (IsStop (P.targets port.old) (P.failures port.old)
-        (map write_value writes.now) (P.targets port.new) (P.failures port.new)) }
+    ensures stop { IfErr result (IsStop (moment (P.targets port.old) (P.failures port.old))
+        (map write_value writes.now) (moment (P.targets port.new) (P.failures port.new))) }
 {
     for (done, write) in writes.iter().enumerate() {
         make_one(port, *write, done)?;

@@ -12,7 +12,7 @@ use Rattle.pci_plan.specs.declared.write.Write.{Write as CodeWrite}
 use Rattle.pci_plan.specs.declared.apply_fault.ApplyFault.{ApplyFault}
 use Rattle.pci_plan.specs.Writes.{write_value}
 use Rattle.pci_plan.specs.Plans.{PlanValue, IsPlanValue, final_of}
-use Rattle.pci_plan.specs.Comparing.{IsStartFault}
+use Rattle.pci_plan.specs.Comparing.{IsStartFault, moment}
 use Rattle.pci_plan.specs.Making.{IsAccessible, AreMade, IsStop}
 use Rattle.pci_plan.specs.Applying.{ShowsSystem, AreSound, writes_made, ReadBackBy, IsApplyFault}
 use Rattle.pci_plan.proofs.Applied.{accesses, shows_start, start_fault, start_made, start_read_back, stop_fault, stop_made, stop_read_back, all_made, shows_final, ok_on_machine, left_sound}
@@ -31,18 +31,18 @@ pub record IsRun (compares : List Write) (items : List CodeWrite) (before : List
     (r : Result (Unit {0}) ApplyFault) : Type 0 where
   pub compared : OnOk r (AreAllShown before compares)
   pub made : OnOk r (AreMade before (map write_value items) (length items) after)
-  pub stopped : IfErr r (AreStopped before failures compares (map write_value items) after failures_after)
+  pub stopped : IfErr r (AreStopped (moment before failures) compares (map write_value items) (moment after failures_after))
 
 module _ (p : PlanValue) (is : IsPlanValue p) (compares : List Write) (start : compares ≡ all_shown p.start.dump) (items : List CodeWrite) (same : map write_value items ≡ p.writes)
     (before : List Target) (failures : ℕ) (after : List Target) (failures_after : ℕ) where
   abbrev Ran : Result (Unit {0}) ApplyFault → Type 0
   Ran r = IsRun compares items before failures after failures_after r
 
-  reason_of : (fault : ApplyFault) → IsCompareStop before failures compares after failures_after fault → IsStartFault before failures p.start.dump failures_after fault
-  reason_of fault stop = start_fault_of p.start.dump before failures after failures_after fault (subst (λ cs. IsCompareStop before failures cs after failures_after fault) start stop)
+  reason_of : (fault : ApplyFault) → IsCompareStop (moment before failures) compares (moment after failures_after) fault → IsStartFault (moment before failures) p.start.dump failures_after fault
+  reason_of fault stop = start_fault_of p.start.dump before failures after failures_after fault (subst (λ cs. IsCompareStop (moment before failures) cs (moment after failures_after) fault) start stop)
 
-  stop_of : (fault : ApplyFault) → IsStop before failures (map write_value items) after failures_after fault → IsStop before failures p.writes after failures_after fault
-  stop_of fault stop = subst (λ ws. IsStop before failures ws after failures_after fault) same stop
+  stop_of : (fault : ApplyFault) → IsStop (moment before failures) (map write_value items) (moment after failures_after) fault → IsStop (moment before failures) p.writes (moment after failures_after) fault
+  stop_of fault stop = subst (λ ws. IsStop (moment before failures) ws (moment after failures_after) fault) same stop
 
   shows : AreAllShown before compares → ShowsSystem before (system_in p.start)
   shows shown = shows_start p is before (starts_as p.start.dump before (subst (AreAllShown before) start shown))
@@ -62,14 +62,14 @@ module _ (p : PlanValue) (is : IsPlanValue p) (compares : List Write) (start : c
     | inr stop ↦ stop_made p is before failures after failures_after fault (stop_of fault stop.stop)
   ]
 
-  pub ran_read_back : (r : Result (Unit {0}) ApplyFault) → Ran r → ReadBackBy before failures p.writes failures_after r
+  pub ran_read_back : (r : Result (Unit {0}) ApplyFault) → Ran r → ReadBackBy (moment before failures) p.writes failures_after r
   ran_read_back (Ok x) run = (all_made p is items before after same run.made).read_back
   ran_read_back (Err fault) run = elim run.stopped [
     | inl stop ↦ start_read_back p is before failures failures_after fault (reason_of fault stop)
     | inr stop ↦ stop_read_back p is before failures after failures_after fault (stop_of fault stop.stop)
   ]
 
-  pub ran_fault : (r : Result (Unit {0}) ApplyFault) → Ran r → IfErr r (IsApplyFault before failures (system_in p.start) p.writes after failures_after)
+  pub ran_fault : (r : Result (Unit {0}) ApplyFault) → Ran r → IfErr r (IsApplyFault (moment before failures) (system_in p.start) p.writes (moment after failures_after))
   ran_fault (Ok x) run = tt
   ran_fault (Err fault) run = elim run.stopped [
     | inl stop ↦ start_fault p is before failures after failures_after fault (reason_of fault stop)

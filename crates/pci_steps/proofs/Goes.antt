@@ -6,6 +6,7 @@ use Rattle.std.specs.declared.result.Result.TheVariants.{Ok, Err}
 use Rattle.std.proofs.lemmas.Bool.{cases_Bool, cond-true, cond-false, eqb-true, eqb-false}
 use Rattle.pci_spec.specs.Machine.{Target, Write}
 use Rattle.pci_spec.specs.Port.{ShowsNumber}
+use Rattle.pci_plan.specs.Comparing.{moment}
 use Rattle.pci_plan.specs.declared.apply_fault.ApplyFault.{ApplyFault}
 use Rattle.pci_plan.specs.declared.apply_fault.ApplyFault.TheVariants.{Changed, Port, Stuck}
 use Rattle.pci_steps.specs.declared.step.Kind.{Kind}
@@ -36,7 +37,7 @@ module _ (before : List Target) (failures : ℕ) (w : Write) (done : ℕ) (after
   abbrev step_of : Kind → Step
   step_of kind = record { kind = kind; register = w; done = done }
 
-  pub goes_on : (kind : Kind) (shown : Option ℕ) (r : Result (Unit {0}) ApplyFault) → Answers kind before failures w shown after failures_after → r ≡ judged (step_of kind) shown
+  pub goes_on : (kind : Kind) (shown : Option ℕ) (r : Result (Unit {0}) ApplyFault) → Answers kind (moment before failures) w shown (moment after failures_after) → r ≡ judged (step_of kind) shown
       → OnOk r (GoesOn before kind w after)
   goes_on kind shown (Err f) a e = tt
   goes_on Compare None (Ok x) a e = absurd (let bad : ⊥ = cc in bad)
@@ -46,7 +47,7 @@ module _ (before : List Target) (failures : ℕ) (w : Write) (done : ℕ) (after
   goes_on ReadBack None (Ok x) a e = absurd (let bad : ⊥ = cc in bad)
   goes_on ReadBack (Some n) (Ok x) a e = (a.same, subst (λ m. ShowsNumber before w.slot w.offset w.width m) (same_where_ok n w.value (Stuck done) e) a.shows.0)
 
-  pub goes_quietly : (kind : Kind) (shown : Option ℕ) (r : Result (Unit {0}) ApplyFault) → Answers kind before failures w shown after failures_after → r ≡ judged (step_of kind) shown
+  pub goes_quietly : (kind : Kind) (shown : Option ℕ) (r : Result (Unit {0}) ApplyFault) → Answers kind (moment before failures) w shown (moment after failures_after) → r ≡ judged (step_of kind) shown
       → OnOk r (failures_after ≡ failures)
   goes_quietly kind shown (Err f) a e = tt
   goes_quietly Compare None (Ok x) a e = absurd (let bad : ⊥ = cc in bad)
@@ -58,7 +59,7 @@ module _ (before : List Target) (failures : ℕ) (w : Write) (done : ℕ) (after
 
   -- ---- where it is the last one
 
-  pub keeps : (kind : Kind) (shown : Option ℕ) (r : Result (Unit {0}) ApplyFault) → Answers kind before failures w shown after failures_after → r ≡ judged (step_of kind) shown
+  pub keeps : (kind : Kind) (shown : Option ℕ) (r : Result (Unit {0}) ApplyFault) → Answers kind (moment before failures) w shown (moment after failures_after) → r ≡ judged (step_of kind) shown
       → OnErr r (after ≡ before)
   keeps kind shown (Ok x) a e = tt
   keeps Compare shown (Err f) a e = a.same
@@ -66,22 +67,22 @@ module _ (before : List Target) (failures : ℕ) (w : Write) (done : ℕ) (after
   keeps Make (Some n) (Err f) a e = absurd (let bad : ⊥ = cc in bad)
   keeps ReadBack shown (Err f) a e = a.same
 
-  pub ends : (kind : Kind) (shown : Option ℕ) (r : Result (Unit {0}) ApplyFault) → Answers kind before failures w shown after failures_after → r ≡ judged (step_of kind) shown
-      → IfErr r (IsStepFault kind before failures w done failures_after)
+  pub ends : (kind : Kind) (shown : Option ℕ) (r : Result (Unit {0}) ApplyFault) → Answers kind (moment before failures) w shown (moment after failures_after) → r ≡ judged (step_of kind) shown
+      → IfErr r (IsStepFault kind (moment before failures) w done failures_after)
   ends kind shown (Ok x) a e = tt
   ends Compare None (Err f) a e =
       let is : f ≡ Port done = cc in
-      subst (IsStepFault Compare before failures w done failures_after) (sym is) (refl, a.shows)
+      subst (IsStepFault Compare (moment before failures) w done failures_after) (sym is) (refl, a.shows)
   ends Compare (Some n) (Err f) a e =
       let other = fault_where_err n w.value (Changed w.slot w.offset) f e in
-      subst (IsStepFault Compare before failures w done failures_after) (sym other.0) (refl, refl, record { shows = n; shown = a.shows.0; differs = other.1 })
+      subst (IsStepFault Compare (moment before failures) w done failures_after) (sym other.0) (refl, refl, record { shows = n; shown = a.shows.0; differs = other.1 })
   ends Make None (Err f) a e =
       let is : f ≡ Port done = cc in
-      subst (IsStepFault Make before failures w done failures_after) (sym is) (refl, a.1)
+      subst (IsStepFault Make (moment before failures) w done failures_after) (sym is) (refl, a.1)
   ends Make (Some n) (Err f) a e = absurd (let bad : ⊥ = cc in bad)
   ends ReadBack None (Err f) a e =
       let is : f ≡ Port done = cc in
-      subst (IsStepFault ReadBack before failures w done failures_after) (sym is) (refl, a.shows)
+      subst (IsStepFault ReadBack (moment before failures) w done failures_after) (sym is) (refl, a.shows)
   ends ReadBack (Some n) (Err f) a e =
       let other = fault_where_err n w.value (Stuck done) f e in
-      subst (IsStepFault ReadBack before failures w done failures_after) (sym other.0) (refl, record { shows = n; shown = a.shows.0; differs = other.1 })
+      subst (IsStepFault ReadBack (moment before failures) w done failures_after) (sym other.0) (refl, record { shows = n; shown = a.shows.0; differs = other.1 })

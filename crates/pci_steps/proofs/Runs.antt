@@ -9,7 +9,7 @@ use Rattle.pci_spec.specs.Machine.{Target, Write, write_targets, after_writes}
 use Rattle.pci_spec.specs.Port.{has_function, is_access, fits, ShowsNumber}
 use Rattle.pci_plan.specs.declared.apply_fault.ApplyFault.{ApplyFault}
 use Rattle.pci_plan.specs.declared.apply_fault.ApplyFault.TheVariants.{Changed, Port, Stuck}
-use Rattle.pci_plan.specs.Comparing.{IsRefusedAt}
+use Rattle.pci_plan.specs.Comparing.{IsRefusedAt, moment}
 use Rattle.pci_plan.specs.Making.{AreMade, IsStop}
 use Rattle.pci_plan.proofs.Makes.{fold_more, has_after, has_after_one}
 use Rattle.pci_steps.specs.Steps.{Step, steps_of}
@@ -164,12 +164,12 @@ module _ (before : List Target) (cs ws : List Write) where
   gone_before i now slot made none = sym (has_after before (take i ws) slot) ∙ ap (λ ts. has_function ts slot) (sym made.made) ∙ none
 
   write_stop : (failures failures_after i : ℕ) (w : Write) (now after : List Target) (fault : ApplyFault) → slice_get ws i ≡ Some w → AreMade before ws i now → after ≡ now
-      → IsWriteFault now failures w i failures_after fault → IsStop before failures ws after failures_after fault
+      → IsWriteFault (moment now failures) w i failures_after fault → IsStop (moment before failures) ws (moment after failures_after) fault
   write_stop failures failures_after i w now after (Changed slot offset) at made same reason = absurd reason
   write_stop failures failures_after i w now after (Stuck count) at made same reason = absurd reason
   write_stop failures failures_after i w now after (Port count) at made same (is, refused) =
       let within = slice_get_within ws i w at in
-      let refused_before : IsRefusedAt before failures w.slot failures_after = elim refused [ inl rose ↦ inl rose | inr none ↦ inr (gone_before i now w.slot made none) ] in
+      let refused_before : IsRefusedAt (moment before failures) w.slot failures_after = elim refused [ inl rose ↦ inl rose | inr none ↦ inr (gone_before i now w.slot made none) ] in
       record {
         within = omega (arith, is, within);
         made = same ∙ made.made ∙ ap (λ k. after_writes before (take k ws)) (sym is);
@@ -183,7 +183,7 @@ module _ (before : List Target) (cs ws : List Write) where
       }
 
   read_back_stop : (failures failures_after i : ℕ) (w : Write) (earlier now after : List Target) (fault : ApplyFault) → slice_get ws i ≡ Some w → AreMade before ws i earlier → now ≡ write_targets earlier w
-      → has_function earlier w.slot ≡ true → after ≡ now → IsReadBackFault now failures w (suc i) failures_after fault → IsStop before failures ws after failures_after fault
+      → has_function earlier w.slot ≡ true → after ≡ now → IsReadBackFault (moment now failures) w (suc i) failures_after fault → IsStop (moment before failures) ws (moment after failures_after) fault
   read_back_stop failures failures_after i w earlier now after (Changed slot offset) at made now_is there same reason = absurd reason
   read_back_stop failures failures_after i w earlier now after (Port count) at made now_is there same (is, refused) =
       let within = slice_get_within ws i w at in
@@ -211,9 +211,9 @@ module _ (before : List Target) (cs ws : List Write) where
       }
 
   pub stops : (failures failures_after n : ℕ) (step : Step) (now after : List Target) (fault : ApplyFault) → IsGoing n now → IsStepAt cs ws n step → after ≡ now
-      → IsStepFault step.kind now failures step.register step.done failures_after fault → AreStopped before failures cs ws after failures_after fault
+      → IsStepFault step.kind (moment now failures) step.register step.done failures_after fault → AreStopped (moment before failures) cs ws (moment after failures_after) fault
   stops failures failures_after n step now after fault going (inl c) same reason =
-      let reason_so : IsNumberFault now failures c.register 0 failures_after fault = subst (λ (s : Step). IsStepFault s.kind now failures s.register s.done failures_after fault) c.is reason in
+      let reason_so : IsNumberFault (moment now failures) c.register 0 failures_after fault = subst (λ (s : Step). IsStepFault s.kind (moment now failures) s.register s.done failures_after fault) c.is reason in
       let within = c.within in
       elim going.phase [
         | inl (less, start) ↦ inl record {
@@ -222,13 +222,13 @@ module _ (before : List Target) (cs ws : List Write) where
           register = c.register;
           listed = c.listed;
           earlier = going.shown;
-          reason = subst (λ ts. IsNumberFault ts failures c.register 0 failures_after fault) start reason_so;
+          reason = subst (λ ts. IsNumberFault (moment ts failures) c.register 0 failures_after fault) start reason_so;
         }
         | inr (inl b) ↦ (let place = b.place in absurd (let bad : ⊥ = omega (arith, place, within) in bad))
         | inr (inr w) ↦ (let place = w.place in absurd (let bad : ⊥ = omega (arith, place, within) in bad))
       ]
   stops failures failures_after n step now after fault going (inr (inl m)) same reason =
-      let reason_so : IsWriteFault now failures m.register m.index failures_after fault = subst (λ (s : Step). IsStepFault s.kind now failures s.register s.done failures_after fault) m.is reason in
+      let reason_so : IsWriteFault (moment now failures) m.register m.index failures_after fault = subst (λ (s : Step). IsStepFault s.kind (moment now failures) s.register s.done failures_after fault) m.is reason in
       let at = m.place in
       elim going.phase [
         | inl (less, start) ↦ absurd (let bad : ⊥ = omega (arith, at, less) in bad)
@@ -242,7 +242,7 @@ module _ (before : List Target) (cs ws : List Write) where
         | inr (inr w) ↦ (let place = w.place in absurd (let bad : ⊥ = omega (arith, place, at) in bad))
       ]
   stops failures failures_after n step now after fault going (inr (inr r)) same reason =
-      let reason_so : IsReadBackFault now failures r.register (suc r.index) failures_after fault = subst (λ (s : Step). IsStepFault s.kind now failures s.register s.done failures_after fault) r.is reason in
+      let reason_so : IsReadBackFault (moment now failures) r.register (suc r.index) failures_after fault = subst (λ (s : Step). IsStepFault s.kind (moment now failures) s.register s.done failures_after fault) r.is reason in
       let at = r.place in
       elim going.phase [
         | inl (less, start) ↦ absurd (let bad : ⊥ = omega (arith, at, less) in bad)

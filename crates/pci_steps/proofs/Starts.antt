@@ -8,7 +8,7 @@ use Rattle.pci_spec.specs.Machine.{Target, Write}
 use Rattle.pci_spec.proofs.Members.{IsMade, in_map_to, in_map_from, IsInPiece, in_flat_map_to, in_flat_map_from}
 use Rattle.pci_plan.specs.declared.apply_fault.ApplyFault.{ApplyFault}
 use Rattle.pci_plan.specs.declared.apply_fault.ApplyFault.TheVariants.{Changed, Port, Stuck}
-use Rattle.pci_plan.specs.Comparing.{compared, IsChangedAt, IsFunctionFault, StartsAs, IsStartFault}
+use Rattle.pci_plan.specs.Comparing.{compared, IsChangedAt, IsFunctionFault, StartsAs, IsStartFault, moment}
 use Rattle.pci_plan.proofs.Compares.{register_access}
 use Rattle.pci_steps.specs.Steps.{shown_by, all_shown}
 use Rattle.pci_steps.specs.Going.{IsReadable, IsNumberFault, AreAllShown, IsCompareStop}
@@ -43,7 +43,7 @@ starts_as blocks targets shown = λ b listed r compares.
     shown has.0 (shown_at b r) has.1 (slice_get-get_or (all_shown blocks) has.0 (shown_at b r) has.1 ∙ ap Some has.2)
 
 number_fault : (targets : List Target) (failures : ℕ) (b : Block) (r : ℕ × ℕ) (failures_after : ℕ) (fault : ApplyFault) → Contains (compared b.image) r
-    → IsNumberFault targets failures (shown_at b r) 0 failures_after fault → IsFunctionFault targets failures b.slot b.image failures_after fault
+    → IsNumberFault (moment targets failures) (shown_at b r) 0 failures_after fault → IsFunctionFault (moment targets failures) b.slot b.image failures_after fault
 number_fault targets failures b r failures_after (Changed slot offset) listed (here, place, other) = (
   here,
   subst (IsChangedAt targets b.slot b.image) (sym place) record {
@@ -57,9 +57,9 @@ number_fault targets failures b r failures_after (Stuck done) listed reason = ab
 
 -- why comparing ended
 pub start_fault_of : (blocks : List Block) (before : List Target) (failures : ℕ) (after : List Target) (failures_after : ℕ) (fault : ApplyFault)
-    → IsCompareStop before failures (all_shown blocks) after failures_after fault → IsStartFault before failures blocks failures_after fault
+    → IsCompareStop (moment before failures) (all_shown blocks) (moment after failures_after) fault → IsStartFault (moment before failures) blocks failures_after fault
 start_fault_of blocks before failures after failures_after fault stop =
     let has : Contains (all_shown blocks) stop.register =
     (stop.place, slice_get_within (all_shown blocks) stop.place stop.register stop.listed, get_or_from_slice_get (all_shown blocks) stop.place stop.register stop.register stop.listed) in
     let o = of_block blocks stop.register has in
-    (o.b, o.listed, number_fault before failures o.b o.r failures_after fault o.compares (subst (λ w. IsNumberFault before failures w 0 failures_after fault) (sym o.is) stop.reason))
+    (o.b, o.listed, number_fault before failures o.b o.r failures_after fault o.compares (subst (λ w. IsNumberFault (moment before failures) w 0 failures_after fault) (sym o.is) stop.reason))

@@ -2,7 +2,7 @@
 use Rattle.std.specs.Prelude.{◌≡◌, ℕ, ◌<◌, ◌⊎◌, ◌&&◌, IsTrue, Option, Some, MatchOption, List, length, slice_get}
 use Rattle.pci_spec.specs.Machine.{Target, Write, write_targets}
 use Rattle.pci_spec.specs.Port.{is_access, fits, has_function, ShowsNumber}
-use Rattle.pci_plan.specs.Comparing.{IsRefusedAt}
+use Rattle.pci_plan.specs.Comparing.{Moment, IsRefusedAt}
 use Rattle.pci_plan.specs.Making.{IsShownOtherwise, IsStop}
 use Rattle.pci_plan.specs.declared.apply_fault.ApplyFault.{ApplyFault}
 use Rattle.pci_plan.specs.declared.apply_fault.ApplyFault.TheVariants.{Changed, Port, Stuck}
@@ -31,33 +31,30 @@ IsTaken ReadBack w = IsReadable w
 -- ---- one step
 
 -- a register that is read shows this, or the access failed; nothing has changed
-pub record Reads (before : List Target) (failures : ℕ) (w : Write) (shown : Option ℕ)
-    (after : List Target) (failures_after : ℕ) : Type 0 where
-  pub same : after ≡ before
-  pub shows : MatchOption shown (IsRefusedAt before failures w.slot failures_after)
-      (λ n. ShowsNumber before w.slot w.offset w.width n × (failures_after ≡ failures))
+pub record Reads (before : Moment) (w : Write) (shown : Option ℕ) (after : Moment) : Type 0 where
+  pub same : after.targets ≡ before.targets
+  pub shows : MatchOption shown (IsRefusedAt before w.slot after.failures)
+      (λ n. ShowsNumber before.targets w.slot w.offset w.width n
+      × (after.failures ≡ before.failures))
 
 -- the function is there, and takes the number
-pub record IsWritten (before : List Target) (failures : ℕ) (w : Write) (after : List Target)
-    (failures_after : ℕ) : Type 0 where
-  pub made : after ≡ write_targets before w
-  pub there : IsTrue (has_function before w.slot)
-  pub counted : failures_after ≡ failures
+pub record IsWritten (before : Moment) (w : Write) (after : Moment) : Type 0 where
+  pub made : after.targets ≡ write_targets before.targets w
+  pub there : IsTrue (has_function before.targets w.slot)
+  pub counted : after.failures ≡ before.failures
 
 -- a register takes its number, or the access failed and has changed nothing
-abbrev pub Writes : List Target → ℕ → Write → Option ℕ → List Target → ℕ → Type 0
-Writes before failures w shown after failures_after =
-    MatchOption shown ((after ≡ before) × IsRefusedAt before failures w.slot failures_after)
-    (λ _. IsWritten before failures w after failures_after)
+abbrev pub Writes : Moment → Write → Option ℕ → Moment → Type 0
+Writes before w shown after =
+    MatchOption shown
+    ((after.targets ≡ before.targets) × IsRefusedAt before w.slot after.failures)
+    (λ _. IsWritten before w after)
 
 -- the access of a step showed this
-abbrev pub Answers : Kind → List Target → ℕ → Write → Option ℕ → List Target → ℕ → Type 0
-Answers Compare before failures w shown after failures_after =
-    Reads before failures w shown after failures_after
-Answers Make before failures w shown after failures_after =
-    Writes before failures w shown after failures_after
-Answers ReadBack before failures w shown after failures_after =
-    Reads before failures w shown after failures_after
+abbrev pub Answers : Kind → Moment → Write → Option ℕ → Moment → Type 0
+Answers Compare before w shown after = Reads before w shown after
+Answers Make before w shown after = Writes before w shown after
+Answers ReadBack before w shown after = Reads before w shown after
 
 -- a register that is read shows its number, and nothing has changed
 abbrev pub IsShown : List Target → Write → List Target → Type 0
@@ -72,36 +69,36 @@ GoesOn before Make w after =
 GoesOn before ReadBack w after = IsShown before w after
 
 -- why a register that is compared is the last one
-abbrev pub IsNumberFault : List Target → ℕ → Write → ℕ → ℕ → ApplyFault → Type 0
-IsNumberFault before failures w done failures_after (Changed slot offset) =
-    (slot ≡ w.slot) × (offset ≡ w.offset) × IsShownOtherwise before w
-IsNumberFault before failures w done failures_after (Port count) =
-    (count ≡ done) × IsRefusedAt before failures w.slot failures_after
-IsNumberFault before failures w done failures_after (Stuck count) = ⊥
+abbrev pub IsNumberFault : Moment → Write → ℕ → ℕ → ApplyFault → Type 0
+IsNumberFault before w done failures_after (Changed slot offset) =
+    (slot ≡ w.slot) × (offset ≡ w.offset) × IsShownOtherwise before.targets w
+IsNumberFault before w done failures_after (Port count) =
+    (count ≡ done) × IsRefusedAt before w.slot failures_after
+IsNumberFault before w done failures_after (Stuck count) = ⊥
 
 -- why a write is, where `done` stand
-abbrev pub IsWriteFault : List Target → ℕ → Write → ℕ → ℕ → ApplyFault → Type 0
-IsWriteFault before failures w done failures_after (Changed slot offset) = ⊥
-IsWriteFault before failures w done failures_after (Port count) =
-    (count ≡ done) × IsRefusedAt before failures w.slot failures_after
-IsWriteFault before failures w done failures_after (Stuck count) = ⊥
+abbrev pub IsWriteFault : Moment → Write → ℕ → ℕ → ApplyFault → Type 0
+IsWriteFault before w done failures_after (Changed slot offset) = ⊥
+IsWriteFault before w done failures_after (Port count) =
+    (count ≡ done) × IsRefusedAt before w.slot failures_after
+IsWriteFault before w done failures_after (Stuck count) = ⊥
 
 -- why its read back is
-abbrev pub IsReadBackFault : List Target → ℕ → Write → ℕ → ℕ → ApplyFault → Type 0
-IsReadBackFault before failures w done failures_after (Changed slot offset) = ⊥
-IsReadBackFault before failures w done failures_after (Port count) =
-    (count ≡ done) × IsRefusedAt before failures w.slot failures_after
-IsReadBackFault before failures w done failures_after (Stuck count) =
-    (count ≡ done) × IsShownOtherwise before w
+abbrev pub IsReadBackFault : Moment → Write → ℕ → ℕ → ApplyFault → Type 0
+IsReadBackFault before w done failures_after (Changed slot offset) = ⊥
+IsReadBackFault before w done failures_after (Port count) =
+    (count ≡ done) × IsRefusedAt before w.slot failures_after
+IsReadBackFault before w done failures_after (Stuck count) =
+    (count ≡ done) × IsShownOtherwise before.targets w
 
 -- why a step is the last one
-abbrev pub IsStepFault : Kind → List Target → ℕ → Write → ℕ → ℕ → ApplyFault → Type 0
-IsStepFault Compare before failures w done failures_after fault =
-    IsNumberFault before failures w done failures_after fault
-IsStepFault Make before failures w done failures_after fault =
-    IsWriteFault before failures w done failures_after fault
-IsStepFault ReadBack before failures w done failures_after fault =
-    IsReadBackFault before failures w done failures_after fault
+abbrev pub IsStepFault : Kind → Moment → Write → ℕ → ℕ → ApplyFault → Type 0
+IsStepFault Compare before w done failures_after fault =
+    IsNumberFault before w done failures_after fault
+IsStepFault Make before w done failures_after fault =
+    IsWriteFault before w done failures_after fault
+IsStepFault ReadBack before w done failures_after fault =
+    IsReadBackFault before w done failures_after fault
 
 -- ---- all steps
 
@@ -115,23 +112,21 @@ abbrev pub AreAllShown : List Target → List Write → Type 0
 AreAllShown before compares = AreFirstShown before compares (length compares)
 
 -- comparing ended them: at the first register that doesn't compare, and nothing was written
-pub record IsCompareStop (before : List Target) (failures : ℕ) (compares : List Write)
-    (after : List Target) (failures_after : ℕ) (fault : ApplyFault) : Type 0 where
-  pub same : after ≡ before
+pub record IsCompareStop (before : Moment) (compares : List Write) (after : Moment)
+    (fault : ApplyFault) : Type 0 where
+  pub same : after.targets ≡ before.targets
   pub place : ℕ
   pub register : Write
   pub listed : slice_get compares place ≡ Some register
-  pub earlier : AreFirstShown before compares place
-  pub reason : IsNumberFault before failures register 0 failures_after fault
+  pub earlier : AreFirstShown before.targets compares place
+  pub reason : IsNumberFault before register 0 after.failures fault
 
 -- all registers compared, and a write or its read back ended them
-pub record IsWriteStop (before : List Target) (failures : ℕ) (compares writes : List Write)
-    (after : List Target) (failures_after : ℕ) (fault : ApplyFault) : Type 0 where
-  pub compared : AreAllShown before compares
-  pub stop : IsStop before failures writes after failures_after fault
+pub record IsWriteStop (before : Moment) (compares writes : List Write) (after : Moment)
+    (fault : ApplyFault) : Type 0 where
+  pub compared : AreAllShown before.targets compares
+  pub stop : IsStop before writes after fault
 
-abbrev pub AreStopped : List Target → ℕ → List Write → List Write → List Target → ℕ → ApplyFault
-    → Type 0
-AreStopped before failures compares writes after failures_after fault =
-    IsCompareStop before failures compares after failures_after fault
-    ⊎ IsWriteStop before failures compares writes after failures_after fault
+abbrev pub AreStopped : Moment → List Write → List Write → Moment → ApplyFault → Type 0
+AreStopped before compares writes after fault =
+    IsCompareStop before compares after fault ⊎ IsWriteStop before compares writes after fault

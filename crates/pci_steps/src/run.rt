@@ -2,6 +2,7 @@
 ghost use Rattle.std.specs.Prelude.{◌≡◌, map, length, OnOk, OnErr, IfErr};
 ghost use Rattle.std.specs.List.{Contains};
 ghost use Rattle.pci_spec.specs.Machine.{Write as WriteValue};
+ghost use Rattle.pci_plan.specs.Comparing.{moment};
 ghost use Rattle.pci_plan.specs.Writes.{write_value};
 ghost use Rattle.pci_plan.specs.Making.{AreMade};
 ghost use Rattle.pci_steps.specs.Going.{IsReadable, IsWritable, IsTaken, Reads, Writes, Answers, GoesOn, IsStepFault, AreAllShown, AreStopped};
@@ -15,8 +16,8 @@ use pci_plan::write::Write;
 /// What a register shows. `None` where the access failed.
 fn read<P: ConfigPort>(port: &mut P, register: &Write) -> Option<u32>
     requires { IsReadable (write_value register.now) }
-    ensures { Reads (P.targets port.old) (P.failures port.old) (write_value register.now) result
-        (P.targets port.new) (P.failures port.new) }
+    ensures { Reads (moment (P.targets port.old) (P.failures port.old)) (write_value register.now)
+        result (moment (P.targets port.new) (P.failures port.new)) }
 {
     match port.read(register.slot, register.off, register.width) {
         Ok(shown) => Some(shown),
@@ -27,8 +28,8 @@ fn read<P: ConfigPort>(port: &mut P, register: &Write) -> Option<u32>
 /// Makes a write, and answers its number. `None` where the access failed.
 fn write<P: ConfigPort>(port: &mut P, register: &Write) -> Option<u32>
     requires { IsWritable (write_value register.now) }
-    ensures { Writes (P.targets port.old) (P.failures port.old) (write_value register.now) result
-        (P.targets port.new) (P.failures port.new) }
+    ensures { Writes (moment (P.targets port.old) (P.failures port.old)) (write_value register.now)
+        result (moment (P.targets port.new) (P.failures port.new)) }
 {
     match port.write(register.slot, register.off, register.width, register.value) {
         Ok(()) => Some(register.value),
@@ -39,8 +40,8 @@ fn write<P: ConfigPort>(port: &mut P, register: &Write) -> Option<u32>
 /// Makes the access of a step. `None` where it failed.
 fn access<P: ConfigPort>(port: &mut P, step: &Step) -> Option<u32>
     requires { IsTaken step.now.kind (write_value step.now.register) }
-    ensures { Answers step.now.kind (P.targets port.old) (P.failures port.old)
-        (write_value step.now.register) result (P.targets port.new) (P.failures port.new) }
+    ensures { Answers step.now.kind (moment (P.targets port.old) (P.failures port.old))
+        (write_value step.now.register) result (moment (P.targets port.new) (P.failures port.new)) }
 {
     match step.kind {
         Kind::Make => write(port, &step.register),
@@ -56,8 +57,9 @@ fn advance<P: ConfigPort>(port: &mut P, step: &Step) -> Result<(), ApplyFault>
         (write_value step.now.register) (P.targets port.new)) }
     ensures counted { OnOk result (P.failures port.new ≡ P.failures port.old) }
     ensures kept { OnErr result (P.targets port.new ≡ P.targets port.old) }
-    ensures fault { IfErr result (IsStepFault step.now.kind (P.targets port.old) (P.failures port.old)
-        (write_value step.now.register) step.now.done (P.failures port.new)) }
+    ensures fault { IfErr result (IsStepFault step.now.kind
+        (moment (P.targets port.old) (P.failures port.old)) (write_value step.now.register)
+        step.now.done (P.failures port.new)) }
 {
     let shown = access(port, step);
     judge(step, shown)
@@ -83,9 +85,9 @@ pub fn run<P: ConfigPort>(
     ensures made { OnOk result (AreMade (P.targets port.old) (map write_value writes.now)
         (length writes.now) (P.targets port.new)) }
     ensures counted { OnOk result (P.failures port.new ≡ P.failures port.old) }
-    ensures stopped { IfErr result (AreStopped (P.targets port.old) (P.failures port.old)
+    ensures stopped { IfErr result (AreStopped (moment (P.targets port.old) (P.failures port.old))
         (map write_value compares.now) (map write_value writes.now)
-        (P.targets port.new) (P.failures port.new)) }
+        (moment (P.targets port.new) (P.failures port.new))) }
 {
     for n in 0..count(compares, writes) {
         let Some(step) = step_at(compares, writes, n) else {

@@ -10,7 +10,7 @@ use Rattle.pci_spec.specs.Machine.{Target, after_writes}
 use Rattle.pci_spec.specs.Port.{has_function}
 use Rattle.pci_spec.proofs.Examples.Samples.{zeros, slot}
 use Rattle.pci_plan.specs.declared.apply_fault.ApplyFault.TheVariants.{Changed, Port, Stuck}
-use Rattle.pci_plan.specs.Comparing.{ShowsAll}
+use Rattle.pci_plan.specs.Comparing.{ShowsAll, moment}
 use Rattle.pci_plan.specs.Making.{AreReadBack}
 use Rattle.pci_plan.specs.Applying.{ShowsSystem, writes_before, AreReadBackUntil, ReadBackBy, HasImages, IsChangedFrom, LacksFunction, IsCutShort, IsReadOtherwise}
 use Rattle.pci_plan.proofs.Examples.Behind.{open_at, fixed_at, here, there, image, other_rom, both}
@@ -62,24 +62,24 @@ as_many_as_are_told = refl
 
 -- ---- which are read back
 
-nothing_to_read_back : AreReadBackUntil fixed 0 writes 1 (Port 0)
+nothing_to_read_back : AreReadBackUntil (moment fixed 0) writes 1 (Port 0)
 nothing_to_read_back = inl refl
 
-last_may_be_unread : AreReadBackUntil mixed 0 writes 1 (Port 2)
+last_may_be_unread : AreReadBackUntil (moment mixed 0) writes 1 (Port 2)
 last_may_be_unread = inr (inr last_is_unread)
 
-no_other_may : AreReadBackUntil fixed 0 writes 1 (Port 2) → ⊥
+no_other_may : AreReadBackUntil (moment fixed 0) writes 1 (Port 2) → ⊥
 no_other_may (inl none) = let no : ⊥ = omega (arith, none) in no
 no_other_may (inr (inl stop)) = none_is_next fixed 1 stop
 no_other_may (inr (inr stop)) = let e = stop.is_last in none_of_fixed (subst (AreReadBack fixed writes) (let one : stop.last ≡ 1 = omega (arith, e) in one) stop.read_back)
 
-all_but_the_stuck_one : AreReadBackUntil mixed 0 writes 0 (Stuck 2)
+all_but_the_stuck_one : AreReadBackUntil (moment mixed 0) writes 0 (Stuck 2)
 all_but_the_stuck_one = first_of_mixed
 
-so_the_first_too : AreReadBackUntil fixed 0 writes 0 (Stuck 2) → ⊥
+so_the_first_too : AreReadBackUntil (moment fixed 0) writes 0 (Stuck 2) → ⊥
 so_the_first_too back = none_of_fixed back
 
-all_at_an_ok : ReadBackBy {T = Unit} mixed 0 writes 0 (Ok tt) → ⊥
+all_at_an_ok : ReadBackBy {T = Unit} (moment mixed 0) writes 0 (Ok tt) → ⊥
 all_at_an_ok back = second_of_mixed back
 
 -- ---- a register was changed, or a function isn't there
@@ -100,17 +100,17 @@ none_is_lacking (f, listed, gone) = both_ways true (sym (each (λ f. has_functio
 
 -- ---- an access ended it
 
-cut_short_while_comparing : IsCutShort changed 0 start writes 1 0
+cut_short_while_comparing : IsCutShort (moment changed 0) start writes 1 0
 cut_short_while_comparing = record { within = (let none : 0 ≤ length writes = omega arith in none); started = λ less. absurd (let impossible : ⊥ = omega (arith, less) in impossible); cause = inl (lit< tt) }
 
 -- the first write already is made on the start alone
-not_after_a_write : IsCutShort changed 0 start writes 1 1 → ⊥
+not_after_a_write : IsCutShort (moment changed 0) start writes 1 1 → ⊥
 not_after_a_write cut = changed_do_not (cut.started (lit< tt))
 
-not_after_more_than_there_are : IsCutShort both 0 start writes 1 3 → ⊥
+not_after_more_than_there_are : IsCutShort (moment both 0) start writes 1 3 → ⊥
 not_after_more_than_there_are cut = let within = cut.within in let no : ⊥ = omega (arith, within) in no
 
-not_without_a_cause : IsCutShort both 0 start writes 0 0 → ⊥
+not_without_a_cause : IsCutShort (moment both 0) start writes 0 0 → ⊥
 not_without_a_cause cut = elim cut.cause [
   | inl rose ↦ let no : ⊥ = omega (arith, rose) in no
   | inr lacking ↦ none_is_lacking lacking

@@ -12,7 +12,7 @@ use Rattle.pci_spec.specs.Text.{Block}
 use Rattle.plan_spec.proofs.Planning.Behind.{all_gives}
 use Rattle.pci_spec.proofs.Examples.Samples.{blank, slot}
 use Rattle.pci_plan.specs.declared.apply_fault.ApplyFault.TheVariants.{Changed, Port}
-use Rattle.pci_plan.specs.Comparing.{compared, ShowsAll, ShowsOther, IsChangedAt, IsRefusedAt, IsRegisterFault, IsFunctionFault, StartsAs, IsStartFault}
+use Rattle.pci_plan.specs.Comparing.{compared, ShowsAll, ShowsOther, IsChangedAt, IsRefusedAt, IsRegisterFault, IsFunctionFault, StartsAs, IsStartFault, moment}
 use Rattle.pci_plan.proofs.Examples.Behind.{open_at, here, there, image, alike, other_rom, both}
 
 -- what the function of one target shows is its own number
@@ -57,26 +57,26 @@ status_is_not_changed changed = both_ways false refl (all_gives (λ q. not (q.0 
 
 -- ---- why there is no comparing
 
-no_failure_and_it_is_there : IsRefusedAt both 3 here 3 → ⊥
+no_failure_and_it_is_there : IsRefusedAt (moment both 3) here 3 → ⊥
 no_failure_and_it_is_there (inl rose) = let no : ⊥ = omega (arith, rose) in no
 no_failure_and_it_is_there (inr gone) = both_ways true gone refl
 
-a_failure_refuses : IsRefusedAt both 3 here 4
+a_failure_refuses : IsRefusedAt (moment both 3) here 4
 a_failure_refuses = inl (lit< tt)
 
-so_does_a_slot_without_a_function : IsRefusedAt both 3 (slot 0 3 0) 3
+so_does_a_slot_without_a_function : IsRefusedAt (moment both 3) (slot 0 3 0) 3
 so_does_a_slot_without_a_function = inr refl
 
-no_write_was_made_yet : IsRegisterFault both 3 here image 0x30 4 4 (Port 1) → ⊥
+no_write_was_made_yet : IsRegisterFault (moment both 3) here image (0x30, 4) 4 (Port 1) → ⊥
 no_write_was_made_yet (none, refused) = let no : ⊥ = omega (arith, none) in no
 
-nor_of_a_function : IsFunctionFault both 3 here image 4 (Port 1) → ⊥
+nor_of_a_function : IsFunctionFault (moment both 3) here image 4 (Port 1) → ⊥
 nor_of_a_function (none, refused) = let no : ⊥ = omega (arith, none) in no
 
-its_own_slot_is_named : IsFunctionFault (open_at here other_rom ∷ []) 3 here image 3 (Changed there 0x30) → ⊥
+its_own_slot_is_named : IsFunctionFault (moment (open_at here other_rom ∷ []) 3) here image 3 (Changed there 0x30) → ⊥
 its_own_slot_is_named (at, changed) = let e : 2 ≡ 1 = ap (λ (s : Slot). s.device) at in let no : ⊥ = omega (arith, e) in no
 
-and_its_own_register : IsRegisterFault (open_at here other_rom ∷ []) 3 here image 0x30 4 3 (Changed here 0x10) → ⊥
+and_its_own_register : IsRegisterFault (moment (open_at here other_rom ∷ []) 3) here image (0x30, 4) 3 (Changed here 0x10) → ⊥
 and_its_own_register (at, is, other) = let e : 0x10 ≡ 0x30 = is in let no : ⊥ = omega (arith, e) in no
 
 -- ---- all functions
@@ -101,5 +101,5 @@ the_second_has_to start =
     let e : 0xfd000001 ≡ 0xfd000000 = shown_by (open_at here image ∷ open_at there other_rom ∷ []) there (open_at there other_rom) 0x30 4 0xfd000001 refl shows in
     let no : ⊥ = omega (arith, e) in no
 
-the_fault_is_of_a_block : IsStartFault (open_at here other_rom ∷ []) 3 [] 4 (Changed here 0x30) → ⊥
+the_fault_is_of_a_block : IsStartFault (moment (open_at here other_rom ∷ []) 3) [] 4 (Changed here 0x30) → ⊥
 the_fault_is_of_a_block (b, (k, less, is), fault) = let no : ⊥ = omega (arith, less) in no

@@ -8,6 +8,7 @@ use Rattle.pci_spec.specs.Machine.{Target, Write, number_of_bits, written, write
 use Rattle.pci_spec.specs.Port.{has_function, ShowsNumber}
 use Rattle.plan_spec.proofs.Planning.Behind.{all_gives}
 use Rattle.pci_spec.proofs.Examples.Samples.{write}
+use Rattle.pci_plan.specs.Comparing.{moment}
 use Rattle.pci_plan.specs.declared.apply_fault.ApplyFault.TheVariants.{Stuck}
 use Rattle.pci_plan.specs.Making.{IsAccessible, IsRefused, IsUnread, IsShownOtherwise, IsLastWrite, AreReadBack, IsNextRefused, IsLastUnread, AreMade, IsPortStop, IsStuckStop}
 use Rattle.pci_plan.proofs.Examples.Behind.{open_at, fixed_at, here, there, image, both}
@@ -50,21 +51,21 @@ nor_an_odd_offset lawful = both_ways false refl lawful
 
 -- ---- one write
 
-refused_writes_are_not_counted : IsRefused both 0 first 1 both 1 2 → ⊥
+refused_writes_are_not_counted : IsRefused (moment both 0) first 1 (moment both 1) 2 → ⊥
 refused_writes_are_not_counted (is, same, refused) = let no : ⊥ = omega (arith, is) in no
 
-nor_made : IsRefused both 0 first 1 (write_targets both first) 1 1 → ⊥
+nor_made : IsRefused (moment both 0) first 1 (moment (write_targets both first) 1) 1 → ⊥
 unfolding number_of_bits written
 nor_made (is, same, refused) = let e : 0xe0000000 ≡ 0xfe000000 = ap bar_of same in let no : ⊥ = omega (arith, e) in no
 
-unread_writes_are_counted : IsUnread both 0 first 1 (write_targets both first) 1 1 → ⊥
+unread_writes_are_counted : IsUnread (moment both 0) first 1 (moment (write_targets both first) 1) 1 → ⊥
 unread_writes_are_counted (is, made, rose) = let no : ⊥ = omega (arith, is) in no
 
-and_made : IsUnread both 0 first 1 both 1 2 → ⊥
+and_made : IsUnread (moment both 0) first 1 (moment both 1) 2 → ⊥
 unfolding number_of_bits written
 and_made (is, made, rose) = let e : 0xfe000000 ≡ 0xe0000000 = ap bar_of made in let no : ⊥ = omega (arith, e) in no
 
-unread_by_a_failure : IsUnread both 0 first 1 (write_targets both first) 0 2 → ⊥
+unread_by_a_failure : IsUnread (moment both 0) first 1 (moment (write_targets both first) 0) 2 → ⊥
 unread_by_a_failure (is, made, rose) = let no : ⊥ = omega (arith, rose) in no
 
 pub first_is_shown : ShowsNumber (write_targets both first) here 0x10 4 0xe0000000
@@ -79,7 +80,7 @@ pub stuck_is_shown_otherwise : IsShownOtherwise (after_writes mixed writes) seco
 unfolding number_of_bits written
 stuck_is_shown_otherwise = record { shows = 0xfd000001; shown = (write_target second (fixed_at there image), refl, refl); differs = λ (e : 0xfd000001 ≡ 0xfd000000). let no : ⊥ = omega (arith, e) in no }
 
-a_stuck_write_is_counted : IsLastWrite mixed 0 second 1 (write_targets mixed second) 0 (Stuck 1) → ⊥
+a_stuck_write_is_counted : IsLastWrite (moment mixed 0) second 1 (moment (write_targets mixed second) 0) (Stuck 1) → ⊥
 a_stuck_write_is_counted (is, made, other) = let no : ⊥ = omega (arith, is) in no
 
 -- ---- which writes are read back
@@ -115,39 +116,39 @@ more_than_there_are_are_not_made after made = let within = made.within in let no
 
 -- ---- an access ends them
 
-pub next_is_refused : IsNextRefused mixed 0 writes 1 1
+pub next_is_refused : IsNextRefused (moment mixed 0) writes 1 1
 next_is_refused = record { next = second; listed = refl; read_back = first_of_mixed; refused = inl (lit< tt) }
 
 -- after the last write none is next
-pub none_is_next : (before : List Target) (failures_after : ℕ) → IsNextRefused before 0 writes failures_after 2 → ⊥
+pub none_is_next : (before : List Target) (failures_after : ℕ) → IsNextRefused (moment before 0) writes failures_after 2 → ⊥
 none_is_next before failures_after stop = let none : None ≡ Some stop.next = stop.listed in let no : ⊥ = cc in no
 
-no_failure_and_its_function_is_there : IsNextRefused both 0 writes 0 1 → ⊥
+no_failure_and_its_function_is_there : IsNextRefused (moment both 0) writes 0 1 → ⊥
 no_failure_and_its_function_is_there stop = elim stop.refused [
   | inl rose ↦ let no : ⊥ = omega (arith, rose) in no
   | inr gone ↦ both_ways true (ap (λ (w : Write). has_function both w.slot) (same_Some second stop.next stop.listed) ∙ gone) refl
 ]
 
-pub last_is_unread : IsLastUnread mixed 0 writes 1 2
+pub last_is_unread : IsLastUnread (moment mixed 0) writes 1 2
 last_is_unread = record { last = 1; is_last = refl; read_back = first_of_mixed; failed = lit< tt }
 
-no_failure_and_it_is_read : IsLastUnread mixed 0 writes 0 2 → ⊥
+no_failure_and_it_is_read : IsLastUnread (moment mixed 0) writes 0 2 → ⊥
 no_failure_and_it_is_read stop = let rose = stop.failed in let no : ⊥ = omega (arith, rose) in no
 
-one_before_it_is_unread : IsLastUnread fixed 0 writes 1 2 → ⊥
+one_before_it_is_unread : IsLastUnread (moment fixed 0) writes 1 2 → ⊥
 one_before_it_is_unread stop = let e = stop.is_last in none_of_fixed (subst (AreReadBack fixed writes) (let one : stop.last ≡ 1 = omega (arith, e) in one) stop.read_back)
 
-none_was_made_that_is_unread : IsLastUnread mixed 0 writes 1 0 → ⊥
+none_was_made_that_is_unread : IsLastUnread (moment mixed 0) writes 1 0 → ⊥
 none_was_made_that_is_unread stop = let e = stop.is_last in let no : ⊥ = omega (arith, e) in no
 
-port_counts_what_was_made : IsPortStop both 0 writes both 1 1 → ⊥
+port_counts_what_was_made : IsPortStop (moment both 0) writes (moment both 1) 1 → ⊥
 unfolding number_of_bits written
 port_counts_what_was_made stop = let e : 0xfe000000 ≡ 0xe0000000 = ap bar_of stop.made in let no : ⊥ = omega (arith, e) in no
 
-no_more_than_there_are : (after : List Target) → IsPortStop both 0 writes after 1 3 → ⊥
+no_more_than_there_are : (after : List Target) → IsPortStop (moment both 0) writes (moment after 1) 3 → ⊥
 no_more_than_there_are after stop = let within = stop.within in let no : ⊥ = omega (arith, within) in no
 
-something_ends_them : (after : List Target) → IsPortStop both 0 writes after 0 1 → ⊥
+something_ends_them : (after : List Target) → IsPortStop (moment both 0) writes (moment after 0) 1 → ⊥
 something_ends_them after stop = elim stop.cause [
   | inl rose ↦ let no : ⊥ = omega (arith, rose) in no
   | inr (w, listed, gone) ↦ both_ways true (sym (all_gives (λ (w : Write). has_function both w.slot) writes w refl listed) ∙ gone) refl

@@ -3,7 +3,7 @@ use Rattle.std.proofs.lemmas.Result.{err_from_is_err_and, IfErr-weaker, on_ok_we
 use Rattle.pci_spec.specs.Machine.{after_writes}
 use Rattle.pci_tree.specs.Admission.{Admission}
 use Rattle.pci_place.specs.Above.{system_in}
-use Rattle.pci_plan.specs.Comparing.{StartsAs, IsStartFault}
+use Rattle.pci_plan.specs.Comparing.{StartsAs, IsStartFault, moment}
 use Rattle.pci_plan.specs.Making.{IsStop}
 use Rattle.pci_plan.specs.Applying.{writes_made, ReadBackBy, IsApplyFault}
 use Rattle.pci_plan.proofs.Applied.{accesses, shows_start, start_fault, start_made, start_read_back, stop_fault, all_made, shows_final, made_by, read_back_by, ok_on_machine, left_sound, sound_while_read_back}
@@ -17,7 +17,7 @@ returns-in_err-compare-clause-made g c =
     let before = g.P.ConfigPort.targets c.args.port.now in
     let blocks : c.blocks-2.result.now ≡ plan.start.dump = c.blocks-2.ensures.value ∙ c.dump.ensures ∙ ap (λ (a : Admission). a.dump) c.start.ensures.value in
     let e = c.in_err-compare.field-0.0 in
-    let reason = subst (λ bs. IsStartFault before (g.P.ConfigPort.failures c.args.port.now) bs (g.P.ConfigPort.failures c.compare.new.port) e) blocks c.in_err-compare.ensures.fault in
+    let reason = subst (λ bs. IsStartFault (moment before (g.P.ConfigPort.failures c.args.port.now)) bs (g.P.ConfigPort.failures c.compare.new.port) e) blocks c.in_err-compare.ensures.fault in
     let p = err_from_is_err_and c.from_residual.result c.from_residual.ensures.1 in
     rw (p.1, p.2)
     (start_made plan c.start.ensures.plan before (g.P.ConfigPort.targets c.compare.new.port) (g.P.ConfigPort.failures c.args.port.now) (g.P.ConfigPort.failures c.compare.new.port) e reason c.in_err-compare.ensures.same)
@@ -28,7 +28,7 @@ returns-in_err-compare-clause-read_back g c =
     let before = g.P.ConfigPort.targets c.args.port.now in
     let blocks : c.blocks-2.result.now ≡ plan.start.dump = c.blocks-2.ensures.value ∙ c.dump.ensures ∙ ap (λ (a : Admission). a.dump) c.start.ensures.value in
     let e = c.in_err-compare.field-0.0 in
-    let reason = subst (λ bs. IsStartFault before (g.P.ConfigPort.failures c.args.port.now) bs (g.P.ConfigPort.failures c.compare.new.port) e) blocks c.in_err-compare.ensures.fault in
+    let reason = subst (λ bs. IsStartFault (moment before (g.P.ConfigPort.failures c.args.port.now)) bs (g.P.ConfigPort.failures c.compare.new.port) e) blocks c.in_err-compare.ensures.fault in
     let p = err_from_is_err_and c.from_residual.result c.from_residual.ensures.1 in
     rw (p.1, p.2)
     (start_read_back plan c.start.ensures.plan before (g.P.ConfigPort.failures c.args.port.now) (g.P.ConfigPort.failures c.compare.new.port) e reason)
@@ -39,7 +39,7 @@ returns-in_err-compare-clause-fault g c =
     let before = g.P.ConfigPort.targets c.args.port.now in
     let blocks : c.blocks-2.result.now ≡ plan.start.dump = c.blocks-2.ensures.value ∙ c.dump.ensures ∙ ap (λ (a : Admission). a.dump) c.start.ensures.value in
     let e = c.in_err-compare.field-0.0 in
-    let reason = subst (λ bs. IsStartFault before (g.P.ConfigPort.failures c.args.port.now) bs (g.P.ConfigPort.failures c.compare.new.port) e) blocks c.in_err-compare.ensures.fault in
+    let reason = subst (λ bs. IsStartFault (moment before (g.P.ConfigPort.failures c.args.port.now)) bs (g.P.ConfigPort.failures c.compare.new.port) e) blocks c.in_err-compare.ensures.fault in
     let p = err_from_is_err_and c.from_residual.result c.from_residual.ensures.1 in
     rw (p.1, p.2)
     (start_fault plan c.start.ensures.plan before (g.P.ConfigPort.failures c.args.port.now) (g.P.ConfigPort.targets c.compare.new.port) (g.P.ConfigPort.failures c.compare.new.port) e reason)
@@ -96,11 +96,11 @@ returns-clause-read_back g c =
     let after = g.P.ConfigPort.failures c.make.new.port in
     let before : now ≡ g.P.ConfigPort.targets c.args.port.now = c.in_ok-compare.ensures.same in
     let quiet : g.P.ConfigPort.failures c.compare.new.port ≡ g.P.ConfigPort.failures c.args.port.now = c.in_ok-compare.ensures.counted in
-    let by : ReadBackBy now (g.P.ConfigPort.failures c.compare.new.port) plan.writes after c.make.result =
+    let by : ReadBackBy (moment now (g.P.ConfigPort.failures c.compare.new.port)) plan.writes after c.make.result =
     read_back_by plan c.start.ensures.plan c.make.result c.writes.result.now now (g.P.ConfigPort.failures c.compare.new.port)
     (g.P.ConfigPort.targets c.make.new.port) after c.writes.ensures.value c.make.ensures.made c.make.ensures.stop in
-    subst (λ ts. ReadBackBy ts (g.P.ConfigPort.failures c.args.port.now) plan.writes after c.make.result) before
-    (subst (λ n. ReadBackBy now n plan.writes after c.make.result) quiet by)
+    subst (λ ts. ReadBackBy (moment ts (g.P.ConfigPort.failures c.args.port.now)) plan.writes after c.make.result) before
+    (subst (λ n. ReadBackBy (moment now n) plan.writes after c.make.result) quiet by)
 
 pub returns-clause-counted : goal.returns-clause-counted
 returns-clause-counted g c = on_ok_weaker c.make.result (λ e. e ∙ c.in_ok-compare.ensures.counted) c.make.ensures.counted
@@ -117,12 +117,12 @@ returns-clause-fault g c =
     let quiet : g.P.ConfigPort.failures c.compare.new.port ≡ failures = c.in_ok-compare.ensures.counted in
     let blocks : c.blocks-2.result.now ≡ plan.start.dump = c.blocks-2.ensures.value ∙ c.dump.ensures ∙ ap (λ (a : Admission). a.dump) c.start.ensures.value in
     let shows = shows_start plan c.start.ensures.plan old (subst (λ bs. StartsAs old bs) blocks c.in_ok-compare.ensures.started) in
-    let stops = subst (λ ws. IfErr c.make.result (IsStop now (g.P.ConfigPort.failures c.compare.new.port) ws after failures_after)) c.writes.ensures.value c.make.ensures.stop in
-    IfErr-weaker c.make.result (IsStop now (g.P.ConfigPort.failures c.compare.new.port) plan.writes after failures_after) (IsApplyFault old failures (system_in plan.start) plan.writes after failures_after)
+    let stops = subst (λ ws. IfErr c.make.result (IsStop (moment now (g.P.ConfigPort.failures c.compare.new.port)) ws (moment after failures_after))) c.writes.ensures.value c.make.ensures.stop in
+    IfErr-weaker c.make.result (IsStop (moment now (g.P.ConfigPort.failures c.compare.new.port)) plan.writes (moment after failures_after)) (IsApplyFault (moment old failures) (system_in plan.start) plan.writes (moment after failures_after))
     (λ e stop.
     stop_fault plan c.start.ensures.plan old failures after failures_after e shows
-    (subst (λ ts. IsStop ts failures plan.writes after failures_after e) before
-    (subst (λ n. IsStop now n plan.writes after failures_after e) quiet stop)))
+    (subst (λ ts. IsStop (moment ts failures) plan.writes (moment after failures_after) e) before
+    (subst (λ n. IsStop (moment now n) plan.writes (moment after failures_after) e) quiet stop)))
     stops
 
 pub returns-clause-own_machine : goal.returns-clause-own_machine

@@ -1,5 +1,6 @@
 use Rattle.std.proofs.Common.{arith, sym, ◌∙◌, subst, map}
 use Rattle.std.proofs.lemmas.Result.{err_from_is_err_and}
+use Rattle.pci_plan.specs.Comparing.{moment}
 use Rattle.pci_plan.specs.Writes.{write_value}
 use Rattle.pci_steps.specs.Going.{step_value, AreStopped}
 use Rattle.pci_steps.proofs.Places.{step_at_cases}
@@ -27,7 +28,7 @@ returns-in_err-advance-clause-stopped g c =
     let e = c.in_err-advance.field-0.0 in
     let p = err_from_is_err_and c.from_residual.result c.from_residual.ensures.1 in
     rw (p.1, p.2)
-    (subst (λ n. AreStopped before n cs ws after failures_after e) c.loop-n.invariant.failures
+    (subst (λ n. AreStopped (moment before n) cs ws (moment after failures_after) e) c.loop-n.invariant.failures
     (stops before cs ws (g.P.ConfigPort.failures c.loop-n.port) failures_after c.loop-n.n step now after e c.loop-n.invariant.going (step_at_cases cs ws c.loop-n.n step (sym c.in-Some.ensures))
     c.in_err-advance.ensures.kept c.in_err-advance.ensures.fault))
 
