@@ -13,11 +13,9 @@ Fails reads writes slot offset before after =
     ⊎ ((width : ℕ) × (value : ℕ)
     × writes before (record { slot = slot; offset = offset; width = width; value = value }) (Err Failed) after)
 
--- an access at an offset failed: none had failed before it, and it was the last one
-pub record FailedAt {P : Type 0} (failures : P → ℕ)
-    (reads : P → Slot → ℕ → ℕ → Result ℕ PortError → P → Type 0)
-    (writes : P → Write → Result (Unit {0}) PortError → P → Type 0)
-    (slot : Slot) (offset : ℕ) (old new : P) : Type 0 where
+-- Such an access failed: none had failed before it, and it was the last one.
+pub record FirstFailed {P : Type 0} (failures : P → ℕ) (fails : P → P → Type 0)
+    (old new : P) : Type 0 where
   pub before : P
   pub first : failures before ≡ failures old
-  pub last : Fails reads writes slot offset before new
+  pub last : fails before new

@@ -4,7 +4,7 @@ ghost use Rattle.pci_spec.specs.Number.{number_at};
 ghost use Rattle.pci_spec.specs.Machine.{written};
 ghost use Rattle.pci_spec.specs.Port as ports;
 ghost use Rattle.pci_spec.specs.Sizing.{function_at};
-ghost use Rattle.pci_machine.specs.Failing.{FailedAt};
+ghost use Rattle.pci_machine.specs.Failing.{Fails, FirstFailed};
 ghost use Rattle.pci_machine.specs.Outcome.{failures_of_stop};
 
 use crate::port::{ConfigPort, PortError};
@@ -33,7 +33,7 @@ pub fn read_at<P: ConfigPort>(
     ensures fits { IfOk result (λ value. IsTrue (ports.fits width value)) }
     ensures stop { IfErr result (λ stop. stop ≡ record { offset = off; fault = PortError.Failed }) }
     ensures failed { OnErr result
-        (FailedAt P.failures P.reads P.writes slot off port.old port.new) }
+        (FirstFailed P.failures (Fails P.reads P.writes slot off) port.old port.new) }
     ensures counted { P.failures port.new ≡ P.failures port.old + failures_of_stop result }
     ensures same { P.targets port.new ≡ P.targets port.old }
     ensures there { IsTrue (ports.has_function (P.targets port.new) slot) }
@@ -66,7 +66,7 @@ pub fn write_at<P: ConfigPort>(
     ensures kept { OnErr result (P.targets port.new ≡ P.targets port.old) }
     ensures stop { IfErr result (λ stop. stop ≡ record { offset = off; fault = PortError.Failed }) }
     ensures failed { OnErr result
-        (FailedAt P.failures P.reads P.writes slot off port.old port.new) }
+        (FirstFailed P.failures (Fails P.reads P.writes slot off) port.old port.new) }
     ensures counted { P.failures port.new ≡ P.failures port.old + failures_of_stop result }
     ensures there { IsTrue (ports.has_function (P.targets port.new) slot) }
     ensures lawful { ports.IsLawful (P.targets port.new) }

@@ -5,7 +5,7 @@ ghost use Rattle.pci_spec.specs.Header.{command};
 ghost use Rattle.pci_spec.specs.Machine.{written};
 ghost use Rattle.pci_spec.specs.Port as ports;
 ghost use Rattle.pci_spec.specs.Sizing.{function_at, quieted};
-ghost use Rattle.pci_machine.specs.Failing.{FailedAt};
+ghost use Rattle.pci_machine.specs.Failing.{Fails, FirstFailed};
 ghost use Rattle.pci_machine.specs.Outcome.{failures_of_stop};
 
 use crate::access_at::{AccessFault, read_at, write_at};
@@ -55,7 +55,7 @@ impl Quiet {
           fault = PortError.Failed;
         }) }
         ensures failed { OnErr result
-            (FailedAt P.failures P.reads P.writes slot table.COMMAND port.old port.new) }
+            (FirstFailed P.failures (Fails P.reads P.writes slot table.COMMAND) port.old port.new) }
         ensures counted { P.failures port.new ≡ P.failures port.old + failures_of_stop result }
         ensures there { IsTrue (ports.has_function (P.targets port.new) slot) }
         ensures lawful { ports.IsLawful (P.targets port.new) }
@@ -85,7 +85,7 @@ impl Quiet {
           fault = PortError.Failed;
         }) × (e.1 ≡ self)) }
         ensures failed { OnErr result
-            (FailedAt P.failures P.reads P.writes slot table.COMMAND port.old port.new) }
+            (FirstFailed P.failures (Fails P.reads P.writes slot table.COMMAND) port.old port.new) }
         ensures counted { P.failures port.new ≡ P.failures port.old + failures_of_stop result }
         ensures lawful { ports.IsLawful (P.targets port.new) }
     {

@@ -4,7 +4,7 @@ ghost use Rattle.pci_spec.specs.Number.{number_at};
 ghost use Rattle.pci_spec.specs.Machine.{written};
 ghost use Rattle.pci_spec.specs.Port as ports;
 ghost use Rattle.pci_spec.specs.Sizing.{function_at, IsPlain, DiffersWithin};
-ghost use Rattle.pci_machine.specs.Failing.{FailedAt};
+ghost use Rattle.pci_machine.specs.Failing.{Fails, FirstFailed};
 ghost use Rattle.pci_machine.specs.Outcome.{failures_of_stop};
 
 use crate::access_at::{AccessFault, read_at, write_at};
@@ -30,7 +30,7 @@ pub fn read_back<P: ConfigPort>(
     ensures kept { OnOk result (P.targets port.new ≡ P.targets port.old) }
     ensures stop { IfErr result (λ stop. stop ≡ record { offset = off; fault = PortError.Failed }) }
     ensures failed { OnErr result
-        (FailedAt P.failures P.reads P.writes slot off port.old port.new) }
+        (FirstFailed P.failures (Fails P.reads P.writes slot off) port.old port.new) }
     // ones may stand in the register then, but nothing else is touched
     ensures left { OnErr result
         ((image : List ℕ) × (P.targets port.new ≡ ports.with_image (P.targets port.old) slot image)

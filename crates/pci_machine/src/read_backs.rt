@@ -6,7 +6,7 @@ ghost use Rattle.pci_spec.specs.Machine.{sized};
 ghost use Rattle.pci_spec.specs.Port as ports;
 ghost use Rattle.pci_spec.specs.Sizing.{function_at, DiffersInRegisters, is_address_register};
 ghost use Rattle.pci_image.specs.Layouts.{layout_number};
-ghost use Rattle.pci_machine.specs.Failing.{FailedAt};
+ghost use Rattle.pci_machine.specs.Failing.{Fails, FirstFailed};
 ghost use Rattle.pci_machine.specs.Outcome.{failures_of_stop};
 
 use crate::access_at::AccessFault;
@@ -37,7 +37,7 @@ pub fn read_backs<P: ConfigPort>(
         × IsTrue (is_address_register
         (header.layout (function_at (P.targets port.old) slot).image) stop.offset)) }
     ensures failed { IfErr result (λ stop.
-        FailedAt P.failures P.reads P.writes slot stop.offset port.old port.new) }
+        FirstFailed P.failures (Fails P.reads P.writes slot stop.offset) port.old port.new) }
     ensures left { OnErr result
         ((image : List ℕ) × (P.targets port.new ≡ ports.with_image (P.targets port.old) slot image)
         × DiffersInRegisters (function_at (P.targets port.old) slot).image image) }

@@ -12,7 +12,7 @@ ghost use Rattle.pci_spec.specs.Fault.{has_no_vendor, has_other_layout};
 ghost use Rattle.pci_spec.specs.Port as ports;
 ghost use Rattle.pci_spec.specs.Sizing.{function_at, DiffersInRegisters, IsSizable, IsStuck, is_written_to};
 ghost use Rattle.pci_image.specs.Layouts.{layout_number};
-ghost use Rattle.pci_machine.specs.Failing.{FailedAt};
+ghost use Rattle.pci_machine.specs.Failing.{Fails, FirstFailed};
 ghost use Rattle.pci_machine.specs.Outcome.{failures_of_stop};
 ghost use Rattle.pci_machine.specs.SizeOutcome.{SizingLeaves, TellsOffset, failures_of_size};
 
@@ -54,7 +54,7 @@ pub fn size<P: ConfigPort>(port: &mut P, slot: Slot) -> Result<Image, SizeFault>
     ensures fault { IfErr result (SizingLeaves (P.targets port.old) slot (P.targets port.new)) }
     // the offset is that of the access that failed, which was the first to fail, and the last one
     ensures failed { IfErr result (TellsOffset (λ offset.
-        FailedAt P.failures P.reads P.writes slot offset port.old port.new)) }
+        FirstFailed P.failures (Fails P.reads P.writes slot offset) port.old port.new)) }
     // told by the first read, before anything is written
     ensures missing { IsFalse (ports.has_function (P.targets port.old) slot)
         → result ≡ Err (SizeFault.Port table.VENDOR_ID PortError.NoFunction None) }
@@ -89,7 +89,7 @@ fn layout_at<P: ConfigPort>(port: &mut P, slot: Slot) -> Result<Layout, SizeFaul
         ≡ layout_number known) }
     ensures fault { IfErr result (SizingLeaves (P.targets port.old) slot (P.targets port.new)) }
     ensures failed { IfErr result (TellsOffset (λ offset.
-        FailedAt P.failures P.reads P.writes slot offset port.old port.new)) }
+        FirstFailed P.failures (Fails P.reads P.writes slot offset) port.old port.new)) }
     ensures missing { IsFalse (ports.has_function (P.targets port.old) slot)
         → result ≡ Err (SizeFault.Port table.VENDOR_ID PortError.NoFunction None) }
     ensures same { P.targets port.new ≡ P.targets port.old }
@@ -150,7 +150,7 @@ fn read_when_quiet<P: ConfigPort>(
         × IsTrue
         (is_written_to (header.layout (function_at (P.targets port.old) slot).image) stop.offset)) }
     ensures failed { IfErr result (λ stop.
-        FailedAt P.failures P.reads P.writes slot stop.offset port.old port.new) }
+        FirstFailed P.failures (Fails P.reads P.writes slot stop.offset) port.old port.new) }
     ensures left { OnErr result
         ((image : List ℕ) × (P.targets port.new ≡ ports.with_image (P.targets port.old) slot image)
         × DiffersInRegisters (function_at (P.targets port.old) slot).image image) }

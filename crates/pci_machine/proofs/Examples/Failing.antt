@@ -3,7 +3,7 @@ use Rattle.std.proofs.Common.{◌≡◌, ℕ, Bool, true, false, if◌then◌els
 use Rattle.pci_spec.specs.Slot.{Slot}
 use Rattle.pci_spec.specs.Machine.{Write}
 use Rattle.pci_machine.specs.declared.port.PortError.{PortError}
-use Rattle.pci_machine.specs.Failing.{FailedAt}
+use Rattle.pci_machine.specs.Failing.{Fails, FirstFailed}
 
 abbrev Log : Type 0
 Log = List (ℕ × Bool)
@@ -25,7 +25,7 @@ writes before write answer after = after ≡ ((write.offset, is_failed answer) �
 
 -- the access of a log that failed, from an empty one on
 abbrev FailedIn : ℕ → Log → Type 0
-FailedIn offset log = FailedAt failures reads writes (record { bus = 0; device = 1; function = 0 }) offset [] log
+FailedIn offset log = FirstFailed failures (Fails reads writes (record { bus = 0; device = 1; function = 0 }) offset) [] log
 
 -- the last access: its offset, how many failures it is, and how many came before it
 abbrev last_offset : Log → ℕ
