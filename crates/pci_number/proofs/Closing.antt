@@ -196,7 +196,7 @@ standing_close before now after_it slot old mid new more found low looked one sh
 pub standing_left : {T E : Type 0} → (before now after : Board) (bus place : ℕ) (old mid new : List Board) (more : Bool) (r : Result T E) → IsErr r → new ≡ mid → IsHushStanding (moment before old) bus place more (moment now mid) → IsHushStood (moment before old) bus r (moment after new)
 standing_left before now after bus place old mid new more r err same standing = λ v high last nodes is seen walkable.
     let h = standing v high last nodes is seen walkable in
-    stopped (IsLessStep v nodes) r before old after new err (now, mid, h.4, inl same)
+    stopped (IsLessStep v nodes) r before old after new err (moment now mid, h.4, inl same)
 
 pub standing_left_close : {T E : Type 0} → (before now after : Board) (slot : Slot) (old mid new : List Board) (more : Bool) (found : Found) (r : Result T E) → IsErr r → slot.function ≤ 7 → IsLooked now slot more found → found.bridge ≡ true → IsCloseEnd now slot mid new → IsHushStanding (moment before old) slot.bus (code slot) more (moment now mid) → IsHushStood (moment before old) slot.bus r (moment after new)
 standing_left_close before now after slot old mid new more found r err low looked one stood standing = λ v high last nodes is seen walkable.

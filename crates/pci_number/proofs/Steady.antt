@@ -37,16 +37,16 @@ pub steps_add : (R : Board → Board → Type 0) (P : Board → Type 0) → ((p 
 steps_add R P so a old b new x = (x.0, x.1, steps_each R P so a x.0 x.2)
 
 pub stops_one : (R : Board → Board → Type 0) (a : Board) (old : List Board) (b : Board) (mid : List Board) (d : Board) (new : List Board) → AddsSteps R (moment a old) (moment b mid) → IsOneMore (moment b mid) (moment d new) → EndsSteps R (moment a old) new
-stops_one R a old b mid d new x more = (b, mid, x, elim more [ inl none ↦ inl none.1 | inr one ↦ inr (d, one) ])
+stops_one R a old b mid d new x more = (moment b mid, x, elim more [ inl none ↦ inl none.1 | inr one ↦ inr (d, one) ])
 
 pub stops_then : (R : Board → Board → Type 0) (a : Board) (old : List Board) (b : Board) (mid new : List Board) → AddsSteps R (moment a old) (moment b mid) → EndsSteps R (moment b mid) new → EndsSteps R (moment a old) new
-stops_then R a old b mid new x ends = (ends.0, ends.1, steps_then R a old b mid ends.0 ends.1 x ends.2, ends.3)
+stops_then R a old b mid new x ends = (ends.0, steps_then R a old b mid ends.0.board ends.0.history x ends.1, ends.2)
 
 pub stops_as : (R Q : Board → Board → Type 0) → ((p b : Board) → R p b → Q p b) → (a : Board) (old new : List Board) → EndsSteps R (moment a old) new → EndsSteps Q (moment a old) new
-stops_as R Q so a old new ends = (ends.0, ends.1, steps_as R Q so a old ends.0 ends.1 ends.2, ends.3)
+stops_as R Q so a old new ends = (ends.0, steps_as R Q so a old ends.0.board ends.0.history ends.1, ends.2)
 
 pub stops_end : (R : Board → Board → Type 0) (P : Board → Type 0) → ((p b : Board) → R p b → P b) → (a : Board) (old new : List Board) → EndsSteps R (moment a old) new → Ends P old new
-stops_end R P so a old new ends = (ends.1, steps_add R P so a old ends.0 ends.1 ends.2, ends.3)
+stops_end R P so a old new ends = (ends.0.history, steps_add R P so a old ends.0.board ends.0.history ends.1, ends.2)
 
 pub stopped : {T E : Type 0} → (R : Board → Board → Type 0) (r : Result T E) (a : Board) (old : List Board) (b : Board) (new : List Board) → IsErr r → EndsSteps R (moment a old) new → StepsOrEnds R r (moment a old) (moment b new)
 stopped R (Ok x) a old b new err ends = cc err

@@ -49,16 +49,15 @@ stopped_there nodes (Ok x) hushed new err ends = cc err
 stopped_there nodes (Err e) hushed new err ends = inr ends
 
 -- the closing of the bridges on the root bus stopped
-pub throughout_hush : {T E : Type 0} → (before : Board) (root last : ℕ) (old new : List Board) (r : Result T E) → IsErr r → IsHushEnd before root old new → IsReady before root last → IsSingleThroughout before root r old new
+pub throughout_hush : {T E : Type 0} → (before : Board) (root last : ℕ) (old new : List Board) (r : Result T E) → IsErr r → IsHushEnd before root old new → IsReady before root last → IsSingleThroughout (moment before old) root r new
 throughout_hush before root last old new r err hush = λ ready.
     let R = IsLessStep (root_view before root) (nodes_behind before root) in
     let ends = hush (root_view before root) root last (nodes_behind before root) (sym (same_nodes root before ready.one)) (seen_root before root last ready) ready.walkable in
     record {
       closed = ends.0;
-      hushed = ends.1;
-      hushing = steps_as R (IsHushStep before root) (hush_step before root last ready) before old ends.0 ends.1 ends.2;
-      done = stopped_there (nodes_behind ends.0 root) r ends.1 new err ends.3;
-      later = λ beside. ended IsSingle r ends.1 new err (ends.1, adds_none IsSingle ends.1, ends.3);
+      hushing = steps_as R (IsHushStep before root) (hush_step before root last ready) before old ends.0.board ends.0.history ends.1;
+      done = stopped_there (nodes_behind ends.0.board root) r ends.0.history new err ends.2;
+      later = λ beside. ended IsSingle r ends.0.history new err (ends.0.history, adds_none IsSingle ends.0.history, ends.2);
       always = λ single. ended IsSingle r old new err (stops_end R IsSingle (still_single before root last ready single) before old new ends);
     }
 
@@ -71,30 +70,28 @@ module _ (before mid : Board) (root last : ℕ) (bridges : Bool) (old hushed new
       let h = hush (root_view before root) root last (nodes_behind before root) (sym (same_nodes root before ready.one)) (seen_root before root last ready) ready.walkable in
       subst AreShut (sym (behind_it before mid root last h.0 ready h.1)) (closed_shut h.0 h.3)
 
-  pub throughout_left : {T E : Type 0} → (r : Result T E) → IsErr r → IsBusEnd mid root last (start root) hushed new → IsReady before root last → IsSingleThroughout before root r old new
+  pub throughout_left : {T E : Type 0} → (r : Result T E) → IsErr r → IsBusEnd mid root last (start root) hushed new → IsReady before root last → IsSingleThroughout (moment before old) root r new
   throughout_left r err walk = λ ready.
       let R = IsLessStep (root_view before root) (nodes_behind before root) in
       let seen = seen_root before root last ready in
       let h = hush (root_view before root) root last (nodes_behind before root) (sym (same_nodes root before ready.one)) seen ready.walkable in
       let ends : IsSingleBeside before root → Ends IsSingle hushed new = λ beside. walk (root_view before root) h.0 h.1 seen (same_walk h.0 (nodes_behind before root) h.2 ∙ ready.walkable) h.3 (apart_at_root before root last ready h.0 h.2 beside) in
       record {
-        closed = mid;
-        hushed = hushed;
+        closed = moment mid hushed;
         hushing = steps_as R (IsHushStep before root) (hush_step before root last ready) before old mid hushed (less_stood ready);
         done = closed_there (nodes_behind mid root) r hushed new (shut_there ready);
         later = λ beside. ended IsSingle r hushed new err (ends beside);
         always = λ single. ended IsSingle r old new err (ends_then IsSingle old hushed new (steps_add R IsSingle (still_single before root last ready single) before old mid hushed (less_stood ready)) (ends (single_beside before root last ready single)));
       }
 
-  pub throughout_done : {T E : Type 0} → (x : T) → IsBusOk mid root last (start root) hushed new → IsReady before root last → IsSingleThroughout {T = T} {E = E} before root (Ok x) old new
+  pub throughout_done : {T E : Type 0} → (x : T) → IsBusOk mid root last (start root) hushed new → IsReady before root last → IsSingleThroughout {T = T} {E = E} (moment before old) root (Ok x) new
   throughout_done x walk = λ ready.
       let R = IsLessStep (root_view before root) (nodes_behind before root) in
       let seen = seen_root before root last ready in
       let h = hush (root_view before root) root last (nodes_behind before root) (sym (same_nodes root before ready.one)) seen ready.walkable in
       let adds : IsSingleBeside before root → Adds IsSingle hushed new = λ beside. walk (root_view before root) h.0 h.1 seen (same_walk h.0 (nodes_behind before root) h.2 ∙ ready.walkable) h.3 (apart_at_root before root last ready h.0 h.2 beside) in
       record {
-        closed = mid;
-        hushed = hushed;
+        closed = moment mid hushed;
         hushing = steps_as R (IsHushStep before root) (hush_step before root last ready) before old mid hushed (less_stood ready);
         done = shut_there ready;
         later = adds;

@@ -12,7 +12,7 @@ use Rattle.pci_number.specs.Seen.{View, code, IsSeen, IsClosed}
 use Rattle.pci_number.specs.Hushing.{Rest, IsRestOf}
 use Rattle.pci_number.specs.Less.{without_own_numbers, AreShut}
 use Rattle.pci_number.specs.Walked.{Outset}
-use Rattle.pci_number.specs.Stood.{Adds, AddsOrEnds, Moment, moment, AddsSteps}
+use Rattle.pci_number.specs.Stood.{Adds, AddsOrEnds, Moment, AddsSteps}
 use Rattle.pci_number.specs.declared.stop.Stop.{Stop}
 use Rattle.pci_number.specs.declared.walk.Walk.{Walk}
 
@@ -91,14 +91,13 @@ ClosedOrStopped nodes (Err stop) hushed new =
 
 -- The boards that stood after each write. Where numbering stopped with an error, nothing is said of
 -- the one after its last write: that may have left another number.
-pub record IsSingleThroughout {T E : Type 0} (before : Board) (root : ℕ) (answer : Result T E)
-    (old : List Board) (new : List Board) : Type 0 where
-  -- those that stood until the bridges on the root bus were closed
-  pub closed : Board
-  pub hushed : List Board
-  pub hushing : AddsSteps (IsHushStep before root) (moment before old) (moment closed hushed)
-  pub done : ClosedOrStopped (nodes_behind closed root) answer hushed new
+pub record IsSingleThroughout {T E : Type 0} (from : Moment) (root : ℕ) (answer : Result T E)
+    (new : List Board) : Type 0 where
+  -- the moment at which the bridges on the root bus were closed
+  pub closed : Moment
+  pub hushing : AddsSteps (IsHushStep from.board root) from closed
+  pub done : ClosedOrStopped (nodes_behind closed.board root) answer closed.history new
   -- each board after that is single,
-  pub later : IsSingleBeside before root → AddsOrEnds IsSingle answer hushed new
+  pub later : IsSingleBeside from.board root → AddsOrEnds IsSingle answer closed.history new
   -- and each at all, if the board was single at the start
-  pub always : IsSingle before → AddsOrEnds IsSingle answer old new
+  pub always : IsSingle from.board → AddsOrEnds IsSingle answer from.history new

@@ -59,8 +59,8 @@ AddsSteps R from to =
 -- The same, but that of one last board nothing is said.
 abbrev pub EndsSteps : (Board → Board → Type 0) → Moment → List Board → Type 0
 EndsSteps R from new =
-    (now : Board) × (taken : List Board) × AddsSteps R from (moment now taken)
-    × ((new ≡ taken) ⊎ ((board : Board) × (new ≡ board ∷ taken)))
+    (last : Moment) × AddsSteps R from last
+    × ((new ≡ last.history) ⊎ ((board : Board) × (new ≡ board ∷ last.history)))
 
 abbrev pub StepsOrEnds : {T E : Type 0} → (Board → Board → Type 0) → Result T E → Moment → Moment
     → Type 0

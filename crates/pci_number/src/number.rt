@@ -5,6 +5,7 @@ ghost use Rattle.number_spec.specs.Ready.{IsReady};
 ghost use Rattle.pci_number.specs.Answer.{Answers, Keeps};
 ghost use Rattle.pci_number.specs.Few.{IsFew};
 ghost use Rattle.pci_number.specs.Single.{IsSingleThroughout, EndsSingle};
+ghost use Rattle.pci_number.specs.Stood.{moment};
 
 use crate::hush::hush;
 use crate::port::BoardPort;
@@ -45,7 +46,7 @@ pub fn number<P: BoardPort>(port: &mut P, root: u8, last: u8, spare: u8) -> Resu
     // each board that stood is single, from when the bridges on the root bus are closed, or from
     // the start
     ensures single { IsReady (P.board port.old) root last
-        → IsSingleThroughout (P.board port.old) root result (P.history port.old)
+        → IsSingleThroughout (moment (P.board port.old) (P.history port.old)) root result
         (P.history port.new) }
     ensures end { IfOk result
         (λ _. EndsSingle (P.board port.old) root last (P.board port.new)) }

@@ -38,8 +38,8 @@ pub fn open<P: BoardPort>(port: &mut P, slot: Slot, behind: u8, last: u8) -> Res
         (λ bridges. IsOpened (P.board port.old) slot behind last bridges (P.board port.new)) }
     ensures left { OnErr result (IsOpenLeft (P.board port.old) slot behind last
         (P.board port.new)) }
-    ensures stood { IsOpenStood (moment (P.board port.old) (P.history port.old)) slot behind last result
-        (P.history port.new) }
+    ensures stood { IsOpenStood (moment (P.board port.old) (P.history port.old)) slot behind last
+        result (P.history port.new) }
     ensures stop { IfErr result (IsStop (P.board port.new) (P.last_write port.new)) }
     ensures counted { P.failures port.new ≡ P.failures port.old + failures_at result }
     ensures few { IsOpenFew (P.board port.old) slot behind last (P.writes port.old)
