@@ -9,13 +9,13 @@ use Rattle.pci_spec.specs.Header.{secondary_bus}
 use Rattle.pci_spec.specs.System.{System, IsSystem, IsFunction, Function, Space, Part, Bar, Rom, Window, Claims, IsPassedTo, Leads, passes, is_window, is_prefetchable_part}
 use Rattle.pci_spec.specs.Bus.{IsNested}
 use Rattle.pci_spec.specs.JudgingLaws.{IsFirstStop as StopsFirst}
+use Rattle.pci_spec.specs.Fault.{address_in, named_region}
 use Rattle.pci_spec.proofs.Verdicts.{passed_by_each}
 use Rattle.pci_tree.specs.declared.region.Region.{Region}
 use Rattle.pci_tree.specs.Ranges.{Covers}
 use Rattle.pci_tree.specs.Regions.{IsRegionOn, name_of}
 use Rattle.pci_tree.specs.Outline.{IsPathTo, IsReachTo}
 use Rattle.pci_check.specs.Stops.{is_of_window, Reaches, ranges_at, IsWholeAt, IsBusBehind, IsWholeBehind, IsFirstStop}
-use Rattle.pci_spec.specs.Fault.{address_in, named_region}
 
 -- ---- parts of a way
 

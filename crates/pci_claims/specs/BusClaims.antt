@@ -78,11 +78,11 @@ AreLegacyClaims given space records reach slots claims =
     (λ slot. region_number slot BRIDGE_CONTROL) number_of slots claims
 
 -- they come behind others
-pub record AreMoreClaims (AreMade : List Claimed
-    → Type 0) (before after : List Claimed) : Type 0 where
+pub record AreMoreClaims (AreSo : List Claimed → Type 0)
+    (before after : List Claimed) : Type 0 where
   pub more : List Claimed
   pub appended : after ≡ before ++ more
-  pub made : AreMade more
+  pub made : AreSo more
 
 -- the slots of the bridges
 abbrev pub AreBridgesOf : Tree → List Slot → Type 0

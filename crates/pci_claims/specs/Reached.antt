@@ -45,10 +45,8 @@ IsReachInEach given t kind bus out =
     (s : System) → HasRecords s t.records → IsReachTo given t.roots s kind bus out
 
 -- the same of the addresses at which some access gets to the bus
-pub record IsAccessReach (given : Given) (roots : List ℕ) (s : System) (space : Space) (bus : ℕ)
-    (out : List Range) : Type 0 where
-  pub canonical : IsCanonical out
-  pub exact : (a : ℕ) → Covers out a ↔ (IsAddress space a × Gets given roots s space a bus)
+abbrev pub IsAccessReach : Given → List ℕ → System → Space → ℕ → List Range → Type 0
+IsAccessReach given roots s space bus = AreReached space (λ a. Gets given roots s space a bus)
 
 abbrev pub IsAccessReachInEach : Given → Tree → Space → ℕ → List Range → Type 0
 IsAccessReachInEach given t space bus out =

@@ -138,7 +138,7 @@ pub fn legacy_claim_of<A: Allocator + Copy>(
     space: Space,
     reach: &[Range],
 ) -> Result<Claim<A>, OutOfMemory>
-    // as with a region's
+    // two rising lists have in common what one walk along both meets
     requires { IsCanonical reach.now }
     ensures { IfOk result (λ c. IsClaimOfLegacy (given_value given.now) (space_of space) function.now
         reach.now c) }

@@ -4,7 +4,7 @@ ghost use Rattle.std.specs.Prelude.{◌≡◌, Some, codes};
 use std::fmt;
 use thiserror::Error;
 
-/// Why a text is refused: what is wrong, and in which line of the text, counted from 1.
+/// Why a text is refused: what is wrong, and of 3 to 9 the line of the text, counted from 1.
 #[derive(Clone, Copy, Debug, PartialEq, Eq, Error)]
 pub enum ReadFault {
     /// 1: a read failed.

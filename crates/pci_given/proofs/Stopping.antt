@@ -16,11 +16,11 @@ use Rattle.pci_tree.proofs.Lifting.{one_by_number}
 use Rattle.given_spec.specs.Given.{Given}
 use Rattle.pci_claims.specs.Passed.{ArePassed, passes_with}
 use Rattle.pci_claims.specs.Sent.{IsSentTo}
-use Rattle.pci_given.specs.Missed.{IsLeastMissed}
 use Rattle.pci_claims.specs.Reached.{PassesAt}
-use Rattle.pci_given.specs.Stopped.{PassesSent, IsFirstStop}
-use Rattle.pci_claims.proofs.Walking.{all_more}
 use Rattle.pci_claims.specs.Outside.{IsSent}
+use Rattle.pci_claims.proofs.Walking.{all_more}
+use Rattle.pci_given.specs.Missed.{IsLeastMissed}
+use Rattle.pci_given.specs.Stopped.{PassesSent, IsFirstStop}
 
 module _ (given : Given) (kind : WindowKind) (records : List Record) (root : ℕ) (range : Range) where
   -- the record at a slot is one

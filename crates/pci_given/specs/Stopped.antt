@@ -19,11 +19,15 @@ use Rattle.given_spec.specs.AllFaults.{IsUnreachedOf}
 use Rattle.pci_claims.specs.Outside.{IsSent}
 use Rattle.pci_claims.specs.Reached.{PassesAt}
 
--- the bridge whose record has the slot passes each address of a range that is sent to a root
+-- the bridge at a slot passes each address of a range that is sent there
+abbrev pub PassesEach : (ℕ → Type 0) → (ℕ → Slot → Type 0) → Range → Slot → Type 0
+PassesEach IsSentThere IsPassedAt range slot =
+    (a : ℕ) → Holds range a → IsSentThere a → IsPassedAt a slot
+
+-- the same of the bridge whose record has the slot, and of what is sent to a root
 abbrev pub PassesSent : Given → WindowKind → List Record → ℕ → Range → Slot → Type 0
-PassesSent given kind records root range slot =
-    (a : ℕ) → Holds range a → IsSent given (window_space kind) root a
-    → PassesAt given kind records a slot
+PassesSent given kind records root =
+    PassesEach (IsSent given (window_space kind) root) (PassesAt given kind records)
 
 -- the first slot of a path whose bridge doesn't, and the least address that it doesn't pass
 pub record IsFirstStop (IsSentThere : ℕ → Type 0) (IsPassedAt : ℕ → Slot → Type 0) (range : Range)
@@ -31,8 +35,7 @@ pub record IsFirstStop (IsSentThere : ℕ → Type 0) (IsPassedAt : ℕ → Slot
   pub place : ℕ
   pub within : place < length path
   pub at : HoldsAt (λ slot. slot ≡ bridge) path place
-  pub before : All (λ slot. (b : ℕ) → Holds range b → IsSentThere b → IsPassedAt b slot)
-      (take place path)
+  pub before : All (PassesEach IsSentThere IsPassedAt range) (take place path)
   pub held : Holds range a
   pub sent : IsSentThere a
   pub stopped : IsPassedAt a bridge → ⊥

@@ -2,16 +2,16 @@
 //! that a bridge on the way from there doesn't pass.
 ghost use Rattle.std.specs.Prelude.{MatchOption, IfOk};
 ghost use Rattle.std.specs.List.{All};
+ghost use Rattle.pci_spec.specs.System.{window_space};
 ghost use Rattle.pci_base.specs.Space.{space_of};
 ghost use Rattle.pci_base.specs.WindowKinds.{kind_value};
 ghost use Rattle.pci_tree.specs.Outline.{RiseBySlot};
 ghost use Rattle.pci_tree.specs.Reaches.{HasSpans};
 ghost use Rattle.pci_check.specs.Stops.{AreReachesOf, AlwaysNested};
 ghost use Rattle.pci_claims.specs.Values.{given_value};
-ghost use Rattle.pci_given.specs.Stopped.{PassesSent, IsFirstStop, IsNeverUnreached, IsUnreachedLine};
-ghost use Rattle.pci_spec.specs.System.{window_space};
 ghost use Rattle.pci_claims.specs.Outside.{IsSent};
 ghost use Rattle.pci_claims.specs.Reached.{PassesAt};
+ghost use Rattle.pci_given.specs.Stopped.{PassesSent, IsFirstStop, IsNeverUnreached, IsUnreachedLine};
 
 use super::missed::least_missed;
 use pci_base::memory::OutOfMemory;

@@ -1,12 +1,12 @@
 //! The lines behind an unreached region.
 ghost use Rattle.std.specs.Prelude.{◌≡◌, ◌++◌, OnOk};
 ghost use Rattle.std.specs.String.{string_bytes};
+ghost use Rattle.pci_spec.specs.Fault.{named_region};
 ghost use Rattle.pci_base.specs.Space.{space_of};
 ghost use Rattle.pci_function.specs.Values.{record_value};
 ghost use Rattle.pci_tree.specs.Reaches.{HasSpans};
 ghost use Rattle.pci_claims.specs.Values.{given_value};
 ghost use Rattle.pci_given_why.specs.Bridges.{line_of_bridge, AreMissedTold, IsUnreachedTold};
-ghost use Rattle.pci_spec.specs.Fault.{named_region};
 
 use super::legacy::push_legacy_word;
 use pci_base::memory::OutOfMemory;

@@ -1,11 +1,11 @@
 //! The region that a slot and a register name, with what is given.
 ghost use Rattle.std.specs.Prelude.{◌≡◌, ◌≢◌, ◌++◌, IfOk, IfSome, MatchOption, OnOk};
 ghost use Rattle.std.specs.String.{string_bytes};
+ghost use Rattle.pci_spec.specs.Fault.{named_region};
 ghost use Rattle.pci_base.specs.Space.{space_of};
 ghost use Rattle.pci_tree.specs.Ranges.{IsCanonical};
 ghost use Rattle.pci_claims.specs.Values.{given_value};
 ghost use Rattle.pci_given_why.specs.Named.{shown_line, HasAddress, IsNamedInEach, NoneNamed};
-ghost use Rattle.pci_spec.specs.Fault.{named_region};
 
 use super::legacy::{is_narrow, push_legacy_line};
 use pci_base::memory::OutOfMemory;

@@ -1,10 +1,10 @@
 //! The lines behind two regions that claim an address.
 ghost use Rattle.std.specs.Prelude.{OnOk};
 ghost use Rattle.std.specs.String.{string_bytes};
+ghost use Rattle.pci_spec.specs.Fault.{named_regions};
 ghost use Rattle.pci_base.specs.Space.{space_of};
 ghost use Rattle.pci_claims.specs.Values.{given_value};
 ghost use Rattle.pci_given_why.specs.Two.{AreTwoTold};
-ghost use Rattle.pci_spec.specs.Fault.{named_regions};
 
 use super::named::{push_shown, region_named};
 use pci_base::memory::OutOfMemory;

@@ -1,11 +1,11 @@
 //! The lines behind a fault of judging.
 ghost use Rattle.std.specs.Prelude.{◌≤◌, ◌↔◌, ℕ, OnOk, MatchOption};
 ghost use Rattle.std.specs.String.{string_bytes};
+ghost use Rattle.pci_spec.specs.Fault.{named_region, named_regions};
 ghost use Rattle.pci_base.specs.Space.{space_of};
 ghost use Rattle.pci_function.specs.Fault.{fault_of};
 ghost use Rattle.pci_why.specs.Fits.{IsAdviceTold, IsWhyTold};
 ghost use Rattle.pci_why.specs.Evidence.{IsInBoth, IsUnreachedTold, AreTwoTold, IsEvidenceTold};
-ghost use Rattle.pci_spec.specs.Fault.{named_region, named_regions};
 
 use super::bridge_line::{push_bridge_line, push_missed};
 use super::find::{record_at, region_at};

@@ -3,17 +3,17 @@ use Rattle.std.specs.List.{All}
 use Rattle.std.proofs.lemmas.Result.{IfOk-weaker}
 use Rattle.pci_spec.specs.Slot.{Slot}
 use Rattle.pci_spec.specs.Window.{WindowKind}
+use Rattle.pci_spec.specs.System.{window_space}
 use Rattle.pci_base.specs.Space.{space_of}
 use Rattle.pci_tree.specs.Outline.{IsPathTo}
 use Rattle.pci_tree.proofs.Outlines.{have_spans}
 use Rattle.pci_claims.specs.Values.{given_value}
 use Rattle.pci_claims.specs.Outside.{IsRootOf, IsSent}
-use Rattle.pci_given.specs.Stopped.{PassesSent, IsFirstStop}
+use Rattle.pci_claims.specs.Reached.{PassesAt}
 use Rattle.pci_claims.proofs.Outsides.{range}
+use Rattle.pci_given.specs.Stopped.{PassesSent, IsFirstStop}
 use Rattle.pci_given.proofs.Unreaching.{match_both, without_path, never_unreached, unreached_line}
 use Rattle.pci_given.proofs.unreached.first_stop_of.Goals as goal
-use Rattle.pci_spec.specs.System.{window_space}
-use Rattle.pci_claims.specs.Reached.{PassesAt}
 
 pub first_stop-requires-clause-spans : goal.first_stop-requires-clause-spans
 first_stop-requires-clause-spans g c = have_spans c.records.result.now c.records.ensures.lawful

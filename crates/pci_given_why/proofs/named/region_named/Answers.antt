@@ -1,10 +1,10 @@
 use Rattle.std.proofs.Common.{sym, subst}
 use Rattle.std.specs.Prelude.{IfOk, MatchOption}
+use Rattle.pci_spec.specs.Fault.{named_region}
 use Rattle.pci_base.specs.Space.{space_of}
 use Rattle.pci_claims.specs.Values.{given_value}
 use Rattle.pci_given_why.specs.Named.{IsNamedInEach, NoneNamed}
 use Rattle.pci_given_why.proofs.named.region_named.Goals as goal
-use Rattle.pci_spec.specs.Fault.{named_region}
 
 pub returns-then-reg-eq-BRIDGE_CONTROL-clause-exact : goal.returns-then-reg-eq-BRIDGE_CONTROL-clause-exact
 returns-then-reg-eq-BRIDGE_CONTROL-clause-exact g c =
