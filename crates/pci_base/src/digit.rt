@@ -41,6 +41,7 @@ static HEX: [u8; 16] = *b"0123456789abcdef";
 
 /// The hex digit of a number below 16.
 pub fn digit_of(number: u8) -> u8
+    // a digit has four bits
     requires { number < 16 }
     ensures { result ≡ hex_digit number }
 {

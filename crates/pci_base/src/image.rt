@@ -54,6 +54,7 @@ impl Image {
 
 /// One of the four bytes of a number, the low byte first.
 pub fn byte_of(value: u32, j: u8) -> u8
+    // above the fourth 256 to the power of j would be no u32
     requires { j < 4 }
     ensures { result ≡ value / 256 ^ j % 256 }
 {

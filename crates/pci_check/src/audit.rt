@@ -118,7 +118,9 @@ pub fn audit<A: Allocator + Copy, D: Source, P: Source, O: Sink>(
     ensures fault { IfErr result (IsTextRefusal
         (reading (D.left dump.old) (D.failures dump.old) (D.failures dump.new))
         (reading (P.left probe.old) (P.failures probe.old) (P.failures probe.new))) }
+    // where a text is refused no part of a line goes out
     ensures quiet { IfErr result (λ fault. fault ≢ AuditFault.Write → out.new ≡ out.old) }
+    // what went out can't be taken back, so all that is promised is that it is a beginning
     ensures begun { IfErr result (λ fault. fault ≡ AuditFault.Write
         → HasBegun (0 ∷ []) (D.left dump.old) (P.left probe.old) (O.taken out.old)
         (O.taken out.new)) }

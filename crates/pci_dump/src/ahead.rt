@@ -118,6 +118,7 @@ impl ReadAhead {
             (state_of self.new (S.left source.new) (S.failures source.new))) }
         ensures done { self.old.progress ≡ Progress.Done
             → (result ≡ Ok None) × (self.new ≡ self.old) }
+        // a caller that goes on after a fault meets it again, and no bytes behind it
         ensures again { (fault : ReadFault) → self.old.progress ≡ Progress.Failed fault
             → (result ≡ Err fault) × (self.new ≡ self.old) }
         ensures untouched { self.old.progress ≢ Progress.Open → source.new ≡ source.old }

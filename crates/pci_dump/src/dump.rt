@@ -91,6 +91,7 @@ impl<A: Allocator> Dump<A> {
             ↔ (IsAboveLast (last_slot self.old) block.slot → ⊥) }
         ensures full { IsErrOf result (Refused.Fault PushFault.Full)
             ↔ (IsAboveLast (last_slot self.old) block.slot × (length self.old ≡ BLOCKS_MAX)) }
+        // what is full or refused leaves the dump as it was, so a caller may go on with it
         ensures err { OnErr result (self.new ≡ self.old) }
     {
         if !block.may_follow(self.last_slot()) {

@@ -60,6 +60,7 @@ impl<S: Source> Reader<S> {
         ensures err { IfErr result (TakesFault self.old self.new) }
         ensures done { self.old.progress ≡ Progress.Done
             → (result ≡ Ok None) × (self.new ≡ self.old) }
+        // a caller that goes on after a fault meets it again, and no bytes behind it
         ensures again { (fault : ReadFault) → self.old.progress ≡ Progress.Failed fault
             → (result ≡ Err fault) × (self.new ≡ self.old) }
     {
@@ -76,6 +77,7 @@ impl<S: Source> Reader<S> {
         ensures err { IfErr result (TakesFault self.old self.new) }
         ensures done { self.old.progress ≡ Progress.Done
             → (result ≡ Ok false) × (self.new ≡ self.old) }
+        // a caller that goes on after a fault meets it again, and no bytes behind it
         ensures again { (fault : ReadFault) → self.old.progress ≡ Progress.Failed fault
             → (result ≡ Err fault) × (self.new ≡ self.old) }
     {
@@ -101,6 +103,7 @@ pub fn read_dump<S: Source, A: Allocator>(alloc: A, source: &mut S) -> Result<Du
         → fault ≢ ReadFault.Io → fault ≢ ReadFault.Memory → IsTextFault bytes fault) }
     ensures io { IfErr result
         (λ fault. fault ≡ ReadFault.Io → S.failures source.new ≡ S.failures source.old + 1) }
+    // 1 alone tells of a failed read
     ensures no_io { IfErr result
         (λ fault. fault ≢ ReadFault.Io → S.failures source.new ≡ S.failures source.old) }
 {

@@ -35,6 +35,7 @@ pub fn write_dump<K: Sink, A: Allocator>(sink: &mut K, dump: &Dump<A>) -> Result
     // what is written is a text that reads back as this dump
     ensures text { IsTextOf (text_of dump.now) dump.now }
     ensures fine { OnOk result (K.failures sink.new ≡ K.failures sink.old) }
+    // what went out can't be taken back, so all that is promised is that it is a beginning
     ensures begun { OnErr result
         (AppendsBeginning (K.taken sink.old) (K.taken sink.new) (text_of dump.now)) }
     ensures failed { OnErr result (K.failures sink.new ≡ K.failures sink.old + 1) }

@@ -124,7 +124,9 @@ pub fn shares<A: Allocator + Copy>(
     allowed: &[Range],
     by: Among,
 ) -> Result<Vec<Share, A>, OutOfMemory>
+    // the least address in common with two regions is looked for in one walk along these
     requires canonical { IsCanonical allowed.now }
+    // whoever tells them takes the regions by these
     ensures within { IfOk result (λ out. AreWithin (length regions.now) out.items) }
     // what the order of the regions is, a caller knows of each system that has them
     ensures exact { IfOk result (λ out. GroupsRise by regions.now

@@ -88,6 +88,7 @@ pub fn meetings<A: Allocator + Copy>(
     claims: &[Claim<A>],
     among: Among,
 ) -> Result<Vec<Share, A>, OutOfMemory>
+    // whoever tells them takes the claims by these
     ensures within { IfOk result (λ v. AreWithin (length claims.now) v.items) }
     ensures exact { IfOk result (λ v. AreMeetings among claims.now v.items) }
 {

@@ -132,6 +132,7 @@ pub fn push_shown<A: Allocator>(
     space: Space,
     shown: &Shown,
 ) -> Result<(), AllocError>
+    // the line tells how many addresses the region has
     requires { HasAddress shown.now }
     ensures { OnOk result (string_bytes text.new
         ≡ string_bytes text.old ++ shown_line word.now (space_of space) shown.now) }

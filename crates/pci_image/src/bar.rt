@@ -257,6 +257,7 @@ fn decode_register(
 /// The first rule that the BAR of register `n` breaks, where it starts one: 22 `BarType`, 23 `BarMask` or 24 `BarPair`.
 /// `count` is how many BAR registers the header has.
 pub fn bar_fault(image: &Image, probe: &Image, n: u8, count: u8) -> Option<ImageFault>
+    // no header has more BAR registers, and a 64-bit BAR takes the next one too
     requires register { n < 6 }
     // only the last register has none after it
     requires count { count ≡ bar_count (layout image.now.0) }
@@ -325,6 +326,7 @@ pub fn bars(image: &Image, probe: &Image) -> Result<ArrayVec<Bar, 6>, ImageFault
     ensures compared { IfOk result (λ v. All (IsComparedBar image.now.0 probe.now.0) v.items) }
     ensures fault { IfErr result
         (λ f. IsImageFaultIn image.now.0 probe.now.0 f × (image_fault_number f ≤ 24)) }
+    // so 20 comes before 21, and both before what registers have
     ensures header { IfErr result (HasNoHeaderFaultBefore image.now.0) }
     ensures lowest { IfErr result (IsLowestBarFault image.now.0 probe.now.0) }
 {

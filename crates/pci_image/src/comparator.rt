@@ -12,6 +12,7 @@ use pci_base::range::Range;
 /// The lowest bit that reads back 1, from bit `from` upward, where the ones there are one run that
 /// ends at bit `top`.
 pub fn run_start(mask: u64, from: u32, top: u32) -> Option<u32>
+    // the run ends at bit top, so it can't start above
     requires order { from ≤ top }
     // the run is cut from 64 ones by a shift of 63 - top
     requires width { top < 64 }

@@ -133,6 +133,7 @@ impl Windows {
         ensures compared { IfOk result (HoldsAsComparators image.now.0 probe.now.0) }
         // 21 is also what a device gets: its header decodes, but windows are a bridge's
         ensures fault { IfErr result (IsWindowsFaultIn image.now.0 probe.now.0) }
+        // so 20 comes before 21, and both before what registers have
         ensures header { IfErr result (HasNoHeaderFaultBefore image.now.0) }
         ensures lowest { IfErr result (IsLowestWindowFault image.now.0 probe.now.0) }
     {

@@ -51,6 +51,7 @@ pub fn push_word<A: Allocator>(text: &mut String<A>, word: u16) -> Result<(), Al
 
 /// Appends a number below 10.
 pub fn push_decimal<A: Allocator>(text: &mut String<A>, number: u8) -> Result<(), AllocError>
+    // it is one character
     requires { number < 10 }
     ensures { OnOk result (string_bytes text.new ≡ string_bytes text.old ++ decimal_text number) }
 {

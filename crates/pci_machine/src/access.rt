@@ -16,6 +16,7 @@ pub fn is_access(off: u8, width: u8) -> bool
 
 /// Whether a value fits 1, 2 or 4 bytes.
 pub fn fits(width: u8, value: u32) -> bool
+    // the widths are those of an access, so 256 to the power of the width is known
     requires { IsTrue (port.is_access 0 width) }
     ensures { result ≡ port.fits width value }
 {

@@ -26,6 +26,7 @@ pub fn read_at<P: ConfigPort>(
 ) -> Result<u32, AccessFault>
     // without it 40 could come, and a stop wouldn't mean that the port failed
     requires there { IsTrue (ports.has_function (P.targets port.old) slot) }
+    // else 41 could come, and a stop wouldn't mean that the port failed
     requires lawful { IsTrue (ports.is_access off width) }
     ensures value { IfOk result
         (λ value. value ≡ number_at (function_at (P.targets port.old) slot).image off width) }
@@ -34,7 +35,9 @@ pub fn read_at<P: ConfigPort>(
     ensures stop { IfErr result (λ stop. stop ≡ record { offset = off; fault = PortError.Failed }) }
     ensures failed { OnErr result
         (FirstFailed P.failures (Fails P.reads P.writes slot off) port.old port.new) }
+    // by it a stop is told from what the function itself is refused for
     ensures counted { P.failures port.new ≡ P.failures port.old + failures_of_stop result }
+    // no configuration register changes by being read
     ensures same { P.targets port.new ≡ P.targets port.old }
     ensures there { IsTrue (ports.has_function (P.targets port.new) slot) }
     ensures lawful { ports.IsLawful (P.targets port.new) }
@@ -53,7 +56,9 @@ pub fn write_at<P: ConfigPort>(
     width: u8,
     value: u32,
 ) -> Result<(), AccessFault>
+    // else 40 could come, and a stop wouldn't mean that the port failed
     requires there { IsTrue (ports.has_function (P.targets port.old) slot) }
+    // else 41 could come
     requires lawful { IsTrue (ports.is_access off width && ports.fits width value) }
     // no two functions are at one slot, so that one image alone is written
     requires targets { ports.IsLawful (P.targets port.old) }
@@ -67,6 +72,7 @@ pub fn write_at<P: ConfigPort>(
     ensures stop { IfErr result (λ stop. stop ≡ record { offset = off; fault = PortError.Failed }) }
     ensures failed { OnErr result
         (FirstFailed P.failures (Fails P.reads P.writes slot off) port.old port.new) }
+    // by it a stop is told from what the function itself is refused for
     ensures counted { P.failures port.new ≡ P.failures port.old + failures_of_stop result }
     ensures there { IsTrue (ports.has_function (P.targets port.new) slot) }
     ensures lawful { ports.IsLawful (P.targets port.new) }

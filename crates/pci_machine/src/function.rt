@@ -21,6 +21,7 @@ use pci_image::layout::Layout;
 /// The registers of the function at a slot, if its address registers decode. The fault is one of 20
 /// to 26: of BARs the lowest, else that of the ROM, else of windows the lowest.
 pub fn registers_of(slot: Slot, image: &Image, probe: &Image) -> Result<ConfigSpace, ImageFault>
+    // which bytes are there, so each register can be read
     requires { IsImage image.now.0 }
     ensures made { IfOk result (λ registers. registers ≡ target_of record {
       slot = slot;

@@ -37,7 +37,9 @@ impl Model for Quiet {
 impl Quiet {
     /// Clears the decode bits of a function that is there.
     pub fn begin<P: ConfigPort>(port: &mut P, slot: Slot) -> Result<Quiet, AccessFault>
+        // so a stop means that the port failed
         requires there { IsTrue (ports.has_function (P.targets port.old) slot) }
+        // no two functions are at one slot, so that one image alone is written
         requires lawful { ports.IsLawful (P.targets port.old) }
         // with all its bits, as it is put back as a whole
         ensures command { IfOk result
@@ -56,6 +58,7 @@ impl Quiet {
         }) }
         ensures failed { OnErr result
             (FirstFailed P.failures (Fails P.reads P.writes slot table.COMMAND) port.old port.new) }
+        // by it a stop is told from what the function itself is refused for
         ensures counted { P.failures port.new ≡ P.failures port.old + failures_of_stop result }
         ensures there { IsTrue (ports.has_function (P.targets port.new) slot) }
         ensures lawful { ports.IsLawful (P.targets port.new) }
@@ -73,7 +76,9 @@ impl Quiet {
 
     /// Puts the old Command back. Where that fails, the error has it.
     pub fn end<P: ConfigPort>(self, port: &mut P, slot: Slot) -> Result<(), (AccessFault, u16)>
+        // so a stop means that the port failed
         requires there { IsTrue (ports.has_function (P.targets port.old) slot) }
+        // no two functions are at one slot, so that one image alone is written
         requires lawful { ports.IsLawful (P.targets port.old) }
         // with `command` of `begin` this makes the function what it was before
         ensures written { OnOk result (P.targets port.new
@@ -86,6 +91,7 @@ impl Quiet {
         }) × (e.1 ≡ self)) }
         ensures failed { OnErr result
             (FirstFailed P.failures (Fails P.reads P.writes slot table.COMMAND) port.old port.new) }
+        // by it a stop is told from what the function itself is refused for
         ensures counted { P.failures port.new ≡ P.failures port.old + failures_of_stop result }
         ensures lawful { ports.IsLawful (P.targets port.new) }
     {

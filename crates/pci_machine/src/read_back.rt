@@ -19,8 +19,11 @@ pub fn read_back<P: ConfigPort>(
     width: u8,
     ones: u32,
 ) -> Result<u32, AccessFault>
+    // so a stop means that the port failed
     requires there { IsTrue (ports.has_function (P.targets port.old) slot) }
+    // a port would refuse another access
     requires access { IsTrue (ports.is_access off width && ports.fits width ones) }
+    // no two functions are at one slot, so that one image alone is written
     requires lawful { ports.IsLawful (P.targets port.old) }
     // in a status register ones would clear what no write could set again
     requires plain { IsPlain (function_at (P.targets port.old) slot) off width }
@@ -35,6 +38,7 @@ pub fn read_back<P: ConfigPort>(
     ensures left { OnErr result
         ((image : List ℕ) × (P.targets port.new ≡ ports.with_image (P.targets port.old) slot image)
         × DiffersWithin off width (function_at (P.targets port.old) slot).image image) }
+    // by it a stop is told from what the function itself is refused for
     ensures counted { P.failures port.new ≡ P.failures port.old + failures_of_stop result }
     ensures there { IsTrue (ports.has_function (P.targets port.new) slot) }
     ensures lawful { ports.IsLawful (P.targets port.new) }

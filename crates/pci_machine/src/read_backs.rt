@@ -24,7 +24,9 @@ pub fn read_backs<P: ConfigPort>(
     slot: Slot,
     layout: Layout,
 ) -> Result<Image, AccessFault>
+    // so a stop means that the port failed
     requires there { IsTrue (ports.has_function (P.targets port.old) slot) }
+    // no two functions are at one slot, so that one image alone is written
     requires lawful { ports.IsLawful (P.targets port.old) }
     // by the other layout a device's BARs would be taken for the registers of windows
     requires header { header.layout (function_at (P.targets port.old) slot).image
@@ -41,6 +43,7 @@ pub fn read_backs<P: ConfigPort>(
     ensures left { OnErr result
         ((image : List ℕ) × (P.targets port.new ≡ ports.with_image (P.targets port.old) slot image)
         × DiffersInRegisters (function_at (P.targets port.old) slot).image image) }
+    // by it a stop is told from what the function itself is refused for
     ensures counted { P.failures port.new ≡ P.failures port.old + failures_of_stop result }
     // Command is still to be put back, so the function has to be there
     ensures there { IsTrue (ports.has_function (P.targets port.new) slot) }

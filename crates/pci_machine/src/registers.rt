@@ -50,6 +50,7 @@ impl ConfigSpace {
 
     /// The number of `width` bytes at an offset.
     pub fn number(&self, off: u8, width: u8) -> u32
+        // an access lies within one doubleword, so all its bytes are there
         requires { IsTrue (port.is_access off width) }
         ensures { result ≡ number_at self.now.image off width }
     {
@@ -65,6 +66,7 @@ impl ConfigSpace {
 
     /// Writes to `width` bytes at an offset.
     pub fn write(&mut self, off: u8, width: u8, value: u32)
+        // an access lies within one doubleword, so all its bytes are there
         requires { IsTrue (port.is_access off width) }
         ensures { self.new ≡ record self.old { image = written self.old off width value } }
     {

@@ -45,6 +45,7 @@ pub fn size<P: ConfigPort>(port: &mut P, slot: Slot) -> Result<Image, SizeFault>
     ensures there { OnOk result (IsTrue (ports.has_function (P.targets port.old) slot)) }
     ensures vendor { OnOk result
         (IsFalse (has_no_vendor (function_at (P.targets port.old) slot).image)) }
+    // of another layout it isn't known where address registers are
     ensures header { OnOk result
         (IsFalse (has_other_layout (function_at (P.targets port.old) slot).image)) }
     ensures not_stuck { OnOk result (IsStuck (function_at (P.targets port.old) slot) → ⊥) }

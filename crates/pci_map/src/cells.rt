@@ -22,6 +22,7 @@ pub fn put(cells: &mut Cells, characters: &[u8])
     // the array is as long as the longest line
     requires { array_vec_len cells.old + length characters.now ≤ CELLS_MAX }
     ensures text { cells.new.items ≡ cells.old.items ++ characters.now }
+    // so the caller knows how much room is left
     ensures len { array_vec_len cells.new ≡ array_vec_len cells.old + length characters.now }
 {
     cells.try_extend_from_slice(characters).unwrap();
@@ -30,9 +31,12 @@ pub fn put(cells: &mut Cells, characters: &[u8])
 /// Puts a byte there, in two hex digits.
 #[inline(always)]
 pub fn put_byte(cells: &mut Cells, byte: u8)
+    // the array is as long as the longest line
     requires { array_vec_len cells.old + 2 ≤ CELLS_MAX }
     ensures text { cells.new.items ≡ cells.old.items ++ hex_byte byte }
+    // so the caller knows how much room is left
     ensures len { array_vec_len cells.new ≡ array_vec_len cells.old + 2 }
+    // so the text that the cells become is UTF-8
     ensures ascii { IsAscii (hex_byte byte) }
 {
     cells.push(digit_of(byte / 16));
@@ -42,9 +46,12 @@ pub fn put_byte(cells: &mut Cells, byte: u8)
 /// Puts the lowest bytes of a number there.
 #[inline(always)]
 pub fn put_bytes(cells: &mut Cells, number: u64, bytes: u32)
+    // a u64 has no more
     requires bytes { bytes ≤ 8 }
+    // the array is as long as the longest line
     requires room { array_vec_len cells.old + 2 * bytes ≤ CELLS_MAX }
     ensures text { cells.new.items ≡ cells.old.items ++ hex_number (2 * bytes) number }
+    // so the caller knows how much room is left
     ensures len { array_vec_len cells.new ≡ array_vec_len cells.old + 2 * bytes }
 {
     for done in 0..bytes {
@@ -56,9 +63,12 @@ pub fn put_bytes(cells: &mut Cells, number: u64, bytes: u32)
 /// Puts `bb:dd.f` there.
 #[inline(always)]
 pub fn put_slot(cells: &mut Cells, slot: Slot)
+    // the array is as long as the longest line
     requires { array_vec_len cells.old + 7 ≤ CELLS_MAX }
     ensures text { cells.new.items ≡ cells.old.items ++ slot_text slot }
+    // so the caller knows how much room is left
     ensures len { array_vec_len cells.new ≡ array_vec_len cells.old + 7 }
+    // so the text that the cells become is UTF-8
     ensures ascii { IsAscii (slot_text slot) }
 {
     put_byte(cells, slot.bus());

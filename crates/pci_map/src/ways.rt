@@ -124,6 +124,7 @@ pub fn find_ways<A: Allocator + Copy>(
     alloc: A,
     outline: &Outline<A>,
 ) -> Result<Vec<Option<Windows>, A>, OutOfMemory>
+    // bus numbers index it
     ensures size { IfOk result (λ v. length v.items ≡ 256) }
     ensures ways { IfOk result (λ v. (s : System) → IsTreeOf outline.now s
         → AreWays outline.now.roots s v.items) }

@@ -17,6 +17,7 @@ const ROM_REGISTER: u8 = 4;
 
 /// Clears so many bytes from an offset on.
 pub fn clear(image: &mut Image, off: u8, count: u8)
+    // beyond the image there is nothing to clear
     requires { off + count ≤ 256 }
     ensures { image.new.0 ≡ bytes.cleared off count image.old.0 }
 {

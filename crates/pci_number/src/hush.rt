@@ -34,11 +34,14 @@ fn close<P: BoardPort>(port: &mut P, slot: Slot) -> Result<(), Stop>
 pub fn hush<P: BoardPort>(port: &mut P, bus: u8) -> Result<bool, Stop>
     ensures hushed { IfOk result
         (λ bridges. IsHushed (P.board port.old) bus bridges (P.board port.new)) }
+    // what an error leaves is all that numbering can say of a board that stopped
     ensures left { OnErr result (IsHushLeft (P.board port.old) bus (P.board port.new)) }
+    // a board may lose its port at any write, so each state on the way counts
     ensures stood { IsHushStood (moment (P.board port.old) (P.history port.old)) bus result
         (moment (P.board port.new) (P.history port.new)) }
     ensures stop { IfErr result (IsStop (P.board port.new) (P.last_write port.new)) }
     ensures counted { P.failures port.new ≡ P.failures port.old + failures_at result }
+    // a bound for the whole board is the sum of these
     ensures few { IsHushFew (P.board port.old) bus (P.writes port.old) (P.writes port.new) }
 {
     let mut more = false;

@@ -24,11 +24,14 @@ pub fn lead_to<P: BoardPort>(
     ensures put { IfOk result (λ end. IsPut (P.board port.old) slot 26 end (P.board port.new)) }
     ensures led { IfOk result (λ end. IsLed (P.board port.old) slot taken last spare end) }
     ensures above { IfOk result (λ end. taken ≤ end) }
+    // what an error leaves is all that numbering can say of a board that stopped
     ensures left { OnErr result (IsTouched (P.board port.old) slot 26 (P.board port.new)) }
+    // a board may lose its port at any write, so each state on the way counts
     ensures stood { IsOneMore (moment (P.board port.old) (P.history port.old))
         (moment (P.board port.new) (P.history port.new)) }
     ensures stop { IfErr result (IsStop (P.board port.new) (P.last_write port.new)) }
     ensures counted { P.failures port.new ≡ P.failures port.old + failures_at result }
+    // a bound for the whole board is the sum of these
     ensures few { P.writes port.new ≤ P.writes port.old + 1 }
 {
     let left = last.saturating_sub(taken);

@@ -22,6 +22,7 @@ pub struct Found {
 
 /// The slot at a place of a bus.
 pub fn slot_at(bus: u8, place: u16) -> Slot
+    // a bus has 32 devices of 8 functions each
     requires { place < 256 }
     ensures { result ≡ record { bus = bus; device = place / 8; function = place % 8 } }
 {
@@ -35,6 +36,7 @@ pub fn slot_at(bus: u8, place: u16) -> Slot
 /// there are more.
 pub fn look<P: BoardPort>(port: &mut P, slot: Slot, more: bool) -> Result<Found, AccessFailed>
     ensures looked { IfOk result (IsLooked (P.board port.old) slot more) }
+    // looking writes nothing, so what was found still stands
     ensures same { P.board port.new ≡ P.board port.old }
     ensures same_history { P.history port.new ≡ P.history port.old }
     ensures no_write { P.last_write port.new ≡ P.last_write port.old }

@@ -36,12 +36,15 @@ fn show<P: BoardPort>(port: &mut P, slot: Slot, behind: u8) -> Result<(), Stop>
 pub fn open<P: BoardPort>(port: &mut P, slot: Slot, behind: u8, last: u8) -> Result<bool, Stop>
     ensures opened { IfOk result
         (λ bridges. IsOpened (P.board port.old) slot behind last bridges (P.board port.new)) }
+    // what an error leaves is all that numbering can say of a board that stopped
     ensures left { OnErr result (IsOpenLeft (P.board port.old) slot behind last
         (P.board port.new)) }
+    // a board may lose its port at any write, so each state on the way counts
     ensures stood { IsOpenStood (moment (P.board port.old) (P.history port.old)) slot behind last
         result (P.history port.new) }
     ensures stop { IfErr result (IsStop (P.board port.new) (P.last_write port.new)) }
     ensures counted { P.failures port.new ≡ P.failures port.old + failures_at result }
+    // a bound for the whole board is the sum of these
     ensures few { IsOpenFew (P.board port.old) slot behind last (P.writes port.old)
         (P.writes port.new) }
 {

@@ -106,6 +106,7 @@ fn has_hot_plug_slot<P: BoardPort>(port: &mut P, slot: Slot) -> Result<bool, Acc
 pub fn room_of<P: BoardPort>(port: &mut P, slot: Slot, spare: u8) -> Result<u8, AccessFailed>
     ensures room { IfOk result (λ n. IsSaidThere (P.board port.old) slot (λ image.
         n ≡ spare_room spare image)) }
+    // looking writes nothing, so what was found still stands
     ensures same { P.board port.new ≡ P.board port.old }
     ensures same_history { P.history port.new ≡ P.history port.old }
     ensures no_write { P.last_write port.new ≡ P.last_write port.old }

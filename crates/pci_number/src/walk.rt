@@ -45,17 +45,21 @@ pub fn number_bus<P: BoardPort>(
     spare: u8,
     start: Walk,
 ) -> Result<Walk, Stop>
+    // numbers behind the bridges of a bus are above its own
     requires above { bus ≤ start.taken }
     ensures numbered { IfOk result
         (λ walk. IsBusNumbered (P.board port.old) (outset bus last spare start) walk
         (P.board port.new)) }
     ensures above { IfOk result (λ walk. start.taken ≤ walk.taken) }
+    // what an error leaves is all that numbering can say of a board that stopped
     ensures left { OnErr result (IsBusLeft (P.board port.old) (outset bus last spare start)
         (P.board port.new)) }
+    // a board may lose its port at any write, so each state on the way counts
     ensures stood { IsBusStood (moment (P.board port.old) (P.history port.old))
         (outset bus last spare start) result (P.history port.new) }
     ensures stop { IfErr result (IsStop (P.board port.new) (P.last_write port.new)) }
     ensures counted { P.failures port.new ≡ P.failures port.old + failures_at result }
+    // a bound for the whole board is the sum of these
     ensures few { IsBusFew (P.board port.old) (outset bus last spare start) (P.writes port.old)
         (P.writes port.new) }
 {

@@ -83,6 +83,7 @@ pub fn rom_size(rom: &Rom) -> u128
     // else the difference would be below 0
     requires { rom.now.first ≤ rom.now.last }
     ensures size { result ≡ span rom.now.first rom.now.last }
+    // sums of sizes are cut off at 2^65, and take none above it
     ensures bound { result ≤ 2 ^ 64 }
 {
     u128::from(rom.last) - u128::from(rom.first) + 1

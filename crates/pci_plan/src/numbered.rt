@@ -87,11 +87,15 @@ pub fn number_all<A: Allocator, B: Allocator>(
     needs: &ByKind<Needs>,
     places: &[Places],
 ) -> Result<Vec<[u8; HEADER_LEN], A>, OutOfMemory>
+    // what fits its pool ends below 2^64, so each number fits its register
     requires plannable { CanBePlanned admitted.now.roots (system_in admitted.now)
         (pools_value pools.now) }
+    // a window's limit is told by what is behind it
     requires needs { AreAllNeeds admitted.now.roots (system_in admitted.now)
         (pools_value pools.now) needs.now }
+    // a function's places stand where its record does
     requires count { length places.now ≡ length (system_in admitted.now) }
+    // what a register gets is read off them
     requires places { (c : KindValue)
         → HasPlaces admitted.now.roots (system_in admitted.now)
         (pools_value pools.now) c places.now }

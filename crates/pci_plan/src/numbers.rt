@@ -190,6 +190,7 @@ impl Filling<'_> {
 
     /// What an address register holds.
     pub fn number(&self, register: Register) -> u32
+        // new numbers are told of a function in a system that can be planned
         requires of { FillingOf self.now }
         // any offset that isn't a window's or a ROM's is taken for a BAR's
         requires listed { IsListed self.now.record.now register }
@@ -242,6 +243,7 @@ impl Filling<'_> {
 
     /// What Command holds: bits 0 and 1 as there is something to decode, all others as they stand (PCI 3.0, 6.2.2).
     pub fn command(&self) -> u16
+        // new bits are told of a function in a system that can be planned
         requires { FillingOf self.now }
         ensures { (of : FillingOf self.now)
             → result ≡ numbers.new_command of.system of.pools of.function }

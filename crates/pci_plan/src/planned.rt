@@ -23,6 +23,7 @@ use std::alloc::Allocator;
 
 /// The image of a function with its new numbers.
 pub fn filled(filling: &Filling<'_>) -> Image
+    // new numbers are told of a function in a system that can be planned
     requires { FillingOf filling.now }
     ensures { (of : FillingOf filling.now)
         → IsPlannedFunction of.roots of.system of.pools of.function record of.function
@@ -48,8 +49,10 @@ pub fn planned_dump<A: Allocator, B: Allocator>(
     pools: &Pools,
     headers: &[[u8; HEADER_LEN]],
 ) -> Result<Dump<A>, OutOfMemory>
+    // nothing behind the first 64 bytes changes, so that is taken from the dump
     requires { AreNewHeaders admitted.now (pools_value pools.now) headers.now }
     ensures slots { IfOk result (λ dump. slots_of dump ≡ slots_of admitted.now.dump) }
+    // a title is the caller's own text, and no register
     ensures titles { IfOk result
         (λ dump. map (λ b. b.title) dump ≡ map (λ b. b.title) admitted.now.dump) }
     ensures planned { IfOk result (λ dump. AllZip

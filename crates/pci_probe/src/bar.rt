@@ -107,6 +107,7 @@ fn derived(line: ResourceLine, wide: bool, enabled: bool, value: u64) -> Derived
 pub fn bar(image: &Image, line: ResourceLine, layout: Layout, n: u8) -> Derived
     // no 64-bit BAR starts in the last BAR register, and which that is hangs on the layout
     requires header { header.layout image.now.0 ≡ layout_number layout }
+    // no header has more BAR registers
     requires few { n < 6 }
     ensures { derived_of result
         ≡ spec.derived_bar line (spec.bar_width image.now.0 n)

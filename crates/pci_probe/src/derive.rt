@@ -72,6 +72,7 @@ pub fn derive(
     assuming: Assuming,
     probe: &mut Image,
 ) -> Result<ArrayVec<u8, 9>, DeriveFault>
+    // of another layout it isn't known where address registers are
     ensures header { OnOk result (HasHeader image.now.0) }
     ensures told { OnOk result (no_probe (assuming_of assuming) image.now.0 lines.now ≡ None) }
     ensures probe { OnOk result (probe.new.0 ≡ derived_probe image.now.0 lines.now) }

@@ -11,6 +11,7 @@ use pci_dump::block::Block;
 /// The least slot that only one of two lists of blocks has: the smaller of the two slots at the
 /// first place where they differ, or the one that one list alone has there.
 pub fn lone_slot(dump: &[Block], sizes: &[SizesBlock]) -> Option<Slot>
+    // where both rise, the first place at which they differ has the least such slot
     requires dump { IsDump dump.now }
     requires sizes { IsSizes sizes.now }
     // then a function and what is told of it have the same index

@@ -32,6 +32,7 @@ fn told_size(line: ResourceLine, value: u64) -> Option<u64>
 #[tactic(auto, unfolding(pci_spec::specs::Derived::derived_rom))]
 pub fn rom(line: ResourceLine, enabled: bool, value: u32) -> Derived
     ensures derived { derived_of result ≡ spec.derived_rom line enabled value }
+    // the probe takes 32 bits of it, and none may be lost
     ensures narrow { IsNarrow result }
 {
     if let Some(size) = told_size(line, value.into()) {

@@ -100,6 +100,7 @@ impl<A: Allocator> Sizes<A> {
     pub fn push(&mut self, block: SizesBlock) -> Result<(), Refused<PushFault>>
         ensures ok { OnOk result (self.new ≡ self.old ++ block ∷ []) }
         ensures refused { IfErr result (IsNotPushed self.old block) }
+        // what is full or refused leaves the list as it was, so a caller may go on with it
         ensures err { OnErr result (self.new ≡ self.old) }
     {
         if !may_follow(self.blocks(), block.slot) {

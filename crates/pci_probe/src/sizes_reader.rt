@@ -96,6 +96,7 @@ pub fn read_sizes<S: Source, A: Allocator>(alloc: A, source: &mut S) -> Result<S
         → fault ≢ ReadFault.Io → fault ≢ ReadFault.Memory → IsSizesTextFault bytes fault) }
     ensures io { IfErr result
         (λ fault. fault ≡ ReadFault.Io → S.failures source.new ≡ S.failures source.old + 1) }
+    // 1 alone tells of a failed read
     ensures no_io { IfErr result
         (λ fault. fault ≢ ReadFault.Io → S.failures source.new ≡ S.failures source.old) }
 {

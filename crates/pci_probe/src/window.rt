@@ -54,6 +54,7 @@ fn upper(nibble: Option<u64>) -> Derived
 #[tactic(auto, unfolding(pci_spec::specs::Derived::window_register_derived, pci_spec::specs::Derived::window_read_back))]
 pub fn window(image: &Image, offset: u8) -> Derived
     ensures derived { derived_of result ≡ spec.window_register_derived image.now.0 offset }
+    // the probe takes 32 bits of it, and none may be lost
     ensures narrow { IsNarrow result }
 {
     let command = image.u16(COMMAND);

@@ -131,6 +131,7 @@ pub fn items_on<A: Allocator, B: Allocator>(
     windows: &[Option<Extent>; BUSES],
     left: &Left,
 ) -> Result<Vec<Item, A>, OutOfMemory>
+    // which windows lead to a BAR decides its class
     requires { AreAboves (system_in admitted.now) aboves.now }
     ensures items { IfOk result (λ items. AreOnBus
         (listing_of admitted.now (kind_value class) bus terms windows.now left.now) items.items) }
@@ -160,6 +161,7 @@ pub fn items_in_turn<A: Allocator + Copy, B: Allocator>(
     windows: &[Option<Extent>; BUSES],
     left: &Left,
 ) -> Result<Vec<Item, A>, OutOfMemory>
+    // which windows lead to a BAR decides its class
     requires { AreAboves (system_in admitted.now) aboves.now }
     ensures turn { IfOk result (λ items. AreInTurn
         (listing_of admitted.now (kind_value class) bus terms windows.now left.now) items.items) }

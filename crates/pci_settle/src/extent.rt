@@ -16,6 +16,7 @@ pub struct Extent {
 impl Extent {
     /// The last address where the first is `at`; None where it would be above all addresses of 64 bits.
     pub fn last_from(self, at: u64) -> Option<u64>
+        // an extent without addresses has no last one
         requires some { 0 < self.size }
         ensures { SomeIff result ((range_from at self.size).last < 2 ^ 64)
             (range_from at self.size).last }

@@ -68,8 +68,10 @@ impl Kept {
 
     /// Notes that a part does.
     pub fn note(&mut self, part: Part)
+        // no header has more BAR registers, and the table has no entry for more
         requires { IsPart part }
         ensures noted { kept_of self.new (part_value part) ≡ true }
+        // the parts of a function are noted one after another
         ensures others { (other : PartValue) → (other ≡ part_value part → ⊥)
             → kept_of self.new other ≡ kept_of self.old other }
     {
@@ -84,8 +86,10 @@ impl Kept {
 
     /// Notes that a part doesn't.
     pub fn clear(&mut self, part: Part)
+        // no header has more BAR registers, and the table has no entry for more
         requires { IsPart part }
         ensures cleared { kept_of self.new (part_value part) ≡ false }
+        // the parts of a function are cleared one after another
         ensures others { (other : PartValue) → (other ≡ part_value part → ⊥)
             → kept_of self.new other ≡ kept_of self.old other }
     {
@@ -101,6 +105,7 @@ impl Kept {
 
 /// A table in which no part of any function keeps its place.
 pub fn nothing_kept<A: Allocator>(alloc: A, functions: usize) -> Result<Vec<Kept, A>, OutOfMemory>
+    // a function's entry stands where its record does
     ensures count { IfOk result (λ table. length table.items ≡ functions) }
     ensures none { IfOk result (λ table. AreNone table.items) }
 {

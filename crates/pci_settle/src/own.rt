@@ -240,7 +240,9 @@ pub fn add_items<A: Allocator>(
     window: Option<Extent>,
     kept: &Kept,
 ) -> Result<(), OutOfMemory>
+    // else a register's number or a BAR's size would be below 0
     requires bars { All IsSized «record».now.bars.items }
+    // else its size would be below 0, too
     requires rom { IfSome «record».now.rom (λ rom. IsSpanned rom.first rom.last) }
     ensures items { OnOk result (items.new.items ≡ items.old.items
         ++ record_items (situation function (kind_value class) over.now terms window kept.now)

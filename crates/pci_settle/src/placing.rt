@@ -68,8 +68,11 @@ pub fn place_next<A: Allocator>(
     extent: Extent,
     start: &mut Start,
 ) -> Result<bool, OutOfMemory>
+    // without an address it has no last one, and of 0 there is no multiple
     requires extent { IsExtent extent }
+    // what is free lies between two that follow one another
     requires listed { AreListed taken.old.items }
+    // no place lies before it, so the search can begin there
     requires start { IsStart ranges.now taken.old.items extent start.old }
     ensures place { IfOk result (λ found. place_if found start.new.spot.at
         ≡ place_in_ranges (map decoded_range_of ranges.now)
@@ -109,13 +112,17 @@ pub fn place_all<A: Allocator + Copy, B: Allocator>(
     wanted: &[Wanted],
     places: &mut [u64],
 ) -> Result<Option<usize>, OutOfMemory>
+    // each names its list by index
     requires wanted { All (HasList (length lists.now)) wanted.now }
+    // what is free lies between two that follow one another
     requires listed { AreListed taken.old.items }
+    // an extent's place stands at its index
     requires count { length places.old ≡ length wanted.now }
     ensures placing { IfOk result (λ lack. (ranges : Item → List DecodedRange) (items : List Item)
         → AreWanted (map (λ list. list.items) lists.now) ranges items wanted.now
         → items_placed ranges (map decoded_range_of taken.old.items) items
         ≡ placing_of items places.new lack) }
+    // by it the caller names the part that has no place
     ensures within { IfOk result (λ lack. IfSome lack (λ k. k < length wanted.now)) }
     // so the last address of each can be told
     ensures ends { IfOk result (λ lack. IfNone lack

@@ -52,6 +52,7 @@ impl Start {
 
 /// The least multiple of an alignment from an address on; None where it is above all addresses of 64 bits.
 pub fn raised(from: u64, alignment: u64) -> Option<u64>
+    // there is no multiple of 0
     requires some { 0 < alignment }
     ensures { SomeIff result (raised_to alignment from < 2 ^ 64) (raised_to alignment from) }
 {
@@ -102,7 +103,9 @@ fn next_spot(taken: &[Range], low: u64, from: Spot, extent: Extent) -> Option<Sp
 
 /// The first free place from an address on; None where it would end above all addresses of 64 bits.
 pub fn first_spot(taken: &[Range], low: u64, extent: Extent) -> Option<Spot>
+    // without an address it has no last one, and of 0 there is no multiple
     requires extent { IsExtent extent }
+    // what is free lies between two that follow one another
     requires order { AreInOrder taken.now }
     ensures found { IfSome result (IsSpotAt taken.now low extent) }
     ensures none { IfNone result ((b : ℕ)
@@ -141,8 +144,11 @@ fn spot_in(range: Range, taken: &[Range], from: Spot, extent: Extent) -> Option<
 
 /// Whether a range has a place from `start` on; `start` goes to the first one of the first range that has any.
 pub fn first_place(ranges: &[Range], taken: &[Range], extent: Extent, start: &mut Start) -> bool
+    // without an address it has no last one, and of 0 there is no multiple
     requires extent { IsExtent extent }
+    // what is free lies between two that follow one another
     requires order { AreInOrder taken.now }
+    // no place lies before it, so the search can begin there
     requires start { IsStart ranges.now taken.now extent start.old }
     ensures place { place_if result start.new.spot.at
         ≡ place_in_ranges (map decoded_range_of ranges.now)

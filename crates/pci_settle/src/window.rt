@@ -104,6 +104,7 @@ pub fn extent_around<A: Allocator>(
     upper_halves: bool,
     extents: &[Extent],
 ) -> Result<Option<Extent>, OutOfMemory>
+    // each has addresses, so a window around some has, too
     requires { All IsExtent extents.now }
     ensures around { IfOk result (IsAround
         (extent_around (page_size (kind_value class)) upper_halves
@@ -143,6 +144,7 @@ pub fn window_around<A: Allocator + Copy>(
     upper_halves: bool,
     items: &mut Vec<Item, A>,
 ) -> Result<Option<Extent>, OutOfMemory>
+    // a window around what has no extent can't be laid out
     requires { All HasExtent items.old.items }
     // nothing is lost or doubled, also where there was no memory
     ensures permutation { IsPermutation items.old.items items.new.items }

@@ -34,8 +34,11 @@ pub fn settled_dump<A: Allocator, B: Allocator>(
     table: &[Places],
     staying: &[Kept],
 ) -> Result<Dump<A>, OutOfMemory>
+    // a function's places stand where its record does
     requires places { length table.now ≡ length (system_in admitted.now) }
+    // what stays of a function stands where its record does
     requires staying { length staying.now ≡ length (system_in admitted.now) }
+    // a title is the caller's own text, and no register
     ensures titles { IfOk result
         (λ dump. map (λ b. b.title) dump ≡ map (λ b. b.title) admitted.now.dump) }
     ensures settled { IfOk result (λ dump. (q : Request)

@@ -121,7 +121,9 @@ pub fn fixed_without<A: Allocator>(
     fixed: &[bool],
     table: &[Kept],
 ) -> Option<SettleFault>
+    // slot numbers index it
     requires fixed { length fixed.now ≡ 65536 }
+    // a function's entry stands where its record does
     requires count { length table.now ≡ length (system_in admitted.now) }
     ensures { (q : Request) (test : Region → Bool)
         → IsAskedOf q admitted.now.roots (lists_value lists.now) → AreFlags q.fixed fixed.now
@@ -147,6 +149,7 @@ pub fn fixed_without<A: Allocator>(
 /// The fault 74 with the first write to a function whose registers may not be written. `fixed` has a flag for each slot
 /// number.
 pub fn fixed_write(fixed: &[bool], writes: &[Write]) -> Option<SettleFault>
+    // slot numbers index it
     requires { length fixed.now ≡ 65536 }
     ensures { (q : Request) → AreFlags q.fixed fixed.now
         → result ≡ option_map fixed_register (spec.fixed_write q (map write_value writes.now)) }

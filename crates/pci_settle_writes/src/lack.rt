@@ -161,6 +161,7 @@ fn lack_of(record: &Record, candidate: Candidate) -> Lack
 
 /// The fault where this can't be placed.
 pub fn fault_of<A: Allocator>(admitted: &Admitted<A>, unplaced: Unplaced) -> SettleFault
+    // the fault names a part of a function that is there
     requires { IsNamed (system_in admitted.now) unplaced }
     ensures { IsFaultOf (system_in admitted.now) unplaced result }
 {

@@ -81,8 +81,11 @@ pub fn settled_at<A: Allocator + Copy, B: Allocator>(
     table: &[Places],
     staying: &[Kept],
 ) -> Result<Settled<A>, OutOfMemory>
+    // a function's places stand where its record does
     requires places { length table.now ≡ length (system_in admitted.now) }
+    // what stays of a function stands where its record does
     requires staying { length staying.now ≡ length (system_in admitted.now) }
+    // a title is the caller's own text, and no register
     ensures titles { IfOk result
         (λ x. map (λ b. b.title) x.dump ≡ map (λ b. b.title) admitted.now.dump) }
     ensures settled { IfOk result (λ x. (q : Request)
@@ -289,6 +292,7 @@ pub fn settle<A: Allocator + Copy, B: Allocator>(
     ensures reached { IfOk result
         (λ x. system_after (system_in admitted.now) (map write_value x.writes.all.items)
         ≡ system_of x.dump admitted.now.probe) }
+    // a title is the caller's own text, and no register
     ensures titles { IfOk result
         (λ x. map (λ b. b.title) x.dump ≡ map (λ b. b.title) admitted.now.dump) }
     ensures dump { IfOk result (λ x. IsSettledDump

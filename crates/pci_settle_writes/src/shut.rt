@@ -29,6 +29,7 @@ use std::alloc::Allocator;
 
 /// Whether a register of two images differs.
 pub fn differs(old: &Image, new: &Image, register: &Register) -> bool
+    // an access lies within one doubleword, so all its bytes are there
     requires { IsTrue (port.is_access register.now.offset register.now.width) }
     ensures { result ≡ not (number_at new.now.0 register.now.offset register.now.width
         == number_at old.now.0 register.now.offset register.now.width) }
@@ -87,7 +88,9 @@ pub fn closing_commands<A: Allocator, B: Allocator>(
     lists: &Lists,
     settled: &[Block],
 ) -> Result<Vec<u16, A>, OutOfMemory>
+    // old and new of a function have one index
     requires { length settled.now ≡ length admitted.now.dump }
+    // a function's Command stands where its record does
     ensures count { IfOk result
         (λ commands. length commands.items ≡ length (system_in admitted.now)) }
     ensures commands { IfOk result (λ commands. (q : Request)

@@ -165,6 +165,7 @@ pub fn writes_to<A: Allocator + Copy, B: Allocator>(
     lists: &Lists,
     settled: &[Block],
 ) -> Result<Writes<A>, OutOfMemory>
+    // old and new of a function have one index
     requires { length settled.now ≡ length admitted.now.dump }
     ensures writes { IfOk result (λ writes. (q : Request)
         → IsAskedOf q admitted.now.roots (lists_value lists.now)

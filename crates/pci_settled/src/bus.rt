@@ -103,17 +103,24 @@ pub fn place_bus<A: Allocator + Copy, B: Allocator>(
     windows: &SpaceWindows,
     lists: &[Vec<Range, A>],
 ) -> Result<BusPlaces<A>, OutOfMemory>
+    // which windows lead to a BAR decides its class
     requires above { AreAboves (system_in admitted.now) aboves.now }
+    // what stays on a bus is found by halving
     requires held { AreByLevel staying.now.held.now }
+    // places are looked for by sizes and alignments
     requires lawful { AreSpaceWindows windows.now }
+    // a new window is as large as what is behind it, which is worked out before
     requires known { KnowsWindows
         (pass_of admitted.now (space_of space) terms staying.now windows.now) }
+    // a column has three lists: of plain, wide and prefetchable ranges
     requires some { 3 ≤ length lists.now }
+    // a root has a column of its own, found by its number
     requires roots { IsTrue (is_root admitted.now.roots bus) → length lists.now ≡ 768 }
     ensures placing { IfOk result (λ places. ArePlacesIn
         (pass_of admitted.now (space_of space) terms staying.now windows.now)
         bus (map (λ list. list.items) lists.now)
         (bus_placing (system_in admitted.now) places.candidates.items places.places.items places.lack)) }
+    // by it each place is noted where its function's record is
     ensures within { IfOk result (λ places. AreWithin (system_in admitted.now) places.candidates.items
         places.places.items places.lack) }
 {

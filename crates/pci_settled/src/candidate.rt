@@ -88,6 +88,7 @@ pub fn candidates_on<A: Allocator + Copy, B: Allocator>(
     staying: &Staying,
     windows: &SpaceWindows,
 ) -> Result<Vec<Candidate, A>, OutOfMemory>
+    // which windows lead to a BAR decides its class
     requires { AreAboves (system_in admitted.now) aboves.now }
     ensures items { IfOk result (λ candidates. AreCandidatesOf
         (pass_of admitted.now (space_of space) terms staying.now windows.now)

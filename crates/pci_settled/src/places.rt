@@ -81,6 +81,7 @@ fn note(candidates: &[Candidate], firsts: &[u64], table: &mut [Places])
 
 /// Notes where the items of a bus are placed, where all of them are. The answer is the first that has no place.
 pub fn note_bus<A: Allocator>(bus: &BusPlaces<A>, table: &mut [Places]) -> Option<Candidate>
+    // each item names a part of a function that the table has
     requires { AreNotable (length table.old) bus.now.candidates.items bus.now.places.items
         bus.now.lack }
     ensures noted { (s : System) → IsSystem s → length s ≡ length table.old

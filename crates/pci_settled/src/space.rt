@@ -145,13 +145,20 @@ pub fn place_space<A: Allocator + Copy, B: Allocator>(
     windows: &SpaceWindows,
     table: &mut [Places],
 ) -> Result<Option<Candidate>, OutOfMemory>
+    // which windows lead to a BAR decides its class
     requires above { AreAboves (system_in admitted.now) aboves.now }
+    // whether prefetchable memory may lie above 4 GB is told by the lists
     requires terms { AreTerms (lists_value lists.now) terms }
+    // what stays on a bus is found by halving
     requires held { AreByLevel staying.now.held.now }
+    // places are looked for by sizes and alignments
     requires lawful { AreSpaceWindows windows.now }
+    // a new window is as large as what is behind it, which is worked out before
     requires windows { HasWindowsIn
         (pass_of admitted.now (space_of space) terms staying.now windows.now) }
+    // what stays is worked out before, for the same lists
     requires known { KnowsRequest (setting_of admitted.now terms staying.now) (lists_value lists.now) }
+    // a function's places stand where its record does
     requires count { length table.old ≡ length (system_in admitted.now) }
     // what isn't placed keeps its entry, which is none
     requires none { HasNone (system_in admitted.now) (space_of space) table.old }

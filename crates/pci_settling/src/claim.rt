@@ -125,6 +125,7 @@ pub fn is_enabled(
     record: &Record,
     behind: bool,
 ) -> bool
+    // places are told by the number of a BAR's register, so each has one
     requires { All HasRegister «record».now.bars.items }
     ensures { result
         ≡ claims.is_enabled_by (space_of space) places.now above terms «record».now behind }

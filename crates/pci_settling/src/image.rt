@@ -73,6 +73,7 @@ fn with_parts(record: &Record, image: &Image, places: &Places, kept: &ByKind<boo
 /// The image of a function whose parts get these places: BARs, ROM and windows show their places, a window that has none
 /// and isn't one of those that stay is closed, and all other bits stay.
 pub fn settled_image(record: &Record, image: &Image, places: &Places, kept: &ByKind<bool>) -> Image
+    // places are told by the number of a BAR's register, so each has one
     requires { All HasRegister «record».now.bars.items }
     ensures { (q : Request) (s : System) (f : Function)
         → image.now.0 ≡ f.image → IsPlaced q s f «record».now places.now kept.now

@@ -52,7 +52,9 @@ pub fn live_buses<A: Allocator>(
     aboves: &[Above; BUSES],
     terms: Terms,
 ) -> [bool; BUSES]
+    // which windows lead to a BAR decides whether it is left
     requires above { AreAboves (system_in admitted.now) aboves.now }
+    // a function's places stand where its record does
     requires count { length table.now ≡ length (system_in admitted.now) }
     ensures { AreLiveBuses admitted.now.roots (system_in admitted.now) (space_of space) terms
         table.now result }

@@ -55,6 +55,7 @@ pub fn settled_function(
     terms: Terms,
     behind: Behind,
 ) -> Image
+    // places are told by the number of a BAR's register, so each has one
     requires { All HasRegister «record».now.bars.items }
     ensures { (q : Request) (s : System) (f : Function)
         → image.now.0 ≡ f.image → IsPlaced q s f «record».now places.now kept.now

@@ -34,6 +34,7 @@ fn upper_half(number: u64) -> u32
 
 /// Writes a number of 1, 2 or 4 bytes.
 pub fn write(bytes: &mut [u8; IMAGE_LEN], offset: u8, width: u8, number: u32)
+    // an access lies within one doubleword, so all its bytes are there
     requires { IsTrue (port.is_access offset width) }
     ensures { bytes.new ≡ with_number width offset number bytes.old }
 {
@@ -56,6 +57,7 @@ pub fn write_bar(bytes: &mut [u8; IMAGE_LEN], old: u32, bar: &Bar, place: Range)
 
 /// Writes a ROM at its place; its register held `old` before.
 pub fn write_rom(bytes: &mut [u8; IMAGE_LEN], old: u32, register: u8, place: Range)
+    // a register begins at a doubleword
     requires { register % 4 ≡ 0 }
     ensures { bytes.new ≡ with_rom old register place bytes.old }
 {

@@ -74,6 +74,7 @@ pub fn held_parts<A: Allocator + Copy, B: Allocator>(
 ) -> Result<Vec<Held, A>, OutOfMemory>
     ensures held { IfOk result (λ held. AreHeldIn admitted.now.roots (system_in admitted.now)
         (lists_value lists.now) kept.now held.items) }
+    // those of a bus are found by halving
     ensures order { IfOk result (λ held. AreByLevel held.items) }
 {
     let mut held = Vec::new(alloc);
@@ -132,6 +133,7 @@ pub fn taken_on<A: Allocator>(
     level: u16,
     space: Space,
 ) -> Result<Vec<Range, A>, OutOfMemory>
+    // those of a level stand in a row, whose ends are found by halving
     requires { AreByLevel held.now }
     ensures taken { IfOk result (λ taken. IsPermutation
         (map held_range (filter (is_on level (space_of space)) held.now)) taken.items) }

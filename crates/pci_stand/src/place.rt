@@ -119,7 +119,9 @@ pub fn is_in_place(
     region: &Region,
     table: &[Kept],
 ) -> bool
+    // the bridge to its bus is found by one look into this table
     requires over { IsBridgeToBus records.now over.now }
+    // a bridge's entry stands where its record does
     requires count { length table.now ≡ length records.now }
     ensures { (q : Request) → (s : System) → IsBoard q s records.now (lists_value lists.now)
         → IsKnown q s region.now → AreOpen s table.now

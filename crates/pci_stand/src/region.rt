@@ -171,6 +171,7 @@ pub fn add_regions<A: Allocator>(
     above: Above,
     terms: Terms,
 ) -> Result<(), OutOfMemory>
+    // a part is named by the number of its BAR's register
     requires { All IsAtRegister «record».now.bars.items }
     ensures { OnOk result
         (out.new.items ≡ out.old.items ++ record_regions owner above terms «record».now) }

@@ -84,9 +84,12 @@ impl<A: Allocator + Copy> Taken<A> {
 
     /// Takes a range where none of its addresses is taken. The answer is whether that is so.
     pub fn take(&mut self, space: Space, range: Range) -> Result<bool, OutOfMemory>
+        // so one look, found by halving, tells whether the range is free
         requires io { AreApartInOrder self.old.io.items }
         requires mem { AreApartInOrder self.old.mem.items }
+        // an empty range takes nothing
         requires forward { range.first ≤ range.last }
+        // both spaces are of one bus
         ensures level { self.new.level ≡ self.old.level }
         ensures free { IfOk result (λ free. free
             ≡ is_free range (in_space (space_of space) self.old.io.items self.old.mem.items)) }

@@ -156,10 +156,15 @@ pub fn hold_all<A: Allocator + Copy, B: Allocator>(
     regions: &[Region],
     table: &mut [Kept],
 ) -> Result<(), OutOfMemory>
+    // which windows lead to a BAR decides its class
     requires above { AreAboves (system_in admitted.now) aboves.now }
+    // places are looked for by sizes and alignments
     requires lawful { AreAllLawful windows.now }
+    // the parts of a bus stand in a row, whose ends are found by halving
     requires order { IsNonDecreasingBy region_bus regions.now }
+    // each part names a function that the table has
     requires ready { All (IsReady (length table.old)) regions.now }
+    // a function's entry stands where its record does
     requires count { length table.old ≡ length (system_in admitted.now) }
     ensures { OnOk result ((q : Request)
         → IsAsking (classing_of admitted.now terms over.now) windows.now regions.now q

@@ -69,9 +69,13 @@ pub fn has_places<A: Allocator + Copy, B: Allocator>(
     regions: &[Region],
     table: &[Kept],
 ) -> Result<bool, OutOfMemory>
+    // which windows lead to a BAR decides its class
     requires above { AreAboves (system_in admitted.now) aboves.now }
+    // places are looked for by sizes and alignments
     requires lawful { AreWindows windows.now }
+    // the parts of a bus stand in a row, whose ends are found by halving
     requires order { IsNonDecreasingBy region_bus regions.now }
+    // each part names a function that the table has
     requires ready { All (IsReady (length table.now)) regions.now }
     ensures { IfOk result (λ room. (q : Request) → (keeps : RegionValue → Bool) → (b : Function)
         → IsRoomOf

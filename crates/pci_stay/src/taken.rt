@@ -53,7 +53,9 @@ pub fn taken_on<A: Allocator>(
     space: Space,
     table: &[Kept],
 ) -> Result<Vec<Range, A>, OutOfMemory>
+    // the parts of a bus stand in a row, whose ends are found by halving
     requires order { IsNonDecreasingBy region_bus regions.now }
+    // each part names a function that the table has
     requires ready { All (IsReady (length table.now)) regions.now }
     ensures taken { IfOk result (λ taken. IsPermutation
         (map region_range (filter (is_taken_on bus (space_of space) table.now) regions.now))

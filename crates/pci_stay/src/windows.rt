@@ -74,6 +74,7 @@ pub fn all_windows<A: Allocator + Copy, B: Allocator>(
     terms: Terms,
     over: &[OpenWindows],
 ) -> Result<ByKind<[Option<Extent>; BUSES]>, Refused<TooLarge>>
+    // which windows lead to a BAR decides its class
     requires { AreAboves (system_in admitted.now) aboves.now }
     ensures windows { IfOk result (HasAllWindows (classing_of admitted.now terms over.now)) }
     ensures lawful { IfOk result AreAllLawful }

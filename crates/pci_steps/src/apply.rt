@@ -27,6 +27,7 @@ pub fn apply_by_steps<P: ConfigPort, A: Allocator>(
     plan: &Plan<'_, A>,
     compares: &[Write],
 ) -> Result<(), ApplyFault>
+    // made by the caller, so that nothing is allocated here
     requires { map write_value compares.now ≡ all_shown plan.now.start.dump }
     ensures made { P.targets port.new
         ≡ after_writes (P.targets port.old)

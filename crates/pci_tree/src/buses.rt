@@ -267,6 +267,7 @@ pub fn look_at_place(
 ) -> Misplaced
     // function 0 of a device is found by halving
     requires rising { RiseBySlot records.now }
+    // a device number above 31 would make a slot's number one of the next bus
     requires slots { All (λ r. IsSlot r.slot) records.now }
     // made once, for all functions
     requires ends { AreLeastEnds records.now ends.now }
@@ -285,6 +286,7 @@ pub fn look_at_place(
 pub fn first_place_fault(records: &[Record], roots: &Roots) -> Option<Fault>
     // function 0 of a device is found by halving
     requires rising { RiseBySlot records.now }
+    // a device number above 31 would make a slot's number one of the next bus
     requires slots { All (λ r. IsSlot r.slot) records.now }
     ensures { MatchOption result (All (IsInPlace (buses_of roots.now) records.now) records.now)
         (IsSomePlaceFault (buses_of roots.now) records.now) }

@@ -81,6 +81,7 @@ impl<A: Allocator> Outline<A> {
     /// The outline of records in slot order, where each function is in its place; otherwise the fault of the first
     /// function that isn't: 50 `LoneFunction`, 57 `BusRange`, 58 `Orphan`.
     pub fn placed(records: Vec<Record, A>, roots: Roots) -> Result<Outline<A>, Fault>
+        // a device number above 31 would make a slot's number one of the next bus
         requires slots { All (λ r. IsSlot r.slot) records.items }
         // the functions of a bus are found by halving, to look for function 0 and bridges there
         requires rising { RiseBySlot records.items }

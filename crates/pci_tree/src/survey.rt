@@ -133,6 +133,7 @@ impl<A: Allocator> Survey<A> {
           fault = Some (SlotsDiffer (lesser_slot block.now.slot probe.now.slot));
           last = self.old.last;
         }) }
+        // what memory refused can be added again
         ensures err { OnErr result (self.new ≡ self.old) }
     {
         let ours = block.slot.number();

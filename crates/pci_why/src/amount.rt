@@ -14,6 +14,7 @@ const UNITS: u32 = 6;
 
 /// The letter of a unit, none of a single address.
 pub fn unit_name(unit: u32) -> &'static str
+    // 2^60 is the largest power of 1,024 below 2^64
     requires { unit ≤ 6 }
     ensures { result.now ≡ unit_text unit }
 {
@@ -80,6 +81,7 @@ pub fn push_count<A: Allocator>(text: &mut String<A>, number: u128) -> Result<()
 
 /// Appends how many addresses a range has.
 pub fn push_amount<A: Allocator>(text: &mut String<A>, range: Range) -> Result<(), AllocError>
+    // else it has no number of addresses to tell
     requires { range.first ≤ range.last }
     ensures { OnOk result (string_bytes text.new
         ≡ string_bytes text.old ++ amount_text (address_count (decoded_range_of range))) }

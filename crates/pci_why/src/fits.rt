@@ -53,6 +53,7 @@ pub fn is_wide(function: &Record, region: &Region) -> bool
 /// The number below which a region has to stand.
 pub fn end_of_places(space: Space, wide: bool) -> u128
     ensures number { result ≡ place_end (space_of space) wide }
+    // so the sum of an address and a size fits 128 bits
     ensures small { result ≤ 2 ^ 64 }
 {
     match (space, wide) {

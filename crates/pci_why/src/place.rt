@@ -39,6 +39,7 @@ fn start_in(range: &Range, from: u128) -> u128
 pub fn least_from(ranges: &[Range], from: u128, count: u128, end: u128) -> Option<u128>
     // there is no multiple of 0 to go on to
     requires some { 0 < count }
+    // 128 bits hold the sum of two such numbers
     requires small { count ≤ 2 ^ 64 }
     requires from { from ≤ 2 ^ 64 }
     // so that its last address is one
@@ -78,6 +79,7 @@ pub fn least_free(
 ) -> Option<u128>
     // there is no multiple of 0 to go on to
     requires some { 0 < count }
+    // 128 bits hold the sum of two such numbers
     requires small { count ≤ 2 ^ 64 }
     requires end { end ≤ 2 ^ 64 }
     ensures below { IfSome result (λ p. p + count ≤ end) }

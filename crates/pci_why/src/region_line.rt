@@ -78,6 +78,7 @@ pub fn push_place<A: Allocator>(
     space: Space,
     range: Range,
 ) -> Result<(), AllocError>
+    // the line tells how many addresses the range has
     requires { range.first ≤ range.last }
     ensures { OnOk result (string_bytes text.new ≡ string_bytes text.old
         ++ words (place_words slot reg part.now (space_of space) (decoded_range_of range))) }
@@ -98,6 +99,7 @@ pub fn push_range_line<A: Allocator>(
     space: Space,
     range: Range,
 ) -> Result<(), AllocError>
+    // the line tells how many addresses the range has
     requires { range.first ≤ range.last }
     ensures { OnOk result (string_bytes text.new ≡ string_bytes text.old
         ++ range_line word.now (space_of space) (decoded_range_of range)) }
@@ -114,6 +116,7 @@ pub fn push_region_line<A: Allocator>(
     space: Space,
     region: &Region,
 ) -> Result<(), AllocError>
+    // the line tells how many addresses the region has
     requires { region.now.first ≤ region.now.last }
     ensures { OnOk result (string_bytes text.new
         ≡ string_bytes text.old ++ line_of word.now (space_of space) region.now) }

@@ -62,6 +62,7 @@ pub extern "C" fn pciplan_check(
     ensures room { result ≡ 4
         → (line.new ≡ line.old) × IsTooLong roots.now dump.now probe.now line.old line_used.new }
     ensures enough { 96 ≤ length line.old → result ≤ 3 }
+    // a caller's switch has no other case
     ensures known { result ≤ 4 }
 {
     match check_into(alloc, dump, probe, roots, line) {
@@ -113,6 +114,7 @@ pub extern "C" fn pciplan_plan(
         → IsNoneTold (IsNoPlanOf roots.now dump.now probe.now (pools_of pools.now)) result line.old
         line.new line_used.new
         × (writes.new ≡ writes.old) × (writes_used.new ≡ 0) }
+    // whoever doesn't look at the status finds what stood there before
     ensures quiet { (result ≡ 3) ⊎ (result ≡ 4)
         → (writes.new ≡ writes.old) × (line.new ≡ line.old) }
     ensures memory { result ≡ 3
@@ -128,6 +130,7 @@ pub extern "C" fn pciplan_plan(
     ensures enough { result ≡ 4 → 96 ≤ length line.old → line_used.new ≡ 0 }
     // of no use without a plan
     ensures safe { 0 < result → safe_from.new ≡ safe_from.old }
+    // a caller's switch has no other case
     ensures known { result ≤ 4 }
 {
     match plan_into(alloc, dump, probe, roots, pools, writes, line) {
@@ -195,6 +198,7 @@ pub extern "C" fn pciplan_settle(
         → IsNoneTold (IsNoSettlingOf roots.now dump.now probe.now words.now) result line.old line.new
         line_used.new
         × (writes.new ≡ writes.old) × (writes_used.new ≡ 0) }
+    // whoever doesn't look at the status finds what stood there before
     ensures quiet { (result ≡ 3) ⊎ (result ≡ 4)
         → (writes.new ≡ writes.old) × (line.new ≡ line.old) }
     ensures memory { result ≡ 3
@@ -208,6 +212,7 @@ pub extern "C" fn pciplan_settle(
     ensures enough { result ≡ 4 → 96 ≤ length line.old → line_used.new ≡ 0 }
     // of no use where nothing is settled
     ensures safe { 0 < result → safe_from.new ≡ safe_from.old }
+    // a caller's switch has no other case
     ensures known { result ≤ 4 }
 {
     match settle_into(alloc, dump, probe, roots, words, writes, line) {
@@ -260,7 +265,9 @@ pub extern "C" fn pciplan_start(
         → (fault : ReadFault) × IsTextFault dump.now fault × (registers_used.new ≡ 0) }
     ensures memory { result ≡ 3 → registers_used.new ≡ registers_used.old }
     ensures room { result ≡ 4 → IsStartTooLong dump.now registers.old registers_used.new }
+    // half a start must not be taken for one
     ensures quiet { 0 < result → registers.new ≡ registers.old }
+    // 1 is a no, of which starting knows none
     ensures known { (result ≡ 0) ⊎ (2 ≤ result) × (result ≤ 4) }
 {
     match start_into(alloc, dump, registers) {
@@ -297,6 +304,7 @@ pub extern "C" fn pciplan_step(
     ensures none { result ≡ 0
         → (slice_get (steps_of (map value_of registers.now) (map value_of writes.now)) n ≡ None)
         × (step.new ≡ step.old) }
+    // a caller's loop has no other case
     ensures known { result ≤ 1 }
 {
     match step_at(registers, writes, n) {

@@ -48,6 +48,7 @@ pub enum HeldBack {
 #[tactic(auto, using(crate::proofs::Lengths::no_writes_short))]
 pub fn tell<A: Allocator>(alloc: A, why: NoWrites, line: &mut [u8]) -> Result<Ending, HeldBack>
     ensures told { IfOk result (IsToldOf why line.old line.new) }
+    // part of a line must not be taken for one
     ensures quiet { IfErr result (λ _. line.new ≡ line.old) }
     ensures room { IfErr result (IsTooLongFor why line.old) }
     // so 96 bytes always have room

@@ -65,6 +65,7 @@ pub fn start_into<A: Allocator + Copy>(
     registers: &mut [RegisterWrite],
 ) -> Result<usize, NoStart>
     ensures put { IfOk result (IsStartPut dump.now registers.old registers.new) }
+    // half a start must not be taken for one
     ensures quiet { IfErr result (λ _. registers.new ≡ registers.old) }
     ensures why { IfErr result (IsNoStart dump.now registers.old) }
 {

@@ -90,6 +90,7 @@ pub fn check_into<A: Allocator + Copy>(
 ) -> Result<Line, Withheld>
     ensures told { IfOk result
         (λ l. IsTold (IsAnswerOf roots.now dump.now probe.now) l.answer line.old line.new l.used) }
+    // part of a line must not be taken for one
     ensures quiet { IfErr result (λ _. line.new ≡ line.old) }
     ensures room { IfErr result (λ why. (needed : ℕ) → why ≡ Withheld.NoRoom needed
         → IsTooLong roots.now dump.now probe.now line.old needed) }

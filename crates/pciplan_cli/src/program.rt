@@ -117,7 +117,9 @@ pub fn carry_out<A: Allocator + Copy, D: Opening, P: Opening, O: Sink, E: Sink>(
         (Appends (O.taken out.old) (O.taken out.new))
         (AreRemarked (E.taken err.old) (E.taken err.new)
         (E.failures err.new ≡ E.failures err.old + 1) (err.new ≡ err.old)) }
+    // who reads the output by a pipe gets nothing that looks like an answer
     ensures quiet { (result ≡ 2) ⊎ (result ≡ 3) → out.new ≡ out.old }
+    // what went out can't be taken back, so all that is promised is that it is a beginning
     ensures begun { result ≡ 4 → (out.new ≡ out.old)
         ⊎ IsCarriedOutBegun line.now (D.bytes_at dump.old) (P.bytes_at probe.old) (O.taken out.old)
         (O.taken out.new) }
@@ -151,6 +153,7 @@ pub fn program<D: Opening, P: Opening, O: Sink, E: Sink>(
 ) -> u8
     // of words that couldn't be had: 3 may go away by itself, 2 needs other words
     ensures memory { IfErr words (λ error. error_kind error ≡ ErrorKind.OutOfMemory → result ≡ 3) }
+    // words that are no text are no words of the command line
     ensures unread { IfErr words (λ error. error_kind error ≢ ErrorKind.OutOfMemory → result ≡ 2) }
     ensures done { result < 2
         → MatchResult words
@@ -161,6 +164,7 @@ pub fn program<D: Opening, P: Opening, O: Sink, E: Sink>(
         (AreRemarked (E.taken err.old) (E.taken err.new)
         (E.failures err.new ≡ E.failures err.old + 1) (err.new ≡ err.old)))
         (λ _. ⊥) }
+    // who reads the output by a pipe gets nothing that looks like an answer
     ensures quiet { (result ≡ 2) ⊎ (result ≡ 3) → out.new ≡ out.old }
     ensures begun { result ≡ 4
         → (out.new ≡ out.old)

@@ -19,6 +19,7 @@ pub enum Withheld {
 pub fn put<T: Copy>(items: &[T], room: &mut [T]) -> Result<usize, Withheld>
     ensures put { IfOk result (λ _. IsPutInto room.old room.new items.now) }
     ensures length { IfOk result (λ used. used ≡ length items.now) }
+    // a part must not be taken for all
     ensures quiet { IfErr result (λ _. room.new ≡ room.old) }
     // so that a caller can make room and call again
     ensures needed { IfErr result

@@ -58,6 +58,7 @@ pub fn writes_of<A: Allocator>(
 /// How many they are, where the array has room for fewer. It stays as it was.
 pub fn put_writes(writes: &[Write], array: &mut [RegisterWrite]) -> Result<usize, usize>
     ensures put { IfOk result (AreWritesPut writes.now array.old array.new) }
+    // some of the writes must not be taken for all
     ensures quiet { IfErr result (λ _. array.new ≡ array.old) }
     // so that a caller can make room and call again
     ensures needed { IfErr result

@@ -101,6 +101,7 @@ pub fn send<A: Allocator, O: Sink, E: Sink>(
     ensures remarked { OnOk result (IsTold (E.taken err.old) (E.taken err.new)
         (E.failures err.new ≡ E.failures err.old + 1) (answer_of reply.now).remarks) }
     ensures silent { OnOk result ((answer_of reply.now).remarks ≡ [] → err.new ≡ err.old) }
+    // what went out can't be taken back, so all that is promised is that it is a beginning
     ensures begun { OnErr result
         (AppendsBeginning (O.taken out.old) (O.taken out.new) (answer_of reply.now).text) }
     ensures failed { OnErr result (O.failures out.new ≡ O.failures out.old + 1) }

@@ -207,6 +207,7 @@ pub fn run<A: Allocator + Copy, D: Source, P: Source, O: Sink, E: Sink>(
         (E.failures err.new ≡ E.failures err.old + 1) (err.new ≡ err.old)) }
     // who reads the output by a pipe gets nothing that looks like an answer
     ensures quiet { (result ≡ 2) ⊎ (result ≡ 3) → out.new ≡ out.old }
+    // what went out can't be taken back, so all that is promised is that it is a beginning
     ensures begun { result ≡ 4 → (out.new ≡ out.old)
         ⊎ IsBegun task.now (D.left dump.old) (P.left probe.old) (O.taken out.old)
         (O.taken out.new) }
@@ -215,6 +216,7 @@ pub fn run<A: Allocator + Copy, D: Source, P: Source, O: Sink, E: Sink>(
         → IsTaskRefused task.now (D.left dump.old) (P.left probe.old) }
     ensures failed { result ≡ 4 → HasFailed (D.failures dump.old) (D.failures dump.new)
         (P.failures probe.old) (P.failures probe.new) (O.failures out.old) (O.failures out.new) }
+    // a script that calls the program has no other case
     ensures known { result ≤ 4 }
 {
     match reply_to(alloc, task, dump, probe) {

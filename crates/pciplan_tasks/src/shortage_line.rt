@@ -78,6 +78,7 @@ pub fn push_shortage<A: Allocator>(
     class: WindowKind,
     lacking: Shortage,
 ) -> Result<(), AllocError>
+    // so what stands above its last digits fits 64 bits
     requires { lacking.start ≤ 2 ^ 66 }
     ensures { OnOk result (string_bytes text.new ≡ string_bytes text.old
         ++ shortage_line (kind_value class) (shortage_value lacking)) }

@@ -68,6 +68,7 @@ pub fn rom(image: &Image, probe: &Image) -> Result<Option<Rom>, ImageFault>
     // no fault of a BAR: these were looked at before
     ensures fault { IfErr result
         (λ f. IsImageFaultIn image.now.0 probe.now.0 f × IsTrue (is_rom_fault f)) }
+    // so 20 comes before 21, and both before what the register has
     ensures header { IfErr result (HasNoHeaderFaultBefore image.now.0) }
 {
     let reg = Header::of(image)?.rom_register();

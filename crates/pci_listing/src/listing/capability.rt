@@ -170,6 +170,7 @@ impl CapabilityLine {
 
     /// The line of a capability that the list of this image comes to.
     pub fn of(image: &Image, cap: Cap<'_>) -> CapabilityLine
+        // fields are read at offsets from the entry, which lie in the image then
         requires { IsListed image.now.0 cap }
         ensures { capability_line_text result ≡ capability_line image.now.0 (place_of cap.entry) }
     {

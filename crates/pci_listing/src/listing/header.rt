@@ -54,6 +54,7 @@ impl HeaderLine {
 
     /// The line of a function with this image, whose header has this layout.
     pub fn of(slot: Slot, layout: Layout, image: &Image) -> HeaderLine
+        // a device's line and a bridge's have other fields
         requires { layout_number layout ≡ header.layout image.now.0 }
         ensures { header_line_text result ≡ header_line slot image.now.0 }
     {
