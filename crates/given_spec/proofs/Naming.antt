@@ -1,5 +1,5 @@
 -- A list of all faults of judging leaves nothing out.
-use Rattle.std.proofs.Common.{◌≡◌, ℕ, zero, suc, ◌<◌, ◌≤◌, ◌⊎◌, inl, inr, List, [], ◌∷◌, refl, false, arith, sym, ◌∙◌, ap, subst}
+use Rattle.std.proofs.Common.{◌≡◌, ℕ, suc, ◌<◌, ◌≤◌, ◌⊎◌, inl, inr, List, [], ◌∷◌, refl, false, arith, sym, ◌∙◌, ap, subst}
 use Rattle.std.specs.Bool.{IsTrue}
 use Rattle.std.specs.List.{Contains}
 use Rattle.std.proofs.lemmas.Bool.{cases_order, cases_Bool, both_ways, and_parts, and_from}
@@ -10,6 +10,7 @@ use Rattle.pci_spec.specs.System as plain
 use Rattle.pci_spec.specs.Bus.{IsNested}
 use Rattle.pci_spec.specs.Fault.{Unreached, Clash, Split, address_in, named_region, named_regions}
 use Rattle.pci_spec.specs.JudgingLaws.{region_number}
+use Rattle.pci_spec.proofs.AllFaults.{none_below}
 use Rattle.pci_spec.proofs.Firsts.{slot_of}
 use Rattle.pci_spec.proofs.Nesting.{one_function}
 use Rattle.pci_spec.proofs.Regions.{part_same, slot_number-same, region_number-same, register_of-lt}
@@ -26,24 +27,8 @@ use Rattle.given_spec.proofs.Judging.{single_without, without_single, home_witho
 
 module _ {X : Type 0} (m : X → ℕ) (P : ℕ → X → Type 0)
     (none_least : (n : ℕ) (x : X) → P n x → ((k : ℕ) (y : X) → P k y → (n < k) ⊎ ((n ≡ k) × (m x ≤ m y))) → ⊥) where
-  none_with : (n : ℕ) → ((k : ℕ) (y : X) → k < n → P k y → ⊥) → (b : ℕ) (x : X) → m x < b → P n x → ⊥
-  none_with n lower zero x less p = let no : ⊥ = omega (arith, less) in no
-  none_with n lower (suc b) x less p = none_least n x p (λ k y q. elim (cases_order n k) [
-    | inr (inl up) ↦ inl up
-    | inr (inr down) ↦ absurd (lower k y down q)
-    | inl same ↦ elim (cases_order (m x) (m y)) [
-      | inl e ↦ inr (same, omega (arith, e))
-      | inr (inl up) ↦ inr (same, omega (arith, up))
-      | inr (inr down) ↦ absurd (none_with n lower b y (omega (arith, down, less)) (subst (λ j. P j y) (sym same) q))
-    ]
-  ])
-
-  none_below : (b n : ℕ) (x : X) → n < b → P n x → ⊥
-  none_below zero n x less p = let no : ⊥ = omega (arith, less) in no
-  none_below (suc b) n x less p = none_with n (λ k y down q. none_below b k y (omega (arith, down, less)) q) (suc (m x)) x (omega arith) p
-
   none_there : (n : ℕ) (x : X) → P n x → ⊥
-  none_there n x p = none_below (suc n) n x (omega arith) p
+  none_there n x p = none_below m P none_least (suc n) n x (omega arith) p
 
 -- ---- names of regions
 

@@ -1,6 +1,6 @@
 //! Lists of ranges that rise with a gap between two: made from any ranges, and what two of them have in common.
-ghost use Rattle.std.specs.Prelude.{◌≡◌, ◌+◌, ◌<◌, ◌≤◌, nat_lt, length, ℕ, IfOk, OnOk};
-ghost use Rattle.std.specs.List.{All, AllWithin};
+ghost use Rattle.std.specs.Prelude.{◌≡◌, ◌+◌, ◌<◌, ◌≤◌, nat_lt, ℕ, IfOk, OnOk};
+ghost use Rattle.std.specs.List.{All};
 ghost use Rattle.std.specs.List.Sorted.{IsNonDecreasingBy, IsPermutation};
 ghost use Rattle.pci_tree.specs.Ranges.{Holds, Covers, IsCanonical};
 ghost use Rattle.pci_tree.specs.Passing.{IsPush};
@@ -8,7 +8,7 @@ ghost use Rattle.pci_claims.specs.Gathered.{IsGathered, IsCommon, IsJoined};
 
 use pci_base::memory::OutOfMemory;
 use pci_base::range::Range;
-use pci_tree::ranges::meet;
+use pci_tree::ranges::{first_not_before, meet};
 use std::alloc::Allocator;
 
 /// Sorts ranges by their first addresses.
@@ -74,16 +74,6 @@ pub fn gathered<A: Allocator + Copy>(ranges: Vec<Range, A>) -> Result<Vec<Range,
     sort(&mut ranges)?;
     let alloc = *ranges.allocator();
     merged(alloc, &ranges)
-}
-
-/// The index of the first range that doesn't end before an address.
-fn first_not_before(rs: &[Range], a: u64) -> usize
-    requires { IsCanonical rs.now }
-    ensures bound { result ≤ length rs.now }
-    ensures before { AllWithin (λ r. r.last < a) rs.now 0 result }
-    ensures after { AllWithin (λ r. a ≤ r.last) rs.now result (length rs.now) }
-{
-    rs.partition_point(|r| r.last < a)
 }
 
 /// Adds what a range and a list have in common to ranges that lie below the range.

@@ -1,10 +1,9 @@
 -- The first stop of a region as what a list of all faults names of it.
-use Rattle.std.proofs.Common.{◌≡◌, ℕ, zero, suc, ◌+◌, ◌<◌, ◌≤◌, ◌⊎◌, List, [], ◌∷◌, ◌++◌, length, get_or, map, take, Bool, true, false, inl, inr, arith, subst, sym, ◌∙◌, ap, refl, Option, Some, None}
+use Rattle.std.proofs.Common.{◌≡◌, ℕ, zero, suc, ◌<◌, ◌≤◌, ◌⊎◌, List, [], ◌∷◌, length, get_or, map, take, Bool, true, false, inl, inr, arith, subst, sym, ◌∙◌, ap, refl, Option, Some, None}
 use Rattle.std.specs.Prelude.{MatchOption}
 use Rattle.std.specs.List.{All, Contains}
 use Rattle.std.proofs.lemmas.Bool.{cases_lt, cases_order, both_ways, false_from_ne_true}
-use Rattle.std.proofs.lemmas.List.{get_or_default, get_or-map, get_or-take, length-map, length-take-le, length_push, get_or_append_left}
-use Rattle.std.proofs.lemmas.List.Kept.{AllPairs-from_increasing}
+use Rattle.std.proofs.lemmas.List.{get_or_default, get_or-map, get_or-take, length-map, length-take-le}
 use Rattle.pci_spec.specs.Slot.{Slot, slot_number}
 use Rattle.pci_spec.specs.Header.{secondary_bus}
 use Rattle.pci_spec.specs.Window.{WindowKind}
@@ -13,9 +12,8 @@ use Rattle.pci_spec.specs.Bus.{IsNested}
 use Rattle.pci_spec.specs.Decoded.{HasRecords, record_of}
 use Rattle.pci_spec.specs.Decoded as decoded
 use Rattle.pci_spec.specs.Fault.{address_in, named_region}
-use Rattle.pci_spec.proofs.Firsts.{same_region, slot_of}
+use Rattle.pci_spec.proofs.Firsts.{later_is_higher, same_region, slot_of}
 use Rattle.pci_spec.proofs.Members.{in_map_from}
-use Rattle.pci_spec.proofs.Ways.{buses_rise}
 use Rattle.pci_base.specs.Space.{is_prefetch, kind_in}
 use Rattle.pci_function.specs.declared.record.Record.{Record}
 use Rattle.pci_function.specs.Values.{record_value}
@@ -43,23 +41,6 @@ way_at : (s : System) (from : ℕ) (bridges : List Function) (to k : ℕ) (z : F
 way_at s from [] to k z leads within = absurd (let no : ⊥ = omega (arith, within) in no)
 way_at s from (b ∷ bridges) to zero z (has, bridge, on, rest) within = (has, bridge)
 way_at s from (b ∷ bridges) to (suc k) z (has, bridge, on, rest) within = way_at s (secondary_bus b.image) bridges to k z rest (omega (arith, within))
-
--- a later one stands on a higher bus
-later_is_higher : (roots : List ℕ) (s : System) → IsNested roots s → (from : ℕ) (bridges : List Function) (to : ℕ) → Leads s from bridges to
-    → (b c : Function) (at_b : Contains bridges b) (at_c : Contains bridges c) → at_b.0 < at_c.0 → b.slot.bus < c.slot.bus
-later_is_higher roots s nested from bridges to leads b c at_b at_c less =
-    let buses = map (λ (f : Function). f.slot.bus) bridges in
-    let all = map (λ (f : Function). f.slot.bus) bridges ++ to ∷ [] in
-    let n : length (map (λ (f : Function). f.slot.bus) bridges) ≡ length bridges = length-map bridges (λ (f : Function). f.slot.bus) in
-    let m : length (map (λ (f : Function). f.slot.bus) bridges ++ to ∷ []) ≡ length bridges + 1 = length_push (map (λ (f : Function). f.slot.bus) bridges) to ∙ ap (λ k. k + 1) n in
-    let within_b = at_b.1 in
-    let within_c = at_c.1 in
-    let up = AllPairs-from_increasing all (buses_rise roots s nested from bridges to leads) at_b.0 at_c.0 0 less (omega (arith, m, within_c)) in
-    let here_b : get_or (map (λ (f : Function). f.slot.bus) bridges ++ to ∷ []) at_b.0 0 ≡ b.slot.bus =
-    get_or_append_left buses (to ∷ []) 0 at_b.0 (omega (arith, n, within_b)) ∙ get_or-map (λ (f : Function). f.slot.bus) bridges at_b.0 b 0 within_b ∙ ap (λ (f : Function). f.slot.bus) at_b.2 in
-    let here_c : get_or (map (λ (f : Function). f.slot.bus) bridges ++ to ∷ []) at_c.0 0 ≡ c.slot.bus =
-    get_or_append_left buses (to ∷ []) 0 at_c.0 (omega (arith, n, within_c)) ∙ get_or-map (λ (f : Function). f.slot.bus) bridges at_c.0 c 0 within_c ∙ ap (λ (f : Function). f.slot.bus) at_c.2 in
-    omega (arith, up, here_b, here_c)
 
 -- ---- kinds of access
 

@@ -17,22 +17,10 @@ use pci_base::slot::{BUSES, Slot};
 use pci_base::space::Space;
 use pci_function::record::Record;
 use pci_tree::outline::Outline;
+use pci_tree::path::bridge_to_bus;
 use pci_tree::roots::Roots;
 use pci_why::find::region_at;
 use std::alloc::Allocator;
-
-/// At each bus the index of the bridge that leads there.
-fn bridge_to_bus(records: &[Record]) -> [Option<usize>; BUSES]
-    ensures { IsBridgeToBus records.now result }
-{
-    let mut bridge_to_bus = [None; BUSES];
-    for (index, function) in records.iter().enumerate() {
-        if let Some(bridge) = function.bridge {
-            bridge_to_bus[bridge.secondary as usize] = Some(index);
-        }
-    }
-    bridge_to_bus
-}
 
 /// The bridge that leads to a bus, or None where that is a root.
 fn bridge_above(

@@ -47,7 +47,7 @@ absent_is_narrow probe absent =
     let base = eqb-true (bounds_at PrefetchWindow probe).base 0 (and_parts ((bounds_at PrefetchWindow probe).base == 0) _ two).0 in
     ap (λ n. n % 16 == 1) base
 
-wide_window : (image probe : List ℕ) → is_wide_in (optional_window PrefetchWindow image probe) ≡ is_wide_window PrefetchWindow probe
+pub wide_window : (image probe : List ℕ) → is_wide_in (optional_window PrefetchWindow image probe) ≡ is_wide_window PrefetchWindow probe
 wide_window image probe = elim (cases_Bool (has_window PrefetchWindow probe)) [
   | inl there ↦ rw there refl
   | inr absent ↦ ap (λ b. is_wide_in (if b then Some (decoded_window PrefetchWindow image probe) else None)) absent ∙ sym (absent_is_narrow probe absent)

@@ -13,7 +13,7 @@ use Rattle.pci_place.specs.declared.item.Item.{Item}
 use Rattle.pci_place.specs.Sorting.{IsLarger, IsPlacedBefore}
 
 -- an order of what passes a test is one of each two that pass it
-pairs_unfilter : {X : Type 0} (R : X → X → Type 0) (p : X → Bool) (xs : List X) (i j : ℕ) (d : X) → AllPairs R (filter p xs) → i < j → j < length xs
+pub pairs_unfilter : {X : Type 0} (R : X → X → Type 0) (p : X → Bool) (xs : List X) (i j : ℕ) (d : X) → AllPairs R (filter p xs) → i < j → j < length xs
     → p (get_or xs i d) ≡ true → p (get_or xs j d) ≡ true → R (get_or xs i d) (get_or xs j d)
 pairs_unfilter R p [] i j d pairs up inside at_i at_j = absurd (let impossible : ⊥ = omega (arith, inside) in impossible)
 pairs_unfilter R p (x ∷ xs) i zero d pairs up inside at_i at_j = absurd (let impossible : ⊥ = omega (arith, up) in impossible)
@@ -29,7 +29,7 @@ pairs_unfilter R p (x ∷ xs) (suc i) (suc j) d pairs up inside at_i at_j =
     (omega (arith, up)) (omega (arith, inside)) at_i at_j
 
 -- two elements that tie stand in the order that they had
-stable_pairs : {X : Type 0} (R : X → X → Type 0) (lt : X → X → Bool) (xs ys : List X) (i j : ℕ) (d : X) → AllPairs R xs → IsStableBy lt xs ys → i < j → j < length ys
+pub stable_pairs : {X : Type 0} (R : X → X → Type 0) (lt : X → X → Bool) (xs ys : List X) (i j : ℕ) (d : X) → AllPairs R xs → IsStableBy lt xs ys → i < j → j < length ys
     → lt (get_or ys i d) (get_or ys i d) ≡ false → lt (get_or ys i d) (get_or ys j d) ≡ false → lt (get_or ys j d) (get_or ys i d) ≡ false → R (get_or ys i d) (get_or ys j d)
 stable_pairs R lt xs ys i j d pairs stable up inside own there back =
     let x = get_or ys i d in
@@ -37,13 +37,13 @@ stable_pairs R lt xs ys i j d pairs stable up inside own there back =
     (subst (AllPairs R) (sym (stable x)) (pairs_filter R (ties lt x) xs pairs)) up inside
     (ap (λ b. not b && not b) own) (ap (λ b. not b && not (lt (get_or ys j d) x)) there ∙ ap not back)
 
-not_below : (m n : ℕ) → n ≤ m → is_lt (nat_cmp m n) ≡ false
+pub not_below : (m n : ℕ) → n ≤ m → is_lt (nat_cmp m n) ≡ false
 not_below m n le = elim (cases_eq m n) [
   | inl same ↦ sym (ap is_lt (nat_cmp_is m n Equal same))
   | inr other ↦ sym (ap is_lt (nat_cmp_is m n Greater (omega (arith, le, other))))
 ]
 
-from_not_below : (m n : ℕ) → is_lt (nat_cmp m n) ≡ false → n ≤ m
+pub from_not_below : (m n : ℕ) → is_lt (nat_cmp m n) ≡ false → n ≤ m
 from_not_below m n other = elim (cases_lt m n) [
   | inl less ↦ absurd (both_ways (is_lt (nat_cmp m n)) other (sym (ap is_lt (nat_cmp_is m n Less less))))
   | inr fine ↦ fine

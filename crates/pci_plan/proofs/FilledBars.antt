@@ -1,5 +1,5 @@
 -- The BARs of a filling, by its record.
-use Rattle.std.proofs.Common.{◌≡◌, ℕ, zero, suc, ◌+◌, ◌*◌, ◌/◌, ◌%◌, ◌^◌, ◌<◌, ◌≤◌, Bool, true, false, cond, ◌&&◌, not, inl, inr, arith, sym, ◌∙◌, ap, subst, map, refl}
+use Rattle.std.proofs.Common.{◌≡◌, ℕ, zero, suc, ◌+◌, ◌/◌, ◌%◌, ◌^◌, ◌<◌, ◌≤◌, Bool, true, false, cond, ◌&&◌, not, inl, inr, arith, sym, ◌∙◌, ap, subst, map, refl}
 use Rattle.std.specs.Bool.{nat_lt, ◌==◌, if◌then◌else◌}
 use Rattle.std.specs.List.{Contains, filter, range_with_len}
 use Rattle.std.proofs.lemmas.Bool.{and_from, and_parts, both_ways, cases_Bool, lt-ltb}
@@ -8,7 +8,7 @@ use Rattle.std.proofs.Math.Nat.{pow-le-pow_right}
 use denote.Enum.Bare.{sameb}
 use Rattle.pci_spec.specs.Number.{number_at}
 use Rattle.pci_spec.specs.Header.{layout, bar_count, bar_register}
-use Rattle.pci_spec.specs.Bar.{BarKind, IoBar, Memory32, Memory64, Reserved, bar_at, bar_kind, is_io, is_wide, type_bits, starts_bar, whole_bar, has_bar, first_bit}
+use Rattle.pci_spec.specs.Bar.{BarKind, IoBar, Memory32, Memory64, Reserved, bar_at, bar_kind, is_wide, starts_bar, has_bar, first_bit}
 use Rattle.pci_spec.specs.Decoded.{decoded_bar, decoded_bars}
 use Rattle.pci_spec.specs.Decoded as decoded
 use Rattle.pci_spec.specs.System.{Function, IsFunction, Bar}
@@ -19,6 +19,7 @@ use Rattle.pci_spec.proofs.Members.{IsMade, in_filter_to, in_filter_from, in_map
 use Rattle.plan_spec.proofs.Planning.Reach.{bar_place}
 use Rattle.plan_spec.proofs.Planning.Tables.{class_itself}
 use Rattle.plan_spec.proofs.Planning.BarNumbers.{value_small, upper_of_wide, wide_has_bar}
+use Rattle.plan_spec.proofs.Planning.LowBits.{low_bits}
 use Rattle.pci_image.specs.Bars.{decoded_kind_of, decoded_bar_of}
 use Rattle.pci_image.specs.declared.bar.Bar.{Bar as CodeBar}
 use Rattle.pci_image.specs.declared.bar.BarKind.{BarKind as CodeKind}
@@ -48,24 +49,6 @@ count_by false = omega arith
 
 pub few_bars : (f : Function) → bar_count (layout f.image) ≤ 6
 few_bars f = count_by (layout f.image == 1)
-
--- ---- the low bits of a whole BAR are those of its register
-
-low_wide : (low high : ℕ) → (low + 2 ^ 32 * high) % 2 ^ 4 ≡ low % 2 ^ 4
-low_wide low high = omega arith
-
-abbrev kind_by : Bool → Bool → Bool → BarKind
-kind_by io wide narrow = if io then IoBar else if wide then Memory64 else if narrow then Memory32 else Reserved
-
-low_by : (io wide narrow : Bool) (low high : ℕ) → (if not io && wide then low + 2 ^ 32 * high else low) % 2 ^ first_bit (kind_by io wide narrow) ≡ low % 2 ^ first_bit (kind_by io wide narrow)
-low_by true wide narrow low high = refl
-low_by false true narrow low high = low_wide low high
-low_by false false narrow low high = refl
-
-low_bits : (f : Function) (n : ℕ) → whole_bar f.probe f.image n % 2 ^ first_bit (bar_kind (bar_at f.probe n)) ≡ bar_at f.image n % 2 ^ first_bit (bar_kind (bar_at f.probe n))
-low_bits f n =
-    let mask = bar_at f.probe n in
-    low_by (is_io mask) (type_bits mask == 2) (type_bits mask == 0) (bar_at f.image n) (bar_at f.image (n + 1))
 
 -- ---- kinds
 

@@ -1,34 +1,18 @@
 -- Where all is placed anew, nothing stays.
-use Rattle.std.proofs.Common.{◌≡◌, ◌&&◌, ◌||◌, ℕ, zero, suc, [], None, cond, not, false, length, ap, sym, ◌∙◌, refl}
+use Rattle.std.proofs.Common.{◌≡◌, ◌||◌, ℕ, [], None, cond, ap, sym, ◌∙◌}
 use Rattle.std.specs.Bool.{IsTrue}
-use Rattle.std.specs.List.{list_all}
 use Rattle.pci_spec.specs.Window.{WindowKind, MemoryWindow, PrefetchWindow}
 use Rattle.pci_spec.specs.System.{System}
 use Rattle.pci_spec.specs.Bus.{is_root}
-use Rattle.plan_spec.specs.Plan.{bridges_above}
 use Rattle.settle_spec.specs.Lists.{Request}
-use Rattle.settle_spec.specs.Parts.{Region, regions, is_part, bridge_over, class_in}
-use Rattle.settle_spec.specs.Stands.{window_region, takes_from, is_in_place, stands_within}
-use Rattle.settle_spec.specs.Items.{has_room, holds, holds_within, stays}
+use Rattle.settle_spec.specs.Parts.{bridge_over}
+use Rattle.settle_spec.specs.Items.{stays}
+use Rattle.settle_spec.proofs.Anew.{none_stays}
 use Rattle.pci_settle.specs.Kept.{AreKept}
 use Rattle.pci_settle.specs.Over.{open_range, class_window, AreOpenOver}
 use Rattle.pci_settle.proofs.Tables.{none_noted}
 
 module _ (q : Request) (s : System) (anew : IsTrue q.anew) where
-  none_stands : (others : ℕ) (r : Region) → stands_within q s others r ≡ false
-  unfolding stands_within
-  none_stands zero r = refl
-  none_stands (suc others) r =
-      ap (λ b. not b && is_part q s r.function r.part && is_in_place q s (stands_within q s others) r && list_all (λ t. not (takes_from q t r && stands_within q s others t)) (regions q s)) anew
-
-  none_holds : (depth : ℕ) (r : Region) → holds_within q s depth r ≡ false
-  unfolding holds_within
-  none_holds zero r = none_stands (length (regions q s)) r
-  none_holds (suc depth) r = ap (λ b. b && has_room q s (holds_within q s depth) r.function r.part) (none_stands (length (regions q s)) r)
-
-  pub none_stays : (r : Region) → false ≡ stays q s r
-  none_stays r = sym (ap (λ b. b && list_all (λ f. holds q s (window_region (class_in q s r.function r.part) f)) (bridges_above s r.function.slot.bus)) (none_holds 256 r))
-
   -- no table of windows or of what is kept is needed
   window_none : (kind : WindowKind) (bus : ℕ) → class_window q s kind bus ≡ None
   window_none kind bus = ap (λ b. cond (b || is_root q.roots bus) None (open_range kind (bridge_over s bus))) anew
@@ -37,4 +21,4 @@ module _ (q : Request) (s : System) (anew : IsTrue q.anew) where
   over_anew f listed = record { memory = sym (window_none MemoryWindow f.slot.bus); prefetch = sym (window_none PrefetchWindow f.slot.bus) }
 
   pub kept_anew : AreKept s (stays q s) []
-  kept_anew k f part at there = none_noted part ∙ none_stays (record { function = f; part = part })
+  kept_anew k f part at there = none_noted part ∙ sym (none_stays q s anew (record { function = f; part = part }))

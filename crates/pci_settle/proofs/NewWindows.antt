@@ -1,17 +1,17 @@
 -- The new windows of bridges, in one pass over the records from the highest slot down.
-use Rattle.std.proofs.Common.{◌≡◌, ℕ, ◌+◌, ◌-◌, ◌%◌, ◌^◌, ◌<◌, ◌≤◌, inl, inr, List, length, map, set, replicate, get_or, refl, Bool, true, false, cond, ◌&&◌, arith, sym, ◌∙◌, ap, subst, Option, Some, None}
-use Rattle.std.specs.Bool.{nat_lt, ◌==◌, if◌then◌else◌}
+use Rattle.std.proofs.Common.{◌≡◌, ℕ, ◌+◌, ◌-◌, ◌^◌, ◌<◌, ◌≤◌, inl, inr, List, length, map, set, replicate, get_or, refl, Bool, true, false, cond, ◌&&◌, arith, sym, ◌∙◌, ap, subst, Option, Some, None}
+use Rattle.std.specs.Bool.{nat_lt}
 use Rattle.std.specs.Option.{is_some, IfSome, option_map}
 use Rattle.std.specs.List.{Contains, slice_get}
-use Rattle.std.proofs.lemmas.Bool.{cases_Bool, cases_eq, cases_lt, both_ways, not-false, and_parts, eqb-true, lt-ltb, le-ltb}
+use Rattle.std.proofs.lemmas.Bool.{cases_eq, cases_lt, both_ways, lt-ltb, le-ltb}
 use Rattle.std.proofs.lemmas.List.{length-set, get_or-replicate, get_or-set_same, get_or-set_other, get_or_past}
 use Rattle.std.proofs.lemmas.List.Elements.{All-contains, All-replicate}
 use Rattle.std.proofs.lemmas.Option.{slice_get_within, slice_get-get_or, slice_get_read, get_or_from_slice_get}
 use Rattle.pci_spec.specs.Slot.{slot_number}
-use Rattle.pci_spec.specs.Window.{WindowKind, PrefetchWindow, bounds_at, page_size, has_window, is_wide_window}
+use Rattle.pci_spec.specs.Window.{WindowKind, PrefetchWindow, page_size, is_wide_window}
 use Rattle.pci_spec.specs.System.{System, Function, IsFunction, IsSystem, is_bridge}
 use Rattle.pci_spec.specs.Bus.{secondary, IsNested}
-use Rattle.pci_spec.specs.Decoded.{HasRecords, decoded_window, optional_window}
+use Rattle.pci_spec.specs.Decoded.{HasRecords}
 use Rattle.pci_spec.specs.Decoded as decoded
 use Rattle.plan_spec.specs.Plan.{same_class}
 use Rattle.plan_spec.proofs.Planning.Safe.{slots_of, order_of}
@@ -32,6 +32,7 @@ use Rattle.pci_tree.proofs.RegionParts.{same_bridge_of}
 use Rattle.pci_place.specs.Above.{is_wide_in}
 use Rattle.pci_place.specs.Items.{function_in, no_function}
 use Rattle.pci_place.specs.Records.{IsRecordOf}
+use Rattle.pci_place.proofs.Aboves.{wide_window}
 use Rattle.pci_place.proofs.Records.{FunctionAt, same_count, function_at}
 use Rattle.pci_settle.specs.declared.extent.Extent.{Extent}
 use Rattle.pci_settle.specs.Spots.{extent_value, IsExtent}
@@ -39,23 +40,6 @@ use Rattle.pci_settle.specs.Placings.{item_extent}
 use Rattle.pci_settle.specs.Own.{IsWindowOf}
 use Rattle.pci_settle.specs.Buses.{AreWindows, AreBehind, Classing, IsLeft}
 use Rattle.pci_settle.specs.NewWindows.{around_bus, IsEntry, IsPut, window_in, AreNewWindows}
-
--- ---- upper halves
-
--- a prefetchable window that isn't there shows none
-absent_is_narrow : (probe : List ℕ) → has_window PrefetchWindow probe ≡ false → is_wide_window PrefetchWindow probe ≡ false
-absent_is_narrow probe absent =
-    let zero = not-false _ absent in
-    let one = (and_parts _ _ zero).0 in
-    let two = (and_parts _ _ one).0 in
-    let base = eqb-true (bounds_at PrefetchWindow probe).base 0 (and_parts ((bounds_at PrefetchWindow probe).base == 0) _ two).0 in
-    ap (λ n. n % 16 == 1) base
-
-wide_window : (image probe : List ℕ) → is_wide_in (optional_window PrefetchWindow image probe) ≡ is_wide_window PrefetchWindow probe
-wide_window image probe = elim (cases_Bool (has_window PrefetchWindow probe)) [
-  | inl there ↦ rw there refl
-  | inr absent ↦ ap (λ b. is_wide_in (if b then Some (decoded_window PrefetchWindow image probe) else None)) absent ∙ sym (absent_is_narrow probe absent)
-]
 
 -- ---- the table
 

@@ -1,52 +1,23 @@
 -- Stable sorts by falling size, then by falling alignment, bring items in turn.
-use Rattle.std.proofs.Common.{◌≡◌, ◌&&◌, ◌||◌, ℕ, zero, suc, ◌<◌, ◌≤◌, inl, inr, ◌⊎◌, List, [], ◌∷◌, Bool, false, true, cond, not, map, arith, sym, ◌∙◌, ap, subst, length, get_or}
+use Rattle.std.proofs.Common.{◌≡◌, ◌&&◌, ◌||◌, ℕ, ◌<◌, ◌≤◌, inl, inr, ◌⊎◌, List, Bool, true, not, map, arith, sym, ◌∙◌, ap, subst, get_or}
 use Rattle.std.specs.Bool.{nat_lt, ◌==◌}
-use Rattle.std.specs.declared.cmp.Ordering.TheVariants.{Less, Equal, Greater}
-use Rattle.std.specs.Cmp.{nat_cmp_is, nat_cmp_total}
+use Rattle.std.specs.Cmp.{nat_cmp_total}
 use Rattle.std.specs.Ordering.{is_lt, nat_cmp}
-use Rattle.std.specs.List.{AllPairs, filter}
+use Rattle.std.specs.List.{AllPairs}
 use Rattle.std.specs.List.Sorted.{ties, IsStableBy, IsSortedBy, IsPermutation}
-use Rattle.std.proofs.lemmas.Bool.{cases_Bool, cases_eq, cases_lt, both_ways}
+use Rattle.std.proofs.lemmas.Bool.{cases_eq}
 use Rattle.std.proofs.lemmas.Bool.Decides.{nat_tests}
-use Rattle.std.proofs.lemmas.List.Elements.{Contains-get_or}
 use Rattle.std.proofs.lemmas.List.Sorted.{sorted_far, ranks_by, IsStrictWeakOrder-flip, IsPermutation-map}
-use Rattle.pci_spec.proofs.Members.{in_filter_from, pairs_head, pairs_tail, pairs_filter, pairs_map}
+use Rattle.pci_spec.proofs.Members.{pairs_filter, pairs_map}
 use Rattle.plan_spec.proofs.Planning.AllItems.{pairs_unmap}
 use Rattle.settle_spec.specs.Stands.{rank}
 use Rattle.settle_spec.specs.FirstPlace.{Extent as ExtentValue}
 use Rattle.settle_spec.specs.Items.{Item as ItemValue, in_turn}
 use Rattle.settle_spec.specs.PlacingLaws.{HasLowerRank, ComesBefore}
 use Rattle.settle_spec.proofs.InTurn.{turn_only, ranks_differ}
+use Rattle.pci_place.proofs.StableSorts.{pairs_unfilter, not_below, from_not_below}
 use Rattle.pci_settle.specs.declared.item.Item.{Item}
 use Rattle.pci_settle.specs.Turns.{IsInTurn, IsValued}
-
--- an order of what passes a test is one of each two that pass it
-pairs_unfilter : {X : Type 0} (R : X → X → Type 0) (p : X → Bool) (xs : List X) (i j : ℕ) (d : X) → AllPairs R (filter p xs) → i < j → j < length xs
-    → p (get_or xs i d) ≡ true → p (get_or xs j d) ≡ true → R (get_or xs i d) (get_or xs j d)
-pairs_unfilter R p [] i j d pairs up inside at_i at_j = absurd (let impossible : ⊥ = omega (arith, inside) in impossible)
-pairs_unfilter R p (x ∷ xs) i zero d pairs up inside at_i at_j = absurd (let impossible : ⊥ = omega (arith, up) in impossible)
-pairs_unfilter R p (x ∷ xs) zero (suc j) d pairs up inside at_i at_j =
-    pairs_head R x (filter p xs) (get_or xs j d) (subst (AllPairs R) (ap (λ b. cond b (x ∷ filter p xs) (filter p xs)) at_i) pairs)
-    (in_filter_from p xs (get_or xs j d) (Contains-get_or xs j d (omega (arith, inside))) at_j)
-pairs_unfilter R p (x ∷ xs) (suc i) (suc j) d pairs up inside at_i at_j =
-    pairs_unfilter R p xs i j d
-    (elim (cases_Bool (p x)) [
-      | inl kept ↦ pairs_tail R x (filter p xs) (subst (AllPairs R) (ap (λ b. cond b (x ∷ filter p xs) (filter p xs)) kept) pairs)
-      | inr left ↦ subst (AllPairs R) (ap (λ b. cond b (x ∷ filter p xs) (filter p xs)) left) pairs
-    ])
-    (omega (arith, up)) (omega (arith, inside)) at_i at_j
-
-not_below : (m n : ℕ) → n ≤ m → is_lt (nat_cmp m n) ≡ false
-not_below m n le = elim (cases_eq m n) [
-  | inl same ↦ sym (ap is_lt (nat_cmp_is m n Equal same))
-  | inr other ↦ sym (ap is_lt (nat_cmp_is m n Greater (omega (arith, le, other))))
-]
-
-from_not_below : (m n : ℕ) → is_lt (nat_cmp m n) ≡ false → n ≤ m
-from_not_below m n other = elim (cases_lt m n) [
-  | inl less ↦ absurd (both_ways (is_lt (nat_cmp m n)) other (sym (ap is_lt (nat_cmp_is m n Less less))))
-  | inr fine ↦ fine
-]
 
 -- ---- a stable sort by a falling number
 

@@ -1,10 +1,8 @@
 //! What is placed on a bus in a class.
-ghost use Rattle.std.specs.Prelude.{◌≡◌, ◌+◌, ◌<◌, ◌≤◌, ℕ, IfOk, OnOk, IsTrue, None, length, slice_index_or};
-ghost use Rattle.std.specs.List.{All, AllWithin};
-ghost use Rattle.pci_spec.specs.Slot.{IsSlot};
+ghost use Rattle.std.specs.Prelude.{◌≡◌, ◌+◌, ◌<◌, ℕ, IfOk, OnOk, IsTrue, None, slice_index_or};
+ghost use Rattle.std.specs.List.{All};
 ghost use Rattle.pci_spec.specs.System.{Part};
 ghost use Rattle.pci_spec.specs.Bus.{is_root, are_siblings};
-ghost use Rattle.pci_tree.specs.Outline.{RiseBySlot};
 ghost use Rattle.pci_base.specs.WindowKinds.{kind_value};
 ghost use Rattle.pci_place.specs.Above.{AreAboves, system_in};
 ghost use Rattle.pci_settle.specs.Kept.{kept_of, nothing_kept};
@@ -20,21 +18,11 @@ use crate::own::{Terms, add_items};
 use pci_base::memory::OutOfMemory;
 use pci_base::slot::BUSES;
 use pci_base::window_kind::WindowKind;
-use pci_function::record::{Bridge, Record};
+use pci_function::record::Bridge;
 use pci_place::above::Above;
 use pci_tree::admitted::Admitted;
+use pci_tree::bus::first_from;
 use std::alloc::Allocator;
-
-/// The index of the first record on this bus or a higher one.
-fn first_from(records: &[Record], bus: u16) -> usize
-    requires rising { RiseBySlot records.now }
-    requires slots { All (λ r. IsSlot r.slot) records.now }
-    ensures bound { result ≤ length records.now }
-    ensures before { AllWithin (λ r. r.slot.bus < bus) records.now 0 result }
-    ensures after { AllWithin (λ r. bus ≤ r.slot.bus) records.now result (length records.now) }
-{
-    records.partition_point(|function| u16::from(function.slot.bus()) < bus)
-}
 
 /// The new window of a bridge, by the bus behind it.
 fn window_behind(windows: &[Option<Extent>; BUSES], bridge: Option<Bridge>) -> Option<Extent>

@@ -9,7 +9,7 @@ use Rattle.settle_spec.specs.Lists.{Lists, Request}
 use Rattle.settle_spec.specs.Parts.{Region, regions}
 use Rattle.settle_spec.specs.Stands.{stands}
 use Rattle.settle_spec.specs.Items.{stays}
-use Rattle.settle_laws.proofs.Anew.{none_stands, none_stays}
+use Rattle.settle_spec.proofs.Anew.{none_stands, none_stays}
 use Rattle.pci_tree.specs.Admission.{Admission}
 use Rattle.pci_place.specs.Above.{system_in}
 use Rattle.pci_settle.specs.declared.kept.Kept.{Kept}

@@ -1,6 +1,6 @@
 -- The image with what is decoded of it at its places is the settled one.
-use Rattle.std.proofs.Common.{◌≡◌, ℕ, ◌+◌, ◌-◌, ◌*◌, ◌/◌, ◌%◌, ◌^◌, ◌<◌, inl, inr, List, [], ◌∷◌, ◌++◌, map, Bool, true, false, cond, ◌&&◌, ◌||◌, not, arith, refl, sym, ◌∙◌, ap, Option, None, Some}
-use Rattle.std.specs.Bool.{◌==◌, if◌then◌else◌}
+use Rattle.std.proofs.Common.{◌≡◌, ℕ, ◌+◌, ◌-◌, ◌/◌, ◌%◌, ◌^◌, ◌<◌, inl, inr, List, [], ◌∷◌, ◌++◌, map, Bool, true, false, cond, ◌&&◌, ◌||◌, not, arith, refl, sym, ◌∙◌, ap, Option, None, Some}
+use Rattle.std.specs.Bool.{if◌then◌else◌}
 use Rattle.std.specs.Option.{is_some}
 use Rattle.std.specs.List.{Contains, filter, fold, range_with_len}
 use Rattle.std.proofs.lemmas.Bool.{cases_Bool, and_from, and_parts, eqb-true, lt-ltb}
@@ -9,15 +9,16 @@ use Rattle.std.proofs.lemmas.List.Folds.{fold-map}
 use Rattle.std.proofs.lemmas.List.Sums.{fold-append}
 use Rattle.pci_spec.specs.Number.{number_at}
 use Rattle.pci_spec.specs.Header.{layout, bar_count, bar_register, rom_place, rom_register}
-use Rattle.pci_spec.specs.Bar.{BarKind, IoBar, Memory32, Memory64, Reserved, bar_at, bar_kind, is_io, is_wide, type_bits, has_bar, whole_bar, first_bit}
+use Rattle.pci_spec.specs.Bar.{bar_at, bar_kind, is_wide, has_bar, first_bit}
 use Rattle.pci_spec.specs.Window.{WindowKind, IoWindow, MemoryWindow, PrefetchWindow, has_window, is_closed, closed_bounds}
-use Rattle.pci_spec.specs.Decoded.{DecodedBar, decoded_bar, decoded_window, optional_window, window_range, bridge_of}
+use Rattle.pci_spec.specs.Decoded.{DecodedBar, decoded_bar, decoded_window, optional_window, window_range}
 use Rattle.pci_spec.specs.Decoded as decoded
 use Rattle.pci_spec.specs.System.{System, Function, Part, Bar, Rom, Window, IsFunction, is_bridge, is_window, is_implemented, has_part}
 use Rattle.pci_spec.proofs.Members.{in_head, in_tail, in_range_to}
 use Rattle.pci_spec.proofs.Records.{memory_window_there}
 use Rattle.plan_spec.specs.Plan.{is_open}
 use Rattle.plan_spec.specs.Planning.Showing.{bar_value, rom_value}
+use Rattle.plan_spec.proofs.Planning.LowBits.{low_bits}
 use Rattle.settle_spec.specs.Lists.{Request}
 use Rattle.settle_spec.specs.Parts.{Region, is_part, is_left, header_bars}
 use Rattle.settle_spec.specs.Items.{Placed, stays}
@@ -76,24 +77,6 @@ module _ {X Z : Type 0} where
         | true ↦ fold_filter F test (F z x) xs
         | false ↦ fold_filter F test z xs
       ]
-
--- ---- the low bits of a whole BAR are those of its register
-
-low_wide : (low high : ℕ) → (low + 2 ^ 32 * high) % 2 ^ 4 ≡ low % 2 ^ 4
-low_wide low high = omega arith
-
-abbrev kind_by : Bool → Bool → Bool → BarKind
-kind_by io wide narrow = if io then IoBar else if wide then Memory64 else if narrow then Memory32 else Reserved
-
-low_by : (io wide narrow : Bool) (low high : ℕ) → (if not io && wide then low + 2 ^ 32 * high else low) % 2 ^ first_bit (kind_by io wide narrow) ≡ low % 2 ^ first_bit (kind_by io wide narrow)
-low_by true wide narrow low high = refl
-low_by false true narrow low high = low_wide low high
-low_by false false narrow low high = refl
-
-low_bits : (f : Function) (n : ℕ) → whole_bar f.probe f.image n % 2 ^ first_bit (bar_kind (bar_at f.probe n)) ≡ bar_at f.image n % 2 ^ first_bit (bar_kind (bar_at f.probe n))
-low_bits f n =
-    let mask = bar_at f.probe n in
-    low_by (is_io mask) (type_bits mask == 2) (type_bits mask == 0) (bar_at f.image n) (bar_at f.image (n + 1))
 
 pub register_place : (register n : ℕ) → register ≡ bar_register n → (register - 0x10) / 4 ≡ n
 register_place register n at = omega (arith, at)

@@ -33,7 +33,7 @@ module _ {X : Type 0} (m : X → ℕ) (P : ℕ → X → Type 0)
     ]
   ])
 
-  none_below : (b n : ℕ) (x : X) → n < b → P n x → ⊥
+  pub none_below : (b n : ℕ) (x : X) → n < b → P n x → ⊥
   none_below zero n x less p = let no : ⊥ = omega (arith, less) in no
   none_below (suc b) n x less p = none_with n (λ k y down q. none_below b k y (omega (arith, down, less)) q) (suc (m x)) x (omega arith) p
 

@@ -176,7 +176,7 @@ least_split_is_first roots s system space address first first_register second se
 -- ---- unreached regions
 
 -- of two bridges of a way, the later one stands on a higher bus
-later_is_higher : (roots : List ℕ) (s : System) → IsNested roots s → (from : ℕ) (bridges : List Function) (to : ℕ) → Leads s from bridges to
+pub later_is_higher : (roots : List ℕ) (s : System) → IsNested roots s → (from : ℕ) (bridges : List Function) (to : ℕ) → Leads s from bridges to
     → (b c : Function) (at_b : Contains bridges b) (at_c : Contains bridges c) → at_b.0 < at_c.0 → b.slot.bus < c.slot.bus
 later_is_higher roots s nested from bridges to leads b c at_b at_c less =
     let buses = map (λ (f : Function). f.slot.bus) bridges in

@@ -9,8 +9,10 @@ use pci_base::slot::Slot;
 use pci_function::record::Record;
 
 /// The index of the first record on this bus or a higher one.
-fn first_from(records: &[Record], bus: u16) -> usize
+pub fn first_from(records: &[Record], bus: u16) -> usize
+    // found by halving, so buses have to rise
     requires rising { RiseBySlot records.now }
+    // a device number above 31 would make a slot's number one of the next bus
     requires slots { All (λ r. IsSlot r.slot) records.now }
     ensures bound { result ≤ length records.now }
     ensures before { AllWithin (λ r. r.slot.bus < bus) records.now 0 result }

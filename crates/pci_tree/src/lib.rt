@@ -11,11 +11,11 @@
 
 pub mod admit;
 pub mod admitted;
-mod bus;
+pub mod bus;
 pub mod buses;
 mod forwarded;
 pub mod outline;
-mod path;
+pub mod path;
 pub mod ranges;
 pub mod reach;
 pub mod region;

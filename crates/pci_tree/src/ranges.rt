@@ -21,7 +21,8 @@ pub fn meet(r: Range, s: Range) -> Option<Range>
 }
 
 /// The index of the first range that doesn't end before the address.
-fn first_not_before(rs: &[Range], a: u64) -> usize
+pub fn first_not_before(rs: &[Range], a: u64) -> usize
+    // found by halving, so their ends have to rise
     requires { IsCanonical rs.now }
     ensures bound { result ≤ length rs.now }
     ensures before { AllWithin (λ r. r.last < a) rs.now 0 result }

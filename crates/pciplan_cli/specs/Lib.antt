@@ -2,6 +2,7 @@ pub mod MapAsked
 pub mod ModelWords
 pub mod RootWords
 pub mod OptionWords
+pub mod BesideWords
 pub mod FaultsAsked
 pub mod SettleAsked
 pub mod Asked

@@ -25,6 +25,7 @@ pub mod Idle
 pub mod InPool
 pub mod Insertion
 pub mod Kept
+pub mod LowBits
 pub mod LaidOut
 pub mod Moved
 pub mod Needed
@@ -52,6 +53,7 @@ pub mod Registers
 pub mod RomsOn
 pub mod RomsOnFaults
 pub mod RomsOnLayout
+pub mod SameBytes
 pub mod RomsOnRegisters
 pub mod RomFits
 pub mod Room

@@ -14,12 +14,12 @@ use Rattle.plan_spec.specs.Plan.{Pools, pool_of, are_bad, bridges_above, class_o
 use Rattle.plan_spec.specs.Planning.Layout.{range_of, is_item, AreBeside, AreTwo, IsInside, LieApart, IsLaidOut}
 use Rattle.plan_spec.proofs.PlanningLaws.{profile_decodes}
 use Rattle.plan_spec.proofs.Planning.AboveBuses.{above_from, above_to, root_or_led}
-use Rattle.plan_spec.proofs.Planning.Behind.{behind_range}
+use Rattle.plan_spec.proofs.Planning.Behind.{behind_range, bridge_between}
 use Rattle.plan_spec.proofs.Planning.LaidOut.{in_pool, opening}
 use Rattle.plan_spec.proofs.Planning.Safe.{order_of}
 use Rattle.settle_spec.specs.Parts.{is_within, holds_range, bridge_over, is_in_memory, is_in_prefetch, same_space}
 use Rattle.settle_spec.proofs.BridgeOver.{over_is}
-use Rattle.settle_spec.proofs.Nested.{bridge_between, is_no_root, one_bridge}
+use Rattle.settle_spec.proofs.Nested.{is_no_root, one_bridge}
 use Rattle.settle_laws.proofs.Held.{none_by}
 use Rattle.settle_laws.proofs.InLists.{within_from}
 use Rattle.settle_laws.proofs.PartClasses.{by_tests, by_windows}

@@ -1,5 +1,5 @@
 -- A function that differs at most in Command's enables shows what it showed, and each of its parts is where it was.
-use Rattle.std.proofs.Common.{◌≡◌, ◌&&◌, ℕ, zero, suc, ◌+◌, ◌*◌, ◌/◌, ◌-◌, ◌%◌, ◌^◌, ◌<◌, inl, inr, List, false, not, arith, refl, sym, ◌∙◌, ap}
+use Rattle.std.proofs.Common.{◌≡◌, ◌&&◌, ℕ, ◌+◌, ◌*◌, ◌/◌, ◌-◌, ◌%◌, ◌^◌, ◌<◌, inl, inr, false, not, arith, sym, ◌∙◌, ap}
 use Rattle.std.specs.Bool.{nat_le, nat_lt, ◌==◌, if◌then◌else◌}
 use Rattle.std.specs.Int.{bit_at}
 use Rattle.std.proofs.lemmas.Bool.{and_from, both_ways, cases_eq, cases_lt, eq-eqb, lt-ltb}
@@ -8,21 +8,15 @@ use Rattle.pci_spec.specs.Registers.{COMMAND}
 use Rattle.pci_spec.specs.Header.{layout, bar_register, rom_register}
 use Rattle.pci_spec.specs.Bar.{bar_at, is_wide}
 use Rattle.pci_spec.specs.Rom.{rom_at}
-use Rattle.pci_spec.specs.Window.{WindowKind, IoWindow, MemoryWindow, PrefetchWindow, bounds_at, has_window, lower_pages, page_size}
+use Rattle.pci_spec.specs.Window.{WindowKind, bounds_at, has_window, lower_pages, page_size}
 use Rattle.pci_spec.specs.Decoded.{aligned_range, bar_size}
 use Rattle.pci_spec.specs.System.{Function, Part, Bar, Rom, Window}
 use Rattle.plan_spec.specs.Plan.{IsMoved, is_open}
 use Rattle.plan_spec.specs.Planning.Layout.{range_of}
+use Rattle.plan_spec.proofs.Planning.SameBytes.{number_same, bounds_same}
 use Rattle.settle_laws.proofs.Alike.{IsAlike}
 use Rattle.settle_laws.proofs.HeaderParts.{rom_at_end}
 use Rattle.planned_laws.specs.Switching.{IsSwitched}
-
-number_same : (a b : List ℕ) (o w : ℕ) → ((j : ℕ) → j < w → byte_at a (o + j) ≡ byte_at b (o + j)) → number_at a o w ≡ number_at b o w
-number_same a b o zero same = refl
-number_same a b o (suc w) same =
-    let low = number_same a b o w (λ j l. same j (omega (arith, l))) in
-    let top = same w (omega arith) in
-    λ i. low i + top i * 256 ^ w
 
 module _ (f g : Function) (h : IsSwitched f g) where
   -- ---- registers behind Command
@@ -55,23 +49,8 @@ module _ (f g : Function) (h : IsSwitched f g) where
 
   -- ---- addresses
 
-  bounds_same : (c : WindowKind) → bounds_at c f.image ≡ bounds_at c g.image
-  bounds_same IoWindow =
-      let base = later_byte 0x1c (omega arith) in
-      let limit = later_byte 0x1d (omega arith) in
-      let base_upper = later_number 0x30 2 (omega arith) in
-      let limit_upper = later_number 0x32 2 (omega arith) in
-      λ i. record { base = base i; limit = limit i; base_upper = base_upper i; limit_upper = limit_upper i }
-  bounds_same MemoryWindow =
-      let base = later_number 0x20 2 (omega arith) in
-      let limit = later_number 0x22 2 (omega arith) in
-      λ i. record { base = base i; limit = limit i; base_upper = 0; limit_upper = 0 }
-  bounds_same PrefetchWindow =
-      let base = later_number 0x24 2 (omega arith) in
-      let limit = later_number 0x26 2 (omega arith) in
-      let base_upper = later_number 0x28 4 (omega arith) in
-      let limit_upper = later_number 0x2c 4 (omega arith) in
-      λ i. record { base = base i; limit = limit i; base_upper = base_upper i; limit_upper = limit_upper i }
+  windows_same : (c : WindowKind) → bounds_at c f.image ≡ bounds_at c g.image
+  windows_same = bounds_same f.image g.image (λ place from to. later_byte place (omega (arith, from)))
 
   pub range_same : (p : Part) → range_of f p ≡ range_of g p
   range_same (Bar n) =
@@ -85,7 +64,7 @@ module _ (f g : Function) (h : IsSwitched f g) where
       let probe = sym h.probe in
       λ i. aligned_range (value i) (2 ^ lowest_one 0 (number_at (probe i) (rom_register (kind i)) 4))
   range_same (Window c) =
-      let bounds = bounds_same c in
+      let bounds = windows_same c in
       λ i. record {
         first = ((bounds i).base_upper * lower_pages c + (bounds i).base / 16) * page_size c;
         last = ((bounds i).limit_upper * lower_pages c + (bounds i).limit / 16) * page_size c + (page_size c - 1);
@@ -95,7 +74,7 @@ module _ (f g : Function) (h : IsSwitched f g) where
   open_same c =
       let kind = kind_same in
       let probe = sym h.probe in
-      let bounds = bounds_same c in
+      let bounds = windows_same c in
       λ i. (kind i == 1) && has_window c (probe i)
       && not (not (nat_le ((bounds i).base_upper * lower_pages c + (bounds i).base / 16) ((bounds i).limit_upper * lower_pages c + (bounds i).limit / 16)))
 

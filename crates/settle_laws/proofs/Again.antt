@@ -11,10 +11,10 @@ use Rattle.settle_spec.specs.Items.{Placed}
 use Rattle.settle_spec.specs.Parts.{Region}
 use Rattle.settle_spec.specs.Places.{new_place, lacking}
 use Rattle.settle_spec.specs.Registers.{settled, settled_function}
+use Rattle.settle_spec.proofs.Anew.{none_stays}
 use Rattle.settle_laws.specs.PlacesLaws.{CanSettle, place_range, end_range}
 use Rattle.settle_laws.proofs.Alike.{IsAlike}
 use Rattle.settle_laws.proofs.AlikePlaces.{IsAlikePlaced, new_places_alike, none_lacks}
-use Rattle.settle_laws.proofs.Anew.{none_stays}
 use Rattle.settle_laws.proofs.Claimed.{rom_switch}
 use Rattle.settle_laws.proofs.Fits.{was}
 use Rattle.settle_laws.proofs.InWindows.{placed_range}

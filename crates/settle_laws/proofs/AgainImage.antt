@@ -21,10 +21,10 @@ use Rattle.settle_spec.specs.Parts.{Region, header_parts}
 use Rattle.settle_spec.specs.Items.{Placed}
 use Rattle.settle_spec.specs.Places.{new_place}
 use Rattle.settle_spec.specs.Registers.{with_number, with_bounds, closed_if_open, shown, changing, settled, settled_image, settled_function}
+use Rattle.settle_spec.proofs.Anew.{none_stays}
 use Rattle.settle_laws.specs.PlacesLaws.{CanSettle, place_range}
 use Rattle.settle_laws.proofs.Again.{again_alike, settled_alike}
 use Rattle.settle_laws.proofs.AlikePlaces.{IsAlikePlaced}
-use Rattle.settle_laws.proofs.Anew.{none_stays}
 use Rattle.settle_laws.proofs.Claimed.{bridge_stays, rest_closed}
 use Rattle.settle_laws.proofs.Fits.{decodable}
 use Rattle.settle_laws.proofs.HeaderParts.{part_cases}

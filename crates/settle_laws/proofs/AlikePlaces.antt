@@ -13,7 +13,8 @@ use Rattle.settle_spec.specs.Parts.{Region, addresses, bridge_over}
 use Rattle.settle_spec.specs.Stands.{rank, window_region}
 use Rattle.settle_spec.specs.Items.{Item, Placed, Placing, AllPlaced, Lacks, and_placed, place_next, place_all, taken_by, items_on, new_window, stays}
 use Rattle.settle_spec.specs.Places.{wide_ranges, root_ranges, space_items, taken_at, placed_of, place_among, placed_range, window_ranges, ranges_for, placing_within, placing_on, new_place, first_lack, lacking_on, lacking}
-use Rattle.settle_laws.proofs.Anew.{none_stays, none_taken}
+use Rattle.settle_spec.proofs.Anew.{none_stays}
+use Rattle.settle_laws.proofs.Anew.{none_taken}
 use Rattle.settle_laws.proofs.Zipped.{BothOrNone, append_zip, find_zip}
 use Rattle.settle_laws.proofs.Alike.{IsAlike, IsAlikeRegion, bus_alike, of_bridges, space_alike}
 use Rattle.settle_laws.proofs.AlikeItems.{IsAlikeItem, rank_same, items_alike, windows_alike}

@@ -11,7 +11,7 @@ use Rattle.pci_spec.proofs.Members.{in_head}
 use Rattle.plan_spec.specs.Plan.{bridges_above}
 use Rattle.plan_spec.specs.Place.{nibble_of}
 use Rattle.plan_spec.proofs.Planning.AboveBuses.{above_to, above_from, root_or_led}
-use Rattle.plan_spec.proofs.Planning.Behind.{behind_range}
+use Rattle.plan_spec.proofs.Planning.Behind.{behind_range, bridge_between}
 use Rattle.plan_spec.proofs.Planning.Safe.{order_of}
 use Rattle.settle_spec.specs.Lists.{Request}
 use Rattle.settle_spec.specs.Parts.{Region, regions, addresses, header_parts, is_part, class_in, same_space}
@@ -19,7 +19,7 @@ use Rattle.settle_spec.specs.Stands.{window_region, region_space, stands}
 use Rattle.settle_spec.specs.Items.{Item, AllPlaced, place_all, are_placed, taken_on, items_on, has_of, has_room, holds, stays, new_window}
 use Rattle.settle_spec.specs.Places.{placed_of, place_among, space_items, placing_within, placing_on, new_place, first_lack, lacking_on, lacking}
 use Rattle.settle_spec.specs.Registers.{with_bounds, closed_if_open, shown, changing, settled_image, got_place}
-use Rattle.settle_spec.proofs.Nested.{bridge_between, is_no_root, one_bridge}
+use Rattle.settle_spec.proofs.Nested.{is_no_root, one_bridge}
 use Rattle.stand_laws.specs.Holding.{IsHolding}
 use Rattle.stand_laws.proofs.Holding.{holds_alone, stays_on_root, stays_by_bus}
 use Rattle.stand_laws.proofs.Standing.{part_of}

@@ -10,7 +10,7 @@ use Rattle.pci_spec.specs.Bus.{secondary, is_behind, LeadsTo}
 use Rattle.pci_spec.proofs.BusRanges.{root_means}
 use Rattle.plan_spec.specs.Plan.{bridges_above}
 use Rattle.plan_spec.proofs.Planning.AboveBuses.{above_to, above_from, root_or_led}
-use Rattle.plan_spec.proofs.Planning.Behind.{any_from, behind_range}
+use Rattle.plan_spec.proofs.Planning.Behind.{any_from, behind_range, bridge_between}
 use Rattle.plan_spec.proofs.Planning.Safe.{order_of}
 use Rattle.settle_spec.specs.Lists.{Request}
 use Rattle.settle_spec.specs.Parts.{Region, is_part, has_left, header_parts, class_in, same_space}
@@ -20,7 +20,7 @@ use Rattle.settle_spec.specs.LiveLaws.{is_live, has_live_behind}
 use Rattle.settle_spec.specs.Places.{new_place}
 use Rattle.settle_spec.specs.Registers.{changing, got_place, has_own, is_enabled_in}
 use Rattle.settle_spec.proofs.Live.{live_by_bus}
-use Rattle.settle_spec.proofs.Nested.{at_secondary, bridge_between, is_no_root, one_bridge}
+use Rattle.settle_spec.proofs.Nested.{at_secondary, is_no_root, one_bridge}
 use Rattle.settle_laws.specs.PlacesLaws.{CanSettle}
 use Rattle.settle_laws.proofs.HeaderParts.{header_of}
 use Rattle.settle_laws.proofs.Held.{above_above, own_by, same_itself}

@@ -1,5 +1,5 @@
 -- Where lists end in their spaces, settling changes address bits alone in the address registers.
-use Rattle.std.proofs.Common.{◌≡◌, ℕ, zero, suc, ◌+◌, ◌-◌, ◌*◌, ◌/◌, ◌%◌, ◌^◌, ◌<◌, ◌≤◌, inl, inr, List, refl, Bool, true, false, cond, ◌&&◌, not, Option, None, Some, arith, sym, ◌∙◌, ap, subst}
+use Rattle.std.proofs.Common.{◌≡◌, ℕ, suc, ◌+◌, ◌-◌, ◌*◌, ◌/◌, ◌%◌, ◌^◌, ◌<◌, ◌≤◌, inl, inr, List, refl, Bool, true, false, cond, ◌&&◌, not, Option, None, Some, arith, sym, ◌∙◌, ap, subst}
 use Rattle.std.specs.Bool.{◌==◌, nat_lt, if◌then◌else◌}
 use Rattle.std.specs.Int.{bit_at}
 use Rattle.std.specs.List.{Contains}
@@ -9,7 +9,7 @@ use Rattle.pci_spec.specs.Number.{byte_at, has_bit, IsImage}
 use Rattle.pci_spec.specs.Header.{layout, bar_count, bar_register, rom_register}
 use Rattle.pci_spec.specs.Bar.{IoBar, Memory32, Memory64, Reserved, bar_at, bar_kind, encodings, first_bit, has_bar, is_io, is_wide, starts_bar, type_bits}
 use Rattle.pci_spec.specs.Rom.{has_rom}
-use Rattle.pci_spec.specs.Window.{WindowKind, IoWindow, MemoryWindow, PrefetchWindow, Bounds, bounds_for, closed_bounds, breaks_window_rule, has_window, is_wide_window, upper_bits}
+use Rattle.pci_spec.specs.Window.{WindowKind, IoWindow, MemoryWindow, PrefetchWindow, Bounds, bounds_for, closed_bounds, breaks_window_rule, has_window, is_wide_window}
 use Rattle.pci_spec.specs.Decoded.{IsDecodable, bar_size, rom_size}
 use Rattle.pci_spec.specs.System.{System, Function, IsSystem, IsFunction, Io, Memory, Part, Bar, Rom, Window, space_of, is_bridge, is_window}
 use Rattle.pci_spec.specs.Machine.{in_fields, address_fields, bar_field}
@@ -22,7 +22,7 @@ use Rattle.plan_spec.proofs.Planning.BitsFit.{BitsFit, fits_joined}
 use Rattle.plan_spec.proofs.Planning.Reach.{IsReached}
 use Rattle.plan_spec.proofs.Planning.Registers.{register_bit, datum_bit_at}
 use Rattle.plan_spec.proofs.Planning.RomFits.{rom_there, rom_number_fits}
-use Rattle.plan_spec.proofs.Planning.WindowFits.{AreKept, PartsFit, by_closed, few_nibbles, kept_fit, lawful_nibbles, window_fits}
+use Rattle.plan_spec.proofs.Planning.WindowFits.{PartsFit, by_closed, few_nibbles, kept_fit, lawful_nibbles, open_kept, window_fits}
 use Rattle.settle_spec.specs.FirstPlace.{Extent}
 use Rattle.settle_spec.specs.Lists.{Request, are_bad_lists, end_above}
 use Rattle.settle_spec.specs.Parts.{Region, header_parts}
@@ -88,36 +88,6 @@ encoding_width true wide narrow = refl
 encoding_width false true narrow = refl
 encoding_width false false true = refl
 encoding_width false false false = refl
-
-upper_kept : (n a : ℕ) → a < 2 ^ 64 → (n ≡ 0 → a < 2 ^ 32) → a / 2 ^ 32 ≤ n * upper_bits PrefetchWindow
-upper_kept zero a top low = let l = low refl in omega (arith, l)
-upper_kept (suc n) a top low = omega (arith, top)
-
-bounds_kept : (kind : WindowKind) (n first last : ℕ) → n ≤ 1 → first ≤ last → IsReached kind n (last + 1) → AreKept kind n (bounds_for kind n first last)
-bounds_kept IoWindow n first last few order reached = record {
-  base_nibble = omega (arith, few);
-  limit_nibble = omega (arith, few);
-  base_small = omega (arith, few);
-  limit_small = omega (arith, few);
-  base_upper_small = omega (arith, order, reached);
-  limit_upper_small = omega (arith, reached);
-}
-bounds_kept MemoryWindow n first last few order reached = record {
-  base_nibble = omega (arith, few);
-  limit_nibble = omega (arith, few);
-  base_small = omega (arith, few, order, reached);
-  limit_small = omega (arith, few, reached);
-  base_upper_small = omega arith;
-  limit_upper_small = omega arith;
-}
-bounds_kept PrefetchWindow n first last few order (top, low) = record {
-  base_nibble = omega (arith, few);
-  limit_nibble = omega (arith, few);
-  base_small = omega (arith, few);
-  limit_small = omega (arith, few);
-  base_upper_small = upper_kept n first (omega (arith, order, top)) (λ none. let l = low none in omega (arith, order, l));
-  limit_upper_small = upper_kept n last (omega (arith, top)) (λ none. let l = low none in omega (arith, l));
-}
 
 one_bar : (m n : ℕ) → Bar m ≡ Bar n → m ≡ n
 one_bar m n e = cc
@@ -236,7 +206,7 @@ module _ (q : Request) (s : System) (system : IsSystem s) (good : are_bad_lists 
         let has : HasPlace q s (space_of f (Window c)) f (Window c) p = new_place_is q s system f listed (Window c) part p e in
         let reached = window_reached c p has (new_place_ends q s system f listed (Window c) part good far p e) in
         kept_fit f bridge c (nibble_of c f) _ (few_nibbles f bridge c) (lawful_nibbles f bridge c rule there)
-        (bounds_kept c (nibble_of c f) p.at (p.at + (p.item.extent.size - 1)) (few_nibbles f bridge c) (omega arith) reached)
+        (open_kept c (nibble_of c f) p.at (p.at + (p.item.extent.size - 1)) (few_nibbles f bridge c) (omega arith) reached)
 
     pub closed_fit : PartsFit f c (closed_bounds c (nibble_of c f))
     closed_fit = subst (PartsFit f c) (by_closed f bridge c false 0 0 there refl) (window_fits f bridge is.image c false 0 0 rule (λ opened. absurd (both_ways false refl opened)))

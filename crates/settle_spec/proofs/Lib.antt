@@ -15,4 +15,5 @@ pub mod AllOfMemory
 pub mod Classes
 pub mod Buses
 pub mod Live
+pub mod Anew
 pub mod Examples

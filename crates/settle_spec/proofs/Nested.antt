@@ -1,38 +1,26 @@
 -- Bridges of a system whose bus ranges nest.
-use Rattle.std.proofs.Common.{◌≡◌, ℕ, ◌<◌, ◌≤◌, inl, inr, List, true, ◌&&◌, not, arith, ap, refl}
-use Rattle.std.specs.Bool.{nat_lt, nat_le, ◌==◌}
+use Rattle.std.proofs.Common.{◌≡◌, ℕ, inl, inr, List, true, ◌&&◌, not, arith, ap, refl}
+use Rattle.std.specs.Bool.{nat_lt, ◌==◌}
 use Rattle.std.specs.List.{Contains}
-use Rattle.std.proofs.lemmas.Bool.{not-true, and_parts, cases_Bool, cases_eq, both_ways, ltb-true, leb-true, eqb-true, or_cases}
+use Rattle.std.proofs.lemmas.Bool.{not-true, and_parts, cases_Bool, cases_eq, both_ways, ltb-true, eqb-true, or_cases}
 use Rattle.pci_spec.specs.Slot.{slot_number}
-use Rattle.pci_spec.specs.Header.{primary_bus}
 use Rattle.pci_spec.specs.System.{System, Function, IsSystem, is_bridge}
-use Rattle.pci_spec.specs.Bus.{secondary, subordinate, is_behind, is_root, is_inside, are_siblings, IsNested}
+use Rattle.pci_spec.specs.Bus.{secondary, subordinate, is_behind, is_root, are_siblings, IsNested}
 use Rattle.pci_spec.proofs.Nesting.{one_function}
 use Rattle.pci_spec.proofs.BusRanges.{root_means}
-use Rattle.plan_spec.proofs.Planning.Behind.{all_gives, is_behind_by, behind_range}
+use Rattle.plan_spec.proofs.Planning.Behind.{all_gives, is_behind_by, behind_range, inside_ends, own_end}
 use Rattle.plan_spec.proofs.Planning.Safe.{order_of}
 
 module _ (roots : List ℕ) (s : System) (system : IsSystem s) (nested : IsNested roots s) where
-  pub own_end : (b : Function) → Contains s b → is_bridge b ≡ true → secondary b ≤ subordinate b
-  own_end b listed bridge =
-      leb-true (secondary b) (subordinate b)
-      (and_parts (primary_bus b.image == b.slot.bus && nat_lt b.slot.bus (secondary b)) (nat_le (secondary b) (subordinate b)) (nested.order b listed bridge)).1
-
   -- the bus behind a bridge is behind it
   pub at_secondary : (b : Function) (bus : ℕ) → Contains s b → is_bridge b ≡ true → secondary b ≡ bus → is_behind b bus ≡ true
-  at_secondary b bus listed bridge at = let end = own_end b listed bridge in is_behind_by b bus (omega (arith, at)) (omega (arith, at, end))
-
-  pub inside_ends : (b outer : Function) → Contains s b → Contains s outer → is_bridge b ≡ true → is_bridge outer ≡ true → is_behind outer b.slot.bus ≡ true → (secondary outer ≤ secondary b) × (subordinate b ≤ subordinate outer)
-  inside_ends b outer in_b in_outer bridge_b bridge_outer is =
-      let plain = (and_parts (is_inside b outer) _ (nested.inside b outer in_b in_outer bridge_b bridge_outer is)).0 in
-      let parts = and_parts (nat_le (secondary outer) (secondary b)) (nat_le (subordinate b) (subordinate outer)) plain in
-      (leb-true (secondary outer) (secondary b) parts.0, leb-true (subordinate b) (subordinate outer) parts.1)
+  at_secondary b bus listed bridge at = let end = own_end roots s system nested b listed bridge in is_behind_by b bus (omega (arith, at)) (omega (arith, at, end))
 
   -- what is behind a bridge is behind what the bridge is behind
   pub behind_outer : (b outer : Function) (bus : ℕ) → Contains s b → Contains s outer → is_bridge b ≡ true → is_bridge outer ≡ true → is_behind outer b.slot.bus ≡ true
       → is_behind b bus ≡ true → is_behind outer bus ≡ true
   behind_outer b outer bus in_b in_outer bridge_b bridge_outer is behind =
-      let ends = inside_ends b outer in_b in_outer bridge_b bridge_outer is in
+      let ends = inside_ends roots s system nested b outer in_b in_outer bridge_b bridge_outer is in
       let range = behind_range b bus behind in
       let from = ends.0 in
       let to = ends.1 in
@@ -52,28 +40,6 @@ module _ (roots : List ℕ) (s : System) (system : IsSystem s) (nested : IsNeste
     | inr both ↦ absurd (is_no_root b (secondary b) listed bridge (at_secondary b (secondary b) listed bridge refl) (and_parts (is_root roots (secondary b)) (is_root roots bus) both).0)
   ]
 
-  -- a bus behind a bridge that isn't its secondary bus has a bridge to it that is behind too
-  pub bridge_between : (b d : Function) → Contains s b → Contains s d → is_bridge b ≡ true → is_bridge d ≡ true → is_behind b (secondary d) ≡ true → secondary b < secondary d → is_behind b d.slot.bus ≡ true
-  bridge_between b d in_b in_d bridge_b bridge_d behind above = elim (cases_Bool (is_behind b d.slot.bus)) [
-    | inl fine ↦ fine
-    | inr out ↦ elim (cases_Bool (is_behind d b.slot.bus)) [
-      | inl other ↦ let from = (inside_ends b d in_b in_d bridge_b bridge_d other).0 in absurd (let no : ⊥ = omega (arith, from, above) in no)
-      | inr apart_too ↦
-          let differ : (b.slot ≡ d.slot → ⊥) = λ e.
-          let z : secondary b ≡ secondary d = ap secondary (one_function s system b d in_b in_d (ap slot_number e)) in
-          (let no : ⊥ = omega (arith, z, above) in no) in
-          let gap = nested.apart b d in_b in_d bridge_b bridge_d differ apart_too out in
-          let range = behind_range b (secondary d) behind in
-          let end = own_end d in_d bridge_d in
-          let low = range.0 in
-          let high = range.1 in
-          absurd (elim (or_cases (nat_lt (subordinate b) (secondary d)) (nat_lt (subordinate d) (secondary b)) gap) [
-            | inl left ↦ let l = ltb-true (subordinate b) (secondary d) left in (let no : ⊥ = omega (arith, l, high) in no)
-            | inr right ↦ let l = ltb-true (subordinate d) (secondary b) right in (let no : ⊥ = omega (arith, l, end, low) in no)
-          ])
-    ]
-  ]
-
   -- one bridge alone leads to a bus
   pub one_bridge : (b c : Function) → Contains s b → Contains s c → is_bridge b ≡ true → is_bridge c ≡ true → secondary b ≡ secondary c → b ≡ c
   one_bridge b c in_b in_c bridge_b bridge_c same = elim (cases_eq (slot_number b.slot) (slot_number c.slot)) [
@@ -87,8 +53,8 @@ module _ (roots : List ℕ) (s : System) (system : IsSystem s) (nested : IsNeste
             | inl behind ↦ let low = (behind_range b c.slot.bus behind).0 in (let no : ⊥ = omega (arith, low, up_c, same) in no)
             | inr out ↦
                 let gap = nested.apart b c in_b in_c bridge_b bridge_c (λ e. differ (ap slot_number e)) off out in
-                let end_b = own_end b in_b bridge_b in
-                let end_c = own_end c in_c bridge_c in
+                let end_b = own_end roots s system nested b in_b bridge_b in
+                let end_c = own_end roots s system nested c in_c bridge_c in
                 elim (or_cases (nat_lt (subordinate b) (secondary c)) (nat_lt (subordinate c) (secondary b)) gap) [
                   | inl left ↦ let l = ltb-true (subordinate b) (secondary c) left in (let no : ⊥ = omega (arith, l, end_b, same) in no)
                   | inr right ↦ let l = ltb-true (subordinate c) (secondary b) right in (let no : ⊥ = omega (arith, l, end_c, same) in no)

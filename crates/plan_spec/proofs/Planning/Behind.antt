@@ -91,19 +91,46 @@ listed_plain f p listed =
 abbrev has_class : System → Pools → WindowKind → Function → Bool
 has_class s pools c f = list_any (λ part. same_class c (class_of s pools f part)) (bars_and_rom f)
 
-module _ (roots : List ℕ) (s : System) (pools : Pools) (c : WindowKind) (system : IsSystem s) (nested : IsNested roots s) where
-  own_end : (b : Function) → Contains s b → is_bridge b ≡ true → secondary b ≤ subordinate b
+module _ (roots : List ℕ) (s : System) (system : IsSystem s) (nested : IsNested roots s) where
+  pub own_end : (b : Function) → Contains s b → is_bridge b ≡ true → secondary b ≤ subordinate b
   own_end b listed bridge =
       let all = nested.order b listed bridge in
       leb-true (secondary b) (subordinate b) (and_parts (primary_bus b.image == b.slot.bus && nat_lt b.slot.bus (secondary b)) (nat_le (secondary b) (subordinate b)) all).1
 
-  inside_ends : (b outer : Function) → Contains s b → Contains s outer → is_bridge b ≡ true → is_bridge outer ≡ true → is_behind outer b.slot.bus ≡ true → (secondary outer ≤ secondary b) × (subordinate b ≤ subordinate outer)
+  pub inside_ends : (b outer : Function) → Contains s b → Contains s outer → is_bridge b ≡ true → is_bridge outer ≡ true → is_behind outer b.slot.bus ≡ true → (secondary outer ≤ secondary b) × (subordinate b ≤ subordinate outer)
   inside_ends b outer in_b in_outer bridge_b bridge_outer is =
       let strict = nested.inside b outer in_b in_outer bridge_b bridge_outer is in
       let plain = (and_parts (is_inside b outer) _ strict).0 in
       let parts = and_parts (nat_le (secondary outer) (secondary b)) (nat_le (subordinate b) (subordinate outer)) plain in
       (leb-true (secondary outer) (secondary b) parts.0, leb-true (subordinate b) (subordinate outer) parts.1)
 
+  -- a bus behind a bridge that isn't its secondary bus has a bridge to it that is behind too
+  pub bridge_between : (b d : Function) → Contains s b → Contains s d → is_bridge b ≡ true → is_bridge d ≡ true → is_behind b (secondary d) ≡ true → secondary b < secondary d → is_behind b d.slot.bus ≡ true
+  bridge_between b d in_b in_d bridge_b bridge_d behind above = elim (cases_Bool (is_behind b d.slot.bus)) [
+    | inl fine ↦ fine
+    | inr out ↦ elim (cases_Bool (is_behind d b.slot.bus)) [
+      | inl other ↦
+          let ends = inside_ends b d in_b in_d bridge_b bridge_d other in
+          let from = ends.0 in
+          absurd (let impossible : ⊥ = omega (arith, from, above) in impossible)
+      | inr apart_too ↦
+          let differ : (b.slot ≡ d.slot → ⊥) = λ e.
+          let same = one_function s system b d in_b in_d (ap slot_number e) in
+          let z : secondary b ≡ secondary d = ap secondary same in
+          (let impossible : ⊥ = omega (arith, z, above) in impossible) in
+          let gap = nested.apart b d in_b in_d bridge_b bridge_d differ apart_too out in
+          let range = behind_range b (secondary d) behind in
+          let end = own_end d in_d bridge_d in
+          let low = range.0 in
+          let high = range.1 in
+          absurd (elim (or_cases (nat_lt (subordinate b) (secondary d)) (nat_lt (subordinate d) (secondary b)) gap) [
+            | inl left ↦ let l = ltb-true (subordinate b) (secondary d) left in (let impossible : ⊥ = omega (arith, l, high) in impossible)
+            | inr right ↦ let l = ltb-true (subordinate d) (secondary b) right in (let impossible : ⊥ = omega (arith, l, end, low) in impossible)
+          ])
+    ]
+  ]
+
+module _ (roots : List ℕ) (s : System) (pools : Pools) (c : WindowKind) (system : IsSystem s) (nested : IsNested roots s) where
   -- ---- need comes of something behind
 
   has_by : (b f : Function) → Contains s f → is_behind b f.slot.bus ≡ true → has_class s pools c f ≡ true → has_behind s pools c b ≡ true
@@ -113,7 +140,7 @@ module _ (roots : List ℕ) (s : System) (pools : Pools) (c : WindowKind) (syste
       → ((d : Function) → Contains s d → d.slot.bus ≡ secondary b → is_bridge d ≡ true → 0 < need_behind s pools c d → has_behind s pools c d ≡ true) → has_behind s pools c b ≡ true
   need_step b listed bridge some below =
       let bus = secondary b in
-      let end = own_end b listed bridge in
+      let end = own_end roots s system nested b listed bridge in
       let own = flat_map (own_sizes s pools c bus) s in
       let windows = flat_map (λ d. window_over c bus d (sum (items_on s pools c (secondary d)))) s in
       let term = some_term (items_on s pools c bus) some in
@@ -144,7 +171,7 @@ module _ (roots : List ℕ) (s : System) (pools : Pools) (c : WindowKind) (syste
             let g = found.x in
             let is = and_parts (is_behind d g.slot.bus) (has_class s pools c g) found.is in
             let range = behind_range d g.slot.bus is.0 in
-            let ends = inside_ends d b piece.has listed inner.0 bridge (is_behind_by b d.slot.bus (omega (arith, at)) (omega (arith, at, end))) in
+            let ends = inside_ends roots s system nested d b piece.has listed inner.0 bridge (is_behind_by b d.slot.bus (omega (arith, at)) (omega (arith, at, end))) in
             let low = range.0 in
             let high = range.1 in
             let from = ends.0 in
@@ -159,32 +186,6 @@ module _ (roots : List ℕ) (s : System) (pools : Pools) (c : WindowKind) (syste
       need_step b listed bridge some (λ d in_d at is_d need. let up = order_of roots s nested d in_d is_d in behind_by_need n d (omega (arith, deep, at, up)) in_d is_d need)
 
   -- ---- something behind makes need
-
-  -- a bus behind a bridge that isn't its secondary bus has a bridge to it that is behind too
-  bridge_between : (b d : Function) → Contains s b → Contains s d → is_bridge b ≡ true → is_bridge d ≡ true → is_behind b (secondary d) ≡ true → secondary b < secondary d → is_behind b d.slot.bus ≡ true
-  bridge_between b d in_b in_d bridge_b bridge_d behind above = elim (cases_Bool (is_behind b d.slot.bus)) [
-    | inl fine ↦ fine
-    | inr out ↦ elim (cases_Bool (is_behind d b.slot.bus)) [
-      | inl other ↦
-          let ends = inside_ends b d in_b in_d bridge_b bridge_d other in
-          let from = ends.0 in
-          absurd (let impossible : ⊥ = omega (arith, from, above) in impossible)
-      | inr apart_too ↦
-          let differ : (b.slot ≡ d.slot → ⊥) = λ e.
-          let same = one_function s system b d in_b in_d (ap slot_number e) in
-          let z : secondary b ≡ secondary d = ap secondary same in
-          (let impossible : ⊥ = omega (arith, z, above) in impossible) in
-          let gap = nested.apart b d in_b in_d bridge_b bridge_d differ apart_too out in
-          let range = behind_range b (secondary d) behind in
-          let end = own_end d in_d bridge_d in
-          let low = range.0 in
-          let high = range.1 in
-          absurd (elim (or_cases (nat_lt (subordinate b) (secondary d)) (nat_lt (subordinate d) (secondary b)) gap) [
-            | inl left ↦ let l = ltb-true (subordinate b) (secondary d) left in (let impossible : ⊥ = omega (arith, l, high) in impossible)
-            | inr right ↦ let l = ltb-true (subordinate d) (secondary b) right in (let impossible : ⊥ = omega (arith, l, end, low) in impossible)
-          ])
-    ]
-  ]
 
   -- need on a bus behind a bridge is need behind it
   need_up : (n : ℕ) (b f : Function) → f.slot.bus < n → Contains s b → Contains s f → is_bridge b ≡ true → is_behind b f.slot.bus ≡ true → 0 < sum (items_on s pools c f.slot.bus) → 0 < need_behind s pools c b
@@ -208,7 +209,7 @@ module _ (roots : List ℕ) (s : System) (pools : Pools) (c : WindowKind) (syste
             let up = order_of roots s nested d leads.0 leads.1 in
             let behind_d : is_behind b (secondary d) ≡ true = subst (λ bus. is_behind b bus ≡ true) (sym to) behind in
             let some_d : 0 < need_behind s pools c d = subst (λ bus. 0 < sum (items_on s pools c bus)) (sym to) some in
-            let between = bridge_between b d in_b leads.0 bridge leads.1 behind_d (omega (arith, low, above, to)) in
+            let between = bridge_between roots s system nested b d in_b leads.0 bridge leads.1 behind_d (omega (arith, low, above, to)) in
             need_up n b d (omega (arith, less, up, to)) in_b leads.0 bridge between (window_needed s pools c roots system nested d leads.0 leads.1 some_d)
       ]
 

@@ -58,8 +58,9 @@ module _ (s : System) (pools : Pools) (c : WindowKind) where
         let below = contained_le_sum (items_on s pools c f.slot.bus) (size_of f p) all in
         omega (arith, below, some)
 
-    pub window_needed : (b : Function) → Contains s b → is_bridge b ≡ true → 0 < need_behind s pools c b → 0 < sum (items_on s pools c b.slot.bus)
-    window_needed b listed bridge some =
+    -- a bridge's window is among the items of its bus
+    pub window_among : (b : Function) → Contains s b → is_bridge b ≡ true → 0 < need_behind s pools c b → window_size c (limited (need_behind s pools c b)) ≤ sum (items_on s pools c b.slot.bus)
+    window_among b listed bridge some =
         let n = need_behind s pools c b in
         let size = window_size c (limited n) in
         let own = flat_map (own_sizes s pools c b.slot.bus) s in
@@ -71,9 +72,14 @@ module _ (s : System) (pools : Pools) (c : WindowKind) where
         let all : Contains (items_on s pools c b.slot.bus) size =
         subst (λ xs. Contains xs size) (sym (items_by_behind s pools c (slots_of s system) (order_of roots s nested) b.slot.bus))
         (Contains-append_right own (flat_map (λ g. window_over c b.slot.bus g (sum (items_on s pools c (secondary g)))) s) size in_windows) in
-        let below = contained_le_sum (items_on s pools c b.slot.bus) size all in
+        contained_le_sum (items_on s pools c b.slot.bus) size all
+
+    pub window_needed : (b : Function) → Contains s b → is_bridge b ≡ true → 0 < need_behind s pools c b → 0 < sum (items_on s pools c b.slot.bus)
+    window_needed b listed bridge some =
+        let n = need_behind s pools c b in
+        let below = window_among b listed bridge some in
         let least = window_least c (limited n) (omega arith) in
-        let pos = power_pos size least.power in
+        let pos = power_pos (window_size c (limited n)) least.power in
         omega (arith, below, pos)
 
     -- what is placed on a bus makes need there

@@ -1,5 +1,5 @@
 -- What the registers of a function show when the enable bit of its ROM is set: what they showed before.
-use Rattle.std.proofs.Common.{◌≡◌, ℕ, zero, suc, ◌+◌, ◌*◌, ◌/◌, ◌%◌, ◌^◌, ◌<◌, ◌≤◌, inl, inr, List, refl, Bool, true, ◌&&◌, ◌||◌, not, None, arith, sym, ◌∙◌, ap, subst}
+use Rattle.std.proofs.Common.{◌≡◌, ℕ, zero, suc, ◌+◌, ◌*◌, ◌/◌, ◌%◌, ◌^◌, ◌<◌, ◌≤◌, inl, inr, refl, Bool, true, ◌&&◌, ◌||◌, not, None, arith, sym, ◌∙◌, ap, subst}
 use Rattle.std.specs.Bool.{nat_le, ◌==◌, if◌then◌else◌}
 use Rattle.std.specs.Int.{bit_at}
 use Rattle.std.proofs.lemmas.Bool.{cases_Bool, both_ways, and_parts, not-false, eqb-true, eq-eqb, and_from, not_from_true}
@@ -7,20 +7,14 @@ use Rattle.pci_spec.specs.Number.{byte_at, number_at, each_from, some_from, Agre
 use Rattle.pci_spec.specs.Header.{layout, bar_count, bar_register, rom_register}
 use Rattle.pci_spec.specs.Bar.{bar_at, is_wide, starts_bar, whole_bar, is_within, first_broken, bar_fault}
 use Rattle.pci_spec.specs.Rom.{rom_at, has_rom, is_rom_size, breaks_rom_rule}
-use Rattle.pci_spec.specs.Window.{WindowKind, IoWindow, MemoryWindow, PrefetchWindow, bounds_at, breaks_window_rule}
+use Rattle.pci_spec.specs.Window.{WindowKind, bounds_at, breaks_window_rule}
 use Rattle.pci_spec.specs.Decoded.{IsDecodable}
 use Rattle.pci_spec.specs.System.{Function, is_bridge}
 use Rattle.pci_spec.proofs.Bits.{quotients-agree}
 use Rattle.plan_spec.proofs.Planning.Kept.{IsSameBridge}
 use Rattle.plan_spec.proofs.Planning.OtherRules.{window_breaks}
 use Rattle.plan_spec.proofs.Planning.RomsOn.{IsRomOn, rom_place}
-
-number_same : (a b : List ℕ) (o w : ℕ) → ((j : ℕ) → j < w → byte_at a (o + j) ≡ byte_at b (o + j)) → number_at a o w ≡ number_at b o w
-number_same a b o zero same = refl
-number_same a b o (suc w) same =
-    let low = number_same a b o w (λ j l. same j (omega (arith, l))) in
-    let top = same w (omega arith) in
-    λ i. low i + top i * 256 ^ w
+use Rattle.plan_spec.proofs.Planning.SameBytes.{number_same, bounds_same}
 
 few_bars : (kind : ℕ) → bar_count kind ≤ 6
 few_bars kind = elim (cases_Bool (kind == 1)) [
@@ -162,26 +156,8 @@ module _ (f g : Function) (h : IsRomOn f g) where
         let at : rom_register (layout f.image) ≡ 0x38 = ap (λ t. if t then 0x38 else 0x30) bridge in
         h.bytes place (λ e. let impossible : ⊥ = omega (arith, e, low, at) in impossible)
 
-    page_number : (o w : ℕ) → o + w ≤ 0x38 → number_at g.image o w ≡ number_at f.image o w
-    page_number o w low = number_same g.image f.image o w (λ j l. page_byte (o + j) (omega (arith, low, l)))
-
     pub bounds_kept : (kind : WindowKind) → bounds_at kind g.image ≡ bounds_at kind f.image
-    bounds_kept IoWindow =
-        let base = page_byte 0x1c (omega arith) in
-        let limit = page_byte 0x1d (omega arith) in
-        let base_upper = page_number 0x30 2 (omega arith) in
-        let limit_upper = page_number 0x32 2 (omega arith) in
-        λ i. record { base = base i; limit = limit i; base_upper = base_upper i; limit_upper = limit_upper i }
-    bounds_kept MemoryWindow =
-        let base = page_number 0x20 2 (omega arith) in
-        let limit = page_number 0x22 2 (omega arith) in
-        λ i. record { base = base i; limit = limit i; base_upper = 0; limit_upper = 0 }
-    bounds_kept PrefetchWindow =
-        let base = page_number 0x24 2 (omega arith) in
-        let limit = page_number 0x26 2 (omega arith) in
-        let base_upper = page_number 0x28 4 (omega arith) in
-        let limit_upper = page_number 0x2c 4 (omega arith) in
-        λ i. record { base = base i; limit = limit i; base_upper = base_upper i; limit_upper = limit_upper i }
+    bounds_kept = bounds_same g.image f.image (λ place from to. page_byte place to)
 
     pub window_rule_kept : (kind : WindowKind) → breaks_window_rule kind g.image g.probe ≡ breaks_window_rule kind f.image f.probe
     window_rule_kept kind = let bounds = bounds_kept kind in λ i. window_breaks kind (bounds i) (bounds_at kind (h.probe i))

@@ -1,24 +1,22 @@
 -- What fits its pool is a table: no need is cut, and everything is in the pool.
-use Rattle.std.proofs.Common.{◌≡◌, ℕ, zero, suc, ◌+◌, ◌^◌, ◌<◌, ◌≤◌, inl, inr, List, [], ◌∷◌, ◌++◌, refl, true, cond, ◌&&◌, max, arith, sym, ap, subst, map, length, get_or}
-use Rattle.std.specs.Bool.{nat_lt, ◌==◌}
+use Rattle.std.proofs.Common.{◌≡◌, ℕ, zero, suc, ◌+◌, ◌^◌, ◌<◌, ◌≤◌, inl, inr, List, [], ◌∷◌, ◌++◌, true, max, arith, ap, map, length, get_or}
 use Rattle.std.specs.List.{Contains, flat_map, fold, sum}
-use Rattle.std.proofs.lemmas.Bool.{and_from, cases_Bool, cases_lt, eq-eqb, lt-ltb}
+use Rattle.std.proofs.lemmas.Bool.{cases_Bool, cases_lt}
 use Rattle.std.proofs.lemmas.List.{length-map}
 use Rattle.std.proofs.lemmas.List.Sums.{sum_by-append}
-use Rattle.std.proofs.lemmas.List.Elements.{Contains-append_right, Contains-get_or}
+use Rattle.std.proofs.lemmas.List.Elements.{Contains-get_or}
 use Rattle.pci_spec.specs.Window.{WindowKind}
 use Rattle.pci_spec.specs.System.{System, Function, IsSystem, Part, is_bridge}
-use Rattle.pci_spec.specs.Bus.{secondary, is_root, IsNested}
-use Rattle.plan_spec.specs.Plan.{Pools, pool_of, window_size, limited, items_on, fits, raised_to, greatest, own_sizes, window_over}
-use Rattle.pci_spec.proofs.Members.{in_nil, in_cons_cases, in_head, in_flat_map_from}
+use Rattle.pci_spec.specs.Bus.{is_root, IsNested}
+use Rattle.plan_spec.specs.Plan.{Pools, pool_of, limited, items_on, fits, raised_to, greatest}
+use Rattle.pci_spec.proofs.Members.{in_nil, in_cons_cases}
 use Rattle.pci_spec.proofs.BusRanges.{root_means}
 use Rattle.plan_spec.specs.Planning.Room.{root_items}
 use Rattle.plan_spec.specs.Planning.Table.{need_behind, size_at, IsPlacing, IsTable}
-use Rattle.plan_spec.proofs.Planning.Needs.{items_by_behind}
-use Rattle.plan_spec.proofs.Planning.Needed.{contained_le_sum}
+use Rattle.plan_spec.proofs.Planning.Needed.{contained_le_sum, window_among}
 use Rattle.plan_spec.proofs.Planning.Placement.{window_least, power_pos, sum_cons}
 use Rattle.plan_spec.proofs.Planning.Room.{raised, room_of_fit}
-use Rattle.plan_spec.proofs.Planning.Safe.{slots_of, order_of}
+use Rattle.plan_spec.proofs.Planning.Safe.{order_of}
 
 piece_le_sum : (f : ℕ → List ℕ) (xs : List ℕ) (x : ℕ) → Contains xs x → sum (f x) ≤ sum (flat_map f xs)
 piece_le_sum f [] x listed = absurd (in_nil x listed)
@@ -42,25 +40,12 @@ greatest_some m (x ∷ xs) some = elim (cases_lt 0 (max m x)) [
 ]
 
 module _ (roots : List ℕ) (s : System) (pools : Pools) (c : WindowKind) (system : IsSystem s) (nested : IsNested roots s) where
-  -- a bridge's window is among the items of its bus
   window_le : (b : Function) → Contains s b → is_bridge b ≡ true → limited (need_behind s pools c b) ≤ sum (items_on s pools c b.slot.bus)
   window_le b listed bridge = elim (cases_lt 0 (need_behind s pools c b)) [
     | inr none ↦ omega (arith, none)
     | inl some ↦
-        let n = need_behind s pools c b in
-        let size = window_size c (limited n) in
-        let own = flat_map (own_sizes s pools c b.slot.bus) s in
-        let test : (is_bridge b && b.slot.bus == b.slot.bus && nat_lt 0 n) ≡ true =
-        and_from (is_bridge b && b.slot.bus == b.slot.bus) (nat_lt 0 n) (and_from (is_bridge b) (b.slot.bus == b.slot.bus) bridge (eq-eqb b.slot.bus b.slot.bus refl)) (lt-ltb 0 n some) in
-        let here : window_over c b.slot.bus b (sum (items_on s pools c (secondary b))) ≡ size ∷ [] = ap (λ t. cond t (size ∷ []) []) test in
-        let in_windows = in_flat_map_from (λ g. window_over c b.slot.bus g (sum (items_on s pools c (secondary g)))) s b size listed
-        (subst (λ xs. Contains xs size) (sym here) (in_head size [])) in
-        let all : Contains (items_on s pools c b.slot.bus) size =
-        subst (λ xs. Contains xs size) (sym (items_by_behind s pools c (slots_of s system) (order_of roots s nested) b.slot.bus))
-        (Contains-append_right own (flat_map (λ g. window_over c b.slot.bus g (sum (items_on s pools c (secondary g)))) s) size in_windows) in
-        let below = contained_le_sum (items_on s pools c b.slot.bus) size all in
-        let least = window_least c (limited n) (omega arith) in
-        let enough = least.enough in
+        let below = window_among s pools c roots system nested b listed bridge some in
+        let enough = (window_least c (limited (need_behind s pools c b)) (omega arith)).enough in
         omega (arith, below, enough)
   ]
 

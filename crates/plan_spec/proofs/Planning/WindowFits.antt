@@ -113,7 +113,7 @@ prefetch_upper : (n a : ℕ) → a < 2 ^ 64 → (n ≡ 0 → a < 2 ^ 32) → a /
 prefetch_upper zero a top low = let l = low refl in omega (arith, l)
 prefetch_upper (suc n) a top low = omega (arith, top)
 
-open_kept : (kind : WindowKind) (n first last : ℕ) → n ≤ 1 → first ≤ last → IsReached kind n (last + 1) → AreKept kind n (bounds_for kind n first last)
+pub open_kept : (kind : WindowKind) (n first last : ℕ) → n ≤ 1 → first ≤ last → IsReached kind n (last + 1) → AreKept kind n (bounds_for kind n first last)
 open_kept IoWindow n first last few order reached = record {
   base_nibble = omega (arith, few);
   limit_nibble = omega (arith, few);

@@ -2,7 +2,7 @@ use Rattle.std.proofs.Common.{ap}
 use Rattle.std.specs.Option.{is_some}
 use Rattle.pci_spec.proofs.Members.{in_filter_to}
 use Rattle.settle_spec.specs.Parts.{is_part, header_parts}
-use Rattle.settle_laws.proofs.Anew.{none_stays}
+use Rattle.settle_spec.proofs.Anew.{none_stays}
 use Rattle.settle_laws.proofs.BusPlaced.{each_placed}
 use Rattle.settle_laws.proofs.PartPlaces.{part_placed, new_place_is}
 use Rattle.settle_laws.proofs.places_laws.only_roots_lack_room.Goals as goal
