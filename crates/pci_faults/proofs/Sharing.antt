@@ -1,5 +1,5 @@
 -- What regions share with those before them.
-use Rattle.std.proofs.Common.{◌≡◌, ℕ, ◌+◌, ◌<◌, ◌≤◌, inl, inr, List, [], ◌∷◌, ◌++◌, length, get_or, sym, ◌∙◌, ap, subst, arith}
+use Rattle.std.proofs.Common.{◌≡◌, ℕ, ◌+◌, ◌<◌, ◌≤◌, ◌⊎◌, inl, inr, List, [], ◌∷◌, ◌++◌, length, get_or, sym, ◌∙◌, ap, subst, arith}
 use Rattle.std.specs.List.{HoldsAt, Contains}
 use Rattle.std.proofs.lemmas.Bool.{cases_order, cases_eq, cases_lt}
 use Rattle.std.proofs.lemmas.List.{get_or_default}
@@ -163,26 +163,27 @@ still_before n i by regions rise lesser k j less from within =
 
 -- ---- the list of what is shared
 
+-- of two that are both least, by an address and then by an index, both are the same
+pub both_least : (a b i k : ℕ) → (a < b) ⊎ ((a ≡ b) × (i ≤ k)) → (b < a) ⊎ ((b ≡ a) × (k ≤ i)) → (a ≡ b) × (i ≡ k)
+both_least a b i k (inl less) (inl more) = absurd (let none : ⊥ = omega (arith, less, more) in none)
+both_least a b i k (inl less) (inr (same, low)) = absurd (let none : ⊥ = omega (arith, less, same) in none)
+both_least a b i k (inr (same, low)) (inl less) = absurd (let none : ⊥ = omega (arith, less, same) in none)
+both_least a b i k (inr (same, low)) (inr (other, down)) = (same, omega (arith, low, down))
+
+pub same_share : (s t : Share) → s.address ≡ t.address → s.first ≡ t.first → s.second ≡ t.second → s ≡ t
+same_share s t address first second =
+    ap (λ n. record { address = n; first = s.first; second = s.second }) address
+    ∙ ap (λ n. record { address = t.address; first = n; second = s.second }) first
+    ∙ ap (λ n. record { address = t.address; first = t.first; second = n }) second
+
 -- of one region there is one
 one_share : (by : Among) (regions : List Region) (allowed : List Range) (s t : Share) → s.second ≡ t.second
     → IsLeastShared by regions allowed s → IsLeastShared by regions allowed t → s ≡ t
 one_share by regions allowed s t same of_s of_t =
     let one = of_s.least t.address t.first (subst (λ m. IsShared by regions allowed t.address t.first m) (sym same) of_t.there) in
     let other = of_t.least s.address s.first (subst (λ m. IsShared by regions allowed s.address s.first m) same of_s.there) in
-    let address : s.address ≡ t.address = elim one [
-      | inl less ↦ elim other [ inl more ↦ omega (arith, less, more) | inr (e, low) ↦ sym e ]
-      | inr (e, low) ↦ e
-    ] in
-    let first : s.first ≡ t.first = elim one [
-      | inl less ↦ absurd (let none : ⊥ = omega (arith, less, address) in none)
-      | inr (e, low) ↦ elim other [
-        | inl less ↦ absurd (let none : ⊥ = omega (arith, less, address) in none)
-        | inr (f, down) ↦ omega (arith, low, down)
-      ]
-    ] in
-    ap (λ a. record { address = a; first = s.first; second = s.second }) address
-    ∙ ap (λ k. record { address = t.address; first = k; second = s.second }) first
-    ∙ ap (λ k. record { address = t.address; first = t.first; second = k }) same
+    let both = both_least s.address t.address s.first t.first one other in
+    same_share s t both.0 both.1 same
 
 module _ (i : ℕ) (by : Among) (regions : List Region) (allowed : List Range) (shares : List Share) (below : AreSharesBelow i by regions allowed shares) where
   pub share_none : ((a first : ℕ) → IsShared by regions allowed a first i → ⊥) → AreSharesBelow (i + 1) by regions allowed shares

@@ -1,5 +1,5 @@
 -- Where claims of a list meet.
-use Rattle.std.proofs.Common.{◌≡◌, ℕ, ◌+◌, ◌<◌, ◌≤◌, ◌⊎◌, inl, inr, List, [], ◌∷◌, ◌++◌, length, get_or, Option, None, Some, Bool, true, false, if◌then◌else◌, refl, sym, ◌∙◌, ap, subst, arith}
+use Rattle.std.proofs.Common.{◌≡◌, ℕ, ◌+◌, ◌<◌, ◌≤◌, ◌⊎◌, inl, inr, List, [], ◌∷◌, ◌++◌, length, get_or, Option, None, Some, Bool, true, false, if◌then◌else◌, refl, sym, subst, arith}
 use Rattle.std.specs.Prelude.{MatchOption, nat_le}
 use Rattle.std.specs.List.{Contains}
 use Rattle.std.proofs.lemmas.Bool.{cases_lt, cases_eq, leb-true, leb-false}
@@ -9,6 +9,7 @@ use Rattle.pci_tree.specs.Ranges.{Covers}
 use Rattle.pci_faults.specs.declared.shares.Among.{Among}
 use Rattle.pci_faults.specs.declared.shares.Among.TheVariants.{Bus, Roots}
 use Rattle.pci_faults.specs.declared.shares.Share.{Share}
+use Rattle.pci_faults.proofs.Sharing.{both_least, same_share}
 use Rattle.pci_claims.specs.Claim.{Claimed, AreAtOdds, IsLeastAtOdds, IsLeastCommon}
 use Rattle.pci_given.specs.Clashes.{AreOnTwoBuses, Meet, IsLeastOfTwo, claim_at, AreMeeting, IsLeastBelow, IsFoundBelow, lesser, AreMeetingsBelow}
 
@@ -125,12 +126,6 @@ module _ (among : Among) (claims : List Claimed) (i : ℕ) where
 
 -- ---- the list of what was found
 
-same_share : (s t : Share) → s.address ≡ t.address → s.first ≡ t.first → s.second ≡ t.second → s ≡ t
-same_share s t address first second =
-    ap (λ n. record { address = n; first = s.first; second = s.second }) address
-    ∙ ap (λ n. record { address = t.address; first = n; second = s.second }) first
-    ∙ ap (λ n. record { address = t.address; first = t.first; second = n }) second
-
 -- of one claim there is one
 one_meeting : (among : Among) (claims : List Claimed) (s t : Share) → s.second ≡ t.second → IsLeastBelow among s.second claims s → IsLeastBelow among t.second claims t → s ≡ t
 one_meeting among claims s t same of_s of_t =
@@ -138,18 +133,8 @@ one_meeting among claims s t same of_s of_t =
     let low_t = of_t.below in
     let one = of_s.least t.address t.first (omega (arith, low_t, same)) (subst (λ n. AreMeeting among claims t.address t.first n) (sym same) of_t.there) in
     let other = of_t.least s.address s.first (omega (arith, low_s, same)) (subst (λ n. AreMeeting among claims s.address s.first n) same of_s.there) in
-    let address : s.address ≡ t.address = elim one [
-      | inl less ↦ elim other [ inl more ↦ omega (arith, less, more) | inr (e, low) ↦ sym e ]
-      | inr (e, low) ↦ e
-    ] in
-    let first : s.first ≡ t.first = elim one [
-      | inl less ↦ absurd (let none : ⊥ = omega (arith, less, address) in none)
-      | inr (e, low) ↦ elim other [
-        | inl less ↦ absurd (let none : ⊥ = omega (arith, less, address) in none)
-        | inr (f, down) ↦ omega (arith, low, down)
-      ]
-    ] in
-    same_share s t address first same
+    let both = both_least s.address t.address s.first t.first one other in
+    same_share s t both.0 both.1 same
 
 pub no_meetings : (among : Among) (claims : List Claimed) → AreMeetingsBelow among 0 claims []
 no_meetings among claims = record {

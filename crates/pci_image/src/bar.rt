@@ -5,6 +5,8 @@ ghost use Rattle.pci_spec.specs.Number.{number_at};
 ghost use Rattle.pci_spec.specs.Bar as bar;
 ghost use Rattle.pci_spec.specs.Bar.{bar_fault, bar_kind, bar_reading, first_broken, is_prefetchable, has_lawful_size, is_lawful, first_bit};
 ghost use Rattle.pci_spec.specs.Header.{bar_count, bar_register, layout};
+ghost use Rattle.pci_spec.specs.Listing.{kind_space};
+ghost use Rattle.pci_base.specs.Space.{space_of};
 ghost use Rattle.pci_image.specs.Bars.{decoded_kind_of, decoded_bar_of, HasLawfulBars, IsBarFault, IsLowestBarFault, IsComparedBar, IsDecodedAt, IsPlaced, broken_encoding, broken_size};
 ghost use Rattle.pci_image.specs.Faults.{IsImageFaultIn, HasNoHeaderFaultBefore, image_fault_number};
 
@@ -15,6 +17,7 @@ use arrayvec::ArrayVec;
 use pci_base::image::Image;
 use pci_base::offset::BASE_ADDRESS;
 use pci_base::range::Range;
+use pci_base::space::Space;
 
 /// What a BAR maps into, and how wide its register is.
 #[derive(Clone, Copy, Debug, PartialEq, Eq)]
@@ -54,6 +57,16 @@ impl Default for Bar {
 }
 
 impl BarKind {
+    /// The space that it maps into.
+    pub fn space(self) -> Space
+        ensures { space_of result ≡ kind_space (decoded_kind_of self) }
+    {
+        match self {
+            BarKind::Io => Space::Io,
+            BarKind::Mem32 | BarKind::Mem64 => Space::Mem,
+        }
+    }
+
     /// How many encodings the low bits of a BAR's register have: bits 1:0 for I/O, bits 3:0 for
     /// memory (6.2.5.1).
     fn encodings(self) -> u32

@@ -4,32 +4,19 @@ ghost use Rattle.std.specs.List.{flat_map};
 ghost use Rattle.std.specs.String.{string_bytes};
 ghost use Rattle.pci_spec.specs.System.{System};
 ghost use Rattle.pci_spec.specs.Decoded.{HasRecords};
-ghost use Rattle.pci_spec.specs.Listing.{kind_space};
 ghost use Rattle.map_spec.specs.MapText.{off_line, off_text};
-ghost use Rattle.pci_base.specs.Space.{space_of};
-ghost use Rattle.pci_image.specs.Bars.{decoded_bar_of, decoded_kind_of};
+ghost use Rattle.pci_image.specs.Bars.{decoded_bar_of};
 ghost use Rattle.pci_function.specs.Values.{record_value};
 ghost use Rattle.pci_map.specs.Off.{section, off_bar, off_bars_text, off_record};
 
 use super::line::push_region;
 use pci_base::memory::OutOfMemory;
 use pci_base::slot::Slot;
-use pci_base::space::Space;
 use pci_function::record::Record;
-use pci_image::bar::{Bar, BarKind};
+use pci_image::bar::Bar;
 use pci_tree::outline::Outline;
 use pci_tree::region::{Part, Region};
 use std::alloc::{AllocError, Allocator};
-
-/// The space that a kind of BAR maps into.
-fn space_of_kind(kind: BarKind) -> Space
-    ensures { space_of result ≡ kind_space (decoded_kind_of kind) }
-{
-    match kind {
-        BarKind::Io => Space::Io,
-        BarKind::Mem32 | BarKind::Mem64 => Space::Mem,
-    }
-}
 
 /// Appends the line of a BAR.
 fn push_bar_line<A: Allocator>(text: &mut String<A>, slot: Slot, bar: Bar) -> Result<(), AllocError>
@@ -44,7 +31,7 @@ fn push_bar_line<A: Allocator>(text: &mut String<A>, slot: Slot, bar: Bar) -> Re
         first: bar.first,
         last: bar.last,
     };
-    push_region(text, 1, space_of_kind(bar.kind), &region)
+    push_region(text, 1, bar.kind.space(), &region)
 }
 
 /// Appends the line of a BAR, where Command doesn't enable its space.
@@ -57,7 +44,7 @@ fn push_bar<A: Allocator>(
     ensures { OnOk result (string_bytes text.new
         ≡ string_bytes text.old ++ off_bar slot command (decoded_bar_of bar)) }
 {
-    if space_of_kind(bar.kind).is_on(command) {
+    if bar.kind.space().is_on(command) {
         return Ok(());
     }
     push_bar_line(text, slot, bar)

@@ -64,8 +64,10 @@ fn add_closing<A: Allocator>(writes: &mut Vec<Write, A>, start: &[Block]) -> Res
     Ok(())
 }
 
-/// Sets the address registers that change, by rising offset.
-fn add_registers<A: Allocator>(
+/// Adds the writes of the address registers of a function that change, by rising offset.
+///
+/// Errors: 2 `OutOfMemory` where a growth was refused.
+pub fn add_registers<A: Allocator>(
     writes: &mut Vec<Write, A>,
     old: &Block,
     new: &Block,

@@ -6,20 +6,19 @@ ghost use Rattle.plan_spec.specs.Planning.PlanWrites.{registers_of};
 ghost use Rattle.settle_spec.specs.Lists.{Request};
 ghost use Rattle.settle_spec.specs.Writes.{change_of, closings, opening_from, settle_writes};
 ghost use Rattle.pci_place.specs.Above.{system_in};
-ghost use Rattle.pci_plan.specs.Writes.{write_value, block_change};
+ghost use Rattle.pci_plan.specs.Writes.{write_value};
 ghost use Rattle.pci_settle.specs.Lists.{lists_value};
 ghost use Rattle.pci_settle_writes.specs.Requests.{IsAskedOf};
 ghost use Rattle.pci_settle_writes.specs.Dumps.{IsSettledDump};
 ghost use Rattle.pci_settle_writes.specs.Stages.{AreOf, AreClosed, AreSettled, command_at};
 
-use crate::shut::{closing_commands, differs};
+use crate::shut::closing_commands;
 use pci_base::memory::OutOfMemory;
 use pci_base::offset::COMMAND;
 use pci_base::slot::Slot;
 use pci_dump::block::Block;
-use pci_image::layout::Layout;
-use pci_image::register::address_registers;
 use pci_plan::write::Write;
+use pci_plan::writes::add_registers;
 use pci_settle::list::Lists;
 use pci_tree::admitted::Admitted;
 use std::alloc::{Allocator, Global};
@@ -67,28 +66,6 @@ fn add_closings<A: Allocator>(
         let k = start.len() - 1 - done;
         let block = &start[k];
         add_command(writes, block.slot, block.image.u16(COMMAND), closed[k])?;
-    }
-    Ok(())
-}
-
-/// Sets the address registers of a function that change, by rising offset.
-fn add_registers<A: Allocator>(
-    writes: &mut Vec<Write, A>,
-    old: &Block,
-    new: &Block,
-) -> Result<(), OutOfMemory>
-    ensures { OnOk result (map write_value writes.new.items
-        ≡ map write_value writes.old.items ++ registers_of (block_change old.now new.now)) }
-{
-    for register in address_registers(Layout::or_device(&old.image)) {
-        if differs(&old.image, &new.image, register) {
-            writes.push(Write {
-                slot: old.slot,
-                off: register.offset,
-                width: register.width,
-                value: new.image.number(register.offset, register.width),
-            })?;
-        }
     }
     Ok(())
 }

@@ -1,5 +1,5 @@
 -- The first line of a list of all faults is the fault that is looked for first.
-use Rattle.std.proofs.Common.{◌≡◌, ℕ, zero, suc, ◌<◌, ◌⊎◌, inl, inr, List, [], ◌∷◌, ◌++◌, refl, true, arith, ◌∙◌, ap, subst}
+use Rattle.std.proofs.Common.{◌≡◌, ℕ, zero, suc, ◌<◌, inl, inr, List, [], ◌∷◌, ◌++◌, refl, true, arith, ◌∙◌, ap, subst}
 use Rattle.std.specs.Bool.{IsTrue}
 use Rattle.std.specs.List.{Contains}
 use Rattle.std.proofs.lemmas.Bool.{cases_order}
@@ -12,7 +12,7 @@ use Rattle.pci_spec.specs.JudgingLaws.{region_number}
 use Rattle.pci_spec.specs.AllFaults.{IsClashOf, IsSplitOf, IsNamed, AreAllOfJudging}
 use Rattle.pci_spec.specs.AllFaultsLaws.{FirstLineIsFirst}
 use Rattle.pci_spec.proofs.Firsts.{no, slot_of, named_slot, named_register, pair_precedes}
-use Rattle.pci_spec.proofs.Regions.{slot_from, region_number-same, precedes-cases, precedes-region, register_of-lt}
+use Rattle.pci_spec.proofs.Regions.{region_number-same, precedes-cases, precedes-slot, precedes-region, register_of-lt}
 use Rattle.pci_spec.proofs.AllFaults.{IsNotAfter, line_of_clash, line_of_split, line_of_unreached, swapped, swapped_split, bridge_slot}
 
 -- ---- keys
@@ -53,20 +53,6 @@ strip : (x : ℕ) (xs ys : List ℕ) → precedes (x ∷ xs) (x ∷ ys) ≡ true
 strip x xs ys h = elim (precedes-cases x x xs ys h) [
   | inl less ↦ absurd (let impossible : ⊥ = omega (arith, less) in impossible)
   | inr same ↦ same.1
-]
-
--- a slot in front of two keys
-precedes-slot : (s t : Slot) (xs ys : List ℕ) → IsSlot s → IsSlot t → precedes (slot_key s ++ xs) (slot_key t ++ ys) ≡ true
-    → (slot_number s < slot_number t) ⊎ ((s ≡ t) × (precedes xs ys ≡ true))
-precedes-slot s t xs ys hs ht h = elim (precedes-cases s.bus t.bus (s.device ∷ s.function ∷ xs) (t.device ∷ t.function ∷ ys) h) [
-  | inl less ↦ inl (omega (arith, less, hs, ht))
-  | inr (bus, h1) ↦ elim (precedes-cases s.device t.device (s.function ∷ xs) (t.function ∷ ys) h1) [
-    | inl less ↦ inl (omega (arith, bus, less, hs, ht))
-    | inr (device, h2) ↦ elim (precedes-cases s.function t.function xs ys h2) [
-      | inl less ↦ inl (omega (arith, bus, device, less, hs, ht))
-      | inr (function, h3) ↦ inr (slot_from s t bus device function, h3)
-    ]
-  ]
 ]
 
 stops_in_order : (t : Slot) (r a b : ℕ) (bridge other : Slot) → IsSlot t → r < 256 → IsSlot bridge → IsSlot other

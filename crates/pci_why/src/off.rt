@@ -5,9 +5,7 @@ ghost use Rattle.std.specs.String.{string_bytes};
 ghost use Rattle.pci_spec.specs.System.{System};
 ghost use Rattle.pci_spec.specs.Decoded.{HasRecords};
 ghost use Rattle.pci_spec.specs.Why.{off_line, off_lines};
-ghost use Rattle.pci_base.specs.Space.{space_of};
-ghost use Rattle.pci_image.specs.Bars.{decoded_bar_of, decoded_kind_of};
-ghost use Rattle.pci_spec.specs.Listing.{kind_space};
+ghost use Rattle.pci_image.specs.Bars.{decoded_bar_of};
 ghost use Rattle.pci_function.specs.Values.{record_value};
 ghost use Rattle.pci_tree.specs.Regions.{IsLawful};
 ghost use Rattle.pci_why.specs.Off.{off_text, off_of_bars, off_of_record};
@@ -16,21 +14,10 @@ use super::region_line::{bar_name, push_place};
 use pci_base::memory::OutOfMemory;
 use pci_base::range::Range;
 use pci_base::slot::Slot;
-use pci_base::space::Space;
 use pci_function::record::Record;
-use pci_image::bar::{Bar, BarKind};
+use pci_image::bar::Bar;
 use pci_tree::outline::Outline;
 use std::alloc::{AllocError, Allocator};
-
-/// The space that a kind of BAR maps into.
-fn space_of_kind(kind: BarKind) -> Space
-    ensures { space_of result ≡ kind_space (decoded_kind_of kind) }
-{
-    match kind {
-        BarKind::Io => Space::Io,
-        BarKind::Mem32 | BarKind::Mem64 => Space::Mem,
-    }
-}
 
 /// Appends the line of a BAR, as `off 01:02.0 10 bar mem 0000000000000000-00000000000000ff 256`.
 fn push_line<A: Allocator>(text: &mut String<A>, slot: Slot, bar: Bar) -> Result<(), AllocError>
@@ -38,7 +25,7 @@ fn push_line<A: Allocator>(text: &mut String<A>, slot: Slot, bar: Bar) -> Result
     ensures { OnOk result
         (string_bytes text.new ≡ string_bytes text.old ++ off_line slot (decoded_bar_of bar)) }
 {
-    let space = space_of_kind(bar.kind);
+    let space = bar.kind.space();
     let range = Range {
         first: bar.first,
         last: bar.last,
@@ -65,7 +52,7 @@ fn push_bar<A: Allocator>(
     ensures { OnOk result (string_bytes text.new
         ≡ string_bytes text.old ++ off_text slot command (decoded_bar_of bar)) }
 {
-    if space_of_kind(bar.kind).is_on(command) {
+    if bar.kind.space().is_on(command) {
         return Ok(());
     }
     push_line(text, slot, bar)
