@@ -1,4 +1,4 @@
-//! The program: `pciplan show|check|size|plan DUMP PROBE`, and `pciplan probe DUMP SIZES`.
+//! The program: `pciplan TASK DUMP PROBE`; `probe` takes sizes in the place of a probe.
 #![tactic(auto)]
 
 use pci_dump::std_streams::Outgoing;
