@@ -7,6 +7,7 @@ pub mod Reaching
 pub mod Recorded
 pub mod Lifting
 pub mod Regions
+pub mod Leaders
 pub mod RegionParts
 pub mod RegionCounts
 pub mod RegionOrder

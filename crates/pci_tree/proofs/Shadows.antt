@@ -17,6 +17,7 @@ use Rattle.pci_tree.specs.Ways.{secondary_in, bus_behind, IsBridgeIn, Leads, IsF
 use Rattle.pci_tree.specs.Regions.{IsLawful}
 use Rattle.pci_tree.specs.Outline.{RiseBySlot, IsOutline}
 use Rattle.pci_tree.specs.BusNumbers.{IsInPlace, IsLedTo, HasLawfulBuses, HasBusOrder}
+use Rattle.pci_tree.proofs.Leaders.{bridge_of}
 use Rattle.pci_tree.proofs.Regions.{some_is}
 use Rattle.pci_tree.proofs.Reaching.{leads_push}
 use Rattle.pci_tree.proofs.Lifting.{one_by_number}
@@ -133,8 +134,7 @@ led_below (suc n) bus roots rs places lt led unled = elim led [
   | inl root ↦ unled bus [] root refl
   | inr leader ↦ (
       let c : Record = leader.c in
-      let bridge : IsBridgeIn rs c = record { has = leader.bridge.has; is = ap is_some leader.bridge.is } in
-      let behind : bus_behind c ≡ bus = ap secondary_in leader.bridge.is ∙ leader.there in
+      let (bridge, behind) = bridge_of rs bus leader in
       let at : LawfulAt roots rs c = lawful_at roots rs c places bridge in
       let order : HasBusOrder c.slot.bus at.d = at.lawful.order in
       let there : bus_behind c ≡ at.d.secondary = at.there in

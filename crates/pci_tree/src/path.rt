@@ -1,6 +1,7 @@
 //! The bridges that lead to a bus, found from a table of the 256 buses.
-ghost use Rattle.std.specs.Prelude.{◌≡◌, ◌<◌, false, List, MatchOption};
+ghost use Rattle.std.specs.Prelude.{◌↔◌, IsTrue, List, MatchOption};
 ghost use Rattle.pci_tree.specs.Roots.{buses_of};
+ghost use Rattle.pci_tree.specs.BusNumbers.{IsLedTo};
 ghost use Rattle.pci_function.specs.declared.record.Record.{Record as RecordValue};
 ghost use Rattle.pci_tree.specs.Ways.{IsForest, IsBridgeToBus, AreClear, AreSlotsOfWay, IsUnled};
 
@@ -25,9 +26,9 @@ pub fn bridge_to_bus(records: &[Record]) -> [Option<usize>; BUSES]
 
 /// Whether a bus is a root or a bridge leads to it.
 pub fn is_led_to(bridge_to_bus: &[Option<usize>; BUSES], roots: &Roots, bus: u8) -> bool
-    // one way only: a caller leaves out the buses that nothing leads to
-    ensures { result ≡ false → (records : List RecordValue)
-        → IsBridgeToBus records bridge_to_bus.now → IsUnled records (buses_of roots.now) bus }
+    // of the records whose table it is
+    ensures { (records : List RecordValue) → IsBridgeToBus records bridge_to_bus.now
+        → (IsTrue result ↔ IsLedTo (buses_of roots.now) records bus) }
 {
     roots.has(bus) || bridge_to_bus[bus as usize].is_some()
 }

@@ -1,4 +1,5 @@
-use Rattle.std.proofs.Common.{subst, sym, refl}
+use Rattle.std.proofs.Common.{subst, sym, refl, false}
+use Rattle.std.proofs.lemmas.Bool.{both_ways}
 use Rattle.std.proofs.lemmas.Result.{IfOk-weaker}
 use Rattle.pci_spec.specs.Decoded.{HasRecords}
 use Rattle.pci_base.specs.Space.{space_of}
@@ -7,13 +8,14 @@ use Rattle.pci_tree.specs.Regions.{AreRegionsOf}
 use Rattle.pci_tree.specs.Outline.{Tree, RiseBySlot, IsBusPart}
 use Rattle.pci_tree.proofs.Lifting.{Has}
 use Rattle.pci_tree.proofs.BusParts.{regions_of_part, regions_unled}
+use Rattle.pci_tree.proofs.Leaders.{unled_of}
 use Rattle.pci_tree.proofs.outline.Outline.regions.Goals as goal
 
 pub returns-then-not-is_led_to : goal.returns-then-not-is_led_to
 returns-then-not-is_led_to g c s has =
     subst (AreRegionsOf s c.args.bus (space_of c.args.space)) (sym c.new.ensures.items)
     (regions_unled s (buses_of c.self.inside.roots) c.self.inside.records.items c.args.bus (space_of c.args.space) (subst (λ (t : Tree). HasRecords s t.records) (sym c.self.view_is) has) c.self.invariant.0
-    (c.if-not-is_led_to.ensures refl c.self.inside.records.items c.self.invariant.1))
+    (unled_of (buses_of c.self.inside.roots) c.self.inside.records.items c.args.bus (λ led. both_ways false refl ((c.if-not-is_led_to.ensures c.self.inside.records.items c.self.invariant.1).1 led))))
 
 pub on_bus-part-requires-clause-rising : goal.on_bus-part-requires-clause-rising
 on_bus-part-requires-clause-rising g c = subst RiseBySlot (sym c.deref.ensures.value) c.self.invariant.0.rising
