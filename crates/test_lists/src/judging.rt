@@ -1,11 +1,11 @@
 //! The lists of all faults of judging.
-use crate::boards::admitted;
+use crate::boards::{BEHIND_ONE_THAT_IS_OFF, PASSED_IN_TWO_PARTS, admitted};
 use pci_faults::judging::all_of_judging;
 use pci_tree::admitted::Admitted;
 use std::alloc::Global;
 use std::test::Fail;
 use test_support::row::Row;
-use test_support::row::Row::{Bridge, Device};
+use test_support::row::Row::Device;
 
 /// A line for each fault of a board.
 fn lines_of(alloc: Global, board: &Admitted) -> Option<String> {
@@ -81,22 +81,10 @@ fn each_region_is_named_second_once(rt: HostRuntime) -> Result<(), Fail> {
 
 #[test]
 fn each_bar_and_rom_behind_a_bridge_that_is_off_has_a_line(rt: HostRuntime) -> Result<(), Fail> {
-    const BOARD: &[Row] = &[
-        Bridge("00:01.0", 0, (0, 1, 1), &[(0x20, 0xe000_e000, 0xfff0_fff0)]),
-        Device("01:00.0", 2, &[(0x10, 0xe000_0000, 0xffff_f000)]),
-        Device(
-            "01:01.0",
-            2,
-            &[
-                (0x10, 0xe001_0000, 0xffff_0000),
-                (0x30, 0xe002_0001, 0xffff_f800),
-            ],
-        ),
-    ];
     assert!(rt;
         has_lines(
             rt.alloc(),
-            BOARD,
+            BEHIND_ONE_THAT_IS_OFF,
             &[0],
             "60 Unreached 01:00.0 10 mem 00000000e0000000 bridge 00:01.0\n\
          60 Unreached 01:01.0 10 mem 00000000e0010000 bridge 00:01.0\n\
@@ -108,22 +96,10 @@ fn each_bar_and_rom_behind_a_bridge_that_is_off_has_a_line(rt: HostRuntime) -> R
 
 #[test]
 fn the_least_address_that_the_first_bridge_misses_is_told(rt: HostRuntime) -> Result<(), Fail> {
-    const BOARD: &[Row] = &[
-        Bridge(
-            "00:01.0",
-            2,
-            (0, 1, 1),
-            &[
-                (0x20, 0xe000_e000, 0xfff0_fff0),
-                (0x24, 0xe020_e020, 0xfff0_fff0),
-            ],
-        ),
-        Device("01:00.0", 2, &[(0x10, 0xe000_0008, 0xffc0_0008)]),
-    ];
     assert!(rt;
         has_lines(
             rt.alloc(),
-            BOARD,
+            PASSED_IN_TWO_PARTS,
             &[0],
             "60 Unreached 01:00.0 10 mem 00000000e0100000 bridge 00:01.0\n",
         )

@@ -1,4 +1,5 @@
 //! What is told behind faults.
+use crate::boards::{BEHIND_ONE_THAT_IS_OFF, PASSED_IN_TWO_PARTS};
 use pci_base::slot::Slot;
 use pci_base::space::Space;
 use pci_function::fault::Fault;
@@ -107,18 +108,6 @@ fn two_clashes_with_one_bar(rt: HostRuntime) -> Result<(), Fail> {
 
 #[test]
 fn behind_a_bridge_that_is_off(rt: HostRuntime) -> Result<(), Fail> {
-    const BOARD: &[Row] = &[
-        Bridge("00:01.0", 0, (0, 1, 1), &[(0x20, 0xe000_e000, 0xfff0_fff0)]),
-        Device("01:00.0", 2, &[(0x10, 0xe000_0000, 0xffff_f000)]),
-        Device(
-            "01:01.0",
-            2,
-            &[
-                (0x10, 0xe001_0000, 0xffff_0000),
-                (0x30, 0xe002_0001, 0xffff_f800),
-            ],
-        ),
-    ];
     const FAULTS: &[Named] = &[
         Unreached(0, 0x10, 0xe000_0000),
         Unreached(1, 0x10, 0xe001_0000),
@@ -138,23 +127,11 @@ fn behind_a_bridge_that_is_off(rt: HostRuntime) -> Result<(), Fail> {
         "  missed 00000000e0020000-00000000e00207ff 2K\n",
         "  fits none\n",
     ];
-    is_told(&rt, BOARD, FAULTS, WANTED)
+    is_told(&rt, BEHIND_ONE_THAT_IS_OFF, FAULTS, WANTED)
 }
 
 #[test]
 fn two_runs_beside_a_prefetchable_window(rt: HostRuntime) -> Result<(), Fail> {
-    const BOARD: &[Row] = &[
-        Bridge(
-            "00:01.0",
-            2,
-            (0, 1, 1),
-            &[
-                (0x20, 0xe000_e000, 0xfff0_fff0),
-                (0x24, 0xe020_e020, 0xfff0_fff0),
-            ],
-        ),
-        Device("01:00.0", 2, &[(0x10, 0xe000_0008, 0xffc0_0008)]),
-    ];
     const FAULTS: &[Named] = &[Unreached(0, 0x10, 0xe010_0000)];
     const WANTED: &[&str] = &[
         "  needs 01:00.0 10 bar mem pref 00000000e0000000-00000000e03fffff 4M\n",
@@ -163,7 +140,7 @@ fn two_runs_beside_a_prefetchable_window(rt: HostRuntime) -> Result<(), Fail> {
         "  missed 00000000e0300000-00000000e03fffff 1M\n",
         "  fits none\n",
     ];
-    is_told(&rt, BOARD, FAULTS, WANTED)
+    is_told(&rt, PASSED_IN_TWO_PARTS, FAULTS, WANTED)
 }
 
 #[test]
