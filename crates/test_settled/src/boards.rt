@@ -16,6 +16,18 @@ use test_support::row::{Row, dumps_of_rows};
 /// A range of a list: the root that it is of, or None where it is of all, and its ends.
 pub(crate) type Listed = (Option<u8>, u64, u64);
 
+/// A BAR of 1 MB on each of two root buses.
+pub(crate) const TWO_ROOTS: &[Row] = &[
+    Device("00:01.0", 0, &[(0x10, 0, 0xfff0_0000)]),
+    Device("40:01.0", 0, &[(0x10, 0, 0xfff0_0000)]),
+];
+
+/// 1 MB of memory for each of them.
+pub(crate) const RANGE_OF_EACH: &[Listed] = &[
+    (Some(0x40), 0xe010_0000, 0xe01f_ffff),
+    (Some(0), 0xe000_0000, 0xe00f_ffff),
+];
+
 /// A board with these roots.
 pub(crate) fn admitted(alloc: Global, roots: &[u8], board: &[Row]) -> Option<Admitted> {
     let roots = Roots::of(roots)?;
@@ -152,19 +164,11 @@ fn a_wide_bar_goes_on_in_prefetchable_memory(rt: HostRuntime) -> Result<(), Fail
 
 #[test]
 fn a_root_has_ranges_of_its_own(rt: HostRuntime) -> Result<(), Fail> {
-    const BOARD: &[Row] = &[
-        Device("00:01.0", 0, &[(0x10, 0, 0xfff0_0000)]),
-        Device("40:01.0", 0, &[(0x10, 0, 0xfff0_0000)]),
-    ];
-    const MEM: &[Listed] = &[
-        (Some(0x40), 0xe010_0000, 0xe01f_ffff),
-        (Some(0), 0xe000_0000, 0xe00f_ffff),
-    ];
     const WANTED: &[Wanted] = &[
         (None, Some((0xe000_0000, 0xe00f_ffff)), None),
         (None, Some((0xe010_0000, 0xe01f_ffff)), None),
     ];
-    assert!(rt; gets(rt.alloc(), &[0, 0x40], BOARD, MEM, WANTED));
+    assert!(rt; gets(rt.alloc(), &[0, 0x40], TWO_ROOTS, RANGE_OF_EACH, WANTED));
     Ok(())
 }
 

@@ -1,5 +1,5 @@
 //! Boards, and the writes that settle them where nothing stands.
-use crate::boards::{Listed, admitted, list_of};
+use crate::boards::{Listed, RANGE_OF_EACH, TWO_ROOTS, admitted, list_of};
 use pci_base::memory::Refused;
 use pci_base::range::RootRange;
 use pci_base::slot::Slot;
@@ -125,21 +125,13 @@ fn what_fits_no_hole_goes_behind_it(rt: HostRuntime) -> Result<(), Fail> {
 
 #[test]
 fn each_root_is_settled_in_its_own_range(rt: HostRuntime) -> Result<(), Fail> {
-    const BOARD: &[Row] = &[
-        Device("00:01.0", 0, &[(0x10, 0, 0xfff0_0000)]),
-        Device("40:01.0", 0, &[(0x10, 0, 0xfff0_0000)]),
-    ];
-    const MEM: &[Listed] = &[
-        (Some(0x40), 0xe010_0000, 0xe01f_ffff),
-        (Some(0), 0xe000_0000, 0xe00f_ffff),
-    ];
     const WANTED: &[Wanted] = &[
         (0, 1, 0x10, 4, 0xe000_0000),
         (0x40, 1, 0x10, 4, 0xe010_0000),
         (0, 1, 0x04, 2, 2),
         (0x40, 1, 0x04, 2, 2),
     ];
-    assert!(rt; settles(rt.alloc(), &[0, 0x40], BOARD, MEM, 0, WANTED));
+    assert!(rt; settles(rt.alloc(), &[0, 0x40], TWO_ROOTS, RANGE_OF_EACH, 0, WANTED));
     Ok(())
 }
 
