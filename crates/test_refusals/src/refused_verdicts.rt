@@ -200,27 +200,20 @@ fn turn_by_answer(
     }
 }
 
-/// The turn of judging where the n-th growth is refused.
-fn turn_of_judging<'a>(
+/// The turn of judging, or of checking, where the n-th growth is refused.
+fn turn_of_verdict<'a>(
     heap: &'a Refusing<Global>,
     board: &Admitted<&'a Refusing<Global>>,
     wanted: &Option<Fault>,
     n: u64,
+    is_check: bool,
 ) -> Turn {
     heap.refuse(n);
-    let answer = judged(heap, board);
-    turn_by_answer(heap.is_due(), answer, wanted)
-}
-
-/// The turn of checking where the n-th growth is refused.
-fn turn_of_checking<'a>(
-    heap: &'a Refusing<Global>,
-    board: &Admitted<&'a Refusing<Global>>,
-    wanted: &Option<Fault>,
-    n: u64,
-) -> Turn {
-    heap.refuse(n);
-    let answer = checked(heap, board);
+    let answer = if is_check {
+        checked(heap, board)
+    } else {
+        judged(heap, board)
+    };
     turn_by_answer(heap.is_due(), answer, wanted)
 }
 
@@ -246,8 +239,8 @@ fn refusals_of_verdict<'a>(
     wanted: &Option<Fault>,
 ) -> u64 {
     for n in 1..MANY {
-        let judging = turn_of_judging(heap, board, wanted, n);
-        let checking = turn_of_checking(heap, board, wanted, n);
+        let judging = turn_of_verdict(heap, board, wanted, n, false);
+        let checking = turn_of_verdict(heap, board, wanted, n, true);
         if !is_as_it_was(alloc, board, texts) || !is_checked(heap, board, wanted) {
             return MANY;
         }
