@@ -17,9 +17,9 @@ use pci_base::range::Range;
 use pci_base::slot::Slot;
 use pci_base::space::Space;
 use pci_function::record::Record;
+use pci_tree::bus::record_at;
 use pci_tree::outline::Outline;
 use pci_tree::region::Region;
-use pci_why::find::record_at;
 use std::alloc::Allocator;
 
 /// What some regions answer of the addresses that get to their bus.

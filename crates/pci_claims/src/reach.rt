@@ -19,8 +19,8 @@ use pci_base::slot::Slot;
 use pci_base::space::Space;
 use pci_base::window_kind::WindowKind;
 use pci_function::record::Record;
+use pci_tree::bus::record_at;
 use pci_tree::outline::Outline;
-use pci_why::find::record_at;
 use std::alloc::Allocator;
 
 /// The addresses that are sent to a root and that each bridge at some slots passes.

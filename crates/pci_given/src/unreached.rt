@@ -26,9 +26,9 @@ use pci_claims::outside::root_above;
 use pci_claims::passed::passed_with;
 use pci_claims::sent::sent_to;
 use pci_function::record::Record;
+use pci_tree::bus::record_at;
 use pci_tree::outline::Outline;
 use pci_tree::region::Region;
-use pci_why::find::record_at;
 use std::alloc::Allocator;
 
 /// A bridge, and an address that it doesn't pass.

@@ -15,9 +15,10 @@ use pci_base::slot::Slot;
 use pci_base::space::Space;
 use pci_claims::claim::{legacy_of, own};
 use pci_claims::given::Given;
+use pci_tree::bus::record_at;
 use pci_tree::outline::Outline;
 use pci_tree::region::Region;
-use pci_why::find::{record_at, region_at};
+use pci_why::find::region_at;
 use pci_why::region_line::push_region_line;
 use std::alloc::{AllocError, Allocator, Global};
 

@@ -1,10 +1,10 @@
 -- Records rise by slot, so a slot is found by halving.
-use Rattle.std.proofs.Common.{◌≡◌, ℕ, ◌<◌, ◌≤◌, ◌↔◌, ◌&&◌, true, Bool, List, length, get_or, inl, inr, arith, sym, ◌∙◌, ap, subst, ltb}
-use Rattle.std.specs.Prelude.{◌==◌}
+use Rattle.std.proofs.Common.{◌≡◌, ℕ, ◌<◌, ◌≤◌, ◌↔◌, ◌&&◌, true, false, refl, Bool, Option, Some, None, List, length, get_or, inl, inr, arith, sym, ◌∙◌, ap, subst, ltb}
+use Rattle.std.specs.Prelude.{IsTrue, MatchOption, ◌==◌}
+use Rattle.std.specs.Option.{is_some}
 use Rattle.std.specs.List.{Contains, AllWithin}
 use Rattle.std.specs.List.Sorted.{IsPartitionedBy, IsNonDecreasingBy}
-use Rattle.std.proofs.lemmas.Bool.{cases_lt, and_parts, and_from, eqb-true, eq-eqb}
-use Rattle.std.proofs.lemmas.List.{get_or_default}
+use Rattle.std.proofs.lemmas.Bool.{cases_lt, cases_order, both_ways, and_parts, and_from, eqb-true, eq-eqb}
 use Rattle.std.proofs.lemmas.List.Sorted.{IsPartitionedBy-ltb}
 use Rattle.pci_spec.specs.Slot.{Slot, slot_number}
 use Rattle.pci_spec.proofs.Members.{IsMade, in_map_to, in_map_from}
@@ -26,42 +26,31 @@ numbers_rise records rise i j d le within = elim (cases_lt i j) [
 pub parted_by_slot : (records : List Record) (number : ℕ) → RiseBySlot records → IsPartitionedBy (λ r. ltb (slot_number r.slot) number) records
 parted_by_slot records number rise = IsPartitionedBy-ltb number_of records number (numbers_rise records rise)
 
-module _ (records : List Record) (slot : Slot) (i : ℕ) (below : AllWithin (λ r. slot_number r.slot < slot_number slot) records 0 i) where
-  -- where all records are below a slot, none has it
-  pub none_behind : i ≡ length records → Contains (slots_of records) slot → ⊥
-  none_behind end has =
-      let made : IsMade (λ (r : Record). r.slot) records slot = in_map_to (λ (r : Record). r.slot) records slot has in
-      let inside : made.has.0 < length records = made.has.1 in
-      let lt : number_of (get_or records made.has.0 made.from) < slot_number slot = below made.has.0 made.from (omega arith) (omega arith) in
-      let same : number_of (get_or records made.has.0 made.from) ≡ slot_number slot = ap number_of made.has.2 ∙ ap slot_number made.is in
-      absurd (omega arith)
+-- no record has the slot, where the first that isn't lower hasn't
+pub no_record : (rs : List Record) (slot : Slot) (k : ℕ) → RiseBySlot rs → AllWithin (λ x. slot_number x.slot < slot_number slot) rs 0 k
+    → AllWithin (λ x. slot_number slot ≤ slot_number x.slot) rs k (length rs) → ((r : Record) → k < length rs → (get_or rs k r).slot ≡ slot → ⊥) → Contains (slots_of rs) slot → ⊥
+no_record rs slot k rise before after here has =
+    let made : IsMade (λ (x : Record). x.slot) rs slot = in_map_to (λ (x : Record). x.slot) rs slot has in
+    let r : Record = made.from in
+    let j = made.has.0 in
+    let within = made.has.1 in
+    let at : (get_or rs j r).slot ≡ slot = ap (λ (x : Record). x.slot) made.has.2 ∙ made.is in
+    let number : slot_number (get_or rs j r).slot ≡ slot_number slot = ap slot_number at in
+    elim (cases_order j k) [
+      | inl same ↦ here r (subst (λ n. n < length rs) same within) (ap (λ n. (get_or rs n r).slot) (sym same) ∙ at)
+      | inr (inl lt) ↦ (let less = before j r (omega arith) lt in omega (arith, less, number))
+      | inr (inr gt) ↦ (let less = rise k j r gt within in
+          let low = after k r (omega arith) (omega (arith, gt, within)) in omega (arith, less, low, number))
+    ]
 
-  -- the first that isn't below it has it, where one does
-  pub first_has : (r : Record) → RiseBySlot records → AllWithin (λ r. slot_number slot ≤ slot_number r.slot) records i (length records)
-      → r ≡ get_or records i r → Contains (slots_of records) slot → r.slot ≡ slot
-  first_has r rise from at has =
-      let made : IsMade (λ (r : Record). r.slot) records slot = in_map_to (λ (r : Record). r.slot) records slot has in
-      let k : ℕ = made.has.0 in
-      let d : Record = made.from in
-      let inside : k < length records = made.has.1 in
-      let same : number_of (get_or records k d) ≡ slot_number slot = ap number_of made.has.2 ∙ ap slot_number made.is in
-      elim (cases_lt k i) [
-        | inl before ↦ (let lt : number_of (get_or records k d) < slot_number slot = below k d (omega arith) before in absurd (omega arith))
-        | inr after ↦ elim (cases_lt i k) [
-          | inl past ↦
-              (let low : slot_number slot ≤ number_of (get_or records i d) = from i d (omega arith) (omega arith) in
-              let up : number_of (get_or records i d) < number_of (get_or records k d) = rise i k d past inside in absurd (omega arith))
-          | inr here ↦
-              (let e : i ≡ k = omega arith in
-              let is : r ≡ d = at ∙ get_or_default records i r d (omega arith) ∙ ap (λ n. get_or records n d) e ∙ made.has.2 in
-              ap (λ (x : Record). x.slot) is ∙ made.is)
-        ]
-      ]
+-- a record has its slot
+pub in_slots : (rs : List Record) (r : Record) (slot : Slot) → Contains rs r → r.slot ≡ slot → Contains (slots_of rs) slot
+in_slots rs r slot has at = subst (Contains (slots_of rs)) at (in_map_from (λ (x : Record). x.slot) rs r has)
 
--- a record at an index has its slot
-pub slot_at_index : (records : List Record) (i : ℕ) (r : Record) (slot : Slot) → i < length records → r ≡ get_or records i r → r.slot ≡ slot → Contains (slots_of records) slot
-slot_at_index records i r slot inside at is =
-    subst (λ x. Contains (slots_of records) x) is (in_map_from (λ (r : Record). r.slot) records r (i, inside, sym at))
+-- a search finds a record exactly where one has the slot
+pub found_if : {X : Type 0} (P : Type 0) (Q : X → Type 0) (o : Option X) → ((x : X) → Q x → P) → MatchOption o (P → ⊥) Q → IsTrue (is_some o) ↔ P
+found_if P Q None there none = (λ some. absurd (both_ways false refl some), λ has. absurd (none has))
+found_if P Q (Some x) there is = (λ some. there x is, λ has. refl)
 
 -- slots are the same exactly where their three numbers are
 pub same_by_numbers : (m n : Slot) (b : Bool) → b ≡ (m.bus == n.bus && (m.device == n.device && m.function == n.function)) → (b ≡ true) ↔ (m ≡ n)

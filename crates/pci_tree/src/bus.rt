@@ -1,5 +1,5 @@
 //! The records of a bus, which stand in a row, as records rise by slot.
-ghost use Rattle.std.specs.Prelude.{◌↔◌, ◌<◌, ◌≤◌, IsTrue, length};
+ghost use Rattle.std.specs.Prelude.{◌≡◌, ◌↔◌, ◌<◌, ◌≤◌, IsTrue, MatchOption, length};
 ghost use Rattle.std.specs.List.{All, AllWithin, Contains};
 ghost use Rattle.pci_spec.specs.Slot.{IsSlot, slot_number};
 ghost use Rattle.pci_tree.specs.Ways.{slots_of};
@@ -46,16 +46,30 @@ fn first_not_below(records: &[Record], slot: Slot) -> usize
     records.partition_point(|function| function.slot.number() < number)
 }
 
+/// The record of the function at a slot.
+pub fn record_at(records: &[Record], slot: Slot) -> Option<&Record>
+    // found by halving
+    requires { RiseBySlot records.now }
+    ensures { MatchOption result (Contains (slots_of records.now) slot → ⊥)
+        (λ r. Contains records.now r.now × (r.now.slot ≡ slot)) }
+{
+    let index = first_not_below(records, slot);
+    if index == records.len() {
+        return None;
+    }
+    let record = &records[index];
+    if record.slot == slot {
+        Some(record)
+    } else {
+        None
+    }
+}
+
 /// Whether a function of some records has the slot.
 pub fn has_slot(records: &[Record], slot: Slot) -> bool
     // it is found by halving
     requires { RiseBySlot records.now }
     ensures { IsTrue result ↔ Contains (slots_of records.now) slot }
 {
-    let index = first_not_below(records, slot);
-    if index == records.len() {
-        return false;
-    }
-    let function = &records[index];
-    function.slot == slot
+    record_at(records, slot).is_some()
 }

@@ -1,61 +1,23 @@
 -- Records by slot, and the regions at a slot and register.
-use Rattle.std.proofs.Common.{◌≡◌, ℕ, ◌+◌, ◌<◌, ◌≤◌, List, [], ◌∷◌, ◌++◌, length, get_or, take, false, inl, inr, arith, sym, ◌∙◌, ap, subst, ltb, Option, Some, None}
-use Rattle.std.specs.Prelude.{MatchOption, Bool, ◌==◌, ◌&&◌}
-use Rattle.std.specs.List.{All, Contains, AllWithin}
-use Rattle.std.specs.List.Sorted.{IsPartitionedBy, IsNonDecreasingBy}
-use Rattle.std.proofs.lemmas.Bool.{cases_order, both_ways, and_from, eq-eqb}
+use Rattle.std.proofs.Common.{◌≡◌, ℕ, ◌+◌, ◌<◌, ◌≤◌, List, [], ◌∷◌, ◌++◌, length, get_or, take, sym, ◌∙◌, ap, subst, Option, Some, None}
+use Rattle.std.specs.Prelude.{MatchOption}
+use Rattle.std.specs.List.{All, Contains}
 use Rattle.std.proofs.lemmas.List.{take_more}
-use Rattle.std.proofs.lemmas.List.Sorted.{IsPartitionedBy-ltb}
 use Rattle.std.proofs.lemmas.List.Elements.{All-contains, All-push}
 use Rattle.pci_spec.specs.Slot.{Slot, slot_number}
 use Rattle.pci_spec.specs.System.{System, Function, Space, Part, Claims, register_of}
 use Rattle.pci_spec.specs.Decoded.{IsDecodable, record_of}
-use Rattle.pci_spec.proofs.Members.{IsMade, in_map_to, in_map_from}
 use Rattle.pci_function.specs.declared.record.Record.{Record}
 use Rattle.pci_function.specs.Values.{record_value}
 use Rattle.pci_tree.specs.declared.region.Region.{Region}
 use Rattle.pci_tree.specs.Regions.{IsRegionOf, IsLawful, regions_of}
 use Rattle.pci_tree.specs.Ways.{slots_of}
 use Rattle.pci_tree.specs.Outline.{RiseBySlot}
+use Rattle.pci_tree.proofs.SlotSearch.{in_slots}
 use Rattle.pci_tree.proofs.Lifting.{Has, record_for, function_for, same_slot_of, one_by_number}
 use Rattle.pci_tree.proofs.RegionParts.{regions_are, regions_are_all}
 use Rattle.pci_tree.proofs.RegionOrder.{regions_rise}
 use Rattle.pci_why.specs.Found.{IsRegionAt, HasNoRegionAt, IsFoundIn, NoneClaims}
-
--- ---- by slot
-
-numbers_rise : (rs : List Record) → RiseBySlot rs → IsNonDecreasingBy (λ r. slot_number r.slot) rs
-numbers_rise rs rise i j d le within = elim (cases_order i j) [
-  | inl same ↦ (let e : slot_number (get_or rs i d).slot ≡ slot_number (get_or rs j d).slot = ap (λ n. slot_number (get_or rs n d).slot) same in omega (arith, e))
-  | inr (inl lt) ↦ (let less = rise i j d lt within in omega (arith, less))
-  | inr (inr gt) ↦ absurd (let no : ⊥ = omega (arith, gt, le) in no)
-]
-
-pub parted_by_slot : (rs : List Record) (number : ℕ) → RiseBySlot rs → IsPartitionedBy (λ r. ltb (slot_number r.slot) number) rs
-parted_by_slot rs number rise = IsPartitionedBy-ltb (λ (r : Record). slot_number r.slot) rs number (numbers_rise rs rise)
-
--- two slots that a test finds to differ
-pub slot_differs : (m n : Slot) (b : Bool) → b ≡ (m.bus == n.bus && (m.device == n.device && m.function == n.function)) → b ≡ false → m ≡ n → ⊥
-slot_differs m n b is off e =
-    both_ways b off (is ∙ and_from (m.bus == n.bus) (m.device == n.device && m.function == n.function) (eq-eqb m.bus n.bus (ap (λ (x : Slot). x.bus) e))
-    (and_from (m.device == n.device) (m.function == n.function) (eq-eqb m.device n.device (ap (λ (x : Slot). x.device) e)) (eq-eqb m.function n.function (ap (λ (x : Slot). x.function) e))))
-
--- no record has the slot, where the first that isn't lower hasn't
-pub no_record : (rs : List Record) (slot : Slot) (k : ℕ) → RiseBySlot rs → AllWithin (λ x. slot_number x.slot < slot_number slot) rs 0 k
-    → AllWithin (λ x. slot_number slot ≤ slot_number x.slot) rs k (length rs) → ((r : Record) → k < length rs → (get_or rs k r).slot ≡ slot → ⊥) → Contains (slots_of rs) slot → ⊥
-no_record rs slot k rise before after here has =
-    let made : IsMade (λ (x : Record). x.slot) rs slot = in_map_to (λ (x : Record). x.slot) rs slot has in
-    let r : Record = made.from in
-    let j = made.has.0 in
-    let within = made.has.1 in
-    let at : (get_or rs j r).slot ≡ slot = ap (λ (x : Record). x.slot) made.has.2 ∙ made.is in
-    let number : slot_number (get_or rs j r).slot ≡ slot_number slot = ap slot_number at in
-    elim (cases_order j k) [
-      | inl same ↦ here r (subst (λ n. n < length rs) same within) (ap (λ n. (get_or rs n r).slot) (sym same) ∙ at)
-      | inr (inl lt) ↦ (let less = before j r (omega arith) lt in omega (arith, less, number))
-      | inr (inr gt) ↦ (let less = rise k j r gt within in
-          let low = after k r (omega arith) (omega (arith, gt, within)) in omega (arith, less, low, number))
-    ]
 
 -- one more element that P holds of
 pub all_more : {X : Type 0} (P : X → Type 0) (xs : List X) (k : ℕ) (x : X) → k < length xs → x ≡ get_or xs k x → All P (take k xs) → P x → All P (take (k + 1) xs)
@@ -63,9 +25,6 @@ all_more P xs k x within is before here =
     subst (All P) (sym (take_more xs k x within ∙ ap (λ y. take k xs ++ y ∷ []) (sym is))) (All-push P (take k xs) x before here)
 
 -- ---- regions
-
-in_slots : (rs : List Record) (r : Record) (slot : Slot) → Contains rs r → r.slot ≡ slot → Contains (slots_of rs) slot
-in_slots rs r slot has at = subst (Contains (slots_of rs)) at (in_map_from (λ (x : Record). x.slot) rs r has)
 
 -- where no record has the slot, no function does
 pub none_without_record : (s : System) (rs : List Record) (slot : Slot) (reg : ℕ) (space : Space) → Has s rs → (Contains (slots_of rs) slot → ⊥) → NoneClaims s slot reg space

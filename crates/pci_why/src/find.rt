@@ -1,51 +1,18 @@
 //! The region at a slot and register of an outline.
-ghost use Rattle.std.specs.Prelude.{◌≡◌, ◌≤◌, ◌<◌, length, IfOk, IfSome, MatchOption, IsTrue, ◌↔◌};
-ghost use Rattle.std.specs.List.{All, AllWithin, Contains};
-ghost use Rattle.pci_spec.specs.Slot.{slot_number};
+ghost use Rattle.std.specs.Prelude.{◌≡◌, ◌≤◌, IfOk, IfSome, MatchOption, IsTrue, ◌↔◌};
 ghost use Rattle.pci_spec.specs.System.{System};
 ghost use Rattle.pci_spec.specs.Decoded.{HasRecords};
 ghost use Rattle.pci_base.specs.Space.{space_of};
-ghost use Rattle.pci_tree.specs.Ways.{slots_of};
-ghost use Rattle.pci_tree.specs.Outline.{RiseBySlot};
 ghost use Rattle.pci_why.specs.Found.{IsRegionAt, HasNoRegionAt, IsFoundIn, NoneClaims};
 
 use pci_base::memory::OutOfMemory;
 use pci_base::slot::Slot;
 use pci_base::space::Space;
 use pci_function::record::Record;
+use pci_tree::bus::record_at;
 use pci_tree::outline::Outline;
 use pci_tree::region::{Region, add_regions};
 use std::alloc::Allocator;
-
-/// The index of the first record whose slot isn't lower.
-fn first_from(records: &[Record], slot: Slot) -> usize
-    requires { RiseBySlot records.now }
-    ensures bound { result ≤ length records.now }
-    ensures before { AllWithin (λ r. slot_number r.slot < slot_number slot) records.now 0 result }
-    ensures after { AllWithin (λ r. slot_number slot ≤ slot_number r.slot) records.now result
-        (length records.now) }
-{
-    records.partition_point(|record| record.slot.number() < slot.number())
-}
-
-/// The record of the function at a slot.
-pub fn record_at(records: &[Record], slot: Slot) -> Option<&Record>
-    // found by halving
-    requires { RiseBySlot records.now }
-    ensures { MatchOption result (Contains (slots_of records.now) slot → ⊥)
-        (λ r. Contains records.now r.now × (r.now.slot ≡ slot)) }
-{
-    let index = first_from(records, slot);
-    if index == records.len() {
-        return None;
-    }
-    let record = &records[index];
-    if record.slot == slot {
-        Some(record)
-    } else {
-        None
-    }
-}
 
 /// Whether a region is at a register, and has an address.
 fn is_at(region: &Region, reg: u8) -> bool

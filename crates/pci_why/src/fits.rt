@@ -8,7 +8,7 @@ ghost use Rattle.pci_spec.specs.Why.{place_end, fits_line};
 ghost use Rattle.pci_base.specs.Space.{space_of};
 ghost use Rattle.pci_why.specs.Fits.{IsWideAt, IsWideIn, IsFitFor, IsFitTold};
 
-use super::find::{record_at, region_at};
+use super::find::region_at;
 use super::place::least_free;
 use super::region_line::push_range_line;
 use pci_base::memory::OutOfMemory;
@@ -17,6 +17,7 @@ use pci_base::slot::Slot;
 use pci_base::space::Space;
 use pci_function::record::Record;
 use pci_image::bar::{Bar, BarKind};
+use pci_tree::bus::record_at;
 use pci_tree::outline::Outline;
 use pci_tree::region::{Part, Region};
 use std::alloc::{AllocError, Allocator};

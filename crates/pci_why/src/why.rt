@@ -8,7 +8,7 @@ ghost use Rattle.pci_why.specs.Fits.{IsAdviceTold, IsWhyTold};
 ghost use Rattle.pci_why.specs.Evidence.{IsInBoth, IsUnreachedTold, AreTwoTold, IsEvidenceTold};
 
 use super::bridge_line::{push_bridge_line, push_missed};
-use super::find::{record_at, region_at};
+use super::find::region_at;
 use super::fits::push_fits;
 use super::region_line::{push_range_line, push_region_line};
 use pci_base::memory::OutOfMemory;
@@ -16,6 +16,7 @@ use pci_base::range::Range;
 use pci_base::slot::Slot;
 use pci_base::space::Space;
 use pci_function::fault::Fault;
+use pci_tree::bus::record_at;
 use pci_tree::outline::Outline;
 use pci_tree::ranges::meet;
 use pci_tree::region::Region;

@@ -1,17 +1,11 @@
-use Rattle.std.proofs.Common.{false, refl, arith}
-use Rattle.std.proofs.lemmas.Bool.{both_ways}
-use Rattle.pci_tree.proofs.SlotSearch.{none_behind, first_has, slot_at_index, same_by_numbers}
+use Rattle.std.proofs.Common.{◌≡◌, ◌↔◌, true, sym, subst}
+use Rattle.std.specs.List.{Contains}
+use Rattle.pci_tree.specs.Ways.{slots_of}
+use Rattle.pci_tree.proofs.SlotSearch.{in_slots, found_if}
 use Rattle.pci_tree.proofs.bus.has_slot.Goals as goal
 
-pub returns-then-index-records : goal.returns-then-index-records
-returns-then-index-records c = (
-  λ never. absurd (both_ways false refl never),
-  λ has. absurd (none_behind c.args.records.now c.args.slot c.first_not_below-index.result c.first_not_below-index.ensures.before (omega arith) has),
-)
-
 pub returns : goal.returns
-returns c = (
-  λ h. slot_at_index c.args.records.now c.first_not_below-index.result c.index-records-index.result c.args.slot (omega arith) c.index-records-index.is ((same_by_numbers c.index-records-index.result.slot c.args.slot c.eq.result c.eq.ensures).0 h),
-  λ has. (same_by_numbers c.index-records-index.result.slot c.args.slot c.eq.result c.eq.ensures).1 (first_has c.args.records.now c.args.slot c.first_not_below-index.result c.first_not_below-index.ensures.before c.index-records-index.result c.requires c.first_not_below-index.ensures.after
-      c.index-records-index.is has),
-)
+returns c =
+    subst (λ b. (b ≡ true) ↔ Contains (slots_of c.args.records.now) c.args.slot) (sym c.is_some.ensures)
+    (found_if (Contains (slots_of c.args.records.now) c.args.slot) (λ r. Contains c.args.records.now r.now × (r.now.slot ≡ c.args.slot)) c.record_at.result
+    (λ r is. in_slots c.args.records.now r.now c.args.slot is.0 is.1) c.record_at.ensures)
