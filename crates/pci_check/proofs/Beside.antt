@@ -2,7 +2,7 @@
 use Rattle.std.proofs.Common.{◌≡◌, ◌≢◌, ◌⊎◌, ℕ, ◌+◌, ◌<◌, List, [], ◌∷◌, ◌++◌, length, take, get_or, refl, inl, inr, arith, sym, ◌∙◌, ap, subst, Bool, true, false, Option, Some, None, Ok, Err, append-nil, append_assoc}
 use Rattle.std.specs.Prelude.{IfOk}
 use Rattle.std.specs.declared.result.Result.{Result}
-use Rattle.std.proofs.lemmas.List.{length-append}
+use Rattle.std.proofs.lemmas.List.{length-append, map_push}
 use Rattle.std.proofs.lemmas.List.Elements.{All-nil}
 use Rattle.pci_spec.specs.Slot.{Slot}
 use Rattle.pci_spec.specs.Text.{Block, IsBlock, slots_of}
@@ -16,7 +16,7 @@ use Rattle.pci_dump.specs.State.{Ahead, State, state_of, IsRead, TakesBlock, Tak
 use Rattle.pci_dump.proofs.Texts.{read_all, read_all_one, read_fault, read_more_text}
 use Rattle.pci_pair.proofs.Pairs.{in_left, in_right, in_left_more, in_right_more, none_below_both, none_below_left, none_below_right}
 use Rattle.pci_tree.specs.Survey.{Surveyed, IsSurveyOf, IsAdded}
-use Rattle.pci_tree.proofs.Surveys.{map_last, survey_more}
+use Rattle.pci_tree.proofs.Surveys.{survey_more}
 use Rattle.pci_spec.proofs.Pairing.{same_length, system_last}
 use Rattle.pci_tree.proofs.Pairings.{open_more}
 use Rattle.pci_check.specs.Audits.{IsDumpOf, IsReadFaultOf}
@@ -171,7 +171,7 @@ module _ (texts : Texts) (buses : List ℕ) (d e p q : State) (v : Surveyed) whe
     probe = s.probe ++ c ∷ [];
     dump_read = read_more_text texts.dump_left texts.dump_failures d e s.dump (s.dump ++ b ∷ []) b s.dump_read tb refl;
     probe_read = read_more_text texts.probe_left texts.probe_failures p q s.probe (s.probe ++ c ∷ []) c s.probe_read tc refl;
-    same = map_last (λ (x : Block). x.slot) s.dump b ∙ ap (λ (ss : List Slot). ss ++ b.slot ∷ []) s.same ∙ ap (λ (z : Slot). slots_of s.probe ++ z ∷ []) (sym slot) ∙ sym (map_last (λ (x : Block). x.slot) s.probe c);
+    same = map_push (λ (x : Block). x.slot) s.dump b ∙ ap (λ (ss : List Slot). ss ++ b.slot ∷ []) s.same ∙ ap (λ (z : Slot). slots_of s.probe ++ z ∷ []) (sym slot) ∙ sym (map_push (λ (x : Block). x.slot) s.probe c);
     taken = subst (IsSurveyOf w) (sym (system_last s.dump s.probe b c (same_length s.dump s.probe s.same))) (survey_more v w (system_of s.dump s.probe) (function_of b c) added s.taken);
     no_30 = open_more v w (function_of b c) added s.no_30;
     roots = added.roots ∙ s.roots;

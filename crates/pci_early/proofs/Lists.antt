@@ -2,13 +2,12 @@
 use Rattle.std.proofs.Common.{◌≡◌, ◌⊎◌, ℕ, suc, ◌+◌, ◌<◌, ◌≤◌, List, [], ◌∷◌, ◌++◌, length, get_or, map, take, Option, None, Some, refl, inl, inr, arith, sym, ◌∙◌, ap, subst}
 use Rattle.std.specs.List.{Contains}
 use Rattle.std.proofs.lemmas.Bool.{cases_lt}
-use Rattle.std.proofs.lemmas.List.{take_more, append_assoc, append-nil}
+use Rattle.std.proofs.lemmas.List.{take_more, append_assoc, append-nil, map_push}
 use Rattle.std.proofs.lemmas.List.Elements.{Contains-get_or, Contains-append_left, Contains-append_right, Contains-append_cases}
 use Rattle.pci_spec.specs.Fault as faults
 use Rattle.pci_spec.proofs.Members.{in_nil, in_cons_cases, in_head, in_tail, pairs_nil, pairs_cons, pairs_append}
 use Rattle.pci_function.specs.declared.fault.Fault.{Fault}
 use Rattle.pci_function.specs.Fault.{fault_of}
-use Rattle.pci_tree.proofs.Surveys.{map_last}
 use Rattle.pci_early.specs.Lists.{AreJust, told}
 
 module _ (Before : faults.Fault → faults.Fault → Type 0) where
@@ -118,7 +117,7 @@ told_more xs i o within at =
 pub told_push : (old : List faults.Fault) (items : List Fault) (xs : List (Option Fault)) (i : ℕ) (x : Fault) → i < length xs → Some x ≡ get_or xs i (Some x)
     → map fault_of items ≡ old ++ told (take i xs) → map fault_of (items ++ x ∷ []) ≡ old ++ told (take (i + 1) xs)
 told_push old items xs i x within at e =
-    map_last fault_of items x ∙ ap (λ ys. ys ++ fault_of x ∷ []) e ∙ append_assoc old (told (take i xs)) (fault_of x ∷ [])
+    map_push fault_of items x ∙ ap (λ ys. ys ++ fault_of x ∷ []) e ∙ append_assoc old (told (take i xs)) (fault_of x ∷ [])
     ∙ ap (λ ys. old ++ ys) (sym (told_more xs i (Some x) within at))
 
 pub told_skip : (old : List faults.Fault) (xs : List (Option Fault)) (i : ℕ) → i < length xs → None ≡ get_or xs i None → old ++ told (take i xs) ≡ old ++ told (take (i + 1) xs)

@@ -2,7 +2,7 @@
 use Rattle.std.proofs.Common.{◌≡◌, ℕ, zero, suc, ◌+◌, ◌<◌, List, [], ◌∷◌, ◌++◌, length, get_or, map, take, refl, true, arith, sym, ◌∙◌, ap, subst, None}
 use Rattle.std.specs.Prelude.{IsTrue, ◌↔◌}
 use Rattle.std.specs.List.{All, Contains}
-use Rattle.std.proofs.lemmas.List.{get_or-map, get_or_default, length-map, take_more}
+use Rattle.std.proofs.lemmas.List.{get_or-map, get_or_default, length-map, take_more, map_push}
 use Rattle.std.proofs.lemmas.List.Elements.{Contains-get_or}
 use Rattle.pci_spec.specs.Slot.{Slot, IsSlot, slot_number}
 use Rattle.pci_spec.specs.Text.{Block, slots_of}
@@ -31,7 +31,6 @@ use Rattle.pci_tree.specs.Misplaced.{IsMisplacedBy}
 use Rattle.pci_tree.proofs.Faces.{SameFace, faces_of, face_of}
 use Rattle.pci_tree.proofs.Lifting.{Has, one_by_number}
 use Rattle.pci_tree.proofs.Misplacing.{lone_of, orphan_of, unlawful_of}
-use Rattle.pci_tree.proofs.Surveys.{map_last}
 use Rattle.pci_early.specs.Lists.{AreJust, told}
 use Rattle.pci_early.specs.OwnLines.{HasNoneBefore, IsBeforeAt, IsOwnOf}
 use Rattle.pci_early.specs.Places.{IsPlaceAt, IsPlaceOf, place_list}
@@ -55,8 +54,8 @@ decodes f fault none is = none (image_fault_at f.slot fault) (early fault) (imag
 pub records_more : (s : System) (i : ℕ) (f : Function) (rs : List Record) (r : Record) → i < length s → get_or s i f ≡ f → map record_value rs ≡ map record_of (take i s)
     → record_value r ≡ record_of f → map record_value (rs ++ r ∷ []) ≡ map record_of (take (i + 1) s)
 records_more s i f rs r within at before same =
-    map_last record_value rs r ∙ ap (λ xs. xs ++ record_value r ∷ []) before ∙ ap (λ x. map record_of (take i s) ++ x ∷ []) (same ∙ ap record_of (sym at))
-    ∙ sym (map_last record_of (take i s) (get_or s i f)) ∙ ap (map record_of) (sym (take_more s i f within))
+    map_push record_value rs r ∙ ap (λ xs. xs ++ record_value r ∷ []) before ∙ ap (λ x. map record_of (take i s) ++ x ∷ []) (same ∙ ap record_of (sym at))
+    ∙ sym (map_push record_of (take i s) (get_or s i f)) ∙ ap (map record_of) (sym (take_more s i f within))
 
 module _ (s : System) (system : IsSystem s) (rs : List Record) (has : Has s rs) where
   pub as_many : length rs ≡ length s

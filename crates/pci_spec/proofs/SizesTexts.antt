@@ -2,7 +2,7 @@
 use Rattle.std.proofs.Common.{◌≡◌, ◌≢◌, ℕ, zero, suc, ◌*◌, ◌^◌, ◌<◌, List, [], ◌∷◌, ◌++◌, length, take, drop, map, refl, sym, ◌∙◌, ap, subst, arith, append_assoc}
 use Rattle.std.specs.List.{All, flat_map}
 use Rattle.std.proofs.lemmas.List.{length-append, take_at, drop_at}
-use Rattle.std.proofs.lemmas.List.Elements.{All-nil}
+use Rattle.std.proofs.lemmas.List.Elements.{All-nil, All-cons}
 use Rattle.pci_spec.specs.Text.{slot_text}
 use Rattle.pci_spec.specs.Line.{hex_number}
 use Rattle.pci_spec.specs.Resource.{ResourceLine}
@@ -94,10 +94,6 @@ record LinesIn (n : ℕ) (bytes : List ℕ) : Type 0 where
   each : All IsResourceLine lines
   text : bytes ≡ flat_map resource_text lines
 
-all_cons : {X : Type 0} (P : X → Type 0) (x : X) (xs : List X) → P x → All P xs → All P (x ∷ xs)
-all_cons P x xs h hs zero d below = h
-all_cons P x xs h hs (suc k) d below = hs k d (omega (arith, below))
-
 lines_in : (n : ℕ) (bytes : List ℕ) → Fits (lines_cells n) bytes → LinesIn n bytes
 unfolding lines_cells
 lines_in zero [] h = record { lines = []; many = refl; each = All-nil IsResourceLine; text = refl }
@@ -109,7 +105,7 @@ lines_in (suc n) bytes h =
     record {
       lines = one.line ∷ more.lines;
       many = (let m = more.many in omega (arith, m));
-      each = all_cons IsResourceLine one.line more.lines one.small more.each;
+      each = All-cons IsResourceLine one.line more.lines one.small more.each;
       text = s.split ∙ (λ i. one.text i ++ more.text i);
     }
 

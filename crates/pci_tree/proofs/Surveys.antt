@@ -1,17 +1,17 @@
 -- What a survey has taken, function by function.
-use Rattle.std.proofs.Common.{◌≡◌, ◌⊎◌, ℕ, ◌+◌, ◌<◌, ◌≤◌, List, [], ◌∷◌, ◌++◌, map, refl, true, false, inl, inr, arith, sym, ◌∙◌, ap, subst, Option, Some, None}
+use Rattle.std.proofs.Common.{◌≡◌, ℕ, ◌+◌, ◌<◌, ◌≤◌, List, [], ◌∷◌, ◌++◌, map, refl, true, false, inl, inr, arith, sym, ◌∙◌, ap, subst, Option, Some, None}
 use Rattle.std.specs.Prelude.{nat_lt}
 use Rattle.std.specs.List.{Contains}
 use Rattle.std.proofs.lemmas.Bool.{cases_Bool, ltb-true, cases_lt, lt-ltb, both_ways}
-use Rattle.std.proofs.lemmas.List.{append_assoc}
-use Rattle.std.proofs.lemmas.List.Elements.{All-push}
+use Rattle.std.proofs.lemmas.List.{append_assoc, map_push}
+use Rattle.std.proofs.lemmas.List.Elements.{All-push, Contains-push_cases}
 use Rattle.pci_spec.specs.Slot.{Slot, IsSlot, slot_number}
 use Rattle.pci_spec.specs.Stops.{IsAboveLast}
 use Rattle.pci_spec.specs.System.{System, Function}
 use Rattle.pci_spec.specs.Fault.{Fault}
 use Rattle.pci_spec.specs.Decoded.{record_of}
 use Rattle.pci_spec.specs.Decoded as decoded
-use Rattle.pci_spec.proofs.Members.{in_nil, in_cons_cases, in_head, in_tail, pairs_append, pairs_cons, pairs_nil}
+use Rattle.pci_spec.proofs.Members.{in_nil, in_cons_cases, pairs_append, pairs_cons, pairs_nil}
 use Rattle.pci_function.specs.declared.record.Record.{Record}
 use Rattle.pci_tree.specs.Regions.{IsLawful}
 use Rattle.pci_spec.specs.Order.{phase_of}
@@ -23,36 +23,6 @@ use Rattle.pci_tree.specs.Roots.{buses_of}
 use Rattle.pci_function.specs.Fault.{fault_of}
 use Rattle.pci_function.specs.Values.{record_value}
 use Rattle.pci_tree.specs.Survey.{Surveyed, AreKept, IsUpTo, phase_noted, earlier, IsNoted, IsSurveyOf, IsAdded}
-
--- ---- one more at the end of a list
-
-pub last_cases : {X : Type 0} (xs : List X) (x y : X) → Contains (xs ++ x ∷ []) y → Contains xs y ⊎ (x ≡ y)
-last_cases [] x y has = elim (in_cons_cases x [] y has) [
-  | inl here ↦ inr here
-  | inr later ↦ absurd (in_nil y later)
-]
-last_cases (z ∷ xs) x y has = elim (in_cons_cases z (xs ++ x ∷ []) y has) [
-  | inl here ↦ inl (subst (λ w. Contains (z ∷ xs) w) here (in_head z xs))
-  | inr later ↦ elim (last_cases xs x y later) [
-    | inl left ↦ inl (in_tail z xs y left)
-    | inr last ↦ inr last
-  ]
-]
-
-pub in_last : {X : Type 0} (xs : List X) (x : X) → Contains (xs ++ x ∷ []) x
-in_last [] x = in_head x []
-in_last (z ∷ xs) x = in_tail z (xs ++ x ∷ []) x (in_last xs x)
-
-pub in_first : {X : Type 0} (xs : List X) (x y : X) → Contains xs y → Contains (xs ++ x ∷ []) y
-in_first [] x y has = absurd (in_nil y has)
-in_first (z ∷ xs) x y has = elim (in_cons_cases z xs y has) [
-  | inl here ↦ subst (λ w. Contains (z ∷ xs ++ x ∷ []) w) here (in_head z (xs ++ x ∷ []))
-  | inr later ↦ in_tail z (xs ++ x ∷ []) y (in_first xs x y later)
-]
-
-pub map_last : {X Y : Type 0} (g : X → Y) (xs : List X) (x : X) → map g (xs ++ x ∷ []) ≡ map g xs ++ g x ∷ []
-map_last g [] x = refl
-map_last g (z ∷ xs) x = ap (λ ys. g z ∷ ys) (map_last g xs x)
 
 -- ---- phases
 
@@ -127,18 +97,18 @@ module _ (v w : Surveyed) (s : System) (f : Function) (is : IsSurveyOf v s) wher
   -- where nothing was found
   unchanged : IsAdded v w f → IsClearBefore 4 f → w.fault ≡ v.fault → IsSurveyOf w (s ++ f ∷ [])
   unchanged added clear same = record {
-    clear = λ g has. elim (last_cases s f g has) [
+    clear = λ g has. elim (Contains-push_cases s f g has) [
       | inl left ↦ subst (λ o. IsClearBefore (phase_noted o) g) (sym same) (is.clear g left)
       | inr last ↦ subst (λ h. IsClearBefore (phase_noted w.fault) h) last (clear_everywhere (phase_noted w.fault) f clear)
     ];
     there = λ e noted. noted_more s f e (is.there e (sym same ∙ noted));
-    same = λ none. map_last record_of s f ∙ ap (λ rs. rs ++ record_of f ∷ []) (is.same (sym same ∙ none)) ∙ sym (added.appended none);
+    same = λ none. map_push record_of s f ∙ ap (λ rs. rs ++ record_of f ∷ []) (is.same (sym same ∙ none)) ∙ sym (added.appended none);
   }
 
   -- where a fault was found
   found : (e : Fault) → IsFirstFault f e → w.fault ≡ Some (earlier v.fault e) → IsSurveyOf w (s ++ f ∷ [])
   found e first same = record {
-    clear = λ g has. subst (λ o. IsClearBefore (phase_noted o) g) (sym same) (elim (last_cases s f g has) [
+    clear = λ g has. subst (λ o. IsClearBefore (phase_noted o) g) (sym same) (elim (Contains-push_cases s f g has) [
       | inl left ↦ clear_of_noted v.fault e g (is.clear g left)
       | inr last ↦ subst (λ h. IsClearBefore (phase_of (earlier v.fault e)) h) last (clear_of_found v.fault e f first.clear)
     ]);
@@ -217,7 +187,7 @@ kept_more rs r last slot kept above same is lawful = record {
         | inr later ↦ absurd (in_nil y later)
       ]);
   lawful = All-push IsLawful rs r kept.lawful lawful;
-  below = λ x has. elim (last_cases rs r x has) [
+  below = λ x has. elim (Contains-push_cases rs r x has) [
     | inl left ↦ (let lt = up_to_more last slot x.slot above (kept.below x left) in omega (arith, lt))
     | inr here ↦ (let e = ap (λ (z : Record). slot_number z.slot) here in let e2 = ap slot_number same in omega (arith, e, e2))
   ];
@@ -242,7 +212,7 @@ pub append_record : (rs : List Record) (roots : Roots) (noted : Option FaultOfCo
     → IsAdded (survey_of rs roots noted last) (survey_of (rs ++ r ∷ []) roots noted (Some f.slot)) f
 append_record rs roots noted last f r none is =
     added_record (survey_of rs roots noted last) (survey_of (rs ++ r ∷ []) roots noted (Some f.slot)) f (record_value r) (ap (option_map fault_of) (option_none noted none)) refl is.clear is.decoded.same
-    (map_last record_value rs r) refl refl
+    (map_push record_value rs r) refl refl
 
 -- or isn't, where a fault is noted
 pub append_nothing : (rs : List Record) (roots : Roots) (noted : Option FaultOfCode) (last : Option Slot) (f : Function) (r : Record) → is_some noted ≡ true → IsExamined f r

@@ -1,9 +1,9 @@
 use Rattle.std.proofs.Common.{◌≡◌, ◌<◌, ◌+◌, [], ◌∷◌, ◌++◌, length, map, drop, arith, sym, ◌∙◌, ap, subst}
+use Rattle.std.proofs.lemmas.List.{map_push}
 use Rattle.pci_spec.specs.Text.{Block, slots_of}
 use Rattle.pci_spec.specs.Fault.{SlotsDiffer}
 use Rattle.pci_function.specs.Fault.{fault_of}
 use Rattle.pci_early.specs.Slots.{IsFront}
-use Rattle.pci_tree.proofs.Surveys.{map_last}
 use Rattle.pci_early.proofs.Merging.{IsMergingFrom, merging_begins, merging_ours, merging_theirs, merging_same, merging_ends}
 use Rattle.pci_early.proofs.slots.slot_faults.Goals.{then-i-dump, else-i-dump+then-j-probe}
 use Rattle.pci_early.proofs.slots.slot_faults.Goals as goal
@@ -27,7 +27,7 @@ loop-i-preserved-then-ours-theirs g c =
     let more = merging_ours dump probe c.requires.dump c.requires.probe c.loop-i.i c.loop-i.j c.number_at-ours.result c.number_at-theirs.result b es within c.index-dump-i.is
     c.number_at-ours.ensures.front c.number_at-theirs.ensures.front c.if-ours-theirs.true c.loop-i.invariant.merging in
     let pushed : map fault_of c.push.new.self.items ≡ es ++ SlotsDiffer b.slot ∷ [] =
-    ap (λ xs. map fault_of xs) c.in_ok-push.ensures.items ∙ map_last fault_of c.loop-i.found.items _ ∙ ap (λ (x : Block). es ++ SlotsDiffer x.slot ∷ []) c.block.view_is in
+    ap (λ xs. map fault_of xs) c.in_ok-push.ensures.items ∙ map_push fault_of c.loop-i.found.items _ ∙ ap (λ (x : Block). es ++ SlotsDiffer x.slot ∷ []) c.block.view_is in
     record {
       within_dump = omega (arith, within);
       within_probe = c.loop-i.invariant.within_probe;
@@ -45,7 +45,7 @@ loop-i-preserved-then-theirs-ours g c =
     let more = merging_theirs dump probe c.requires.dump c.requires.probe c.loop-i.i c.loop-i.j c.number_at-ours.result c.number_at-theirs.result p es within c.index-probe-j.is
     c.number_at-ours.ensures.front c.number_at-theirs.ensures.front c.if-theirs-ours.true c.loop-i.invariant.merging in
     let pushed : map fault_of c.push-then-theirs-ours.new.self.items ≡ es ++ SlotsDiffer p.slot ∷ [] =
-    ap (λ xs. map fault_of xs) c.in_ok-push-2.ensures.items ∙ map_last fault_of c.loop-i.found.items _ ∙ ap (λ (x : Block). es ++ SlotsDiffer x.slot ∷ []) c.block-then-theirs-ours.view_is in
+    ap (λ xs. map fault_of xs) c.in_ok-push-2.ensures.items ∙ map_push fault_of c.loop-i.found.items _ ∙ ap (λ (x : Block). es ++ SlotsDiffer x.slot ∷ []) c.block-then-theirs-ours.view_is in
     record {
       within_dump = c.loop-i.invariant.within_dump;
       within_probe = omega (arith, within);
