@@ -9,7 +9,7 @@ pub mod clash_lines;
 pub mod every;
 pub mod missed;
 pub mod outside_lines;
-pub mod quiet;
+mod quiet;
 pub mod split_lines;
 pub mod text;
 pub mod unreached;
