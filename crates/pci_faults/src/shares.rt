@@ -124,7 +124,7 @@ pub fn shares<A: Allocator + Copy>(
     allowed: &[Range],
     by: Among,
 ) -> Result<Vec<Share, A>, OutOfMemory>
-    // the least address in common with two regions is looked for in one walk along these
+    // what two regions have in common is looked for among these by halving
     requires canonical { IsCanonical allowed.now }
     // whoever tells them takes the regions by these
     ensures within { IfOk result (λ out. AreWithin (length regions.now) out.items) }
