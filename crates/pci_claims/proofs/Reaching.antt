@@ -3,6 +3,7 @@ use Rattle.std.proofs.Common.{◌≡◌, ℕ, ◌+◌, ◌<◌, ◌≤◌, List,
 use Rattle.std.specs.Prelude.{IsTrue, MatchOption}
 use Rattle.std.specs.List.{All, Contains, list_all}
 use Rattle.std.proofs.lemmas.List.{take_all}
+use Rattle.std.proofs.lemmas.List.Elements.{All-more}
 use Rattle.pci_spec.specs.Slot.{Slot, slot_number}
 use Rattle.pci_spec.specs.Window.{WindowKind}
 use Rattle.pci_spec.specs.System.{System, Function, Space, Io, Memory, IsAddress, window_space}
@@ -22,7 +23,7 @@ use Rattle.pci_claims.specs.Sent.{IsSentTo}
 use Rattle.pci_claims.specs.Outside.{IsRootOf}
 use Rattle.pci_claims.specs.Reached.{PassesAt, IsReachAlong, IsReachTo, IsReachInEach, IsAccessReach, IsAccessReachInEach}
 use Rattle.pci_claims.proofs.Outsides.{root_of}
-use Rattle.pci_claims.proofs.Walking.{all_more, all_before, all_here, way_passes}
+use Rattle.pci_claims.proofs.Walking.{all_before, all_here, way_passes}
 
 -- ---- along the way
 
@@ -46,9 +47,9 @@ module _ (given : Given) (kind : WindowKind) (records : List Record) (root : ℕ
           let gets = (before.exact a).0 both.0 in (
             gets.0,
             gets.1,
-            all_more (PassesAt given kind records a) path i slot within at gets.2 (λ q in_q same.
+            All-more (PassesAt given kind records a) path i slot within gets.2 (subst (PassesAt given kind records a) at (λ q in_q same.
                 subst (λ (x : Record). IsTrue (passes_with given kind a x))
-                (one_by_number (λ (x : Record). slot_number x.slot) records r q rise has in_q (ap slot_number (named ∙ sym same))) both.1),
+                (one_by_number (λ (x : Record). slot_number x.slot) records r q rise has in_q (ap slot_number (named ∙ sym same))) both.1)),
           )),
       λ (h : IsAddress (window_space kind) a × IsTrue (starts given (window_space kind) root a) × All (PassesAt given kind records a) (take (i + 1) path)). (is.exact a).1 (
         (before.exact a).1 (h.0, h.1, all_before (PassesAt given kind records a) path i within h.2),
@@ -67,8 +68,8 @@ module _ (given : Given) (kind : WindowKind) (records : List Record) (root : ℕ
           let gets = (before.exact a).0 h in (
             gets.0,
             gets.1,
-            all_more (PassesAt given kind records a) path i slot within at gets.2
-                (λ q in_q same. absurd (none (subst (Contains (slots_of records)) same (in_map_from (λ (x : Record). x.slot) records q in_q)))),
+            All-more (PassesAt given kind records a) path i slot within gets.2
+                (subst (PassesAt given kind records a) at (λ q in_q same. absurd (none (subst (Contains (slots_of records)) same (in_map_from (λ (x : Record). x.slot) records q in_q))))),
           )),
       λ (h : IsAddress (window_space kind) a × IsTrue (starts given (window_space kind) root a) × All (PassesAt given kind records a) (take (i + 1) path)).
           (before.exact a).1 (h.0, h.1, all_before (PassesAt given kind records a) path i within h.2),

@@ -1,10 +1,10 @@
 -- The bridges of a way and the records at its slots.
-use Rattle.std.proofs.Common.{◌≡◌, ℕ, zero, suc, ◌+◌, ◌<◌, List, [], ◌∷◌, length, get_or, map, take, true, arith, subst, sym, ◌∙◌, ap, refl}
+use Rattle.std.proofs.Common.{◌≡◌, ℕ, ◌+◌, ◌<◌, List, [], ◌∷◌, length, get_or, map, take, true, arith, subst, sym, ◌∙◌, ap, refl}
 use Rattle.std.specs.Prelude.{◌↔◌, IsTrue}
 use Rattle.std.specs.List.{All, Contains, list_all}
 use Rattle.std.proofs.lemmas.Bool.{and_from, and_parts}
-use Rattle.std.proofs.lemmas.List.{take_more, length-take-le, get_or-take}
-use Rattle.std.proofs.lemmas.List.Elements.{All-append, All-contains}
+use Rattle.std.proofs.lemmas.List.{length-take-le, get_or-take}
+use Rattle.std.proofs.lemmas.List.Elements.{All-cons, All-head, All-tail, All-contains}
 use Rattle.pci_spec.specs.Slot.{Slot, slot_number}
 use Rattle.pci_spec.specs.Header.{secondary_bus}
 use Rattle.pci_spec.specs.Window.{WindowKind}
@@ -21,24 +21,6 @@ use Rattle.pci_claims.specs.Reached.{PassesAt}
 use Rattle.pci_claims.proofs.Linking.{passes_same}
 
 -- ---- lists
-
-pub all_cons : {X : Type 0} (P : X → Type 0) (x : X) (xs : List X) → P x → All P xs → All P (x ∷ xs)
-all_cons P x xs here rest zero d less = here
-all_cons P x xs here rest (suc k) d less = rest k d (omega (arith, less))
-
-pub all_head : {X : Type 0} (P : X → Type 0) (x : X) (xs : List X) → All P (x ∷ xs) → P x
-all_head P x xs all = all 0 x (omega arith)
-
-pub all_tail : {X : Type 0} (P : X → Type 0) (x : X) (xs : List X) → All P (x ∷ xs) → All P xs
-all_tail P x xs all k d less = all (suc k) d (omega (arith, less))
-
-pub all_one : {X : Type 0} (P : X → Type 0) (x : X) → P x → All P (x ∷ [])
-all_one P x here = all_cons P x [] here (λ k d less. absurd (omega (arith, less)))
-
--- so many elements, and one more
-pub all_more : {X : Type 0} (P : X → Type 0) (xs : List X) (i : ℕ) (x : X) → i < length xs → x ≡ get_or xs i x → All P (take i xs) → P x → All P (take (i + 1) xs)
-all_more P xs i x within at before here =
-    subst (λ ys. All P ys) (sym (take_more xs i x within)) (All-append P (take i xs) (get_or xs i x ∷ []) before (all_one P (get_or xs i x) (subst P at here)))
 
 pub all_before : {X : Type 0} (P : X → Type 0) (xs : List X) (i : ℕ) → i < length xs → All P (take (i + 1) xs) → All P (take i xs)
 all_before P xs i within all k d less =
@@ -82,8 +64,8 @@ module _ (given : Given) (kind : WindowKind) (s : System) (rs : List Record) (is
       let later = way_passes a (secondary_bus b.image) bridges to rest in
       let slots : List Slot = map (λ (f : Function). f.slot) bridges in (
         λ (all : All (PassesAt given kind rs a) (b.slot ∷ slots)). and_from (passes given (window_space kind) (is_prefetch kind) a b) (list_all (passes given (window_space kind) (is_prefetch kind) a) bridges)
-            (here.0 (all_head (PassesAt given kind rs a) b.slot slots all)) (later.0 (all_tail (PassesAt given kind rs a) b.slot slots all)),
+            (here.0 (All-head (PassesAt given kind rs a) b.slot slots all)) (later.0 (All-tail (PassesAt given kind rs a) b.slot slots all)),
         λ (h : IsTrue (list_all (passes given (window_space kind) (is_prefetch kind) a) (b ∷ bridges))). (
             let both = and_parts (passes given (window_space kind) (is_prefetch kind) a b) (list_all (passes given (window_space kind) (is_prefetch kind) a) bridges) h in
-            all_cons (PassesAt given kind rs a) b.slot slots (here.1 both.0) (later.1 both.1)),
+            All-cons (PassesAt given kind rs a) b.slot slots (here.1 both.0) (later.1 both.1)),
       )

@@ -5,7 +5,7 @@ use Rattle.std.specs.List.{All, AllPairs, Contains, list_any}
 use Rattle.std.specs.List.Sorted.{IsPermutation}
 use Rattle.std.proofs.lemmas.Bool.{and_parts, and_from, or_cases, or_left, or_right, both_ways, cases_lt, cases_eq, false_from_ne_true}
 use Rattle.std.proofs.lemmas.List.{get_or_default, take_all, take_more}
-use Rattle.std.proofs.lemmas.List.Elements.{Contains-append_left, Contains-append_right, Contains-append_cases}
+use Rattle.std.proofs.lemmas.List.Elements.{All-contains, Contains-append_left, Contains-append_right, Contains-append_cases, All-more}
 use Rattle.std.proofs.lemmas.List.Sorted.{Contains-permutation}
 use Rattle.std.proofs.lemmas.List.Quantifiers.{all_pairs_push}
 use Rattle.pci_spec.specs.Slot.{Slot, same_slot}
@@ -31,7 +31,6 @@ use Rattle.pci_claims.specs.Legacy.{ArePieces}
 use Rattle.pci_given.specs.Clashes.{IsClashLine, IsOnBusIn, AreClashesAdded}
 use Rattle.pci_given.specs.Splits.{IsSplitLine, IsIn, AreSplitsAdded}
 use Rattle.pci_given.specs.Quiet.{IsOff, IsOffLegacy, HasThoseOn, AreQuiet, IsQuiet, IsQuietInEach}
-use Rattle.pci_claims.proofs.Walking.{all_more}
 
 -- ---- regions that rise
 
@@ -49,7 +48,7 @@ none_below end = record { below = λ k d less. absurd (omega arith); apart = pai
 pub more_below : (end new : ℕ) (rs : List Region) (i : ℕ) (r : Region) → i < length rs → r ≡ get_or rs i r → end ≤ r.first → end ≤ new → r.last < new
     → AreBelow end (take i rs) → AreBelow new (take (i + 1) rs)
 more_below end new rs i r within at above wider ends before = record {
-  below = all_more (λ (x : Region). x.last < new) rs i r within at (λ k d less. (let low = before.below k d less in omega (arith, low, wider))) ends;
+  below = All-more (λ (x : Region). x.last < new) rs i r within (λ k d less. (let low = before.below k d less in omega (arith, low, wider))) (subst (λ (x : Region). x.last < new) at ends);
   apart = subst (AllPairs Rise) (sym (take_more rs i r within))
       (all_pairs_push Rise (take i rs) (get_or rs i r) before.apart (λ k d less. subst (λ (x : Region). Rise (get_or (take i rs) k d) x) at (let low = before.below k d less in omega (arith, low, above))));
 }
@@ -67,9 +66,6 @@ either_way R xs p q pairs (i, less_i, at_i) (j, less_j, at_j) =
         | inr differ ↦ inr (inr (subst (λ x. R x p) second (subst (λ y. R (get_or xs j p) y) at_i (pairs j i p (omega (arith, down, differ)) less_i))))
       ]
     ]
-
-all_in : {X : Type 0} (P : X → Type 0) (xs : List X) (x : X) → All P xs → Contains xs x → P x
-all_in P xs x all (k, less, at) = subst P at (all k x less)
 
 one_at_most : {X : Type 0} (xs : List X) (x y : X) → length xs ≤ 1 → Contains xs x → Contains xs y → x ≡ y
 one_at_most xs x y few (i, less_i, at_i) (j, less_j, at_j) =
@@ -92,7 +88,7 @@ module _ (space : Space) (rs sorted : List Region) (moved : IsPermutation rs sor
     apart = rising;
     one = few;
     off = λ other r there in_r. subst (λ (b : LegacyBridge). IsOffLegacy space b r) (one_at_most legacy bridge other few has there)
-        (all_in (IsOffLegacy space bridge) sorted r off (Contains-permutation rs sorted r moved in_r));
+        (All-contains (IsOffLegacy space bridge) sorted r off (Contains-permutation rs sorted r moved in_r));
   }
 
 -- ---- the bridges on some buses

@@ -3,6 +3,7 @@ use Rattle.std.proofs.Common.{◌≡◌, ℕ, ◌+◌, ◌<◌, ◌≤◌, List,
 use Rattle.std.specs.Prelude.{IsTrue}
 use Rattle.std.specs.List.{All, Contains}
 use Rattle.std.proofs.lemmas.List.{get_or_default, take_all}
+use Rattle.std.proofs.lemmas.List.Elements.{All-more}
 use Rattle.pci_spec.specs.Slot.{Slot, slot_number}
 use Rattle.pci_spec.specs.Window.{WindowKind}
 use Rattle.pci_spec.specs.System.{window_space}
@@ -18,7 +19,6 @@ use Rattle.pci_claims.specs.Passed.{ArePassed, passes_with}
 use Rattle.pci_claims.specs.Sent.{IsSentTo}
 use Rattle.pci_claims.specs.Reached.{PassesAt}
 use Rattle.pci_claims.specs.Outside.{IsSent}
-use Rattle.pci_claims.proofs.Walking.{all_more}
 use Rattle.pci_given.specs.Missed.{IsLeastMissed}
 use Rattle.pci_given.specs.Stopped.{PassesSent, IsFirstStop}
 
@@ -33,15 +33,15 @@ module _ (given : Given) (kind : WindowKind) (records : List Record) (root : ℕ
       → IsSentTo given (window_space kind) root sent → ArePassed given kind r passed → ((a : ℕ) → Holds range a → Covers sent a → Covers passed a)
       → All (PassesSent given kind records root range) (take i path) → All (PassesSent given kind records root range) (take (i + 1) path)
   passes_more path i slot r sent passed rise within at has named is are all before =
-      all_more (PassesSent given kind records root range) path i slot within at before
-      (λ a held there. passes_at slot r a rise has named ((are.exact a).0 (all a held ((is.exact a).1 there))))
+      All-more (PassesSent given kind records root range) path i slot within before
+      (subst (PassesSent given kind records root range) at (λ a held there. passes_at slot r a rise has named ((are.exact a).0 (all a held ((is.exact a).1 there)))))
 
   -- no bridge has the next slot
   pub passes_past : (path : List Slot) (i : ℕ) (slot : Slot) → i < length path → slot ≡ get_or path i slot → (Contains (slots_of records) slot → ⊥)
       → All (PassesSent given kind records root range) (take i path) → All (PassesSent given kind records root range) (take (i + 1) path)
   passes_past path i slot within at none before =
-      all_more (PassesSent given kind records root range) path i slot within at before
-      (λ a held there q in_q same. absurd (none (subst (Contains (slots_of records)) same (in_map_from (λ (x : Record). x.slot) records q in_q))))
+      All-more (PassesSent given kind records root range) path i slot within before
+      (subst (PassesSent given kind records root range) at (λ a held there q in_q same. absurd (none (subst (Contains (slots_of records)) same (in_map_from (λ (x : Record). x.slot) records q in_q)))))
 
   pub passes_whole : (path : List Slot) (n : ℕ) → length path ≤ n → All (PassesSent given kind records root range) (take n path) → All (PassesSent given kind records root range) path
   passes_whole path n end all = subst (All (PassesSent given kind records root range)) (take_all n path end) all

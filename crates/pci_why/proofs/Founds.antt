@@ -1,9 +1,8 @@
--- Records by slot, and the regions at a slot and register.
-use Rattle.std.proofs.Common.{◌≡◌, ℕ, ◌+◌, ◌<◌, ◌≤◌, List, [], ◌∷◌, ◌++◌, length, get_or, take, sym, ◌∙◌, ap, subst, Option, Some, None}
+-- The regions at a slot and register.
+use Rattle.std.proofs.Common.{◌≡◌, ℕ, ◌≤◌, List, sym, ◌∙◌, ap, subst, Option, Some, None}
 use Rattle.std.specs.Prelude.{MatchOption}
-use Rattle.std.specs.List.{All, Contains}
-use Rattle.std.proofs.lemmas.List.{take_more}
-use Rattle.std.proofs.lemmas.List.Elements.{All-contains, All-push}
+use Rattle.std.specs.List.{Contains}
+use Rattle.std.proofs.lemmas.List.Elements.{All-contains}
 use Rattle.pci_spec.specs.Slot.{Slot, slot_number}
 use Rattle.pci_spec.specs.System.{System, Function, Space, Part, Claims, register_of}
 use Rattle.pci_spec.specs.Decoded.{IsDecodable, record_of}
@@ -18,13 +17,6 @@ use Rattle.pci_tree.proofs.Lifting.{Has, record_for, function_for, same_slot_of,
 use Rattle.pci_tree.proofs.RegionParts.{regions_are, regions_are_all}
 use Rattle.pci_tree.proofs.RegionOrder.{regions_rise}
 use Rattle.pci_why.specs.Found.{IsRegionAt, HasNoRegionAt, IsFoundIn, NoneClaims}
-
--- one more element that P holds of
-pub all_more : {X : Type 0} (P : X → Type 0) (xs : List X) (k : ℕ) (x : X) → k < length xs → x ≡ get_or xs k x → All P (take k xs) → P x → All P (take (k + 1) xs)
-all_more P xs k x within is before here =
-    subst (All P) (sym (take_more xs k x within ∙ ap (λ y. take k xs ++ y ∷ []) (sym is))) (All-push P (take k xs) x before here)
-
--- ---- regions
 
 -- where no record has the slot, no function does
 pub none_without_record : (s : System) (rs : List Record) (slot : Slot) (reg : ℕ) (space : Space) → Has s rs → (Contains (slots_of rs) slot → ⊥) → NoneClaims s slot reg space

@@ -4,7 +4,7 @@ use Rattle.std.specs.Prelude.{◌↔◌, ◌==◌, IsTrue, MatchOption, MatchBoo
 use Rattle.std.specs.Option.{option_map}
 use Rattle.std.specs.List.{Contains, All}
 use Rattle.std.proofs.lemmas.Bool.{cases_Bool, ltb-true}
-use Rattle.std.proofs.lemmas.List.{get_or_default}
+use Rattle.std.proofs.lemmas.List.Elements.{All-more}
 use Rattle.pci_spec.specs.Slot.{Slot}
 use Rattle.pci_spec.specs.Header.{bar_register, bar_count, layout}
 use Rattle.pci_spec.specs.Bar.{IoBar, Memory32, Memory64, Reserved, bar_at, bar_kind, is_io, is_wide, type_bits}
@@ -32,14 +32,13 @@ use Rattle.pci_tree.proofs.Regions.{bar_at_register, bar_of_register}
 use Rattle.pci_why.specs.Found.{IsFoundIn}
 use Rattle.pci_why.specs.Evidence.{Appends}
 use Rattle.pci_why.specs.Fits.{told, IsWideAt, IsWideIn, IsFitFor, IsAdviceFor}
-use Rattle.pci_why.proofs.Founds.{all_more}
 use Rattle.pci_why.proofs.Evidences.{region_in}
 
 -- one more BAR that isn't at the register, or has 32 bits
 pub bar_more : (bars : List Bar) (k reg : ℕ) (z : Bar) → k < length bars → All (λ b. IsWideAt reg b → ⊥) (take k bars) → ((get_or bars k z).reg ≡ reg → (get_or bars k z).kind ≡ Mem64 → ⊥)
     → All (λ b. IsWideAt reg b → ⊥) (take (k + 1) bars)
 bar_more bars k reg z within before none =
-    all_more (λ (b : Bar). IsWideAt reg b → ⊥) bars k (get_or bars k z) within (get_or_default bars k z (get_or bars k z) within) before (λ wide. none wide.0 wide.1)
+    All-more (λ (b : Bar). IsWideAt reg b → ⊥) bars k z within before (λ wide. none wide.0 wide.1)
 
 wide_of_kind : (m : ℕ) → Memory64 ≡ bar_kind m → is_wide m ≡ true
 wide_of_kind m e = elim (cases_Bool (is_io m)) [

@@ -1,18 +1,17 @@
 use Rattle.std.proofs.Common.{◌≡◌, ◌≤◌, List, ◌∙◌, sym, subst, ap, ◌++◌}
 use Rattle.std.specs.List.{All, Contains}
 use Rattle.std.proofs.lemmas.List.{take_all}
-use Rattle.std.proofs.lemmas.List.Elements.{All-contains}
+use Rattle.std.proofs.lemmas.List.Elements.{All-contains, All-more}
 use Rattle.std.proofs.lemmas.Bool.{both_ways}
 use Rattle.pci_base.specs.Space.{space_of}
 use Rattle.pci_tree.specs.declared.region.Region.{Region}
 use Rattle.pci_tree.specs.Regions.{regions_of}
-use Rattle.pci_why.proofs.Founds.{all_more}
 use Rattle.pci_why.proofs.find.region_of.Goals as goal
 
 pub loop-region-preserved : goal.loop-region-preserved
 loop-region-preserved g c =
-    all_more (λ (q : Region). q.reg ≡ c.args.reg → q.first ≤ q.last → ⊥) c.deref-region-items.result.now c.loop-region.region-index c.region-item.result c.loop-region-test.true c.region-item.is
-    c.loop-region.invariant (λ at some. both_ways _ c.if-is_at.false (c.is_at.ensures.1 (at, some)))
+    All-more (λ (q : Region). q.reg ≡ c.args.reg → q.first ≤ q.last → ⊥) c.deref-region-items.result.now c.loop-region.region-index c.region-item.result c.loop-region-test.true
+    c.loop-region.invariant (subst (λ (q : Region). q.reg ≡ c.args.reg → q.first ≤ q.last → ⊥) c.region-item.is (λ at some. both_ways _ c.if-is_at.false (c.is_at.ensures.1 (at, some))))
 
 pub returns : goal.returns
 returns g c = λ q here.
