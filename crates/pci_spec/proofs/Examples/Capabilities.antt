@@ -68,41 +68,27 @@ below_one : (P : ℕ → Type 0) → P 0 → (n : ℕ) → n < 1 → P n
 below_one P h zero less = h
 below_one P h (suc n) less = absurd (let no : ⊥ = omega (arith, less) in no)
 
-one_raw_capability : HasChain single
-one_raw_capability = (
-  0x40 ∷ [],
+-- the list of a walk that ends after its first place
+one_capability : (image : List ℕ) (place : ℕ) → place ≡ pointer image 0 → pointer image 1 ≡ 0 → (0x40 ≤ pointer image 0) × (pointer image 0 ≤ 0xfc) → pointer image 0 + body_length image (pointer image 0) ≤ 256 → HasChain image
+one_capability image place first end in_range whole = (
+  place ∷ [],
   record {
-    each = below_one _ refl;
-    end = refl;
-    in_range = below_one _ (lit≤ tt, lit≤ tt);
+    each = below_one _ first;
+    end = end;
+    in_range = below_one _ in_range;
     distinct = λ m n less below. absurd (let no : ⊥ = omega (arith, less, below) in no);
-    bodies = below_one _ (lit≤ tt);
+    bodies = below_one _ whole;
   },
 )
+
+one_raw_capability : HasChain single
+one_raw_capability = one_capability single 0x40 refl refl (lit≤ tt, lit≤ tt) (lit≤ tt)
 
 body_may_end_with_the_image : HasChain (with_list ((0x34, 0xf8) ∷ (0xf8, 1) ∷ []))
-body_may_end_with_the_image = (
-  0xf8 ∷ [],
-  record {
-    each = below_one _ refl;
-    end = refl;
-    in_range = below_one _ (lit≤ tt, lit≤ tt);
-    distinct = λ m n less below. absurd (let no : ⊥ = omega (arith, less, below) in no);
-    bodies = below_one _ (lit≤ tt);
-  },
-)
+body_may_end_with_the_image = one_capability (with_list ((0x34, 0xf8) ∷ (0xf8, 1) ∷ [])) 0xf8 refl refl (lit≤ tt, lit≤ tt) (lit≤ tt)
 
 raw_body_at_the_last_place : HasChain (with_list ((0x34, 0xff) ∷ (0xfc, 9) ∷ []))
-raw_body_at_the_last_place = (
-  0xfc ∷ [],
-  record {
-    each = below_one _ refl;
-    end = refl;
-    in_range = below_one _ (lit≤ tt, lit≤ tt);
-    distinct = λ m n less below. absurd (let no : ⊥ = omega (arith, less, below) in no);
-    bodies = below_one _ (lit≤ tt);
-  },
-)
+raw_body_at_the_last_place = one_capability (with_list ((0x34, 0xff) ∷ (0xfc, 9) ∷ [])) 0xfc refl refl (lit≤ tt, lit≤ tt) (lit≤ tt)
 
 -- a list has the walk's first place, if there is one
 has_first : (image : List ℕ) (place : ℕ) (chain : HasChain image) → pointer image 0 ≡ suc place → 0 < length chain.0
@@ -156,16 +142,7 @@ list_with_a_cut_body_is_none : HasChain cut_list → ⊥
 list_with_a_cut_body_is_none chain = let whole : 0xf8 + 10 ≤ 256 = chain.1.bodies 0 (has_first cut_list 0xf7 chain refl) in omega (arith, whole)
 
 msi_of_20_bytes_fits : HasChain (with_list ((0x34, 0xec) ∷ (0xec, 5) ∷ (0xee, 0x2b) ∷ (0xef, 1) ∷ []))
-msi_of_20_bytes_fits = (
-  0xec ∷ [],
-  record {
-    each = below_one _ refl;
-    end = refl;
-    in_range = below_one _ (lit≤ tt, lit≤ tt);
-    distinct = λ m n less below. absurd (let no : ⊥ = omega (arith, less, below) in no);
-    bodies = below_one _ (lit≤ tt);
-  },
-)
+msi_of_20_bytes_fits = one_capability (with_list ((0x34, 0xec) ∷ (0xec, 5) ∷ (0xee, 0x2b) ∷ (0xef, 1) ∷ [])) 0xec refl refl (lit≤ tt, lit≤ tt) (lit≤ tt)
 
 -- ---- a list through all 48 places behind the header; its last next pointer ends it, or leads back to the first
 
