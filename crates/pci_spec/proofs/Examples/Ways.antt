@@ -7,7 +7,7 @@ use Rattle.pci_spec.specs.Number.{each_from}
 use Rattle.pci_spec.specs.Header.{secondary_bus}
 use Rattle.pci_spec.specs.Slot.{Slot}
 use Rattle.pci_spec.specs.Window.{MemoryWindow}
-use Rattle.pci_spec.specs.System.{Function, System, Io, Memory, Space, Bar, Window, Claims, Leads, Gets, IsPassedTo, is_bridge, forwards, passes}
+use Rattle.pci_spec.specs.System.{Function, System, Io, Memory, Space, Bar, Window, Claims, Leads, Gets, IsPassedTo, is_prefetchable_part, is_bridge, forwards, passes}
 use Rattle.pci_spec.specs.Fault.{IsIn, Clash, Unreached}
 use Rattle.pci_spec.proofs.Bits.{interval-agrees}
 use Rattle.pci_spec.proofs.Examples.Samples.{slot, device, bridge, host}
@@ -117,6 +117,25 @@ clash_where_an_access_gets_to = record {
 
 -- ---- addresses that a bridge on the way doesn't pass
 
+-- the first BAR of a device claims an address that the one bridge on the way doesn't pass
+not_passed : (b f : Function) (space : Space) (a : ℕ) → b.slot ≡ slot 0 1 0 → f.slot ≡ slot 1 0 0 → Leads (b ∷ f ∷ []) 0 (b ∷ []) 1 → Claims f (Bar 0) space a → passes space (is_prefetchable_part f (Bar 0)) a b ≡ false → IsIn host (b ∷ f ∷ []) (Unreached (slot 1 0 0) 0x10 space a (slot 0 1 0))
+not_passed b f space a bridge_at device_at leads claims stops = record {
+  f = f;
+  part = Bar 0;
+  listed = (1, lit< tt, refl);
+  named = (device_at, refl);
+  no_window = refl;
+  claims = claims;
+  root = 0;
+  starts = (0, lit< tt, refl);
+  bridges = b ∷ [];
+  leads = leads;
+  b = b;
+  on_the_way = (0, lit< tt, refl);
+  named_bridge = bridge_at;
+  stops = stops;
+}
+
 abbrev behind : ℕ → List (ℕ × ℕ) → List (ℕ × ℕ) → Function
 behind command values masks = device (slot 1 0 0) command values masks
 
@@ -131,22 +150,7 @@ unfolding each_from
 page_claims = record { there = refl; enabled = refl; maps = refl; address = lit< tt; decodes = (refl, (12, refl, interval-agrees 12 0xe0000000 0xe0000000 (lit≤ tt) (lit≤ tt))) }
 
 behind_a_bridge_that_is_off : IsIn host (memory_off ∷ page_behind ∷ []) (Unreached (slot 1 0 0) 0x10 Memory 0xe0000000 (slot 0 1 0))
-behind_a_bridge_that_is_off = record {
-  f = page_behind;
-  part = Bar 0;
-  listed = (1, lit< tt, refl);
-  named = (refl, refl);
-  no_window = refl;
-  claims = page_claims;
-  root = 0;
-  starts = (0, lit< tt, refl);
-  bridges = memory_off ∷ [];
-  leads = ((0, lit< tt, refl), refl, refl, refl);
-  b = memory_off;
-  on_the_way = (0, lit< tt, refl);
-  named_bridge = refl;
-  stops = refl;
-}
+behind_a_bridge_that_is_off = not_passed memory_off page_behind Memory 0xe0000000 refl refl ((0, lit< tt, refl), refl, refl, refl) page_claims refl
 
 abbrev without_io : Function
 without_io = bridge (slot 0 1 0) 1 0x010100 [] []
@@ -159,43 +163,13 @@ unfolding each_from
 io_claims = record { there = refl; enabled = refl; maps = refl; address = lit< tt; decodes = (refl, (8, refl, interval-agrees 8 0x100 0x101 (lit≤ tt) (lit≤ tt))) }
 
 behind_a_bridge_without_an_io_window : IsIn host (without_io ∷ io_behind ∷ []) (Unreached (slot 1 0 0) 0x10 Io 0x100 (slot 0 1 0))
-behind_a_bridge_without_an_io_window = record {
-  f = io_behind;
-  part = Bar 0;
-  listed = (1, lit< tt, refl);
-  named = (refl, refl);
-  no_window = refl;
-  claims = io_claims;
-  root = 0;
-  starts = (0, lit< tt, refl);
-  bridges = without_io ∷ [];
-  leads = ((0, lit< tt, refl), refl, refl, refl);
-  b = without_io;
-  on_the_way = (0, lit< tt, refl);
-  named_bridge = refl;
-  stops = refl;
-}
+behind_a_bridge_without_an_io_window = not_passed without_io io_behind Io 0x100 refl refl ((0, lit< tt, refl), refl, refl, refl) io_claims refl
 
 abbrev prefetch_only : Function
 prefetch_only = bridge (slot 0 1 0) 2 0x010100 ((0x20, 0x0000fff0) ∷ (0x24, 0xe000e000) ∷ []) ((0x24, 0xfff0fff0) ∷ [])
 
 plain_behind_a_prefetchable_window : IsIn host (prefetch_only ∷ page_behind ∷ []) (Unreached (slot 1 0 0) 0x10 Memory 0xe0000000 (slot 0 1 0))
-plain_behind_a_prefetchable_window = record {
-  f = page_behind;
-  part = Bar 0;
-  listed = (1, lit< tt, refl);
-  named = (refl, refl);
-  no_window = refl;
-  claims = page_claims;
-  root = 0;
-  starts = (0, lit< tt, refl);
-  bridges = prefetch_only ∷ [];
-  leads = ((0, lit< tt, refl), refl, refl, refl);
-  b = prefetch_only;
-  on_the_way = (0, lit< tt, refl);
-  named_bridge = refl;
-  stops = refl;
-}
+plain_behind_a_prefetchable_window = not_passed prefetch_only page_behind Memory 0xe0000000 refl refl ((0, lit< tt, refl), refl, refl, refl) page_claims refl
 
 -- a window of one page before a BAR of two
 abbrev one_page : Function
@@ -209,19 +183,4 @@ unfolding each_from
 second_page_claims = record { there = refl; enabled = refl; maps = refl; address = lit< tt; decodes = (refl, (21, refl, interval-agrees 21 0xe0100000 0xe0000000 (lit≤ tt) (lit≤ tt))) }
 
 second_page_behind_a_window_of_one : IsIn host (one_page ∷ two_pages_behind ∷ []) (Unreached (slot 1 0 0) 0x10 Memory 0xe0100000 (slot 0 1 0))
-second_page_behind_a_window_of_one = record {
-  f = two_pages_behind;
-  part = Bar 0;
-  listed = (1, lit< tt, refl);
-  named = (refl, refl);
-  no_window = refl;
-  claims = second_page_claims;
-  root = 0;
-  starts = (0, lit< tt, refl);
-  bridges = one_page ∷ [];
-  leads = ((0, lit< tt, refl), refl, refl, refl);
-  b = one_page;
-  on_the_way = (0, lit< tt, refl);
-  named_bridge = refl;
-  stops = refl;
-}
+second_page_behind_a_window_of_one = not_passed one_page two_pages_behind Memory 0xe0100000 refl refl ((0, lit< tt, refl), refl, refl, refl) second_page_claims refl
