@@ -2,7 +2,7 @@
 use Rattle.std.proofs.Common.{◌≡◌, ℕ, ◌⊎◌, inl, inr, List, [], refl, Bool, true, false, ◌&&◌, sym, ◌∙◌, ap, subst}
 use Rattle.std.specs.Bool.{IsTrue, ◌==◌}
 use Rattle.std.specs.List.{list_all, Contains}
-use Rattle.std.proofs.lemmas.Bool.{cases_eq, cases_Bool, both_ways, and_parts, eqb-true}
+use Rattle.std.proofs.lemmas.Bool.{cases_eq, cases_Bool, both_ways, and_parts, eqb-true, true_from_ne_false}
 use Rattle.std.proofs.lemmas.List.Elements.{All-contains}
 use Rattle.pci_spec.specs.Number.{IsImage}
 use Rattle.pci_spec.specs.Slot.{Slot, same_slot}
@@ -12,13 +12,12 @@ use Rattle.pci_spec.specs.Bus.{IsNested}
 use Rattle.pci_spec.specs.Fault.{NoVendor, HeaderKind, BarType, BarMask, BarPair, RomMask, WindowMask, CapRange, CapLoop, CapCut, SlotsDiffer, StrayProbe, LoneFunction, PaletteSnoop, VgaEnable, IsaEnable, Subtractive, InReset, PowerState, BusRange, Orphan, Unreached, Clash, Split, address_in, named_region}
 use Rattle.pci_spec.specs.Fault as plain
 use Rattle.pci_spec.specs.Sound as sound
-use Rattle.pci_spec.proofs.BusRanges.{all_gives}
+use Rattle.pci_spec.proofs.BusRanges.{all_gives, all_from}
 use Rattle.pci_spec.proofs.Nesting.{one_function, nested_without_bus_faults, no_bus_fault_where_nested}
 use Rattle.pci_spec.proofs.Chains.{chain_without_faults}
 use Rattle.pci_spec.proofs.Sounding.{sound_without_faults as plain_sound}
 use Rattle.pci_spec.proofs.Ways.{one_way, a_way_to_each}
 use Rattle.pci_spec.proofs.Regions.{region_decided, slot_from}
-use Rattle.pci_spec.proofs.Verdicts.{some_fails}
 use Rattle.given_spec.specs.Given.{Given, nothing_given, starts}
 use Rattle.given_spec.specs.Claims.{Part, Claims, ClaimsOnBus, Gets, IsPassedTo, passes, register_of, may_share}
 use Rattle.given_spec.specs.Fault.{Fault, Known, Outside, IsIn, IsKnownIn, IsOutside, IsUnreached}
@@ -184,43 +183,11 @@ module _ (given : Given) (roots : List ℕ) (s : System) where
         → ((bridge : Slot) → IsUnreached given roots s (named_region f.slot (system.register_of f p)) (address_in space a) bridge → ⊥) → IsPassedTo given roots s (address_in space a) (is_prefetchable_part f p) f.slot.bus
     passed_where_none_stops f p space a listed no_window claims not_outside none =
         let way = a_way_to_each roots s nested f listed in
-        elim (cases_Bool (starts given space way.0 a)) [
-          | inr unsent ↦ absurd (not_outside record {
-            f = f;
-            part = p;
-            listed = listed;
-            named = (refl, refl);
-            no_window = no_window;
-            claims = claims;
-            bridges = way.2;
-            root = way.0;
-            is_root = way.1;
-            leads = way.3;
-            none = unsent;
-          })
-          | inl sent ↦ elim (cases_Bool (list_all (passes given space (is_prefetchable_part f p) a) way.2)) [
-            | inl all ↦ (way.0, way.1, sent, way.2, way.3, all)
-            | inr not_all ↦
-                let found = some_fails (passes given space (is_prefetchable_part f p) a) way.2 not_all in
-                absurd (none found.0.slot record {
-                  f = f;
-                  part = p;
-                  listed = listed;
-                  named = (refl, refl);
-                  no_window = no_window;
-                  claims = claims;
-                  bridges = way.2;
-                  root = way.0;
-                  is_root = way.1;
-                  leads = way.3;
-                  sent = sent;
-                  b = found.0;
-                  on_the_way = found.1;
-                  named_bridge = refl;
-                  stops = found.2;
-                })
-          ]
-        ]
+        let sent = true_from_ne_false (starts given space way.0 a) (λ unsent.
+        not_outside record { f = f; part = p; listed = listed; named = (refl, refl); no_window = no_window; claims = claims; root = way.0; is_root = way.1; bridges = way.2; leads = way.3; none = unsent }) in
+        let passed = all_from (passes given space (is_prefetchable_part f p) a) way.2 (λ b on_the_way. true_from_ne_false (passes given space (is_prefetchable_part f p) a b) (λ stops.
+        none b.slot record { f = f; part = p; listed = listed; named = (refl, refl); no_window = no_window; claims = claims; root = way.0; is_root = way.1; bridges = way.2; leads = way.3; sent = sent; b = b; on_the_way = on_the_way; named_bridge = refl; stops = stops })) in
+        (way.0, way.1, sent, way.2, way.3, passed)
 
     pub home_without : IsHome given roots s → HasNoOutside × HasNoUnreached
     home_without home = (home_has_no_outside home, home_has_no_unreached home)

@@ -1,14 +1,14 @@
 -- Single and home are the want of the faults of judging.
-use Rattle.std.proofs.Common.{◌≡◌, ℕ, suc, inl, inr, List, [], ◌∷◌, refl, Bool, true, false, arith, sym, ◌∙◌, ap, subst}
+use Rattle.std.proofs.Common.{◌≡◌, ℕ, inl, inr, List, [], refl, Bool, true, false, sym, ◌∙◌, ap, subst}
 use Rattle.std.specs.List.{list_all, Contains}
-use Rattle.std.proofs.lemmas.Bool.{and_cases, cases_eq, cases_Bool, both_ways}
+use Rattle.std.proofs.lemmas.Bool.{cases_eq, both_ways, true_from_ne_false}
 use Rattle.pci_spec.specs.Slot.{Slot}
 use Rattle.pci_spec.specs.System.{System, Function, Space, Part, Claims, Gets, IsPassedTo, IsSystem, Leads, is_prefetchable_part, is_window, passes, register_of}
 use Rattle.pci_spec.specs.Bus.{IsNested}
 use Rattle.pci_spec.specs.Fault.{IsUnreached, ClaimsOnBus, address_in, named_region}
 use Rattle.pci_spec.specs.Sound.{IsSingle, IsHome, IsSameRegion}
 use Rattle.pci_spec.specs.JudgingLaws.{HasNoUnreached, HasNoClash, HasNoSplit, SingleWithoutClashes, HomeWithoutUnreached}
-use Rattle.pci_spec.proofs.BusRanges.{all_gives}
+use Rattle.pci_spec.proofs.BusRanges.{all_gives, all_from}
 use Rattle.pci_spec.proofs.Nesting.{one_function}
 use Rattle.pci_spec.proofs.Ways.{one_way, a_way_to_each}
 use Rattle.pci_spec.proofs.Regions.{region_decided}
@@ -81,14 +81,6 @@ single_without_clashes roots s = (
 
 -- ---- home
 
--- where not all pass a test, one fails it
-pub some_fails : {X : Type 0} (test : X → Bool) (xs : List X) → list_all test xs ≡ false → (x : X) × Contains xs x × (test x ≡ false)
-some_fails test [] h = absurd (let no : ⊥ = both_ways true h refl in no)
-some_fails test (x ∷ xs) h = elim (and_cases (test x) (list_all test xs) h) [
-  | inl here ↦ (x, (0, omega arith, refl), here)
-  | inr later ↦ let found = some_fails test xs later in (found.0, (suc found.1.0, omega (arith, found.1.1), found.1.2), found.2)
-]
-
 -- what is passed on all the way to a bus is passed by each bridge of a list that leads there
 pub passed_by_each : (roots : List ℕ) (s : System) → IsSystem s → IsNested roots s → (space : Space) (prefetchable : Bool) (a root bus : ℕ) (bridges : List Function)
     → Contains roots root → Leads s root bridges bus → IsPassedTo roots s space prefetchable a bus → (b : Function) → Contains bridges b → passes space prefetchable a b ≡ true
@@ -110,27 +102,9 @@ pub passed_where_none_stops : (roots : List ℕ) (s : System) → IsNested roots
     → ((bridge : Slot) → IsUnreached roots s (named_region f.slot (register_of f p)) (address_in space a) bridge → ⊥) → IsPassedTo roots s space (is_prefetchable_part f p) a f.slot.bus
 passed_where_none_stops roots s nested f p space a listed no_window claims none =
     let way = a_way_to_each roots s nested f listed in
-    elim (cases_Bool (list_all (passes space (is_prefetchable_part f p) a) way.2)) [
-      | inl all ↦ (way.0, way.1, way.2, way.3, all)
-      | inr not_all ↦
-          let found = some_fails (passes space (is_prefetchable_part f p) a) way.2 not_all in
-          absurd (none found.0.slot record {
-            f = f;
-            part = p;
-            listed = listed;
-            named = (refl, refl);
-            no_window = no_window;
-            claims = claims;
-            bridges = way.2;
-            root = way.0;
-            starts = way.1;
-            leads = way.3;
-            b = found.0;
-            on_the_way = found.1;
-            named_bridge = refl;
-            stops = found.2;
-          })
-    ]
+    let passed = all_from (passes space (is_prefetchable_part f p) a) way.2 (λ b on_the_way. true_from_ne_false (passes space (is_prefetchable_part f p) a b) (λ stops.
+    none b.slot record { f = f; part = p; listed = listed; named = (refl, refl); no_window = no_window; claims = claims; root = way.0; starts = way.1; bridges = way.2; leads = way.3; b = b; on_the_way = on_the_way; named_bridge = refl; stops = stops })) in
+    (way.0, way.1, way.2, way.3, passed)
 
 pub home_without_unreached : HomeWithoutUnreached
 home_without_unreached roots s system nested = (
