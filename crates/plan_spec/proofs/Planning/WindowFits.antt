@@ -139,31 +139,23 @@ open_kept PrefetchWindow n first last few order (top, low) = record {
   limit_upper_small = prefetch_upper n last (omega (arith, top)) (λ none. let l = low none in omega (arith, l));
 }
 
+-- page bits are all of a window's bytes but the low nibble
+page_bits_are : (kind : WindowKind) → (page_bits kind % 16 ≡ 0) × (page_bits kind + 16 ≡ 2 ^ (8 * page_bytes kind))
+page_bits_are IoWindow = (refl, refl)
+page_bits_are MemoryWindow = (refl, refl)
+page_bits_are PrefetchWindow = (refl, refl)
+
 closed_kept : (kind : WindowKind) (n : ℕ) → n ≤ 1 → AreKept kind n (closed_bounds kind n)
-closed_kept IoWindow n few = record {
-  base_nibble = omega (arith, few);
-  limit_nibble = omega (arith, few);
-  base_small = omega (arith, few);
-  limit_small = omega (arith, few);
-  base_upper_small = omega arith;
-  limit_upper_small = omega arith;
-}
-closed_kept MemoryWindow n few = record {
-  base_nibble = omega (arith, few);
-  limit_nibble = omega (arith, few);
-  base_small = omega (arith, few);
-  limit_small = omega (arith, few);
-  base_upper_small = omega arith;
-  limit_upper_small = omega arith;
-}
-closed_kept PrefetchWindow n few = record {
-  base_nibble = omega (arith, few);
-  limit_nibble = omega (arith, few);
-  base_small = omega (arith, few);
-  limit_small = omega (arith, few);
-  base_upper_small = omega arith;
-  limit_upper_small = omega arith;
-}
+closed_kept kind n few =
+    let (high, all) = page_bits_are kind in
+    record {
+      base_nibble = omega (arith, few, high);
+      limit_nibble = omega (arith, few);
+      base_small = omega (arith, few, all);
+      limit_small = omega (arith, few, all);
+      base_upper_small = omega arith;
+      limit_upper_small = omega arith;
+    }
 
 -- ---- they fit
 
