@@ -19,6 +19,7 @@ use Rattle.pci_spec.proofs.Members.{in_map_from}
 use Rattle.pci_spec.proofs.KeptBits.{field_passes, are_within}
 use Rattle.plan_spec.specs.Planning.Safety.{is_on}
 use Rattle.plan_spec.specs.Planning.Fitting.{IsFitting, FitsAt}
+use Rattle.plan_spec.specs.Planning.Building.{command_write}
 use Rattle.plan_spec.specs.Planning.PlanWrites.{Change, olds, news, closed_command, closing_writes, register_writes, opening_writes, plan_writes}
 use Rattle.plan_spec.proofs.Planning.Behind.{Passes, any_gives}
 use Rattle.plan_spec.proofs.Planning.Moved.{kind_fields}
@@ -144,18 +145,17 @@ module _ (changes : List Change) (system : IsSystem (olds changes)) (moved : All
   -- ---- what writes leave
 
   -- writes to Command leave an address register
-  command_write_quiet : (slot : Slot) (r : ℕ × ℕ) (x : Write) → 0x10 ≤ r.0 → x.offset ≡ 4 → x.width ≡ 2 → IsQuiet slot r.0 r.1 x
-  command_write_quiet slot r x low at wide = inr (inr (omega (arith, low, at, wide)))
+  command_quiet : (slot : Slot) (r : ℕ × ℕ) → 0x10 ≤ r.0 → (f : Function) (value : ℕ) (x : Write) → command_write f value ≡ x → IsQuiet slot r.0 r.1 x
+  command_quiet slot r low f value x is =
+      let at = ap (λ (w : Write). w.offset) is in
+      let wide = ap (λ (w : Write). w.width) is in
+      inr (inr (omega (arith, low, at, wide)))
 
   pub closing_quiet : (c : Change) (r : ℕ × ℕ) → 0x10 ≤ r.0 → (x : Write) → Contains (closing_writes changes) x → IsQuiet c.old.slot r.0 r.1 x
-  closing_quiet c r low x has =
-      let k = closing_to changes x has in
-      command_write_quiet c.old.slot r x low (sym (ap (λ (w : Write). w.offset) k.is)) (sym (ap (λ (w : Write). w.width) k.is))
+  closing_quiet c r low x has = let k = closing_to changes x has in command_quiet c.old.slot r low k.c.old (closed_command k.c.old) x k.is
 
   pub opening_quiet : (c : Change) (r : ℕ × ℕ) → 0x10 ≤ r.0 → (x : Write) → Contains (opening_writes changes) x → IsQuiet c.old.slot r.0 r.1 x
-  opening_quiet c r low x has =
-      let k = opening_to changes x has in
-      command_write_quiet c.old.slot r x low (sym (ap (λ (w : Write). w.offset) k.is)) (sym (ap (λ (w : Write). w.width) k.is))
+  opening_quiet c r low x has = let k = opening_to changes x has in command_quiet c.old.slot r low k.c.old (command k.c.new.image) x k.is
 
   -- and writes to address registers leave Command
   pub register_quiet : (c : Change) (x : Write) → Contains (register_writes changes) x → IsQuiet c.old.slot 4 2 x
@@ -167,33 +167,25 @@ module _ (changes : List Change) (system : IsSystem (olds changes)) (moved : All
 
   -- ---- what they set
 
-  pub closing_sets : (c : Change) → Contains changes c → (x : Write) → Contains (closing_writes changes) x → IsQuiet c.old.slot 4 2 x ⊎ IsSetting c.old.slot 4 2 (closed_command c.old) x
-  closing_sets c listed x has =
-      let k = closing_to changes x has in
-      let at : same_slot c.old.slot k.c.old.slot ≡ same_slot c.old.slot x.slot = ap (λ (w : Write). same_slot c.old.slot w.slot) k.is in
-      elim (cases_Bool (same_slot c.old.slot k.c.old.slot)) [
+  -- a write to a Command sets that of its own change, and leaves the others
+  command_sets : (value : Change → ℕ) (c d : Change) → Contains changes c → Contains changes d → (x : Write) → command_write d.old (value d) ≡ x → IsQuiet c.old.slot 4 2 x ⊎ IsSetting c.old.slot 4 2 (value c) x
+  command_sets value c d in_c in_d x is =
+      let at : same_slot c.old.slot d.old.slot ≡ same_slot c.old.slot x.slot = ap (λ (w : Write). same_slot c.old.slot w.slot) is in
+      elim (cases_Bool (same_slot c.old.slot d.old.slot)) [
         | inr other ↦ inl (inl (sym at ∙ other))
         | inl here ↦ inr record {
           here = sym at ∙ here;
-          offset = sym (ap (λ (w : Write). w.offset) k.is);
-          width = sym (ap (λ (w : Write). w.width) k.is);
-          value = sym (ap (λ (w : Write). w.value) k.is) ∙ ap (λ (d : Change). closed_command d.old) (one_change c k.c listed k.listed here);
+          offset = sym (ap (λ (w : Write). w.offset) is);
+          width = sym (ap (λ (w : Write). w.width) is);
+          value = sym (ap (λ (w : Write). w.value) is) ∙ ap value (one_change c d in_c in_d here);
         }
       ]
 
+  pub closing_sets : (c : Change) → Contains changes c → (x : Write) → Contains (closing_writes changes) x → IsQuiet c.old.slot 4 2 x ⊎ IsSetting c.old.slot 4 2 (closed_command c.old) x
+  closing_sets c listed x has = let k = closing_to changes x has in command_sets (λ d. closed_command d.old) c k.c listed k.listed x k.is
+
   pub opening_sets : (c : Change) → Contains changes c → (x : Write) → Contains (opening_writes changes) x → IsQuiet c.old.slot 4 2 x ⊎ IsSetting c.old.slot 4 2 (command c.new.image) x
-  opening_sets c listed x has =
-      let k = opening_to changes x has in
-      let at : same_slot c.old.slot k.c.old.slot ≡ same_slot c.old.slot x.slot = ap (λ (w : Write). same_slot c.old.slot w.slot) k.is in
-      elim (cases_Bool (same_slot c.old.slot k.c.old.slot)) [
-        | inr other ↦ inl (inl (sym at ∙ other))
-        | inl here ↦ inr record {
-          here = sym at ∙ here;
-          offset = sym (ap (λ (w : Write). w.offset) k.is);
-          width = sym (ap (λ (w : Write). w.width) k.is);
-          value = sym (ap (λ (w : Write). w.value) k.is) ∙ ap (λ (d : Change). command d.new.image) (one_change c k.c listed k.listed here);
-        }
-      ]
+  opening_sets c listed x has = let k = opening_to changes x has in command_sets (λ d. command d.new.image) c k.c listed k.listed x k.is
 
   -- two address registers of a function are one, or share no byte
   pub two_registers : (c d : Change) (r q : ℕ × ℕ) → Contains changes c → Contains changes d → Contains (address_registers (layout c.old.image)) r → Contains (address_registers (layout d.old.image)) q → d ≡ c

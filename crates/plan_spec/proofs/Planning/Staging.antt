@@ -17,6 +17,7 @@ use Rattle.pci_spec.proofs.Members.{in_nil, in_cons_cases, in_head, in_tail, in_
 use Rattle.plan_spec.specs.Planning.Safety.{is_on}
 use Rattle.plan_spec.specs.Planning.Stops.{IsClosing, IsAside, IsStaged}
 use Rattle.plan_spec.specs.Planning.Fitting.{IsFitting, FitsByNumber, FitsAt}
+use Rattle.plan_spec.specs.Planning.Building.{command_write}
 use Rattle.plan_spec.specs.Planning.PlanWrites.{Change, olds, closed_command, closing_of, register_write, registers_of, opening_of, closing_writes, register_writes, opening_writes, plan_writes}
 use Rattle.plan_spec.proofs.Planning.Behind.{all_gives}
 use Rattle.std.proofs.lemmas.List.{get_or_default}
@@ -36,10 +37,10 @@ in_other false w x has = (refl, elim (in_cons_cases w [] x has) [ inl is ↦ is 
 in_other true w x has = absurd (in_nil x has)
 
 abbrev pub closing_write : Change → Write
-closing_write c = record { slot = c.old.slot; offset = 0x04; width = 2; value = closed_command c.old }
+closing_write c = command_write c.old (closed_command c.old)
 
 abbrev pub opening_write : Change → Write
-opening_write c = record { slot = c.old.slot; offset = 0x04; width = 2; value = command c.new.image }
+opening_write c = command_write c.old (command c.new.image)
 
 abbrev pub number_write : Change → (ℕ × ℕ) → Write
 number_write c r = record { slot = c.old.slot; offset = r.0; width = r.1; value = number_at c.new.image r.0 r.1 }
