@@ -1,4 +1,3 @@
-mod AllInPlace
 mod Examples
 mod JustPools
 mod Placed

@@ -17,15 +17,16 @@ use Rattle.settle_spec.proofs.Nested.{at_secondary}
 use Rattle.stand_laws.proofs.Apart.{in_root_lists, in_window_over}
 use Rattle.stand_laws.proofs.Standing.{stands_by_itself}
 use Rattle.settle_laws.specs.PlacesLaws.{CanSettle}
+use Rattle.settle_laws.proofs.AllInPlace.{looked}
 use Rattle.settle_laws.proofs.HeaderParts.{header_of}
 use Rattle.settle_laws.proofs.Held.{above_above}
+use Rattle.settle_laws.proofs.InLists.{within_gives}
 use Rattle.settle_laws.proofs.Kept.{in_regions}
 use Rattle.settle_laws.proofs.PartClasses.{space_of_class}
 use Rattle.planned_laws.specs.InLists.{IsListed}
 use Rattle.planned_laws.specs.Switching.{IsStandingSystem, keeping}
-use Rattle.planned_laws.proofs.AllInPlace.{looked}
 use Rattle.planned_laws.proofs.SettledStands.{settled_is_standing}
-use Rattle.planned_laws.proofs.Standing.{listed_inside, within_gives}
+use Rattle.planned_laws.proofs.Standing.{listed_inside}
 
 -- lists that hold a range hold what lies in it
 inside_lists : (q : Request) (bus : ℕ) (r w : Range) (space : Space) → IsInside r w → is_in_lists q bus w space ≡ true → is_in_lists q bus r space ≡ true

@@ -1,14 +1,14 @@
 -- Where everything has its place in pools that the lists have, each part stands, and no I/O BAR is left.
 use Rattle.std.proofs.Common.{◌≡◌, ◌&&◌, ◌||◌, ℕ, zero, suc, ◌<◌, inl, inr, List, [], ◌∷◌, map, Bool, true, false, cond, not, arith, refl, sym, ◌∙◌, ap, subst}
-use Rattle.std.specs.Bool.{nat_le, nat_lt, if◌then◌else◌}
+use Rattle.std.specs.Bool.{nat_lt, if◌then◌else◌}
 use Rattle.std.specs.List.{Contains, filter, list_any, range_with_len}
-use Rattle.std.proofs.lemmas.Bool.{and_from, and_parts, and_right, both_ways, cases_Bool, leb-true, lt-ltb, or_left, or_right}
+use Rattle.std.proofs.lemmas.Bool.{and_from, and_parts, and_right, both_ways, cases_Bool, lt-ltb}
 use Rattle.pci_spec.specs.Header.{layout, bar_count}
 use Rattle.pci_spec.specs.Bar.{bar_at, has_bar, is_io, is_prefetchable}
 use Rattle.pci_spec.specs.Rom.{has_rom, rom_is_on}
 use Rattle.pci_spec.specs.Decoded.{Range}
 use Rattle.pci_spec.specs.Window.{WindowKind, IoWindow, MemoryWindow, PrefetchWindow, has_window}
-use Rattle.pci_spec.specs.System.{System, Function, IsSystem, Part, Bar, Rom, Window, is_implemented, window_space}
+use Rattle.pci_spec.specs.System.{System, Function, IsSystem, Part, Bar, Rom, Window, is_implemented}
 use Rattle.pci_spec.specs.Bus.{are_siblings, is_root, LeadsTo}
 use Rattle.pci_spec.specs.Sound.{IsSound}
 use Rattle.pci_spec.proofs.BusRanges.{root_means}
@@ -23,27 +23,17 @@ use Rattle.settle_spec.specs.FirstPlace.{are_apart}
 use Rattle.settle_spec.specs.Lists.{Request, RootRange, is_had_by, ranges_of}
 use Rattle.settle_spec.specs.Parts.{Region, regions, header_bars, header_parts, addresses, has_left, is_empty, is_left, is_part, is_within, upper_pools, is_in_memory, is_in_prefetch, bridge_over, class_in, same_space}
 use Rattle.settle_spec.specs.Stands.{rank, window_region, region_space, are_beside, is_in_lists, is_in_window, is_in_place, is_listed, stands}
+use Rattle.settle_laws.proofs.AllInPlace.{all_in_place, apart_from, beside_of, looked, looked_at, two_of}
 use Rattle.settle_laws.proofs.HeaderParts.{part_cases}
 use Rattle.settle_laws.proofs.Held.{none_by}
-use Rattle.settle_laws.proofs.InLists.{within_from}
+use Rattle.settle_laws.proofs.InLists.{listed_in, within_from, within_gives}
 use Rattle.settle_laws.proofs.Kept.{off_roots, one_space}
 use Rattle.settle_laws.proofs.PartClasses.{by_tests, by_windows}
 use Rattle.planned_laws.specs.SettledPlans.{HasPools}
-use Rattle.planned_laws.proofs.AllInPlace.{all_in_place, apart_from, beside_of, looked, looked_at, two_of}
 use Rattle.planned_laws.proofs.Placed.{beside_apart, classes_agree, in_memory, in_prefetch, not_in_memory, open_above, over, space_by_class}
-
-pub within_gives : (r w : Range) → is_within r w ≡ true → IsInside r w
-within_gives r w h =
-    let parts = and_parts (nat_le w.first r.first) (nat_le r.last w.last) h in
-    (leb-true w.first r.first parts.0, leb-true r.last w.last parts.1)
 
 inside_through : (r w v : Range) → IsInside r w → IsInside w v → IsInside r v
 inside_through r w v (from, to) (first, last) = (omega (arith, from, first), omega (arith, to, last))
-
-listed_in : (q : Request) (bus : ℕ) (r : Range) (c : WindowKind) → is_listed q bus r c ≡ true → is_in_lists q bus r (window_space c) ≡ true
-listed_in q bus r IoWindow h = h
-listed_in q bus r MemoryWindow h = or_left (is_listed q bus r MemoryWindow) (is_listed q bus r PrefetchWindow) h
-listed_in q bus r PrefetchWindow h = or_right (is_listed q bus r MemoryWindow) (is_listed q bus r PrefetchWindow) h
 
 -- a range in which another lies has all that lies in that
 pub listed_inside : (q : Request) (bus : ℕ) (r w : Range) (c : WindowKind) → IsInside r w → is_listed q bus w c ≡ true → is_listed q bus r c ≡ true

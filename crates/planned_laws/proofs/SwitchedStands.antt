@@ -26,6 +26,7 @@ use Rattle.settle_spec.specs.Writes.{is_cut_off_in}
 use Rattle.settle_spec.proofs.BridgeOver.{over_is}
 use Rattle.stand_laws.proofs.Apart.{apart_where_beside, in_root_lists, in_window_over}
 use Rattle.stand_laws.proofs.Standing.{stands_by_itself, stands_is}
+use Rattle.settle_laws.proofs.AllInPlace.{all_in_place, looked, looked_at}
 use Rattle.settle_laws.proofs.AllStand.{all_stay}
 use Rattle.settle_laws.proofs.Alike.{IsAlike, all_above, any_above, bus_alike, header_alike, of_bridges, part_alike, rank_alike, space_alike}
 use Rattle.settle_laws.proofs.HeaderParts.{window_of}
@@ -34,7 +35,6 @@ use Rattle.settle_laws.proofs.Kept.{above_stays, in_regions, off_roots, one_spac
 use Rattle.settle_laws.proofs.PartClasses.{by_tests, by_windows, space_of_class}
 use Rattle.settle_laws.proofs.Zipped.{BothOrNone, find_zip}
 use Rattle.planned_laws.specs.Switching.{EnabledIsUncut, IsStandingSystem, IsSwitched, SwitchedStands}
-use Rattle.planned_laws.proofs.AllInPlace.{all_in_place, looked, looked_at}
 use Rattle.planned_laws.proofs.Switched.{open_same, range_same, switched_alike, switched_moves}
 
 module _ (q : Request) (s t : System) (pairs : AllZip IsSwitched s t) where

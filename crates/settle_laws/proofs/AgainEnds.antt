@@ -14,7 +14,8 @@ use Rattle.settle_spec.specs.Places.{new_place}
 use Rattle.settle_spec.specs.Registers.{settled, settled_function}
 use Rattle.settle_laws.specs.PlacesLaws.{CanSettle, place_range, end_range}
 use Rattle.settle_laws.proofs.Again.{settled_alike, all_alike, room_again, ends_again}
-use Rattle.settle_laws.proofs.AgainKept.{settled_end, all_stand}
+use Rattle.settle_laws.proofs.AgainKept.{all_stand}
+use Rattle.settle_laws.proofs.AgainParts.{settled_end}
 use Rattle.settle_laws.proofs.Alike.{part_alike}
 use Rattle.settle_laws.proofs.AllStand.{all_stay, no_place, none_lacks}
 use Rattle.settle_laws.proofs.Claimed.{bridge_stays, ends_open}

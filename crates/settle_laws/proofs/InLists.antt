@@ -2,7 +2,7 @@
 use Rattle.std.proofs.Common.{◌≡◌, ℕ, inl, inr, List, [], Bool, true, false, cond, sym, ◌∙◌, ap, subst, Some}
 use Rattle.std.specs.Bool.{nat_le}
 use Rattle.std.specs.List.{Contains}
-use Rattle.std.proofs.lemmas.Bool.{and_from, cases_Bool, le-leb, or_left, or_right}
+use Rattle.std.proofs.lemmas.Bool.{and_from, and_parts, cases_Bool, le-leb, leb-true, or_left, or_right}
 use Rattle.std.proofs.lemmas.List.Elements.{Contains-append_cases}
 use Rattle.pci_spec.specs.Decoded.{Range}
 use Rattle.pci_spec.specs.Window.{WindowKind, IoWindow, MemoryWindow, PrefetchWindow}
@@ -29,7 +29,12 @@ use Rattle.settle_laws.proofs.PlacedBus.{places}
 pub within_from : (r w : Range) → IsInside r w → is_within r w ≡ true
 within_from r w (from, end) = and_from (nat_le w.first r.first) (nat_le r.last w.last) (le-leb w.first r.first from) (le-leb r.last w.last end)
 
-listed_in : (q : Request) (bus : ℕ) (r : Range) (c : WindowKind) → is_listed q bus r c ≡ true → is_in_lists q bus r (window_space c) ≡ true
+pub within_gives : (r w : Range) → is_within r w ≡ true → IsInside r w
+within_gives r w h =
+    let parts = and_parts (nat_le w.first r.first) (nat_le r.last w.last) h in
+    (leb-true w.first r.first parts.0, leb-true r.last w.last parts.1)
+
+pub listed_in : (q : Request) (bus : ℕ) (r : Range) (c : WindowKind) → is_listed q bus r c ≡ true → is_in_lists q bus r (window_space c) ≡ true
 listed_in q bus r IoWindow h = h
 listed_in q bus r MemoryWindow h = or_left (is_listed q bus r MemoryWindow) (is_listed q bus r PrefetchWindow) h
 listed_in q bus r PrefetchWindow h = or_right (is_listed q bus r MemoryWindow) (is_listed q bus r PrefetchWindow) h

@@ -4,10 +4,12 @@ pub mod AgainCommand
 pub mod AgainEnds
 pub mod AgainImage
 pub mod AgainKept
+pub mod AgainParts
 pub mod AgainSettled
 pub mod Alike
 pub mod AlikeItems
 pub mod AlikePlaces
+pub mod AllInPlace
 pub mod AllStand
 pub mod Anew
 pub mod BusPlaced
