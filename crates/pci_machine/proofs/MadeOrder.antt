@@ -53,6 +53,12 @@ not_decodable g _ fine phase not is = absurd (let no : ⊥ = omega (arith, phase
 
 -- ---- of a dump and its probe
 
+-- a fault of decoding that is there, and before which there are at most faults of lists
+pub record IsRefusal (dump probe : List Block) (e : Fault) : Type 0 where
+  pub phase : phase_of e ≡ 2
+  pub there : (roots : List ℕ) → IsThere roots dump probe e
+  pub first : (roots : List ℕ) (other : Fault) → IsTrue (is_before (image_at (system_of dump probe)) other e) → is_of_list other ≡ false → IsThere roots dump probe other → ⊥
+
 module _ (dump probe : List Block) (hd : IsDump dump) (hp : IsDump probe) (pair : (roots : List ℕ) → IsPair roots dump probe)
     (k : ℕ) (b p : Block) (below : k < length dump) (eb : b ≡ get_or dump k b) (ep : p ≡ get_or probe k p)
     (fault : ImageFault) (is : IsImageFaultIn b.image p.image fault) where
@@ -62,17 +68,14 @@ module _ (dump probe : List Block) (hd : IsDump dump) (hp : IsDump probe) (pair 
   has : Contains (system_of dump probe) (function_of b p)
   has = placed dump probe same k b p below eb ep
 
-  -- the fault is one of decoding
-  pub refused_phase : phase_of (image_fault_at b.slot fault) ≡ 2
+  refused_phase : phase_of (image_fault_at b.slot fault) ≡ 2
   refused_phase = image_phase (function_of b p) fault (pair_answers dump probe pair (function_of b p) has) is
 
-  -- it is there
-  pub refused_there : (roots : List ℕ) → IsThere roots dump probe (image_fault_at b.slot fault)
+  refused_there : (roots : List ℕ) → IsThere roots dump probe (image_fault_at b.slot fault)
   refused_there roots = there-of_in roots dump probe (image_fault_at b.slot fault) same
       (here_in roots (system_of dump probe) (function_of b p) (image_fault_at b.slot fault) has (image_here (function_of b p) fault is))
 
-  -- of the first function that doesn't decode it is the first
-  pub refused_first : All IsDecodable (take k (system_of dump probe)) → IsFirstOf 2 (function_of b p) (image_fault_at b.slot fault)
+  refused_first : All IsDecodable (take k (system_of dump probe)) → IsFirstOf 2 (function_of b p) (image_fault_at b.slot fault)
       → (roots : List ℕ) (other : Fault) → IsTrue (is_before (image_at (system_of dump probe)) other (image_fault_at b.slot fault)) → is_of_list other ≡ false → IsThere roots dump probe other → ⊥
   refused_first decodable first roots other before not there =
       let s : System = system_of dump probe in
@@ -88,3 +91,7 @@ module _ (dump probe : List Block) (hd : IsDump dump) (hp : IsDump probe) (pair 
             let before : Contains (take k s) g = lower_is_taken s system f g k (omega (arith, below, long)) (at_place dump probe same k b p below eb ep) listed below_it in
             not_decodable g x (All-contains IsDecodable (take k s) g decodable before) (same_phase ∙ phase) not_list here
       ]) other not before (in-of_there roots dump probe other same there)
+
+  -- the fault of the first function that doesn't decode is one
+  pub refused : All IsDecodable (take k (system_of dump probe)) → IsFirstOf 2 (function_of b p) (image_fault_at b.slot fault) → IsRefusal dump probe (image_fault_at b.slot fault)
+  refused decodable first = record { phase = refused_phase; there = refused_there; first = refused_first decodable first }

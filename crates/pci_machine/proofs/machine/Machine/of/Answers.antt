@@ -5,7 +5,6 @@ use Rattle.pci_spec.specs.Text.{Block, IsDump, slots_of}
 use Rattle.pci_spec.specs.System.{system_of}
 use Rattle.pci_spec.specs.Machine.{target_of, sized}
 use Rattle.pci_spec.specs.Fault.{IsThere}
-use Rattle.pci_spec.specs.Fault as faults
 use Rattle.pci_spec.specs.Decoded.{IsDecodable}
 use Rattle.pci_spec.proofs.Pairing.{same_length, length-system_of}
 use Rattle.pci_spec.specs.Order.{phase_of, is_before, image_at}
@@ -15,7 +14,7 @@ use Rattle.pci_pair.proofs.Pairs.{holds_of_more}
 use Rattle.pci_machine.specs.Memory.{IsMachine}
 use Rattle.pci_spec.specs.Sizing.{function_at, IsSizable}
 use Rattle.pci_machine.specs.Made.{is_of_list}
-use Rattle.pci_machine.proofs.MadeOrder.{early_is_not_of_list, register_is_not_of_list, refused_phase, refused_there, refused_first}
+use Rattle.pci_machine.proofs.MadeOrder.{early_is_not_of_list, register_is_not_of_list, IsRefusal, refused}
 use Rattle.pci_machine.proofs.MadeOf.{made_more, machine-of, function-of, sizable-of, read_backs-of}
 use Rattle.pci_machine.proofs.machine.Machine.of.Goals as goal
 
@@ -28,62 +27,41 @@ bounds-probes-i g c =
 pub returns-in-Err-clause-kind : goal.returns-in-Err-clause-kind
 returns-in-Err-clause-kind g c = let early = c.in-Err.ensures.kind in (omega (arith, early), early_is_not_of_list (fault_of c.in-Err.fault) early)
 
+-- the fault of the registers that are refused, in the two dumps as they were lent
+refusal : (g : _) (c : goal.After-drop-functions-in-Err-registers_of g) → IsRefusal c.args.dump.now c.args.probe.now (image_fault_at c.block.inside.slot c.in-Err-registers_of.fault)
+refusal g c =
+    let dump = c.blocks-blocks.result.now in
+    let probe = c.blocks-probes.result.now in
+    let e = image_fault_at c.block.inside.slot c.in-Err-registers_of.fault in
+    let b : Block = record { slot = c.block.inside.slot; title = c.block.inside.title; image = c.block.inside.image.0 } in
+    let p : Block = record { slot = c.read_backs.inside.slot; title = c.read_backs.inside.title; image = c.read_backs.inside.image.0 } in
+    let b_is = subst (λ x. x ≡ get_or dump c.loop-i.i x) (sym c.block.view_is) c.index-blocks-i.is in
+    let p_is = subst (λ x. x ≡ get_or probe c.loop-i.i x) (sym c.read_backs.view_is) c.index-probes-i.is in
+    let hd : IsDump dump = subst IsDump (sym c.blocks-blocks.ensures.value) c.blocks-blocks.ensures.dump in
+    let hp : IsDump probe = subst IsDump (sym c.blocks-probes.ensures.value) c.blocks-probes.ensures.dump in
+    let pair : (roots : List ℕ) → IsPair roots dump probe = λ roots.
+    subst (λ xs. IsPair roots xs probe) (sym c.blocks-blocks.ensures.value) (subst (λ xs. IsPair roots c.args.dump.now xs) (sym c.blocks-probes.ensures.value) (c.in-Ok.ensures.ok roots)) in
+    let is : IsRefusal dump probe e = refused dump probe hd hp pair c.loop-i.i b p c.loop-i-test.true b_is p_is c.in-Err-registers_of.fault c.in-Err-registers_of.ensures.fault
+    c.loop-i.invariant.decodable c.in-Err-registers_of.ensures.first in
+    subst (λ xs. IsRefusal xs c.args.probe.now e) c.blocks-blocks.ensures.value (subst (λ xs. IsRefusal dump xs e) c.blocks-probes.ensures.value is)
+
 pub returns-in-Err-registers_of-clause-kind : goal.returns-in-Err-registers_of-clause-kind
 returns-in-Err-registers_of-clause-kind g c =
-    let dump = c.blocks-blocks.result.now in
-    let probe = c.blocks-probes.result.now in
-    let e = image_fault_at c.block.inside.slot c.in-Err-registers_of.fault in
-    let b : Block = record { slot = c.block.inside.slot; title = c.block.inside.title; image = c.block.inside.image.0 } in
-    let p : Block = record { slot = c.read_backs.inside.slot; title = c.read_backs.inside.title; image = c.read_backs.inside.image.0 } in
-    let b_is = subst (λ x. x ≡ get_or dump c.loop-i.i x) (sym c.block.view_is) c.index-blocks-i.is in
-    let p_is = subst (λ x. x ≡ get_or probe c.loop-i.i x) (sym c.read_backs.view_is) c.index-probes-i.is in
-    let hd : IsDump dump = subst IsDump (sym c.blocks-blocks.ensures.value) c.blocks-blocks.ensures.dump in
-    let hp : IsDump probe = subst IsDump (sym c.blocks-probes.ensures.value) c.blocks-probes.ensures.dump in
-    let pair : (roots : List ℕ) → IsPair roots dump probe = λ roots.
-    subst (λ xs. IsPair roots xs probe) (sym c.blocks-blocks.ensures.value) (subst (λ xs. IsPair roots c.args.dump.now xs) (sym c.blocks-probes.ensures.value) (c.in-Ok.ensures.ok roots)) in
-    let phase = refused_phase dump probe hd hp pair c.loop-i.i b p c.loop-i-test.true b_is p_is c.in-Err-registers_of.fault c.in-Err-registers_of.ensures.fault in
-    let low : phase_of e ≤ 2 = omega (arith, phase) in
-    subst (λ x. (phase_of x ≤ 2) × IsFalse (is_of_list x)) (sym c.of_image.ensures) (low, register_is_not_of_list c.block.inside.slot c.in-Err-registers_of.fault c.in-Err-registers_of.ensures.number)
+    let phase = (refusal g c).phase in
+    subst (λ x. (phase_of x ≤ 2) × IsFalse (is_of_list x)) (sym c.of_image.ensures) (omega (arith, phase), register_is_not_of_list c.block.inside.slot c.in-Err-registers_of.fault c.in-Err-registers_of.ensures.number)
 
 pub returns-in-Err-registers_of-clause-fault : goal.returns-in-Err-registers_of-clause-fault
-returns-in-Err-registers_of-clause-fault g c roots =
-    let dump = c.blocks-blocks.result.now in
-    let probe = c.blocks-probes.result.now in
-    let e = image_fault_at c.block.inside.slot c.in-Err-registers_of.fault in
-    let b : Block = record { slot = c.block.inside.slot; title = c.block.inside.title; image = c.block.inside.image.0 } in
-    let p : Block = record { slot = c.read_backs.inside.slot; title = c.read_backs.inside.title; image = c.read_backs.inside.image.0 } in
-    let b_is = subst (λ x. x ≡ get_or dump c.loop-i.i x) (sym c.block.view_is) c.index-blocks-i.is in
-    let p_is = subst (λ x. x ≡ get_or probe c.loop-i.i x) (sym c.read_backs.view_is) c.index-probes-i.is in
-    let hd : IsDump dump = subst IsDump (sym c.blocks-blocks.ensures.value) c.blocks-blocks.ensures.dump in
-    let hp : IsDump probe = subst IsDump (sym c.blocks-probes.ensures.value) c.blocks-probes.ensures.dump in
-    let pair : (roots : List ℕ) → IsPair roots dump probe = λ roots.
-    subst (λ xs. IsPair roots xs probe) (sym c.blocks-blocks.ensures.value) (subst (λ xs. IsPair roots c.args.dump.now xs) (sym c.blocks-probes.ensures.value) (c.in-Ok.ensures.ok roots)) in
-    let there = refused_there dump probe hd hp pair c.loop-i.i b p c.loop-i-test.true b_is p_is c.in-Err-registers_of.fault c.in-Err-registers_of.ensures.fault roots in
-    subst (λ x. IsThere roots c.args.dump.now c.args.probe.now x) (sym c.of_image.ensures)
-    (subst (λ xs. IsThere roots xs c.args.probe.now e) c.blocks-blocks.ensures.value (subst (λ xs. IsThere roots dump xs e) c.blocks-probes.ensures.value there))
+returns-in-Err-registers_of-clause-fault g c roots = subst (IsThere roots c.args.dump.now c.args.probe.now) (sym c.of_image.ensures) ((refusal g c).there roots)
 
 -- none before a fault of `pair`
 pub returns-in-Err-clause-first : goal.returns-in-Err-clause-first
 returns-in-Err-clause-first g c roots other before not there = (c.in-Err.ensures.first roots).none_before other before there
 
 pub returns-in-Err-registers_of-clause-first : goal.returns-in-Err-registers_of-clause-first
-returns-in-Err-registers_of-clause-first g c =
-    let dump = c.blocks-blocks.result.now in
-    let probe = c.blocks-probes.result.now in
-    let e = image_fault_at c.block.inside.slot c.in-Err-registers_of.fault in
-    let b : Block = record { slot = c.block.inside.slot; title = c.block.inside.title; image = c.block.inside.image.0 } in
-    let p : Block = record { slot = c.read_backs.inside.slot; title = c.read_backs.inside.title; image = c.read_backs.inside.image.0 } in
-    let b_is = subst (λ x. x ≡ get_or dump c.loop-i.i x) (sym c.block.view_is) c.index-blocks-i.is in
-    let p_is = subst (λ x. x ≡ get_or probe c.loop-i.i x) (sym c.read_backs.view_is) c.index-probes-i.is in
-    let hd : IsDump dump = subst IsDump (sym c.blocks-blocks.ensures.value) c.blocks-blocks.ensures.dump in
-    let hp : IsDump probe = subst IsDump (sym c.blocks-probes.ensures.value) c.blocks-probes.ensures.dump in
-    let pair : (roots : List ℕ) → IsPair roots dump probe = λ roots.
-    subst (λ xs. IsPair roots xs probe) (sym c.blocks-blocks.ensures.value) (subst (λ xs. IsPair roots c.args.dump.now xs) (sym c.blocks-probes.ensures.value) (c.in-Ok.ensures.ok roots)) in
-    let Is : List Block → List Block → faults.Fault → Type 0 = λ xs ys x. (roots : List ℕ) (other : faults.Fault) → IsTrue (is_before (image_at (system_of xs ys)) other x) → IsFalse (is_of_list other) → IsThere roots xs ys other → ⊥ in
-    let first : Is dump probe e = refused_first dump probe hd hp pair c.loop-i.i b p c.loop-i-test.true b_is p_is c.in-Err-registers_of.fault c.in-Err-registers_of.ensures.fault
-    c.loop-i.invariant.decodable c.in-Err-registers_of.ensures.first in
-    subst (Is c.args.dump.now c.args.probe.now) (sym c.of_image.ensures)
-    (subst (λ xs. Is xs c.args.probe.now e) c.blocks-blocks.ensures.value (subst (λ xs. Is dump xs e) c.blocks-probes.ensures.value first))
+returns-in-Err-registers_of-clause-first g c roots other =
+    let dump = c.args.dump.now in
+    let probe = c.args.probe.now in
+    subst (λ x. IsTrue (is_before (image_at (system_of dump probe)) other x) → IsFalse (is_of_list other) → IsThere roots dump probe other → ⊥) (sym c.of_image.ensures) ((refusal g c).first roots other)
 
 pub loop-i-preserved : goal.loop-i-preserved
 loop-i-preserved g c =
