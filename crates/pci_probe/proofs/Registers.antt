@@ -158,42 +158,57 @@ module _ (assuming : Assuming) (image : List ℕ) (lines : List ResourceLine) (k
 
   -- ---- all registers
 
+  -- what is asked for of all of them
+  pub record IsDerivedOfAll (probe assumed : List ℕ) : Type 0 where
+    pub told : no_probe assuming image lines ≡ None
+    pub bytes : probe ≡ derived_probe image lines
+    pub listed : assumed ≡ assumed_registers image lines
+
   module _ (k : ℕ) (probe assumed : List ℕ) (kind : layout image ≡ layout_number known) (all : length registers ≤ k) (has : HasDerived k probe assumed) where
     all_offsets : length offsets ≤ k
     all_offsets = omega (arith, all, length-map {B = ℕ} registers (λ (q : ℕ × ℕ). q.0))
 
-    pub derived_all : probe ≡ derived_probe image lines
+    derived_all : probe ≡ derived_probe image lines
     unfolding derived_probe
     derived_all =
         fill_by_all (λ place. derived_byte image lines place (register_at (layout image) place)) probe 256 0 has.full (λ place below.
         has.bytes place below ∙ ap (λ rs. derived_byte image lines place (found_in rs place)) (take_all k registers all)
         ∙ ap (λ m. derived_byte image lines place (register_at m place)) (sym kind))
 
-    pub told_all : no_probe assuming image lines ≡ None
+    told_all : no_probe assuming image lines ≡ None
     unfolding no_probe
     told_all =
         ap (λ m. first_at fault (map (λ (q : ℕ × ℕ). q.0) (address_registers m))) kind
         ∙ ap (first_at fault) (sym (take_all k offsets all_offsets)) ∙ has.told
 
-    pub assumed_all : assumed ≡ assumed_registers image lines
+    assumed_all : assumed ≡ assumed_registers image lines
     unfolding assumed_registers
     assumed_all =
         has.listed ∙ ap (filter assumes) (take_all k offsets all_offsets)
         ∙ ap (λ m. filter assumes (map (λ (q : ℕ × ℕ). q.0) (address_registers m))) (sym kind)
 
+    pub derived_of_all : IsDerivedOfAll probe assumed
+    derived_of_all = record { told = told_all; bytes = derived_all; listed = assumed_all }
+
 -- ---- the register of a turn
 
+-- a register at its place in the table
+pub record IsTurn (known : Layout) (k : ℕ) (r : ℕ × ℕ) : Type 0 where
+  pub below : k < length (address_registers (layout_number known))
+  pub is : get_or (address_registers (layout_number known)) k r ≡ r
+
+abbrev pair_of : Register → ℕ × ℕ
+pair_of r = (r.offset, r.width)
+
+abbrev pub here : List Register → ℕ → Register → ℕ × ℕ
+here items k d = pair_of (get_or items k d)
+
 -- in the code's table
-module _ (items : List Register) (known : Layout) (table : map (λ (r : Register). (r.offset, r.width)) items ≡ address_registers (layout_number known)) where
+module _ (items : List Register) (known : Layout) (table : map pair_of items ≡ address_registers (layout_number known)) where
   pub length_of_table : length items ≡ length (address_registers (layout_number known))
-  length_of_table = sym (length-map {B = ℕ × ℕ} items (λ (r : Register). (r.offset, r.width))) ∙ ap length table
+  length_of_table = sym (length-map {B = ℕ × ℕ} items pair_of) ∙ ap length table
 
-  module _ (k : ℕ) (within : k < length items) (d : Register) where
-    abbrev pub here : ℕ × ℕ
-    here = ((get_or items k d).offset, (get_or items k d).width)
-
-    pub in_table : k < length (address_registers (layout_number known))
-    in_table = omega (arith, within, length_of_table)
-
-    pub at_place : get_or (address_registers (layout_number known)) k here ≡ here
-    at_place = ap (λ rs. get_or rs k here) (sym table) ∙ get_or-map (λ (r : Register). (r.offset, r.width)) items k d here within
+  pub turn_of : (k : ℕ) → k < length items → (d : Register) → IsTurn known k (here items k d)
+  turn_of k within d =
+      let r = here items k d in
+      record { below = omega (arith, within, length_of_table); is = ap (λ rs. get_or rs k r) (sym table) ∙ get_or-map pair_of items k d r within }

@@ -17,7 +17,7 @@ use Rattle.pci_probe.specs.Assuming.{assuming_of}
 use Rattle.pci_probe.specs.declared.assuming.Assuming.{Assuming}
 use Rattle.pci_probe.specs.Derived.{derived_of}
 use Rattle.pci_probe.specs.Fault.{IsDeriveFault, IsFaultOf}
-use Rattle.pci_probe.proofs.Registers.{derived_none, derived_fault, derived_more, derived_all, told_all, assumed_all, length_of_table, here, in_table, at_place}
+use Rattle.pci_probe.proofs.Registers.{derived_none, derived_fault, derived_more, IsDerivedOfAll, derived_of_all, length_of_table, here, turn_of}
 use Rattle.pci_probe.proofs.derive.derive.Goals as goal
 use Rattle.pci_probe.proofs.derive.derive.Goals.{then-is_assumed, else-is_assumed}
 
@@ -35,52 +35,37 @@ loop-place-init c = derived_none (assuming_of c.args.assuming) c.args.image.now.
 
 pub register-derived-requires-clause-begins : goal.register-derived-requires-clause-begins
 register-derived-requires-clause-begins c =
-    let items = c.address_registers-place-items.result.now in
-    let table = c.address_registers-place-items.ensures in
-    let k = c.loop-place.place-index in
-    let within = c.loop-place-test.true in
-    register_begins c.in-Ok.layout k (here items c.in-Ok.layout table k within none) (in_table items c.in-Ok.layout table k within none) (at_place items c.in-Ok.layout table k within none)
+    let turn = turn_of c.address_registers-place-items.result.now c.in-Ok.layout c.address_registers-place-items.ensures c.loop-place.place-index c.loop-place-test.true none in
+    register_begins c.in-Ok.layout c.loop-place.place-index _ turn.below turn.is
 
 pub returns-in_err-read_back-clause-fault : goal.returns-in_err-read_back-clause-fault
 returns-in_err-read_back-clause-fault c =
-    let known = c.in-Ok.layout in
-    let items = c.address_registers-place-items.result.now in
-    let table = c.address_registers-place-items.ensures in
-    let k = c.loop-place.place-index in
-    let within = c.loop-place-test.true in
-    let register = here items known table k within none in
+    let turn = turn_of c.address_registers-place-items.result.now c.in-Ok.layout c.address_registers-place-items.ensures c.loop-place.place-index c.loop-place-test.true none in
+    let register = here c.address_registers-place-items.result.now c.loop-place.place-index none in
     let derived = c.register-derived.ensures.derived in
     let p = err_from_is_err_and c.from_residual.result c.from_residual.ensures.1 in
     rw (p.1, p.2) (fault_of c.args.assuming c.args.image.now.0 c.args.lines.now c.in_err-read_back.field-0.0 (register_fault (assuming_of c.args.assuming) register.0 (derived_of c.register-derived.result))
     c.in_err-read_back.ensures.fault c.in-Ok.ensures.header (λ found is.
-    derived_fault (assuming_of c.args.assuming) c.args.image.now.0 c.args.lines.now known k register (in_table items known table k within none) (at_place items known table k within none)
+    derived_fault (assuming_of c.args.assuming) c.args.image.now.0 c.args.lines.now c.in-Ok.layout c.loop-place.place-index register turn.below turn.is
     c.loop-place.probe.0 c.loop-place.assumed.items found c.loop-place.invariant c.in-Ok.ensures.layout (sym (ap (register_fault (assuming_of c.args.assuming) register.0) derived) ∙ is)))
 
 pub put-requires : goal.put-requires
 put-requires c =
-    let known = c.in-Ok.layout in
-    let items = c.address_registers-place-items.result.now in
-    let table = c.address_registers-place-items.ensures in
-    let k = c.loop-place.place-index in
-    let within = c.loop-place-test.true in
-    let register = here items known table k within none in
-    (sound_parts (layout_number known) register (sound_at known k register (in_table items known table k within none) (at_place items known table k within none))).access
+    let turn = turn_of c.address_registers-place-items.result.now c.in-Ok.layout c.address_registers-place-items.ensures c.loop-place.place-index c.loop-place-test.true none in
+    let register = here c.address_registers-place-items.result.now c.loop-place.place-index none in
+    (sound_parts (layout_number c.in-Ok.layout) register (sound_at c.in-Ok.layout c.loop-place.place-index register turn.below turn.is)).access
 
 pub loop-place-preserved : goal.loop-place-preserved
 loop-place-preserved c =
-    let known = c.in-Ok.layout in
     let image = c.args.image.now.0 in
     let lines = c.args.lines.now in
-    let items = c.address_registers-place-items.result.now in
-    let table = c.address_registers-place-items.ensures in
-    let k = c.loop-place.place-index in
-    let within = c.loop-place-test.true in
-    let register = here items known table k within none in
+    let turn = turn_of c.address_registers-place-items.result.now c.in-Ok.layout c.address_registers-place-items.ensures c.loop-place.place-index c.loop-place-test.true none in
+    let register = here c.address_registers-place-items.result.now c.loop-place.place-index none in
     let derived = c.register-derived.ensures.derived in
     let taken = c.in_ok-read_back.ensures in
     let assumes : c.in_ok-read_back.is_assumed ≡ is_assumed (register_derived image lines register.0) = taken.read_back.1 ∙ ap is_assumed derived in
     let so_far = c.loop-place.assumed.items in
-    derived_more (assuming_of c.args.assuming) image lines known k register (in_table items known table k within none) (at_place items known table k within none)
+    derived_more (assuming_of c.args.assuming) image lines c.in-Ok.layout c.loop-place.place-index register turn.below turn.is
     c.loop-place.probe.0 c.put.new.bytes c.loop-place.assumed.items c.if-is_assumed.assumed.items c.in_ok-read_back.read_back c.loop-place.invariant
     (sym (ap (register_fault (assuming_of c.args.assuming) register.0) derived) ∙ taken.told) c.put.array_long (taken.read_back.0 ∙ ap read_back_of derived) c.put.ensures.inside c.put.ensures.outside
     (elim c.if-is_assumed.branch [
@@ -90,23 +75,18 @@ loop-place-preserved c =
           (sym (append-nil so_far) ∙ ap (λ xs. so_far ++ xs) (sym (cond-false (is_assumed (register_derived image lines register.0)) (register.0 ∷ []) [] (sym assumes ∙ w.if-is_assumed.false))))
     ])
 
-pub returns-clause-told : goal.returns-clause-told
-returns-clause-told c =
+derived_all : (c : goal.After-loop-place) → IsDerivedOfAll (assuming_of c.args.assuming) c.args.image.now.0 c.args.lines.now c.in-Ok.layout c.loop-place.probe.0 c.loop-place.assumed.items
+derived_all c =
     let items = c.address_registers-place-items.result.now in
     let long = length_of_table items c.in-Ok.layout c.address_registers-place-items.ensures in
-    told_all (assuming_of c.args.assuming) c.args.image.now.0 c.args.lines.now c.in-Ok.layout c.loop-place.place-index c.loop-place.probe.0 c.loop-place.assumed.items
+    derived_of_all (assuming_of c.args.assuming) c.args.image.now.0 c.args.lines.now c.in-Ok.layout c.loop-place.place-index c.loop-place.probe.0 c.loop-place.assumed.items
     c.in-Ok.ensures.layout (omega (arith, c.loop-place-test.false, long)) c.loop-place.invariant
+
+pub returns-clause-told : goal.returns-clause-told
+returns-clause-told c = (derived_all c).told
 
 pub returns-clause-probe : goal.returns-clause-probe
-returns-clause-probe c =
-    let items = c.address_registers-place-items.result.now in
-    let long = length_of_table items c.in-Ok.layout c.address_registers-place-items.ensures in
-    derived_all (assuming_of c.args.assuming) c.args.image.now.0 c.args.lines.now c.in-Ok.layout c.loop-place.place-index c.loop-place.probe.0 c.loop-place.assumed.items
-    c.in-Ok.ensures.layout (omega (arith, c.loop-place-test.false, long)) c.loop-place.invariant
+returns-clause-probe c = (derived_all c).bytes
 
 pub returns-clause-assumed : goal.returns-clause-assumed
-returns-clause-assumed c =
-    let items = c.address_registers-place-items.result.now in
-    let long = length_of_table items c.in-Ok.layout c.address_registers-place-items.ensures in
-    assumed_all (assuming_of c.args.assuming) c.args.image.now.0 c.args.lines.now c.in-Ok.layout c.loop-place.place-index c.loop-place.probe.0 c.loop-place.assumed.items
-    c.in-Ok.ensures.layout (omega (arith, c.loop-place-test.false, long)) c.loop-place.invariant
+returns-clause-assumed c = (derived_all c).listed
