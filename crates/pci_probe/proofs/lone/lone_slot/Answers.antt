@@ -1,4 +1,4 @@
-use Rattle.std.proofs.Common.{◌≡◌, ◌<◌, ◌≤◌, ℕ, arith, sym, ap, ◌∙◌, Some, length, get_or}
+use Rattle.std.proofs.Common.{◌≡◌, ◌≤◌, ℕ, arith, sym, ap, ◌∙◌, Some, length, get_or}
 use Rattle.pci_spec.specs.Slot.{slot_number}
 use Rattle.pci_probe.proofs.LoneSlots.{ours_alone, theirs_alone, ours_lower, theirs_lower, one_slot, both_end, none_lone}
 use Rattle.pci_probe.proofs.lone.lone_slot.Goals as goal
@@ -11,41 +11,28 @@ returns-then-i-sizes-clause-least c =
 
 pub returns-then-number-clause-least : goal.returns-then-number-clause-least
 returns-then-number-clause-least c =
-    let b = c.index-dump-i.result in
-    let s = c.index-sizes-i.result in
     let ours = ap (λ b. slot_number b.slot) c.ours.view_is in
     let theirs = ap (λ s. slot_number s.slot) c.theirs.view_is in
-    let within = c.loop-i.invariant.within in
-    let end = c.if-i-sizes.false in
-    let less : slot_number b.slot < slot_number s.slot = omega (arith, ours, theirs, c.number.ensures.number, c.number-in-loop-i.ensures.number, c.if-number.true) in
     ap (λ b. Some b.slot) c.ours.view_is
-    ∙ sym (ours_lower c.args.dump.now c.args.sizes.now c.requires.dump c.requires.sizes c.loop-i.i c.loop-i.invariant.same b s c.loop-i-test.true (omega (arith, within, end)) c.index-dump-i.is c.index-sizes-i.is less)
+    ∙ sym (ours_lower c.args.dump.now c.args.sizes.now c.requires.dump c.requires.sizes c.loop-i.i c.loop-i.invariant.same c.index-dump-i.result c.index-sizes-i.result c.loop-i-test.true (omega (arith, c.loop-i.invariant.within, c.if-i-sizes.false)) c.index-dump-i.is c.index-sizes-i.is
+    (omega (arith, ours, theirs, c.number.ensures.number, c.number-in-loop-i.ensures.number, c.if-number.true)))
 
 pub returns-then-number-2-clause-least : goal.returns-then-number-2-clause-least
 returns-then-number-2-clause-least c =
-    let b = c.index-dump-i.result in
-    let s = c.index-sizes-i.result in
     let ours = ap (λ b. slot_number b.slot) c.ours.view_is in
     let theirs = ap (λ s. slot_number s.slot) c.theirs.view_is in
-    let within = c.loop-i.invariant.within in
-    let end = c.if-i-sizes.false in
-    let less : slot_number s.slot < slot_number b.slot = omega (arith, ours, theirs, c.number-in-loop-i-2.ensures.number, c.number-in-loop-i-3.ensures.number, c.if-number-2.true) in
     ap (λ s. Some s.slot) c.theirs.view_is
-    ∙ sym (theirs_lower c.args.dump.now c.args.sizes.now c.requires.dump c.requires.sizes c.loop-i.i c.loop-i.invariant.same b s c.loop-i-test.true (omega (arith, within, end)) c.index-dump-i.is c.index-sizes-i.is less)
+    ∙ sym (theirs_lower c.args.dump.now c.args.sizes.now c.requires.dump c.requires.sizes c.loop-i.i c.loop-i.invariant.same c.index-dump-i.result c.index-sizes-i.result c.loop-i-test.true (omega (arith, c.loop-i.invariant.within, c.if-i-sizes.false)) c.index-dump-i.is c.index-sizes-i.is
+    (omega (arith, ours, theirs, c.number-in-loop-i-2.ensures.number, c.number-in-loop-i-3.ensures.number, c.if-number-2.true)))
 
 pub loop-i-preserved : goal.loop-i-preserved
 loop-i-preserved c =
-    let b = c.index-dump-i.result in
-    let s = c.index-sizes-i.result in
     let ours = ap (λ b. slot_number b.slot) c.ours.view_is in
     let theirs = ap (λ s. slot_number s.slot) c.theirs.view_is in
-    let within = c.loop-i.invariant.within in
-    let end = c.if-i-sizes.false in
-    let one : slot_number b.slot ≡ slot_number s.slot =
-    omega (arith, ours, theirs, c.number.ensures.number, c.number-in-loop-i.ensures.number, c.number-in-loop-i-2.ensures.number, c.number-in-loop-i-3.ensures.number, c.if-number.false, c.if-number-2.false) in
     record {
-      same = one_slot c.args.dump.now c.args.sizes.now c.requires.dump c.requires.sizes c.loop-i.i c.loop-i.invariant.same b s c.loop-i-test.true (omega (arith, within, end)) c.index-dump-i.is c.index-sizes-i.is one;
-      within = omega (arith, within, end);
+      same = one_slot c.args.dump.now c.args.sizes.now c.requires.dump c.requires.sizes c.loop-i.i c.loop-i.invariant.same c.index-dump-i.result c.index-sizes-i.result c.loop-i-test.true (omega (arith, c.loop-i.invariant.within, c.if-i-sizes.false)) c.index-dump-i.is c.index-sizes-i.is
+          (omega (arith, ours, theirs, c.number.ensures.number, c.number-in-loop-i.ensures.number, c.number-in-loop-i-2.ensures.number, c.number-in-loop-i-3.ensures.number, c.if-number.false, c.if-number-2.false));
+      within = omega (arith, c.loop-i.invariant.within, c.if-i-sizes.false);
     }
 
 pub returns-then-dump-sizes-clause-least : goal.returns-then-dump-sizes-clause-least
