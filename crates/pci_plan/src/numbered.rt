@@ -2,14 +2,10 @@
 ghost use Rattle.std.specs.Prelude.{◌≡◌, ◌<◌, Some, IfOk, take, drop, ◌++◌, length};
 ghost use Rattle.std.specs.List.{slice_get};
 ghost use Rattle.pci_spec.specs.System.{Function as FunctionValue};
-ghost use Rattle.pci_spec.specs.Window.{WindowKind as KindValue};
-ghost use Rattle.plan_spec.specs.PlanPromise.{CanBePlanned};
 ghost use Rattle.plan_spec.specs.Planning.Numbers.{IsPlannedFunction};
 ghost use Rattle.pci_place.specs.Pools.{pools_value};
 ghost use Rattle.pci_place.specs.Above.{system_in};
-ghost use Rattle.pci_place.specs.Needs.{AreAllNeeds};
-ghost use Rattle.pci_place.specs.Places.{HasPlaces};
-ghost use Rattle.pci_plan.specs.Numbered.{AreNewHeaders};
+ghost use Rattle.pci_plan.specs.Numbered.{CanBeNumbered, AreNewHeaders};
 
 use super::numbers::Filling;
 use super::planned::filled;
@@ -49,15 +45,7 @@ fn filled_image<A: Allocator>(
     places: &[Places],
     i: usize,
 ) -> Image
-    // only in pools with room for all does each sum of place and size fit its register
-    requires plannable { CanBePlanned admitted.now.roots (system_in admitted.now)
-        (pools_value pools.now) }
-    requires needs { AreAllNeeds admitted.now.roots (system_in admitted.now)
-        (pools_value pools.now) needs.now }
-    requires count { length places.now ≡ length (system_in admitted.now) }
-    requires places { (c : KindValue)
-        → HasPlaces admitted.now.roots (system_in admitted.now)
-        (pools_value pools.now) c places.now }
+    requires numbered { CanBeNumbered admitted.now (pools_value pools.now) needs.now places.now }
     requires within { i < length (system_in admitted.now) }
     ensures { (f : FunctionValue) → slice_get (system_in admitted.now) i ≡ Some f
         → IsPlannedFunction admitted.now.roots (system_in admitted.now) (pools_value pools.now)
@@ -87,18 +75,8 @@ pub fn number_all<A: Allocator, B: Allocator>(
     needs: &ByKind<Needs>,
     places: &[Places],
 ) -> Result<Vec<[u8; HEADER_LEN], A>, OutOfMemory>
-    // what fits its pool ends below 2^64, so each number fits its register
-    requires plannable { CanBePlanned admitted.now.roots (system_in admitted.now)
-        (pools_value pools.now) }
-    // a window's limit is told by what is behind it
-    requires needs { AreAllNeeds admitted.now.roots (system_in admitted.now)
-        (pools_value pools.now) needs.now }
-    // a function's places stand where its record does
-    requires count { length places.now ≡ length (system_in admitted.now) }
-    // what a register gets is read off them
-    requires places { (c : KindValue)
-        → HasPlaces admitted.now.roots (system_in admitted.now)
-        (pools_value pools.now) c places.now }
+    // each number is read off these, and fits its register
+    requires { CanBeNumbered admitted.now (pools_value pools.now) needs.now places.now }
     ensures { IfOk result
         (λ headers. AreNewHeaders admitted.now (pools_value pools.now) headers.items) }
 {

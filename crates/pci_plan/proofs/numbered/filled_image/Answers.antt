@@ -35,7 +35,7 @@ module _ (g : Over) (c : After-blocks-blocks g) where
   records_are = subst (λ (rs : List decoded.Record). HasRecords (system_in c.args.admitted.now) rs) (sym c.records-records.ensures.value) c.outline-2.ensures.records
 
   plannable : IsPlannable c.args.admitted.now.roots (system_in c.args.admitted.now) (pools_value c.args.pools.now)
-  plannable = plannable_of c.args.admitted.now (pools_value c.args.pools.now) (map record_value c.records-records.result.now) admitted_is records_are c.requires.plannable (omega arith)
+  plannable = plannable_of c.args.admitted.now (pools_value c.args.pools.now) (map record_value c.records-records.result.now) admitted_is records_are c.requires.numbered.plannable (omega arith)
 
   rising : IsStrictlyIncreasing c.args.admitted.now.roots
   rising = subst (λ (roots : List ℕ). IsStrictlyIncreasing roots) (c.roots-roots.ensures ∙ c.outline.ensures.roots) (λ k l. set_rises c.roots-roots.result.flags k (k + 1) 0 (omega arith) l)
@@ -77,14 +77,14 @@ bounds-records-i g c =
     omega (arith, many, l)
 
 pub bounds-places-i : goal.bounds-places-i
-bounds-places-i g c = let many = c.requires.count in let l = c.requires.within in omega (arith, many, l)
+bounds-places-i g c = let many = c.requires.numbered.count in let l = c.requires.within in omega (arith, many, l)
 
 pub filled-requires : goal.filled-requires
 filled-requires g c =
     let start = (goal.at.filled-requires g c).After-blocks-blocks in
     let a = c.args.admitted.now in
     let at = here g start c.index-blocks-i.result c.index-records-i.result c.index-blocks-i.is c.index-records-i.is in
-    filling_at a.roots a.dump a.probe (pools_value c.args.pools.now) c.args.needs.now c.args.places.now (plannable g start) (tables g start) c.requires.needs c.requires.places
+    filling_at a.roots a.dump a.probe (pools_value c.args.pools.now) c.args.needs.now c.args.places.now (plannable g start) (tables g start) c.requires.numbered.needs c.requires.numbered.places
     _ c.args.i (function_of c.index-blocks-i.result (probe_block g start c.index-blocks-i.result c.index-records-i.result c.index-blocks-i.is c.index-records-i.is))
     record { bars = []; rom = 0; windows = record { io = 0; memory = 0; prefetchable = 0 } } at.0 at.1 (ap (λ (b : Block). b.image) c.block.view_is) refl refl
 
@@ -99,6 +99,6 @@ returns g c = λ f at_f.
     let one : own ≡ f = cc in
     let planned : IsPlannedFunction a.roots (system_in a) pools own record own { image = c.filled.result.0 } =
     c.filled.ensures
-    (filling_at a.roots a.dump a.probe pools c.args.needs.now c.args.places.now (plannable g start) (tables g start) c.requires.needs c.requires.places
+    (filling_at a.roots a.dump a.probe pools c.args.needs.now c.args.places.now (plannable g start) (tables g start) c.requires.numbered.needs c.requires.numbered.places
     _ c.args.i own record { bars = []; rom = 0; windows = record { io = 0; memory = 0; prefetchable = 0 } } at.0 at.1 (ap (λ (b : Block). b.image) c.block.view_is) refl refl) in
     subst (λ (h : Function). IsPlannedFunction a.roots (system_in a) pools h record h { image = c.filled.result.0 }) one planned
