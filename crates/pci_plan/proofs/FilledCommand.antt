@@ -1,5 +1,5 @@
 -- What a filling's function has to decode, by its record.
-use Rattle.std.proofs.Common.{◌≡◌, ℕ, ◌+◌, ◌*◌, ◌/◌, ◌<◌, ◌≤◌, [], ◌∷◌, map, refl, Bool, true, false, cond, not, ◌||◌, sym, ◌∙◌, ap, arith}
+use Rattle.std.proofs.Common.{◌≡◌, ℕ, ◌+◌, ◌*◌, ◌/◌, ◌<◌, ◌≤◌, [], ◌∷◌, map, refl, Bool, true, false, cond, not, ◌&&◌, ◌||◌, sym, ◌∙◌, ap, arith}
 use Rattle.std.specs.List.{list_any}
 use Rattle.std.specs.Option.{is_some}
 use Rattle.std.proofs.lemmas.Bool.{both_ways}
@@ -8,8 +8,9 @@ use mir.Val.{bool_byte}
 use Rattle.pci_spec.specs.Bar.{bar_at, is_io}
 use Rattle.pci_spec.specs.Rom.{has_rom}
 use Rattle.pci_spec.specs.Decoded.{decoded_bar}
-use Rattle.pci_spec.specs.System.{Function, Part, Bar, Rom, bars_and_rom}
-use Rattle.plan_spec.specs.Plan.{is_io_part}
+use Rattle.pci_spec.specs.Window.{WindowKind, has_window}
+use Rattle.pci_spec.specs.System.{Function, Part, Bar, Rom, bars_and_rom, is_bridge}
+use Rattle.plan_spec.specs.Plan.{is_io_part, has_behind}
 use Rattle.pci_image.specs.Bars.{decoded_bar_of}
 use Rattle.pci_plan.specs.declared.numbers.Filling.{Filling}
 use Rattle.pci_place.specs.Classes.{is_io_kind}
@@ -65,9 +66,15 @@ module _ (filling : Filling) (of : FillingOf filling) where
   pub io_bar_is : list_any (λ bar. is_io_kind bar.kind) filling.record.now.bars.items ≡ list_any (is_io_part of.function) (bars_and_rom of.function)
   io_bar_is = any_io of.system of.function filling.record.now of.recorded
 
+  -- whether the function has a memory BAR or a ROM, and whether a window of it is opened
+  abbrev pub memory_part : Bool
+  memory_part = list_any (λ part. not (is_io_part of.function part)) (bars_and_rom of.function)
+
+  abbrev pub opens : WindowKind → Bool
+  opens kind = is_bridge of.function && has_window kind of.function.probe && has_behind of.system of.pools kind of.function
+
   -- and a memory BAR or a ROM where the function has one
-  pub memory_part_is : (list_any (λ bar. not (is_io_kind bar.kind)) filling.record.now.bars.items || is_some filling.record.now.rom)
-      ≡ list_any (λ part. not (is_io_part of.function part)) (bars_and_rom of.function)
+  pub memory_part_is : (list_any (λ bar. not (is_io_kind bar.kind)) filling.record.now.bars.items || is_some filling.record.now.rom) ≡ memory_part
   memory_part_is =
       let f = of.function in
       let is_memory : Part → Bool = λ part. not (is_io_part f part) in
