@@ -11,38 +11,32 @@ use Rattle.pci_plan.proofs.apply.apply.Goals as goal
 
 -- ---- comparing ended it
 
+-- by the blocks that the plan starts from
+ended_by : (g : _) (c : goal.After-from_residual g) → IsStartFault (moment (g.P.ConfigPort.targets c.args.port.now) (g.P.ConfigPort.failures c.args.port.now)) c.args.plan.now.start.dump (g.P.ConfigPort.failures c.compare.new.port) c.in_err-compare.field-0.0
+ended_by g c =
+    let blocks = c.blocks-2.ensures.value ∙ c.dump.ensures ∙ ap (λ (a : Admission). a.dump) c.start.ensures.value in
+    subst (λ bs. IsStartFault (moment (g.P.ConfigPort.targets c.args.port.now) (g.P.ConfigPort.failures c.args.port.now)) bs (g.P.ConfigPort.failures c.compare.new.port) c.in_err-compare.field-0.0) blocks c.in_err-compare.ensures.fault
+
 pub returns-in_err-compare-clause-made : goal.returns-in_err-compare-clause-made
 returns-in_err-compare-clause-made g c =
-    let plan = c.args.plan.now in
-    let before = g.P.ConfigPort.targets c.args.port.now in
-    let blocks : c.blocks-2.result.now ≡ plan.start.dump = c.blocks-2.ensures.value ∙ c.dump.ensures ∙ ap (λ (a : Admission). a.dump) c.start.ensures.value in
-    let e = c.in_err-compare.field-0.0 in
-    let reason = subst (λ bs. IsStartFault (moment before (g.P.ConfigPort.failures c.args.port.now)) bs (g.P.ConfigPort.failures c.compare.new.port) e) blocks c.in_err-compare.ensures.fault in
     let p = err_from_is_err_and c.from_residual.result c.from_residual.ensures.1 in
     rw (p.1, p.2)
-    (start_made plan c.start.ensures.plan before (g.P.ConfigPort.targets c.compare.new.port) (g.P.ConfigPort.failures c.args.port.now) (g.P.ConfigPort.failures c.compare.new.port) e reason c.in_err-compare.ensures.same)
+    (start_made c.args.plan.now c.start.ensures.plan (g.P.ConfigPort.targets c.args.port.now) (g.P.ConfigPort.targets c.compare.new.port) (g.P.ConfigPort.failures c.args.port.now) (g.P.ConfigPort.failures c.compare.new.port)
+    c.in_err-compare.field-0.0 (ended_by g c) c.in_err-compare.ensures.same)
 
 pub returns-in_err-compare-clause-read_back : goal.returns-in_err-compare-clause-read_back
 returns-in_err-compare-clause-read_back g c =
-    let plan = c.args.plan.now in
-    let before = g.P.ConfigPort.targets c.args.port.now in
-    let blocks : c.blocks-2.result.now ≡ plan.start.dump = c.blocks-2.ensures.value ∙ c.dump.ensures ∙ ap (λ (a : Admission). a.dump) c.start.ensures.value in
-    let e = c.in_err-compare.field-0.0 in
-    let reason = subst (λ bs. IsStartFault (moment before (g.P.ConfigPort.failures c.args.port.now)) bs (g.P.ConfigPort.failures c.compare.new.port) e) blocks c.in_err-compare.ensures.fault in
     let p = err_from_is_err_and c.from_residual.result c.from_residual.ensures.1 in
     rw (p.1, p.2)
-    (start_read_back plan c.start.ensures.plan before (g.P.ConfigPort.failures c.args.port.now) (g.P.ConfigPort.failures c.compare.new.port) e reason)
+    (start_read_back c.args.plan.now c.start.ensures.plan (g.P.ConfigPort.targets c.args.port.now) (g.P.ConfigPort.failures c.args.port.now) (g.P.ConfigPort.failures c.compare.new.port)
+    c.in_err-compare.field-0.0 (ended_by g c))
 
 pub returns-in_err-compare-clause-fault : goal.returns-in_err-compare-clause-fault
 returns-in_err-compare-clause-fault g c =
-    let plan = c.args.plan.now in
-    let before = g.P.ConfigPort.targets c.args.port.now in
-    let blocks : c.blocks-2.result.now ≡ plan.start.dump = c.blocks-2.ensures.value ∙ c.dump.ensures ∙ ap (λ (a : Admission). a.dump) c.start.ensures.value in
-    let e = c.in_err-compare.field-0.0 in
-    let reason = subst (λ bs. IsStartFault (moment before (g.P.ConfigPort.failures c.args.port.now)) bs (g.P.ConfigPort.failures c.compare.new.port) e) blocks c.in_err-compare.ensures.fault in
     let p = err_from_is_err_and c.from_residual.result c.from_residual.ensures.1 in
     rw (p.1, p.2)
-    (start_fault plan c.start.ensures.plan before (g.P.ConfigPort.failures c.args.port.now) (g.P.ConfigPort.targets c.compare.new.port) (g.P.ConfigPort.failures c.compare.new.port) e reason)
+    (start_fault c.args.plan.now c.start.ensures.plan (g.P.ConfigPort.targets c.args.port.now) (g.P.ConfigPort.failures c.args.port.now) (g.P.ConfigPort.targets c.compare.new.port) (g.P.ConfigPort.failures c.compare.new.port)
+    c.in_err-compare.field-0.0 (ended_by g c))
 
 pub returns-in_err-compare-clause-own_machine : goal.returns-in_err-compare-clause-own_machine
 returns-in_err-compare-clause-own_machine g c =
@@ -59,6 +53,12 @@ returns-in_err-compare-clause-sound_images g c = sound_while_read_back c.args.pl
 
 -- ---- writes were made
 
+-- the machine was as the plan starts
+started : (g : _) (c : goal.After-make g) → StartsAs (g.P.ConfigPort.targets c.args.port.now) c.args.plan.now.start.dump
+started g c =
+    let blocks = c.blocks-2.ensures.value ∙ c.dump.ensures ∙ ap (λ (a : Admission). a.dump) c.start.ensures.value in
+    subst (λ bs. StartsAs (g.P.ConfigPort.targets c.args.port.now) bs) blocks c.in_ok-compare.ensures.started
+
 pub make-requires : goal.make-requires
 make-requires g c = accesses c.args.plan.now c.start.ensures.plan c.writes.result.now c.writes.ensures.value
 
@@ -71,10 +71,7 @@ returns-clause-made g c =
 
 pub returns-clause-started : goal.returns-clause-started
 returns-clause-started g c =
-    let blocks : c.blocks-2.result.now ≡ c.args.plan.now.start.dump = c.blocks-2.ensures.value ∙ c.dump.ensures ∙ ap (λ (a : Admission). a.dump) c.start.ensures.value in
-    on_ok_weaker c.make.result
-    (λ made. shows_start c.args.plan.now c.start.ensures.plan (g.P.ConfigPort.targets c.args.port.now) (subst (λ bs. StartsAs (g.P.ConfigPort.targets c.args.port.now) bs) blocks c.in_ok-compare.ensures.started))
-    c.make.ensures.made
+    on_ok_weaker c.make.result (λ made. shows_start c.args.plan.now c.start.ensures.plan (g.P.ConfigPort.targets c.args.port.now) (started g c)) c.make.ensures.made
 
 pub returns-clause-ended : goal.returns-clause-ended
 returns-clause-ended g c =
@@ -82,10 +79,8 @@ returns-clause-ended g c =
     let now = g.P.ConfigPort.targets c.compare.new.port in
     let after = g.P.ConfigPort.targets c.make.new.port in
     let before : now ≡ g.P.ConfigPort.targets c.args.port.now = c.in_ok-compare.ensures.same in
-    let blocks : c.blocks-2.result.now ≡ plan.start.dump = c.blocks-2.ensures.value ∙ c.dump.ensures ∙ ap (λ (a : Admission). a.dump) c.start.ensures.value in
-    let starts = subst (λ bs. StartsAs (g.P.ConfigPort.targets c.args.port.now) bs) blocks c.in_ok-compare.ensures.started in
     on_ok_weaker c.make.result
-    (λ made. shows_final plan c.start.ensures.plan now after (shows_start plan c.start.ensures.plan now (subst (λ ts. StartsAs ts plan.start.dump) (sym before) starts))
+    (λ made. shows_final plan c.start.ensures.plan now after (shows_start plan c.start.ensures.plan now (subst (λ ts. StartsAs ts plan.start.dump) (sym before) (started g c)))
     (all_made plan c.start.ensures.plan c.writes.result.now now after c.writes.ensures.value made))
     c.make.ensures.made
 
@@ -115,8 +110,7 @@ returns-clause-fault g c =
     let failures_after = g.P.ConfigPort.failures c.make.new.port in
     let before : now ≡ old = c.in_ok-compare.ensures.same in
     let quiet : g.P.ConfigPort.failures c.compare.new.port ≡ failures = c.in_ok-compare.ensures.counted in
-    let blocks : c.blocks-2.result.now ≡ plan.start.dump = c.blocks-2.ensures.value ∙ c.dump.ensures ∙ ap (λ (a : Admission). a.dump) c.start.ensures.value in
-    let shows = shows_start plan c.start.ensures.plan old (subst (λ bs. StartsAs old bs) blocks c.in_ok-compare.ensures.started) in
+    let shows = shows_start plan c.start.ensures.plan old (started g c) in
     let stops = subst (λ ws. IfErr c.make.result (IsStop (moment now (g.P.ConfigPort.failures c.compare.new.port)) ws (moment after failures_after))) c.writes.ensures.value c.make.ensures.stop in
     IfErr-weaker c.make.result (IsStop (moment now (g.P.ConfigPort.failures c.compare.new.port)) plan.writes (moment after failures_after)) (IsApplyFault (moment old failures) (system_in plan.start) plan.writes (moment after failures_after))
     (λ e stop.
