@@ -5,6 +5,7 @@ pub mod Bytes
 pub mod Memory
 pub mod Sizing
 pub mod RegisterOrder
+pub mod Turns
 pub mod Quieting
 pub mod Ends
 pub mod MaskBits

@@ -16,7 +16,6 @@ use Rattle.pci_spec.specs.Derived.{Derived, register_derived, read_back_of, is_a
 use Rattle.pci_spec.specs.NoProbe.{Assuming, NoProbe, register_fault, first_at, no_probe}
 use Rattle.pci_image.specs.declared.layout.Layout.{Layout}
 use Rattle.pci_image.specs.Layouts.{layout_number}
-use Rattle.pci_image.specs.declared.register.Register.{Register}
 use Rattle.pci_machine.proofs.RegisterOrder.{holds_place, found_in, found_in-more, registers_rise}
 
 -- ---- the first fault of some registers
@@ -189,26 +188,3 @@ module _ (assuming : Assuming) (image : List ℕ) (lines : List ResourceLine) (k
 
     pub derived_of_all : IsDerivedOfAll probe assumed
     derived_of_all = record { told = told_all; bytes = derived_all; listed = assumed_all }
-
--- ---- the register of a turn
-
--- a register at its place in the table
-pub record IsTurn (known : Layout) (k : ℕ) (r : ℕ × ℕ) : Type 0 where
-  pub below : k < length (address_registers (layout_number known))
-  pub is : get_or (address_registers (layout_number known)) k r ≡ r
-
-abbrev pair_of : Register → ℕ × ℕ
-pair_of r = (r.offset, r.width)
-
-abbrev pub here : List Register → ℕ → Register → ℕ × ℕ
-here items k d = pair_of (get_or items k d)
-
--- in the code's table
-module _ (items : List Register) (known : Layout) (table : map pair_of items ≡ address_registers (layout_number known)) where
-  pub length_of_table : length items ≡ length (address_registers (layout_number known))
-  length_of_table = sym (length-map {B = ℕ × ℕ} items pair_of) ∙ ap length table
-
-  pub turn_of : (k : ℕ) → k < length items → (d : Register) → IsTurn known k (here items k d)
-  turn_of k within d =
-      let r = here items k d in
-      record { below = omega (arith, within, length_of_table); is = ap (λ rs. get_or rs k r) (sym table) ∙ get_or-map pair_of items k d r within }

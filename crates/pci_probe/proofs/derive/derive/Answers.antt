@@ -7,17 +7,17 @@ use Rattle.pci_spec.specs.NoProbe.{NoProbe, register_fault, no_probe}
 use Rattle.pci_spec.specs.NoProbe as spec
 use Rattle.pci_spec.specs.Resource.{ResourceLine}
 use Rattle.pci_image.specs.Header.{HasHeader}
-use Rattle.pci_image.specs.Layouts.{layout_number}
 use Rattle.pci_image.specs.declared.register.Register.{Register}
 use Rattle.pci_image.specs.declared.register.Role.TheVariants as roles
-use Rattle.pci_machine.proofs.RegisterOrder.{sound_at, sound_parts, register_begins}
+use Rattle.pci_machine.proofs.RegisterOrder.{register_begins}
+use Rattle.pci_machine.proofs.Turns.{here, length_of_table, turn_of}
 use Rattle.pci_probe.specs.declared.fault.DeriveFault.{DeriveFault}
 use Rattle.pci_probe.specs.declared.fault.DeriveFault.TheVariants.{Header, NoSize, OtherSize}
 use Rattle.pci_probe.specs.Assuming.{assuming_of}
 use Rattle.pci_probe.specs.declared.assuming.Assuming.{Assuming}
 use Rattle.pci_probe.specs.Derived.{derived_of}
 use Rattle.pci_probe.specs.Fault.{IsDeriveFault, IsFaultOf}
-use Rattle.pci_probe.proofs.Registers.{derived_none, derived_fault, derived_more, IsDerivedOfAll, derived_of_all, length_of_table, here, turn_of}
+use Rattle.pci_probe.proofs.Registers.{derived_none, derived_fault, derived_more, IsDerivedOfAll, derived_of_all}
 use Rattle.pci_probe.proofs.derive.derive.Goals as goal
 use Rattle.pci_probe.proofs.derive.derive.Goals.{then-is_assumed, else-is_assumed}
 
@@ -51,9 +51,7 @@ returns-in_err-read_back-clause-fault c =
 
 pub put-requires : goal.put-requires
 put-requires c =
-    let turn = turn_of c.address_registers-place-items.result.now c.in-Ok.layout c.address_registers-place-items.ensures c.loop-place.place-index c.loop-place-test.true none in
-    let register = here c.address_registers-place-items.result.now c.loop-place.place-index none in
-    (sound_parts (layout_number c.in-Ok.layout) register (sound_at c.in-Ok.layout c.loop-place.place-index register turn.below turn.is)).access
+    (turn_of c.address_registers-place-items.result.now c.in-Ok.layout c.address_registers-place-items.ensures c.loop-place.place-index c.loop-place-test.true none).sound.access
 
 pub loop-place-preserved : goal.loop-place-preserved
 loop-place-preserved c =
