@@ -4,11 +4,11 @@ use Rattle.std.proofs.lemmas.Bool.{both_ways}
 use Rattle.pci_spec.specs.Number.{each_from}
 use Rattle.pci_spec.specs.Slot.{Slot}
 use Rattle.pci_spec.specs.Window.{IoWindow}
-use Rattle.pci_spec.specs.System.{Function, System, Io, Memory, Bar, Window, Claims}
+use Rattle.pci_spec.specs.System.{Function, System, Space, Io, Memory, Bar, Window, Claims}
 use Rattle.pci_spec.specs.Fault.{Clash, Unreached, address_in}
 use Rattle.pci_spec.proofs.Bits.{interval-agrees}
 use Rattle.pci_spec.proofs.Examples.Samples.{slot, device, bridge, host}
-use Rattle.given_spec.specs.Given.{Given}
+use Rattle.given_spec.specs.Given.{Given, starts}
 use Rattle.given_spec.specs.Claims.{Own, Legacy, may_share, IsPassedTo}
 use Rattle.given_spec.specs.Claims as claims
 use Rattle.given_spec.specs.Fault.{Known, IsIn}
@@ -30,23 +30,21 @@ two = vga_bridge 1 3 0x010100 8 ∷ vga_bridge 2 3 0x020200 24 ∷ []
 abbrev given_two : Given
 given_two = legacy_at (legacy_bridges Vga two)
 
-io_clash : IsIn given_two host two (Known (Clash 0 Io 0x3b0 (slot 0 1 0) 0x3e (slot 0 2 0) 0x3e))
-io_clash = record {
-  gets = (0, (0, lit< tt, refl), refl, [], refl, refl);
-  claims_first = (vga_bridge 1 3 0x010100 8, Legacy, (0, lit< tt, refl), refl, refl, refl, record { address = lit< tt; claims = refl });
-  claims_second = (vga_bridge 2 3 0x020200 24, Legacy, (1, lit< tt, refl), refl, refl, refl, record { address = lit< tt; claims = refl });
+two_clash : (space : Space) (a : ℕ) → starts given_two space 0 a ≡ true → claims.Claims given_two (vga_bridge 1 3 0x010100 8) Legacy space a → claims.Claims given_two (vga_bridge 2 3 0x020200 24) Legacy space a
+    → IsIn given_two host two (Known (Clash 0 space a (slot 0 1 0) 0x3e (slot 0 2 0) 0x3e))
+two_clash space a sent first second = record {
+  gets = (0, (0, lit< tt, refl), sent, [], refl, refl);
+  claims_first = (vga_bridge 1 3 0x010100 8, Legacy, (0, lit< tt, refl), refl, refl, refl, first);
+  claims_second = (vga_bridge 2 3 0x020200 24, Legacy, (1, lit< tt, refl), refl, refl, refl, second);
   differ = λ same. other_device 1 2 (λ e. omega (arith, e)) same.0;
   apart = refl;
 }
 
+io_clash : IsIn given_two host two (Known (Clash 0 Io 0x3b0 (slot 0 1 0) 0x3e (slot 0 2 0) 0x3e))
+io_clash = two_clash Io 0x3b0 refl record { address = lit< tt; claims = refl } record { address = lit< tt; claims = refl }
+
 memory_clash : IsIn given_two host two (Known (Clash 0 Memory 0xa0000 (slot 0 1 0) 0x3e (slot 0 2 0) 0x3e))
-memory_clash = record {
-  gets = (0, (0, lit< tt, refl), refl, [], refl, refl);
-  claims_first = (vga_bridge 1 3 0x010100 8, Legacy, (0, lit< tt, refl), refl, refl, refl, record { address = lit< tt; claims = refl });
-  claims_second = (vga_bridge 2 3 0x020200 24, Legacy, (1, lit< tt, refl), refl, refl, refl, record { address = lit< tt; claims = refl });
-  differ = λ same. other_device 1 2 (λ e. omega (arith, e)) same.0;
-  apart = refl;
-}
+memory_clash = two_clash Memory 0xa0000 refl record { address = lit< tt; claims = refl } record { address = lit< tt; claims = refl }
 
 -- ---- a BAR in a higher KB: it clashes with 10 bits alone
 

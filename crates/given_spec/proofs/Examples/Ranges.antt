@@ -35,6 +35,10 @@ each_to_its_root = refl
 
 -- ---- the rows
 
+-- the first BAR of a function on the root, where no access to it starts
+not_sent : (given : Given) (f : Function) (a : ℕ) → 0 ≡ f.slot.bus → Claims f (Bar 0) Memory a → starts given Memory 0 a ≡ false → IsIn given host (f ∷ []) (Outside f.slot 0x10 Memory a)
+not_sent given f a on_root claims none = record { f = f; part = Bar 0; listed = (0, lit< tt, refl); named = (refl, refl); no_window = refl; claims = claims; root = 0; is_root = (0, lit< tt, refl); bridges = []; leads = on_root; none = none }
+
 -- a BAR of 64 bits far above what the host sends
 abbrev far : Function
 far = device (slot 0 1 0) 2 ((0x10, 0x8000000c) ∷ (0x14, 0x80) ∷ []) ((0x10, 0xffffc00c) ∷ (0x14, 0xffffffff) ∷ [])
@@ -44,19 +48,7 @@ unfolding each_from
 far_claims = record { there = refl; enabled = refl; maps = refl; address = lit< tt; decodes = (refl, (14, refl, interval-agrees 14 0x8080000000 0x808000000c (lit≤ tt) (lit≤ tt))) }
 
 far_is_outside : IsIn (sent_memory (to_each 0x80000000 0xfebfffff ∷ [])) host (far ∷ []) (Outside (slot 0 1 0) 0x10 Memory 0x8080000000)
-far_is_outside = record {
-  f = far;
-  part = Bar 0;
-  listed = (0, lit< tt, refl);
-  named = (refl, refl);
-  no_window = refl;
-  claims = far_claims;
-  bridges = [];
-  root = 0;
-  is_root = (0, lit< tt, refl);
-  leads = refl;
-  none = refl;
-}
+far_is_outside = not_sent (sent_memory (to_each 0x80000000 0xfebfffff ∷ [])) far 0x8080000000 refl far_claims refl
 
 -- a BAR whose lower half isn't sent
 abbrev half : ℕ → Function
@@ -67,19 +59,7 @@ unfolding each_from
 half_claims bus = record { there = refl; enabled = refl; maps = refl; address = lit< tt; decodes = (refl, (20, refl, interval-agrees 20 0xe0000000 0xe0000000 (lit≤ tt) (lit≤ tt))) }
 
 half_is_outside : IsIn (sent_memory (to_each 0xe0080000 0xefffffff ∷ [])) host (half 0 ∷ []) (Outside (slot 0 1 0) 0x10 Memory 0xe0000000)
-half_is_outside = record {
-  f = half 0;
-  part = Bar 0;
-  listed = (0, lit< tt, refl);
-  named = (refl, refl);
-  no_window = refl;
-  claims = half_claims 0;
-  bridges = [];
-  root = 0;
-  is_root = (0, lit< tt, refl);
-  leads = refl;
-  none = refl;
-}
+half_is_outside = not_sent (sent_memory (to_each 0xe0080000 0xefffffff ∷ [])) (half 0) 0xe0000000 refl (half_claims 0) refl
 
 -- two roots: split where all is sent to both, else outside
 abbrev two : System
