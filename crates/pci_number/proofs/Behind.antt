@@ -1,5 +1,5 @@
 -- A bridge behind which all have their numbers, whether there are bridges behind it or not.
-use Rattle.std.proofs.Common.{◌≡◌, ℕ, ◌+◌, ◌<◌, ◌≤◌, Bool, true, false, arith, ◌∙◌, List}
+use Rattle.std.proofs.Common.{◌≡◌, ℕ, ◌+◌, ◌<◌, ◌≤◌, Bool, true, false, arith, ◌∙◌, subst, List}
 use Rattle.pci_spec.specs.Slot.{Slot}
 use Rattle.number_spec.specs.Board.{Board, IsSingle}
 use Rattle.number_spec.proofs.Kept.{same_walk}
@@ -10,7 +10,7 @@ use Rattle.pci_number.specs.Stood.{Adds}
 use Rattle.pci_number.specs.declared.walk.Walk.{Walk}
 use Rattle.pci_number.proofs.Few.{IsBegunFew, begun_few_alone, begun_few_wide}
 use Rattle.pci_number.proofs.Showing.{IsOpenOk}
-use Rattle.pci_number.proofs.Standing.{Bridge, IsBusOk, opened_here, stood_here, seen_there, apart_there}
+use Rattle.pci_number.proofs.Standing.{Bridge, IsBusOk, IsOpenEnd, opened_here, stood_here, seen_there, apart_there}
 use Rattle.pci_number.proofs.Stood.{adds_then}
 use Rattle.pci_number.proofs.Views.{inside}
 use Rattle.pci_number.proofs.Walking.{one_more, IsBegun, begun_alone, begun_wide}
@@ -22,6 +22,22 @@ pub record Behind (spare : ℕ) (now far : Board) (slot : Slot) (last : ℕ) (wa
   pub stood : (b : Bridge now slot last walk old new more) → Adds IsSingle old newest
   pub above : walk.taken + 1 ≤ after.taken
   pub counted : far_failed ≡ failed
+
+-- a bridge that was opened on the board as it was looked at
+module _ (now seen_on : Board) (slot : Slot) (bus last : ℕ) (same : seen_on ≡ now) where
+  pub is_open : (later : Board) (b answer : Bool) → b ≡ answer → IsOpened seen_on slot bus last b later → IsOpened now slot bus last answer later
+  is_open later b answer is gets = subst (λ x. IsOpened x slot bus last answer later) same (subst (λ x. IsOpened seen_on slot bus last x later) is gets)
+
+  -- the writes that it took
+  pub few_from : (total made opened_by : ℕ) → made ≡ total → IsOpenFew seen_on slot bus last made opened_by → IsOpenFew now slot bus last total opened_by
+  few_from total made opened_by none few = subst (λ x. IsOpenFew x slot bus last total opened_by) same (subst (λ x. IsOpenFew seen_on slot bus last x opened_by) none few)
+
+  -- such boards stood meanwhile
+  pub open_ok : (stood old new : List Board) → old ≡ stood → IsOpenOk seen_on slot bus last old new → IsOpenOk now slot bus last stood new
+  open_ok stood old new same_history ok = subst (λ h. IsOpenOk now slot bus last h new) same_history (subst (λ b. IsOpenOk b slot bus last old new) same ok)
+
+  pub open_end : (stood old new : List Board) → old ≡ stood → IsOpenEnd seen_on slot bus last old new → IsOpenEnd now slot bus last stood new
+  open_end stood old new same_history ends = subst (λ h. IsOpenEnd now slot bus last h new) same_history (subst (λ b. IsOpenEnd b slot bus last old new) same ends)
 
 module _ (spare : ℕ) (now mid : Board) (slot : Slot) (last : ℕ) (walk : Walk) (total opened_by : ℕ) (old new newer : List Board) (more : Bool) (failed : ℕ) (left : walk.taken < last) (opened_few : IsOpenFew now slot (walk.taken + 1) last total opened_by) (opened_ok : IsOpenOk now slot (walk.taken + 1) last new newer) where
   pub behind_alone : (opened_failed : ℕ) → IsOpened now slot (walk.taken + 1) last false mid → opened_failed ≡ failed → Behind spare now mid slot last walk (one_more walk) total opened_by old new newer more failed opened_failed

@@ -1,20 +1,20 @@
 -- While a bridge is closed, and those on its bus.
-use Rattle.std.proofs.Common.{◌≡◌, ◌≢◌, ℕ, ◌+◌, ◌<◌, ◌≤◌, inl, inr, Bool, true, false, arith, refl, ◌∙◌, ap, subst, List, Result}
+use Rattle.std.proofs.Common.{◌≡◌, ◌≢◌, ℕ, ◌+◌, inl, inr, Bool, true, false, arith, refl, ◌∙◌, List, Result}
 use Rattle.std.specs.Result.{IsErr}
-use Rattle.std.proofs.lemmas.Bool.{both_ways}
 use Rattle.pci_spec.specs.Slot.{Slot}
 use Rattle.number_spec.specs.Board.{Nodes, Node, Board, is_type_1}
 use Rattle.number_spec.specs.Walk.{all_after, is_walkable}
 use Rattle.number_spec.proofs.Roomy.{shown}
 use Rattle.pci_number.specs.Seen.{View, code, IsSeen}
-use Rattle.pci_number.specs.Steps.{IsPut, IsAlike, IsLooked, Absent, There, IsShownAt}
+use Rattle.pci_number.specs.Steps.{IsPut, IsAlike, IsLooked, IsShownAt}
 use Rattle.pci_number.specs.Hushing.{Rest}
 use Rattle.pci_number.specs.Less.{IsLess, IsLessOf, IsLessStep, Wrap, IsCloseStood, IsHushStood, IsHushStanding}
-use Rattle.pci_number.specs.Stood.{AddsSteps, EndsSteps, IsOneMore, moment}
+use Rattle.pci_number.specs.Stood.{AddsSteps, EndsSteps, IsOneMore, Moment, moment}
 use Rattle.pci_number.specs.declared.look.Found.{Found}
 use Rattle.pci_number.proofs.Bytes.{other_byte, alike_primary, alike_secondary, alike_subordinate, alike_then}
-use Rattle.pci_number.proofs.Reached.{rest_of}
-use Rattle.pci_number.proofs.Views.{next, seen_next, seen_on, seen_alone}
+use Rattle.pci_number.proofs.Passing.{rest, Came, came_first, came_past, at_bridge, came_beyond}
+use Rattle.pci_number.proofs.Places.{IsPlaceOf}
+use Rattle.pci_number.proofs.Views.{seen_alone}
 use Rattle.pci_number.proofs.Less.{less_itself, less_then, less_after, less_node}
 use Rattle.pci_number.proofs.Steady.{steps_none, steps_one, steps_then, steps_as, stops_one, stops_then, stops_as, stopped}
 
@@ -103,93 +103,80 @@ module _ (before first second third : Board) (slot : Slot) (old one two three : 
 
 -- ---- all on a bus
 
+-- what is known of the nodes from a place on
+abbrev StoodUpTo : View → Nodes → Moment → Moment → View → Nodes → Type 0
+StoodUpTo v nodes from to view left = Wrap v nodes (rest view left) × AddsSteps (IsLessStep v nodes) from to
+
+wrapped : (v : View) (nodes : Nodes) (left : Rest) (device : ℕ) → Wrap v nodes left → Wrap v nodes (record { view = left.view; nodes = left.nodes; device = device })
+wrapped v nodes left device w = record { wrap = w.wrap; fills = w.fills; less = w.less; start = w.start }
+
+-- with that as one fact, and taken apart
+module _ (from to : Moment) (bus place : ℕ) (more : Bool) where
+  came_of : IsHushStanding from bus place more to → (v : View) (high last : ℕ) (nodes : Nodes) → from.board ≡ v.fill nodes → IsSeen v bus 0 high last → is_walkable nodes ≡ true → Came to.board bus place 0 0 more (StoodUpTo v nodes from to)
+  came_of standing v high last nodes is seen walkable =
+      let h = standing v high last nodes is seen walkable in
+      (h.0, h.1, h.2, (wrapped v nodes h.0 0 h.3, h.4))
+
+  standing_of : ((v : View) (high last : ℕ) (nodes : Nodes) → from.board ≡ v.fill nodes → IsSeen v bus 0 high last → is_walkable nodes ≡ true → Came to.board bus place 0 0 more (StoodUpTo v nodes from to)) → IsHushStanding from bus place more to
+  standing_of came = λ v high last nodes is seen walkable.
+      let h = came v high last nodes is seen walkable in
+      (h.0, h.1, h.2, wrapped v nodes (rest h.0.view h.0.nodes) h.0.device h.3.0, h.3.1)
+
 pub standing_start : (before : Board) (bus : ℕ) (old : List Board) → IsHushStanding (moment before old) bus 0 false (moment before old)
-standing_start before bus old = λ v high last nodes is seen walkable. (
-  record { view = v; nodes = nodes; device = 0 },
-  record { is = is; past = λ never. cc never; has = rest_of nodes walkable },
-  seen_alone v bus 0 high last seen,
-  record { wrap = λ after. after; fills = λ after. refl; less = λ a b less. less; start = less_itself nodes },
-  steps_none (IsLessStep v nodes) before old,
-)
+standing_start before bus old = standing_of (moment before old) (moment before old) bus 0 false (λ v high last nodes is seen walkable.
+    came_first before bus 0 0 (StoodUpTo v nodes (moment before old) (moment before old)) v nodes is (seen_alone v bus 0 high last seen) walkable (
+      record { wrap = λ after. after; fills = λ after. refl; less = λ a b less. less; start = less_itself nodes },
+      steps_none (IsLessStep v nodes) before old,
+    ))
 
--- no bus is above 0 and not above 0
-none_between : (P : Type 0) (bus : ℕ) → 0 < bus → bus ≤ 0 → P
-none_between P bus over within = absurd (omega (arith, over, within))
-
-pub standing_pass : (before now : Board) (slot : Slot) (old new : List Board) (more : Bool) (found : Found) → slot.function ≤ 7 → IsLooked now slot more found → found.bridge ≡ false → IsHushStanding (moment before old) slot.bus (code slot) more (moment now new) → IsHushStanding (moment before old) slot.bus (code slot + 1) found.more (moment now new)
-standing_pass before now slot old new more found low looked none standing = λ v high last nodes is seen walkable.
-    let h = standing v high last nodes is seen walkable in
+pub standing_pass : (before now : Board) (slot : Slot) (bus place : ℕ) (old new : List Board) (more : Bool) (found : Found) → IsPlaceOf slot bus place → IsLooked now slot more found → found.bridge ≡ false → IsHushStanding (moment before old) bus place more (moment now new) → IsHushStanding (moment before old) bus (place + 1) found.more (moment now new)
+standing_pass before now slot bus place old new more found at looked none standing = standing_of (moment before old) (moment now new) bus (place + 1) found.more (λ v high last nodes is seen walkable.
     let d = slot.device in
     let f = slot.function in
-    elim (looked h.0.view 0 0 h.0.device h.0.nodes h.1.is h.2 low h.1.past h.1.has) [
-      | Absent device no_bridge past has ↦ (
-        record { view = h.0.view; nodes = h.0.nodes; device = device },
-        record { is = h.1.is; past = λ more_are. omega (arith, past more_are); has = has },
-        seen_on h.0.view slot.bus (code slot) (code slot + 1) 0 0 h.2 (omega arith),
-        record { wrap = h.3.wrap; fills = h.3.fills; less = h.3.less; start = h.3.start },
-        h.4,
-      )
-      | There image behind others device same kind inside alone past has ↦ (
-        record { view = next h.0.view d f image behind; nodes = others; device = device },
-        record {
-          is = h.1.is ∙ ap h.0.view.fill same;
-          past = λ more_are. omega (arith, past more_are);
-          has = has;
-        },
-        seen_next h.0.view slot.bus (code slot) (code slot + 1) 0 0 0 d f image behind h.2 (omega arith) (omega arith) (omega arith) (λ bus over within. none_between _ bus over within),
-        record {
-          wrap = λ after. h.3.wrap (Node d f image behind after);
-          fills = λ after. h.3.fills (Node d f image behind after);
-          less = λ a b less. h.3.less (Node d f image behind a) (Node d f image behind b) (less_after d f image behind a b less);
-          start = subst (λ n. IsLessOf nodes (h.3.wrap n)) same h.3.start;
-        },
-        h.4,
-      )
-    ]
+    came_past now slot bus place 0 0 more found (StoodUpTo v nodes (moment before old) (moment now new)) at looked none (came_of (moment before old) (moment now new) bus place more standing v high last nodes is seen walkable) (λ view image behind others plain so_far. (
+      record {
+        wrap = λ after. so_far.0.wrap (Node d f image behind after);
+        fills = λ after. so_far.0.fills (Node d f image behind after);
+        less = λ a b less. so_far.0.less (Node d f image behind a) (Node d f image behind b) (less_after d f image behind a b less);
+        start = so_far.0.start;
+      },
+      so_far.1,
+    )))
 
 -- what stood while a bridge was closed, as the whole bus sees it
-step_of_bus : (v : View) (nodes : Nodes) (rest : Rest) (wrap : Wrap v nodes rest) (node : Nodes) → rest.nodes ≡ node → (was now : Board) → IsLessStep rest.view node was now → IsLessStep v nodes was now
-step_of_bus v nodes rest w node same was now step = record {
+step_of_bus : (v : View) (nodes : Nodes) (view : View) (node : Nodes) (w : Wrap v nodes (rest view node)) (was now : Board) → IsLessStep view node was now → IsLessStep v nodes was now
+step_of_bus v nodes view node w was now step = record {
   from = w.wrap step.from;
   to = w.wrap step.to;
   was_it = step.was_it ∙ w.fills step.from;
   is = step.is ∙ w.fills step.to;
-  start = less_then nodes (w.wrap node) (w.wrap step.from) (subst (λ n. IsLessOf nodes (w.wrap n)) same w.start) (w.less node step.from step.start);
+  start = less_then nodes (w.wrap node) (w.wrap step.from) w.start (w.less node step.from step.start);
   less = w.less step.from step.to step.less;
 }
 
-pub standing_close : (before now after : Board) (slot : Slot) (old mid new : List Board) (more : Bool) (found : Found) → slot.function ≤ 7 → IsLooked now slot more found → found.bridge ≡ true → IsShownAt now slot 0 0 0 after → IsCloseOk now slot mid after new → IsHushStanding (moment before old) slot.bus (code slot) more (moment now mid) → IsHushStanding (moment before old) slot.bus (code slot + 1) found.more (moment after new)
-standing_close before now after_it slot old mid new more found low looked one shown_0 stood standing = λ v high last nodes is seen walkable.
-    let h = standing v high last nodes is seen walkable in
+pub standing_close : (before now after : Board) (slot : Slot) (bus place : ℕ) (old mid new : List Board) (more : Bool) (found : Found) → IsPlaceOf slot bus place → IsLooked now slot more found → found.bridge ≡ true → IsShownAt now slot 0 0 0 after → IsCloseOk now slot mid after new → IsHushStanding (moment before old) bus place more (moment now mid) → IsHushStanding (moment before old) bus (place + 1) found.more (moment after new)
+standing_close before now after_it slot bus place old mid new more found at looked one shown_0 stood standing = standing_of (moment before old) (moment after_it new) bus (place + 1) found.more (λ v high last nodes is seen walkable.
+    let So_far = StoodUpTo v nodes (moment before old) (moment now mid) in
+    let b = at_bridge now slot bus place 0 0 more found So_far at looked one (came_of (moment before old) (moment now mid) bus place more standing v high last nodes is seen walkable) in
+    let w = b.known.0 in
     let d = slot.device in
     let f = slot.function in
-    elim (looked h.0.view 0 0 h.0.device h.0.nodes h.1.is h.2 low h.1.past h.1.has) [
-      | Absent device no_bridge past has ↦ absurd (both_ways found.bridge no_bridge one)
-      | There image behind others device same kind inside alone past has ↦
-          let bridge : is_type_1 image ≡ true = kind ∙ one in
-          let node = h.1.is ∙ ap h.0.view.fill same in
-          let s = shown_0 h.0.view 0 0 image behind others node h.2 alone in
-          let numbers = shown s.0 0 0 0 s.3 in
-          let less : IsLess image s.0 = (numbers.subordinate, inr numbers.secondary) in (
-            record { view = next h.0.view d f s.0 behind; nodes = others; device = device },
-            record {
-              is = s.1;
-              past = λ more_are. omega (arith, past more_are);
-              has = has;
-            },
-            seen_next h.0.view slot.bus (code slot) (code slot + 1) 0 0 0 d f s.0 behind h.2 (omega arith) (omega arith) (omega arith) (λ bus over within. none_between _ bus over within),
-            record {
-              wrap = λ after. h.3.wrap (Node d f s.0 behind after);
-              fills = λ after. h.3.fills (Node d f s.0 behind after);
-              less = λ a b rest. h.3.less (Node d f s.0 behind a) (Node d f s.0 behind b) (less_after d f s.0 behind a b rest);
-              start = less_then nodes (h.3.wrap (Node d f image behind others)) (h.3.wrap (Node d f s.0 behind others)) (subst (λ n. IsLessOf nodes (h.3.wrap n)) same h.3.start)
-                  (h.3.less (Node d f image behind others) (Node d f s.0 behind others) (less_node d f image s.0 behind others others bridge s.2 less (less_itself others)));
-            },
-            steps_then (IsLessStep v nodes) before old now mid after_it new h.4
-                (steps_as (IsLessStep h.0.view (Node d f image behind others)) (IsLessStep v nodes) (step_of_bus v nodes h.0 h.3 (Node d f image behind others) same) now mid after_it new
-                (stood h.0.view 0 0 image behind others node h.2 alone bridge)),
-          )
-    ]
+    let node = Node d f b.image b.behind b.others in
+    let s = shown_0 b.view 0 0 b.image b.behind b.others b.is b.seen b.alone in
+    let numbers = shown s.0 0 0 0 s.3 in
+    let less : IsLess b.image s.0 = (numbers.subordinate, inr numbers.secondary) in
+    came_beyond now after_it slot bus place 0 0 0 found.more So_far (StoodUpTo v nodes (moment before old) (moment after_it new)) b s.0 b.behind 0 0 0 at s.1 s.3 (omega arith) (omega arith) (omega arith) (
+      record {
+        wrap = λ after. w.wrap (Node d f s.0 b.behind after);
+        fills = λ after. w.fills (Node d f s.0 b.behind after);
+        less = λ x y later. w.less (Node d f s.0 b.behind x) (Node d f s.0 b.behind y) (less_after d f s.0 b.behind x y later);
+        start = less_then nodes (w.wrap node) (w.wrap (Node d f s.0 b.behind b.others)) w.start
+            (w.less node (Node d f s.0 b.behind b.others) (less_node d f b.image s.0 b.behind b.others b.others b.bridge s.2 less (less_itself b.others)));
+      },
+      steps_then (IsLessStep v nodes) before old now mid after_it new b.known.1
+          (steps_as (IsLessStep b.view node) (IsLessStep v nodes) (step_of_bus v nodes b.view node w) now mid after_it new
+          (stood b.view 0 0 b.image b.behind b.others b.is b.seen b.alone b.bridge)),
+    ))
 
 -- ---- where it stops
 
@@ -198,17 +185,13 @@ standing_left before now after bus place old mid new more r err same standing = 
     let h = standing v high last nodes is seen walkable in
     stopped (IsLessStep v nodes) r before old after new err (moment now mid, h.4, inl same)
 
-pub standing_left_close : {T E : Type 0} → (before now after : Board) (slot : Slot) (old mid new : List Board) (more : Bool) (found : Found) (r : Result T E) → IsErr r → slot.function ≤ 7 → IsLooked now slot more found → found.bridge ≡ true → IsCloseEnd now slot mid new → IsHushStanding (moment before old) slot.bus (code slot) more (moment now mid) → IsHushStood (moment before old) slot.bus r (moment after new)
-standing_left_close before now after slot old mid new more found r err low looked one stood standing = λ v high last nodes is seen walkable.
-    let h = standing v high last nodes is seen walkable in
-    stopped (IsLessStep v nodes) r before old after new err (elim (looked h.0.view 0 0 h.0.device h.0.nodes h.1.is h.2 low h.1.past h.1.has) [
-      | Absent device no_bridge past has ↦ absurd (both_ways found.bridge no_bridge one)
-      | There image behind others device same kind inside alone past has ↦
-          let node = Node slot.device slot.function image behind others in
-          stops_then (IsLessStep v nodes) before old now mid new h.4
-          (stops_as (IsLessStep h.0.view node) (IsLessStep v nodes) (step_of_bus v nodes h.0 h.3 node same) now mid new
-          (stood h.0.view 0 0 image behind others (h.1.is ∙ ap h.0.view.fill same) h.2 alone (kind ∙ one)))
-    ])
+pub standing_left_close : {T E : Type 0} → (before now after : Board) (slot : Slot) (bus place : ℕ) (old mid new : List Board) (more : Bool) (found : Found) (r : Result T E) → IsErr r → IsPlaceOf slot bus place → IsLooked now slot more found → found.bridge ≡ true → IsCloseEnd now slot mid new → IsHushStanding (moment before old) bus place more (moment now mid) → IsHushStood (moment before old) bus r (moment after new)
+standing_left_close before now after slot bus place old mid new more found r err at looked one stood standing = λ v high last nodes is seen walkable.
+    let b = at_bridge now slot bus place 0 0 more found (StoodUpTo v nodes (moment before old) (moment now mid)) at looked one (came_of (moment before old) (moment now mid) bus place more standing v high last nodes is seen walkable) in
+    let node = Node slot.device slot.function b.image b.behind b.others in
+    stopped (IsLessStep v nodes) r before old after new err (stops_then (IsLessStep v nodes) before old now mid new b.known.1
+    (stops_as (IsLessStep b.view node) (IsLessStep v nodes) (step_of_bus v nodes b.view node b.known.0) now mid new
+    (stood b.view 0 0 b.image b.behind b.others b.is b.seen b.alone b.bridge)))
 
 pub standing_done : (before now : Board) (bus place : ℕ) (old new : List Board) (more : Bool) → IsHushStanding (moment before old) bus place more (moment now new) → (v : View) (high last : ℕ) (nodes : Nodes) → before ≡ v.fill nodes → IsSeen v bus 0 high last → is_walkable nodes ≡ true → AddsSteps (IsLessStep v nodes) (moment before old) (moment now new)
 standing_done before now bus place old new more standing v high last nodes is seen walkable = (standing v high last nodes is seen walkable).4

@@ -1,98 +1,72 @@
 -- Closing the bridges on a bus, place by place.
-use Rattle.std.proofs.Common.{◌≡◌, ℕ, ◌+◌, ◌<◌, ◌≤◌, Bool, true, false, ◌||◌, arith, refl, sym, ◌∙◌, ap}
+use Rattle.std.proofs.Common.{◌≡◌, ℕ, ◌+◌, Bool, true, false, ◌||◌, arith, refl, sym, ◌∙◌, ap}
 use Rattle.std.proofs.lemmas.Bool.{both_ways}
 use Rattle.pci_spec.specs.Slot.{Slot}
 use Rattle.number_spec.specs.Board.{Nodes, NoMore, Node, Board, is_type_1}
+use Rattle.number_spec.specs.Walk.{is_walkable}
 use Rattle.number_spec.specs.Numbered.{without_numbers}
-use Rattle.pci_number.specs.Seen.{code, IsRest, has_bridges}
-use Rattle.pci_number.specs.Steps.{IsLooked, Absent, There, IsShownAt, IsLeftAt, IsHushed, IsHushLeft}
-use Rattle.pci_number.specs.Hushing.{IsHushing}
+use Rattle.pci_number.specs.Seen.{View, IsSeen, IsRest, has_bridges}
+use Rattle.pci_number.specs.Steps.{IsLooked, IsShownAt, IsLeftAt, IsHushed, IsHushLeft}
+use Rattle.pci_number.specs.Hushing.{ClosedUpTo, KeptUpTo, IsHushing}
 use Rattle.pci_number.specs.declared.look.Found.{Found}
-use Rattle.pci_number.proofs.Reached.{or_none, rest_of}
-use Rattle.pci_number.proofs.Views.{next, seen_next, seen_on, seen_alone, same_node, same_others}
+use Rattle.pci_number.proofs.Passing.{rest, Came, came_first, came_past, at_bridge, came_beyond}
+use Rattle.pci_number.proofs.Places.{IsPlaceOf}
+use Rattle.pci_number.proofs.Reached.{or_none}
+use Rattle.pci_number.proofs.Views.{seen_alone, same_node, same_others}
+
+-- what is known of the nodes from a place on
+abbrev UpTo : View → Nodes → Bool → View → Nodes → Type 0
+UpTo v nodes bridges view left = ClosedUpTo v nodes bridges (rest view left) × KeptUpTo v nodes (rest view left)
+
+-- with that as one fact, and taken apart
+module _ (before now : Board) (bus place : ℕ) (more bridges : Bool) where
+  came_of : IsHushing before bus place more bridges now → (v : View) (high last : ℕ) (nodes : Nodes) → before ≡ v.fill nodes → IsSeen v bus 0 high last → is_walkable nodes ≡ true → Came now bus place 0 0 more (UpTo v nodes bridges)
+  came_of hushing v high last nodes is seen walkable = let h = hushing v high last nodes is seen walkable in (h.0, h.1, h.2, (h.3, h.4))
+
+  hushing_of : ((v : View) (high last : ℕ) (nodes : Nodes) → before ≡ v.fill nodes → IsSeen v bus 0 high last → is_walkable nodes ≡ true → Came now bus place 0 0 more (UpTo v nodes bridges)) → IsHushing before bus place more bridges now
+  hushing_of came = λ v high last nodes is seen walkable. let h = came v high last nodes is seen walkable in (h.0, h.1, h.2, h.3.0, h.3.1)
 
 pub hush_start : (before : Board) (bus : ℕ) → IsHushing before bus 0 false false before
-hush_start before bus = λ v high last nodes is seen walkable. (
-  record { view = v; nodes = nodes; device = 0 },
-  record { is = is; past = λ never. cc never; has = rest_of nodes walkable },
-  seen_alone v bus 0 high last seen,
+hush_start before bus = hushing_of before before bus 0 false false (λ v high last nodes is seen walkable. came_first before bus 0 0 (UpTo v nodes false) v nodes is (seen_alone v bus 0 high last seen) walkable (
   (λ after closed same. (after, refl, same, closed, refl)),
   (λ after same. (after, refl, same)),
-)
+))
 
 or_all : (b : Bool) → (b || true) ≡ true
 or_all true = refl
 or_all false = refl
 
--- no bus is above 0 and not above 0
-pub none_between : (P : Type 0) (bus : ℕ) → 0 < bus → bus ≤ 0 → P
-none_between P bus over within = absurd (omega (arith, over, within))
-
-pub hush_pass : (before now : Board) (slot : Slot) (more bridges : Bool) (found : Found) → slot.function ≤ 7 → IsLooked now slot more found → found.bridge ≡ false → IsHushing before slot.bus (code slot) more bridges now → IsHushing before slot.bus (code slot + 1) found.more bridges now
-hush_pass before now slot more bridges found low looked none hushing = λ v high last nodes is seen walkable.
-    let h = hushing v high last nodes is seen walkable in
+pub hush_pass : (before now : Board) (slot : Slot) (bus place : ℕ) (more bridges : Bool) (found : Found) → IsPlaceOf slot bus place → IsLooked now slot more found → found.bridge ≡ false → IsHushing before bus place more bridges now → IsHushing before bus (place + 1) found.more bridges now
+hush_pass before now slot bus place more bridges found at looked none hushing = hushing_of before now bus (place + 1) found.more bridges (λ v high last nodes is seen walkable.
     let d = slot.device in
     let f = slot.function in
-    elim (looked h.0.view 0 0 h.0.device h.0.nodes h.1.is h.2 low h.1.past h.1.has) [
-      | Absent device no_bridge past has ↦ (
-        record { view = h.0.view; nodes = h.0.nodes; device = device },
-        record { is = h.1.is; past = λ more_are. omega (arith, past more_are); has = has },
-        seen_on h.0.view slot.bus (code slot) (code slot + 1) 0 0 h.2 (omega arith),
-        h.3,
-        h.4,
-      )
-      | There image behind others device same kind inside alone past has ↦
-          let plain : is_type_1 image ≡ false = kind ∙ none in (
-            record { view = next h.0.view d f image behind; nodes = others; device = device },
-            record {
-              is = h.1.is ∙ ap h.0.view.fill same;
-              past = λ more_are. omega (arith, past more_are);
-              has = has;
-            },
-            seen_next h.0.view slot.bus (code slot) (code slot + 1) 0 0 0 d f image behind h.2 (omega arith) (omega arith) (omega arith) (λ bus over within. none_between _ bus over within),
-            (λ after closed same_after.
-                let w = h.3 (Node d f image behind after) ((λ bridge. absurd (both_ways (is_type_1 image) plain bridge)), closed) (same_others d f image behind others after same_after ∙ ap without_numbers (sym same)) in
-                (w.0, w.1, w.2, w.3, w.4 ∙ ap (λ b. bridges || (b || has_bridges after)) plain)),
-            (λ after same_after. h.4 (Node d f image behind after) (same_others d f image behind others after same_after ∙ ap without_numbers (sym same))),
-          )
-    ]
+    came_past now slot bus place 0 0 more found (UpTo v nodes bridges) at looked none (came_of before now bus place more bridges hushing v high last nodes is seen walkable) (λ view image behind others plain so_far. (
+      (λ after closed same.
+          let w = so_far.0 (Node d f image behind after) ((λ bridge. absurd (both_ways (is_type_1 image) plain bridge)), closed) (same_others d f image behind others after same) in
+          (w.0, w.1, w.2, w.3, w.4 ∙ ap (λ b. bridges || (b || has_bridges after)) plain)),
+      (λ after same. so_far.1 (Node d f image behind after) (same_others d f image behind others after same)),
+    )))
 
-pub hush_close : (before now after : Board) (slot : Slot) (more bridges : Bool) (found : Found) → slot.function ≤ 7 → IsLooked now slot more found → found.bridge ≡ true → IsShownAt now slot 0 0 0 after → IsHushing before slot.bus (code slot) more bridges now → IsHushing before slot.bus (code slot + 1) found.more true after
-hush_close before now after_it slot more bridges found low looked one shown hushing = λ v high last nodes is seen walkable.
-    let h = hushing v high last nodes is seen walkable in
+pub hush_close : (before now after : Board) (slot : Slot) (bus place : ℕ) (more bridges : Bool) (found : Found) → IsPlaceOf slot bus place → IsLooked now slot more found → found.bridge ≡ true → IsShownAt now slot 0 0 0 after → IsHushing before bus place more bridges now → IsHushing before bus (place + 1) found.more true after
+hush_close before now after_it slot bus place more bridges found at looked one shown hushing = hushing_of before after_it bus (place + 1) found.more true (λ v high last nodes is seen walkable.
+    let b = at_bridge now slot bus place 0 0 more found (UpTo v nodes bridges) at looked one (came_of before now bus place more bridges hushing v high last nodes is seen walkable) in
     let d = slot.device in
     let f = slot.function in
-    elim (looked h.0.view 0 0 h.0.device h.0.nodes h.1.is h.2 low h.1.past h.1.has) [
-      | Absent device no_bridge past has ↦ absurd (both_ways found.bridge no_bridge one)
-      | There image behind others device same kind inside alone past has ↦
-          let bridge : is_type_1 image ≡ true = kind ∙ one in
-          let s = shown h.0.view 0 0 image behind others (h.1.is ∙ ap h.0.view.fill same) h.2 alone in (
-            record { view = next h.0.view d f s.0 behind; nodes = others; device = device },
-            record {
-              is = s.1;
-              past = λ more_are. omega (arith, past more_are);
-              has = has;
-            },
-            seen_next h.0.view slot.bus (code slot) (code slot + 1) 0 0 0 d f s.0 behind h.2 (omega arith) (omega arith) (omega arith) (λ bus over within. none_between _ bus over within),
-            (λ after closed same_after.
-                let w = h.3 (Node d f s.0 behind after) ((λ is_one. s.3), closed) (same_node d f image s.0 behind behind others after bridge s.2 refl same_after ∙ ap without_numbers (sym same)) in
-                (w.0, w.1, w.2, w.3, w.4 ∙ ap (λ b. bridges || (b || has_bridges after)) (s.2.kind ∙ bridge) ∙ or_all bridges)),
-            (λ after same_after. h.4 (Node d f s.0 behind after) (same_node d f image s.0 behind behind others after bridge s.2 refl same_after ∙ ap without_numbers (sym same))),
-          )
-    ]
+    let s = shown b.view 0 0 b.image b.behind b.others b.is b.seen b.alone in
+    let kind : is_type_1 s.0 ≡ true = s.2.kind ∙ b.bridge in
+    came_beyond now after_it slot bus place 0 0 0 found.more (UpTo v nodes bridges) (UpTo v nodes true) b s.0 b.behind 0 0 0 at s.1 s.3 (omega arith) (omega arith) (omega arith) (
+      (λ after closed same.
+          let w = b.known.0 (Node d f s.0 b.behind after) ((λ is_one. s.3), closed) (same_node d f b.image s.0 b.behind b.behind b.others after b.bridge s.2 refl same) in
+          (w.0, w.1, w.2, w.3, w.4 ∙ ap (λ x. bridges || (x || has_bridges after)) kind ∙ or_all bridges)),
+      (λ after same. b.known.1 (Node d f s.0 b.behind after) (same_node d f b.image s.0 b.behind b.behind b.others after b.bridge s.2 refl same)),
+    ))
 
-pub hush_left_close : (before now after : Board) (slot : Slot) (more bridges : Bool) (found : Found) → slot.function ≤ 7 → IsLooked now slot more found → found.bridge ≡ true → IsLeftAt now slot after → IsHushing before slot.bus (code slot) more bridges now → IsHushLeft before slot.bus after
-hush_left_close before now after slot more bridges found low looked one left hushing = λ v high last nodes is seen walkable.
-    let h = hushing v high last nodes is seen walkable in
-    let d = slot.device in
-    let f = slot.function in
-    elim (looked h.0.view 0 0 h.0.device h.0.nodes h.1.is h.2 low h.1.past h.1.has) [
-      | Absent device no_bridge past has ↦ absurd (both_ways found.bridge no_bridge one)
-      | There image behind others device same kind inside alone past has ↦
-          let s = left h.0.view 0 0 image behind others (h.1.is ∙ ap h.0.view.fill same) h.2 alone in
-          let w = h.4 (Node d f s.0 behind others) (same_node d f image s.0 behind behind others others (kind ∙ one) s.2 refl refl ∙ ap without_numbers (sym same)) in
-          (w.0, s.1 ∙ w.1, w.2)
-    ]
+pub hush_left_close : (before now after : Board) (slot : Slot) (bus place : ℕ) (more bridges : Bool) (found : Found) → IsPlaceOf slot bus place → IsLooked now slot more found → found.bridge ≡ true → IsLeftAt now slot after → IsHushing before bus place more bridges now → IsHushLeft before bus after
+hush_left_close before now after slot bus place more bridges found at looked one left hushing = λ v high last nodes is seen walkable.
+    let b = at_bridge now slot bus place 0 0 more found (UpTo v nodes bridges) at looked one (came_of before now bus place more bridges hushing v high last nodes is seen walkable) in
+    let s = left b.view 0 0 b.image b.behind b.others b.is b.seen b.alone in
+    let w = b.known.1 (Node slot.device slot.function s.0 b.behind b.others) (same_node slot.device slot.function b.image s.0 b.behind b.behind b.others b.others b.bridge s.2 refl refl) in
+    (w.0, s.1 ∙ w.1, w.2)
 
 pub hush_left : (before now after : Board) (bus place : ℕ) (more bridges : Bool) → after ≡ now → IsHushing before bus place more bridges now → IsHushLeft before bus after
 hush_left before now after bus place more bridges kept hushing = λ v high last nodes is seen walkable.

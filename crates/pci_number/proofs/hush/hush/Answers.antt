@@ -1,12 +1,9 @@
-use Rattle.std.proofs.Common.{◌+◌, true, arith, refl, ap, subst}
-use Rattle.pci_number.specs.Steps.{IsShownAt, IsLeftAt, IsHushLeft}
+use Rattle.std.proofs.Common.{arith, refl, ap, subst}
+use Rattle.pci_number.specs.Steps.{IsShownAt, IsLeftAt}
 use Rattle.pci_number.specs.Hushing.{IsHushing}
-use Rattle.pci_number.specs.Few.{IsHushFew}
-use Rattle.pci_number.specs.Less.{IsHushStood, IsHushStanding}
-use Rattle.pci_number.specs.Stood.{moment}
 use Rattle.pci_number.proofs.Errs.{always_err}
-use Rattle.pci_number.proofs.Places.{place_of, to_slot, from_slot}
-use Rattle.pci_number.proofs.Few.{IsHushCounted, hush_count_start, hush_count_pass, hush_count_close, hush_few, hush_few_close}
+use Rattle.pci_number.proofs.Places.{place_of}
+use Rattle.pci_number.proofs.Few.{hush_count_start, hush_count_pass, hush_count_close, hush_few, hush_few_close}
 use Rattle.pci_number.proofs.Hushing.{hush_start, hush_pass, hush_close, hush_left_close, hush_left, hush_done}
 use Rattle.pci_number.proofs.Closing.{standing_start, standing_pass, standing_close, standing_left, standing_left_close, standing_done, IsCloseOk, IsCloseEnd}
 use Rattle.pci_number.proofs.hush.hush.Goals as goal
@@ -29,56 +26,50 @@ returns-in_err-found-clause-left g c =
 pub returns-in_err-close-clause-left : goal.returns-in_err-close-clause-left
 returns-in_err-close-clause-left g c =
     let board = g.P.BoardPort.board in
-    let before = board c.args.port.now in
     let slot = c.slot_at-slot.result in
-    let place = place_of slot c.args.bus c.loop-place.place c.slot_at-slot.ensures in
     always_err c.from_residual-in_err-close.result _
-    (subst (λ b. IsHushLeft before b (board c.close.new.port)) place.on
-    (hush_left_close before (board c.loop-place.port) (board c.close.new.port) slot c.loop-place.more c.loop-place.bridges c.in_ok-found.found place.low c.in_ok-found.ensures.looked c.if-found.true
-    (subst (λ b. IsLeftAt b slot (board c.close.new.port)) c.in_ok-found.ensures.same c.in_err-close.ensures.left)
-    (to_slot (λ b p. IsHushing before b p c.loop-place.more c.loop-place.bridges (board c.loop-place.port)) slot c.args.bus c.loop-place.place place c.loop-place.invariant.hushing)))
+    (hush_left_close (board c.args.port.now) (board c.loop-place.port) (board c.close.new.port) slot c.args.bus c.loop-place.place c.loop-place.more c.loop-place.bridges c.in_ok-found.found
+    (place_of slot c.args.bus c.loop-place.place c.slot_at-slot.ensures) c.in_ok-found.ensures.looked c.if-found.true
+    (subst (λ b. IsLeftAt b slot (board c.close.new.port)) c.in_ok-found.ensures.same c.in_err-close.ensures.left) c.loop-place.invariant.hushing)
 
 pub loop-place-preserved : goal.loop-place-preserved
 loop-place-preserved g c =
     let board = g.P.BoardPort.board in
+    let writes = g.P.BoardPort.writes in
+    let history = g.P.BoardPort.history in
     let before = board c.args.port.now in
+    let made = writes c.args.port.now in
+    let old = history c.args.port.now in
+    let now = board c.loop-place.port in
+    let total = writes c.loop-place.port in
+    let stood = history c.loop-place.port in
     let slot = c.slot_at-slot.result in
     let bus = c.args.bus in
     let at = c.loop-place.place in
     let place = place_of slot bus at c.slot_at-slot.ensures in
+    let more = c.loop-place.more in
+    let bridges = c.loop-place.bridges in
     let found = c.in_ok-found.found in
-    let writes = g.P.BoardPort.writes in
-    let made = writes c.args.port.now in
-    let total = writes c.loop-place.port in
-    let counted = to_slot (λ b p. IsHushCounted before b p c.loop-place.more (board c.loop-place.port) made total) slot bus at place c.loop-place.invariant.few in
-    let history = g.P.BoardPort.history in
-    let old = history c.args.port.now in
-    let stood = to_slot (λ b p. IsHushStanding (moment before old) b p c.loop-place.more (moment (board c.loop-place.port) (history c.loop-place.port))) slot bus at place c.loop-place.invariant.standing in
-    let so_far = to_slot (λ b p. IsHushing before b p c.loop-place.more c.loop-place.bridges (board c.loop-place.port)) slot bus at place c.loop-place.invariant.hushing in
+    let looked = c.in_ok-found.ensures in
+    let so_far = c.loop-place.invariant in
     elim c.if-found.branch [
-      | then-found+in_ok-close w ↦ record {
-        hushing = rw (w.port-is, w.bridges-is) (from_slot (λ b p. IsHushing before b (p + 1) found.more true (board w.close.new.port)) slot bus at place
-            (hush_close before (board c.loop-place.port) (board w.close.new.port) slot c.loop-place.more c.loop-place.bridges found place.low c.in_ok-found.ensures.looked w.if-found.true
-            (subst (λ b. IsShownAt b slot 0 0 0 (board w.close.new.port)) c.in_ok-found.ensures.same w.in_ok-close.ensures.closed) so_far));
-        standing = rw w.port-is (from_slot (λ b p. IsHushStanding (moment before old) b (p + 1) found.more (moment (board w.close.new.port) (history w.close.new.port))) slot bus at place
-            (standing_close before (board c.loop-place.port) (board w.close.new.port) slot old (history c.loop-place.port) (history w.close.new.port) c.loop-place.more found place.low c.in_ok-found.ensures.looked w.if-found.true
-            (subst (λ b. IsShownAt b slot 0 0 0 (board w.close.new.port)) c.in_ok-found.ensures.same w.in_ok-close.ensures.closed)
-            (subst (λ h. IsCloseOk (board c.loop-place.port) slot h (board w.close.new.port) (history w.close.new.port)) c.in_ok-found.ensures.same_history
-            (subst (λ b. IsCloseOk b slot (history c.look.new.port) (board w.close.new.port) (history w.close.new.port)) c.in_ok-found.ensures.same w.in_ok-close.ensures.stood)) stood));
-        counted = omega (arith, ap g.P.BoardPort.failures w.port-is, w.in_ok-close.ensures.counted, c.in_ok-found.ensures.counted, c.loop-place.invariant.counted);
-        few = rw w.port-is (from_slot (λ b p. IsHushCounted before b (p + 1) found.more (board w.close.new.port) made (writes w.close.new.port)) slot bus at place
-            (hush_count_close before (board c.loop-place.port) (board w.close.new.port) slot c.loop-place.more found made total (writes w.close.new.port) place.low c.in_ok-found.ensures.looked w.if-found.true
-            (subst (λ b. IsShownAt b slot 0 0 0 (board w.close.new.port)) c.in_ok-found.ensures.same w.in_ok-close.ensures.closed)
-            (omega (arith, w.in_ok-close.ensures.few, c.in_ok-found.ensures.no_more)) counted));
-      }
+      | then-found+in_ok-close w ↦
+          let after = board w.close.new.port in
+          let shown = subst (λ b. IsShownAt b slot 0 0 0 after) looked.same w.in_ok-close.ensures.closed in
+          record {
+            hushing = rw (w.port-is, w.bridges-is) (hush_close before now after slot bus at more bridges found place looked.looked w.if-found.true shown so_far.hushing);
+            standing = rw w.port-is (standing_close before now after slot bus at old stood (history w.close.new.port) more found place looked.looked w.if-found.true shown
+                (subst (λ h. IsCloseOk now slot h after (history w.close.new.port)) looked.same_history
+                (subst (λ b. IsCloseOk b slot (history c.look.new.port) after (history w.close.new.port)) looked.same w.in_ok-close.ensures.stood)) so_far.standing);
+            counted = omega (arith, ap g.P.BoardPort.failures w.port-is, w.in_ok-close.ensures.counted, looked.counted, so_far.counted);
+            few = rw w.port-is (hush_count_close before now after slot bus at more found made total (writes w.close.new.port) place looked.looked w.if-found.true shown
+                (omega (arith, w.in_ok-close.ensures.few, looked.no_more)) so_far.few);
+          }
       | else-found w ↦ record {
-        hushing = rw (w.port-is, w.bridges-is, c.in_ok-found.ensures.same) (from_slot (λ b p. IsHushing before b (p + 1) found.more c.loop-place.bridges (board c.loop-place.port)) slot bus at place
-            (hush_pass before (board c.loop-place.port) slot c.loop-place.more c.loop-place.bridges found place.low c.in_ok-found.ensures.looked w.if-found.false so_far));
-        standing = rw (w.port-is, c.in_ok-found.ensures.same, c.in_ok-found.ensures.same_history) (from_slot (λ b p. IsHushStanding (moment before old) b (p + 1) found.more (moment (board c.loop-place.port) (history c.loop-place.port))) slot bus at place
-            (standing_pass before (board c.loop-place.port) slot old (history c.loop-place.port) c.loop-place.more found place.low c.in_ok-found.ensures.looked w.if-found.false stood));
-        counted = omega (arith, ap g.P.BoardPort.failures w.port-is, c.in_ok-found.ensures.counted, c.loop-place.invariant.counted);
-        few = rw (w.port-is, c.in_ok-found.ensures.same, c.in_ok-found.ensures.no_more) (from_slot (λ b p. IsHushCounted before b (p + 1) found.more (board c.loop-place.port) made total) slot bus at place
-            (hush_count_pass before (board c.loop-place.port) slot c.loop-place.more found made total place.low c.in_ok-found.ensures.looked w.if-found.false counted));
+        hushing = rw (w.port-is, w.bridges-is, looked.same) (hush_pass before now slot bus at more bridges found place looked.looked w.if-found.false so_far.hushing);
+        standing = rw (w.port-is, looked.same, looked.same_history) (standing_pass before now slot bus at old stood more found place looked.looked w.if-found.false so_far.standing);
+        counted = omega (arith, ap g.P.BoardPort.failures w.port-is, looked.counted, so_far.counted);
+        few = rw (w.port-is, looked.same, looked.no_more) (hush_count_pass before now slot bus at more found made total place looked.looked w.if-found.false so_far.few);
       }
     ]
 
@@ -99,15 +90,9 @@ pub returns-in_err-close-clause-few : goal.returns-in_err-close-clause-few
 returns-in_err-close-clause-few g c =
     let board = g.P.BoardPort.board in
     let writes = g.P.BoardPort.writes in
-    let before = board c.args.port.now in
-    let made = writes c.args.port.now in
-    let total = writes c.loop-place.port in
-    let slot = c.slot_at-slot.result in
-    let place = place_of slot c.args.bus c.loop-place.place c.slot_at-slot.ensures in
-    subst (λ b. IsHushFew before b made (writes c.close.new.port)) place.on
-    (hush_few_close before (board c.loop-place.port) slot c.loop-place.more c.in_ok-found.found made total (writes c.close.new.port) place.low c.in_ok-found.ensures.looked c.if-found.true
-    (omega (arith, c.in_err-close.ensures.few, c.in_ok-found.ensures.no_more))
-    (to_slot (λ b p. IsHushCounted before b p c.loop-place.more (board c.loop-place.port) made total) slot c.args.bus c.loop-place.place place c.loop-place.invariant.few))
+    hush_few_close (board c.args.port.now) (board c.loop-place.port) c.slot_at-slot.result c.args.bus c.loop-place.place c.loop-place.more c.in_ok-found.found (writes c.args.port.now) (writes c.loop-place.port) (writes c.close.new.port)
+    (place_of c.slot_at-slot.result c.args.bus c.loop-place.place c.slot_at-slot.ensures) c.in_ok-found.ensures.looked c.if-found.true
+    (omega (arith, c.in_err-close.ensures.few, c.in_ok-found.ensures.no_more)) c.loop-place.invariant.few
 
 pub returns-clause-few : goal.returns-clause-few
 returns-clause-few g c =
@@ -126,15 +111,12 @@ pub returns-in_err-close-clause-stood : goal.returns-in_err-close-clause-stood
 returns-in_err-close-clause-stood g c =
     let board = g.P.BoardPort.board in
     let history = g.P.BoardPort.history in
-    let before = board c.args.port.now in
-    let old = history c.args.port.now in
     let slot = c.slot_at-slot.result in
-    let place = place_of slot c.args.bus c.loop-place.place c.slot_at-slot.ensures in
-    subst (λ b. IsHushStood (moment before old) b c.from_residual-in_err-close.result (moment (board c.close.new.port) (history c.close.new.port))) place.on
-    (standing_left_close before (board c.loop-place.port) (board c.close.new.port) slot old (history c.loop-place.port) (history c.close.new.port) c.loop-place.more c.in_ok-found.found c.from_residual-in_err-close.result c.from_residual-in_err-close.ensures.0 place.low c.in_ok-found.ensures.looked c.if-found.true
-    (subst (λ h. IsCloseEnd (board c.loop-place.port) slot h (history c.close.new.port)) c.in_ok-found.ensures.same_history
-    (subst (λ b. IsCloseEnd b slot (history c.look.new.port) (history c.close.new.port)) c.in_ok-found.ensures.same c.in_err-close.ensures.stood))
-    (to_slot (λ b p. IsHushStanding (moment before old) b p c.loop-place.more (moment (board c.loop-place.port) (history c.loop-place.port))) slot c.args.bus c.loop-place.place place c.loop-place.invariant.standing))
+    let now = board c.loop-place.port in
+    standing_left_close (board c.args.port.now) now (board c.close.new.port) slot c.args.bus c.loop-place.place (history c.args.port.now) (history c.loop-place.port) (history c.close.new.port) c.loop-place.more c.in_ok-found.found
+    c.from_residual-in_err-close.result c.from_residual-in_err-close.ensures.0 (place_of slot c.args.bus c.loop-place.place c.slot_at-slot.ensures) c.in_ok-found.ensures.looked c.if-found.true
+    (subst (λ h. IsCloseEnd now slot h (history c.close.new.port)) c.in_ok-found.ensures.same_history
+    (subst (λ b. IsCloseEnd b slot (history c.look.new.port) (history c.close.new.port)) c.in_ok-found.ensures.same c.in_err-close.ensures.stood)) c.loop-place.invariant.standing
 
 pub returns-clause-stood : goal.returns-clause-stood
 returns-clause-stood g c =
