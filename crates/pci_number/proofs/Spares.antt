@@ -18,10 +18,16 @@ read_there now before slot offset value same read = λ v high last image behind 
 
 -- ---- a slot of a PCI Express port
 
-pub slot_says : (image : List ℕ) (place express capabilities : ℕ) → express ≡ byte_at image (place + 3) → capabilities ≡ byte_at image (place + 20) → (nat_eq (express % 2) 1 && nat_eq (capabilities / 64 % 2) 1) ≡ (has_bit (byte_at image (place + 3)) 0 && has_bit (byte_at image (place + 20)) 6)
+slot_says : (image : List ℕ) (place express capabilities : ℕ) → express ≡ byte_at image (place + 3) → capabilities ≡ byte_at image (place + 20) → (nat_eq (express % 2) 1 && nat_eq (capabilities / 64 % 2) 1) ≡ (has_bit (byte_at image (place + 3)) 0 && has_bit (byte_at image (place + 20)) 6)
 slot_says image place express capabilities of_express of_capabilities =
     let whole : byte_at image (place + 3) / 1 % 2 ≡ express % 2 = omega (arith, of_express) in
     rw (whole, of_capabilities) refl
+
+pub slot_there : (now before : Board) (slot : Slot) (place express capabilities : ℕ) → now ≡ before → IsRead before slot (place + 3) express → IsRead now slot (place + 20) capabilities → IsSaidThere before slot (λ image. (nat_eq (express % 2) 1 && nat_eq (capabilities / 64 % 2) 1) ≡ (has_bit (byte_at image (place + 3)) 0 && has_bit (byte_at image (place + 20)) 6))
+slot_there now before slot place express capabilities same first second = λ v high last image behind others is seen alone.
+    slot_says image place express capabilities
+    (read_there before before slot (place + 3) express refl first v high last image behind others is seen alone)
+    (read_there now before slot (place + 20) capabilities same second v high last image behind others is seen alone)
 
 -- ---- a capability
 
